@@ -1,0 +1,29 @@
+-- Tests joined by `and` and `or`, taken apart and put together.
+use mathlib.Core.Bool.{Bool, true, false, not, _&&_, _||_, true≢false}
+use mathlib.Core.Logic.{_⊎_, inl, inr}
+use mathlib.Core.Path.{_≡_, refl, sym, _∙_, subst}
+use lib.Dec.{T}
+
+pub is : {b : Bool} → b ≡ true → T b
+is e = subst T (sym e) tt
+
+pub no : {b : Bool} → b ≡ false → b ≡ true → ⊥
+no e h = true≢false (sym h ∙ e)
+
+pub both : (a b : Bool) → (a && b) ≡ true → (a ≡ true) × (b ≡ true)
+both true b e = (refl, e)
+both false b e = (e, cc)
+
+pub and-of : {a b : Bool} → a ≡ true → b ≡ true → (a && b) ≡ true
+and-of p q = rw (p, q)
+
+pub or-left : (a b : Bool) → a ≡ true → (a || b) ≡ true
+or-left a b e = rw e
+
+pub or-right : (a b : Bool) → b ≡ true → (a || b) ≡ true
+or-right true b e = refl
+or-right false b e = e
+
+pub either : (a b : Bool) → (a || b) ≡ true → (a ≡ true) ⊎ (b ≡ true)
+either true b e = inl refl
+either false b e = inr e

@@ -1,0 +1,9 @@
+-- The laws that every crate shares, by subject.
+pub mod Bools
+pub mod Loops
+pub mod Scan
+pub mod Tab
+pub mod Parts
+pub mod Rows
+pub mod Order
+pub mod Signs

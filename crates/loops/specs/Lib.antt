@@ -1,0 +1,4 @@
+-- The definitions that every crate shares.
+pub mod Figures
+pub mod Loops
+pub mod Parts

@@ -1,0 +1,5 @@
+-- The laws of leaders that other crates cite.
+pub mod Checks
+pub mod Callers
+pub mod Laws
+pub mod Examples

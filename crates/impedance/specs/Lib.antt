@@ -1,0 +1,2 @@
+-- The definitions that the promises of `impedance` cite.
+pub mod Impedance

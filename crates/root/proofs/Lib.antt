@@ -1,0 +1,10 @@
+-- Laws that no one function owns.
+pub mod Isqrt
+pub mod Round
+pub mod Patterns
+pub mod Bits
+pub mod Units
+pub mod Middle
+pub mod Correct
+pub mod Ceiling
+pub mod CeilingCases

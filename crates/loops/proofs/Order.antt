@@ -7,7 +7,8 @@ use native.Mathlib.Nat.{eq-or-lt-of-le}
 use native.Mathlib.Omega.{arith}
 use borrow.Author.Tests.{ltb-false, lt-ltb, eq-eqb}
 use lib.Dec.{T, ltb, eqb}
-use lib.Ieee.{Float, nan, inf, fin, ofBits, up, down, below, level, lt, eq, le, neg}
+use lib.Ieee.{Float, nan, inf, fin, isNan, ofBits, up, down, below, level, lt, eq, ne, le, neg}
+use lib.Ieee.Compare.{nan-differs}
 use Rattle.loops.specs.Figures.{clamped, finite, inside, infinity}
 use Rattle.loops.proofs.Bools.{no, both, and-of, or-left, or-right}
 
@@ -31,6 +32,13 @@ pub bounded-real : (x : Float) → T (bounded x) → T (real x)
 bounded-real nan b = b
 bounded-real (inf s) b = tt
 bounded-real (fin s m e) b = tt
+
+-- what does not differ from itself is no NaN
+pub no-nan : (x : Float) → ne x x ≡ false → T (not (isNan x))
+unfolding isNan
+no-nan nan h = absurd (no h nan-differs)
+no-nan (inf s) h = tt
+no-nan (fin s m e) h = tt
 
 -- ---- of two sizes with signs one is at most the other
 same-size : (s : Bool) (a b : ℕ) → a ≡ b → level s a s b ≡ true

@@ -1,4 +1,6 @@
-// What every operation says of a request that it does not answer. There is no code here: types and their meaning.
+// What every operation says of a request that it does not answer, and document 01's number and index for it.
+ghost use mathlib.Core.Path.{_≡_};
+ghost use Rattle.refusal.specs.Number.{numberOf, indexOf};
 
 // What is wrong with a request. A number is the lowest faulty index.
 pub enum Refusal {
@@ -38,6 +40,59 @@ pub enum Refusal {
     Code(usize),
     // A byte after the last record.
     Trailing(usize),
+}
+
+impl Refusal {
+    pub fn number(self) -> u32
+        ensures { λ r. ⌜ r ≡ numberOf self ⌝ }
+    {
+        match self {
+            Refusal::Length => 1,
+            Refusal::Count => 2,
+            Refusal::Level(_) => 3,
+            Refusal::Bus(_) => 4,
+            Refusal::Generator(_) => 5,
+            Refusal::Demand => 5,
+            Refusal::Corridor(_) => 6,
+            Refusal::Row(_) => 7,
+            Refusal::Cost(_) => 8,
+            Refusal::NotFinite(_) => 9,
+            Refusal::Edge(_) => 10,
+            Refusal::Ground(_) => 10,
+            Refusal::Rating => 12,
+            Refusal::FileLength => 13,
+            Refusal::Cut(_) => 14,
+            Refusal::Mark(_) => 15,
+            Refusal::Code(_) => 16,
+            Refusal::Trailing(_) => 17,
+        }
+    }
+
+    // The lowest faulty index, 0 where document 01 names none.
+    pub fn index(self) -> usize
+        ensures { λ r. ⌜ r ≡ indexOf self ⌝ }
+    {
+        match self {
+            Refusal::Length => 0,
+            Refusal::Count => 0,
+            Refusal::Level(i) => i,
+            Refusal::Bus(i) => i,
+            Refusal::Generator(i) => i,
+            Refusal::Demand => 0,
+            Refusal::Corridor(i) => i,
+            Refusal::Row(i) => i,
+            Refusal::Cost(i) => i,
+            Refusal::NotFinite(i) => i,
+            Refusal::Edge(i) => i,
+            Refusal::Ground(i) => i,
+            Refusal::Rating => 0,
+            Refusal::FileLength => 0,
+            Refusal::Cut(i) => i,
+            Refusal::Mark(i) => i,
+            Refusal::Code(i) => i,
+            Refusal::Trailing(i) => i,
+        }
+    }
 }
 
 // The answer of an operation whose results are all in the slices that it is lent.

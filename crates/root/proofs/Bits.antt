@@ -38,13 +38,13 @@ unfolding root
 root-fits nan h = h
 root-fits (inf true) h = nan-fits binary64
 root-fits (inf false) h = h
-root-fits (fin s zero e) h = h
+root-fits (fin s zero e) h = unfold fits in h
 root-fits (fin true (suc m) e) h = nan-fits binary64
 root-fits (fin false (suc m) e) h = roundRoot-fits (suc m * up e * 2 ^ 2148 / down e)
 
-pub back : (x : Float) → T (fits binary64 x) → ofBits binary64 (rootBits (toBits binary64 x)) ≡ root x
+pub root-by-bits : (x : Float) → T (fits binary64 x) → ofBits binary64 (rootBits (toBits binary64 x)) ≡ root x
 unfolding rootBits
-back x h = ap (λ (z : Float). ofBits binary64 (toBits binary64 (root z))) (ofBits-toBits binary64 x h) ∙ ofBits-toBits binary64 (root x) (root-fits x h)
+root-by-bits x h = ap (λ (z : Float). ofBits binary64 (toBits binary64 (root z))) (ofBits-toBits binary64 x h) ∙ ofBits-toBits binary64 (root x) (root-fits x h)
 
 -- ---- a root that is no NaN
 
@@ -90,7 +90,7 @@ clash false t e = t
 above-zero : (m : ℕ) (e : ℤ) → 0 < suc m * up e * 1
 above-zero m e = mul-pos (mul-pos (zero-lt-suc m) (up-pos e)) (zero-lt-suc 0)
 
-pub zero-le-unsigned : (m : ℕ) (e : ℤ) → T (le Zero (fin false m e))
+zero-le-unsigned : (m : ℕ) (e : ℤ) → T (le Zero (fin false m e))
 zero-le-unsigned m e = le-of-values Zero (fin false m e) 0 1 (m * up e) (down e) (zero-lt-suc 0) (down-pos e) (refl, refl) (refl, refl) (le-trans (le-of-eq (zero-mul (down e))) zero-le)
 
 zero-le-minus-zero : (e : ℤ) → T (le Zero (fin true zero e))
@@ -100,7 +100,7 @@ zero-le-minus-zero e = level-zero (0 * 1 * down e) (zero * up e * 1) (zero-mul (
     level-zero : (a b : ℕ) → a ≡ 0 → b ≡ 0 → T (eqb a b && eqb a 0)
     level-zero a b p q = and-i (eqb a b) (eqb a 0) (eq→eqb (p ∙ sym q)) (eq→eqb p)
 
-zero-not-le : (m : ℕ) (e : ℤ) → T (le Zero (fin true (suc m) e)) → ⊥
+pub zero-not-le : (m : ℕ) (e : ℤ) → T (le Zero (fin true (suc m) e)) → ⊥
 unfolding le
 zero-not-le m e t =
     let a : 0 < suc m * up e * 1 = above-zero m e in
@@ -134,20 +134,20 @@ no-root (fin true (suc m) e) h = refl
 
 -- ---- a function of an f64, `if x >= 0.0 { f64::from_bits(square_root(f64::to_bits(x))) } else { 0.0 / 0.0 }`: its four needs
 
-from-zero : (x : Float) → le (ofBits binary64 0) x ≡ true → T (le Zero x)
-from-zero x h = subst (λ (z : Float). T (le z x)) zero-is (yes-is h)
+pub at-least-zero : (x : Float) → le (ofBits binary64 0) x ≡ true → T (le Zero x)
+at-least-zero x h = subst (λ (z : Float). T (le z x)) zero-is (yes-is h)
 
 -- what `to_bits` asks of x
 pub to-bits-asks : (x : Float) → le (ofBits binary64 0) x ≡ true → T (not (isNan x))
-to-bits-asks x h = real x (from-zero x h)
+to-bits-asks x h = real x (at-least-zero x h)
 
 -- what `from_bits` asks of the root's bits
 pub from-bits-asks : (x : Float) (r : ℕ) → T (fits binary64 x) → le (ofBits binary64 0) x ≡ true → r ≡ rootBits (toBits binary64 x) → T (not (nanBits binary64 r))
-from-bits-asks x r f h e = subst (λ (b : Bool). T (not b)) (sym (nanBits-is binary64 r ∙ ap (λ (b : ℕ). isNan (ofBits binary64 b)) e ∙ ap isNan (back x f))) (root-real x (from-zero x h))
+from-bits-asks x r f h e = subst (λ (b : Bool). T (not b)) (sym (nanBits-is binary64 r ∙ ap (λ (b : ℕ). isNan (ofBits binary64 b)) e ∙ ap isNan (root-by-bits x f))) (root-real x (at-least-zero x h))
 
 -- what `from_bits` gives
 pub from-bits-gives : (x : Float) (r : ℕ) → T (fits binary64 x) → r ≡ rootBits (toBits binary64 x) → ofBits binary64 r ≡ root x
-from-bits-gives x r f e = ap (λ (b : ℕ). ofBits binary64 b) e ∙ back x f
+from-bits-gives x r f e = ap (λ (b : ℕ). ofBits binary64 b) e ∙ root-by-bits x f
 
 -- the other arm: a NaN, and what lies below zero
 pub nan-gives : (x : Float) → le (ofBits binary64 0) x ≡ false → div binary64 (ofBits binary64 0) (ofBits binary64 0) ≡ root x

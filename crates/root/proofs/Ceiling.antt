@@ -1,13 +1,12 @@
 -- `ceil` is the least whole number that is not below x (`Correct` of specs/Ceiling.antt). Assumes nothing.
 -- Its size is the whole number `count`. Up to 2 ^ 53 binary64 holds every whole number, and a value of 2 ^ 53 or more is whole already, so rounding changes nothing.
 use mathlib.Core.Path.{_≡_, refl, sym, ap, _∙_, subst}
-use mathlib.Core.Bool.{Bool, true, false, _||_, _&&_, true≢false, false≢true}
-use mathlib.Core.Logic.{inl, inr}
+use mathlib.Core.Bool.{Bool, true, false, _&&_, true≢false, false≢true}
 use Prim.Native.Nat.{ℕ, zero, suc, _+_, _-_, _*_, _/_, _%_, _^_, _≤_, _<_}
-use native.Mathlib.Nat.{le-refl, le-trans, le-of-eq, le-of-lt, le-of-suc-le-suc, eq-or-lt-of-le, suc-mul, lt-of-lt-of-le, lt-of-le-of-lt, lt-irrefl, zero-lt-suc, zero-mul, add-zero, mul-one, mul-assoc, mul-right-comm, mul-le-mul, mul-le-mul-right, mul-lt-mul-of-pos-right, mul-pos, div-one, div-lt-iff-lt-mul, le-div-iff-mul-le, div-mul-le-self, div-add-mod', mod-lt}
+use native.Mathlib.Nat.{le-refl, le-trans, le-of-eq, le-of-lt, le-of-suc-le-suc, suc-mul, lt-of-lt-of-le, lt-of-le-of-lt, lt-irrefl, zero-lt-suc, zero-mul, add-zero, mul-one, mul-assoc, mul-right-comm, mul-le-mul, mul-le-mul-right, mul-lt-mul-of-pos-right, mul-pos, div-one, div-lt-iff-lt-mul, le-div-iff-mul-le, div-mul-le-self, div-add-mod', mod-lt}
 use native.Mathlib.Omega.{arith}
 use native.Mathlib.Decide.{decLt}
-use lib.Dec.{T, ltb, leb, eqb, ltb→lt, lt→ltb, eqb→eq}
+use lib.Dec.{T, ltb, leb, eqb, ltb→lt, eqb→eq}
 use lib.Pow.{pow-add, pow-pos}
 use lib.IntN.{ℤ, pos, negsuc}
 use lib.Ieee.{Float, nan, inf, fin, binary64, up, down, round, fits, le}
@@ -15,7 +14,8 @@ use lib.Ieee.Fits.{down-pos, and-l, and-r, and-i, eq→eqb, round-fits}
 use lib.Ieee.Exact.{HasValue, round-exact}
 use lib.Ieee.Back.{round-whole, whole-unique}
 use lib.Ieee.Order.{le-of-values}
-use Rattle.root.specs.Ceiling.{ceil, integer, LeastWhole, Correct}
+use Rattle.root.specs.Ceiling.{ceil, integer, Correct}
+use Rattle.root.proofs.Order.{le-plus, le-minus, minus-le, minus-le-plus}
 use Rattle.root.proofs.Units.{le-of-not-lt}
 
 -- ---- the size of the result
@@ -103,50 +103,6 @@ pub ceil-fits : (x : Float) → T (fits binary64 x) → T (fits binary64 (ceil x
 ceil-fits nan f = unfold ceil in f
 ceil-fits (inf s) f = unfold ceil in f
 ceil-fits (fin s m e) f = subst (λ (z : Float). T (fits binary64 z)) (sym (ceil-fin s m e)) (round-fits binary64 s (count s (m * up e) (down e)) 1)
-
--- ---- `le`, by the sizes: of two values with no minus sign, of two with one, and of one with it and one without
-
-le-plus : (a b : ℕ) → T (ltb a b || (eqb a b && true)) → a ≤ b
-le-plus a b t = go (ltb a b) (eqb a b) (ltb→lt a b) (eqb→eq a b) t
-  where
-    go : (p q : Bool) → (T p → a < b) → (T q → a ≡ b) → T (p || (q && true)) → a ≤ b
-    go true q f g t = le-of-lt (f tt)
-    go false true f g t = le-of-eq (g tt)
-    go false false f g t = absurd t
-
-le-minus : (a b : ℕ) → T (ltb b a || (eqb a b && true)) → b ≤ a
-le-minus a b t = go (ltb b a) (eqb a b) (ltb→lt b a) (eqb→eq a b) t
-  where
-    go : (p q : Bool) → (T p → b < a) → (T q → a ≡ b) → T (p || (q && true)) → b ≤ a
-    go true q f g t = le-of-lt (f tt)
-    go false true f g t = le-of-eq (sym (g tt))
-    go false false f g t = absurd t
-
-or-left : (p q : Bool) → T p → T (p || q)
-or-left true q t = tt
-or-left false q t = absurd t
-
-or-right : (p q : Bool) → T q → T (p || q)
-or-right true q t = tt
-or-right false q t = t
-
-minus-le : (a b : ℕ) → b ≤ a → T (ltb b a || (eqb a b && true))
-minus-le a b h = elim (eq-or-lt-of-le h) [
-  | inl e ↦ or-right (ltb b a) (eqb a b && true) (and-i (eqb a b) true (eq→eqb (sym e)) tt)
-  | inr l ↦ or-left (ltb b a) (eqb a b && true) (lt→ltb b a l)
-]
-
-minus-le-plus : (a b : ℕ) → T (ltb 0 (a + b) || (eqb a b && eqb a 0))
-minus-le-plus a b = elim (decLt 0 (a + b)) [
-  | yes h ↦ or-left (ltb 0 (a + b)) (eqb a b && eqb a 0) (lt→ltb 0 (a + b) h)
-  | no f ↦ or-right (ltb 0 (a + b)) (eqb a b && eqb a 0) (and-i (eqb a b) (eqb a 0) (eq→eqb (same f)) (eq→eqb (none f)))
-]
-  where
-    none : (0 < a + b → ⊥) → a ≡ 0
-    none f = omega arith
-
-    same : (0 < a + b → ⊥) → a ≡ b
-    same f = omega arith
 
 -- ---- x has no minus sign; r is c
 

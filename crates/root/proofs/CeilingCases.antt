@@ -34,7 +34,7 @@ minus-big-is : neg (ofBits binary64 0x4340_0000_0000_0000) ≡ MinusBig
 unfolding ofBits neg
 minus-big-is = refl
 
-pub no-is : {b : Bool} → b ≡ false → T (not b)
+no-is : {b : Bool} → b ≡ false → T (not b)
 no-is h = subst (λ (a : Bool). T (not a)) (sym h) tt
 
 -- x is finite, has no minus sign, and is below 2 ^ w

@@ -1,26 +1,27 @@
 -- `root` is correctly rounded (`Correct` of specs/Root.antt): for every x above 0 that binary64 holds, `root x` is nearer to √x than any other value that binary64 holds, and it is the only such value. Assumes nothing.
 -- proofs/Middle.antt says it in units for a value with no minus sign. A value below 0 leaves the middle no higher than 0 does, and no value that is nearest lies on either side of another.
 use mathlib.Core.Path.{_≡_, refl, sym, ap, _∙_, subst}
-use mathlib.Core.Bool.{Bool, true, false, not, cond}
+use mathlib.Core.Bool.{Bool, true, false, cond}
 use Prim.Native.Nat.{ℕ, zero, suc, _+_, _-_, _*_, _≤_, _<_, _^_}
-use native.Mathlib.Nat.{le-of-eq, le-of-lt, le-antisymm, lt-of-lt-of-le, lt-of-le-of-lt, lt-irrefl, zero-mul, add-zero, mul-comm, mul-assoc, mul-right-comm, mul-mul-mul-comm, add-mul, mul-le-mul-right, mul-lt-mul-of-pos-right, lt-of-mul-lt-mul-right, mul-pos}
+use native.Mathlib.Nat.{le-refl, le-trans, le-of-eq, le-of-lt, le-antisymm, lt-of-lt-of-le, lt-of-le-of-lt, lt-irrefl, zero-lt-suc, zero-mul, add-zero, mul-comm, mul-assoc, mul-left-comm, mul-right-comm, mul-mul-mul-comm, add-mul, mul-le-mul-right, mul-lt-mul-of-pos-right, lt-of-mul-lt-mul-right, mul-pos}
 use native.Mathlib.Omega.{arith}
 use lib.Dec.{T, ltb, ltb→lt, lt→ltb}
 use lib.Pow.{pow-pos}
 use lib.IntN.{ℤ, pos, negsuc, negℤ, _+ℤ_, +ℤ-comm}
-use lib.Ieee.{Float, nan, inf, fin, binary64, up, down, fits, lt}
+use lib.Ieee.{Float, nan, inf, fin, binary64, up, down, fits, lt, le}
 use lib.Ieee.Fits.{up-pos, down-pos}
 use lib.Ieee.Exact.{HasValue}
-use lib.Ieee.Positive.{num, den, positive, den-pos, value→cross, positive-of-value}
+use lib.Ieee.Positive.{num, den, positive, den-pos, value→cross, positive-of-value, positive-finite}
 use lib.Ieee.Scale.{finite}
 use Rattle.root.specs.Root.{root, minusSign, signed, total, over, BelowTwice, AboveTwice, Nearer, NearestRoot, Correct}
 use Rattle.root.proofs.Isqrt.{sq-mono}
-use Rattle.root.proofs.Bits.{root-fits}
+use Rattle.root.proofs.Bits.{Zero, zero-not-le, root-fits}
 use Rattle.root.proofs.Units.{unsigned, positive-unsigned, value-unsigned, in-units, le-of-not-lt, less-units, lt-cross, cross-lt, same-value}
-use Rattle.root.proofs.Middle.{Between, Rooted, rooted}
+use Rattle.root.proofs.Middle.{NearerUnits, rooted}
 
 -- ---- from units to fractions
 
+-- L units are 1; nr / dr is R units, ny / dy is Y units, and nx / dx is X units
 module _ (nr dr ny dy nx dx R Y X L : ℕ) (p : nr * L ≡ R * dr) (q : ny * L ≡ Y * dy) (s : nx * L ≡ X * dx) where
   sum-units : (nr * dy + ny * dr) * L ≡ (R + Y) * (dr * dy)
   sum-units =
@@ -92,7 +93,7 @@ wide : (x r y : Float) → 0 < den r * den y * (den r * den y) * den x
 wide x r y = mul-pos (mul-pos (mul-pos (den-pos r) (den-pos y)) (mul-pos (den-pos r) (den-pos y))) (den-pos x)
 
 -- x is X units and r is R, and R is the rounded root of X * 2 ^ 1074
-module _ (x r : Float) (X R : ℕ) (vx : HasValue x false X (2 ^ 1074)) (vr : HasValue r false R (2 ^ 1074)) (middle : (b j : ℕ) → b < 2 ^ 53 → Between (X * 2 ^ 1074) R (b * 2 ^ j)) where
+module _ (x r : Float) (X R : ℕ) (vx : HasValue x false X (2 ^ 1074)) (vr : HasValue r false R (2 ^ 1074)) (middle : (b j : ℕ) → b < 2 ^ 53 → NearerUnits (X * 2 ^ 1074) R (b * 2 ^ j)) where
   ur : T (unsigned r)
   ur = value-unsigned r R (2 ^ 1074) vr
 
@@ -133,36 +134,47 @@ module _ (x r : Float) (X R : ℕ) (vx : HasValue x false X (2 ^ 1074)) (vr : Ha
   than-any (fin true n d) P f b = than-minus n d P
   than-any (fin false n d) P f b = than-unsigned (fin false n d) f tt
 
-value-finite : (r : Float) (a c : ℕ) → HasValue r false a c → T (finite r)
-value-finite nan a c v = v
-value-finite (inf s) a c v = v
-value-finite (fin s m e) a c v = tt
-
 pub root-positive : (x : Float) → T (fits binary64 x) → T (positive x) → T (positive (root x))
 root-positive x f p = let w = rooted x f p in positive-of-value (root x) (w .1) (2 ^ 1074) (w .4) (w .2)
+
+-- no root overflows
+pub root-finite : (x : Float) → T (fits binary64 x) → T (le Zero x) → T (finite x) → T (finite (root x))
+root-finite nan f z b = absurd b
+root-finite (inf s) f z b = absurd b
+root-finite (fin s zero e) f z b = unfold root in tt
+root-finite (fin true (suc m) e) f z b = absurd (zero-not-le m e z)
+root-finite (fin false (suc m) e) f z b = positive-finite (root (fin false (suc m) e)) (root-positive (fin false (suc m) e) f (lt→ltb 0 (suc m) (zero-lt-suc m)))
 
 pub root-nearest : (x : Float) → T (fits binary64 x) → T (positive x) → NearestRoot x (root x)
 root-nearest x f p =
     let w = rooted x f p in
     record {
       held = root-fits x f;
-      bounded = value-finite (root x) (w .1) (2 ^ 1074) (w .4);
+      bounded = positive-finite (root x) (root-positive x f p);
       nearer = λ y g b. than-any x (root x) (w .0) (w .1) (w .3) (w .4) (w .5) y (w .2) g b;
     }
 
 -- ---- no other value is
 
-both-sides : (x : Float) (t : ℤ) (d : ℕ) → BelowTwice x t d → AboveTwice x t d → ⊥
-both-sides x (pos t) d h k = lt-irrefl (t * t * den x) (lt-of-lt-of-le h (le-of-lt k))
-both-sides x (negsuc t) d h k = k
+-- what is below 2 * √x is not above 2 * √y, for an x that is at most y
+pub both-sides : (x y : Float) (t : ℤ) (d : ℕ) → num x * den y ≤ num y * den x → BelowTwice x t d → AboveTwice y t d → ⊥
+both-sides x y (negsuc t) d e h k = k
+both-sides x y (pos t) d e h k =
+    let a : t * t * den x * den y < 4 * num x * (d * d) * den y = mul-lt-mul-of-pos-right h (den-pos y) in
+    let b : 4 * num y * (d * d) * den x < t * t * den y * den x = mul-lt-mul-of-pos-right k (den-pos x) in
+    let c : 4 * num x * (d * d) * den y ≤ 4 * num y * (d * d) * den x = le-trans (le-of-eq (moved (num x) (den y) (d * d))) (le-trans (mul-le-mul-right (4 * (d * d)) e) (le-of-eq (sym (moved (num y) (den x) (d * d))))) in
+    lt-irrefl (t * t * den x * den y) (lt-of-lt-of-le a (le-trans c (le-trans (le-of-lt b) (le-of-eq (mul-right-comm (t * t) (den y) (den x))))))
+  where
+    moved : (n m c : ℕ) → 4 * n * c * m ≡ n * m * (4 * c)
+    moved n m c = simp (mul-assoc, mul-comm, mul-left-comm)
 
-same-middle : (x r s : Float) → BelowTwice x (total s r) (over s r) → BelowTwice x (total r s) (over r s)
+pub same-middle : (x r s : Float) → BelowTwice x (total s r) (over s r) → BelowTwice x (total r s) (over r s)
 same-middle x r s h =
     subst (λ (t : ℤ). BelowTwice x t (over r s)) (+ℤ-comm (signed (minusSign s) (num s * den r)) (signed (minusSign r) (num r * den s))) (subst (λ (d : ℕ). BelowTwice x (total s r) d) (mul-comm (den s) (den r)) h)
 
 not-below : (x r s : Float) → NearestRoot x r → NearestRoot x s → T (lt r s) → ⊥
 not-below x r s a b l =
-    both-sides x (total r s) (over r s) (same-middle x r s (b .nearer r (a .held) (a .bounded) .than-smaller l)) (a .nearer s (b .held) (b .bounded) .than-larger l)
+    both-sides x x (total r s) (over r s) (le-refl (num x * den x)) (same-middle x r s (b .nearer r (a .held) (a .bounded) .than-smaller l)) (a .nearer s (b .held) (b .bounded) .than-larger l)
 
 minus-below : (m : ℕ) (e : ℤ) (s : Float) → T (positive s) → T (lt (fin true m e) s)
 unfolding lt

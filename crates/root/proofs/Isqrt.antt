@@ -1,13 +1,13 @@
--- `isqrt d n` is the whole part of √n. Assumes nothing.
+-- `isqrt` is the whole part q of √n, and `closestRoot` is q, or q + 1 where n leaves more than q over q * q. Assumes nothing.
+-- A root of n / 4 gives one of n by one digit more. Four times a whole number is never the square of 2 * q + 1, so there is no tie.
 use mathlib.Core.Path.{_≡_, refl, sym, ap, _∙_, subst}
 use mathlib.Core.Bool.{Bool, true, false, not, cond}
-use mathlib.Core.Logic.{_⊎_, inl, inr}
-use Prim.Native.Nat.{ℕ, zero, suc, _+_, _-_, _*_, _/_, _%_, _^_, _≤_, _<_, compare, Ordering, Ordering·lt, Ordering·eq, Ordering·gt}
-use native.Mathlib.Nat.{le-refl, le-trans, le-of-eq, le-of-lt, lt-of-lt-of-le, lt-of-le-of-lt, lt-of-not-le, not-le-of-lt, lt-irrefl, mul-comm, mul-assoc, mul-left-comm, add-mul, mul-add, mul-one, one-mul, mul-le-mul, mul-le-mul-right, mul-lt-mul-of-pos-right, pow-suc, pow-succ'}
+use Prim.Native.Nat.{ℕ, zero, suc, _+_, _*_, _/_, _^_, _≤_, _<_, compare, Ordering, Ordering·lt, Ordering·eq, Ordering·gt}
+use native.Mathlib.Nat.{le-refl, le-trans, le-of-eq, lt-of-lt-of-le, lt-of-le-of-lt, lt-of-not-le, not-le-of-lt, mul-assoc, mul-left-comm, add-mul, mul-add, mul-one, mul-le-mul, pow-succ'}
 use native.Mathlib.Omega.{arith}
-use lib.Dec.{T, leb, isLe, isEq, leb→le, nleb→lt, eqb→eq}
+use lib.Dec.{T, leb, isLe, isEq, leb→le, nleb→lt, eqb, eqb-refl, eqb→eq}
 use native.Mathlib.Numerals.{add-one}
-use lib.Pow.{pow-add, pow-pos, pow-mono}
+use lib.Pow.{pow-pos}
 use lib.Ieee.{size, nearest}
 use lib.Ieee.Digits.{size-lt}
 use Rattle.root.specs.Root.{isqrt, closestRoot}
@@ -29,10 +29,11 @@ sq-lt a b h = lt-of-not-le (λ (g : b ≤ a). not-le-of-lt h (sq-mono g))
 
 -- ---- the whole part of √n
 
+-- q is the whole part of √n
 abbrev pub IsRoot : ℕ → ℕ → Type 0
 IsRoot n q = (q * q ≤ n) × (n < (q + 1) * (q + 1))
 
-pub root-unique : (n p q : ℕ) → IsRoot n p → IsRoot n q → p ≡ q
+root-unique : (n p q : ℕ) → IsRoot n p → IsRoot n q → p ≡ q
 root-unique n p q a b =
     let x : p < q + 1 = sq-lt p (q + 1) (lt-of-le-of-lt (a .0) (b .1)) in
     let y : q < p + 1 = sq-lt q (p + 1) (lt-of-le-of-lt (b .0) (a .1)) in
@@ -58,12 +59,12 @@ quarter n c h = omega arith
 none : (n : ℕ) → n < 1 → IsRoot n 0
 none n h = (omega arith, omega arith)
 
-pub isqrt-is : (d n : ℕ) → n < 4 ^ d → IsRoot n (isqrt d n)
+isqrt-is : (d n : ℕ) → n < 4 ^ d → IsRoot n (isqrt d n)
 unfolding isqrt
 isqrt-is zero n h = none n h
 isqrt-is (suc d) n h = digit n (isqrt d (n / 4)) (isqrt-is d (n / 4) (quarter n (4 ^ d) (subst (λ (z : ℕ). n < z) (pow-succ' 4 d) h)))
 
-pub pow-four : (d : ℕ) → 4 ^ d ≡ 2 ^ d * 2 ^ d
+pow-four : (d : ℕ) → 4 ^ d ≡ 2 ^ d * 2 ^ d
 pow-four zero = refl
 pow-four (suc d) =
     pow-succ' 4 d ∙ ap (λ (z : ℕ). 4 * z) (pow-four d) ∙ sym (sq-twice (2 ^ d)) ∙ ap (λ (z : ℕ). z * z) (sym (pow-succ' 2 d))
@@ -93,15 +94,24 @@ is-gt a b h = go (compare a b) (leb→le a b)
     go Ordering·eq e = let x : a ≤ b = e tt in absurd (omega arith)
     go Ordering·gt e = refl
 
--- ---- the root and what is left over: n is q * q + r
+pub is-eq : (a b : ℕ) → a ≡ b → compare a b ≡ Ordering·eq
+is-eq a b h = go (compare a b) (subst (λ (x : ℕ). T (eqb a x)) h (eqb-refl a))
+  where
+    go : (o : Ordering) → T (isEq o) → o ≡ Ordering·eq
+    go Ordering·lt t = absurd t
+    go Ordering·eq t = refl
+    go Ordering·gt t = absurd t
 
+-- ---- the root and what is left over
+
+-- n is q * q + r, and q is the whole part of its root
 abbrev pub Left : ℕ → ℕ → ℕ → Type 0
 Left n q r = (q * q + r ≡ n) × (r ≤ 2 * q)
 
-pub left-root : (n q r : ℕ) → Left n q r → IsRoot n q
+left-root : (n q r : ℕ) → Left n q r → IsRoot n q
 left-root n q r l = let f : (q + 1) * (q + 1) ≡ q * q + 2 * q + 1 = sq-next q in (omega arith, omega arith)
 
--- the square of 2 * q + 1 lies a quarter above 4 * (q * q + q): so no n is at a tie
+-- one more than four times q * q + q
 half-above : (q : ℕ) → (2 * q + 1) * (2 * q + 1) ≡ 4 * (q * q) + 4 * q + 1
 half-above q = let x : (2 * q + 1) * (2 * q + 1) ≡ (2 * q) * (2 * q) + 2 * (2 * q) + 1 = sq-next (2 * q) in let y : (2 * q) * (2 * q) ≡ 4 * (q * q) = sq-twice q in omega arith
 

@@ -1,7 +1,6 @@
 -- The root in units, 2 ^ -1074, and the middle between it and any other value of binary64: on which side of the exact root that middle lies. Assumes nothing.
 -- The rounded root is Q * 2 ^ h with a Q of 53 digits, and binary64 holds nothing between it and its two neighbours.
-use mathlib.Core.Path.{_≡_, refl, sym, ap, _∙_, subst}
-use mathlib.Core.Logic.{_⊎_, inl, inr}
+use mathlib.Core.Path.{_≡_, sym, ap, _∙_, subst}
 use mathlib.Core.Bool.{false}
 use Prim.Native.Nat.{ℕ, suc, _+_, _-_, _*_, _/_, _%_, _^_, _≤_, _<_, zero-le}
 use native.Mathlib.Nat.{le-refl, le-trans, le-of-eq, le-of-lt, lt-of-lt-of-le, lt-of-le-of-lt, lt-of-not-le, not-le-of-lt, mul-comm, mul-assoc, mul-mul-mul-comm, add-mul, mul-add, mul-le-mul, mul-le-mul-right, mul-lt-mul-of-pos-right, lt-of-mul-lt-mul-right, mul-pos, pow-succ'}
@@ -15,7 +14,7 @@ use lib.Ieee.Exact.{HasValue, units-val}
 use lib.Ieee.Positive.{positive, first-pos, value-pos}
 use Rattle.root.specs.Root.{isqrt, closestRoot, roundRoot, root}
 use Rattle.root.proofs.Isqrt.{IsRoot, Left, sq-mono, sq-lt, sq-next, whole-root, closest-up, closest-down, half-up, half-down}
-use Rattle.root.proofs.Round.{round-root, closest-range, place, fine}
+use Rattle.root.proofs.Round.{round-root, closest-range, as-square, in-range}
 use Rattle.root.proofs.Patterns.{root-of}
 use Rattle.root.proofs.Units.{positive-unsigned, in-units, pow-lt-back, le-of-not-lt}
 
@@ -95,12 +94,12 @@ module _ (N q r p : ℕ) (P : 0 < p) (l : Left N q r) where
       quad : (x y : ℕ) → x < y → 4 * x < 4 * y
       quad x y h = omega arith
 
--- y is no nearer to √n than R is: a smaller y leaves the middle of the two below √n, a larger one above it
-abbrev pub Between : ℕ → ℕ → ℕ → Type 0
-Between n R y = (y < R → (R + y) * (R + y) < 4 * n) × (R < y → 4 * n < (R + y) * (R + y))
+-- R is nearer to √n than y is: a smaller y leaves the middle of the two below √n, a larger one above it
+abbrev pub NearerUnits : ℕ → ℕ → ℕ → Type 0
+NearerUnits n R y = (y < R → (R + y) * (R + y) < 4 * n) × (R < y → 4 * n < (R + y) * (R + y))
 
-between : (N h b j : ℕ) → 2 ^ 52 * 2 ^ 52 ≤ N → b < 2 ^ 53 → Between (N * (2 ^ h * 2 ^ h)) (closestRoot N * 2 ^ h) (b * 2 ^ j)
-between N h b j lo B =
+nearer-units : (N h b j : ℕ) → 2 ^ 52 * 2 ^ 52 ≤ N → b < 2 ^ 53 → NearerUnits (N * (2 ^ h * 2 ^ h)) (closestRoot N * 2 ^ h) (b * 2 ^ j)
+nearer-units N h b j lo B =
     let q = isqrt (size N) N in
     let i : IsRoot N q = whole-root N in
     let f : (q + 1) * (q + 1) ≡ q * q + 2 * q + 1 = sq-next q in
@@ -110,10 +109,10 @@ between N h b j lo B =
     let Q : 2 ^ 52 ≤ q = omega arith in
     elim (decLe r q) [
       | yes d ↦
-          subst (λ (z : ℕ). Between (N * (2 ^ h * 2 ^ h)) (z * 2 ^ h) (b * 2 ^ j)) (sym (closest-down N q r l d))
+          subst (λ (z : ℕ). NearerUnits (N * (2 ^ h * 2 ^ h)) (z * 2 ^ h) (b * 2 ^ j)) (sym (closest-down N q r l d))
           (low-smaller N q r (2 ^ h) (pow-pos h) l (b * 2 ^ j), λ g. low-larger N q r (2 ^ h) (pow-pos h) l (b * 2 ^ j) d (le-of-not-lt (λ a. not-le-of-lt g (gap b j q h B Q a))))
       | no d ↦
-          subst (λ (z : ℕ). Between (N * (2 ^ h * 2 ^ h)) (z * 2 ^ h) (b * 2 ^ j)) (sym (closest-up N q r l (lt-of-not-le d)))
+          subst (λ (z : ℕ). NearerUnits (N * (2 ^ h * 2 ^ h)) (z * 2 ^ h) (b * 2 ^ j)) (sym (closest-up N q r l (lt-of-not-le d)))
           (λ g. high-smaller N q r (2 ^ h) (pow-pos h) l (b * 2 ^ j) (lt-of-not-le d) (gap b j q h B Q g), high-larger N q r (2 ^ h) (pow-pos h) l (b * 2 ^ j))
     ]
 
@@ -154,7 +153,7 @@ halved a J A B lo hi =
 
 -- x is X units, and `root x` is the rounded root R of X * 2 ^ 1074 in units
 abbrev pub Rooted : Float → Type 0
-Rooted x = (X : ℕ) × (R : ℕ) × (0 < R) × HasValue x false X (2 ^ 1074) × HasValue (root x) false R (2 ^ 1074) × ((b j : ℕ) → b < 2 ^ 53 → Between (X * 2 ^ 1074) R (b * 2 ^ j))
+Rooted x = (X : ℕ) × (R : ℕ) × (0 < R) × HasValue x false X (2 ^ 1074) × HasValue (root x) false R (2 ^ 1074) × ((b j : ℕ) → b < 2 ^ 53 → NearerUnits (X * 2 ^ 1074) R (b * 2 ^ j))
 
 pub rooted : (x : Float) → T (fits binary64 x) → T (positive x) → Rooted x
 rooted x f p =
@@ -172,14 +171,14 @@ rooted x f p =
     let lo : 2 ^ 52 * 2 ^ 52 ≤ N = big t (s .2) in
     let hi : N < 2 ^ 53 * 2 ^ 53 = small t (s .3) in
     let c = closest-range t (s .2) (s .3) in
-    let e : X * 2 ^ 1074 ≡ N * (2 ^ h * 2 ^ h) = n ∙ s .5 ∙ place t h in
+    let e : X * 2 ^ 1074 ≡ N * (2 ^ h * 2 ^ h) = n ∙ s .5 ∙ as-square t h in
     let is : root x ≡ units binary64 false (closestRoot N) h = root-of x X v A ∙ ap roundRoot e ∙ round-root N h lo hi in (
       X,
       closestRoot N * 2 ^ h,
       mul-pos (lt-of-lt-of-le (pow-pos 52) (c .0)) (pow-pos h),
       v,
-      subst (λ (z : Float). HasValue z false (closestRoot N * 2 ^ h) (2 ^ 1074)) (sym is) (units-val binary64 false (closestRoot N) h (fine (closestRoot N) h (c .1) (s .4))),
-      λ b i B. subst (λ (z : ℕ). Between z (closestRoot N * 2 ^ h) (b * 2 ^ i)) (sym e) (between N h b i lo B),
+      subst (λ (z : Float). HasValue z false (closestRoot N * 2 ^ h) (2 ^ 1074)) (sym is) (units-val binary64 false (closestRoot N) h (in-range (closestRoot N) h (c .1) (s .4))),
+      λ b i B. subst (λ (z : ℕ). NearerUnits z (closestRoot N * 2 ^ h) (b * 2 ^ i)) (sym e) (nearer-units N h b i lo B),
     )
   where
     more : (j : ℕ) → 1074 ≤ j + 1074

@@ -1,16 +1,15 @@
--- The definition's `root` at each kind of bit pattern. Assumes nothing.
+-- `rootBits` at each kind of bit pattern: a zero, the infinity, a subnormal, a normal number, and those with no root. Assumes no-size.
 use mathlib.Core.Path.{_≡_, refl, sym, ap, _∙_, subst}
-use mathlib.Core.Bool.{Bool, true, false, not, cond, true≢false, false≢true}
-use mathlib.Core.Logic.{_⊎_, inl, inr}
+use mathlib.Core.Bool.{Bool, true, false, cond, true≢false, false≢true}
 use Prim.Native.Nat.{ℕ, zero, suc, _+_, _-_, _*_, _/_, _%_, _^_, _≤_, _<_}
-use native.Mathlib.Nat.{le-refl, le-trans, le-of-eq, lt-of-lt-of-le, lt-of-le-of-lt, lt-irrefl, zero-lt-suc, zero-mul, mul-one, mul-comm, mul-assoc, mul-right-comm, mul-pos, mul-div-cancel, mod-lt, le-add-right}
+use native.Mathlib.Nat.{lt-of-lt-of-le, lt-irrefl, zero-mul, mul-one, mul-assoc, mul-right-comm, mul-pos, mul-div-cancel, le-add-right}
 use native.Mathlib.Omega.{arith}
-use lib.Dec.{T, leb, ltb, eqb, le→leb, lt→ltb, eqb→eq, nleb→lt, not-T}
+use lib.Dec.{T, leb, ltb, eqb, lt→ltb, eqb→eq}
 use lib.Pow.{pow-add, pow-pos}
 use native.Mathlib.Decide.{decLt}
 use borrow.Author.Tests.{lt-leb, le-leb}
-use lib.IntN.{ℤ, pos, negsuc}
-use lib.Ieee.{Float, nan, inf, fin, binary64, up, down, size, odd, isNan, nanBits, ofFields, ofBits, toBits}
+use lib.IntN.{ℤ}
+use lib.Ieee.{Float, nan, inf, fin, binary64, up, down, odd, isNan, ofFields, ofBits, toBits}
 use lib.Ieee.Bits.{nanBits-is, nanBits-above}
 use lib.Ieee.Fits.{down-pos}
 use lib.Ieee.Exact.{HasValue, odd-sign}
@@ -18,27 +17,27 @@ use Rattle.root.specs.Root.{roundRoot, root, rootBits}
 
 -- ---- `root` of a value that is a units, or a units below zero
 
-scale-up : (x y a d : ℕ) → x * 2 ^ 1074 ≡ a * d → x * 2 ^ 2148 ≡ a * 2 ^ 1074 * d
-scale-up x y a d v = sym (mul-assoc x (2 ^ 1074) (2 ^ 1074)) ∙ ap (λ (z : ℕ). z * 2 ^ 1074) v ∙ mul-right-comm a d (2 ^ 1074)
+scale-up : (x a d : ℕ) → x * 2 ^ 1074 ≡ a * d → x * 2 ^ 2148 ≡ a * 2 ^ 1074 * d
+scale-up x a d v = sym (mul-assoc x (2 ^ 1074) (2 ^ 1074)) ∙ ap (λ (z : ℕ). z * 2 ^ 1074) v ∙ mul-right-comm a d (2 ^ 1074)
 
-nothing : (e : ℤ) (a c d : ℕ) → 0 < a → 0 < d → zero * up e * c ≡ a * d → ⊥
-nothing e a c d A D v = lt-irrefl 0 (subst (λ (z : ℕ). 0 < z) (sym v ∙ ap (λ (z : ℕ). z * c) (zero-mul (up e)) ∙ zero-mul c) (mul-pos A D))
+no-size : (e : ℤ) (a c d : ℕ) → 0 < a → 0 < d → zero * up e * c ≡ a * d → ⊥
+no-size e a c d A D v = lt-irrefl 0 (subst (λ (z : ℕ). 0 < z) (sym v ∙ ap (λ (z : ℕ). z * c) (zero-mul (up e)) ∙ zero-mul c) (mul-pos A D))
 
 pub root-of : (x : Float) (a : ℕ) → HasValue x false a (2 ^ 1074) → 0 < a → root x ≡ roundRoot (a * 2 ^ 1074)
 unfolding root
 root-of nan a v A = absurd v
 root-of (inf s) a v A = absurd v
 root-of (fin true m e) a v A = absurd (true≢false (v .0))
-root-of (fin false zero e) a v A = absurd (nothing e a (2 ^ 1074) (down e) A (down-pos e) (v .1))
+root-of (fin false zero e) a v A = absurd (no-size e a (2 ^ 1074) (down e) A (down-pos e) (v .1))
 root-of (fin false (suc m) e) a v A =
-    ap (λ (z : ℕ). roundRoot (z / down e)) (scale-up (suc m * up e) 0 a (down e) (v .1)) ∙ ap roundRoot (mul-div-cancel (a * 2 ^ 1074) (down-pos e))
+    ap (λ (z : ℕ). roundRoot (z / down e)) (scale-up (suc m * up e) a (down e) (v .1)) ∙ ap roundRoot (mul-div-cancel (a * 2 ^ 1074) (down-pos e))
 
-pub root-below : (x : Float) (a c : ℕ) → HasValue x true a c → 0 < a → root x ≡ nan
+root-below : (x : Float) (a c : ℕ) → HasValue x true a c → 0 < a → root x ≡ nan
 unfolding root
 root-below nan a c v A = absurd v
 root-below (inf s) a c v A = absurd v
 root-below (fin false m e) a c v A = absurd (false≢true (v .0))
-root-below (fin true zero e) a c v A = absurd (nothing e a c (down e) A (down-pos e) (v .1))
+root-below (fin true zero e) a c v A = absurd (no-size e a c (down e) A (down-pos e) (v .1))
 root-below (fin true (suc m) e) a c v A = refl
 
 -- ---- the fields of a pattern
@@ -47,37 +46,28 @@ fields : (b : ℕ) → ofBits binary64 b ≡ ofFields binary64 (leb (2 ^ 63) b) 
 unfolding ofBits
 fields b = refl
 
-plain : (s : Bool) (x t : ℕ) → (suc x ≡ 2047 → ⊥) → ofFields binary64 s (suc x) t ≡ odd 53 s (2 ^ 52 + t) x 1074
+normal-fields : (s : Bool) (x t : ℕ) → (suc x ≡ 2047 → ⊥) → ofFields binary64 s (suc x) t ≡ odd 53 s (2 ^ 52 + t) x 1074
 unfolding ofFields
-plain s x t h = go (eqb (suc x) 2047) (eqb→eq (suc x) 2047)
+normal-fields s x t h = go (eqb (suc x) 2047) (eqb→eq (suc x) 2047)
   where
     go : (a : Bool) → (T a → suc x ≡ 2047) → cond a (cond (eqb t 0) (inf s) nan) (odd 53 s (2 ^ 52 + t) x 1074) ≡ odd 53 s (2 ^ 52 + t) x 1074
     go true k = absurd (h (k tt))
     go false k = refl
 
-is-false : (b : Bool) → T (not b) → b ≡ false
-is-false true t = absurd t
-is-false false t = refl
+sign-clear : (b : ℕ) → b < 2 ^ 63 → leb (2 ^ 63) b ≡ false
+sign-clear b h = lt-leb (2 ^ 63) b h
 
-is-true : (b : Bool) → T b → b ≡ true
-is-true true t = refl
-is-true false t = absurd t
-
-clear : (b : ℕ) → b < 2 ^ 63 → leb (2 ^ 63) b ≡ false
-clear b h = lt-leb (2 ^ 63) b h
-
-set : (b : ℕ) → 2 ^ 63 ≤ b → leb (2 ^ 63) b ≡ true
-set b h = le-leb (2 ^ 63) b h
+sign-set : (b : ℕ) → 2 ^ 63 ≤ b → leb (2 ^ 63) b ≡ true
+sign-set b h = le-leb (2 ^ 63) b h
 
 -- ---- the patterns above zero
 
--- a subnormal's
 subnormal : (b : ℕ) → b < 2 ^ 52 → ofBits binary64 b ≡ odd 53 false b 0 1074
 subnormal b h =
     let x : b % 2 ^ 63 / 2 ^ 52 ≡ 0 = omega arith in
     let t : b % 2 ^ 52 ≡ b = omega arith in
     fields b
-    ∙ ap (λ (s : Bool). ofFields binary64 s (b % 2 ^ 63 / 2 ^ 52) (b % 2 ^ 52)) (clear b (omega arith))
+    ∙ ap (λ (s : Bool). ofFields binary64 s (b % 2 ^ 63 / 2 ^ 52) (b % 2 ^ 52)) (sign-clear b (omega arith))
     ∙ ap (λ (z : ℕ). ofFields binary64 false z (b % 2 ^ 52)) x
     ∙ ap (λ (z : ℕ). ofFields binary64 false 0 z) t
     ∙ (unfold ofFields in refl)
@@ -86,9 +76,9 @@ normal : (b j : ℕ) → b < 2047 * 2 ^ 52 → b / 2 ^ 52 ≡ suc j → ofBits b
 normal b j h e =
     let x : b % 2 ^ 63 / 2 ^ 52 ≡ suc j = omega arith in
     fields b
-    ∙ ap (λ (s : Bool). ofFields binary64 s (b % 2 ^ 63 / 2 ^ 52) (b % 2 ^ 52)) (clear b (omega arith))
+    ∙ ap (λ (s : Bool). ofFields binary64 s (b % 2 ^ 63 / 2 ^ 52) (b % 2 ^ 52)) (sign-clear b (omega arith))
     ∙ ap (λ (z : ℕ). ofFields binary64 false z (b % 2 ^ 52)) x
-    ∙ plain false j (b % 2 ^ 52) (λ (k : suc j ≡ 2047). short k)
+    ∙ normal-fields false j (b % 2 ^ 52) short
   where
     short : suc j ≡ 2047 → ⊥
     short k = omega arith
@@ -163,7 +153,7 @@ below-fields (suc x) t h = go (eqb (suc x) 2047) (eqb t 0)
 
 is-below : (b : ℕ) → 2 ^ 63 < b → b < 2 ^ 64 → root (ofBits binary64 b) ≡ nan
 is-below b lo hi =
-    ap root (fields b ∙ ap (λ (s : Bool). ofFields binary64 s (b % 2 ^ 63 / 2 ^ 52) (b % 2 ^ 52)) (set b (omega arith)))
+    ap root (fields b ∙ ap (λ (s : Bool). ofFields binary64 s (b % 2 ^ 63 / 2 ^ 52) (b % 2 ^ 52)) (sign-set b (omega arith)))
     ∙ below-fields (b % 2 ^ 63 / 2 ^ 52) (b % 2 ^ 52) (omega arith)
 
 pub at-none : (b : ℕ) → 2047 * 2 ^ 52 < b → b < 2 ^ 64 → (b ≡ 2 ^ 63 → ⊥) → rootBits b ≡ 0x7FF8_0000_0000_0000

@@ -1,32 +1,33 @@
--- The definition's `roundRoot` at a number n that is N * 2 ^ k * 2 ^ k with an N of 105 or 106 digits, and the bit pattern of what it gives. Assumes nothing.
+-- `roundRoot` by whole numbers: of N * 2 ^ k * 2 ^ k, with an N of 105 or 106 digits, it is `closestRoot N` times 2 ^ k units. And the bit pattern of that. Assumes nothing.
+-- The root of N has 53 digits, as many as the format keeps, so the digits that `roundRoot` drops are the k that the factor adds.
 use mathlib.Core.Path.{_≡_, refl, sym, ap, _∙_, subst}
-use mathlib.Core.Bool.{Bool, true, false, not, cond, true≢false}
+use mathlib.Core.Bool.{true, false, true≢false}
 use mathlib.Core.Logic.{_⊎_, inl, inr}
-use Prim.Native.Nat.{ℕ, zero, suc, _+_, _-_, _*_, _/_, _%_, _^_, _≤_, _<_, compare, Ordering, Ordering·lt, Ordering·eq, Ordering·gt}
-use native.Mathlib.Nat.{le-refl, le-trans, le-of-eq, le-antisymm, eq-or-lt-of-le, lt-of-lt-of-le, lt-of-le-of-lt, lt-of-not-le, not-le-of-lt, mul-comm, mul-assoc, mul-left-comm, mul-right-comm, mul-mul-mul-comm, zero-add, mul-le-mul-right, mul-lt-mul-of-pos-right, mul-pos, le-div-iff-mul-le, div-lt-iff-lt-mul, mul-div-cancel, pow-suc, pow-succ'}
-use native.Mathlib.Numerals.{add-one, lt-add-one}
+use Prim.Native.Nat.{ℕ, suc, _+_, _-_, _*_, _/_, _^_, _≤_, _<_, compare, Ordering}
+use native.Mathlib.Nat.{le-refl, le-trans, le-of-eq, le-antisymm, eq-or-lt-of-le, lt-of-lt-of-le, lt-of-le-of-lt, lt-of-not-le, not-le-of-lt, mul-assoc, mul-right-comm, mul-mul-mul-comm, mul-le-mul-right, mul-lt-mul-of-pos-right, mul-pos, le-div-iff-mul-le, div-lt-iff-lt-mul, mul-div-cancel}
+use native.Mathlib.Numerals.{lt-add-one}
 use native.Mathlib.Omega.{arith}
-use lib.Dec.{T, isLe, isEq, eqb, eqb-refl, leb→le, nleb→lt, eqb→eq, lit<}
+use lib.Dec.{lit<}
 use native.Mathlib.Decide.{decLe}
-use lib.Pow.{pow-add, pow-pos, pow-mono, pow-lt, shl-lt, shl-shr}
-use lib.Ieee.{Float, nan, inf, fin, binary64, up, down, size, nearest, units, toBits}
-use lib.Ieee.Digits.{size-lt, size-le, size-reaches}
+use lib.Pow.{pow-add, pow-pos, pow-mono, pow-lt, shl-shr}
+use lib.Ieee.{Float, nan, inf, fin, binary64, down, size, nearest, units, toBits}
+use lib.Ieee.Digits.{size-lt, size-le}
 use lib.Ieee.Fits.{down-pos, nearest-le}
 use lib.Ieee.Nearest.{nearest-ge}
 use lib.Ieee.Exact.{HasValue, units-val}
 use Rattle.root.specs.Root.{isqrt, closestRoot, roundRoot}
-use Rattle.root.proofs.Isqrt.{IsRoot, sq-lt, whole-root, is-lt, is-gt}
+use Rattle.root.proofs.Isqrt.{IsRoot, sq-lt, whole-root, is-lt, is-eq, is-gt}
 
 -- ---- how many digits
 
 size-gt : (n j : ℕ) → 2 ^ j ≤ n → j < size n
 size-gt n j h = lt-of-not-le (λ (g : size n ≤ j). not-le-of-lt (lt-of-lt-of-le (size-lt n) (pow-mono g)) h)
 
-pub size-is : (n j : ℕ) → 2 ^ j ≤ n → n < 2 ^ suc j → size n ≡ suc j
+size-is : (n j : ℕ) → 2 ^ j ≤ n → n < 2 ^ suc j → size n ≡ suc j
 size-is n j lo hi = le-antisymm (size-le n (suc j) hi) (size-gt n j lo)
 
 -- 53 digits before k places
-pub size-53 : (q k n : ℕ) → 2 ^ 52 ≤ q → q < 2 ^ 53 → q * 2 ^ k ≤ n → n < (q + 1) * 2 ^ k → size n - 53 ≡ k
+size-53 : (q k n : ℕ) → 2 ^ 52 ≤ q → q < 2 ^ 53 → q * 2 ^ k ≤ n → n < (q + 1) * 2 ^ k → size n - 53 ≡ k
 size-53 q k n lo hi a b =
     let x : 2 ^ (52 + k) ≤ n = le-trans (le-of-eq (pow-add 2 52 k)) (le-trans (mul-le-mul-right (2 ^ k) lo) a) in
     let q1 : q + 1 ≤ 2 ^ 53 = omega arith in
@@ -37,23 +38,10 @@ size-53 q k n lo hi a b =
     next : (k : ℕ) → 53 + k ≡ suc (52 + k)
     next k = omega arith
 
--- ---- `compare` of two multiples
+-- ---- a factor does not change what `compare` says
 
-is-eq : (a b : ℕ) → a ≡ b → compare a b ≡ Ordering·eq
-is-eq a b h = go (compare a b) (λ (t : T (isLe (compare a b))). leb→le a b t) (nleb→lt a b) (subst (λ (x : ℕ). T (eqb a x)) h (eqb-refl a))
-  where
-    go : (o : Ordering) → (T (isLe o) → a ≤ b) → (T (not (isLe o)) → b < a) → T (isEq o) → o ≡ Ordering·eq
-    go Ordering·lt e g t = absurd t
-    go Ordering·eq e g t = refl
-    go Ordering·gt e g t = absurd t
-
-abbrev Cmp : Ordering → ℕ → ℕ → Type 0
-Cmp Ordering·lt a b = a < b
-Cmp Ordering·eq a b = a ≡ b
-Cmp Ordering·gt a b = b < a
-
-scaled : (a b c : ℕ) → 0 < c → compare (a * c) (b * c) ≡ compare a b
-scaled a b c C = go (cases a b)
+compare-scaled : (a b c : ℕ) → 0 < c → compare (a * c) (b * c) ≡ compare a b
+compare-scaled a b c C = go (cases a b)
   where
     cases : (a b : ℕ) → (a < b) ⊎ ((a ≡ b) ⊎ (b < a))
     cases a b = elim (decLe b a) [ yes h ↦ (elim (eq-or-lt-of-le h) [ inl e ↦ inr (inl (sym e)) | inr l ↦ inr (inr l) ]) | no f ↦ inl (lt-of-not-le f) ]
@@ -82,13 +70,13 @@ module _ (N q p w : ℕ) (P : 0 < p) (i : IsRoot N q) (j : IsRoot (N * (p * p)) 
 
 -- ---- N has 105 or 106 digits, so its root has 53
 
-lead-ge : (N q : ℕ) → IsRoot N q → 2 ^ 52 * 2 ^ 52 ≤ N → 2 ^ 52 ≤ q
-lead-ge N q i h = let x : 2 ^ 52 < q + 1 = sq-lt (2 ^ 52) (q + 1) (lt-of-le-of-lt h (i .1)) in omega arith
+root-digits-ge : (N q : ℕ) → IsRoot N q → 2 ^ 52 * 2 ^ 52 ≤ N → 2 ^ 52 ≤ q
+root-digits-ge N q i h = let x : 2 ^ 52 < q + 1 = sq-lt (2 ^ 52) (q + 1) (lt-of-le-of-lt h (i .1)) in omega arith
 
-lead-lt : (N q : ℕ) → IsRoot N q → N < 2 ^ 53 * 2 ^ 53 → q < 2 ^ 53
-lead-lt N q i h = sq-lt q (2 ^ 53) (lt-of-le-of-lt (i .0) h)
+root-digits-lt : (N q : ℕ) → IsRoot N q → N < 2 ^ 53 * 2 ^ 53 → q < 2 ^ 53
+root-digits-lt N q i h = sq-lt q (2 ^ 53) (lt-of-le-of-lt (i .0) h)
 
--- `roundRoot`, from its w and its k on
+-- `roundRoot`, from its q and its k on
 abbrev from : ℕ → ℕ → ℕ → Float
 from n q k = units binary64 false (nearest q (compare (n * 4) ((2 * q + 1) * 2 ^ k * ((2 * q + 1) * 2 ^ k)))) k
 
@@ -108,11 +96,11 @@ round-root N k lo hi =
     let q = isqrt (size N) N in
     let i : IsRoot N q = whole-root N in
     let j : IsRoot n w = whole-root n in
-    let e : size w - 53 ≡ k = size-53 q k w (lead-ge N q i lo) (lead-lt N q i hi) (root-ge N q p w (pow-pos k) i j) (root-lt N q p w (pow-pos k) i j) in
+    let e : size w - 53 ≡ k = size-53 q k w (root-digits-ge N q i lo) (root-digits-lt N q i hi) (root-ge N q p w (pow-pos k) i j) (root-lt N q p w (pow-pos k) i j) in
     let c : compare (n * 4) ((2 * q + 1) * p * ((2 * q + 1) * p)) ≡ compare (N * 4) ((2 * q + 1) * (2 * q + 1)) =
     ap (λ (z : ℕ). compare z ((2 * q + 1) * p * ((2 * q + 1) * p))) (mul-right-comm N (p * p) 4)
     ∙ ap (λ (z : ℕ). compare (N * 4 * (p * p)) z) (mul-mul-mul-comm (2 * q + 1) p (2 * q + 1) p)
-    ∙ scaled (N * 4) ((2 * q + 1) * (2 * q + 1)) (p * p) (mul-pos (pow-pos k) (pow-pos k)) in
+    ∙ compare-scaled (N * 4) ((2 * q + 1) * (2 * q + 1)) (p * p) (mul-pos (pow-pos k) (pow-pos k)) in
     opened n
     ∙ ap (λ (z : ℕ). from n (w / 2 ^ z) z) e
     ∙ ap (λ (z : ℕ). from n z k) (root-div N q p w (pow-pos k) i j)
@@ -121,17 +109,17 @@ round-root N k lo hi =
 
 -- ---- the bit pattern
 
-tidy : (k h : ℕ) → 0 + k + h ≡ k + h
-tidy k h = omega arith
-
--- of a value that is a units
+-- of a value that is a units: the digits dropped in the exponent's field, and the digits kept
 pub value-bits : (x : Float) (a : ℕ) → HasValue x false a (2 ^ 1074) → toBits binary64 x ≡ (size a - 53) * 2 ^ 52 + a / 2 ^ (size a - 53)
 unfolding toBits
 value-bits nan a v = absurd v
 value-bits (inf s) a v = absurd v
 value-bits (fin true m e) a v = absurd (true≢false (v .0))
 value-bits (fin false m e) a v =
-    ap (λ (n : ℕ). 0 + (size n - 53) * 2 ^ 52 + n / 2 ^ (size n - 53)) (ap (λ (z : ℕ). z / down e) (v .1) ∙ mul-div-cancel a (down-pos e)) ∙ tidy ((size a - 53) * 2 ^ 52) (a / 2 ^ (size a - 53))
+    ap (λ (n : ℕ). 0 + (size n - 53) * 2 ^ 52 + n / 2 ^ (size n - 53)) (ap (λ (z : ℕ). z / down e) (v .1) ∙ mul-div-cancel a (down-pos e)) ∙ plain ((size a - 53) * 2 ^ 52) (a / 2 ^ (size a - 53))
+  where
+    plain : (k h : ℕ) → 0 + k + h ≡ k + h
+    plain k h = omega arith
 
 digits-bits : (x : Float) (q k : ℕ) → 2 ^ 52 ≤ q → q < 2 ^ 53 → HasValue x false (q * 2 ^ k) (2 ^ 1074) → toBits binary64 x ≡ k * 2 ^ 52 + q
 digits-bits x q k lo hi v =
@@ -145,7 +133,7 @@ carried k = sym (pow-add 2 53 k) ∙ ap (λ (z : ℕ). 2 ^ z) (next k) ∙ pow-a
     next k = omega arith
 
 -- a q that rounding has brought up to 2 ^ 53 adds one to the exponent's field by itself
-pub units-bits : (q k : ℕ) → 2 ^ 52 ≤ q → q ≤ 2 ^ 53 → q * 2 ^ k < 2 ^ 2098 → toBits binary64 (units binary64 false q k) ≡ k * 2 ^ 52 + q
+units-bits : (q k : ℕ) → 2 ^ 52 ≤ q → q ≤ 2 ^ 53 → q * 2 ^ k < 2 ^ 2098 → toBits binary64 (units binary64 false q k) ≡ k * 2 ^ 52 + q
 units-bits q k lo hi u =
     let x = units binary64 false q k in
     let v : HasValue x false (q * 2 ^ k) (2 ^ 1074) = units-val binary64 false q k u in
@@ -162,19 +150,19 @@ units-bits q k lo hi u =
 -- ---- both together: the pattern of the root of t * 2 ^ 52 * 4 ^ h units, for a t of 53 or 54 digits
 
 closest-ge : (N : ℕ) → 2 ^ 52 * 2 ^ 52 ≤ N → 2 ^ 52 ≤ closestRoot N
-closest-ge N h = let q = isqrt (size N) N in subst (λ (z : ℕ). 2 ^ 52 ≤ z) (sym (closest-is N)) (le-trans (lead-ge N q (whole-root N) h) (nearest-ge q (compare (N * 4) ((2 * q + 1) * (2 * q + 1)))))
+closest-ge N h = let q = isqrt (size N) N in subst (λ (z : ℕ). 2 ^ 52 ≤ z) (sym (closest-is N)) (le-trans (root-digits-ge N q (whole-root N) h) (nearest-ge q (compare (N * 4) ((2 * q + 1) * (2 * q + 1)))))
 
 closest-le : (N : ℕ) → N < 2 ^ 53 * 2 ^ 53 → closestRoot N ≤ 2 ^ 53
-closest-le N h = let q = isqrt (size N) N in subst (λ (z : ℕ). z ≤ 2 ^ 53) (sym (closest-is N)) (le-trans (nearest-le q (compare (N * 4) ((2 * q + 1) * (2 * q + 1)))) (lead-lt N q (whole-root N) h))
+closest-le N h = let q = isqrt (size N) N in subst (λ (z : ℕ). z ≤ 2 ^ 53) (sym (closest-is N)) (le-trans (nearest-le q (compare (N * 4) ((2 * q + 1) * (2 * q + 1)))) (root-digits-lt N q (whole-root N) h))
 
 pub closest-range : (t : ℕ) → 2 ^ 52 ≤ t → t < 2 ^ 54 → (2 ^ 52 ≤ closestRoot (t * 2 ^ 52)) × (closestRoot (t * 2 ^ 52) ≤ 2 ^ 53)
 closest-range t lo hi = (closest-ge (t * 2 ^ 52) (omega arith), closest-le (t * 2 ^ 52) (omega arith))
 
-pub place : (t h : ℕ) → t * 2 ^ (52 + (h + h)) ≡ t * 2 ^ 52 * (2 ^ h * 2 ^ h)
-place t h = ap (λ (z : ℕ). t * z) (pow-add 2 52 (h + h)) ∙ ap (λ (z : ℕ). t * (2 ^ 52 * z)) (pow-add 2 h h) ∙ sym (mul-assoc t (2 ^ 52) (2 ^ h * 2 ^ h))
+pub as-square : (t h : ℕ) → t * 2 ^ (52 + (h + h)) ≡ t * 2 ^ 52 * (2 ^ h * 2 ^ h)
+as-square t h = ap (λ (z : ℕ). t * z) (pow-add 2 52 (h + h)) ∙ ap (λ (z : ℕ). t * (2 ^ 52 * z)) (pow-add 2 h h) ∙ sym (mul-assoc t (2 ^ 52) (2 ^ h * 2 ^ h))
 
-pub fine : (q h : ℕ) → q ≤ 2 ^ 53 → h < 2045 → q * 2 ^ h < 2 ^ 2098
-fine q h a b = lt-of-le-of-lt (mul-le-mul-right (2 ^ h) a) (subst (λ (z : ℕ). z < 2 ^ 2098) (pow-add 2 53 h) (pow-lt (room h b)))
+pub in-range : (q h : ℕ) → q ≤ 2 ^ 53 → h < 2045 → q * 2 ^ h < 2 ^ 2098
+in-range q h a b = lt-of-le-of-lt (mul-le-mul-right (2 ^ h) a) (subst (λ (z : ℕ). z < 2 ^ 2098) (pow-add 2 53 h) (pow-lt (room h b)))
   where
     room : (h : ℕ) → h < 2045 → 53 + h < 2098
     room h b = omega arith
@@ -182,6 +170,6 @@ fine q h a b = lt-of-le-of-lt (mul-le-mul-right (2 ^ h) a) (subst (λ (z : ℕ).
 pub root-pattern : (n t h : ℕ) → 2 ^ 52 ≤ t → t < 2 ^ 54 → h < 2045 → n ≡ t * 2 ^ (52 + (h + h)) → toBits binary64 (roundRoot n) ≡ h * 2 ^ 52 + closestRoot (t * 2 ^ 52)
 root-pattern n t h lo hi room e =
     let r = closest-range t lo hi in
-    ap (λ (z : ℕ). toBits binary64 (roundRoot z)) (e ∙ place t h)
+    ap (λ (z : ℕ). toBits binary64 (roundRoot z)) (e ∙ as-square t h)
     ∙ ap (λ (x : Float). toBits binary64 x) (round-root (t * 2 ^ 52) h (omega arith) (omega arith))
-    ∙ units-bits (closestRoot (t * 2 ^ 52)) h (r .0) (r .1) (fine (closestRoot (t * 2 ^ 52)) h (r .1) room)
+    ∙ units-bits (closestRoot (t * 2 ^ 52)) h (r .0) (r .1) (in-range (closestRoot (t * 2 ^ 52)) h (r .1) room)

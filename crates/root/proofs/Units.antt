@@ -1,4 +1,4 @@
--- The finite values of binary64 with no minus sign, as fractions and as whole numbers of units, 2 ^ -1074: each is a number of 53 digits times a power of two. Assumes nothing.
+-- The finite values of binary64 with no minus sign, as fractions and as whole numbers of units, 2 ^ -1074: each is a number of at most 53 digits times a power of two. Assumes nothing.
 use mathlib.Core.Path.{_≡_, refl, sym, ap, _∙_}
 use mathlib.Core.Bool.{Bool, true, false, _&&_, true≢false}
 use Prim.Native.Nat.{ℕ, zero, suc, _+_, _-_, _*_, _/_, _%_, _^_, _≤_, _<_}
@@ -86,7 +86,7 @@ in-units (fin false (suc m) (negsuc k)) f u =
 
 -- ---- the order, as one of fractions and of units
 
--- n / d is a / L in each case
+-- of two fractions, n / d and m / e, that are a units and b units: L is the units in 1
 pub less-units : (n d a m e b L : ℕ) → 0 < L → n * L ≡ a * d → m * L ≡ b * e → n * e < m * d → a < b
 less-units n d a m e b L P p q h =
     let x : n * e * L ≡ a * (d * e) = mul-right-comm n e L ∙ ap (λ (z : ℕ). z * e) p ∙ mul-assoc a d e in
@@ -115,6 +115,7 @@ cross-lt (fin false m e) (fin false n d) u w h = lt→ltb (m * up e * down d) (n
 
 -- ---- values of the same size are the same
 
+-- n / d is R / L, and m / e is S / L
 same-units : (n d m e R S L : ℕ) → 0 < d * e → n * L ≡ R * d → m * L ≡ S * e → n * e ≡ m * d → R ≡ S
 same-units n d m e R S L P p q h =
     eq-of-mul-eq-mul-right (d * e) P R S

@@ -35,5 +35,6 @@ pub record LeastWhole (x r : Float) : Type 0 where
   pub not-below : T (le x r)
   pub least : (s : Bool) (n : ℕ) → T (le x (integer s n)) → T (le r (integer s n))
 
+-- For every finite x that binary64 holds, `ceil x` is that number.
 abbrev pub Correct : Type 0
 Correct = (x : Float) → T (fits binary64 x) → T (finite x) → LeastWhole x (ceil x)

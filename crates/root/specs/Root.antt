@@ -36,7 +36,7 @@ roundRoot n =
     let h = (2 * q + 1) * 2 ^ k in
     units binary64 false (nearest q (compare (n * 4) (h * h))) k
 
--- Of ±m * up e / down e. That is m * up e * 2 ^ 1074 / down e units, a whole number where binary64 holds the value.
+-- The size of a finite value is m * up e / down e, so a is m * up e * 2 ^ 1074 / down e: a whole number where binary64 holds the value.
 unfoldable pub root : Float → Float
 unfolding roundRoot
 root nan = nan

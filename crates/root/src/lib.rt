@@ -3,23 +3,37 @@
 // 1. A zero and the infinity are their own roots. A NaN and what lies below zero have none.
 // 2. Any other value is s * 2^(e - 2148), with a whole number s of at most 53 binary digits.
 // 3. Double s and lower e until s has 53 digits, and once more where e is odd.
-// 4. Find 53 digits of the root of s, one at a time, and round by what is left over.
+// 4. Find the 53 digits of the root, one at a time, and round by what is left over.
 // 5. Put the halved exponent before them. A carry out of the digits raises it by one.
 ghost use mathlib.Core.Path.{_≡_};
 ghost use Prim.Native.Nat.{ℕ, _+_, _*_, _^_, _<_, _≤_};
 ghost use lib.Ieee.{binary64, toBits};
 ghost use Rattle.root.specs.Root.{closestRoot, roundRoot, rootBits};
 
-// The weight of the exponent in a bit pattern: 2^52.
-const EXPONENT: u64 = 0x10_0000_0000_0000;
+// The binary digits of a number.
+const DIGITS: u64 = 53;
+
+// Those after the leading one.
+const FRACTION: u64 = 52;
+
+// 2^52: the leading digit, which a bit pattern leaves out, and the weight of the exponent's field.
+const HIDDEN_BIT: u64 = 0x10_0000_0000_0000;
+
+// The exponent e of step 2, of a subnormal.
+const SUBNORMAL: u64 = 1074;
+
+// The same of any other number, less the exponent's field.
+const NORMAL: u64 = 1073;
 
 const MINUS_ZERO: u64 = 0x8000_0000_0000_0000;
+
 const INFINITY: u64 = 0x7FF0_0000_0000_0000;
+
 const NAN: u64 = 0x7FF8_0000_0000_0000;
 
 // The root of s * 2^52 to the nearest whole number. Two binary digits of s * 2^52 give one of the
-// root, q; `rem` is what the digits so far leave over the square of q. A tie is impossible, since
-// q + 1/2 has no whole square.
+// root, q. `rem` is what the digits so far leave over the square of q, and `rest` holds those to
+// come, the next two from 2^52 up. There is no tie, since q + 1/2 has no whole square.
 fn closest_root(s: u64) -> u64
     requires { ⌜ s < 2 ^ 54 ⌝ }
     ensures { λ r. ⌜ r ≡ closestRoot (s * 2 ^ 52) ⌝ }
@@ -28,9 +42,9 @@ fn closest_root(s: u64) -> u64
     let mut rem: u64 = 0;
     let mut rest: u64 = s;
     let mut i: u64 = 0;
-    while i < 53 {
-        rem = rem * 4 + rest / EXPONENT;
-        rest = rest % EXPONENT * 4;
+    while i < DIGITS {
+        rem = rem * 4 + rest / HIDDEN_BIT;
+        rest = rest % HIDDEN_BIT * 4;
         q = q * 2;
         if rem > q * 2 {
             rem = rem - (q * 2 + 1);
@@ -48,14 +62,14 @@ fn root_of_number(s: u64, e: u64) -> u64
 {
     let mut t: u64 = s;
     let mut k: u64 = e;
-    while t < EXPONENT {
+    while t < HIDDEN_BIT {
         t = t * 2;
         k = k - 1;
     }
     if k % 2 == 1 {
         t = t * 2;
     }
-    (k - 52) / 2 * EXPONENT + closest_root(t)
+    (k - FRACTION) / 2 * HIDDEN_BIT + closest_root(t)
 }
 
 // The bit pattern of the square root of the f64 with the bit pattern `bits`: the f64 nearest to the
@@ -76,9 +90,9 @@ pub fn square_root(bits: u64) -> u64
     if bits > INFINITY {
         return NAN;
     }
-    if bits < EXPONENT {
-        root_of_number(bits, 1074)
+    if bits < HIDDEN_BIT {
+        root_of_number(bits, SUBNORMAL)
     } else {
-        root_of_number(bits % EXPONENT + EXPONENT, bits / EXPONENT + 1073)
+        root_of_number(bits % HIDDEN_BIT + HIDDEN_BIT, bits / HIDDEN_BIT + NORMAL)
     }
 }

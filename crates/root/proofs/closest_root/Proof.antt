@@ -1,13 +1,12 @@
 -- `root::closest_root` meets its contract. The invariant of its loop: of s, with 53 pairs of binary digits, i pairs are used: they are the number q * q + rem, and the rest, in its place, is `rest`.
 -- The measure is the pairs that are left. Assumes nothing.
-use mathlib.Core.Path.{_≡_, refl, sym, ap, _∙_, subst}
+use mathlib.Core.Path.{_≡_, sym, ap, _∙_, subst}
 use mathlib.Core.Logic.{⊎-elim}
-use Prim.Native.Nat.{ℕ, suc, _+_, _-_, _*_, _/_, _%_, _^_, _≤_, _<_}
-use native.Mathlib.Nat.{lt-of-lt-of-le, mul-comm, mul-assoc, mul-left-comm, mul-one, pow-succ', le-of-suc-le-suc}
+use Prim.Native.Nat.{ℕ, _+_, _-_, _*_, _/_, _%_, _^_, _≤_, _<_}
+use native.Mathlib.Nat.{lt-of-lt-of-le, mul-comm, mul-left-comm, mul-one, pow-succ', le-of-suc-le-suc}
 use native.Mathlib.Numerals.{add-one}
 use native.Mathlib.Omega.{arith}
 use lib.Pow.{pow-mono}
-use lib.Dec.{lit≤}
 use Rattle.root.proofs.Isqrt.{sq-next, sq-twice, Left, closest-up, closest-down}
 use Rattle.root.proofs.closest_root.Statement.{statement}
 use Rattle.root.proofs.closest_root.Tie as tie

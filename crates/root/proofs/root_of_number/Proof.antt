@@ -3,12 +3,11 @@
 use mathlib.Core.Path.{_≡_, refl, sym, ap, _∙_, subst}
 use mathlib.Core.Logic.{⊎-elim}
 use Prim.Native.Nat.{ℕ, suc, _+_, _-_, _*_, _/_, _%_, _^_, _≤_, _<_}
-use native.Mathlib.Nat.{le-trans, le-of-eq, lt-of-lt-of-le, lt-of-le-of-lt, lt-of-not-le, not-le-of-lt, lt-irrefl, mul-assoc, one-mul, mul-le-mul-right, pow-succ'}
-use native.Mathlib.Numerals.{add-one}
+use native.Mathlib.Nat.{le-trans, le-of-eq, lt-of-le-of-lt, mul-assoc, one-mul, mul-le-mul-right, pow-succ'}
 use native.Mathlib.Omega.{arith}
 use lib.Pow.{pow-mono, shl-lt}
-use Rattle.root.specs.Root.{closestRoot}
 use Rattle.root.proofs.Round.{closest-range, root-pattern}
+use Rattle.root.proofs.Units.{pow-lt-back}
 use Rattle.root.proofs.root_of_number.Statement.{statement}
 use Rattle.root.proofs.root_of_number.Tie as tie
 
@@ -20,9 +19,6 @@ Inv-loop s e t₀ k₀ t k = Moved s e t k
 
 abbrev μ-loop : tie.MeasureT-loop
 μ-loop s e t₀ k₀ t k = k
-
-pow-lt-back : (i p : ℕ) → 2 ^ i < 2 ^ p → i < p
-pow-lt-back i p h = lt-of-not-le (λ (g : p ≤ i). lt-irrefl (2 ^ i) (lt-of-lt-of-le h (pow-mono g)))
 
 -- t * 2 ^ k is 2 ^ 1074 at least
 high : (s e t k : ℕ) → 0 < s → 1074 ≤ e → t < 2 ^ 53 → t * 2 ^ k ≡ s * 2 ^ e → 1022 ≤ k

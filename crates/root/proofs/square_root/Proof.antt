@@ -1,6 +1,6 @@
 -- `root::square_root` meets its contract: `proofs/Patterns.antt` says what `rootBits` is at each kind of pattern. Assumes nothing.
 use mathlib.Core.Path.{_≡_, sym, ap, _∙_}
-use Prim.Native.Nat.{ℕ, _<_, _^_, _*_}
+use Prim.Native.Nat.{ℕ, _^_, _*_}
 use native.Mathlib.Omega.{arith}
 use borrow.Author.Needs.{needs}
 use Rattle.root.specs.Root.{rootBits}

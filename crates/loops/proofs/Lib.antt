@@ -7,3 +7,4 @@ pub mod Parts
 pub mod Rows
 pub mod Order
 pub mod Signs
+pub mod Real

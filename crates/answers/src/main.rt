@@ -1,19 +1,22 @@
 // Answers requests on standard input, a line each and at most 65,536 bytes of them, with one line each on standard
 // output: the way in for vectors and for the comparison with the reference build. What is read and printed is tested,
 // not proved; that the program is safe, ends and hands the operations what it read is proved.
+mod disp;
+mod lead;
 mod print;
-mod small;
+mod single;
 mod text;
 
 ghost use Prim.Native.Nat.{_≤_, _<_};
 ghost use lib.ListN.{length};
+use disp::answer_dispatch;
+use lead::answer_leaders;
 use libc::STDIN_FILENO;
 use libc::STDOUT_FILENO;
 use print::put_byte;
 use print::put_no_request;
-use small::answer_impedance;
-use small::answer_leaders;
-use small::answer_square_root;
+use single::answer_impedance;
+use single::answer_square_root;
 
 const LINE_FEED: u8 = b'\n';
 
@@ -44,6 +47,9 @@ fn answer(line: &[u8], out: &mut [u8]) -> usize
     }
     if begins(line, b"LEAD ") {
         return answer_leaders(line, out);
+    }
+    if begins(line, b"DISP ") {
+        return answer_dispatch(line, out);
     }
     put_no_request(out)
 }

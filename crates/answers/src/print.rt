@@ -78,6 +78,20 @@ pub fn put_number(out: &mut [u8], len: usize, x: u64) -> usize
     put_text(out, used, &digits[..n])
 }
 
+// The first n figures of a table.
+pub fn put_figures(out: &mut [u8], len: usize, xs: &[f64; 400], n: usize) -> usize
+    requires { ⌜ (len ≤ length (now out)) × (n ≤ 400) ⌝ }
+    ensures { λ r. ⌜ r ≤ length (now (out .entry)) ⌝ }
+{
+    let mut used = len;
+    let mut i = 0;
+    while i < n {
+        used = put_figure(out, used, xs[i]);
+        i += 1;
+    }
+    used
+}
+
 pub fn put_refusal(out: &mut [u8], f: Refusal) -> usize
     ensures { λ r. ⌜ r ≤ length (now (out .entry)) ⌝ }
 {

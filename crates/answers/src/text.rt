@@ -143,6 +143,25 @@ pub fn whole(line: &[u8], r: Reading) -> Reading
     digits(line, at + 1, end)
 }
 
+// The next field, a count: up to 400 are taken, so that one past every bound can be asked.
+pub fn count(line: &[u8], r: Reading) -> Reading
+    requires { ⌜ r .at ≤ length (now line) ⌝ }
+    ensures { λ s. ⌜ (s .at ≤ length (now (line .entry))) × (s .value ≤ 400) ⌝ }
+{
+    let s = whole(line, r);
+    if s.value > 400 {
+        return failed(s.at);
+    }
+    s
+}
+
+// A whole number that was read, for a table.
+pub fn narrow(x: u64) -> u32
+    requires { ⌜ x < 1000000000 ⌝ }
+{
+    x as u32
+}
+
 // The sixteen hexadecimal digits from `at` on.
 fn pattern(line: &[u8], at: usize) -> Reading
     requires { ⌜ at + 16 ≤ length (now line) ⌝ }

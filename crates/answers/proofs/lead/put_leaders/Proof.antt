@@ -1,10 +1,10 @@
--- `answers::small::put_leaders` meets its contract. The measure: the buses that are left.
+-- `answers::lead::put_leaders` meets its contract. The measure: the buses that are left.
 use borrow.Author.Needs.{needs}
 use Prim.Native.Nat.{_-_, _≤_}
 use lib.ListN.{length}
 use mathlib.Core.Path.{_≡_}
-use Rattle.answers.proofs.small.put_leaders.Statement.{statement}
-use Rattle.answers.proofs.small.put_leaders.Tie as tie
+use Rattle.answers.proofs.lead.put_leaders.Statement.{statement}
+use Rattle.answers.proofs.lead.put_leaders.Tie as tie
 
 abbrev Inv-loop : tie.InvT-loop
 Inv-loop out₀ leader buses used₀ i₀ out used i = (i ≤ buses) × (length out ≡ length out₀) × (used ≤ length out)

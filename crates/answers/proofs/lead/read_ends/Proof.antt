@@ -1,10 +1,10 @@
--- `answers::small::read_ends` meets its contract. The measure: the corridors that are left.
+-- `answers::lead::read_ends` meets its contract. The measure: the corridors that are left.
 use borrow.Author.Needs.{needs}
 use Prim.Native.Nat.{_-_, _≤_}
 use lib.ListN.{length}
 use mathlib.Core.Path.{_≡_}
-use Rattle.answers.proofs.small.read_ends.Statement.{statement}
-use Rattle.answers.proofs.small.read_ends.Tie as tie
+use Rattle.answers.proofs.lead.read_ends.Statement.{statement}
+use Rattle.answers.proofs.lead.read_ends.Tie as tie
 
 abbrev Inv-loop : tie.InvT-loop
 Inv-loop line corridors a₀ b₀ s₀ k₀ a b s k = (k ≤ corridors) × (s .at ≤ length line) × (length a ≡ length a₀) × (length b ≡ length b₀)

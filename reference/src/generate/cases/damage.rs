@@ -1,0 +1,238 @@
+//! Families of files that are no good case file, or barely one: wrong counts,
+//! marks and small fields, padding, cuts, flips and noise.
+
+use super::networks::{middling_observe, small_expand, small_observe, small_reinforce, two_buses};
+use super::sketch::{plain_line, OBSERVE};
+use crate::generate::random::Random;
+use crate::harness::case_file::{write_case, MOST_BYTES};
+
+/// Where the header's fields lie in the file.
+const MODE: usize = 2;
+const TARGET: usize = 3;
+const BUSES: usize = 7;
+const CORRIDORS: usize = 9;
+const GENERATORS: usize = 11;
+const ABOVE: usize = 13;
+const REQUESTED: usize = 14;
+
+fn good_file(random: &mut Random) -> Vec<u8> {
+    let make = random.pick(&[small_expand, small_reinforce, small_observe]);
+    write_case(&make(random))
+}
+
+/// A file with every kind of record, as small as can be: case L.
+fn smallest_file() -> Vec<u8> {
+    let mut case = two_buses(OBSERVE, 138.0, 50.0, plain_line(0.5, 100.0));
+    case.generators[0].pmax = 100.0;
+    case.generators[0].c2 = 0.25;
+    write_case(&case)
+}
+
+fn put_u16(file: &mut [u8], place: usize, value: u16) {
+    file[place..place + 2].copy_from_slice(&value.to_le_bytes());
+}
+
+/// A count or target past its bound, or a count that the records do not keep.
+pub fn counts(random: &mut Random, turn: usize) -> Vec<u8> {
+    let mut file = good_file(random);
+    match turn % 8 {
+        0 => put_u16(&mut file, BUSES, random.pick(&[257, 300, u16::MAX])),
+        1 => put_u16(&mut file, CORRIDORS, random.pick(&[257, 512, u16::MAX])),
+        2 => put_u16(&mut file, GENERATORS, random.pick(&[129, 256, u16::MAX])),
+        3 => file[REQUESTED] = random.pick(&[0, 6, 255]),
+        4 => file[ABOVE] = random.pick(&[5, 6, 255]),
+        5 => {
+            let target: u32 = random.pick(&[65_537, 65_536, u32::MAX]);
+            file[TARGET..TARGET + 4].copy_from_slice(&target.to_le_bytes());
+        }
+        6 => {
+            let place = random.pick(&[BUSES, CORRIDORS, GENERATORS]);
+            let count = u16::from(file[place]);
+            put_u16(
+                &mut file,
+                place,
+                random.pick(&[count + 1, count.saturating_sub(1)]),
+            );
+        }
+        _ => {
+            file[REQUESTED] = random.pick(&[1, 2, 5]);
+            file[ABOVE] = random.pick(&[0, 1, 4]);
+        }
+    }
+    if random.once_in(8) {
+        file[MODE] = 3;
+    }
+    file
+}
+
+/// Places in `file` where a record of `mark` begins.
+fn records(file: &[u8], mark: &[u8; 2]) -> Vec<usize> {
+    (0..file.len().saturating_sub(1))
+        .filter(|&i| &file[i..i + 2] == mark)
+        .collect()
+}
+
+/// A mode, slack or basis past its bound.
+pub fn small_fields(random: &mut Random, turn: usize) -> Vec<u8> {
+    let mut file = good_file(random);
+    let past = random.pick(&[2, 3, 128, 255]);
+    let (mark, offset) = [(b"HD", MODE), (b"GE", 4), (b"LN", 34)][turn % 3];
+    let places = records(&file, mark);
+    if !places.is_empty() {
+        file[random.pick(&places) + offset] = past;
+    }
+    if random.once_in(3) {
+        // Another fault, before or after it.
+        let place = random.below(file.len());
+        file.truncate(place);
+    }
+    file
+}
+
+/// One record's mark made another.
+pub fn marks(random: &mut Random, turn: usize) -> Vec<u8> {
+    const MARKS: [&[u8; 2]; 6] = [b"HD", b"LV", b"BU", b"GE", b"CO", b"LN"];
+    let mut file = good_file(random);
+    let places = records(&file, MARKS[turn % 6]);
+    if let Some(&place) = places.get(random.below(places.len().max(1))) {
+        let other = random.pick(&[
+            b"HD", b"LV", b"BU", b"GE", b"CO", b"LN", b"bu", b"BV", b"CP", b"\0\0",
+        ]);
+        file[place..place + 2].copy_from_slice(other);
+        if random.once_in(3) {
+            // 14 comes before 15 where the record is cut as well.
+            file.truncate(place + random.from_to(2, 12));
+        }
+    }
+    file
+}
+
+/// Zeros after the end, up to the largest file there is.
+pub fn padded(random: &mut Random, _: usize) -> Vec<u8> {
+    let mut file = good_file(random);
+    let any = random.from_to(file.len(), MOST_BYTES);
+    let length = random.pick(&[
+        file.len() + 1,
+        file.len() + 7,
+        file.len() + 8,
+        any,
+        MOST_BYTES,
+        MOST_BYTES,
+    ]);
+    file.resize(length, 0);
+    file
+}
+
+/// One byte too many, or more.
+pub fn padded_past(random: &mut Random, _: usize) -> Vec<u8> {
+    let mut file = match random.once_in(3) {
+        true => Vec::new(),
+        false => good_file(random),
+    };
+    let byte = random.pick(&[0, 0, 1]);
+    file.resize(MOST_BYTES + random.pick(&[1, 1, 2, 100, 4_465]), byte);
+    file
+}
+
+/// A byte that is not zero among the padding; sometimes several.
+pub fn after_the_end(random: &mut Random, _: usize) -> Vec<u8> {
+    let mut file = good_file(random);
+    let end = file.len();
+    let length = random.pick(&[1, 8, 9, 40, 5_000, MOST_BYTES - end]);
+    file.resize((end + length).min(MOST_BYTES), 0);
+    let padding = file.len() - end;
+    for _ in 0..random.from_to(1, 3) {
+        let any = random.below(padding);
+        file[end + random.pick(&[0, any, any, padding - 1])] = random.pick(&[1, 128, 255, b'L']);
+    }
+    file
+}
+
+pub fn cut(random: &mut Random, _: usize) -> Vec<u8> {
+    let mut file = match random.once_in(3) {
+        true => write_case(&middling_observe(random)),
+        false => good_file(random),
+    };
+    file.truncate(random.below(file.len()));
+    file
+}
+
+fn flip(random: &mut Random, file: &mut [u8], place: usize) {
+    let bit = 1u8 << random.below(8);
+    file[place] ^= random.pick(&[bit, bit, 255]);
+}
+
+pub fn flipped(random: &mut Random, _: usize) -> Vec<u8> {
+    let mut file = good_file(random);
+    for _ in 0..random.pick(&[1, 1, 1, 2, 5]) {
+        let place = random.below(file.len());
+        flip(random, &mut file, place);
+    }
+    file
+}
+
+/// The smallest file cut at each byte in turn, and whole.
+pub fn cut_in_turn(_: &mut Random, turn: usize) -> Vec<u8> {
+    let mut file = smallest_file();
+    file.truncate(turn % (file.len() + 1));
+    file
+}
+
+/// The smallest file with each byte flipped in turn.
+pub fn flipped_in_turn(random: &mut Random, turn: usize) -> Vec<u8> {
+    let mut file = smallest_file();
+    let place = turn % file.len();
+    flip(random, &mut file, place);
+    file
+}
+
+/// A file of the right shape with any bits for some of its figures.
+pub fn any_figures(random: &mut Random, _: usize) -> Vec<u8> {
+    let mut case = small_observe(random);
+    let figures = case
+        .ladder
+        .iter_mut()
+        .chain(case.buses.iter_mut().map(|bus| &mut bus.load))
+        .chain(
+            case.generators
+                .iter_mut()
+                .flat_map(|g| [&mut g.pmin, &mut g.pmax, &mut g.c1, &mut g.c2]),
+        )
+        .chain(
+            case.corridors
+                .iter_mut()
+                .flat_map(|c| [&mut c.length, &mut c.share]),
+        )
+        .chain(
+            case.sheet
+                .iter_mut()
+                .flat_map(|l| [&mut l.r, &mut l.x, &mut l.b, &mut l.rate]),
+        );
+    for figure in figures {
+        if random.once_in(20) {
+            *figure = match random.once_in(4) {
+                true => f64::from_bits(0x7FF << 52 | random.bits() >> 12),
+                false => random.any_figure(),
+            };
+        }
+    }
+    write_case(&case)
+}
+
+/// Noise, sometimes behind a good header.
+pub fn any_bytes(random: &mut Random, turn: usize) -> Vec<u8> {
+    if turn.is_multiple_of(16) {
+        return Vec::new();
+    }
+    let length = random.pick(&[1, 2, 14, 15, 16, 100, 1_000]);
+    let mut file: Vec<u8> = (0..random.from_to(1, length))
+        .map(|_| random.bits() as u8)
+        .collect();
+    if random.once_in(2) {
+        let mut headed = good_file(random);
+        headed.truncate(15);
+        headed.append(&mut file);
+        return headed;
+    }
+    file
+}

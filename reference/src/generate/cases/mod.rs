@@ -1,0 +1,172 @@
+//! Seeded case files. The seed chooses the family in turn, so that every run
+//! of [`FAMILIES`] seeds in a row holds one file of each.
+
+mod damage;
+mod edges;
+mod faults;
+mod networks;
+mod sketch;
+mod stiffening;
+
+use crate::generate::random::Random;
+use crate::harness::case_file::write_case;
+use crate::harness::tables::Case;
+
+/// How a file of a family is made.
+enum Make {
+    /// The unpadded file of a case.
+    Case(fn(&mut Random) -> Case),
+    /// A file that is no such thing; its turn counts the family's files.
+    File(fn(&mut Random, usize) -> Vec<u8>),
+}
+
+/// A case file and the family it comes from.
+pub struct CaseFile {
+    pub family: &'static str,
+    pub bytes: Vec<u8>,
+}
+
+/// All families, the ones that deserve more files several times.
+const FAMILIES: &[(&str, Make)] = &[
+    ("small, Expand", Make::Case(networks::small_expand)),
+    ("small, Reinforce", Make::Case(networks::small_reinforce)),
+    ("small, Observe", Make::Case(networks::small_observe)),
+    ("middling, Expand", Make::Case(networks::middling_expand)),
+    (
+        "middling, Reinforce",
+        Make::Case(networks::middling_reinforce),
+    ),
+    ("middling, Observe", Make::Case(networks::middling_observe)),
+    ("large", Make::Case(networks::large)),
+    ("every count at its bound", Make::Case(networks::at_bounds)),
+    ("heavy, Expand", Make::Case(networks::heavy_expand)),
+    ("heavy, Expand", Make::Case(networks::heavy_expand)),
+    ("heavy, Reinforce", Make::Case(networks::heavy_reinforce)),
+    (
+        "heavy subtransmission",
+        Make::Case(networks::heavy_subtransmission),
+    ),
+    ("heavy on one level", Make::Case(networks::heavy_one_level)),
+    ("rates in no order", Make::Case(networks::rates_in_no_order)),
+    ("islands and isolated buses", Make::Case(networks::islands)),
+    ("no corridor", Make::Case(networks::no_corridor)),
+    ("no bus", Make::Case(networks::no_bus)),
+    ("no generator", Make::Case(networks::no_generator)),
+    ("whole numbers", Make::Case(networks::whole_numbers)),
+    (
+        "parallel corridors",
+        Make::Case(networks::parallel_corridors),
+    ),
+    (
+        "figures at their bounds",
+        Make::Case(networks::figures_at_bounds),
+    ),
+    ("tiny loads", Make::Case(networks::tiny_loads)),
+    ("filling to a target", Make::Case(networks::filling)),
+    ("filling to the caps", Make::Case(networks::filling_to_caps)),
+    ("filling with ties", Make::Case(networks::filling_ties)),
+    ("extreme sheet", Make::Case(networks::extreme_sheet)),
+    (
+        "extreme sheet above",
+        Make::Case(networks::extreme_sheet_above),
+    ),
+    ("needs past every u32", Make::Case(networks::huge_needs)),
+    (
+        "unit solve overflows",
+        Make::Case(networks::overflowing_unit_solve),
+    ),
+    ("extreme costs", Make::Case(networks::extreme_costs)),
+    ("banks", Make::Case(stiffening::banks)),
+    ("bank after bank", Make::Case(stiffening::bank_after_bank)),
+    ("bank after bank", Make::Case(stiffening::bank_after_bank)),
+    ("raise in a round", Make::Case(stiffening::raise_in_a_round)),
+    ("raise in a round", Make::Case(stiffening::raise_in_a_round)),
+    (
+        "bank after bank, then too late",
+        Make::Case(stiffening::too_late),
+    ),
+    ("wide, by circuits", Make::Case(stiffening::by_circuits)),
+    ("wide, by banks", Make::Case(stiffening::by_banks)),
+    (
+        "wide, banks, then raises",
+        Make::Case(stiffening::banks_then_raises),
+    ),
+    ("wide, by raises", Make::Case(stiffening::by_raises)),
+    (
+        "wide, by raises below the top",
+        Make::Case(stiffening::below_the_top),
+    ),
+    (
+        "wide, by raises above the request",
+        Make::Case(stiffening::above_the_request),
+    ),
+    (
+        "wide, several islands",
+        Make::Case(stiffening::several_islands),
+    ),
+    ("wide, budgets spent", Make::Case(stiffening::budgets_spent)),
+    ("wide, large", Make::Case(stiffening::large)),
+    ("edge of a circuit", Make::Case(edges::circuit)),
+    ("edge of a raise", Make::Case(edges::raise)),
+    ("edge of a bank", Make::Case(edges::bank)),
+    ("edge of a bank's step", Make::Case(edges::bank_step)),
+    ("edge of a cap", Make::Case(edges::cap)),
+    ("edge of a rating", Make::Case(edges::rating)),
+    ("edge of the spread", Make::Case(edges::spread)),
+    ("refused: ladder", Make::Case(faults::ladder)),
+    ("refused: bus", Make::Case(faults::bus)),
+    ("refused: generator", Make::Case(faults::generator)),
+    ("refused: corridor", Make::Case(faults::corridor)),
+    ("refused: sheet row", Make::Case(faults::sheet_row)),
+    ("refused: several faults", Make::Case(faults::several)),
+    (
+        "refused: costs of islands",
+        Make::Case(faults::costs_of_islands),
+    ),
+    ("refused: counts", Make::File(damage::counts)),
+    ("refused: small fields", Make::File(damage::small_fields)),
+    ("refused: marks", Make::File(damage::marks)),
+    ("padded", Make::File(damage::padded)),
+    ("padded past the end", Make::File(damage::padded_past)),
+    ("not zero after the end", Make::File(damage::after_the_end)),
+    ("cut", Make::File(damage::cut)),
+    ("flipped", Make::File(damage::flipped)),
+    ("small file, cut in turn", Make::File(damage::cut_in_turn)),
+    ("small file, cut in turn", Make::File(damage::cut_in_turn)),
+    (
+        "small file, flipped in turn",
+        Make::File(damage::flipped_in_turn),
+    ),
+    (
+        "small file, flipped in turn",
+        Make::File(damage::flipped_in_turn),
+    ),
+    ("any figures", Make::File(damage::any_figures)),
+    ("any bytes", Make::File(damage::any_bytes)),
+];
+
+/// Names of all families.
+pub fn family_names() -> Vec<&'static str> {
+    FAMILIES.iter().map(|&(name, _)| name).collect()
+}
+
+/// The case file of a seed.
+pub fn case_file(seed: u64) -> CaseFile {
+    let count = FAMILIES.len() as u64;
+    let place = (seed % count) as usize;
+    let (family, make) = &FAMILIES[place];
+    let mut random = Random::new(family, seed);
+    let bytes = match make {
+        Make::Case(case) => write_case(&case(&mut random)),
+        Make::File(file) => file(&mut random, turn(place, (seed / count) as usize)),
+    };
+    CaseFile { family, bytes }
+}
+
+/// Which file of its family this is: a family that stands twice in the list
+/// takes its turns alternately.
+fn turn(place: usize, run: usize) -> usize {
+    let same = |&i: &usize| FAMILIES[i].0 == FAMILIES[place].0;
+    let places = (0..FAMILIES.len()).filter(same);
+    run * places.clone().count() + places.take_while(|&i| i < place).count()
+}

@@ -1,0 +1,5 @@
+//! Seeded requests and case files that reach every branch.
+
+pub mod cases;
+pub mod random;
+pub mod requests;

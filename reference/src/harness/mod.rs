@@ -1,0 +1,12 @@
+//! What stands between the published code and the outside: refusals, case
+//! files, the listing, and requests for single operations.
+
+pub mod answers;
+pub mod case_file;
+pub mod checks;
+pub mod figures;
+pub mod listing;
+pub mod operations;
+pub mod plan;
+pub mod refusal;
+pub mod tables;

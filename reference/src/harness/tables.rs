@@ -1,0 +1,66 @@
+//! The tables of a case and their bounds.
+
+pub const MOST_BUSES: usize = 256;
+pub const MOST_CORRIDORS: usize = 256;
+pub const MOST_GENERATORS: usize = 128;
+pub const MOST_LEVELS: usize = 5;
+pub const MOST_TARGET: usize = 65_536;
+pub const MOST_MODE: u8 = 2;
+
+/// Everything a case file says, any value of which may still be out of range.
+#[derive(Clone, Debug, Default, PartialEq)]
+pub struct Case {
+    pub mode: u8,
+    pub target: u32,
+    /// Ladder levels above the request; they come first in `ladder`.
+    pub above: usize,
+    pub ladder: Vec<f64>,
+    pub buses: Vec<Bus>,
+    pub generators: Vec<Generator>,
+    pub corridors: Vec<CorridorRecord>,
+    /// All levels of corridor 0 first.
+    pub sheet: Vec<Line>,
+}
+
+impl Case {
+    /// Levels of the request itself.
+    pub fn requested(&self) -> usize {
+        self.ladder.len() - self.above
+    }
+}
+
+#[derive(Clone, Copy, Debug, Default, PartialEq)]
+pub struct Bus {
+    /// Index among the requested levels.
+    pub tier: u8,
+    pub load: f64,
+}
+
+#[derive(Clone, Copy, Debug, Default, PartialEq)]
+pub struct Generator {
+    pub bus: u16,
+    pub slack: u8,
+    pub pmin: f64,
+    pub pmax: f64,
+    pub c1: f64,
+    pub c2: f64,
+}
+
+#[derive(Clone, Copy, Debug, Default, PartialEq)]
+pub struct CorridorRecord {
+    pub a: u16,
+    pub b: u16,
+    pub circuits: u8,
+    pub length: f64,
+    pub share: f64,
+}
+
+#[derive(Clone, Copy, Debug, Default, PartialEq)]
+pub struct Line {
+    pub r: f64,
+    pub x: f64,
+    pub b: f64,
+    pub rate: f64,
+    /// 0 thermal, 1 loadability.
+    pub basis: u8,
+}

@@ -1,0 +1,114 @@
+//! The command line of the reference build.
+
+use std::io::{self, Read, Write};
+use std::process::ExitCode;
+
+use reference::compare::{compare_answers, compare_cases, Outcome};
+use reference::generate::cases::case_file;
+use reference::generate::requests::{as_input, batch, KINDS};
+use reference::harness::answers::answer_all;
+use reference::harness::case_file::answer_read;
+use reference::harness::listing::answer_list;
+use reference::tally::branches;
+
+const USAGE: &str = "usage:
+  reference answers                                          requests on standard input
+  reference list                                             a case on standard input
+  reference read                                             a case on standard input
+  reference requests KIND SEED COUNT
+  reference case SEED
+  reference compare-answers PROGRAM KIND FIRST_SEED BATCHES
+  reference compare-cases PROGRAM list|read FIRST_SEED COUNT
+  reference branches FIRST_SEED COUNT
+KIND is one of SQRT IMP LEAD DISP ANG PLACE BAD.";
+
+/// Why a command did not run to its end.
+enum Failure {
+    Usage,
+    Io(io::Error),
+    /// It ran, and what it looked for is not so.
+    Found,
+}
+
+impl From<io::Error> for Failure {
+    fn from(error: io::Error) -> Self {
+        Failure::Io(error)
+    }
+}
+
+fn main() -> ExitCode {
+    let arguments: Vec<String> = std::env::args().skip(1).collect();
+    let words: Vec<&str> = arguments.iter().map(String::as_str).collect();
+    match run(&words) {
+        Ok(()) => ExitCode::SUCCESS,
+        Err(Failure::Found) => ExitCode::from(1),
+        Err(Failure::Usage) => {
+            eprintln!("{USAGE}");
+            ExitCode::from(2)
+        }
+        Err(Failure::Io(error)) => {
+            eprintln!("reference: {error}");
+            ExitCode::from(2)
+        }
+    }
+}
+
+fn run(words: &[&str]) -> Result<(), Failure> {
+    match *words {
+        ["answers"] => write(answer_all(&input()?).as_bytes()),
+        ["list"] => write(answer_list(&input()?).as_bytes()),
+        ["read"] => write(answer_read(&input()?).as_bytes()),
+        ["requests", kind, seed, count] => {
+            let requests = batch(kind, number(seed)?, number(count)? as usize);
+            write(&as_input(&requests.ok_or(Failure::Usage)?))
+        }
+        ["compare-answers", program, kind, first, batches] if KINDS.contains(&kind) => {
+            let outcome = compare_answers(program, kind, number(first)?, number(batches)?)?;
+            report(kind, "requests", &outcome)
+        }
+        ["case", seed] => write(&case_file(number(seed)?).bytes),
+        ["compare-cases", program, what, first, count] => {
+            let ours = match what {
+                "list" => answer_list,
+                "read" => answer_read,
+                _ => return Err(Failure::Usage),
+            };
+            let outcome = compare_cases(program, ours, number(first)?, number(count)?)?;
+            report(what, "cases", &outcome)
+        }
+        ["branches", first, count] => {
+            let (text, missing) = branches(number(first)?, number(count)?);
+            write(text.as_bytes())?;
+            match missing {
+                0 => Ok(()),
+                _ => Err(Failure::Found),
+            }
+        }
+        _ => Err(Failure::Usage),
+    }
+}
+
+fn number(word: &str) -> Result<u64, Failure> {
+    word.parse().map_err(|_| Failure::Usage)
+}
+
+fn input() -> io::Result<Vec<u8>> {
+    let mut bytes = Vec::new();
+    io::stdin().lock().read_to_end(&mut bytes)?;
+    Ok(bytes)
+}
+
+fn write(bytes: &[u8]) -> Result<(), Failure> {
+    Ok(io::stdout().lock().write_all(bytes)?)
+}
+
+fn report(what: &str, things: &str, outcome: &Outcome) -> Result<(), Failure> {
+    println!(
+        "{what}: {} {things}, {} differences",
+        outcome.compared, outcome.differences
+    );
+    match outcome.differences {
+        0 => Ok(()),
+        _ => Err(Failure::Found),
+    }
+}

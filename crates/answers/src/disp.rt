@@ -5,12 +5,12 @@ use crate::print::put_figures;
 use crate::print::put_no_request;
 use crate::print::put_refusal;
 use crate::print::put_text;
+use crate::text::Reading;
 use crate::text::bits;
 use crate::text::complete;
 use crate::text::count;
 use crate::text::figure;
 use crate::text::start;
-use crate::text::Reading;
 use refusal::Answer;
 
 // A unit that was read, and how far the line is read then.

@@ -5,12 +5,12 @@ use crate::print::put_no_request;
 use crate::print::put_number;
 use crate::print::put_refusal;
 use crate::print::put_text;
+use crate::text::Reading;
 use crate::text::complete;
 use crate::text::count;
 use crate::text::narrow;
 use crate::text::start;
 use crate::text::whole;
-use crate::text::Reading;
 use refusal::Answer;
 
 // The ends of each corridor.

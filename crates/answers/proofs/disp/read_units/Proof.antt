@@ -51,13 +51,14 @@ loop-less c = search needs
 
 loop-again : tie.Need-loop-again Inv-loop μ-loop
 loop-again c =
-    let l = c .before .before .before .loop in
-    (omega arith
-    , c .before .read-unit .ensures
-    , simp length-set (l .inv .2)
-    , simp length-set (l .inv .3)
-    , simp length-set (l .inv .4)
-    , simp length-set (l .inv .5))
+    let l = c .before .before .before .loop in (
+      omega arith,
+      c .before .read-unit .ensures,
+      simp length-set (l .inv .2),
+      simp length-set (l .inv .3),
+      simp length-set (l .inv .4),
+      simp length-set (l .inv .5),
+    )
 
 same-length : tie.Need-same-length Inv-loop μ-loop
 same-length c = search needs

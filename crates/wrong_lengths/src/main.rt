@@ -1,0 +1,10 @@
+// Calls each operation with one slice too short or too long, which no text can ask for, and prints what it answered and
+// whether the lent slices kept their contents. The first call of each operation has every length right.
+mod dispatch_calls;
+mod leaders_calls;
+mod report;
+
+fn main() {
+    leaders_calls::all();
+    dispatch_calls::all();
+}

@@ -30,7 +30,7 @@ fn read_ends(line: &[u8], r: Reading, corridors: usize, a: &mut [u32], b: &mut [
     s
 }
 
-fn long(x: u32) -> u64 {
+pub fn long(x: u32) -> u64 {
     x as u64
 }
 

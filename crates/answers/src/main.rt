@@ -3,6 +3,7 @@
 // not proved; that the program is safe, ends and hands the operations what it read is proved.
 mod disp;
 mod lead;
+mod place;
 mod print;
 mod single;
 mod text;
@@ -13,6 +14,7 @@ use disp::answer_dispatch;
 use lead::answer_leaders;
 use libc::STDIN_FILENO;
 use libc::STDOUT_FILENO;
+use place::answer_placement;
 use print::put_byte;
 use print::put_no_request;
 use single::answer_impedance;
@@ -50,6 +52,9 @@ fn answer(line: &[u8], out: &mut [u8]) -> usize
     }
     if begins(line, b"DISP ") {
         return answer_dispatch(line, out);
+    }
+    if begins(line, b"PLACE ") {
+        return answer_placement(line, out);
     }
     put_no_request(out)
 }

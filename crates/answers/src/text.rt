@@ -224,3 +224,59 @@ pub fn figure(x: u64) -> f64 {
     }
     f64::from_bits(x)
 }
+
+// The next n fields, figures of a table.
+pub fn read_figures(line: &[u8], r: Reading, n: usize, table: &mut [f64]) -> Reading
+    requires { ⌜ (r .at ≤ length (now line)) × (n ≤ length (now table)) ⌝ }
+    ensures { λ s. ⌜ s .at ≤ length (now (line .entry)) ⌝ }
+{
+    let mut s = r;
+    let mut i = 0;
+    while i < n {
+        s = bits(line, s);
+        table[i] = figure(s.value);
+        i += 1;
+    }
+    s
+}
+
+// The next n fields, whole numbers of a table.
+pub fn read_wholes(line: &[u8], r: Reading, n: usize, table: &mut [u32]) -> Reading
+    requires { ⌜ (r .at ≤ length (now line)) × (n ≤ length (now table)) ⌝ }
+    ensures { λ s. ⌜ s .at ≤ length (now (line .entry)) ⌝ }
+{
+    let mut s = r;
+    let mut i = 0;
+    while i < n {
+        s = whole(line, s);
+        table[i] = narrow(s.value);
+        i += 1;
+    }
+    s
+}
+
+// The next m edges: two ends and a figure.
+pub fn read_edges(
+    line: &[u8],
+    r: Reading,
+    m: usize,
+    a: &mut [u32],
+    b: &mut [u32],
+    w: &mut [f64],
+) -> Reading
+    requires { ⌜ (r .at ≤ length (now line)) × (m ≤ length (now a)) × (m ≤ length (now b)) × (m ≤ length (now w)) ⌝ }
+    ensures { λ s. ⌜ s .at ≤ length (now (line .entry)) ⌝ }
+{
+    let mut s = r;
+    let mut k = 0;
+    while k < m {
+        s = whole(line, s);
+        a[k] = narrow(s.value);
+        s = whole(line, s);
+        b[k] = narrow(s.value);
+        s = bits(line, s);
+        w[k] = figure(s.value);
+        k += 1;
+    }
+    s
+}

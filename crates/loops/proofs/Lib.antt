@@ -8,3 +8,4 @@ pub mod Rows
 pub mod Order
 pub mod Signs
 pub mod Real
+pub mod Sums

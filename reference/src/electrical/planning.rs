@@ -192,7 +192,8 @@ pub fn economic_dispatch(units: &[(f64, f64, f64, f64)], demand: f64) -> Vec<f64
     let pmax: f64 = units.iter().map(|u| u.1).sum();
     if demand >= pmax {
         seen(Branch::DispatchAtMost); // reference edit
-        seen_if(demand <= pmin, Branch::DispatchSumsEqual); // reference edit
+        let moves = units.iter().any(|u| u.0 < u.1); // reference edit
+        seen_if(demand <= pmin && moves, Branch::DispatchSumsEqual); // reference edit
         return units.iter().map(|u| u.1).collect();
     }
     if demand <= pmin {
@@ -631,6 +632,8 @@ pub fn plan_corridors(
         for (k, c) in corridors.iter().enumerate() {
             let d = &designs[k];
             let line_capacity = PLANNING_UTILISATION * d.line_rate * d.rate_spread;
+            let two_lines = UPGRADE_CIRCUITS as f64 * line_capacity; // reference edit
+            seen_if(flows[k].abs() == two_lines, Branch::FlowOfTwoLines); // reference edit
             if flows[k].abs() > UPGRADE_CIRCUITS as f64 * line_capacity {
                 mark_raise(&mut raise, buses, c);
             }
@@ -678,6 +681,8 @@ pub fn plan_corridors(
             // Rating the corridor needs so the planning flow stays at the
             // utilisation target.
             let required = flows[c].abs() / PLANNING_UTILISATION;
+            let have = circuits[c] as f64 * d.rate_a; // reference edit
+            seen_if(required == have, Branch::NeedExactlyMet); // reference edit
             if required <= circuits[c] as f64 * d.rate_a {
                 continue;
             }
@@ -779,9 +784,13 @@ pub fn plan_corridors(
                 .min_by(|&&a, &&b| theta[a].partial_cmp(&theta[b]).unwrap().then(a.cmp(&b)))
                 .expect("a component has a bus");
             let excess = theta[lead] - theta[lag] - MAX_ANGLE_SPREAD_RAD;
+            seen_if(excess == 0.0, Branch::SpreadExactlyAllowed); // reference edit
             if excess <= 0.0 {
                 continue;
             }
+            let as_far = |i: usize, j: usize| i != j && theta[i] == theta[j]; // reference edit
+            seen_if(members.iter().any(|&i| as_far(i, lead)), Branch::LeadTie); // reference edit
+            seen_if(members.iter().any(|&i| as_far(i, lag)), Branch::LagTie); // reference edit
             seen(Branch::SpreadTooWide); // reference edit
             spread_ok = false;
             if rounds > STIFFENING_ROUNDS {
@@ -837,6 +846,8 @@ pub fn plan_corridors(
             seen_if(gains.is_empty(), Branch::NoCandidate); // reference edit
             seen_if(batch < gains.len().min(cap), Branch::BatchCoversExcess); // reference edit
             seen_if(batch == cap && cap < gains.len(), Branch::BatchAtItsShare); // reference edit
+            let tie = batch < gains.len() && gains[batch - 1].0 == gains[batch].0; // reference edit
+            seen_if(tie, Branch::GainTie); // reference edit
             for &(_, k) in gains.iter().take(batch) {
                 let d = &mut designs[k];
                 if d.transformer_mva.is_some_and(|m| m < d.line_rate) {
@@ -965,6 +976,8 @@ pub fn plan_corridors(
         let need = flows[c].abs() / PLANNING_UTILISATION / d.rate_a;
         let once = flows[c].abs() / (PLANNING_UTILISATION * d.rate_a); // reference edit
         let most = circuits[c] as f64 + 1e-9; // reference edit
+        seen_if(l == 1.0 + 1e-9, Branch::LoadingAtTheLimit); // reference edit
+        seen_if(need == most, Branch::NeedAtTheLimit); // reference edit
         seen_if((once > most) != (need > most), Branch::CapByOneDivision); // reference edit
         if expand
             && circuits[c] >= circuit_cap(promote, designs[c].kv)

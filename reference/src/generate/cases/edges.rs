@@ -29,6 +29,14 @@ fn search(random: &mut Random, branch: Branch, one: fn(&mut Random) -> Case) -> 
     case
 }
 
+/// A case that takes `branch`, the edge itself, or one beside it.
+fn search_or_any(random: &mut Random, branch: Branch, one: fn(&mut Random) -> Case) -> Case {
+    match random.once_in(2) {
+        true => search(random, branch, one),
+        false => one(random),
+    }
+}
+
 /// A rate and a share as they come.
 fn rate_and_share(random: &mut Random) -> (f64, f64) {
     let share = random.between(0.5, 1.0);
@@ -49,28 +57,32 @@ fn loaded(random: &mut Random, mode: u8, load: f64, rate: f64, share: f64, circu
 
 /// At the utilisation target of the circuits there are.
 pub fn circuit(random: &mut Random) -> Case {
-    let (rate, share) = rate_and_share(random);
-    let circuits = random.from_to(1, 5) as u8;
-    let load = random.near(0.9 * (f64::from(circuits) * (rate * share)), 4);
-    let mode = random.pick(&[EXPAND, REINFORCE]);
-    loaded(random, mode, load, rate, share, circuits)
+    search_or_any(random, Branch::NeedExactlyMet, |random| {
+        let (rate, share) = rate_and_share(random);
+        let circuits = random.from_to(1, 5) as u8;
+        let load = random.near(0.9 * (f64::from(circuits) * (rate * share)), 3);
+        let mode = random.pick(&[EXPAND, REINFORCE]);
+        loaded(random, mode, load, rate, share, circuits)
+    })
 }
 
 /// At the flow that two lines carry, where the ends are raised.
 pub fn raise(random: &mut Random) -> Case {
-    let (rate, share) = rate_and_share(random);
-    let load = random.near(2.0 * (0.9 * rate * share), 4);
-    let mut case = loaded(random, EXPAND, load, rate, share, 1);
-    let above = random.below(2);
-    case.ladder = vec![345.0, 138.0];
-    case.above = above;
-    if above == 0 {
-        case.buses[0].tier = 1;
-        case.buses[1].tier = 1;
-    }
-    let line = case.sheet[0];
-    uniform_sheet(&mut case, line);
-    case
+    search_or_any(random, Branch::FlowOfTwoLines, |random| {
+        let (rate, share) = rate_and_share(random);
+        let load = random.near(2.0 * (0.9 * rate * share), 3);
+        let mut case = loaded(random, EXPAND, load, rate, share, 1);
+        let above = random.below(2);
+        case.ladder = vec![345.0, 138.0];
+        case.above = above;
+        if above == 0 {
+            case.buses[0].tier = 1;
+            case.buses[1].tier = 1;
+        }
+        let line = case.sheet[0];
+        uniform_sheet(&mut case, line);
+        case
+    })
 }
 
 /// A flow that passes through a lower end with a bank of 100 MVA.
@@ -123,16 +135,34 @@ pub fn cap(random: &mut Random) -> Case {
 
 /// At the rating of the circuits, where a corridor counts as overloaded.
 pub fn rating(random: &mut Random) -> Case {
-    let (rate, share) = rate_and_share(random);
-    let circuits = random.from_to(1, 6) as u8;
-    let load = random.near((1.0 + 1e-9) * (f64::from(circuits) * (rate * share)), 6);
-    loaded(random, OBSERVE, load, rate, share, circuits)
+    search_or_any(random, Branch::LoadingAtTheLimit, |random| {
+        let (rate, share) = rate_and_share(random);
+        let circuits = random.from_to(1, 6) as u8;
+        let load = random.near((1.0 + 1e-9) * (f64::from(circuits) * (rate * share)), 4);
+        loaded(random, OBSERVE, load, rate, share, circuits)
+    })
+}
+
+/// A need at its limit, where a corridor counts as capped.
+pub fn need(random: &mut Random) -> Case {
+    search_or_any(random, Branch::NeedAtTheLimit, |random| {
+        let (rate, share) = rate_and_share(random);
+        let circuits = random.pick(&[4, 6]);
+        let load = random.near(0.9 * (rate * share) * (f64::from(circuits) + 1e-9), 4);
+        let mut case = loaded(random, REINFORCE, load, rate, share, circuits);
+        if circuits == 6 {
+            case.ladder[0] = 69.0;
+        }
+        case
+    })
 }
 
 /// At the widest spread that is left alone.
 pub fn spread(random: &mut Random) -> Case {
-    let buses = random.from_to(2, 5);
-    let load = random.between(20.0, 90.0);
-    let x = MAX_ANGLE_SPREAD_RAD * 100.0 / load / (buses - 1) as f64;
-    plain_chain(buses, random.near(load, 3), random.near(x, 3), 1e4)
+    search_or_any(random, Branch::SpreadExactlyAllowed, |random| {
+        let buses = random.from_to(2, 5);
+        let load = random.between(20.0, 90.0);
+        let x = MAX_ANGLE_SPREAD_RAD * 100.0 / load / (buses - 1) as f64;
+        plain_chain(buses, random.near(load, 3), random.near(x, 3), 1e4)
+    })
 }

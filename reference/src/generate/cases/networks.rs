@@ -331,8 +331,8 @@ pub fn filling_ties(random: &mut Random) -> Case {
         c.circuits = random.pick(&[1, 1, 2, 3, 4]);
         c.length = random.pick(&[10.0, 20.0]);
     }
-    let corridors = case.corridors.len();
-    case.target = random.below(5 * corridors) as u32;
+    let circuits: usize = case.corridors.iter().map(|c| usize::from(c.circuits)).sum();
+    case.target = (circuits + random.from_to(1, case.corridors.len())) as u32;
     case
 }
 

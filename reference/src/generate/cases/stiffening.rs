@@ -6,7 +6,7 @@ use super::sketch::{
 };
 use crate::electrical::params::MAX_ANGLE_SPREAD_RAD;
 use crate::generate::random::Random;
-use crate::harness::tables::{Case, MOST_BUSES};
+use crate::harness::tables::{Case, Generator, MOST_BUSES};
 
 /// Loads at few buses, so that flows pass through lower ends whose banks were
 /// sized for less.
@@ -224,6 +224,64 @@ pub fn above_the_request(random: &mut Random) -> Case {
     for i in 0..high {
         case.buses[i].tier = 0;
     }
+    case
+}
+
+/// Nearly as many buses at the top as the voltage budget allows, and the
+/// corridors that help most side by side: their common ends count again.
+pub fn ends_met_again(random: &mut Random) -> Case {
+    let buses = random.pick(&[50, 60, 80, 100, 180, 180]);
+    let mut case = wide_chain(random, (0, 2), buses, 3.0, 0.5);
+    let budget = (0.35 * buses as f64).floor() as usize;
+    let left = random.pick(&[0, 4, 4, 5, 6, 7]);
+    for bus in &mut case.buses[..budget - left] {
+        bus.tier = 0;
+    }
+    let first = random.from_to(budget + 5, buses - 8);
+    for (i, rows) in case.sheet.chunks_mut(2).skip(first).take(6).enumerate() {
+        for row in rows {
+            row.x *= 20.0 - 2.0 * i as f64;
+        }
+    }
+    case
+}
+
+/// Two equal arms on a hub: two buses lag, or lead, and equal gains.
+pub fn equal_arms(random: &mut Random) -> Case {
+    let length = random.from_to(1, 12);
+    let requested = random.from_to(1, 2);
+    let mut case = empty(EXPAND, ladder(random, requested), 0);
+    let names = random.shuffled(2 * length + 1);
+    let hub = names[2 * length];
+    let power = random.between(20.0, 80.0);
+    case.buses = vec![bus(requested - 1, 0.0); 2 * length + 1];
+    let times = random.between(0.6, 3.0);
+    let x = MAX_ANGLE_SPREAD_RAD * times * 100.0 / power / length as f64;
+    for arm in [&names[..length], &names[length..2 * length]] {
+        let mut inner = hub;
+        for &outer in arm {
+            case.corridors.push(corridor(inner, outer));
+            inner = outer;
+        }
+    }
+    let mut at_hub = unit(hub, 1e4);
+    at_hub.slack = 1;
+    case.generators = vec![at_hub];
+    let leading = random.once_in(2);
+    for end in [names[length - 1], names[2 * length - 1]] {
+        if leading {
+            case.generators.push(Generator {
+                pmin: power,
+                ..unit(end, power)
+            });
+        } else {
+            case.buses[end].load = power;
+        }
+    }
+    if leading {
+        case.buses[hub].load = 2.0 * power;
+    }
+    uniform_sheet(&mut case, plain_line(x, 1e3));
     case
 }
 

@@ -110,14 +110,23 @@ fn around_a_sum(random: &mut Random) -> Words {
     ask(&units, demand)
 }
 
-/// Every unit stands still, so the sums are equal after rounding.
+/// Every unit stands still, or moves too little to be seen beside one that
+/// does: the sums are equal after rounding.
 fn sums_equal(random: &mut Random) -> Words {
     let count = random.from_to(1, 5);
     let mut units = units(random, count);
     for unit in &mut units {
         unit.0 = unit.1;
     }
-    let demand = random.near(sum(&units, |u| u.0), 2);
+    if random.once_in(2) {
+        units[0].0 = 1e6;
+        units[0].1 = 1e6;
+        for unit in &mut units[1..] {
+            unit.0 = 0.0;
+            unit.1 = random.log_between(1e-20, 1e-11);
+        }
+    }
+    let demand = random.near(sum(&units, |u| u.0), 1);
     ask(&units, demand)
 }
 

@@ -1,0 +1,15 @@
+-- Laws of the tests, the choices and the stages; what the search keeps and what its distances are; worked examples.
+pub mod Choice
+pub mod Tests
+pub mod Turns
+pub mod Checks
+pub mod Chains
+pub mod Count
+pub mod Best
+pub mod Settled
+pub mod Settling
+pub mod Nearest
+pub mod Again
+pub mod Sites
+pub mod Accepted
+pub mod Examples

@@ -1,0 +1,67 @@
+// Synchronous condensers for remote load pockets (document 01, module 7; reactive.rs, `place_voltage_support`).
+ghost use mathlib.Core.Path.{_≡_};
+ghost use Rattle.placement.specs.Request.{requestOf};
+ghost use Rattle.placement.specs.Support.{outcome, placement};
+use refusal::Refusal;
+
+mod check;
+mod condenser;
+mod distance;
+
+const MOST_BUSES: usize = 256;
+
+// How many condensers were placed, or why none could be looked for.
+pub enum Placement {
+    Placed(usize),
+    Refused(Refusal),
+}
+
+// What the checks say of a request.
+enum Verdict {
+    Sound,
+    Faulty(Refusal),
+}
+
+fn wide(x: u32) -> usize
+    ensures { λ r. ⌜ r ≡ x ⌝ }
+{
+    x as usize
+}
+
+// Puts a condenser at the farthest loaded bus as long as one lies more than 100 km of corridor from the nearest generator or
+// condenser, then sizes each to half the load that lies nearest to it, 5 Mvar at least. Reads n buses, m corridors and g generators;
+// writes the condensers' buses and Mvar, zero past their count.
+pub fn place_voltage_support(
+    n: usize,
+    m: usize,
+    g: usize,
+    loads: &[f64],
+    a: &[u32],
+    b: &[u32],
+    km: &[f64],
+    generators: &[u32],
+    buses: &mut [u32],
+    mvars: &mut [f64],
+) -> Placement
+    ensures { λ r. ⌜ outcome r (now (buses .exit)) (now (mvars .exit))
+        ≡ placement (requestOf n m g (now (loads .entry)) (now (a .entry)) (now (b .entry)) (now (km .entry)) (now (generators .entry))) (now (buses .entry)) (now (mvars .entry)) ⌝ }
+{
+    match check::check(
+        n,
+        m,
+        g,
+        loads,
+        a,
+        b,
+        km,
+        generators,
+        buses.len(),
+        mvars.len(),
+    ) {
+        Verdict::Faulty(f) => Placement::Refused(f),
+        Verdict::Sound => {
+            let count = condenser::place(n, m, loads, a, b, km, generators, buses, mvars);
+            Placement::Placed(count)
+        }
+    }
+}

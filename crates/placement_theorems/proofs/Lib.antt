@@ -1,0 +1,3 @@
+-- The theorem about placing, and one about distances at a small network.
+pub mod Supported
+pub mod Examples

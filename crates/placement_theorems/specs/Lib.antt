@@ -1,0 +1,2 @@
+-- What placing is for.
+pub mod Support

@@ -1,0 +1,1 @@
+// No code: `specs/` states what placing is for, and `proofs/` shows it of the definitions.

@@ -9,3 +9,6 @@ pub mod Order
 pub mod Signs
 pub mod Real
 pub mod Sums
+pub mod Puts
+pub mod Zeros
+pub mod Totals

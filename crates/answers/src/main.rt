@@ -1,6 +1,7 @@
 // Answers requests on standard input, a line each and at most 65,536 bytes of them, with one line each on standard
 // output: the way in for vectors and for the comparison with the reference build. What is read and printed is tested,
 // not proved; that the program is safe, ends and hands the operations what it read is proved.
+mod ang;
 mod disp;
 mod lead;
 mod place;
@@ -10,6 +11,7 @@ mod text;
 
 ghost use Prim.Native.Nat.{_≤_, _<_};
 ghost use lib.ListN.{length};
+use ang::answer_angles;
 use disp::answer_dispatch;
 use lead::answer_leaders;
 use libc::STDIN_FILENO;
@@ -52,6 +54,9 @@ fn answer(line: &[u8], out: &mut [u8]) -> usize
     }
     if begins(line, b"DISP ") {
         return answer_dispatch(line, out);
+    }
+    if begins(line, b"ANG ") {
+        return answer_angles(line, out);
     }
     if begins(line, b"PLACE ") {
         return answer_placement(line, out);

@@ -35,7 +35,6 @@ clash bound r t p h l a b = go r h (above-of-le bound r p l) a
     go (inf false) h v a = infinite t bound p a b
     go (fin true m e) h v a = v
     go (fin false m e) h v a =
-        let r = fin false m e in
         let q : T (positive t) = between (fin false m e) t bound v p a b in
         let x = le→cross (fin false m e) bound v p (le-trans-positive (fin false m e) t bound v q p a b) in
         let y = lt-cross bound (fin false m e) (positive-unsigned bound p) tt h in

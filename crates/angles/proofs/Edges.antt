@@ -41,8 +41,6 @@ module _ (n : ℕ) (from to : List ℕ) (weight : List Float) (B : EdgesBelow n 
       → w ≡ put w₀ y (part y n w) → w′ ≡ movedIn w (getD from e 0) (getD to e 0) (at weight e) x y
       → w′ ≡ put w y (carry (edgesOf from to weight) (part x n w₀) e (part y n w))
   carry-turn w₀ w w′ x y s hx hy k only q =
-      let a : ℕ = getD from e 0 in
-      let b : ℕ = getD to e 0 in
       let X : part x n w ≡ part x n w₀ = ap (λ (r : List Float). part x n r) only ∙ part-put-apart nan w₀ y (part y n w) x n s (length-part y n w (omega arith)) hy hx in
       let at-a : at w (x + getD from e 0) ≡ at (part x n w₀) (getD from e 0) = sym (get-part x n w (getD from e 0) nan (B .from-below e l)) ∙ ap (λ (r : List Float). at r (getD from e 0)) X in
       let at-b : at w (x + getD to e 0) ≡ at (part x n w₀) (getD to e 0) = sym (get-part x n w (getD to e 0) nan (B .to-below e l)) ∙ ap (λ (r : List Float). at r (getD to e 0)) X in
@@ -63,7 +61,6 @@ unfolding scatter
 apply-calls n E w₀ w₁ w₂ w₃ g x y r hg hx hy sg sx e₁ e₂ W =
     let x₁ : part x n w₁ ≡ part x n w₀ = wrote-not n y w₀ w₁ (zeros n) e₁ (length-zeros n) hy nan x hx sx in
     let y₁ : part y n w₁ ≡ zeros n = wrote n y w₀ w₁ (zeros n) e₁ (length-zeros n) hy in
-    let s : List Float = scatter n E (part x n w₀) in
     let ks : length (scatter n E (part x n w₀)) ≡ n = length-scatter n E (part x n w₀) in
     let e₂′ : w₂ ≡ put w₀ y (scatter n E (part x n w₀)) = wrote-again n y w₀ w₁ (zeros n) e₁ (length-zeros n) hy w₂ (scatter n E (part x n w₀)) (rw (x₁, y₁) at e₂) ks in
     let g₂ : part g n w₂ ≡ part g n w₀ = wrote-not n y w₀ w₂ (scatter n E (part x n w₀)) e₂′ ks hy nan g hg sg in

@@ -72,8 +72,6 @@ module _ (n : ℕ) (w w′ : List Float) (len : length w ≡ 8 * n) where
       let r = row-of 8 n 4 (4 * n) w refl (lit< tt) in
       let d = row-of 8 n 6 (6 * n) w refl (lit< tt) in
       let q = row-of 8 n 7 (7 * n) w refl (lit< tt) in
-      let X : List Float = along n (row (rows 8 n w) 3) alpha (row (rows 8 n w) 6) in
-      let R : List Float = back n (row (rows 8 n w) 4) alpha (row (rows 8 n w) 7) in
       let lX : length (along n (row (rows 8 n w) 3) alpha (row (rows 8 n w) 6)) ≡ n = length-along n _ alpha _ in
       let long : length (put w (3 * n) (along n (row (rows 8 n w) 3) alpha (row (rows 8 n w) 6))) ≡ 8 * n = length-put w (3 * n) (along n (row (rows 8 n w) 3) alpha (row (rows 8 n w) 6)) (omega arith) ∙ len in
       record {

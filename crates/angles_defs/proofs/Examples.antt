@@ -6,8 +6,8 @@ use lib.Ieee.{Float, add, sub, mul, div, neg, lt, eq, le, ne, ofBits, binary64}
 use Rattle.loops.specs.Figures.{nought, half, one, two}
 use Rattle.loops.specs.Loops.{iter, tab, sumTo}
 use Rattle.root.specs.Root.{root}
-use Rattle.angles_defs.specs.Network.{Edges, edgesOf, groundedOf, diagOf, scatter, kept, shares, along, back, less}
-use Rattle.angles_defs.specs.Solve.{Solved, solved, step, run, begin, solveFrom, solve}
+use Rattle.angles_defs.specs.Network.{Edges, Network, edgesOf, networkOf, zeros, groundedOf, diagOf, scatter, kept, shares, along, back, less}
+use Rattle.angles_defs.specs.Solve.{Solved, solved, settledShare, step, run, begin, solveFrom, solve}
 use Rattle.angles_defs.specs.declared.Ended.the-variants.{Settled, NoDescent}
 
 abbrev minusQuarter : Float
@@ -25,9 +25,12 @@ groundOnly = solve 2 (line two) (0 ∷ []) (half ∷ nought ∷ []) (half ∷ tw
 abbrev pub oneStep : Solved
 oneStep = solve 2 (line two) (0 ∷ []) (half ∷ neg half ∷ []) (nought ∷ nought ∷ [])
 
--- One unit from bus 2 over bus 1 to the ground at 0: the second direction is turned by beta, a half.
+-- One unit from bus 2 over bus 1 to the ground at 0, with norm0 one: settled in the second of two iterations, whose direction is turned by beta, a half.
+abbrev path : Network
+path = networkOf 3 (edgesOf (0 ∷ 1 ∷ []) (1 ∷ 2 ∷ []) (one ∷ one ∷ [])) (0 ∷ [])
+
 abbrev pub twoSteps : Solved
-twoSteps = solve 3 (edgesOf (0 ∷ 1 ∷ []) (1 ∷ 2 ∷ []) (one ∷ one ∷ [])) (0 ∷ []) (nought ∷ nought ∷ one ∷ []) (nought ∷ nought ∷ nought ∷ [])
+twoSteps = run path settledShare 2 (begin path settledShare (nought ∷ nought ∷ one ∷ []) (zeros 3))
 
 -- No weight reaches bus 1, so no direction descends: dq is 0, and the guess is left as it is.
 abbrev pub noDescent : Solved

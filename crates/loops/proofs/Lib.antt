@@ -12,3 +12,4 @@ pub mod Sums
 pub mod Puts
 pub mod Zeros
 pub mod Totals
+pub mod Bits

@@ -27,7 +27,7 @@ module _ (ok : ℕ → Bool) (n i : ℕ) where
   first-end h = ap (λ (k : ℕ). first ok k i) (none n i h)
 
 -- ---- where the search comes to the end, the test passes at each index
-first-all : (ok : ℕ → Bool) (k i : ℕ) → i + k ≤ first ok k i → (j : ℕ) → i ≤ j → j < i + k → ok j ≡ true
+pub first-all : (ok : ℕ → Bool) (k i : ℕ) → i + k ≤ first ok k i → (j : ℕ) → i ≤ j → j < i + k → ok j ≡ true
 unfolding first
 first-all ok zero i e j l h = absurd (omega arith)
 first-all ok (suc k) i e j l h = go (λ r lt. first-all ok k (suc i) r j lt (omega arith)) (ok i) refl e
@@ -40,7 +40,7 @@ pub all-pass : (ok : ℕ → Bool) (n : ℕ) → n ≤ first ok n 0 → (j : ℕ
 all-pass ok n e j l = first-all ok n 0 (omega arith) j zero-le (omega arith)
 
 -- and where it passes at each, the search comes to the end
-passed : (ok : ℕ → Bool) (k i : ℕ) → ((j : ℕ) → i ≤ j → j < i + k → ok j ≡ true) → first ok k i ≡ i + k
+pub passed : (ok : ℕ → Bool) (k i : ℕ) → ((j : ℕ) → i ≤ j → j < i + k → ok j ≡ true) → first ok k i ≡ i + k
 unfolding first
 passed ok zero i h = omega arith
 passed ok (suc k) i h =

@@ -1,0 +1,10 @@
+-- The laws of case reading, by subject.
+pub mod Words
+pub mod Records
+pub mod Counts
+pub mod Walks
+pub mod Spots
+pub mod Accepted
+pub mod Rooms
+pub mod Whole
+pub mod Callers

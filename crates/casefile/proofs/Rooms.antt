@@ -1,0 +1,67 @@
+-- What filling the tables asks: the counts fit the tables, every record lies inside the file, and the tables' starts are small numbers.
+-- An answered file has it by its records' tests; a refused one leaves no records.
+use Prim.Native.Nat.{ℕ, _≤_}
+use mathlib.Core.Path.{_≡_, sym, subst}
+use mathlib.Core.List.{List}
+use native.Mathlib.Nat.{not-suc-le-zero}
+use native.Mathlib.Omega.{arith}
+use Rattle.casefile.specs.Reading.{Small, levels, lines, readingOf}
+use Rattle.casefile.specs.Tables.{Room, levelsAt, busesAt, generatorsAt, corridorsAt, linesAt, held}
+use Rattle.casefile.specs.declared.Kind.{Kind}
+use Rattle.casefile.specs.declared.Kind.the-variants.{Level, Bus, Generator, Corridor, Line}
+use Rattle.casefile.specs.declared.Header.{Header}
+use Rattle.casefile.specs.declared.Reading.{Reading}
+use Rattle.casefile.specs.declared.Reading.the-variants.{Refused, Read}
+use Rattle.casefile.proofs.Accepted.{Accepted, accepted}
+use Rattle.casefile.proofs.Counts.{small-of}
+use Rattle.casefile.proofs.Spots.{spot-mul}
+
+pub record Roomy (s : List ℕ) (h : Header) : Type 0 where
+  pub small : Small h
+  pub levels : Room Level s levelsAt (levels h)
+  pub buses : Room Bus s (busesAt h) (h .buses)
+  pub generators : Room Generator s (generatorsAt h) (h .generators)
+  pub corridors : Room Corridor s (corridorsAt h) (h .corridors)
+  pub rows : Room Line s (linesAt h) (lines h)
+
+none : (k : Kind) (s : List ℕ) (at : ℕ) → Room k s at 0
+none k s at i h = absurd (not-suc-le-zero h)
+
+roomy-read : (s : List ℕ) (h : Header) → Accepted s h → Roomy s h
+roomy-read s h a = record {
+  small = small-of h (a .counts);
+  levels = λ i l. a .levels i l .room;
+  buses = λ i l. a .buses i l .room;
+  generators = λ i l. a .generators i l .room;
+  corridors = λ i l. a .corridors i l .room;
+  rows = λ i l. a .rows i l .room;
+}
+
+roomy-of : (s : List ℕ) (r : Reading) → readingOf s ≡ r → Roomy s (held r)
+unfolding held
+roomy-of s (Read h) e = roomy-read s h (accepted s h e)
+roomy-of s (Refused f) e = record {
+  small = record { buses = omega arith; corridors = omega arith; generators = omega arith; levels = omega arith; target = omega arith };
+  levels = none Level s _;
+  buses = none Bus s _;
+  generators = none Generator s _;
+  corridors = none Corridor s _;
+  rows = none Line s _;
+}
+
+pub roomy : (s : List ℕ) (r : Reading) (h : Header) → r ≡ readingOf s → h ≡ held r → Roomy s h
+roomy s r h e q = subst (λ (g : Header). Roomy s g) (sym q) (roomy-of s r (sym e))
+
+-- the tables' starts are small numbers
+module _ (h : Header) (b : Small h) where
+  pub buses-low : busesAt h ≤ 65
+  buses-low = omega (arith, spot-mul Level 15 (levels h), b .levels)
+
+  pub generators-low : generatorsAt h ≤ 2881
+  generators-low = omega (arith, buses-low, spot-mul Bus (busesAt h) (h .buses), b .buses)
+
+  pub corridors-low : corridorsAt h ≤ 7617
+  corridors-low = omega (arith, generators-low, spot-mul Generator (generatorsAt h) (h .generators), b .generators)
+
+  pub lines-low : linesAt h ≤ 13505
+  lines-low = omega (arith, corridors-low, spot-mul Corridor (corridorsAt h) (h .corridors), b .corridors)

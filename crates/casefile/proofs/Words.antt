@@ -1,0 +1,56 @@
+-- A number of several bytes, read from its most significant byte down, and how large it can be.
+-- A byte more in front adds it to 256 times the rest (word-more).
+use Prim.Native.Nat.{ℕ, suc, _+_, _-_, _*_, _^_, _<_, _≤_}
+use mathlib.Core.Path.{_≡_, refl, sym, ap, _∙_}
+use mathlib.Core.List.{List}
+use native.Mathlib.Omega.{arith}
+use native.Mathlib.Nat.{pow-suc, pow-le-pow-right}
+use lib.Dec.{lit<}
+use lib.ListN.{length, getD, take}
+use lib.Seq.{drop-cons}
+use Rattle.casefile.specs.Layout.{little, word}
+
+word-none : (p : ℕ) (s : List ℕ) → word 0 p s ≡ 0
+unfolding word little
+word-none p s = refl
+
+-- one byte more in front
+word-more : (k p : ℕ) (s : List ℕ) → p < length s → word (suc k) p s ≡ getD s p 0 + 256 * word k (suc p) s
+unfolding word little
+word-more k p s h = ap (λ (l : List ℕ). little (take (suc k) l)) (drop-cons s p 0 h)
+
+-- ---- the loop of `word`, from the last byte down: its start, a turn, its end
+pub word-start : (w at : ℕ) (s : List ℕ) → 0 ≡ word (w - w) (at + w) s
+word-start w at s = let z : 0 ≡ w - w = omega arith in sym (word-none (at + w) s) ∙ ap (λ (k : ℕ). word k (at + w) s) z
+
+pub word-turn : (w i at : ℕ) (s : List ℕ) (sum : ℕ) → 0 < i → i ≤ w → at + w ≤ length s
+    → sum ≡ word (w - i) (at + i) s → sum * 256 + getD s (at + (i - 1)) 0 ≡ word (w - (i - 1)) (at + (i - 1)) s
+word-turn w i at s sum h k l e =
+    let g : suc (w - i) ≡ w - (i - 1) = omega arith in
+    let n : suc (at + (i - 1)) ≡ at + i = omega arith in
+    let m : word (suc (w - i)) (at + (i - 1)) s ≡ getD s (at + (i - 1)) 0 + 256 * word (w - i) (suc (at + (i - 1))) s = word-more (w - i) (at + (i - 1)) s (omega arith) in
+    let q : word (w - i) (suc (at + (i - 1))) s ≡ sum = ap (λ (p : ℕ). word (w - i) p s) n ∙ sym e in
+    let z : sum * 256 + getD s (at + (i - 1)) 0 ≡ word (suc (w - i)) (at + (i - 1)) s = omega arith in
+    z ∙ ap (λ (j : ℕ). word j (at + (i - 1)) s) g
+
+pub word-end : (w i at : ℕ) (s : List ℕ) → i ≤ 0 → word (w - i) (at + i) s ≡ word w at s
+word-end w i at s h =
+    let m : w - i ≡ w = omega arith in
+    let n : at + i ≡ at = omega arith in
+    ap (λ (k : ℕ). word k (at + i) s) m ∙ ap (λ (k : ℕ). word w k s) n
+
+-- ---- its size on the way
+grow : (k : ℕ) {x b : ℕ} → x < 256 ^ k → b < 256 → x * 256 + b < 256 ^ suc k
+grow k h l = rw (pow-suc 256 k) (omega arith)
+
+pub small-turn : (w i : ℕ) {x b : ℕ} → 0 < i → i ≤ w → x < 256 ^ (w - i) → b < 256 → x * 256 + b < 256 ^ (w - (i - 1))
+small-turn w i {x} {b} h k l m =
+    let g : w - (i - 1) ≡ suc (w - i) = omega arith in
+    rw g (grow (w - i) l m)
+
+pub small-end : (w i : ℕ) {x : ℕ} → i ≤ 0 → x < 256 ^ (w - i) → x < 256 ^ w
+small-end w i h l = let g : w - i ≡ w = omega arith in rw g at l
+
+-- a number of k bytes is below that of any width of at least as many
+pub within : (w k : ℕ) {x : ℕ} → k ≤ w → x < 256 ^ k → x < 256 ^ w
+within w k h l = let m : 256 ^ k ≤ 256 ^ w = pow-le-pow-right (lit< tt) h in omega arith

@@ -1,0 +1,38 @@
+-- `casefile::columns::figure_in` meets its contract.
+-- A record of the table lies inside the file, so its word is read there.
+use Prim.Native.Nat.{_+_, _≤_}
+use native.Mathlib.Omega.{arith}
+use denote.Ref.{now}
+use lib.ListN.{length}
+use borrow.Author.Needs.{needs}
+use Rattle.casefile.specs.Layout.{spot, sizeOf}
+use Rattle.casefile.proofs.Spots.{figure-there, figure-past}
+use Rattle.casefile.proofs.columns.figure_in.Statement.{statement}
+use Rattle.casefile.proofs.columns.figure_in.Tie as tie
+
+-- record i lies inside the file
+inside : (c : tie.After-past) → spot (c .before .before .before .args .kind) (c .before .before .before .args .at) (c .before .before .before .args .i)
+    + sizeOf (c .before .before .before .args .kind) ≤ length (now (c .before .before .before .args .file))
+inside c = c .before .before .before .pre .0 (c .before .before .before .args .i) (c .before .if1 .taken)
+
+past-requires : tie.Need-past-requires
+past-requires c κs = omega (arith, c .before .before .pre .0 (c .before .before .args .i) (c .if1 .taken))
+
+add-word : tie.Need-add-word
+add-word c = omega (arith, c .past .ensures, inside c)
+
+word-requires : tie.Need-word-requires
+word-requires c κs = omega (arith, c .past .ensures, inside c)
+
+figure-requires : tie.Need-figure-requires
+figure-requires c κs = search needs
+
+returns : tie.Need-returns
+returns c = figure-there _ _ _ _ _ _ _ _ _ (c .before .before .before .if1 .taken) (c .before .before .past .ensures) (c .before .word .ensures .0) (c .figure .ensures)
+
+returns-2 : tie.Need-returns-2
+returns-2 c = figure-past _ _ _ _ _ _ (c .if1 .left)
+
+pub figure-in-spec : {M : Type 1} → statement M
+figure-in-spec =
+    tie.close (tie.spec past-requires add-word word-requires figure-requires returns returns-2)

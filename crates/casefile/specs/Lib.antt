@@ -1,0 +1,5 @@
+-- Document 01's case file and its reading.
+pub mod Bounds
+pub mod Layout
+pub mod Reading
+pub mod Tables

@@ -1,0 +1,135 @@
+// Case reading: the bytes of a case file into tables (document 01, "Case file" and "Case reading").
+ghost use mathlib.Core.Path.{_≡_};
+ghost use Rattle.casefile.specs.Tables.{held, outcome, placesOf, readCase};
+use mode::PlanMode;
+use refusal::Refusal;
+
+mod bytes;
+mod columns;
+mod record;
+mod scan;
+mod tables;
+
+// The largest file.
+pub const MOST_BYTES: usize = 65536;
+
+// The largest counts; a row of the sheet has five figures, and there is one for each corridor and level.
+pub const MOST_LEVELS: usize = 5;
+
+pub const MOST_BUSES: usize = 256;
+
+pub const MOST_GENERATORS: usize = 128;
+
+pub const MOST_CORRIDORS: usize = 256;
+
+pub const ROW_FIGURES: usize = 5;
+
+pub const MOST_SHEET: usize = MOST_CORRIDORS * MOST_LEVELS * ROW_FIGURES;
+
+// A case's mode, target and counts.
+pub struct Header {
+    pub mode: PlanMode,
+    pub target: u32,
+    pub buses: usize,
+    pub corridors: usize,
+    pub generators: usize,
+    pub above: usize,
+    pub requested: usize,
+}
+
+// What case reading answers.
+pub enum Reading {
+    Read(Header),
+    Refused(Refusal),
+}
+
+// The kinds of record, in the file's order.
+pub enum Kind {
+    Head,
+    Level,
+    Bus,
+    Generator,
+    Corridor,
+    Line,
+}
+
+// A walk over the records: the next record's place, or the first fault.
+pub enum Walk {
+    At(usize),
+    Fault(Refusal),
+}
+
+// The counts that a reading leaves in the tables: none where it is refused.
+fn held(reading: Reading) -> Header
+    ensures { λ r. ⌜ r ≡ held reading ⌝ }
+{
+    match reading {
+        Reading::Read(h) => h,
+        Reading::Refused(_) => Header {
+            mode: PlanMode::Expand,
+            target: 0,
+            buses: 0,
+            corridors: 0,
+            generators: 0,
+            above: 0,
+            requested: 0,
+        },
+    }
+}
+
+// Reads a case file into the lent tables, each of its largest size.
+pub fn read_case(
+    file: &[u8],
+    ladder: &mut [f64],
+    tier: &mut [u32],
+    load: &mut [f64],
+    generator_bus: &mut [u32],
+    slack: &mut [u32],
+    pmin: &mut [f64],
+    pmax: &mut [f64],
+    c1: &mut [f64],
+    c2: &mut [f64],
+    a: &mut [u32],
+    b: &mut [u32],
+    circuits: &mut [u32],
+    length_km: &mut [f64],
+    share: &mut [f64],
+    sheet: &mut [f64],
+) -> Reading
+    ensures { λ r. ⌜ outcome r (placesOf (now (ladder .exit)) (now (tier .exit)) (now (load .exit)) (now («generator_bus» .exit)) (now (slack .exit)) (now (pmin .exit)) (now (pmax .exit)) (now (c1 .exit)) (now (c2 .exit)) (now (a .exit)) (now (b .exit)) (now (circuits .exit)) (now («length_km» .exit)) (now (share .exit)) (now (sheet .exit))) ≡ readCase (now (file .entry)) (placesOf (now (ladder .entry)) (now (tier .entry)) (now (load .entry)) (now («generator_bus» .entry)) (now (slack .entry)) (now (pmin .entry)) (now (pmax .entry)) (now (c1 .entry)) (now (c2 .entry)) (now (a .entry)) (now (b .entry)) (now (circuits .entry)) (now («length_km» .entry)) (now (share .entry)) (now (sheet .entry))) ⌝ }
+{
+    let sized = (ladder.len() == MOST_LEVELS)
+        & (tier.len() == MOST_BUSES)
+        & (load.len() == MOST_BUSES)
+        & (generator_bus.len() == MOST_GENERATORS)
+        & (slack.len() == MOST_GENERATORS)
+        & (pmin.len() == MOST_GENERATORS)
+        & (pmax.len() == MOST_GENERATORS)
+        & (c1.len() == MOST_GENERATORS)
+        & (c2.len() == MOST_GENERATORS)
+        & (a.len() == MOST_CORRIDORS)
+        & (b.len() == MOST_CORRIDORS)
+        & (circuits.len() == MOST_CORRIDORS)
+        & (length_km.len() == MOST_CORRIDORS)
+        & (share.len() == MOST_CORRIDORS)
+        & (sheet.len() == MOST_SHEET);
+    if !sized {
+        return Reading::Refused(Refusal::Length);
+    }
+    let reading = scan::reading_of(file);
+    let h = held(reading);
+    let levels = columns::Span {
+        at: record::HEAD_END,
+        count: h.above + h.requested,
+    };
+    let buses = columns::after(Kind::Level, levels, h.buses);
+    let generators = columns::after(Kind::Bus, buses, h.generators);
+    let corridors = columns::after(Kind::Generator, generators, h.corridors);
+    let lines = columns::after(Kind::Corridor, corridors, h.corridors * levels.count);
+    tables::read_levels(file, levels, ladder);
+    tables::read_buses(file, buses, tier, load);
+    tables::read_generators(file, generators, generator_bus, slack, pmin, pmax, c1, c2);
+    tables::read_corridors(file, corridors, a, b, circuits, length_km, share);
+    tables::read_lines(file, lines, sheet);
+    reading
+}

@@ -1,0 +1,165 @@
+// The walk over the file: header and counts, each table's records, and the bytes after the last.
+ghost use mathlib.Core.Path.{_≡_};
+ghost use Prim.Native.Nat.{_<_, _≤_};
+ghost use lib.ListN.{length};
+ghost use Rattle.casefile.specs.Layout.{sizeOf};
+ghost use Rattle.casefile.specs.Reading.{stepped, walked, headerOf, modeOf, countsOk, Small, tablesWalked, trailing, endRead, bodyRead, readingOf};
+use crate::Header;
+use crate::Kind;
+use crate::Reading;
+use crate::Walk;
+use crate::bytes::word;
+use crate::record;
+use crate::record::record_at;
+use mode::PlanMode;
+use refusal::Refusal;
+
+const MOST_TARGET: u32 = 65536;
+
+// A fault is passed on.
+fn step(file: &[u8], from: Walk, kind: Kind, r: usize) -> Walk
+    ensures { λ w. ⌜ w ≡ stepped kind (now (file .entry)) r from ⌝ }
+{
+    match from {
+        Walk::Fault(_) => from,
+        Walk::At(at) => record_at(file, kind, r, at),
+    }
+}
+
+// Records start to end - 1, all of one kind.
+fn walk_kind(file: &[u8], from: Walk, kind: Kind, start: usize, end: usize) -> Walk
+    ensures { λ w. ⌜ w ≡ walked kind start end (now (file .entry)) from ⌝ }
+{
+    let mut at = from;
+    let mut r = start;
+    while r < end {
+        at = step(file, at, kind, r);
+        r += 1;
+    }
+    at
+}
+
+// The mode of a number of at most 2.
+fn mode_of(n: u64) -> PlanMode
+    ensures { λ r. ⌜ r ≡ modeOf n ⌝ }
+{
+    if n == 0 {
+        return PlanMode::Expand;
+    }
+    if n == 1 {
+        return PlanMode::Reinforce;
+    }
+    PlanMode::Observe
+}
+
+// The header of a file that is long enough for one.
+fn header_of(file: &[u8]) -> Header
+    requires { ⌜ sizeOf Kind.Head ≤ length (now file) ⌝ }
+    ensures value { λ r. ⌜ r ≡ headerOf (now (file .entry)) ⌝ }
+    ensures small { λ r. ⌜ (r .above < 256) × (r .requested < 256) ⌝ }
+{
+    let mode = mode_of(word(file, record::HEAD_MODE, record::U8));
+    let target = word(file, record::HEAD_TARGET, record::U32) as u32;
+    let buses = word(file, record::HEAD_BUSES, record::U16) as usize;
+    let corridors = word(file, record::HEAD_CORRIDORS, record::U16) as usize;
+    let generators = word(file, record::HEAD_GENERATORS, record::U16) as usize;
+    let above = word(file, record::HEAD_ABOVE, record::U8) as usize;
+    let requested = word(file, record::HEAD_REQUESTED, record::U8) as usize;
+    Header {
+        mode,
+        target,
+        buses,
+        corridors,
+        generators,
+        above,
+        requested,
+    }
+}
+
+// Whether counts and target are within document 01's bounds.
+fn counts_ok(h: Header) -> bool
+    requires { ⌜ (h .above < 256) × (h .requested < 256) ⌝ }
+    ensures { λ r. ⌜ r ≡ countsOk h ⌝ }
+{
+    (h.buses <= crate::MOST_BUSES)
+        & (h.corridors <= crate::MOST_CORRIDORS)
+        & (h.generators <= crate::MOST_GENERATORS)
+        & (1 <= h.requested)
+        & (h.above + h.requested <= crate::MOST_LEVELS)
+        & (h.target <= MOST_TARGET)
+}
+
+// The records after the header, table by table.
+fn walk_tables(file: &[u8], h: Header, from: Walk) -> Walk
+    requires { ⌜ Small h ⌝ }
+    ensures { λ w. ⌜ w ≡ tablesWalked h (now (file .entry)) from ⌝ }
+{
+    let levels = h.above + h.requested;
+    let buses = 1 + levels;
+    let generators = buses + h.buses;
+    let corridors = generators + h.generators;
+    let lines = corridors + h.corridors;
+    let end = lines + h.corridors * levels;
+    let w1 = walk_kind(file, from, Kind::Level, 1, buses);
+    let w2 = walk_kind(file, w1, Kind::Bus, buses, generators);
+    let w3 = walk_kind(file, w2, Kind::Generator, generators, corridors);
+    let w4 = walk_kind(file, w3, Kind::Corridor, corridors, lines);
+    walk_kind(file, w4, Kind::Line, lines, end)
+}
+
+// The first byte from a place on that is not zero.
+fn trailing(file: &[u8], at: usize) -> usize
+    ensures { λ r. ⌜ r ≡ trailing (now (file .entry)) at ⌝ }
+{
+    let mut i = at;
+    while i < file.len() {
+        if file[i] != 0 {
+            return i;
+        }
+        i += 1;
+    }
+    i
+}
+
+// What follows the last record: nothing but zeros.
+fn end_read(file: &[u8], h: Header, w: Walk) -> Reading
+    ensures { λ r. ⌜ r ≡ endRead h (now (file .entry)) w ⌝ }
+{
+    match w {
+        Walk::Fault(f) => Reading::Refused(f),
+        Walk::At(at) => {
+            let i = trailing(file, at);
+            if i < file.len() {
+                return Reading::Refused(Refusal::Trailing(i));
+            }
+            Reading::Read(h)
+        }
+    }
+}
+
+// What follows a header that stands.
+fn body_read(file: &[u8], at: usize) -> Reading
+    requires { ⌜ sizeOf Kind.Head ≤ length (now file) ⌝ }
+    ensures { λ r. ⌜ r ≡ bodyRead (now (file .entry)) (Walk.At at) ⌝ }
+{
+    let h = header_of(file);
+    if !counts_ok(h) {
+        return Reading::Refused(Refusal::Count);
+    }
+    let w = walk_tables(file, h, Walk::At(at));
+    end_read(file, h, w)
+}
+
+// The header, or the first refusal.
+pub fn reading_of(file: &[u8]) -> Reading
+    ensures { λ r. ⌜ r ≡ readingOf (now (file .entry)) ⌝ }
+{
+    if crate::MOST_BYTES < file.len() {
+        return Reading::Refused(Refusal::FileLength);
+    }
+    let w = record_at(file, Kind::Head, 0, 0);
+    match w {
+        Walk::Fault(f) => Reading::Refused(f),
+        Walk::At(at) => body_read(file, at),
+    }
+}

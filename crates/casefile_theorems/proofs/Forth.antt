@@ -1,0 +1,149 @@
+-- Every answered file is the file of its header and of the numbers in its records, followed by zeros: nothing else in it is ignored.
+-- A record that is passed is its mark and its fields' bytes (record-written); so are the tables, one after the other.
+use Prim.Native.Nat.{ℕ, zero, suc, _+_, _-_, _<_, _≤_}
+use mathlib.Core.Path.{_≡_, refl, sym, ap, _∙_}
+use mathlib.Core.Bool.{true}
+use mathlib.Core.List.{List, _∷_, _++_, append-assoc}
+use native.Mathlib.Omega.{arith}
+use borrow.Author.Tests.{eqb-true, leb-true}
+use lib.ListN.{length, getD, take, drop, replicate, length-replicate, length-drop, take-append-drop, getD-replicate}
+use lib.Seq.{drop-cons, drop-drop, getD-drop, ext-getD}
+use Rattle.loops.proofs.Bools.{both}
+use Rattle.loops.proofs.Scan.{first-all}
+use Rattle.mode.specs.Number.{modeNumber}
+use Rattle.casefile.specs.Layout.{layoutOf, sizeOf, widthsOf, field, spot}
+use Rattle.casefile.specs.Reading.{headerOf, modeOf, levels, lines, trailing, zeroAt, readingOf}
+use Rattle.casefile.specs.Tables.{levelsAt, busesAt, generatorsAt, corridorsAt, linesAt}
+use Rattle.casefile.specs.declared.Kind.{Kind}
+use Rattle.casefile.specs.declared.Kind.the-variants.{Head, Level, Bus, Generator, Corridor, Line}
+use Rattle.casefile.specs.declared.Header.{Header}
+use Rattle.casefile.specs.declared.Reading.the-variants.{Read}
+use Rattle.casefile.proofs.Records.{Passed}
+use Rattle.casefile.proofs.Accepted.{Table, Accepted, accepted, endAt}
+use Rattle.casefile_theorems.specs.Writer.{fieldBytes, recordBytes, tableBytes, headRow, fileWith}
+use Rattle.casefile_theorems.proofs.Bytes.{Bytes, drop-bytes, fields-same, fields-written}
+use Rattle.casefile_theorems.proofs.Back.{startOf}
+use Rattle.casefile_theorems.proofs.Written.{field-in}
+
+-- the numbers in the records of an answered file
+abbrev pub wordsIn : List ℕ → Header → Kind → ℕ → ℕ → ℕ
+wordsIn s h k i j = field k j (spot k (startOf k h) i) s
+
+-- the bytes past the last record
+abbrev pub restOf : List ℕ → Header → ℕ
+restOf s h = length s - endAt h
+
+-- a record that is passed was written
+record-written : (k : Kind) (s : List ℕ) (at next : ℕ) → Bytes s → Passed k s at next → drop at s ≡ recordBytes k (λ j. field k j at s) ++ drop (at + sizeOf k) s
+unfolding recordBytes
+record-written k s at next b p =
+    let fs = layoutOf k .fields in
+    let r : at + sizeOf k ≤ length s = p .room in
+    let m = both _ _ (p .mark) in
+    let one : drop at s ≡ getD s at 0 ∷ drop (suc at) s = drop-cons s at 0 (omega arith) in
+    let two : drop (suc at) s ≡ getD s (at + 1) 0 ∷ drop (at + 2) s =
+    drop-cons s (suc at) 0 (omega arith)
+    ∙ ap (λ (n : ℕ). getD s n 0 ∷ drop (suc (suc at)) s) (let z : suc at ≡ at + 1 = omega arith in z)
+    ∙ ap (λ (n : ℕ). getD s (at + 1) 0 ∷ drop n s) (let z : suc (suc at) ≡ at + 2 = omega arith in z) in
+    let l : widthsOf fs ≤ length (drop (at + 2) s) = (rw length-drop (omega arith)) in
+    let body : fieldBytes fs (λ j. field k j at s) ≡ take (widthsOf fs) (drop (at + 2) s) =
+    fields-same fs _ _ (λ j h. field-in k j at s) ∙ fields-written fs (drop (at + 2) s) (drop-bytes (at + 2) s b) l in
+    let rest : drop (widthsOf fs) (drop (at + 2) s) ≡ drop (at + sizeOf k) s =
+    drop-drop (widthsOf fs) (at + 2) s ∙ ap (λ (n : ℕ). drop n s) (let z : at + 2 + widthsOf fs ≡ at + sizeOf k = omega arith in z) in
+    let tail : drop (at + 2) s ≡ fieldBytes fs (λ j. field k j at s) ++ drop (at + sizeOf k) s =
+    sym (take-append-drop (widthsOf fs) (drop (at + 2) s))
+    ∙ ap (λ (x : List ℕ). x ++ drop (widthsOf fs) (drop (at + 2) s)) (sym body)
+    ∙ ap (λ (x : List ℕ). fieldBytes fs (λ j. field k j at s) ++ x) rest in
+    one
+    ∙ ap (λ (x : List ℕ). getD s at 0 ∷ x) two
+    ∙ ap (λ (n : ℕ). n ∷ getD s (at + 1) 0 ∷ drop (at + 2) s) (eqb-true _ _ (m .0))
+    ∙ ap (λ (n : ℕ). layoutOf k .first ∷ n ∷ drop (at + 2) s) (eqb-true _ _ (m .1))
+    ∙ ap (λ (x : List ℕ). layoutOf k .first ∷ layoutOf k .second ∷ x) tail
+
+-- a table of records that are passed was written
+table-written : (k : Kind) (s : List ℕ) (at n : ℕ) → Bytes s → Table k s at n
+    → drop at s ≡ tableBytes k n (λ i j. field k j (spot k at i) s) ++ drop (spot k at n) s
+unfolding tableBytes spot
+table-written k s at zero b t = refl
+table-written k s at (suc n) b t =
+    table-written k s at n b (λ i h. t i (omega arith))
+    ∙ ap (λ (x : List ℕ). tableBytes k n (λ i j. field k j (spot k at i) s) ++ x) (record-written k s (spot k at n) _ b (t n (omega arith)))
+    ∙ sym (append-assoc (tableBytes k n (λ i j. field k j (spot k at i) s)) (recordBytes k (λ j. field k j (spot k at n) s)) (drop (spot k at (suc n)) s))
+
+-- ---- the zeros
+zeros-end : (s : List ℕ) (at : ℕ) → at ≤ length s → length s ≤ trailing s at → drop at s ≡ replicate (length s - at) 0
+unfolding trailing
+zeros-end s at l h =
+    let d : length (drop at s) ≡ length s - at = length-drop at s in
+    ext-getD 0 (drop at s) (replicate (length s - at) 0) (d ∙ sym (length-replicate (length s - at) 0))
+    (λ i b.
+    let b′ : i < length s - at = rw d at b in
+    getD-drop at s i 0
+    ∙ eqb-true _ _ (first-all (zeroAt s) (length s - at) at (omega arith) (at + i) (omega arith) (omega arith))
+    ∙ sym (getD-replicate (length s - at) i 0 0 b′))
+
+-- ---- the header
+mode-forth : (n : ℕ) → n ≤ 2 → modeNumber (modeOf n) ≡ n
+unfolding modeOf modeNumber
+mode-forth zero h = refl
+mode-forth (suc zero) h = refl
+mode-forth (suc (suc zero)) h = refl
+mode-forth (suc (suc (suc n))) h = absurd (omega arith)
+
+head-row : (s : List ℕ) → Passed Head s 0 levelsAt → (j : ℕ) → j < 7 → field Head j 0 s ≡ headRow (headerOf s) j
+unfolding headerOf
+head-row s p zero l = sym (mode-forth (field Head 0 0 s) (leb-true _ 2 (both _ true (p .bounds) .0)))
+head-row s p (suc zero) l = refl
+head-row s p (suc (suc zero)) l = refl
+head-row s p (suc (suc (suc zero))) l = refl
+head-row s p (suc (suc (suc (suc zero)))) l = refl
+head-row s p (suc (suc (suc (suc (suc zero))))) l = refl
+head-row s p (suc (suc (suc (suc (suc (suc zero)))))) l = refl
+head-row s p (suc (suc (suc (suc (suc (suc (suc j))))))) l = absurd (omega arith)
+
+head-written : (s : List ℕ) (h : Header) → Bytes s → h ≡ headerOf s → Passed Head s 0 levelsAt → s ≡ recordBytes Head (headRow h) ++ drop levelsAt s
+unfolding recordBytes
+head-written s h b e p =
+    record-written Head s 0 levelsAt b p
+    ∙ ap (λ (x : List ℕ). 0x48 ∷ 0x44 ∷ x ++ drop levelsAt s)
+    (fields-same (layoutOf Head .fields) (λ j. field Head j 0 s) (headRow h) (λ j l. head-row s p j l ∙ ap (λ (g : Header). headRow g j) (sym e)))
+
+-- a table that begins inside the file ends there
+ends-inside : (k : Kind) (s : List ℕ) (at n : ℕ) → at ≤ length s → Table k s at n → spot k at n ≤ length s
+unfolding spot
+ends-inside k s at zero h t = h
+ends-inside k s at (suc n) h t = t n (omega arith) .room
+
+inside : (s : List ℕ) (h : Header) → Accepted s h → endAt h ≤ length s
+inside s h a =
+    ends-inside Line s (linesAt h) (lines h)
+    (ends-inside Corridor s (corridorsAt h) (h .corridors)
+    (ends-inside Generator s (generatorsAt h) (h .generators)
+    (ends-inside Bus s (busesAt h) (h .buses) (ends-inside Level s levelsAt (levels h) (a .head .room) (a .levels)) (a .buses))
+    (a .generators))
+    (a .corridors))
+    (a .rows)
+
+after : (x : List ℕ) {y z : List ℕ} → y ≡ z → x ++ y ≡ x ++ z
+after x e = ap (λ (l : List ℕ). x ++ l) e
+
+regroup : (a b c d e f z : List ℕ) → a ++ (b ++ (c ++ (d ++ (e ++ (f ++ z))))) ≡ (a ++ (b ++ (c ++ (d ++ (e ++ f))))) ++ z
+regroup a b c d e f z = simp append-assoc
+
+pub written : (s : List ℕ) (h : Header) → Bytes s → readingOf s ≡ Read h → s ≡ fileWith h (wordsIn s h) ++ replicate (restOf s h) 0
+unfolding fileWith
+written s h b e =
+    let a = accepted s h e in
+    let t₀ = recordBytes Head (headRow h) in
+    let t₁ = tableBytes Level (levels h) (wordsIn s h Level) in
+    let t₂ = tableBytes Bus (h .buses) (wordsIn s h Bus) in
+    let t₃ = tableBytes Generator (h .generators) (wordsIn s h Generator) in
+    let t₄ = tableBytes Corridor (h .corridors) (wordsIn s h Corridor) in
+    let t₅ = tableBytes Line (lines h) (wordsIn s h Line) in
+    head-written s h b (a .header) (a .head)
+    ∙ after t₀ (table-written Level s levelsAt (levels h) b (a .levels)
+    ∙ after t₁ (table-written Bus s (busesAt h) (h .buses) b (a .buses)
+    ∙ after t₂ (table-written Generator s (generatorsAt h) (h .generators) b (a .generators)
+    ∙ after t₃ (table-written Corridor s (corridorsAt h) (h .corridors) b (a .corridors)
+    ∙ after t₄ (table-written Line s (linesAt h) (lines h) b (a .rows) ∙ after t₅ (zeros-end s (endAt h) (inside s h a) (a .zeros)))))))
+    ∙ regroup t₀ t₁ t₂ t₃ t₄ t₅ (replicate (restOf s h) 0)

@@ -1,9 +1,9 @@
 // Two buses, an edge between them and a ground at the first.
 ghost use Prim.Native.Nat.{_≤_};
-use angles_defs::Angles;
 use crate::report::figures_kept;
 use crate::report::say_kept;
 use crate::report::say_refusal;
+use angles_defs::Angles;
 use libc::STDOUT_FILENO;
 
 fn call(

@@ -7,16 +7,7 @@ use crate::report::say_refusal;
 use libc::STDOUT_FILENO;
 use placement::Placement;
 
-fn call(
-    what: &[u8],
-    load: usize,
-    a: usize,
-    b: usize,
-    km: usize,
-    bus: usize,
-    at: usize,
-    mvar: usize,
-)
+fn call(what: &[u8], load: usize, a: usize, b: usize, km: usize, bus: usize, at: usize, mvar: usize)
     requires { ⌜ (load ≤ 4) × (a ≤ 4) × (b ≤ 4) × (km ≤ 4) ⌝ }
     requires { ⌜ (bus ≤ 4) × (at ≤ 4) × (mvar ≤ 4) ⌝ }
 {

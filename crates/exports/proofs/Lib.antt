@@ -1,0 +1,2 @@
+-- Laws of the exported numbers.
+pub mod Told

@@ -13,3 +13,4 @@ pub mod Puts
 pub mod Zeros
 pub mod Totals
 pub mod Bits
+pub mod Wholes

@@ -1,0 +1,12 @@
+-- Laws of the defined plan, and a worked example.
+pub mod Lists
+pub mod Stages
+pub mod Accepted
+pub mod Drawn
+pub mod Solved
+pub mod Rising
+pub mod Counts
+pub mod Rounds
+pub mod Opened
+pub mod CaseL
+pub mod Examples

@@ -1,0 +1,21 @@
+-- The defined plan: what planning after the reference build is. This is what a reader must believe.
+pub mod Constants
+pub mod Lists
+pub mod Stage
+pub mod Case
+pub mod Accept
+pub mod Components
+pub mod Dispatch
+pub mod Design
+pub mod Solve
+pub mod Raise
+pub mod Build
+pub mod Size
+pub mod Stiffen
+pub mod Rounds
+pub mod Fill
+pub mod Closing
+pub mod Plan
+pub mod Outcome
+pub mod Demand
+pub mod Listing

@@ -1,0 +1,11 @@
+-- Theorems about the defined plan, by subject.
+pub mod Filling
+pub mod Cursor
+pub mod Dispatched
+pub mod Ladder
+pub mod Demand
+pub mod Tally
+pub mod Larger
+pub mod Outcomes
+pub mod Joined
+pub mod Demanded

@@ -1,0 +1,101 @@
+//! Solves by conjugate gradients: 8, 64 and 256 buses, ordinary ones and ones that spend all their steps.
+
+use crate::ports::{dc_angles, Request};
+use crate::{least, report};
+use reference::electrical::planning::dc_angles_cg;
+
+/// A small generator of figures in (0, 1), the same on every machine.
+struct Draws(u64);
+
+impl Draws {
+    fn next(&mut self) -> f64 {
+        self.0 ^= self.0 << 13;
+        self.0 ^= self.0 >> 7;
+        self.0 ^= self.0 << 17;
+        ((self.0 >> 11) as f64 + 0.5) / (1u64 << 53) as f64
+    }
+}
+
+/// A feeder with some loops, grounded at bus 0: bus i hangs on an earlier one, and every fourth bus has a second line.
+fn feeder(n: usize, least_weight: f64) -> Request {
+    let mut draws = Draws(0x9E37_79B9_7F4A_7C15 ^ n as u64);
+    let mut q = Request {
+        from: Vec::new(),
+        to: Vec::new(),
+        weight: Vec::new(),
+        injection: vec![0.0; n],
+        grounds: vec![0],
+        guess: vec![0.0; n],
+    };
+    for i in 1..n {
+        let near = i - 1 - ((draws.next() * 3.0) as usize).min(i - 1);
+        q.from.push(near as u32);
+        q.to.push(i as u32);
+        q.weight.push(least_weight + 20.0 * draws.next());
+        if i % 4 == 0 && q.from.len() < 256 && n < 256 {
+            q.from.push((draws.next() * i as f64) as u32);
+            q.to.push(i as u32);
+            q.weight.push(least_weight + 20.0 * draws.next());
+        }
+        q.injection[i] = 0.3 * (draws.next() - 0.7);
+    }
+    q
+}
+
+/// The same with an injection at a bus that corridors of no susceptance alone join: it never settles.
+fn hopeless(n: usize) -> Request {
+    let mut q = feeder(n, 0.5);
+    let last = q.weight.len() - 1;
+    q.weight[last] = 0.0;
+    q
+}
+
+fn compare(what: &str, q: &Request, runs: usize) {
+    let n = q.injection.len();
+    let edges: Vec<(usize, usize, f64)> = (0..q.from.len())
+        .map(|k| (q.from[k] as usize, q.to[k] as usize, q.weight[k]))
+        .collect();
+    let grounds: Vec<usize> = q.grounds.iter().map(|&g| g as usize).collect();
+    let (mut result, mut work) = (vec![0.0; n], vec![0.0; 8 * n]);
+    let steps = dc_angles(q, &mut result, &mut work);
+    let rust = dc_angles_cg(n, &edges, &q.injection, &grounds, None);
+    assert_eq!(steps, rust.moves as u64, "{what}: steps");
+    for (ours, theirs) in result.iter().zip(&rust.angles) {
+        assert!(
+            ours == theirs || ours.to_bits() == theirs.to_bits(),
+            "{what}: an angle differs"
+        );
+    }
+    let times = least(
+        runs,
+        || {
+            std::hint::black_box(dc_angles(q, &mut result, &mut work));
+        },
+        || {
+            std::hint::black_box(dc_angles_cg(n, &edges, &q.injection, &grounds, None));
+        },
+    );
+    report(what, &format!("{steps} steps"), times);
+}
+
+pub fn run() {
+    for (n, runs) in [(8, 4000), (64, 800), (256, 200)] {
+        compare(
+            &format!("angles, {n} buses, settles"),
+            &feeder(n, 0.5),
+            runs,
+        );
+        compare(
+            &format!("angles, {n} buses, uneven weights"),
+            &feeder(n, 1e-4),
+            runs,
+        );
+    }
+    for (n, runs) in [(8, 1000), (64, 60), (256, 12)] {
+        compare(
+            &format!("angles, {n} buses, spends all steps"),
+            &hopeless(n),
+            runs,
+        );
+    }
+}

@@ -1,0 +1,43 @@
+//! The port against the reference build on the same inputs, from one driver in one run. Both sides are called in turn,
+//! the results are compared bit for bit, and the least time of many runs of each gives the ratio. A ratio below 1 says
+//! that the port is faster.
+
+mod angles;
+mod ports;
+mod reading;
+
+use std::time::{Duration, Instant};
+
+/// The least time of `runs` runs of each of two functions, called in turn.
+fn least(runs: usize, mut port: impl FnMut(), mut rust: impl FnMut()) -> (Duration, Duration) {
+    let mut best = (Duration::MAX, Duration::MAX);
+    for _ in 0..runs {
+        let start = Instant::now();
+        port();
+        best.0 = best.0.min(start.elapsed());
+        let start = Instant::now();
+        rust();
+        best.1 = best.1.min(start.elapsed());
+    }
+    best
+}
+
+/// One line of the table.
+fn report(what: &str, note: &str, times: (Duration, Duration)) {
+    let (port, rust) = (times.0.as_nanos() as f64, times.1.as_nanos() as f64);
+    println!(
+        "{what:<44} {note:>14} {:>12.1} {:>12.1} {:>8.2}",
+        port / 1000.0,
+        rust / 1000.0,
+        port / rust
+    );
+}
+
+fn main() {
+    println!(
+        "{:<44} {:>14} {:>12} {:>12} {:>8}",
+        "case", "", "port, us", "Rust, us", "ratio"
+    );
+    angles::run();
+    reading::run();
+}

@@ -1,0 +1,168 @@
+//! The proved operations under their C names: each slice is a pointer and a length. crates/exports has their contracts;
+//! nothing but this file checks that the two agree.
+
+extern "C" {
+    fn lopnaski_dc_angles(
+        n: usize,
+        m: usize,
+        k: usize,
+        from: *const u32,
+        from_len: usize,
+        to: *const u32,
+        to_len: usize,
+        weight: *const f64,
+        weight_len: usize,
+        injection: *const f64,
+        injection_len: usize,
+        grounds: *const u32,
+        grounds_len: usize,
+        guess: *const f64,
+        guess_len: usize,
+        result: *mut f64,
+        result_len: usize,
+        work: *mut f64,
+        work_len: usize,
+    ) -> u64;
+    fn lopnaski_read_case(
+        file: *const u8,
+        file_len: usize,
+        ladder: *mut f64,
+        ladder_len: usize,
+        tier: *mut u32,
+        tier_len: usize,
+        load: *mut f64,
+        load_len: usize,
+        generator_bus: *mut u32,
+        generator_bus_len: usize,
+        slack: *mut u32,
+        slack_len: usize,
+        pmin: *mut f64,
+        pmin_len: usize,
+        pmax: *mut f64,
+        pmax_len: usize,
+        c1: *mut f64,
+        c1_len: usize,
+        c2: *mut f64,
+        c2_len: usize,
+        a: *mut u32,
+        a_len: usize,
+        b: *mut u32,
+        b_len: usize,
+        circuits: *mut u32,
+        circuits_len: usize,
+        length_km: *mut f64,
+        length_km_len: usize,
+        share: *mut f64,
+        share_len: usize,
+        sheet: *mut f64,
+        sheet_len: usize,
+    ) -> u32;
+}
+
+/// A network to solve, in the port's columns.
+pub struct Request {
+    pub from: Vec<u32>,
+    pub to: Vec<u32>,
+    pub weight: Vec<f64>,
+    pub injection: Vec<f64>,
+    pub grounds: Vec<u32>,
+    pub guess: Vec<f64>,
+}
+
+/// How often x was moved; all ones where the request is refused. The angles are in `result`.
+pub fn dc_angles(q: &Request, result: &mut [f64], work: &mut [f64]) -> u64 {
+    unsafe {
+        lopnaski_dc_angles(
+            q.injection.len(),
+            q.from.len(),
+            q.grounds.len(),
+            q.from.as_ptr(),
+            q.from.len(),
+            q.to.as_ptr(),
+            q.to.len(),
+            q.weight.as_ptr(),
+            q.weight.len(),
+            q.injection.as_ptr(),
+            q.injection.len(),
+            q.grounds.as_ptr(),
+            q.grounds.len(),
+            q.guess.as_ptr(),
+            q.guess.len(),
+            result.as_mut_ptr(),
+            result.len(),
+            work.as_mut_ptr(),
+            work.len(),
+        )
+    }
+}
+
+/// The tables of a case at their largest size.
+pub struct Tables {
+    figures: Vec<Vec<f64>>,
+    wholes: Vec<Vec<u32>>,
+}
+
+impl Tables {
+    pub fn new() -> Self {
+        let figures = [5, 256, 128, 128, 128, 128, 256, 256, 6400];
+        let wholes = [256, 128, 128, 256, 256, 256];
+        Self {
+            figures: figures.iter().map(|&n| vec![0.0; n]).collect(),
+            wholes: wholes.iter().map(|&n| vec![0; n]).collect(),
+        }
+    }
+
+    pub fn loads(&self) -> &[f64] {
+        &self.figures[1]
+    }
+}
+
+/// 0, or the refusal's number.
+pub fn read_case(file: &[u8], t: &mut Tables) -> u32 {
+    let f: Vec<(*mut f64, usize)> = t
+        .figures
+        .iter_mut()
+        .map(|v| (v.as_mut_ptr(), v.len()))
+        .collect();
+    let w: Vec<(*mut u32, usize)> = t
+        .wholes
+        .iter_mut()
+        .map(|v| (v.as_mut_ptr(), v.len()))
+        .collect();
+    unsafe {
+        lopnaski_read_case(
+            file.as_ptr(),
+            file.len(),
+            f[0].0,
+            f[0].1,
+            w[0].0,
+            w[0].1,
+            f[1].0,
+            f[1].1,
+            w[1].0,
+            w[1].1,
+            w[2].0,
+            w[2].1,
+            f[2].0,
+            f[2].1,
+            f[3].0,
+            f[3].1,
+            f[4].0,
+            f[4].1,
+            f[5].0,
+            f[5].1,
+            w[3].0,
+            w[3].1,
+            w[4].0,
+            w[4].1,
+            w[5].0,
+            w[5].1,
+            f[6].0,
+            f[6].1,
+            f[7].0,
+            f[7].1,
+            f[8].0,
+            f[8].1,
+        )
+    }
+}

@@ -1,0 +1,112 @@
+//! Reading case files: case L, and the largest file there is.
+
+use crate::ports::{read_case, Tables};
+use crate::{least, report};
+
+fn record(file: &mut Vec<u8>, mark: &[u8; 2], fields: &[&[u8]]) {
+    file.extend_from_slice(mark);
+    for field in fields {
+        file.extend_from_slice(field);
+    }
+}
+
+/// A case of so many buses, corridors, generators and requested levels, every field sound.
+fn case(buses: u16, corridors: u16, generators: u16, levels: u8) -> Vec<u8> {
+    let mut file = Vec::new();
+    let figure = |x: f64| x.to_le_bytes();
+    record(
+        &mut file,
+        b"HD",
+        &[
+            &[0],
+            &0u32.to_le_bytes(),
+            &buses.to_le_bytes(),
+            &corridors.to_le_bytes(),
+            &generators.to_le_bytes(),
+            &[0],
+            &[levels],
+        ],
+    );
+    for level in 0..levels {
+        record(&mut file, b"LV", &[&figure(500.0 - 50.0 * level as f64)]);
+    }
+    for i in 0..buses {
+        record(&mut file, b"BU", &[&[0], &figure(i as f64)]);
+    }
+    for _ in 0..generators {
+        record(
+            &mut file,
+            b"GE",
+            &[
+                &0u16.to_le_bytes(),
+                &[1],
+                &figure(0.0),
+                &figure(100.0),
+                &figure(20.0),
+                &figure(0.25),
+            ],
+        );
+    }
+    for k in 0..corridors {
+        let b = (k + 1) % buses.max(2);
+        record(
+            &mut file,
+            b"CO",
+            &[
+                &(k % buses).to_le_bytes(),
+                &b.to_le_bytes(),
+                &[1],
+                &figure(10.0),
+                &figure(1.0),
+            ],
+        );
+    }
+    for _ in 0..corridors as usize * levels as usize {
+        record(
+            &mut file,
+            b"LN",
+            &[
+                &figure(0.0),
+                &figure(0.5),
+                &figure(0.0),
+                &figure(100.0),
+                &[0],
+            ],
+        );
+    }
+    file
+}
+
+fn compare(what: &str, file: &[u8], runs: usize) {
+    let mut tables = Tables::new();
+    assert_eq!(read_case(file, &mut tables), 0, "{what}: refused");
+    let rust = match reference::harness::case_file::read_case(file) {
+        Ok(case) => case,
+        Err(_) => panic!("{what}: the reference build refuses it"),
+    };
+    for (i, bus) in rust.buses.iter().enumerate() {
+        assert_eq!(
+            bus.load.to_bits(),
+            tables.loads()[i].to_bits(),
+            "{what}: a load differs"
+        );
+    }
+    let times = least(
+        runs,
+        || {
+            std::hint::black_box(read_case(file, &mut tables));
+        },
+        || {
+            std::hint::black_box(reference::harness::case_file::read_case(file).is_ok());
+        },
+    );
+    report(what, &format!("{} bytes", file.len()), times);
+}
+
+pub fn run() {
+    compare("reading, a small case", &case(2, 1, 1, 1), 4000);
+    let mut largest = case(256, 256, 128, 5);
+    compare("reading, the largest case", &largest, 400);
+    largest.resize(65_536, 0);
+    compare("reading, the largest case, padded", &largest, 400);
+}

@@ -1,4 +1,4 @@
-//! Solves by conjugate gradients: 8, 64 and 256 buses, ordinary ones and ones that spend all their steps.
+//! Solves by conjugate gradients: 8, 64 and 256 buses, ordinary ones and ones with a bus that cannot settle, of which the largest spends all its steps.
 
 use crate::ports::{dc_angles, Request};
 use crate::{least, report};
@@ -93,7 +93,7 @@ pub fn run() {
     }
     for (n, runs) in [(8, 1000), (64, 60), (256, 12)] {
         compare(
-            &format!("angles, {n} buses, spends all steps"),
+            &format!("angles, {n} buses, a bus that cannot settle"),
             &hopeless(n),
             runs,
         );

@@ -15,4 +15,5 @@ pub mod compare;
 pub mod generate;
 pub mod harness;
 pub mod tally;
+pub mod theorem;
 pub mod watch;

@@ -7,9 +7,11 @@ use reference::compare::{compare_answers, compare_cases, Outcome};
 use reference::generate::cases::case_file;
 use reference::generate::requests::{as_input, batch, KINDS};
 use reference::harness::answers::answer_all;
-use reference::harness::case_file::answer_read;
+use reference::harness::case_file::{answer_read, write_case};
+use reference::harness::case_text::parse_text;
 use reference::harness::listing::answer_list;
 use reference::tally::branches;
+use reference::theorem::theorem;
 
 const USAGE: &str = "usage:
   reference answers                                          requests on standard input
@@ -20,6 +22,8 @@ const USAGE: &str = "usage:
   reference compare-answers PROGRAM KIND FIRST_SEED BATCHES
   reference compare-cases PROGRAM list|read FIRST_SEED COUNT
   reference branches FIRST_SEED COUNT
+  reference write                                            a case as text on standard input
+  reference theorem                                          a case on standard input
 KIND is one of SQRT IMP LEAD DISP ANG PLACE BAD.";
 
 /// Why a command did not run to its end.
@@ -84,6 +88,11 @@ fn run(words: &[&str]) -> Result<(), Failure> {
                 _ => Err(Failure::Found),
             }
         }
+        ["write"] => {
+            let text = String::from_utf8(input()?).map_err(|_| Failure::Found)?;
+            write(&write_case(&parse_text(&text).ok_or(Failure::Found)?))
+        }
+        ["theorem"] => write(theorem(&input()?).ok_or(Failure::Found)?.as_bytes()),
         _ => Err(Failure::Usage),
     }
 }

@@ -91,6 +91,12 @@ fn has_isolated_bus(case: &Case) -> bool {
     (0..case.buses.len()).any(|i| ends.iter().all(|&(a, b)| a != i && b != i))
 }
 
+/// What `case` is like, by the names of [`SHAPES`].
+pub fn shapes(case: &Case) -> impl Iterator<Item = &'static str> + '_ {
+    let so = SHAPES.iter().filter(move |(_, is_so)| is_so(case));
+    so.map(|&(name, _)| name)
+}
+
 /// How often each thing was met, by its name; what was expected and never met
 /// stands at zero.
 struct Tally {
@@ -148,10 +154,8 @@ impl Tally {
             }
         }
         if let Ok(case) = read_case(&file.bytes) {
-            for (name, is_so) in SHAPES {
-                if is_so(&case) {
-                    self.count(format!("tables: {name}"));
-                }
+            for name in shapes(&case) {
+                self.count(format!("tables: {name}"));
             }
         }
         self.answer("list", &answer_list(&file.bytes));

@@ -8,5 +8,4 @@ pub mod Rising
 pub mod Counts
 pub mod Rounds
 pub mod Opened
-pub mod CaseL
 pub mod Examples

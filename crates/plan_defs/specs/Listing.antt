@@ -1,5 +1,5 @@
 -- What the listing program prints of a case, as lists of numbers, for evaluating the defined plan: a figure is its bits, and both zeros are plus zero.
--- `listingOf` opens every definition of the plan and of the crates below it, so that `listingOf c target` computes by `refl`. proofs/CaseL.antt is an example.
+-- `listingOf` opens every definition of the plan and of the crates below it, so that `listingOf c target` computes by `refl`. crates/plan_cases has examples.
 use Prim.Native.Nat.{ℕ}
 use mathlib.Core.Bool.{Bool, cond}
 use mathlib.Core.List.{List, [], _∷_, map}

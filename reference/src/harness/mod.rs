@@ -3,6 +3,7 @@
 
 pub mod answers;
 pub mod case_file;
+pub mod case_text;
 pub mod checks;
 pub mod figures;
 pub mod listing;

@@ -1,0 +1,71 @@
+-- Expand, one island, levels above: the defined plan's listing is the reference build's. The branches that are taken:
+-- dispatch: every unit at its most
+-- angles: settled after steps
+-- raises: a pass before the rounds raises; a pass before the rounds raises nothing; a bus rises by several tiers at once
+-- rounds: circuits added
+-- stiffening: up to the added levels
+-- end: converged
+-- filling: passes over a full corridor; to the caps
+-- closing: levels added; levels unused
+-- By evaluation.
+use mathlib.Core.List.{[], _∷_}
+use mathlib.Core.Path.{_≡_, refl}
+use Rattle.mode.specs.declared.PlanMode.the-variants.{Expand}
+use Rattle.plan_defs.specs.Case.{Case}
+use Rattle.plan_defs.specs.Listing.{listingOf}
+use Rattle.plan_cases.proofs.Figures.{figures}
+
+-- HD 0 5 2 1 1 2 2
+-- LV 230
+-- LV 138
+-- LV 69
+-- LV 34.5
+-- BU 0 200
+-- BU 1 700
+-- GE 1 0 10 450 25 0.25
+-- CO 1 0 1 10 0.5
+-- LN 0 0.5 0.5 100 1
+-- LN 0 0.5 0 300 0
+-- LN 0.05 0.5 0 100 1
+-- LN 0.05 0.5 0 100 0
+abbrev pub given : Case
+given =
+    record {
+      mode = Expand;
+      buses = 2;
+      corridors = 1;
+      generators = 1;
+      above = 2;
+      requested = 2;
+      ladder = figures (0x406C_C000_0000_0000 ∷ 0x4061_4000_0000_0000 ∷ 0x4051_4000_0000_0000 ∷ 0x4041_4000_0000_0000 ∷ []);
+      tier = 0 ∷ 1 ∷ [];
+      load = figures (0x4069_0000_0000_0000 ∷ 0x4085_E000_0000_0000 ∷ []);
+      bus = 1 ∷ [];
+      slack = 0 ∷ [];
+      pmin = figures (0x4024_0000_0000_0000 ∷ []);
+      pmax = figures (0x407C_2000_0000_0000 ∷ []);
+      c1 = figures (0x4039_0000_0000_0000 ∷ []);
+      c2 = figures (0x3FD0_0000_0000_0000 ∷ []);
+      a = 1 ∷ [];
+      b = 0 ∷ [];
+      circuits = 1 ∷ [];
+      km = figures (0x4024_0000_0000_0000 ∷ []);
+      share = figures (0x3FE0_0000_0000_0000 ∷ []);
+      sheet = figures (0 ∷ 0x3FE0_0000_0000_0000 ∷ 0x3FE0_0000_0000_0000 ∷ 0x4059_0000_0000_0000 ∷ 0x3FF0_0000_0000_0000 ∷ 0 ∷ 0x3FE0_0000_0000_0000 ∷ 0 ∷ 0x4072_C000_0000_0000 ∷ 0 ∷ 0x3FA9_9999_9999_999A ∷ 0x3FE0_0000_0000_0000 ∷ 0 ∷ 0x4059_0000_0000_0000 ∷ 0x3FF0_0000_0000_0000 ∷ 0x3FA9_9999_9999_999A ∷ 0x3FE0_0000_0000_0000 ∷ 0 ∷ 0x4059_0000_0000_0000 ∷ 0 ∷ []);
+    }
+
+pub listed :
+    listingOf given 5
+    ≡ (0 ∷ 2 ∷ 1 ∷ 1 ∷ 0 ∷ 2 ∷ 2 ∷ 0 ∷ 0 ∷ 0 ∷ [])
+    ∷ (0x4061_4000_0000_0000 ∷ [])
+    ∷ (0 ∷ [])
+    ∷ (0 ∷ 0 ∷ [])
+    ∷ (0 ∷ 0xBFD4_0000_0000_0000 ∷ [])
+    ∷ (0x407C_2000_0000_0000 ∷ [])
+    ∷ (4 ∷ [])
+    ∷ (0xC06F_4000_0000_0000 ∷ [])
+    ∷ (0x4062_C000_0000_0000 ∷ [])
+    ∷ (0x3FDA_AAAA_AAAA_AAAB ∷ 0x3FD4_0000_0000_0000 ∷ [])
+    ∷ []
+unfolding listingOf
+listed = refl

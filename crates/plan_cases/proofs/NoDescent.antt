@@ -1,0 +1,63 @@
+-- Reinforce, one island: the defined plan's listing is the reference build's. The branches that are taken:
+-- dispatch: every unit at its most
+-- angles: no descent after steps
+-- end: converged
+-- By evaluation.
+use mathlib.Core.List.{[], _∷_}
+use mathlib.Core.Path.{_≡_, refl}
+use Rattle.mode.specs.declared.PlanMode.the-variants.{Reinforce}
+use Rattle.plan_defs.specs.Case.{Case}
+use Rattle.plan_defs.specs.Listing.{listingOf}
+use Rattle.plan_cases.proofs.Figures.{figures}
+
+-- HD 1 0 3 2 1 0 1
+-- LV 138
+-- BU 0 0
+-- BU 0 100
+-- BU 0 50
+-- GE 0 1 0 150 20 0.25
+-- CO 0 1 1 10 1
+-- CO 1 2 1 10 1
+-- LN 0 0.5 0 400 0
+-- LN 1 1e308 0 400 0
+abbrev pub given : Case
+given =
+    record {
+      mode = Reinforce;
+      buses = 3;
+      corridors = 2;
+      generators = 1;
+      above = 0;
+      requested = 1;
+      ladder = figures (0x4061_4000_0000_0000 ∷ []);
+      tier = 0 ∷ 0 ∷ 0 ∷ [];
+      load = figures (0 ∷ 0x4059_0000_0000_0000 ∷ 0x4049_0000_0000_0000 ∷ []);
+      bus = 0 ∷ [];
+      slack = 1 ∷ [];
+      pmin = figures (0 ∷ []);
+      pmax = figures (0x4062_C000_0000_0000 ∷ []);
+      c1 = figures (0x4034_0000_0000_0000 ∷ []);
+      c2 = figures (0x3FD0_0000_0000_0000 ∷ []);
+      a = 0 ∷ 1 ∷ [];
+      b = 1 ∷ 2 ∷ [];
+      circuits = 1 ∷ 1 ∷ [];
+      km = figures (0x4024_0000_0000_0000 ∷ 0x4024_0000_0000_0000 ∷ []);
+      share = figures (0x3FF0_0000_0000_0000 ∷ 0x3FF0_0000_0000_0000 ∷ []);
+      sheet = figures (0 ∷ 0x3FE0_0000_0000_0000 ∷ 0 ∷ 0x4079_0000_0000_0000 ∷ 0 ∷ 0x3FF0_0000_0000_0000 ∷ 0x7FE1_CCF3_85EB_C8A0 ∷ 0 ∷ 0x4079_0000_0000_0000 ∷ 0 ∷ []);
+    }
+
+pub listed :
+    listingOf given 0
+    ≡ (1 ∷ 1 ∷ 1 ∷ 0 ∷ 0 ∷ 0 ∷ 0 ∷ 0 ∷ 0 ∷ 0 ∷ [])
+    ∷ []
+    ∷ (0 ∷ [])
+    ∷ (0 ∷ 0 ∷ 0 ∷ [])
+    ∷ (0 ∷ 0xBFE0_0000_0000_0000 ∷ 0 ∷ [])
+    ∷ (0x4062_C000_0000_0000 ∷ [])
+    ∷ (1 ∷ 1 ∷ [])
+    ∷ (0x4059_0000_0000_0000 ∷ 0 ∷ [])
+    ∷ (0x4079_0000_0000_0000 ∷ 0x4079_0000_0000_0000 ∷ [])
+    ∷ (0x3FD0_0000_0000_0000 ∷ 0x3FE0_0000_0000_0000 ∷ [])
+    ∷ []
+unfolding listingOf
+listed = refl

@@ -1,0 +1,53 @@
+-- Expand, one island, an initial count above six, refused: 6 1: the defined plan's listing is the reference build's. The branches that are taken: none.
+-- By evaluation.
+use mathlib.Core.List.{[], _∷_}
+use mathlib.Core.Path.{_≡_, refl}
+use Rattle.mode.specs.declared.PlanMode.the-variants.{Expand}
+use Rattle.plan_defs.specs.Case.{Case}
+use Rattle.plan_defs.specs.Listing.{listingOf}
+use Rattle.plan_cases.proofs.Figures.{figures}
+
+-- HD 0 0 3 3 1 0 1
+-- LV 138
+-- BU 0 0
+-- BU 0 50
+-- BU 0 0
+-- GE 0 1 0 100 20 0.25
+-- CO 0 1 64 10 1
+-- CO 1 2 1 10 0.4999999
+-- CO 1 1 1 10 1
+-- LN 0 0 0 100 0
+-- LN 0 0.5 0 100 0
+-- LN 0 0.5 0 100 0
+abbrev pub given : Case
+given =
+    record {
+      mode = Expand;
+      buses = 3;
+      corridors = 3;
+      generators = 1;
+      above = 0;
+      requested = 1;
+      ladder = figures (0x4061_4000_0000_0000 ∷ []);
+      tier = 0 ∷ 0 ∷ 0 ∷ [];
+      load = figures (0 ∷ 0x4049_0000_0000_0000 ∷ 0 ∷ []);
+      bus = 0 ∷ [];
+      slack = 1 ∷ [];
+      pmin = figures (0 ∷ []);
+      pmax = figures (0x4059_0000_0000_0000 ∷ []);
+      c1 = figures (0x4034_0000_0000_0000 ∷ []);
+      c2 = figures (0x3FD0_0000_0000_0000 ∷ []);
+      a = 0 ∷ 1 ∷ 1 ∷ [];
+      b = 1 ∷ 2 ∷ 1 ∷ [];
+      circuits = 64 ∷ 1 ∷ 1 ∷ [];
+      km = figures (0x4024_0000_0000_0000 ∷ 0x4024_0000_0000_0000 ∷ 0x4024_0000_0000_0000 ∷ []);
+      share = figures (0x3FF0_0000_0000_0000 ∷ 0x3FDF_FFFF_94A0_3595 ∷ 0x3FF0_0000_0000_0000 ∷ []);
+      sheet = figures (0 ∷ 0 ∷ 0 ∷ 0x4059_0000_0000_0000 ∷ 0 ∷ 0 ∷ 0x3FE0_0000_0000_0000 ∷ 0 ∷ 0x4059_0000_0000_0000 ∷ 0 ∷ 0 ∷ 0x3FE0_0000_0000_0000 ∷ 0 ∷ 0x4059_0000_0000_0000 ∷ 0 ∷ []);
+    }
+
+pub listed :
+    listingOf given 0
+    ≡ (6 ∷ 1 ∷ [])
+    ∷ []
+unfolding listingOf
+listed = refl

@@ -1,0 +1,53 @@
+-- Observe, several islands, refused: 8 0: the defined plan's listing is the reference build's. The branches that are taken: none.
+-- By evaluation.
+use mathlib.Core.List.{[], _∷_}
+use mathlib.Core.Path.{_≡_, refl}
+use Rattle.mode.specs.declared.PlanMode.the-variants.{Observe}
+use Rattle.plan_defs.specs.Case.{Case}
+use Rattle.plan_defs.specs.Listing.{listingOf}
+use Rattle.plan_cases.proofs.Figures.{figures}
+
+-- HD 2 0 4 2 2 0 1
+-- LV 138
+-- BU 0 0
+-- BU 0 80
+-- BU 0 0
+-- BU 0 50
+-- GE 1 1 0 100 20 9e307
+-- GE 3 1 10 100 20 9e307
+-- CO 0 1 1 10 1
+-- CO 2 3 1 10 1
+-- LN 0 1e-200 0 100 0
+-- LN 0 0.5 0 100 0
+abbrev pub given : Case
+given =
+    record {
+      mode = Observe;
+      buses = 4;
+      corridors = 2;
+      generators = 2;
+      above = 0;
+      requested = 1;
+      ladder = figures (0x4061_4000_0000_0000 ∷ []);
+      tier = 0 ∷ 0 ∷ 0 ∷ 0 ∷ [];
+      load = figures (0 ∷ 0x4054_0000_0000_0000 ∷ 0 ∷ 0x4049_0000_0000_0000 ∷ []);
+      bus = 1 ∷ 3 ∷ [];
+      slack = 1 ∷ 1 ∷ [];
+      pmin = figures (0 ∷ 0x4024_0000_0000_0000 ∷ []);
+      pmax = figures (0x4059_0000_0000_0000 ∷ 0x4059_0000_0000_0000 ∷ []);
+      c1 = figures (0x4034_0000_0000_0000 ∷ 0x4034_0000_0000_0000 ∷ []);
+      c2 = figures (0x7FE0_0541_9221_015D ∷ 0x7FE0_0541_9221_015D ∷ []);
+      a = 0 ∷ 2 ∷ [];
+      b = 1 ∷ 3 ∷ [];
+      circuits = 1 ∷ 1 ∷ [];
+      km = figures (0x4024_0000_0000_0000 ∷ 0x4024_0000_0000_0000 ∷ []);
+      share = figures (0x3FF0_0000_0000_0000 ∷ 0x3FF0_0000_0000_0000 ∷ []);
+      sheet = figures (0 ∷ 0x1668_7E92_154E_F7AC ∷ 0 ∷ 0x4059_0000_0000_0000 ∷ 0 ∷ 0 ∷ 0x3FE0_0000_0000_0000 ∷ 0 ∷ 0x4059_0000_0000_0000 ∷ 0 ∷ []);
+    }
+
+pub listed :
+    listingOf given 0
+    ≡ (8 ∷ 0 ∷ [])
+    ∷ []
+unfolding listingOf
+listed = refl

@@ -1,0 +1,53 @@
+-- Expand, one island, levels above, refused: 9 0: the defined plan's listing is the reference build's. The branches that are taken:
+-- dispatch: every unit at its most
+-- angles: settled after steps; steps spent
+-- raises: a pass before the rounds raises
+-- By evaluation.
+use mathlib.Core.List.{[], _∷_}
+use mathlib.Core.Path.{_≡_, refl}
+use Rattle.mode.specs.declared.PlanMode.the-variants.{Expand}
+use Rattle.plan_defs.specs.Case.{Case}
+use Rattle.plan_defs.specs.Listing.{listingOf}
+use Rattle.plan_cases.proofs.Figures.{figures}
+
+-- HD 0 0 2 1 1 1 1
+-- LV 345
+-- LV 138
+-- BU 0 0
+-- BU 0 500
+-- GE 0 1 0 500 20 0.25
+-- CO 0 1 1 10 1
+-- LN 0 1e-200 0 1000 0
+-- LN 0 0.01 0 100 0
+abbrev pub given : Case
+given =
+    record {
+      mode = Expand;
+      buses = 2;
+      corridors = 1;
+      generators = 1;
+      above = 1;
+      requested = 1;
+      ladder = figures (0x4075_9000_0000_0000 ∷ 0x4061_4000_0000_0000 ∷ []);
+      tier = 0 ∷ 0 ∷ [];
+      load = figures (0 ∷ 0x407F_4000_0000_0000 ∷ []);
+      bus = 0 ∷ [];
+      slack = 1 ∷ [];
+      pmin = figures (0 ∷ []);
+      pmax = figures (0x407F_4000_0000_0000 ∷ []);
+      c1 = figures (0x4034_0000_0000_0000 ∷ []);
+      c2 = figures (0x3FD0_0000_0000_0000 ∷ []);
+      a = 0 ∷ [];
+      b = 1 ∷ [];
+      circuits = 1 ∷ [];
+      km = figures (0x4024_0000_0000_0000 ∷ []);
+      share = figures (0x3FF0_0000_0000_0000 ∷ []);
+      sheet = figures (0 ∷ 0x1668_7E92_154E_F7AC ∷ 0 ∷ 0x408F_4000_0000_0000 ∷ 0 ∷ 0 ∷ 0x3F84_7AE1_47AE_147B ∷ 0 ∷ 0x4059_0000_0000_0000 ∷ 0 ∷ []);
+    }
+
+pub listed :
+    listingOf given 0
+    ≡ (9 ∷ 0 ∷ [])
+    ∷ []
+unfolding listingOf
+listed = refl

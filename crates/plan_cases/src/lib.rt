@@ -1,0 +1,1 @@
+// The defined plan run on small cases: theorems alone, there is no code here.

@@ -4,6 +4,7 @@ mod angles_calls;
 mod dispatch_calls;
 mod leaders_calls;
 mod placement_calls;
+mod reading_calls;
 mod report;
 
 fn main() {
@@ -11,4 +12,5 @@ fn main() {
     dispatch_calls::all();
     angles_calls::all();
     placement_calls::all();
+    reading_calls::all();
 }

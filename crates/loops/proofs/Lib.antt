@@ -14,3 +14,7 @@ pub mod Zeros
 pub mod Totals
 pub mod Bits
 pub mod Wholes
+pub mod Most
+pub mod Places
+pub mod Collect
+pub mod Fronts

@@ -1,0 +1,23 @@
+-- Laws that no one function owns.
+pub mod Casts
+pub mod Lists
+pub mod Draws
+pub mod Ratings
+pub mod Served
+pub mod Anew
+pub mod Builds
+pub mod Redesigns
+pub mod Raises
+pub mod Sizes
+pub mod Corridors
+pub mod Passing
+pub mod Demands
+pub mod Stages
+pub mod Serving
+pub mod Scattering
+pub mod Grounds
+pub mod Injecting
+pub mod Solving
+pub mod States
+pub mod Lifting
+pub mod Openings

@@ -1,0 +1,206 @@
+-- `planning::opening::serve` meets its contract: the units picked and the demand are a request that dispatch refuses by 8 alone.
+use mathlib.Core.Path.{ap, _∙_}
+use native.Mathlib.Omega.{arith}
+use lib.ListN.{length, replicate, length-replicate}
+use lib.Seq.{take-at}
+use Rattle.loops.specs.Figures.{at, nought}
+use Rattle.loops.proofs.Fronts.{front-replicate}
+use Rattle.planning.proofs.Serving.{units-few, picked, column-room, refused-index, refused-stage, answered-stage}
+use borrow.Author.Needs.{needs}
+use Rattle.planning.proofs.opening.serve.Statement.{statement}
+use Rattle.planning.proofs.opening.serve.Tie as tie
+
+units-in-requires : tie.Need-units-in-requires
+units-in-requires c κs = search needs
+
+figures-of-requires : tie.Need-figures-of-requires
+figures-of-requires c κs =
+    let s = c .before .before .before .before .before .before .before .before .before .before .before .before in
+    let u = c .before .before .units-in .ensures in
+    (picked (s .args .leader .now) (s .args .bus .now) (s .args .root) (s .pre .0) _ _ _ (u .0) (u .1) (s .pre .1 .pmin-size), omega (arith, u .0, units-few (s .args .leader .now) (s .args .bus .now) (s .args .root), s .pre .0 .few))
+
+figures-of-requires-2 : tie.Need-figures-of-requires-2
+figures-of-requires-2 c κs =
+    let s = c .before .before .before .before .before .before .before .before .before .before .before .before .before .before .before in
+    let u = c .before .before .before .before .before .units-in .ensures in
+    (picked (s .args .leader .now) (s .args .bus .now) (s .args .root) (s .pre .0) _ _ _ (u .0) (u .1) (s .pre .1 .pmax-size), omega (arith, u .0, units-few (s .args .leader .now) (s .args .bus .now) (s .args .root), s .pre .0 .few))
+
+figures-of-requires-3 : tie.Need-figures-of-requires-3
+figures-of-requires-3 c κs =
+    let s = c .before .before .before .before .before .before .before .before .before .before .before .before .before .before .before .before .before .before in
+    let u = c .before .before .before .before .before .before .before .before .units-in .ensures in
+    (picked (s .args .leader .now) (s .args .bus .now) (s .args .root) (s .pre .0) _ _ _ (u .0) (u .1) (s .pre .1 .c1-size), omega (arith, u .0, units-few (s .args .leader .now) (s .args .bus .now) (s .args .root), s .pre .0 .few))
+
+figures-of-requires-4 : tie.Need-figures-of-requires-4
+figures-of-requires-4 c κs =
+    let s = c .before .before .before .before .before .before .before .before .before .before .before .before .before .before .before .before .before .before .before .before .before in
+    let u = c .before .before .before .before .before .before .before .before .before .before .before .units-in .ensures in
+    (picked (s .args .leader .now) (s .args .bus .now) (s .args .root) (s .pre .0) _ _ _ (u .0) (u .1) (s .pre .1 .c2-size), omega (arith, u .0, units-few (s .args .leader .now) (s .args .bus .now) (s .args .root), s .pre .0 .few))
+
+demand-of-requires : tie.Need-demand-of-requires
+demand-of-requires c κs = c .before .before .before .before .before .before .before .before .before .before .before .before .before .before .before .before .before .before .before .before .before .before .pre .2 .size
+
+sub-economic-dispatch : tie.Need-sub-economic-dispatch
+sub-economic-dispatch c = search needs
+
+part-economic-dispatch-start : tie.Need-part-economic-dispatch-start
+part-economic-dispatch-start c = search needs
+
+part-economic-dispatch-end : tie.Need-part-economic-dispatch-end
+part-economic-dispatch-end c =
+    let s = c .before .before .before .before .before .before .before .before .before .before .before .before .before .before .before .before .before .before .before .before .before .before .before .before in
+    let u = c .before .before .before .before .before .before .before .before .before .before .before .before .before .before .units-in .ensures in
+    column-room (s .args .leader .now) (s .args .load .now) (s .args .bus .now) (s .args .pmin .now) (s .args .pmax .now) (s .args .c1 .now) (s .args .c2 .now) (s .args .root) (s .pre .0) (s .pre .1) (s .pre .2) _ _ (u .0) (u .1) (at (s .args .pmin .now)) _ (c .before .before .before .before .before .before .before .before .before .before .before .figures-of .ensures)
+
+sub-economic-dispatch-2 : tie.Need-sub-economic-dispatch-2
+sub-economic-dispatch-2 c = search needs
+
+part-economic-dispatch-start-2 : tie.Need-part-economic-dispatch-start-2
+part-economic-dispatch-start-2 c = search needs
+
+part-economic-dispatch-end-2 : tie.Need-part-economic-dispatch-end-2
+part-economic-dispatch-end-2 c =
+    let s = c .before .before .before .before .before .before .before .before .before .before .before .before .before .before .before .before .before .before .before .before .before .before .before .before .before .before in
+    let u = c .before .before .before .before .before .before .before .before .before .before .before .before .before .before .before .before .units-in .ensures in
+    column-room (s .args .leader .now) (s .args .load .now) (s .args .bus .now) (s .args .pmin .now) (s .args .pmax .now) (s .args .c1 .now) (s .args .c2 .now) (s .args .root) (s .pre .0) (s .pre .1) (s .pre .2) _ _ (u .0) (u .1) (at (s .args .pmax .now)) _ (c .before .before .before .before .before .before .before .before .before .before .figures-of2 .ensures)
+
+sub-economic-dispatch-3 : tie.Need-sub-economic-dispatch-3
+sub-economic-dispatch-3 c = search needs
+
+part-economic-dispatch-start-3 : tie.Need-part-economic-dispatch-start-3
+part-economic-dispatch-start-3 c = search needs
+
+part-economic-dispatch-end-3 : tie.Need-part-economic-dispatch-end-3
+part-economic-dispatch-end-3 c =
+    let s = c .before .before .before .before .before .before .before .before .before .before .before .before .before .before .before .before .before .before .before .before .before .before .before .before .before .before .before .before in
+    let u = c .before .before .before .before .before .before .before .before .before .before .before .before .before .before .before .before .before .before .units-in .ensures in
+    column-room (s .args .leader .now) (s .args .load .now) (s .args .bus .now) (s .args .pmin .now) (s .args .pmax .now) (s .args .c1 .now) (s .args .c2 .now) (s .args .root) (s .pre .0) (s .pre .1) (s .pre .2) _ _ (u .0) (u .1) (at (s .args .c1 .now)) _ (c .before .before .before .before .before .before .before .before .before .figures-of3 .ensures)
+
+sub-economic-dispatch-4 : tie.Need-sub-economic-dispatch-4
+sub-economic-dispatch-4 c = search needs
+
+part-economic-dispatch-start-4 : tie.Need-part-economic-dispatch-start-4
+part-economic-dispatch-start-4 c = search needs
+
+part-economic-dispatch-end-4 : tie.Need-part-economic-dispatch-end-4
+part-economic-dispatch-end-4 c =
+    let s = c .before .before .before .before .before .before .before .before .before .before .before .before .before .before .before .before .before .before .before .before .before .before .before .before .before .before .before .before .before .before in
+    let u = c .before .before .before .before .before .before .before .before .before .before .before .before .before .before .before .before .before .before .before .before .units-in .ensures in
+    column-room (s .args .leader .now) (s .args .load .now) (s .args .bus .now) (s .args .pmin .now) (s .args .pmax .now) (s .args .c1 .now) (s .args .c2 .now) (s .args .root) (s .pre .0) (s .pre .1) (s .pre .2) _ _ (u .0) (u .1) (at (s .args .c2 .now)) _ (c .before .before .before .before .before .before .before .before .figures-of4 .ensures)
+
+sub-economic-dispatch-5 : tie.Need-sub-economic-dispatch-5
+sub-economic-dispatch-5 c = search needs
+
+part-out-start : tie.Need-part-out-start
+part-out-start c = search needs
+
+part-out-end : tie.Need-part-out-end
+part-out-end c =
+    let s = c .before .before .before .before .before .before .before .before .before .before .before .before .before .before .before .before .before .before .before .before .before .before .before .before .before .before .before .before .before .before .before in
+    omega (arith, c .before .before .before .before .before .before .before .before .before .before .before .before .before .before .before .before .before .before .before .before .before .units-in .ensures .0, units-few (s .args .leader .now) (s .args .bus .now) (s .args .root), s .pre .0 .few)
+
+economic-dispatch-requires : tie.Need-economic-dispatch-requires
+economic-dispatch-requires c κs = search needs
+
+enum-known-f : tie.Need-enum-known-f
+enum-known-f c = search needs
+
+index-requires : tie.Need-index-requires
+index-requires c κs = search needs
+
+mul-wide : tie.Need-mul-wide
+mul-wide c =
+    let s = c .before .before .before .before .before .before .before .before .before .before .before .before .before .before .before .before .before .before .before .before .before .before .before .before .before .before .before .before .before .before .before .before .before .before .before .before .before .before in
+    let u = c .before .before .before .before .before .before .before .before .before .before .before .before .before .before .before .before .before .before .before .before .before .before .before .before .before .before .before .before .units-in .ensures in
+    omega (
+      arith,
+      refused-index (s .args .leader .now) (s .args .load .now) (s .args .bus .now) (s .args .pmin .now) (s .args .pmax .now) (s .args .c1 .now) (s .args .c2 .now) (s .args .root) (s .pre .0) (s .pre .1) (s .pre .2)
+          _ _ (u .0) (u .1) _ _ _ _
+          (c .before .before .before .before .before .before .before .before .before .before .before .before .before .before .before .before .before .before .before .before .before .before .before .before .before .figures-of .ensures) (c .before .before .before .before .before .before .before .before .before .before .before .before .before .before .before .before .before .before .before .before .before .before .figures-of2 .ensures) (c .before .before .before .before .before .before .before .before .before .before .before .before .before .before .before .before .before .before .before .figures-of3 .ensures) (c .before .before .before .before .before .before .before .before .before .before .before .before .before .before .before .before .figures-of4 .ensures)
+          _ (c .before .before .before .before .before .before .before .before .before .before .before .before .before .before .before .demand-of .ensures) (replicate 128 nought) (omega (arith, u .0, units-few (s .args .leader .now) (s .args .bus .now) (s .args .root), s .pre .0 .few))
+          (c .before .before .before .before .before .economic-dispatch .result) _ (c .before .before .before .before .before .economic-dispatch .ensures) _ (c .before .before .f .given .1) (c .index .result) (c .index .ensures),
+    )
+
+array-read-wide : tie.Need-array-read-wide
+array-read-wide c =
+    let s = c .before .before .before .before .before .before .before .before .before .before .before .before .before .before .before .before .before .before .before .before .before .before .before .before .before .before .before .before .before .before .before .before .before .before .before .before .before .before in
+    let u = c .before .before .before .before .before .before .before .before .before .before .before .before .before .before .before .before .before .before .before .before .before .before .before .before .before .before .before .before .units-in .ensures in
+    refused-index (s .args .leader .now) (s .args .load .now) (s .args .bus .now) (s .args .pmin .now) (s .args .pmax .now) (s .args .c1 .now) (s .args .c2 .now) (s .args .root) (s .pre .0) (s .pre .1) (s .pre .2)
+    _ _ (u .0) (u .1) _ _ _ _
+    (c .before .before .before .before .before .before .before .before .before .before .before .before .before .before .before .before .before .before .before .before .before .before .before .before .before .figures-of .ensures) (c .before .before .before .before .before .before .before .before .before .before .before .before .before .before .before .before .before .before .before .before .before .before .figures-of2 .ensures) (c .before .before .before .before .before .before .before .before .before .before .before .before .before .before .before .before .before .before .before .figures-of3 .ensures) (c .before .before .before .before .before .before .before .before .before .before .before .before .before .before .before .before .figures-of4 .ensures)
+    _ (c .before .before .before .before .before .before .before .before .before .before .before .before .before .before .before .demand-of .ensures) (replicate 128 nought) (omega (arith, u .0, units-few (s .args .leader .now) (s .args .bus .now) (s .args .root), s .pre .0 .few))
+    (c .before .before .before .before .before .economic-dispatch .result) _ (c .before .before .before .before .before .economic-dispatch .ensures) _ (c .before .before .f .given .1) (c .index .result) (c .index .ensures)
+
+wide-requires : tie.Need-wide-requires
+wide-requires c κs = search needs
+
+returns : tie.Need-returns
+returns c =
+    let s = c .before .before .before .before .before .before .before .before .before .before .before .before .before .before .before .before .before .before .before .before .before .before .before .before .before .before .before .before .before .before .before .before .before .before .before .before .before .before .before in
+    let u = c .before .before .before .before .before .before .before .before .before .before .before .before .before .before .before .before .before .before .before .before .before .before .before .before .before .before .before .before .before .units-in .ensures in
+    refused-stage (s .args .leader .now) (s .args .load .now) (s .args .bus .now) (s .args .pmin .now) (s .args .pmax .now) (s .args .c1 .now) (s .args .c2 .now) (s .args .root) (s .pre .0) (s .pre .1) (s .pre .2)
+    _ _ (u .0) (u .1) _ _ _ _
+    (c .before .before .before .before .before .before .before .before .before .before .before .before .before .before .before .before .before .before .before .before .before .before .before .before .before .before .figures-of .ensures) (c .before .before .before .before .before .before .before .before .before .before .before .before .before .before .before .before .before .before .before .before .before .before .before .figures-of2 .ensures) (c .before .before .before .before .before .before .before .before .before .before .before .before .before .before .before .before .before .before .before .before .figures-of3 .ensures) (c .before .before .before .before .before .before .before .before .before .before .before .before .before .before .before .before .before .figures-of4 .ensures)
+    _ (c .before .before .before .before .before .before .before .before .before .before .before .before .before .before .before .before .demand-of .ensures) (replicate 128 nought) (omega (arith, u .0, units-few (s .args .leader .now) (s .args .bus .now) (s .args .root), s .pre .0 .few))
+    (c .before .before .before .before .before .before .economic-dispatch .result) _ (c .before .before .before .before .before .before .economic-dispatch .ensures) _ (c .before .before .before .f .given .1) (c .before .index .result) (c .wide .result) (c .before .index .ensures) (c .wide .ensures) _
+
+enum-told : tie.Need-enum-told
+enum-told c = search needs
+
+hand-out-requires : tie.Need-hand-out-requires
+hand-out-requires c κs =
+    let s = c .before .before .before .before .before .before .before .before .before .before .before .before .before .before .before .before .before .before .before .before .before .before .before .before .before .before .before .before .before .before .before .before .before .before .before .before .before .before .before in
+    let u = c .before .before .before .before .before .before .before .before .before .before .before .before .before .before .before .before .before .before .before .before .before .before .before .before .before .before .before .before .before .units-in .ensures in
+    (picked (s .args .leader .now) (s .args .bus .now) (s .args .root) (s .pre .0) _ _ _ (u .0) (u .1) (s .pre .3))
+
+same-length : tie.Need-same-length
+same-length c = search needs
+
+returns-2 : tie.Need-returns-2
+returns-2 c =
+    let s = c .before .before .before .before .before .before .before .before .before .before .before .before .before .before .before .before .before .before .before .before .before .before .before .before .before .before .before .before .before .before .before .before .before .before .before .before .before .before .before .before .before .before in
+    let u = c .before .before .before .before .before .before .before .before .before .before .before .before .before .before .before .before .before .before .before .before .before .before .before .before .before .before .before .before .before .before .before .before .units-in .ensures in
+    answered-stage (s .args .leader .now) (s .args .load .now) (s .args .bus .now) (s .args .pmin .now) (s .args .pmax .now) (s .args .c1 .now) (s .args .c2 .now) (s .args .root) (s .pre .0) (s .pre .1) (s .pre .2)
+    _ _ (u .0) (u .1) _ _ _ _
+    (c .before .before .before .before .before .before .before .before .before .before .before .before .before .before .before .before .before .before .before .before .before .before .before .before .before .before .before .before .before .figures-of .ensures) (c .before .before .before .before .before .before .before .before .before .before .before .before .before .before .before .before .before .before .before .before .before .before .before .before .before .before .figures-of2 .ensures) (c .before .before .before .before .before .before .before .before .before .before .before .before .before .before .before .before .before .before .before .before .before .before .before .figures-of3 .ensures) (c .before .before .before .before .before .before .before .before .before .before .before .before .before .before .before .before .before .before .before .before .figures-of4 .ensures)
+    _ (c .before .before .before .before .before .before .before .before .before .before .before .before .before .before .before .before .before .before .before .demand-of .ensures) (replicate 128 nought) (omega (arith, u .0, units-few (s .args .leader .now) (s .args .bus .now) (s .args .root), s .pre .0 .few))
+    (c .before .before .before .before .before .before .before .before .before .economic-dispatch .result) _ (c .before .before .before .before .before .before .before .before .before .economic-dispatch .ensures) (c .before .before .before .before .before .before .enum-told .given .1) _ _ _
+    (take-at _ _ _ (c .before .before .before .before .before .before .before .before .before .economic-dispatch .kept .1 .1 .1 .1 .1 .1 .0 ∙ ap length (front-replicate 128 (c .before .before .before .before .before .before .before .before .before .before .before .before .before .before .before .before .before .before .before .before .before .before .before .before .before .before .before .before .before .before .before .before .units-in .result) nought (omega (arith, u .0, units-few (s .args .leader .now) (s .args .bus .now) (s .args .root), s .pre .0 .few))) ∙ length-replicate (c .before .before .before .before .before .before .before .before .before .before .before .before .before .before .before .before .before .before .before .before .before .before .before .before .before .before .before .before .before .before .before .before .units-in .result) nought))
+    (c .before .before .hand-out .ensures)
+
+pub serve-spec : {M : Type 1} → statement M
+serve-spec =
+    tie.close
+    (tie.spec
+    units-in-requires
+    figures-of-requires
+    figures-of-requires-2
+    figures-of-requires-3
+    figures-of-requires-4
+    demand-of-requires
+    sub-economic-dispatch
+    part-economic-dispatch-start
+    part-economic-dispatch-end
+    sub-economic-dispatch-2
+    part-economic-dispatch-start-2
+    part-economic-dispatch-end-2
+    sub-economic-dispatch-3
+    part-economic-dispatch-start-3
+    part-economic-dispatch-end-3
+    sub-economic-dispatch-4
+    part-economic-dispatch-start-4
+    part-economic-dispatch-end-4
+    sub-economic-dispatch-5
+    part-out-start
+    part-out-end
+    economic-dispatch-requires
+    enum-known-f
+    index-requires
+    mul-wide
+    array-read-wide
+    wide-requires
+    returns
+    enum-told
+    hand-out-requires
+    same-length
+    returns-2)

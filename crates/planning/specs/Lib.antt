@@ -1,0 +1,7 @@
+-- What the contracts of planning's functions cite, beside the defined plan.
+pub mod Design
+pub mod Redesign
+pub mod Raise
+pub mod Size
+pub mod Opening
+pub mod Solve

@@ -71,7 +71,7 @@ passes ok fault n next h = go (ltb (first ok n 0) n) refl h
     go false e q = (all-pass ok n (ltb-false _ _ e), q)
 
 module _ (c : Case) where
-  columns-of : lengthsOk c ≡ true → Columns c
+  pub columns-of : lengthsOk c ≡ true → Columns c
   unfolding lengthsOk
   columns-of h =
       let h₁ = both (eqb (length (c .ladder)) (levels c)) _ h in
@@ -106,7 +106,7 @@ module _ (c : Case) where
         sheet = eqb-true _ _ (g₅ .1);
       }
 
-  counts-of : (target : ℕ) → countsOk c target ≡ true → Counts c target
+  pub counts-of : (target : ℕ) → countsOk c target ≡ true → Counts c target
   unfolding countsOk
   counts-of target h =
       let h₁ = both (leb (c .buses) mostBuses) _ h in

@@ -21,3 +21,10 @@ pub mod Solving
 pub mod States
 pub mod Lifting
 pub mod Openings
+pub mod Checks
+pub mod Insertion
+pub mod Orders
+pub mod Fillings
+pub mod Closings
+pub mod Sounds
+pub mod Liftings

@@ -1,6 +1,9 @@
 // Planning of a transmission network's corridors, after `plan_corridors` of planning.rs.
+mod check;
+mod close;
 mod design;
 mod figures;
+mod fill;
 mod opening;
 mod policy;
 mod raise;

@@ -1,0 +1,232 @@
+-- What a case that passes the check has, and how the check, the filling and the closing figures lift to the whole case and the lent slices.
+-- Acceptance is taken apart test by test; a definition reads only fields, so that each lifting is by computing, with the lengths put in.
+use Prim.Native.Nat.{ℕ, _+_, _*_, _<_, _≤_}
+use mathlib.Core.Bool.{Bool, true, false, not, cond, _&&_, _||_}
+use mathlib.Core.List.{List}
+use mathlib.Core.Option.{Option, none, some}
+use mathlib.Core.Path.{_≡_, refl, sym, ap, _∙_, subst}
+use native.Mathlib.Omega.{arith}
+use borrow.Author.Tests.{leb-true, eqb-true, eqb-false, lt-leb}
+use lib.Dec.{ltb, leb, eqb}
+use lib.ListN.{length, getD}
+use lib.Ieee.{lt, le}
+use Rattle.loops.specs.Figures.{at, plus, nought, one, half, tenThousand, million, thousandth, finite, inside}
+use Rattle.loops.proofs.Bools.{both}
+use Rattle.refusal.specs.declared.Refusal.{Refusal}
+use Rattle.refusal.specs.declared.Refusal.the-variants.{Length}
+use Rattle.refusal.specs.declared.Answer.{Answer}
+use Rattle.refusal.specs.declared.Answer.the-variants.{Answered, Refused}
+use Rattle.impedance.specs.Impedance.{ratingOk}
+use Rattle.leaders.specs.Operation.{corridorOk}
+use Rattle.plan_defs.specs.Constants.{kvTolerance, mostInitial, rowFigures}
+use Rattle.plan_defs.specs.Case.{Case, levels, kvOf, loadOf, endA, endB, rowPlace, rowAt}
+use Rattle.plan_defs.specs.Accept.{lengthsOk, countsOk, levelOk, busOk, generatorOk, corridorSound, rowOk, tablesFault, caseFault}
+use Rattle.plan_defs.specs.Plan.{endingOf}
+use Rattle.plan_defs.specs.Outcome.{Slices, workPlaces, slicesOk, outcome, outcomeIf, outcomeBy, planCorridors}
+use Rattle.plan_defs.specs.declared.Planned.the-variants.{Refused as Unplanned}
+use Rattle.plan_defs.proofs.Accepted.{Accepted, accepted, end-a, end-b, bus-below, unit-ok, tier-below, initial-few, row-inside, row-sound}
+use Rattle.planning.specs.Design.{Lines, rateAt}
+use Rattle.planning.specs.Check.{tablesFor, placesIn, answerOf, checkOf}
+use Rattle.planning.specs.Sound.{Sound, Lengths}
+use Rattle.planning.specs.declared.check.Places.{Places}
+use Rattle.planning.proofs.Ratings.{sheet-rating}
+
+-- ---- what the tests of one row say
+module _ (c : Case) (target : ℕ) (ok : Accepted c target) where
+  kv-inside : (i : ℕ) → i < levels c → (lt nought (kvOf c i) && le (kvOf c i) tenThousand) ≡ true
+  unfolding levelOk
+  kv-inside i h = both (lt nought (kvOf c i) && le (kvOf c i) tenThousand) _ (ok .level-ok i h) .0
+
+  kv-falls : (i : ℕ) → i + 1 < levels c → lt (plus (kvOf c (i + 1)) kvTolerance) (kvOf c i) ≡ true
+  unfolding levelOk
+  kv-falls i h =
+      let p = both (lt nought (kvOf c i) && le (kvOf c i) tenThousand) _ (ok .level-ok i (omega arith)) .1 in
+      ap (λ (b : Bool). b || lt (plus (kvOf c (i + 1)) kvTolerance) (kvOf c i)) (sym (lt-leb (levels c) (i + 1) h)) ∙ p
+
+  load-inside : (i : ℕ) → i < c .buses → inside nought million (loadOf c i) ≡ true
+  unfolding busOk
+  load-inside i h = both (ltb (getD (c .tier) i 0) (c .requested)) _ (ok .bus-ok i h) .1
+
+  slack-bit : (k : ℕ) → k < c .generators → getD (c .slack) k 0 ≤ 1
+  unfolding generatorOk
+  slack-bit k h =
+      leb-true _ _ (both (ltb (getD (c .bus) k 0) (c .buses)) _ (both (ltb (getD (c .bus) k 0) (c .buses) && leb (getD (c .slack) k 0) 1) _ (ok .generator-ok k h) .0) .1)
+
+  module _ (k : ℕ) (h : k < c .corridors) where
+    ends-ok : corridorOk (c .buses) (endA c k) (endB c k) ≡ true
+    unfolding corridorSound
+    ends-ok = both (corridorOk (c .buses) (endA c k) (endB c k)) _ (ok .corridor-ok k h) .0
+
+    ends-apart : endA c k ≡ endB c k → ⊥
+    ends-apart = eqb-false _ _ (not-true-of (eqb (endA c k) (endB c k)) (both (ltb (endA c k) (c .buses) && ltb (endB c k) (c .buses)) _ ends-ok .1))
+      where
+        not-true-of : (b : Bool) → not b ≡ true → b ≡ false
+        not-true-of true e = sym e
+        not-true-of false e = refl
+
+    figures-ok : (inside nought tenThousand (at (c .km) k) && inside half one (at (c .share) k)) ≡ true
+    unfolding corridorSound
+    figures-ok = both (leb (getD (c .circuits) k 0) mostInitial) _ (both (corridorOk (c .buses) (endA c k) (endB c k)) _ (ok .corridor-ok k h) .1) .1
+
+  row-rating : (k l : ℕ) → k < c .corridors → l < levels c → ratingOk (rowAt c k l .rate) ≡ true
+  row-rating k l h q =
+      let w = rowAt c k l in
+      let p = both (le nought (w .r) && finite (w .r)) _ (row-sound c target ok k l h q) .1 in
+      let r = both (lt nought (w .x) && finite (w .x)) _ p .1 in
+      let s = both (le nought (w .b) && finite (w .b)) _ r .1 in
+      sheet-rating (w .rate) (both (inside thousandth million (w .rate)) _ s .0)
+
+  sound-of : Sound c target
+  sound-of =
+      record {
+        ladder-size = ok .columns .ladder;
+        tier-size = ok .columns .tier;
+        load-size = ok .columns .load;
+        bus-size = ok .columns .bus;
+        slack-size = ok .columns .slack;
+        pmin-size = ok .columns .pmin;
+        pmax-size = ok .columns .pmax;
+        c1-size = ok .columns .c1;
+        c2-size = ok .columns .c2;
+        a-size = ok .columns .a;
+        b-size = ok .columns .b;
+        circuits-size = ok .columns .circuits;
+        km-size = ok .columns .km;
+        share-size = ok .columns .share;
+        sheet-size = ok .columns .sheet;
+        few-buses = ok .counts .few-buses;
+        few-corridors = ok .counts .few-corridors;
+        few-generators = ok .counts .few-generators;
+        some-level = ok .counts .some-level;
+        few-levels = ok .counts .few-levels;
+        low-target = ok .counts .low-target;
+        kv-inside = kv-inside;
+        kv-falls = kv-falls;
+        tier-below = tier-below c target ok;
+        load-inside = load-inside;
+        bus-below = bus-below c target ok;
+        slack-bit = slack-bit;
+        unit-ok = unit-ok c target ok;
+        ends-ok = ends-ok;
+        end-a = end-a c target ok;
+        end-b = end-b c target ok;
+        ends-apart = ends-apart;
+        initial-few = initial-few c target ok;
+        km-inside = λ k h. both (inside nought tenThousand (at (c .km) k)) _ (figures-ok k h) .0;
+        share-inside = λ k h. both (inside nought tenThousand (at (c .km) k)) _ (figures-ok k h) .1;
+        row-inside = row-inside c target ok;
+        row-sound = row-sound c target ok;
+        row-rating = row-rating;
+      }
+
+-- an accepted case is sound
+pub sound : (c : Case) (target : ℕ) → caseFault c target ≡ none → Sound c target
+sound c target e = sound-of c target (accepted c target e)
+
+-- ---- the lent slices
+pub lengths-of : (c : Case) (s : Slices) → slicesOk c s ≡ true → Lengths c s
+unfolding slicesOk
+lengths-of c s h =
+    let h₁ = both (eqb (length (s .circuits)) (c .corridors)) _ h in
+    let h₂ = both (eqb (length (s .flow)) (c .corridors)) _ (h₁ .1) in
+    let h₃ = both (eqb (length (s .rate)) (c .corridors)) _ (h₂ .1) in
+    let h₄ = both (eqb (length (s .mw)) (c .generators)) _ (h₃ .1) in
+    let h₅ = both (eqb (length (s .angle)) (c .buses)) _ (h₄ .1) in
+    let h₆ = both (eqb (length (s .tier)) (c .buses)) _ (h₅ .1) in
+    let h₇ = both (eqb (length (s .ground)) (c .buses)) _ (h₆ .1) in
+    let h₈ = both (eqb (length (s .added)) (c .above)) _ (h₇ .1) in
+    let h₉ = both (eqb (length (s .figures)) (workPlaces c)) _ (h₈ .1) in
+    record {
+      circuits = eqb-true _ _ (h₁ .0);
+      flow = eqb-true _ _ (h₂ .0);
+      rate = eqb-true _ _ (h₃ .0);
+      mw = eqb-true _ _ (h₄ .0);
+      angle = eqb-true _ _ (h₅ .0);
+      tier = eqb-true _ _ (h₆ .0);
+      ground = eqb-true _ _ (h₇ .0);
+      added = eqb-true _ _ (h₈ .0);
+      figures = eqb-true _ _ (h₉ .0);
+      counts = eqb-true _ _ (h₉ .1);
+    }
+
+-- how many places they have, as `check_case` is told
+abbrev pub placesOf : Slices → Places
+placesOf s =
+    record {
+      circuits = length (s .circuits);
+      flow = length (s .flow);
+      rate = length (s .rate);
+      mw = length (s .mw);
+      angle = length (s .angle);
+      tier = length (s .tier);
+      ground = length (s .ground);
+      added = length (s .added);
+      figures = length (s .figures);
+      counts = length (s .counts);
+    }
+
+-- ---- the check: of the tables, in any mode
+abbrev pub tablesOf : Case → Case
+tablesOf c =
+    tablesFor (c .buses) (c .corridors) (c .generators) (c .above) (c .requested) (c .ladder) (c .tier) (c .load) (c .bus) (c .slack) (c .pmin) (c .pmax) (c .c1) (c .c2)
+    (c .a) (c .b) (c .circuits) (c .km) (c .share) (c .sheet)
+
+module _ (c : Case) (target : ℕ) (s : Slices) where
+  places-are : placesIn (tablesOf c) (placesOf s) ≡ slicesOk c s
+  unfolding slicesOk
+  places-are = refl
+
+  fault-lifts : caseFault (tablesOf c) target ≡ caseFault c target
+  unfolding caseFault lengthsOk countsOk tablesFault levelOk busOk generatorOk corridorSound rowOk rowAt rowPlace
+  fault-lifts = refl
+
+  abbrev checked : Bool → Option Refusal → Answer
+  checked b f = cond b (answerOf f) (Refused Length)
+
+  check-lifts : checkOf (tablesOf c) target (placesOf s) ≡ checked (slicesOk c s) (caseFault c target)
+  unfolding checkOf
+  check-lifts = ap (λ (b : Bool). checked b (caseFault (tablesOf c) target)) places-are ∙ ap (checked (slicesOk c s)) fault-lifts
+
+  -- a refusal is the defined one, with every slice as it was
+  pub refused-outcome : (f : Refusal) → Refused f ≡ checkOf (tablesOf c) target (placesOf s) → outcome (Unplanned f) s ≡ planCorridors c target s
+  unfolding planCorridors endingOf outcomeBy
+  refused-outcome f e = go (slicesOk c s) (caseFault c target) refl refl (e ∙ check-lifts)
+    where
+      go : (b : Bool) (o : Option Refusal) → slicesOk c s ≡ b → caseFault c target ≡ o → Refused f ≡ checked b o → outcome (Unplanned f) s ≡ outcomeIf (slicesOk c s) c target s
+      go false o p q h = let z : f ≡ Length = cc in rw (p, z)
+      go true (some g) p q h = let z : f ≡ g = cc in rw (p, q, z)
+      go true none p q h = let z : _≡_ {A = ℕ} 0 1 = cc in absurd (omega arith)
+
+  -- what passes
+  pub passed : Answered ≡ checkOf (tablesOf c) target (placesOf s) → (slicesOk c s ≡ true) × (caseFault c target ≡ none)
+  passed e = go (slicesOk c s) (caseFault c target) refl refl (e ∙ check-lifts)
+    where
+      go : (b : Bool) (o : Option Refusal) → slicesOk c s ≡ b → caseFault c target ≡ o → Answered ≡ checked b o → (slicesOk c s ≡ true) × (caseFault c target ≡ none)
+      go false o p q h = let z : _≡_ {A = ℕ} 0 1 = cc in absurd (omega arith)
+      go true (some g) p q h = let z : _≡_ {A = ℕ} 0 1 = cc in absurd (omega arith)
+      go true none p q h = (p, q)
+
+-- ---- the columns that a design reads, at levels on the ladder
+pub lines-of : (c : Case) (target : ℕ) → Sound c target → (level : List ℕ) → length level ≡ c .buses
+    → ((i : ℕ) → i < c .buses → getD level i 0 < levels c) → Lines (c .ladder) level (c .a) (c .b) (c .km) (c .share) (c .sheet)
+unfolding rowAt rowPlace
+lines-of c target s level e on =
+    let m = s .a-size in
+    record {
+      b-size = s .b-size ∙ sym m;
+      km-size = s .km-size ∙ sym m;
+      share-size = s .share-size ∙ sym m;
+      sheet-size = s .sheet-size ∙ sheet-is;
+      a-below = λ k h. omega (arith, s .end-a k (omega (arith, m)));
+      b-below = λ k h. omega (arith, s .end-b k (omega (arith, m)));
+      level-below = λ i h. omega (arith, on i (omega arith), s .ladder-size);
+      rates = λ k l h q.
+          subst (λ (L : ℕ). ratingOk (rateAt L (c .sheet) k l) ≡ true) (sym (s .ladder-size)) (rating k l (omega (arith, m)) (omega (arith, s .ladder-size)));
+    }
+  where
+    sheet-is : rowFigures * (c .corridors * levels c) ≡ rowFigures * (length (c .a) * length (c .ladder))
+    sheet-is =
+        ap (λ (n : ℕ). rowFigures * (n * levels c)) (sym (s .a-size)) ∙ ap (λ (n : ℕ). rowFigures * (length (c .a) * n)) (sym (s .ladder-size))
+
+    rating : (k l : ℕ) → k < c .corridors → l < levels c → ratingOk (rateAt (levels c) (c .sheet) k l) ≡ true
+    rating k l h q = s .row-rating k l h q

@@ -1,0 +1,14 @@
+-- `planning::check::bus_ok` meets its contract.
+-- The tests are the definition's.
+use borrow.Author.Needs.{needs}
+use Rattle.planning.proofs.check.bus_ok.Statement.{statement}
+use Rattle.planning.proofs.check.bus_ok.Tie as tie
+
+wide-requires : tie.Need-wide-requires
+wide-requires c κs = search needs
+
+returns : tie.Need-returns
+returns c = rw (c .wide .ensures)
+
+pub bus-ok-spec : {M : Type 1} → statement M
+bus-ok-spec = tie.close (tie.spec wide-requires returns)

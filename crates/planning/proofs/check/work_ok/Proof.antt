@@ -1,0 +1,27 @@
+-- `planning::check::work_ok` meets its contract.
+-- Rows of twelve: by dividing, then by subtracting.
+use mathlib.Core.Path.{sym}
+use native.Mathlib.Omega.{arith}
+use borrow.Author.Needs.{needs}
+use Rattle.planning.proofs.Checks.{rows-not, work-not, work-is}
+use Rattle.planning.proofs.check.work_ok.Statement.{statement}
+use Rattle.planning.proofs.check.work_ok.Tie as tie
+
+returns : tie.Need-returns
+returns c = sym (rows-not 12 _ _ (c .if1 .taken))
+
+returns-2 : tie.Need-returns-2
+returns-2 c =
+    let z = c .before .before .args in
+    work-not (z .n) (z .m) (z .g) (z .places) (omega arith) (omega arith)
+
+is-sum-requires : tie.Need-is-sum-requires
+is-sum-requires c κs = search needs
+
+returns-3 : tie.Need-returns-3
+returns-3 c =
+    let z = c .before .before .before .args in
+    work-is (z .n) (z .m) (z .g) (z .places) (omega arith) _ (omega arith) (c .is-sum .ensures)
+
+pub work-ok-spec : {M : Type 1} → statement M
+work-ok-spec = tie.close (tie.spec returns returns-2 is-sum-requires returns-3)

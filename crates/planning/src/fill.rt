@@ -1,0 +1,260 @@
+// Filling, after "3. Fill to the requested branch count" of `plan_corridors`: the order, heaviest planned loading first, and then
+// round and round it, a circuit to each corridor that has fewer than four, up to the target.
+ghost use mathlib.Core.Path.{_≡_};
+ghost use Prim.Native.Nat.{ℕ, _+_, _<_, _≤_};
+ghost use lib.ListN.{length, take};
+ghost use Rattle.loops.specs.Loops.{filled};
+ghost use Rattle.plan_defs.specs.Constants.{mostCorridors};
+ghost use Rattle.plan_defs.specs.Lists.{sum};
+ghost use Rattle.plan_defs.specs.Design.{design};
+ghost use Rattle.plan_defs.specs.Fill.{loading, loadingAt, orderOf, fillOnce, fillRounds, fillTurns, fill};
+ghost use Rattle.planning.specs.Design.{Lines};
+ghost use Rattle.planning.specs.Fill.{designsFor, Drawable, Loaded, rankBefore, orderBy, placeOf, shifted, Whole, Ranked, fullFor, filledAs, gainOf, Tallied, Counted, modeFor};
+use crate::design::circuit;
+use crate::figures::float;
+use crate::figures::magnitude;
+use crate::figures::wide;
+use crate::policy::MAX_CIRCUITS_PER_CORRIDOR;
+use crate::policy::promotes;
+use mode::PlanMode;
+
+// As many turns as filling gives a corridor circuits fill them all, or reach the target.
+const FILL_TURNS: u32 = 4;
+
+// ---- what the order goes by
+pub fn loading(flow: f64, count: u32, rate: f64) -> f64
+    ensures { λ r. ⌜ r ≡ loading flow count rate ⌝ }
+{
+    magnitude(flow) / (float(count) * rate)
+}
+
+fn rank_loadings(
+    ladder: &[f64],
+    level: &[u32],
+    a: &[u32],
+    b: &[u32],
+    km: &[f64],
+    share: &[f64],
+    sheet: &[f64],
+    banks: &[f64],
+    circuits: &[u32],
+    flow: &[f64],
+    out: &mut [f64; 256],
+)
+    requires { ⌜ Lines (now ladder) (now level) (now a) (now b) (now km) (now share) (now sheet) ⌝ }
+    requires { ⌜ Loaded (now a) (now banks) (now circuits) (now flow) × Whole (now out) ⌝ }
+    ensures { λ _. ⌜ now (out .exit) ≡ filled (now (out .entry)) (loadingAt (designsFor (now (ladder .entry)) (now (level .entry)) (now (a .entry)) (now (b .entry)) (now (km .entry)) (now (share .entry)) (now (sheet .entry)) (now (banks .entry))) (now (circuits .entry)) (now (flow .entry))) (length (now (a .entry))) ⌝ }
+{
+    let mut k = 0;
+    while k < a.len() {
+        let d = circuit(ladder, level, a, b, km, share, sheet, k, banks[k]);
+        out[k] = loading(flow[k], circuits[k], d.rate_a);
+        k += 1;
+    }
+}
+
+// kV of the corridors' higher ends.
+fn rank_kvs(
+    ladder: &[f64],
+    level: &[u32],
+    a: &[u32],
+    b: &[u32],
+    km: &[f64],
+    share: &[f64],
+    sheet: &[f64],
+    banks: &[f64],
+    out: &mut [f64; 256],
+)
+    requires { ⌜ Lines (now ladder) (now level) (now a) (now b) (now km) (now share) (now sheet) ⌝ }
+    requires { ⌜ Drawable (now a) (now banks) × Whole (now out) ⌝ }
+    ensures { λ _. ⌜ now (out .exit) ≡ filled (now (out .entry)) (λ (k : ℕ). design (designsFor (now (ladder .entry)) (now (level .entry)) (now (a .entry)) (now (b .entry)) (now (km .entry)) (now (share .entry)) (now (sheet .entry)) (now (banks .entry))) k .kv) (length (now (a .entry))) ⌝ }
+{
+    let mut k = 0;
+    while k < a.len() {
+        let d = circuit(ladder, level, a, b, km, share, sheet, k, banks[k]);
+        out[k] = d.kv;
+        k += 1;
+    }
+}
+
+// ---- the order: loading falling, kV falling, length rising, then index
+fn rank_before(loading: &[f64; 256], kv: &[f64; 256], km: &[f64], k: usize, j: usize) -> bool
+    requires { ⌜ (k < length (now km)) × (j < length (now km)) × (length (now km) ≤ mostCorridors) ⌝ }
+    ensures { λ r. ⌜ r ≡ rankBefore (now (loading .entry)) (now (kv .entry)) (now (km .entry)) k j ⌝ }
+{
+    let heavier = loading[j] < loading[k];
+    let as_heavy = loading[j] == loading[k];
+    let higher = kv[j] < kv[k];
+    let as_high = kv[j] == kv[k];
+    heavier | (as_heavy & (higher | (as_high & (km[k] < km[j]))))
+}
+
+// The place of corridor k among the k corridors before it.
+fn place_of(
+    loading: &[f64; 256],
+    kv: &[f64; 256],
+    km: &[f64],
+    order: &[u32; 256],
+    k: usize,
+) -> usize
+    requires { ⌜ (k < length (now km)) × Ranked (length (now km)) (now order) k ⌝ }
+    ensures { λ r. ⌜ r ≡ placeOf (rankBefore (now (loading .entry)) (now (kv .entry)) (now (km .entry))) (now (order .entry)) k k ⌝ }
+{
+    let mut j = 0;
+    while j < k {
+        if rank_before(loading, kv, km, k, wide(order[j])) {
+            return j;
+        }
+        j += 1;
+    }
+    j
+}
+
+// Puts corridor k, the k-th, into place p, and moves those that follow up by one.
+fn insert(order: &mut [u32; 256], p: usize, k: usize)
+    requires { ⌜ (p ≤ k) × (k < mostCorridors) × Whole (now order) ⌝ }
+    ensures { λ _. ⌜ now (order .exit) ≡ filled (now (order .entry)) (shifted p k (now (order .entry))) (k + 1) ⌝ }
+{
+    let mut carried = k as u32;
+    let mut i = p;
+    while i <= k {
+        let held = order[i];
+        order[i] = carried;
+        carried = held;
+        i += 1;
+    }
+}
+
+fn order_by(loading: &[f64; 256], kv: &[f64; 256], km: &[f64], order: &mut [u32; 256])
+    requires { ⌜ (length (now km) ≤ mostCorridors) × Whole (now order) ⌝ }
+    ensures size { λ _. ⌜ Whole (now (order .exit)) ⌝ }
+    ensures order { λ _. ⌜ take (length (now (km .entry))) (now (order .exit)) ≡ orderBy (rankBefore (now (loading .entry)) (now (kv .entry)) (now (km .entry))) (length (now (km .entry))) ⌝ }
+{
+    let mut k = 0;
+    while k < km.len() {
+        let p = place_of(loading, kv, km, order, k);
+        insert(order, p, k);
+        k += 1;
+    }
+}
+
+pub fn fill_order(
+    ladder: &[f64],
+    level: &[u32],
+    a: &[u32],
+    b: &[u32],
+    km: &[f64],
+    share: &[f64],
+    sheet: &[f64],
+    banks: &[f64],
+    circuits: &[u32],
+    flow: &[f64],
+    order: &mut [u32; 256],
+)
+    requires { ⌜ Lines (now ladder) (now level) (now a) (now b) (now km) (now share) (now sheet) ⌝ }
+    requires { ⌜ Loaded (now a) (now banks) (now circuits) (now flow) × Whole (now order) ⌝ }
+    ensures size { λ _. ⌜ Whole (now (order .exit)) ⌝ }
+    ensures order { λ _. ⌜ take (length (now (a .entry))) (now (order .exit)) ≡ orderOf (length (now (a .entry))) (designsFor (now (ladder .entry)) (now (level .entry)) (now (a .entry)) (now (b .entry)) (now (km .entry)) (now (share .entry)) (now (sheet .entry)) (now (banks .entry))) (now (circuits .entry)) (now (flow .entry)) ⌝ }
+{
+    let mut loading = [0.0; 256];
+    let mut kv = [0.0; 256];
+    rank_loadings(
+        ladder,
+        level,
+        a,
+        b,
+        km,
+        share,
+        sheet,
+        banks,
+        circuits,
+        flow,
+        &mut loading,
+    );
+    rank_kvs(ladder, level, a, b, km, share, sheet, banks, &mut kv);
+    order_by(&loading, &kv, km, order);
+}
+
+// ---- filling
+pub fn total(circuits: &[u32]) -> u32
+    requires { ⌜ Counted (now circuits) ⌝ }
+    ensures { λ r. ⌜ r ≡ sum (now (circuits .entry)) ⌝ }
+{
+    let mut total = 0;
+    let mut k = 0;
+    while k < circuits.len() {
+        total += circuits[k];
+        k += 1;
+    }
+    total
+}
+
+// Circuits in all, and how many of them filling added.
+pub struct Filling {
+    pub total: u32,
+    pub filler: u32,
+}
+
+// The circuits that a corridor gets in one turn.
+fn gain(total: u32, target: u32, count: u32) -> u32
+    ensures { λ r. ⌜ r ≡ gainOf total target count ⌝ }
+{
+    if (total < target) & (count < MAX_CIRCUITS_PER_CORRIDOR) {
+        1
+    } else {
+        0
+    }
+}
+
+fn fill_once(target: u32, order: &[u32; 256], circuits: &mut [u32], t: Filling) -> Filling
+    requires { ⌜ Ranked (length (now circuits)) (now order) (length (now circuits)) ⌝ }
+    requires { ⌜ Tallied t ⌝ }
+    ensures filled { λ r. ⌜ filledAs (now (circuits .exit)) r ≡ fillOnce fullFor target (take (length (now (circuits .entry))) (now (order .entry))) (filledAs (now (circuits .entry)) t) ⌝ }
+    ensures tally { λ r. ⌜ Tallied r ⌝ }
+{
+    let mut total = t.total;
+    let mut filler = t.filler;
+    let mut j = 0;
+    while j < circuits.len() {
+        let k = wide(order[j]);
+        let count = circuits[k];
+        let more = gain(total, target, count);
+        circuits[k] = count + more;
+        total += more;
+        filler += more;
+        j += 1;
+    }
+    Filling { total, filler }
+}
+
+fn fill_rounds(target: u32, order: &[u32; 256], circuits: &mut [u32], start: Filling) -> Filling
+    requires { ⌜ Ranked (length (now circuits)) (now order) (length (now circuits)) ⌝ }
+    requires { ⌜ Tallied start ⌝ }
+    ensures { λ r. ⌜ filledAs (now (circuits .exit)) r ≡ fillRounds fillTurns fullFor target (take (length (now (circuits .entry))) (now (order .entry))) (filledAs (now (circuits .entry)) start) ⌝ }
+{
+    let mut t = start;
+    let mut turn = 0;
+    while turn < FILL_TURNS {
+        t = fill_once(target, order, circuits, t);
+        turn += 1;
+    }
+    t
+}
+
+// Fills in an order of the corridors, and answers how many circuits that added.
+pub fn fill(mode: PlanMode, target: u32, order: &[u32; 256], circuits: &mut [u32]) -> u32
+    requires { ⌜ Ranked (length (now circuits)) (now order) (length (now circuits)) ⌝ }
+    requires { ⌜ Counted (now circuits) ⌝ }
+    ensures circuits { λ _. ⌜ now (circuits .exit) ≡ fill (modeFor mode) target (take (length (now (circuits .entry))) (now (order .entry))) (now (circuits .entry)) .counts ⌝ }
+    ensures filler { λ r. ⌜ r ≡ fill (modeFor mode) target (take (length (now (circuits .entry))) (now (order .entry))) (now (circuits .entry)) .filler ⌝ }
+{
+    if !promotes(mode) {
+        return 0;
+    }
+    let before = Filling {
+        total: total(circuits),
+        filler: 0,
+    };
+    let t = fill_rounds(target, order, circuits, before);
+    t.filler
+}

@@ -30,6 +30,8 @@ pub mod FiveLevels
 pub mod FlowOfTwoLines
 pub mod GapCut
 pub mod InitialAboveSix
+pub mod InitialNine
+pub mod InitialNought
 pub mod InitialZero
 pub mod IsolatedBus
 pub mod IsolatedBusObserved

@@ -23,7 +23,7 @@ use Rattle.plan_defs.specs.Raise.{noMarks, topOf}
 use Rattle.plan_defs.specs.Size.{Sizing, sizing, enough, nextBank, enlarges, enlargeIf, enlargeTo, enlargeBy, enlarge, requiredFor, raisesFor, raiseOrAdd, neededCircuits, growIf, grow, sizeOne, sizeAll}
 use Rattle.plan_defs.specs.declared.CircuitDesign.{CircuitDesign}
 use Rattle.planning.specs.Design.{linesFor, Banks}
-use Rattle.planning.specs.Size.{sizeFor, growFor, sizedOf, sizingOf, setIf, Grows, Sized}
+use Rattle.planning.specs.Size.{sizeFor, growFor, sizedOf, sizingOf, setIf, Grows}
 use Rattle.planning.specs.declared.size.Tally.{Tally}
 use Rattle.planning.proofs.Draws.{drawn-lifts}
 use Rattle.planning.proofs.Builds.{bank-drawn, drawn-at, set-bank, drawn-all-lifts}
@@ -190,10 +190,10 @@ module _ (c : Case) (level : List ℕ) (flow : List Float) where
   -- what a call of the loop says of a whole case
   pub size-lifts : (capacity : ℕ) (circuits : List ℕ) (banks floors : List Float) (upsized circuits′ : List ℕ) (banks′ floors′ : List Float) (upsized′ marks′ : List ℕ) (t′ : Tally)
       → length level ≡ c .buses → length (c .a) ≡ c .corridors → length (c .ladder) ≡ levels c
-      → Sized N level flow capacity circuits banks floors upsized circuits′ banks′ floors′ upsized′ marks′ t′
+      → sizingOf N level circuits′ banks′ floors′ upsized′ marks′ t′ ≡ sizeAll N level flow (buildOf N level circuits banks floors upsized) capacity
       → sizingOf c level circuits′ banks′ floors′ upsized′ marks′ t′ ≡ sizeAll c level flow (buildOf c level circuits banks floors upsized) capacity
   size-lifts capacity circuits banks floors upsized circuits′ banks′ floors′ upsized′ marks′ t′ n m l s =
       ap (λ (ds : List CircuitDesign). sizedOf ds floors′ upsized′ circuits′ marks′ t′) (sym (designs-lift banks′ m l))
-      ∙ s .sized
+      ∙ s
       ∙ all-lifts (buildOf N level circuits banks floors upsized) capacity n m
       ∙ ap (λ (ds : List CircuitDesign). sizeAll c level flow (built circuits ds floors upsized) capacity) (designs-lift banks m l)

@@ -9,3 +9,6 @@ pub mod Check
 pub mod Fill
 pub mod Close
 pub mod Sound
+pub mod Whole
+pub mod Stiffen
+pub mod Rounds

@@ -10,7 +10,7 @@ use Rattle.plan_defs.specs.Constants.{mostInitial, subtransmissionMaxCircuits}
 use Rattle.plan_defs.specs.Case.{Case, caseOf}
 use Rattle.plan_defs.specs.Design.{design}
 use Rattle.plan_defs.specs.Build.{built, buildOf, drawnAll}
-use Rattle.plan_defs.specs.Size.{Sizing, sizing, addTo, grow, sizeOne, sizeAll}
+use Rattle.plan_defs.specs.Size.{Sizing, sizing, addTo, grow, sizeOne}
 use Rattle.plan_defs.specs.declared.CircuitDesign.{CircuitDesign}
 use Rattle.planning.specs.Design.{Lines, Banks}
 use Rattle.planning.specs.Raise.{largestCount}
@@ -71,23 +71,10 @@ pub record CorridorFits (ladder : List Float) (level a b : List ℕ) (km share s
   pub corridor : k < length a
   pub room : t .capacity + subtransmissionMaxCircuits ≤ largestCount
 
-pub record SizeFits (ladder : List Float) (level a b : List ℕ) (km share sheet flow : List Float) (capacity : ℕ) (circuits : List ℕ) (banks floors : List Float) (upsized marks : List ℕ) : Type 0 where
-  pub lines : Lines ladder level a b km share sheet
-  pub held : Held (length a) (length level) flow circuits banks floors upsized marks
-  pub banked : Banks banks
-  pub room : capacity + subtransmissionMaxCircuits * length a ≤ largestCount
-
--- ---- what sizing does to corridor k, and to all
+-- ---- what sizing does to corridor k
 pub record CorridorSized (c : Case) (level : List ℕ) (flow : List Float) (k : ℕ) (circuits : List ℕ) (banks floors : List Float) (upsized marks : List ℕ) (t : Tally)
     (circuits′ : List ℕ) (banks′ floors′ : List Float) (upsized′ marks′ : List ℕ) (t′ : Tally) : Type 0 where
   pub sized : sizingOf c level circuits′ banks′ floors′ upsized′ marks′ t′ ≡ sizeOne c level flow k (sizingOf c level circuits banks floors upsized marks t)
   pub banked : Banks banks′
   pub bound : t′ .capacity ≤ t .capacity + subtransmissionMaxCircuits
-  pub few : Few circuits → Few circuits′
-
-pub record Sized (c : Case) (level : List ℕ) (flow : List Float) (capacity : ℕ) (circuits : List ℕ) (banks floors : List Float) (upsized : List ℕ)
-    (circuits′ : List ℕ) (banks′ floors′ : List Float) (upsized′ marks′ : List ℕ) (t′ : Tally) : Type 0 where
-  pub sized : sizingOf c level circuits′ banks′ floors′ upsized′ marks′ t′ ≡ sizeAll c level flow (buildOf c level circuits banks floors upsized) capacity
-  pub banked : Banks banks′
-  pub bound : t′ .capacity ≤ capacity + subtransmissionMaxCircuits * c .corridors
   pub few : Few circuits → Few circuits′

@@ -8,5 +8,7 @@ mod opening;
 mod policy;
 mod raise;
 mod redesign;
+mod rounds;
 mod size;
 mod solve;
+mod stiffen;

@@ -8,7 +8,7 @@ ghost use Rattle.plan_defs.specs.Build.{bankBelow};
 ghost use Rattle.plan_defs.specs.Raise.{topOf, markIf};
 ghost use Rattle.plan_defs.specs.Size.{requiredFor, enough, nextBank, enlarges, raisesFor};
 ghost use Rattle.planning.specs.Raise.{largestCount, pairsFor, PairFits};
-ghost use Rattle.planning.specs.Size.{sizeFor, growFor, setIf, Adds, Grows, CorridorFits, CorridorSized, SizeFits, Sized};
+ghost use Rattle.planning.specs.Size.{sizeFor, growFor, setIf, Adds, Grows, CorridorFits, CorridorSized};
 use crate::design::banked_if;
 use crate::design::circuit;
 use crate::figures::ceil;
@@ -19,7 +19,6 @@ use crate::figures::magnitude;
 use crate::figures::to_u32;
 use crate::policy::cap_at;
 use crate::policy::promotes;
-use crate::raise::clear_marks;
 use crate::raise::mark_raise_to;
 use mode::PlanMode;
 use plan_defs::CircuitDesign;
@@ -214,59 +213,4 @@ pub fn size_corridor(
     let d = banked_if(larger, first, next);
     let s = with_bank_added(t, larger);
     grow(mode, level, a, b, k, required, d, circuits, marks, s)
-}
-
-// ---- all of them
-pub fn size_corridors(
-    mode: PlanMode,
-    ladder: &[f64],
-    level: &[u32],
-    a: &[u32],
-    b: &[u32],
-    km: &[f64],
-    share: &[f64],
-    sheet: &[f64],
-    flow: &[f64],
-    capacity: u32,
-    circuits: &mut [u32],
-    banks: &mut [f64],
-    floors: &mut [f64],
-    upsized: &mut [u32],
-    marks: &mut [u32],
-) -> Tally
-    requires { ⌜ SizeFits (now ladder) (now level) (now a) (now b) (now km) (now share) (now sheet) (now flow) capacity (now circuits) (now banks) (now floors) (now upsized) (now marks) ⌝ }
-    ensures { λ r. ⌜ Sized (sizeFor mode (length (now (level .entry))) (now (ladder .entry)) (now (a .entry)) (now (b .entry)) (now (km .entry)) (now (share .entry)) (now (sheet .entry)))
-        (now (level .entry)) (now (flow .entry)) capacity
-        (now (circuits .entry)) (now (banks .entry)) (now (floors .entry)) (now (upsized .entry))
-        (now (circuits .exit)) (now (banks .exit)) (now (floors .exit)) (now (upsized .exit)) (now (marks .exit)) r ⌝ }
-{
-    clear_marks(marks);
-    let mut t = Tally {
-        capacity,
-        added: false,
-        capped: false,
-    };
-    let mut k = 0;
-    while k < a.len() {
-        t = size_corridor(
-            mode,
-            ladder,
-            level,
-            a,
-            b,
-            km,
-            share,
-            sheet,
-            flow,
-            k,
-            circuits,
-            banks,
-            floors,
-            upsized,
-            marks,
-            t,
-        );
-        k += 1;
-    }
-    t
 }

@@ -49,9 +49,10 @@ pub fn draw_edges(
 )
     requires { ⌜ Drawing (now ladder) (now level) (now a) (now b) (now km) (now share) (now sheet) (now circuits) (now banks) ⌝ }
     requires { ⌜ (length (now from) ≡ most) × (length (now to) ≡ most) × (length (now weight) ≡ most) ⌝ }
-    ensures { λ _. ⌜ edgesOf (take (length (now (a .entry))) (now (from .exit))) (take (length (now (a .entry))) (now (to .exit))) (take (length (now (a .entry))) (now (weight .exit)))
+    ensures edges { λ _. ⌜ edgesOf (take (length (now (a .entry))) (now (from .exit))) (take (length (now (a .entry))) (now (to .exit))) (take (length (now (a .entry))) (now (weight .exit)))
         ≡ edgesFor (drawnAll (linesFor (now (ladder .entry)) (now (a .entry)) (now (b .entry)) (now (km .entry)) (now (share .entry)) (now (sheet .entry)))
         (now (level .entry)) (now (banks .entry))) (now (circuits .entry)) ⌝ }
+    ensures sizes { λ _. ⌜ (length (now (from .exit)) ≡ most) × (length (now (to .exit)) ≡ most) × (length (now (weight .exit)) ≡ most) ⌝ }
 {
     let mut k = 0;
     while k < a.len() {

@@ -6,7 +6,7 @@ use lib.ListN.{length, getD}
 use lib.Ieee.{Float}
 use Rattle.loops.specs.Figures.{at, float, times}
 use Rattle.loops.specs.Loops.{filled}
-use Rattle.loops.proofs.Tab.{fill-start, fill-turn}
+use Rattle.loops.proofs.Tab.{fill-start, fill-turn, fill-length}
 use Rattle.plan_defs.specs.Design.{drawn}
 use Rattle.plan_defs.specs.Solve.{susceptance}
 use Rattle.plan_defs.specs.declared.CircuitDesign.{CircuitDesign}
@@ -114,10 +114,15 @@ returns : tie.Need-returns Inv-loop μ-loop
 returns c =
     let s = c .before .before .before .before .before .before .before .before .before .before .before in
     let l = c .before .loop in
+    let D = s .pre .0 in
+    let z = s .pre .1 in (
     edges-are (linesFor (s .args .ladder .now) (s .args .a .now) (s .args .b .now) (s .args .km .now) (s .args .share .now) (s .args .sheet .now)) (s .args .level .now) (s .args .banks .now) (s .args .circuits .now) _ _ _
     (front-filled _ _ _ (l .k) _ (omega arith) (l .inv .1))
     (front-filled _ _ _ (l .k) _ (omega arith) (l .inv .2))
-    (front-filled _ _ _ (l .k) _ (omega arith) (l .inv .3))
+    (front-filled _ _ _ (l .k) _ (omega arith) (l .inv .3)),
+    (fill-length _ _ _ _ (l .inv .1) (omega (arith, l .inv .0, z .0, D .few-corridors)) ∙ z .0,
+    fill-length _ _ _ _ (l .inv .2) (omega (arith, l .inv .0, z .1, D .few-corridors)) ∙ z .1,
+    fill-length _ _ _ _ (l .inv .3) (omega (arith, l .inv .0, z .2, D .few-corridors)) ∙ z .2))
 
 pub draw-edges-spec : {M : Type 1} → statement M
 draw-edges-spec =

@@ -23,7 +23,7 @@ part-angles-from-start c = search needs
 part-angles-from-end : tie.Need-part-angles-from-end
 part-angles-from-end c =
     let s = c .before .before .before .before .before .before .before .before .before .before .before .before .before .before .before .before .before .before .before .before .before .before in
-    from-room (s .args .ladder .now) (s .args .level .now) (s .args .a .now) (s .args .b .now) (s .args .km .now) (s .args .share .now) (s .args .sheet .now) (s .args .circuits .now) (s .args .banks .now) (s .pre .0) _ _ _ (c .before .before .before .before .draw-edges .ensures)
+    from-room (s .args .ladder .now) (s .args .level .now) (s .args .a .now) (s .args .b .now) (s .args .km .now) (s .args .share .now) (s .args .sheet .now) (s .args .circuits .now) (s .args .banks .now) (s .pre .0) _ _ _ (c .before .before .before .before .draw-edges .ensures .0)
 
 sub-angles-from-2 : tie.Need-sub-angles-from-2
 sub-angles-from-2 c = search needs
@@ -34,7 +34,7 @@ part-angles-from-start-2 c = search needs
 part-angles-from-end-2 : tie.Need-part-angles-from-end-2
 part-angles-from-end-2 c =
     let s = c .before .before .before .before .before .before .before .before .before .before .before .before .before .before .before .before .before .before .before .before .before .before .before .before in
-    to-room (s .args .ladder .now) (s .args .level .now) (s .args .a .now) (s .args .b .now) (s .args .km .now) (s .args .share .now) (s .args .sheet .now) (s .args .circuits .now) (s .args .banks .now) (s .pre .0) _ _ _ (c .before .before .before .before .before .before .draw-edges .ensures)
+    to-room (s .args .ladder .now) (s .args .level .now) (s .args .a .now) (s .args .b .now) (s .args .km .now) (s .args .share .now) (s .args .sheet .now) (s .args .circuits .now) (s .args .banks .now) (s .pre .0) _ _ _ (c .before .before .before .before .before .before .draw-edges .ensures .0)
 
 sub-angles-from-3 : tie.Need-sub-angles-from-3
 sub-angles-from-3 c = search needs
@@ -45,7 +45,7 @@ part-angles-from-start-3 c = search needs
 part-angles-from-end-3 : tie.Need-part-angles-from-end-3
 part-angles-from-end-3 c =
     let s = c .before .before .before .before .before .before .before .before .before .before .before .before .before .before .before .before .before .before .before .before .before .before .before .before .before .before in
-    weight-room (s .args .ladder .now) (s .args .level .now) (s .args .a .now) (s .args .b .now) (s .args .km .now) (s .args .share .now) (s .args .sheet .now) (s .args .circuits .now) (s .args .banks .now) (s .pre .0) _ _ _ (c .before .before .before .before .before .before .before .before .draw-edges .ensures)
+    weight-room (s .args .ladder .now) (s .args .level .now) (s .args .a .now) (s .args .b .now) (s .args .km .now) (s .args .share .now) (s .args .sheet .now) (s .args .circuits .now) (s .args .banks .now) (s .pre .0) _ _ _ (c .before .before .before .before .before .before .before .before .draw-edges .ensures .0)
 
 sub-angles-from-4 : tie.Need-sub-angles-from-4
 sub-angles-from-4 c = search needs
@@ -59,7 +59,7 @@ part-angles-from-end-4 c = front-room _ _ _ (c .before .before .before .before .
 angles-from-requires : tie.Need-angles-from-requires
 angles-from-requires c κs =
     let s = c .before .before .before .before .before .before .before .before .before .before .before .before .before .before .before .before .before .before .before .before .before .before .before .before .before .before .before .before .before .before .before in (
-      lent-net (s .args .ladder .now) (s .args .level .now) (s .args .a .now) (s .args .b .now) (s .args .km .now) (s .args .share .now) (s .args .sheet .now) (s .args .circuits .now) (s .args .banks .now) (s .pre .0) _ _ _ (c .before .before .before .before .before .before .before .before .before .before .before .before .before .draw-edges .ensures) _ (s .pre .1 .angle-size) _ (s .pre .1 .few-grounds) (s .pre .1 .ground-below),
+      lent-net (s .args .ladder .now) (s .args .level .now) (s .args .a .now) (s .args .b .now) (s .args .km .now) (s .args .share .now) (s .args .sheet .now) (s .args .circuits .now) (s .args .banks .now) (s .pre .0) _ _ _ (c .before .before .before .before .before .before .before .before .before .before .before .before .before .draw-edges .ensures .0) _ (s .pre .1 .angle-size) _ (s .pre .1 .few-grounds) (s .pre .1 .ground-below),
       record {
         injection-size = s .pre .1 .injection-size ∙ sym (s .pre .1 .angle-size);
         guess-size = ap length (front-lent (length (s .args .angle .now)) (c .before .before .before .before .before .before .before .before .before .before .copy .last .1 .0) _ (c .before .before .before .before .before .before .before .before .before .before .copy .ensures));
@@ -80,7 +80,7 @@ same-length-2 c = search needs
 returns : tie.Need-returns
 returns c =
     let s = c .before .before .before .before .before .before .before .before .before .before .before .before .before .before .before .before .before .before .before .before .before .before .before .before .before .before .before .before .before .before .before .before .before .before .before .before .before .before .before in
-    state-refused (s .args .ladder .now) (s .args .level .now) (s .args .a .now) (s .args .b .now) (s .args .km .now) (s .args .share .now) (s .args .sheet .now) (s .args .circuits .now) (s .args .banks .now) (s .pre .0) _ _ _ (c .before .before .before .before .before .before .before .before .before .before .before .before .before .before .before .before .before .before .before .before .before .draw-edges .ensures)
+    state-refused (s .args .ladder .now) (s .args .level .now) (s .args .a .now) (s .args .b .now) (s .args .km .now) (s .args .share .now) (s .args .sheet .now) (s .args .circuits .now) (s .args .banks .now) (s .pre .0) _ _ _ (c .before .before .before .before .before .before .before .before .before .before .before .before .before .before .before .before .before .before .before .before .before .draw-edges .ensures .0)
     (s .args .grounds .now) (s .args .injection .now) (s .args .angle .now) _ (s .pre .1 .angle-size) (c .before .before .before .before .before .before .before .before .before .before .before .before .before .before .before .before .before .before .copy .ensures) (c .before .before .before .before .before .before .before .angles-from .result) _ (c .before .before .before .before .before .before .before .angles-from .ensures) _ (c .before .f .given .1)
 
 enum-told : tie.Need-enum-told
@@ -89,7 +89,7 @@ enum-told c = search needs
 corridor-flows-requires : tie.Need-corridor-flows-requires
 corridor-flows-requires c κs =
     let s = c .before .before .before .before .before .before .before .before .before .before .before .before .before .before .before .before .before .before .before .before .before .before .before .before .before .before .before .before .before .before .before .before .before .before .before .before .before .before .before .before .before .before .before in
-    drawn-edges (s .args .ladder .now) (s .args .level .now) (s .args .a .now) (s .args .b .now) (s .args .km .now) (s .args .share .now) (s .args .sheet .now) (s .args .circuits .now) (s .args .banks .now) (s .pre .0) _ _ _ (c .before .before .before .before .before .before .before .before .before .before .before .before .before .before .before .before .before .before .before .before .before .before .before .before .before .draw-edges .ensures) _ _ (c .before .before .before .before .before .before .before .before .before .before .before .angles-from .kept .1 .1 .1 .1 .1 .1 .0 ∙ s .pre .1 .angle-size) (s .pre .1 .flow-size)
+    drawn-edges (s .args .ladder .now) (s .args .level .now) (s .args .a .now) (s .args .b .now) (s .args .km .now) (s .args .share .now) (s .args .sheet .now) (s .args .circuits .now) (s .args .banks .now) (s .pre .0) _ _ _ (c .before .before .before .before .before .before .before .before .before .before .before .before .before .before .before .before .before .before .before .before .before .before .before .before .before .draw-edges .ensures .0) _ _ (c .before .before .before .before .before .before .before .before .before .before .before .angles-from .kept .1 .1 .1 .1 .1 .1 .0 ∙ s .pre .1 .angle-size) (s .pre .1 .flow-size)
 
 finite-flows-requires : tie.Need-finite-flows-requires
 finite-flows-requires c κs = search needs
@@ -106,7 +106,7 @@ same-length-5 c = search needs
 returns-2 : tie.Need-returns-2
 returns-2 c =
     let s = c .before .before .before .before .before .before .before .before .before .before .before .before .before .before .before .before .before .before .before .before .before .before .before .before .before .before .before .before .before .before .before .before .before .before .before .before .before .before .before .before .before .before .before .before .before .before .before .before in
-    state-answered (s .args .ladder .now) (s .args .level .now) (s .args .a .now) (s .args .b .now) (s .args .km .now) (s .args .share .now) (s .args .sheet .now) (s .args .circuits .now) (s .args .banks .now) (s .pre .0) _ _ _ (c .before .before .before .before .before .before .before .before .before .before .before .before .before .before .before .before .before .before .before .before .before .before .before .before .before .before .before .before .before .before .draw-edges .ensures)
+    state-answered (s .args .ladder .now) (s .args .level .now) (s .args .a .now) (s .args .b .now) (s .args .km .now) (s .args .share .now) (s .args .sheet .now) (s .args .circuits .now) (s .args .banks .now) (s .pre .0) _ _ _ (c .before .before .before .before .before .before .before .before .before .before .before .before .before .before .before .before .before .before .before .before .before .before .before .before .before .before .before .before .before .before .draw-edges .ensures .0)
     (s .args .grounds .now) (s .args .injection .now) (s .args .angle .now) _ (s .pre .1 .angle-size) (c .before .before .before .before .before .before .before .before .before .before .before .before .before .before .before .before .before .before .before .before .before .before .before .before .before .before .before .copy .ensures) (c .before .before .before .before .before .before .before .before .before .before .before .before .before .before .before .before .angles-from .result) _ (c .before .before .before .before .before .before .before .before .before .before .before .before .before .before .before .before .angles-from .ensures) (c .before .before .before .before .before .before .before .before .before .before .enum-told .given .1)
     (s .args .flow .now) _ (s .pre .1 .flow-size) (c .before .before .before .before .corridor-flows .ensures) (c .finite-flows .result) (c .finite-flows .ensures)
 

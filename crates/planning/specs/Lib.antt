@@ -9,3 +9,4 @@ pub mod Check
 pub mod Fill
 pub mod Close
 pub mod Sound
+pub mod Whole

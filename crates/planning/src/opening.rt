@@ -3,9 +3,9 @@
 ghost use mathlib.Core.Path.{_≡_};
 ghost use mathlib.Core.List.{map};
 ghost use Prim.Native.Nat.{_-_, _<_, _≤_};
-ghost use lib.ListN.{length, take, replicate};
+ghost use lib.ListN.{length, take};
 ghost use lib.Ieee.{neg};
-ghost use Rattle.loops.specs.Figures.{at, over, nought};
+ghost use Rattle.loops.specs.Figures.{at, over};
 ghost use Rattle.loops.specs.Loops.{iter, tab};
 ghost use Rattle.leaders.specs.Leaders.{leadersOf};
 ghost use Rattle.plan_defs.specs.Components.{leads, members, unitsIn, groundOf, groundsOf};
@@ -14,6 +14,8 @@ ghost use Rattle.plan_defs.specs.Dispatch.{scatter, serve, dispatchOf, injectAt
 ghost use Rattle.plan_defs.specs.Lists.{sumOver};
 ghost use Rattle.plan_defs.specs.Outcome.{upTo};
 ghost use Rattle.planning.specs.Opening.{stageOf, stageIf, busCase, slackCase, dispatchCase, injectionCase, Joined, Fleet, Costs, Loads, Picked};
+use crate::figures::clear_counts;
+use crate::figures::clear_figures;
 use crate::figures::wide;
 use crate::solve::BASE_MVA;
 use refusal::Answer;
@@ -44,16 +46,6 @@ fn ground_of(root: u32, leader: &[u32], bus: &[u32], slack: &[u32]) -> u32
     root
 }
 
-pub fn clear(places: &mut [u32])
-    ensures { λ _. ⌜ now (places .exit) ≡ replicate (length (now (places .entry))) 0 ⌝ }
-{
-    let mut i = 0;
-    while i < places.len() {
-        places[i] = 0;
-        i += 1;
-    }
-}
-
 // The ground of each component, by ascending leader, at the front of `ground`, and zero past them; how many there are.
 pub fn ground_components(leader: &[u32], bus: &[u32], slack: &[u32], ground: &mut [u32]) -> usize
     requires { ⌜ Fleet (length (now leader)) (now bus) × (length (now slack) ≡ length (now bus)) × (length (now ground) ≡ length (now leader)) ⌝ }
@@ -61,7 +53,7 @@ pub fn ground_components(leader: &[u32], bus: &[u32], slack: &[u32], ground: &mu
     ensures held { λ r. ⌜ now (ground .exit)
         ≡ upTo (length (now (leader .entry))) 0 (groundsOf (slackCase (now (bus .entry)) (now (slack .entry))) (now (leader .entry))) ⌝ }
 {
-    clear(ground);
+    clear_counts(ground);
     let mut count = 0;
     let mut i = 0;
     while i < leader.len() {
@@ -207,16 +199,6 @@ fn serve_led(
         return serve(leader[i], leader, load, bus, pmin, pmax, c1, c2, mw);
     }
     Answer::Answered
-}
-
-pub fn clear_figures(figures: &mut [f64])
-    ensures { λ _. ⌜ now (figures .exit) ≡ replicate (length (now (figures .entry))) nought ⌝ }
-{
-    let mut i = 0;
-    while i < figures.len() {
-        figures[i] = 0.0;
-        i += 1;
-    }
 }
 
 // What each generator gives, MW, component by component with ascending leader; or the first refusal 8.

@@ -12,6 +12,7 @@ ghost use Rattle.planning.specs.Size.{sizeFor, growFor, setIf, Adds, Gro
 use crate::design::banked_if;
 use crate::design::circuit;
 use crate::figures::ceil;
+use crate::figures::clear_counts;
 use crate::figures::fewer;
 use crate::figures::float;
 use crate::figures::lesser;
@@ -19,7 +20,6 @@ use crate::figures::magnitude;
 use crate::figures::to_u32;
 use crate::policy::cap_at;
 use crate::policy::promotes;
-use crate::raise::clear_marks;
 use crate::raise::mark_raise_to;
 use mode::PlanMode;
 use plan_defs::CircuitDesign;
@@ -240,7 +240,7 @@ pub fn size_corridors(
         (now (circuits .entry)) (now (banks .entry)) (now (floors .entry)) (now (upsized .entry))
         (now (circuits .exit)) (now (banks .exit)) (now (floors .exit)) (now (upsized .exit)) (now (marks .exit)) r ⌝ }
 {
-    clear_marks(marks);
+    clear_counts(marks);
     let mut t = Tally {
         capacity,
         added: false,

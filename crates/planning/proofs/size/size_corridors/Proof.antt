@@ -30,8 +30,8 @@ Inv-loop mode ladder level a b km share sheet flow capacity circuits₀ banks₀
 abbrev μ-loop : tie.MeasureT-loop
 μ-loop mode ladder level a b km share sheet flow capacity circuits₀ banks₀ floors₀ upsized₀ marks₀ t₀ k₀ circuits banks floors upsized marks t k = length a - k
 
-clear-marks-requires : tie.Need-clear-marks-requires Inv-loop μ-loop
-clear-marks-requires c κs = tt
+clear-counts-requires : tie.Need-clear-counts-requires Inv-loop μ-loop
+clear-counts-requires c κs = tt
 
 loop-holds : tie.Need-loop-holds Inv-loop μ-loop
 loop-holds c =
@@ -46,7 +46,7 @@ loop-holds c =
       s .pre .banked,
       omega arith,
       λ f. f,
-      left-start (z .mode) (length (now (z .level))) (now (z .ladder)) (now (z .level)) (now (z .a)) (now (z .b)) (now (z .km)) (now (z .share)) (now (z .sheet)) (now (z .flow)) (now (z .circuits)) (now (z .banks)) (now (z .floors)) (now (z .upsized)) _ (z .capacity) _ (c .before .before .clear-marks .ensures) (s .pre .held .mark-size),
+      left-start (z .mode) (length (now (z .level))) (now (z .ladder)) (now (z .level)) (now (z .a)) (now (z .b)) (now (z .km)) (now (z .share)) (now (z .sheet)) (now (z .flow)) (now (z .circuits)) (now (z .banks)) (now (z .floors)) (now (z .upsized)) _ (z .capacity) _ (c .before .before .clear-counts .ensures) (s .pre .held .mark-size),
     )
 
 size-corridor-requires : tie.Need-size-corridor-requires Inv-loop μ-loop
@@ -63,7 +63,7 @@ size-corridor-requires c κs =
             bank-size = l .inv .2 ∙ s .pre .held .bank-size;
             floor-size = l .inv .3 ∙ s .pre .held .floor-size;
             upsized-size = l .inv .4 ∙ s .pre .held .upsized-size;
-            mark-size = l .inv .5 ∙ c .before .before .before .before .before .before .before .before .before .clear-marks .kept .0 ∙ s .pre .held .mark-size;
+            mark-size = l .inv .5 ∙ c .before .before .before .before .before .before .before .before .before .clear-counts .kept .0 ∙ s .pre .held .mark-size;
           };
       banked = l .inv .6;
       corridor = h;
@@ -107,7 +107,7 @@ same-length-4 : tie.Need-same-length-4 Inv-loop μ-loop
 same-length-4 c = c .before .loop .inv .4
 
 same-length-5 : tie.Need-same-length-5 Inv-loop μ-loop
-same-length-5 c = c .before .loop .inv .5 ∙ c .before .before .before .before .clear-marks .kept .0
+same-length-5 c = c .before .loop .inv .5 ∙ c .before .before .before .before .clear-counts .kept .0
 
 returns : tie.Need-returns Inv-loop μ-loop
 returns c =
@@ -126,7 +126,7 @@ size-corridors-spec =
     (tie.spec
     Inv-loop
     μ-loop
-    clear-marks-requires
+    clear-counts-requires
     loop-holds
     size-corridor-requires
     add-k

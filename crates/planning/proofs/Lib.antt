@@ -7,7 +7,7 @@ pub mod Served
 pub mod Anew
 pub mod Builds
 pub mod Redesigns
-pub mod Raises
+pub mod Marks
 pub mod Sizes
 pub mod Corridors
 pub mod Passing
@@ -28,3 +28,4 @@ pub mod Fillings
 pub mod Closings
 pub mod Sounds
 pub mod Liftings
+pub mod Heavies

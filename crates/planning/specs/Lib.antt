@@ -10,3 +10,4 @@ pub mod Fill
 pub mod Close
 pub mod Sound
 pub mod Whole
+pub mod Raises

@@ -28,9 +28,8 @@ use crate::figures::wide;
 use crate::fill::loading;
 use crate::policy::cap_at;
 use crate::policy::expands;
+use crate::size::PLANNING_UTILISATION;
 use mode::PlanMode;
-
-const PLANNING_UTILISATION: f64 = 0.9;
 
 // A loading above 1, or a need above the circuits there are, counts where it is above by more than this.
 const LOADING_TOLERANCE: f64 = 1e-9;

@@ -7,6 +7,7 @@ mod fill;
 mod opening;
 mod policy;
 mod raise;
+mod raises;
 mod redesign;
 mod size;
 mod solve;

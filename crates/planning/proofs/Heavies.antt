@@ -23,9 +23,9 @@ use Rattle.plan_defs.specs.Build.{drawnAll}
 use Rattle.plan_defs.specs.Solve.{Peak, PlanningCase, edgesFor, planningState}
 use Rattle.plan_defs.specs.Raise.{Raised, noMarks, canRaise, markIf, tooHeavy, heavyAt, heavyMarks, raisedLevels, movedBuses, passedBy, passMarked, passes}
 use Rattle.plan_defs.specs.declared.CircuitDesign.{CircuitDesign}
-use Rattle.planning.specs.Design.{linesFor}
+use Rattle.planning.specs.Design.{linesFor, Lines}
 use Rattle.planning.specs.Raise.{pairsFor}
-use Rattle.planning.specs.Redesign.{redesignFor, banksAnew}
+use Rattle.planning.specs.Redesign.{redesignFor, banksAnew, RedesignFits}
 use Rattle.planning.specs.Solve.{peakFor, solvedOf}
 use Rattle.planning.specs.Sound.{Sound}
 use Rattle.planning.specs.Raises.{heavyFor, raisesFor, raisedOf, passedAs, HeavyRaised}
@@ -33,7 +33,7 @@ use Rattle.planning.specs.declared.raises.Raised.the-variants.{Promoted}
 use Rattle.planning.proofs.Draws.{drawn-lifts}
 use Rattle.planning.proofs.Builds.{drawn-at, drawn-all-lifts}
 use Rattle.planning.proofs.Redesigns.{redesign-is, banks-lift}
-use Rattle.planning.proofs.Marks.{mark-lifts, none-raised}
+use Rattle.planning.proofs.Marks.{mark-lifts, raised-length, none-raised, lines-raised}
 
 -- ---- one corridor's marks, and the loop over all
 module _ (ladder : List Float) (level a b : List ℕ) (km share sheet banks flow : List Float) where
@@ -80,6 +80,24 @@ module _ (c : Case) (level : List ℕ) (banks flow : List Float) (m : length (c 
       iter-same (heavyAt N (raisedOf N level banks 0) flow) (heavyAt c (raisedOf c level banks promoted) flow) at-lifts (length (c .a)) 0 (noMarks (length level))
       ∙ ap (λ (i : ℕ). iter (heavyAt c (raisedOf c level banks promoted) flow) i 0 (noMarks (length level))) m
       ∙ ap (λ (i : ℕ). iter (heavyAt c (raisedOf c level banks promoted) flow) (c .corridors) 0 (noMarks i)) n
+
+-- ---- raised levels ask no more
+module _ (ladder : List Float) (level a b : List ℕ) (km share sheet : List Float) (marks level′ : List ℕ) (e : level′ ≡ raisedLevels level marks) where
+  pub lines-again : Lines ladder level a b km share sheet → Lines ladder level′ a b km share sheet
+  lines-again lines = subst (λ (l : List ℕ). Lines ladder l a b km share sheet) (sym e) (lines-raised ladder level a b km share sheet marks lines)
+
+  pub redesign-again : (load : List Float) (bus : List ℕ) (pmax floors banks : List Float)
+      → RedesignFits ladder level a b km share sheet load bus pmax floors banks → RedesignFits ladder level′ a b km share sheet load bus pmax floors banks
+  redesign-again load bus pmax floors banks p =
+      let n : length level′ ≡ length level = ap length e ∙ raised-length level marks in
+      record {
+        lines = lines-again (p .lines);
+        loads = record { load-size = p .loads .load-size ∙ sym n; few = omega (arith, n, p .loads .few); sound = p .loads .sound };
+        units = p .units;
+        few = p .few;
+        floor-size = p .floor-size;
+        bank-size = p .bank-size;
+      }
 
 -- ---- a pass
 module _ (ladder : List Float) (level a b : List ℕ) (km share sheet load : List Float) (bus : List ℕ) (pmax : List Float) (grounds : List ℕ) (injection : List Float)

@@ -127,6 +127,9 @@ module _ (marks level₀ : List ℕ) where
   unfolding movedBuses
   moved-most = count-most moving (length level₀) 0
 
+pub moved-within : (level marks : List ℕ) (n few : ℕ) → n ≡ movedBuses level marks → length level ≤ few → n ≤ few
+moved-within level marks n few e h = omega (arith, e, h, moved-most marks level)
+
 pub stay-moves : (l : ℕ) (r : Raise) → r ≡ Stay → moves l r ≡ false
 stay-moves l r e = ap (moves l) e
 

@@ -1,6 +1,6 @@
 -- The raises before the rounds: the marks of one corridor and of all, what they read of a whole case, and one pass as the definition has it.
 -- The case with no other columns and the whole one draw the same designs; what a pass moved decides how the definition goes on.
-use Prim.Native.Nat.{ℕ, zero, suc, _+_, _-_, _*_, _<_, _≤_}
+use Prim.Native.Nat.{ℕ, zero, suc, _+_, _-_, _<_}
 use mathlib.Core.Bool.{Bool, true, false, _&&_}
 use mathlib.Core.List.{List}
 use mathlib.Core.Path.{_≡_, refl, sym, ap, _∙_, subst}
@@ -15,20 +15,20 @@ use Rattle.refusal.specs.declared.Refusal.{Refusal}
 use Rattle.refusal.specs.declared.Answer.{Answer}
 use Rattle.refusal.specs.declared.Answer.the-variants.{Answered, Refused}
 use Rattle.mode.specs.declared.PlanMode.{PlanMode}
-use Rattle.angles_defs.specs.Network.{Edges, zeros}
+use Rattle.angles_defs.specs.Network.{zeros}
 use Rattle.plan_defs.specs.Case.{Case, levels}
 use Rattle.plan_defs.specs.Stage.{Stage, stopped, going, onward}
 use Rattle.plan_defs.specs.Design.{drawn, design, redesign}
 use Rattle.plan_defs.specs.Build.{drawnAll}
 use Rattle.plan_defs.specs.Solve.{Peak, PlanningCase, edgesFor, planningState}
-use Rattle.plan_defs.specs.Raise.{Raised, noMarks, canRaise, markIf, tooHeavy, heavyAt, heavyMarks, raisedLevels, movedBuses, passedBy, passMarked, passes}
+use Rattle.plan_defs.specs.Raise.{Raised, noMarks, canRaise, markIf, tooHeavy, heavyAt, heavyMarks, raisedLevels, passedBy, passMarked, passes}
 use Rattle.plan_defs.specs.declared.CircuitDesign.{CircuitDesign}
 use Rattle.planning.specs.Design.{linesFor, Lines}
 use Rattle.planning.specs.Raise.{pairsFor}
-use Rattle.planning.specs.Redesign.{redesignFor, banksAnew, RedesignFits}
+use Rattle.planning.specs.Redesign.{banksAnew, RedesignFits}
 use Rattle.planning.specs.Solve.{peakFor, solvedOf}
 use Rattle.planning.specs.Sound.{Sound}
-use Rattle.planning.specs.Raises.{heavyFor, raisesFor, raisedOf, passedAs, HeavyRaised}
+use Rattle.planning.specs.Raises.{heavyFor, passFor, raisedOf, passedAs, HeavyRaised}
 use Rattle.planning.specs.declared.raises.Raised.the-variants.{Promoted}
 use Rattle.planning.proofs.Draws.{drawn-lifts}
 use Rattle.planning.proofs.Builds.{drawn-at, drawn-all-lifts}
@@ -104,9 +104,9 @@ module _ (ladder : List Float) (level a b : List ℕ) (km share sheet load : Lis
     (circuits : List ℕ) (banks angle₀ : List Float) (n : ℕ) (cleared : angle₀ ≡ zeros n) (size : n ≡ length level) (r : Answer) (angle flow : List Float)
     (told : solvedOf r (edgesFor (drawnAll (linesFor ladder a b km share sheet) level banks) circuits) angle flow
     ≡ planningState (peakFor (length level) grounds injection) (drawnAll (linesFor ladder a b km share sheet) level banks) circuits angle₀)
-    (o : Case) (mode : PlanMode) (target : ℕ) (s : Sound (raisesFor o mode ladder a b km share sheet load bus pmax) target) (buses : length level ≡ o .buses) (d promoted : ℕ) where
+    (o : Case) (mode : PlanMode) (target : ℕ) (s : Sound (passFor o mode ladder a b km share sheet load bus pmax) target) (buses : length level ≡ o .buses) (d promoted : ℕ) where
   abbrev C : Case
-  C = raisesFor o mode ladder a b km share sheet load bus pmax
+  C = passFor o mode ladder a b km share sheet load bus pmax
 
   abbrev P : Peak
   P = peakFor (o .buses) grounds injection

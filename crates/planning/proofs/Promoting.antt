@@ -19,7 +19,7 @@ use Rattle.plan_defs.specs.Raise.{passes, passCount, raises}
 use Rattle.planning.specs.Design.{Lines, Banks}
 use Rattle.planning.specs.Solve.{peakFor}
 use Rattle.planning.specs.Sound.{Sound}
-use Rattle.planning.specs.Raises.{raisesFor, raisedOf, passedAs, Within, Raisable, Passed, RaisesDone}
+use Rattle.planning.specs.Raises.{passFor, raisedOf, passedAs, Within, Raisable, Passed, RaisesDone}
 use Rattle.planning.specs.declared.raises.Raised.{Raised as Answer}
 use Rattle.planning.specs.declared.raises.Raised.the-variants.{Refused, Promoted}
 
@@ -35,7 +35,7 @@ module _ (d : ℕ) (c : Case) (P : Peak) (circuits level : List ℕ) (banks : Li
 module _ (ladder : List Float) (a b : List ℕ) (km share sheet load : List Float) (bus : List ℕ) (pmax : List Float) (grounds : List ℕ) (injection : List Float)
     (circuits : List ℕ) (floors banks₀ : List Float) (level₀ marks₀ : List ℕ) (angle₀ flow₀ work₀ : List Float) where
   abbrev C : Case → PlanMode → Case
-  C o mode = raisesFor o mode ladder a b km share sheet load bus pmax
+  C o mode = passFor o mode ladder a b km share sheet load bus pmax
 
   abbrev P : Case → Peak
   P o = peakFor (o .buses) grounds injection

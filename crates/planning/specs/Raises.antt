@@ -26,8 +26,8 @@ use Rattle.planning.specs.declared.raises.Raised.the-variants.{Refused, 
 abbrev pub heavyFor : ℕ → List Float → List ℕ → List ℕ → List Float → List Float → List Float → Case
 heavyFor n ladder a b km share sheet = sizeFor Observe n ladder a b km share sheet
 
-abbrev pub raisesFor : Case → PlanMode → List Float → List ℕ → List ℕ → List Float → List Float → List Float → List Float → List ℕ → List Float → Case
-raisesFor o mode ladder a b km share sheet load bus pmax = withLines (withUnits o mode (o .above) load bus pmax) ladder a b km share sheet
+abbrev pub passFor : Case → PlanMode → List Float → List ℕ → List ℕ → List Float → List Float → List Float → List Float → List ℕ → List Float → Case
+passFor o mode ladder a b km share sheet load bus pmax = withLines (withUnits o mode (o .above) load bus pmax) ladder a b km share sheet
 
 -- ---- the state that slices stand for; with an answer, the stage
 abbrev pub raisedOf : Case → List ℕ → List Float → ℕ → Raised
@@ -79,10 +79,10 @@ Within n (Promoted promoted) = promoted ≤ n
 -- ---- what a pass does
 pub record Passed (ladder : List Float) (level a b : List ℕ) (km share sheet load : List Float) (bus : List ℕ) (pmax : List Float) (grounds : List ℕ) (injection : List Float)
     (circuits : List ℕ) (banks : List Float) (level′ : List ℕ) (banks′ : List Float) (r : Answer) : Type 0 where
-  pub passed : (o : Case) (mode : PlanMode) (target : ℕ) → Sound (raisesFor o mode ladder a b km share sheet load bus pmax) target → length level ≡ o .buses → (d promoted : ℕ)
-      → passedAs r d (raisesFor o mode ladder a b km share sheet load bus pmax) (peakFor (o .buses) grounds injection) circuits level′ banks′ promoted
-      ≡ passes (suc d) (raisesFor o mode ladder a b km share sheet load bus pmax) (peakFor (o .buses) grounds injection) circuits
-      (raisedOf (raisesFor o mode ladder a b km share sheet load bus pmax) level banks promoted)
+  pub passed : (o : Case) (mode : PlanMode) (target : ℕ) → Sound (passFor o mode ladder a b km share sheet load bus pmax) target → length level ≡ o .buses → (d promoted : ℕ)
+      → passedAs r d (passFor o mode ladder a b km share sheet load bus pmax) (peakFor (o .buses) grounds injection) circuits level′ banks′ promoted
+      ≡ passes (suc d) (passFor o mode ladder a b km share sheet load bus pmax) (peakFor (o .buses) grounds injection) circuits
+      (raisedOf (passFor o mode ladder a b km share sheet load bus pmax) level banks promoted)
   pub lines : Lines ladder level′ a b km share sheet
   pub banked : Banks banks′
   pub bound : Within mostBuses r
@@ -90,10 +90,10 @@ pub record Passed (ladder : List Float) (level a b : List ℕ) (km share sheet l
 -- ---- and all of them
 pub record RaisesDone (mode : PlanMode) (ladder : List Float) (level a b : List ℕ) (km share sheet load : List Float) (bus : List ℕ) (pmax : List Float) (grounds : List ℕ)
     (injection : List Float) (circuits : List ℕ) (banks : List Float) (level′ : List ℕ) (banks′ : List Float) (r : Answer) : Type 0 where
-  pub raised : (o : Case) (target : ℕ) → Sound (raisesFor o mode ladder a b km share sheet load bus pmax) target → length level ≡ o .buses
-      → raisedAs r (raisesFor o mode ladder a b km share sheet load bus pmax) level′ banks′
-      ≡ raises (raisesFor o mode ladder a b km share sheet load bus pmax) (peakFor (o .buses) grounds injection) circuits
-      (raisedOf (raisesFor o mode ladder a b km share sheet load bus pmax) level banks 0)
+  pub raised : (o : Case) (target : ℕ) → Sound (passFor o mode ladder a b km share sheet load bus pmax) target → length level ≡ o .buses
+      → raisedAs r (passFor o mode ladder a b km share sheet load bus pmax) level′ banks′
+      ≡ raises (passFor o mode ladder a b km share sheet load bus pmax) (peakFor (o .buses) grounds injection) circuits
+      (raisedOf (passFor o mode ladder a b km share sheet load bus pmax) level banks 0)
   pub lines : Lines ladder level′ a b km share sheet
   pub banked : Banks banks′
   pub bound : Within (mostBuses * mostLevels) r

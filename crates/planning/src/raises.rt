@@ -9,20 +9,19 @@ ghost use Rattle.planning.specs.Raises.{heavyFor, raisedOf, Markable, He
 use crate::design::circuit;
 use crate::figures::clear_counts;
 use crate::figures::clear_figures;
+use crate::figures::float;
 use crate::figures::magnitude;
 use crate::policy::promotes;
 use crate::raise::mark_raise_to;
 use crate::raise::raise_buses;
 use crate::redesign::redesign;
 use crate::size::PLANNING_UTILISATION;
+use crate::size::UPGRADE_CIRCUITS;
 use crate::solve::planning_state;
 use mode::PlanMode;
 use plan_defs::CircuitDesign;
 use refusal::Answer;
 use refusal::Refusal;
-
-// A corridor that needs more lines than these is raised where it can be.
-const UPGRADE_LINES: f64 = 2.0;
 
 // How many buses were raised; or refusal 9.
 pub enum Raised {
@@ -35,7 +34,7 @@ fn too_heavy(d: CircuitDesign, flow: f64) -> bool
     ensures { λ r. ⌜ r ≡ tooHeavy d flow ⌝ }
 {
     let line_capacity = PLANNING_UTILISATION * d.line_rate * d.rate_spread;
-    magnitude(flow) > UPGRADE_LINES * line_capacity
+    magnitude(flow) > float(UPGRADE_CIRCUITS) * line_capacity
 }
 
 fn mark_heavy(
@@ -84,19 +83,7 @@ fn heavy_marks(
     clear_counts(marks);
     let mut k = 0;
     while k < a.len() {
-        mark_heavy(
-            ladder,
-            level,
-            a,
-            b,
-            km,
-            share,
-            sheet,
-            banks,
-            flow,
-            k,
-            marks,
-        );
+        mark_heavy(ladder, level, a, b, km, share, sheet, banks, flow, k, marks);
         k += 1;
     }
 }
@@ -125,18 +112,7 @@ fn raise_heavy(
         (now (load .entry)) (now (bus .entry)) (now (pmax .entry)) (now (flow .entry)) (now (floors .entry)) (now (banks .entry))
         (now (level .exit)) (now (banks .exit)) r (now (marks .exit)) ⌝ }
 {
-    heavy_marks(
-        ladder,
-        level,
-        a,
-        b,
-        km,
-        share,
-        sheet,
-        banks,
-        flow,
-        marks,
-    );
+    heavy_marks(ladder, level, a, b, km, share, sheet, banks, flow, marks);
     let moved = raise_buses(marks, level);
     if moved == 0 {
         return 0;

@@ -1,6 +1,6 @@
 -- `planning::opening::lower_bounds` meets its contract. The invariant: the first k places hold the lower bounds.
 use Prim.Native.Nat.{_-_, _≤_, max}
-use mathlib.Core.Path.{_≡_, refl}
+use mathlib.Core.Path.{_≡_}
 use native.Mathlib.Omega.{arith}
 use lib.ListN.{length, getD, length-set}
 use Rattle.loops.specs.Loops.{filled}

@@ -8,5 +8,6 @@ mod opening;
 mod policy;
 mod raise;
 mod redesign;
+mod settle;
 mod size;
 mod solve;

@@ -97,12 +97,14 @@ module _ (above : ℕ) (ladder : List Float) (level a b : List ℕ) (km share sh
 
 -- ---- the stages by columns, as calls say them
 module _ (mode : PlanMode) (above : ℕ) (led : List ℕ) (ladder : List Float) (level : List ℕ) (ds : List CircuitDesign) (upsized : List ℕ) (P : Peak) where
-  pub closed-are : (filler : ℕ) (circuits tier : List ℕ) (flow rate angle added : List Float) (E : Edges) (c : Closing)
+  pub closed-answered : (filler : ℕ) (circuits tier : List ℕ) (flow rate angle added : List Float) (c : Closing) (r : Answer) (E : Edges)
+      → solvedOf r E angle flow ≡ planningState P ds circuits (zeros (P .n)) → r ≡ Answered
       → c ≡ closingOf mode above led level ds circuits upsized flow angle → rate ≡ map (λ (d : CircuitDesign). d .«rate_a») ds → tier ≡ tiersOf (levelsFor above ladder) level
       → added ≡ upTo above nought (addedOf (levelsFor above ladder) level)
       → going (record { settlement = record { filler = filler; closing = c }; circuits = circuits; tier = tier; flow = flow; rate = rate; angle = angle; added = added })
-      ≡ going (endedBy mode above led ladder level ds upsized P filler circuits (record { edges = E; theta = angle; flows = flow }))
-  closed-are filler circuits tier flow rate angle added E c p q r s = rw (p, q, r, s)
+      ≡ closedFrom mode above led ladder level ds upsized P filler circuits
+  closed-answered filler circuits tier flow rate angle added c r E e q f g h i =
+      rw (f, g, h, i) (solved-answered (λ v. going (endedBy mode above led ladder level ds upsized P filler circuits v)) _ r E angle flow e q)
 
   pub filled-are : (target m filler : ℕ) (circuits order circuits′ : List ℕ) (flow : List Float) → length circuits ≡ m → take m order ≡ orderOf m ds circuits flow
       → circuits′ ≡ fill (modeFor mode) target (take (length circuits) order) circuits .counts → filler ≡ fill (modeFor mode) target (take (length circuits) order) circuits .filler

@@ -1,63 +1,56 @@
-use Prim.Native.Nat.{ℕ, zero, suc, _+_, _-_, _*_, _≤_, _<_}
-use mathlib.Core.Path.{_≡_, refl, sym, ap, _∙_}
-use mathlib.Core.Logic.{⊎-elim}
-use mathlib.Core.Bool.{Bool, true, false}
-use borrow.Author.Tests.{eq-eqb, ne-eqb, lt-ltb, le-ltb, le-leb, lt-leb, not-true, not-false}
-use native.Mathlib.Omega.{arith}
+-- `planning::settle::fill_up` meets its contract: the order that was made is the defined one, and so is the filling in it.
+use mathlib.Core.Path.{refl, _∙_}
 use denote.Ref.{now}
-use lib.ListN.{length, length-set, set}
+use lib.ListN.{length}
 use borrow.Author.Needs.{needs}
+use Rattle.planning.specs.Solve.{peakFor}
+use Rattle.planning.specs.Fill.{designsFor}
+use Rattle.planning.proofs.Settling.{settleable-again, loaded, counted, ranked, filled-are}
 use Rattle.planning.proofs.settle.fill_up.Statement.{statement}
 use Rattle.planning.proofs.settle.fill_up.Tie as tie
-use Rattle.planning.proofs.settle.fill_up.Reads as reads
-use Rattle.planning.proofs.settle.fill_up.Lts as lts
-use Rattle.planning.proofs.fill.fill.Reads as fill-reads
-use Rattle.planning.proofs.fill.fill_order.Reads as fill-order-reads
-use Rattle.planning.proofs.settle.close_up.Reads as close-up-reads
 
--- src/settle.rt:179:5
 fill-order-requires : tie.Need-fill-order-requires
 fill-order-requires c κs = search needs
 
--- src/settle.rt:192:9
 fill-requires : tie.Need-fill-requires
-fill-requires c κs = ?
+fill-requires c κs =
+    let s = c .before .before .before .before .before .before .before .before .before .before .before .before .before .before .before .before .before .before .before .before .before .before .before .before .before in
+    let o = c .before .before .fill-order .ensures in
+    (ranked _ _ _ _ _ _ _ _ _ _ _ _ _ _ _ _ _ _ _ (s .pre .0) _ _ (o .0) (o .1), counted _ _ _ _ _ _ _ _ _ _ _ _ _ _ _ _ _ _ _ (s .pre .0) (s .pre .1))
 
--- src/settle.rt:193:5
 close-up-requires : tie.Need-close-up-requires
-close-up-requires c κs = ?
+close-up-requires c κs =
+    settleable-again _ _ _ _ _ _ _ _ _ _ _ _ _ _ _ _ _ _ _ (c .before .before .before .before .before .before .before .before .before .before .before .before .before .before .before .before .before .before .before .before .before .before .before .before .before .before .before .before .before .before .before .before .before .before .before .pre .0) _ _ _ _ (c .before .before .before .before .before .before .before .before .before .fill .kept .1 .1 .1 .0) refl refl refl
 
--- src/settle.rt:148:1
 same-length : tie.Need-same-length
 same-length c = search needs
 
--- src/settle.rt:148:1
 same-length-2 : tie.Need-same-length-2
 same-length-2 c = search needs
 
--- src/settle.rt:148:1
 same-length-3 : tie.Need-same-length-3
 same-length-3 c = search needs
 
--- src/settle.rt:148:1
 same-length-4 : tie.Need-same-length-4
 same-length-4 c = search needs
 
--- src/settle.rt:148:1
 same-length-5 : tie.Need-same-length-5
 same-length-5 c = search needs
 
--- src/settle.rt:148:1
 same-length-6 : tie.Need-same-length-6
 same-length-6 c = search needs
 
--- src/settle.rt:148:1
 same-length-7 : tie.Need-same-length-7
 same-length-7 c = search needs
 
--- src/settle.rt:148:1
 returns : tie.Need-returns
-returns c = ?
+returns c =
+    let s = c .before .before .before .before .before .before .before .before .before .before .before .before .before .before .before .before .before .before .before .before .before .before .before .before .before .before .before .before .before .before .before .before .before .before .before .before .before .before .before .before .before .before .before .before .before .before .before .before in
+    let z = s .args in
+    let f = c .before .before .before .before .before .before .before .before .before .before .before .before .before .before .before .before .before .before .before .before .before .before .fill .ensures in
+    c .before .before .before .before .before .before .before .before .before .before .before .before .close-up .ensures
+    ∙ filled-are (z .mode) (z .above) (now (z .leader)) (now (z .ladder)) (now (z .level)) (designsFor (now (z .ladder)) (now (z .level)) (now (z .a)) (now (z .b)) (now (z .km)) (now (z .share)) (now (z .sheet)) (now (z .banks)))
+    (now (z .upsized)) (peakFor (length (now (z .level))) (now (z .grounds)) (now (z .injection))) (z .target) (length (now (z .a))) _ (now (z .circuits)) _ _ (now (z .flow)) (s .pre .0 .drawing .count-size) (c .before .before .before .before .before .before .before .before .before .before .before .before .before .before .before .before .before .before .before .before .before .before .before .before .before .fill-order .ensures .1) (f .0) (f .1)
 
 pub fill-up-spec : {M : Type 1} → statement M
 fill-up-spec =

@@ -1,6 +1,6 @@
 -- The tests of module check: a sum or product that is asked without being made, and what passes the lengths and the counts.
 -- Two tests of equality agree where each equation follows from the other.
-use Prim.Native.Nat.{ℕ, zero, suc, _+_, _-_, _*_, _/_, _%_, _≤_, _<_}
+use Prim.Native.Nat.{ℕ, zero, suc, _+_, _-_, _*_, _/_, _%_, _^_, _≤_, _<_}
 use mathlib.Core.Bool.{Bool, true, false, cond, _&&_, _||_, and-assoc}
 use mathlib.Core.List.{List}
 use mathlib.Core.Option.{Option, none, some}
@@ -120,8 +120,8 @@ module _ (m levels : ℕ) (sheet : List Float) (fits : Sheet m levels sheet) whe
     index-is : i / levels * levels + i % levels ≡ i
     index-is = div-add-mod' i levels
 
-    pub index-below : i / levels * levels + i % levels < mostCorridors * mostLevels
-    index-below = omega (arith, index-is, few-rows)
+    pub place-fits : rowFigures * (i / levels * levels + i % levels) < 2 ^ 64
+    place-fits = omega (arith, index-is, few-rows)
 
     pub row-inside : (p : ℕ) → p ≡ rowFigures * (i / levels * levels + i % levels) → p + rowFigures ≤ length sheet
     row-inside p e = omega (arith, index-is, fits .size)

@@ -24,7 +24,6 @@ use Rattle.planning.specs.Fill.{designsFor}
 use Rattle.planning.specs.Sound.{Sound}
 use Rattle.planning.specs.Whole.{withLines, withUnits}
 use Rattle.planning.specs.Settle.{Ended, endedOf, endedBy, closedAfter, filledFrom, settledFrom, settlementOf, SettledAs, Settles}
-use Rattle.planning.specs.declared.settle.Settlement.{Settlement}
 use Rattle.planning.specs.declared.settle.Settled.{Settled}
 use Rattle.planning.specs.declared.settle.Settled.the-variants.{Refused, Closed}
 use Rattle.planning.proofs.Liftings.{designs-lift, fill-lifts, closing-lifts, tiers-lift, added-lifts}
@@ -134,8 +133,8 @@ module _ (c : Case) (target : ℕ) (S : Sound c target) (leader grounds : List �
       ∙ ap (λ (l : List ℕ). from leader l (s .build) (p .peak) (c .corridors)) (sym on)
       ∙ ap (λ (l : List ℕ). from l (s .level) (s .build) (p .peak) (c .corridors)) (sym led)
       ∙ sym
-          (settled-is c target p s (omega (arith, S .ladder-size)) (ap (λ (b : Build). length (b .designs)) build ∙ length-drawn c level banks)
-          (ap (λ (P : Peak). P .n) peak))
+      (settled-is c target p s (omega (arith, S .ladder-size)) (ap (λ (b : Build). length (b .designs)) build ∙ length-drawn c level banks)
+      (ap (λ (P : Peak). P .n) peak))
 
 -- ---- as the contract says it
 pub settles : (mode : PlanMode) (target above : ℕ) (ladder : List Float) (a b : List ℕ) (km share sheet : List Float) (leader grounds : List ℕ) (injection banks : List Float)

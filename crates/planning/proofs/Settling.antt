@@ -1,10 +1,10 @@
 -- Planning after the rounds: what each stage asks of slices that the one before left, and the stages over slices as those of the whole case.
 -- The stages by columns are onwards of the same solves as the defined ones, so each law is the lifts put in, one after another.
-use Prim.Native.Nat.{ℕ, _≤_}
+use Prim.Native.Nat.{ℕ}
 use mathlib.Core.List.{List, map}
-use mathlib.Core.Path.{_≡_, refl, sym, ap, _∙_, subst}
+use mathlib.Core.Path.{_≡_, sym, ap, _∙_, subst}
 use native.Mathlib.Omega.{arith}
-use lib.ListN.{length, getD, take, replicate}
+use lib.ListN.{length, take}
 use lib.Ieee.{Float}
 use Rattle.loops.specs.Figures.{nought}
 use Rattle.mode.specs.declared.PlanMode.{PlanMode}
@@ -14,17 +14,16 @@ use Rattle.refusal.specs.declared.Answer.the-variants.{Answered, Refused}
 use Rattle.angles_defs.specs.Network.{Edges, zeros}
 use Rattle.plan_defs.specs.Stage.{Stage, stopped, going, onward}
 use Rattle.plan_defs.specs.Solve.{Peak, PlanningCase, planningState}
-use Rattle.plan_defs.specs.Fill.{Filled, orderOf, fill}
+use Rattle.plan_defs.specs.Fill.{orderOf, fill}
 use Rattle.plan_defs.specs.Closing.{tiersOf, addedOf}
 use Rattle.plan_defs.specs.Outcome.{upTo}
 use Rattle.plan_defs.specs.declared.CircuitDesign.{CircuitDesign}
-use Rattle.planning.specs.Solve.{peakFor, solvedOf, Drawing, Lent}
+use Rattle.planning.specs.Solve.{solvedOf, Lent}
 use Rattle.planning.specs.Fill.{modeFor, Loaded, Whole, Ranked, Counted}
 use Rattle.planning.specs.Size.{Few}
-use Rattle.planning.specs.Close.{levelsFor, Closable, closingOf}
-use Rattle.planning.specs.Settle.{Settleable, Ended, endedOf, endedBy, closedFrom, closedAfter, filledFrom, settledFrom}
+use Rattle.planning.specs.Close.{levelsFor, closingOf}
+use Rattle.planning.specs.Settle.{Settleable, endedBy, closedFrom, closedAfter, filledFrom}
 use Rattle.planning.specs.declared.close.Closing.{Closing}
-use Rattle.planning.specs.declared.settle.Settlement.{Settlement}
 use Rattle.planning.proofs.Orders.{order-ranked}
 
 -- ---- a solve, and what comes after it

@@ -7,7 +7,6 @@ use lib.ListN.{length}
 use lib.Ieee.{Float}
 use Rattle.loops.specs.Figures.{nought}
 use Rattle.mode.specs.declared.PlanMode.{PlanMode}
-use Rattle.refusal.specs.declared.Refusal.{Refusal}
 use Rattle.angles_defs.specs.Network.{zeros}
 use Rattle.plan_defs.specs.Stage.{Stage, stopped, going, onward}
 use Rattle.plan_defs.specs.Case.{Case}
@@ -21,7 +20,6 @@ use Rattle.plan_defs.specs.Outcome.{upTo}
 use Rattle.plan_defs.specs.declared.CircuitDesign.{CircuitDesign}
 use Rattle.planning.specs.Solve.{peakFor, Drawing, Lent}
 use Rattle.planning.specs.Fill.{modeFor}
-use Rattle.planning.specs.Size.{Few}
 use Rattle.planning.specs.Close.{levelsFor, Closable, closingOf}
 use Rattle.planning.specs.Sound.{Sound}
 use Rattle.planning.specs.Whole.{withLines, withUnits}

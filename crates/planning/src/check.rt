@@ -8,10 +8,13 @@ ghost use Rattle.loops.specs.Figures.{nought, one, half, tenThousand, million, 
 ghost use Rattle.loops.specs.Loops.{first};
 ghost use Rattle.leaders.specs.Operation.{corridorOk};
 ghost use Rattle.dispatch.specs.Units.{unitOk};
-ghost use Rattle.plan_defs.specs.Constants.{mostInitial, mostCorridors, mostLevels, rowFigures};
+ghost use Rattle.plan_defs.specs.Constants.{mostInitial, rowFigures};
 ghost use Rattle.plan_defs.specs.Case.{rowOf, rowFrom};
 ghost use Rattle.plan_defs.specs.Accept.{lengthsOk, levelOk, busOk, generatorOk, corridorSound, rowSound, rowOk, tablesFault};
 ghost use Rattle.planning.specs.Check.{tablesFor, ladderFor, busesFor, generatorsFor, corridorsFor, sheetFor, workIn, placesOk, countsIn, Generators, Corridors, Sheet, Tables, answerOf, checkOf};
+use crate::design::KV_TOLERANCE;
+use crate::design::ROW_FIGURES;
+use crate::design::row_place;
 use crate::figures::infinity;
 use crate::figures::is_finite;
 use crate::figures::wide;
@@ -39,17 +42,13 @@ const MOST_MW: f64 = 1e6;
 
 const MOST_COST: f64 = 1e6;
 
-const KV_TOLERANCE: f64 = 1e-6;
-
 const LEAST_SHARE: f64 = 0.5;
 
 const LEAST_RATE: f64 = 0.001;
 
 const MOST_RATE: f64 = 1e6;
 
-// Figures of a row of the line sheet, and places of each work slice for each bus, corridor and generator.
-const ROW_FIGURES: usize = 5;
-
+// Places of each work slice for each bus, corridor and generator.
 const WORK_ROWS: usize = 12;
 
 // How many places the lent slices have.
@@ -296,14 +295,6 @@ fn row_ok(r: f64, x: f64, b: f64, rate: f64, basis: f64) -> bool
     let charging = (0.0 <= b) & is_finite(b);
     let rating = (LEAST_RATE <= rate) & (rate <= MOST_RATE);
     series & (reactance & (charging & (rating & ((basis == 0.0) | (basis == 1.0)))))
-}
-
-// The place of the first figure of the row for a corridor and a level.
-fn row_place(levels: usize, k: usize, level: usize) -> usize
-    requires { ⌜ k * levels + level < mostCorridors * mostLevels ⌝ }
-    ensures { λ r. ⌜ r ≡ rowFigures * (k * levels + level) ⌝ }
-{
-    ROW_FIGURES * (k * levels + level)
 }
 
 fn row_ok_from(sheet: &[f64], p: usize) -> bool

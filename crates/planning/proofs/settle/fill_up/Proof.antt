@@ -5,7 +5,7 @@ use lib.ListN.{length}
 use borrow.Author.Needs.{needs}
 use Rattle.planning.specs.Solve.{peakFor}
 use Rattle.planning.specs.Fill.{designsFor}
-use Rattle.planning.proofs.Settling.{settleable-again, loaded, counted, ranked, filled-are}
+use Rattle.planning.proofs.Settling.{settleable-again, counted, ranked, filled-are}
 use Rattle.planning.proofs.settle.fill_up.Statement.{statement}
 use Rattle.planning.proofs.settle.fill_up.Tie as tie
 

@@ -30,3 +30,5 @@ pub mod Sounds
 pub mod Liftings
 pub mod Heavies
 pub mod Promoting
+pub mod Settling
+pub mod Settlements

@@ -11,3 +11,4 @@ pub mod Close
 pub mod Sound
 pub mod Whole
 pub mod Raises
+pub mod Settle

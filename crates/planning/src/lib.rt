@@ -9,5 +9,6 @@ mod policy;
 mod raise;
 mod raises;
 mod redesign;
+mod settle;
 mod size;
 mod solve;

@@ -1,6 +1,6 @@
 -- The tests of module check: a sum or product that is asked without being made, and what passes the lengths and the counts.
 -- Two tests of equality agree where each equation follows from the other.
-use Prim.Native.Nat.{ℕ, zero, suc, _+_, _-_, _*_, _/_, _%_, _≤_, _<_}
+use Prim.Native.Nat.{ℕ, zero, suc, _+_, _-_, _*_, _/_, _%_, _^_, _≤_, _<_}
 use mathlib.Core.Bool.{Bool, true, false, cond, _&&_, _||_, and-assoc}
 use mathlib.Core.List.{List}
 use mathlib.Core.Option.{Option, none, some}
@@ -22,7 +22,7 @@ use Rattle.plan_defs.specs.Constants.{kvTolerance, mostCorridors, mostLevels, r
 use Rattle.plan_defs.specs.Case.{Case, levels, rowPlace, rowAt, rowFrom}
 use Rattle.plan_defs.specs.Accept.{lengthsOk, countsOk, levelOk, busOk, generatorOk, corridorSound, rowSound, rowOk, firstFault, tablesFault, caseFault}
 use Rattle.plan_defs.proofs.Accepted.{Columns, columns-of, counts-of}
-use Rattle.planning.specs.Check.{tablesFor, ladderFor, busesFor, generatorsFor, corridorsFor, sheetFor, Generators, Corridors, Sheet, Tables, workIn, placesIn, countsIn, answerOf, checkOf}
+use Rattle.planning.specs.Check.{generatorSizes, corridorSizes, tablesFor, ladderFor, busesFor, generatorsFor, corridorsFor, sheetFor, Generators, Corridors, Sheet, Tables, workIn, placesIn, countsIn, answerOf, checkOf}
 use Rattle.planning.specs.declared.check.Places.{Places}
 
 -- ---- tests that agree
@@ -120,8 +120,8 @@ module _ (m levels : ℕ) (sheet : List Float) (fits : Sheet m levels sheet) whe
     index-is : i / levels * levels + i % levels ≡ i
     index-is = div-add-mod' i levels
 
-    pub index-below : i / levels * levels + i % levels < mostCorridors * mostLevels
-    index-below = omega (arith, index-is, few-rows)
+    pub place-fits : rowFigures * (i / levels * levels + i % levels) < 2 ^ 64
+    place-fits = omega (arith, index-is, few-rows)
 
     pub row-inside : (p : ℕ) → p ≡ rowFigures * (i / levels * levels + i % levels) → p + rowFigures ≤ length sheet
     row-inside p e = omega (arith, index-is, fits .size)
@@ -162,23 +162,14 @@ module _ (n m g above requested : ℕ) (ladder : List Float) (tier : List ℕ) (
   abbrev busSizes : Bool
   busSizes = eqb (length tier) n && eqb (length load) n
 
-  abbrev generatorSizes : Bool
-  generatorSizes =
-      eqb (length bus) g && eqb (length slack) g && eqb (length pmin) g && eqb (length pmax) g && eqb (length c1) g && eqb (length c2) g
-
-  abbrev corridorSizes : Bool
-  corridorSizes = eqb (length a) m && eqb (length b) m && eqb (length initial) m && eqb (length km) m && eqb (length share) m
-
-  pub lengths-not : eqb (length ladder) (above + requested) ≡ false → false ≡ lengthsOk given
+  pub lengths-are : (l u k s : Bool) → l ≡ eqb (length ladder) (above + requested) → u ≡ generatorSizes g bus slack pmin pmax c1 c2
+      → k ≡ corridorSizes m a b initial km share → s ≡ eqb (length sheet) (rowFigures * (m * length ladder))
+      → (l && busSizes && u && k && s) ≡ lengthsOk given
   unfolding lengthsOk
-  lengths-not e = rw e
-
-  pub lengths-are : (s : Bool) → eqb (length ladder) (above + requested) ≡ true → s ≡ eqb (length sheet) (rowFigures * (m * length ladder))
-      → (busSizes && generatorSizes && corridorSizes && s) ≡ lengthsOk given
-  unfolding lengthsOk
-  lengths-are s e q =
-      let l : length ladder ≡ above + requested = eqb-true _ _ e in
-      rw (q, e, ← l) (simp and-assoc)
+  lengths-are false u k s el eu ek es = rw (← el)
+  lengths-are true u k s el eu ek es =
+      let e : length ladder ≡ above + requested = eqb-true _ _ (sym el) in
+      rw (eu, ek, es, ← el, ← e) (simp and-assoc)
 
   -- ---- what the scans ask
   module _ (t : Tables given) where

@@ -93,11 +93,10 @@ module _ (ladder : List Float) (level a b : List ℕ) (km share sheet : List Flo
   line-fits e p = subst (λ (z : Ends). LineFits ladder level km share sheet k (z .from)) (sym p) (fits-at (fromOf (endsFor ladder a b) level k) (from-below ladder level a b k ends-fit))
 
 -- ---- the whole
-pub line-is : (ladder : List Float) (level : List ℕ) (km share sheet : List Float) (k from to top : ℕ) → top ≡ getD level from 0
-    → lineOf from to (at ladder top) (rowFrom sheet (rowFigures * (k * length ladder + top))) (at km k) (at share k)
-    ≡ lineBetween ladder level km share sheet k from to
+pub line-is : (ladder : List Float) (level : List ℕ) (km share sheet : List Float) (k from to top row : ℕ) → top ≡ getD level from 0 → row ≡ rowFigures * (k * length ladder + top)
+    → lineOf from to (at ladder top) (rowFrom sheet row) (at km k) (at share k) ≡ lineBetween ladder level km share sheet k from to
 unfolding lineBetween
-line-is ladder level km share sheet k from to top e = rw e
+line-is ladder level km share sheet k from to top row e f = rw (f, e)
 
 -- what a design reads of a case: these columns, and how many levels there are
 module _ (c : Case) (level : List ℕ) (k : ℕ) where

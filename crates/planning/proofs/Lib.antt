@@ -7,7 +7,7 @@ pub mod Served
 pub mod Anew
 pub mod Builds
 pub mod Redesigns
-pub mod Raises
+pub mod Marks
 pub mod Sizes
 pub mod Corridors
 pub mod Passing
@@ -31,3 +31,7 @@ pub mod Liftings
 pub mod Unadded
 pub mod Redrawing
 pub mod Rounding
+pub mod Heavies
+pub mod Promoting
+pub mod Settling
+pub mod Settlements

@@ -4,9 +4,11 @@ use Prim.Native.Nat.{ℕ, zero, suc, _+_, _*_, _^_, _<_, _≤_}
 use mathlib.Core.Bool.{Bool, true, false, cond}
 use mathlib.Core.List.{List, [], _∷_, _++_}
 use mathlib.Core.Path.{_≡_, refl, sym, ap, _∙_, subst}
+use native.Mathlib.Decide.{ℕ-discrete}
 use native.Mathlib.Nat.{suc-mul}
 use native.Mathlib.Numerals.{add-one}
 use native.Mathlib.Omega.{arith}
+use lib.Arith.{lt-of-le-ne}
 use lib.Ieee.{Float, ofBits}
 use Rattle.loops.specs.Figures.{plus}
 use Rattle.loops.proofs.Most.{Most, plus-most, most-more}
@@ -67,6 +69,18 @@ count-most p (suc d) i = let r = count-most p d (suc i) in go (p i) r
     go : (b : Bool) → countFrom p d (suc i) ≤ d → cond b 1 0 + countFrom p d (suc i) ≤ suc d
     go true r = omega arith
     go false r = omega arith
+
+-- none passes where none is counted
+pub count-zero : (p : ℕ → Bool) (d i : ℕ) → countFrom p d i ≡ 0 → (j : ℕ) → i ≤ j → j < i + d → p j ≡ false
+unfolding countFrom
+count-zero p zero i e j a b = absurd (omega arith)
+count-zero p (suc d) i e j a b = go (ℕ-discrete j i) (p i) refl e (count-zero p d (suc i))
+  where
+    go : Dec (j ≡ i) → (t : Bool) → p i ≡ t → cond t 1 0 + countFrom p d (suc i) ≡ 0
+        → (countFrom p d (suc i) ≡ 0 → (j : ℕ) → suc i ≤ j → j < suc i + d → p j ≡ false) → p j ≡ false
+    go x true q f r = absurd (omega (arith, f))
+    go (yes x) false q f r = ap p x ∙ q
+    go (no x) false q f r = r (omega (arith, f)) j (lt-of-le-ne a (λ y. x (sym y))) (omega arith)
 
 -- ---- a sum of at most n figures of at most K is at most n · K
 module _ (f : ℕ → Float) (p : ℕ → Bool) (K : ℕ) where

@@ -58,7 +58,15 @@ pub record Sheet (m levels : ℕ) (sheet : List Float) : Type 0 where
   pub few-levels : levels ≤ mostLevels
   pub size : length sheet ≡ rowFigures * (m * levels)
 
--- ---- 1, of the lent slices
+-- ---- 1, of the columns of generators and of corridors
+abbrev pub generatorSizes : ℕ → List ℕ → List ℕ → List Float → List Float → List Float → List Float → Bool
+generatorSizes g bus slack pmin pmax c1 c2 =
+    eqb (length bus) g && eqb (length slack) g && eqb (length pmin) g && eqb (length pmax) g && eqb (length c1) g && eqb (length c2) g
+
+abbrev pub corridorSizes : ℕ → List ℕ → List ℕ → List ℕ → List Float → List Float → Bool
+corridorSizes m a b initial km share = eqb (length a) m && eqb (length b) m && eqb (length initial) m && eqb (length km) m && eqb (length share) m
+
+-- of the lent slices
 abbrev pub workIn : ℕ → ℕ → ℕ → ℕ → Bool
 workIn n m g places = eqb places (workRows * (n + m + g))
 

@@ -12,3 +12,5 @@ pub mod Sound
 pub mod Whole
 pub mod Stiffen
 pub mod Rounds
+pub mod Raises
+pub mod Settle

@@ -8,10 +8,13 @@ ghost use Rattle.loops.specs.Figures.{nought, one, half, tenThousand, million, 
 ghost use Rattle.loops.specs.Loops.{first};
 ghost use Rattle.leaders.specs.Operation.{corridorOk};
 ghost use Rattle.dispatch.specs.Units.{unitOk};
-ghost use Rattle.plan_defs.specs.Constants.{mostInitial, mostCorridors, mostLevels, rowFigures};
+ghost use Rattle.plan_defs.specs.Constants.{mostInitial, rowFigures};
 ghost use Rattle.plan_defs.specs.Case.{rowOf, rowFrom};
-ghost use Rattle.plan_defs.specs.Accept.{lengthsOk, levelOk, busOk, generatorOk, corridorSound, rowSound, rowOk, tablesFault};
-ghost use Rattle.planning.specs.Check.{tablesFor, ladderFor, busesFor, generatorsFor, corridorsFor, sheetFor, workIn, placesOk, countsIn, Generators, Corridors, Sheet, Tables, answerOf, checkOf};
+ghost use Rattle.plan_defs.specs.Accept.{levelOk, busOk, generatorOk, corridorSound, rowSound, rowOk, tablesFault};
+ghost use Rattle.planning.specs.Check.{tablesFor, ladderFor, busesFor, generatorsFor, corridorsFor, sheetFor, generatorSizes, corridorSizes, workIn, placesOk, countsIn, Generators, Corridors, Sheet, Tables, answerOf, checkOf};
+use crate::design::KV_TOLERANCE;
+use crate::design::ROW_FIGURES;
+use crate::design::row_place;
 use crate::figures::infinity;
 use crate::figures::is_finite;
 use crate::figures::wide;
@@ -39,17 +42,13 @@ const MOST_MW: f64 = 1e6;
 
 const MOST_COST: f64 = 1e6;
 
-const KV_TOLERANCE: f64 = 1e-6;
-
 const LEAST_SHARE: f64 = 0.5;
 
 const LEAST_RATE: f64 = 0.001;
 
 const MOST_RATE: f64 = 1e6;
 
-// Figures of a row of the line sheet, and places of each work slice for each bus, corridor and generator.
-const ROW_FIGURES: usize = 5;
-
+// Places of each work slice for each bus, corridor and generator.
 const WORK_ROWS: usize = 12;
 
 // How many places the lent slices have.
@@ -117,46 +116,36 @@ fn places_ok(n: usize, m: usize, g: usize, above: usize, p: Places) -> bool
     corridors & (p.mw == g) & buses & (p.added == above) & work
 }
 
-fn lengths_ok(
-    n: usize,
-    m: usize,
+fn generator_lengths_ok(
     g: usize,
-    above: usize,
-    requested: usize,
-    ladder: &[f64],
-    tier: &[u32],
-    load: &[f64],
     bus: &[u32],
     slack: &[u32],
     pmin: &[f64],
     pmax: &[f64],
     c1: &[f64],
     c2: &[f64],
+) -> bool
+    ensures { λ r. ⌜ r ≡ generatorSizes g (now (bus .entry)) (now (slack .entry)) (now (pmin .entry)) (now (pmax .entry)) (now (c1 .entry)) (now (c2 .entry)) ⌝ }
+{
+    (bus.len() == g)
+        & (slack.len() == g)
+        & (pmin.len() == g)
+        & (pmax.len() == g)
+        & (c1.len() == g)
+        & (c2.len() == g)
+}
+
+fn corridor_lengths_ok(
+    m: usize,
     a: &[u32],
     b: &[u32],
     initial: &[u32],
     km: &[f64],
     share: &[f64],
-    sheet: &[f64],
 ) -> bool
-    ensures { λ r. ⌜ r ≡ lengthsOk (tablesFor n m g above requested (now (ladder .entry)) (now (tier .entry)) (now (load .entry)) (now (bus .entry)) (now (slack .entry)) (now (pmin .entry)) (now (pmax .entry)) (now (c1 .entry)) (now (c2 .entry)) (now (a .entry)) (now (b .entry)) (now (initial .entry)) (now (km .entry)) (now (share .entry)) (now (sheet .entry))) ⌝ }
+    ensures { λ r. ⌜ r ≡ corridorSizes m (now (a .entry)) (now (b .entry)) (now (initial .entry)) (now (km .entry)) (now (share .entry)) ⌝ }
 {
-    if !is_sum(ladder.len(), above, requested) {
-        return false;
-    }
-    let buses = (tier.len() == n) & (load.len() == n);
-    let units = (bus.len() == g)
-        & (slack.len() == g)
-        & (pmin.len() == g)
-        & (pmax.len() == g)
-        & (c1.len() == g)
-        & (c2.len() == g);
-    let corridors = (a.len() == m)
-        & (b.len() == m)
-        & (initial.len() == m)
-        & (km.len() == m)
-        & (share.len() == m);
-    buses & units & corridors & sheet_ok(sheet.len(), m, ladder.len())
+    (a.len() == m) & (b.len() == m) & (initial.len() == m) & (km.len() == m) & (share.len() == m)
 }
 
 // ---- 2
@@ -298,14 +287,6 @@ fn row_ok(r: f64, x: f64, b: f64, rate: f64, basis: f64) -> bool
     series & (reactance & (charging & (rating & ((basis == 0.0) | (basis == 1.0)))))
 }
 
-// The place of the first figure of the row for a corridor and a level.
-fn row_place(levels: usize, k: usize, level: usize) -> usize
-    requires { ⌜ k * levels + level < mostCorridors * mostLevels ⌝ }
-    ensures { λ r. ⌜ r ≡ rowFigures * (k * levels + level) ⌝ }
-{
-    ROW_FIGURES * (k * levels + level)
-}
-
 fn row_ok_from(sheet: &[f64], p: usize) -> bool
     requires { ⌜ p + rowFigures ≤ length (now sheet) ⌝ }
     ensures { λ r. ⌜ r ≡ rowSound (rowFrom (now (sheet .entry)) p) ⌝ }
@@ -420,28 +401,12 @@ pub fn check_case(
 ) -> Answer
     ensures { λ r. ⌜ r ≡ checkOf (tablesFor n m g above requested (now (ladder .entry)) (now (tier .entry)) (now (load .entry)) (now (bus .entry)) (now (slack .entry)) (now (pmin .entry)) (now (pmax .entry)) (now (c1 .entry)) (now (c2 .entry)) (now (a .entry)) (now (b .entry)) (now (initial .entry)) (now (km .entry)) (now (share .entry)) (now (sheet .entry))) target places ⌝ }
 {
-    let lengths = lengths_ok(
-        n,
-        m,
-        g,
-        above,
-        requested,
-        ladder,
-        tier,
-        load,
-        bus,
-        slack,
-        pmin,
-        pmax,
-        c1,
-        c2,
-        a,
-        b,
-        initial,
-        km,
-        share,
-        sheet,
-    );
+    let levels = is_sum(ladder.len(), above, requested);
+    let buses = (tier.len() == n) & (load.len() == n);
+    let generators = generator_lengths_ok(g, bus, slack, pmin, pmax, c1, c2);
+    let corridors = corridor_lengths_ok(m, a, b, initial, km, share);
+    let rows = sheet_ok(sheet.len(), m, ladder.len());
+    let lengths = levels & buses & generators & corridors & rows;
     if !(lengths & places_ok(n, m, g, above, places)) {
         return Answer::Refused(Refusal::Length);
     }

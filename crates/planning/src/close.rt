@@ -3,7 +3,7 @@ ghost use mathlib.Core.Bool.{cond};
 ghost use mathlib.Core.List.{map};
 ghost use mathlib.Core.Path.{_≡_};
 ghost use Prim.Native.Nat.{ℕ, _+_, _-_, _<_, _≤_};
-ghost use lib.ListN.{length, getD, replicate};
+ghost use lib.ListN.{length, getD};
 ghost use Rattle.loops.specs.Figures.{nought};
 ghost use Rattle.loops.specs.Loops.{tab};
 ghost use Rattle.plan_defs.specs.Constants.{mostCorridors, mostLevels};
@@ -15,6 +15,8 @@ ghost use Rattle.planning.specs.Design.{Lines};
 ghost use Rattle.planning.specs.Fill.{designsFor, Drawable, Loaded};
 ghost use Rattle.planning.specs.Close.{corridorsOf, levelsFor, widerBy, loadingsBy, Rated, capFull, addedAt, Closable, closingOf, figuresIf, countsIf, finished};
 use crate::design::circuit;
+use crate::figures::clear_counts;
+use crate::figures::clear_figures;
 use crate::figures::fewer;
 use crate::figures::float;
 use crate::figures::greater;
@@ -26,9 +28,8 @@ use crate::figures::wide;
 use crate::fill::loading;
 use crate::policy::cap_at;
 use crate::policy::expands;
+use crate::size::PLANNING_UTILISATION;
 use mode::PlanMode;
-
-const PLANNING_UTILISATION: f64 = 0.9;
 
 // A loading above 1, or a need above the circuits there are, counts where it is above by more than this.
 const LOADING_TOLERANCE: f64 = 1e-9;
@@ -307,26 +308,6 @@ pub fn close(
 }
 
 // ---- the slices at the end
-fn clear_counts(l: &mut [u32])
-    ensures { λ _. ⌜ now (l .exit) ≡ replicate (length (now (l .entry))) 0 ⌝ }
-{
-    let mut i = 0;
-    while i < l.len() {
-        l[i] = 0;
-        i += 1;
-    }
-}
-
-fn clear_figures(l: &mut [f64])
-    ensures { λ _. ⌜ now (l .exit) ≡ replicate (length (now (l .entry))) nought ⌝ }
-{
-    let mut i = 0;
-    while i < l.len() {
-        l[i] = 0.0;
-        i += 1;
-    }
-}
-
 fn clear_counts_if(refused: bool, l: &mut [u32])
     ensures { λ _. ⌜ now (l .exit) ≡ countsIf refused (now (l .entry)) ⌝ }
 {

@@ -1,9 +1,10 @@
-// Figures and counts: what Rust's min, max, abs, ceil and casts answer.
+// Figures and counts: what Rust's min, max, abs, ceil and casts answer; and slices of them, cleared.
 ghost use mathlib.Core.Bool.{cond};
 ghost use mathlib.Core.Path.{_≡_};
 ghost use Prim.Native.Nat.{_-_, min, max};
 ghost use lib.Ieee.{toUnsigned};
-ghost use Rattle.loops.specs.Figures.{float, infinity, lesser, greater, magnitude, finite};
+ghost use lib.ListN.{length, replicate};
+ghost use Rattle.loops.specs.Figures.{nought, float, infinity, lesser, greater, magnitude, finite};
 ghost use Rattle.root.specs.Ceiling.{ceil};
 
 // From here on every f64 is whole.
@@ -137,4 +138,25 @@ pub fn to_usize(x: f64) -> usize
         return 0xFFFF_FFFF_FFFF_FFFF;
     }
     0
+}
+
+// ---- slices
+pub fn clear_counts(counts: &mut [u32])
+    ensures { λ _. ⌜ now (counts .exit) ≡ replicate (length (now (counts .entry))) 0 ⌝ }
+{
+    let mut i = 0;
+    while i < counts.len() {
+        counts[i] = 0;
+        i += 1;
+    }
+}
+
+pub fn clear_figures(figures: &mut [f64])
+    ensures { λ _. ⌜ now (figures .exit) ≡ replicate (length (now (figures .entry))) nought ⌝ }
+{
+    let mut i = 0;
+    while i < figures.len() {
+        figures[i] = 0.0;
+        i += 1;
+    }
 }

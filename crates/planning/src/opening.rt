@@ -1,19 +1,22 @@
 // The opening of a plan: the components of the corridors and their grounds, the dispatch of each component, and what each bus
-// injects. After `plan_corridors` of planning.rs, up to `let mut circuits`.
+// injects; then the circuits and the levels that planning starts from. After `plan_corridors` of planning.rs, up to its step 1.
 ghost use mathlib.Core.Path.{_≡_};
 ghost use mathlib.Core.List.{map};
-ghost use Prim.Native.Nat.{_-_, _<_, _≤_};
-ghost use lib.ListN.{length, take, replicate};
+ghost use Prim.Native.Nat.{ℕ, _+_, _-_, _<_, _≤_, max};
+ghost use lib.ListN.{length, getD, take};
 ghost use lib.Ieee.{neg};
-ghost use Rattle.loops.specs.Figures.{at, over, nought};
+ghost use Rattle.loops.specs.Figures.{at, over};
 ghost use Rattle.loops.specs.Loops.{iter, tab};
 ghost use Rattle.leaders.specs.Leaders.{leadersOf};
 ghost use Rattle.plan_defs.specs.Components.{leads, members, unitsIn, groundOf, groundsOf};
-ghost use Rattle.plan_defs.specs.Constants.{baseMva, mostGenerators};
+ghost use Rattle.plan_defs.specs.Constants.{baseMva, mostGenerators, mostLevels};
 ghost use Rattle.plan_defs.specs.Dispatch.{scatter, serve, dispatchOf, injectAt, injections};
 ghost use Rattle.plan_defs.specs.Lists.{sumOver};
 ghost use Rattle.plan_defs.specs.Outcome.{upTo};
 ghost use Rattle.planning.specs.Opening.{stageOf, stageIf, busCase, slackCase, dispatchCase, injectionCase, Joined, Fleet, Costs, Loads, Picked};
+use crate::figures::clear_counts;
+use crate::figures::clear_figures;
+use crate::figures::more;
 use crate::figures::wide;
 use crate::solve::BASE_MVA;
 use refusal::Answer;
@@ -44,16 +47,6 @@ fn ground_of(root: u32, leader: &[u32], bus: &[u32], slack: &[u32]) -> u32
     root
 }
 
-pub fn clear(places: &mut [u32])
-    ensures { λ _. ⌜ now (places .exit) ≡ replicate (length (now (places .entry))) 0 ⌝ }
-{
-    let mut i = 0;
-    while i < places.len() {
-        places[i] = 0;
-        i += 1;
-    }
-}
-
 // The ground of each component, by ascending leader, at the front of `ground`, and zero past them; how many there are.
 pub fn ground_components(leader: &[u32], bus: &[u32], slack: &[u32], ground: &mut [u32]) -> usize
     requires { ⌜ Fleet (length (now leader)) (now bus) × (length (now slack) ≡ length (now bus)) × (length (now ground) ≡ length (now leader)) ⌝ }
@@ -61,7 +54,7 @@ pub fn ground_components(leader: &[u32], bus: &[u32], slack: &[u32], ground: &mu
     ensures held { λ r. ⌜ now (ground .exit)
         ≡ upTo (length (now (leader .entry))) 0 (groundsOf (slackCase (now (bus .entry)) (now (slack .entry))) (now (leader .entry))) ⌝ }
 {
-    clear(ground);
+    clear_counts(ground);
     let mut count = 0;
     let mut i = 0;
     while i < leader.len() {
@@ -209,16 +202,6 @@ fn serve_led(
     Answer::Answered
 }
 
-pub fn clear_figures(figures: &mut [f64])
-    ensures { λ _. ⌜ now (figures .exit) ≡ replicate (length (now (figures .entry))) nought ⌝ }
-{
-    let mut i = 0;
-    while i < figures.len() {
-        figures[i] = 0.0;
-        i += 1;
-    }
-}
-
 // What each generator gives, MW, component by component with ascending leader; or the first refusal 8.
 pub fn dispatch_components(
     leader: &[u32],
@@ -291,4 +274,29 @@ pub fn injections(load: &[f64], bus: &[u32], mw: &[f64], injection: &mut [f64])
     withdraw(load, injection);
     inject(bus, mw, injection);
     per_unit(injection);
+}
+
+// ---- where planning starts
+// The lower bound of each corridor's circuits: what it has, and one at least.
+pub fn lower_bounds(initial: &[u32], circuits: &mut [u32])
+    requires { ⌜ length (now circuits) ≡ length (now initial) ⌝ }
+    ensures { λ _. ⌜ now (circuits .exit) ≡ tab (length (now (initial .entry))) (λ k. max (getD (now (initial .entry)) k 0) 1) ⌝ }
+{
+    let mut k = 0;
+    while k < initial.len() {
+        circuits[k] = more(initial[k], 1);
+        k += 1;
+    }
+}
+
+// Each bus's level of the ladder: its tier, past the levels above the request.
+pub fn first_levels(above: usize, tier: &[u32], level: &mut [u32])
+    requires { ⌜ (length (now level) ≡ length (now tier)) × (above ≤ mostLevels) × ((i : ℕ) → i < length (now tier) → getD (now tier) i 0 < mostLevels) ⌝ }
+    ensures { λ _. ⌜ now (level .exit) ≡ tab (length (now (tier .entry))) (λ i. above + getD (now (tier .entry)) i 0) ⌝ }
+{
+    let mut i = 0;
+    while i < tier.len() {
+        level[i] = above as u32 + tier[i];
+        i += 1;
+    }
 }

@@ -4,23 +4,13 @@ ghost use mathlib.Core.Path.{_≡_};
 ghost use Prim.Native.Nat.{_<_, _≤_};
 ghost use lib.ListN.{length};
 ghost use Rattle.plan_defs.specs.Constants.{mostBuses};
-ghost use Rattle.plan_defs.specs.Raise.{noMarks, raiseOf, marked, markBoth, canRaise, markIf, raisedLevels, movedBuses};
+ghost use Rattle.plan_defs.specs.Raise.{raiseOf, marked, markBoth, canRaise, markIf, raisedLevels, movedBuses};
 ghost use Rattle.planning.specs.Raise.{largestCount, pairsFor, PairFits};
 use crate::figures::fewer;
 use crate::figures::wide;
 use plan_defs::Raise;
 
 // ---- marks
-pub fn clear_marks(marks: &mut [u32])
-    ensures { λ _. ⌜ now (marks .exit) ≡ noMarks (length (now (marks .entry))) ⌝ }
-{
-    let mut i = 0;
-    while i < marks.len() {
-        marks[i] = 0;
-        i += 1;
-    }
-}
-
 // A mark after a raise to level t: the higher of the two.
 fn marked(mark: u32, t: u32) -> u32
     requires { ⌜ t < largestCount ⌝ }

@@ -6,8 +6,8 @@ ghost use lib.ListN.{length};
 ghost use Rattle.planning.specs.Design.{Banks};
 ghost use Rattle.planning.specs.Redesign.{RedesignFits};
 ghost use Rattle.planning.specs.Rounds.{Redrawn, RoundsFit, RoundsRun};
+use crate::figures::clear_counts;
 use crate::policy::promotes;
-use crate::raise::clear_marks;
 use crate::raise::raise_buses;
 use crate::redesign::redesign;
 use crate::size::Tally;
@@ -129,7 +129,7 @@ pub fn size_rounds(
             Answer::Refused(f) => return Rounds::Refused(f),
             Answer::Answered => {}
         }
-        clear_marks(marks);
+        clear_counts(marks);
         let mut t = Tally {
             capacity: p.capacity,
             added: false,

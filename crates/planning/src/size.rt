@@ -24,13 +24,13 @@ use mode::PlanMode;
 use plan_defs::CircuitDesign;
 
 // The share of a rating that the planning flow may take.
-const PLANNING_UTILISATION: f64 = 0.9;
+pub const PLANNING_UTILISATION: f64 = 0.9;
 
 // The step of a larger bank, MVA.
 const TRANSFORMER_SIZE_STEP_MVA: f64 = 50.0;
 
 // A corridor that needs more circuits is raised where it can be.
-const UPGRADE_CIRCUITS: u32 = 2;
+pub const UPGRADE_CIRCUITS: u32 = 2;
 
 // What sizing adds up.
 pub struct Tally {

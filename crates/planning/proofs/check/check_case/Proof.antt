@@ -1,40 +1,63 @@
 -- `planning::check::check_case` meets its contract.
--- Each return is the definition with its tests decided.
+-- The lengths, tested table by table, are the definition's; each return is the definition with its tests decided.
 use mathlib.Core.Path.{refl}
 use borrow.Author.Tests.{not-true, not-false}
+use denote.Ref.{now}
 use borrow.Author.Needs.{needs}
-use Rattle.planning.proofs.Checks.{length-refused, count-refused, tables-of, tables-answer}
+use Rattle.planning.proofs.Checks.{lengths-are, length-refused, count-refused, tables-of, tables-answer}
 use Rattle.planning.proofs.check.check_case.Statement.{statement}
 use Rattle.planning.proofs.check.check_case.Tie as tie
 
-lengths-ok-requires : tie.Need-lengths-ok-requires
-lengths-ok-requires c κs = search needs
+is-sum-requires : tie.Need-is-sum-requires
+is-sum-requires c κs = search needs
+
+generator-lengths-ok-requires : tie.Need-generator-lengths-ok-requires
+generator-lengths-ok-requires c κs = search needs
+
+corridor-lengths-ok-requires : tie.Need-corridor-lengths-ok-requires
+corridor-lengths-ok-requires c κs = search needs
+
+sheet-ok-requires : tie.Need-sheet-ok-requires
+sheet-ok-requires c κs = search needs
 
 places-ok-requires : tie.Need-places-ok-requires
 places-ok-requires c κs = search needs
 
 returns : tie.Need-returns
-returns c = length-refused _ _ _ _ _ _ _ _ _ _ _ _ _ _ _ _ _ _ _ _ _ _ _ _ _ (c .before .before .lengths-ok .ensures) (c .before .places-ok .ensures) refl (not-true _ (c .if1 .taken))
+returns c =
+    let z = c .before .before .before .before .before .before .before .before .before .before .before .before .before .before .before .before .before .before .before .before .before .args in
+    let e = lengths-are (z .n) (z .m) (z .g) (z .above) (z .requested) (now (z .ladder)) (now (z .tier)) (now (z .load)) (now (z .bus)) (now (z .slack)) (now (z .pmin)) (now (z .pmax)) (now (z .c1)) (now (z .c2)) (now (z .a)) (now (z .b)) (now (z .initial)) (now (z .km)) (now (z .share)) (now (z .sheet)) _ _ _ _ (c .before .before .before .before .before .is-sum .ensures) (c .before .before .before .before .generator-lengths-ok .ensures) (c .before .before .before .corridor-lengths-ok .ensures) (c .before .before .sheet-ok .ensures) in
+    length-refused _ _ _ _ _ _ _ _ _ _ _ _ _ _ _ _ _ _ _ _ (z .target) (z .places) _ _ _ e (c .before .places-ok .ensures) refl (not-true _ (c .if1 .taken))
 
 counts-ok-requires : tie.Need-counts-ok-requires
 counts-ok-requires c κs = search needs
 
 returns-2 : tie.Need-returns-2
-returns-2 c = count-refused _ _ _ _ _ _ _ _ _ _ _ _ _ _ _ _ _ _ _ _ _ _ _ _ _ (c .before .before .before .before .lengths-ok .ensures) (c .before .before .before .places-ok .ensures) (c .before .counts-ok .ensures) (not-false _ (c .before .before .if1 .left)) (not-true _ (c .if2 .taken))
+returns-2 c =
+    let z = c .before .before .before .before .before .before .before .before .before .before .before .before .before .before .before .before .before .before .before .before .before .before .before .args in
+    let e = lengths-are (z .n) (z .m) (z .g) (z .above) (z .requested) (now (z .ladder)) (now (z .tier)) (now (z .load)) (now (z .bus)) (now (z .slack)) (now (z .pmin)) (now (z .pmax)) (now (z .c1)) (now (z .c2)) (now (z .a)) (now (z .b)) (now (z .initial)) (now (z .km)) (now (z .share)) (now (z .sheet)) _ _ _ _ (c .before .before .before .before .before .before .before .is-sum .ensures) (c .before .before .before .before .before .before .generator-lengths-ok .ensures) (c .before .before .before .before .before .corridor-lengths-ok .ensures) (c .before .before .before .before .sheet-ok .ensures) in
+    count-refused _ _ _ _ _ _ _ _ _ _ _ _ _ _ _ _ _ _ _ _ (z .target) (z .places) _ _ _ e (c .before .before .before .places-ok .ensures) (c .before .counts-ok .ensures) (not-false _ (c .before .before .if1 .left)) (not-true _ (c .if2 .taken))
 
 check-tables-requires : tie.Need-check-tables-requires
 check-tables-requires c κs =
-    let z = c .before .before .before .before .before .before .before .before .before .before .before .before .before .before .before .before .before .before .before .before .args in
-    tables-of _ _ _ _ _ _ _ _ _ _ _ _ _ _ _ _ _ _ _ _ (z .target) (z .places) _ _ _ (c .before .before .before .before .lengths-ok .ensures) (c .before .before .before .places-ok .ensures) (c .before .counts-ok .ensures) (not-false _ (c .before .before .if1 .left)) (not-false _ (c .if2 .left))
+    let z = c .before .before .before .before .before .before .before .before .before .before .before .before .before .before .before .before .before .before .before .before .before .before .before .args in
+    let e = lengths-are (z .n) (z .m) (z .g) (z .above) (z .requested) (now (z .ladder)) (now (z .tier)) (now (z .load)) (now (z .bus)) (now (z .slack)) (now (z .pmin)) (now (z .pmax)) (now (z .c1)) (now (z .c2)) (now (z .a)) (now (z .b)) (now (z .initial)) (now (z .km)) (now (z .share)) (now (z .sheet)) _ _ _ _ (c .before .before .before .before .before .before .before .is-sum .ensures) (c .before .before .before .before .before .before .generator-lengths-ok .ensures) (c .before .before .before .before .before .corridor-lengths-ok .ensures) (c .before .before .before .before .sheet-ok .ensures) in
+    tables-of _ _ _ _ _ _ _ _ _ _ _ _ _ _ _ _ _ _ _ _ (z .target) (z .places) _ _ _ e (c .before .before .before .places-ok .ensures) (c .before .counts-ok .ensures) (not-false _ (c .before .before .if1 .left)) (not-false _ (c .if2 .left))
 
 returns-3 : tie.Need-returns-3
-returns-3 c = tables-answer _ _ _ _ _ _ _ _ _ _ _ _ _ _ _ _ _ _ _ _ _ _ _ _ _ (c .before .before .before .before .before .lengths-ok .ensures) (c .before .before .before .before .places-ok .ensures) (c .before .before .counts-ok .ensures) (not-false _ (c .before .before .before .if1 .left)) _ (not-false _ (c .before .if2 .left)) (c .check-tables .ensures)
+returns-3 c =
+    let z = c .before .before .before .before .before .before .before .before .before .before .before .before .before .before .before .before .before .before .before .before .before .before .before .before .args in
+    let e = lengths-are (z .n) (z .m) (z .g) (z .above) (z .requested) (now (z .ladder)) (now (z .tier)) (now (z .load)) (now (z .bus)) (now (z .slack)) (now (z .pmin)) (now (z .pmax)) (now (z .c1)) (now (z .c2)) (now (z .a)) (now (z .b)) (now (z .initial)) (now (z .km)) (now (z .share)) (now (z .sheet)) _ _ _ _ (c .before .before .before .before .before .before .before .before .is-sum .ensures) (c .before .before .before .before .before .before .before .generator-lengths-ok .ensures) (c .before .before .before .before .before .before .corridor-lengths-ok .ensures) (c .before .before .before .before .before .sheet-ok .ensures) in
+    tables-answer _ _ _ _ _ _ _ _ _ _ _ _ _ _ _ _ _ _ _ _ (z .target) (z .places) _ _ _ e (c .before .before .before .before .places-ok .ensures) (c .before .before .counts-ok .ensures) (not-false _ (c .before .before .before .if1 .left)) _ (not-false _ (c .before .if2 .left)) (c .check-tables .ensures)
 
 pub check-case-spec : {M : Type 1} → statement M
 check-case-spec =
     tie.close
     (tie.spec
-    lengths-ok-requires
+    is-sum-requires
+    generator-lengths-ok-requires
+    corridor-lengths-ok-requires
+    sheet-ok-requires
     places-ok-requires
     returns
     counts-ok-requires

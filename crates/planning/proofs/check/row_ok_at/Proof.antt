@@ -2,7 +2,7 @@
 -- Index i is the row of corridor i / levels and level i % levels, and its place is inside the sheet.
 use denote.Ref.{now}
 use borrow.Author.Needs.{needs}
-use Rattle.planning.proofs.Checks.{index-below, row-inside, row-is}
+use Rattle.planning.proofs.Checks.{place-fits, row-inside, row-is}
 use Rattle.planning.proofs.check.row_ok_at.Statement.{statement}
 use Rattle.planning.proofs.check.row_ok_at.Tie as tie
 
@@ -15,7 +15,7 @@ rem-row-place c = search needs
 row-place-requires : tie.Need-row-place-requires
 row-place-requires c κs =
     let s = c .before in
-    index-below (s .args .m) (s .args .levels) (now (s .args .sheet)) (s .pre .0) (s .args .i) (s .pre .1)
+    place-fits (s .args .m) (s .args .levels) (now (s .args .sheet)) (s .pre .0) (s .args .i) (s .pre .1)
 
 row-ok-from-requires : tie.Need-row-ok-from-requires
 row-ok-from-requires c κs =

@@ -16,14 +16,8 @@ shared-slice-read-wide c = search needs
 wide-requires : tie.Need-wide-requires
 wide-requires c κs = search needs
 
-mul-row : tie.Need-mul-row
-mul-row c = search needs
-
-add-row : tie.Need-add-row
-add-row c = search needs
-
-mul-row-2 : tie.Need-mul-row-2
-mul-row-2 c = search needs
+row-place-requires : tie.Need-row-place-requires
+row-place-requires c κs = search needs
 
 mul-line : tie.Need-mul-line
 mul-line c = search needs
@@ -90,8 +84,8 @@ line-requires c κs = search needs
 
 returns : tie.Need-returns
 returns c =
-    let z = c .before .before .before .before .before .before .before .before .before .before .before .before .before .before .before .before .args in
-    c .line .ensures ∙ line-is (now (z .ladder)) (now (z .level)) (now (z .km)) (now (z .share)) (now (z .sheet)) (z .k) (z .from) (z .to) _ (c .before .before .before .before .before .before .before .before .before .wide .ensures)
+    let z = c .before .before .before .before .before .before .before .before .before .before .before .before .before .before .before .before .before .args in
+    c .line .ensures ∙ line-is (now (z .ladder)) (now (z .level)) (now (z .km)) (now (z .share)) (now (z .sheet)) (z .k) (z .from) (z .to) _ _ (c .before .before .before .before .before .before .before .before .before .before .wide .ensures) (c .before .before .before .before .before .before .before .before .before .row-place .ensures)
 
 pub line-at-spec : {M : Type 1} → statement M
 line-at-spec =
@@ -100,9 +94,7 @@ line-at-spec =
     mul-wide
     shared-slice-read-wide
     wide-requires
-    mul-row
-    add-row
-    mul-row-2
+    row-place-requires
     mul-line
     shared-slice-read-line
     mul-line-2

@@ -16,11 +16,11 @@ Inv-loop leader bus slack ground₀ count₀ i₀ ground count i = Grounded lead
 abbrev μ-loop : tie.MeasureT-loop
 μ-loop leader bus slack ground₀ count₀ i₀ ground count i = length leader - i
 
-clear-requires : tie.Need-clear-requires Inv-loop μ-loop
-clear-requires c κs = search needs
+clear-counts-requires : tie.Need-clear-counts-requires Inv-loop μ-loop
+clear-counts-requires c κs = search needs
 
 loop-holds : tie.Need-loop-holds Inv-loop μ-loop
-loop-holds c = grounded-start _ _ _ (c .before .before .before .before .before .before .before .before .args .ground .now) _ (c .before .before .before .before .before .before .before .before .pre .2) (c .before .before .clear .ensures)
+loop-holds c = grounded-start _ _ _ (c .before .before .before .before .before .before .before .before .args .ground .now) _ (c .before .before .before .before .before .before .before .before .pre .2) (c .before .before .clear-counts .ensures)
 
 mul-wide : tie.Need-mul-wide Inv-loop μ-loop
 mul-wide c = search needs
@@ -75,7 +75,7 @@ ground-components-spec =
     (tie.spec
     Inv-loop
     μ-loop
-    clear-requires
+    clear-counts-requires
     loop-holds
     mul-wide
     shared-slice-read-wide

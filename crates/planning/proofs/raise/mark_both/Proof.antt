@@ -1,7 +1,7 @@
 -- `planning::raise::mark_both` meets its contract.
 -- One end after the other.
 use denote.Ref.{now}
-use Rattle.planning.proofs.Raises.{mark-both-is}
+use Rattle.planning.proofs.Marks.{mark-both-is}
 use borrow.Author.Needs.{needs}
 use Rattle.planning.proofs.raise.mark_both.Statement.{statement}
 use Rattle.planning.proofs.raise.mark_both.Tie as tie

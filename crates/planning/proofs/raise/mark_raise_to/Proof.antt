@@ -1,7 +1,7 @@
 -- `planning::raise::mark_raise_to` meets its contract.
 -- The level of the higher end decides.
 use denote.Ref.{now}
-use Rattle.planning.proofs.Raises.{cannot-raise, can-raise, unmarked, marks-ends}
+use Rattle.planning.proofs.Marks.{cannot-raise, can-raise, unmarked, marks-ends}
 use borrow.Author.Needs.{needs}
 use Rattle.planning.proofs.raise.mark_raise_to.Statement.{statement}
 use Rattle.planning.proofs.raise.mark_raise_to.Tie as tie

@@ -1,7 +1,7 @@
 -- `planning::raise::marked` meets its contract.
 -- No mark, or one of which the higher is kept.
 use mathlib.Core.Path.{_∙_}
-use Rattle.planning.proofs.Raises.{marked-none, marked-some}
+use Rattle.planning.proofs.Marks.{marked-none, marked-some}
 use borrow.Author.Needs.{needs}
 use Rattle.planning.proofs.raise.marked.Statement.{statement}
 use Rattle.planning.proofs.raise.marked.Tie as tie

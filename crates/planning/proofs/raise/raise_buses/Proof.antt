@@ -9,7 +9,7 @@ use lib.ListN.{length, length-set}
 use Rattle.loops.specs.Loops.{filled}
 use Rattle.loops.proofs.Tab.{fill-start}
 use Rattle.plan_defs.specs.Lists.{countFrom, counting}
-use Rattle.planning.proofs.Raises.{goes, moving, stays-filled, stays-counted, moves-filled, moves-counted, raised-levels, raised-count, stay-moves, low-moves}
+use Rattle.planning.proofs.Marks.{goes, moving, stays-filled, stays-counted, moves-filled, moves-counted, raised-levels, raised-count, stay-moves, low-moves}
 use borrow.Author.Needs.{needs}
 use Rattle.planning.proofs.raise.raise_buses.Statement.{statement}
 use Rattle.planning.proofs.raise.raise_buses.Tie as tie

@@ -1,6 +1,6 @@
 -- `planning::raise::raise_of` meets its contract.
 -- No mark, or one more than a level.
-use Rattle.planning.proofs.Raises.{raise-some}
+use Rattle.planning.proofs.Marks.{raise-some}
 use borrow.Author.Needs.{needs}
 use Rattle.planning.proofs.raise.raise_of.Statement.{statement}
 use Rattle.planning.proofs.raise.raise_of.Tie as tie

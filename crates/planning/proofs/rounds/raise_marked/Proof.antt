@@ -9,7 +9,7 @@ use borrow.Author.Needs.{needs}
 use Rattle.plan_defs.specs.Raise.{raisedLevels}
 use Rattle.planning.specs.Design.{Lines}
 use Rattle.planning.specs.Redesign.{Loads}
-use Rattle.planning.proofs.Raises.{lines-raised, raised-length}
+use Rattle.planning.proofs.Marks.{lines-raised}
 use Rattle.planning.proofs.Redrawing.{redrawn-still, redrawn-anew}
 use Rattle.planning.proofs.rounds.raise_marked.Statement.{statement}
 use Rattle.planning.proofs.rounds.raise_marked.Tie as tie

@@ -220,15 +220,15 @@ enum-told :
     tie.Need-enum-told Inv-corridors μ-corridors Inv-components μ-components Inv-rounds μ-rounds
 enum-told c = search needs
 
-clear-marks-requires :
-    tie.Need-clear-marks-requires
+clear-counts-requires :
+    tie.Need-clear-counts-requires
     Inv-corridors
     μ-corridors
     Inv-components
     μ-components
     Inv-rounds
     μ-rounds
-clear-marks-requires c κs = search needs
+clear-counts-requires c κs = search needs
 
 corridors-holds :
     tie.Need-corridors-holds
@@ -250,12 +250,12 @@ corridors-holds c =
         bank-size = r .inv .0 .places .bank-size;
         floor-size = r .inv .0 .places .floor-size;
         upsized-size = r .inv .0 .places .upsized-size;
-        mark-size = c .before .before .clear-marks .kept .0 ∙ r .inv .0 .places .mark-size;
+        mark-size = c .before .before .clear-counts .kept .0 ∙ r .inv .0 .places .mark-size;
       },
       r .inv .0 .banked,
       r .inv .0 .few,
       omega arith,
-      left-start (z .mode) (length (r .level)) (now (z .ladder)) (r .level) (now (z .a)) (now (z .b)) (now (z .km)) (now (z .share)) (now (z .sheet)) _ (r .circuits) (r .banks) (r .floors) (r .upsized) _ (r .p .capacity) _ (c .before .before .clear-marks .ensures) (r .inv .0 .places .mark-size),
+      left-start (z .mode) (length (r .level)) (now (z .ladder)) (r .level) (now (z .a)) (now (z .b)) (now (z .km)) (now (z .share)) (now (z .sheet)) _ (r .circuits) (r .banks) (r .floors) (r .upsized) _ (r .p .capacity) _ (c .before .before .clear-counts .ensures) (r .inv .0 .places .mark-size),
       λ e. absurd (omega (arith, r .inv .0 .some)),
     )
 
@@ -1169,7 +1169,7 @@ size-rounds-spec =
     same-length-9
     returns
     enum-told
-    clear-marks-requires
+    clear-counts-requires
     corridors-holds
     size-corridor-requires
     add-k

@@ -11,7 +11,7 @@ use lib.ListN.{length, getD, set}
 use lib.Seq.{set-getD}
 use lib.Ieee.{Float}
 use Rattle.loops.specs.Loops.{filled}
-use Rattle.loops.proofs.Tab.{length-tab, get-tab, fill-turn, fill-end, fill-own}
+use Rattle.loops.proofs.Tab.{length-tab, get-tab, tab-same, tab-of, fill-turn, fill-end, fill-own}
 use Rattle.plan_defs.specs.Lists.{counting}
 use Rattle.plan_defs.specs.Case.{Case}
 use Rattle.plan_defs.specs.Raise.{raiseOf, marked, markBus, markBoth, topOf, canRaise, markIf, raisedTo, moves, raisedLevels, movedBuses}
@@ -19,7 +19,7 @@ use Rattle.plan_defs.specs.declared.Raise.{Raise}
 use Rattle.plan_defs.specs.declared.Raise.the-variants.{Stay, To}
 use Rattle.planning.specs.Design.{Lines}
 use Rattle.planning.specs.Raise.{pairsFor}
-use Rattle.planning.proofs.Lists.{count-more, count-most}
+use Rattle.planning.proofs.Lists.{count-more, count-most, count-zero}
 
 -- ---- marks
 pub marked-none : (m t : ℕ) → m ≡ 0 → t + 1 ≡ marked m t
@@ -127,6 +127,9 @@ module _ (marks level₀ : List ℕ) where
   unfolding movedBuses
   moved-most = count-most moving (length level₀) 0
 
+pub moved-within : (level marks : List ℕ) (n few : ℕ) → n ≡ movedBuses level marks → length level ≤ few → n ≤ few
+moved-within level marks n few e h = omega (arith, e, h, moved-most marks level)
+
 pub stay-moves : (l : ℕ) (r : Raise) → r ≡ Stay → moves l r ≡ false
 stay-moves l r e = ap (moves l) e
 
@@ -150,6 +153,18 @@ pub raised-most : (level marks : List ℕ) (i : ℕ) → i < length level → ge
 unfolding raisedLevels
 raised-most level marks i h =
     subst (λ (n : ℕ). n ≤ getD level i 0) (sym (get-tab (length level) (goes marks level) i 0 h)) (raised-to-most (getD level i 0) (raiseOf (getD marks i 0)))
+
+-- and the same where none moved
+stays-to : (l : ℕ) (r : Raise) → moves l r ≡ false → raisedTo l r ≡ l
+stays-to l Stay e = refl
+stays-to l (To t) e = ap (λ (b : Bool). cond b t l) e
+
+pub none-raised : (level marks : List ℕ) → movedBuses level marks ≡ 0 → raisedLevels level marks ≡ level
+unfolding movedBuses raisedLevels
+none-raised level marks e =
+    tab-same (length level) (goes marks level) (λ i. getD level i 0)
+    (λ i h. stays-to (getD level i 0) (raiseOf (getD marks i 0)) (count-zero (moving marks level) (length level) 0 e i (omega arith) (omega arith)))
+    ∙ tab-of (length level) level 0 refl
 
 -- so that the lines stay as they must be
 pub lines-raised : (ladder : List Float) (level a b : List ℕ) (km share sheet : List Float) (marks : List ℕ) → Lines ladder level a b km share sheet

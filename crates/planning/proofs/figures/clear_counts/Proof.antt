@@ -1,4 +1,4 @@
--- `planning::opening::clear` meets its contract. The invariant: the first i places are zero, and the rest is as it was.
+-- `planning::figures::clear_counts` meets its contract. The invariant: the first i counts are zero, and the rest is as it was.
 use Prim.Native.Nat.{_-_, _≤_}
 use mathlib.Core.Path.{_≡_, refl, _∙_}
 use native.Mathlib.Omega.{arith}
@@ -6,23 +6,23 @@ use lib.ListN.{length, length-set}
 use Rattle.loops.specs.Loops.{filled}
 use Rattle.loops.proofs.Tab.{tab-replicate, fill-start, fill-turn, fill-end}
 use borrow.Author.Needs.{needs}
-use Rattle.planning.proofs.opening.clear.Statement.{statement}
-use Rattle.planning.proofs.opening.clear.Tie as tie
+use Rattle.planning.proofs.figures.clear_counts.Statement.{statement}
+use Rattle.planning.proofs.figures.clear_counts.Tie as tie
 
 abbrev Inv-loop : tie.InvT-loop
-Inv-loop places₀ i₀ places i = (i ≤ length places₀) × (length places ≡ length places₀) × (places ≡ filled places₀ (λ k. 0) i)
+Inv-loop counts₀ i₀ counts i = (i ≤ length counts₀) × (length counts ≡ length counts₀) × (counts ≡ filled counts₀ (λ k. 0) i)
 
 abbrev μ-loop : tie.MeasureT-loop
-μ-loop places₀ i₀ places i = length places₀ - i
+μ-loop counts₀ i₀ counts i = length counts₀ - i
 
 loop-holds : tie.Need-loop-holds Inv-loop μ-loop
 loop-holds c = (omega arith, refl, fill-start _ _)
 
-mul-places : tie.Need-mul-places Inv-loop μ-loop
-mul-places c = search needs
+mul-counts : tie.Need-mul-counts Inv-loop μ-loop
+mul-counts c = search needs
 
-slice-write-places : tie.Need-slice-write-places Inv-loop μ-loop
-slice-write-places c = search needs
+slice-write-counts : tie.Need-slice-write-counts Inv-loop μ-loop
+slice-write-counts c = search needs
 
 add-i : tie.Need-add-i Inv-loop μ-loop
 add-i c = search needs
@@ -39,15 +39,15 @@ same-length c = search needs
 returns : tie.Need-returns Inv-loop μ-loop
 returns c = fill-end _ _ _ _ _ refl (omega arith) (c .before .loop .inv .2) ∙ tab-replicate _ _
 
-pub clear-spec : {M : Type 1} → statement M
-clear-spec =
+pub clear-counts-spec : {M : Type 1} → statement M
+clear-counts-spec =
     tie.close
     (tie.spec
     Inv-loop
     μ-loop
     loop-holds
-    mul-places
-    slice-write-places
+    mul-counts
+    slice-write-counts
     add-i
     loop-less
     loop-again

@@ -1,4 +1,4 @@
--- `planning::opening::clear_figures` meets its contract. The invariant: the first i figures are zero, and the rest is as it was.
+-- `planning::figures::clear_figures` meets its contract. The invariant: the first i figures are zero, and the rest is as it was.
 use Prim.Native.Nat.{_-_, _≤_}
 use mathlib.Core.Path.{_≡_, refl, _∙_}
 use native.Mathlib.Omega.{arith}
@@ -7,8 +7,8 @@ use Rattle.loops.specs.Figures.{nought}
 use Rattle.loops.specs.Loops.{filled}
 use Rattle.loops.proofs.Tab.{tab-replicate, fill-start, fill-turn, fill-end}
 use borrow.Author.Needs.{needs}
-use Rattle.planning.proofs.opening.clear_figures.Statement.{statement}
-use Rattle.planning.proofs.opening.clear_figures.Tie as tie
+use Rattle.planning.proofs.figures.clear_figures.Statement.{statement}
+use Rattle.planning.proofs.figures.clear_figures.Tie as tie
 
 abbrev Inv-loop : tie.InvT-loop
 Inv-loop figures₀ i₀ figures i = (i ≤ length figures₀) × (length figures ≡ length figures₀) × (figures ≡ filled figures₀ (λ k. nought) i)

@@ -1,0 +1,69 @@
+-- `planning::settle::fill_up` meets its contract: the order that was made is the defined one, and so is the filling in it.
+use mathlib.Core.Path.{refl, _∙_}
+use denote.Ref.{now}
+use lib.ListN.{length}
+use borrow.Author.Needs.{needs}
+use Rattle.planning.specs.Solve.{peakFor}
+use Rattle.planning.specs.Fill.{designsFor}
+use Rattle.planning.proofs.Settling.{settleable-again, counted, ranked, filled-are}
+use Rattle.planning.proofs.settle.fill_up.Statement.{statement}
+use Rattle.planning.proofs.settle.fill_up.Tie as tie
+
+fill-order-requires : tie.Need-fill-order-requires
+fill-order-requires c κs = search needs
+
+fill-requires : tie.Need-fill-requires
+fill-requires c κs =
+    let s = c .before .before .before .before .before .before .before .before .before .before .before .before .before .before .before .before .before .before .before .before .before .before .before .before .before in
+    let o = c .before .before .fill-order .ensures in
+    (ranked _ _ _ _ _ _ _ _ _ _ _ _ _ _ _ _ _ _ _ (s .pre .0) _ _ (o .0) (o .1), counted _ _ _ _ _ _ _ _ _ _ _ _ _ _ _ _ _ _ _ (s .pre .0) (s .pre .1))
+
+close-up-requires : tie.Need-close-up-requires
+close-up-requires c κs =
+    settleable-again _ _ _ _ _ _ _ _ _ _ _ _ _ _ _ _ _ _ _ (c .before .before .before .before .before .before .before .before .before .before .before .before .before .before .before .before .before .before .before .before .before .before .before .before .before .before .before .before .before .before .before .before .before .before .before .pre .0) _ _ _ _ (c .before .before .before .before .before .before .before .before .before .fill .kept .1 .1 .1 .0) refl refl refl
+
+same-length : tie.Need-same-length
+same-length c = search needs
+
+same-length-2 : tie.Need-same-length-2
+same-length-2 c = search needs
+
+same-length-3 : tie.Need-same-length-3
+same-length-3 c = search needs
+
+same-length-4 : tie.Need-same-length-4
+same-length-4 c = search needs
+
+same-length-5 : tie.Need-same-length-5
+same-length-5 c = search needs
+
+same-length-6 : tie.Need-same-length-6
+same-length-6 c = search needs
+
+same-length-7 : tie.Need-same-length-7
+same-length-7 c = search needs
+
+returns : tie.Need-returns
+returns c =
+    let s = c .before .before .before .before .before .before .before .before .before .before .before .before .before .before .before .before .before .before .before .before .before .before .before .before .before .before .before .before .before .before .before .before .before .before .before .before .before .before .before .before .before .before .before .before .before .before .before .before in
+    let z = s .args in
+    let f = c .before .before .before .before .before .before .before .before .before .before .before .before .before .before .before .before .before .before .before .before .before .before .fill .ensures in
+    c .before .before .before .before .before .before .before .before .before .before .before .before .close-up .ensures
+    ∙ filled-are (z .mode) (z .above) (now (z .leader)) (now (z .ladder)) (now (z .level)) (designsFor (now (z .ladder)) (now (z .level)) (now (z .a)) (now (z .b)) (now (z .km)) (now (z .share)) (now (z .sheet)) (now (z .banks)))
+    (now (z .upsized)) (peakFor (length (now (z .level))) (now (z .grounds)) (now (z .injection))) (z .target) (length (now (z .a))) _ (now (z .circuits)) _ _ (now (z .flow)) (s .pre .0 .drawing .count-size) (c .before .before .before .before .before .before .before .before .before .before .before .before .before .before .before .before .before .before .before .before .before .before .before .before .before .fill-order .ensures .1) (f .0) (f .1)
+
+pub fill-up-spec : {M : Type 1} → statement M
+fill-up-spec =
+    tie.close
+    (tie.spec
+    fill-order-requires
+    fill-requires
+    close-up-requires
+    same-length
+    same-length-2
+    same-length-3
+    same-length-4
+    same-length-5
+    same-length-6
+    same-length-7
+    returns)

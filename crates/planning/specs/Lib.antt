@@ -9,3 +9,5 @@ pub mod Check
 pub mod Fill
 pub mod Close
 pub mod Sound
+pub mod Whole
+pub mod Stiffen

@@ -10,3 +10,4 @@ mod raise;
 mod redesign;
 mod size;
 mod solve;
+mod stiffen;

@@ -1,0 +1,86 @@
+-- What the contracts of module stiffen cite: the state that the slices stand for, what a component asks of them, and what it does to them.
+use Prim.Native.Nat.{ℕ, _+_, _*_, _<_, _≤_}
+use mathlib.Core.List.{List}
+use mathlib.Core.Path.{_≡_}
+use lib.ListN.{length, getD, take}
+use lib.Ieee.{Float}
+use Rattle.angles_defs.specs.Network.{edgesOf}
+use Rattle.angles_defs.specs.Operation.{most, workPlaces}
+use Rattle.plan_defs.specs.Case.{Case}
+use Rattle.plan_defs.specs.Stage.{Stage, stopped, going}
+use Rattle.plan_defs.specs.Components.{leads}
+use Rattle.plan_defs.specs.Solve.{PlanningCase}
+use Rattle.plan_defs.specs.Build.{buildOf}
+use Rattle.plan_defs.specs.Stiffen.{Budget, Stiffening, stiff, stiffenComponent}
+use Rattle.planning.specs.Design.{Lines, Banks}
+use Rattle.planning.specs.Raise.{largestCount}
+use Rattle.planning.specs.Size.{Few}
+use Rattle.planning.specs.Opening.{stageIf}
+use Rattle.planning.specs.Solve.{peakFor, Drawn}
+use Rattle.planning.specs.Sound.{Sound}
+use Rattle.planning.specs.Whole.{withLines}
+use Rattle.planning.specs.declared.stiffen.Limits.{Limits}
+use Rattle.planning.specs.declared.stiffen.Stiffness.{Stiffness}
+use Rattle.planning.specs.declared.stiffen.Stiffened.{Stiffened}
+use Rattle.planning.specs.declared.stiffen.Stiffened.the-variants.{Refused, Going}
+
+-- ---- the budgets, and the state that slices stand for
+abbrev pub budgetFor : Limits → Budget
+budgetFor g = record { hv = g .hv; branches = g .branches; top = g .top }
+
+abbrev pub stiffOf : Case → List ℕ → List ℕ → List Float → List Float → List ℕ → List ℕ → Stiffness → Stiffening
+stiffOf c level circuits banks floors upsized marks t =
+    stiff (buildOf c level circuits banks floors upsized) marks (t .total) (t .hv) (t .stiffening) (t .wide) (t .stiffened)
+
+abbrev pub stiffenedAs : Stiffened → Case → List ℕ → List ℕ → List Float → List Float → List ℕ → List ℕ → Stage Stiffening
+stiffenedAs (Refused f) c level circuits banks floors upsized marks = stopped f
+stiffenedAs (Going t) c level circuits banks floors upsized marks = going (stiffOf c level circuits banks floors upsized marks t)
+
+-- ---- the round's solve: the m edges at the front of three lists, the angles, and flows, which stiffening does not read
+abbrev pub roundOf : ℕ → List ℕ → List ℕ → List Float → List Float → List Float → PlanningCase
+roundOf m from to weight theta flows = record { edges = edgesOf (take m from) (take m to) (take m weight); theta = theta; flows = flows }
+
+-- ---- what a component asks of the slices: a place for each corridor, or for each bus
+pub record Stiffenable (ladder : List Float) (level a b : List ℕ) (km share sheet : List Float) (leader grounds from to : List ℕ) (weight angle : List Float)
+    (circuits : List ℕ) (banks floors : List Float) (upsized marks : List ℕ) (work : List Float) : Type 0 where
+  pub lines : Lines ladder level a b km share sheet
+  pub few-buses : length level ≤ most
+  pub few-grounds : length grounds ≤ most
+  pub ground-below : (g : ℕ) → g < length grounds → getD grounds g 0 < length level
+  pub drawn : Drawn (length level) (length a) from to
+  pub to-size : length to ≡ most
+  pub from-size : length from ≡ most
+  pub weight-size : length weight ≡ most
+  pub leader-size : length leader ≡ length level
+  pub angle-size : length angle ≡ length level
+  pub count-size : length circuits ≡ length a
+  pub bank-size : length banks ≡ length a
+  pub floor-size : length floors ≡ length a
+  pub upsized-size : length upsized ≡ length a
+  pub mark-size : length marks ≡ length level
+  pub work-size : length work ≡ workPlaces (length level)
+  pub banked : Banks banks
+
+-- room for what m corridors may add
+pub record Room (m : ℕ) (t : Stiffness) : Type 0 where
+  pub total : t .total + m ≤ largestCount
+  pub hv : t .hv + 2 * m ≤ largestCount
+  pub stiffening : t .stiffening + m ≤ largestCount
+
+-- ---- what the component that bus i leads, where it leads one, does to the slices
+abbrev pub Within : ℕ → Stiffness → Stiffened → Type 0
+Within m t (Refused f) = Unit
+Within m t (Going u) = (u .total ≤ t .total + m) × (u .hv ≤ t .hv + 2 * m) × (u .stiffening ≤ t .stiffening + m)
+
+pub record LedStiffened (i round : ℕ) (g : Limits) (ladder : List Float) (level a b : List ℕ) (km share sheet : List Float) (leader grounds from to : List ℕ) (weight angle : List Float)
+    (circuits : List ℕ) (banks floors : List Float) (upsized marks : List ℕ) (t : Stiffness)
+    (circuits′ : List ℕ) (banks′ floors′ : List Float) (upsized′ marks′ : List ℕ) (r : Stiffened) : Type 0 where
+  pub stiffened : (o : Case) (target : ℕ) (injection flows : List Float) → Sound (withLines o ladder a b km share sheet) target → length level ≡ o .buses
+      → stiffenedAs r (withLines o ladder a b km share sheet) level circuits′ banks′ floors′ upsized′ marks′
+      ≡ stageIf (leads leader i)
+      (stiffenComponent (withLines o ladder a b km share sheet) (peakFor (o .buses) grounds injection) leader level round (budgetFor g) (roundOf (length a) from to weight angle flows) i
+      (stiffOf (withLines o ladder a b km share sheet) level circuits banks floors upsized marks t))
+      (stiffOf (withLines o ladder a b km share sheet) level circuits banks floors upsized marks t)
+  pub banked : Banks banks′
+  pub few : Few circuits → Few circuits′
+  pub bound : Within (length a) t r

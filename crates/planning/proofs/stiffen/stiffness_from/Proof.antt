@@ -29,7 +29,7 @@ same-length c = search needs
 returns : tie.Need-returns
 returns c =
     let s = c .before .before .before .before .before .before .before .before .before in
-    (c .before .before .before .before .clear-marks .ensures ∙ ap (λ (n : ℕ). noMarks n) (s .pre .1 .0), start-is _ _ _ _ _ (c .before .total .ensures) (c .at-or-above .ensures))
+    (c .before .before .before .before .clear-marks .ensures ∙ ap (λ (n : ℕ). noMarks n) (s .pre .1), start-is _ _ _ _ _ (c .before .total .ensures) (c .at-or-above .ensures))
 
 pub stiffness-from-spec : {M : Type 1} → statement M
 stiffness-from-spec =

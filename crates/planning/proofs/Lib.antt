@@ -28,3 +28,4 @@ pub mod Fillings
 pub mod Closings
 pub mod Sounds
 pub mod Liftings
+pub mod Stiffenings

@@ -1,19 +1,25 @@
 -- What the contracts of module stiffen cite: the state that the slices stand for, what a component asks of them, and what it does to them.
 use Prim.Native.Nat.{ℕ, _+_, _*_, _<_, _≤_}
-use mathlib.Core.List.{List}
+use mathlib.Core.Bool.{Bool, true, false, _&&_}
+use mathlib.Core.List.{List, []}
 use mathlib.Core.Path.{_≡_}
+use lib.Dec.{ltb}
 use lib.ListN.{length, getD, take}
 use lib.Ieee.{Float}
 use Rattle.angles_defs.specs.Network.{edgesOf}
 use Rattle.angles_defs.specs.Operation.{most, workPlaces}
-use Rattle.plan_defs.specs.Case.{Case}
+use Rattle.plan_defs.specs.Constants.{maxCircuitsPerCorridor}
+use Rattle.plan_defs.specs.Lists.{each}
+use Rattle.plan_defs.specs.Case.{Case, levels}
+use Rattle.plan_defs.specs.Raise.{canRaise}
 use Rattle.plan_defs.specs.Stage.{Stage, stopped, going}
 use Rattle.plan_defs.specs.Components.{leads}
 use Rattle.plan_defs.specs.Solve.{PlanningCase}
-use Rattle.plan_defs.specs.Build.{buildOf}
-use Rattle.plan_defs.specs.Stiffen.{Budget, Stiffening, stiff, stiffenComponent}
+use Rattle.plan_defs.specs.Build.{built, buildOf}
+use Rattle.plan_defs.specs.Stiffen.{Budget, Stiffening, stiff, stiffenBy, stiffenOne, stiffenComponent}
+use Rattle.plan_defs.specs.declared.CircuitDesign.{CircuitDesign}
 use Rattle.planning.specs.Design.{Lines, Banks}
-use Rattle.planning.specs.Raise.{largestCount}
+use Rattle.planning.specs.Raise.{largestCount, pairsFor}
 use Rattle.planning.specs.Size.{Few}
 use Rattle.planning.specs.Opening.{stageIf}
 use Rattle.planning.specs.Solve.{peakFor, Drawn}
@@ -84,3 +90,55 @@ pub record LedStiffened (i round : ℕ) (g : Limits) (ladder : List Float) (leve
   pub banked : Banks banks′
   pub few : Few circuits → Few circuits′
   pub bound : Within (length a) t r
+
+-- ---- one corridor
+-- the state over any designs
+abbrev pub stiffOver : List CircuitDesign → List Float → List ℕ → List ℕ → List ℕ → Stiffness → Stiffening
+stiffOver designs floors upsized circuits marks t =
+    stiff (built circuits designs floors upsized) marks (t .total) (t .hv) (t .stiffening) (t .wide) (t .stiffened)
+
+-- a raise that is within the budget, and a circuit that is
+abbrev pub raisable : Limits → ℕ → List ℕ → List ℕ → List ℕ → ℕ → Bool
+raisable g hv level a b k = ltb hv (g .hv) && canRaise (pairsFor a b) level (g .top) k
+
+abbrev pub roomFor : Limits → ℕ → ℕ → Bool
+roomFor g count total = ltb count maxCircuitsPerCorridor && ltb total (g .branches)
+
+-- so many circuits added, and so many buses that came to the top
+abbrev pub reckoned : ℕ → ℕ → Stiffness → Stiffness
+reckoned added arrived t = record { total = t .total + added; hv = t .hv + arrived; stiffening = t .stiffening + added; wide = t .wide; stiffened = true }
+
+-- what a raise, or else a circuit, does to corridor k, whatever its designs are
+pub record Strengthened (g : Limits) (level a b : List ℕ) (k : ℕ) (circuits marks : List ℕ) (t : Stiffness) (circuits′ marks′ : List ℕ) (t′ : Stiffness) : Type 0 where
+  pub stiffened : (designs : List CircuitDesign) (floors : List Float) (upsized : List ℕ)
+      → stiffOver designs floors upsized circuits′ marks′ t′
+      ≡ stiffenBy false (raisable g (t .hv) level a b k) (roomFor g (getD circuits k 0) (t .total)) (pairsFor a b) level (budgetFor g) k
+      (stiffOver designs floors upsized circuits marks t)
+  pub few : Few circuits → Few circuits′
+  pub bound : Within 1 t (Going t′)
+
+-- a case of these columns has as many corridors and levels as they
+abbrev pub Fitting : Case → List Float → List ℕ → Type 0
+Fitting o ladder a = (length a ≡ o .corridors) × (length ladder ≡ levels o)
+
+-- what the lent slices must be
+pub record StiffenFits (ladder : List Float) (level a b : List ℕ) (km share sheet : List Float) (circuits : List ℕ) (banks floors : List Float) (upsized marks : List ℕ) : Type 0 where
+  pub lines : Lines ladder level a b km share sheet
+  pub count-size : length circuits ≡ length a
+  pub bank-size : length banks ≡ length a
+  pub floor-size : length floors ≡ length a
+  pub upsized-size : length upsized ≡ length a
+  pub mark-size : length marks ≡ length level
+  pub banked : Banks banks
+
+-- what stiffening the corridors of a list does to them
+pub record BatchStiffened (ks : List ℕ) (g : Limits) (ladder : List Float) (level a b : List ℕ) (km share sheet : List Float)
+    (circuits : List ℕ) (banks floors : List Float) (upsized marks : List ℕ) (t : Stiffness)
+    (circuits′ : List ℕ) (banks′ floors′ : List Float) (upsized′ marks′ : List ℕ) (t′ : Stiffness) : Type 0 where
+  pub stiffened : (o : Case) → Fitting o ladder a
+      → stiffOf (withLines o ladder a b km share sheet) level circuits′ banks′ floors′ upsized′ marks′ t′
+      ≡ each (stiffenOne (withLines o ladder a b km share sheet) level (budgetFor g)) ks
+      (stiffOf (withLines o ladder a b km share sheet) level circuits banks floors upsized marks t)
+  pub banked : Banks banks′
+  pub few : Few circuits → Few circuits′
+  pub bound : Within (length ks) t (Going t′)

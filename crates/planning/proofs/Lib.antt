@@ -29,3 +29,4 @@ pub mod Closings
 pub mod Sounds
 pub mod Liftings
 pub mod Stiffenings
+pub mod Gains

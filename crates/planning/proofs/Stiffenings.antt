@@ -2,13 +2,15 @@
 -- Each law is the definition with its tests decided.
 use Prim.Native.Nat.{ℕ, zero, suc, _+_, _*_, _<_, _≤_}
 use mathlib.Core.Bool.{Bool, true, false, cond, _&&_}
-use mathlib.Core.List.{List, [], _∷_}
+use mathlib.Core.List.{List, [], _∷_, _++_}
 use mathlib.Core.Path.{_≡_, refl, sym, ap, _∙_, subst}
 use native.Mathlib.Nat.{not-suc-le-zero, le-of-suc-le-suc}
+use native.Mathlib.Numerals.{add-one}
 use native.Mathlib.Omega.{arith}
 use borrow.Author.Tests.{ltb-true, lt-ltb, le-ltb}
 use lib.Dec.{ltb, leb}
-use lib.ListN.{length, getD, set}
+use lib.ListN.{length, getD, set, take, length-append}
+use lib.Seq.{take-suc}
 use lib.Ieee.{Float}
 use Rattle.loops.specs.Figures.{at}
 use Rattle.loops.proofs.Bools.{both}
@@ -22,6 +24,7 @@ use Rattle.plan_defs.specs.Stiffen.{Stiffening, stiff, arrives, arrival, stiffe
 use Rattle.plan_defs.specs.declared.Raise.{Raise}
 use Rattle.plan_defs.specs.declared.Raise.the-variants.{Stay, To}
 use Rattle.plan_defs.specs.declared.CircuitDesign.{CircuitDesign}
+use Rattle.plan_defs.proofs.Lists.{each-append}
 use Rattle.planning.specs.Raise.{pairsFor}
 use Rattle.planning.specs.Size.{Few}
 use Rattle.planning.specs.Stiffen.{budgetFor, stiffOf, stiffOver, raisable, roomFor, reckoned, Strengthened, BatchStiffened}
@@ -239,3 +242,42 @@ module _ (g : Limits) (ladder : List Float) (level a b : List ℕ) (km share she
         few = r .few;
         bound = r .bound;
       }
+
+-- ---- one after another
+module _ (g : Limits) (ladder : List Float) (level a b : List ℕ) (km share sheet : List Float) (circuits : List ℕ) (banks floors : List Float) (upsized marks : List ℕ) (t : Stiffness) where
+  abbrev To : List ℕ → List ℕ → List Float → List Float → List ℕ → List ℕ → Stiffness → Type 0
+  To ks circuits′ banks′ floors′ upsized′ marks′ t′ = BatchStiffened ks g ladder level a b km share sheet circuits banks floors upsized marks t circuits′ banks′ floors′ upsized′ marks′ t′
+
+  pub batch-start : Banks banks → To [] circuits banks floors upsized marks t
+  unfolding each
+  batch-start banked =
+      record {
+        stiffened = λ o f. refl;
+        banked = banked;
+        few = λ f. f;
+        bound = (omega arith, omega arith, omega arith);
+      }
+
+  module _ (circuits₁ : List ℕ) (banks₁ floors₁ : List Float) (upsized₁ marks₁ : List ℕ) (t₁ : Stiffness) (circuits₂ : List ℕ) (banks₂ floors₂ : List Float) (upsized₂ marks₂ : List ℕ) (t₂ : Stiffness) where
+    batch-more : (ks : List ℕ) (k : ℕ) → To ks circuits₁ banks₁ floors₁ upsized₁ marks₁ t₁
+        → BatchStiffened (k ∷ []) g ladder level a b km share sheet circuits₁ banks₁ floors₁ upsized₁ marks₁ t₁ circuits₂ banks₂ floors₂ upsized₂ marks₂ t₂
+        → To (ks ++ (k ∷ [])) circuits₂ banks₂ floors₂ upsized₂ marks₂ t₂
+    batch-more ks k p q =
+        let n = length-append ks (k ∷ []) in
+        record {
+          stiffened = λ o f.
+              let c = withLines o ladder a b km share sheet in
+              let F = stiffenOne c level (budgetFor g) in
+              q .stiffened o f ∙ ap (each F (k ∷ [])) (p .stiffened o f) ∙ sym (each-append F ks (k ∷ []) (stiffOf c level circuits banks floors upsized marks t));
+          banked = q .banked;
+          few = λ f. q .few (p .few f);
+          bound = (omega (arith, n, p .bound .0, q .bound .0), omega (arith, n, p .bound .1, q .bound .1), omega (arith, n, p .bound .2, q .bound .2));
+        }
+
+    pub batch-turn : (order : List ℕ) (j k : ℕ) → j < length order → k ≡ getD order j 0 → To (take j order) circuits₁ banks₁ floors₁ upsized₁ marks₁ t₁
+        → BatchStiffened (k ∷ []) g ladder level a b km share sheet circuits₁ banks₁ floors₁ upsized₁ marks₁ t₁ circuits₂ banks₂ floors₂ upsized₂ marks₂ t₂
+        → To (take (j + 1) order) circuits₂ banks₂ floors₂ upsized₂ marks₂ t₂
+    batch-turn order j k h e p q =
+        let r : take j order ++ (k ∷ []) ≡ take (j + 1) order =
+        ap (λ (i : ℕ). take j order ++ (i ∷ [])) e ∙ sym (take-suc order j 0 h) ∙ ap (λ (n : ℕ). take n order) (sym (add-one j)) in
+        subst (λ (ks : List ℕ). To ks circuits₂ banks₂ floors₂ upsized₂ marks₂ t₂) r (batch-more (take j order) k p q)

@@ -30,3 +30,4 @@ pub mod Sounds
 pub mod Liftings
 pub mod Stiffenings
 pub mod Gains
+pub mod Leads

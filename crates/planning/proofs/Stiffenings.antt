@@ -245,10 +245,10 @@ module _ (g : Limits) (ladder : List Float) (level a b : List ℕ) (km share she
 
 -- ---- one after another
 module _ (g : Limits) (ladder : List Float) (level a b : List ℕ) (km share sheet : List Float) (circuits : List ℕ) (banks floors : List Float) (upsized marks : List ℕ) (t : Stiffness) where
-  abbrev To : List ℕ → List ℕ → List Float → List Float → List ℕ → List ℕ → Stiffness → Type 0
-  To ks circuits′ banks′ floors′ upsized′ marks′ t′ = BatchStiffened ks g ladder level a b km share sheet circuits banks floors upsized marks t circuits′ banks′ floors′ upsized′ marks′ t′
+  abbrev Onto : List ℕ → List ℕ → List Float → List Float → List ℕ → List ℕ → Stiffness → Type 0
+  Onto ks circuits′ banks′ floors′ upsized′ marks′ t′ = BatchStiffened ks g ladder level a b km share sheet circuits banks floors upsized marks t circuits′ banks′ floors′ upsized′ marks′ t′
 
-  pub batch-start : Banks banks → To [] circuits banks floors upsized marks t
+  pub batch-start : Banks banks → Onto [] circuits banks floors upsized marks t
   unfolding each
   batch-start banked =
       record {
@@ -259,9 +259,9 @@ module _ (g : Limits) (ladder : List Float) (level a b : List ℕ) (km share she
       }
 
   module _ (circuits₁ : List ℕ) (banks₁ floors₁ : List Float) (upsized₁ marks₁ : List ℕ) (t₁ : Stiffness) (circuits₂ : List ℕ) (banks₂ floors₂ : List Float) (upsized₂ marks₂ : List ℕ) (t₂ : Stiffness) where
-    batch-more : (ks : List ℕ) (k : ℕ) → To ks circuits₁ banks₁ floors₁ upsized₁ marks₁ t₁
+    batch-more : (ks : List ℕ) (k : ℕ) → Onto ks circuits₁ banks₁ floors₁ upsized₁ marks₁ t₁
         → BatchStiffened (k ∷ []) g ladder level a b km share sheet circuits₁ banks₁ floors₁ upsized₁ marks₁ t₁ circuits₂ banks₂ floors₂ upsized₂ marks₂ t₂
-        → To (ks ++ (k ∷ [])) circuits₂ banks₂ floors₂ upsized₂ marks₂ t₂
+        → Onto (ks ++ (k ∷ [])) circuits₂ banks₂ floors₂ upsized₂ marks₂ t₂
     batch-more ks k p q =
         let n = length-append ks (k ∷ []) in
         record {
@@ -274,10 +274,10 @@ module _ (g : Limits) (ladder : List Float) (level a b : List ℕ) (km share she
           bound = (omega (arith, n, p .bound .0, q .bound .0), omega (arith, n, p .bound .1, q .bound .1), omega (arith, n, p .bound .2, q .bound .2));
         }
 
-    pub batch-turn : (order : List ℕ) (j k : ℕ) → j < length order → k ≡ getD order j 0 → To (take j order) circuits₁ banks₁ floors₁ upsized₁ marks₁ t₁
+    pub batch-turn : (order : List ℕ) (j k : ℕ) → j < length order → k ≡ getD order j 0 → Onto (take j order) circuits₁ banks₁ floors₁ upsized₁ marks₁ t₁
         → BatchStiffened (k ∷ []) g ladder level a b km share sheet circuits₁ banks₁ floors₁ upsized₁ marks₁ t₁ circuits₂ banks₂ floors₂ upsized₂ marks₂ t₂
-        → To (take (j + 1) order) circuits₂ banks₂ floors₂ upsized₂ marks₂ t₂
+        → Onto (take (j + 1) order) circuits₂ banks₂ floors₂ upsized₂ marks₂ t₂
     batch-turn order j k h e p q =
         let r : take j order ++ (k ∷ []) ≡ take (j + 1) order =
         ap (λ (i : ℕ). take j order ++ (i ∷ [])) e ∙ sym (take-suc order j 0 h) ∙ ap (λ (n : ℕ). take n order) (sym (add-one j)) in
-        subst (λ (ks : List ℕ). To ks circuits₂ banks₂ floors₂ upsized₂ marks₂ t₂) r (batch-more (take j order) k p q)
+        subst (λ (ks : List ℕ). Onto ks circuits₂ banks₂ floors₂ upsized₂ marks₂ t₂) r (batch-more (take j order) k p q)

@@ -43,7 +43,7 @@ mul-wide c = search needs
 
 -- src/stiffen.rt:273:22
 element-copy-out-wide : tie.Need-element-copy-out-wide Inv-loop μ-loop
-element-copy-out-wide c = let s = c .before .before .before .before .before .before .before .before .before .before .before .before .before in omega (arith, s .pre .1 .0 .few, s .pre .1 .2, c .loop-test .taken)
+element-copy-out-wide c = let s = c .before .before .before .before .before .before .before .before .before .before .before .before .before .before in omega (arith, s .pre .1 .0 .few, s .pre .1 .2, c .loop-test .taken)
 
 -- src/stiffen.rt:273:13
 wide-requires : tie.Need-wide-requires Inv-loop μ-loop

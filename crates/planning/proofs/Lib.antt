@@ -31,3 +31,4 @@ pub mod Liftings
 pub mod Stiffenings
 pub mod Gains
 pub mod Leads
+pub mod Reinforcing

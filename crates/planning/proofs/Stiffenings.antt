@@ -156,6 +156,10 @@ default-free [] i d e h = absurd (not-suc-le-zero h)
 default-free (x ∷ l) zero d e h = refl
 default-free (x ∷ l) (suc i) d e h = default-free l i d e (le-of-suc-le-suc h)
 
+pub room-lifts : (c : Case) (g : Limits) (k : ℕ) (s : Stiffening) → k < length (s .build .circuits) → roomFor g (getD (s .build .circuits) k 0) (s .total) ≡ hasRoom c (budgetFor g) k s
+unfolding fullAt
+room-lifts c g k s h = ap (λ (n : ℕ). ltb n 4 && ltb (s .total) (g .branches)) (default-free (s .build .circuits) k 0 4 h)
+
 -- the rest of the step reads the corridors' ends of a case
 strengthen-lifts : (x y : Bool) (o : Case) (ladder : List Float) (level a b : List ℕ) (km share sheet : List Float) (g : Limits) (k : ℕ) (s : Stiffening)
     → stiffenBy false x y (pairsFor a b) level (budgetFor g) k s ≡ stiffenBy false x y (withLines o ladder a b km share sheet) level (budgetFor g) k s
@@ -175,10 +179,6 @@ module _ (g : Limits) (ladder : List Float) (level a b : List ℕ) (km share she
 
     design-is : d ≡ design (drawnAll C level banks) k
     design-is = pd ∙ drawn-lifts C level k (at banks k) q ∙ sym (drawn-at C level banks k (omega arith))
-
-    room-is : roomFor g (getD circuits k 0) (t .total) ≡ hasRoom C (budgetFor g) k S
-    unfolding fullAt
-    room-is = ap (λ (n : ℕ). ltb n 4 && ltb (t .total) (g .branches)) (default-free circuits k 0 4 (omega arith))
 
     one-by : (x : Bool) → below ≡ x
         → stiffenBy x (raisable g (t .hv) level a b k) (hasRoom C (budgetFor g) k S) C level (budgetFor g) k S ≡ each (stiffenOne C level (budgetFor g)) (k ∷ []) S
@@ -207,7 +207,7 @@ module _ (g : Limits) (ladder : List Float) (level a b : List ℕ) (km share she
     rest-is e circuits′ marks′ t′ r =
         r .stiffened (drawnAll C level banks) floors upsized
         ∙ strengthen-lifts (raisable g (t .hv) level a b k) (roomFor g (getD circuits k 0) (t .total)) o ladder level a b km share sheet g k S
-        ∙ ap (λ (x : Bool). stiffenBy false (raisable g (t .hv) level a b k) x C level (budgetFor g) k S) room-is
+        ∙ ap (λ (x : Bool). stiffenBy false (raisable g (t .hv) level a b k) x C level (budgetFor g) k S) (room-lifts C g k S (omega arith))
         ∙ one-by false e
 
   pub one-full : below ≡ true → Lines ladder level a b km share sheet → Banks banks → (banks′ floors′ : List Float) (upsized′ : List ℕ) (t′ : Stiffness)

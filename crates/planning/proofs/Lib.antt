@@ -32,3 +32,4 @@ pub mod Stiffenings
 pub mod Gains
 pub mod Leads
 pub mod Reinforcing
+pub mod Narrowing

@@ -13,7 +13,7 @@ ghost use Rattle.plan_defs.specs.Raise.{noMarks, markIf};
 ghost use Rattle.plan_defs.specs.Stiffen.{atOrAbove, shareOf, hvBudget, stiffenTop, arrival, gainOf, batch, batchCap};
 ghost use Rattle.planning.specs.Fill.{Counted, Ranked, Whole, placeOf};
 ghost use Rattle.planning.specs.Raise.{largestCount, pairsFor, PairFits};
-ghost use Rattle.planning.specs.Stiffen.{budgetFor, Stiffenable, Room, LedStiffened, raisable, roomFor, reckoned, Strengthened, StiffenFits, BatchStiffened, Gainful, candidateAt, gainAt, gainsMore, gainNext, gainOrder, gainFor, Stepped, reinforceStep, narrowStep, Led, leadOf, lagOf};
+ghost use Rattle.planning.specs.Stiffen.{budgetFor, Stiffenable, Room, LedStiffened, raisable, roomFor, reckoned, Strengthened, StiffenFits, BatchStiffened, Gainful, candidateAt, gainAt, gainsMore, gainNext, gainOrder, gainFor, Stepped, reinforceStep, narrowStep, componentStep, Led, leadOf, lagOf};
 ghost use Rattle.planning.specs.declared.stiffen.Stiffened.the-variants.{Going};
 use crate::design::circuit;
 use crate::figures::ceil;
@@ -45,6 +45,12 @@ const STIFFENING_BRANCH_BUDGET: f64 = 1.6;
 
 // The share of a component's corridors in one batch.
 const STIFFENING_BATCH_SHARE: f64 = 0.05;
+
+// Three quarters of the rounds.
+const STIFFENING_ROUNDS: u32 = 48;
+
+// The widest spread of a component's angles, radians.
+const MAX_ANGLE_SPREAD_RAD: f64 = 0.775397496610753;
 
 // The budgets of stiffening.
 pub struct Limits {
@@ -626,4 +632,96 @@ fn widened(t: Stiffness) -> Stiffness
         wide: true,
         stiffened: t.stiffened,
     }
+}
+
+// The component that a bus leads. The last quarter of the rounds belongs to capacity.
+fn stiffen_component(
+    root: usize,
+    round: u32,
+    g: Limits,
+    ladder: &[f64],
+    level: &[u32],
+    a: &[u32],
+    b: &[u32],
+    km: &[f64],
+    share: &[f64],
+    sheet: &[f64],
+    leader: &[u32],
+    grounds: &[u32],
+    from: &[u32; 256],
+    to: &[u32; 256],
+    weight: &[f64; 256],
+    angle: &[f64],
+    circuits: &mut [u32],
+    banks: &mut [f64],
+    floors: &mut [f64],
+    upsized: &mut [u32],
+    marks: &mut [u32],
+    work: &mut [f64],
+    t: Stiffness,
+) -> Stiffened
+    requires { ⌜ Stiffenable (now ladder) (now level) (now a) (now b) (now km) (now share) (now sheet) (now leader) (now grounds) (now from) (now to) (now weight) (now angle) (now circuits) (now banks) (now floors) (now upsized) (now marks) (now work) ⌝ }
+    requires { ⌜ Led root (now leader) (now angle) × Room (length (now a)) t ⌝ }
+    ensures { λ r. ⌜ Stepped (componentStep root round g (now (level .entry)) (now (leader .entry)) (now (grounds .entry)) (length (now (a .entry))) (now (from .entry)) (now (to .entry)) (now (weight .entry)) (now (angle .entry)))
+        (now (ladder .entry)) (now (level .entry)) (now (a .entry)) (now (b .entry)) (now (km .entry)) (now (share .entry)) (now (sheet .entry))
+        (now (circuits .entry)) (now (banks .entry)) (now (floors .entry)) (now (upsized .entry)) (now (marks .entry)) t
+        (now (circuits .exit)) (now (banks .exit)) (now (floors .exit)) (now (upsized .exit)) (now (marks .exit)) r ⌝ }
+{
+    let lead = lead_of(leader, angle, root);
+    let lag = lag_of(leader, angle, root);
+    let excess = angle[lead] - angle[lag] - MAX_ANGLE_SPREAD_RAD;
+    if excess <= 0.0 {
+        return Stiffened::Going(t);
+    }
+    let s = widened(t);
+    if round > STIFFENING_ROUNDS {
+        return Stiffened::Going(s);
+    }
+    let n = level.len();
+    let mut phi = [0.0; 256];
+    narrow(
+        root, lead, lag, excess, g, ladder, level, a, b, km, share, sheet, leader, grounds, from, to,
+        weight, angle, &mut phi[0..n], circuits, banks, floors, upsized, marks, work, s,
+    )
+}
+
+// The component that bus i leads, where it leads one.
+pub fn stiffen_led(
+    i: usize,
+    round: u32,
+    g: Limits,
+    ladder: &[f64],
+    level: &[u32],
+    a: &[u32],
+    b: &[u32],
+    km: &[f64],
+    share: &[f64],
+    sheet: &[f64],
+    leader: &[u32],
+    grounds: &[u32],
+    from: &[u32; 256],
+    to: &[u32; 256],
+    weight: &[f64; 256],
+    angle: &[f64],
+    circuits: &mut [u32],
+    banks: &mut [f64],
+    floors: &mut [f64],
+    upsized: &mut [u32],
+    marks: &mut [u32],
+    work: &mut [f64],
+    t: Stiffness,
+) -> Stiffened
+    requires { ⌜ Stiffenable (now ladder) (now level) (now a) (now b) (now km) (now share) (now sheet) (now leader) (now grounds) (now from) (now to) (now weight) (now angle) (now circuits) (now banks) (now floors) (now upsized) (now marks) (now work) ⌝ }
+    requires { ⌜ (i < length (now leader)) × Room (length (now a)) t ⌝ }
+    ensures { λ r. ⌜ LedStiffened i round g (now (ladder .entry)) (now (level .entry)) (now (a .entry)) (now (b .entry)) (now (km .entry)) (now (share .entry)) (now (sheet .entry)) (now (leader .entry)) (now (grounds .entry)) (now (from .entry)) (now (to .entry)) (now (weight .entry)) (now (angle .entry))
+        (now (circuits .entry)) (now (banks .entry)) (now (floors .entry)) (now (upsized .entry)) (now (marks .entry)) t
+        (now (circuits .exit)) (now (banks .exit)) (now (floors .exit)) (now (upsized .exit)) (now (marks .exit)) r ⌝ }
+{
+    if wide(leader[i]) == i {
+        return stiffen_component(
+            i, round, g, ladder, level, a, b, km, share, sheet, leader, grounds, from, to, weight,
+            angle, circuits, banks, floors, upsized, marks, work, t,
+        );
+    }
+    Stiffened::Going(t)
 }

@@ -1,3 +1,6 @@
+use Rattle.planning.proofs.Narrowing.{round-net, narrowed-refused, narrowed-answered}
+use Rattle.angles_defs.specs.Operation.{workPlaces}
+use lib.ListN.{length}
 use Prim.Native.Nat.{ℕ, zero, suc, _+_, _-_, _*_, _≤_, _<_}
 use mathlib.Core.Path.{_≡_, refl, sym, ap, _∙_}
 use mathlib.Core.Logic.{⊎-elim}
@@ -5,7 +8,6 @@ use mathlib.Core.Bool.{Bool, true, false}
 use borrow.Author.Tests.{eq-eqb, ne-eqb, lt-ltb, le-ltb, le-leb, lt-leb, not-true, not-false}
 use native.Mathlib.Omega.{arith}
 use denote.Ref.{now}
-use lib.ListN.{length, length-set, set}
 use borrow.Author.Needs.{needs}
 use Rattle.planning.proofs.stiffen.narrow.Statement.{statement}
 use Rattle.planning.proofs.stiffen.narrow.Tie as tie
@@ -52,7 +54,14 @@ part-unit-angles-end-3 c = search needs
 
 -- src/stiffen.rt:601:11
 unit-angles-requires : tie.Need-unit-angles-requires
-unit-angles-requires c κs = ?
+unit-angles-requires c κs =
+    let s = c .before .before .before .before .before .before .before .before .before .before .before .before .before .before .before .before .before .before .before .before .before .before .before .before .before in
+    let z = s .args in
+    let p = s .pre .0 in
+    let e = s .pre .1 .0 in (
+      round-net (length (now (z .level))) (length (now (z .phi))) (length (now (z .a))) (now (z .from)) (now (z .to)) (now (z .weight)) (now (z .grounds)) e (p .few-buses) (p .drawn) (p .from-size) (p .to-size) (p .weight-size) (p .few-grounds) (p .ground-below),
+      (omega (arith, e, s .pre .1 .1), omega (arith, e, s .pre .1 .2), p .work-size ∙ ap (λ (n : ℕ). workPlaces n) (sym e)),
+    )
 
 -- src/stiffen.rt:611:25
 enum-known-f : tie.Need-enum-known-f
@@ -64,7 +73,20 @@ enum-told c = search needs
 
 -- src/stiffen.rt:612:46
 reinforce-requires : tie.Need-reinforce-requires
-reinforce-requires c κs = ?
+reinforce-requires c κs =
+    let s = c .before .before .before .before .before .before .before .before .before .before .before .before .before .before .before .before .before .before .before .before .before .before .before .before .before .before .before .before .before .before .before .before .before .before .before .before .before .before in
+    let p = s .pre .0 in (
+      record {
+        lines = p .lines;
+        count-size = p .count-size;
+        bank-size = p .bank-size;
+        floor-size = p .floor-size;
+        upsized-size = p .upsized-size;
+        mark-size = p .mark-size;
+        banked = p .banked;
+      },
+      (p .leader-size, p .angle-size, c .before .before .before .before .before .before .before .before .before .before .before .before .unit-angles .kept .1 .1 .1 .1 .1 .1 .0 ∙ s .pre .1 .0, p .drawn .few, s .pre .1 .3),
+    )
 
 -- src/stiffen.rt:562:1
 same-length : tie.Need-same-length
@@ -76,7 +98,11 @@ same-length-2 c = search needs
 
 -- src/stiffen.rt:562:1
 returns : tie.Need-returns
-returns c = ?
+returns c =
+    let s = c .before .before .before .before .before .before .before .before .before .before .before .before .before .before .before .before .before .before .before .before .before .before .before .before .before .before .before .before .before .before .before .before .before in
+    let z = s .args in
+    narrowed-refused (z .root) (z .lead) (z .lag) (z .excess) (z .g) (now (z .ladder)) (now (z .level)) (now (z .a)) (now (z .b)) (now (z .km)) (now (z .share)) (now (z .sheet)) (now (z .leader)) (now (z .grounds)) (now (z .from)) (now (z .to)) (now (z .weight)) (now (z .angle))
+    (now (z .circuits)) (now (z .banks)) (now (z .floors)) (now (z .upsized)) (now (z .marks)) (z .t) _ _ _ (s .pre .1 .0) (c .before .before .before .before .before .before .before .unit-angles .ensures) _ (c .before .f .given .1) (s .pre .0 .banked)
 
 -- src/stiffen.rt:562:1
 same-length-3 : tie.Need-same-length-3
@@ -108,7 +134,11 @@ same-length-9 c = search needs
 
 -- src/stiffen.rt:562:1
 returns-2 : tie.Need-returns-2
-returns-2 c = ?
+returns-2 c =
+    let s = c .before .before .before .before .before .before .before .before .before .before .before .before .before .before .before .before .before .before .before .before .before .before .before .before .before .before .before .before .before .before .before .before .before .before .before .before .before .before .before .before .before .before .before .before .before .before .before .before .before in
+    let z = s .args in
+    narrowed-answered (z .root) (z .lead) (z .lag) (z .excess) (z .g) (now (z .ladder)) (now (z .level)) (now (z .a)) (now (z .b)) (now (z .km)) (now (z .share)) (now (z .sheet)) (now (z .leader)) (now (z .grounds)) (now (z .from)) (now (z .to)) (now (z .weight)) (now (z .angle))
+    (now (z .circuits)) (now (z .banks)) (now (z .floors)) (now (z .upsized)) (now (z .marks)) (z .t) _ _ _ (s .pre .1 .0) (c .before .before .before .before .before .before .before .before .before .before .before .before .before .before .before .before .before .before .before .before .before .before .before .unit-angles .ensures) _ _ _ _ _ _ (c .before .before .before .before .before .before .before .before .before .before .before .before .before .before .before .before .before .enum-told .given .1) (c .before .before .before .before .before .before .before .before .before .before .reinforce .ensures)
 
 pub narrow-spec : {M : Type 1} → statement M
 narrow-spec =

@@ -1,3 +1,8 @@
+use Rattle.loops.proofs.Fronts.{front-replicate}
+use Rattle.loops.specs.Figures.{nought}
+use lib.ListN.{length, length-replicate}
+use Rattle.planning.proofs.Narrowing.{component-narrow, component-late, component-narrowed}
+use Rattle.planning.specs.declared.stiffen.Stiffness.{Stiffness}
 use Prim.Native.Nat.{ℕ, zero, suc, _+_, _-_, _*_, _≤_, _<_}
 use mathlib.Core.Path.{_≡_, refl, sym, ap, _∙_}
 use mathlib.Core.Logic.{⊎-elim}
@@ -5,7 +10,6 @@ use mathlib.Core.Bool.{Bool, true, false}
 use borrow.Author.Tests.{eq-eqb, ne-eqb, lt-ltb, le-ltb, le-leb, lt-leb, not-true, not-false}
 use native.Mathlib.Omega.{arith}
 use denote.Ref.{now}
-use lib.ListN.{length, length-set, set}
 use borrow.Author.Needs.{needs}
 use Rattle.planning.proofs.stiffen.stiffen_component.Statement.{statement}
 use Rattle.planning.proofs.stiffen.stiffen_component.Tie as tie
@@ -42,7 +46,11 @@ shared-slice-read-excess-2 c = search needs
 
 -- src/stiffen.rt:674:9
 returns : tie.Need-returns
-returns c = ?
+returns c =
+    let s = c .before .before .before .before .before .before .before .before .before .before .before .before .before .before .before .before .before .before .before .before .before in
+    let z = s .args in
+    component-narrow (z .root) (z .round) (z .g) (now (z .ladder)) (now (z .level)) (now (z .a)) (now (z .b)) (now (z .km)) (now (z .share)) (now (z .sheet)) (now (z .leader)) (now (z .grounds)) (now (z .from)) (now (z .to)) (now (z .weight)) (now (z .angle)) (now (z .circuits)) (now (z .banks)) (now (z .floors)) (now (z .upsized)) (now (z .marks)) (z .t)
+    _ _ (c .before .before .before .before .lead-of .ensures .0) (c .before .before .before .lag-of .ensures .0) (c .if1 .taken) (s .pre .0 .banked)
 
 -- src/stiffen.rt:676:9
 widened-requires : tie.Need-widened-requires
@@ -50,7 +58,11 @@ widened-requires c κs = search needs
 
 -- src/stiffen.rt:678:9
 returns-2 : tie.Need-returns-2
-returns-2 c = ?
+returns-2 c =
+    let s = c .before .before .before .before .before .before .before .before .before .before .before .before .before .before .before .before .before .before .before .before .before .before .before in
+    let z = s .args in
+    component-late (z .root) (z .round) (z .g) (now (z .ladder)) (now (z .level)) (now (z .a)) (now (z .b)) (now (z .km)) (now (z .share)) (now (z .sheet)) (now (z .leader)) (now (z .grounds)) (now (z .from)) (now (z .to)) (now (z .weight)) (now (z .angle)) (now (z .circuits)) (now (z .banks)) (now (z .floors)) (now (z .upsized)) (now (z .marks)) (z .t)
+    _ _ (c .before .before .before .before .before .before .lead-of .ensures .0) (c .before .before .before .before .before .lag-of .ensures .0) _ (c .before .widened .ensures) (c .before .before .if1 .left) (c .if2 .taken) (s .pre .0 .banked)
 
 -- src/stiffen.rt:684:24
 sub-narrow : tie.Need-sub-narrow
@@ -66,7 +78,24 @@ part-phi-end c = search needs
 
 -- src/stiffen.rt:682:5
 narrow-requires : tie.Need-narrow-requires
-narrow-requires c κs = ?
+narrow-requires c κs =
+    let s = c .before .before .before .before .before .before .before .before .before .before .before .before .before .before .before .before .before .before .before .before .before .before .before .before .before .before .before .before .before .before in
+    let z = s .args in
+    let p = s .pre .0 in
+    let r = s .pre .1 .1 in
+    let e = c .before .before .before .before .before .before .before .before .widened .ensures in (
+      p,
+      (
+        ap length (front-replicate 256 (length (now (z .level))) nought (p .few-buses)) ∙ length-replicate (length (now (z .level))) nought,
+        omega (arith, c .before .before .before .before .before .before .before .before .before .before .before .before .before .lead-of .ensures .1, p .leader-size),
+        omega (arith, c .before .before .before .before .before .before .before .before .before .before .before .before .lag-of .ensures .1, p .leader-size),
+        record {
+          total = omega (arith, r .total, ap (λ (x : Stiffness). x .total) e);
+          hv = omega (arith, r .hv, ap (λ (x : Stiffness). x .hv) e);
+          stiffening = omega (arith, r .stiffening, ap (λ (x : Stiffness). x .stiffening) e);
+        },
+      ),
+    )
 
 -- src/stiffen.rt:638:1
 same-length : tie.Need-same-length
@@ -94,7 +123,11 @@ same-length-6 c = search needs
 
 -- src/stiffen.rt:638:1
 returns-3 : tie.Need-returns-3
-returns-3 c = ?
+returns-3 c =
+    let s = c .before .before .before .before .before .before .before .before .before .before .before .before .before .before .before .before .before .before .before .before .before .before .before .before .before .before .before .before .before .before .before .before .before .before .before .before .before .before .before .before .before .before .before .before in
+    let z = s .args in
+    component-narrowed (z .root) (z .round) (z .g) (now (z .ladder)) (now (z .level)) (now (z .a)) (now (z .b)) (now (z .km)) (now (z .share)) (now (z .sheet)) (now (z .leader)) (now (z .grounds)) (now (z .from)) (now (z .to)) (now (z .weight)) (now (z .angle)) (now (z .circuits)) (now (z .banks)) (now (z .floors)) (now (z .upsized)) (now (z .marks)) (z .t)
+    _ _ (c .before .before .before .before .before .before .before .before .before .before .before .before .before .before .before .before .before .before .before .before .before .before .before .before .before .before .before .lead-of .ensures .0) (c .before .before .before .before .before .before .before .before .before .before .before .before .before .before .before .before .before .before .before .before .before .before .before .before .before .before .lag-of .ensures .0) _ (c .before .before .before .before .before .before .before .before .before .before .before .before .before .before .before .before .before .before .before .before .before .before .widened .ensures) (c .before .before .before .before .before .before .before .before .before .before .before .before .before .before .before .before .before .before .before .before .before .before .before .if1 .left) (c .before .before .before .before .before .before .before .before .before .before .before .before .before .before .before .before .before .before .before .before .before .if2 .left) _ _ _ _ _ _ (c .before .before .before .before .before .before .before .before .before .before .before .before .before .narrow .ensures)
 
 pub stiffen-component-spec : {M : Type 1} → statement M
 stiffen-component-spec =

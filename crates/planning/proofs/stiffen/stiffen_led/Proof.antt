@@ -1,3 +1,4 @@
+use Rattle.planning.proofs.Narrowing.{led-leads, led-not}
 use Prim.Native.Nat.{ℕ, zero, suc, _+_, _-_, _*_, _≤_, _<_}
 use mathlib.Core.Path.{_≡_, refl, sym, ap, _∙_}
 use mathlib.Core.Logic.{⊎-elim}
@@ -28,7 +29,10 @@ wide-requires c κs = search needs
 
 -- src/stiffen.rt:721:9
 stiffen-component-requires : tie.Need-stiffen-component-requires
-stiffen-component-requires c κs = ?
+stiffen-component-requires c κs =
+    let s = c .before .before .before .before .before .before .before .before .before .before .before .before .before .before .before .before .before .before .before .before .before .before .before .before .before in
+    let p = s .pre .0 in
+    (p, (record { here = s .pre .1 .0; leads = sym (c .before .before .before .before .before .before .before .wide .ensures) ∙ c .before .before .before .before .before .before .if1 .taken; angle-size = p .angle-size ∙ sym (p .leader-size) }, s .pre .1 .1))
 
 -- src/stiffen.rt:721:9
 same-length : tie.Need-same-length
@@ -56,11 +60,19 @@ same-length-6 c = search needs
 
 -- src/stiffen.rt:721:9
 returns : tie.Need-returns
-returns c = ?
+returns c =
+    let s = c .before .before .before .before .before .before .before .before .before .before .before .before .before .before .before .before .before .before .before .before .before .before .before .before .before .before .before .before .before .before .before .before .before .before .before .before .before .before in
+    let z = s .args in
+    led-leads (z .i) (z .round) (z .g) (now (z .ladder)) (now (z .level)) (now (z .a)) (now (z .b)) (now (z .km)) (now (z .share)) (now (z .sheet)) (now (z .leader)) (now (z .grounds)) (now (z .from)) (now (z .to)) (now (z .weight)) (now (z .angle)) (now (z .circuits)) (now (z .banks)) (now (z .floors)) (now (z .upsized)) (now (z .marks)) (z .t)
+    _ _ _ _ _ _ (sym (c .before .before .before .before .before .before .before .before .before .before .before .before .before .before .before .before .before .before .before .before .wide .ensures) ∙ c .before .before .before .before .before .before .before .before .before .before .before .before .before .before .before .before .before .before .before .if1 .taken) (c .before .before .before .before .before .before .before .before .before .before .before .before .stiffen-component .ensures)
 
 -- src/stiffen.rt:689:1
 returns-2 : tie.Need-returns-2
-returns-2 c = ?
+returns-2 c =
+    let s = c .before .before .before .before .before .before .before .before .before .before .before .before .before .before .before .before .before .before .before in
+    let z = s .args in
+    led-not (z .i) (z .round) (z .g) (now (z .ladder)) (now (z .level)) (now (z .a)) (now (z .b)) (now (z .km)) (now (z .share)) (now (z .sheet)) (now (z .leader)) (now (z .grounds)) (now (z .from)) (now (z .to)) (now (z .weight)) (now (z .angle)) (now (z .circuits)) (now (z .banks)) (now (z .floors)) (now (z .upsized)) (now (z .marks)) (z .t)
+    (λ e. c .if1 .left (c .before .wide .ensures ∙ e)) (s .pre .0 .banked)
 
 pub stiffen-led-spec : {M : Type 1} → statement M
 stiffen-led-spec =

@@ -134,7 +134,7 @@ all-cons P x l p a zero h = p
 all-cons P x l p a (suc j) h = a j (le-of-suc-le-suc h)
 
 module _ (comes : ℕ → ℕ → Bool) (P : ℕ → Type 0) (k : ℕ) (new : P k) where
-  insert-all : (l : List ℕ) → All P l → All P (insertBy comes k l)
+  pub insert-all : (l : List ℕ) → All P l → All P (insertBy comes k l)
   unfolding insertBy
   insert-all [] a = all-cons P k [] new a
   insert-all (j ∷ l) a = go (comes k j) (insert-all l (λ i h. a (suc i) (suc-le-suc h)))

@@ -35,3 +35,8 @@ pub mod Heavies
 pub mod Promoting
 pub mod Settling
 pub mod Settlements
+pub mod Stiffenings
+pub mod Gains
+pub mod Leads
+pub mod Reinforcing
+pub mod Narrowing

@@ -41,7 +41,7 @@ larger-ok required count d next larger r pn pl e =
     subst (λ (x : Float). ratingOk x ≡ true) (sym pn) (larger-rating required count d r (ap (λ (x : Float). enlarges required count d x) (sym pn) ∙ sym pl ∙ e))
 
 -- ---- more circuits
-few-set : (circuits : List ℕ) (k n : ℕ) → k < length circuits → n ≤ 6 → Few circuits → Few (set circuits k n)
+pub few-set : (circuits : List ℕ) (k n : ℕ) → k < length circuits → n ≤ 6 → Few circuits → Few (set circuits k n)
 few-set circuits k n h l f j = go (ℕ-discrete j k)
   where
     go : Dec (j ≡ k) → getD (set circuits k n) j 0 ≤ 64

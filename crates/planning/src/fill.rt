@@ -110,14 +110,14 @@ fn place_of(
     j
 }
 
-// Puts corridor k, the k-th, into place p, and moves those that follow up by one.
-fn insert(order: &mut [u32; 256], p: usize, k: usize)
-    requires { ⌜ (p ≤ k) × (k < mostCorridors) × Whole (now order) ⌝ }
-    ensures { λ _. ⌜ now (order .exit) ≡ filled (now (order .entry)) (shifted p k (now (order .entry))) (k + 1) ⌝ }
+// Puts corridor k into place p of the first `count`, and moves those that follow up by one.
+pub fn insert(order: &mut [u32; 256], p: usize, count: usize, k: usize)
+    requires { ⌜ (p ≤ count) × (count < mostCorridors) × (k < mostCorridors) × Whole (now order) ⌝ }
+    ensures { λ _. ⌜ now (order .exit) ≡ filled (now (order .entry)) (shifted p k (now (order .entry))) (count + 1) ⌝ }
 {
     let mut carried = k as u32;
     let mut i = p;
-    while i <= k {
+    while i <= count {
         let held = order[i];
         order[i] = carried;
         carried = held;
@@ -133,7 +133,7 @@ fn order_by(loading: &[f64; 256], kv: &[f64; 256], km: &[f64], order: &mut [u32;
     let mut k = 0;
     while k < km.len() {
         let p = place_of(loading, kv, km, order, k);
-        insert(order, p, k);
+        insert(order, p, k, k);
         k += 1;
     }
 }

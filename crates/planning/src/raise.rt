@@ -51,7 +51,7 @@ pub fn mark_raise_to(
 }
 
 // ---- raises
-fn raise_of(mark: u32) -> Raise
+pub fn raise_of(mark: u32) -> Raise
     ensures { λ r. ⌜ r ≡ raiseOf mark ⌝ }
 {
     if mark == 0 {

@@ -13,10 +13,10 @@ use Rattle.planning.proofs.fill.insert.Statement.{statement}
 use Rattle.planning.proofs.fill.insert.Tie as tie
 
 abbrev Inv-loop : tie.InvT-loop
-Inv-loop order₀ p k carried₀ i₀ order carried i = (p ≤ i) × (i ≤ k + 1) × (order ≡ filled order₀ (shifted p k order₀) i) × (carried ≡ shifted p k order₀ i)
+Inv-loop order₀ p count k carried₀ i₀ order carried i = (p ≤ i) × (i ≤ count + 1) × (order ≡ filled order₀ (shifted p k order₀) i) × (carried ≡ shifted p k order₀ i)
 
 abbrev μ-loop : tie.MeasureT-loop
-μ-loop order₀ p k carried₀ i₀ order carried i = k + 1 - i
+μ-loop order₀ p count k carried₀ i₀ order carried i = count + 1 - i
 
 cast-carried : tie.Need-cast-carried Inv-loop μ-loop
 cast-carried c = search needs
@@ -54,7 +54,7 @@ returns : tie.Need-returns Inv-loop μ-loop
 returns c =
     let l = c .before .loop in
     let s = c .before .before .args in
-    let e : l .i ≡ s .k + 1 = omega arith in
+    let e : l .i ≡ s .count + 1 = omega arith in
     l .inv .2 ∙ ap (λ (n : ℕ). filled (now (s .order)) (shifted (s .p) (s .k) (now (s .order))) n) e
 
 pub insert-spec : {M : Type 1} → statement M

@@ -37,7 +37,7 @@ insert-requires : tie.Need-insert-requires Inv-loop μ-loop
 insert-requires c κs =
     let l = c .before .before .before .before .loop in
     let s = c .before .before .before .before .before .before in
-    (omega (arith, c .before .place-of .ensures, place-most (rankBefore (now (s .args .loading)) (now (s .args .kv)) (now (s .args .km))) (l .k) (l .order) (l .k)), omega (arith, s .pre .0), l .inv .1)
+    (omega (arith, c .before .place-of .ensures, place-most (rankBefore (now (s .args .loading)) (now (s .args .kv)) (now (s .args .km))) (l .k) (l .order) (l .k)), omega (arith, s .pre .0), omega (arith, s .pre .0), l .inv .1)
 
 add-k : tie.Need-add-k Inv-loop μ-loop
 add-k c = search needs

@@ -1,0 +1,170 @@
+use Rattle.planning.proofs.Narrowing.{round-net, narrowed-refused, narrowed-answered}
+use Rattle.angles_defs.specs.Operation.{workPlaces}
+use lib.ListN.{length}
+use Prim.Native.Nat.{ℕ, zero, suc, _+_, _-_, _*_, _≤_, _<_}
+use mathlib.Core.Path.{_≡_, refl, sym, ap, _∙_}
+use mathlib.Core.Logic.{⊎-elim}
+use mathlib.Core.Bool.{Bool, true, false}
+use borrow.Author.Tests.{eq-eqb, ne-eqb, lt-ltb, le-ltb, le-leb, lt-leb, not-true, not-false}
+use native.Mathlib.Omega.{arith}
+use denote.Ref.{now}
+use borrow.Author.Needs.{needs}
+use Rattle.planning.proofs.stiffen.narrow.Statement.{statement}
+use Rattle.planning.proofs.stiffen.narrow.Tie as tie
+use Rattle.planning.proofs.stiffen.narrow.Reads as reads
+use Rattle.planning.proofs.stiffen.narrow.Lts as lts
+use Rattle.planning.proofs.solve.unit_angles.Reads as unit-angles-reads
+use Rattle.planning.proofs.stiffen.reinforce.Reads as reinforce-reads
+
+-- src/stiffen.rt:602:9
+sub-unit-angles : tie.Need-sub-unit-angles
+sub-unit-angles c = search needs
+
+-- src/stiffen.rt:602:9
+part-unit-angles-start : tie.Need-part-unit-angles-start
+part-unit-angles-start c = search needs
+
+-- src/stiffen.rt:602:9
+part-unit-angles-end : tie.Need-part-unit-angles-end
+part-unit-angles-end c = search needs
+
+-- src/stiffen.rt:603:9
+sub-unit-angles-2 : tie.Need-sub-unit-angles-2
+sub-unit-angles-2 c = search needs
+
+-- src/stiffen.rt:603:9
+part-unit-angles-start-2 : tie.Need-part-unit-angles-start-2
+part-unit-angles-start-2 c = search needs
+
+-- src/stiffen.rt:603:9
+part-unit-angles-end-2 : tie.Need-part-unit-angles-end-2
+part-unit-angles-end-2 c = search needs
+
+-- src/stiffen.rt:604:9
+sub-unit-angles-3 : tie.Need-sub-unit-angles-3
+sub-unit-angles-3 c = search needs
+
+-- src/stiffen.rt:604:9
+part-unit-angles-start-3 : tie.Need-part-unit-angles-start-3
+part-unit-angles-start-3 c = search needs
+
+-- src/stiffen.rt:604:9
+part-unit-angles-end-3 : tie.Need-part-unit-angles-end-3
+part-unit-angles-end-3 c = search needs
+
+-- src/stiffen.rt:601:11
+unit-angles-requires : tie.Need-unit-angles-requires
+unit-angles-requires c κs =
+    let s = c .before .before .before .before .before .before .before .before .before .before .before .before .before .before .before .before .before .before .before .before .before .before .before .before .before in
+    let z = s .args in
+    let p = s .pre .0 in
+    let e = s .pre .1 .0 in (
+      round-net (length (now (z .level))) (length (now (z .phi))) (length (now (z .a))) (now (z .from)) (now (z .to)) (now (z .weight)) (now (z .grounds)) e (p .few-buses) (p .drawn) (p .from-size) (p .to-size) (p .weight-size) (p .few-grounds) (p .ground-below),
+      (omega (arith, e, s .pre .1 .1), omega (arith, e, s .pre .1 .2), p .work-size ∙ ap (λ (n : ℕ). workPlaces n) (sym e)),
+    )
+
+-- src/stiffen.rt:611:25
+enum-known-f : tie.Need-enum-known-f
+enum-known-f c = search needs
+
+-- src/stiffen.rt:613:84
+enum-told : tie.Need-enum-told
+enum-told c = search needs
+
+-- src/stiffen.rt:612:46
+reinforce-requires : tie.Need-reinforce-requires
+reinforce-requires c κs =
+    let s = c .before .before .before .before .before .before .before .before .before .before .before .before .before .before .before .before .before .before .before .before .before .before .before .before .before .before .before .before .before .before .before .before .before .before .before .before .before .before in
+    let p = s .pre .0 in (
+      record {
+        lines = p .lines;
+        count-size = p .count-size;
+        bank-size = p .bank-size;
+        floor-size = p .floor-size;
+        upsized-size = p .upsized-size;
+        mark-size = p .mark-size;
+        banked = p .banked;
+      },
+      (p .leader-size, p .angle-size, c .before .before .before .before .before .before .before .before .before .before .before .before .unit-angles .kept .1 .1 .1 .1 .1 .1 .0 ∙ s .pre .1 .0, p .drawn .few, s .pre .1 .3),
+    )
+
+-- src/stiffen.rt:562:1
+same-length : tie.Need-same-length
+same-length c = search needs
+
+-- src/stiffen.rt:562:1
+same-length-2 : tie.Need-same-length-2
+same-length-2 c = search needs
+
+-- src/stiffen.rt:562:1
+returns : tie.Need-returns
+returns c =
+    let s = c .before .before .before .before .before .before .before .before .before .before .before .before .before .before .before .before .before .before .before .before .before .before .before .before .before .before .before .before .before .before .before .before .before in
+    let z = s .args in
+    narrowed-refused (z .root) (z .lead) (z .lag) (z .excess) (z .g) (now (z .ladder)) (now (z .level)) (now (z .a)) (now (z .b)) (now (z .km)) (now (z .share)) (now (z .sheet)) (now (z .leader)) (now (z .grounds)) (now (z .from)) (now (z .to)) (now (z .weight)) (now (z .angle))
+    (now (z .circuits)) (now (z .banks)) (now (z .floors)) (now (z .upsized)) (now (z .marks)) (z .t) _ _ _ (s .pre .1 .0) (c .before .before .before .before .before .before .before .unit-angles .ensures) _ (c .before .f .given .1) (s .pre .0 .banked)
+
+-- src/stiffen.rt:562:1
+same-length-3 : tie.Need-same-length-3
+same-length-3 c = search needs
+
+-- src/stiffen.rt:562:1
+same-length-4 : tie.Need-same-length-4
+same-length-4 c = search needs
+
+-- src/stiffen.rt:562:1
+same-length-5 : tie.Need-same-length-5
+same-length-5 c = search needs
+
+-- src/stiffen.rt:562:1
+same-length-6 : tie.Need-same-length-6
+same-length-6 c = search needs
+
+-- src/stiffen.rt:562:1
+same-length-7 : tie.Need-same-length-7
+same-length-7 c = search needs
+
+-- src/stiffen.rt:562:1
+same-length-8 : tie.Need-same-length-8
+same-length-8 c = search needs
+
+-- src/stiffen.rt:562:1
+same-length-9 : tie.Need-same-length-9
+same-length-9 c = search needs
+
+-- src/stiffen.rt:562:1
+returns-2 : tie.Need-returns-2
+returns-2 c =
+    let s = c .before .before .before .before .before .before .before .before .before .before .before .before .before .before .before .before .before .before .before .before .before .before .before .before .before .before .before .before .before .before .before .before .before .before .before .before .before .before .before .before .before .before .before .before .before .before .before .before .before in
+    let z = s .args in
+    narrowed-answered (z .root) (z .lead) (z .lag) (z .excess) (z .g) (now (z .ladder)) (now (z .level)) (now (z .a)) (now (z .b)) (now (z .km)) (now (z .share)) (now (z .sheet)) (now (z .leader)) (now (z .grounds)) (now (z .from)) (now (z .to)) (now (z .weight)) (now (z .angle))
+    (now (z .circuits)) (now (z .banks)) (now (z .floors)) (now (z .upsized)) (now (z .marks)) (z .t) _ _ _ (s .pre .1 .0) (c .before .before .before .before .before .before .before .before .before .before .before .before .before .before .before .before .before .before .before .before .before .before .before .unit-angles .ensures) _ _ _ _ _ _ (c .before .before .before .before .before .before .before .before .before .before .before .before .before .before .before .before .before .enum-told .given .1) (c .before .before .before .before .before .before .before .before .before .before .reinforce .ensures)
+
+pub narrow-spec : {M : Type 1} → statement M
+narrow-spec =
+    tie.close
+    (tie.spec
+    sub-unit-angles
+    part-unit-angles-start
+    part-unit-angles-end
+    sub-unit-angles-2
+    part-unit-angles-start-2
+    part-unit-angles-end-2
+    sub-unit-angles-3
+    part-unit-angles-start-3
+    part-unit-angles-end-3
+    unit-angles-requires
+    enum-known-f
+    enum-told
+    reinforce-requires
+    same-length
+    same-length-2
+    returns
+    same-length-3
+    same-length-4
+    same-length-5
+    same-length-6
+    same-length-7
+    same-length-8
+    same-length-9
+    returns-2)

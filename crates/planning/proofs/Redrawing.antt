@@ -11,6 +11,10 @@ use Rattle.planning.specs.Redesign.{redesignFor, banksAnew}
 use Rattle.planning.specs.Rounds.{Redrawn}
 use Rattle.planning.proofs.Marks.{moved-most, none-raised, lines-raised}
 
+-- at levels that stand none moves either
+pub still-none : (level level′ marks : List ℕ) (moved : ℕ) → level′ ≡ level → moved ≡ movedBuses level marks → moved ≡ 0 → movedBuses level′ marks ≡ 0
+still-none level level′ marks moved e f g = ap (λ (l : List ℕ). movedBuses l marks) e ∙ sym f ∙ g
+
 module _ (ladder : List Float) (level a b : List ℕ) (km share sheet load : List Float) (bus : List ℕ) (pmax : List Float) (marks : List ℕ) (floors banks : List Float)
     (level′ : List ℕ) (moved : ℕ) (lines : Lines ladder level a b km share sheet) (raised : level′ ≡ raisedLevels level marks) (count : moved ≡ movedBuses level marks) where
   lines-after : Lines ladder level′ a b km share sheet

@@ -121,7 +121,13 @@ pub fn limits_of(above: usize, level: &[u32]) -> Limits
     Limits { hv, branches, top }
 }
 
-pub fn stiffness_from(g: Limits, level: &[u32], circuits: &[u32], stiffening: u32, marks: &mut [u32]) -> Stiffness
+pub fn stiffness_from(
+    g: Limits,
+    level: &[u32],
+    circuits: &[u32],
+    stiffening: u32,
+    marks: &mut [u32],
+) -> Stiffness
     requires { ⌜ (length (now level) ≤ mostBuses) × (length (now marks) ≡ length (now level)) × Counted (now circuits) ⌝ }
     ensures marks { λ _. ⌜ now (marks .exit) ≡ noMarks (length (now (level .entry))) ⌝ }
     ensures start { λ r. ⌜ r ≡ record { total = sum (now (circuits .entry)); hv = atOrAbove (now (level .entry)) (g .top); stiffening = stiffening; wide = false; stiffened = false } ⌝ }
@@ -159,7 +165,15 @@ fn arrivals(top: u32, level: &[u32], a: &[u32], b: &[u32], k: usize, marks: &[u3
 }
 
 // Marks both ends of corridor k for a raise that is within the budget, and answers whether it is.
-fn raises(g: Limits, hv: u32, level: &[u32], a: &[u32], b: &[u32], k: usize, marks: &mut [u32]) -> bool
+fn raises(
+    g: Limits,
+    hv: u32,
+    level: &[u32],
+    a: &[u32],
+    b: &[u32],
+    k: usize,
+    marks: &mut [u32],
+) -> bool
     requires { ⌜ PairFits (now level) (now a) (now b) (now marks) k ⌝ }
     ensures marks { λ _. ⌜ now (marks .exit) ≡ markIf (raisable g hv (now (level .entry)) (now (a .entry)) (now (b .entry)) k) (pairsFor (now (a .entry)) (now (b .entry))) (now (level .entry)) k (now (marks .entry)) ⌝ }
     ensures answer { λ r. ⌜ r ≡ raisable g hv (now (level .entry)) (now (a .entry)) (now (b .entry)) k ⌝ }
@@ -278,7 +292,21 @@ fn stiffen_batch(
     while j < taken {
         let k = wide(order[j]);
         t = stiffen_one(
-            g, ladder, level, a, b, km, share, sheet, k, circuits, banks, floors, upsized, marks, t,
+            g,
+            ladder,
+            level,
+            a,
+            b,
+            km,
+            share,
+            sheet,
+            k,
+            circuits,
+            banks,
+            floors,
+            upsized,
+            marks,
+            t,
         );
         j += 1;
     }
@@ -373,7 +401,22 @@ fn gains(
     let mut k = 0;
     while k < a.len() {
         gain[k] = gain_at(
-            g, ladder, level, a, b, km, share, sheet, leader, angle, phi, circuits, banks, t, root, k,
+            g,
+            ladder,
+            level,
+            a,
+            b,
+            km,
+            share,
+            sheet,
+            leader,
+            angle,
+            phi,
+            circuits,
+            banks,
+            t,
+            root,
+            k,
         );
         k += 1;
     }
@@ -425,7 +468,13 @@ fn order_gains(m: usize, gain: &[f64; 256], order: &mut [u32; 256]) -> usize
 }
 
 // How many of the first `count` of an order are taken: `most` of them, while the gains before are below the excess.
-fn batch_size(gain: &[f64; 256], order: &[u32; 256], count: usize, most: usize, excess: f64) -> usize
+fn batch_size(
+    gain: &[f64; 256],
+    order: &[u32; 256],
+    count: usize,
+    most: usize,
+    excess: f64,
+) -> usize
     requires { ⌜ Ranked mostCorridors (now order) count × (count ≤ mostCorridors) × Whole (now gain) ⌝ }
     ensures few { λ r. ⌜ r ≤ count ⌝ }
     ensures batch { λ r. ⌜ take r (now (order .entry)) ≡ batch most nought excess (map (gainFor (now (gain .entry))) (take count (now (order .entry)))) ⌝ }
@@ -501,15 +550,43 @@ fn reinforce(
     let mut gain = [0.0; 256];
     let mut order = [0u32; 256];
     gains(
-        g, ladder, level, a, b, km, share, sheet, leader, angle, phi, circuits, banks, t, root,
+        g,
+        ladder,
+        level,
+        a,
+        b,
+        km,
+        share,
+        sheet,
+        leader,
+        angle,
+        phi,
+        circuits,
+        banks,
+        t,
+        root,
         &mut gain,
     );
     let count = order_gains(a.len(), &gain, &mut order);
     let most = batch_cap(leader, a, root);
     let taken = batch_size(&gain, &order, count, most, excess);
     stiffen_batch(
-        g, ladder, level, a, b, km, share, sheet, &order, taken, circuits, banks, floors, upsized,
-        marks, t,
+        g,
+        ladder,
+        level,
+        a,
+        b,
+        km,
+        share,
+        sheet,
+        &order,
+        taken,
+        circuits,
+        banks,
+        floors,
+        upsized,
+        marks,
+        t,
     )
 }
 
@@ -616,8 +693,25 @@ fn narrow(
     ) {
         Answer::Refused(f) => Stiffened::Refused(f),
         Answer::Answered => Stiffened::Going(reinforce(
-            root, excess, g, ladder, level, a, b, km, share, sheet, leader, angle, phi, circuits,
-            banks, floors, upsized, marks, t,
+            root,
+            excess,
+            g,
+            ladder,
+            level,
+            a,
+            b,
+            km,
+            share,
+            sheet,
+            leader,
+            angle,
+            phi,
+            circuits,
+            banks,
+            floors,
+            upsized,
+            marks,
+            t,
         )),
     }
 }
@@ -680,8 +774,32 @@ fn stiffen_component(
     let n = level.len();
     let mut phi = [0.0; 256];
     narrow(
-        root, lead, lag, excess, g, ladder, level, a, b, km, share, sheet, leader, grounds, from, to,
-        weight, angle, &mut phi[0..n], circuits, banks, floors, upsized, marks, work, s,
+        root,
+        lead,
+        lag,
+        excess,
+        g,
+        ladder,
+        level,
+        a,
+        b,
+        km,
+        share,
+        sheet,
+        leader,
+        grounds,
+        from,
+        to,
+        weight,
+        angle,
+        &mut phi[0..n],
+        circuits,
+        banks,
+        floors,
+        upsized,
+        marks,
+        work,
+        s,
     )
 }
 
@@ -719,8 +837,29 @@ pub fn stiffen_led(
 {
     if wide(leader[i]) == i {
         return stiffen_component(
-            i, round, g, ladder, level, a, b, km, share, sheet, leader, grounds, from, to, weight,
-            angle, circuits, banks, floors, upsized, marks, work, t,
+            i,
+            round,
+            g,
+            ladder,
+            level,
+            a,
+            b,
+            km,
+            share,
+            sheet,
+            leader,
+            grounds,
+            from,
+            to,
+            weight,
+            angle,
+            circuits,
+            banks,
+            floors,
+            upsized,
+            marks,
+            work,
+            t,
         );
     }
     Stiffened::Going(t)

@@ -13,7 +13,7 @@ ghost use Rattle.plan_defs.specs.Raise.{noMarks, markIf};
 ghost use Rattle.plan_defs.specs.Stiffen.{atOrAbove, shareOf, hvBudget, stiffenTop, arrival, gainOf, batch, batchCap};
 ghost use Rattle.planning.specs.Fill.{Counted, Ranked, Whole, placeOf};
 ghost use Rattle.planning.specs.Raise.{largestCount, pairsFor, PairFits};
-ghost use Rattle.planning.specs.Stiffen.{budgetFor, Stiffenable, Room, LedStiffened, raisable, roomFor, reckoned, Strengthened, StiffenFits, BatchStiffened, Gainful, candidateAt, gainAt, gainsMore, gainNext, gainOrder, gainFor, Stepped, reinforceStep, narrowStep, componentStep, Led, leadOf, lagOf};
+ghost use Rattle.planning.specs.Stiffen.{budgetFor, Stiffenable, Room, LedStiffened, raisable, roomFor, reckoned, Strengthened, StiffenFits, BatchStiffened, Gainful, candidateAt, gainAt, gainsMore, gainNext, gainOrder, gainFor, Chosen, Stepped, reinforceStep, narrowStep, componentStep, Led, leadOf, lagOf};
 ghost use Rattle.planning.specs.declared.stiffen.Stiffened.the-variants.{Going};
 use crate::design::circuit;
 use crate::figures::ceil;
@@ -518,7 +518,56 @@ fn batch_cap(leader: &[u32], a: &[u32], root: usize) -> usize
     if cap < 1 { 1 } else { cap }
 }
 
-// Stiffens the corridors that narrow a component's spread the most, as many as cover the excess.
+// Puts the corridors that narrow a component's spread the most at the front of `order`; as many as cover the excess are taken.
+fn choose_batch(
+    root: usize,
+    excess: f64,
+    g: Limits,
+    ladder: &[f64],
+    level: &[u32],
+    a: &[u32],
+    b: &[u32],
+    km: &[f64],
+    share: &[f64],
+    sheet: &[f64],
+    leader: &[u32],
+    angle: &[f64],
+    phi: &[f64],
+    circuits: &[u32],
+    banks: &[f64],
+    t: Stiffness,
+    order: &mut [u32; 256],
+) -> usize
+    requires { ⌜ Gainful (now ladder) (now level) (now a) (now b) (now km) (now share) (now sheet) (now leader) (now angle) (now phi) (now circuits) (now banks) ⌝ }
+    requires { ⌜ (length (now a) ≤ mostCorridors) × Whole (now order) ⌝ }
+    ensures { λ r. ⌜ Chosen root excess g (now (ladder .entry)) (now (level .entry)) (now (a .entry)) (now (b .entry)) (now (km .entry)) (now (share .entry)) (now (sheet .entry))
+        (now (leader .entry)) (now (angle .entry)) (now (phi .entry)) (now (circuits .entry)) (now (banks .entry)) t (now (order .exit)) r ⌝ }
+{
+    let mut gain = [0.0; 256];
+    gains(
+        g,
+        ladder,
+        level,
+        a,
+        b,
+        km,
+        share,
+        sheet,
+        leader,
+        angle,
+        phi,
+        circuits,
+        banks,
+        t,
+        root,
+        &mut gain,
+    );
+    let count = order_gains(a.len(), &gain, order);
+    let most = batch_cap(leader, a, root);
+    batch_size(&gain, order, count, most, excess)
+}
+
+// Stiffens them.
 fn reinforce(
     root: usize,
     excess: f64,
@@ -547,9 +596,10 @@ fn reinforce(
         (now (circuits .entry)) (now (banks .entry)) (now (floors .entry)) (now (upsized .entry)) (now (marks .entry)) t
         (now (circuits .exit)) (now (banks .exit)) (now (floors .exit)) (now (upsized .exit)) (now (marks .exit)) (Going r) ⌝ }
 {
-    let mut gain = [0.0; 256];
     let mut order = [0u32; 256];
-    gains(
+    let taken = choose_batch(
+        root,
+        excess,
         g,
         ladder,
         level,
@@ -564,12 +614,8 @@ fn reinforce(
         circuits,
         banks,
         t,
-        root,
-        &mut gain,
+        &mut order,
     );
-    let count = order_gains(a.len(), &gain, &mut order);
-    let most = batch_cap(leader, a, root);
-    let taken = batch_size(&gain, &order, count, most, excess);
     stiffen_batch(
         g,
         ladder,
@@ -771,7 +817,6 @@ fn stiffen_component(
     if round > STIFFENING_ROUNDS {
         return Stiffened::Going(s);
     }
-    let n = level.len();
     let mut phi = [0.0; 256];
     narrow(
         root,
@@ -792,7 +837,7 @@ fn stiffen_component(
         to,
         weight,
         angle,
-        &mut phi[0..n],
+        &mut phi[0..level.len()],
         circuits,
         banks,
         floors,

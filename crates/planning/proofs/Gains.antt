@@ -3,7 +3,7 @@
 use Prim.Native.Nat.{ℕ, zero, suc, _+_, _-_, _<_, _≤_, min}
 use mathlib.Core.Bool.{Bool, true, false, _&&_, _||_}
 use mathlib.Core.List.{List, [], _∷_, _++_, map, append-nil}
-use mathlib.Core.Path.{_≡_, refl, sym, ap, _∙_, subst}
+use mathlib.Core.Path.{_≡_, refl, sym, ap, _∙_}
 use native.Mathlib.Numerals.{add-one}
 use native.Mathlib.Omega.{arith}
 use lib.Dec.{ltb, eqb}
@@ -15,12 +15,11 @@ use Rattle.loops.specs.Loops.{iter}
 use Rattle.loops.proofs.Loops.{gap, none}
 use Rattle.plan_defs.specs.Constants.{mostCorridors}
 use Rattle.plan_defs.specs.Lists.{keep, passFrom, passing}
-use Rattle.plan_defs.specs.Case.{Case, fullAt}
 use Rattle.plan_defs.specs.Design.{design}
-use Rattle.plan_defs.specs.Stiffen.{Gain, Stiffening, gainOf, placed, insert, insertIf, insertGain, gains, batchIf, batch}
+use Rattle.plan_defs.specs.Stiffen.{Gain, gainOf, placed, insert, insertIf, insertGain, gains, batchIf, batch}
 use Rattle.plan_defs.specs.declared.CircuitDesign.{CircuitDesign}
 use Rattle.plan_defs.proofs.Lists.{All}
-use Rattle.planning.specs.Fill.{putBefore, insertBy, Whole, Ranked}
+use Rattle.planning.specs.Fill.{putBefore, insertBy, Ranked}
 use Rattle.planning.specs.Stiffen.{roomFor, candidateAt, gainIf, gainsMore, insertWhere, gainNext, gainOrder, gainFor}
 use Rattle.planning.specs.declared.stiffen.Limits.{Limits}
 use Rattle.planning.specs.declared.stiffen.Stiffness.{Stiffness}

@@ -11,7 +11,7 @@ use lib.ListN.{length, getD}
 use Rattle.loops.specs.Loops.{first}
 use Rattle.loops.proofs.Bools.{no as never}
 use Rattle.loops.proofs.Scan.{all-pass}
-use Rattle.plan_defs.specs.Lists.{keep, passFrom, passing, each}
+use Rattle.plan_defs.specs.Lists.{keep, passFrom, each}
 use Rattle.plan_defs.specs.Components.{within, members}
 use Rattle.plan_defs.specs.Stiffen.{bestOf}
 use Rattle.planning.proofs.Passing.{each-yes, each-no, each-end}

@@ -19,8 +19,7 @@ use Rattle.angles_defs.specs.Network.{edgesOf, zeros}
 use Rattle.angles_defs.specs.Operation.{most}
 use Rattle.angles_defs.specs.Solve.{solve}
 use Rattle.plan_defs.specs.Constants.{maxAngleSpreadRad, stiffeningRounds}
-use Rattle.plan_defs.specs.Stage.{Stage, stopped, going, onward}
-use Rattle.plan_defs.specs.Lists.{each}
+use Rattle.plan_defs.specs.Stage.{Stage, going, onward}
 use Rattle.plan_defs.specs.Case.{Case}
 use Rattle.plan_defs.specs.Solve.{allFinite}
 use Rattle.plan_defs.specs.Stiffen.{Stiffening, unitAt, narrowIf, unlessLate, unlessNarrow, exceedsBy, betweenBuses, stiffenComponent}

@@ -24,7 +24,7 @@ use Rattle.plan_defs.specs.declared.CircuitDesign.{CircuitDesign}
 use Rattle.planning.specs.Raise.{pairsFor}
 use Rattle.planning.specs.Fill.{designsFor, Ranked}
 use Rattle.planning.specs.Whole.{withLines}
-use Rattle.planning.specs.Stiffen.{budgetFor, stiffOf, candidateAt, gainIf, gainAt, gainOrder, gainFor, BatchStiffened, Stepped, reinforceStep}
+use Rattle.planning.specs.Stiffen.{budgetFor, stiffOf, candidateAt, gainIf, gainAt, gainOrder, gainFor, BatchStiffened, Chosen, Stepped, reinforceStep}
 use Rattle.planning.specs.declared.stiffen.Limits.{Limits}
 use Rattle.planning.specs.declared.stiffen.Stiffness.{Stiffness}
 use Rattle.planning.specs.declared.stiffen.Stiffened.the-variants.{Going}
@@ -34,12 +34,11 @@ use Rattle.planning.proofs.Stiffenings.{room-lifts}
 use Rattle.planning.proofs.Gains.{gains-are}
 
 module _ (root : ℕ) (excess : Float) (g : Limits) (ladder : List Float) (level a b : List ℕ) (km share sheet : List Float) (leader : List ℕ) (angle phi : List Float)
-    (circuits : List ℕ) (banks floors : List Float) (upsized marks : List ℕ) (t : Stiffness) (pc : length circuits ≡ length a)
-    (none gain : List Float) (order : List ℕ) (count most taken : ℕ)
+    (circuits : List ℕ) (banks : List Float) (t : Stiffness) (pc : length circuits ≡ length a) (none gain : List Float) (order : List ℕ) (count most taken : ℕ)
     (pg : gain ≡ filled none (gainAt g ladder level a b km share sheet leader angle phi circuits banks t root) (length a))
     (po : take count order ≡ gainOrder gain (length a)) (pm : most ≡ batchCap (pairsFor a []) leader root)
     (pt : take taken order ≡ batch most nought excess (map (gainFor gain) (take count order))) where
-  module _ (o : Case) (p : length a ≡ o .corridors) (q : length ladder ≡ levels o) where
+  module _ (o : Case) (floors : List Float) (upsized marks : List ℕ) (p : length a ≡ o .corridors) (q : length ladder ≡ levels o) where
     abbrev C : Case
     C = withLines o ladder a b km share sheet
 
@@ -71,19 +70,31 @@ module _ (root : ℕ) (excess : Float) (g : Limits) (ladder : List Float) (level
         ∙ ap (λ (n : ℕ). batch most nought excess (gains (drawnAll C level banks) angle phi (passing test n) [])) p
         ∙ ap (λ (n : ℕ). batch n nought excess (gains (drawnAll C level banks) angle phi (passing test (o .corridors)) [])) (pm ∙ cap-lifts)
 
-  pub reinforced : (circuits′ : List ℕ) (banks′ floors′ : List Float) (upsized′ marks′ : List ℕ) (t′ : Stiffness) → taken ≤ count → count ≤ length a → Ranked (length a) order count
-      → BatchStiffened (take taken order) g ladder level a b km share sheet circuits banks floors upsized marks t circuits′ banks′ floors′ upsized′ marks′ t′
-      → Stepped (reinforceStep root excess g level leader angle phi) ladder level a b km share sheet circuits banks floors upsized marks t circuits′ banks′ floors′ upsized′ marks′ (Going t′)
-  reinforced circuits′ banks′ floors′ upsized′ marks′ t′ h k w r =
-      let v : taken ≤ length order = omega (arith, h, k, w .few, w .size) in
-      let n = length-take-le taken order v in
-      let d = r .bound in
+  pub batch-chosen : taken ≤ count → count ≤ length a → Ranked (length a) order count → Chosen root excess g ladder level a b km share sheet leader angle phi circuits banks t order taken
+  batch-chosen h k r =
       record {
-        stiffened = λ o injection flows f e.
-            let c = withLines o ladder a b km share sheet in
-            let s = stiffOf c level circuits banks floors upsized marks t in
-            ap going (r .stiffened o f ∙ ap (λ (ks : List ℕ). each (stiffenOne c level (budgetFor g)) ks s) (chosen-is o (f .0) (f .1)));
-        banked = r .banked;
-        few = r .few;
-        bound = (omega (arith, h, k, n, d .0), omega (arith, h, k, n, d .1), omega (arith, h, k, n, d .2));
+        few = omega arith;
+        ranked = record { few = r .few; size = r .size; below = λ j w. r .below j (omega arith) };
+        chosen = λ o floors upsized marks f. chosen-is o floors upsized marks (f .0) (f .1);
       }
+
+pub reinforced : (root : ℕ) (excess : Float) (g : Limits) (ladder : List Float) (level a b : List ℕ) (km share sheet : List Float) (leader : List ℕ) (angle phi : List Float)
+    (circuits : List ℕ) (banks floors : List Float) (upsized marks : List ℕ) (t : Stiffness) (order : List ℕ) (taken : ℕ)
+    (circuits′ : List ℕ) (banks′ floors′ : List Float) (upsized′ marks′ : List ℕ) (t′ : Stiffness)
+    → Chosen root excess g ladder level a b km share sheet leader angle phi circuits banks t order taken
+    → BatchStiffened (take taken order) g ladder level a b km share sheet circuits banks floors upsized marks t circuits′ banks′ floors′ upsized′ marks′ t′
+    → Stepped (reinforceStep root excess g level leader angle phi) ladder level a b km share sheet circuits banks floors upsized marks t circuits′ banks′ floors′ upsized′ marks′ (Going t′)
+reinforced root excess g ladder level a b km share sheet leader angle phi circuits banks floors upsized marks t order taken circuits′ banks′ floors′ upsized′ marks′ t′ k r =
+    let h = k .few in
+    let w : taken ≤ length order = omega (arith, k .few, k .ranked .few, k .ranked .size) in
+    let n = length-take-le taken order w in
+    let d = r .bound in
+    record {
+      stiffened = λ o injection flows f e.
+          let c = withLines o ladder a b km share sheet in
+          let s = stiffOf c level circuits banks floors upsized marks t in
+          ap going (r .stiffened o f ∙ ap (λ (ks : List ℕ). each (stiffenOne c level (budgetFor g)) ks s) (k .chosen o floors upsized marks f));
+      banked = r .banked;
+      few = r .few;
+      bound = (omega (arith, h, n, d .0), omega (arith, h, n, d .1), omega (arith, h, n, d .2));
+    }

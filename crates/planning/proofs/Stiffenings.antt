@@ -1,6 +1,6 @@
 -- One corridor stiffened: a full bank, else a raise, else a circuit, else nothing, each as the definition has it.
 -- Each law is the definition with its tests decided.
-use Prim.Native.Nat.{ℕ, zero, suc, _+_, _*_, _<_, _≤_}
+use Prim.Native.Nat.{ℕ, zero, suc, _+_, _<_, _≤_}
 use mathlib.Core.Bool.{Bool, true, false, cond, _&&_}
 use mathlib.Core.List.{List, [], _∷_, _++_}
 use mathlib.Core.Path.{_≡_, refl, sym, ap, _∙_, subst}
@@ -26,7 +26,6 @@ use Rattle.plan_defs.specs.declared.Raise.the-variants.{Stay, To}
 use Rattle.plan_defs.specs.declared.CircuitDesign.{CircuitDesign}
 use Rattle.plan_defs.proofs.Lists.{each-append}
 use Rattle.planning.specs.Raise.{pairsFor}
-use Rattle.planning.specs.Size.{Few}
 use Rattle.planning.specs.Stiffen.{budgetFor, stiffOf, stiffOver, raisable, roomFor, reckoned, Strengthened, BatchStiffened}
 use Rattle.planning.specs.declared.stiffen.Limits.{Limits}
 use Rattle.planning.specs.declared.stiffen.Stiffness.{Stiffness}

@@ -24,7 +24,7 @@ use Rattle.plan_defs.specs.declared.CircuitDesign.{CircuitDesign}
 use Rattle.planning.specs.Design.{Lines, Banks}
 use Rattle.planning.specs.Raise.{largestCount, pairsFor}
 use Rattle.planning.specs.Size.{Few}
-use Rattle.planning.specs.Fill.{designsFor, insertBy}
+use Rattle.planning.specs.Fill.{designsFor, insertBy, Ranked}
 use Rattle.planning.specs.Opening.{stageIf}
 use Rattle.planning.specs.Solve.{peakFor, Drawn}
 use Rattle.planning.specs.Sound.{Sound}
@@ -186,6 +186,15 @@ gainOrder gain m = iter (gainNext gain) m 0 []
 
 abbrev pub gainFor : List Float → ℕ → Gain
 gainFor gain k = record { gain = at gain k; corridor = k }
+
+-- the corridors that are taken of an order are the chosen ones
+pub record Chosen (root : ℕ) (excess : Float) (g : Limits) (ladder : List Float) (level a b : List ℕ) (km share sheet : List Float) (leader : List ℕ) (angle phi : List Float)
+    (circuits : List ℕ) (banks : List Float) (t : Stiffness) (order : List ℕ) (taken : ℕ) : Type 0 where
+  pub few : taken ≤ length a
+  pub ranked : Ranked (length a) order taken
+  pub chosen : (o : Case) (floors : List Float) (upsized marks : List ℕ) → Fitting o ladder a
+      → take taken order
+      ≡ chosen (withLines o ladder a b km share sheet) leader level (budgetFor g) root (stiffOf (withLines o ladder a b km share sheet) level circuits banks floors upsized marks t) angle excess phi
 
 -- ---- what a step of a stiffening does to the slices, of any case with these columns, whatever the injections and the flows are
 pub record Stepped (step : Case → List Float → List Float → Stiffening → Stage Stiffening) (ladder : List Float) (level a b : List ℕ) (km share sheet : List Float)

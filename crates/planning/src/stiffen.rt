@@ -13,7 +13,7 @@ ghost use Rattle.plan_defs.specs.Raise.{noMarks, markIf};
 ghost use Rattle.plan_defs.specs.Stiffen.{atOrAbove, shareOf, hvBudget, stiffenTop, arrival, gainOf, batch, batchCap};
 ghost use Rattle.planning.specs.Fill.{Counted, Ranked, Whole, placeOf};
 ghost use Rattle.planning.specs.Raise.{largestCount, pairsFor, PairFits};
-ghost use Rattle.planning.specs.Stiffen.{budgetFor, Stiffenable, Room, LedStiffened, raisable, roomFor, reckoned, Strengthened, StiffenFits, BatchStiffened, Gainful, candidateAt, gainAt, gainsMore, gainNext, gainOrder, gainFor, Stepped, reinforceStep, narrowStep, componentStep, Led, leadOf, lagOf};
+ghost use Rattle.planning.specs.Stiffen.{budgetFor, Stiffenable, Room, LedStiffened, raisable, roomFor, reckoned, Strengthened, StiffenFits, BatchStiffened, Gainful, candidateAt, gainAt, gainsMore, gainNext, gainOrder, gainFor, Chosen, Stepped, reinforceStep, narrowStep, componentStep, Led, leadOf, lagOf};
 ghost use Rattle.planning.specs.declared.stiffen.Stiffened.the-variants.{Going};
 use crate::design::circuit;
 use crate::figures::ceil;
@@ -121,7 +121,13 @@ pub fn limits_of(above: usize, level: &[u32]) -> Limits
     Limits { hv, branches, top }
 }
 
-pub fn stiffness_from(g: Limits, level: &[u32], circuits: &[u32], stiffening: u32, marks: &mut [u32]) -> Stiffness
+pub fn stiffness_from(
+    g: Limits,
+    level: &[u32],
+    circuits: &[u32],
+    stiffening: u32,
+    marks: &mut [u32],
+) -> Stiffness
     requires { ⌜ (length (now level) ≤ mostBuses) × (length (now marks) ≡ length (now level)) × Counted (now circuits) ⌝ }
     ensures marks { λ _. ⌜ now (marks .exit) ≡ noMarks (length (now (level .entry))) ⌝ }
     ensures start { λ r. ⌜ r ≡ record { total = sum (now (circuits .entry)); hv = atOrAbove (now (level .entry)) (g .top); stiffening = stiffening; wide = false; stiffened = false } ⌝ }
@@ -159,7 +165,15 @@ fn arrivals(top: u32, level: &[u32], a: &[u32], b: &[u32], k: usize, marks: &[u3
 }
 
 // Marks both ends of corridor k for a raise that is within the budget, and answers whether it is.
-fn raises(g: Limits, hv: u32, level: &[u32], a: &[u32], b: &[u32], k: usize, marks: &mut [u32]) -> bool
+fn raises(
+    g: Limits,
+    hv: u32,
+    level: &[u32],
+    a: &[u32],
+    b: &[u32],
+    k: usize,
+    marks: &mut [u32],
+) -> bool
     requires { ⌜ PairFits (now level) (now a) (now b) (now marks) k ⌝ }
     ensures marks { λ _. ⌜ now (marks .exit) ≡ markIf (raisable g hv (now (level .entry)) (now (a .entry)) (now (b .entry)) k) (pairsFor (now (a .entry)) (now (b .entry))) (now (level .entry)) k (now (marks .entry)) ⌝ }
     ensures answer { λ r. ⌜ r ≡ raisable g hv (now (level .entry)) (now (a .entry)) (now (b .entry)) k ⌝ }
@@ -278,7 +292,21 @@ fn stiffen_batch(
     while j < taken {
         let k = wide(order[j]);
         t = stiffen_one(
-            g, ladder, level, a, b, km, share, sheet, k, circuits, banks, floors, upsized, marks, t,
+            g,
+            ladder,
+            level,
+            a,
+            b,
+            km,
+            share,
+            sheet,
+            k,
+            circuits,
+            banks,
+            floors,
+            upsized,
+            marks,
+            t,
         );
         j += 1;
     }
@@ -373,7 +401,22 @@ fn gains(
     let mut k = 0;
     while k < a.len() {
         gain[k] = gain_at(
-            g, ladder, level, a, b, km, share, sheet, leader, angle, phi, circuits, banks, t, root, k,
+            g,
+            ladder,
+            level,
+            a,
+            b,
+            km,
+            share,
+            sheet,
+            leader,
+            angle,
+            phi,
+            circuits,
+            banks,
+            t,
+            root,
+            k,
         );
         k += 1;
     }
@@ -425,7 +468,13 @@ fn order_gains(m: usize, gain: &[f64; 256], order: &mut [u32; 256]) -> usize
 }
 
 // How many of the first `count` of an order are taken: `most` of them, while the gains before are below the excess.
-fn batch_size(gain: &[f64; 256], order: &[u32; 256], count: usize, most: usize, excess: f64) -> usize
+fn batch_size(
+    gain: &[f64; 256],
+    order: &[u32; 256],
+    count: usize,
+    most: usize,
+    excess: f64,
+) -> usize
     requires { ⌜ Ranked mostCorridors (now order) count × (count ≤ mostCorridors) × Whole (now gain) ⌝ }
     ensures few { λ r. ⌜ r ≤ count ⌝ }
     ensures batch { λ r. ⌜ take r (now (order .entry)) ≡ batch most nought excess (map (gainFor (now (gain .entry))) (take count (now (order .entry)))) ⌝ }
@@ -469,7 +518,56 @@ fn batch_cap(leader: &[u32], a: &[u32], root: usize) -> usize
     if cap < 1 { 1 } else { cap }
 }
 
-// Stiffens the corridors that narrow a component's spread the most, as many as cover the excess.
+// Puts the corridors that narrow a component's spread the most at the front of `order`; as many as cover the excess are taken.
+fn choose_batch(
+    root: usize,
+    excess: f64,
+    g: Limits,
+    ladder: &[f64],
+    level: &[u32],
+    a: &[u32],
+    b: &[u32],
+    km: &[f64],
+    share: &[f64],
+    sheet: &[f64],
+    leader: &[u32],
+    angle: &[f64],
+    phi: &[f64],
+    circuits: &[u32],
+    banks: &[f64],
+    t: Stiffness,
+    order: &mut [u32; 256],
+) -> usize
+    requires { ⌜ Gainful (now ladder) (now level) (now a) (now b) (now km) (now share) (now sheet) (now leader) (now angle) (now phi) (now circuits) (now banks) ⌝ }
+    requires { ⌜ (length (now a) ≤ mostCorridors) × Whole (now order) ⌝ }
+    ensures { λ r. ⌜ Chosen root excess g (now (ladder .entry)) (now (level .entry)) (now (a .entry)) (now (b .entry)) (now (km .entry)) (now (share .entry)) (now (sheet .entry))
+        (now (leader .entry)) (now (angle .entry)) (now (phi .entry)) (now (circuits .entry)) (now (banks .entry)) t (now (order .exit)) r ⌝ }
+{
+    let mut gain = [0.0; 256];
+    gains(
+        g,
+        ladder,
+        level,
+        a,
+        b,
+        km,
+        share,
+        sheet,
+        leader,
+        angle,
+        phi,
+        circuits,
+        banks,
+        t,
+        root,
+        &mut gain,
+    );
+    let count = order_gains(a.len(), &gain, order);
+    let most = batch_cap(leader, a, root);
+    batch_size(&gain, order, count, most, excess)
+}
+
+// Stiffens them.
 fn reinforce(
     root: usize,
     excess: f64,
@@ -498,18 +596,43 @@ fn reinforce(
         (now (circuits .entry)) (now (banks .entry)) (now (floors .entry)) (now (upsized .entry)) (now (marks .entry)) t
         (now (circuits .exit)) (now (banks .exit)) (now (floors .exit)) (now (upsized .exit)) (now (marks .exit)) (Going r) ⌝ }
 {
-    let mut gain = [0.0; 256];
     let mut order = [0u32; 256];
-    gains(
-        g, ladder, level, a, b, km, share, sheet, leader, angle, phi, circuits, banks, t, root,
-        &mut gain,
+    let taken = choose_batch(
+        root,
+        excess,
+        g,
+        ladder,
+        level,
+        a,
+        b,
+        km,
+        share,
+        sheet,
+        leader,
+        angle,
+        phi,
+        circuits,
+        banks,
+        t,
+        &mut order,
     );
-    let count = order_gains(a.len(), &gain, &mut order);
-    let most = batch_cap(leader, a, root);
-    let taken = batch_size(&gain, &order, count, most, excess);
     stiffen_batch(
-        g, ladder, level, a, b, km, share, sheet, &order, taken, circuits, banks, floors, upsized,
-        marks, t,
+        g,
+        ladder,
+        level,
+        a,
+        b,
+        km,
+        share,
+        sheet,
+        &order,
+        taken,
+        circuits,
+        banks,
+        floors,
+        upsized,
+        marks,
+        t,
     )
 }
 
@@ -616,8 +739,25 @@ fn narrow(
     ) {
         Answer::Refused(f) => Stiffened::Refused(f),
         Answer::Answered => Stiffened::Going(reinforce(
-            root, excess, g, ladder, level, a, b, km, share, sheet, leader, angle, phi, circuits,
-            banks, floors, upsized, marks, t,
+            root,
+            excess,
+            g,
+            ladder,
+            level,
+            a,
+            b,
+            km,
+            share,
+            sheet,
+            leader,
+            angle,
+            phi,
+            circuits,
+            banks,
+            floors,
+            upsized,
+            marks,
+            t,
         )),
     }
 }
@@ -677,11 +817,34 @@ fn stiffen_component(
     if round > STIFFENING_ROUNDS {
         return Stiffened::Going(s);
     }
-    let n = level.len();
     let mut phi = [0.0; 256];
     narrow(
-        root, lead, lag, excess, g, ladder, level, a, b, km, share, sheet, leader, grounds, from, to,
-        weight, angle, &mut phi[0..n], circuits, banks, floors, upsized, marks, work, s,
+        root,
+        lead,
+        lag,
+        excess,
+        g,
+        ladder,
+        level,
+        a,
+        b,
+        km,
+        share,
+        sheet,
+        leader,
+        grounds,
+        from,
+        to,
+        weight,
+        angle,
+        &mut phi[0..level.len()],
+        circuits,
+        banks,
+        floors,
+        upsized,
+        marks,
+        work,
+        s,
     )
 }
 
@@ -719,8 +882,29 @@ pub fn stiffen_led(
 {
     if wide(leader[i]) == i {
         return stiffen_component(
-            i, round, g, ladder, level, a, b, km, share, sheet, leader, grounds, from, to, weight,
-            angle, circuits, banks, floors, upsized, marks, work, t,
+            i,
+            round,
+            g,
+            ladder,
+            level,
+            a,
+            b,
+            km,
+            share,
+            sheet,
+            leader,
+            grounds,
+            from,
+            to,
+            weight,
+            angle,
+            circuits,
+            banks,
+            floors,
+            upsized,
+            marks,
+            work,
+            t,
         );
     }
     Stiffened::Going(t)

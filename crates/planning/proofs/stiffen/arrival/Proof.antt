@@ -1,9 +1,7 @@
 -- `planning::stiffen::arrival` meets its contract.
 use native.Mathlib.Omega.{arith}
 use denote.Ref.{now}
-use lib.Dec.{ltb, leb}
 use lib.ListN.{getD}
-use mathlib.Core.Bool.{_&&_}
 use borrow.Author.Needs.{needs}
 use Rattle.planning.proofs.Stiffenings.{arrival-most, arrival-stays, arrival-goes}
 use Rattle.planning.proofs.stiffen.arrival.Statement.{statement}

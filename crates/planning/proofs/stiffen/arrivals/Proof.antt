@@ -1,58 +1,41 @@
-use Rattle.plan_defs.specs.Stiffen.{arrival}
-use lib.ListN.{getD}
-use Prim.Native.Nat.{ℕ, zero, suc, _+_, _-_, _*_, _≤_, _<_}
-use mathlib.Core.Path.{_≡_, refl, sym, ap, _∙_}
-use mathlib.Core.Logic.{⊎-elim}
-use mathlib.Core.Bool.{Bool, true, false}
-use borrow.Author.Tests.{eq-eqb, ne-eqb, lt-ltb, le-ltb, le-leb, lt-leb, not-true, not-false}
+-- `planning::stiffen::arrivals` meets its contract.
+use Prim.Native.Nat.{ℕ, _+_}
+use mathlib.Core.Path.{_≡_, ap, _∙_}
 use native.Mathlib.Omega.{arith}
 use denote.Ref.{now}
-use lib.ListN.{length, length-set, set}
+use lib.ListN.{getD}
+use Rattle.plan_defs.specs.Stiffen.{arrival}
 use borrow.Author.Needs.{needs}
 use Rattle.planning.proofs.stiffen.arrivals.Statement.{statement}
 use Rattle.planning.proofs.stiffen.arrivals.Tie as tie
-use Rattle.planning.proofs.stiffen.arrivals.Reads as reads
-use Rattle.planning.proofs.stiffen.arrivals.Lts as lts
-use Rattle.planning.proofs.figures.wide.Reads as wide-reads
-use Rattle.planning.proofs.stiffen.arrival.Reads as arrival-reads
 
--- src/stiffen.rt:137:37
 mul-wide : tie.Need-mul-wide
 mul-wide c = search needs
 
--- src/stiffen.rt:137:37
 shared-slice-read-wide : tie.Need-shared-slice-read-wide
 shared-slice-read-wide c = search needs
 
--- src/stiffen.rt:137:32
 wide-requires : tie.Need-wide-requires
 wide-requires c κs = search needs
 
--- src/stiffen.rt:137:5
 arrival-requires : tie.Need-arrival-requires
 arrival-requires c κs = search needs
 
--- src/stiffen.rt:137:78
 mul-wide-2 : tie.Need-mul-wide-2
 mul-wide-2 c = search needs
 
--- src/stiffen.rt:137:78
 shared-slice-read-wide-2 : tie.Need-shared-slice-read-wide-2
 shared-slice-read-wide-2 c = search needs
 
--- src/stiffen.rt:137:73
 wide-requires-2 : tie.Need-wide-requires-2
 wide-requires-2 c κs = search needs
 
--- src/stiffen.rt:137:46
 arrival-requires-2 : tie.Need-arrival-requires-2
 arrival-requires-2 c κs = search needs
 
--- src/stiffen.rt:137:5
 add-result : tie.Need-add-result
 add-result c = search needs
 
--- src/stiffen.rt:133:1
 returns : tie.Need-returns
 returns c =
     let s = c .before .before .before .before .before .before .before .before .before .before .args in

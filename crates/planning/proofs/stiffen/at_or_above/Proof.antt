@@ -8,8 +8,8 @@ use native.Mathlib.Omega.{arith}
 use denote.Ref.{now}
 use lib.Dec.{leb}
 use lib.ListN.{length, getD}
-use borrow.Author.Needs.{needs}
 use Rattle.plan_defs.specs.Lists.{countFrom, counting}
+use borrow.Author.Needs.{needs}
 use Rattle.planning.proofs.Lists.{count-more, count-most}
 use Rattle.planning.proofs.stiffen.at_or_above.Statement.{statement}
 use Rattle.planning.proofs.stiffen.at_or_above.Tie as tie

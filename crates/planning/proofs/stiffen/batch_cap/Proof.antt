@@ -1,49 +1,36 @@
+-- `planning::stiffen::batch_cap` meets its contract.
+use Prim.Native.Nat.{ℕ, max}
+use mathlib.Core.Path.{_≡_, ap, _∙_}
+use native.Mathlib.Omega.{arith}
+use denote.Ref.{now}
+use lib.Ieee.{Float, toUnsigned}
+use lib.ListN.{length, getD}
+use Rattle.loops.specs.Figures.{float, times}
+use Rattle.root.specs.Ceiling.{ceil}
 use Rattle.plan_defs.specs.Components.{within}
 use Rattle.plan_defs.specs.Lists.{counting}
 use Rattle.plan_defs.specs.Constants.{stiffeningBatchShare}
-use Rattle.root.specs.Ceiling.{ceil}
-use Rattle.loops.specs.Figures.{float, times}
-use lib.Ieee.{Float, toUnsigned}
-use lib.ListN.{length, getD}
-use Prim.Native.Nat.{ℕ, max}
-use mathlib.Core.Path.{_≡_, refl, sym, ap, _∙_}
-use mathlib.Core.Logic.{⊎-elim}
-use mathlib.Core.Bool.{Bool, true, false}
-use borrow.Author.Tests.{eq-eqb, ne-eqb, lt-ltb, le-ltb, le-leb, lt-leb, not-true, not-false}
-use native.Mathlib.Omega.{arith}
-use denote.Ref.{now}
 use borrow.Author.Needs.{needs}
 use Rattle.planning.proofs.stiffen.batch_cap.Statement.{statement}
 use Rattle.planning.proofs.stiffen.batch_cap.Tie as tie
-use Rattle.planning.proofs.stiffen.batch_cap.Reads as reads
-use Rattle.planning.proofs.stiffen.batch_cap.Lts as lts
-use Rattle.planning.proofs.figures.ceil.Reads as ceil-reads
-use Rattle.planning.proofs.figures.float.Reads as float-reads
-use Rattle.planning.proofs.figures.to_usize.Reads as to-usize-reads
-use Rattle.planning.proofs.stiffen.corridors_in.Reads as corridors-in-reads
 
 cap-is : (count n : ℕ) (x y : Float) (cap : ℕ) → n ≡ count → x ≡ float n → y ≡ ceil (times stiffeningBatchShare x) → cap ≡ toUnsigned 64 y
     → max cap 1 ≡ max (toUnsigned 64 (ceil (times stiffeningBatchShare (float count)))) 1
 cap-is count n x y cap p q r s =
     ap (λ (k : ℕ). max k 1) (s ∙ ap (λ (z : Float). toUnsigned 64 z) (r ∙ ap (λ (z : Float). ceil (times stiffeningBatchShare z)) (q ∙ ap (λ (k : ℕ). float k) p)))
 
--- src/stiffen.rt:462:60
 corridors-in-requires : tie.Need-corridors-in-requires
 corridors-in-requires c κs = search needs
 
--- src/stiffen.rt:462:54
 float-requires : tie.Need-float-requires
 float-requires c κs = search needs
 
--- src/stiffen.rt:462:24
 ceil-requires : tie.Need-ceil-requires
 ceil-requires c κs = search needs
 
--- src/stiffen.rt:462:9
 to-usize-requires : tie.Need-to-usize-requires
 to-usize-requires c κs = search needs
 
--- src/stiffen.rt:458:1
 returns : tie.Need-returns
 returns c =
     let z = c .before .before .before .before .before .before .before .args in
@@ -51,7 +38,6 @@ returns c =
     let e : 1 ≡ max (c .before .to-usize .result) 1 = omega (arith, c .if1 .taken) in
     e ∙ cap-is n _ _ _ _ (c .before .before .before .before .corridors-in .ensures) (c .before .before .before .float .ensures) (c .before .before .ceil .ensures) (c .before .to-usize .ensures)
 
--- src/stiffen.rt:458:1
 returns-2 : tie.Need-returns-2
 returns-2 c =
     let z = c .before .before .before .before .before .before .before .args in

@@ -1,22 +1,18 @@
-use Rattle.planning.proofs.Gains.{taking, take-start, take-turn, take-most, take-covered, take-all-of}
-use Rattle.planning.specs.Stiffen.{gainFor}
-use Rattle.plan_defs.specs.Stiffen.{batch}
-use Rattle.loops.specs.Figures.{nought}
+-- `planning::stiffen::batch_size` meets its contract.
+use Prim.Native.Nat.{_-_, _≤_}
 use mathlib.Core.List.{map}
-use lib.ListN.{take}
-use Prim.Native.Nat.{ℕ, zero, suc, _+_, _-_, _*_, _≤_, _<_}
-use mathlib.Core.Path.{_≡_, refl, sym, ap, _∙_}
-use mathlib.Core.Logic.{⊎-elim}
-use mathlib.Core.Bool.{Bool, true, false}
-use borrow.Author.Tests.{eq-eqb, ne-eqb, lt-ltb, le-ltb, le-leb, lt-leb, not-true, not-false}
+use mathlib.Core.Path.{_≡_, refl, sym, _∙_}
 use native.Mathlib.Omega.{arith}
+use borrow.Author.Tests.{not-true, not-false}
 use denote.Ref.{now}
+use lib.ListN.{take}
+use Rattle.loops.specs.Figures.{nought}
+use Rattle.plan_defs.specs.Stiffen.{batch}
 use borrow.Author.Needs.{needs}
+use Rattle.planning.specs.Stiffen.{gainFor}
+use Rattle.planning.proofs.Gains.{taking, take-start, take-turn, take-most, take-covered, take-all-of}
 use Rattle.planning.proofs.stiffen.batch_size.Statement.{statement}
 use Rattle.planning.proofs.stiffen.batch_size.Tie as tie
-use Rattle.planning.proofs.stiffen.batch_size.Reads as reads
-use Rattle.planning.proofs.stiffen.batch_size.Lts as lts
-use Rattle.planning.proofs.figures.wide.Reads as wide-reads
 
 abbrev Inv-loop : tie.InvT-loop
 Inv-loop gain order count most excess covered₀ j₀ covered j = (j ≤ count) × (taking gain order count most excess j covered ≡ batch most nought excess (map (gainFor gain) (take count order)))
@@ -24,60 +20,48 @@ Inv-loop gain order count most excess covered₀ j₀ covered j = (j ≤ count) 
 abbrev μ-loop : tie.MeasureT-loop
 μ-loop gain order count most excess covered₀ j₀ covered j = count - j
 
--- src/stiffen.rt:419:5
 loop-holds : tie.Need-loop-holds Inv-loop μ-loop
 loop-holds c = let s = c in (omega arith, take-start (now (s .args .gain)) (now (s .args .order)) (s .args .count) (s .args .most) (s .args .excess))
 
--- src/stiffen.rt:421:13
 returns : tie.Need-returns Inv-loop μ-loop
 returns c =
     let s = c .before .before .before in
     let l = c .before .before .loop in
     (l .inv .0, sym (take-most (now (s .args .gain)) (now (s .args .order)) (s .args .count) (s .args .most) (s .args .excess) (omega (arith, s .pre .0 .size, s .pre .1)) (l .j) (l .covered) (c .if1 .taken)) ∙ l .inv .1)
 
--- src/stiffen.rt:424:13
 returns-2 : tie.Need-returns-2 Inv-loop μ-loop
 returns-2 c =
     let s = c .before .before .before .before in
     let l = c .before .before .before .loop in
     (l .inv .0, sym (take-covered (now (s .args .gain)) (now (s .args .order)) (s .args .count) (s .args .most) (s .args .excess) (omega (arith, s .pre .0 .size, s .pre .1)) (l .j) (l .covered) (c .before .before .loop-test .taken) (omega (arith, c .before .if1 .left)) (not-true _ (c .if2 .taken))) ∙ l .inv .1)
 
--- src/stiffen.rt:426:22
 mul-wide : tie.Need-mul-wide Inv-loop μ-loop
 mul-wide c = search needs
 
--- src/stiffen.rt:426:22
 element-copy-out-wide : tie.Need-element-copy-out-wide Inv-loop μ-loop
 element-copy-out-wide c = omega (arith, c .before .before .before .before .pre .0 .size, c .before .before .before .before .pre .1)
 
--- src/stiffen.rt:426:13
 wide-requires : tie.Need-wide-requires Inv-loop μ-loop
 wide-requires c κs = search needs
 
--- src/stiffen.rt:427:29
 mul-covered : tie.Need-mul-covered Inv-loop μ-loop
 mul-covered c = record { fits = omega (arith, c .wide .ensures, c .before .before .before .before .before .before .pre .0 .below (c .before .before .before .before .before .loop .j) (c .before .before .before .before .loop-test .taken)) }
 
--- src/stiffen.rt:427:29
 element-copy-out-covered : tie.Need-element-copy-out-covered Inv-loop μ-loop
 element-copy-out-covered c = omega (arith, c .wide .ensures, c .before .before .before .before .before .before .pre .0 .below (c .before .before .before .before .before .loop .j) (c .before .before .before .before .loop-test .taken))
 
--- src/stiffen.rt:428:9
 add-j : tie.Need-add-j Inv-loop μ-loop
 add-j c = search needs
 
--- src/stiffen.rt:419:5
 loop-less : tie.Need-loop-less Inv-loop μ-loop
 loop-less c = search needs
 
--- src/stiffen.rt:419:5
 loop-again : tie.Need-loop-again Inv-loop μ-loop
 loop-again c =
     let s = c .before .before .before .before .before .before .before in
     let l = c .before .before .before .before .before .before .loop in
     (omega arith, take-turn (now (s .args .gain)) (now (s .args .order)) (s .args .count) (s .args .most) (s .args .excess) (omega (arith, s .pre .0 .size, s .pre .1)) (l .j) _ (l .covered) _ (c .before .before .before .before .before .loop-test .taken) (omega (arith, c .before .before .before .before .if1 .left)) (not-false _ (c .before .before .before .if2 .left)) (c .before .wide .ensures) refl ∙ l .inv .1)
 
--- src/stiffen.rt:412:1
 returns-3 : tie.Need-returns-3 Inv-loop μ-loop
 returns-3 c =
     let s = c .before .before in

@@ -1,94 +1,64 @@
-use Rattle.planning.proofs.Gains.{candidate-is}
-use Prim.Native.Nat.{ℕ, zero, suc, _+_, _-_, _*_, _≤_, _<_}
-use mathlib.Core.Path.{_≡_, refl, sym, ap, _∙_}
-use mathlib.Core.Logic.{⊎-elim}
-use mathlib.Core.Bool.{Bool, true, false}
-use borrow.Author.Tests.{eq-eqb, ne-eqb, lt-ltb, le-ltb, le-leb, lt-leb, not-true, not-false}
-use native.Mathlib.Omega.{arith}
+-- `planning::stiffen::is_candidate` meets its contract.
 use denote.Ref.{now}
-use lib.ListN.{length, length-set, set}
 use borrow.Author.Needs.{needs}
+use Rattle.planning.proofs.Gains.{candidate-is}
 use Rattle.planning.proofs.stiffen.is_candidate.Statement.{statement}
 use Rattle.planning.proofs.stiffen.is_candidate.Tie as tie
-use Rattle.planning.proofs.stiffen.is_candidate.Reads as reads
-use Rattle.planning.proofs.stiffen.is_candidate.Lts as lts
-use Rattle.planning.proofs.figures.fewer.Reads as fewer-reads
-use Rattle.planning.proofs.figures.wide.Reads as wide-reads
-use Rattle.planning.proofs.stiffen.has_room.Reads as has-room-reads
 
--- src/stiffen.rt:298:18
 mul-wide : tie.Need-mul-wide
 mul-wide c = search needs
 
--- src/stiffen.rt:298:18
 shared-slice-read-wide : tie.Need-shared-slice-read-wide
 shared-slice-read-wide c = search needs
 
--- src/stiffen.rt:298:9
 wide-requires : tie.Need-wide-requires
 wide-requires c κs = search needs
 
--- src/stiffen.rt:299:18
 mul-wide-2 : tie.Need-mul-wide-2
 mul-wide-2 c = search needs
 
--- src/stiffen.rt:299:18
 shared-slice-read-wide-2 : tie.Need-shared-slice-read-wide-2
 shared-slice-read-wide-2 c = search needs
 
--- src/stiffen.rt:299:9
 wide-requires-2 : tie.Need-wide-requires-2
 wide-requires-2 c κs = search needs
 
--- src/stiffen.rt:300:22
 mul-fewer : tie.Need-mul-fewer
 mul-fewer c = search needs
 
--- src/stiffen.rt:300:22
 shared-slice-read-fewer : tie.Need-shared-slice-read-fewer
 shared-slice-read-fewer c = search needs
 
--- src/stiffen.rt:300:32
 mul-fewer-2 : tie.Need-mul-fewer-2
 mul-fewer-2 c = search needs
 
--- src/stiffen.rt:300:32
 shared-slice-read-fewer-2 : tie.Need-shared-slice-read-fewer-2
 shared-slice-read-fewer-2 c = search needs
 
--- src/stiffen.rt:300:9
 fewer-requires : tie.Need-fewer-requires
 fewer-requires c κs = search needs
 
--- src/stiffen.rt:301:28
 mul-has-room : tie.Need-mul-has-room
 mul-has-room c = search needs
 
--- src/stiffen.rt:301:28
 shared-slice-read-has-room : tie.Need-shared-slice-read-has-room
 shared-slice-read-has-room c = search needs
 
--- src/stiffen.rt:301:9
 has-room-requires : tie.Need-has-room-requires
 has-room-requires c κs = search needs
 
--- src/stiffen.rt:302:11
 mul-wide-3 : tie.Need-mul-wide-3
 mul-wide-3 c = search needs
 
--- src/stiffen.rt:302:11
 shared-slice-read-wide-3 : tie.Need-shared-slice-read-wide-3
 shared-slice-read-wide-3 c = search needs
 
--- src/stiffen.rt:302:6
 wide-requires-3 : tie.Need-wide-requires-3
 wide-requires-3 c κs = search needs
 
--- src/stiffen.rt:302:60
 wide-requires-4 : tie.Need-wide-requires-4
 wide-requires-4 c κs = search needs
 
--- src/stiffen.rt:284:1
 returns : tie.Need-returns
 returns c =
     let s = c .before .before .before .before .before .before .before .before .before .before .before .before .before .before .before .before .before .before .before .args in

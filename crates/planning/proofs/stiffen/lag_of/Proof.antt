@@ -1,24 +1,17 @@
-use Rattle.plan_defs.specs.Stiffen.{laggard}
-use Rattle.planning.proofs.Leads.{first-here, left, best-start, best-turn, best-end, best-below}
-use Rattle.planning.specs.Stiffen.{lagOf}
-use Rattle.loops.specs.Figures.{at}
-use lib.Ieee.{lt}
-use lib.ListN.{length, getD}
-use Prim.Native.Nat.{ℕ, zero, suc, _+_, _-_, _*_, _≤_, _<_}
-use mathlib.Core.Path.{_≡_, refl, sym, ap, _∙_}
-use mathlib.Core.Logic.{⊎-elim}
-use mathlib.Core.Bool.{Bool, true, false}
-use borrow.Author.Tests.{eq-eqb, ne-eqb, lt-ltb, le-ltb, le-leb, lt-leb, not-true, not-false}
+-- `planning::stiffen::lag_of` meets its contract.
+use Prim.Native.Nat.{_-_, _≤_, _<_}
+use mathlib.Core.Path.{_≡_, refl, sym, _∙_}
 use native.Mathlib.Omega.{arith}
 use denote.Ref.{now}
+use lib.Ieee.{lt}
+use lib.ListN.{length, getD}
+use Rattle.loops.specs.Figures.{at}
+use Rattle.plan_defs.specs.Stiffen.{laggard}
 use borrow.Author.Needs.{needs}
+use Rattle.planning.specs.Stiffen.{lagOf}
+use Rattle.planning.proofs.Leads.{first-here, left, best-start, best-turn, best-end, best-below}
 use Rattle.planning.proofs.stiffen.lag_of.Statement.{statement}
 use Rattle.planning.proofs.stiffen.lag_of.Tie as tie
-use Rattle.planning.proofs.stiffen.lag_of.Reads as reads
-use Rattle.planning.proofs.stiffen.lag_of.Lts as lts
-use Rattle.planning.proofs.figures.choose.Reads as choose-reads
-use Rattle.planning.proofs.figures.wide.Reads as wide-reads
-use Rattle.planning.proofs.stiffen.first_of.Reads as first-of-reads
 
 abbrev Inv-loop : tie.InvT-loop
 Inv-loop leader angle root best₀ i₀ best i = (best < length leader) × (i ≤ length leader) × ((here : root < length leader) (leads : getD leader root 0 ≡ root) → left leader root here leads (laggard angle) i best ≡ lagOf leader angle root)
@@ -26,18 +19,15 @@ Inv-loop leader angle root best₀ i₀ best i = (best < length leader) × (i �
 abbrev μ-loop : tie.MeasureT-loop
 μ-loop leader angle root best₀ i₀ best i = length leader - i
 
--- src/stiffen.rt:548:9
 first-of-requires : tie.Need-first-of-requires Inv-loop μ-loop
 first-of-requires c κs = search needs
 
--- src/stiffen.rt:549:17
 add-i : tie.Need-add-i Inv-loop μ-loop
 add-i c =
     let s = c .before .before .before in
     let z = s .args in
     record { fits = omega (arith, first-here (now (z .leader)) (z .root) (s .pre .here) (s .pre .leads), c .first-of .ensures, s .good) }
 
--- src/stiffen.rt:550:5
 loop-holds : tie.Need-loop-holds Inv-loop μ-loop
 loop-holds c =
     let s = c .before .before .before in
@@ -45,47 +35,36 @@ loop-holds c =
     let f = first-here (now (z .leader)) (z .root) (s .pre .here) (s .pre .leads) in
     (omega (arith, f, c .first-of .ensures), omega (arith, f, c .first-of .ensures), λ h l. best-start (now (z .leader)) (z .root) h l (laggard (now (z .angle))) _ (c .first-of .ensures))
 
--- src/stiffen.rt:552:19
 mul-wide : tie.Need-mul-wide Inv-loop μ-loop
 mul-wide c = search needs
 
--- src/stiffen.rt:552:19
 shared-slice-read-wide : tie.Need-shared-slice-read-wide Inv-loop μ-loop
 shared-slice-read-wide c = search needs
 
--- src/stiffen.rt:552:14
 wide-requires : tie.Need-wide-requires Inv-loop μ-loop
 wide-requires c κs = search needs
 
--- src/stiffen.rt:552:42
 mul-choose : tie.Need-mul-choose Inv-loop μ-loop
 mul-choose c = search needs
 
--- src/stiffen.rt:552:42
 shared-slice-read-choose : tie.Need-shared-slice-read-choose Inv-loop μ-loop
 shared-slice-read-choose c = search needs
 
--- src/stiffen.rt:552:53
 mul-choose-2 : tie.Need-mul-choose-2 Inv-loop μ-loop
 mul-choose-2 c = search needs
 
--- src/stiffen.rt:552:53
 shared-slice-read-choose-2 : tie.Need-shared-slice-read-choose-2 Inv-loop μ-loop
 shared-slice-read-choose-2 c = search needs
 
--- src/stiffen.rt:551:9
 choose-requires : tie.Need-choose-requires Inv-loop μ-loop
 choose-requires c κs = search needs
 
--- src/stiffen.rt:556:9
 add-i-2 : tie.Need-add-i-2 Inv-loop μ-loop
 add-i-2 c = search needs
 
--- src/stiffen.rt:550:5
 loop-less : tie.Need-loop-less Inv-loop μ-loop
 loop-less c = search needs
 
--- src/stiffen.rt:550:5
 loop-again : tie.Need-loop-again Inv-loop μ-loop
 loop-again c =
     let s = c .before .before .before .before .before .before .before .before .before .before in
@@ -98,7 +77,6 @@ loop-again c =
       λ r e. best-turn (now (z .leader)) (z .root) r e (laggard (now (z .angle))) (l .i) (l .best) _ _ t h (c .before .before .before .wide .ensures) (c .choose .ensures) refl ∙ l .inv .2 r e,
     )
 
--- src/stiffen.rt:544:1
 returns : tie.Need-returns Inv-loop μ-loop
 returns c =
     let s = c .before .before .before .before .before in

@@ -1,24 +1,19 @@
-use Rattle.planning.proofs.Gains.{ranked-all, next-named}
-use Rattle.planning.proofs.Insertion.{ranked-by, none-named}
-use Rattle.planning.specs.Stiffen.{gainsMore, gainNext, gainOrder}
-use Rattle.planning.specs.Fill.{Whole}
-use Rattle.plan_defs.proofs.Lists.{All}
-use Rattle.loops.proofs.Loops.{iter-all, iter-more, iter-end}
-use Rattle.loops.specs.Loops.{iter}
-use lib.ListN.{take}
+-- `planning::stiffen::order_gains` meets its contract.
+use Prim.Native.Nat.{ℕ, _-_, _≤_, _<_}
 use mathlib.Core.Path.{_≡_, sym, _∙_, subst}
-use Prim.Native.Nat.{ℕ, zero, suc, _+_, _-_, _*_, _≤_, _<_}
-use mathlib.Core.Logic.{⊎-elim}
-use mathlib.Core.Bool.{Bool, true, false}
-use borrow.Author.Tests.{eq-eqb, ne-eqb, lt-ltb, le-ltb, le-leb, lt-leb, not-true, not-false}
 use native.Mathlib.Omega.{arith}
 use denote.Ref.{now}
+use lib.ListN.{take}
+use Rattle.loops.specs.Loops.{iter}
+use Rattle.loops.proofs.Loops.{iter-all, iter-more, iter-end}
+use Rattle.plan_defs.proofs.Lists.{All}
 use borrow.Author.Needs.{needs}
+use Rattle.planning.specs.Stiffen.{gainsMore, gainNext, gainOrder}
+use Rattle.planning.specs.Fill.{Whole}
+use Rattle.planning.proofs.Gains.{ranked-all, next-named}
+use Rattle.planning.proofs.Insertion.{ranked-by, none-named}
 use Rattle.planning.proofs.stiffen.order_gains.Statement.{statement}
 use Rattle.planning.proofs.stiffen.order_gains.Tie as tie
-use Rattle.planning.proofs.stiffen.order_gains.Reads as reads
-use Rattle.planning.proofs.stiffen.order_gains.Lts as lts
-use Rattle.planning.proofs.stiffen.insert_gain.Reads as insert-gain-reads
 
 abbrev Inv-loop : tie.InvT-loop
 Inv-loop m gain order₀ count₀ k₀ order count k = (k ≤ m) × (count ≤ k) × Whole order × All (λ (j : ℕ). j < m) (take count order) × (iter (gainNext gain) (m - k) k (take count order) ≡ gainOrder gain m)
@@ -26,14 +21,12 @@ Inv-loop m gain order₀ count₀ k₀ order count k = (k ≤ m) × (count ≤ k
 abbrev μ-loop : tie.MeasureT-loop
 μ-loop m gain order₀ count₀ k₀ order count k = m - k
 
--- src/stiffen.rt:414:5
 loop-holds : tie.Need-loop-holds Inv-loop μ-loop
 unfolding gainOrder
 loop-holds c =
     let z = c .args in
     (omega arith, omega arith, c .pre .2, none-named (λ (j : ℕ). j < z .m) (now (z .order)), iter-all _ _ _)
 
--- src/stiffen.rt:415:9
 insert-gain-requires : tie.Need-insert-gain-requires Inv-loop μ-loop
 insert-gain-requires c κs =
     let s = c .before .before .before in
@@ -43,15 +36,12 @@ insert-gain-requires c κs =
     let r = ranked-by (gainsMore (now (z .gain))) (z .m) (l .order) (l .count) (s .pre .0) (l .inv .2) (omega (arith, h, l .inv .1)) (l .inv .3) in
     (omega (arith, h, s .pre .0), ranked-all (z .m) (l .count) (l .order) r, omega (arith, h, s .pre .0, l .inv .1), s .pre .1)
 
--- src/stiffen.rt:416:9
 add-k : tie.Need-add-k Inv-loop μ-loop
 add-k c = search needs
 
--- src/stiffen.rt:414:5
 loop-less : tie.Need-loop-less Inv-loop μ-loop
 loop-less c = search needs
 
--- src/stiffen.rt:414:5
 loop-again : tie.Need-loop-again Inv-loop μ-loop
 loop-again c =
     let s = c .before .before .before .before in
@@ -66,7 +56,6 @@ loop-again c =
       sym (iter-more (gainNext (now (z .gain))) h (r .1)) ∙ l .inv .4,
     )
 
--- src/stiffen.rt:407:1
 returns : tie.Need-returns Inv-loop μ-loop
 returns c =
     let s = c .before .before in

@@ -1,40 +1,28 @@
-use Rattle.planning.proofs.Stiffenings.{raise-within, raise-beyond, marks-within, marks-beyond}
-use Prim.Native.Nat.{ℕ, zero, suc, _+_, _-_, _*_, _≤_, _<_}
-use mathlib.Core.Path.{_≡_, refl, sym, ap, _∙_}
-use mathlib.Core.Logic.{⊎-elim}
-use mathlib.Core.Bool.{Bool, true, false}
-use borrow.Author.Tests.{eq-eqb, ne-eqb, lt-ltb, le-ltb, le-leb, lt-leb, not-true, not-false}
+-- `planning::stiffen::raises` meets its contract.
+use Prim.Native.Nat.{_≤_, _<_}
+use mathlib.Core.Path.{_∙_}
 use native.Mathlib.Omega.{arith}
 use denote.Ref.{now}
-use lib.ListN.{length, length-set, set}
 use borrow.Author.Needs.{needs}
+use Rattle.planning.proofs.Stiffenings.{raise-within, raise-beyond, marks-within, marks-beyond}
 use Rattle.planning.proofs.stiffen.raises.Statement.{statement}
 use Rattle.planning.proofs.stiffen.raises.Tie as tie
-use Rattle.planning.proofs.stiffen.raises.Reads as reads
-use Rattle.planning.proofs.stiffen.raises.Lts as lts
-use Rattle.planning.proofs.figures.wide.Reads as wide-reads
-use Rattle.planning.proofs.raise.mark_raise_to.Reads as mark-raise-to-reads
 
--- src/stiffen.rt:146:8
 wide-requires : tie.Need-wide-requires
 wide-requires c κs = search needs
 
--- src/stiffen.rt:147:9
 mark-raise-to-requires : tie.Need-mark-raise-to-requires
 mark-raise-to-requires c κs = search needs
 
--- src/stiffen.rt:147:9
 same-length : tie.Need-same-length
 same-length c = search needs
 
--- src/stiffen.rt:147:9
 returns : tie.Need-returns
 returns c =
     let s = c .before .before .before .before .before .before .before .before .before .before .before .args in
     let h : s .hv < s .g .hv = omega (arith, c .before .before .before .before .before .before .wide .ensures, c .before .before .before .before .if1 .taken) in
     (marks-within (s .g) (s .hv) (now (s .level)) (now (s .a)) (now (s .b)) (s .k) (now (s .marks)) _ h (c .before .before .mark-raise-to .ensures .0), c .before .before .mark-raise-to .ensures .1 ∙ raise-within (s .g) (s .hv) (now (s .level)) (now (s .a)) (now (s .b)) (s .k) (now (s .marks)) (now (s .marks)) h)
 
--- src/stiffen.rt:141:1
 returns-2 : tie.Need-returns-2
 returns-2 c =
     let s = c .before .before .before .before .before .before .before .args in

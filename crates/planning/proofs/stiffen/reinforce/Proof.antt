@@ -1,105 +1,48 @@
-use Rattle.planning.proofs.Reinforcing.{reinforced}
-use Rattle.planning.proofs.Gains.{ranked-all}
-use Rattle.loops.proofs.Tab.{fill-length}
-use lib.ListN.{length}
-use Prim.Native.Nat.{ℕ, zero, suc, _+_, _-_, _*_, _≤_, _<_}
-use mathlib.Core.Path.{_≡_, refl, sym, ap, _∙_}
-use mathlib.Core.Logic.{⊎-elim}
-use mathlib.Core.Bool.{Bool, true, false}
-use borrow.Author.Tests.{eq-eqb, ne-eqb, lt-ltb, le-ltb, le-leb, lt-leb, not-true, not-false}
+-- `planning::stiffen::reinforce` meets its contract.
 use native.Mathlib.Omega.{arith}
 use denote.Ref.{now}
 use borrow.Author.Needs.{needs}
+use Rattle.planning.proofs.Reinforcing.{reinforced}
 use Rattle.planning.proofs.stiffen.reinforce.Statement.{statement}
 use Rattle.planning.proofs.stiffen.reinforce.Tie as tie
-use Rattle.planning.proofs.stiffen.reinforce.Reads as reads
-use Rattle.planning.proofs.stiffen.reinforce.Lts as lts
-use Rattle.planning.proofs.stiffen.batch_cap.Reads as batch-cap-reads
-use Rattle.planning.proofs.stiffen.batch_size.Reads as batch-size-reads
-use Rattle.planning.proofs.stiffen.gains.Reads as gains-reads
-use Rattle.planning.proofs.stiffen.order_gains.Reads as order-gains-reads
-use Rattle.planning.proofs.stiffen.stiffen_batch.Reads as stiffen-batch-reads
 
--- src/stiffen.rt:497:5
-gains-requires : tie.Need-gains-requires
-gains-requires c κs = search needs
+choose-batch-requires : tie.Need-choose-batch-requires
+choose-batch-requires c κs = search needs
 
--- src/stiffen.rt:501:9
-order-gains-requires : tie.Need-order-gains-requires
-order-gains-requires c κs =
-    let s = c .before .before .before .before .before .before .before .before .before .before .before .before .before .before .before .before .before .before .before .before .before in
-    let z = s .args in
-    (s .pre .1 .3, fill-length _ _ _ _ (c .before .before .gains .ensures) (omega (arith, s .pre .1 .3)), refl)
-
--- src/stiffen.rt:502:9
-batch-cap-requires : tie.Need-batch-cap-requires
-batch-cap-requires c κs =
-    let s = c .before .before .before .before .before .before .before .before .before .before .before .before .before .before .before .before .before .before .before .before .before .before in
-    (s .pre .1 .3, λ k h. omega (arith, s .pre .0 .lines .a-below k h, s .pre .1 .0))
-
--- src/stiffen.rt:503:9
-batch-size-requires : tie.Need-batch-size-requires
-batch-size-requires c κs =
-    let s = c .before .before .before .before .before .before .before .before .before .before .before .before .before .before .before .before .before .before .before .before .before .before .before .before .before in
-    let z = s .args in
-    let r = c .before .before .before .order-gains .ensures in
-    (ranked-all (length (now (z .a))) _ _ (r .0 .1), omega (arith, r .0 .0, s .pre .1 .3), fill-length _ _ _ _ (c .before .before .before .before .before .before .gains .ensures) (omega (arith, s .pre .1 .3)))
-
--- src/stiffen.rt:504:5
 stiffen-batch-requires : tie.Need-stiffen-batch-requires
 stiffen-batch-requires c κs =
-    let s = c .before .before .before .before .before .before .before .before .before .before .before .before .before .before .before .before .before .before .before .before .before .before .before .before .before .before .before .before .before .before .before .before in
-    let z = s .args in
-    let r = c .before .before .before .before .before .before .before .before .before .before .order-gains .ensures in
-    let e = c .before .before .before .before .before .before .batch-size .ensures .0 in
-    let m = s .pre .1 .4 in (
-      s .pre .0,
-      (
-        record { few = r .0 .1 .few; size = r .0 .1 .size; below = λ j h. r .0 .1 .below j (omega (arith, h, e)) },
-        record { total = omega (arith, e, r .0 .0, m .total); hv = omega (arith, e, r .0 .0, m .hv); stiffening = omega (arith, e, r .0 .0, m .stiffening) },
-        omega (arith, e, r .0 .0),
-      ),
-    )
+    let s = c .before .before .before .before .before .before .before .before .before .before .before .before .before .before .before .before .before .before .before .before .before .before .before .before .before in
+    let k = c .before .before .before .before .before .before .choose-batch .ensures in
+    let m = s .pre .1 .4 in
+    let f = k .few in
+    (s .pre .0, (k .ranked, record { total = omega (arith, f, m .total); hv = omega (arith, f, m .hv); stiffening = omega (arith, f, m .stiffening) }, f))
 
--- src/stiffen.rt:467:1
 same-length : tie.Need-same-length
 same-length c = search needs
 
--- src/stiffen.rt:467:1
 same-length-2 : tie.Need-same-length-2
 same-length-2 c = search needs
 
--- src/stiffen.rt:467:1
 same-length-3 : tie.Need-same-length-3
 same-length-3 c = search needs
 
--- src/stiffen.rt:467:1
 same-length-4 : tie.Need-same-length-4
 same-length-4 c = search needs
 
--- src/stiffen.rt:467:1
 same-length-5 : tie.Need-same-length-5
 same-length-5 c = search needs
 
--- src/stiffen.rt:467:1
 returns : tie.Need-returns
 returns c =
-    let s = c .before .before .before .before .before .before .before .before .before .before .before .before .before .before .before .before .before .before .before .before .before .before .before .before .before .before .before .before .before .before .before .before .before .before .before .before .before .before .before .before .before .before .before in
-    let z = s .args in
-    let r = c .before .before .before .before .before .before .before .before .before .before .before .before .before .before .before .before .before .before .before .before .before .order-gains .ensures in
-    let e = c .before .before .before .before .before .before .before .before .before .before .before .before .before .before .before .before .before .batch-size .ensures in
+    let z = c .before .before .before .before .before .before .before .before .before .before .before .before .before .before .before .before .before .before .before .before .before .before .before .before .before .before .before .before .before .before .before .before .before .before .before .before .args in
     reinforced (z .root) (z .excess) (z .g) (now (z .ladder)) (now (z .level)) (now (z .a)) (now (z .b)) (now (z .km)) (now (z .share)) (now (z .sheet)) (now (z .leader)) (now (z .angle)) (now (z .phi))
-    (now (z .circuits)) (now (z .banks)) (now (z .floors)) (now (z .upsized)) (now (z .marks)) (z .t) (s .pre .0 .count-size) _ _ _ _ _ _ (c .before .before .before .before .before .before .before .before .before .before .before .before .before .before .before .before .before .before .before .before .before .before .before .before .gains .ensures) (r .1) (c .before .before .before .before .before .before .before .before .before .before .before .before .before .before .before .before .before .before .before .before .batch-cap .ensures) (e .1) _ _ _ _ _ _
-    (e .0) (r .0 .0) (r .0 .1) (c .before .before .before .before .before .before .before .before .before .before .stiffen-batch .ensures)
+    (now (z .circuits)) (now (z .banks)) (now (z .floors)) (now (z .upsized)) (now (z .marks)) (z .t) _ _ _ _ _ _ _ _ (c .before .before .before .before .before .before .before .before .before .before .before .before .before .before .before .before .before .choose-batch .ensures) (c .before .before .before .before .before .before .before .before .before .before .stiffen-batch .ensures)
 
 pub reinforce-spec : {M : Type 1} → statement M
 reinforce-spec =
     tie.close
     (tie.spec
-    gains-requires
-    order-gains-requires
-    batch-cap-requires
-    batch-size-requires
+    choose-batch-requires
     stiffen-batch-requires
     same-length
     same-length-2

@@ -1,21 +1,15 @@
-use Rattle.planning.proofs.Stiffenings.{batch-start, batch-turn}
-use Rattle.planning.specs.Stiffen.{BatchStiffened}
+-- `planning::stiffen::stiffen_batch` meets its contract.
+use Prim.Native.Nat.{ℕ, _-_, _≤_, _<_}
 use mathlib.Core.Path.{_≡_, refl, _∙_, subst}
-use lib.Seq.{length-take-le}
-use lib.ListN.{length, take}
-use Prim.Native.Nat.{ℕ, zero, suc, _+_, _-_, _*_, _≤_, _<_}
-use mathlib.Core.Logic.{⊎-elim}
-use mathlib.Core.Bool.{Bool, true, false}
-use borrow.Author.Tests.{eq-eqb, ne-eqb, lt-ltb, le-ltb, le-leb, lt-leb, not-true, not-false}
 use native.Mathlib.Omega.{arith}
 use denote.Ref.{now}
+use lib.Seq.{length-take-le}
+use lib.ListN.{length, take}
 use borrow.Author.Needs.{needs}
+use Rattle.planning.specs.Stiffen.{BatchStiffened}
+use Rattle.planning.proofs.Stiffenings.{batch-start, batch-turn}
 use Rattle.planning.proofs.stiffen.stiffen_batch.Statement.{statement}
 use Rattle.planning.proofs.stiffen.stiffen_batch.Tie as tie
-use Rattle.planning.proofs.stiffen.stiffen_batch.Reads as reads
-use Rattle.planning.proofs.stiffen.stiffen_batch.Lts as lts
-use Rattle.planning.proofs.figures.wide.Reads as wide-reads
-use Rattle.planning.proofs.stiffen.stiffen_one.Reads as stiffen-one-reads
 
 abbrev Inv-loop : tie.InvT-loop
 Inv-loop g ladder level a b km share sheet order taken circuits₀ banks₀ floors₀ upsized₀ marks₀ t₀ j₀ circuits banks floors upsized marks t j =
@@ -30,26 +24,21 @@ Inv-loop g ladder level a b km share sheet order taken circuits₀ banks₀ floo
 abbrev μ-loop : tie.MeasureT-loop
 μ-loop g ladder level a b km share sheet order taken circuits₀ banks₀ floors₀ upsized₀ marks₀ t₀ j₀ circuits banks floors upsized marks t j = taken - j
 
--- src/stiffen.rt:272:5
 loop-holds : tie.Need-loop-holds Inv-loop μ-loop
 loop-holds c =
     let s = c .before .before .before .before .before .before .before .before .before .before .before .before in
     let z = s .args in
     (omega arith, refl, refl, refl, refl, refl, batch-start (z .g) (now (z .ladder)) (now (z .level)) (now (z .a)) (now (z .b)) (now (z .km)) (now (z .share)) (now (z .sheet)) (now (z .circuits)) (now (z .banks)) (now (z .floors)) (now (z .upsized)) (now (z .marks)) (z .start) (s .pre .0 .banked))
 
--- src/stiffen.rt:273:22
 mul-wide : tie.Need-mul-wide Inv-loop μ-loop
 mul-wide c = search needs
 
--- src/stiffen.rt:273:22
 element-copy-out-wide : tie.Need-element-copy-out-wide Inv-loop μ-loop
 element-copy-out-wide c = let s = c .before .before .before .before .before .before .before .before .before .before .before .before .before .before in omega (arith, s .pre .1 .0 .few, s .pre .1 .2, c .loop-test .taken)
 
--- src/stiffen.rt:273:13
 wide-requires : tie.Need-wide-requires Inv-loop μ-loop
 wide-requires c κs = search needs
 
--- src/stiffen.rt:274:9
 stiffen-one-requires : tie.Need-stiffen-one-requires Inv-loop μ-loop
 stiffen-one-requires c κs =
     let s = c .before .before .before .before .before .before .before .before .before .before .before .before .before .before .before .before .before .before .before .before .before in
@@ -79,15 +68,12 @@ stiffen-one-requires c κs =
       ),
     )
 
--- src/stiffen.rt:277:9
 add-j : tie.Need-add-j Inv-loop μ-loop
 add-j c = omega (arith, c .before .before .before .before .before .before .before .before .before .before .before .before .before .before .before .before .before .before .loop-test .taken, c .before .before .before .before .before .before .before .before .before .before .before .before .before .before .before .before .before .before .before .before .before .before .before .before .before .before .before .before .before .before .before .before .pre .1 .2, c .before .before .before .before .before .before .before .before .before .before .before .before .before .before .before .before .before .before .before .before .before .before .before .before .before .before .before .before .before .before .before .before .pre .1 .0 .few)
 
--- src/stiffen.rt:272:5
 loop-less : tie.Need-loop-less Inv-loop μ-loop
 loop-less c = omega (arith, c .before .before .before .before .before .before .before .before .before .before .before .before .before .before .before .before .before .before .loop-test .taken)
 
--- src/stiffen.rt:272:5
 loop-again : tie.Need-loop-again Inv-loop μ-loop
 loop-again c =
     let s = c .before .before .before .before .before .before .before .before .before .before .before .before .before .before .before .before .before .before .before .before .before .before .before .before .before .before .before .before .before .before .before .before in
@@ -105,27 +91,21 @@ loop-again c =
       batch-turn (z .g) (now (z .ladder)) (now (z .level)) (now (z .a)) (now (z .b)) (now (z .km)) (now (z .share)) (now (z .sheet)) (now (z .circuits)) (now (z .banks)) (now (z .floors)) (now (z .upsized)) (now (z .marks)) (z .start) (l .circuits) (l .banks) (l .floors) (l .upsized) (l .marks) (l .t) _ _ _ _ _ _ (now (z .order)) (l .j) _ w (c .before .before .before .before .before .before .before .before .before .before .before .before .before .before .before .before .wide .ensures) (l .inv .6) (r .ensures),
     )
 
--- src/stiffen.rt:246:1
 same-length : tie.Need-same-length Inv-loop μ-loop
 same-length c = c .before .loop .inv .1
 
--- src/stiffen.rt:246:1
 same-length-2 : tie.Need-same-length-2 Inv-loop μ-loop
 same-length-2 c = c .before .loop .inv .2
 
--- src/stiffen.rt:246:1
 same-length-3 : tie.Need-same-length-3 Inv-loop μ-loop
 same-length-3 c = c .before .loop .inv .3
 
--- src/stiffen.rt:246:1
 same-length-4 : tie.Need-same-length-4 Inv-loop μ-loop
 same-length-4 c = c .before .loop .inv .4
 
--- src/stiffen.rt:246:1
 same-length-5 : tie.Need-same-length-5 Inv-loop μ-loop
 same-length-5 c = c .before .loop .inv .5
 
--- src/stiffen.rt:246:1
 returns : tie.Need-returns Inv-loop μ-loop
 returns c =
     let s = c .before .before .before .before .before .before .before .before .before .before .before .before .before .before in

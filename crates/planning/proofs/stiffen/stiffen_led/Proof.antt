@@ -1,64 +1,44 @@
-use Rattle.planning.proofs.Narrowing.{led-leads, led-not}
-use Prim.Native.Nat.{ℕ, zero, suc, _+_, _-_, _*_, _≤_, _<_}
-use mathlib.Core.Path.{_≡_, refl, sym, ap, _∙_}
-use mathlib.Core.Logic.{⊎-elim}
-use mathlib.Core.Bool.{Bool, true, false}
-use borrow.Author.Tests.{eq-eqb, ne-eqb, lt-ltb, le-ltb, le-leb, lt-leb, not-true, not-false}
-use native.Mathlib.Omega.{arith}
+-- `planning::stiffen::stiffen_led` meets its contract.
+use mathlib.Core.Path.{sym, _∙_}
 use denote.Ref.{now}
-use lib.ListN.{length, length-set, set}
 use borrow.Author.Needs.{needs}
+use Rattle.planning.proofs.Narrowing.{led-leads, led-not}
 use Rattle.planning.proofs.stiffen.stiffen_led.Statement.{statement}
 use Rattle.planning.proofs.stiffen.stiffen_led.Tie as tie
-use Rattle.planning.proofs.stiffen.stiffen_led.Reads as reads
-use Rattle.planning.proofs.stiffen.stiffen_led.Lts as lts
-use Rattle.planning.proofs.figures.wide.Reads as wide-reads
-use Rattle.planning.proofs.stiffen.stiffen_component.Reads as stiffen-component-reads
 
--- src/stiffen.rt:720:13
 mul-wide : tie.Need-mul-wide
 mul-wide c = search needs
 
--- src/stiffen.rt:720:13
 shared-slice-read-wide : tie.Need-shared-slice-read-wide
 shared-slice-read-wide c = search needs
 
--- src/stiffen.rt:720:8
 wide-requires : tie.Need-wide-requires
 wide-requires c κs = search needs
 
--- src/stiffen.rt:721:9
 stiffen-component-requires : tie.Need-stiffen-component-requires
 stiffen-component-requires c κs =
     let s = c .before .before .before .before .before .before .before .before .before .before .before .before .before .before .before .before .before .before .before .before .before .before .before .before .before in
     let p = s .pre .0 in
     (p, (record { here = s .pre .1 .0; leads = sym (c .before .before .before .before .before .before .before .wide .ensures) ∙ c .before .before .before .before .before .before .if1 .taken; angle-size = p .angle-size ∙ sym (p .leader-size) }, s .pre .1 .1))
 
--- src/stiffen.rt:721:9
 same-length : tie.Need-same-length
 same-length c = search needs
 
--- src/stiffen.rt:721:9
 same-length-2 : tie.Need-same-length-2
 same-length-2 c = search needs
 
--- src/stiffen.rt:721:9
 same-length-3 : tie.Need-same-length-3
 same-length-3 c = search needs
 
--- src/stiffen.rt:721:9
 same-length-4 : tie.Need-same-length-4
 same-length-4 c = search needs
 
--- src/stiffen.rt:721:9
 same-length-5 : tie.Need-same-length-5
 same-length-5 c = search needs
 
--- src/stiffen.rt:721:9
 same-length-6 : tie.Need-same-length-6
 same-length-6 c = search needs
 
--- src/stiffen.rt:721:9
 returns : tie.Need-returns
 returns c =
     let s = c .before .before .before .before .before .before .before .before .before .before .before .before .before .before .before .before .before .before .before .before .before .before .before .before .before .before .before .before .before .before .before .before .before .before .before .before .before .before in
@@ -66,7 +46,6 @@ returns c =
     led-leads (z .i) (z .round) (z .g) (now (z .ladder)) (now (z .level)) (now (z .a)) (now (z .b)) (now (z .km)) (now (z .share)) (now (z .sheet)) (now (z .leader)) (now (z .grounds)) (now (z .from)) (now (z .to)) (now (z .weight)) (now (z .angle)) (now (z .circuits)) (now (z .banks)) (now (z .floors)) (now (z .upsized)) (now (z .marks)) (z .t)
     _ _ _ _ _ _ (sym (c .before .before .before .before .before .before .before .before .before .before .before .before .before .before .before .before .before .before .before .before .wide .ensures) ∙ c .before .before .before .before .before .before .before .before .before .before .before .before .before .before .before .before .before .before .before .if1 .taken) (c .before .before .before .before .before .before .before .before .before .before .before .before .stiffen-component .ensures)
 
--- src/stiffen.rt:689:1
 returns-2 : tie.Need-returns-2
 returns-2 c =
     let s = c .before .before .before .before .before .before .before .before .before .before .before .before .before .before .before .before .before .before .before in

@@ -1,60 +1,38 @@
-use Rattle.planning.proofs.Stiffenings.{one-full, one-rest}
-use Prim.Native.Nat.{ℕ, zero, suc, _+_, _-_, _*_, _≤_, _<_}
-use mathlib.Core.Path.{_≡_, refl, sym, ap, _∙_}
-use mathlib.Core.Logic.{⊎-elim}
-use mathlib.Core.Bool.{Bool, true, false}
-use borrow.Author.Tests.{eq-eqb, ne-eqb, lt-ltb, le-ltb, le-leb, lt-leb, not-true, not-false}
+-- `planning::stiffen::stiffen_one` meets its contract.
 use native.Mathlib.Omega.{arith}
 use denote.Ref.{now}
-use lib.ListN.{length, length-set, set}
 use borrow.Author.Needs.{needs}
+use Rattle.planning.proofs.Stiffenings.{one-full, one-rest}
 use Rattle.planning.proofs.stiffen.stiffen_one.Statement.{statement}
 use Rattle.planning.proofs.stiffen.stiffen_one.Tie as tie
-use Rattle.planning.proofs.stiffen.stiffen_one.Reads as reads
-use Rattle.planning.proofs.stiffen.stiffen_one.Lts as lts
-use Rattle.planning.proofs.design.circuit.Reads as circuit-reads
-use Rattle.planning.proofs.size.bank_below.Reads as bank-below-reads
-use Rattle.planning.proofs.size.keep_bank.Reads as keep-bank-reads
-use Rattle.planning.proofs.stiffen.raise_or_add.Reads as raise-or-add-reads
-use Rattle.planning.proofs.stiffen.reckoned.Reads as reckoned-reads
 
--- src/stiffen.rt:222:63
 mul-circuit : tie.Need-mul-circuit
 mul-circuit c = search needs
 
--- src/stiffen.rt:222:63
 slice-read-circuit : tie.Need-slice-read-circuit
 slice-read-circuit c = search needs
 
--- src/stiffen.rt:222:9
 circuit-requires : tie.Need-circuit-requires
 circuit-requires c κs = let s = c .before .before .before .before .before .before .before .before .before .before .before .before .before in (s .pre .0 .lines, (s .pre .1 .0, s .pre .0 .banked (s .args .k) (omega (arith, s .pre .1 .0, s .pre .0 .bank-size))))
 
--- src/stiffen.rt:223:8
 bank-below-requires : tie.Need-bank-below-requires
 bank-below-requires c κs = search needs
 
--- src/stiffen.rt:224:9
 keep-bank-requires : tie.Need-keep-bank-requires
 keep-bank-requires c κs = let s = c .before .before .before .before .before .before .before .before .before .before .before .before .before .before .before .before .before .before .before in (omega (arith, s .pre .1 .0, s .pre .0 .bank-size), omega (arith, s .pre .1 .0, s .pre .0 .floor-size), omega (arith, s .pre .1 .0, s .pre .0 .upsized-size))
 
--- src/stiffen.rt:225:9
 reckoned-requires : tie.Need-reckoned-requires
 reckoned-requires c κs = let r = c .before .before .before .before .before .before .before .before .before .before .before .before .before .before .before .before .before .before .before .before .before .before .before .before .before .before .pre .1 .1 in (omega (arith, r .total), omega (arith, r .hv), omega (arith, r .stiffening))
 
--- src/stiffen.rt:225:9
 same-length : tie.Need-same-length
 same-length c = search needs
 
--- src/stiffen.rt:225:9
 same-length-2 : tie.Need-same-length-2
 same-length-2 c = search needs
 
--- src/stiffen.rt:225:9
 same-length-3 : tie.Need-same-length-3
 same-length-3 c = search needs
 
--- src/stiffen.rt:225:9
 returns : tie.Need-returns
 returns c =
     let s = c .before .before .before .before .before .before .before .before .before .before .before .before .before .before .before .before .before .before .before .before .before .before .before .before .before .before .before in
@@ -63,7 +41,6 @@ returns c =
     one-full (z .g) (now (z .ladder)) (now (z .level)) (now (z .a)) (now (z .b)) (now (z .km)) (now (z .share)) (now (z .sheet)) (z .k) (now (z .circuits)) (now (z .banks)) (now (z .floors)) (now (z .upsized)) (now (z .marks)) (z .t)
     (s .pre .1 .0) (s .pre .0 .count-size) (s .pre .0 .bank-size) _ (c .before .before .before .before .before .before .before .before .before .before .before .before .before .circuit .ensures) _ (c .before .before .before .before .before .before .before .before .before .before .before .before .bank-below .ensures) (c .before .before .before .before .before .before .before .before .before .before .before .if1 .taken) (s .pre .0 .lines) (s .pre .0 .banked) _ _ _ _ (k .0) (k .1 .0) (k .1 .1) (c .reckoned .ensures)
 
--- src/stiffen.rt:227:5
 raise-or-add-requires : tie.Need-raise-or-add-requires
 raise-or-add-requires c κs =
     let s = c .before .before .before .before .before .before .before .before .before .before .before .before .before .before .before .before .before .before in
@@ -79,15 +56,12 @@ raise-or-add-requires c κs =
       (omega (arith, h, s .pre .0 .count-size), s .pre .1 .1),
     )
 
--- src/stiffen.rt:199:1
 same-length-4 : tie.Need-same-length-4
 same-length-4 c = search needs
 
--- src/stiffen.rt:199:1
 same-length-5 : tie.Need-same-length-5
 same-length-5 c = search needs
 
--- src/stiffen.rt:199:1
 returns-2 : tie.Need-returns-2
 returns-2 c =
     let s = c .before .before .before .before .before .before .before .before .before .before .before .before .before .before .before .before .before .before .before .before .before .before .before in

@@ -3,8 +3,8 @@ use Prim.Native.Nat.{ℕ}
 use mathlib.Core.Bool.{false}
 use mathlib.Core.Path.{_≡_, ap, _∙_}
 use Rattle.plan_defs.specs.Raise.{noMarks}
-use Rattle.planning.specs.declared.stiffen.Stiffness.{Stiffness}
 use borrow.Author.Needs.{needs}
+use Rattle.planning.specs.declared.stiffen.Stiffness.{Stiffness}
 use Rattle.planning.proofs.stiffen.stiffness_from.Statement.{statement}
 use Rattle.planning.proofs.stiffen.stiffness_from.Tie as tie
 

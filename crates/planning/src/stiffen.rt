@@ -509,7 +509,7 @@ fn corridors_in(leader: &[u32], a: &[u32], root: usize) -> u32
     count
 }
 
-// At least one.
+// The most corridors in one batch: their share, and at least one.
 fn batch_cap(leader: &[u32], a: &[u32], root: usize) -> usize
     requires { ⌜ (length (now a) ≤ mostCorridors) × ((k : ℕ) → k < length (now a) → getD (now a) k 0 < length (now leader)) ⌝ }
     ensures { λ r. ⌜ r ≡ batchCap (pairsFor (now (a .entry)) []) (now (leader .entry)) root ⌝ }
@@ -567,7 +567,7 @@ fn choose_batch(
     batch_size(&gain, order, count, most, excess)
 }
 
-// Stiffens them.
+// Stiffens the corridors that are taken.
 fn reinforce(
     root: usize,
     excess: f64,

@@ -3,9 +3,9 @@
 use Prim.Native.Nat.{ℕ}
 use mathlib.Core.List.{List, [], _∷_, map}
 use mathlib.Core.Path.{_≡_, refl}
-use lib.Ieee.{Float}
+use lib.Ieee.{Float, binary64, ofBits}
 use Rattle.loops.specs.Figures.{nought, one, hundred, decimal}
-use Rattle.mode.specs.declared.PlanMode.the-variants.{Expand}
+use Rattle.mode.specs.declared.PlanMode.the-variants.{Expand, Reinforce}
 use Rattle.plan_defs.specs.Lists.{each}
 use Rattle.plan_defs.specs.Case.{Case, caseOf, rowOf}
 use Rattle.plan_defs.specs.Design.{lineOf, setTransformerMva, keptBank}
@@ -73,3 +73,26 @@ picked most tenths = batch most nought (decimal tenths 10) (insert (gain 1 3) (i
 pub batches : picked 4 9 ∷ picked 4 11 ∷ picked 2 99 ∷ picked 4 99 ∷ [] ≡ (1 ∷ 2 ∷ []) ∷ (1 ∷ 2 ∷ 0 ∷ []) ∷ (1 ∷ 2 ∷ []) ∷ (1 ∷ 2 ∷ 0 ∷ 3 ∷ []) ∷ []
 unfolding listingOf
 batches = refl
+
+-- A whole case in Reinforce: the first round makes a bank larger, the second makes it larger once more, the third finds it enough. So a plan that copies the
+-- initial circuits and banks, one that only counts after the first round, and one that counts a round too many each list something else.
+abbrev figures : List ℕ → List Float
+figures bits = map (ofBits binary64) bits
+
+-- HD 1 0 3 2 1 0 2; LV 345, 138; BU 0 0, 1 0, 1 4212.304191654775; GE 0 0 0 1000000 20 0.01; CO 0 1 7 10 0.5814084460531092, 1 2 1 10 1; LN 0 0.0004378194579937841 0 20000 0, four times
+abbrev reinforced : Case
+reinforced =
+    caseOf Reinforce 3 2 1 0 2 (figures (0x4075_9000_0000_0000 ∷ 0x4061_4000_0000_0000 ∷ [])) (0 ∷ 1 ∷ 1 ∷ []) (figures (0 ∷ 0 ∷ 0x40B0_744D_DF81_18FA ∷ []))
+    (0 ∷ []) (0 ∷ []) (nought ∷ []) (figures (0x412E_8480_0000_0000 ∷ [])) (figures (0x4034_0000_0000_0000 ∷ [])) (figures (0x3F84_7AE1_47AE_147B ∷ []))
+    (0 ∷ 1 ∷ []) (1 ∷ 2 ∷ []) (7 ∷ 1 ∷ []) (whole 10 ∷ whole 10 ∷ []) (figures (0x3FE2_9AE5_E2AD_5233 ∷ 0x3FF0_0000_0000_0000 ∷ []))
+    (figures
+    (0 ∷ 0x3F3C_B164_40EE_45BD ∷ 0 ∷ 0x40D3_8800_0000_0000 ∷ 0 ∷ 0 ∷ 0x3F3C_B164_40EE_45BD ∷ 0 ∷ 0x40D3_8800_0000_0000 ∷ 0 ∷ 0 ∷ 0x3F3C_B164_40EE_45BD ∷ 0
+    ∷ 0x40D3_8800_0000_0000 ∷ 0 ∷ 0 ∷ 0x3F3C_B164_40EE_45BD ∷ 0 ∷ 0x40D3_8800_0000_0000 ∷ 0 ∷ []))
+
+pub sized-again :
+    listingOf reinforced 0
+    ≡ (1 ∷ 3 ∷ 1 ∷ 0 ∷ 0 ∷ 0 ∷ 0 ∷ 1 ∷ 0 ∷ 0 ∷ []) ∷ [] ∷ (2 ∷ []) ∷ (0 ∷ 1 ∷ 1 ∷ []) ∷ (0x3FB6_1696_8854_E35F ∷ 0x3F92_E288_F4A8_9333 ∷ 0 ∷ [])
+    ∷ (0x40B0_744D_DF81_18FA ∷ []) ∷ (7 ∷ 1 ∷ []) ∷ (0x40B0_744D_DF81_18FA ∷ 0x40B0_744D_DF81_18FC ∷ []) ∷ (0x4085_CD85_65A3_1C54 ∷ 0x40D3_8800_0000_0000 ∷ [])
+    ∷ (0x3FEB_9999_9999_9998 ∷ 0x3FB6_1696_8854_E35F ∷ []) ∷ []
+unfolding listingOf
+sized-again = refl

@@ -124,7 +124,20 @@ pub fn size_rounds(
         p.rounds += 1;
         p.converged = false;
         match planning_state(
-            ladder, level, a, b, km, share, sheet, circuits, banks, injection, grounds, angle, flow, work,
+            ladder,
+            level,
+            a,
+            b,
+            km,
+            share,
+            sheet,
+            circuits,
+            banks,
+            injection,
+            grounds,
+            angle,
+            flow,
+            work,
         ) {
             Answer::Refused(f) => return Rounds::Refused(f),
             Answer::Answered => {}
@@ -138,11 +151,40 @@ pub fn size_rounds(
         let mut k = 0;
         'corridors: while k < a.len() {
             t = size_corridor(
-                mode, ladder, level, a, b, km, share, sheet, flow, k, circuits, banks, floors, upsized, marks, t,
+                mode,
+                ladder,
+                level,
+                a,
+                b,
+                km,
+                share,
+                sheet,
+                flow,
+                k,
+                circuits,
+                banks,
+                floors,
+                upsized,
+                marks,
+                t,
             );
             k += 1;
             if k == a.len() {
-                let moved = raise_marked(ladder, a, b, km, share, sheet, load, bus, pmax, floors, marks, level, banks);
+                let moved = raise_marked(
+                    ladder,
+                    a,
+                    b,
+                    km,
+                    share,
+                    sheet,
+                    load,
+                    bus,
+                    pmax,
+                    floors,
+                    marks,
+                    level,
+                    banks,
+                );
                 if (moved > 0) | t.added {
                     p.capacity = t.capacity;
                     p.promoted += moved;
@@ -156,21 +198,68 @@ pub fn size_rounds(
             }
         }
         draw_edges(
-            ladder, level, a, b, km, share, sheet, circuits, banks, &mut from, &mut to, &mut weight,
+            ladder,
+            level,
+            a,
+            b,
+            km,
+            share,
+            sheet,
+            circuits,
+            banks,
+            &mut from,
+            &mut to,
+            &mut weight,
         );
         let g = limits_of(above, level);
         let mut s = stiffness_from(g, level, circuits, p.stiffening, marks);
         let mut i = 0;
         'components: while i < leader.len() {
             match stiffen_led(
-                i, p.rounds, g, ladder, level, a, b, km, share, sheet, leader, grounds, &from, &to, &weight, angle, circuits, banks, floors, upsized, marks, work, s,
+                i,
+                p.rounds,
+                g,
+                ladder,
+                level,
+                a,
+                b,
+                km,
+                share,
+                sheet,
+                leader,
+                grounds,
+                &from,
+                &to,
+                &weight,
+                angle,
+                circuits,
+                banks,
+                floors,
+                upsized,
+                marks,
+                work,
+                s,
             ) {
                 Stiffened::Refused(f) => return Rounds::Refused(f),
                 Stiffened::Going(u) => s = u,
             }
             i += 1;
             if i == leader.len() {
-                let moved = raise_marked(ladder, a, b, km, share, sheet, load, bus, pmax, floors, marks, level, banks);
+                let moved = raise_marked(
+                    ladder,
+                    a,
+                    b,
+                    km,
+                    share,
+                    sheet,
+                    load,
+                    bus,
+                    pmax,
+                    floors,
+                    marks,
+                    level,
+                    banks,
+                );
                 p.capacity = t.capacity;
                 p.stiffening = s.stiffening;
                 p.promoted += moved;

@@ -18,6 +18,7 @@ ghost use Rattle.planning.specs.declared.stiffen.Stiffened.the-variants.
 use crate::design::circuit;
 use crate::figures::ceil;
 use crate::figures::choose;
+use crate::figures::clear_counts;
 use crate::figures::fewer;
 use crate::figures::float;
 use crate::figures::one_if;
@@ -26,7 +27,6 @@ use crate::figures::wide;
 use crate::fill::insert;
 use crate::fill::total;
 use crate::policy::MAX_CIRCUITS_PER_CORRIDOR;
-use crate::figures::clear_counts;
 use crate::raise::mark_raise_to;
 use crate::raise::raise_of;
 use crate::size::bank_below;

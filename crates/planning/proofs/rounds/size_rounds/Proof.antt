@@ -341,12 +341,12 @@ rounds-again c =
               work-size = c .before .before .before .before .before .before .before .before .before .before .before .before .before .before .before .before .before .before .before .before .before .before .before .before .before .before .before .before .before .before .before .before .before .before .before .before .before .before .before .before .before .before .before .before .before .planning-state .kept .1 .1 .1 .1 .1 .1 .1 .1 .1 .1 .1 .1 .1 .0 ∙ r .inv .0 .places .work-size ∙ ap (λ (x : ℕ). 8 * x) (sym n);
             };
         tallies = record {
-                few-levels = r .inv .0 .tallies .few-levels;
-                rounds = omega (arith, ap (λ (q : Progress). q .rounds) (l .inv .2), r .inv .0 .tallies .rounds, c .before .before .before .before .before .before .before .before .before .before .before .before .before .before .before .before .before .before .before .before .before .before .before .before .before .before .before .before .before .before .before .before .before .before .before .before .before .before .before .before .before .before .before .before .before .before .before .before .before .before .before .before .before .rounds-test .taken);
-                promoted = omega (arith, ap (λ (q : Progress). q .promoted) (l .inv .2), ap (λ (q : Progress). q .rounds) (l .inv .2), r .inv .0 .tallies .promoted, c .before .before .before .before .before .before .before .raise-marked .ensures .few, ln, r .inv .0 .columns .loads .few);
-                capacity = omega (arith, ap (λ (q : Progress). q .rounds) (l .inv .2), c .before .before .before .before .before .before .before .before .before .before .before .before .before .before .before .before .before .before .before .before .before .before .before .size-corridor .ensures .bound, l .inv .6, r .inv .0 .tallies .capacity, r .inv .0 .columns .few, c .before .before .before .before .before .before .before .before .before .before .before .before .before .before .before .before .before .before .before .before .before .before .before .before .before .before .before .before .before .before .before .corridors-test .taken);
-                stiffening = omega (arith, ap (λ (q : Progress). q .rounds) (l .inv .2), ap (λ (q : Progress). q .stiffening) (l .inv .2), r .inv .0 .tallies .stiffening);
-              };
+          few-levels = r .inv .0 .tallies .few-levels;
+          rounds = omega (arith, ap (λ (q : Progress). q .rounds) (l .inv .2), r .inv .0 .tallies .rounds, c .before .before .before .before .before .before .before .before .before .before .before .before .before .before .before .before .before .before .before .before .before .before .before .before .before .before .before .before .before .before .before .before .before .before .before .before .before .before .before .before .before .before .before .before .before .before .before .before .before .before .before .before .before .rounds-test .taken);
+          promoted = omega (arith, ap (λ (q : Progress). q .promoted) (l .inv .2), ap (λ (q : Progress). q .rounds) (l .inv .2), r .inv .0 .tallies .promoted, c .before .before .before .before .before .before .before .raise-marked .ensures .few, ln, r .inv .0 .columns .loads .few);
+          capacity = omega (arith, ap (λ (q : Progress). q .rounds) (l .inv .2), c .before .before .before .before .before .before .before .before .before .before .before .before .before .before .before .before .before .before .before .before .before .before .before .size-corridor .ensures .bound, l .inv .6, r .inv .0 .tallies .capacity, r .inv .0 .columns .few, c .before .before .before .before .before .before .before .before .before .before .before .before .before .before .before .before .before .before .before .before .before .before .before .before .before .before .before .before .before .before .before .corridors-test .taken);
+          stiffening = omega (arith, ap (λ (q : Progress). q .rounds) (l .inv .2), ap (λ (q : Progress). q .stiffening) (l .inv .2), r .inv .0 .tallies .stiffening);
+        };
         some = r .inv .0 .some;
         banked = c .before .before .before .before .before .before .before .raise-marked .ensures .banked;
         few = c .before .before .before .before .before .before .before .before .before .before .before .before .before .before .before .before .before .before .before .before .before .before .before .size-corridor .ensures .few (l .inv .5);
@@ -562,21 +562,23 @@ stiffen-led-requires c κs =
         from-size = c .before .before .before .before .before .before .before .before .before .before .before .before .before .before .before .before .before .before .before .before .before .draw-edges .ensures .1 .0;
         weight-size = c .before .before .before .before .before .before .before .before .before .before .before .before .before .before .before .before .before .before .before .before .before .draw-edges .ensures .1 .2;
         leader-size = f .places .leader-size ∙ sym n;
-        angle-size = c .before .before .before .before .before .before .before .before .before .before .before .before .before .before .before .before .before .before .before .before .before .before .before .before .before .before .before .before .before .before .before .before .before .before .before .before .before .before .before .before .before .before .planning-state .kept  .1 .1 .1 .1 .1 .1 .1 .1 .1 .1 .1 .0 ∙ f .places .angle-size ∙ sym n;
+        angle-size = c .before .before .before .before .before .before .before .before .before .before .before .before .before .before .before .before .before .before .before .before .before .before .before .before .before .before .before .before .before .before .before .before .before .before .before .before .before .before .before .before .before .before .planning-state .kept .1 .1 .1 .1 .1 .1 .1 .1 .1 .1 .1 .0 ∙ f .places .angle-size ∙ sym n;
         count-size = k .inv .3 .0 ∙ l .inv .3 .count-size;
         bank-size = k .inv .3 .1 ∙ l .inv .3 .bank-size;
         floor-size = k .inv .3 .2 ∙ l .inv .3 .floor-size;
         upsized-size = k .inv .3 .3 ∙ l .inv .3 .upsized-size;
         mark-size = k .inv .3 .4 ∙ c .before .before .before .before .before .before .before .before .before .before .before .before .before .before .before .stiffness-from .kept .1 .1 .1 .1 .0 ∙ l .inv .3 .mark-size ∙ ap (λ (x : List ℕ). length x) (sym (k .inv .1));
-        work-size = k .inv .3 .5 ∙ c .before .before .before .before .before .before .before .before .before .before .before .before .before .before .before .before .before .before .before .before .before .before .before .before .before .before .before .before .before .before .before .before .before .before .before .before .before .before .before .before .before .before .planning-state .kept  .1 .1 .1 .1 .1 .1 .1 .1 .1 .1 .1 .1 .1 .0 ∙ f .places .work-size ∙ ap (λ (x : ℕ). 8 * x) (sym n);
+        work-size = k .inv .3 .5 ∙ c .before .before .before .before .before .before .before .before .before .before .before .before .before .before .before .before .before .before .before .before .before .before .before .before .before .before .before .before .before .before .before .before .before .before .before .before .before .before .before .before .before .before .planning-state .kept .1 .1 .1 .1 .1 .1 .1 .1 .1 .1 .1 .1 .1 .0 ∙ f .places .work-size ∙ ap (λ (x : ℕ). 8 * x) (sym n);
         banked = k .inv .4;
       },
-      (c .before .before .before .before .before .before .before .before .before .before .before .components-test .taken,
-      record {
-        total = omega (arith, k .inv .6 .0, ap (λ (x : Stiffness). x .total) (c .before .before .before .before .before .before .before .before .before .before .before .before .before .before .before .stiffness-from .ensures .1), few-sum (l .circuits) (l .inv .5), m, c .before .before .before .before .before .before .before .before .before .before .before .components-test .taken, f .places .leader-size, f .columns .loads .few, f .columns .few);
-        hv = omega (arith, k .inv .6 .1, ap (λ (x : Stiffness). x .hv) (c .before .before .before .before .before .before .before .before .before .before .before .before .before .before .before .stiffness-from .ensures .1), few-high (l .level) (c .before .before .before .before .before .before .before .before .before .before .before .before .before .before .before .before .before .before .before .limits-of .result .top), ap (λ (x : List ℕ). length x) (l .inv .1), f .columns .loads .few, c .before .before .before .before .before .before .before .before .before .before .before .components-test .taken, f .places .leader-size, f .columns .loads .few, f .columns .few);
-        stiffening = omega (arith, k .inv .6 .2, ap (λ (x : Stiffness). x .stiffening) (c .before .before .before .before .before .before .before .before .before .before .before .before .before .before .before .stiffness-from .ensures .1), ap (λ (q : Progress). q .stiffening) (l .inv .2), c .before .before .before .before .before .before .before .before .before .before .before .components-test .taken, f .places .leader-size, f .columns .loads .few, f .columns .few, f .tallies .stiffening, f .tallies .rounds);
-      }),
+      (
+        c .before .before .before .before .before .before .before .before .before .before .before .components-test .taken,
+        record {
+          total = omega (arith, k .inv .6 .0, ap (λ (x : Stiffness). x .total) (c .before .before .before .before .before .before .before .before .before .before .before .before .before .before .before .stiffness-from .ensures .1), few-sum (l .circuits) (l .inv .5), m, c .before .before .before .before .before .before .before .before .before .before .before .components-test .taken, f .places .leader-size, f .columns .loads .few, f .columns .few);
+          hv = omega (arith, k .inv .6 .1, ap (λ (x : Stiffness). x .hv) (c .before .before .before .before .before .before .before .before .before .before .before .before .before .before .before .stiffness-from .ensures .1), few-high (l .level) (c .before .before .before .before .before .before .before .before .before .before .before .before .before .before .before .before .before .before .before .limits-of .result .top), ap (λ (x : List ℕ). length x) (l .inv .1), f .columns .loads .few, c .before .before .before .before .before .before .before .before .before .before .before .components-test .taken, f .places .leader-size, f .columns .loads .few, f .columns .few);
+          stiffening = omega (arith, k .inv .6 .2, ap (λ (x : Stiffness). x .stiffening) (c .before .before .before .before .before .before .before .before .before .before .before .before .before .before .before .stiffness-from .ensures .1), ap (λ (q : Progress). q .stiffening) (l .inv .2), c .before .before .before .before .before .before .before .before .before .before .before .components-test .taken, f .places .leader-size, f .columns .loads .few, f .columns .few, f .tallies .stiffening, f .tallies .rounds);
+        },
+      ),
     )
 
 enum-known-f-2 :
@@ -780,12 +782,12 @@ rounds-again-3 c =
               work-size = c .before .before .before .before .before .before .before .before .before .before .before .before .before .before .before .before .before .before .before .before .before .before .before .before .before .before .before .before .stiffen-led .kept .1 .1 .1 .1 .1 .1 .1 .1 .1 .1 .1 .1 .1 .1 .1 .1 .1 .1 .1 .1 .1 .0 ∙ k .inv .3 .5 ∙ c .before .before .before .before .before .before .before .before .before .before .before .before .before .before .before .before .before .before .before .before .before .before .before .before .before .before .before .before .before .before .before .before .before .before .before .before .before .before .before .before .before .before .before .before .before .before .before .before .before .before .before .before .before .before .before .before .before .before .before .before .before .before .before .before .before .before .before .before .before .before .before .planning-state .kept .1 .1 .1 .1 .1 .1 .1 .1 .1 .1 .1 .1 .1 .0 ∙ r .inv .0 .places .work-size ∙ ap (λ (x : ℕ). 8 * x) (sym n);
             };
         tallies = record {
-                few-levels = f .tallies .few-levels;
-                rounds = omega (arith, ap (λ (q : Progress). q .rounds) (k .inv .2 ∙ l .inv .2), f .tallies .rounds, c .before .before .before .before .before .before .before .before .before .before .before .before .before .before .before .before .before .before .before .before .before .before .before .before .before .before .before .before .before .before .before .before .before .before .before .before .before .before .before .before .before .before .before .before .before .before .before .before .before .before .before .before .before .before .before .before .before .before .before .before .before .before .before .before .before .before .before .before .before .before .before .before .before .before .before .before .before .before .before .rounds-test .taken);
-                promoted = omega (arith, ap (λ (q : Progress). q .promoted) (k .inv .2 ∙ l .inv .2), ap (λ (q : Progress). q .rounds) (k .inv .2 ∙ l .inv .2), f .tallies .promoted, c .before .before .before .before .before .before .before .raise-marked2 .ensures .few, ln, f .columns .loads .few);
-                capacity = omega (arith, ap (λ (q : Progress). q .rounds) (k .inv .2 ∙ l .inv .2), l .inv .6, l .inv .0, f .tallies .capacity, f .columns .few);
-                stiffening = omega (arith, ap (λ (q : Progress). q .rounds) (k .inv .2 ∙ l .inv .2), w .2, k .inv .6 .2, ap (λ (x : Stiffness). x .stiffening) (c .before .before .before .before .before .before .before .before .before .before .before .before .before .before .before .before .before .before .before .before .before .before .before .before .before .before .before .before .before .before .before .before .before .before .before .before .before .before .before .before .before .before .before .before .stiffness-from .ensures .1), ap (λ (q : Progress). q .stiffening) (l .inv .2), f .tallies .stiffening, c .before .before .before .before .before .before .before .before .before .before .before .before .before .before .before .before .before .before .before .before .before .before .before .before .before .before .before .before .before .before .before .before .before .before .before .before .before .before .before .before .components-test .taken, f .places .leader-size, f .columns .loads .few, f .columns .few);
-              };
+          few-levels = f .tallies .few-levels;
+          rounds = omega (arith, ap (λ (q : Progress). q .rounds) (k .inv .2 ∙ l .inv .2), f .tallies .rounds, c .before .before .before .before .before .before .before .before .before .before .before .before .before .before .before .before .before .before .before .before .before .before .before .before .before .before .before .before .before .before .before .before .before .before .before .before .before .before .before .before .before .before .before .before .before .before .before .before .before .before .before .before .before .before .before .before .before .before .before .before .before .before .before .before .before .before .before .before .before .before .before .before .before .before .before .before .before .before .before .rounds-test .taken);
+          promoted = omega (arith, ap (λ (q : Progress). q .promoted) (k .inv .2 ∙ l .inv .2), ap (λ (q : Progress). q .rounds) (k .inv .2 ∙ l .inv .2), f .tallies .promoted, c .before .before .before .before .before .before .before .raise-marked2 .ensures .few, ln, f .columns .loads .few);
+          capacity = omega (arith, ap (λ (q : Progress). q .rounds) (k .inv .2 ∙ l .inv .2), l .inv .6, l .inv .0, f .tallies .capacity, f .columns .few);
+          stiffening = omega (arith, ap (λ (q : Progress). q .rounds) (k .inv .2 ∙ l .inv .2), w .2, k .inv .6 .2, ap (λ (x : Stiffness). x .stiffening) (c .before .before .before .before .before .before .before .before .before .before .before .before .before .before .before .before .before .before .before .before .before .before .before .before .before .before .before .before .before .before .before .before .before .before .before .before .before .before .before .before .before .before .before .before .stiffness-from .ensures .1), ap (λ (q : Progress). q .stiffening) (l .inv .2), f .tallies .stiffening, c .before .before .before .before .before .before .before .before .before .before .before .before .before .before .before .before .before .before .before .before .before .before .before .before .before .before .before .before .before .before .before .before .before .before .before .before .before .before .before .before .components-test .taken, f .places .leader-size, f .columns .loads .few, f .columns .few);
+        };
         some = r .inv .0 .some;
         banked = c .before .before .before .before .before .before .before .raise-marked2 .ensures .banked;
         few = c .before .before .before .before .before .before .before .before .before .before .before .before .before .before .before .before .before .before .before .before .before .before .before .before .before .before .before .before .stiffen-led .ensures .few (k .inv .5);

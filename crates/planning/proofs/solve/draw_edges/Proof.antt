@@ -116,13 +116,16 @@ returns c =
     let l = c .before .loop in
     let D = s .pre .0 in
     let z = s .pre .1 in (
-    edges-are (linesFor (s .args .ladder .now) (s .args .a .now) (s .args .b .now) (s .args .km .now) (s .args .share .now) (s .args .sheet .now)) (s .args .level .now) (s .args .banks .now) (s .args .circuits .now) _ _ _
-    (front-filled _ _ _ (l .k) _ (omega arith) (l .inv .1))
-    (front-filled _ _ _ (l .k) _ (omega arith) (l .inv .2))
-    (front-filled _ _ _ (l .k) _ (omega arith) (l .inv .3)),
-    (fill-length _ _ _ _ (l .inv .1) (omega (arith, l .inv .0, z .0, D .few-corridors)) ∙ z .0,
-    fill-length _ _ _ _ (l .inv .2) (omega (arith, l .inv .0, z .1, D .few-corridors)) ∙ z .1,
-    fill-length _ _ _ _ (l .inv .3) (omega (arith, l .inv .0, z .2, D .few-corridors)) ∙ z .2))
+      edges-are (linesFor (s .args .ladder .now) (s .args .a .now) (s .args .b .now) (s .args .km .now) (s .args .share .now) (s .args .sheet .now)) (s .args .level .now) (s .args .banks .now) (s .args .circuits .now) _ _ _
+          (front-filled _ _ _ (l .k) _ (omega arith) (l .inv .1))
+          (front-filled _ _ _ (l .k) _ (omega arith) (l .inv .2))
+          (front-filled _ _ _ (l .k) _ (omega arith) (l .inv .3)),
+      (
+        fill-length _ _ _ _ (l .inv .1) (omega (arith, l .inv .0, z .0, D .few-corridors)) ∙ z .0,
+        fill-length _ _ _ _ (l .inv .2) (omega (arith, l .inv .0, z .1, D .few-corridors)) ∙ z .1,
+        fill-length _ _ _ _ (l .inv .3) (omega (arith, l .inv .0, z .2, D .few-corridors)) ∙ z .2,
+      ),
+    )
 
 pub draw-edges-spec : {M : Type 1} → statement M
 draw-edges-spec =

@@ -61,6 +61,26 @@ corridorLine i circuits flow rate = line 67 79 (number i ∷ number circuits ∷
 unfoldable pub mostLine : Float → Float → List ℕ
 mostLine loading spread = line 77 88 (figure loading ∷ figure spread ∷ [])
 
+-- ---- the lines of a table: those of its first n places
+unfoldable pub lines : (ℕ → List ℕ) → ℕ → List ℕ
+lines f zero = []
+lines f (suc i) = lines f i ++ f i
+
+abbrev pub addedLines : List Float → List ℕ
+addedLines added = lines (λ i. addedLine (at added i)) (length added)
+
+abbrev pub groundLines : List ℕ → List ℕ
+groundLines grounds = lines (λ i. groundLine (getD grounds i 0)) (length grounds)
+
+abbrev pub busLines : List ℕ → List Float → List ℕ
+busLines tier angle = lines (λ i. busLine i (getD tier i 0) (at angle i)) (length angle)
+
+abbrev pub generatorLines : List Float → List ℕ
+generatorLines mw = lines (λ i. generatorLine i (at mw i)) (length mw)
+
+abbrev pub corridorLines : List ℕ → List Float → List Float → List ℕ
+corridorLines circuits flow rate = lines (λ i. corridorLine i (getD circuits i 0) (at flow i) (at rate i)) (length circuits)
+
 -- ---- the most bytes of PL, and of any other line
 abbrev pub planRoom : ℕ
 planRoom = 213

@@ -1,5 +1,6 @@
 // Reads a case file on standard input, plans it and prints the listing, or the refusal.
 mod line;
+mod table;
 mod text;
 
 fn main() {

@@ -1,5 +1,7 @@
 // Reads a case file on standard input, plans it and prints the listing, or the refusal.
 mod line;
+mod listing;
+mod stub;
 mod table;
 mod text;
 

@@ -1,6 +1,7 @@
 -- The whole text of the program: of a plan, of how planning a case ends, and of a case file.
 use Prim.Native.Nat.{ℕ, _+_, _*_, _≤_}
 use mathlib.Core.List.{List, map, _++_}
+use mathlib.Core.Path.{_≡_}
 use lib.ListN.{length, take}
 use lib.Ieee.{Float}
 use Rattle.mode.specs.declared.PlanMode.{PlanMode}
@@ -10,7 +11,7 @@ use Rattle.plan_defs.specs.Outcome.{summary}
 use Rattle.plan_defs.specs.declared.CorridorPlan.{CorridorPlan}
 use Rattle.plan_defs.specs.declared.Planned.{Planned}
 use Rattle.plan_defs.specs.declared.Planned.the-variants.{Answered, Refused}
-use Rattle.casefile.specs.Bounds.{rowFigures}
+use Rattle.casefile.specs.Bounds.{mostLevels, mostBuses, mostGenerators, mostCorridors, mostSheet, rowFigures}
 use Rattle.casefile.specs.Reading.{levels, lines, readingOf}
 use Rattle.casefile.specs.Tables.{Places, tablesOf}
 use Rattle.casefile.specs.declared.Header.{Header}
@@ -46,6 +47,24 @@ endingText mode (unaccepted f) = refusalLine f
 endingText mode (unanswered f) = refusalLine f
 endingText mode (planned p) = planText mode p
 
+-- each table is of its largest size
+pub record Largest (p : Places) : Type 0 where
+  pub ladder : length (p .ladder) ≡ mostLevels
+  pub tier : length (p .tier) ≡ mostBuses
+  pub load : length (p .load) ≡ mostBuses
+  pub bus : length (p .bus) ≡ mostGenerators
+  pub slack : length (p .slack) ≡ mostGenerators
+  pub pmin : length (p .pmin) ≡ mostGenerators
+  pub pmax : length (p .pmax) ≡ mostGenerators
+  pub c1 : length (p .c1) ≡ mostGenerators
+  pub c2 : length (p .c2) ≡ mostGenerators
+  pub a : length (p .a) ≡ mostCorridors
+  pub b : length (p .b) ≡ mostCorridors
+  pub circuits : length (p .circuits) ≡ mostCorridors
+  pub lengthKm : length (p .lengthKm) ≡ mostCorridors
+  pub share : length (p .share) ≡ mostCorridors
+  pub sheet : length (p .sheet) ≡ mostSheet
+
 -- the case that the tables of a header hold: of each the places of its records
 abbrev pub caseIn : Header → Places → Case
 caseIn h p =
@@ -70,3 +89,7 @@ fileText s = readText s (readingOf s)
 -- ---- the most bytes of a plan's listing with so many lines besides PL
 abbrev pub roomFor : ℕ → ℕ
 roomFor n = 213 + 79 * n
+
+-- of the largest case: five levels, 256 grounds, buses and corridors, 128 generators, MX
+abbrev pub mostText : ℕ
+mostText = roomFor 902

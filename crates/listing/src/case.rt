@@ -143,6 +143,24 @@ pub fn put_file(out: &mut [u8], file: &[u8]) -> usize
     );
     match reading {
         Reading::Refused(f) => put_refusal(out, 0, f),
-        Reading::Read(h) => put_case(out, h, &ladder, &tier, &load, &bus, &slack, &pmin, &pmax, &c1, &c2, &a, &b, &initial, &km, &share, &sheet),
+        Reading::Read(h) => put_case(
+            out,
+            h,
+            &ladder,
+            &tier,
+            &load,
+            &bus,
+            &slack,
+            &pmin,
+            &pmax,
+            &c1,
+            &c2,
+            &a,
+            &b,
+            &initial,
+            &km,
+            &share,
+            &sheet,
+        ),
     }
 }

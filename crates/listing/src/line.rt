@@ -115,7 +115,14 @@ pub fn put_generator(out: &mut [u8], len: usize, i: usize, mw: f64) -> usize
 }
 
 // CO index circuits flow rate
-pub fn put_corridor(out: &mut [u8], len: usize, i: usize, circuits: u32, flow: f64, rate: f64) -> usize
+pub fn put_corridor(
+    out: &mut [u8],
+    len: usize,
+    i: usize,
+    circuits: u32,
+    flow: f64,
+    rate: f64,
+) -> usize
     requires { ⌜ len + lineRoom ≤ length (now out) ⌝ }
     ensures { λ r. ⌜ Put (now (out .entry)) len (corridorLine i circuits flow rate) (now (out .exit)) r ⌝ }
     ensures { λ r. ⌜ r ≤ len + lineRoom ⌝ }

@@ -165,5 +165,17 @@ pub fn put_planned(
         figures,
         counts,
     );
-    put_answer(out, mode, planned, added, ground, level, angle, mw, circuits, flow, rate)
+    put_answer(
+        out,
+        mode,
+        planned,
+        added,
+        ground,
+        level,
+        angle,
+        mw,
+        circuits,
+        flow,
+        rate,
+    )
 }

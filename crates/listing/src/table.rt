@@ -72,7 +72,13 @@ pub fn put_generators(out: &mut [u8], len: usize, mw: &[f64]) -> usize
 }
 
 // CO, for each corridor.
-pub fn put_corridors(out: &mut [u8], len: usize, circuits: &[u32], flow: &[f64], rate: &[f64]) -> usize
+pub fn put_corridors(
+    out: &mut [u8],
+    len: usize,
+    circuits: &[u32],
+    flow: &[f64],
+    rate: &[f64],
+) -> usize
     requires { ⌜ len + lineRoom * length (now circuits) ≤ length (now out) ⌝ }
     requires { ⌜ length (now flow) ≡ length (now circuits) ⌝ }
     requires { ⌜ length (now rate) ≡ length (now circuits) ⌝ }

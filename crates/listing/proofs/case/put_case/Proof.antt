@@ -363,12 +363,17 @@ part-counts-end c = work-small (c .before .before .before .before .before .befor
 
 -- src/case.rt:68:5
 put-planned-requires : tie.Need-put-planned-requires
-put-planned-requires c κs = 
-    let o = c .before .before .before .before .before .before .before .before .before .before .before .before .before .before .before .before .before .before .before .before .before .before .before .before .before .before .before .before .before .before .before .before .before .before .before .before .before .before .before .before .before .before .before in
-    (omega (arith, o .pre .0, small o, above-small o),
-    ((part-length (o .args .h .corridors) 256 _ (small o .corridors), part-length (o .args .h .corridors) 256 _ (small o .corridors), part-length (o .args .h .corridors) 256 _ (small o .corridors), part-length (o .args .h .generators) 128 _ (small o .generators)),
-    ((part-length (o .args .h .buses) 256 _ (small o .buses), part-length (o .args .h .buses) 256 _ (small o .buses), part-length (o .args .h .buses) 256 _ (small o .buses), part-length (o .args .h .above) 5 _ (above-small o)),
-    (part-length (12 * (o .args .h .buses + o .args .h .corridors + o .args .h .generators)) 7680 _ (work-small o), part-length (12 * (o .args .h .buses + o .args .h .corridors + o .args .h .generators)) 7680 _ (work-small o)))))
+put-planned-requires c κs =
+    let o = c .before .before .before .before .before .before .before .before .before .before .before .before .before .before .before .before .before .before .before .before .before .before .before .before .before .before .before .before .before .before .before .before .before .before .before .before .before .before .before .before .before .before .before in (
+      omega (arith, o .pre .0, small o, above-small o),
+      (
+        (part-length (o .args .h .corridors) 256 _ (small o .corridors), part-length (o .args .h .corridors) 256 _ (small o .corridors), part-length (o .args .h .corridors) 256 _ (small o .corridors), part-length (o .args .h .generators) 128 _ (small o .generators)),
+        (
+          (part-length (o .args .h .buses) 256 _ (small o .buses), part-length (o .args .h .buses) 256 _ (small o .buses), part-length (o .args .h .buses) 256 _ (small o .buses), part-length (o .args .h .above) 5 _ (above-small o)),
+          (part-length (12 * (o .args .h .buses + o .args .h .corridors + o .args .h .generators)) 7680 _ (work-small o), part-length (12 * (o .args .h .buses + o .args .h .corridors + o .args .h .generators)) 7680 _ (work-small o)),
+        ),
+      ),
+    )
 
 -- src/case.rt:25:1
 same-length : tie.Need-same-length
@@ -376,7 +381,7 @@ same-length c = c .before .before .before .before .before .before .before .befor
 
 -- src/case.rt:25:1
 returns : tie.Need-returns
-returns c = 
+returns c =
     let o = c .before .before .before .before .before .before .before .before .before .before .before .before .before .before .before .before .before .before .before .before .before .before .before .before .before .before .before .before .before .before .before .before .before .before .before .before .before .before .before .before .before .before .before .before .before .before .before .before .before .before .before .before .before .before .before .before in
     (same-text (case-text (o .args .h) (the-places o)) (c .before .before .before .before .before .before .before .before .before .before .before .before .put-planned .ensures .0), c .before .before .before .before .before .before .before .before .before .before .before .before .put-planned .ensures .1)
 

@@ -3,8 +3,8 @@ use Prim.Native.Nat.{ℕ, _+_, _≤_}
 use mathlib.Core.Path.{_≡_, refl, sym, ap, subst, _∙_}
 use mathlib.Core.List.{List, [], _∷_, _++_, append-assoc, append-nil}
 use native.Mathlib.Omega.{arith}
-use lib.ListN.{length, take, drop, length-append}
-use lib.Seq.{take-at, take-length, length-take-le}
+use lib.ListN.{length, take, length-append}
+use lib.Seq.{paste, take-paste, take-length}
 use native.Mathlib.Numerals.{add-one}
 use Rattle.listing.specs.Text.{Put}
 use Rattle.listing.specs.Lines.{lines}
@@ -15,13 +15,9 @@ puts {b} {a} {z} {len} {r} {s} {t} {u} p q = record {
   bytes = q .bytes ∙ ap (λ (l : List ℕ). l ++ u) (p .bytes) ∙ append-assoc (take len b) t u;
 }
 
--- a text copied to its place behind the first len bytes; ys is the buffer from there on
-pub copied : (b t d ys tail : List ℕ) (len : ℕ) {n : ℕ} → len ≤ length b → n ≡ length t → ys ≡ take (length t) t ++ drop (length t) d
-    → Put b len t (take len b ++ (ys ++ tail)) (len + n)
-copied b t d ys tail len {n} h l e =
-    let front : length (take len b ++ t) ≡ len + n = length-append (take len b) t ∙ ap (λ (k : ℕ). k + length t) (length-take-le len b h) ∙ ap (λ (k : ℕ). len + k) (sym l) in
-    let after : take len b ++ (ys ++ tail) ≡ (take len b ++ t) ++ (drop (length t) d ++ tail) = simp (e, take-length, append-assoc) in
-    record { used = ap (λ (k : ℕ). len + k) l; bytes = ap (take (len + n)) after ∙ take-at (take len b ++ t) (drop (length t) d ++ tail) (len + n) front }
+-- a text pasted behind the first len bytes
+pub pasted : (b t : List ℕ) (len : ℕ) → len ≤ length b → Put b len t (paste b len t (length t)) (len + length t)
+pasted b t len h = record { used = refl; bytes = take-paste b len t (length t) h (omega arith) ∙ ap (λ (l : List ℕ). take len b ++ l) (take-length t) }
 
 pub same-text : {b a : List ℕ} {len r : ℕ} {t u : List ℕ} → t ≡ u → Put b len t a r → Put b len u a r
 same-text {b} {a} {len} {r} e p = subst (λ s. Put b len s a r) e p

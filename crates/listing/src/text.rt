@@ -17,7 +17,12 @@ pub fn put_text(out: &mut [u8], len: usize, text: &[u8]) -> usize
     requires { ⌜ len + length (now text) ≤ length (now out) ⌝ }
     ensures { λ r. ⌜ Put (now (out .entry)) len (now (text .entry)) (now (out .exit)) r ⌝ }
 {
-    len + bytes::copy(text, &mut out[len..])
+    let mut i = 0;
+    while i < text.len() {
+        out[len + i] = text[i];
+        i += 1;
+    }
+    len + i
 }
 
 // A space and a decimal number.

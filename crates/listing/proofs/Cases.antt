@@ -1,7 +1,6 @@
 -- The parts of tables that a case is handed over in, and their lengths.
-use Prim.Native.Nat.{ℕ, _+_, _-_, _*_, _≤_}
-use mathlib.Core.List.{List}
-use mathlib.Core.Path.{_≡_, refl, sym, ap, _∙_}
+use Prim.Native.Nat.{ℕ, _-_, _*_, _≤_}
+use mathlib.Core.Path.{_≡_, ap}
 use native.Mathlib.Nat.{mul-le-mul}
 use native.Mathlib.Omega.{arith}
 use lib.ListN.{length, take, replicate, length-take, length-replicate}
@@ -11,7 +10,7 @@ use Rattle.casefile.specs.Bounds.{mostLevels, mostCorridors, mostSheet, rowFigu
 use Rattle.casefile.specs.Reading.{Small, levels, lines}
 use Rattle.casefile.specs.Tables.{Places}
 use Rattle.casefile.specs.declared.Header.{Header}
-use Rattle.listing.specs.Listing.{caseIn, endingText, caseText}
+use Rattle.listing.specs.Listing.{endingText, caseText}
 
 -- the rows of the sheet are places of it
 pub rows-fit : (h : Header) → Small h → lines h * rowFigures ≤ mostSheet

@@ -11,7 +11,7 @@ use borrow.Author.Tests.{lt-ltb, le-ltb}
 use lib.Dec.{ltb}
 use lib.ListN.{length, drop, set, length-append}
 use lib.Seq.{append-snoc}
-use lib.Ieee.{Float, nan, binary64, toBits, eq, ne}
+use lib.Ieee.{Float, binary64, toBits, eq, ne}
 use lib.Ieee.Compare.{differs-from-itself}
 use Rattle.io.specs.Digits.{glyph, digits, Fewest}
 use Rattle.loops.specs.Figures.{nought}

@@ -1,11 +1,10 @@
 -- What planning says and leaves in its slices has the text of the case's ending, and its counts are of places there are.
 use Prim.Native.Nat.{ℕ, _-_, _≤_}
-use mathlib.Core.Bool.{Bool, true, false, _&&_}
-use mathlib.Core.List.{List, [], _∷_, map, _++_}
+use mathlib.Core.Bool.{Bool, true, false}
+use mathlib.Core.List.{List, [], _∷_}
 use mathlib.Core.Path.{_≡_, refl, sym, ap, subst, _∙_}
 use native.Mathlib.Omega.{arith}
 use borrow.Author.Tests.{eq-eqb}
-use lib.Dec.{eqb}
 use lib.Ieee.{Float}
 use lib.ListN.{length, take, replicate, length-append}
 use lib.Seq.{take-at}
@@ -15,8 +14,8 @@ use Rattle.mode.specs.declared.PlanMode.{PlanMode}
 use Rattle.refusal.specs.Reply.{Reply, answered, refused}
 use Rattle.refusal.specs.declared.Refusal.{Refusal}
 use Rattle.plan_defs.specs.Case.{Case}
-use Rattle.plan_defs.specs.Plan.{Plan, Ending, unaccepted, unanswered, planned, endingOf}
-use Rattle.plan_defs.specs.Outcome.{Slices, slices, slicesOk, workPlaces, held, summary, upTo, Outcome, outcome, outcomeBy, outcomeIf, planCorridors}
+use Rattle.plan_defs.specs.Plan.{Ending, unaccepted, unanswered, planned, endingOf}
+use Rattle.plan_defs.specs.Outcome.{Slices, slicesOk, workPlaces, held, summary, upTo, Outcome, outcome, outcomeBy, outcomeIf, planCorridors}
 use Rattle.plan_defs.specs.declared.CorridorPlan.{CorridorPlan}
 use Rattle.plan_defs.specs.declared.Planned.{Planned}
 use Rattle.plan_defs.specs.declared.Planned.the-variants.{Answered, Refused}

@@ -18,7 +18,7 @@ use Rattle.casefile.specs.declared.Header.{Header}
 use Rattle.casefile.specs.declared.Reading.{Reading}
 use Rattle.casefile.specs.declared.Reading.the-variants.{Read}
 use Rattle.casefile.specs.declared.Reading.the-variants.{Refused as Unread}
-use Rattle.listing.specs.Lines.{refusalLine, planLine, addedLines, groundLines, busLines, generatorLines, corridorLines, mostLine}
+use Rattle.listing.specs.Lines.{planRoom, lineRoom, refusalLine, planLine, addedLines, groundLines, busLines, generatorLines, corridorLines, mostLine}
 
 -- PL, AD, GR, BU, GE, CO, MX
 abbrev pub listed : PlanMode → CorridorPlan → List Float → List ℕ → List ℕ → List Float → List Float → List ℕ → List Float → List Float → List ℕ
@@ -88,7 +88,7 @@ fileText s = readText s (readingOf s)
 
 -- ---- the most bytes of a plan's listing with so many lines besides PL
 abbrev pub roomFor : ℕ → ℕ
-roomFor n = 213 + 79 * n
+roomFor n = planRoom + lineRoom * n
 
 -- of the largest case: five levels, 256 grounds, buses and corridors, 128 generators, MX
 abbrev pub mostText : ℕ

@@ -1,22 +1,15 @@
+-- `listing::case::put_case` meets its contract. Every count is within its bound, so the parts lent are parts of the tables.
+use Prim.Native.Nat.{ℕ, _+_, _*_, _≤_}
+use mathlib.Core.Path.{_≡_}
+use native.Mathlib.Omega.{arith}
+use borrow.Author.Needs.{needs}
 use Rattle.casefile.specs.Reading.{Small}
 use Rattle.casefile.specs.Tables.{Places, placesOf}
 use Rattle.listing.specs.Listing.{Largest}
 use Rattle.listing.proofs.Cases.{rows-fit, part-length, case-text}
 use Rattle.listing.proofs.Texts.{same-text}
-use Prim.Native.Nat.{ℕ, zero, suc, _+_, _-_, _*_, _≤_, _<_}
-use mathlib.Core.Path.{_≡_, refl, sym, ap, _∙_}
-use mathlib.Core.Logic.{⊎-elim}
-use mathlib.Core.Bool.{Bool, true, false}
-use borrow.Author.Tests.{eq-eqb, ne-eqb, lt-ltb, le-ltb, le-leb, lt-leb, not-true, not-false}
-use native.Mathlib.Omega.{arith}
-use denote.Ref.{now}
-use lib.ListN.{length, length-set, set}
-use borrow.Author.Needs.{needs}
 use Rattle.listing.proofs.case.put_case.Statement.{statement}
 use Rattle.listing.proofs.case.put_case.Tie as tie
-use Rattle.listing.proofs.case.put_case.Reads as reads
-use Rattle.listing.proofs.case.put_case.Lts as lts
-use Rattle.listing.proofs.listing.put_planned.Reads as put-planned-reads
 
 small : (o : tie.Start) → Small (o .args .h)
 small o = o .pre .1 .0
@@ -37,331 +30,249 @@ work-small o = omega (arith, small o .buses, small o .corridors, small o .genera
 in-table : {n k l : ℕ} → n ≤ k → l ≡ k → n ≤ l
 in-table a e = omega arith
 
--- src/case.rt:55:18
 add-levels : tie.Need-add-levels
 add-levels c = search needs
 
--- src/case.rt:56:17
 mul-lines : tie.Need-mul-lines
 mul-lines c = omega (arith, rows-fit (c .before .before .before .before .before .before .before .before .before .before .before .before .before .before .before .before .before .args .h) (small (c .before .before .before .before .before .before .before .before .before .before .before .before .before .before .before .before .before)))
 
--- src/case.rt:56:17
 mul-lines-2 : tie.Need-mul-lines-2
 mul-lines-2 c = omega (arith, rows-fit (c .before .before .before .before .before .before .before .before .before .before .before .before .before .before .before .before .before .args .h) (small (c .before .before .before .before .before .before .before .before .before .before .before .before .before .before .before .before .before)))
 
--- src/case.rt:57:29
 add-work : tie.Need-add-work
 add-work c = search needs
 
--- src/case.rt:57:29
 add-work-2 : tie.Need-add-work-2
 add-work-2 c = search needs
 
--- src/case.rt:57:16
 mul-work : tie.Need-mul-work
 mul-work c = search needs
 
--- src/case.rt:77:9
 sub-put-planned : tie.Need-sub-put-planned
 sub-put-planned c = search needs
 
--- src/case.rt:77:9
 part-put-planned-start : tie.Need-part-put-planned-start
 part-put-planned-start c = search needs
 
--- src/case.rt:77:9
 part-put-planned-end : tie.Need-part-put-planned-end
 part-put-planned-end c = search needs
 
--- src/case.rt:78:9
 sub-put-planned-2 : tie.Need-sub-put-planned-2
 sub-put-planned-2 c = search needs
 
--- src/case.rt:78:9
 part-put-planned-start-2 : tie.Need-part-put-planned-start-2
 part-put-planned-start-2 c = search needs
 
--- src/case.rt:78:9
 part-put-planned-end-2 : tie.Need-part-put-planned-end-2
 part-put-planned-end-2 c = search needs
 
--- src/case.rt:79:9
 sub-put-planned-3 : tie.Need-sub-put-planned-3
 sub-put-planned-3 c = search needs
 
--- src/case.rt:79:9
 part-put-planned-start-3 : tie.Need-part-put-planned-start-3
 part-put-planned-start-3 c = search needs
 
--- src/case.rt:79:9
 part-put-planned-end-3 : tie.Need-part-put-planned-end-3
 part-put-planned-end-3 c = search needs
 
--- src/case.rt:80:9
 sub-put-planned-4 : tie.Need-sub-put-planned-4
 sub-put-planned-4 c = search needs
 
--- src/case.rt:80:9
 part-put-planned-start-4 : tie.Need-part-put-planned-start-4
 part-put-planned-start-4 c = search needs
 
--- src/case.rt:80:9
 part-put-planned-end-4 : tie.Need-part-put-planned-end-4
 part-put-planned-end-4 c = search needs
 
--- src/case.rt:81:9
 sub-put-planned-5 : tie.Need-sub-put-planned-5
 sub-put-planned-5 c = search needs
 
--- src/case.rt:81:9
 part-put-planned-start-5 : tie.Need-part-put-planned-start-5
 part-put-planned-start-5 c = search needs
 
--- src/case.rt:81:9
 part-put-planned-end-5 : tie.Need-part-put-planned-end-5
 part-put-planned-end-5 c = search needs
 
--- src/case.rt:82:9
 sub-put-planned-6 : tie.Need-sub-put-planned-6
 sub-put-planned-6 c = search needs
 
--- src/case.rt:82:9
 part-put-planned-start-6 : tie.Need-part-put-planned-start-6
 part-put-planned-start-6 c = search needs
 
--- src/case.rt:82:9
 part-put-planned-end-6 : tie.Need-part-put-planned-end-6
 part-put-planned-end-6 c = search needs
 
--- src/case.rt:83:9
 sub-put-planned-7 : tie.Need-sub-put-planned-7
 sub-put-planned-7 c = search needs
 
--- src/case.rt:83:9
 part-put-planned-start-7 : tie.Need-part-put-planned-start-7
 part-put-planned-start-7 c = search needs
 
--- src/case.rt:83:9
 part-put-planned-end-7 : tie.Need-part-put-planned-end-7
 part-put-planned-end-7 c = in-table (small (c .before .before .before .before .before .before .before .before .before .before .before .before .before .before .before .before .before .before .before .before .before .before .before .before) .generators) (tables (c .before .before .before .before .before .before .before .before .before .before .before .before .before .before .before .before .before .before .before .before .before .before .before .before) .pmax)
 
--- src/case.rt:84:9
 sub-put-planned-8 : tie.Need-sub-put-planned-8
 sub-put-planned-8 c = search needs
 
--- src/case.rt:84:9
 part-put-planned-start-8 : tie.Need-part-put-planned-start-8
 part-put-planned-start-8 c = search needs
 
--- src/case.rt:84:9
 part-put-planned-end-8 : tie.Need-part-put-planned-end-8
 part-put-planned-end-8 c = in-table (small (c .before .before .before .before .before .before .before .before .before .before .before .before .before .before .before .before .before .before .before .before .before .before .before .before .before) .generators) (tables (c .before .before .before .before .before .before .before .before .before .before .before .before .before .before .before .before .before .before .before .before .before .before .before .before .before) .c1)
 
--- src/case.rt:85:9
 sub-put-planned-9 : tie.Need-sub-put-planned-9
 sub-put-planned-9 c = search needs
 
--- src/case.rt:85:9
 part-put-planned-start-9 : tie.Need-part-put-planned-start-9
 part-put-planned-start-9 c = search needs
 
--- src/case.rt:85:9
 part-put-planned-end-9 : tie.Need-part-put-planned-end-9
 part-put-planned-end-9 c = in-table (small (c .before .before .before .before .before .before .before .before .before .before .before .before .before .before .before .before .before .before .before .before .before .before .before .before .before .before) .generators) (tables (c .before .before .before .before .before .before .before .before .before .before .before .before .before .before .before .before .before .before .before .before .before .before .before .before .before .before) .c2)
 
--- src/case.rt:86:9
 sub-put-planned-10 : tie.Need-sub-put-planned-10
 sub-put-planned-10 c = search needs
 
--- src/case.rt:86:9
 part-put-planned-start-10 : tie.Need-part-put-planned-start-10
 part-put-planned-start-10 c = search needs
 
--- src/case.rt:86:9
 part-put-planned-end-10 : tie.Need-part-put-planned-end-10
 part-put-planned-end-10 c = in-table (small (c .before .before .before .before .before .before .before .before .before .before .before .before .before .before .before .before .before .before .before .before .before .before .before .before .before .before .before) .corridors) (tables (c .before .before .before .before .before .before .before .before .before .before .before .before .before .before .before .before .before .before .before .before .before .before .before .before .before .before .before) .a)
 
--- src/case.rt:87:9
 sub-put-planned-11 : tie.Need-sub-put-planned-11
 sub-put-planned-11 c = search needs
 
--- src/case.rt:87:9
 part-put-planned-start-11 : tie.Need-part-put-planned-start-11
 part-put-planned-start-11 c = search needs
 
--- src/case.rt:87:9
 part-put-planned-end-11 : tie.Need-part-put-planned-end-11
 part-put-planned-end-11 c = in-table (small (c .before .before .before .before .before .before .before .before .before .before .before .before .before .before .before .before .before .before .before .before .before .before .before .before .before .before .before .before) .corridors) (tables (c .before .before .before .before .before .before .before .before .before .before .before .before .before .before .before .before .before .before .before .before .before .before .before .before .before .before .before .before) .b)
 
--- src/case.rt:88:9
 sub-put-planned-12 : tie.Need-sub-put-planned-12
 sub-put-planned-12 c = search needs
 
--- src/case.rt:88:9
 part-put-planned-start-12 : tie.Need-part-put-planned-start-12
 part-put-planned-start-12 c = search needs
 
--- src/case.rt:88:9
 part-put-planned-end-12 : tie.Need-part-put-planned-end-12
 part-put-planned-end-12 c = in-table (small (c .before .before .before .before .before .before .before .before .before .before .before .before .before .before .before .before .before .before .before .before .before .before .before .before .before .before .before .before .before) .corridors) (tables (c .before .before .before .before .before .before .before .before .before .before .before .before .before .before .before .before .before .before .before .before .before .before .before .before .before .before .before .before .before) .circuits)
 
--- src/case.rt:89:9
 sub-put-planned-13 : tie.Need-sub-put-planned-13
 sub-put-planned-13 c = search needs
 
--- src/case.rt:89:9
 part-put-planned-start-13 : tie.Need-part-put-planned-start-13
 part-put-planned-start-13 c = search needs
 
--- src/case.rt:89:9
 part-put-planned-end-13 : tie.Need-part-put-planned-end-13
 part-put-planned-end-13 c = in-table (small (c .before .before .before .before .before .before .before .before .before .before .before .before .before .before .before .before .before .before .before .before .before .before .before .before .before .before .before .before .before .before) .corridors) (tables (c .before .before .before .before .before .before .before .before .before .before .before .before .before .before .before .before .before .before .before .before .before .before .before .before .before .before .before .before .before .before) .lengthKm)
 
--- src/case.rt:90:9
 sub-put-planned-14 : tie.Need-sub-put-planned-14
 sub-put-planned-14 c = search needs
 
--- src/case.rt:90:9
 part-put-planned-start-14 : tie.Need-part-put-planned-start-14
 part-put-planned-start-14 c = search needs
 
--- src/case.rt:90:9
 part-put-planned-end-14 : tie.Need-part-put-planned-end-14
 part-put-planned-end-14 c = in-table (small (c .before .before .before .before .before .before .before .before .before .before .before .before .before .before .before .before .before .before .before .before .before .before .before .before .before .before .before .before .before .before .before) .corridors) (tables (c .before .before .before .before .before .before .before .before .before .before .before .before .before .before .before .before .before .before .before .before .before .before .before .before .before .before .before .before .before .before .before) .share)
 
--- src/case.rt:91:9
 sub-put-planned-15 : tie.Need-sub-put-planned-15
 sub-put-planned-15 c = search needs
 
--- src/case.rt:91:9
 part-put-planned-start-15 : tie.Need-part-put-planned-start-15
 part-put-planned-start-15 c = search needs
 
--- src/case.rt:91:9
 part-put-planned-end-15 : tie.Need-part-put-planned-end-15
 part-put-planned-end-15 c = in-table (rows-fit (c .before .before .before .before .before .before .before .before .before .before .before .before .before .before .before .before .before .before .before .before .before .before .before .before .before .before .before .before .before .before .before .before .args .h) (small (c .before .before .before .before .before .before .before .before .before .before .before .before .before .before .before .before .before .before .before .before .before .before .before .before .before .before .before .before .before .before .before .before))) (tables (c .before .before .before .before .before .before .before .before .before .before .before .before .before .before .before .before .before .before .before .before .before .before .before .before .before .before .before .before .before .before .before .before) .sheet)
 
--- src/case.rt:92:9
 sub-put-planned-16 : tie.Need-sub-put-planned-16
 sub-put-planned-16 c = search needs
 
--- src/case.rt:92:9
 part-circuits-start : tie.Need-part-circuits-start
 part-circuits-start c = search needs
 
--- src/case.rt:92:9
 part-circuits-end : tie.Need-part-circuits-end
 part-circuits-end c = small (c .before .before .before .before .before .before .before .before .before .before .before .before .before .before .before .before .before .before .before .before .before .before .before .before .before .before .before .before .before .before .before .before .before) .corridors
 
--- src/case.rt:93:9
 sub-put-planned-17 : tie.Need-sub-put-planned-17
 sub-put-planned-17 c = search needs
 
--- src/case.rt:93:9
 part-flow-start : tie.Need-part-flow-start
 part-flow-start c = search needs
 
--- src/case.rt:93:9
 part-flow-end : tie.Need-part-flow-end
 part-flow-end c = small (c .before .before .before .before .before .before .before .before .before .before .before .before .before .before .before .before .before .before .before .before .before .before .before .before .before .before .before .before .before .before .before .before .before .before) .corridors
 
--- src/case.rt:94:9
 sub-put-planned-18 : tie.Need-sub-put-planned-18
 sub-put-planned-18 c = search needs
 
--- src/case.rt:94:9
 part-rate-start : tie.Need-part-rate-start
 part-rate-start c = search needs
 
--- src/case.rt:94:9
 part-rate-end : tie.Need-part-rate-end
 part-rate-end c = small (c .before .before .before .before .before .before .before .before .before .before .before .before .before .before .before .before .before .before .before .before .before .before .before .before .before .before .before .before .before .before .before .before .before .before .before) .corridors
 
--- src/case.rt:95:9
 sub-put-planned-19 : tie.Need-sub-put-planned-19
 sub-put-planned-19 c = search needs
 
--- src/case.rt:95:9
 part-mw-start : tie.Need-part-mw-start
 part-mw-start c = search needs
 
--- src/case.rt:95:9
 part-mw-end : tie.Need-part-mw-end
 part-mw-end c = small (c .before .before .before .before .before .before .before .before .before .before .before .before .before .before .before .before .before .before .before .before .before .before .before .before .before .before .before .before .before .before .before .before .before .before .before .before) .generators
 
--- src/case.rt:96:9
 sub-put-planned-20 : tie.Need-sub-put-planned-20
 sub-put-planned-20 c = search needs
 
--- src/case.rt:96:9
 part-angle-start : tie.Need-part-angle-start
 part-angle-start c = search needs
 
--- src/case.rt:96:9
 part-angle-end : tie.Need-part-angle-end
 part-angle-end c = small (c .before .before .before .before .before .before .before .before .before .before .before .before .before .before .before .before .before .before .before .before .before .before .before .before .before .before .before .before .before .before .before .before .before .before .before .before .before) .buses
 
--- src/case.rt:97:9
 sub-put-planned-21 : tie.Need-sub-put-planned-21
 sub-put-planned-21 c = search needs
 
--- src/case.rt:97:9
 part-level-start : tie.Need-part-level-start
 part-level-start c = search needs
 
--- src/case.rt:97:9
 part-level-end : tie.Need-part-level-end
 part-level-end c = small (c .before .before .before .before .before .before .before .before .before .before .before .before .before .before .before .before .before .before .before .before .before .before .before .before .before .before .before .before .before .before .before .before .before .before .before .before .before .before) .buses
 
--- src/case.rt:98:9
 sub-put-planned-22 : tie.Need-sub-put-planned-22
 sub-put-planned-22 c = search needs
 
--- src/case.rt:98:9
 part-ground-start : tie.Need-part-ground-start
 part-ground-start c = search needs
 
--- src/case.rt:98:9
 part-ground-end : tie.Need-part-ground-end
 part-ground-end c = small (c .before .before .before .before .before .before .before .before .before .before .before .before .before .before .before .before .before .before .before .before .before .before .before .before .before .before .before .before .before .before .before .before .before .before .before .before .before .before .before) .buses
 
--- src/case.rt:99:9
 sub-put-planned-23 : tie.Need-sub-put-planned-23
 sub-put-planned-23 c = search needs
 
--- src/case.rt:99:9
 part-added-start : tie.Need-part-added-start
 part-added-start c = search needs
 
--- src/case.rt:99:9
 part-added-end : tie.Need-part-added-end
 part-added-end c = above-small (c .before .before .before .before .before .before .before .before .before .before .before .before .before .before .before .before .before .before .before .before .before .before .before .before .before .before .before .before .before .before .before .before .before .before .before .before .before .before .before .before)
 
--- src/case.rt:100:9
 sub-put-planned-24 : tie.Need-sub-put-planned-24
 sub-put-planned-24 c = search needs
 
--- src/case.rt:100:9
 part-figures-start : tie.Need-part-figures-start
 part-figures-start c = search needs
 
--- src/case.rt:100:9
 part-figures-end : tie.Need-part-figures-end
 part-figures-end c = work-small (c .before .before .before .before .before .before .before .before .before .before .before .before .before .before .before .before .before .before .before .before .before .before .before .before .before .before .before .before .before .before .before .before .before .before .before .before .before .before .before .before .before)
 
--- src/case.rt:101:9
 sub-put-planned-25 : tie.Need-sub-put-planned-25
 sub-put-planned-25 c = search needs
 
--- src/case.rt:101:9
 part-counts-start : tie.Need-part-counts-start
 part-counts-start c = search needs
 
--- src/case.rt:101:9
 part-counts-end : tie.Need-part-counts-end
 part-counts-end c = work-small (c .before .before .before .before .before .before .before .before .before .before .before .before .before .before .before .before .before .before .before .before .before .before .before .before .before .before .before .before .before .before .before .before .before .before .before .before .before .before .before .before .before .before)
 
--- src/case.rt:68:5
 put-planned-requires : tie.Need-put-planned-requires
 put-planned-requires c κs =
     let o = c .before .before .before .before .before .before .before .before .before .before .before .before .before .before .before .before .before .before .before .before .before .before .before .before .before .before .before .before .before .before .before .before .before .before .before .before .before .before .before .before .before .before .before in (
@@ -375,11 +286,9 @@ put-planned-requires c κs =
       ),
     )
 
--- src/case.rt:25:1
 same-length : tie.Need-same-length
 same-length c = c .before .before .before .before .before .before .before .before .before .before .before .before .put-planned .kept .0
 
--- src/case.rt:25:1
 returns : tie.Need-returns
 returns c =
     let o = c .before .before .before .before .before .before .before .before .before .before .before .before .before .before .before .before .before .before .before .before .before .before .before .before .before .before .before .before .before .before .before .before .before .before .before .before .before .before .before .before .before .before .before .before .before .before .before .before .before .before .before .before .before .before .before .before in

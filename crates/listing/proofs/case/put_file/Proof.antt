@@ -1,25 +1,16 @@
+-- `listing::case::put_file` meets its contract. What reading says and leaves is the file's reading (refused-file, read-file).
+use mathlib.Core.Path.{_≡_, refl}
+use mathlib.Core.Bool.{true}
+use native.Mathlib.Omega.{arith}
+use borrow.Author.Needs.{needs}
 use lib.ListN.{replicate}
 use Rattle.loops.specs.Figures.{nought}
 use Rattle.casefile.specs.Tables.{Places, placesOf, sizesOk}
 use Rattle.casefile.proofs.Callers.{answered-small}
 use Rattle.listing.proofs.Files.{refused-file, read-file}
 use Rattle.listing.proofs.Texts.{same-text}
-use Prim.Native.Nat.{ℕ, zero, suc, _+_, _-_, _*_, _≤_, _<_}
-use mathlib.Core.Path.{_≡_, refl, sym, ap, _∙_}
-use mathlib.Core.Logic.{⊎-elim}
-use mathlib.Core.Bool.{Bool, true, false}
-use borrow.Author.Tests.{eq-eqb, ne-eqb, lt-ltb, le-ltb, le-leb, lt-leb, not-true, not-false}
-use native.Mathlib.Omega.{arith}
-use denote.Ref.{now}
-use lib.ListN.{length, length-set, set}
-use borrow.Author.Needs.{needs}
 use Rattle.listing.proofs.case.put_file.Statement.{statement}
 use Rattle.listing.proofs.case.put_file.Tie as tie
-use Rattle.listing.proofs.case.put_file.Reads as reads
-use Rattle.listing.proofs.case.put_file.Lts as lts
-use Rattle.casefile.proofs.read_case.Reads as read-case-reads
-use Rattle.listing.proofs.case.put_case.Reads as put-case-reads
-use Rattle.listing.proofs.line.put_refusal.Reads as put-refusal-reads
 
 -- the tables as they are lent
 abbrev empty : Places
@@ -30,143 +21,108 @@ empty-sized : sizesOk empty ≡ true
 unfolding sizesOk
 empty-sized = refl
 
--- src/case.rt:128:9
 slice-aggregate-read-case : tie.Need-slice-aggregate-read-case
 slice-aggregate-read-case c = search needs
 
--- src/case.rt:129:9
 slice-aggregate-read-case-2 : tie.Need-slice-aggregate-read-case-2
 slice-aggregate-read-case-2 c = search needs
 
--- src/case.rt:130:9
 slice-aggregate-read-case-3 : tie.Need-slice-aggregate-read-case-3
 slice-aggregate-read-case-3 c = search needs
 
--- src/case.rt:131:9
 slice-aggregate-read-case-4 : tie.Need-slice-aggregate-read-case-4
 slice-aggregate-read-case-4 c = search needs
 
--- src/case.rt:132:9
 slice-aggregate-read-case-5 : tie.Need-slice-aggregate-read-case-5
 slice-aggregate-read-case-5 c = search needs
 
--- src/case.rt:133:9
 slice-aggregate-read-case-6 : tie.Need-slice-aggregate-read-case-6
 slice-aggregate-read-case-6 c = search needs
 
--- src/case.rt:134:9
 slice-aggregate-read-case-7 : tie.Need-slice-aggregate-read-case-7
 slice-aggregate-read-case-7 c = search needs
 
--- src/case.rt:135:9
 slice-aggregate-read-case-8 : tie.Need-slice-aggregate-read-case-8
 slice-aggregate-read-case-8 c = search needs
 
--- src/case.rt:136:9
 slice-aggregate-read-case-9 : tie.Need-slice-aggregate-read-case-9
 slice-aggregate-read-case-9 c = search needs
 
--- src/case.rt:137:9
 slice-aggregate-read-case-10 : tie.Need-slice-aggregate-read-case-10
 slice-aggregate-read-case-10 c = search needs
 
--- src/case.rt:138:9
 slice-aggregate-read-case-11 : tie.Need-slice-aggregate-read-case-11
 slice-aggregate-read-case-11 c = search needs
 
--- src/case.rt:139:9
 slice-aggregate-read-case-12 : tie.Need-slice-aggregate-read-case-12
 slice-aggregate-read-case-12 c = search needs
 
--- src/case.rt:140:9
 slice-aggregate-read-case-13 : tie.Need-slice-aggregate-read-case-13
 slice-aggregate-read-case-13 c = search needs
 
--- src/case.rt:141:9
 slice-aggregate-read-case-14 : tie.Need-slice-aggregate-read-case-14
 slice-aggregate-read-case-14 c = search needs
 
--- src/case.rt:142:9
 slice-aggregate-read-case-15 : tie.Need-slice-aggregate-read-case-15
 slice-aggregate-read-case-15 c = search needs
 
--- src/case.rt:126:9
 read-case-requires : tie.Need-read-case-requires
 read-case-requires c κs = search needs
 
--- src/case.rt:145:26
 enum-known-reading : tie.Need-enum-known-reading
 enum-known-reading c = search needs
 
--- src/case.rt:145:32
 put-refusal-requires : tie.Need-put-refusal-requires
 put-refusal-requires c κs = omega (arith, c .before .before .before .before .before .before .before .before .before .before .before .before .before .before .before .before .before .before .before .before .before .before .before .before .before .before .before .before .before .before .before .before .before .before .before .before .before .pre)
 
--- src/case.rt:146:23
 enum-known-reading-2 : tie.Need-enum-known-reading-2
 enum-known-reading-2 c = search needs
 
--- src/case.rt:146:46
 slice-aggregate-put-case : tie.Need-slice-aggregate-put-case
 slice-aggregate-put-case c = search needs
 
--- src/case.rt:146:55
 slice-aggregate-put-case-2 : tie.Need-slice-aggregate-put-case-2
 slice-aggregate-put-case-2 c = search needs
 
--- src/case.rt:146:62
 slice-aggregate-put-case-3 : tie.Need-slice-aggregate-put-case-3
 slice-aggregate-put-case-3 c = search needs
 
--- src/case.rt:146:69
 slice-aggregate-put-case-4 : tie.Need-slice-aggregate-put-case-4
 slice-aggregate-put-case-4 c = search needs
 
--- src/case.rt:146:75
 slice-aggregate-put-case-5 : tie.Need-slice-aggregate-put-case-5
 slice-aggregate-put-case-5 c = search needs
 
--- src/case.rt:146:83
 slice-aggregate-put-case-6 : tie.Need-slice-aggregate-put-case-6
 slice-aggregate-put-case-6 c = search needs
 
--- src/case.rt:146:90
 slice-aggregate-put-case-7 : tie.Need-slice-aggregate-put-case-7
 slice-aggregate-put-case-7 c = search needs
 
--- src/case.rt:146:97
 slice-aggregate-put-case-8 : tie.Need-slice-aggregate-put-case-8
 slice-aggregate-put-case-8 c = search needs
 
--- src/case.rt:146:102
 slice-aggregate-put-case-9 : tie.Need-slice-aggregate-put-case-9
 slice-aggregate-put-case-9 c = search needs
 
--- src/case.rt:146:107
 slice-aggregate-put-case-10 : tie.Need-slice-aggregate-put-case-10
 slice-aggregate-put-case-10 c = search needs
 
--- src/case.rt:146:111
 slice-aggregate-put-case-11 : tie.Need-slice-aggregate-put-case-11
 slice-aggregate-put-case-11 c = search needs
 
--- src/case.rt:146:115
 slice-aggregate-put-case-12 : tie.Need-slice-aggregate-put-case-12
 slice-aggregate-put-case-12 c = search needs
 
--- src/case.rt:146:125
 slice-aggregate-put-case-13 : tie.Need-slice-aggregate-put-case-13
 slice-aggregate-put-case-13 c = search needs
 
--- src/case.rt:146:130
 slice-aggregate-put-case-14 : tie.Need-slice-aggregate-put-case-14
 slice-aggregate-put-case-14 c = search needs
 
--- src/case.rt:146:138
 slice-aggregate-put-case-15 : tie.Need-slice-aggregate-put-case-15
 slice-aggregate-put-case-15 c = search needs
 
--- src/case.rt:146:29
 put-case-requires : tie.Need-put-case-requires
 put-case-requires c κs =
     let r = c .before .before .before .before .before .before .before .before .before .before .before .before .before .before .before .before .before .before .before .before .before .before .before .before .before .before .before .before .before .before .before .before .before .before .read-case in (
@@ -177,22 +133,18 @@ put-case-requires c κs =
       ),
     )
 
--- src/case.rt:106:1
 same-length : tie.Need-same-length
 same-length c = search needs
 
--- src/case.rt:106:1
 returns : tie.Need-returns
 returns c =
     let r = c .before .before .before .before .before .before .before .before .before .before .before .before .before .before .before .before .before .before .before .before .before .before .read-case in
     let e = refused-file (c .before .before .before .before .before .before .before .before .before .before .before .before .before .before .before .before .before .before .before .before .before .before .before .before .before .before .before .before .before .before .before .before .before .before .before .before .before .before .before .before .args .file .now) empty (placesOf (r .last .1 .0) (r .last .1 .1 .0) (r .last .1 .1 .1 .0) (r .last .1 .1 .1 .1 .0) (r .last .1 .1 .1 .1 .1 .0) (r .last .1 .1 .1 .1 .1 .1 .0) (r .last .1 .1 .1 .1 .1 .1 .1 .0) (r .last .1 .1 .1 .1 .1 .1 .1 .1 .0) (r .last .1 .1 .1 .1 .1 .1 .1 .1 .1 .0) (r .last .1 .1 .1 .1 .1 .1 .1 .1 .1 .1 .0) (r .last .1 .1 .1 .1 .1 .1 .1 .1 .1 .1 .1 .0) (r .last .1 .1 .1 .1 .1 .1 .1 .1 .1 .1 .1 .1 .0) (r .last .1 .1 .1 .1 .1 .1 .1 .1 .1 .1 .1 .1 .1 .0) (r .last .1 .1 .1 .1 .1 .1 .1 .1 .1 .1 .1 .1 .1 .1 .0) (r .last .1 .1 .1 .1 .1 .1 .1 .1 .1 .1 .1 .1 .1 .1 .1 .0)) empty-sized (r .ensures) (c .before .before .before .before .before .reading .given .1) in
     (same-text e (c .before .before .put-refusal .ensures .0), omega (arith, c .before .before .put-refusal .ensures .1, c .before .before .before .before .before .before .before .before .before .before .before .before .before .before .before .before .before .before .before .before .before .before .before .before .before .before .before .before .before .before .before .before .before .before .before .before .before .before .before .before .pre))
 
--- src/case.rt:106:1
 same-length-2 : tie.Need-same-length-2
 same-length-2 c = search needs
 
--- src/case.rt:106:1
 returns-2 : tie.Need-returns-2
 returns-2 c =
     let r = c .before .before .before .before .before .before .before .before .before .before .before .before .before .before .before .before .before .before .before .before .before .before .before .before .before .before .before .before .before .before .before .before .before .before .before .before .before .read-case in

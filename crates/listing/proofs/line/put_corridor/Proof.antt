@@ -1,59 +1,38 @@
+-- `listing::line::put_corridor` meets its contract. Its fields behind one another.
+use native.Mathlib.Omega.{arith}
+use borrow.Author.Needs.{needs}
 use Rattle.listing.specs.Lines.{corridorLine}
 use Rattle.listing.proofs.Texts.{puts}
-use Prim.Native.Nat.{ℕ, zero, suc, _+_, _-_, _*_, _≤_, _<_}
-use mathlib.Core.Path.{_≡_, refl, sym, ap, _∙_}
-use mathlib.Core.Logic.{⊎-elim}
-use mathlib.Core.Bool.{Bool, true, false}
-use borrow.Author.Tests.{eq-eqb, ne-eqb, lt-ltb, le-ltb, le-leb, lt-leb, not-true, not-false}
-use native.Mathlib.Omega.{arith}
-use denote.Ref.{now}
-use lib.ListN.{length, length-set, set}
-use borrow.Author.Needs.{needs}
 use Rattle.listing.proofs.line.put_corridor.Statement.{statement}
 use Rattle.listing.proofs.line.put_corridor.Tie as tie
-use Rattle.listing.proofs.line.put_corridor.Reads as reads
-use Rattle.listing.proofs.line.put_corridor.Lts as lts
-use Rattle.listing.proofs.text.put_figure.Reads as put-figure-reads
-use Rattle.listing.proofs.text.put_number.Reads as put-number-reads
-use Rattle.listing.proofs.text.put_text.Reads as put-text-reads
 
--- src/line.rt:115:35
 slice-aggregate-put-text : tie.Need-slice-aggregate-put-text
 slice-aggregate-put-text c = search needs
 
--- src/line.rt:115:9
 put-text-requires : tie.Need-put-text-requires
 put-text-requires c κs = search needs
 
--- src/line.rt:116:9
 put-number-requires : tie.Need-put-number-requires
 put-number-requires c κs = search needs
 
--- src/line.rt:117:9
 put-number-requires-2 : tie.Need-put-number-requires-2
 put-number-requires-2 c κs = search needs
 
--- src/line.rt:118:9
 put-figure-requires : tie.Need-put-figure-requires
 put-figure-requires c κs = search needs
 
--- src/line.rt:119:9
 put-figure-requires-2 : tie.Need-put-figure-requires-2
 put-figure-requires-2 c κs = search needs
 
--- src/line.rt:120:25
 slice-aggregate-put-text-2 : tie.Need-slice-aggregate-put-text-2
 slice-aggregate-put-text-2 c = search needs
 
--- src/line.rt:120:5
 put-text-requires-2 : tie.Need-put-text-requires-2
 put-text-requires-2 c κs = search needs
 
--- src/line.rt:110:1
 same-length : tie.Need-same-length
 same-length c = search needs
 
--- src/line.rt:110:1
 returns : tie.Need-returns
 unfolding corridorLine
 returns c =

@@ -1,45 +1,30 @@
-use mathlib.Core.List.{List, [], _∷_, _++_, append-assoc, append-nil}
+-- `listing::line::put_tallies` meets its contract. Three, three and one field, put as seven.
+use mathlib.Core.List.{[], _∷_, _++_, append-assoc, append-nil}
+use mathlib.Core.Path.{_≡_}
+use native.Mathlib.Omega.{arith}
+use borrow.Author.Needs.{needs}
 use Rattle.plan_defs.specs.declared.CorridorPlan.{CorridorPlan}
 use Rattle.listing.specs.Text.{number}
 use Rattle.listing.specs.Lines.{fields, tallies}
 use Rattle.listing.proofs.Texts.{puts, same-text}
-use Prim.Native.Nat.{ℕ, zero, suc, _+_, _-_, _*_, _≤_, _<_}
-use mathlib.Core.Path.{_≡_, refl, sym, ap, _∙_}
-use mathlib.Core.Logic.{⊎-elim}
-use mathlib.Core.Bool.{Bool, true, false}
-use borrow.Author.Tests.{eq-eqb, ne-eqb, lt-ltb, le-ltb, le-leb, lt-leb, not-true, not-false}
-use native.Mathlib.Omega.{arith}
-use denote.Ref.{now}
-use lib.ListN.{length, length-set, set}
-use borrow.Author.Needs.{needs}
 use Rattle.listing.proofs.line.put_tallies.Statement.{statement}
 use Rattle.listing.proofs.line.put_tallies.Tie as tie
-use Rattle.listing.proofs.line.put_tallies.Reads as reads
-use Rattle.listing.proofs.line.put_tallies.Lts as lts
-use Rattle.listing.proofs.line.put_three.Reads as put-three-reads
-use Rattle.listing.proofs.text.put_number.Reads as put-number-reads
 
--- src/line.rt:53:9
 put-three-requires : tie.Need-put-three-requires
 put-three-requires c κs = search needs
 
--- src/line.rt:54:9
 put-three-requires-2 : tie.Need-put-three-requires-2
 put-three-requires-2 c κs = search needs
 
--- src/line.rt:55:27
 cast-put-number : tie.Need-cast-put-number
 cast-put-number c = search needs
 
--- src/line.rt:55:5
 put-number-requires : tie.Need-put-number-requires
 put-number-requires c κs = search needs
 
--- src/line.rt:48:1
 same-length : tie.Need-same-length
 same-length c = search needs
 
--- src/line.rt:48:1
 joined : (p : CorridorPlan)
     → fields (number (p .capacity) ∷ number (p .stiffening) ∷ number (p .filler) ∷ []) ++ (fields (number (p .promoted) ∷ number (p .upsized) ∷ number (p .overloaded) ∷ []) ++ number (p .capped))
     ≡ fields (tallies p)

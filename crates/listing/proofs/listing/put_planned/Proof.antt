@@ -1,22 +1,12 @@
+-- `listing::listing::put_planned` meets its contract. What planning says and leaves is the case's ending (planned-text), and its counts are of places there are (counted).
+use native.Mathlib.Omega.{arith}
+use borrow.Author.Needs.{needs}
 use Rattle.plan_defs.specs.Case.{Case, caseOf}
 use Rattle.plan_defs.specs.Outcome.{Slices, slices}
 use Rattle.listing.proofs.Outcomes.{Sized, counted, planned-text}
 use Rattle.listing.proofs.Texts.{same-text}
-use Prim.Native.Nat.{ℕ, zero, suc, _+_, _-_, _*_, _≤_, _<_}
-use mathlib.Core.Path.{_≡_, refl, sym, ap, _∙_}
-use mathlib.Core.Logic.{⊎-elim}
-use mathlib.Core.Bool.{Bool, true, false}
-use borrow.Author.Tests.{eq-eqb, ne-eqb, lt-ltb, le-ltb, le-leb, lt-leb, not-true, not-false}
-use native.Mathlib.Omega.{arith}
-use denote.Ref.{now}
-use lib.ListN.{length, length-set, set}
-use borrow.Author.Needs.{needs}
 use Rattle.listing.proofs.listing.put_planned.Statement.{statement}
 use Rattle.listing.proofs.listing.put_planned.Tie as tie
-use Rattle.listing.proofs.listing.put_planned.Reads as reads
-use Rattle.listing.proofs.listing.put_planned.Lts as lts
-use Rattle.listing.proofs.listing.put_answer.Reads as put-answer-reads
-use Rattle.listing.proofs.stub.plan_corridors.Reads as plan-corridors-reads
 
 -- the case, the slices as they are lent, and as planning leaves them
 abbrev the-case : tie.Start → Case
@@ -43,11 +33,9 @@ sized c =
       counts = w .1;
     }
 
--- src/listing.rt:134:9
 plan-corridors-requires : tie.Need-plan-corridors-requires
 plan-corridors-requires c κs = search needs
 
--- src/listing.rt:168:5
 put-answer-requires : tie.Need-put-answer-requires
 put-answer-requires c κs =
     let o = c .before .before .before .before .before .before .before .before .before .before .before .before .before .before .before .before .before .before .before .before .before .before .before .before .before .before .before .before .before .before .before .before .before .before .before .before .before .before .before .before .before .before .before .before .before .before .before .before .before .before .before .before .before .before .before .before .before .before .before .before .before .before .before .before .before .before in
@@ -59,51 +47,39 @@ put-answer-requires c κs =
       ),
     )
 
--- src/listing.rt:92:1
 same-length : tie.Need-same-length
 same-length c = search needs
 
--- src/listing.rt:92:1
 same-length-2 : tie.Need-same-length-2
 same-length-2 c = search needs
 
--- src/listing.rt:92:1
 same-length-3 : tie.Need-same-length-3
 same-length-3 c = search needs
 
--- src/listing.rt:92:1
 same-length-4 : tie.Need-same-length-4
 same-length-4 c = search needs
 
--- src/listing.rt:92:1
 same-length-5 : tie.Need-same-length-5
 same-length-5 c = search needs
 
--- src/listing.rt:92:1
 same-length-6 : tie.Need-same-length-6
 same-length-6 c = search needs
 
--- src/listing.rt:92:1
 same-length-7 : tie.Need-same-length-7
 same-length-7 c = search needs
 
--- src/listing.rt:92:1
 same-length-8 : tie.Need-same-length-8
 same-length-8 c = search needs
 
--- src/listing.rt:92:1
 same-length-9 : tie.Need-same-length-9
 same-length-9 c = search needs
 
--- src/listing.rt:92:1
 same-length-10 : tie.Need-same-length-10
 same-length-10 c = search needs
 
--- src/listing.rt:92:1
 same-length-11 : tie.Need-same-length-11
 same-length-11 c = search needs
 
--- src/listing.rt:92:1
 returns : tie.Need-returns
 returns c =
     let o = c .before .before .before .before .before .before .before .before .before .before .before .before .before .before .before .before .before .before .before .before .before .before .before .before .before .before .before .before .before .before .before .before .before .before .before .before .before .before .before .before .before .before .before .before .before .before .before .before .before .before .before .before .before .before .before .before .before .before .before .before .before .before .before .before .before .before .before .before .before in

@@ -1,24 +1,17 @@
+-- `listing::table::put_buses` meets its contract. The measure: what is left of the table.
+use Prim.Native.Nat.{ℕ, _+_, _-_, _*_, _≤_}
 use mathlib.Core.List.{List}
-use lib.ListN.{getD}
+use mathlib.Core.Path.{_≡_, refl}
+use native.Mathlib.Omega.{arith}
+use borrow.Author.Needs.{needs}
+use lib.ListN.{getD, length}
 use lib.Ieee.{Float}
 use Rattle.loops.specs.Figures.{at}
 use Rattle.listing.specs.Text.{Put}
 use Rattle.listing.specs.Lines.{lineRoom, lines, busLine}
 use Rattle.listing.proofs.Texts.{none-put, one-more, all-put}
-use Prim.Native.Nat.{ℕ, zero, suc, _+_, _-_, _*_, _≤_, _<_}
-use mathlib.Core.Path.{_≡_, refl, sym, ap, _∙_}
-use mathlib.Core.Logic.{⊎-elim}
-use mathlib.Core.Bool.{Bool, true, false}
-use borrow.Author.Tests.{eq-eqb, ne-eqb, lt-ltb, le-ltb, le-leb, lt-leb, not-true, not-false}
-use native.Mathlib.Omega.{arith}
-use denote.Ref.{now}
-use lib.ListN.{length, length-set, set}
-use borrow.Author.Needs.{needs}
 use Rattle.listing.proofs.table.put_buses.Statement.{statement}
 use Rattle.listing.proofs.table.put_buses.Tie as tie
-use Rattle.listing.proofs.table.put_buses.Reads as reads
-use Rattle.listing.proofs.table.put_buses.Lts as lts
-use Rattle.listing.proofs.line.put_bus.Reads as put-bus-reads
 
 abbrev line : List ℕ → List Float → ℕ → List ℕ
 line tier angle i = busLine i (getD tier i 0) (at angle i)
@@ -30,41 +23,32 @@ Inv-loop out₀ len tier angle used₀ i₀ out used i =
 abbrev μ-loop : tie.MeasureT-loop
 μ-loop out₀ len tier angle used₀ i₀ out used i = length angle - i
 
--- src/table.rt:52:5
 loop-holds : tie.Need-loop-holds Inv-loop μ-loop
 loop-holds c =
     let a = c .before .before .before .args in
     (omega arith, refl, omega arith, none-put (a .out .now) (line (a .tier .now) (a .angle .now)) (a .len))
 
--- src/table.rt:53:38
 mul-put-bus : tie.Need-mul-put-bus Inv-loop μ-loop
 mul-put-bus c = search needs
 
--- src/table.rt:53:38
 shared-slice-read-put-bus : tie.Need-shared-slice-read-put-bus Inv-loop μ-loop
 shared-slice-read-put-bus c = search needs
 
--- src/table.rt:53:47
 mul-put-bus-2 : tie.Need-mul-put-bus-2 Inv-loop μ-loop
 mul-put-bus-2 c = search needs
 
--- src/table.rt:53:47
 shared-slice-read-put-bus-2 : tie.Need-shared-slice-read-put-bus-2 Inv-loop μ-loop
 shared-slice-read-put-bus-2 c = search needs
 
--- src/table.rt:53:9
 put-bus-requires : tie.Need-put-bus-requires Inv-loop μ-loop
 put-bus-requires c κs = search needs
 
--- src/table.rt:54:9
 add-i : tie.Need-add-i Inv-loop μ-loop
 add-i c = search needs
 
--- src/table.rt:52:5
 loop-less : tie.Need-loop-less Inv-loop μ-loop
 loop-less c = search needs
 
--- src/table.rt:52:5
 loop-again : tie.Need-loop-again Inv-loop μ-loop
 loop-again c =
     let l = c .before .before .before .before .before .before .before .loop in
@@ -72,11 +56,9 @@ loop-again c =
     let p = one-more (line (a .tier .now) (a .angle .now)) (l .i) (l .inv .3) (c .before .before .put-bus .ensures .0) in
     (omega arith, omega arith, omega (arith, c .before .before .put-bus .ensures .1), p)
 
--- src/table.rt:44:1
 same-length : tie.Need-same-length Inv-loop μ-loop
 same-length c = search needs
 
--- src/table.rt:44:1
 returns : tie.Need-returns Inv-loop μ-loop
 returns c =
     let l = c .before .loop in

@@ -1,24 +1,17 @@
+-- `listing::table::put_corridors` meets its contract. The measure: what is left of the table.
+use Prim.Native.Nat.{ℕ, _+_, _-_, _*_, _≤_}
 use mathlib.Core.List.{List}
-use lib.ListN.{getD}
+use mathlib.Core.Path.{_≡_, refl}
+use native.Mathlib.Omega.{arith}
+use borrow.Author.Needs.{needs}
+use lib.ListN.{getD, length}
 use lib.Ieee.{Float}
 use Rattle.loops.specs.Figures.{at}
 use Rattle.listing.specs.Text.{Put}
 use Rattle.listing.specs.Lines.{lineRoom, lines, corridorLine}
 use Rattle.listing.proofs.Texts.{none-put, one-more, all-put}
-use Prim.Native.Nat.{ℕ, zero, suc, _+_, _-_, _*_, _≤_, _<_}
-use mathlib.Core.Path.{_≡_, refl, sym, ap, _∙_}
-use mathlib.Core.Logic.{⊎-elim}
-use mathlib.Core.Bool.{Bool, true, false}
-use borrow.Author.Tests.{eq-eqb, ne-eqb, lt-ltb, le-ltb, le-leb, lt-leb, not-true, not-false}
-use native.Mathlib.Omega.{arith}
-use denote.Ref.{now}
-use lib.ListN.{length, length-set, set}
-use borrow.Author.Needs.{needs}
 use Rattle.listing.proofs.table.put_corridors.Statement.{statement}
 use Rattle.listing.proofs.table.put_corridors.Tie as tie
-use Rattle.listing.proofs.table.put_corridors.Reads as reads
-use Rattle.listing.proofs.table.put_corridors.Lts as lts
-use Rattle.listing.proofs.line.put_corridor.Reads as put-corridor-reads
 
 abbrev line : List ℕ → List Float → List Float → ℕ → List ℕ
 line circuits flow rate i = corridorLine i (getD circuits i 0) (at flow i) (at rate i)
@@ -30,49 +23,38 @@ Inv-loop out₀ len circuits flow rate used₀ i₀ out used i =
 abbrev μ-loop : tie.MeasureT-loop
 μ-loop out₀ len circuits flow rate used₀ i₀ out used i = length circuits - i
 
--- src/table.rt:84:5
 loop-holds : tie.Need-loop-holds Inv-loop μ-loop
 loop-holds c =
     let a = c .before .before .before .before .args in
     (omega arith, refl, omega arith, none-put (a .out .now) (line (a .circuits .now) (a .flow .now) (a .rate .now)) (a .len))
 
--- src/table.rt:85:43
 mul-put-corridor : tie.Need-mul-put-corridor Inv-loop μ-loop
 mul-put-corridor c = search needs
 
--- src/table.rt:85:43
 shared-slice-read-put-corridor : tie.Need-shared-slice-read-put-corridor Inv-loop μ-loop
 shared-slice-read-put-corridor c = search needs
 
--- src/table.rt:85:56
 mul-put-corridor-2 : tie.Need-mul-put-corridor-2 Inv-loop μ-loop
 mul-put-corridor-2 c = search needs
 
--- src/table.rt:85:56
 shared-slice-read-put-corridor-2 : tie.Need-shared-slice-read-put-corridor-2 Inv-loop μ-loop
 shared-slice-read-put-corridor-2 c = search needs
 
--- src/table.rt:85:65
 mul-put-corridor-3 : tie.Need-mul-put-corridor-3 Inv-loop μ-loop
 mul-put-corridor-3 c = search needs
 
--- src/table.rt:85:65
 shared-slice-read-put-corridor-3 : tie.Need-shared-slice-read-put-corridor-3 Inv-loop μ-loop
 shared-slice-read-put-corridor-3 c = search needs
 
--- src/table.rt:85:9
 put-corridor-requires : tie.Need-put-corridor-requires Inv-loop μ-loop
 put-corridor-requires c κs = search needs
 
--- src/table.rt:86:9
 add-i : tie.Need-add-i Inv-loop μ-loop
 add-i c = search needs
 
--- src/table.rt:84:5
 loop-less : tie.Need-loop-less Inv-loop μ-loop
 loop-less c = search needs
 
--- src/table.rt:84:5
 loop-again : tie.Need-loop-again Inv-loop μ-loop
 loop-again c =
     let l = c .before .before .before .before .before .before .before .before .loop in
@@ -80,11 +62,9 @@ loop-again c =
     let p = one-more (line (a .circuits .now) (a .flow .now) (a .rate .now)) (l .i) (l .inv .3) (c .before .before .put-corridor .ensures .0) in
     (omega arith, omega arith, omega (arith, c .before .before .put-corridor .ensures .1), p)
 
--- src/table.rt:75:1
 same-length : tie.Need-same-length Inv-loop μ-loop
 same-length c = search needs
 
--- src/table.rt:75:1
 returns : tie.Need-returns Inv-loop μ-loop
 returns c =
     let l = c .before .loop in

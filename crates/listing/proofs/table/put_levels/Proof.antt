@@ -1,24 +1,17 @@
+-- `listing::table::put_levels` meets its contract. The measure: what is left of the table.
+use Prim.Native.Nat.{ℕ, _+_, _-_, _*_, _≤_}
 use mathlib.Core.List.{List}
-use lib.ListN.{getD}
+use mathlib.Core.Path.{_≡_, refl}
+use native.Mathlib.Omega.{arith}
+use borrow.Author.Needs.{needs}
 use lib.Ieee.{Float}
+use lib.ListN.{length}
 use Rattle.loops.specs.Figures.{at}
 use Rattle.listing.specs.Text.{Put}
 use Rattle.listing.specs.Lines.{lineRoom, lines, addedLine}
 use Rattle.listing.proofs.Texts.{none-put, one-more, all-put}
-use Prim.Native.Nat.{ℕ, zero, suc, _+_, _-_, _*_, _≤_, _<_}
-use mathlib.Core.Path.{_≡_, refl, sym, ap, _∙_}
-use mathlib.Core.Logic.{⊎-elim}
-use mathlib.Core.Bool.{Bool, true, false}
-use borrow.Author.Tests.{eq-eqb, ne-eqb, lt-ltb, le-ltb, le-leb, lt-leb, not-true, not-false}
-use native.Mathlib.Omega.{arith}
-use denote.Ref.{now}
-use lib.ListN.{length, length-set, set}
-use borrow.Author.Needs.{needs}
 use Rattle.listing.proofs.table.put_levels.Statement.{statement}
 use Rattle.listing.proofs.table.put_levels.Tie as tie
-use Rattle.listing.proofs.table.put_levels.Reads as reads
-use Rattle.listing.proofs.table.put_levels.Lts as lts
-use Rattle.listing.proofs.line.put_added.Reads as put-added-reads
 
 abbrev line : List Float → ℕ → List ℕ
 line added i = addedLine (at added i)
@@ -30,33 +23,26 @@ Inv-loop out₀ len added used₀ i₀ out used i =
 abbrev μ-loop : tie.MeasureT-loop
 μ-loop out₀ len added used₀ i₀ out used i = length added - i
 
--- src/table.rt:21:5
 loop-holds : tie.Need-loop-holds Inv-loop μ-loop
 loop-holds c =
     let a = c .before .before .args in
     (omega arith, refl, omega arith, none-put (a .out .now) (line (a .added .now)) (a .len))
 
--- src/table.rt:22:37
 mul-put-added : tie.Need-mul-put-added Inv-loop μ-loop
 mul-put-added c = search needs
 
--- src/table.rt:22:37
 shared-slice-read-put-added : tie.Need-shared-slice-read-put-added Inv-loop μ-loop
 shared-slice-read-put-added c = search needs
 
--- src/table.rt:22:9
 put-added-requires : tie.Need-put-added-requires Inv-loop μ-loop
 put-added-requires c κs = search needs
 
--- src/table.rt:23:9
 add-i : tie.Need-add-i Inv-loop μ-loop
 add-i c = search needs
 
--- src/table.rt:21:5
 loop-less : tie.Need-loop-less Inv-loop μ-loop
 loop-less c = search needs
 
--- src/table.rt:21:5
 loop-again : tie.Need-loop-again Inv-loop μ-loop
 loop-again c =
     let l = c .before .before .before .before .before .before .loop in
@@ -64,11 +50,9 @@ loop-again c =
     let p = one-more (line (a .added .now)) (l .i) (l .inv .3) (c .before .before .put-added .ensures .0) in
     (omega arith, omega arith, omega (arith, c .before .before .put-added .ensures .1), p)
 
--- src/table.rt:14:1
 same-length : tie.Need-same-length Inv-loop μ-loop
 same-length c = search needs
 
--- src/table.rt:14:1
 returns : tie.Need-returns Inv-loop μ-loop
 returns c =
     let l = c .before .loop in

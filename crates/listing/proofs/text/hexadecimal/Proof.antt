@@ -1,21 +1,13 @@
-use mathlib.Core.List.{List, [], _∷_, _++_, append-nil}
-use lib.ListN.{drop, drop-of-length-le}
+-- `listing::text::hexadecimal` meets its contract. The loop's invariant: the digits still to make and those made are all of them.
+use Prim.Native.Nat.{ℕ, _≤_}
+use mathlib.Core.List.{List, _++_, append-nil}
+use mathlib.Core.Path.{_≡_, ap, _∙_}
+use native.Mathlib.Omega.{arith}
+use lib.ListN.{drop, drop-of-length-le, length, length-set}
 use Rattle.listing.specs.Text.{hexadecimal}
 use Rattle.listing.proofs.Numbers.{moved}
-use Prim.Native.Nat.{ℕ, zero, suc, _+_, _-_, _*_, _≤_, _<_}
-use mathlib.Core.Path.{_≡_, refl, sym, ap, _∙_}
-use mathlib.Core.Logic.{⊎-elim}
-use mathlib.Core.Bool.{Bool, true, false}
-use borrow.Author.Tests.{eq-eqb, ne-eqb, lt-ltb, le-ltb, le-leb, lt-leb, not-true, not-false}
-use native.Mathlib.Omega.{arith}
-use denote.Ref.{now}
-use lib.ListN.{length, length-set, set}
-use borrow.Author.Needs.{needs}
 use Rattle.listing.proofs.text.hexadecimal.Statement.{statement}
 use Rattle.listing.proofs.text.hexadecimal.Tie as tie
-use Rattle.listing.proofs.text.hexadecimal.Reads as reads
-use Rattle.listing.proofs.text.hexadecimal.Lts as lts
-use Rattle.listing.proofs.text.hex_digit.Reads as hex-digit-reads
 
 abbrev Inv-loop : tie.InvT-loop
 Inv-loop n digits₀ rest₀ i₀ digits rest i = (length digits ≡ 16) × (i ≤ 16) × (hexadecimal i rest ++ drop i digits ≡ hexadecimal 16 n)
@@ -23,40 +15,32 @@ Inv-loop n digits₀ rest₀ i₀ digits rest i = (length digits ≡ 16) × (i �
 abbrev μ-loop : tie.MeasureT-loop
 μ-loop n digits₀ rest₀ i₀ digits rest i = i
 
--- src/text.rt:49:5
 loop-holds : tie.Need-loop-holds Inv-loop μ-loop
 loop-holds c =
     let a = c .before .args in
     let whole : length (a .digits .now) ≤ 16 = omega (arith, c .before .pre) in
     (c .before .pre, omega arith, ap (λ (l : List ℕ). hexadecimal 16 (a .n) ++ l) (drop-of-length-le (a .digits .now) whole) ∙ append-nil (hexadecimal 16 (a .n)))
 
--- src/text.rt:50:9
 sub-i : tie.Need-sub-i Inv-loop μ-loop
 sub-i c = omega arith
 
--- src/text.rt:51:21
 hex-digit-requires : tie.Need-hex-digit-requires Inv-loop μ-loop
 hex-digit-requires c κs = omega arith
 
--- src/text.rt:51:9
 slice-write-digits : tie.Need-slice-write-digits Inv-loop μ-loop
 slice-write-digits c = omega arith
 
--- src/text.rt:49:5
 loop-less : tie.Need-loop-less Inv-loop μ-loop
 loop-less c = omega arith
 
--- src/text.rt:49:5
 loop-again : tie.Need-loop-again Inv-loop μ-loop
 loop-again c =
     let l = c .before .before .loop in
     (simp length-set (l .inv .0), omega arith, moved (l .i) (l .rest) (c .hex-digit .result) (l .digits) (c .before .loop-test .taken) (omega arith) (c .hex-digit .ensures) ∙ l .inv .2)
 
--- src/text.rt:43:1
 same-length : tie.Need-same-length Inv-loop μ-loop
 same-length c = omega arith
 
--- src/text.rt:43:1
 returns : tie.Need-returns Inv-loop μ-loop
 unfolding hexadecimal
 returns c =

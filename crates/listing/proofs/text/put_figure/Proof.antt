@@ -1,57 +1,38 @@
+-- `listing::text::put_figure` meets its contract. The sixteen digits of the listed bits, behind a space.
+use Prim.Native.Nat.{ℕ, _+_}
 use mathlib.Core.List.{List, _∷_}
+use mathlib.Core.Path.{ap, _∙_}
+use borrow.Author.Needs.{needs}
 use Rattle.listing.specs.Text.{space, hexadecimal, figure}
 use Rattle.listing.proofs.Numbers.{length-figure}
 use Rattle.listing.proofs.Texts.{puts, same-text}
-use Prim.Native.Nat.{ℕ, zero, suc, _+_, _-_, _*_, _≤_, _<_}
-use mathlib.Core.Path.{_≡_, refl, sym, ap, _∙_}
-use mathlib.Core.Logic.{⊎-elim}
-use mathlib.Core.Bool.{Bool, true, false}
-use borrow.Author.Tests.{eq-eqb, ne-eqb, lt-ltb, le-ltb, le-leb, lt-leb, not-true, not-false}
-use native.Mathlib.Omega.{arith}
-use denote.Ref.{now}
-use lib.ListN.{length, length-set, set}
-use borrow.Author.Needs.{needs}
 use Rattle.listing.proofs.text.put_figure.Statement.{statement}
 use Rattle.listing.proofs.text.put_figure.Tie as tie
-use Rattle.listing.proofs.text.put_figure.Reads as reads
-use Rattle.listing.proofs.text.put_figure.Lts as lts
-use Rattle.listing.proofs.text.hexadecimal.Reads as hexadecimal-reads
-use Rattle.listing.proofs.text.listed_bits.Reads as listed-bits-reads
-use Rattle.listing.proofs.text.put_text.Reads as put-text-reads
 
--- src/text.rt:76:17
 listed-bits-requires : tie.Need-listed-bits-requires
 listed-bits-requires c κs = search needs
 
--- src/text.rt:76:33
 slice-aggregate-hexadecimal : tie.Need-slice-aggregate-hexadecimal
 slice-aggregate-hexadecimal c = search needs
 
--- src/text.rt:76:5
 hexadecimal-requires : tie.Need-hexadecimal-requires
 hexadecimal-requires c κs = search needs
 
--- src/text.rt:77:35
 slice-aggregate-put-text : tie.Need-slice-aggregate-put-text
 slice-aggregate-put-text c = search needs
 
--- src/text.rt:77:9
 put-text-requires : tie.Need-put-text-requires
 put-text-requires c κs = search needs
 
--- src/text.rt:78:25
 slice-aggregate-put-text-2 : tie.Need-slice-aggregate-put-text-2
 slice-aggregate-put-text-2 c = search needs
 
--- src/text.rt:78:5
 put-text-requires-2 : tie.Need-put-text-requires-2
 put-text-requires-2 c κs = search needs
 
--- src/text.rt:70:1
 same-length : tie.Need-same-length
 same-length c = search needs
 
--- src/text.rt:70:1
 returns : tie.Need-returns
 unfolding figure
 returns c =

@@ -1,55 +1,39 @@
+-- `listing::text::put_number` meets its contract. The digits that io::decimal makes are the number's text.
+use Prim.Native.Nat.{ℕ}
 use mathlib.Core.List.{List, _∷_}
+use mathlib.Core.Path.{ap, _∙_}
+use native.Mathlib.Omega.{arith}
+use borrow.Author.Needs.{needs}
 use Rattle.listing.specs.Text.{space}
 use Rattle.listing.proofs.Numbers.{fewest-most, number-digits, length-number}
 use Rattle.listing.proofs.Texts.{puts, same-text}
-use Prim.Native.Nat.{ℕ, zero, suc, _+_, _-_, _*_, _≤_, _<_}
-use mathlib.Core.Path.{_≡_, refl, sym, ap, _∙_}
-use mathlib.Core.Logic.{⊎-elim}
-use mathlib.Core.Bool.{Bool, true, false}
-use borrow.Author.Tests.{eq-eqb, ne-eqb, lt-ltb, le-ltb, le-leb, lt-leb, not-true, not-false}
-use native.Mathlib.Omega.{arith}
-use denote.Ref.{now}
-use lib.ListN.{length, length-set, set}
-use borrow.Author.Needs.{needs}
 use Rattle.listing.proofs.text.put_number.Statement.{statement}
 use Rattle.listing.proofs.text.put_number.Tie as tie
-use Rattle.listing.proofs.text.put_number.Reads as reads
-use Rattle.listing.proofs.text.put_number.Lts as lts
-use Rattle.io.proofs.decimal.Reads as decimal-reads
-use Rattle.listing.proofs.text.put_text.Reads as put-text-reads
 
--- src/text.rt:30:9
 decimal-requires : tie.Need-decimal-requires
 decimal-requires c κs = search needs
 
--- src/text.rt:31:35
 slice-aggregate-put-text : tie.Need-slice-aggregate-put-text
 slice-aggregate-put-text c = search needs
 
--- src/text.rt:31:9
 put-text-requires : tie.Need-put-text-requires
 put-text-requires c κs = search needs
 
--- src/text.rt:32:25
 array-share-prefix-digits : tie.Need-array-share-prefix-digits
 array-share-prefix-digits c = search needs
 
--- src/text.rt:32:25
 slice-aggregate-put-text-2 : tie.Need-slice-aggregate-put-text-2
 slice-aggregate-put-text-2 c = search needs
 
--- src/text.rt:32:5
 put-text-requires-2 : tie.Need-put-text-requires-2
 put-text-requires-2 c κs =
     let d = c .before .before .before .before .before .before .before .decimal in
     let n = c .before .before .before .before .before .before .before .before .before .before .args .n in
     omega (arith, c .before .before .before .before .put-text .ensures .used, d .ensures .0 .1, fewest-most n (d .result) (omega arith) (d .ensures .1 .0))
 
--- src/text.rt:24:1
 same-length : tie.Need-same-length
 same-length c = search needs
 
--- src/text.rt:24:1
 returns : tie.Need-returns
 returns c =
     let d = c .before .before .before .before .before .before .before .before .before .before .decimal in

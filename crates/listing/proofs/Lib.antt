@@ -3,3 +3,4 @@ pub mod Numbers
 pub mod Outcomes
 pub mod Cases
 pub mod Files
+pub mod Examples

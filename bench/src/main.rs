@@ -4,6 +4,7 @@
 
 mod angles;
 mod ports;
+mod programs;
 mod reading;
 
 use std::time::{Duration, Instant};
@@ -26,7 +27,7 @@ fn least(runs: usize, mut port: impl FnMut(), mut rust: impl FnMut()) -> (Durati
 fn report(what: &str, note: &str, times: (Duration, Duration)) {
     let (port, rust) = (times.0.as_nanos() as f64, times.1.as_nanos() as f64);
     println!(
-        "{what:<44} {note:>14} {:>12.1} {:>12.1} {:>8.2}",
+        "{what:<54} {note:>11} {:>12.1} {:>12.1} {:>8.2}",
         port / 1000.0,
         rust / 1000.0,
         port / rust
@@ -35,9 +36,10 @@ fn report(what: &str, note: &str, times: (Duration, Duration)) {
 
 fn main() {
     println!(
-        "{:<44} {:>14} {:>12} {:>12} {:>8}",
+        "{:<54} {:>11} {:>12} {:>12} {:>8}",
         "case", "", "port, us", "Rust, us", "ratio"
     );
     angles::run();
     reading::run();
+    programs::run();
 }

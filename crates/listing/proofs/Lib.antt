@@ -1,0 +1,6 @@
+pub mod Texts
+pub mod Numbers
+pub mod Outcomes
+pub mod Cases
+pub mod Files
+pub mod Examples

@@ -9,7 +9,7 @@ ghost use Rattle.listing.specs.Listing.{listed, plannedText, Counted, en
 use crate::line::put_most;
 use crate::line::put_plan;
 use crate::line::put_refusal;
-use crate::stub::plan_corridors;
+use planning::plan_corridors;
 use crate::table::put_buses;
 use crate::table::put_corridors;
 use crate::table::put_generators;

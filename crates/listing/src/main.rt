@@ -3,7 +3,6 @@
 mod case;
 mod line;
 mod listing;
-mod stub;
 mod table;
 mod text;
 

@@ -32,19 +32,22 @@ const INFINITY: u64 = 0x7FF0_0000_0000_0000;
 
 const NAN: u64 = 0x7FF8_0000_0000_0000;
 
-// About √s, off by a few units of the last digit for an s from 2^52 up: a parabola that is within
-// 1/199 of √s, and Newton's method three times. Nothing is claimed of it: `left_over` checks.
+// About √x of x = s / 2^52, from 1 up to 4: for its upper part u a polynomial within 1/15000 of √u,
+// then Newton's method twice. The contract claims nothing of it, since `closest_root` checks it.
 fn approximate_root(s: u64) -> f64 {
-    let x = std::num::nearest_u64_to_f64(s);
-    let half = 0.5 * x;
-    let y0 = 34_800_000.0 + x * (7.838e-9 - 1.3083e-25 * x);
-    let y1 = 0.5 * y0 + half / y0;
-    let y2 = 0.5 * y1 + half / y1;
-    0.5 * y2 + half / y2
+    // with 2^-20 and 2^-52
+    let u = ((s / 0x1_0000_0000) as u32) as f64 * 9.5367431640625e-7;
+    let x = u + ((s % 0x1_0000_0000) as u32) as f64 * 2.220446049250313e-16;
+    let u2 = u * u;
+    let y0 = 0.34354
+        + 0.870612 * u
+        + u2 * (0.0772602 * u - 0.2800156 + u2 * (0.00079574 * u - 0.0121293));
+    let y1 = 0.5 * y0 + 0.5 * x / y0;
+    0.5 * y1 + 0.5 * x / y1
 }
 
-// What s * 2^52 leaves over the square of q. u64::MAX stands for less than nothing, and for 2^60 or
-// more. With q = h * 2^27 + l the square is (4 * h^2 + h * l / 2^24) * 2^52, and `low` besides.
+// What s * 2^52 leaves over the square of q; u64::MAX where it is below the square, or far above it.
+// With q = h * 2^27 + l the square is (4 * h^2 + h * l / 2^24) * 2^52, and `low` besides.
 fn left_over(s: u64, q: u64) -> u64
     requires { ⌜ q < 2 ^ 53 ⌝ }
     ensures { λ r. ⌜ (r < 2 ^ 63 → q * q + r ≡ s * 2 ^ 52) ⌝ }

@@ -2,8 +2,9 @@
 -- A root of n / 4 gives one of n by one digit more. Four times a whole number is never the square of 2 * q + 1, so there is no tie.
 use mathlib.Core.Path.{_≡_, refl, sym, ap, _∙_, subst}
 use mathlib.Core.Bool.{Bool, true, false, not, cond}
-use Prim.Native.Nat.{ℕ, zero, suc, _+_, _*_, _/_, _^_, _≤_, _<_, compare, Ordering, Ordering·lt, Ordering·eq, Ordering·gt}
+use Prim.Native.Nat.{ℕ, zero, suc, _+_, _-_, _*_, _/_, _^_, _≤_, _<_, compare, Ordering, Ordering·lt, Ordering·eq, Ordering·gt}
 use native.Mathlib.Nat.{le-refl, le-trans, le-of-eq, lt-of-lt-of-le, lt-of-le-of-lt, lt-of-not-le, not-le-of-lt, mul-assoc, mul-left-comm, add-mul, mul-add, mul-one, mul-le-mul, pow-succ'}
+use native.Mathlib.Decide.{decLe}
 use native.Mathlib.Omega.{arith}
 use lib.Dec.{T, leb, isLe, isEq, leb→le, nleb→lt, eqb, eqb-refl, eqb→eq}
 use native.Mathlib.Numerals.{add-one}
@@ -130,3 +131,11 @@ closest-down n q r l h = closest-at n q (left-root n q r l) ∙ ap (λ (o : Orde
 
 pub closest-up : (n q r : ℕ) → Left n q r → q < r → closestRoot n ≡ q + 1
 closest-up n q r l h = closest-at n q (left-root n q r l) ∙ ap (λ (o : Ordering). nearest q o) (is-gt (n * 4) ((2 * q + 1) * (2 * q + 1)) (half-up n q r l h)) ∙ sym (add-one q)
+
+-- q + 1 is the nearest whole number, from where q is left to where q + 2 is nearer
+pub closest-next : (n q r : ℕ) → q * q + r ≡ n → q < r → r ≤ q * 3 + 2 → closestRoot n ≡ q + 1
+closest-next n q r e l u = go (decLe r (2 * q))
+  where
+    go : Dec (r ≤ 2 * q) → closestRoot n ≡ q + 1
+    go (yes g) = closest-up n q r (e, g) l
+    go (no g) = let f : (q + 1) * (q + 1) ≡ q * q + 2 * q + 1 = sq-next q in closest-down n (q + 1) (r - (2 * q + 1)) (omega arith, omega arith) (omega arith)

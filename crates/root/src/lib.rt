@@ -1,4 +1,4 @@
-// IEEE 754's square root at binary64, worked out from the bits with whole numbers only.
+// IEEE 754's square root at binary64, worked out from the bits: whole numbers decide every digit.
 //
 // 1. A zero and the infinity are their own roots. A NaN and what lies below zero have none.
 // 2. Any other value is s * 2^(e - 2148), with a whole number s of at most 53 binary digits.

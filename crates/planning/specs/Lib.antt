@@ -12,3 +12,4 @@ pub mod Sound
 pub mod Whole
 pub mod Raises
 pub mod Settle
+pub mod Rounds

@@ -10,5 +10,6 @@ mod raise;
 mod raises;
 mod redesign;
 mod settle;
+mod rounds;
 mod size;
 mod solve;

@@ -13,3 +13,4 @@ pub mod Whole
 pub mod Raises
 pub mod Settle
 pub mod Rounds
+pub mod Plan

@@ -5,6 +5,7 @@ mod design;
 mod figures;
 mod fill;
 mod opening;
+mod plan;
 mod policy;
 mod raise;
 mod raises;

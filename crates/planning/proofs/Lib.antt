@@ -32,3 +32,4 @@ pub mod Heavies
 pub mod Promoting
 pub mod Settling
 pub mod Settlements
+pub mod Plans

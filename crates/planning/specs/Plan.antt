@@ -72,3 +72,97 @@ pub record OpeningDone (above : ℕ) (tier : List ℕ) (load : List Float) (bus 
     (leader : List ℕ) (injection : List Float) (ground : List ℕ) (mw : List Float) (level circuits : List ℕ) (r : Opening) : Type 0 where
   pub opens : (o : Case) (target : ℕ) → Sound (openCase o above tier load bus slack pmin pmax c1 c2 a b initial) target
       → OpenedAs r (openCase o above tier load bus slack pmin pmax c1 c2 a b initial) leader injection ground mw level circuits
+
+-- ---- the rounds: how many at most, and how far they are before the first
+abbrev pub roundsFor : PlanMode → ℕ → ℕ
+roundsFor mode m = cond (expand mode && not (eqb m 0)) planningMaxRounds 0
+
+abbrev pub startOf : PlanMode → ℕ → ℕ → Progress
+startOf mode m promoted = record { rounds = 0; promoted = promoted; capacity = 0; stiffening = 0; converged = not (expand mode) || eqb m 0 }
+
+pub record Runnable (above promoted : ℕ) (ladder : List Float) (level a b : List ℕ) (km share sheet load : List Float) (bus : List ℕ) (pmax : List Float) (leader grounds : List ℕ)
+    (injection : List Float) (circuits : List ℕ) (banks floors : List Float) (upsized marks : List ℕ) (angle flow work : List Float) : Type 0 where
+  pub columns : Columns ladder level a b km share sheet load bus pmax
+  pub places : Places (length level) (length a) leader grounds injection circuits banks floors upsized marks angle flow work
+  pub few-levels : above ≤ mostLevels
+  pub few-moves : promoted ≤ mostBuses * mostLevels
+  pub banked : Banks banks
+  pub few : Few circuits
+
+pub record RanAll (mode : PlanMode) (above promoted : ℕ) (ladder : List Float) (level a b : List ℕ) (km share sheet load : List Float) (bus : List ℕ) (pmax : List Float)
+    (leader grounds : List ℕ) (injection : List Float) (circuits : List ℕ) (banks floors : List Float) (upsized : List ℕ)
+    (level′ circuits′ : List ℕ) (banks′ floors′ : List Float) (upsized′ : List ℕ) (angle′ : List Float) (r : Rounds) : Type 0 where
+  pub ran : (o : Case) (target : ℕ) → Sound (roundsCase o mode above ladder a b km share sheet load bus pmax) target → length level ≡ o .buses
+      → ranAs r (roundsCase o mode above ladder a b km share sheet load bus pmax) level′ circuits′ banks′ floors′ upsized′ angle′
+      ≡ allRounds (roundsCase o mode above ladder a b km share sheet load bus pmax) (peakFor (o .buses) grounds injection) leader
+      (draftOf (roundsCase o mode above ladder a b km share sheet load bus pmax) level circuits banks floors upsized (zeros (o .buses)) (startOf mode (o .corridors) promoted))
+  pub lines : Lines ladder level′ a b km share sheet
+  pub banked : Banks banks′
+  pub few : Few circuits′
+
+-- ---- what is said in the end
+abbrev pub planBy : Progress → ℕ → Settlement → CorridorPlan
+planBy p grounds s =
+    record {
+      rounds = p .rounds;
+      converged = p .converged;
+      capacity = p .capacity;
+      stiffening = p .stiffening;
+      filler = s .filler;
+      promoted = p .promoted;
+      upsized = s .closing .upsized;
+      overloaded = s .closing .overloaded;
+      capped = s .closing .capped;
+      loading = s .closing .loading;
+      spread = s .closing .spread;
+      grounds = grounds;
+      added = s .closing .added;
+    }
+
+abbrev pub plannedBy : Progress → ℕ → Settled → Planned
+plannedBy p grounds (Unsettled f) = Refused f
+plannedBy p grounds (Closed s) = Answered (planBy p grounds s)
+
+-- of a plan, with the slices that it fills after the opening
+pub record Holds (r : Planned) (circuits tier : List ℕ) (flow rate angle added : List Float) (above : ℕ) (q : Plan) : Type 0 where
+  pub said : r ≡ Answered (summary q)
+  pub circuits-are : circuits ≡ q .circuits
+  pub tiers-are : tier ≡ q .tier
+  pub flows-are : flow ≡ q .flow
+  pub rates-are : rate ≡ map (λ d. d .«rate_a») (q .designs)
+  pub angles-are : angle ≡ q .angle
+  pub added-are : added ≡ upTo above nought (q .added)
+
+abbrev pub PlannedAs : Planned → List ℕ → List ℕ → List Float → List Float → List Float → List Float → Case → Stage Plan → Type 0
+PlannedAs r circuits tier flow rate angle added c (stopped f) = r ≡ Refused f
+PlannedAs r circuits tier flow rate angle added c (going q) = Holds r circuits tier flow rate angle added (c .above) q
+
+-- ---- from the raises on
+abbrev pub openedFor : Case → List ℕ → List Float → Peak → Raised → Opened
+openedFor c led mw P s = record { led = led; mw = mw; peak = P; draft = firstDraft c s }
+
+pub record RaisedPlan (mode : PlanMode) (target above promoted : ℕ) (ladder : List Float) (level a b : List ℕ) (km share sheet load : List Float) (bus : List ℕ) (pmax : List Float)
+    (leader grounds : List ℕ) (injection : List Float) (circuits : List ℕ) (banks floors : List Float) (upsized : List ℕ)
+    (circuits′ level′ : List ℕ) (flow′ rate′ angle′ added′ : List Float) (r : Planned) : Type 0 where
+  pub plan : (o : Case) (mw : List Float)
+      → (let c = roundsCase o mode above ladder a b km share sheet load bus pmax in
+      Sound c target → length level ≡ o .buses → circuits ≡ lowerBounds c → floors ≡ zeros (o .corridors) → upsized ≡ replicate (o .corridors) 0
+      → PlannedAs r circuits′ level′ flow′ rate′ angle′ added′ c
+      (onward (settled c (openedFor c leader mw (peakFor (o .buses) grounds injection) (raisedOf c level banks promoted))) (closing c target)))
+
+-- ---- from the opening on
+pub record Plannable (ladder : List Float) (level a b : List ℕ) (km share sheet load : List Float) (bus : List ℕ) (pmax : List Float) (leader grounds : List ℕ)
+    (injection : List Float) (circuits : List ℕ) (banks floors : List Float) (upsized marks : List ℕ) (angle flow work : List Float) : Type 0 where
+  pub columns : Columns ladder level a b km share sheet load bus pmax
+  pub places : Places (length level) (length a) leader grounds injection circuits banks floors upsized marks angle flow work
+  pub few-levels : length ladder ≤ mostLevels
+  pub unset : floors ≡ zeros (length a)
+  pub few : Few circuits
+
+pub record OpenedPlan (mode : PlanMode) (target above : ℕ) (ladder : List Float) (level a b : List ℕ) (km share sheet load : List Float) (bus : List ℕ) (pmax : List Float)
+    (leader grounds : List ℕ) (injection : List Float) (circuits upsized : List ℕ) (circuits′ level′ : List ℕ) (flow′ rate′ angle′ added′ : List Float) (r : Planned) : Type 0 where
+  pub plan : (o : Case) (mw : List Float)
+      → (let c = roundsCase o mode above ladder a b km share sheet load bus pmax in
+      Sound c target → level ≡ firstLevels c → circuits ≡ lowerBounds c → upsized ≡ replicate (o .corridors) 0
+      → PlannedAs r circuits′ level′ flow′ rate′ angle′ added′ c
+      (onward (onward (openedWith c leader mw (peakFor (o .buses) grounds injection)) (settled c)) (closing c target)))

@@ -2,15 +2,31 @@
 ghost use mathlib.Core.Path.{_≡_};
 ghost use Prim.Native.Nat.{_≤_};
 ghost use lib.ListN.{length};
-ghost use Rattle.planning.specs.Plan.{Openable, OpeningDone};
+ghost use Rattle.planning.specs.Close.{Closable};
+ghost use Rattle.planning.specs.Plan.{Openable, OpeningDone, roundsFor, startOf, Runnable, RanAll, plannedBy, RaisedPlan, Plannable, OpenedPlan};
+use crate::figures::clear_figures;
 use crate::opening::component_leaders;
 use crate::opening::dispatch_components;
 use crate::opening::first_levels;
 use crate::opening::ground_components;
 use crate::opening::injections;
 use crate::opening::lower_bounds;
+use crate::policy::expands;
+use crate::raises::Raised;
+use crate::raises::raises;
+use crate::redesign::redesign;
+use crate::rounds::Progress;
+use crate::rounds::Rounds;
+use crate::rounds::size_rounds;
+use crate::settle::Settled;
+use crate::settle::settle;
+use mode::PlanMode;
+use plan_defs::CorridorPlan;
+use plan_defs::Planned;
 use refusal::Answer;
 use refusal::Refusal;
+
+const PLANNING_MAX_ROUNDS: u32 = 64;
 
 // How many grounds there are; or refusal 8.
 pub enum Opening {
@@ -53,4 +69,316 @@ fn open(
     first_levels(above, tier, level);
     lower_bounds(initial, circuits);
     Opening::Opened(count)
+}
+
+// ---- the rounds
+// None where the mode does not expand, and none without corridors.
+fn rounds_to_run(mode: PlanMode, m: usize) -> u32
+    ensures { λ r. ⌜ r ≡ roundsFor mode m ⌝ }
+{
+    if expands(mode) & !(m == 0) {
+        return PLANNING_MAX_ROUNDS;
+    }
+    0
+}
+
+// How far the rounds are before the first: where none is to run, they have converged.
+fn first_progress(mode: PlanMode, m: usize, promoted: u32) -> Progress
+    ensures { λ r. ⌜ r ≡ startOf mode m promoted ⌝ }
+{
+    Progress {
+        rounds: 0,
+        promoted,
+        capacity: 0,
+        stiffening: 0,
+        converged: !expands(mode) | (m == 0),
+    }
+}
+
+// All rounds, the first from angles of zero, after so many moves of buses.
+fn run_rounds(
+    mode: PlanMode,
+    above: usize,
+    promoted: u32,
+    ladder: &[f64],
+    a: &[u32],
+    b: &[u32],
+    km: &[f64],
+    share: &[f64],
+    sheet: &[f64],
+    load: &[f64],
+    bus: &[u32],
+    pmax: &[f64],
+    leader: &[u32],
+    grounds: &[u32],
+    injection: &[f64],
+    circuits: &mut [u32],
+    banks: &mut [f64],
+    floors: &mut [f64],
+    upsized: &mut [u32],
+    level: &mut [u32],
+    marks: &mut [u32],
+    angle: &mut [f64],
+    flow: &mut [f64],
+    work: &mut [f64],
+) -> Rounds
+    requires { ⌜ Runnable above promoted (now ladder) (now level) (now a) (now b) (now km) (now share) (now sheet) (now load) (now bus) (now pmax) (now leader) (now grounds) (now injection) (now circuits) (now banks) (now floors) (now upsized) (now marks) (now angle) (now flow) (now work) ⌝ }
+    ensures { λ r. ⌜ RanAll mode above promoted (now (ladder .entry)) (now (level .entry)) (now (a .entry)) (now (b .entry)) (now (km .entry)) (now (share .entry)) (now (sheet .entry)) (now (load .entry)) (now (bus .entry)) (now (pmax .entry)) (now (leader .entry)) (now (grounds .entry)) (now (injection .entry))
+        (now (circuits .entry)) (now (banks .entry)) (now (floors .entry)) (now (upsized .entry))
+        (now (level .exit)) (now (circuits .exit)) (now (banks .exit)) (now (floors .exit)) (now (upsized .exit)) (now (angle .exit)) r ⌝ }
+{
+    clear_figures(angle);
+    let start = first_progress(mode, a.len(), promoted);
+    let budget = rounds_to_run(mode, a.len());
+    if budget == 0 {
+        return Rounds::Ran(start);
+    }
+    size_rounds(
+        mode,
+        above,
+        budget,
+        start,
+        ladder,
+        a,
+        b,
+        km,
+        share,
+        sheet,
+        load,
+        bus,
+        pmax,
+        leader,
+        grounds,
+        injection,
+        circuits,
+        banks,
+        floors,
+        upsized,
+        level,
+        marks,
+        angle,
+        flow,
+        work,
+    )
+}
+
+// ---- the stages joined
+// What planning says of the rounds and of what came after them.
+fn conclude(progress: Progress, grounds: u32, settled: Settled) -> Planned
+    ensures { λ r. ⌜ r ≡ plannedBy progress grounds settled ⌝ }
+{
+    match settled {
+        Settled::Refused(f) => Planned::Refused(f),
+        Settled::Closed(s) => Planned::Answered(CorridorPlan {
+            rounds: progress.rounds,
+            converged: progress.converged,
+            capacity: progress.capacity,
+            stiffening: progress.stiffening,
+            filler: s.filler,
+            promoted: progress.promoted,
+            upsized: s.closing.upsized,
+            overloaded: s.closing.overloaded,
+            capped: s.closing.capped,
+            loading: s.closing.loading,
+            spread: s.closing.spread,
+            grounds,
+            added: s.closing.added,
+        }),
+    }
+}
+
+// After the raises before the rounds: the rounds, and what comes after them.
+fn plan_raised(
+    mode: PlanMode,
+    target: u32,
+    above: usize,
+    promoted: u32,
+    ladder: &[f64],
+    a: &[u32],
+    b: &[u32],
+    km: &[f64],
+    share: &[f64],
+    sheet: &[f64],
+    load: &[f64],
+    bus: &[u32],
+    pmax: &[f64],
+    leader: &[u32],
+    grounds: &[u32],
+    injection: &[f64],
+    circuits: &mut [u32],
+    banks: &mut [f64],
+    floors: &mut [f64],
+    upsized: &mut [u32],
+    level: &mut [u32],
+    marks: &mut [u32],
+    flow: &mut [f64],
+    rate: &mut [f64],
+    angle: &mut [f64],
+    added: &mut [f64],
+    work: &mut [f64],
+) -> Planned
+    requires { ⌜ Runnable above promoted (now ladder) (now level) (now a) (now b) (now km) (now share) (now sheet) (now load) (now bus) (now pmax) (now leader) (now grounds) (now injection) (now circuits) (now banks) (now floors) (now upsized) (now marks) (now angle) (now flow) (now work) ⌝ }
+    requires { ⌜ Closable above (now ladder) (now a) (now leader) (now upsized) (now angle) (now rate) (now added) ⌝ }
+    ensures { λ r. ⌜ RaisedPlan mode target above promoted (now (ladder .entry)) (now (level .entry)) (now (a .entry)) (now (b .entry)) (now (km .entry)) (now (share .entry)) (now (sheet .entry)) (now (load .entry)) (now (bus .entry)) (now (pmax .entry)) (now (leader .entry)) (now (grounds .entry)) (now (injection .entry))
+        (now (circuits .entry)) (now (banks .entry)) (now (floors .entry)) (now (upsized .entry))
+        (now (circuits .exit)) (now (level .exit)) (now (flow .exit)) (now (rate .exit)) (now (angle .exit)) (now (added .exit)) r ⌝ }
+{
+    match run_rounds(
+        mode,
+        above,
+        promoted,
+        ladder,
+        a,
+        b,
+        km,
+        share,
+        sheet,
+        load,
+        bus,
+        pmax,
+        leader,
+        grounds,
+        injection,
+        circuits,
+        banks,
+        floors,
+        upsized,
+        level,
+        marks,
+        angle,
+        flow,
+        work,
+    ) {
+        Rounds::Refused(f) => Planned::Refused(f),
+        Rounds::Ran(progress) => {
+            let settled = settle(
+                mode,
+                target,
+                above,
+                ladder,
+                a,
+                b,
+                km,
+                share,
+                sheet,
+                leader,
+                grounds,
+                injection,
+                banks,
+                upsized,
+                circuits,
+                level,
+                flow,
+                rate,
+                angle,
+                added,
+                work,
+            );
+            conclude(progress, grounds.len() as u32, settled)
+        }
+    }
+}
+
+// After the opening: the first designs, the raises, and what comes after them.
+fn plan_opened(
+    mode: PlanMode,
+    target: u32,
+    above: usize,
+    ladder: &[f64],
+    a: &[u32],
+    b: &[u32],
+    km: &[f64],
+    share: &[f64],
+    sheet: &[f64],
+    load: &[f64],
+    bus: &[u32],
+    pmax: &[f64],
+    leader: &[u32],
+    grounds: &[u32],
+    injection: &[f64],
+    circuits: &mut [u32],
+    banks: &mut [f64],
+    floors: &mut [f64],
+    upsized: &mut [u32],
+    level: &mut [u32],
+    marks: &mut [u32],
+    flow: &mut [f64],
+    rate: &mut [f64],
+    angle: &mut [f64],
+    added: &mut [f64],
+    work: &mut [f64],
+) -> Planned
+    requires { ⌜ Plannable (now ladder) (now level) (now a) (now b) (now km) (now share) (now sheet) (now load) (now bus) (now pmax) (now leader) (now grounds) (now injection) (now circuits) (now banks) (now floors) (now upsized) (now marks) (now angle) (now flow) (now work) ⌝ }
+    requires { ⌜ Closable above (now ladder) (now a) (now leader) (now upsized) (now angle) (now rate) (now added) ⌝ }
+    ensures { λ r. ⌜ OpenedPlan mode target above (now (ladder .entry)) (now (level .entry)) (now (a .entry)) (now (b .entry)) (now (km .entry)) (now (share .entry)) (now (sheet .entry)) (now (load .entry)) (now (bus .entry)) (now (pmax .entry)) (now (leader .entry)) (now (grounds .entry)) (now (injection .entry))
+        (now (circuits .entry)) (now (upsized .entry))
+        (now (circuits .exit)) (now (level .exit)) (now (flow .exit)) (now (rate .exit)) (now (angle .exit)) (now (added .exit)) r ⌝ }
+{
+    redesign(
+        ladder,
+        level,
+        a,
+        b,
+        km,
+        share,
+        sheet,
+        load,
+        bus,
+        pmax,
+        floors,
+        banks,
+    );
+    match raises(
+        mode,
+        ladder,
+        a,
+        b,
+        km,
+        share,
+        sheet,
+        load,
+        bus,
+        pmax,
+        grounds,
+        injection,
+        circuits,
+        floors,
+        banks,
+        level,
+        marks,
+        angle,
+        flow,
+        work,
+    ) {
+        Raised::Refused(f) => Planned::Refused(f),
+        Raised::Promoted(promoted) => plan_raised(
+            mode,
+            target,
+            above,
+            promoted,
+            ladder,
+            a,
+            b,
+            km,
+            share,
+            sheet,
+            load,
+            bus,
+            pmax,
+            leader,
+            grounds,
+            injection,
+            circuits,
+            banks,
+            floors,
+            upsized,
+            level,
+            marks,
+            flow,
+            rate,
+            angle,
+            added,
+            work,
+        ),
+    }
 }

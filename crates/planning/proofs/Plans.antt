@@ -269,3 +269,152 @@ module _ (mode : PlanMode) (target above promoted : ℕ) (ladder : List Float) (
             (planned-as p (length grounds) circuits″ level″ flow″ rate″ angle″ added″ c x q (onward (settledTo c O′ S′) (closing c target))
             (said-of c target O′ level′ circuits′ banks′ floors′ upsized′ angle′ p) (v .plan c O′ S′ floors′ s (k ∙ n) refl refl refl refl) y);
       }
+
+-- ---- from the opening on
+module _ (mode : PlanMode) (target above : ℕ) (ladder : List Float) (level a b : List ℕ) (km share sheet load : List Float) (bus : List ℕ) (pmax : List Float) (leader grounds : List ℕ)
+    (injection : List Float) (circuits : List ℕ) (banks floors : List Float) (upsized marks : List ℕ) (angle flow work : List Float)
+    (h : Plannable ladder level a b km share sheet load bus pmax leader grounds injection circuits banks floors upsized marks angle flow work) where
+  pub redesign-fit : RedesignFits ladder level a b km share sheet load bus pmax floors banks
+  redesign-fit =
+      record {
+        lines = h .columns .lines;
+        loads = h .columns .loads;
+        units = h .columns .units;
+        few = h .columns .few;
+        floor-size = h .places .floor-size;
+        bank-size = h .places .bank-size;
+      }
+
+  pub raises-fit : (banks₁ : List Float) → length banks₁ ≡ length banks → Banks banks₁
+      → Raisable ladder level a b km share sheet load bus pmax grounds injection circuits floors banks₁ marks angle flow work
+  raises-fit banks₁ e banked =
+      record {
+        drawing =
+            record {
+              lines = h .columns .lines;
+              few-buses = h .columns .loads .few;
+              few-corridors = h .columns .few;
+              count-size = h .places .count-size;
+              bank-size = e ∙ h .places .bank-size;
+              banks-ok = banked;
+            };
+        lent =
+            record {
+              few-grounds = h .places .few-grounds;
+              ground-below = h .places .ground-below;
+              injection-size = h .places .injection-size;
+              angle-size = h .places .angle-size;
+              flow-size = h .places .flow-size;
+              work-size = h .places .work-size;
+            };
+        redesigns =
+            record {
+              lines = h .columns .lines;
+              loads = h .columns .loads;
+              units = h .columns .units;
+              few = h .columns .few;
+              floor-size = h .places .floor-size;
+              bank-size = e ∙ h .places .bank-size;
+            };
+        unset = h .unset;
+        mark-size = h .places .mark-size;
+        few-levels = h .few-levels;
+      }
+
+  -- after the raises
+  module _ (banks₁ : List Float) (level′ : List ℕ) (banks′ : List Float) (r : Raising)
+      (w : RaisesDone mode ladder level a b km share sheet load bus pmax grounds injection circuits banks₁ level′ banks′ r) (size : length level′ ≡ length level) where
+    pub runnable-of : (promoted : ℕ) → r ≡ Promoted promoted → above ≤ mostLevels → (marks′ : List ℕ) (angle′ flow′ work′ : List Float) → length banks′ ≡ length banks
+        → length marks′ ≡ length marks → length angle′ ≡ length angle → length flow′ ≡ length flow → length work′ ≡ length work
+        → Runnable above promoted ladder level′ a b km share sheet load bus pmax leader grounds injection circuits banks′ floors upsized marks′ angle′ flow′ work′
+    runnable-of promoted q low marks′ angle′ flow′ work′ e₁ e₂ e₃ e₄ e₅ =
+        record {
+          columns =
+              record {
+                lines = w .lines;
+                loads = record { load-size = h .columns .loads .load-size ∙ sym size; few = omega (arith, size, h .columns .loads .few); sound = h .columns .loads .sound };
+                units = h .columns .units;
+                few = h .columns .few;
+              };
+          places =
+              record {
+                leader-size = h .places .leader-size ∙ sym size;
+                few-grounds = h .places .few-grounds;
+                ground-below = λ g x. omega (arith, size, h .places .ground-below g x);
+                injection-size = h .places .injection-size ∙ sym size;
+                count-size = h .places .count-size;
+                bank-size = e₁ ∙ h .places .bank-size;
+                floor-size = h .places .floor-size;
+                upsized-size = h .places .upsized-size;
+                mark-size = e₂ ∙ h .places .mark-size ∙ sym size;
+                angle-size = e₃ ∙ h .places .angle-size ∙ sym size;
+                flow-size = e₄ ∙ h .places .flow-size;
+                work-size = e₅ ∙ h .places .work-size ∙ ap workPlaces (sym size);
+              };
+          few-levels = low;
+          few-moves = subst (Within (mostBuses * mostLevels)) q (w .bound);
+          banked = w .banked;
+          few = h .few;
+        }
+
+    module _ (anew : banks₁ ≡ banksAnew (redesignFor ladder load bus pmax a b km share sheet) level floors) where
+      module _ (o : Case) (mw : List Float) (s : Sound (roundsCase o mode above ladder a b km share sheet load bus pmax) target)
+          (l : level ≡ firstLevels (roundsCase o mode above ladder a b km share sheet load bus pmax))
+          (e : circuits ≡ lowerBounds (roundsCase o mode above ladder a b km share sheet load bus pmax)) where
+        abbrev E : Case
+        E = roundsCase o mode above ladder a b km share sheet load bus pmax
+
+        abbrev Q : Peak
+        Q = peakFor (o .buses) grounds injection
+
+        buses-are : length level ≡ o .buses
+        buses-are = ap length l ∙ risen-first E .size
+
+        designs-are : drawnAll E level banks₁ ≡ designCircuits E level
+        designs-are =
+            ap (drawnAll E level) (anew ∙ banks-lift E level (s .a-size) (s .bus-size) (s .ladder-size) floors)
+            ∙ sym (redesign-is E level floors)
+            ∙ ap (redesign E level) (h .unset ∙ ap (λ (m : ℕ). zeros m) (s .a-size))
+            ∙ first-design E level (s .a-size) (s .bus-size) (s .ladder-size) (h .columns .lines) (h .columns .loads) (h .columns .units) (h .columns .few)
+
+        firsts-are : raisedOf E level banks₁ 0 ≡ firstRaised E
+        firsts-are =
+            ap (λ (ds : List CircuitDesign). record { level = level; designs = ds; promoted = 0 }) designs-are
+            ∙ ap (λ (t : List ℕ). record { level = t; designs = designCircuits E t; promoted = 0 }) l
+
+        raises-are : raises E Q (lowerBounds E) (firstRaised E) ≡ raisedAs r E level′ banks′
+        raises-are =
+            sym (w .raised E target s buses-are ∙ ap (raises E Q circuits) firsts-are ∙ ap (λ (t : List ℕ). raises E Q t (firstRaised E)) e)
+
+        opened-is : onward (openedWith E leader mw Q) (settled E) ≡ onward (raisedAs r E level′ banks′) (λ t. settled E (openedFor E leader mw Q t))
+        opened-is = ap (λ (x : Stage Raised). onward (onward x (λ t. going (openedFor E leader mw Q t))) (settled E)) raises-are ∙ go (raisedAs r E level′ banks′)
+          where
+            go : (x : Stage Raised) → onward (onward x (λ t. going (openedFor E leader mw Q t))) (settled E) ≡ onward x (λ t. settled E (openedFor E leader mw Q t))
+            go (stopped f) = refl
+            go (going t) = refl
+
+      pub opened-refused : (f : Refusal) → r ≡ Unraised f → (circuits″ level″ : List ℕ) (flow″ rate″ angle″ added″ : List Float)
+          → OpenedPlan mode target above ladder level a b km share sheet load bus pmax leader grounds injection circuits upsized circuits″ level″ flow″ rate″ angle″ added″ (Refused f)
+      opened-refused f q circuits″ level″ flow″ rate″ angle″ added″ =
+          record {
+            plan = λ o mw s l e g.
+                let c = E o mw s l e in
+                let P = Q o mw s l e in
+                let z : onward (openedWith c leader mw P) (settled c) ≡ stopped f = opened-is o mw s l e
+                    ∙ ap (λ (x : Raising). onward (raisedAs x c level′ banks′) (λ t. settled c (openedFor c leader mw P t))) q in
+                subst (PlannedAs (Refused f) circuits″ level″ flow″ rate″ angle″ added″ c) (sym (ap (λ (t : Stage Ready). onward t (closing c target)) z)) refl;
+          }
+
+      pub opened-plan : (promoted : ℕ) → r ≡ Promoted promoted → (circuits″ level″ : List ℕ) (flow″ rate″ angle″ added″ : List Float) (x : Planned)
+          → RaisedPlan mode target above promoted ladder level′ a b km share sheet load bus pmax leader grounds injection circuits banks′ floors upsized circuits″ level″ flow″ rate″ angle″ added″ x
+          → OpenedPlan mode target above ladder level a b km share sheet load bus pmax leader grounds injection circuits upsized circuits″ level″ flow″ rate″ angle″ added″ x
+      opened-plan promoted q circuits″ level″ flow″ rate″ angle″ added″ x v =
+          record {
+            plan = λ o mw s l e g.
+                let c = E o mw s l e in
+                let P = Q o mw s l e in
+                let z : onward (openedWith c leader mw P) (settled c) ≡ settled c (openedFor c leader mw P (raisedOf c level′ banks′ promoted)) = opened-is o mw s l e
+                    ∙ ap (λ (y : Raising). onward (raisedAs y c level′ banks′) (λ t. settled c (openedFor c leader mw P t))) q in
+                subst (PlannedAs x circuits″ level″ flow″ rate″ angle″ added″ c) (sym (ap (λ (t : Stage Ready). onward t (closing c target)) z))
+                (v .plan o mw s (size ∙ buses-are o mw s l e) e (h .unset ∙ ap (λ (m : ℕ). zeros m) (s .a-size)) g);
+          }

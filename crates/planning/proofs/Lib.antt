@@ -33,3 +33,4 @@ pub mod Promoting
 pub mod Settling
 pub mod Settlements
 pub mod Plans
+pub mod Joins

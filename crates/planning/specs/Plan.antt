@@ -10,6 +10,7 @@ use lib.Ieee.{Float}
 use Rattle.loops.specs.Figures.{nought}
 use Rattle.mode.specs.declared.PlanMode.{PlanMode}
 use Rattle.angles_defs.specs.Network.{zeros}
+use Rattle.angles_defs.specs.Operation.{workPlaces}
 use Rattle.plan_defs.specs.Constants.{mostBuses, mostLevels, planningMaxRounds}
 use Rattle.plan_defs.specs.Stage.{Stage, stopped, going, onward}
 use Rattle.plan_defs.specs.Case.{Case, caseOf, expand, firstLevels, lowerBounds}
@@ -19,7 +20,7 @@ use Rattle.plan_defs.specs.Solve.{Peak}
 use Rattle.plan_defs.specs.Raise.{Raised}
 use Rattle.plan_defs.specs.Rounds.{allRounds}
 use Rattle.plan_defs.specs.Plan.{Plan, Opened, openedWith, firstDraft, settled, closing, planFor}
-use Rattle.plan_defs.specs.Outcome.{upTo, summary}
+use Rattle.plan_defs.specs.Outcome.{Slices, upTo, summary}
 use Rattle.plan_defs.specs.declared.CorridorPlan.{CorridorPlan}
 use Rattle.plan_defs.specs.declared.Planned.{Planned}
 use Rattle.plan_defs.specs.declared.Planned.the-variants.{Answered, Refused}
@@ -28,7 +29,7 @@ use Rattle.planning.specs.Size.{Few}
 use Rattle.planning.specs.Solve.{peakFor}
 use Rattle.planning.specs.Raises.{raisedOf}
 use Rattle.planning.specs.Rounds.{roundsCase, draftOf, ranAs, Columns, Places}
-use Rattle.planning.specs.Sound.{Sound}
+use Rattle.planning.specs.Sound.{Sound, Lengths}
 use Rattle.planning.specs.declared.rounds.Progress.{Progress}
 use Rattle.planning.specs.declared.rounds.Rounds.{Rounds}
 use Rattle.planning.specs.declared.settle.Settlement.{Settlement}
@@ -166,3 +167,53 @@ pub record OpenedPlan (mode : PlanMode) (target above : ℕ) (ladder : List Floa
       Sound c target → level ≡ firstLevels c → circuits ≡ lowerBounds c → upsized ≡ replicate (o .corridors) 0
       → PlannedAs r circuits′ level′ flow′ rate′ angle′ added′ c
       (onward (onward (openedWith c leader mw (peakFor (o .buses) grounds injection)) (settled c)) (closing c target)))
+
+-- ---- all stages, of a case that has all these columns
+abbrev pub wholeCase : Case → PlanMode → ℕ → List Float → List ℕ → List Float → List ℕ → List ℕ → List Float → List Float → List Float → List Float → List ℕ → List ℕ → List ℕ
+    → List Float → List Float → List Float → Case
+wholeCase o mode above ladder tier load bus slack pmin pmax c1 c2 a b initial km share sheet =
+    caseOf mode (o .buses) (o .corridors) (o .generators) above (o .requested) ladder tier load bus slack pmin pmax c1 c2 a b initial km share sheet
+
+pub record Stageable (mode : PlanMode) (target above : ℕ) (ladder : List Float) (tier : List ℕ) (load : List Float) (bus slack : List ℕ) (pmin pmax c1 c2 : List Float) (a b initial : List ℕ)
+    (km share sheet : List Float) (leader : List ℕ) (injection banks floors : List Float) (upsized marks circuits : List ℕ) (flow rate mw angle : List Float) (level ground : List ℕ)
+    (added work : List Float) : Type 0 where
+  pub whole : Case
+  pub sound : Sound (wholeCase whole mode above ladder tier load bus slack pmin pmax c1 c2 a b initial km share sheet) target
+  pub leader-size : length leader ≡ whole .buses
+  pub injection-size : length injection ≡ whole .buses
+  pub bank-size : length banks ≡ whole .corridors
+  pub unset : floors ≡ zeros (length a)
+  pub not-upsized : upsized ≡ replicate (length a) 0
+  pub mark-size : length marks ≡ whole .buses
+  pub circuits-size : length circuits ≡ whole .corridors
+  pub flow-size : length flow ≡ whole .corridors
+  pub rate-size : length rate ≡ whole .corridors
+  pub mw-size : length mw ≡ whole .generators
+  pub angle-size : length angle ≡ whole .buses
+  pub level-size : length level ≡ whole .buses
+  pub ground-size : length ground ≡ whole .buses
+  pub added-size : length added ≡ above
+  pub work-size : length work ≡ workPlaces (whole .buses)
+
+-- the slices of a plan, with those that the opening fills
+pub record HoldsAll (r : Planned) (circuits : List ℕ) (flow rate mw angle : List Float) (tier ground : List ℕ) (added : List Float) (c : Case) (q : Plan) : Type 0 where
+  pub holds : Holds r circuits tier flow rate angle added (c .above) q
+  pub mw-is : mw ≡ q .mw
+  pub grounds-are : ground ≡ upTo (c .buses) 0 (q .grounds)
+
+abbrev pub WholeAs : Planned → List ℕ → List Float → List Float → List Float → List Float → List ℕ → List ℕ → List Float → Case → Stage Plan → Type 0
+WholeAs r circuits flow rate mw angle tier ground added c (stopped f) = r ≡ Refused f
+WholeAs r circuits flow rate mw angle tier ground added c (going q) = HoldsAll r circuits flow rate mw angle tier ground added c q
+
+pub record PlanDone (mode : PlanMode) (target above : ℕ) (ladder : List Float) (tier : List ℕ) (load : List Float) (bus slack : List ℕ) (pmin pmax c1 c2 : List Float) (a b initial : List ℕ)
+    (km share sheet : List Float) (circuits : List ℕ) (flow rate mw angle : List Float) (level ground : List ℕ) (added : List Float) (r : Planned) : Type 0 where
+  pub plan : (o : Case)
+      → (let c = wholeCase o mode above ladder tier load bus slack pmin pmax c1 c2 a b initial km share sheet in
+      Sound c target → WholeAs r circuits flow rate mw angle level ground added c (planFor c target))
+
+-- ---- and over the slices that planning is lent
+pub record Lendable (mode : PlanMode) (target above : ℕ) (ladder : List Float) (tier : List ℕ) (load : List Float) (bus slack : List ℕ) (pmin pmax c1 c2 : List Float) (a b initial : List ℕ)
+    (km share sheet : List Float) (lent : Slices) : Type 0 where
+  pub whole : Case
+  pub sound : Sound (wholeCase whole mode above ladder tier load bus slack pmin pmax c1 c2 a b initial km share sheet) target
+  pub lengths : Lengths (wholeCase whole mode above ladder tier load bus slack pmin pmax c1 c2 a b initial km share sheet) lent

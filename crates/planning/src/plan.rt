@@ -2,8 +2,10 @@
 ghost use mathlib.Core.Path.{_≡_};
 ghost use Prim.Native.Nat.{_≤_};
 ghost use lib.ListN.{length};
+ghost use Rattle.plan_defs.specs.Outcome.{slices};
 ghost use Rattle.planning.specs.Close.{Closable};
-ghost use Rattle.planning.specs.Plan.{Openable, OpeningDone, roundsFor, startOf, Runnable, RanAll, plannedBy, RaisedPlan, Plannable, OpenedPlan};
+ghost use Rattle.planning.specs.Plan.{Openable, OpeningDone, roundsFor, startOf, Runnable, RanAll, plannedBy, RaisedPlan, Plannable, OpenedPlan, Stageable, PlanDone, Lendable};
+use crate::figures::clear_counts;
 use crate::figures::clear_figures;
 use crate::opening::component_leaders;
 use crate::opening::dispatch_components;
@@ -27,6 +29,9 @@ use refusal::Answer;
 use refusal::Refusal;
 
 const PLANNING_MAX_ROUNDS: u32 = 64;
+
+// Places of the solver's work for each bus.
+const SOLVER_ROWS: usize = 8;
 
 // How many grounds there are; or refusal 8.
 pub enum Opening {
@@ -381,4 +386,179 @@ fn plan_opened(
             work,
         ),
     }
+}
+
+// All stages: the opening, and what comes after it.
+fn plan_stages(
+    mode: PlanMode,
+    target: u32,
+    above: usize,
+    ladder: &[f64],
+    tier: &[u32],
+    load: &[f64],
+    bus: &[u32],
+    slack: &[u32],
+    pmin: &[f64],
+    pmax: &[f64],
+    c1: &[f64],
+    c2: &[f64],
+    a: &[u32],
+    b: &[u32],
+    initial: &[u32],
+    km: &[f64],
+    share: &[f64],
+    sheet: &[f64],
+    leader: &mut [u32],
+    injection: &mut [f64],
+    banks: &mut [f64],
+    floors: &mut [f64],
+    upsized: &mut [u32],
+    marks: &mut [u32],
+    circuits: &mut [u32],
+    flow: &mut [f64],
+    rate: &mut [f64],
+    mw: &mut [f64],
+    angle: &mut [f64],
+    level: &mut [u32],
+    ground: &mut [u32],
+    added: &mut [f64],
+    work: &mut [f64],
+) -> Planned
+    requires { ⌜ Stageable mode target above (now ladder) (now tier) (now load) (now bus) (now slack) (now pmin) (now pmax) (now c1) (now c2) (now a) (now b) (now initial) (now km) (now share) (now sheet)
+        (now leader) (now injection) (now banks) (now floors) (now upsized) (now marks) (now circuits) (now flow) (now rate) (now mw) (now angle) (now level) (now ground) (now added) (now work) ⌝ }
+    ensures { λ r. ⌜ PlanDone mode target above (now (ladder .entry)) (now (tier .entry)) (now (load .entry)) (now (bus .entry)) (now (slack .entry)) (now (pmin .entry)) (now (pmax .entry)) (now (c1 .entry)) (now (c2 .entry)) (now (a .entry)) (now (b .entry)) (now (initial .entry)) (now (km .entry)) (now (share .entry)) (now (sheet .entry))
+        (now (circuits .exit)) (now (flow .exit)) (now (rate .exit)) (now (mw .exit)) (now (angle .exit)) (now (level .exit)) (now (ground .exit)) (now (added .exit)) r ⌝ }
+{
+    match open(
+        above,
+        tier,
+        load,
+        bus,
+        slack,
+        pmin,
+        pmax,
+        c1,
+        c2,
+        a,
+        b,
+        initial,
+        leader,
+        injection,
+        ground,
+        mw,
+        level,
+        circuits,
+    ) {
+        Opening::Refused(f) => Planned::Refused(f),
+        Opening::Opened(count) => plan_opened(
+            mode,
+            target,
+            above,
+            ladder,
+            a,
+            b,
+            km,
+            share,
+            sheet,
+            load,
+            bus,
+            pmax,
+            leader,
+            &ground[0..count],
+            injection,
+            circuits,
+            banks,
+            floors,
+            upsized,
+            level,
+            marks,
+            flow,
+            rate,
+            angle,
+            added,
+            work,
+        ),
+    }
+}
+
+// The stages with their own arrays. Two parts of one lent slice cannot be lent on at the same time, so that of the work that is lent
+// the solver has figures, `upsized` has counts, and the rest is here.
+pub fn run(
+    mode: PlanMode,
+    target: u32,
+    above: usize,
+    ladder: &[f64],
+    tier: &[u32],
+    load: &[f64],
+    bus: &[u32],
+    slack: &[u32],
+    pmin: &[f64],
+    pmax: &[f64],
+    c1: &[f64],
+    c2: &[f64],
+    a: &[u32],
+    b: &[u32],
+    initial: &[u32],
+    km: &[f64],
+    share: &[f64],
+    sheet: &[f64],
+    circuits: &mut [u32],
+    flow: &mut [f64],
+    rate: &mut [f64],
+    mw: &mut [f64],
+    angle: &mut [f64],
+    level: &mut [u32],
+    ground: &mut [u32],
+    added: &mut [f64],
+    figures: &mut [f64],
+    counts: &mut [u32],
+) -> Planned
+    requires { ⌜ Lendable mode target above (now ladder) (now tier) (now load) (now bus) (now slack) (now pmin) (now pmax) (now c1) (now c2) (now a) (now b) (now initial) (now km) (now share) (now sheet)
+        (slices (now circuits) (now flow) (now rate) (now mw) (now angle) (now level) (now ground) (now added) (now figures) (now counts)) ⌝ }
+    ensures { λ r. ⌜ PlanDone mode target above (now (ladder .entry)) (now (tier .entry)) (now (load .entry)) (now (bus .entry)) (now (slack .entry)) (now (pmin .entry)) (now (pmax .entry)) (now (c1 .entry)) (now (c2 .entry)) (now (a .entry)) (now (b .entry)) (now (initial .entry)) (now (km .entry)) (now (share .entry)) (now (sheet .entry))
+        (now (circuits .exit)) (now (flow .exit)) (now (rate .exit)) (now (mw .exit)) (now (angle .exit)) (now (level .exit)) (now (ground .exit)) (now (added .exit)) r ⌝ }
+{
+    let n = tier.len();
+    let m = a.len();
+    let mut leader = [0u32; 256];
+    let mut injection = [0.0; 256];
+    let mut banks = [0.0; 256];
+    let mut floors = [0.0; 256];
+    let mut marks = [0u32; 256];
+    clear_counts(counts);
+    plan_stages(
+        mode,
+        target,
+        above,
+        ladder,
+        tier,
+        load,
+        bus,
+        slack,
+        pmin,
+        pmax,
+        c1,
+        c2,
+        a,
+        b,
+        initial,
+        km,
+        share,
+        sheet,
+        &mut leader[0..n],
+        &mut injection[0..n],
+        &mut banks[0..m],
+        &mut floors[0..m],
+        &mut counts[0..m],
+        &mut marks[0..n],
+        circuits,
+        flow,
+        rate,
+        mw,
+        angle,
+        level,
+        ground,
+        added,
+        &mut figures[0..SOLVER_ROWS * n],
+    )
 }

@@ -40,3 +40,5 @@ pub mod Gains
 pub mod Leads
 pub mod Reinforcing
 pub mod Narrowing
+pub mod Plans
+pub mod Joins

@@ -14,3 +14,5 @@ pub mod Stiffen
 pub mod Rounds
 pub mod Raises
 pub mod Settle
+pub mod Rounds
+pub mod Plan

@@ -1,0 +1,420 @@
+-- The stages of planning joined: what each asks of the slices that the one before left, and that together they are the defined stages of the whole case.
+-- The stages are onwards of one another, so each law puts in what was answered, and the rest is by computing.
+use Prim.Native.Nat.{ℕ, zero, suc, _+_, _*_, _≤_, zero-le, suc-le-suc}
+use mathlib.Core.Bool.{Bool, true, false, not, cond, _&&_}
+use mathlib.Core.List.{List}
+use mathlib.Core.Path.{_≡_, refl, sym, ap, _∙_, subst}
+use native.Mathlib.Omega.{arith}
+use borrow.Author.Tests.{ne-eqb}
+use lib.Dec.{eqb}
+use lib.ListN.{length, replicate}
+use lib.Ieee.{Float}
+use Rattle.loops.specs.Figures.{nought}
+use Rattle.refusal.specs.declared.Refusal.{Refusal}
+use Rattle.mode.specs.declared.PlanMode.{PlanMode}
+use Rattle.angles_defs.specs.Network.{zeros}
+use Rattle.angles_defs.specs.Operation.{workPlaces}
+use Rattle.plan_defs.specs.Constants.{mostBuses, mostLevels, planningMaxRounds}
+use Rattle.plan_defs.specs.Stage.{Stage, stopped, going, onward}
+use Rattle.plan_defs.specs.Case.{Case, expand, lowerBounds, firstLevels}
+use Rattle.plan_defs.specs.Design.{redesign, designCircuits}
+use Rattle.plan_defs.specs.Build.{drawnAll}
+use Rattle.plan_defs.specs.Solve.{Peak, PlanningCase, planningState}
+use Rattle.plan_defs.specs.Raise.{Raised, raises}
+use Rattle.plan_defs.specs.Rounds.{Draft, rounds, roundBudget, allRounds}
+use Rattle.plan_defs.specs.Fill.{fill}
+use Rattle.plan_defs.specs.Plan.{Plan, Opened, Ready, firstRaised, openedWith, readyWith, settledTo, settled, planOf, closedWith, closing}
+use Rattle.plan_defs.specs.Outcome.{summary}
+use Rattle.plan_defs.specs.declared.CircuitDesign.{CircuitDesign}
+use Rattle.plan_defs.specs.declared.Planned.{Planned}
+use Rattle.plan_defs.specs.declared.Planned.the-variants.{Answered, Refused}
+use Rattle.plan_defs.proofs.Stages.{On}
+use Rattle.plan_defs.proofs.Rising.{risen-first}
+use Rattle.planning.specs.Design.{Lines, Banks}
+use Rattle.planning.specs.Redesign.{Loads, redesignFor, banksAnew, RedesignFits}
+use Rattle.planning.specs.Size.{Few}
+use Rattle.planning.specs.Solve.{peakFor, Drawing, Lent}
+use Rattle.planning.specs.Close.{Closable}
+use Rattle.planning.specs.Raises.{raisedOf, raisedAs, Within, Raisable, RaisesDone}
+use Rattle.planning.specs.Rounds.{roundsCase, draftOf, ranAs, Columns, Places, RoundsFit, RoundsRun}
+use Rattle.planning.specs.Settle.{settlementOf, SettledAs, Settleable, Settles}
+use Rattle.planning.specs.Sound.{Sound}
+use Rattle.planning.specs.Plan.{roundsFor, startOf, Runnable, RanAll, planBy, plannedBy, PlannedAs, openedFor, RaisedPlan, Plannable, OpenedPlan}
+use Rattle.planning.specs.declared.raises.Raised.{Raised as Raising}
+use Rattle.planning.specs.declared.raises.Raised.the-variants.{Refused as Unraised, Promoted}
+use Rattle.planning.specs.declared.rounds.Progress.{Progress}
+use Rattle.planning.specs.declared.rounds.Rounds.{Rounds}
+use Rattle.planning.specs.declared.rounds.Rounds.the-variants.{Refused as Unrun, Ran}
+use Rattle.planning.specs.declared.settle.Settled.{Settled}
+use Rattle.planning.proofs.Redesigns.{redesign-is, banks-lift, first-design}
+
+-- ---- how many rounds
+not-zero : (m : ℕ) → eqb (suc m) 0 ≡ false
+not-zero m = ne-eqb (suc m) 0 (λ e. omega arith)
+
+budget-is : (c : Case) (P : Peak) (led : List ℕ) (b : Bool) (m : ℕ) → cond (b && not (eqb m 0)) planningMaxRounds 0 ≡ roundBudget c P led b m
+budget-is c P led true zero = refl
+budget-is c P led true (suc m) = ap (λ (t : Bool). cond (not t) planningMaxRounds 0) (not-zero m)
+budget-is c P led false m = refl
+
+budget-le : (t : Bool) → cond t planningMaxRounds 0 ≤ planningMaxRounds
+budget-le true = omega arith
+budget-le false = zero-le
+
+budget-some : (b : Bool) (m : ℕ) → (cond (b && not (eqb m 0)) planningMaxRounds 0 ≡ 0 → ⊥) → 1 ≤ m
+budget-some true zero e = absurd (e refl)
+budget-some false zero e = absurd (e refl)
+budget-some b (suc m) e = suc-le-suc zero-le
+
+all-rounds : (c : Case) (P : Peak) (led : List ℕ) (budget : ℕ) (s : Draft) → budget ≡ roundsFor (c .mode) (c .corridors) → rounds c P led budget s ≡ allRounds c P led s
+unfolding allRounds
+all-rounds c P led budget s e = ap (λ (d : ℕ). rounds c P led d s) (e ∙ budget-is c P led (expand (c .mode)) (c .corridors))
+
+no-rounds : (c : Case) (P : Peak) (led : List ℕ) (budget : ℕ) (s : Draft) → budget ≡ 0 → going s ≡ rounds c P led budget s
+unfolding rounds
+no-rounds c P led budget s e = ap (λ (d : ℕ). rounds c P led d s) (sym e)
+
+-- ---- the rounds over slices
+module _ (mode : PlanMode) (above promoted : ℕ) (ladder : List Float) (level a b : List ℕ) (km share sheet load : List Float) (bus : List ℕ) (pmax : List Float) (leader grounds : List ℕ)
+    (injection : List Float) (circuits : List ℕ) (banks floors : List Float) (upsized marks : List ℕ) (angle flow work : List Float)
+    (h : Runnable above promoted ladder level a b km share sheet load bus pmax leader grounds injection circuits banks floors upsized marks angle flow work)
+    (cold : List Float) (e : cold ≡ replicate (length angle) nought) (start : Progress) (f : start ≡ startOf mode (length a) promoted)
+    (budget : ℕ) (g : budget ≡ roundsFor mode (length a)) where
+  pub rounds-fit : length cold ≡ length angle → (budget ≡ 0 → ⊥)
+      → RoundsFit above budget start ladder level a b km share sheet load bus pmax leader grounds injection circuits banks floors upsized marks cold flow work
+  rounds-fit size some =
+      record {
+        columns = h .columns;
+        places =
+            record {
+              leader-size = h .places .leader-size;
+              few-grounds = h .places .few-grounds;
+              ground-below = h .places .ground-below;
+              injection-size = h .places .injection-size;
+              count-size = h .places .count-size;
+              bank-size = h .places .bank-size;
+              floor-size = h .places .floor-size;
+              upsized-size = h .places .upsized-size;
+              mark-size = h .places .mark-size;
+              angle-size = size ∙ h .places .angle-size;
+              flow-size = h .places .flow-size;
+              work-size = h .places .work-size;
+            };
+        tallies =
+            record {
+              few-levels = h .few-levels;
+              rounds = omega (arith, ap (λ (p : Progress). p .rounds) f, g, budget-le (expand mode && not (eqb (length a) 0)));
+              promoted = omega (arith, ap (λ (p : Progress). p .promoted) f, h .few-moves);
+              capacity = omega (arith, ap (λ (p : Progress). p .capacity) f);
+              stiffening = omega (arith, ap (λ (p : Progress). p .stiffening) f);
+            };
+        some = budget-some (expand mode) (length a) (λ z. some (g ∙ z));
+        banked = h .banked;
+        few = h .few;
+      }
+
+  module _ (o : Case) (target : ℕ) (s : Sound (roundsCase o mode above ladder a b km share sheet load bus pmax) target) (n : length level ≡ o .buses) where
+    abbrev C : Case
+    C = roundsCase o mode above ladder a b km share sheet load bus pmax
+
+    abbrev P : Peak
+    P = peakFor (o .buses) grounds injection
+
+    starts : draftOf C level circuits banks floors upsized cold start ≡ draftOf C level circuits banks floors upsized (zeros (o .buses)) (startOf mode (o .corridors) promoted)
+    starts =
+        ap (λ (x : List Float). draftOf C level circuits banks floors upsized x start) (e ∙ ap (λ (i : ℕ). zeros i) (h .places .angle-size ∙ n))
+        ∙ ap (draftOf C level circuits banks floors upsized (zeros (o .buses))) (f ∙ ap (λ (m : ℕ). startOf mode m promoted) (s .a-size))
+
+    all-of : rounds C P leader budget (draftOf C level circuits banks floors upsized cold start)
+        ≡ allRounds C P leader (draftOf C level circuits banks floors upsized (zeros (o .buses)) (startOf mode (o .corridors) promoted))
+    all-of = ap (rounds C P leader budget) starts ∙ all-rounds C P leader budget _ (g ∙ ap (roundsFor mode) (s .a-size))
+
+  pub ran-none : budget ≡ 0
+      → RanAll mode above promoted ladder level a b km share sheet load bus pmax leader grounds injection circuits banks floors upsized level circuits banks floors upsized cold (Ran start)
+  ran-none z =
+      record {
+        ran = λ o target s n. no-rounds (C o target s n) (P o target s n) leader budget (draftOf (C o target s n) level circuits banks floors upsized cold start) z ∙ all-of o target s n;
+        lines = h .columns .lines;
+        banked = h .banked;
+        few = h .few;
+      }
+
+  pub ran-some : (level′ circuits′ : List ℕ) (banks′ floors′ : List Float) (upsized′ : List ℕ) (angle′ : List Float) (r : Rounds)
+      → RoundsRun mode above budget start ladder level a b km share sheet load bus pmax leader grounds injection circuits banks floors upsized cold level′ circuits′ banks′ floors′ upsized′ angle′ r
+      → RanAll mode above promoted ladder level a b km share sheet load bus pmax leader grounds injection circuits banks floors upsized level′ circuits′ banks′ floors′ upsized′ angle′ r
+  ran-some level′ circuits′ banks′ floors′ upsized′ angle′ r w =
+      record { ran = λ o target s n. w .ran o target s n ∙ all-of o target s n; lines = w .lines; banked = w .banked; few = w .few }
+
+-- ---- what is said of a settled plan: its tallies are the draft's, and so are its grounds
+module _ (c : Case) (target : ℕ) (o : Opened) (level circuits : List ℕ) (banks floors : List Float) (upsized : List ℕ) (angle : List Float) (p : Progress) where
+  abbrev S : Draft
+  S = draftOf c level circuits banks floors upsized angle p
+
+  abbrev Said : Plan → Type 0
+  Said q = summary q ≡ planBy p (length (o .peak .grounds)) (settlementOf q)
+
+  said-then : (r : Ready) → r .draft ≡ S → r .peak ≡ o .peak → (u : Stage PlanningCase)
+      → On Said (onward u (λ v. going (planOf c r (fill c target (r .order) (r .draft .build .circuits)) v)))
+  unfolding summary
+  said-then r e f (stopped x) = tt
+  said-then r e f (going v) = rw (e, f)
+
+  said-of : On Said (onward (settledTo c o S) (closing c target))
+  unfolding closing
+  said-of = go (planningState (o .peak) (S .build .designs) (S .build .circuits) (zeros (c .buses)))
+    where
+      go : (u : Stage PlanningCase) → On Said (onward (onward u (λ v. going (readyWith c o S v))) (closing c target))
+      go (stopped x) = tt
+      go (going v) =
+          said-then (readyWith c o S v) refl refl (planningState (o .peak) (S .build .designs) (fill c target (readyWith c o S v .order) circuits .counts) (zeros (c .buses)))
+
+module _ (p : Progress) (gs : ℕ) (circuits tier : List ℕ) (flow rate angle added : List Float) (c : Case) where
+  planned-as : (x : Settled) (q : Planned) (t : Stage Plan) → On (λ y. summary y ≡ planBy p gs (settlementOf y)) t → SettledAs x circuits tier flow rate angle added c t
+      → q ≡ plannedBy p gs x → PlannedAs q circuits tier flow rate angle added c t
+  planned-as x q (stopped f) u h e = e ∙ ap (plannedBy p gs) h
+  planned-as x q (going y) u h e =
+      record {
+        said = e ∙ ap (plannedBy p gs) (h .said) ∙ ap Answered (sym u);
+        circuits-are = h .circuits-are;
+        tiers-are = h .tiers-are;
+        flows-are = h .flows-are;
+        rates-are = h .rates-are;
+        angles-are = h .angles-are;
+        added-are = h .added-are;
+      }
+
+-- ---- from the raises on
+module _ (mode : PlanMode) (target above promoted : ℕ) (ladder : List Float) (level a b : List ℕ) (km share sheet load : List Float) (bus : List ℕ) (pmax : List Float)
+    (leader grounds : List ℕ) (injection : List Float) (circuits : List ℕ) (banks floors : List Float) (upsized : List ℕ)
+    (level′ circuits′ : List ℕ) (banks′ floors′ : List Float) (upsized′ : List ℕ) (angle′ : List Float) (r : Rounds)
+    (w : RanAll mode above promoted ladder level a b km share sheet load bus pmax leader grounds injection circuits banks floors upsized level′ circuits′ banks′ floors′ upsized′ angle′ r) where
+  -- what the solves, the filling and the closing ask of what the rounds leave
+  pub settleable-of : (marks : List ℕ) (angle flow rate added work flow′ work′ : List Float)
+      → Runnable above promoted ladder level a b km share sheet load bus pmax leader grounds injection circuits banks floors upsized marks angle flow work
+      → Closable above ladder a leader upsized angle rate added → length circuits′ ≡ length circuits → length banks′ ≡ length banks → length upsized′ ≡ length upsized
+      → length level′ ≡ length level → length angle′ ≡ length angle → length flow′ ≡ length flow → length work′ ≡ length work
+      → Settleable above ladder level′ a b km share sheet leader grounds injection banks′ upsized′ circuits′ flow′ rate angle′ added work′
+  settleable-of marks angle flow rate added work flow′ work′ h k e₁ e₂ e₃ e₄ e₅ e₆ e₇ =
+      record {
+        drawing =
+            record {
+              lines = w .lines;
+              few-buses = omega (arith, e₄, h .columns .loads .few);
+              few-corridors = h .columns .few;
+              count-size = e₁ ∙ h .places .count-size;
+              bank-size = e₂ ∙ h .places .bank-size;
+              banks-ok = w .banked;
+            };
+        lent =
+            record {
+              few-grounds = h .places .few-grounds;
+              ground-below = λ g x. omega (arith, e₄, h .places .ground-below g x);
+              injection-size = h .places .injection-size ∙ sym e₄;
+              angle-size = e₅ ∙ h .places .angle-size ∙ sym e₄;
+              flow-size = e₆ ∙ h .places .flow-size;
+              work-size = e₇ ∙ h .places .work-size ∙ ap workPlaces (sym e₄);
+            };
+        closable =
+            record {
+              few = k .few;
+              ladder-size = k .ladder-size;
+              angle-size = e₅ ∙ k .angle-size;
+              upsized-size = e₃ ∙ k .upsized-size;
+              rate-size = k .rate-size;
+              added-size = k .added-size;
+            };
+      }
+
+  module _ (o : Case) (mw : List Float) (s : Sound (roundsCase o mode above ladder a b km share sheet load bus pmax) target) (n : length level ≡ o .buses)
+      (e : circuits ≡ lowerBounds (roundsCase o mode above ladder a b km share sheet load bus pmax)) (f : floors ≡ zeros (o .corridors)) (g : upsized ≡ replicate (o .corridors) 0) where
+    abbrev D : Case
+    D = roundsCase o mode above ladder a b km share sheet load bus pmax
+
+    abbrev O : Opened
+    O = openedFor D leader mw (peakFor (o .buses) grounds injection) (raisedOf D level banks promoted)
+
+    ran-is : ranAs r D level′ circuits′ banks′ floors′ upsized′ angle′ ≡ allRounds D (O .peak) leader (O .draft)
+    ran-is =
+        let z : draftOf D level circuits banks floors upsized (zeros (o .buses)) (startOf mode (o .corridors) promoted) ≡ O .draft = rw (e, f, g) in
+        w .ran o target s n ∙ ap (allRounds D (O .peak) leader) z
+
+    settled-is : settled D O ≡ onward (ranAs r D level′ circuits′ banks′ floors′ upsized′ angle′) (settledTo D O)
+    unfolding settled
+    settled-is = ap (λ (t : Stage Draft). onward t (settledTo D O)) (sym ran-is)
+
+  pub raised-refused : (f : Refusal) → r ≡ Unrun f → (circuits″ level″ : List ℕ) (flow″ rate″ angle″ added″ : List Float)
+      → RaisedPlan mode target above promoted ladder level a b km share sheet load bus pmax leader grounds injection circuits banks floors upsized circuits″ level″ flow″ rate″ angle″ added″ (Refused f)
+  raised-refused f q circuits″ level″ flow″ rate″ angle″ added″ =
+      record {
+        plan = λ o mw s n e g h.
+            let c = D o mw s n e g h in
+            let z : settled c (O o mw s n e g h) ≡ stopped f = settled-is o mw s n e g h
+                ∙ ap (λ (x : Rounds). onward (ranAs x c level′ circuits′ banks′ floors′ upsized′ angle′) (settledTo c (O o mw s n e g h))) q in
+            subst (PlannedAs (Refused f) circuits″ level″ flow″ rate″ angle″ added″ c) (sym (ap (λ (t : Stage Ready). onward t (closing c target)) z)) refl;
+      }
+
+  pub raised-plan : (p : Progress) → r ≡ Ran p → (circuits″ level″ : List ℕ) (flow″ rate″ angle″ added″ : List Float) (x : Settled)
+      → Settles mode target above ladder a b km share sheet leader grounds injection banks′ upsized′ circuits′ level′ circuits″ level″ flow″ rate″ angle″ added″ x
+      → length level′ ≡ length level → (q : Planned) → q ≡ plannedBy p (length grounds) x
+      → RaisedPlan mode target above promoted ladder level a b km share sheet load bus pmax leader grounds injection circuits banks floors upsized circuits″ level″ flow″ rate″ angle″ added″ q
+  raised-plan p u circuits″ level″ flow″ rate″ angle″ added″ x v k q y =
+      record {
+        plan = λ o mw s n e g h.
+            let c = D o mw s n e g h in
+            let O′ = O o mw s n e g h in
+            let S′ = draftOf c level′ circuits′ banks′ floors′ upsized′ angle′ p in
+            let z : settled c O′ ≡ settledTo c O′ S′ = settled-is o mw s n e g h
+                ∙ ap (λ (t : Rounds). onward (ranAs t c level′ circuits′ banks′ floors′ upsized′ angle′) (settledTo c O′)) u in
+            subst (PlannedAs q circuits″ level″ flow″ rate″ angle″ added″ c) (sym (ap (λ (t : Stage Ready). onward t (closing c target)) z))
+            (planned-as p (length grounds) circuits″ level″ flow″ rate″ angle″ added″ c x q (onward (settledTo c O′ S′) (closing c target))
+            (said-of c target O′ level′ circuits′ banks′ floors′ upsized′ angle′ p) (v .plan c O′ S′ floors′ s (k ∙ n) refl refl refl refl) y);
+      }
+
+-- ---- from the opening on
+module _ (mode : PlanMode) (target above : ℕ) (ladder : List Float) (level a b : List ℕ) (km share sheet load : List Float) (bus : List ℕ) (pmax : List Float) (leader grounds : List ℕ)
+    (injection : List Float) (circuits : List ℕ) (banks floors : List Float) (upsized marks : List ℕ) (angle flow work : List Float)
+    (h : Plannable ladder level a b km share sheet load bus pmax leader grounds injection circuits banks floors upsized marks angle flow work) where
+  pub redesign-fit : RedesignFits ladder level a b km share sheet load bus pmax floors banks
+  redesign-fit =
+      record {
+        lines = h .columns .lines;
+        loads = h .columns .loads;
+        units = h .columns .units;
+        few = h .columns .few;
+        floor-size = h .places .floor-size;
+        bank-size = h .places .bank-size;
+      }
+
+  pub raises-fit : (banks₁ : List Float) → length banks₁ ≡ length banks → Banks banks₁
+      → Raisable ladder level a b km share sheet load bus pmax grounds injection circuits floors banks₁ marks angle flow work
+  raises-fit banks₁ e banked =
+      record {
+        drawing =
+            record {
+              lines = h .columns .lines;
+              few-buses = h .columns .loads .few;
+              few-corridors = h .columns .few;
+              count-size = h .places .count-size;
+              bank-size = e ∙ h .places .bank-size;
+              banks-ok = banked;
+            };
+        lent =
+            record {
+              few-grounds = h .places .few-grounds;
+              ground-below = h .places .ground-below;
+              injection-size = h .places .injection-size;
+              angle-size = h .places .angle-size;
+              flow-size = h .places .flow-size;
+              work-size = h .places .work-size;
+            };
+        redesigns =
+            record {
+              lines = h .columns .lines;
+              loads = h .columns .loads;
+              units = h .columns .units;
+              few = h .columns .few;
+              floor-size = h .places .floor-size;
+              bank-size = e ∙ h .places .bank-size;
+            };
+        unset = h .unset;
+        mark-size = h .places .mark-size;
+        few-levels = h .few-levels;
+      }
+
+  -- after the raises
+  module _ (banks₁ : List Float) (level′ : List ℕ) (banks′ : List Float) (r : Raising)
+      (w : RaisesDone mode ladder level a b km share sheet load bus pmax grounds injection circuits banks₁ level′ banks′ r) (size : length level′ ≡ length level) where
+    pub runnable-of : (promoted : ℕ) → r ≡ Promoted promoted → above ≤ mostLevels → (marks′ : List ℕ) (angle′ flow′ work′ : List Float) → length banks′ ≡ length banks
+        → length marks′ ≡ length marks → length angle′ ≡ length angle → length flow′ ≡ length flow → length work′ ≡ length work
+        → Runnable above promoted ladder level′ a b km share sheet load bus pmax leader grounds injection circuits banks′ floors upsized marks′ angle′ flow′ work′
+    runnable-of promoted q low marks′ angle′ flow′ work′ e₁ e₂ e₃ e₄ e₅ =
+        record {
+          columns =
+              record {
+                lines = w .lines;
+                loads = record { load-size = h .columns .loads .load-size ∙ sym size; few = omega (arith, size, h .columns .loads .few); sound = h .columns .loads .sound };
+                units = h .columns .units;
+                few = h .columns .few;
+              };
+          places =
+              record {
+                leader-size = h .places .leader-size ∙ sym size;
+                few-grounds = h .places .few-grounds;
+                ground-below = λ g x. omega (arith, size, h .places .ground-below g x);
+                injection-size = h .places .injection-size ∙ sym size;
+                count-size = h .places .count-size;
+                bank-size = e₁ ∙ h .places .bank-size;
+                floor-size = h .places .floor-size;
+                upsized-size = h .places .upsized-size;
+                mark-size = e₂ ∙ h .places .mark-size ∙ sym size;
+                angle-size = e₃ ∙ h .places .angle-size ∙ sym size;
+                flow-size = e₄ ∙ h .places .flow-size;
+                work-size = e₅ ∙ h .places .work-size ∙ ap workPlaces (sym size);
+              };
+          few-levels = low;
+          few-moves = subst (Within (mostBuses * mostLevels)) q (w .bound);
+          banked = w .banked;
+          few = h .few;
+        }
+
+    module _ (anew : banks₁ ≡ banksAnew (redesignFor ladder load bus pmax a b km share sheet) level floors) where
+      module _ (o : Case) (mw : List Float) (s : Sound (roundsCase o mode above ladder a b km share sheet load bus pmax) target)
+          (l : level ≡ firstLevels (roundsCase o mode above ladder a b km share sheet load bus pmax))
+          (e : circuits ≡ lowerBounds (roundsCase o mode above ladder a b km share sheet load bus pmax)) where
+        abbrev E : Case
+        E = roundsCase o mode above ladder a b km share sheet load bus pmax
+
+        abbrev Q : Peak
+        Q = peakFor (o .buses) grounds injection
+
+        buses-are : length level ≡ o .buses
+        buses-are = ap length l ∙ risen-first E .size
+
+        designs-are : drawnAll E level banks₁ ≡ designCircuits E level
+        designs-are =
+            ap (drawnAll E level) (anew ∙ banks-lift E level (s .a-size) (s .bus-size) (s .ladder-size) floors)
+            ∙ sym (redesign-is E level floors)
+            ∙ ap (redesign E level) (h .unset ∙ ap (λ (m : ℕ). zeros m) (s .a-size))
+            ∙ first-design E level (s .a-size) (s .bus-size) (s .ladder-size) (h .columns .lines) (h .columns .loads) (h .columns .units) (h .columns .few)
+
+        firsts-are : raisedOf E level banks₁ 0 ≡ firstRaised E
+        firsts-are =
+            ap (λ (ds : List CircuitDesign). record { level = level; designs = ds; promoted = 0 }) designs-are
+            ∙ ap (λ (t : List ℕ). record { level = t; designs = designCircuits E t; promoted = 0 }) l
+
+        raises-are : raises E Q (lowerBounds E) (firstRaised E) ≡ raisedAs r E level′ banks′
+        raises-are =
+            sym (w .raised E target s buses-are ∙ ap (raises E Q circuits) firsts-are ∙ ap (λ (t : List ℕ). raises E Q t (firstRaised E)) e)
+
+        opened-is : onward (openedWith E leader mw Q) (settled E) ≡ onward (raisedAs r E level′ banks′) (λ t. settled E (openedFor E leader mw Q t))
+        opened-is = ap (λ (x : Stage Raised). onward (onward x (λ t. going (openedFor E leader mw Q t))) (settled E)) raises-are ∙ go (raisedAs r E level′ banks′)
+          where
+            go : (x : Stage Raised) → onward (onward x (λ t. going (openedFor E leader mw Q t))) (settled E) ≡ onward x (λ t. settled E (openedFor E leader mw Q t))
+            go (stopped f) = refl
+            go (going t) = refl
+
+      pub opened-refused : (f : Refusal) → r ≡ Unraised f → (circuits″ level″ : List ℕ) (flow″ rate″ angle″ added″ : List Float)
+          → OpenedPlan mode target above ladder level a b km share sheet load bus pmax leader grounds injection circuits upsized circuits″ level″ flow″ rate″ angle″ added″ (Refused f)
+      opened-refused f q circuits″ level″ flow″ rate″ angle″ added″ =
+          record {
+            plan = λ o mw s l e g.
+                let c = E o mw s l e in
+                let P = Q o mw s l e in
+                let z : onward (openedWith c leader mw P) (settled c) ≡ stopped f = opened-is o mw s l e
+                    ∙ ap (λ (x : Raising). onward (raisedAs x c level′ banks′) (λ t. settled c (openedFor c leader mw P t))) q in
+                subst (PlannedAs (Refused f) circuits″ level″ flow″ rate″ angle″ added″ c) (sym (ap (λ (t : Stage Ready). onward t (closing c target)) z)) refl;
+          }
+
+      pub opened-plan : (promoted : ℕ) → r ≡ Promoted promoted → (circuits″ level″ : List ℕ) (flow″ rate″ angle″ added″ : List Float) (x : Planned)
+          → RaisedPlan mode target above promoted ladder level′ a b km share sheet load bus pmax leader grounds injection circuits banks′ floors upsized circuits″ level″ flow″ rate″ angle″ added″ x
+          → OpenedPlan mode target above ladder level a b km share sheet load bus pmax leader grounds injection circuits upsized circuits″ level″ flow″ rate″ angle″ added″ x
+      opened-plan promoted q circuits″ level″ flow″ rate″ angle″ added″ x v =
+          record {
+            plan = λ o mw s l e g.
+                let c = E o mw s l e in
+                let P = Q o mw s l e in
+                let z : onward (openedWith c leader mw P) (settled c) ≡ settled c (openedFor c leader mw P (raisedOf c level′ banks′ promoted)) = opened-is o mw s l e
+                    ∙ ap (λ (y : Raising). onward (raisedAs y c level′ banks′) (λ t. settled c (openedFor c leader mw P t))) q in
+                subst (PlannedAs x circuits″ level″ flow″ rate″ angle″ added″ c) (sym (ap (λ (t : Stage Ready). onward t (closing c target)) z))
+                (v .plan o mw s (size ∙ buses-are o mw s l e) e (h .unset ∙ ap (λ (m : ℕ). zeros m) (s .a-size)) g);
+          }

@@ -14,5 +14,4 @@ pub mod Stiffen
 pub mod Rounds
 pub mod Raises
 pub mod Settle
-pub mod Rounds
 pub mod Plan

@@ -12,7 +12,6 @@ mod raises;
 mod redesign;
 mod rounds;
 mod settle;
-mod rounds;
 mod size;
 mod solve;
 mod stiffen;

@@ -34,3 +34,4 @@ pub mod Settling
 pub mod Settlements
 pub mod Plans
 pub mod Joins
+pub mod Operation

@@ -1,7 +1,7 @@
 -- The operation: the check's refusal, the stages' refusal, or the plan that they lead to, with the slices finished, is the defined outcome; and an answer has demand 3.
 use mathlib.Core.Bool.{Bool, true, false}
 use mathlib.Core.Option.{Option}
-use mathlib.Core.Path.{_≡_, refl, sym, ap, _∙_, subst}
+use mathlib.Core.Path.{_≡_, sym, ap, _∙_, subst}
 use Prim.Native.Nat.{ℕ}
 use native.Mathlib.Omega.{arith}
 use lib.ListN.{length}

@@ -21,8 +21,8 @@ mod policy;
 mod raise;
 mod raises;
 mod redesign;
-mod settle;
 mod rounds;
+mod settle;
 mod size;
 mod solve;
 

@@ -1,6 +1,6 @@
 -- `planning::plan_corridors` meets its contract: the check's refusals touch nothing; what passes it is a sound case, of which the stages lead to the defined plan,
 -- and the slices are finished as the definition has them. Demand 3 is a theorem of the defined plan.
-use mathlib.Core.Path.{refl, sym, _∙_}
+use mathlib.Core.Path.{sym, _∙_}
 use denote.Ref.{now}
 use Rattle.plan_defs.specs.Case.{caseOf}
 use Rattle.plan_defs.specs.Outcome.{slices}

@@ -11,7 +11,9 @@ use Rattle.mode.specs.declared.PlanMode.the-variants.{Expand, Observe}
 use Rattle.plan_defs.specs.Constants.{planningMaxRounds, maxCircuitsPerCorridor}
 use Rattle.plan_defs.specs.Lists.{sum}
 use Rattle.plan_defs.specs.Case.{Case, kvOf, firstLevels, lowerBound, kvHigh, capAt}
-use Rattle.plan_defs.specs.Plan.{Plan}
+use Rattle.plan_defs.specs.Plan.{Plan, planned, endingOf}
+use Rattle.plan_defs.specs.Outcome.{held, summary, Outcome}
+use Rattle.plan_defs.specs.declared.CorridorPlan.{CorridorPlan}
 
 -- a corridor's cap, by the kV of its higher end before any raise: 4 when expanding; when reinforcing 6 below 100 kV, else 4
 unfoldable pub capOf : Case → ℕ → ℕ
@@ -63,3 +65,12 @@ pub record Tallies (c : Case) (p : Plan) : Type 0 where
   pub places : length (p .circuits) ≡ c .corridors
   pub rounds : p .capacity + p .stiffening ≡ sum (tab (c .corridors) (λ k. getD (p .before) k 0 - lowerBound c k))
   pub filler : p .filler ≡ sum (tab (c .corridors) (fillerAt p))
+
+-- An answer to the case: the defined plan, in the summary and in the slices, with all this.
+pub record AnswerTo (c : Case) (target : ℕ) (o : Outcome) (x : CorridorPlan) : Type 0 where
+  pub plan : Plan
+  pub ending : endingOf c target ≡ planned plan
+  pub said : x ≡ summary plan
+  pub lent : o .lent ≡ held c plan
+  pub demand : Demand3 c target plan
+  pub tally : Tallies c plan

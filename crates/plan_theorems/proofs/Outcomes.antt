@@ -23,8 +23,8 @@ use Rattle.plan_defs.specs.Solve.{Peak, planningState}
 use Rattle.plan_defs.specs.Fill.{fill}
 use Rattle.plan_defs.specs.Closing.{leastOf, tiersOf, addedOf}
 use Rattle.plan_defs.specs.Plan.{Plan, Ready, readyOf, closing, planFor, Ending, unaccepted, unanswered, planned, endingOn, endingBy, endingOf}
-use Rattle.plan_defs.specs.Outcome.{Slices, slicesOk, cleared, upTo, held, summary, Outcome, outcomeBy, outcomeIf, planCorridors, workPlaces}
-use Rattle.plan_defs.specs.Demand.{Demand3, Tallies}
+use Rattle.plan_defs.specs.Outcome.{Slices, slicesOk, cleared, upTo, held, summary, outcomeBy, outcomeIf, planCorridors, workPlaces}
+use Rattle.plan_defs.specs.Demand.{AnswerTo}
 use Rattle.plan_defs.specs.declared.CorridorPlan.{CorridorPlan}
 use Rattle.plan_defs.proofs.Lists.{pass-length}
 use Rattle.plan_defs.proofs.Stages.{On, on-onward}
@@ -36,14 +36,6 @@ use Rattle.plan_theorems.proofs.Dispatched.{Dispatched, dispatched}
 use Rattle.plan_theorems.proofs.Demand.{fill-grown, demand-3, tallies}
 
 -- ---- an answer is a defined plan, with demand 3
-pub record AnswerTo (c : Case) (target : ℕ) (o : Outcome) (x : CorridorPlan) : Type 0 where
-  pub plan : Plan
-  pub ending : endingOf c target ≡ planned plan
-  pub said : x ≡ summary plan
-  pub lent : o .lent ≡ held c plan
-  pub demand : Demand3 c target plan
-  pub tally : Tallies c plan
-
 never : {A : Type 0} (x : A) (k i : ℕ) → refused k i ≡ answered x → ⊥
 never x k i e = let z : _≡_ {A = ℕ} 0 1 = cc in omega arith
 

@@ -10,7 +10,7 @@ use borrow.Author.Tests.{ltb-true, ltb-false, le-ltb, eqb-true}
 use lib.Dec.{T, ltb, eqb}
 use lib.ListN.{length, getD, take, drop, replicate, length-replicate, length-append, length-take, length-drop, List·getD-eq-default}
 use lib.Ieee.{Float, nan, inf, fin, up, down, lt, le, ofBits}
-use Rattle.loops.specs.Figures.{nought, million, infinity, inside}
+use Rattle.loops.specs.Figures.{nought, million, inside}
 use Rattle.loops.specs.Loops.{tab}
 use Rattle.loops.proofs.Bools.{both, and-of}
 use Rattle.loops.proofs.Fronts.{front-replicate}
@@ -22,7 +22,6 @@ use Rattle.mode.specs.declared.PlanMode.{PlanMode}
 use Rattle.dispatch.specs.Units.{mostC1, unitOk}
 use Rattle.angles_defs.specs.Network.{zeros}
 use Rattle.angles_defs.specs.Operation.{workPlaces}
-use Rattle.plan_defs.specs.Constants.{mostBuses, mostLevels}
 use Rattle.plan_defs.specs.Stage.{Stage, stopped, going, onward}
 use Rattle.plan_defs.specs.Case.{Case, levels, firstLevels, lowerBound, lowerBounds}
 use Rattle.plan_defs.specs.Components.{component, groundsOf}

@@ -42,3 +42,4 @@ pub mod Reinforcing
 pub mod Narrowing
 pub mod Plans
 pub mod Joins
+pub mod Operation

@@ -6,14 +6,13 @@ use mathlib.Core.Path.{_≡_, refl, sym, ap, _∙_, subst}
 use native.Mathlib.Omega.{arith}
 use lib.ListN.{length, getD}
 use lib.Ieee.{Float}
-use Rattle.loops.specs.Figures.{nought, million, inside}
 use Rattle.loops.specs.Loops.{tab}
 use Rattle.refusal.specs.declared.Refusal.{Refusal}
 use Rattle.refusal.specs.declared.Answer.{Answer}
 use Rattle.refusal.specs.declared.Answer.the-variants.{Answered, Refused}
 use Rattle.leaders.specs.Leaders.{leadersOf}
 use Rattle.plan_defs.specs.Constants.{mostLevels}
-use Rattle.plan_defs.specs.Stage.{Stage, stopped, going}
+use Rattle.plan_defs.specs.Stage.{stopped}
 use Rattle.plan_defs.specs.Case.{Case, firstLevels, lowerBound, lowerBounds}
 use Rattle.plan_defs.specs.Components.{component, groundsOf}
 use Rattle.plan_defs.specs.Dispatch.{dispatchOf, injections}

@@ -1,6 +1,6 @@
 -- The stages of planning joined: what each asks of the slices that the one before left, and that together they are the defined stages of the whole case.
 -- The stages are onwards of one another, so each law puts in what was answered, and the rest is by computing.
-use Prim.Native.Nat.{ℕ, zero, suc, _+_, _*_, _≤_, zero-le, suc-le-suc}
+use Prim.Native.Nat.{ℕ, zero, suc, _*_, _≤_, zero-le, suc-le-suc}
 use mathlib.Core.Bool.{Bool, true, false, not, cond, _&&_}
 use mathlib.Core.List.{List}
 use mathlib.Core.Path.{_≡_, refl, sym, ap, _∙_, subst}
@@ -23,20 +23,19 @@ use Rattle.plan_defs.specs.Solve.{Peak, PlanningCase, planningState}
 use Rattle.plan_defs.specs.Raise.{Raised, raises}
 use Rattle.plan_defs.specs.Rounds.{Draft, rounds, roundBudget, allRounds}
 use Rattle.plan_defs.specs.Fill.{fill}
-use Rattle.plan_defs.specs.Plan.{Plan, Opened, Ready, firstRaised, openedWith, readyWith, settledTo, settled, planOf, closedWith, closing}
+use Rattle.plan_defs.specs.Plan.{Plan, Opened, Ready, firstRaised, openedWith, readyWith, settledTo, settled, planOf, closing}
 use Rattle.plan_defs.specs.Outcome.{summary}
 use Rattle.plan_defs.specs.declared.CircuitDesign.{CircuitDesign}
 use Rattle.plan_defs.specs.declared.Planned.{Planned}
 use Rattle.plan_defs.specs.declared.Planned.the-variants.{Answered, Refused}
 use Rattle.plan_defs.proofs.Stages.{On}
 use Rattle.plan_defs.proofs.Rising.{risen-first}
-use Rattle.planning.specs.Design.{Lines, Banks}
-use Rattle.planning.specs.Redesign.{Loads, redesignFor, banksAnew, RedesignFits}
-use Rattle.planning.specs.Size.{Few}
-use Rattle.planning.specs.Solve.{peakFor, Drawing, Lent}
+use Rattle.planning.specs.Design.{Banks}
+use Rattle.planning.specs.Redesign.{redesignFor, banksAnew, RedesignFits}
+use Rattle.planning.specs.Solve.{peakFor}
 use Rattle.planning.specs.Close.{Closable}
 use Rattle.planning.specs.Raises.{raisedOf, raisedAs, Within, Raisable, RaisesDone}
-use Rattle.planning.specs.Rounds.{roundsCase, draftOf, ranAs, Columns, Places, RoundsFit, RoundsRun}
+use Rattle.planning.specs.Rounds.{roundsCase, draftOf, ranAs, RoundsFit, RoundsRun}
 use Rattle.planning.specs.Settle.{settlementOf, SettledAs, Settleable, Settles}
 use Rattle.planning.specs.Sound.{Sound}
 use Rattle.planning.specs.Plan.{roundsFor, startOf, Runnable, RanAll, planBy, plannedBy, PlannedAs, openedFor, RaisedPlan, Plannable, OpenedPlan}
@@ -249,7 +248,7 @@ module _ (mode : PlanMode) (target above promoted : ℕ) (ladder : List Float) (
         plan = λ o mw s n e g h.
             let c = D o mw s n e g h in
             let z : settled c (O o mw s n e g h) ≡ stopped f = settled-is o mw s n e g h
-                ∙ ap (λ (x : Rounds). onward (ranAs x c level′ circuits′ banks′ floors′ upsized′ angle′) (settledTo c (O o mw s n e g h))) q in
+            ∙ ap (λ (x : Rounds). onward (ranAs x c level′ circuits′ banks′ floors′ upsized′ angle′) (settledTo c (O o mw s n e g h))) q in
             subst (PlannedAs (Refused f) circuits″ level″ flow″ rate″ angle″ added″ c) (sym (ap (λ (t : Stage Ready). onward t (closing c target)) z)) refl;
       }
 
@@ -264,7 +263,7 @@ module _ (mode : PlanMode) (target above promoted : ℕ) (ladder : List Float) (
             let O′ = O o mw s n e g h in
             let S′ = draftOf c level′ circuits′ banks′ floors′ upsized′ angle′ p in
             let z : settled c O′ ≡ settledTo c O′ S′ = settled-is o mw s n e g h
-                ∙ ap (λ (t : Rounds). onward (ranAs t c level′ circuits′ banks′ floors′ upsized′ angle′) (settledTo c O′)) u in
+            ∙ ap (λ (t : Rounds). onward (ranAs t c level′ circuits′ banks′ floors′ upsized′ angle′) (settledTo c O′)) u in
             subst (PlannedAs q circuits″ level″ flow″ rate″ angle″ added″ c) (sym (ap (λ (t : Stage Ready). onward t (closing c target)) z))
             (planned-as p (length grounds) circuits″ level″ flow″ rate″ angle″ added″ c x q (onward (settledTo c O′ S′) (closing c target))
             (said-of c target O′ level′ circuits′ banks′ floors′ upsized′ angle′ p) (v .plan c O′ S′ floors′ s (k ∙ n) refl refl refl refl) y);
@@ -401,7 +400,7 @@ module _ (mode : PlanMode) (target above : ℕ) (ladder : List Float) (level a b
                 let c = E o mw s l e in
                 let P = Q o mw s l e in
                 let z : onward (openedWith c leader mw P) (settled c) ≡ stopped f = opened-is o mw s l e
-                    ∙ ap (λ (x : Raising). onward (raisedAs x c level′ banks′) (λ t. settled c (openedFor c leader mw P t))) q in
+                ∙ ap (λ (x : Raising). onward (raisedAs x c level′ banks′) (λ t. settled c (openedFor c leader mw P t))) q in
                 subst (PlannedAs (Refused f) circuits″ level″ flow″ rate″ angle″ added″ c) (sym (ap (λ (t : Stage Ready). onward t (closing c target)) z)) refl;
           }
 
@@ -414,7 +413,7 @@ module _ (mode : PlanMode) (target above : ℕ) (ladder : List Float) (level a b
                 let c = E o mw s l e in
                 let P = Q o mw s l e in
                 let z : onward (openedWith c leader mw P) (settled c) ≡ settled c (openedFor c leader mw P (raisedOf c level′ banks′ promoted)) = opened-is o mw s l e
-                    ∙ ap (λ (y : Raising). onward (raisedAs y c level′ banks′) (λ t. settled c (openedFor c leader mw P t))) q in
+                ∙ ap (λ (y : Raising). onward (raisedAs y c level′ banks′) (λ t. settled c (openedFor c leader mw P t))) q in
                 subst (PlannedAs x circuits″ level″ flow″ rate″ angle″ added″ c) (sym (ap (λ (t : Stage Ready). onward t (closing c target)) z))
                 (v .plan o mw s (size ∙ buses-are o mw s l e) e (h .unset ∙ ap (λ (m : ℕ). zeros m) (s .a-size)) g);
           }

@@ -1,4 +1,15 @@
-// Planning of a transmission network's corridors, after `plan_corridors` of planning.rs.
+// Planning of a transmission network's corridors, after `plan_corridors` of planning.rs (document 01, *Planning*).
+ghost use mathlib.Core.Path.{_≡_};
+ghost use Rattle.plan_defs.specs.Case.{caseOf};
+ghost use Rattle.plan_defs.specs.Outcome.{slices, outcome, planCorridors};
+ghost use Rattle.plan_defs.specs.Demand.{AnswerTo};
+ghost use Rattle.plan_defs.specs.declared.CorridorPlan.{CorridorPlan};
+ghost use Rattle.plan_defs.specs.declared.Planned.the-variants.{Answered};
+use check::Places;
+use mode::PlanMode;
+use plan_defs::Planned;
+use refusal::Answer;
+
 mod check;
 mod close;
 mod design;
@@ -15,3 +26,150 @@ mod settle;
 mod size;
 mod solve;
 mod stiffen;
+
+// The circuits of each corridor, with their flows and ratings, the dispatch, the angles, the tiers, the grounds and the levels added,
+// for a case of n buses, m corridors and g generators. Refusals 1 to 7 touch nothing; after 8 and 9 every place is zero; after an
+// answer the work, `figures` and `counts`, is zero.
+pub fn plan_corridors(
+    mode: PlanMode,
+    target: u32,
+    n: usize,
+    m: usize,
+    g: usize,
+    above: usize,
+    requested: usize,
+    ladder: &[f64],
+    tier: &[u32],
+    load: &[f64],
+    bus: &[u32],
+    slack: &[u32],
+    pmin: &[f64],
+    pmax: &[f64],
+    c1: &[f64],
+    c2: &[f64],
+    a: &[u32],
+    b: &[u32],
+    initial: &[u32],
+    km: &[f64],
+    share: &[f64],
+    sheet: &[f64],
+    circuits: &mut [u32],
+    flow: &mut [f64],
+    rate: &mut [f64],
+    mw: &mut [f64],
+    angle: &mut [f64],
+    level: &mut [u32],
+    ground: &mut [u32],
+    added: &mut [f64],
+    figures: &mut [f64],
+    counts: &mut [u32],
+) -> Planned
+    ensures plan { λ r. ⌜ outcome r (slices (now (circuits .exit)) (now (flow .exit)) (now (rate .exit)) (now (mw .exit)) (now (angle .exit)) (now (level .exit)) (now (ground .exit)) (now (added .exit)) (now (figures .exit)) (now (counts .exit)))
+        ≡ planCorridors (caseOf mode n m g above requested (now (ladder .entry)) (now (tier .entry)) (now (load .entry)) (now (bus .entry)) (now (slack .entry)) (now (pmin .entry)) (now (pmax .entry)) (now (c1 .entry)) (now (c2 .entry)) (now (a .entry)) (now (b .entry)) (now (initial .entry)) (now (km .entry)) (now (share .entry)) (now (sheet .entry))) target
+        (slices (now (circuits .entry)) (now (flow .entry)) (now (rate .entry)) (now (mw .entry)) (now (angle .entry)) (now (level .entry)) (now (ground .entry)) (now (added .entry)) (now (figures .entry)) (now (counts .entry))) ⌝ }
+    ensures demand { λ r. ⌜ ((x : CorridorPlan) → r ≡ Answered x → AnswerTo (caseOf mode n m g above requested (now (ladder .entry)) (now (tier .entry)) (now (load .entry)) (now (bus .entry)) (now (slack .entry)) (now (pmin .entry)) (now (pmax .entry)) (now (c1 .entry)) (now (c2 .entry)) (now (a .entry)) (now (b .entry)) (now (initial .entry)) (now (km .entry)) (now (share .entry)) (now (sheet .entry))) target
+        (outcome r (slices (now (circuits .exit)) (now (flow .exit)) (now (rate .exit)) (now (mw .exit)) (now (angle .exit)) (now (level .exit)) (now (ground .exit)) (now (added .exit)) (now (figures .exit)) (now (counts .exit)))) x) ⌝ }
+{
+    let places = Places {
+        circuits: circuits.len(),
+        flow: flow.len(),
+        rate: rate.len(),
+        mw: mw.len(),
+        angle: angle.len(),
+        tier: level.len(),
+        ground: ground.len(),
+        added: added.len(),
+        figures: figures.len(),
+        counts: counts.len(),
+    };
+    match check::check_case(
+        target,
+        n,
+        m,
+        g,
+        above,
+        requested,
+        ladder,
+        tier,
+        load,
+        bus,
+        slack,
+        pmin,
+        pmax,
+        c1,
+        c2,
+        a,
+        b,
+        initial,
+        km,
+        share,
+        sheet,
+        places,
+    ) {
+        Answer::Refused(f) => return Planned::Refused(f),
+        Answer::Answered => {}
+    }
+    match plan::run(
+        mode,
+        target,
+        above,
+        ladder,
+        tier,
+        load,
+        bus,
+        slack,
+        pmin,
+        pmax,
+        c1,
+        c2,
+        a,
+        b,
+        initial,
+        km,
+        share,
+        sheet,
+        circuits,
+        flow,
+        rate,
+        mw,
+        angle,
+        level,
+        ground,
+        added,
+        figures,
+        counts,
+    ) {
+        Planned::Refused(f) => {
+            close::finish(
+                true,
+                circuits,
+                flow,
+                rate,
+                mw,
+                angle,
+                level,
+                ground,
+                added,
+                figures,
+                counts,
+            );
+            Planned::Refused(f)
+        }
+        Planned::Answered(p) => {
+            close::finish(
+                false,
+                circuits,
+                flow,
+                rate,
+                mw,
+                angle,
+                level,
+                ground,
+                added,
+                figures,
+                counts,
+            );
+            Planned::Answered(p)
+        }
+    }
+}

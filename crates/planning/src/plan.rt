@@ -1,7 +1,5 @@
 // `plan_corridors` of planning.rs, stage by stage: the opening, the raises before the rounds, the rounds, and what comes after them.
 ghost use mathlib.Core.Path.{_≡_};
-ghost use Prim.Native.Nat.{_≤_};
-ghost use lib.ListN.{length};
 ghost use Rattle.plan_defs.specs.Outcome.{slices};
 ghost use Rattle.planning.specs.Close.{Closable};
 ghost use Rattle.planning.specs.Plan.{Openable, OpeningDone, roundsFor, startOf, Runnable, RanAll, plannedBy, RaisedPlan, Plannable, OpenedPlan, Stageable, PlanDone, Lendable};

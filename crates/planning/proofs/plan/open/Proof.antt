@@ -1,5 +1,5 @@
 -- `planning::plan::open` meets its contract: what the columns of a sound case give each call, and the calls' answers put together.
-use mathlib.Core.Path.{refl, sym, _∙_}
+use mathlib.Core.Path.{sym, _∙_}
 use Rattle.planning.proofs.Openings.{joined-by, fleet-by, costs-by, loads-by, above-by, tiers-by, opens-refused, opens-going}
 use borrow.Author.Needs.{needs}
 use Rattle.planning.proofs.plan.open.Statement.{statement}

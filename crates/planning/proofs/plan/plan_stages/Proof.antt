@@ -9,7 +9,7 @@ use Rattle.planning.proofs.plan.plan_stages.Tie as tie
 open-requires : tie.Need-open-requires
 open-requires c κs =
     let z = c .before .before .before .before .before .before .before .before .before .before .before .before .before .before .before .before .before .before .before .before .before .before .before .before .before .before .before .before .before .before .before .before .before .before .before .before .args in
-    openable-of (z .mode) (z .target) _ (now (z .ladder)) _ _ _ _ _ _ _ _ _ _ _  (now (z .km)) (now (z .share)) (now (z .sheet)) _ _ _ _ _ _ _ _ _ _ _ _ _ _ _ (c .before .before .before .before .before .before .before .before .before .before .before .before .before .before .before .before .before .before .before .before .before .before .before .before .before .before .before .before .before .before .before .before .before .before .before .before .pre)
+    openable-of (z .mode) (z .target) _ (now (z .ladder)) _ _ _ _ _ _ _ _ _ _ _ (now (z .km)) (now (z .share)) (now (z .sheet)) _ _ _ _ _ _ _ _ _ _ _ _ _ _ _ (c .before .before .before .before .before .before .before .before .before .before .before .before .before .before .before .before .before .before .before .before .before .before .before .before .before .before .before .before .before .before .before .before .before .before .before .before .pre)
 
 enum-known-f : tie.Need-enum-known-f
 enum-known-f c = search needs
@@ -59,7 +59,7 @@ same-length-6 c = search needs
 returns : tie.Need-returns
 returns c =
     let v = c .before .before .before .before .before .before .before .before .before .before .before .before .before .before .before .«open» in
-    stages-refused _ _ _ _ _ _ _ _ _ _ _ _ _ _ _ _ _ _ _ _ _ _ _ _ _ _ _ _ _ _ _ _ _ (c .before .before .before .before .before .before .before .before .before .before .before .before .before .before .before .before .before .before .before .before .before .before .before .before .before .before .before .before .before .before .before .before .before .before .before .before .before .before .before .before .before .before .before .before .before .before .before .before .before .before .before .before .pre) _ _ _ _ _ _ (v .result) (v .ensures) _ (c .before .f .given .1) _ _ _ _ _ _ _ _ 
+    stages-refused _ _ _ _ _ _ _ _ _ _ _ _ _ _ _ _ _ _ _ _ _ _ _ _ _ _ _ _ _ _ _ _ _ (c .before .before .before .before .before .before .before .before .before .before .before .before .before .before .before .before .before .before .before .before .before .before .before .before .before .before .before .before .before .before .before .before .before .before .before .before .before .before .before .before .before .before .before .before .before .before .before .before .before .before .before .before .pre) _ _ _ _ _ _ (v .result) (v .ensures) _ (c .before .f .given .1) _ _ _ _ _ _ _ _
 
 same-length-7 : tie.Need-same-length-7
 same-length-7 c = c .before .before .before .before .before .before .before .before .before .before .before .before .before .before .before .before .before .before .before .before .before .before .before .before .before .before .before .before .before .before .before .before .before .before .before .before .before .before .before .before .before .before .before .before .before .before .before .before .before .before .before .before .before .«open» .kept .1 .1 .1 .1 .1 .1 .1 .1 .1 .1 .1 .1 .0

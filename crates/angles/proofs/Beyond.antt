@@ -6,14 +6,18 @@ use mathlib.Core.Path.{_≡_, refl, ap, _∙_}
 use native.Mathlib.Omega.{arith}
 use borrow.Author.Tests.{ltb-true, lt-ltb}
 use lib.Dec.{T}
-use lib.Ieee.{Float, nan, inf, fin, binary64, fits, up, down, lt, eq, le, div, ofBits}
+use lib.Ieee.{Float, nan, inf, fin, binary64, fits, up, down, lt, eq, le, mul, div, ofBits}
 use lib.Ieee.Positive.{positive, above, above-of-le, between, first-pos, le-trans-positive, le→cross}
 use Rattle.loops.specs.Figures.{nought}
 use Rattle.loops.proofs.Bools.{is, no}
-use Rattle.loops.proofs.Order.{le-of-lt}
+use Rattle.loops.proofs.Order.{bounded, bounded-real, le-of-lt, lt-of-not-le}
+use Rattle.loops.proofs.Real.{positive-of}
+use Rattle.loops.proofs.Signs.{mul-bounded}
 use Rattle.root.specs.Root.{root}
 use Rattle.root.proofs.Bits.{at-least-zero, nan-gives}
+use Rattle.root.proofs.Correct.{root-positive}
 use Rattle.root.proofs.Monotone.{root-mono}
+use Rattle.root.proofs.Squares.{root-of-above}
 use Rattle.root.proofs.Units.{positive-unsigned, lt-cross}
 use Rattle.angles.specs.Rows.{SurelyBeyond}
 
@@ -76,6 +80,42 @@ beyond-square s bound f p h = record { far = λ x g l. go x g l (le (root x) bou
         absurd
         (clash bound (root s) (root x) (bound-positive bound (root s) p h) (is h) (is (le-of-lt bound (root s) h))
         (root-mono s x f g (at-least-zero s (root-above s bound h)) (is l)) (is e))
+
+-- ---- such a square: one above the square of a figure above the bound
+
+positive-bounded : (x : Float) → T (positive x) → T (bounded x)
+positive-bounded nan p = absurd p
+positive-bounded (inf s) p = absurd p
+positive-bounded (fin s m e) p = tt
+
+below-infinity : (x : Float) → T (positive x) → lt x (root (inf false)) ≡ true
+unfolding lt root
+below-infinity nan p = absurd p
+below-infinity (inf t) p = absurd p
+below-infinity (fin t m e) p = refl
+
+pub root-beyond : (c s bound : Float) → T (fits binary64 c) → T (fits binary64 s) → lt nought bound ≡ true → lt bound c ≡ true → lt nought (mul binary64 c c) ≡ true → lt (mul binary64 c c) s ≡ true → lt bound (root s) ≡ true
+root-beyond c s bound f g b h k l = go s g l (above-of-le (mul binary64 c c) s pm (is (le-of-lt (mul binary64 c c) s l)))
+  where
+    pm : T (positive (mul binary64 c c))
+    pm = bound-positive (mul binary64 c c) s k l
+
+    pb : T (positive bound)
+    pb = bound-positive bound c b h
+
+    pc : T (positive c)
+    pc = positive-of c (above-of-le bound c pb (is (le-of-lt bound c h))) (mul-bounded binary64 c c (positive-bounded (mul binary64 c c) pm) .0)
+
+    finite : (s : Float) → T (positive (root s)) → T (le c (root s)) → (d : Bool) → le (root s) bound ≡ d → lt bound (root s) ≡ true
+    finite s p a true e = absurd (clash bound c (root s) pb (is h) (is (le-of-lt bound c h)) a (is e))
+    finite s p a false e = lt-of-not-le (root s) bound (bounded-real (root s) (positive-bounded (root s) p)) (bounded-real bound (positive-bounded bound pb)) e
+
+    go : (s : Float) → T (fits binary64 s) → lt (mul binary64 c c) s ≡ true → T (above s) → lt bound (root s) ≡ true
+    go nan g l a = absurd a
+    go (inf true) g l a = absurd a
+    go (inf false) g l a = below-infinity bound pb
+    go (fin true m e) g l a = absurd a
+    go (fin false m e) g l a = finite (fin false m e) (root-positive (fin false m e) g a) (root-of-above c (fin false m e) f g pc a (is l)) (le (root (fin false m e)) bound) refl
 
 pub beyond-nothing : (bound : Float) → SurelyBeyond (div binary64 nought nought) bound
 unfolding lt eq le div ofBits

@@ -57,13 +57,15 @@ fn sqrt(x: f64) -> f64
 }
 
 // A figure from which on every square has a root above the bound, so that the root need not be worked out: the square of twice
-// the bound, where its own root is above it; a NaN, from which on there is nothing, where that square underflows.
+// the bound, where it is above the square of a figure above the bound; a NaN, from which on there is nothing, where those
+// squares underflow or overflow.
 fn surely_beyond(bound: f64) -> f64
     ensures { λ r. ⌜ SurelyBeyond r bound ⌝ }
 {
+    let above = 1.5 * bound;
     let square = 2.0 * bound * (2.0 * bound);
-    if 0.0 < bound {
-        if bound < sqrt(square) {
+    if (0.0 < bound) & (bound < above) {
+        if (0.0 < above * above) & (above * above < square) {
             return square;
         }
     }

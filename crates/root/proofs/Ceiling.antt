@@ -50,7 +50,7 @@ module _ (a d : ℕ) (D : 0 < d) where
 
 -- ---- 2 ^ 53 or more in size: whole already
 
-digits-lt : (s : Bool) (m : ℕ) (e : ℤ) → T (fits binary64 (fin s (suc m) e)) → (suc m < 2 ^ 53) × (suc m * up e < 2 ^ 1024 * down e)
+pub digits-lt : (s : Bool) (m : ℕ) (e : ℤ) → T (fits binary64 (fin s (suc m) e)) → (suc m < 2 ^ 53) × (suc m * up e < 2 ^ 1024 * down e)
 unfolding fits
 digits-lt s m e f =
     let a = eqb (suc m % 2) 1 in

@@ -10,3 +10,4 @@ pub mod Correct
 pub mod Monotone
 pub mod Ceiling
 pub mod CeilingCases
+pub mod Squares

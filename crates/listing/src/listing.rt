@@ -9,7 +9,6 @@ ghost use Rattle.listing.specs.Listing.{listed, plannedText, Counted, en
 use crate::line::put_most;
 use crate::line::put_plan;
 use crate::line::put_refusal;
-use planning::plan_corridors;
 use crate::table::put_buses;
 use crate::table::put_corridors;
 use crate::table::put_generators;
@@ -18,6 +17,7 @@ use crate::table::put_levels;
 use mode::PlanMode;
 use plan_defs::CorridorPlan;
 use plan_defs::Planned;
+use planning::plan_corridors;
 
 fn put_listing(
     out: &mut [u8],

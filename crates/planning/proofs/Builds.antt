@@ -14,7 +14,7 @@ use Rattle.loops.specs.Loops.{tab}
 use Rattle.loops.proofs.Tab.{length-tab, get-tab, tab-same}
 use Rattle.plan_defs.specs.Case.{Case, levels}
 use Rattle.plan_defs.specs.Design.{lineOf, lineAt, withBank, setTransformerMva, bankedBy, stepsDown, drawn, design, noDesign}
-use Rattle.plan_defs.specs.Build.{built, buildOf, bankBelow, setBank, setCount, drawnAll}
+use Rattle.plan_defs.specs.Build.{built, buildOf, bankBelow, setBank, drawnAll}
 use Rattle.plan_defs.specs.declared.CircuitDesign.{CircuitDesign}
 use Rattle.planning.specs.Design.{linesFor}
 use Rattle.planning.proofs.Draws.{drawn-lifts}
@@ -73,10 +73,6 @@ module _ (c : Case) (level : List ℕ) where
         (ap (λ (d : CircuitDesign). set (drawnAll c level banks) k (setTransformerMva d mva)) (drawn-at banks k h)
         ∙ ap (set (drawnAll c level banks) k) (bank-drawn k (at banks k) mva e)
         ∙ drawn-set banks k mva h n)
-
-    pub set-count : (count : ℕ) → setCount k count (buildOf c level circuits banks floors upsized) ≡ buildOf c level (set circuits k count) banks floors upsized
-    unfolding setCount
-    set-count count = refl
 
   -- ---- what the designs read of the case
   pub drawn-all-lifts : (banks : List Float) → length (c .a) ≡ c .corridors → length (c .ladder) ≡ levels c

@@ -38,9 +38,6 @@ gain-by true = omega arith
 gain-by false = omega arith
 
 module _ (total target count : ℕ) where
-  pub gain-most : gainOf total target count ≤ 1
-  gain-most = gain-by (ltb total target && ltb count maxCircuitsPerCorridor)
-
   bounds : (b : Bool) → (ltb total target && ltb count maxCircuitsPerCorridor) ≡ b → total < 2 ^ 32 → target < 2 ^ 32 → count < 2 ^ 32
       → (total + cond b 1 0 < 2 ^ 32) × (count + cond b 1 0 < 2 ^ 32)
   bounds true e t u v =

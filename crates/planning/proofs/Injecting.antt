@@ -6,9 +6,7 @@ use lib.ListN.{length}
 use lib.Ieee.{Float, neg}
 use Rattle.loops.specs.Figures.{at, over}
 use Rattle.loops.specs.Loops.{iter, tab}
-use Rattle.loops.proofs.Tab.{length-tab}
 use Rattle.plan_defs.specs.Constants.{baseMva}
-use Rattle.plan_defs.specs.Case.{Case}
 use Rattle.plan_defs.specs.Dispatch.{injectAt, injectionMw, injections}
 use Rattle.planning.specs.Opening.{busCase, injectionCase}
 
@@ -20,7 +18,3 @@ injections-are load bus mw p q r hp hq hl hr =
     hr
     ∙ ap (λ (n : ℕ). tab n (λ i. over (at q i) baseMva)) hl
     ∙ ap (λ (y : List Float). tab (length load) (λ i. over (at y i) baseMva)) (hq ∙ ap (iter (injectAt (busCase bus) mw) (length bus) 0) hp)
-
-pub injections-length : (c : Case) (mw : List Float) → length (injections c mw) ≡ c .buses
-unfolding injections
-injections-length c mw = length-tab (c .buses) (λ i. over (at (injectionMw c mw) i) baseMva)

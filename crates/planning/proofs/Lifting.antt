@@ -13,11 +13,8 @@ use Rattle.plan_defs.specs.Components.{roots, slackWithin, busOr, groundOf, gro
 use Rattle.plan_defs.specs.Dispatch.{serve, dispatchOf, injectionMw, injections}
 use Rattle.plan_defs.specs.Design.{drawn}
 use Rattle.plan_defs.specs.Build.{drawnAll}
-use Rattle.plan_defs.specs.Solve.{planningState}
-use Rattle.plan_defs.specs.Plan.{peakOf}
 use Rattle.planning.specs.Design.{linesFor}
 use Rattle.planning.specs.Opening.{slackCase, dispatchCase, injectionCase}
-use Rattle.planning.specs.Solve.{peakFor}
 use Rattle.planning.proofs.Draws.{drawn-lifts}
 use Rattle.loops.proofs.Fronts.{map-same}
 
@@ -55,10 +52,3 @@ module _ (c : Case) where
         ap (λ (m : ℕ). tab m (λ k. drawn (linesFor (c .ladder) (c .a) (c .b) (c .km) (c .share) (c .sheet)) level k (at banks k))) e
         ∙ tab-same (c .corridors) (λ k. drawn (linesFor (c .ladder) (c .a) (c .b) (c .km) (c .share) (c .sheet)) level k (at banks k)) (λ k. drawn c level k (at banks k))
         (λ k b. drawn-lifts c level k (at banks k) h)
-
-    -- the grounds and the injections of a case's peak
-    pub state-lift : (led : List ℕ) (mw : List Float) (circuits grounds : List ℕ) (injection guess : List Float)
-        → length level ≡ c .buses → grounds ≡ groundsOf c led → injection ≡ injections c mw
-        → planningState (peakFor (length level) grounds injection) (drawnAll (linesFor (c .ladder) (c .a) (c .b) (c .km) (c .share) (c .sheet)) level banks) circuits guess
-        ≡ planningState (peakOf c led mw) (drawnAll c level banks) circuits guess
-    state-lift led mw circuits grounds injection guess p q r = rw (draws-lift, p, q, r)

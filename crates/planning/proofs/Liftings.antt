@@ -5,7 +5,7 @@ use mathlib.Core.Bool.{true, false}
 use mathlib.Core.List.{List, map}
 use mathlib.Core.Path.{_≡_, refl, sym, ap, _∙_}
 use native.Mathlib.Omega.{arith}
-use lib.ListN.{length, getD, take, length-map}
+use lib.ListN.{length, getD, length-map}
 use lib.Ieee.{Float, nan}
 use Rattle.loops.specs.Figures.{at, nought}
 use Rattle.loops.specs.Loops.{tab}
@@ -13,7 +13,7 @@ use Rattle.loops.proofs.Tab.{tab-same}
 use Rattle.plan_defs.specs.Case.{Case, capAt, fullAt}
 use Rattle.plan_defs.specs.Design.{noDesign}
 use Rattle.plan_defs.specs.Build.{drawnAll}
-use Rattle.plan_defs.specs.Fill.{loading, loadingAt, orderOf, fill}
+use Rattle.plan_defs.specs.Fill.{loading, loadingAt, fill}
 use Rattle.plan_defs.specs.Closing.{spreadOf, loadings, maxLoading, overloadedOf, cappedOf, upsizedOf, leastOf, tiersOf, addedOf}
 use Rattle.plan_defs.specs.Plan.{Plan}
 use Rattle.plan_defs.specs.Outcome.{Slices, upTo, workPlaces, cleared, held}
@@ -30,14 +30,6 @@ module _ (c : Case) (target : ℕ) (s : Sound c target) (level : List ℕ) (bank
   -- ---- the designs and the filling order
   pub designs-lift : designsFor (c .ladder) level (c .a) (c .b) (c .km) (c .share) (c .sheet) banks ≡ drawnAll c level banks
   designs-lift = drawn-all-lifts c level banks (s .a-size) (s .ladder-size)
-
-  pub order-lifts : (order circuits : List ℕ) (flow : List Float)
-      → take (length (c .a)) order ≡ orderOf (length (c .a)) (designsFor (c .ladder) level (c .a) (c .b) (c .km) (c .share) (c .sheet) banks) circuits flow
-      → take (c .corridors) order ≡ orderOf (c .corridors) (drawnAll c level banks) circuits flow
-  order-lifts order circuits flow e =
-      ap (λ (n : ℕ). take n order) (sym (s .a-size)) ∙ e
-      ∙ ap (λ (n : ℕ). orderOf n (designsFor (c .ladder) level (c .a) (c .b) (c .km) (c .share) (c .sheet) banks) circuits flow) (s .a-size)
-      ∙ ap (λ (ds : List CircuitDesign). orderOf (c .corridors) ds circuits flow) designs-lift
 
 -- ---- the filling
 pub fill-lifts : (c : Case) (target : ℕ) (order counts : List ℕ) → fill (modeFor (c .mode)) target order counts ≡ fill c target order counts

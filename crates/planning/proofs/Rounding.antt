@@ -1,7 +1,7 @@
 -- The round loop over slices is the defined rounds: what is left to do from each point of a round comes to what the whole does,
 -- of every case with the columns that the rounds read.
 use Prim.Native.Nat.{ℕ, zero, suc, _+_, _-_, _*_, _<_, _≤_}
-use mathlib.Core.Bool.{Bool, true, false, not, _&&_, _||_}
+use mathlib.Core.Bool.{true, false, not, _&&_, _||_}
 use mathlib.Core.List.{List, [], _∷_}
 use mathlib.Core.Path.{_≡_, refl, sym, ap, _∙_, subst}
 use native.Mathlib.Omega.{arith}
@@ -18,7 +18,7 @@ use Rattle.refusal.specs.declared.Answer.the-variants.{Answered, Refused}
 use Rattle.mode.specs.declared.PlanMode.{PlanMode}
 use Rattle.angles_defs.specs.Network.{Edges, edgesOf}
 use Rattle.plan_defs.specs.Constants.{stiffeningBranchBudget}
-use Rattle.plan_defs.specs.Lists.{passFrom, passing, sum}
+use Rattle.plan_defs.specs.Lists.{passFrom, sum}
 use Rattle.plan_defs.specs.Stage.{Stage, stopped, going, onward, eachStage}
 use Rattle.plan_defs.specs.Case.{Case, promote}
 use Rattle.plan_defs.specs.Components.{leads, roots}
@@ -27,11 +27,9 @@ use Rattle.plan_defs.specs.Solve.{Peak, PlanningCase, edgesFor, planningState}
 use Rattle.plan_defs.specs.Raise.{raisedLevels, movedBuses, noMarks}
 use Rattle.plan_defs.specs.Size.{Sizing, sizing, sizeAll}
 use Rattle.plan_defs.specs.Stiffen.{Budget, Stiffening, budgetOf, hvBudget, shareOf, stiffenTop, atOrAbove, stiffenFrom, stiffenComponent, stiffenAll}
-use Rattle.plan_defs.specs.Rounds.{Draft, draft, Turn, after, stiffenedBy, stiffenedTo, stiffenWith, stiffenIf, addedIf, sizedBy, sizedTo, oneRound, continue, rounds}
+use Rattle.plan_defs.specs.Rounds.{Draft, draft, Turn, stiffenedBy, stiffenedTo, stiffenWith, sizedTo, oneRound, continue, rounds}
 use Rattle.plan_defs.specs.declared.CircuitDesign.{CircuitDesign}
 use Rattle.planning.specs.Design.{linesFor}
-use Rattle.planning.specs.Opening.{stageIf}
-use Rattle.planning.specs.Redesign.{banksAnew}
 use Rattle.planning.specs.Size.{sizeFor, sizingOf, Few}
 use Rattle.planning.specs.Solve.{peakFor, solvedOf}
 use Rattle.planning.specs.Sound.{Sound}

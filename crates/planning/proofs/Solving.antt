@@ -132,10 +132,6 @@ module _ (c : Case) (level : List ℕ) (banks : List Float) (circuits : List ℕ
       ∙ ap (λ (l : List ℕ). edgesOf (map (λ (d : CircuitDesign). d .from) ds) l weight) (q ∙ sym (map-tab (λ (d : CircuitDesign). d .to) m line))
       ∙ ap (λ (l : List Float). edgesOf (map (λ (d : CircuitDesign). d .from) ds) (map (λ (d : CircuitDesign). d .to) ds) l) w
 
-  pub drawn-all-length : length (drawnAll c level banks) ≡ c .corridors
-  unfolding drawnAll
-  drawn-all-length = length-tab (c .corridors) line
-
 -- ---- what a call of `dc_angles` says
 module _ (q : Request) (result work : List Float) (S : Sound q (length result) (length work)) (r : Angles) (y w : List Float) (e : outcome r y w ≡ dcAngles q result work) where
   pub angles-refused : (f : Refusal) → r ≡ Declined f → stopped (NotFinite 0) ≡ finiteAngles (solveOf q .x)

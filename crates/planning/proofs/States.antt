@@ -1,4 +1,4 @@
--- `planning_state` over slices is the defined planning state, and what that state has: a place for each bus and corridor, all figures finite.
+-- `planning_state` over slices is the defined planning state.
 -- The edges drawn are the defined edges, so every list that the code hands on is the definition's.
 use Prim.Native.Nat.{ℕ, _-_, _<_, _≤_}
 use mathlib.Core.Bool.{Bool, true, false, _&&_}
@@ -6,28 +6,24 @@ use mathlib.Core.List.{List}
 use mathlib.Core.Path.{_≡_, refl, sym, ap, _∙_, subst}
 use native.Mathlib.Nat.{sub-zero}
 use native.Mathlib.Omega.{arith}
-use borrow.Author.Tests.{leb-true}
-use lib.ListN.{length, getD, take, length-map}
+use lib.ListN.{length, getD, take}
 use lib.Seq.{getD-take}
 use lib.Ieee.{Float}
-use Rattle.loops.specs.Figures.{at, finite}
-use Rattle.loops.specs.Loops.{first, tab}
-use Rattle.loops.proofs.Bools.{both}
-use Rattle.loops.proofs.Scan.{all-pass}
+use Rattle.loops.specs.Figures.{at}
+use Rattle.loops.specs.Loops.{tab}
 use Rattle.loops.proofs.Tab.{length-tab, get-tab}
 use Rattle.refusal.specs.declared.Refusal.{Refusal}
 use Rattle.refusal.specs.declared.Refusal.the-variants.{NotFinite}
 use Rattle.refusal.specs.declared.Answer.{Answer}
 use Rattle.refusal.specs.declared.Answer.the-variants.{Answered, Refused}
 use Rattle.angles_defs.specs.Network.{Edges, edgesOf}
-use Rattle.angles_defs.specs.Operation.{finiteAt, most}
+use Rattle.angles_defs.specs.Operation.{most}
 use Rattle.angles_defs.specs.Solve.{solve}
-use Rattle.angles_defs.proofs.Solves.{solve-places}
 use Rattle.plan_defs.specs.Case.{Case}
 use Rattle.plan_defs.specs.Stage.{stopped, going}
 use Rattle.plan_defs.specs.Design.{drawn}
 use Rattle.plan_defs.specs.Build.{drawnAll}
-use Rattle.plan_defs.specs.Solve.{Peak, PlanningCase, weightAt, edgesFor, flowMw, flowsOf, allFinite, ifFinite, planningState}
+use Rattle.plan_defs.specs.Solve.{PlanningCase, weightAt, edgesFor, flowsOf, allFinite, ifFinite, planningState}
 use Rattle.plan_defs.specs.declared.CircuitDesign.{CircuitDesign}
 use Rattle.planning.specs.Design.{linesFor}
 use Rattle.planning.specs.Opening.{stageOf}
@@ -187,54 +183,3 @@ module _ (ladder : List Float) (level a b : List ℕ) (km share sheet : List Flo
             ∙ ap (λ (x : List Float). solvedOf (finiteAnswer (allFinite (flowsOf edges x))) edges x (flowsOf edges x)) (o .0)
             ∙ tested (allFinite (flowsOf edges theta)) theta
             ∙ ap (λ (t : Bool). ifFinite (t && allFinite (flowsOf edges theta)) (state theta)) (sym (o .1))
-
--- ---- what a planning state has
-pub finite-all : (l : List Float) → allFinite l ≡ true → (i : ℕ) → i < length l → finite (at l i) ≡ true
-unfolding allFinite
-finite-all l e i h = all-pass (finiteAt l) (length l) (leb-true (length l) (first (finiteAt l) (length l) 0) e) i h
-
-pub record Solvent (P : Peak) (ds : List CircuitDesign) (counts : List ℕ) (guess : List Float) (v : PlanningCase) : Type 0 where
-  pub edges-are : v .edges ≡ edgesFor ds counts
-  pub angles-are : v .theta ≡ solve (P .n) (edgesFor ds counts) (P .grounds) (P .injection) guess .x
-  pub flows-are : v .flows ≡ flowsOf (v .edges) (v .theta)
-  -- a place for each bus and for each corridor
-  pub buses : length (v .theta) ≡ P .n
-  pub corridors : length (v .flows) ≡ length ds
-  pub angles-finite : (i : ℕ) → i < length (v .theta) → finite (at (v .theta) i) ≡ true
-  pub flows-finite : (k : ℕ) → k < length (v .flows) → finite (at (v .flows) k) ≡ true
-
-flow-count : (ds : List CircuitDesign) (counts : List ℕ) (x : List Float) → length (flowsOf (edgesFor ds counts) x) ≡ length ds
-unfolding flowsOf edgesFor
-flow-count ds counts x = length-tab _ (flowMw (edgesFor ds counts) x) ∙ length-map ds (λ d. d .from)
-
-pub solvent : (P : Peak) (ds : List CircuitDesign) (counts : List ℕ) (guess : List Float) (v : PlanningCase) → planningState P ds counts guess ≡ going v → Solvent P ds counts guess v
-unfolding planningState
-solvent P ds counts guess v e = go (allFinite x && allFinite (flowsOf E x)) refl e
-  where
-    E : Edges
-    E = edgesFor ds counts
-
-    x : List Float
-    x = solve (P .n) E (P .grounds) (P .injection) guess .x
-
-    state : PlanningCase
-    state = record { edges = E; theta = x; flows = flowsOf E x }
-
-    held : allFinite x ≡ true → allFinite (flowsOf E x) ≡ true → Solvent P ds counts guess state
-    held p q =
-        record {
-          edges-are = refl;
-          angles-are = refl;
-          flows-are = refl;
-          buses = solve-places (P .n) E (P .grounds) (P .injection) guess;
-          corridors = flow-count ds counts x;
-          angles-finite = finite-all x p;
-          flows-finite = finite-all (flowsOf E x) q;
-        }
-
-    go : (t : Bool) → (allFinite x && allFinite (flowsOf E x)) ≡ t → ifFinite t state ≡ going v → Solvent P ds counts guess v
-    go true f h =
-        let p = both (allFinite x) (allFinite (flowsOf E x)) f in
-        let o : state ≡ v = cc in
-        subst (λ (s : PlanningCase). Solvent P ds counts guess s) o (held (p .0) (p .1))
-    go false f h = absurd (no-stage (NotFinite 0) v h)

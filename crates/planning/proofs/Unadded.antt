@@ -6,7 +6,6 @@ use mathlib.Core.Path.{_≡_, refl, sym, _∙_}
 use lib.Dec.{ltb}
 use lib.Ieee.{Float}
 use Rattle.loops.specs.Figures.{at}
-use Rattle.loops.specs.Loops.{iter}
 use Rattle.loops.proofs.Loops.{iter-keeps}
 use Rattle.plan_defs.specs.Case.{Case, capAt}
 use Rattle.plan_defs.specs.Raise.{noMarks, topOf}

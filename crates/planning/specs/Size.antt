@@ -1,5 +1,5 @@
 -- What the contracts of module size cite: the columns that sizing reads, as a case; what they must be; and the state that the slices stand for.
-use Prim.Native.Nat.{ℕ, _+_, _*_, _<_, _≤_}
+use Prim.Native.Nat.{ℕ, _+_, _<_, _≤_}
 use mathlib.Core.Bool.{Bool, true, false}
 use mathlib.Core.List.{List, []}
 use mathlib.Core.Path.{_≡_}
@@ -9,7 +9,7 @@ use Rattle.mode.specs.declared.PlanMode.{PlanMode}
 use Rattle.plan_defs.specs.Constants.{mostInitial, subtransmissionMaxCircuits}
 use Rattle.plan_defs.specs.Case.{Case, caseOf}
 use Rattle.plan_defs.specs.Design.{design}
-use Rattle.plan_defs.specs.Build.{built, buildOf, drawnAll}
+use Rattle.plan_defs.specs.Build.{built, drawnAll}
 use Rattle.plan_defs.specs.Size.{Sizing, sizing, addTo, grow, sizeOne}
 use Rattle.plan_defs.specs.declared.CircuitDesign.{CircuitDesign}
 use Rattle.planning.specs.Design.{Lines, Banks}

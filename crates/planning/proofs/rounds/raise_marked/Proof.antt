@@ -1,14 +1,11 @@
 -- `planning::rounds::raise_marked` meets its contract: none moved, or every corridor has its bank anew at the new levels.
-use mathlib.Core.Path.{_≡_, sym, _∙_, subst}
-use Prim.Native.Nat.{ℕ, _≤_}
+use mathlib.Core.Path.{sym, _∙_, subst}
+use Prim.Native.Nat.{ℕ}
 use native.Mathlib.Omega.{arith}
 use denote.Ref.{now}
-use lib.ListN.{length}
 use mathlib.Core.List.{List}
 use borrow.Author.Needs.{needs}
-use Rattle.plan_defs.specs.Raise.{raisedLevels}
 use Rattle.planning.specs.Design.{Lines}
-use Rattle.planning.specs.Redesign.{Loads}
 use Rattle.planning.proofs.Marks.{lines-raised}
 use Rattle.planning.proofs.Redrawing.{redrawn-still, redrawn-anew}
 use Rattle.planning.proofs.rounds.raise_marked.Statement.{statement}

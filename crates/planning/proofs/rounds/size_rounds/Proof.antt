@@ -1,8 +1,8 @@
 -- `planning::rounds::size_rounds` meets its contract.
 -- Of the rounds: what is left of them from here comes to what all of them do. Inside a round: the sizing of the corridors passed, then the stiffening of the
 -- components passed, each held against its definition from the loop's start; the last corridor, and the last component, lead out of the round by name.
-use Prim.Native.Nat.{ℕ, suc, _+_, _-_, _*_, _≤_, _<_}
-use mathlib.Core.Bool.{Bool, true, false, not}
+use Prim.Native.Nat.{ℕ, _+_, _-_, _*_, _≤_, _<_}
+use mathlib.Core.Bool.{true, false}
 use mathlib.Core.List.{List}
 use mathlib.Core.Path.{_≡_, refl, sym, ap, _∙_, subst}
 use native.Mathlib.Omega.{arith}
@@ -10,8 +10,7 @@ use native.Mathlib.Nat.{le-antisymm}
 use borrow.Author.Needs.{needs}
 use borrow.Author.Tests.{not-true, not-false}
 use denote.Ref.{now}
-use lib.ListN.{length, getD}
-use lib.Ieee.{Float}
+use lib.ListN.{length}
 use Rattle.plan_defs.specs.Case.{promote}
 use Rattle.plan_defs.specs.Raise.{movedBuses}
 use Rattle.plan_defs.specs.Build.{buildOf}

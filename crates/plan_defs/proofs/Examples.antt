@@ -3,6 +3,7 @@
 use Prim.Native.Nat.{ℕ}
 use mathlib.Core.List.{List, [], _∷_, map}
 use mathlib.Core.Path.{_≡_, refl}
+use lib.ListN.{replicate}
 use lib.Ieee.{Float, binary64, ofBits}
 use Rattle.loops.specs.Figures.{nought, one, hundred, decimal}
 use Rattle.mode.specs.declared.PlanMode.the-variants.{Expand, Reinforce}
@@ -12,6 +13,7 @@ use Rattle.plan_defs.specs.Design.{lineOf, setTransformerMva, keptBank}
 use Rattle.plan_defs.specs.Raise.{noMarks, markEnds, raisedLevels, movedBuses}
 use Rattle.plan_defs.specs.Build.{built}
 use Rattle.plan_defs.specs.Stiffen.{Budget, hvBudget, stiffenOne, stiffenFrom, Gain, insert, batch}
+use Rattle.plan_defs.specs.Outcome.{Slices, Outcome, slices, planCorridors}
 use Rattle.plan_defs.specs.Listing.{bitsOf, listingOf}
 use Rattle.plan_defs.specs.declared.CircuitDesign.{CircuitDesign}
 
@@ -96,3 +98,18 @@ pub sized-again :
     ∷ (0x3FEB_9999_9999_9998 ∷ 0x3FB6_1696_8854_E35F ∷ []) ∷ []
 unfolding listingOf
 sized-again = refl
+
+-- What stood in the lent slices does not matter, and work is zero after the answer: here every place is lent with a one.
+abbrev ones : ℕ → List Float
+ones n = replicate n one
+
+abbrev lentWithOnes : Slices
+lentWithOnes =
+    slices (replicate 2 1) (ones 2) (ones 2) (ones 1) (ones 3) (replicate 3 1) (replicate 3 1) [] (ones 72) (replicate 72 1)
+
+abbrev leftBy : Outcome → List (List ℕ)
+leftBy o = map bitsOf (o .lent .figures) ∷ o .lent .counts ∷ o .lent .circuits ∷ o .lent .tier ∷ o .lent .ground ∷ []
+
+pub work-zeroed : leftBy (planCorridors reinforced 0 lentWithOnes) ≡ replicate 72 0 ∷ replicate 72 0 ∷ (7 ∷ 1 ∷ []) ∷ (0 ∷ 1 ∷ 1 ∷ []) ∷ (2 ∷ 0 ∷ 0 ∷ []) ∷ []
+unfolding listingOf
+work-zeroed = refl

@@ -1,7 +1,7 @@
 -- The round loop over slices is the defined rounds: what is left to do from each point of a round comes to what the whole does,
 -- of every case with the columns that the rounds read.
 use Prim.Native.Nat.{ℕ, zero, suc, _+_, _-_, _*_, _<_, _≤_}
-use mathlib.Core.Bool.{true, false, not, _&&_, _||_}
+use mathlib.Core.Bool.{Bool, true, false, not, _&&_, _||_}
 use mathlib.Core.List.{List, [], _∷_}
 use mathlib.Core.Path.{_≡_, refl, sym, ap, _∙_, subst}
 use native.Mathlib.Omega.{arith}
@@ -53,6 +53,11 @@ use Rattle.planning.proofs.Unadded.{unadded}
 onward-same : {S T : Type 0} (st : Stage S) (f g : S → Stage T) → ((s : S) → f s ≡ g s) → onward st f ≡ onward st g
 onward-same (stopped r) f g e = refl
 onward-same (going s) f g e = e s
+
+-- ---- a round whose sizing raised and added nothing
+pub nothing-done : (moved : ℕ) (added : Bool) → (ltb 0 moved || added) ≡ false → (moved ≡ 0) × (added ≡ false)
+nothing-done zero added h = (refl, h)
+nothing-done (suc m) added h = absurd (no h (or-left (ltb 0 (suc m)) added (lt-ltb 0 (suc m) (omega arith))))
 
 -- ---- the tallies with which stiffening begins
 pub few-sum : (l : List ℕ) → Few l → sum l ≤ 64 * length l
@@ -234,18 +239,8 @@ module _ (mode : PlanMode) (above : ℕ) (ladder : List Float) (a b : List ℕ) 
                 rw (y, x, u, add-one (p .rounds), w)
 
         module _ (h : (ltb 0 moved || t .added) ≡ false) where
-          none-moved : (m : ℕ) → moved ≡ m → (ltb 0 m || t .added) ≡ false → (moved ≡ 0) × (t .added ≡ false)
-          none-moved zero u v = (u, v)
-          none-moved (suc m) u v = absurd (no v (or-left (ltb 0 (suc m)) (t .added) (lt-ltb 0 (suc m) (omega arith))))
-
-          pub unmoved : moved ≡ 0
-          unmoved = none-moved moved refl h .0
-
-          pub unchanged : t .added ≡ false
-          unchanged = none-moved moved refl h .1
-
           still : movedBuses level marks′ ≡ 0
-          still = sym (redrawn .count) ∙ unmoved
+          still = sym (redrawn .count) ∙ nothing-done moved (t .added) h .0
 
           -- a mode that does not promote is done
           pub sized-settled : promote mode ≡ false
@@ -253,10 +248,10 @@ module _ (mode : PlanMode) (above : ℕ) (ladder : List Float) (a b : List ℕ) 
               going (draftOf (C o) level″ circuits′ banks″ floors′ upsized′ theta
               (record { rounds = p′ .rounds; promoted = p′ .promoted; capacity = t .capacity; stiffening = p′ .stiffening; converged = not (t .capped) }))) W
           sized-settled m o target s e =
-              let x : level″ ≡ level = redrawn .still unmoved .0 in
-              let y = still-build level marks′ circuits′ banks′ floors′ upsized′ level″ banks″ moved redrawn o unmoved in
+              let x : level″ ≡ level = redrawn .still (nothing-done moved (t .added) h .0) .0 in
+              let y = still-build level marks′ circuits′ banks′ floors′ upsized′ level″ banks″ moved redrawn o (nothing-done moved (t .added) h .0) in
               let z : going (draftOf (C o) level″ circuits′ banks″ floors′ upsized′ theta (record { rounds = p .rounds + 1; promoted = p .promoted; capacity = t .capacity; stiffening = p .stiffening; converged = not (t .capped) }))
-              ≡ then d o (sizedTo (C o) (P o) leader (S o) (Solved o) (Z o)) = rw (y, x, add-one (p .rounds), still, unchanged, m) in
+              ≡ then d o (sizedTo (C o) (P o) leader (S o) (Solved o) (Z o)) = rw (y, x, add-one (p .rounds), still, nothing-done moved (t .added) h .1, m) in
               ap (λ (x : Progress).
               going (draftOf (C o) level″ circuits′ banks″ floors′ upsized′ theta
               (record { rounds = x .rounds; promoted = x .promoted; capacity = t .capacity; stiffening = x .stiffening; converged = not (t .capped) }))) runs

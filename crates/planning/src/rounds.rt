@@ -81,7 +81,7 @@ fn raise_marked(
     moved
 }
 
-// Runs so many rounds at most, after those run already. Angles are kept from one to the next.
+// Runs so many rounds at most, after those that `start` tells of. Each is solved from the angles of the one before.
 pub fn size_rounds(
     mode: PlanMode,
     above: usize,
@@ -169,6 +169,7 @@ pub fn size_rounds(
                 t,
             );
             k += 1;
+            // The last corridor ends the sizing: a raise or an addition leads to another round.
             if k == a.len() {
                 let moved = raise_marked(
                     ladder,
@@ -197,6 +198,7 @@ pub fn size_rounds(
                 }
             }
         }
+        // Sizing changed nothing, so these are the edges that the round was solved with.
         draw_edges(
             ladder,
             level,
@@ -244,6 +246,7 @@ pub fn size_rounds(
                 Stiffened::Going(u) => s = u,
             }
             i += 1;
+            // The last component ends the round: a raise or anything else that was done leads to another.
             if i == leader.len() {
                 let moved = raise_marked(
                     ladder,

@@ -25,7 +25,7 @@ use Rattle.planning.specs.declared.stiffen.Stiffness.{Stiffness}
 use Rattle.planning.proofs.States.{drawn-edges}
 use Rattle.planning.proofs.Redrawing.{still-none}
 use Rattle.planning.proofs.Corridors.{left as to-size, left-start, left-turn}
-use Rattle.planning.proofs.Rounding.{Alike, alike-trans, few-sum, few-high, goesOn, stiffensOn, round-refused, sized-again, unmoved, unchanged, still-sized, sized-settled, stiffens, stiffen-refused, stiffen-next, stiffened-again, stiffened-settled, ended}
+use Rattle.planning.proofs.Rounding.{Alike, alike-trans, few-sum, few-high, goesOn, stiffensOn, round-refused, sized-again, nothing-done, still-sized, sized-settled, stiffens, stiffen-refused, stiffen-next, stiffened-again, stiffened-settled, ended}
 use Rattle.planning.specs.declared.stiffen.Stiffened.{Stiffened}
 use Rattle.planning.proofs.rounds.size_rounds.Statement.{statement}
 use Rattle.planning.proofs.rounds.size_rounds.Tie as tie
@@ -387,9 +387,9 @@ corridors-again c =
     let z = c .before .before .before .before .before .before .before .before .before .before .before .before .before .before .before .before .before .before .before .before .before .before .before .before .before .before .before .before .before .before .before .before .before .before .before .before .before .before .before .before .before .before .before .before .before .before .before .before .before .before .before .before .before .before .before .before .before .before .before .before .before .before .before .before .before .before .before .before .before .before .before .before .before .before .before .before .before .args in
     let r = c .before .before .before .before .before .before .before .before .before .before .before .before .before .before .before .before .before .before .before .before .before .before .before .before .before .before .before .before .before .before .before .before .before .before .before .before .before .before .before .before .before .before .before .before .before .before .before .before .before .before .before .before .before .before .before .rounds in
     let l = c .before .before .before .before .before .before .before .before .before .before .before .before .before .before .before .before .before .before .before .before .before .before .before .before .before .before .before .before .before .before .before .before .before .corridors in
-    let none = unmoved (z .mode) (z .above) (now (z .ladder)) (now (z .a)) (now (z .b)) (now (z .km)) (now (z .share)) (now (z .sheet)) (now (z .load)) (now (z .bus)) (now (z .pmax)) (now (z .leader)) (now (z .grounds)) (now (z .injection)) (length (now (z .leader))) (l .level) (r .level) (r .circuits) (r .banks) (r .floors) (r .upsized) (r .angle) (r .p) (goesOn (z .mode) (z .above) (now (z .ladder)) (now (z .a)) (now (z .b)) (now (z .km)) (now (z .share)) (now (z .sheet)) (now (z .load)) (now (z .bus)) (now (z .pmax)) (now (z .leader)) (now (z .grounds)) (now (z .injection)) (length (now (z .leader))) (z .budget) (now (z .level)) (now (z .circuits)) (now (z .banks)) (now (z .floors)) (now (z .upsized)) (now (z .angle)) (z .start)) (r .left) (r .left - 1) (omega (arith, c .before .before .before .before .before .before .before .before .before .before .before .before .before .before .before .before .before .before .before .before .before .before .before .before .before .before .before .before .before .before .before .before .before .before .before .before .before .before .before .before .before .before .before .before .before .before .before .before .before .before .before .before .before .before .rounds-test .taken)) (l .inv .1) (sym (r .inv .0 .places .leader-size)) (r .inv .3) _ _ _ (c .before .before .before .before .before .before .before .before .before .before .before .before .before .before .before .before .before .before .before .before .before .before .before .before .before .before .before .before .before .before .before .before .before .before .before .before .before .before .before .before .before .before .before .before .before .before .planning-state .ensures) (c .before .before .before .before .before .before .before .before .before .before .before .before .before .before .before .before .before .before .before .before .before .before .before .before .before .before .before .before .before .before .before .before .before .before .before .before .before .before .enum-told .given .1) _ _ _ _ _ _ _ (omega (arith, c .before .before .before .before .before .before .before .before .before .before .before .before .before .if1 .taken)) (left-turn (z .mode) (length (l .level)) (now (z .ladder)) (l .level) (now (z .a)) (now (z .b)) (now (z .km)) (now (z .share)) (now (z .sheet)) _ (l .k) (l .circuits) (l .banks) (l .floors) (l .upsized) (l .marks) (l .t) _ _ _ _ _ _ (c .before .before .before .before .before .before .before .before .before .before .before .before .before .before .before .before .before .before .before .before .before .before .before .before .before .before .before .before .before .before .before .before .corridors-test .taken) (c .before .before .before .before .before .before .before .before .before .before .before .before .before .before .before .before .before .before .before .before .before .before .before .before .size-corridor .ensures .sized) ∙ l .inv .7) _ (l .inv .2) _ _ _ (c .before .before .before .before .before .before .before .before .raise-marked .ensures) (c .before .before .if2 .left) in
-    let lv = c .before .before .before .before .before .before .before .before .raise-marked .ensures .still none .0 in
-    let bk = c .before .before .before .before .before .before .before .before .raise-marked .ensures .still none .1 in
+    let done = nothing-done _ _ (c .before .before .if2 .left) in
+    let lv = c .before .before .before .before .before .before .before .before .raise-marked .ensures .still (done .0) .0 in
+    let bk = c .before .before .before .before .before .before .before .before .raise-marked .ensures .still (done .0) .1 in
     let n = ap (λ (x : List ℕ). length x) lv in (
       omega (arith, c .before .before .before .before .before .before .before .before .before .before .before .before .before .before .before .before .before .before .before .before .before .before .before .before .before .before .before .before .before .before .before .before .corridors-test .taken),
       lv ∙ l .inv .1,
@@ -406,7 +406,7 @@ corridors-again c =
       c .before .before .before .before .before .before .before .before .before .before .before .before .before .before .before .before .before .before .before .before .before .before .before .before .size-corridor .ensures .few (l .inv .5),
       omega (arith, c .before .before .before .before .before .before .before .before .before .before .before .before .before .before .before .before .before .before .before .before .before .before .before .before .size-corridor .ensures .bound, l .inv .6),
       still-sized (z .mode) (now (z .ladder)) (now (z .a)) (now (z .b)) (now (z .km)) (now (z .share)) (now (z .sheet)) _ _ _ _ _ _ _ _ _ _ _ _ _ _ _ _ lv bk (left-turn (z .mode) (length (l .level)) (now (z .ladder)) (l .level) (now (z .a)) (now (z .b)) (now (z .km)) (now (z .share)) (now (z .sheet)) _ (l .k) (l .circuits) (l .banks) (l .floors) (l .upsized) (l .marks) (l .t) _ _ _ _ _ _ (c .before .before .before .before .before .before .before .before .before .before .before .before .before .before .before .before .before .before .before .before .before .before .before .before .before .before .before .before .before .before .before .before .corridors-test .taken) (c .before .before .before .before .before .before .before .before .before .before .before .before .before .before .before .before .before .before .before .before .before .before .before .before .size-corridor .ensures .sized) ∙ l .inv .7),
-      λ e. (sym (c .before .promotes .ensures) ∙ not-false _ (c .if3 .left), still-none _ _ _ _ lv (c .before .before .before .before .before .before .before .before .raise-marked .ensures .count) none, unchanged (z .mode) (z .above) (now (z .ladder)) (now (z .a)) (now (z .b)) (now (z .km)) (now (z .share)) (now (z .sheet)) (now (z .load)) (now (z .bus)) (now (z .pmax)) (now (z .leader)) (now (z .grounds)) (now (z .injection)) (length (now (z .leader))) (l .level) (r .level) (r .circuits) (r .banks) (r .floors) (r .upsized) (r .angle) (r .p) (goesOn (z .mode) (z .above) (now (z .ladder)) (now (z .a)) (now (z .b)) (now (z .km)) (now (z .share)) (now (z .sheet)) (now (z .load)) (now (z .bus)) (now (z .pmax)) (now (z .leader)) (now (z .grounds)) (now (z .injection)) (length (now (z .leader))) (z .budget) (now (z .level)) (now (z .circuits)) (now (z .banks)) (now (z .floors)) (now (z .upsized)) (now (z .angle)) (z .start)) (r .left) (r .left - 1) (omega (arith, c .before .before .before .before .before .before .before .before .before .before .before .before .before .before .before .before .before .before .before .before .before .before .before .before .before .before .before .before .before .before .before .before .before .before .before .before .before .before .before .before .before .before .before .before .before .before .before .before .before .before .before .before .before .before .rounds-test .taken)) (l .inv .1) (sym (r .inv .0 .places .leader-size)) (r .inv .3) _ _ _ (c .before .before .before .before .before .before .before .before .before .before .before .before .before .before .before .before .before .before .before .before .before .before .before .before .before .before .before .before .before .before .before .before .before .before .before .before .before .before .before .before .before .before .before .before .before .before .planning-state .ensures) (c .before .before .before .before .before .before .before .before .before .before .before .before .before .before .before .before .before .before .before .before .before .before .before .before .before .before .before .before .before .before .before .before .before .before .before .before .before .before .enum-told .given .1) _ _ _ _ _ _ _ (omega (arith, c .before .before .before .before .before .before .before .before .before .before .before .before .before .if1 .taken)) (left-turn (z .mode) (length (l .level)) (now (z .ladder)) (l .level) (now (z .a)) (now (z .b)) (now (z .km)) (now (z .share)) (now (z .sheet)) _ (l .k) (l .circuits) (l .banks) (l .floors) (l .upsized) (l .marks) (l .t) _ _ _ _ _ _ (c .before .before .before .before .before .before .before .before .before .before .before .before .before .before .before .before .before .before .before .before .before .before .before .before .before .before .before .before .before .before .before .before .corridors-test .taken) (c .before .before .before .before .before .before .before .before .before .before .before .before .before .before .before .before .before .before .before .before .before .before .before .before .size-corridor .ensures .sized) ∙ l .inv .7) _ (l .inv .2) _ _ _ (c .before .before .before .before .before .before .before .before .raise-marked .ensures) (c .before .before .if2 .left)),
+      λ e. (sym (c .before .promotes .ensures) ∙ not-false _ (c .if3 .left), still-none _ _ _ _ lv (c .before .before .before .before .before .before .before .before .raise-marked .ensures .count) (done .0), done .1),
     )
 
 corridors-less-2 :

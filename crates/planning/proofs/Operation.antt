@@ -1,7 +1,7 @@
 -- The operation: the check's refusal, the stages' refusal, or the plan that they lead to, with the slices finished, is the defined outcome; and an answer has demand 3.
 use mathlib.Core.Bool.{Bool, true, false}
 use mathlib.Core.Option.{Option}
-use mathlib.Core.Path.{_≡_, sym, ap, _∙_, subst}
+use mathlib.Core.Path.{_≡_, refl, sym, ap, _∙_, subst}
 use Prim.Native.Nat.{ℕ}
 use native.Mathlib.Omega.{arith}
 use lib.ListN.{length}
@@ -17,7 +17,7 @@ use Rattle.plan_defs.specs.declared.Planned.{Planned}
 use Rattle.plan_defs.specs.declared.Planned.the-variants.{Answered, Refused}
 use Rattle.plan_theorems.proofs.Outcomes.{answer-to}
 use Rattle.planning.specs.Check.{checkOf}
-use Rattle.planning.specs.Close.{finished}
+use Rattle.planning.specs.Close.{isRefused, finished}
 use Rattle.planning.specs.Sound.{Sound, Lengths}
 use Rattle.planning.specs.Plan.{WholeAs, PlanDone, Lendable}
 use Rattle.planning.proofs.Liftings.{finished-refused, finished-answered}
@@ -92,7 +92,7 @@ module _ (c : Case) (target : ℕ) (s : Slices) where
           ap (λ (x : Slices). outcome (Refused f) x) (finished-refused c lent size) ∙ ap (λ (x : Planned). outcome x (cleared c)) z
       refused-by f q (going p) h = let y : Refused f ≡ Answered (summary p) = sym q ∙ h .holds .said in let z : _≡_ {A = ℕ} 0 1 = cc in absurd (omega arith)
 
-      pub ends-refused : (f : Refusal) → r ≡ Refused f → out ≡ finished true lent → Ends (Refused f) out
+      ends-refused : (f : Refusal) → r ≡ Refused f → out ≡ finished true lent → Ends (Refused f) out
       ends-refused f q e =
           ends-by (Refused f) out (ap (λ (x : Slices). outcome (Refused f) x) e ∙ refused-by f q (planFor c target) whole ∙ ends)
 
@@ -107,6 +107,14 @@ module _ (c : Case) (target : ℕ) (s : Slices) where
           (h .holds .tiers-are) (h .grounds-are) (h .holds .added-are))
           ∙ ap (λ (u : Planned). outcome u (held c p)) y
 
-      pub ends-answered : (x : CorridorPlan) → r ≡ Answered x → out ≡ finished false lent → Ends (Answered x) out
+      ends-answered : (x : CorridorPlan) → r ≡ Answered x → out ≡ finished false lent → Ends (Answered x) out
       ends-answered x q e =
           ends-by (Answered x) out (ap (λ (u : Slices). outcome (Answered x) u) e ∙ answered-by x q (planFor c target) whole ∙ ends)
+
+      -- by what planning says
+      ends-as : (y : Planned) → r ≡ y → out ≡ finished (isRefused y) lent → Ends y out
+      ends-as (Refused f) q e = ends-refused f q e
+      ends-as (Answered x) q e = ends-answered x q e
+
+      pub ends-said : (said : Planned) → said ≡ r → out ≡ finished (isRefused r) lent → Ends said out
+      ends-said said q e = subst (λ (y : Planned). Ends y out) (sym q) (ends-as r refl e)

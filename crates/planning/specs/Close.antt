@@ -1,6 +1,6 @@
 -- What the contracts of module close cite: the closing figures by the columns that each reads, and the slices as planning leaves them.
 use Prim.Native.Nat.{ℕ, _+_, _-_, _≤_}
-use mathlib.Core.Bool.{Bool, cond, _&&_}
+use mathlib.Core.Bool.{Bool, true, false, cond, _&&_}
 use mathlib.Core.List.{List, [], map}
 use mathlib.Core.Path.{_≡_}
 use lib.Dec.{ltb, leb}
@@ -17,6 +17,8 @@ use Rattle.plan_defs.specs.Closing.{leastOf, needOf, maxLoading, overloadedOf, 
 use Rattle.plan_defs.specs.Components.{leads, members}
 use Rattle.plan_defs.specs.Outcome.{Slices, slices}
 use Rattle.plan_defs.specs.declared.CircuitDesign.{CircuitDesign}
+use Rattle.plan_defs.specs.declared.Planned.{Planned}
+use Rattle.plan_defs.specs.declared.Planned.the-variants.{Answered, Refused}
 use Rattle.planning.specs.declared.close.Closing.{Closing}
 
 -- ---- a case that has a mode and a number of corridors alone, and one that has the levels alone
@@ -74,6 +76,10 @@ figuresIf refused l = cond refused (replicate (length l) nought) l
 
 abbrev pub countsIf : Bool → List ℕ → List ℕ
 countsIf refused l = cond refused (replicate (length l) 0) l
+
+abbrev pub isRefused : Planned → Bool
+isRefused (Answered p) = false
+isRefused (Refused f) = true
 
 abbrev pub finished : Bool → Slices → Slices
 finished refused s =

@@ -13,7 +13,7 @@ ghost use Rattle.plan_defs.specs.Outcome.{slices, upTo};
 ghost use Rattle.plan_defs.specs.declared.CircuitDesign.{CircuitDesign};
 ghost use Rattle.planning.specs.Design.{Lines};
 ghost use Rattle.planning.specs.Fill.{designsFor, Drawable, Loaded};
-ghost use Rattle.planning.specs.Close.{corridorsOf, levelsFor, widerBy, loadingsBy, Rated, capFull, addedAt, Closable, closingOf, figuresIf, countsIf, finished};
+ghost use Rattle.planning.specs.Close.{corridorsOf, levelsFor, widerBy, loadingsBy, Rated, capFull, addedAt, Closable, closingOf, figuresIf, countsIf, isRefused, finished};
 use crate::design::circuit;
 use crate::figures::clear_counts;
 use crate::figures::clear_figures;
@@ -30,6 +30,7 @@ use crate::policy::cap_at;
 use crate::policy::expands;
 use crate::size::PLANNING_UTILISATION;
 use mode::PlanMode;
+use plan_defs::Planned;
 
 // A loading above 1, or a need above the circuits there are, counts where it is above by more than this.
 const LOADING_TOLERANCE: f64 = 1e-9;
@@ -325,7 +326,7 @@ fn clear_figures_if(refused: bool, l: &mut [f64])
 }
 
 // After 8 or 9 every result place is zero; work is zero always.
-pub fn finish(
+fn finish(
     refused: bool,
     circuits: &mut [u32],
     flow: &mut [f64],
@@ -350,4 +351,57 @@ pub fn finish(
     clear_figures_if(refused, added);
     clear_figures(figures);
     clear_counts(counts);
+}
+
+// The slices as planning hands them back, by what it says.
+pub fn hand_back(
+    said: Planned,
+    circuits: &mut [u32],
+    flow: &mut [f64],
+    rate: &mut [f64],
+    mw: &mut [f64],
+    angle: &mut [f64],
+    tier: &mut [u32],
+    ground: &mut [u32],
+    added: &mut [f64],
+    figures: &mut [f64],
+    counts: &mut [u32],
+) -> Planned
+    ensures said { λ r. ⌜ r ≡ said ⌝ }
+    ensures lent { λ _. ⌜ slices (now (circuits .exit)) (now (flow .exit)) (now (rate .exit)) (now (mw .exit)) (now (angle .exit)) (now (tier .exit)) (now (ground .exit)) (now (added .exit)) (now (figures .exit)) (now (counts .exit)) ≡ finished (isRefused said) (slices (now (circuits .entry)) (now (flow .entry)) (now (rate .entry)) (now (mw .entry)) (now (angle .entry)) (now (tier .entry)) (now (ground .entry)) (now (added .entry)) (now (figures .entry)) (now (counts .entry))) ⌝ }
+{
+    match said {
+        Planned::Refused(f) => {
+            finish(
+                true,
+                circuits,
+                flow,
+                rate,
+                mw,
+                angle,
+                tier,
+                ground,
+                added,
+                figures,
+                counts,
+            );
+            Planned::Refused(f)
+        }
+        Planned::Answered(p) => {
+            finish(
+                false,
+                circuits,
+                flow,
+                rate,
+                mw,
+                angle,
+                tier,
+                ground,
+                added,
+                figures,
+                counts,
+            );
+            Planned::Answered(p)
+        }
+    }
 }

@@ -109,7 +109,7 @@ pub fn plan_corridors(
         Answer::Refused(f) => return Planned::Refused(f),
         Answer::Answered => {}
     }
-    match plan::run(
+    let said = plan::run(
         mode,
         target,
         above,
@@ -138,38 +138,18 @@ pub fn plan_corridors(
         added,
         figures,
         counts,
-    ) {
-        Planned::Refused(f) => {
-            close::finish(
-                true,
-                circuits,
-                flow,
-                rate,
-                mw,
-                angle,
-                level,
-                ground,
-                added,
-                figures,
-                counts,
-            );
-            Planned::Refused(f)
-        }
-        Planned::Answered(p) => {
-            close::finish(
-                false,
-                circuits,
-                flow,
-                rate,
-                mw,
-                angle,
-                level,
-                ground,
-                added,
-                figures,
-                counts,
-            );
-            Planned::Answered(p)
-        }
-    }
+    );
+    close::hand_back(
+        said,
+        circuits,
+        flow,
+        rate,
+        mw,
+        angle,
+        level,
+        ground,
+        added,
+        figures,
+        counts,
+    )
 }

@@ -25,9 +25,10 @@ use Rattle.plan_defs.specs.Raise.{Raised, noMarks, canRaise, markIf, tooHeavy, 
 use Rattle.plan_defs.specs.declared.CircuitDesign.{CircuitDesign}
 use Rattle.planning.specs.Design.{linesFor, Lines}
 use Rattle.planning.specs.Raise.{pairsFor}
-use Rattle.planning.specs.Redesign.{banksAnew, RedesignFits}
+use Rattle.planning.specs.Redesign.{redesignFor, banksAnew}
 use Rattle.planning.specs.Solve.{peakFor, solvedOf}
 use Rattle.planning.specs.Sound.{Sound}
+use Rattle.planning.specs.Rounds.{Redrawn}
 use Rattle.planning.specs.Raises.{heavyFor, passFor, raisedOf, passedAs, HeavyRaised}
 use Rattle.planning.specs.declared.raises.Raised.the-variants.{Promoted}
 use Rattle.planning.proofs.Draws.{drawn-lifts}
@@ -86,18 +87,29 @@ module _ (ladder : List Float) (level a b : List ℕ) (km share sheet : List Flo
   pub lines-again : Lines ladder level a b km share sheet → Lines ladder level′ a b km share sheet
   lines-again lines = subst (λ (l : List ℕ). Lines ladder l a b km share sheet) (sym e) (lines-raised ladder level a b km share sheet marks lines)
 
-  pub redesign-again : (load : List Float) (bus : List ℕ) (pmax floors banks : List Float)
-      → RedesignFits ladder level a b km share sheet load bus pmax floors banks → RedesignFits ladder level′ a b km share sheet load bus pmax floors banks
-  redesign-again load bus pmax floors banks p =
-      let n : length level′ ≡ length level = ap length e ∙ raised-length level marks in
-      record {
-        lines = lines-again (p .lines);
-        loads = record { load-size = p .loads .load-size ∙ sym n; few = omega (arith, n, p .loads .few); sound = p .loads .sound };
-        units = p .units;
-        few = p .few;
-        floor-size = p .floor-size;
-        bank-size = p .bank-size;
-      }
+-- the marked buses raised and the corridors designed anew, where the marks are the heavy corridors'
+pub heavy-raised : (ladder : List Float) (level a b : List ℕ) (km share sheet load : List Float) (bus : List ℕ) (pmax flow floors banks : List Float) (level′ : List ℕ) (banks′ : List Float) (moved : ℕ) (marks : List ℕ)
+    → marks ≡ heavyMarks (heavyFor (length level) ladder a b km share sheet) (raisedOf (heavyFor (length level) ladder a b km share sheet) level banks 0) flow
+    → Redrawn ladder level a b km share sheet load bus pmax marks floors banks level′ banks′ moved
+    → HeavyRaised ladder level a b km share sheet load bus pmax flow floors banks level′ banks′ moved marks
+heavy-raised ladder level a b km share sheet load bus pmax flow floors banks level′ banks′ zero marks e d =
+    record {
+      marks-are = e;
+      count = d .count;
+      levels = d .still refl .0 ∙ sym (none-raised level marks (sym (d .count)));
+      kept = λ z. d .still refl .1;
+      anew = λ z. absurd (z refl);
+      banked = d .banked;
+    }
+heavy-raised ladder level a b km share sheet load bus pmax flow floors banks level′ banks′ (suc m) marks e d =
+    record {
+      marks-are = e;
+      count = d .count;
+      levels = d .anew m refl .0;
+      kept = λ z. absurd (omega (arith, z));
+      anew = λ z. d .anew m refl .1 ∙ ap (λ (l : List ℕ). banksAnew (redesignFor ladder load bus pmax a b km share sheet) l floors) (sym (d .anew m refl .0));
+      banked = d .banked;
+    }
 
 -- ---- a pass
 module _ (ladder : List Float) (level a b : List ℕ) (km share sheet load : List Float) (bus : List ℕ) (pmax : List Float) (grounds : List ℕ) (injection : List Float)

@@ -31,6 +31,7 @@ pub mod Liftings
 pub mod Unadded
 pub mod Redrawing
 pub mod Rounding
+pub mod Turns
 pub mod Heavies
 pub mod Promoting
 pub mod Settling

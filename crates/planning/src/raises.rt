@@ -13,8 +13,7 @@ use crate::figures::float;
 use crate::figures::magnitude;
 use crate::policy::promotes;
 use crate::raise::mark_raise_to;
-use crate::raise::raise_buses;
-use crate::redesign::redesign;
+use crate::rounds::raise_marked;
 use crate::size::PLANNING_UTILISATION;
 use crate::size::UPGRADE_CIRCUITS;
 use crate::solve::planning_state;
@@ -113,13 +112,8 @@ fn raise_heavy(
         (now (level .exit)) (now (banks .exit)) r (now (marks .exit)) ⌝ }
 {
     heavy_marks(ladder, level, a, b, km, share, sheet, banks, flow, marks);
-    let moved = raise_buses(marks, level);
-    if moved == 0 {
-        return 0;
-    }
-    redesign(
+    raise_marked(
         ladder,
-        level,
         a,
         b,
         km,
@@ -129,9 +123,10 @@ fn raise_heavy(
         bus,
         pmax,
         floors,
+        marks,
+        level,
         banks,
-    );
-    moved
+    )
 }
 
 // One pass, solved from zero.

@@ -41,7 +41,7 @@ pub enum Rounds {
 }
 
 // Raises the marked buses, and designs every corridor anew where one moved; how many did.
-fn raise_marked(
+pub fn raise_marked(
     ladder: &[f64],
     a: &[u32],
     b: &[u32],

@@ -26,6 +26,7 @@ use Rattle.planning.proofs.States.{drawn-edges}
 use Rattle.planning.proofs.Redrawing.{still-none}
 use Rattle.planning.proofs.Corridors.{left as to-size, left-start, left-turn}
 use Rattle.planning.proofs.Rounding.{Alike, alike-trans, few-sum, few-high, goesOn, stiffensOn, round-refused, sized-again, nothing-done, still-sized, sized-settled, stiffens, stiffen-refused, stiffen-next, stiffened-again, stiffened-settled, ended}
+use Rattle.planning.proofs.Turns.{one-less, moved-more, sized-more, stiffened-more, still-stiffened, circuits-more, ends-more, fit-again}
 use Rattle.planning.specs.declared.stiffen.Stiffened.{Stiffened}
 use Rattle.planning.proofs.rounds.size_rounds.Statement.{statement}
 use Rattle.planning.proofs.rounds.size_rounds.Tie as tie
@@ -322,34 +323,28 @@ rounds-again c =
     let l = c .before .before .before .before .before .before .before .before .before .before .before .before .before .before .before .before .before .before .before .before .before .before .before .before .before .before .before .before .before .before .before .before .corridors in
     let ln = ap (λ (x : List ℕ). length x) (l .inv .1) in
     let n = c .before .before .before .before .before .before .before .raise-marked .kept .1 .1 .1 .1 .1 .1 .1 .1 .1 .1 .1 .0 ∙ ln in (
-      record {
-        columns = record { lines = c .before .before .before .before .before .before .before .raise-marked .ensures .lines; loads = record { load-size = r .inv .0 .columns .loads .load-size ∙ sym n; few = omega (arith, n, r .inv .0 .columns .loads .few); sound = r .inv .0 .columns .loads .sound }; units = r .inv .0 .columns .units; few = r .inv .0 .columns .few };
-        places =
-            record {
-              leader-size = r .inv .0 .places .leader-size ∙ sym n;
-              few-grounds = r .inv .0 .places .few-grounds;
-              ground-below = λ i h. omega (arith, n, r .inv .0 .places .ground-below i h);
-              injection-size = r .inv .0 .places .injection-size ∙ sym n;
-              count-size = c .before .before .before .before .before .before .before .before .before .before .before .before .before .before .before .before .before .before .before .before .before .before .before .size-corridor .kept .1 .1 .1 .1 .1 .1 .1 .1 .1 .1 .0 ∙ l .inv .3 .count-size;
-              bank-size = c .before .before .before .before .before .before .before .raise-marked .kept .1 .1 .1 .1 .1 .1 .1 .1 .1 .1 .1 .1 .0 ∙ c .before .before .before .before .before .before .before .before .before .before .before .before .before .before .before .before .before .before .before .before .before .before .before .size-corridor .kept .1 .1 .1 .1 .1 .1 .1 .1 .1 .1 .1 .0 ∙ l .inv .3 .bank-size;
-              floor-size = c .before .before .before .before .before .before .before .before .before .before .before .before .before .before .before .before .before .before .before .before .before .before .before .size-corridor .kept .1 .1 .1 .1 .1 .1 .1 .1 .1 .1 .1 .1 .0 ∙ l .inv .3 .floor-size;
-              upsized-size = c .before .before .before .before .before .before .before .before .before .before .before .before .before .before .before .before .before .before .before .before .before .before .before .size-corridor .kept .1 .1 .1 .1 .1 .1 .1 .1 .1 .1 .1 .1 .1 .0 ∙ l .inv .3 .upsized-size;
-              mark-size = c .before .before .before .before .before .before .before .before .before .before .before .before .before .before .before .before .before .before .before .before .before .before .before .size-corridor .kept .1 .1 .1 .1 .1 .1 .1 .1 .1 .1 .1 .1 .1 .1 .0 ∙ l .inv .3 .mark-size ∙ ln ∙ sym n;
-              angle-size = c .before .before .before .before .before .before .before .before .before .before .before .before .before .before .before .before .before .before .before .before .before .before .before .before .before .before .before .before .before .before .before .before .before .before .before .before .before .before .before .before .before .before .before .before .before .planning-state .kept .1 .1 .1 .1 .1 .1 .1 .1 .1 .1 .1 .0 ∙ r .inv .0 .places .angle-size ∙ sym n;
-              flow-size = c .before .before .before .before .before .before .before .before .before .before .before .before .before .before .before .before .before .before .before .before .before .before .before .before .before .before .before .before .before .before .before .before .before .before .before .before .before .before .before .before .before .before .before .before .before .planning-state .kept .1 .1 .1 .1 .1 .1 .1 .1 .1 .1 .1 .1 .0 ∙ r .inv .0 .places .flow-size;
-              work-size = c .before .before .before .before .before .before .before .before .before .before .before .before .before .before .before .before .before .before .before .before .before .before .before .before .before .before .before .before .before .before .before .before .before .before .before .before .before .before .before .before .before .before .before .before .before .planning-state .kept .1 .1 .1 .1 .1 .1 .1 .1 .1 .1 .1 .1 .1 .0 ∙ r .inv .0 .places .work-size ∙ ap (λ (x : ℕ). 8 * x) (sym n);
-            };
-        tallies = record {
-          few-levels = r .inv .0 .tallies .few-levels;
-          rounds = omega (arith, ap (λ (q : Progress). q .rounds) (l .inv .2), r .inv .0 .tallies .rounds, c .before .before .before .before .before .before .before .before .before .before .before .before .before .before .before .before .before .before .before .before .before .before .before .before .before .before .before .before .before .before .before .before .before .before .before .before .before .before .before .before .before .before .before .before .before .before .before .before .before .before .before .before .before .rounds-test .taken);
-          promoted = omega (arith, ap (λ (q : Progress). q .promoted) (l .inv .2), ap (λ (q : Progress). q .rounds) (l .inv .2), r .inv .0 .tallies .promoted, c .before .before .before .before .before .before .before .raise-marked .ensures .few, ln, r .inv .0 .columns .loads .few);
-          capacity = omega (arith, ap (λ (q : Progress). q .rounds) (l .inv .2), c .before .before .before .before .before .before .before .before .before .before .before .before .before .before .before .before .before .before .before .before .before .before .before .size-corridor .ensures .bound, l .inv .6, r .inv .0 .tallies .capacity, r .inv .0 .columns .few, c .before .before .before .before .before .before .before .before .before .before .before .before .before .before .before .before .before .before .before .before .before .before .before .before .before .before .before .before .before .before .before .corridors-test .taken);
-          stiffening = omega (arith, ap (λ (q : Progress). q .rounds) (l .inv .2), ap (λ (q : Progress). q .stiffening) (l .inv .2), r .inv .0 .tallies .stiffening);
-        };
-        some = r .inv .0 .some;
-        banked = c .before .before .before .before .before .before .before .raise-marked .ensures .banked;
-        few = c .before .before .before .before .before .before .before .before .before .before .before .before .before .before .before .before .before .before .before .before .before .before .before .size-corridor .ensures .few (l .inv .5);
-      },
+      fit-again
+          (r .inv .0)
+          n
+          (c .before .before .before .before .before .before .before .raise-marked .ensures .lines)
+          (c .before .before .before .before .before .before .before .before .before .before .before .before .before .before .before .before .before .before .before .before .before .before .before .size-corridor .kept .1 .1 .1 .1 .1 .1 .1 .1 .1 .1 .0 ∙ l .inv .3 .count-size)
+          (c .before .before .before .before .before .before .before .raise-marked .kept .1 .1 .1 .1 .1 .1 .1 .1 .1 .1 .1 .1 .0 ∙ c .before .before .before .before .before .before .before .before .before .before .before .before .before .before .before .before .before .before .before .before .before .before .before .size-corridor .kept .1 .1 .1 .1 .1 .1 .1 .1 .1 .1 .1 .0 ∙ l .inv .3 .bank-size)
+          (c .before .before .before .before .before .before .before .before .before .before .before .before .before .before .before .before .before .before .before .before .before .before .before .size-corridor .kept .1 .1 .1 .1 .1 .1 .1 .1 .1 .1 .1 .1 .0 ∙ l .inv .3 .floor-size)
+          (c .before .before .before .before .before .before .before .before .before .before .before .before .before .before .before .before .before .before .before .before .before .before .before .size-corridor .kept .1 .1 .1 .1 .1 .1 .1 .1 .1 .1 .1 .1 .1 .0 ∙ l .inv .3 .upsized-size)
+          (c .before .before .before .before .before .before .before .before .before .before .before .before .before .before .before .before .before .before .before .before .before .before .before .size-corridor .kept .1 .1 .1 .1 .1 .1 .1 .1 .1 .1 .1 .1 .1 .1 .0 ∙ l .inv .3 .mark-size ∙ ln)
+          (c .before .before .before .before .before .before .before .before .before .before .before .before .before .before .before .before .before .before .before .before .before .before .before .before .before .before .before .before .before .before .before .before .before .before .before .before .before .before .before .before .before .before .before .before .before .planning-state .kept .1 .1 .1 .1 .1 .1 .1 .1 .1 .1 .1 .0 ∙ r .inv .0 .places .angle-size)
+          (c .before .before .before .before .before .before .before .before .before .before .before .before .before .before .before .before .before .before .before .before .before .before .before .before .before .before .before .before .before .before .before .before .before .before .before .before .before .before .before .before .before .before .before .before .before .planning-state .kept .1 .1 .1 .1 .1 .1 .1 .1 .1 .1 .1 .1 .0 ∙ r .inv .0 .places .flow-size)
+          (c .before .before .before .before .before .before .before .before .before .before .before .before .before .before .before .before .before .before .before .before .before .before .before .before .before .before .before .before .before .before .before .before .before .before .before .before .before .before .before .before .before .before .before .before .before .planning-state .kept .1 .1 .1 .1 .1 .1 .1 .1 .1 .1 .1 .1 .1 .0 ∙ r .inv .0 .places .work-size)
+          (
+          record {
+            few-levels = r .inv .0 .tallies .few-levels;
+            rounds = one-less (r .p .rounds) (l .p .rounds) (r .left) (ap (λ (q : Progress). q .rounds) (l .inv .2)) (r .inv .0 .tallies .rounds) (c .before .before .before .before .before .before .before .before .before .before .before .before .before .before .before .before .before .before .before .before .before .before .before .before .before .before .before .before .before .before .before .before .before .before .before .before .before .before .before .before .before .before .before .before .before .before .before .before .before .before .before .before .before .rounds-test .taken);
+            promoted = moved-more (r .p .rounds) (l .p .rounds) (r .p .promoted) (l .p .promoted) _ (length (r .level)) (length (l .level)) (ap (λ (q : Progress). q .rounds) (l .inv .2)) (ap (λ (q : Progress). q .promoted) (l .inv .2)) (r .inv .0 .tallies .promoted) (c .before .before .before .before .before .before .before .raise-marked .ensures .few) ln (r .inv .0 .columns .loads .few);
+            capacity = omega (arith, ap (λ (q : Progress). q .rounds) (l .inv .2), c .before .before .before .before .before .before .before .before .before .before .before .before .before .before .before .before .before .before .before .before .before .before .before .size-corridor .ensures .bound, l .inv .6, r .inv .0 .tallies .capacity, r .inv .0 .columns .few, c .before .before .before .before .before .before .before .before .before .before .before .before .before .before .before .before .before .before .before .before .before .before .before .before .before .before .before .before .before .before .before .corridors-test .taken);
+            stiffening = still-stiffened (r .p .rounds) (l .p .rounds) (r .p .stiffening) (l .p .stiffening) (ap (λ (q : Progress). q .rounds) (l .inv .2)) (ap (λ (q : Progress). q .stiffening) (l .inv .2)) (r .inv .0 .tallies .stiffening);
+          })
+          (c .before .before .before .before .before .before .before .raise-marked .ensures .banked)
+          (c .before .before .before .before .before .before .before .before .before .before .before .before .before .before .before .before .before .before .before .before .before .before .before .size-corridor .ensures .few (l .inv .5)),
       n ∙ r .inv .1,
       r .inv .2,
       sized-again (z .mode) (z .above) (now (z .ladder)) (now (z .a)) (now (z .b)) (now (z .km)) (now (z .share)) (now (z .sheet)) (now (z .load)) (now (z .bus)) (now (z .pmax)) (now (z .leader)) (now (z .grounds)) (now (z .injection)) (length (now (z .leader))) (l .level) (r .level) (r .circuits) (r .banks) (r .floors) (r .upsized) (r .angle) (r .p) (goesOn (z .mode) (z .above) (now (z .ladder)) (now (z .a)) (now (z .b)) (now (z .km)) (now (z .share)) (now (z .sheet)) (now (z .load)) (now (z .bus)) (now (z .pmax)) (now (z .leader)) (now (z .grounds)) (now (z .injection)) (length (now (z .leader))) (z .budget) (now (z .level)) (now (z .circuits)) (now (z .banks)) (now (z .floors)) (now (z .upsized)) (now (z .angle)) (z .start)) (r .left) (r .left - 1) (omega (arith, c .before .before .before .before .before .before .before .before .before .before .before .before .before .before .before .before .before .before .before .before .before .before .before .before .before .before .before .before .before .before .before .before .before .before .before .before .before .before .before .before .before .before .before .before .before .before .before .before .before .before .before .before .before .rounds-test .taken)) (l .inv .1) (sym (r .inv .0 .places .leader-size)) (r .inv .3) _ _ _ (c .before .before .before .before .before .before .before .before .before .before .before .before .before .before .before .before .before .before .before .before .before .before .before .before .before .before .before .before .before .before .before .before .before .before .before .before .before .before .before .before .before .before .before .before .before .planning-state .ensures) (c .before .before .before .before .before .before .before .before .before .before .before .before .before .before .before .before .before .before .before .before .before .before .before .before .before .before .before .before .before .before .before .before .before .before .before .before .before .enum-told .given .1) _ _ _ _ _ _ _ (omega (arith, c .before .before .before .before .before .before .before .before .before .before .before .before .if1 .taken)) (left-turn (z .mode) (length (l .level)) (now (z .ladder)) (l .level) (now (z .a)) (now (z .b)) (now (z .km)) (now (z .share)) (now (z .sheet)) _ (l .k) (l .circuits) (l .banks) (l .floors) (l .upsized) (l .marks) (l .t) _ _ _ _ _ _ (c .before .before .before .before .before .before .before .before .before .before .before .before .before .before .before .before .before .before .before .before .before .before .before .before .before .before .before .before .before .before .before .corridors-test .taken) (c .before .before .before .before .before .before .before .before .before .before .before .before .before .before .before .before .before .before .before .before .before .before .before .size-corridor .ensures .sized) ∙ l .inv .7) _ (l .inv .2) _ _ _ (c .before .before .before .before .before .before .before .raise-marked .ensures) (c .before .if2 .taken),
@@ -760,37 +755,32 @@ rounds-again-3 c =
     let k = c .before .before .before .before .before .before .before .before .before .before .before .before .before .before .before .before .before .before .before .before .before .before .before .before .before .before .before .before .before .before .before .before .before .before .before .before .before .before .before .before .before .components in
     let f = r .inv .0 in
     let lv = k .inv .1 ∙ l .inv .1 in
+    let pv = k .inv .2 ∙ l .inv .2 in
     let ln = ap (λ (x : List ℕ). length x) lv in
     let w = subst (λ (x : Stiffened). Within (length (now (z .a))) (k .s) x) (c .before .before .before .before .before .before .before .before .before .before .before .before .before .before .u .given .1) (c .before .before .before .before .before .before .before .before .before .before .before .before .before .before .before .before .before .before .before .before .before .before .before .before .before .before .before .before .stiffen-led .ensures .bound) in
     let n = c .before .before .before .before .before .before .before .raise-marked2 .kept .1 .1 .1 .1 .1 .1 .1 .1 .1 .1 .1 .0 ∙ ln in (
-      record {
-        columns = record { lines = c .before .before .before .before .before .before .before .raise-marked2 .ensures .lines; loads = record { load-size = r .inv .0 .columns .loads .load-size ∙ sym n; few = omega (arith, n, r .inv .0 .columns .loads .few); sound = r .inv .0 .columns .loads .sound }; units = r .inv .0 .columns .units; few = r .inv .0 .columns .few };
-        places =
-            record {
-              leader-size = r .inv .0 .places .leader-size ∙ sym n;
-              few-grounds = r .inv .0 .places .few-grounds;
-              ground-below = λ i h. omega (arith, n, r .inv .0 .places .ground-below i h);
-              injection-size = r .inv .0 .places .injection-size ∙ sym n;
-              count-size = c .before .before .before .before .before .before .before .before .before .before .before .before .before .before .before .before .before .before .before .before .before .before .before .before .before .before .before .before .stiffen-led .kept .1 .1 .1 .1 .1 .1 .1 .1 .1 .1 .1 .1 .1 .1 .1 .1 .0 ∙ k .inv .3 .0 ∙ l .inv .3 .count-size;
-              bank-size = c .before .before .before .before .before .before .before .raise-marked2 .kept .1 .1 .1 .1 .1 .1 .1 .1 .1 .1 .1 .1 .0 ∙ c .before .before .before .before .before .before .before .before .before .before .before .before .before .before .before .before .before .before .before .before .before .before .before .before .before .before .before .before .stiffen-led .kept .1 .1 .1 .1 .1 .1 .1 .1 .1 .1 .1 .1 .1 .1 .1 .1 .1 .0 ∙ k .inv .3 .1 ∙ l .inv .3 .bank-size;
-              floor-size = c .before .before .before .before .before .before .before .before .before .before .before .before .before .before .before .before .before .before .before .before .before .before .before .before .before .before .before .before .stiffen-led .kept .1 .1 .1 .1 .1 .1 .1 .1 .1 .1 .1 .1 .1 .1 .1 .1 .1 .1 .0 ∙ k .inv .3 .2 ∙ l .inv .3 .floor-size;
-              upsized-size = c .before .before .before .before .before .before .before .before .before .before .before .before .before .before .before .before .before .before .before .before .before .before .before .before .before .before .before .before .stiffen-led .kept .1 .1 .1 .1 .1 .1 .1 .1 .1 .1 .1 .1 .1 .1 .1 .1 .1 .1 .1 .0 ∙ k .inv .3 .3 ∙ l .inv .3 .upsized-size;
-              mark-size = c .before .before .before .before .before .before .before .before .before .before .before .before .before .before .before .before .before .before .before .before .before .before .before .before .before .before .before .before .stiffen-led .kept .1 .1 .1 .1 .1 .1 .1 .1 .1 .1 .1 .1 .1 .1 .1 .1 .1 .1 .1 .1 .0 ∙ k .inv .3 .4 ∙ c .before .before .before .before .before .before .before .before .before .before .before .before .before .before .before .before .before .before .before .before .before .before .before .before .before .before .before .before .before .before .before .before .before .before .before .before .before .before .before .before .before .before .before .before .stiffness-from .kept .1 .1 .1 .1 .0 ∙ l .inv .3 .mark-size ∙ ap (λ (x : List ℕ). length x) (l .inv .1) ∙ sym n;
-              angle-size = c .before .before .before .before .before .before .before .before .before .before .before .before .before .before .before .before .before .before .before .before .before .before .before .before .before .before .before .before .before .before .before .before .before .before .before .before .before .before .before .before .before .before .before .before .before .before .before .before .before .before .before .before .before .before .before .before .before .before .before .before .before .before .before .before .before .before .before .before .before .before .before .planning-state .kept .1 .1 .1 .1 .1 .1 .1 .1 .1 .1 .1 .0 ∙ r .inv .0 .places .angle-size ∙ sym n;
-              flow-size = c .before .before .before .before .before .before .before .before .before .before .before .before .before .before .before .before .before .before .before .before .before .before .before .before .before .before .before .before .before .before .before .before .before .before .before .before .before .before .before .before .before .before .before .before .before .before .before .before .before .before .before .before .before .before .before .before .before .before .before .before .before .before .before .before .before .before .before .before .before .before .before .planning-state .kept .1 .1 .1 .1 .1 .1 .1 .1 .1 .1 .1 .1 .0 ∙ r .inv .0 .places .flow-size;
-              work-size = c .before .before .before .before .before .before .before .before .before .before .before .before .before .before .before .before .before .before .before .before .before .before .before .before .before .before .before .before .stiffen-led .kept .1 .1 .1 .1 .1 .1 .1 .1 .1 .1 .1 .1 .1 .1 .1 .1 .1 .1 .1 .1 .1 .0 ∙ k .inv .3 .5 ∙ c .before .before .before .before .before .before .before .before .before .before .before .before .before .before .before .before .before .before .before .before .before .before .before .before .before .before .before .before .before .before .before .before .before .before .before .before .before .before .before .before .before .before .before .before .before .before .before .before .before .before .before .before .before .before .before .before .before .before .before .before .before .before .before .before .before .before .before .before .before .before .before .planning-state .kept .1 .1 .1 .1 .1 .1 .1 .1 .1 .1 .1 .1 .1 .0 ∙ r .inv .0 .places .work-size ∙ ap (λ (x : ℕ). 8 * x) (sym n);
-            };
-        tallies = record {
-          few-levels = f .tallies .few-levels;
-          rounds = omega (arith, ap (λ (q : Progress). q .rounds) (k .inv .2 ∙ l .inv .2), f .tallies .rounds, c .before .before .before .before .before .before .before .before .before .before .before .before .before .before .before .before .before .before .before .before .before .before .before .before .before .before .before .before .before .before .before .before .before .before .before .before .before .before .before .before .before .before .before .before .before .before .before .before .before .before .before .before .before .before .before .before .before .before .before .before .before .before .before .before .before .before .before .before .before .before .before .before .before .before .before .before .before .before .before .rounds-test .taken);
-          promoted = omega (arith, ap (λ (q : Progress). q .promoted) (k .inv .2 ∙ l .inv .2), ap (λ (q : Progress). q .rounds) (k .inv .2 ∙ l .inv .2), f .tallies .promoted, c .before .before .before .before .before .before .before .raise-marked2 .ensures .few, ln, f .columns .loads .few);
-          capacity = omega (arith, ap (λ (q : Progress). q .rounds) (k .inv .2 ∙ l .inv .2), l .inv .6, l .inv .0, f .tallies .capacity, f .columns .few);
-          stiffening = omega (arith, ap (λ (q : Progress). q .rounds) (k .inv .2 ∙ l .inv .2), w .2, k .inv .6 .2, ap (λ (x : Stiffness). x .stiffening) (c .before .before .before .before .before .before .before .before .before .before .before .before .before .before .before .before .before .before .before .before .before .before .before .before .before .before .before .before .before .before .before .before .before .before .before .before .before .before .before .before .before .before .before .before .stiffness-from .ensures .1), ap (λ (q : Progress). q .stiffening) (l .inv .2), f .tallies .stiffening, c .before .before .before .before .before .before .before .before .before .before .before .before .before .before .before .before .before .before .before .before .before .before .before .before .before .before .before .before .before .before .before .before .before .before .before .before .before .before .before .before .components-test .taken, f .places .leader-size, f .columns .loads .few, f .columns .few);
-        };
-        some = r .inv .0 .some;
-        banked = c .before .before .before .before .before .before .before .raise-marked2 .ensures .banked;
-        few = c .before .before .before .before .before .before .before .before .before .before .before .before .before .before .before .before .before .before .before .before .before .before .before .before .before .before .before .before .stiffen-led .ensures .few (k .inv .5);
-      },
+      fit-again
+          f
+          n
+          (c .before .before .before .before .before .before .before .raise-marked2 .ensures .lines)
+          (c .before .before .before .before .before .before .before .before .before .before .before .before .before .before .before .before .before .before .before .before .before .before .before .before .before .before .before .before .stiffen-led .kept .1 .1 .1 .1 .1 .1 .1 .1 .1 .1 .1 .1 .1 .1 .1 .1 .0 ∙ k .inv .3 .0 ∙ l .inv .3 .count-size)
+          (c .before .before .before .before .before .before .before .raise-marked2 .kept .1 .1 .1 .1 .1 .1 .1 .1 .1 .1 .1 .1 .0 ∙ c .before .before .before .before .before .before .before .before .before .before .before .before .before .before .before .before .before .before .before .before .before .before .before .before .before .before .before .before .stiffen-led .kept .1 .1 .1 .1 .1 .1 .1 .1 .1 .1 .1 .1 .1 .1 .1 .1 .1 .0 ∙ k .inv .3 .1 ∙ l .inv .3 .bank-size)
+          (c .before .before .before .before .before .before .before .before .before .before .before .before .before .before .before .before .before .before .before .before .before .before .before .before .before .before .before .before .stiffen-led .kept .1 .1 .1 .1 .1 .1 .1 .1 .1 .1 .1 .1 .1 .1 .1 .1 .1 .1 .0 ∙ k .inv .3 .2 ∙ l .inv .3 .floor-size)
+          (c .before .before .before .before .before .before .before .before .before .before .before .before .before .before .before .before .before .before .before .before .before .before .before .before .before .before .before .before .stiffen-led .kept .1 .1 .1 .1 .1 .1 .1 .1 .1 .1 .1 .1 .1 .1 .1 .1 .1 .1 .1 .0 ∙ k .inv .3 .3 ∙ l .inv .3 .upsized-size)
+          (c .before .before .before .before .before .before .before .before .before .before .before .before .before .before .before .before .before .before .before .before .before .before .before .before .before .before .before .before .stiffen-led .kept .1 .1 .1 .1 .1 .1 .1 .1 .1 .1 .1 .1 .1 .1 .1 .1 .1 .1 .1 .1 .0 ∙ k .inv .3 .4 ∙ c .before .before .before .before .before .before .before .before .before .before .before .before .before .before .before .before .before .before .before .before .before .before .before .before .before .before .before .before .before .before .before .before .before .before .before .before .before .before .before .before .before .before .before .before .stiffness-from .kept .1 .1 .1 .1 .0 ∙ l .inv .3 .mark-size ∙ ap (λ (x : List ℕ). length x) (l .inv .1))
+          (c .before .before .before .before .before .before .before .before .before .before .before .before .before .before .before .before .before .before .before .before .before .before .before .before .before .before .before .before .before .before .before .before .before .before .before .before .before .before .before .before .before .before .before .before .before .before .before .before .before .before .before .before .before .before .before .before .before .before .before .before .before .before .before .before .before .before .before .before .before .before .before .planning-state .kept .1 .1 .1 .1 .1 .1 .1 .1 .1 .1 .1 .0 ∙ r .inv .0 .places .angle-size)
+          (c .before .before .before .before .before .before .before .before .before .before .before .before .before .before .before .before .before .before .before .before .before .before .before .before .before .before .before .before .before .before .before .before .before .before .before .before .before .before .before .before .before .before .before .before .before .before .before .before .before .before .before .before .before .before .before .before .before .before .before .before .before .before .before .before .before .before .before .before .before .before .before .planning-state .kept .1 .1 .1 .1 .1 .1 .1 .1 .1 .1 .1 .1 .0 ∙ r .inv .0 .places .flow-size)
+          (c .before .before .before .before .before .before .before .before .before .before .before .before .before .before .before .before .before .before .before .before .before .before .before .before .before .before .before .before .stiffen-led .kept .1 .1 .1 .1 .1 .1 .1 .1 .1 .1 .1 .1 .1 .1 .1 .1 .1 .1 .1 .1 .1 .0 ∙ k .inv .3 .5 ∙ c .before .before .before .before .before .before .before .before .before .before .before .before .before .before .before .before .before .before .before .before .before .before .before .before .before .before .before .before .before .before .before .before .before .before .before .before .before .before .before .before .before .before .before .before .before .before .before .before .before .before .before .before .before .before .before .before .before .before .before .before .before .before .before .before .before .before .before .before .before .before .before .planning-state .kept .1 .1 .1 .1 .1 .1 .1 .1 .1 .1 .1 .1 .1 .0 ∙ r .inv .0 .places .work-size)
+          (
+          record {
+            few-levels = f .tallies .few-levels;
+            rounds = one-less (r .p .rounds) (k .p .rounds) (r .left) (ap (λ (q : Progress). q .rounds) pv) (f .tallies .rounds) (c .before .before .before .before .before .before .before .before .before .before .before .before .before .before .before .before .before .before .before .before .before .before .before .before .before .before .before .before .before .before .before .before .before .before .before .before .before .before .before .before .before .before .before .before .before .before .before .before .before .before .before .before .before .before .before .before .before .before .before .before .before .before .before .before .before .before .before .before .before .before .before .before .before .before .before .before .before .before .before .rounds-test .taken);
+            promoted = moved-more (r .p .rounds) (k .p .rounds) (r .p .promoted) (k .p .promoted) _ (length (r .level)) (length (k .level)) (ap (λ (q : Progress). q .rounds) pv) (ap (λ (q : Progress). q .promoted) pv) (f .tallies .promoted) (c .before .before .before .before .before .before .before .raise-marked2 .ensures .few) ln (f .columns .loads .few);
+            capacity = sized-more (r .p .rounds) (k .p .rounds) (r .p .capacity) (l .t .capacity) (l .k) (length (now (z .a))) (ap (λ (q : Progress). q .rounds) pv) (l .inv .6) (l .inv .0) (f .columns .few) (f .tallies .capacity);
+            stiffening = stiffened-more (r .p .rounds) (k .p .rounds) (r .p .stiffening) _ (k .s .stiffening) _ (k .i) (length (r .level)) (length (now (z .leader))) (length (now (z .a))) (ap (λ (q : Progress). q .rounds) pv) (w .2) (k .inv .6 .2) (ap (λ (x : Stiffness). x .stiffening) (c .before .before .before .before .before .before .before .before .before .before .before .before .before .before .before .before .before .before .before .before .before .before .before .before .before .before .before .before .before .before .before .before .before .before .before .before .before .before .before .before .before .before .before .before .stiffness-from .ensures .1) ∙ ap (λ (q : Progress). q .stiffening) (l .inv .2)) (f .tallies .stiffening) (c .before .before .before .before .before .before .before .before .before .before .before .before .before .before .before .before .before .before .before .before .before .before .before .before .before .before .before .before .before .before .before .before .before .before .before .before .before .before .before .before .components-test .taken) (f .places .leader-size) (f .columns .loads .few) (f .columns .few);
+          })
+          (c .before .before .before .before .before .before .before .raise-marked2 .ensures .banked)
+          (c .before .before .before .before .before .before .before .before .before .before .before .before .before .before .before .before .before .before .before .before .before .before .before .before .before .before .before .before .stiffen-led .ensures .few (k .inv .5)),
       n ∙ r .inv .1,
       c .before .before .before .before .before .before .before .before .before .before .before .before .before .before .before .before .before .before .before .before .before .before .before .before .before .before .before .before .before .before .before .before .before .before .before .before .before .before .before .before .before .before .before .before .before .before .before .before .before .before .draw-edges .ensures .1,
       alike-trans (z .mode) (z .above) (now (z .ladder)) (now (z .a)) (now (z .b)) (now (z .km)) (now (z .share)) (now (z .sheet)) (now (z .load)) (now (z .bus)) (now (z .pmax)) (now (z .leader)) (now (z .grounds)) (now (z .injection)) (length (now (z .leader))) _ _ (goesOn (z .mode) (z .above) (now (z .ladder)) (now (z .a)) (now (z .b)) (now (z .km)) (now (z .share)) (now (z .sheet)) (now (z .load)) (now (z .bus)) (now (z .pmax)) (now (z .leader)) (now (z .grounds)) (now (z .injection)) (length (now (z .leader))) (z .budget) (now (z .level)) (now (z .circuits)) (now (z .banks)) (now (z .floors)) (now (z .upsized)) (now (z .angle)) (z .start)) (stiffened-again (z .mode) (z .above) (now (z .ladder)) (now (z .a)) (now (z .b)) (now (z .km)) (now (z .share)) (now (z .sheet)) (now (z .load)) (now (z .bus)) (now (z .pmax)) (now (z .leader)) (now (z .grounds)) (now (z .injection)) (length (now (z .leader))) _ (r .left - 1) (k .level) _ _ _ _ _ _ (k .p) (l .t) (ln ∙ sym (f .places .leader-size)) (k .i + 1) _ _ _ _ _ _ (stiffen-next (z .mode) (z .above) (now (z .ladder)) (now (z .a)) (now (z .b)) (now (z .km)) (now (z .share)) (now (z .sheet)) (now (z .load)) (now (z .bus)) (now (z .pmax)) (now (z .leader)) (now (z .grounds)) (now (z .injection)) (length (now (z .leader))) _ (r .left - 1) (k .level) _ _ _ _ _ _ (k .p) (l .t) (ln ∙ sym (f .places .leader-size)) (k .i) (k .circuits) (k .banks) (k .floors) (k .upsized) (k .marks) (k .s) (k .inv .7) (c .before .before .before .before .before .before .before .before .before .before .before .before .before .before .before .before .before .before .before .before .before .before .before .before .before .before .before .before .before .before .before .before .before .before .before .before .before .before .before .before .components-test .taken) _ _ _ _ _ _ (c .before .before .before .before .before .before .before .before .before .before .before .before .before .before .before .before .before .before .before .before .before .before .before .before .before .before .before .before .stiffen-led .ensures) _ (c .before .before .before .before .before .before .before .before .before .before .before .before .before .before .u .given .1)) (omega (arith, c .before .before .before .before .before .before .before .before .before .before .before .before .if4 .taken)) (omega (arith, ap (λ (q : Progress). q .rounds) (k .inv .2 ∙ l .inv .2))) (ap (λ (q : Progress). q .converged) (k .inv .2 ∙ l .inv .2)) _ _ _ (c .before .before .before .before .before .before .before .raise-marked2 .ensures) (c .if5 .taken)) (stiffens (z .mode) (z .above) (now (z .ladder)) (now (z .a)) (now (z .b)) (now (z .km)) (now (z .share)) (now (z .sheet)) (now (z .load)) (now (z .bus)) (now (z .pmax)) (now (z .leader)) (now (z .grounds)) (now (z .injection)) (length (now (z .leader))) (l .level) (r .level) (r .circuits) (r .banks) (r .floors) (r .upsized) (r .angle) (r .p) (goesOn (z .mode) (z .above) (now (z .ladder)) (now (z .a)) (now (z .b)) (now (z .km)) (now (z .share)) (now (z .sheet)) (now (z .load)) (now (z .bus)) (now (z .pmax)) (now (z .leader)) (now (z .grounds)) (now (z .injection)) (length (now (z .leader))) (z .budget) (now (z .level)) (now (z .circuits)) (now (z .banks)) (now (z .floors)) (now (z .upsized)) (now (z .angle)) (z .start)) (r .left) (r .left - 1) (omega (arith, c .before .before .before .before .before .before .before .before .before .before .before .before .before .before .before .before .before .before .before .before .before .before .before .before .before .before .before .before .before .before .before .before .before .before .before .before .before .before .before .before .before .before .before .before .before .before .before .before .before .before .before .before .before .before .before .before .before .before .before .before .before .before .before .before .before .before .before .before .before .before .before .before .before .before .before .before .before .before .before .rounds-test .taken)) (l .inv .1) (sym (r .inv .0 .places .leader-size)) (r .inv .3) _ _ _ (c .before .before .before .before .before .before .before .before .before .before .before .before .before .before .before .before .before .before .before .before .before .before .before .before .before .before .before .before .before .before .before .before .before .before .before .before .before .before .before .before .before .before .before .before .before .before .before .before .before .before .before .before .before .before .before .before .before .before .before .before .before .before .before .before .before .before .before .before .before .before .before .planning-state .ensures) (c .before .before .before .before .before .before .before .before .before .before .before .before .before .before .before .before .before .before .before .before .before .before .before .before .before .before .before .before .before .before .before .before .before .before .before .before .before .before .before .before .before .before .before .before .before .before .before .before .before .before .before .before .before .before .before .before .before .before .before .before .before .before .before .enum-told .given .1) _ _ _ _ _ (l .t) (l .k) (c .before .before .before .before .before .before .before .before .before .before .before .before .before .before .before .before .before .before .before .before .before .before .before .before .before .before .before .before .before .before .before .before .before .before .before .before .before .before .before .before .before .before .before .before .before .before .before .before .before .before .before .before .before .before .before .before .before .corridors-test .left) (l .inv .7) (l .inv .8 (le-antisymm (l .inv .0) (c .before .before .before .before .before .before .before .before .before .before .before .before .before .before .before .before .before .before .before .before .before .before .before .before .before .before .before .before .before .before .before .before .before .before .before .before .before .before .before .before .before .before .before .before .before .before .before .before .before .before .before .before .before .before .before .before .before .corridors-test .left)) .1) (l .inv .8 (le-antisymm (l .inv .0) (c .before .before .before .before .before .before .before .before .before .before .before .before .before .before .before .before .before .before .before .before .before .before .before .before .before .before .before .before .before .before .before .before .before .before .before .before .before .before .before .before .before .before .before .before .before .before .before .before .before .before .before .before .before .before .before .before .before .corridors-test .left)) .2) (l .inv .8 (le-antisymm (l .inv .0) (c .before .before .before .before .before .before .before .before .before .before .before .before .before .before .before .before .before .before .before .before .before .before .before .before .before .before .before .before .before .before .before .before .before .before .before .before .before .before .before .before .before .before .before .before .before .before .before .before .before .before .before .before .before .before .before .before .before .corridors-test .left)) .0) (l .p) (l .inv .2) _ _ _ _ _ _ (c .before .before .before .before .before .before .before .before .before .before .before .before .before .before .before .before .before .before .before .before .before .before .before .before .before .before .before .before .before .before .before .before .before .before .before .before .before .before .before .before .before .before .before .before .before .before .before .before .before .before .draw-edges .ensures .0) (c .before .before .before .before .before .before .before .before .before .before .before .before .before .before .before .before .before .before .before .before .before .before .before .before .before .before .before .before .before .before .before .before .before .before .before .before .before .before .before .before .before .before .before .before .before .before .before .before .limits-of .ensures) (c .before .before .before .before .before .before .before .before .before .before .before .before .before .before .before .before .before .before .before .before .before .before .before .before .before .before .before .before .before .before .before .before .before .before .before .before .before .before .before .before .before .before .before .before .stiffness-from .ensures .0) (c .before .before .before .before .before .before .before .before .before .before .before .before .before .before .before .before .before .before .before .before .before .before .before .before .before .before .before .before .before .before .before .before .before .before .before .before .before .before .before .before .before .before .before .before .stiffness-from .ensures .1)),
@@ -829,7 +819,7 @@ components-again c =
       (c .before .before .before .before .before .before .before .before .before .before .before .before .before .before .before .before .stiffen-led .kept .1 .1 .1 .1 .1 .1 .1 .1 .1 .1 .1 .1 .1 .1 .1 .1 .0 ∙ k .inv .3 .0, c .before .before .before .before .before .before .before .before .before .before .before .before .before .before .before .before .stiffen-led .kept .1 .1 .1 .1 .1 .1 .1 .1 .1 .1 .1 .1 .1 .1 .1 .1 .1 .0 ∙ k .inv .3 .1, c .before .before .before .before .before .before .before .before .before .before .before .before .before .before .before .before .stiffen-led .kept .1 .1 .1 .1 .1 .1 .1 .1 .1 .1 .1 .1 .1 .1 .1 .1 .1 .1 .0 ∙ k .inv .3 .2, c .before .before .before .before .before .before .before .before .before .before .before .before .before .before .before .before .stiffen-led .kept .1 .1 .1 .1 .1 .1 .1 .1 .1 .1 .1 .1 .1 .1 .1 .1 .1 .1 .1 .0 ∙ k .inv .3 .3, c .before .before .before .before .before .before .before .before .before .before .before .before .before .before .before .before .stiffen-led .kept .1 .1 .1 .1 .1 .1 .1 .1 .1 .1 .1 .1 .1 .1 .1 .1 .1 .1 .1 .1 .0 ∙ k .inv .3 .4, c .before .before .before .before .before .before .before .before .before .before .before .before .before .before .before .before .stiffen-led .kept .1 .1 .1 .1 .1 .1 .1 .1 .1 .1 .1 .1 .1 .1 .1 .1 .1 .1 .1 .1 .1 .0 ∙ k .inv .3 .5),
       c .before .before .before .before .before .before .before .before .before .before .before .before .before .before .before .before .stiffen-led .ensures .banked,
       c .before .before .before .before .before .before .before .before .before .before .before .before .before .before .before .before .stiffen-led .ensures .few (k .inv .5),
-      (omega (arith, w .0, k .inv .6 .0, f .columns .few), omega (arith, w .1, k .inv .6 .1, f .columns .few), omega (arith, w .2, k .inv .6 .2, f .columns .few)),
+      (circuits-more _ (k .s .total) _ (length (now (z .a))) (k .i) (w .0) (k .inv .6 .0) (f .columns .few), ends-more _ (k .s .hv) _ (length (now (z .a))) (k .i) (w .1) (k .inv .6 .1) (f .columns .few), circuits-more _ (k .s .stiffening) _ (length (now (z .a))) (k .i) (w .2) (k .inv .6 .2) (f .columns .few)),
       stiffen-next (z .mode) (z .above) (now (z .ladder)) (now (z .a)) (now (z .b)) (now (z .km)) (now (z .share)) (now (z .sheet)) (now (z .load)) (now (z .bus)) (now (z .pmax)) (now (z .leader)) (now (z .grounds)) (now (z .injection)) (length (now (z .leader))) _ (r .left - 1) (k .level) _ _ _ _ _ _ (k .p) (l .t) (ln ∙ sym (f .places .leader-size)) (k .i) (k .circuits) (k .banks) (k .floors) (k .upsized) (k .marks) (k .s) (k .inv .7) (c .before .before .before .before .before .before .before .before .before .before .before .before .before .before .before .before .before .before .before .before .before .before .before .before .before .before .before .before .components-test .taken) _ _ _ _ _ _ (c .before .before .before .before .before .before .before .before .before .before .before .before .before .before .before .before .stiffen-led .ensures) _ (c .before .before .u .given .1),
     )
 

@@ -1,0 +1,78 @@
+-- After a round what the rounds ask holds again of what it left, with one round less to run. The numbers are laws of their own:
+-- in the proof of the round loop each would be worked out beside all that is known there.
+use Prim.Native.Nat.{ℕ, _+_, _-_, _*_, _<_, _≤_}
+use mathlib.Core.List.{List}
+use mathlib.Core.Path.{_≡_, sym, ap, _∙_, subst}
+use native.Mathlib.Omega.{arith}
+use lib.ListN.{length, getD}
+use lib.Ieee.{Float}
+use Rattle.angles_defs.specs.Operation.{workPlaces}
+use Rattle.plan_defs.specs.Constants.{mostBuses, mostCorridors, planningMaxRounds}
+use Rattle.planning.specs.Design.{Lines, Banks}
+use Rattle.planning.specs.Size.{Few}
+use Rattle.planning.specs.Rounds.{Tallies, RoundsFit}
+use Rattle.planning.specs.declared.rounds.Progress.{Progress}
+
+-- ---- the tallies: of d rounds, and of one more
+pub one-less : (d e left : ℕ) → e ≡ d + 1 → d + left ≤ planningMaxRounds → 0 < left → e + (left - 1) ≤ planningMaxRounds
+one-less d e left f g h = omega arith
+
+pub moved-more : (d e p q moved n n′ : ℕ) → e ≡ d + 1 → q ≡ p → p ≤ 1_280 + 512 * d → moved ≤ n′ → n′ ≡ n → n ≤ mostBuses → q + moved ≤ 1_280 + 512 * e
+moved-more d e p q moved n n′ f g h i j k = omega arith
+
+pub sized-more : (d e p q k m : ℕ) → e ≡ d + 1 → q ≤ p + 6 * k → k ≤ m → m ≤ mostCorridors → p ≤ 1_536 * d → q ≤ 1_536 * e
+sized-more d e p q k m f g h i j = omega arith
+
+-- one component more of i, after s₀ circuits that stiffening had added before the round
+pub stiffened-more : (d e p s₀ s q i n n′ m : ℕ) → e ≡ d + 1 → q ≤ s + m → s ≤ s₀ + 256 * i → s₀ ≡ p → p ≤ 65_536 * d → i < n′ → n′ ≡ n → n ≤ mostBuses → m ≤ mostCorridors
+    → q ≤ 65_536 * e
+stiffened-more d e p s₀ s q i n n′ m f g h j k l o r t = omega arith
+
+pub still-stiffened : (d e p q : ℕ) → e ≡ d + 1 → q ≡ p → p ≤ 65_536 * d → q ≤ 65_536 * e
+still-stiffened d e p q f g h = omega arith
+
+-- one component more of i: a circuit, or a bus at each end, for each corridor at most
+pub circuits-more : (s₀ s q m i : ℕ) → q ≤ s + m → s ≤ s₀ + 256 * i → m ≤ mostCorridors → q ≤ s₀ + 256 * (i + 1)
+circuits-more s₀ s q m i f g h = omega arith
+
+pub ends-more : (s₀ s q m i : ℕ) → q ≤ s + 2 * m → s ≤ s₀ + 512 * i → m ≤ mostCorridors → q ≤ s₀ + 512 * (i + 1)
+ends-more s₀ s q m i f g h = omega arith
+
+-- ---- what the rounds ask
+pub fit-again : {above left : ℕ} {p q : Progress} {ladder : List Float} {level level′ a b : List ℕ} {km share sheet load : List Float} {bus : List ℕ} {pmax : List Float} {leader grounds : List ℕ} {injection : List Float}
+    {circuits circuits′ : List ℕ} {banks banks′ floors floors′ : List Float} {upsized upsized′ marks marks′ : List ℕ} {angle angle′ flow flow′ work work′ : List Float}
+    → RoundsFit above left p ladder level a b km share sheet load bus pmax leader grounds injection circuits banks floors upsized marks angle flow work
+    → length level′ ≡ length level → Lines ladder level′ a b km share sheet
+    → length circuits′ ≡ length a → length banks′ ≡ length a → length floors′ ≡ length a → length upsized′ ≡ length a → length marks′ ≡ length level
+    → length angle′ ≡ length level → length flow′ ≡ length a → length work′ ≡ workPlaces (length level)
+    → Tallies above (left - 1) q → Banks banks′ → Few circuits′
+    → RoundsFit above (left - 1) q ladder level′ a b km share sheet load bus pmax leader grounds injection circuits′ banks′ floors′ upsized′ marks′ angle′ flow′ work′
+fit-again {grounds = grounds} f n lines count bank floor upsize mark angles flows works tallies banked few =
+    record {
+      columns =
+          record {
+            lines = lines;
+            loads = record { load-size = f .columns .loads .load-size ∙ sym n; few = subst (λ (x : ℕ). x ≤ mostBuses) (sym n) (f .columns .loads .few); sound = f .columns .loads .sound };
+            units = f .columns .units;
+            few = f .columns .few;
+          };
+      places =
+          record {
+            leader-size = f .places .leader-size ∙ sym n;
+            few-grounds = f .places .few-grounds;
+            ground-below = λ i h. subst (λ (x : ℕ). getD grounds i 0 < x) (sym n) (f .places .ground-below i h);
+            injection-size = f .places .injection-size ∙ sym n;
+            count-size = count;
+            bank-size = bank;
+            floor-size = floor;
+            upsized-size = upsize;
+            mark-size = mark ∙ sym n;
+            angle-size = angles ∙ sym n;
+            flow-size = flows;
+            work-size = works ∙ ap (λ (x : ℕ). workPlaces x) (sym n);
+          };
+      tallies = tallies;
+      some = f .some;
+      banked = banked;
+      few = few;
+    }

@@ -2,7 +2,6 @@
 use mathlib.Core.Path.{refl, _∙_}
 use denote.Ref.{now}
 use Rattle.planning.proofs.Plans.{redesign-fit, raises-fit, runnable-of, opened-refused, opened-plan}
-use borrow.Author.Needs.{needs}
 use Rattle.planning.proofs.plan.plan_opened.Statement.{statement}
 use Rattle.planning.proofs.plan.plan_opened.Tie as tie
 

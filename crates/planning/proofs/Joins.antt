@@ -29,7 +29,7 @@ use Rattle.plan_defs.specs.Dispatch.{dispatchOf, injections}
 use Rattle.plan_defs.specs.Solve.{Peak, PlanningCase, planningState}
 use Rattle.plan_defs.specs.Fill.{fill}
 use Rattle.plan_defs.specs.Plan.{Plan, Opened, Ready, peakOf, openedWith, opening, settled, readyOf, planOf, closing, planFor}
-use Rattle.plan_defs.specs.Outcome.{slices, upTo}
+use Rattle.plan_defs.specs.Outcome.{Slices, slices, upTo}
 use Rattle.plan_defs.specs.declared.Planned.{Planned}
 use Rattle.plan_defs.specs.declared.Planned.the-variants.{Refused}
 use Rattle.plan_defs.proofs.Stages.{On, on-onward}
@@ -40,7 +40,7 @@ use Rattle.planning.specs.Size.{Few}
 use Rattle.planning.specs.Solve.{peakFor}
 use Rattle.planning.specs.Close.{Closable}
 use Rattle.planning.specs.Rounds.{Columns}
-use Rattle.planning.specs.Sound.{Sound}
+use Rattle.planning.specs.Sound.{Sound, Lengths}
 use Rattle.planning.specs.Plan.{Openable, Opens, OpenedAs, OpeningDone, Plannable, OpenedPlan, PlannedAs, wholeCase, Stageable, WholeAs, PlanDone, Lendable}
 use Rattle.planning.specs.declared.plan.Opening.{Opening}
 use Rattle.planning.specs.declared.plan.Opening.the-variants.{Refused as Unopened, Opened as Begun}
@@ -288,6 +288,20 @@ module _ (mode : PlanMode) (target above : ℕ) (ladder : List Float) (tier : Li
           }
 
 -- ---- the arrays that the stages are lent
+-- they have room for the columns
+module _ {c : Case} {target : ℕ} (s : Sound c target) where
+  pub tier-fits : length (c .tier) ≤ 256
+  tier-fits = omega (arith, s .tier-size, s .few-buses)
+
+  pub corridors-fit : length (c .a) ≤ 256
+  corridors-fit = omega (arith, s .a-size, s .few-corridors)
+
+  pub counts-fit : {l : Slices} → Lengths c l → length (c .a) ≤ length (l .counts)
+  counts-fit w = omega (arith, w .counts, s .a-size)
+
+  pub figures-fit : {l : Slices} → Lengths c l → 8 * length (c .tier) ≤ length (l .figures)
+  figures-fit w = omega (arith, w .figures, s .tier-size)
+
 room : {A : Type 0} (N n : ℕ) (x : A) → n ≤ N → length (take (n - 0) (replicate N x)) ≡ n
 room N n x h = ap length (front-replicate N n x h) ∙ length-replicate n x
 
@@ -305,8 +319,8 @@ pub stageable-of : (mode : PlanMode) (target above : ℕ) (ladder : List Float) 
 stageable-of mode target above ladder tier load bus slack pmin pmax c1 c2 a b initial km share sheet circuits flow rate mw angle level ground added figures counts zeroed h e =
     let s = h .sound in
     let w = h .lengths in
-    let n : length tier ≤ 256 = omega (arith, s .tier-size, s .few-buses) in
-    let m : length a ≤ 256 = omega (arith, s .a-size, s .few-corridors) in
+    let n = tier-fits s in
+    let m = corridors-fit s in
     record {
       whole = h .whole;
       sound = s;
@@ -314,7 +328,7 @@ stageable-of mode target above ladder tier load bus slack pmin pmax c1 c2 a b in
       injection-size = room 256 (length tier) nought n ∙ s .tier-size;
       bank-size = room 256 (length a) nought m ∙ s .a-size;
       unset = front-replicate 256 (length a) nought m;
-      not-upsized = ap (take (length a - 0)) e ∙ front-replicate (length counts) (length a) 0 (omega (arith, w .counts, s .a-size));
+      not-upsized = ap (take (length a - 0)) e ∙ front-replicate (length counts) (length a) 0 (counts-fit s w);
       mark-size = room 256 (length tier) 0 n ∙ s .tier-size;
       circuits-size = w .circuits;
       flow-size = w .flow;

@@ -6,6 +6,7 @@ use Prim.Native.Nat.{ℕ}
 use native.Mathlib.Omega.{arith}
 use lib.ListN.{length}
 use Rattle.refusal.specs.declared.Refusal.{Refusal}
+use Rattle.refusal.specs.declared.Answer.{Answer}
 use Rattle.refusal.specs.declared.Answer.the-variants.{Answered as Accepted, Refused as Unaccepted}
 use Rattle.plan_defs.specs.Stage.{Stage, stopped, going}
 use Rattle.plan_defs.specs.Case.{Case}
@@ -56,25 +57,6 @@ module _ (c : Case) (target : ℕ) (s : Slices) where
         (ap (λ (b : Bool). outcomeIf b c target s) (passed c target s ok .0)
         ∙ ap (λ (f : Option Refusal). outcomeBy (endingBy f c target) c s) (passed c target s ok .1))
 
-    -- the slices as the stages leave them: each as long as it was
-    pub lengths-by : (lent : Slices) → length (lent .circuits) ≡ length (s .circuits) → length (lent .flow) ≡ length (s .flow) → length (lent .rate) ≡ length (s .rate)
-        → length (lent .mw) ≡ length (s .mw) → length (lent .angle) ≡ length (s .angle) → length (lent .tier) ≡ length (s .tier) → length (lent .ground) ≡ length (s .ground)
-        → length (lent .added) ≡ length (s .added) → length (lent .figures) ≡ length (s .figures) → length (lent .counts) ≡ length (s .counts) → Lengths c lent
-    lengths-by lent e₁ e₂ e₃ e₄ e₅ e₆ e₇ e₈ e₉ e₀ =
-        let w = sizes in
-        record {
-          circuits = e₁ ∙ w .circuits;
-          flow = e₂ ∙ w .flow;
-          rate = e₃ ∙ w .rate;
-          mw = e₄ ∙ w .mw;
-          angle = e₅ ∙ w .angle;
-          tier = e₆ ∙ w .tier;
-          ground = e₇ ∙ w .ground;
-          added = e₈ ∙ w .added;
-          figures = e₉ ∙ w .figures;
-          counts = e₀ ∙ w .counts;
-        }
-
     module _ (r : Planned) (lent : Slices) (size : Lengths c lent)
         (done : PlanDone (c .mode) target (c .above) (c .ladder) (c .tier) (c .load) (c .bus) (c .slack) (c .pmin) (c .pmax) (c .c1) (c .c2) (c .a) (c .b) (c .circuits)
         (c .km) (c .share) (c .sheet) (lent .circuits) (lent .flow) (lent .rate) (lent .mw) (lent .angle) (lent .tier) (lent .ground) (lent .added) r) (out : Slices) where
@@ -116,5 +98,31 @@ module _ (c : Case) (target : ℕ) (s : Slices) where
       ends-as (Refused f) q e = ends-refused f q e
       ends-as (Answered x) q e = ends-answered x q e
 
-      pub ends-said : (said : Planned) → said ≡ r → out ≡ finished (isRefused r) lent → Ends said out
+      ends-said : (said : Planned) → said ≡ r → out ≡ finished (isRefused r) lent → Ends said out
       ends-said said q e = subst (λ (y : Planned). Ends y out) (sym q) (ends-as r refl e)
+
+  -- the same by what the check answers, and by what the stages leave, each slice as long as it was, and the hand-back
+  pub ends-when : (x : Answer) → x ≡ checkOf (tablesOf c) target (placesOf s) → x ≡ Accepted → (r : Planned) (lent : Slices)
+      → length (lent .circuits) ≡ length (s .circuits) → length (lent .flow) ≡ length (s .flow) → length (lent .rate) ≡ length (s .rate)
+      → length (lent .mw) ≡ length (s .mw) → length (lent .angle) ≡ length (s .angle) → length (lent .tier) ≡ length (s .tier) → length (lent .ground) ≡ length (s .ground)
+      → length (lent .added) ≡ length (s .added) → length (lent .figures) ≡ length (s .figures) → length (lent .counts) ≡ length (s .counts)
+      → PlanDone (c .mode) target (c .above) (c .ladder) (c .tier) (c .load) (c .bus) (c .slack) (c .pmin) (c .pmax) (c .c1) (c .c2) (c .a) (c .b) (c .circuits)
+      (c .km) (c .share) (c .sheet) (lent .circuits) (lent .flow) (lent .rate) (lent .mw) (lent .angle) (lent .tier) (lent .ground) (lent .added) r
+      → (out : Slices) (said : Planned) → said ≡ r → out ≡ finished (isRefused r) lent → Ends said out
+  ends-when x k q r lent e₁ e₂ e₃ e₄ e₅ e₆ e₇ e₈ e₉ e₀ done out said u v =
+      let ok = sym q ∙ k in
+      let w = sizes ok in
+      ends-said ok r lent
+      (record {
+        circuits = e₁ ∙ w .circuits;
+        flow = e₂ ∙ w .flow;
+        rate = e₃ ∙ w .rate;
+        mw = e₄ ∙ w .mw;
+        angle = e₅ ∙ w .angle;
+        tier = e₆ ∙ w .tier;
+        ground = e₇ ∙ w .ground;
+        added = e₈ ∙ w .added;
+        figures = e₉ ∙ w .figures;
+        counts = e₀ ∙ w .counts;
+      })
+      done out said u v

@@ -103,7 +103,7 @@ economic-dispatch-requires : tie.Need-economic-dispatch-requires
 economic-dispatch-requires c κs = search needs
 
 enum-known-f : tie.Need-enum-known-f
-enum-known-f c = search needs
+enum-known-f c = c .match .keys1
 
 index-requires : tie.Need-index-requires
 index-requires c κs = search needs
@@ -145,7 +145,7 @@ returns c =
     (c .before .before .before .before .before .before .economic-dispatch .result) _ (c .before .before .before .before .before .before .economic-dispatch .ensures) _ (c .before .before .before .f .given .1) (c .before .index .result) (c .wide .result) (c .before .index .ensures) (c .wide .ensures) _
 
 enum-told : tie.Need-enum-told
-enum-told c = search needs
+enum-told c = c .match .keys2
 
 hand-out-requires : tie.Need-hand-out-requires
 hand-out-requires c κs =
@@ -154,7 +154,7 @@ hand-out-requires c κs =
     (picked (s .args .leader .now) (s .args .bus .now) (s .args .root) (s .pre .0) _ _ _ (u .0) (u .1) (s .pre .3))
 
 same-length : tie.Need-same-length
-same-length c = search needs
+same-length c = c .before .before .hand-out .kept .1 .1 .1 .0
 
 returns-2 : tie.Need-returns-2
 returns-2 c =

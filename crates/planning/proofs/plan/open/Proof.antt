@@ -1,7 +1,6 @@
 -- `planning::plan::open` meets its contract: what the columns of a sound case give each call, and the calls' answers put together.
 use mathlib.Core.Path.{sym, _∙_}
 use Rattle.planning.proofs.Openings.{joined-by, fleet-by, costs-by, loads-by, above-by, tiers-by, opens-refused, opens-going}
-use borrow.Author.Needs.{needs}
 use Rattle.planning.proofs.plan.open.Statement.{statement}
 use Rattle.planning.proofs.plan.open.Tie as tie
 
@@ -23,23 +22,23 @@ dispatch-components-requires c κs =
     (fleet-by _ (h .target) (h .sound) _ n, costs-by _ (h .target) (h .sound), loads-by _ (h .target) (h .sound) _ n, h .mw-size ∙ sym (h .sound .bus-size))
 
 enum-known-f : tie.Need-enum-known-f
-enum-known-f c = search needs
+enum-known-f c = c .match .keys1
 
 same-length : tie.Need-same-length
-same-length c = search needs
+same-length c = c .before .before .before .before .before .before .before .before .before .before .before .before .before .before .before .component-leaders .kept .1 .1 .1 .1 .0
 
 same-length-2 : tie.Need-same-length-2
-same-length-2 c = search needs
+same-length-2 c = c .before .before .before .before .before .before .before .before .before .before .ground-components .kept .1 .1 .1 .0
 
 same-length-3 : tie.Need-same-length-3
-same-length-3 c = search needs
+same-length-3 c = c .before .before .before .before .before .dispatch-components .kept .1 .1 .1 .1 .1 .1 .1 .0
 
 returns : tie.Need-returns
 returns c =
     record { opens = λ o target s. opens-refused _ target s _ (c .before .before .before .before .before .before .before .before .before .before .before .before .before .before .before .component-leaders .ensures) (c .before .before .before .before .before .dispatch-components .result) _ (c .before .before .before .before .before .dispatch-components .ensures) _ (c .before .f .given .1) }
 
 enum-told : tie.Need-enum-told
-enum-told c = search needs
+enum-told c = c .match .keys2
 
 injections-requires : tie.Need-injections-requires
 injections-requires c κs =
@@ -57,22 +56,22 @@ lower-bounds-requires c κs =
     h .circuits-size ∙ sym (h .sound .circuits-size)
 
 same-length-4 : tie.Need-same-length-4
-same-length-4 c = search needs
+same-length-4 c = c .before .before .before .before .before .before .before .before .before .before .before .before .before .before .before .before .before .before .before .before .before .before .before .before .before .before .before .component-leaders .kept .1 .1 .1 .1 .0
 
 same-length-5 : tie.Need-same-length-5
-same-length-5 c = search needs
+same-length-5 c = c .before .before .before .before .before .before .before .before .before .before .injections .kept .1 .1 .1 .0
 
 same-length-6 : tie.Need-same-length-6
-same-length-6 c = search needs
+same-length-6 c = c .before .before .before .before .before .before .before .before .before .before .before .before .before .before .before .before .before .before .before .before .before .before .ground-components .kept .1 .1 .1 .0
 
 same-length-7 : tie.Need-same-length-7
-same-length-7 c = search needs
+same-length-7 c = c .before .before .before .before .before .before .before .before .before .before .before .before .before .before .before .before .before .dispatch-components .kept .1 .1 .1 .1 .1 .1 .1 .0
 
 same-length-8 : tie.Need-same-length-8
-same-length-8 c = search needs
+same-length-8 c = c .before .before .before .before .before .before .first-levels .kept .1 .1 .0
 
 same-length-9 : tie.Need-same-length-9
-same-length-9 c = search needs
+same-length-9 c = c .before .before .lower-bounds .kept .1 .0
 
 returns-2 : tie.Need-returns-2
 returns-2 c =

@@ -36,7 +36,7 @@ pass-requires c κs =
     raisable-again (now (z .ladder)) (now (z .a)) (now (z .b)) (now (z .km)) (now (z .share)) (now (z .sheet)) (now (z .load)) (now (z .bus)) (now (z .pmax)) (now (z .grounds)) (now (z .injection)) (now (z .circuits)) (now (z .floors)) (now (z .banks)) (now (z .level)) (now (z .marks)) (now (z .angle)) (now (z .flow)) (now (z .work)) (l .banks) (l .level) (l .marks) (l .angle) (l .flow) (l .work) (l .promoted) (l .turn) (l .inv) (c .before .before .before .before .before .before .before .before .before .before .before .before .before .before .before .before .before .before .before .before .before .before .before .before .before .before .before .before .before .pre)
 
 enum-known-f : tie.Need-enum-known-f Inv-loop μ-loop
-enum-known-f c = search needs
+enum-known-f c = c .match .keys1
 
 same-length : tie.Need-same-length Inv-loop μ-loop
 same-length c = c .before .before .before .before .before .before .before .before .before .before .before .before .before .before .before .pass .kept .1 .1 .1 .1 .1 .1 .1 .1 .1 .1 .1 .1 .1 .0 ∙ c .before .before .before .before .before .before .before .before .before .before .before .before .before .before .before .before .before .before .before .before .before .before .before .loop .inv .bank-size
@@ -63,7 +63,7 @@ returns-2 c =
     done-refused (now (z .ladder)) (now (z .a)) (now (z .b)) (now (z .km)) (now (z .share)) (now (z .sheet)) (now (z .load)) (now (z .bus)) (now (z .pmax)) (now (z .grounds)) (now (z .injection)) (now (z .circuits)) (now (z .floors)) (now (z .banks)) (now (z .level)) (now (z .marks)) (now (z .angle)) (now (z .flow)) (now (z .work)) (l .banks) (l .level) (l .marks) (l .angle) (l .flow) (l .work) (l .promoted) (l .turn) (l .inv) (c .before .before .before .before .before .before .before .before .before .before .before .before .before .before .before .before .before .before .before .before .before .before .loop-test .taken) _ _ (c .before .before .before .before .before .before .before .before .before .before .before .before .before .before .before .pass .result) (c .before .before .before .before .before .before .before .before .before .before .before .before .before .before .before .pass .ensures) (z .mode) (sym (c .before .before .before .before .before .before .before .before .before .before .before .before .before .before .before .before .before .before .before .before .before .before .before .before .before .promotes .ensures) ∙ not-false _ (c .before .before .before .before .before .before .before .before .before .before .before .before .before .before .before .before .before .before .before .before .before .before .before .before .if1 .left)) _ (c .before .f .given .1)
 
 enum-known-moved : tie.Need-enum-known-moved Inv-loop μ-loop
-enum-known-moved c = search needs
+enum-known-moved c = c .match .keys2
 
 add-promoted : tie.Need-add-promoted Inv-loop μ-loop
 add-promoted c =

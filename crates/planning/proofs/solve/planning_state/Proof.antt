@@ -1,6 +1,6 @@
 -- `planning::solve::planning_state` meets its contract: the edges drawn, the angles and the flows are the defined planning state.
-use Prim.Native.Nat.{ℕ, _*_}
-use mathlib.Core.Path.{refl, sym, ap, _∙_}
+use Prim.Native.Nat.{ℕ, _*_, _≤_}
+use mathlib.Core.Path.{refl, sym, ap, subst, _∙_}
 use lib.ListN.{length}
 use Rattle.loops.proofs.Fronts.{front-room, front-lent}
 use Rattle.planning.proofs.States.{from-room, to-room, weight-room, lent-net, drawn-edges, state-refused, state-answered}
@@ -12,7 +12,9 @@ draw-edges-requires : tie.Need-draw-edges-requires
 draw-edges-requires c κs = search needs
 
 copy-requires : tie.Need-copy-requires
-copy-requires c κs = search needs
+copy-requires c κs =
+    let s = c .before .before .before .before .before .before .before .before .before .before .before .before .before .before .before .before .before .before .before .before in
+    (subst (λ (n : ℕ). n ≤ 256) (sym (s .pre .1 .angle-size)) (s .pre .0 .few-buses), refl)
 
 sub-angles-from : tie.Need-sub-angles-from
 sub-angles-from c = search needs
@@ -69,13 +71,13 @@ angles-from-requires c κs =
     )
 
 enum-known-f : tie.Need-enum-known-f
-enum-known-f c = search needs
+enum-known-f c = c .match .keys1
 
 same-length : tie.Need-same-length
-same-length c = search needs
+same-length c = c .before .before .before .before .before .before .before .angles-from .kept .1 .1 .1 .1 .1 .1 .0
 
 same-length-2 : tie.Need-same-length-2
-same-length-2 c = search needs
+same-length-2 c = c .before .before .before .before .before .before .before .angles-from .kept .1 .1 .1 .1 .1 .1 .1 .0
 
 returns : tie.Need-returns
 returns c =
@@ -84,7 +86,7 @@ returns c =
     (s .args .grounds .now) (s .args .injection .now) (s .args .angle .now) _ (s .pre .1 .angle-size) (c .before .before .before .before .before .before .before .before .before .before .before .before .before .before .before .before .before .before .copy .ensures) (c .before .before .before .before .before .before .before .angles-from .result) _ (c .before .before .before .before .before .before .before .angles-from .ensures) _ (c .before .f .given .1)
 
 enum-told : tie.Need-enum-told
-enum-told c = search needs
+enum-told c = c .match .keys2
 
 corridor-flows-requires : tie.Need-corridor-flows-requires
 corridor-flows-requires c κs =
@@ -95,13 +97,13 @@ finite-flows-requires : tie.Need-finite-flows-requires
 finite-flows-requires c κs = search needs
 
 same-length-3 : tie.Need-same-length-3
-same-length-3 c = search needs
+same-length-3 c = c .before .before .before .before .before .before .before .before .before .before .before .before .before .before .before .before .angles-from .kept .1 .1 .1 .1 .1 .1 .0
 
 same-length-4 : tie.Need-same-length-4
-same-length-4 c = search needs
+same-length-4 c = c .before .before .before .before .corridor-flows .kept .1 .1 .1 .1 .0
 
 same-length-5 : tie.Need-same-length-5
-same-length-5 c = search needs
+same-length-5 c = c .before .before .before .before .before .before .before .before .before .before .before .before .before .before .before .before .angles-from .kept .1 .1 .1 .1 .1 .1 .1 .0
 
 returns-2 : tie.Need-returns-2
 returns-2 c =

@@ -4,11 +4,12 @@ use Prim.Native.Nat.{ℕ, _+_, _-_, _*_, _<_, _≤_, min, max}
 use mathlib.Core.Bool.{Bool, true, false, _&&_}
 use mathlib.Core.List.{List, _++_}
 use mathlib.Core.Path.{_≡_, refl, sym, ap, _∙_, subst}
-use native.Mathlib.Nat.{zero-mul}
+use native.Mathlib.Nat.{zero-mul, sub-zero}
 use native.Mathlib.Omega.{arith}
 use borrow.Author.Tests.{ltb-true, ltb-false, le-ltb, eqb-true}
 use lib.Dec.{T, ltb, eqb}
-use lib.ListN.{length, getD, take, drop, replicate, length-replicate, length-append, length-take, length-drop, List·getD-eq-default}
+use lib.ListN.{length, getD, take, drop, replicate, length-replicate, length-take, List·getD-eq-default}
+use lib.Seq.{length-front, take-at}
 use lib.Ieee.{Float, nan, inf, fin, up, down, lt, le, ofBits}
 use Rattle.loops.specs.Figures.{nought, million, inside}
 use Rattle.loops.specs.Loops.{tab}
@@ -21,7 +22,6 @@ use Rattle.refusal.specs.declared.Refusal.{Refusal}
 use Rattle.mode.specs.declared.PlanMode.{PlanMode}
 use Rattle.dispatch.specs.Units.{mostC1, unitOk}
 use Rattle.angles_defs.specs.Network.{zeros}
-use Rattle.angles_defs.specs.Operation.{workPlaces}
 use Rattle.plan_defs.specs.Stage.{Stage, stopped, going, onward}
 use Rattle.plan_defs.specs.Case.{Case, levels, firstLevels, lowerBound, lowerBounds}
 use Rattle.plan_defs.specs.Components.{component, groundsOf}
@@ -41,7 +41,7 @@ use Rattle.planning.specs.Solve.{peakFor}
 use Rattle.planning.specs.Close.{Closable}
 use Rattle.planning.specs.Rounds.{Columns}
 use Rattle.planning.specs.Sound.{Sound, Lengths}
-use Rattle.planning.specs.Plan.{Openable, Opens, OpenedAs, OpeningDone, Plannable, OpenedPlan, PlannedAs, wholeCase, Stageable, WholeAs, PlanDone, Lendable}
+use Rattle.planning.specs.Plan.{Openable, Opens, OpenedAs, OpeningDone, Plannable, OpenedPlan, PlannedAs, wholeCase, WholeAs, PlanDone, Lendable}
 use Rattle.planning.specs.declared.plan.Opening.{Opening}
 use Rattle.planning.specs.declared.plan.Opening.the-variants.{Refused as Unopened, Opened as Begun}
 use Rattle.planning.proofs.Grounds.{grounds-few, grounds-below, grounds-lent}
@@ -134,11 +134,11 @@ module _ (c : Case) (target : ℕ) (s : Sound c target) where
     pub count-fits : length leader ≡ c .buses → count ≤ c .buses
     count-fits n = omega (arith, h .count-is, grounds-few c (component c), ap length (h .led), n)
 
-    pub plannable-by : (banks floors : List Float) (upsized marks : List ℕ) (angle flow work : List Float) → length leader ≡ c .buses → length injection ≡ c .buses
+    pub plannable-by : (banks floors : List Float) (upsized marks : List ℕ) (angle flow : List Float) → length leader ≡ c .buses → length injection ≡ c .buses
         → length circuits ≡ c .corridors → length banks ≡ c .corridors → floors ≡ zeros (length (c .a)) → upsized ≡ replicate (length (c .a)) 0 → length marks ≡ c .buses
-        → length angle ≡ c .buses → length flow ≡ c .corridors → length work ≡ workPlaces (c .buses)
-        → Plannable (c .ladder) level (c .a) (c .b) (c .km) (c .share) (c .sheet) (c .load) (c .bus) (c .pmax) leader (take (count - 0) ground) injection circuits banks floors upsized marks angle flow work
-    plannable-by banks floors upsized marks angle flow work e₁ e₂ e₃ e₄ e₅ e₆ e₇ e₈ e₉ e₀ =
+        → length angle ≡ c .buses → length flow ≡ c .corridors
+        → Plannable (c .ladder) level (c .a) (c .b) (c .km) (c .share) (c .sheet) (c .load) (c .bus) (c .pmax) leader (take (count - 0) ground) injection circuits banks floors upsized marks angle flow
+    plannable-by banks floors upsized marks angle flow e₁ e₂ e₃ e₄ e₅ e₆ e₇ e₈ e₉ =
         let n = level-size level (h .levels-are) in
         let k : length leader ≡ length (component c) = ap length (h .led) in
         record {
@@ -158,7 +158,6 @@ module _ (c : Case) (target : ℕ) (s : Sound c target) where
                 mark-size = e₇ ∙ sym n;
                 angle-size = e₈ ∙ sym n;
                 flow-size = e₉ ∙ sym (s .a-size);
-                work-size = e₀ ∙ ap workPlaces (sym n);
               };
           few-levels = omega (arith, s .ladder-size, s .few-levels);
           unset = e₅;
@@ -217,76 +216,6 @@ module _ (c : Case) (target : ℕ) (s : Sound c target) where
   unfolding planFor readyOf opening
   unopened f e = ap (λ (x : Stage (List Float)). onward (onward (onward x (λ mw. openedWith c (component c) mw (peakOf c (component c) mw))) (settled c)) (closing c target)) e
 
--- ---- the stages over slices
-module _ (mode : PlanMode) (target above : ℕ) (ladder : List Float) (tier : List ℕ) (load : List Float) (bus slack : List ℕ) (pmin pmax c1 c2 : List Float) (a b initial : List ℕ)
-    (km share sheet : List Float) where
-  abbrev C : Case → Case
-  C o = wholeCase o mode above ladder tier load bus slack pmin pmax c1 c2 a b initial km share sheet
-
-  abbrev Done-with : List ℕ → List Float → List Float → List Float → List Float → List ℕ → List ℕ → List Float → Planned → Type 0
-  Done-with circuits flow rate mw angle level ground added r =
-      PlanDone mode target above ladder tier load bus slack pmin pmax c1 c2 a b initial km share sheet circuits flow rate mw angle level ground added r
-
-  module _ (leader : List ℕ) (injection banks floors : List Float) (upsized marks circuits : List ℕ) (flow rate mw angle : List Float) (level ground : List ℕ) (added work : List Float)
-      (h : Stageable mode target above ladder tier load bus slack pmin pmax c1 c2 a b initial km share sheet leader injection banks floors upsized marks circuits flow rate mw angle level ground added work) where
-    pub openable-of : Openable above tier load bus slack pmin pmax c1 c2 a b initial leader injection ground mw level circuits
-    openable-of =
-        record {
-          whole = C (h .whole);
-          target = target;
-          sound = h .sound;
-          leader-size = h .leader-size;
-          injection-size = h .injection-size;
-          ground-size = h .ground-size;
-          mw-size = h .mw-size;
-          level-size = h .level-size;
-          circuits-size = h .circuits-size;
-        }
-
-    -- after the opening
-    module _ (leader′ : List ℕ) (injection′ : List Float) (ground′ : List ℕ) (mw′ : List Float) (level′ circuits′ : List ℕ) (r : Opening)
-        (w : OpeningDone above tier load bus slack pmin pmax c1 c2 a b initial leader′ injection′ ground′ mw′ level′ circuits′ r) where
-      module _ (count : ℕ) (q : r ≡ Begun count) (o : Case) (s : Sound (C o) target) where
-        opens-by : Opens (C o) leader′ injection′ count ground′ mw′ level′ circuits′
-        opens-by = subst (λ (x : Opening). OpenedAs x (C o) leader′ injection′ ground′ mw′ level′ circuits′) q (w .opens (C o) target s)
-
-      pub count-of : (count : ℕ) → r ≡ Begun count → length leader′ ≡ length leader → length ground′ ≡ length ground → count ≤ length ground′
-      count-of count q e f =
-          omega (arith, count-fits (C (h .whole)) target (h .sound) leader′ injection′ count ground′ mw′ level′ circuits′ (opens-by count q (h .whole) (h .sound)) (e ∙ h .leader-size), f, h .ground-size)
-
-      module _ (count : ℕ) (q : r ≡ Begun count) (e : length leader′ ≡ length leader) where
-        pub plannable-of : length injection′ ≡ length injection → length circuits′ ≡ length circuits
-            → Plannable ladder level′ a b km share sheet load bus pmax leader′ (take (count - 0) ground′) injection′ circuits′ banks floors upsized marks angle flow work
-        plannable-of f g =
-            plannable-by (C (h .whole)) target (h .sound) leader′ injection′ count ground′ mw′ level′ circuits′ (opens-by count q (h .whole) (h .sound)) banks floors upsized marks angle flow work
-            (e ∙ h .leader-size) (f ∙ h .injection-size) (g ∙ h .circuits-size) (h .bank-size) (h .unset) (h .not-upsized) (h .mark-size) (h .angle-size) (h .flow-size) (h .work-size)
-
-        pub closable-of : Closable above ladder a leader′ upsized angle rate added
-        closable-of =
-            closable-by (C (h .whole)) target (h .sound) leader′ injection′ count ground′ mw′ level′ circuits′ (opens-by count q (h .whole) (h .sound)) upsized angle rate added
-            (e ∙ h .leader-size) (h .not-upsized) (h .angle-size) (h .rate-size) (h .added-size)
-
-        pub stages-plan : (circuits″ : List ℕ) (flow″ rate″ angle″ : List Float) (level″ : List ℕ) (added″ : List Float) (x : Planned)
-            → OpenedPlan mode target above ladder level′ a b km share sheet load bus pmax leader′ (take (count - 0) ground′) injection′ circuits′ upsized circuits″ level″ flow″ rate″ angle″ added″ x
-            → Done-with circuits″ flow″ rate″ mw′ angle″ level″ ground′ added″ x
-        stages-plan circuits″ flow″ rate″ angle″ level″ added″ x v =
-            record {
-              plan = λ o s.
-                  let k = opens-by count q o s in
-                  whole-by (C o) target s x circuits″ flow″ rate″ mw′ angle″ level″ ground′ added″ (planFor (C o) target) (opening-kept (C o) target s mw′ (k .dispatched)) (k .grounded)
-                  (subst (PlannedAs x circuits″ level″ flow″ rate″ angle″ added″ (C o)) (sym (planned-from (C o) target s leader′ injection′ count ground′ mw′ level′ circuits′ k))
-                  (v .plan (C o) mw′ s (k .levels-are) (k .circuits-are) (h .not-upsized ∙ ap (λ (m : ℕ). replicate m 0) (s .a-size))));
-            }
-
-      pub stages-refused : (f : Refusal) → r ≡ Unopened f → (circuits″ : List ℕ) (flow″ rate″ mw″ angle″ : List Float) (level″ ground″ : List ℕ) (added″ : List Float)
-          → Done-with circuits″ flow″ rate″ mw″ angle″ level″ ground″ added″ (Refused f)
-      stages-refused f q circuits″ flow″ rate″ mw″ angle″ level″ ground″ added″ =
-          record {
-            plan = λ o s.
-                let e = subst (λ (x : Opening). OpenedAs x (C o) leader′ injection′ ground′ mw′ level′ circuits′) q (w .opens (C o) target s) in
-                subst (WholeAs (Refused f) circuits″ flow″ rate″ mw″ angle″ level″ ground″ added″ (C o)) (sym (unopened (C o) target s f e)) refl;
-          }
-
 -- ---- the arrays that the stages are lent
 -- they have room for the columns
 module _ {c : Case} {target : ℕ} (s : Sound c target) where
@@ -299,44 +228,127 @@ module _ {c : Case} {target : ℕ} (s : Sound c target) where
   pub counts-fit : {l : Slices} → Lengths c l → length (c .a) ≤ length (l .counts)
   counts-fit w = omega (arith, w .counts, s .a-size)
 
-  pub figures-fit : {l : Slices} → Lengths c l → 8 * length (c .tier) ≤ length (l .figures)
-  figures-fit w = omega (arith, w .figures, s .tier-size)
+  pub figures-fit : {l : Slices} → Lengths c l → length (c .a) ≤ length (l .figures)
+  figures-fit w = omega (arith, w .figures, s .a-size)
 
-room : {A : Type 0} (N n : ℕ) (x : A) → n ≤ N → length (take (n - 0) (replicate N x)) ≡ n
-room N n x h = ap length (front-replicate N n x h) ∙ length-replicate n x
+-- the first places of an array, as they are first lent; and as they are lent again, after l was left there
+abbrev fresh : {A : Type 0} → ℕ → A → List A
+fresh n x = take (n - 0) (replicate 256 x)
 
--- a slice of which a part was lent is as long as it was
-pub lent-back : {A : Type 0} (w back : List A) (k : ℕ) → length back ≡ length (take k w) → length (back ++ drop k w) ≡ length w
-lent-back w back k e = length-append back (drop k w) ∙ (let x = length-take k w in let y = length-drop k w in let z : length back + length (drop k w) ≡ length w = omega arith in z)
+abbrev again : {A : Type 0} → ℕ → A → List A → List A
+again n x l = take (n - 0) (l ++ drop (n - 0) (replicate 256 x))
 
-pub stageable-of : (mode : PlanMode) (target above : ℕ) (ladder : List Float) (tier : List ℕ) (load : List Float) (bus slack : List ℕ) (pmin pmax c1 c2 : List Float) (a b initial : List ℕ)
-    (km share sheet : List Float) (circuits : List ℕ) (flow rate mw angle : List Float) (level ground : List ℕ) (added figures : List Float) (counts zeroed : List ℕ)
-    → Lendable mode target above ladder tier load bus slack pmin pmax c1 c2 a b initial km share sheet (slices circuits flow rate mw angle level ground added figures counts)
-    → zeroed ≡ replicate (length counts) 0
-    → Stageable mode target above ladder tier load bus slack pmin pmax c1 c2 a b initial km share sheet
-    (take (length tier - 0) (replicate 256 0)) (take (length tier - 0) (replicate 256 nought)) (take (length a - 0) (replicate 256 nought)) (take (length a - 0) (replicate 256 nought))
-    (take (length a - 0) zeroed) (take (length tier - 0) (replicate 256 0)) circuits flow rate mw angle level ground added (take (8 * length tier - 0) figures)
-stageable-of mode target above ladder tier load bus slack pmin pmax c1 c2 a b initial km share sheet circuits flow rate mw angle level ground added figures counts zeroed h e =
-    let s = h .sound in
-    let w = h .lengths in
-    let n = tier-fits s in
-    let m = corridors-fit s in
-    record {
-      whole = h .whole;
-      sound = s;
-      leader-size = room 256 (length tier) 0 n ∙ s .tier-size;
-      injection-size = room 256 (length tier) nought n ∙ s .tier-size;
-      bank-size = room 256 (length a) nought m ∙ s .a-size;
-      unset = front-replicate 256 (length a) nought m;
-      not-upsized = ap (take (length a - 0)) e ∙ front-replicate (length counts) (length a) 0 (counts-fit s w);
-      mark-size = room 256 (length tier) 0 n ∙ s .tier-size;
-      circuits-size = w .circuits;
-      flow-size = w .flow;
-      rate-size = w .rate;
-      mw-size = w .mw;
-      angle-size = w .angle;
-      level-size = w .tier;
-      ground-size = w .ground;
-      added-size = w .added;
-      work-size = length-take (8 * length tier - 0) figures ∙ (let z : min (8 * length tier - 0) (length figures) ≡ 8 * h .whole .buses = omega (arith, w .figures, s .tier-size) in z);
-    }
+room : {A : Type 0} (n : ℕ) (x : A) → n ≤ 256 → length (fresh n x) ≡ n
+room n x h = ap length (front-replicate 256 n x h) ∙ length-replicate n x
+
+lent-again : {A : Type 0} (n : ℕ) (x : A) (l : List A) → n ≤ 256 → length l ≡ length (fresh n x) → again n x l ≡ l
+lent-again n x l h e = take-at l (drop (n - 0) (replicate 256 x)) (n - 0) (e ∙ room n x h ∙ sym (sub-zero n))
+
+pub again-fits : {A : Type 0} (n : ℕ) (x : A) (l : List A) → n ≤ 256 → length l ≡ length (fresh n x) → n ≤ length (l ++ drop (n - 0) (replicate 256 x))
+again-fits n x l h e = subst (λ (k : ℕ). n ≤ k) (sym (length-front (replicate 256 x) l (n - 0) e ∙ length-replicate 256 x)) h
+
+-- ---- the stages over slices
+module _ (mode : PlanMode) (target above : ℕ) (ladder : List Float) (tier : List ℕ) (load : List Float) (bus slack : List ℕ) (pmin pmax c1 c2 : List Float) (a b initial : List ℕ)
+    (km share sheet : List Float) where
+  abbrev C : Case → Case
+  C o = wholeCase o mode above ladder tier load bus slack pmin pmax c1 c2 a b initial km share sheet
+
+  abbrev Done-with : List ℕ → List Float → List Float → List Float → List Float → List ℕ → List ℕ → List Float → Planned → Type 0
+  Done-with circuits flow rate mw angle level ground added r =
+      PlanDone mode target above ladder tier load bus slack pmin pmax c1 c2 a b initial km share sheet circuits flow rate mw angle level ground added r
+
+  module _ (circuits : List ℕ) (flow rate mw angle : List Float) (level ground : List ℕ) (added figures : List Float) (counts : List ℕ)
+      (h : Lendable mode target above ladder tier load bus slack pmin pmax c1 c2 a b initial km share sheet (slices circuits flow rate mw angle level ground added figures counts)) where
+    lent-size : {A : Type 0} (x : A) → length (fresh (length tier) x) ≡ h .whole .buses
+    lent-size x = room (length tier) x (tier-fits (h .sound)) ∙ h .sound .tier-size
+
+    pub openable-of : Openable above tier load bus slack pmin pmax c1 c2 a b initial (fresh (length tier) 0) (fresh (length tier) nought) ground mw level circuits
+    openable-of =
+        record {
+          whole = C (h .whole);
+          target = target;
+          sound = h .sound;
+          leader-size = lent-size 0;
+          injection-size = lent-size nought;
+          ground-size = h .lengths .ground;
+          mw-size = h .lengths .mw;
+          level-size = h .lengths .tier;
+          circuits-size = h .lengths .circuits;
+        }
+
+    -- after the opening
+    module _ (leader′ : List ℕ) (injection′ : List Float) (ground′ : List ℕ) (mw′ : List Float) (level′ circuits′ : List ℕ) (r : Opening)
+        (w : OpeningDone above tier load bus slack pmin pmax c1 c2 a b initial leader′ injection′ ground′ mw′ level′ circuits′ r) where
+      pub stages-refused : (f : Refusal) → r ≡ Unopened f → (circuits″ : List ℕ) (flow″ rate″ mw″ angle″ : List Float) (level″ ground″ : List ℕ) (added″ : List Float)
+          → Done-with circuits″ flow″ rate″ mw″ angle″ level″ ground″ added″ (Refused f)
+      stages-refused f q circuits″ flow″ rate″ mw″ angle″ level″ ground″ added″ =
+          record {
+            plan = λ o s.
+                let e = subst (λ (x : Opening). OpenedAs x (C o) leader′ injection′ ground′ mw′ level′ circuits′) q (w .opens (C o) target s) in
+                subst (WholeAs (Refused f) circuits″ flow″ rate″ mw″ angle″ level″ ground″ added″ (C o)) (sym (unopened (C o) target s f e)) refl;
+          }
+
+      module _ (count : ℕ) (q : r ≡ Begun count) (e : length leader′ ≡ length (fresh {A = ℕ} (length tier) 0)) where
+        opens-by : (o : Case) → Sound (C o) target → Opens (C o) leader′ injection′ count ground′ mw′ level′ circuits′
+        opens-by o s = subst (λ (x : Opening). OpenedAs x (C o) leader′ injection′ ground′ mw′ level′ circuits′) q (w .opens (C o) target s)
+
+        pub count-of : length ground′ ≡ length ground → count ≤ length ground′
+        count-of f =
+            omega (arith, count-fits (C (h .whole)) target (h .sound) leader′ injection′ count ground′ mw′ level′ circuits′ (opens-by (h .whole) (h .sound)) (e ∙ lent-size 0), f, h .lengths .ground)
+
+        -- what is lent on: the arrays' first places again, and those of the counts, which are zeroed
+        module _ (f : length injection′ ≡ length (fresh (length tier) nought)) (zeroed : List ℕ) (z : zeroed ≡ replicate (length counts) 0) where
+          led : again (length tier) 0 leader′ ≡ leader′
+          led = lent-again (length tier) 0 leader′ (tier-fits (h .sound)) e
+
+          injected : again (length tier) nought injection′ ≡ injection′
+          injected = lent-again (length tier) nought injection′ (tier-fits (h .sound)) f
+
+          opens-again : (o : Case) → Sound (C o) target → Opens (C o) (again (length tier) 0 leader′) (again (length tier) nought injection′) count ground′ mw′ level′ circuits′
+          opens-again o s =
+              let k = opens-by o s in
+              record {
+                led = led ∙ k .led;
+                dispatched = k .dispatched;
+                injected = injected ∙ k .injected;
+                count-is = k .count-is;
+                grounded = k .grounded;
+                levels-are = k .levels-are;
+                circuits-are = k .circuits-are;
+              }
+
+          not-upsized : take (length a - 0) zeroed ≡ replicate (length a) 0
+          not-upsized = ap (take (length a - 0)) z ∙ front-replicate (length counts) (length a) 0 (counts-fit (h .sound) (h .lengths))
+
+          bank-size : length (take (length a - 0) figures) ≡ h .whole .corridors
+          bank-size = length-take (length a - 0) figures ∙ (let y : min (length a - 0) (length figures) ≡ h .whole .corridors = omega (arith, figures-fit (h .sound) (h .lengths), h .sound .a-size) in y)
+
+          -- what the later stages ask
+          pub opened-asks : length circuits′ ≡ length circuits
+              → Plannable ladder level′ a b km share sheet load bus pmax (again (length tier) 0 leader′) (take (count - 0) ground′) (again (length tier) nought injection′) circuits′
+              (take (length a - 0) figures) (fresh (length a) nought) (take (length a - 0) zeroed) (fresh (length tier) 0) angle flow
+              × Closable above ladder a (again (length tier) 0 leader′) (take (length a - 0) zeroed) angle rate added
+          opened-asks g =
+              let k = opens-again (h .whole) (h .sound) in
+              let n = ap length led ∙ e ∙ lent-size 0 in
+              let l = h .lengths in (
+                plannable-by (C (h .whole)) target (h .sound) (again (length tier) 0 leader′) (again (length tier) nought injection′) count ground′ mw′ level′ circuits′ k
+                    (take (length a - 0) figures) (fresh (length a) nought) (take (length a - 0) zeroed) (fresh (length tier) 0) angle flow n (ap length injected ∙ f ∙ lent-size nought)
+                    (g ∙ l .circuits) bank-size (front-replicate 256 (length a) nought (corridors-fit (h .sound))) not-upsized (lent-size 0) (l .angle) (l .flow),
+                closable-by (C (h .whole)) target (h .sound) (again (length tier) 0 leader′) (again (length tier) nought injection′) count ground′ mw′ level′ circuits′ k
+                    (take (length a - 0) zeroed) angle rate added n not-upsized (l .angle) (l .rate) (l .added),
+              )
+
+          pub stages-plan : (circuits″ : List ℕ) (flow″ rate″ angle″ : List Float) (level″ : List ℕ) (added″ : List Float) (x : Planned)
+              → OpenedPlan mode target above ladder level′ a b km share sheet load bus pmax (again (length tier) 0 leader′) (take (count - 0) ground′) (again (length tier) nought injection′) circuits′
+              (take (length a - 0) zeroed) circuits″ level″ flow″ rate″ angle″ added″ x
+              → Done-with circuits″ flow″ rate″ mw′ angle″ level″ ground′ added″ x
+          stages-plan circuits″ flow″ rate″ angle″ level″ added″ x v =
+              record {
+                plan = λ o s.
+                    let k = opens-again o s in
+                    whole-by (C o) target s x circuits″ flow″ rate″ mw′ angle″ level″ ground′ added″ (planFor (C o) target) (opening-kept (C o) target s mw′ (k .dispatched)) (k .grounded)
+                    (subst (PlannedAs x circuits″ level″ flow″ rate″ angle″ added″ (C o))
+                    (sym (planned-from (C o) target s (again (length tier) 0 leader′) (again (length tier) nought injection′) count ground′ mw′ level′ circuits′ k))
+                    (v .plan (C o) mw′ s (k .levels-are) (k .circuits-are) (not-upsized ∙ ap (λ (m : ℕ). replicate m 0) (s .a-size))));
+              }

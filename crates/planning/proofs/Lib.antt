@@ -28,7 +28,6 @@ pub mod Fillings
 pub mod Closings
 pub mod Sounds
 pub mod Liftings
-pub mod Unadded
 pub mod Redrawing
 pub mod Rounding
 pub mod Turns

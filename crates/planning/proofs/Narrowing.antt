@@ -9,14 +9,12 @@ use native.Mathlib.Omega.{arith}
 use borrow.Author.Tests.{lt-ltb, le-ltb, eq-eqb, ne-eqb}
 use lib.Dec.{ltb}
 use lib.ListN.{length, getD, take}
-use lib.Seq.{length-take-le, getD-take}
 use lib.Ieee.{Float, le}
 use Rattle.loops.specs.Figures.{at, minus, nought}
 use Rattle.refusal.specs.declared.Refusal.{Refusal}
 use Rattle.refusal.specs.declared.Answer.{Answer}
 use Rattle.refusal.specs.declared.Answer.the-variants.{Answered, Refused as Declined}
 use Rattle.angles_defs.specs.Network.{edgesOf, zeros}
-use Rattle.angles_defs.specs.Operation.{most}
 use Rattle.angles_defs.specs.Solve.{solve}
 use Rattle.plan_defs.specs.Constants.{maxAngleSpreadRad, stiffeningRounds}
 use Rattle.plan_defs.specs.Stage.{Stage, going, onward}
@@ -25,33 +23,13 @@ use Rattle.plan_defs.specs.Solve.{allFinite}
 use Rattle.plan_defs.specs.Stiffen.{Stiffening, unitAt, narrowIf, unlessLate, unlessNarrow, exceedsBy, betweenBuses, stiffenComponent}
 use Rattle.planning.specs.Design.{Banks}
 use Rattle.planning.specs.Opening.{stageOf, stageIf}
-use Rattle.planning.specs.Solve.{peakFor, finiteIf, finiteAngles, Net, Drawn}
+use Rattle.planning.specs.Solve.{peakFor, finiteIf, finiteAngles}
 use Rattle.planning.specs.Whole.{withLines}
 use Rattle.planning.specs.Stiffen.{budgetFor, stiffOf, roundOf, Within, LedStiffened, Stepped, reinforceStep, narrowStep, componentStep, leadOf, lagOf}
 use Rattle.planning.specs.declared.stiffen.Limits.{Limits}
 use Rattle.planning.specs.declared.stiffen.Stiffness.{Stiffness}
 use Rattle.planning.specs.declared.stiffen.Stiffened.{Stiffened}
 use Rattle.planning.specs.declared.stiffen.Stiffened.the-variants.{Refused, Going}
-
--- ---- what the unit solve is lent
-pub round-net : (n n′ m : ℕ) (from to : List ℕ) (weight : List Float) (grounds : List ℕ) → n′ ≡ n → n ≤ most → Drawn n m from to → length from ≡ most → length to ≡ most → length weight ≡ most
-    → length grounds ≤ most → ((g : ℕ) → g < length grounds → getD grounds g 0 < n)
-    → Net n′ (take (m - 0) from) (take (m - 0) to) (take (m - 0) weight) grounds
-round-net n n′ m from to weight grounds e few D pf pt pw gs gb =
-    let k : m - 0 ≡ m = sub-zero m in
-    let f = length-take-le (m - 0) from (omega (arith, D .few)) in
-    let t = length-take-le (m - 0) to (omega (arith, D .few)) in
-    let w = length-take-le (m - 0) weight (omega (arith, D .few)) in
-    record {
-      few-buses = omega arith;
-      few-edges = omega (arith, D .few);
-      few-grounds = gs;
-      to-size = t ∙ sym f;
-      weight-size = w ∙ sym f;
-      from-below = λ j h. let v : j < m - 0 = omega arith in omega (arith, D .from-below j (omega arith), getD-take (m - 0) from j 0 v);
-      to-below = λ j h. let v : j < m - 0 = omega arith in omega (arith, D .to-below j (omega arith), getD-take (m - 0) to j 0 v);
-      ground-below = λ j h. omega (arith, gb j h);
-    }
 
 -- ---- the component, by what the solve answers
 module _ (root lead lag : ℕ) (excess : Float) (g : Limits) (ladder : List Float) (level a b : List ℕ) (km share sheet : List Float) (leader grounds from to : List ℕ) (weight angle : List Float)

@@ -98,18 +98,18 @@ module _ (c : Case) (target : ℕ) (s : Slices) where
       ends-as (Refused f) q e = ends-refused f q e
       ends-as (Answered x) q e = ends-answered x q e
 
-      ends-said : (said : Planned) → said ≡ r → out ≡ finished (isRefused r) lent → Ends said out
-      ends-said said q e = subst (λ (y : Planned). Ends y out) (sym q) (ends-as r refl e)
+      ends-said : (refused : Bool) → refused ≡ isRefused r → out ≡ finished refused lent → Ends r out
+      ends-said refused q e = ends-as r refl (e ∙ ap (λ (b : Bool). finished b lent) q)
 
-  -- the same by what the check answers, and by what the stages leave, each slice as long as it was, and the hand-back
+  -- the same by what the check answers, and by what the stages leave, each slice as long as it was, and what is cleared
   pub ends-when : (x : Answer) → x ≡ checkOf (tablesOf c) target (placesOf s) → x ≡ Accepted → (r : Planned) (lent : Slices)
       → length (lent .circuits) ≡ length (s .circuits) → length (lent .flow) ≡ length (s .flow) → length (lent .rate) ≡ length (s .rate)
       → length (lent .mw) ≡ length (s .mw) → length (lent .angle) ≡ length (s .angle) → length (lent .tier) ≡ length (s .tier) → length (lent .ground) ≡ length (s .ground)
       → length (lent .added) ≡ length (s .added) → length (lent .figures) ≡ length (s .figures) → length (lent .counts) ≡ length (s .counts)
       → PlanDone (c .mode) target (c .above) (c .ladder) (c .tier) (c .load) (c .bus) (c .slack) (c .pmin) (c .pmax) (c .c1) (c .c2) (c .a) (c .b) (c .circuits)
       (c .km) (c .share) (c .sheet) (lent .circuits) (lent .flow) (lent .rate) (lent .mw) (lent .angle) (lent .tier) (lent .ground) (lent .added) r
-      → (out : Slices) (said : Planned) → said ≡ r → out ≡ finished (isRefused r) lent → Ends said out
-  ends-when x k q r lent e₁ e₂ e₃ e₄ e₅ e₆ e₇ e₈ e₉ e₀ done out said u v =
+      → (out : Slices) (refused : Bool) → refused ≡ isRefused r → out ≡ finished refused lent → Ends r out
+  ends-when x k q r lent e₁ e₂ e₃ e₄ e₅ e₆ e₇ e₈ e₉ e₀ done out refused u v =
       let ok = sym q ∙ k in
       let w = sizes ok in
       ends-said ok r lent
@@ -125,4 +125,4 @@ module _ (c : Case) (target : ℕ) (s : Slices) where
         figures = e₉ ∙ w .figures;
         counts = e₀ ∙ w .counts;
       })
-      done out said u v
+      done out refused u v

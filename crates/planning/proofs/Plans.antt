@@ -13,7 +13,6 @@ use Rattle.loops.specs.Figures.{nought}
 use Rattle.refusal.specs.declared.Refusal.{Refusal}
 use Rattle.mode.specs.declared.PlanMode.{PlanMode}
 use Rattle.angles_defs.specs.Network.{zeros}
-use Rattle.angles_defs.specs.Operation.{workPlaces}
 use Rattle.plan_defs.specs.Constants.{mostBuses, mostLevels, planningMaxRounds}
 use Rattle.plan_defs.specs.Stage.{Stage, stopped, going, onward}
 use Rattle.plan_defs.specs.Case.{Case, expand, lowerBounds, firstLevels}
@@ -23,14 +22,14 @@ use Rattle.plan_defs.specs.Solve.{Peak, PlanningCase, planningState}
 use Rattle.plan_defs.specs.Raise.{Raised, raises}
 use Rattle.plan_defs.specs.Rounds.{Draft, rounds, roundBudget, allRounds}
 use Rattle.plan_defs.specs.Fill.{fill}
-use Rattle.plan_defs.specs.Plan.{Plan, Opened, Ready, firstRaised, openedWith, readyWith, settledTo, settled, planOf, closing}
+use Rattle.plan_defs.specs.Plan.{Plan, Opened, Ready, firstRaised, firstDraft, openedWith, readyWith, settledTo, settled, planOf, closing}
 use Rattle.plan_defs.specs.Outcome.{summary}
 use Rattle.plan_defs.specs.declared.CircuitDesign.{CircuitDesign}
 use Rattle.plan_defs.specs.declared.Planned.{Planned}
 use Rattle.plan_defs.specs.declared.Planned.the-variants.{Answered, Refused}
 use Rattle.plan_defs.proofs.Stages.{On}
 use Rattle.plan_defs.proofs.Rising.{risen-first}
-use Rattle.planning.specs.Design.{Banks}
+use Rattle.planning.specs.Design.{Lines, Banks}
 use Rattle.planning.specs.Redesign.{redesignFor, banksAnew, RedesignFits}
 use Rattle.planning.specs.Solve.{peakFor}
 use Rattle.planning.specs.Close.{Closable}
@@ -38,7 +37,7 @@ use Rattle.planning.specs.Raises.{raisedOf, raisedAs, Within, Raisable, 
 use Rattle.planning.specs.Rounds.{roundsCase, draftOf, ranAs, RoundsFit, RoundsRun}
 use Rattle.planning.specs.Settle.{settlementOf, SettledAs, Settleable, Settles}
 use Rattle.planning.specs.Sound.{Sound}
-use Rattle.planning.specs.Plan.{roundsFor, startOf, Runnable, RanAll, planBy, plannedBy, PlannedAs, openedFor, RaisedPlan, Plannable, OpenedPlan}
+use Rattle.planning.specs.Plan.{roundsFor, startOf, Runnable, RanAll, planBy, plannedBy, PlannedAs, Plannable, OpenedPlan}
 use Rattle.planning.specs.declared.raises.Raised.{Raised as Raising}
 use Rattle.planning.specs.declared.raises.Raised.the-variants.{Refused as Unraised, Promoted}
 use Rattle.planning.specs.declared.rounds.Progress.{Progress}
@@ -75,12 +74,12 @@ no-rounds c P led budget s e = ap (λ (d : ℕ). rounds c P led d s) (sym e)
 
 -- ---- the rounds over slices
 module _ (mode : PlanMode) (above promoted : ℕ) (ladder : List Float) (level a b : List ℕ) (km share sheet load : List Float) (bus : List ℕ) (pmax : List Float) (leader grounds : List ℕ)
-    (injection : List Float) (circuits : List ℕ) (banks floors : List Float) (upsized marks : List ℕ) (angle flow work : List Float)
-    (h : Runnable above promoted ladder level a b km share sheet load bus pmax leader grounds injection circuits banks floors upsized marks angle flow work)
+    (injection : List Float) (circuits : List ℕ) (banks floors : List Float) (upsized marks : List ℕ) (angle flow : List Float)
+    (h : Runnable above promoted ladder level a b km share sheet load bus pmax leader grounds injection circuits banks floors upsized marks angle flow)
     (cold : List Float) (e : cold ≡ replicate (length angle) nought) (start : Progress) (f : start ≡ startOf mode (length a) promoted)
     (budget : ℕ) (g : budget ≡ roundsFor mode (length a)) where
   pub rounds-fit : length cold ≡ length angle → (budget ≡ 0 → ⊥)
-      → RoundsFit above budget start ladder level a b km share sheet load bus pmax leader grounds injection circuits banks floors upsized marks cold flow work
+      → RoundsFit above budget start ladder level a b km share sheet load bus pmax leader grounds injection circuits banks floors upsized marks cold flow
   rounds-fit size some =
       record {
         columns = h .columns;
@@ -97,7 +96,6 @@ module _ (mode : PlanMode) (above promoted : ℕ) (ladder : List Float) (level a
               mark-size = h .places .mark-size;
               angle-size = size ∙ h .places .angle-size;
               flow-size = h .places .flow-size;
-              work-size = h .places .work-size;
             };
         tallies =
             record {
@@ -182,97 +180,13 @@ module _ (p : Progress) (gs : ℕ) (circuits tier : List ℕ) (flow rate angle a
         added-are = h .added-are;
       }
 
--- ---- from the raises on
-module _ (mode : PlanMode) (target above promoted : ℕ) (ladder : List Float) (level a b : List ℕ) (km share sheet load : List Float) (bus : List ℕ) (pmax : List Float)
-    (leader grounds : List ℕ) (injection : List Float) (circuits : List ℕ) (banks floors : List Float) (upsized : List ℕ)
-    (level′ circuits′ : List ℕ) (banks′ floors′ : List Float) (upsized′ : List ℕ) (angle′ : List Float) (r : Rounds)
-    (w : RanAll mode above promoted ladder level a b km share sheet load bus pmax leader grounds injection circuits banks floors upsized level′ circuits′ banks′ floors′ upsized′ angle′ r) where
-  -- what the solves, the filling and the closing ask of what the rounds leave
-  pub settleable-of : (marks : List ℕ) (angle flow rate added work flow′ work′ : List Float)
-      → Runnable above promoted ladder level a b km share sheet load bus pmax leader grounds injection circuits banks floors upsized marks angle flow work
-      → Closable above ladder a leader upsized angle rate added → length circuits′ ≡ length circuits → length banks′ ≡ length banks → length upsized′ ≡ length upsized
-      → length level′ ≡ length level → length angle′ ≡ length angle → length flow′ ≡ length flow → length work′ ≡ length work
-      → Settleable above ladder level′ a b km share sheet leader grounds injection banks′ upsized′ circuits′ flow′ rate angle′ added work′
-  settleable-of marks angle flow rate added work flow′ work′ h k e₁ e₂ e₃ e₄ e₅ e₆ e₇ =
-      record {
-        drawing =
-            record {
-              lines = w .lines;
-              few-buses = omega (arith, e₄, h .columns .loads .few);
-              few-corridors = h .columns .few;
-              count-size = e₁ ∙ h .places .count-size;
-              bank-size = e₂ ∙ h .places .bank-size;
-              banks-ok = w .banked;
-            };
-        lent =
-            record {
-              few-grounds = h .places .few-grounds;
-              ground-below = λ g x. omega (arith, e₄, h .places .ground-below g x);
-              injection-size = h .places .injection-size ∙ sym e₄;
-              angle-size = e₅ ∙ h .places .angle-size ∙ sym e₄;
-              flow-size = e₆ ∙ h .places .flow-size;
-              work-size = e₇ ∙ h .places .work-size ∙ ap workPlaces (sym e₄);
-            };
-        closable =
-            record {
-              few = k .few;
-              ladder-size = k .ladder-size;
-              angle-size = e₅ ∙ k .angle-size;
-              upsized-size = e₃ ∙ k .upsized-size;
-              rate-size = k .rate-size;
-              added-size = k .added-size;
-            };
-      }
-
-  module _ (o : Case) (mw : List Float) (s : Sound (roundsCase o mode above ladder a b km share sheet load bus pmax) target) (n : length level ≡ o .buses)
-      (e : circuits ≡ lowerBounds (roundsCase o mode above ladder a b km share sheet load bus pmax)) (f : floors ≡ zeros (o .corridors)) (g : upsized ≡ replicate (o .corridors) 0) where
-    abbrev D : Case
-    D = roundsCase o mode above ladder a b km share sheet load bus pmax
-
-    abbrev O : Opened
-    O = openedFor D leader mw (peakFor (o .buses) grounds injection) (raisedOf D level banks promoted)
-
-    ran-is : ranAs r D level′ circuits′ banks′ floors′ upsized′ angle′ ≡ allRounds D (O .peak) leader (O .draft)
-    ran-is =
-        let z : draftOf D level circuits banks floors upsized (zeros (o .buses)) (startOf mode (o .corridors) promoted) ≡ O .draft = rw (e, f, g) in
-        w .ran o target s n ∙ ap (allRounds D (O .peak) leader) z
-
-    settled-is : settled D O ≡ onward (ranAs r D level′ circuits′ banks′ floors′ upsized′ angle′) (settledTo D O)
-    unfolding settled
-    settled-is = ap (λ (t : Stage Draft). onward t (settledTo D O)) (sym ran-is)
-
-  pub raised-refused : (f : Refusal) → r ≡ Unrun f → (circuits″ level″ : List ℕ) (flow″ rate″ angle″ added″ : List Float)
-      → RaisedPlan mode target above promoted ladder level a b km share sheet load bus pmax leader grounds injection circuits banks floors upsized circuits″ level″ flow″ rate″ angle″ added″ (Refused f)
-  raised-refused f q circuits″ level″ flow″ rate″ angle″ added″ =
-      record {
-        plan = λ o mw s n e g h.
-            let c = D o mw s n e g h in
-            let z : settled c (O o mw s n e g h) ≡ stopped f = settled-is o mw s n e g h
-            ∙ ap (λ (x : Rounds). onward (ranAs x c level′ circuits′ banks′ floors′ upsized′ angle′) (settledTo c (O o mw s n e g h))) q in
-            subst (PlannedAs (Refused f) circuits″ level″ flow″ rate″ angle″ added″ c) (sym (ap (λ (t : Stage Ready). onward t (closing c target)) z)) refl;
-      }
-
-  pub raised-plan : (p : Progress) → r ≡ Ran p → (circuits″ level″ : List ℕ) (flow″ rate″ angle″ added″ : List Float) (x : Settled)
-      → Settles mode target above ladder a b km share sheet leader grounds injection banks′ upsized′ circuits′ level′ circuits″ level″ flow″ rate″ angle″ added″ x
-      → length level′ ≡ length level → (q : Planned) → q ≡ plannedBy p (length grounds) x
-      → RaisedPlan mode target above promoted ladder level a b km share sheet load bus pmax leader grounds injection circuits banks floors upsized circuits″ level″ flow″ rate″ angle″ added″ q
-  raised-plan p u circuits″ level″ flow″ rate″ angle″ added″ x v k q y =
-      record {
-        plan = λ o mw s n e g h.
-            let c = D o mw s n e g h in
-            let O′ = O o mw s n e g h in
-            let S′ = draftOf c level′ circuits′ banks′ floors′ upsized′ angle′ p in
-            let z : settled c O′ ≡ settledTo c O′ S′ = settled-is o mw s n e g h
-            ∙ ap (λ (t : Rounds). onward (ranAs t c level′ circuits′ banks′ floors′ upsized′ angle′) (settledTo c O′)) u in
-            subst (PlannedAs q circuits″ level″ flow″ rate″ angle″ added″ c) (sym (ap (λ (t : Stage Ready). onward t (closing c target)) z))
-            (planned-as p (length grounds) circuits″ level″ flow″ rate″ angle″ added″ c x q (onward (settledTo c O′ S′) (closing c target))
-            (said-of c target O′ level′ circuits′ banks′ floors′ upsized′ angle′ p) (v .plan c O′ S′ floors′ s (k ∙ n) refl refl refl refl) y);
-      }
-
 -- ---- from the opening on
+abbrev openedFor : Case → List ℕ → List Float → Peak → Raised → Opened
+openedFor c led mw P s = record { led = led; mw = mw; peak = P; draft = firstDraft c s }
+
 module _ (mode : PlanMode) (target above : ℕ) (ladder : List Float) (level a b : List ℕ) (km share sheet load : List Float) (bus : List ℕ) (pmax : List Float) (leader grounds : List ℕ)
-    (injection : List Float) (circuits : List ℕ) (banks floors : List Float) (upsized marks : List ℕ) (angle flow work : List Float)
-    (h : Plannable ladder level a b km share sheet load bus pmax leader grounds injection circuits banks floors upsized marks angle flow work) where
+    (injection : List Float) (circuits : List ℕ) (banks floors : List Float) (upsized marks : List ℕ) (angle flow : List Float)
+    (h : Plannable ladder level a b km share sheet load bus pmax leader grounds injection circuits banks floors upsized marks angle flow) where
   pub redesign-fit : RedesignFits ladder level a b km share sheet load bus pmax floors banks
   redesign-fit =
       record {
@@ -285,7 +199,7 @@ module _ (mode : PlanMode) (target above : ℕ) (ladder : List Float) (level a b
       }
 
   pub raises-fit : (banks₁ : List Float) → length banks₁ ≡ length banks → Banks banks₁
-      → Raisable ladder level a b km share sheet load bus pmax grounds injection circuits floors banks₁ marks angle flow work
+      → Raisable ladder level a b km share sheet load bus pmax grounds injection circuits floors banks₁ marks angle flow
   raises-fit banks₁ e banked =
       record {
         drawing =
@@ -304,7 +218,6 @@ module _ (mode : PlanMode) (target above : ℕ) (ladder : List Float) (level a b
               injection-size = h .places .injection-size;
               angle-size = h .places .angle-size;
               flow-size = h .places .flow-size;
-              work-size = h .places .work-size;
             };
         redesigns =
             record {
@@ -320,13 +233,48 @@ module _ (mode : PlanMode) (target above : ℕ) (ladder : List Float) (level a b
         few-levels = h .few-levels;
       }
 
+  -- what the solves, the filling and the closing ask of what the rounds leave
+  pub settleable-of : (rate added : List Float) → Closable above ladder a leader upsized angle rate added → (level″ circuits″ : List ℕ) (banks″ : List Float) (upsized″ : List ℕ)
+      (angle″ flow″ : List Float) → Lines ladder level″ a b km share sheet → Banks banks″ → length circuits″ ≡ length circuits → length banks″ ≡ length banks
+      → length upsized″ ≡ length upsized → length level″ ≡ length level → length angle″ ≡ length angle → length flow″ ≡ length flow
+      → Settleable above ladder level″ a b km share sheet leader grounds injection banks″ upsized″ circuits″ flow″ rate angle″ added
+  settleable-of rate added k level″ circuits″ banks″ upsized″ angle″ flow″ lines banked e₁ e₂ e₃ e₄ e₅ e₆ =
+      record {
+        drawing =
+            record {
+              lines = lines;
+              few-buses = omega (arith, e₄, h .columns .loads .few);
+              few-corridors = h .columns .few;
+              count-size = e₁ ∙ h .places .count-size;
+              bank-size = e₂ ∙ h .places .bank-size;
+              banks-ok = banked;
+            };
+        lent =
+            record {
+              few-grounds = h .places .few-grounds;
+              ground-below = λ g x. omega (arith, e₄, h .places .ground-below g x);
+              injection-size = h .places .injection-size ∙ sym e₄;
+              angle-size = e₅ ∙ h .places .angle-size ∙ sym e₄;
+              flow-size = e₆ ∙ h .places .flow-size;
+            };
+        closable =
+            record {
+              few = k .few;
+              ladder-size = k .ladder-size;
+              angle-size = e₅ ∙ k .angle-size;
+              upsized-size = e₃ ∙ k .upsized-size;
+              rate-size = k .rate-size;
+              added-size = k .added-size;
+            };
+      }
+
   -- after the raises
   module _ (banks₁ : List Float) (level′ : List ℕ) (banks′ : List Float) (r : Raising)
       (w : RaisesDone mode ladder level a b km share sheet load bus pmax grounds injection circuits banks₁ level′ banks′ r) (size : length level′ ≡ length level) where
-    pub runnable-of : (promoted : ℕ) → r ≡ Promoted promoted → above ≤ mostLevels → (marks′ : List ℕ) (angle′ flow′ work′ : List Float) → length banks′ ≡ length banks
-        → length marks′ ≡ length marks → length angle′ ≡ length angle → length flow′ ≡ length flow → length work′ ≡ length work
-        → Runnable above promoted ladder level′ a b km share sheet load bus pmax leader grounds injection circuits banks′ floors upsized marks′ angle′ flow′ work′
-    runnable-of promoted q low marks′ angle′ flow′ work′ e₁ e₂ e₃ e₄ e₅ =
+    pub runnable-of : (promoted : ℕ) → r ≡ Promoted promoted → above ≤ mostLevels → (marks′ : List ℕ) (angle′ flow′ : List Float) → length banks′ ≡ length banks
+        → length marks′ ≡ length marks → length angle′ ≡ length angle → length flow′ ≡ length flow
+        → Runnable above promoted ladder level′ a b km share sheet load bus pmax leader grounds injection circuits banks′ floors upsized marks′ angle′ flow′
+    runnable-of promoted q low marks′ angle′ flow′ e₁ e₂ e₃ e₄ =
         record {
           columns =
               record {
@@ -348,7 +296,6 @@ module _ (mode : PlanMode) (target above : ℕ) (ladder : List Float) (level a b
                 mark-size = e₂ ∙ h .places .mark-size ∙ sym size;
                 angle-size = e₃ ∙ h .places .angle-size ∙ sym size;
                 flow-size = e₄ ∙ h .places .flow-size;
-                work-size = e₅ ∙ h .places .work-size ∙ ap workPlaces (sym size);
               };
           few-levels = low;
           few-moves = subst (Within (mostBuses * mostLevels)) q (w .bound);
@@ -404,16 +351,56 @@ module _ (mode : PlanMode) (target above : ℕ) (ladder : List Float) (level a b
                 subst (PlannedAs (Refused f) circuits″ level″ flow″ rate″ angle″ added″ c) (sym (ap (λ (t : Stage Ready). onward t (closing c target)) z)) refl;
           }
 
-      pub opened-plan : (promoted : ℕ) → r ≡ Promoted promoted → (circuits″ level″ : List ℕ) (flow″ rate″ angle″ added″ : List Float) (x : Planned)
-          → RaisedPlan mode target above promoted ladder level′ a b km share sheet load bus pmax leader grounds injection circuits banks′ floors upsized circuits″ level″ flow″ rate″ angle″ added″ x
-          → OpenedPlan mode target above ladder level a b km share sheet load bus pmax leader grounds injection circuits upsized circuits″ level″ flow″ rate″ angle″ added″ x
-      opened-plan promoted q circuits″ level″ flow″ rate″ angle″ added″ x v =
-          record {
-            plan = λ o mw s l e g.
-                let c = E o mw s l e in
-                let P = Q o mw s l e in
-                let z : onward (openedWith c leader mw P) (settled c) ≡ settled c (openedFor c leader mw P (raisedOf c level′ banks′ promoted)) = opened-is o mw s l e
-                ∙ ap (λ (y : Raising). onward (raisedAs y c level′ banks′) (λ t. settled c (openedFor c leader mw P t))) q in
-                subst (PlannedAs x circuits″ level″ flow″ rate″ angle″ added″ c) (sym (ap (λ (t : Stage Ready). onward t (closing c target)) z))
-                (v .plan o mw s (size ∙ buses-are o mw s l e) e (h .unset ∙ ap (λ (m : ℕ). zeros m) (s .a-size)) g);
-          }
+      -- after the rounds
+      module _ (promoted : ℕ) (q : r ≡ Promoted promoted) (level″ circuits″ : List ℕ) (banks″ floors″ : List Float) (upsized″ : List ℕ) (angle″ : List Float) (x : Rounds)
+          (v : RanAll mode above promoted ladder level′ a b km share sheet load bus pmax leader grounds injection circuits banks′ floors upsized
+          level″ circuits″ banks″ floors″ upsized″ angle″ x) where
+        module _ (o : Case) (mw : List Float) (s : Sound (roundsCase o mode above ladder a b km share sheet load bus pmax) target)
+            (l : level ≡ firstLevels (roundsCase o mode above ladder a b km share sheet load bus pmax))
+            (e : circuits ≡ lowerBounds (roundsCase o mode above ladder a b km share sheet load bus pmax)) (g : upsized ≡ replicate (o .corridors) 0) where
+          abbrev D : Case
+          D = E o mw s l e
+
+          abbrev O : Opened
+          O = openedFor D leader mw (Q o mw s l e) (raisedOf D level′ banks′ promoted)
+
+          ran-is : ranAs x D level″ circuits″ banks″ floors″ upsized″ angle″ ≡ allRounds D (O .peak) leader (O .draft)
+          ran-is =
+              let f : floors ≡ zeros (o .corridors) = h .unset ∙ ap (λ (m : ℕ). zeros m) (s .a-size) in
+              let z : draftOf D level′ circuits banks′ floors upsized (zeros (o .buses)) (startOf mode (o .corridors) promoted) ≡ O .draft = rw (e, f, g) in
+              v .ran o target s (size ∙ buses-are o mw s l e) ∙ ap (allRounds D (O .peak) leader) z
+
+          settled-is : onward (openedWith D leader mw (Q o mw s l e)) (settled D) ≡ onward (ranAs x D level″ circuits″ banks″ floors″ upsized″ angle″) (settledTo D O)
+          unfolding settled
+          settled-is =
+              opened-is o mw s l e
+              ∙ ap (λ (y : Raising). onward (raisedAs y D level′ banks′) (λ t. settled D (openedFor D leader mw (Q o mw s l e) t))) q
+              ∙ ap (λ (t : Stage Draft). onward t (settledTo D O)) (sym ran-is)
+
+        pub opened-unrun : (f : Refusal) → x ≡ Unrun f → (circuits‴ level‴ : List ℕ) (flow‴ rate‴ angle‴ added‴ : List Float)
+            → OpenedPlan mode target above ladder level a b km share sheet load bus pmax leader grounds injection circuits upsized circuits‴ level‴ flow‴ rate‴ angle‴ added‴ (Refused f)
+        opened-unrun f u circuits‴ level‴ flow‴ rate‴ angle‴ added‴ =
+            record {
+              plan = λ o mw s l e g.
+                  let c = D o mw s l e g in
+                  let z : onward (openedWith c leader mw (Q o mw s l e)) (settled c) ≡ stopped f = settled-is o mw s l e g
+                  ∙ ap (λ (y : Rounds). onward (ranAs y c level″ circuits″ banks″ floors″ upsized″ angle″) (settledTo c (O o mw s l e g))) u in
+                  subst (PlannedAs (Refused f) circuits‴ level‴ flow‴ rate‴ angle‴ added‴ c) (sym (ap (λ (t : Stage Ready). onward t (closing c target)) z)) refl;
+            }
+
+        pub opened-plan : (p : Progress) → x ≡ Ran p → (circuits‴ level‴ : List ℕ) (flow‴ rate‴ angle‴ added‴ : List Float) (y : Settled)
+            → Settles mode target above ladder a b km share sheet leader grounds injection banks″ upsized″ circuits″ level″ circuits‴ level‴ flow‴ rate‴ angle‴ added‴ y
+            → length level″ ≡ length level′ → (i : Planned) → i ≡ plannedBy p (length grounds) y
+            → OpenedPlan mode target above ladder level a b km share sheet load bus pmax leader grounds injection circuits upsized circuits‴ level‴ flow‴ rate‴ angle‴ added‴ i
+        opened-plan p u circuits‴ level‴ flow‴ rate‴ angle‴ added‴ y d k i j =
+            record {
+              plan = λ o mw s l e g.
+                  let c = D o mw s l e g in
+                  let O′ = O o mw s l e g in
+                  let S′ = draftOf c level″ circuits″ banks″ floors″ upsized″ angle″ p in
+                  let z : onward (openedWith c leader mw (Q o mw s l e)) (settled c) ≡ settledTo c O′ S′ = settled-is o mw s l e g
+                  ∙ ap (λ (t : Rounds). onward (ranAs t c level″ circuits″ banks″ floors″ upsized″ angle″) (settledTo c O′)) u in
+                  subst (PlannedAs i circuits‴ level‴ flow‴ rate‴ angle‴ added‴ c) (sym (ap (λ (t : Stage Ready). onward t (closing c target)) z))
+                  (planned-as p (length grounds) circuits‴ level‴ flow‴ rate‴ angle‴ added‴ c y i (onward (settledTo c O′ S′) (closing c target))
+                  (said-of c target O′ level″ circuits″ banks″ floors″ upsized″ angle″ p) (d .plan c O′ S′ floors″ s (k ∙ size ∙ buses-are o mw s l e) refl refl refl refl) j);
+            }

@@ -10,7 +10,6 @@ use lib.Ieee.{Float}
 use Rattle.loops.proofs.Loops.{gap, none}
 use Rattle.refusal.specs.declared.Refusal.{Refusal}
 use Rattle.mode.specs.declared.PlanMode.{PlanMode}
-use Rattle.angles_defs.specs.Operation.{workPlaces}
 use Rattle.plan_defs.specs.Constants.{mostBuses, mostLevels}
 use Rattle.plan_defs.specs.Case.{Case, promote, levels}
 use Rattle.plan_defs.specs.Stage.{going}
@@ -33,7 +32,7 @@ module _ (d : ℕ) (c : Case) (P : Peak) (circuits level : List ℕ) (banks : Li
   some-moved (suc m) e = refl
 
 module _ (ladder : List Float) (a b : List ℕ) (km share sheet load : List Float) (bus : List ℕ) (pmax : List Float) (grounds : List ℕ) (injection : List Float)
-    (circuits : List ℕ) (floors banks₀ : List Float) (level₀ marks₀ : List ℕ) (angle₀ flow₀ work₀ : List Float) where
+    (circuits : List ℕ) (floors banks₀ : List Float) (level₀ marks₀ : List ℕ) (angle₀ flow₀ : List Float) where
   abbrev C : Case → PlanMode → Case
   C o mode = passFor o mode ladder a b km share sheet load bus pmax
 
@@ -41,19 +40,18 @@ module _ (ladder : List Float) (a b : List ℕ) (km share sheet load : List Floa
   P o = peakFor (o .buses) grounds injection
 
   abbrev Begun : Type 0
-  Begun = Raisable ladder level₀ a b km share sheet load bus pmax grounds injection circuits floors banks₀ marks₀ angle₀ flow₀ work₀
+  Begun = Raisable ladder level₀ a b km share sheet load bus pmax grounds injection circuits floors banks₀ marks₀ angle₀ flow₀
 
   abbrev Done : PlanMode → List ℕ → List Float → Answer → Type 0
   Done mode level banks r = RaisesDone mode ladder level₀ a b km share sheet load bus pmax grounds injection circuits banks₀ level banks r
 
   -- ---- where the loop stands
-  pub record Underway (banks : List Float) (level marks : List ℕ) (angle flow work : List Float) (promoted turn : ℕ) : Type 0 where
+  pub record Underway (banks : List Float) (level marks : List ℕ) (angle flow : List Float) (promoted turn : ℕ) : Type 0 where
     pub bank-size : length banks ≡ length banks₀
     pub level-size : length level ≡ length level₀
     pub mark-size : length marks ≡ length marks₀
     pub angle-size : length angle ≡ length angle₀
     pub flow-size : length flow ≡ length flow₀
-    pub work-size : length work ≡ length work₀
     pub lines : Lines ladder level a b km share sheet
     pub banked : Banks banks
     pub turns : turn ≤ mostLevels
@@ -62,7 +60,7 @@ module _ (ladder : List Float) (a b : List ℕ) (km share sheet load : List Floa
         → passes (length ladder - turn) (C o mode) (P o) circuits (raisedOf (C o mode) level banks promoted)
         ≡ passes (length ladder - 1) (C o mode) (P o) circuits (raisedOf (C o mode) level₀ banks₀ 0)
 
-  pub underway-start : Begun → Underway banks₀ level₀ marks₀ angle₀ flow₀ work₀ 0 1
+  pub underway-start : Begun → Underway banks₀ level₀ marks₀ angle₀ flow₀ 0 1
   underway-start p =
       record {
         bank-size = refl;
@@ -70,7 +68,6 @@ module _ (ladder : List Float) (a b : List ℕ) (km share sheet load : List Floa
         mark-size = refl;
         angle-size = refl;
         flow-size = refl;
-        work-size = refl;
         lines = p .drawing .lines;
         banked = p .drawing .banks-ok;
         turns = omega arith;
@@ -96,9 +93,9 @@ module _ (ladder : List Float) (a b : List ℕ) (km share sheet load : List Floa
         bound = omega arith;
       }
 
-  module _ (banks : List Float) (level marks : List ℕ) (angle flow work : List Float) (promoted turn : ℕ) (u : Underway banks level marks angle flow work promoted turn) where
+  module _ (banks : List Float) (level marks : List ℕ) (angle flow : List Float) (promoted turn : ℕ) (u : Underway banks level marks angle flow promoted turn) where
     -- ---- the next pass asks no more
-    pub raisable-again : Begun → Raisable ladder level a b km share sheet load bus pmax grounds injection circuits floors banks marks angle flow work
+    pub raisable-again : Begun → Raisable ladder level a b km share sheet load bus pmax grounds injection circuits floors banks marks angle flow
     raisable-again p =
         let n = u .level-size in
         record {
@@ -118,7 +115,6 @@ module _ (ladder : List Float) (a b : List ℕ) (km share sheet load : List Floa
                 injection-size = p .lent .injection-size ∙ sym n;
                 angle-size = u .angle-size ∙ p .lent .angle-size ∙ sym n;
                 flow-size = u .flow-size ∙ p .lent .flow-size;
-                work-size = u .work-size ∙ p .lent .work-size ∙ ap (λ (i : ℕ). workPlaces i) (sym n);
               };
           redesigns =
               record {
@@ -191,17 +187,16 @@ module _ (ladder : List Float) (a b : List ℕ) (km share sheet load : List Floa
               bound = omega (arith, u .turns, u .bound);
             }
 
-        pub underway-next : (m ≡ 0 → ⊥) → length ladder ≤ mostLevels → (marks′ : List ℕ) (angle′ flow′ work′ : List Float)
+        pub underway-next : (m ≡ 0 → ⊥) → length ladder ≤ mostLevels → (marks′ : List ℕ) (angle′ flow′ : List Float)
             → length banks′ ≡ length banks → length level′ ≡ length level → length marks′ ≡ length marks → length angle′ ≡ length angle → length flow′ ≡ length flow
-            → length work′ ≡ length work → Underway banks′ level′ marks′ angle′ flow′ work′ (promoted + m) (turn + 1)
-        underway-next z few marks′ angle′ flow′ work′ x₁ x₂ x₃ x₄ x₅ x₆ =
+            → Underway banks′ level′ marks′ angle′ flow′ (promoted + m) (turn + 1)
+        underway-next z few marks′ angle′ flow′ x₁ x₂ x₃ x₄ x₅ =
             record {
               bank-size = x₁ ∙ u .bank-size;
               level-size = x₂ ∙ u .level-size;
               mark-size = x₃ ∙ u .mark-size;
               angle-size = x₄ ∙ u .angle-size;
               flow-size = x₅ ∙ u .flow-size;
-              work-size = x₆ ∙ u .work-size;
               lines = w .lines;
               banked = w .banked;
               turns = omega (arith, h, few);

@@ -23,7 +23,7 @@ use Rattle.plan_defs.specs.Stage.{Stage, stopped, going, onward, eachStage}
 use Rattle.plan_defs.specs.Case.{Case, promote}
 use Rattle.plan_defs.specs.Components.{leads, roots}
 use Rattle.plan_defs.specs.Build.{Build, built, buildOf, drawnAll, rebuilt}
-use Rattle.plan_defs.specs.Solve.{Peak, PlanningCase, edgesFor, planningState}
+use Rattle.plan_defs.specs.Solve.{Peak, PlanningCase, edgesFor, planningOn, planningState}
 use Rattle.plan_defs.specs.Raise.{raisedLevels, movedBuses, noMarks}
 use Rattle.plan_defs.specs.Size.{Sizing, sizing, sizeAll}
 use Rattle.plan_defs.specs.Stiffen.{Budget, Stiffening, budgetOf, hvBudget, shareOf, stiffenTop, atOrAbove, stiffenFrom, stiffenComponent, stiffenAll}
@@ -45,10 +45,10 @@ use Rattle.planning.specs.declared.rounds.Progress.{Progress}
 use Rattle.planning.proofs.Lists.{count-most}
 use Rattle.planning.proofs.Lifting.{draws-lift}
 use Rattle.planning.proofs.Redesigns.{rebuilt-is, banks-lift}
+use Rattle.planning.proofs.States.{state-of}
 use Rattle.planning.proofs.Corridors.{left, left-end, size-lifts}
 use Rattle.planning.proofs.Stages.{stage-step, stage-end}
 use Rattle.planning.proofs.Passing.{pass-start}
-use Rattle.planning.proofs.Unadded.{unadded}
 
 onward-same : {S T : Type 0} (st : Stage S) (f g : S → Stage T) → ((s : S) → f s ≡ g s) → onward st f ≡ onward st g
 onward-same (stopped r) f g e = refl
@@ -146,8 +146,11 @@ module _ (mode : PlanMode) (above : ℕ) (ladder : List Float) (a b : List ℕ) 
   -- ---- a round: it begins with d + 1 left, and is solved
   module _ (level first circuits : List ℕ) (banks floors : List Float) (upsized : List ℕ) (angle : List Float) (p : Progress) (W : Case → Stage Draft) (d′ d : ℕ) (some : d′ ≡ suc d) (kept : level ≡ first)
       (size₀ : length first ≡ n) (whole₀ : Alike (goesOn d′ first circuits banks floors upsized angle p) W) (theta flow : List Float) (r : Answer)
-      (solved₀ : solvedOf r (edgesFor (drawnAll (linesFor ladder a b km share sheet) first banks) circuits) theta flow
-      ≡ planningState (peakFor (length first) grounds injection) (drawnAll (linesFor ladder a b km share sheet) first banks) circuits angle) where
+      (from to : List ℕ) (weight : List Float)
+      (edges : edgesOf (take (length a) from) (take (length a) to) (take (length a) weight) ≡ edgesFor (drawnAll (linesFor ladder a b km share sheet) first banks) circuits)
+      (angles flows : ℕ) (angle-size : angles ≡ length first) (flow-size : flows ≡ length a)
+      (peak : solvedOf r (edgesOf (take flows from) (take flows to) (take flows weight)) theta flow
+      ≡ planningOn (peakFor angles grounds injection) (edgesOf (take flows from) (take flows to) (take flows weight)) angle) where
     size : length level ≡ n
     size = ap (λ (l : List ℕ). length l) kept ∙ size₀
 
@@ -159,7 +162,8 @@ module _ (mode : PlanMode) (above : ℕ) (ladder : List Float) (a b : List ℕ) 
     solved =
         subst (λ (l : List ℕ).
         solvedOf r (edgesFor (drawnAll (linesFor ladder a b km share sheet) l banks) circuits) theta flow
-        ≡ planningState (peakFor (length l) grounds injection) (drawnAll (linesFor ladder a b km share sheet) l banks) circuits angle) (sym kept) solved₀
+        ≡ planningState (peakFor (length l) grounds injection) (drawnAll (linesFor ladder a b km share sheet) l banks) circuits angle) (sym kept)
+        (state-of ladder first a b km share sheet circuits banks from to weight edges angles flows angle-size flow-size grounds injection angle r theta flow peak)
 
     -- the tallies while the round runs
     abbrev pub running : Progress
@@ -259,8 +263,7 @@ module _ (mode : PlanMode) (above : ℕ) (ladder : List Float) (a b : List ℕ) 
               ∙ sized-on o target s e
 
       -- ---- one that does begins to stiffen
-      module _ (same : movedBuses level marks′ ≡ 0) (none : t .added ≡ false) (m : promote mode ≡ true) (p′ : Progress) (runs : p′ ≡ running) (from to : List ℕ) (weight : List Float) (g : Limits) (marks″ : List ℕ) (u : Stiffness)
-          (edges : edgesOf (take (length a) from) (take (length a) to) (take (length a) weight) ≡ edgesFor (drawnAll (linesFor ladder a b km share sheet) level banks′) circuits′)
+      module _ (same : movedBuses level marks′ ≡ 0) (none : t .added ≡ false) (m : promote mode ≡ true) (p′ : Progress) (runs : p′ ≡ running) (g : Limits) (marks″ : List ℕ) (u : Stiffness)
           (limits : budgetFor g ≡ record { hv = hvBudget (length level); branches = shareOf stiffeningBranchBudget (length level); top = stiffenTop above (hvBudget (length level)) level })
           (clear : marks″ ≡ noMarks (length level))
           (begin : u ≡ record { total = sum circuits′; hv = atOrAbove level (g .top); stiffening = p′ .stiffening; wide = false; stiffened = false }) where
@@ -274,12 +277,10 @@ module _ (mode : PlanMode) (above : ℕ) (ladder : List Float) (a b : List ℕ) 
 
         round-is : (o : Case) (target : ℕ) → Sound (C o) target → n ≡ o .buses → roundOf (length a) from to weight theta flow ≡ Solved o
         round-is o target s e =
-            let z = sized-is o target s e in
-            let same-build : Z o .build ≡ S o .build =
-            ap (λ (x : Sizing). x .build) z ∙ unadded (S o .build) (C o) level flow (p .capacity) (ap (λ (x : Sizing). x .added) (sym z) ∙ none) in
             ap (λ (E : Edges). the-case E)
-            (edges ∙ ap (λ (ds : List CircuitDesign). edgesFor ds circuits′) (draws-lift (C o) (s .ladder-size) (s .a-size) level banks′)
-            ∙ ap (λ (x : Build). edgesFor (x .designs) (x .circuits)) same-build)
+            (edges
+            ∙ ap (λ (l : List ℕ). edgesFor (drawnAll (linesFor ladder a b km share sheet) l banks) circuits) (sym kept)
+            ∙ ap (λ (ds : List CircuitDesign). edgesFor ds circuits) (draws-lift (C o) (s .ladder-size) (s .a-size) level banks))
           where
             the-case : Edges → PlanningCase
             the-case E = record { edges = E; theta = theta; flows = flow }

@@ -36,25 +36,24 @@ pub solved-answered : {T : Type 0} (next : PlanningCase → Stage T) (X : Stage 
 solved-answered next X r E x y e q = ap (λ (a : Answer). onward (solvedOf a E x y) next) (sym q) ∙ ap (λ (t : Stage PlanningCase). onward t next) e
 
 -- ---- slices of the same lengths
-module _ (n m : ℕ) (injection : List Float) (grounds : List ℕ) (angle flow work angle′ flow′ work′ : List Float) where
-  pub lent-again : Lent n m injection grounds angle flow work → length angle′ ≡ length angle → length flow′ ≡ length flow → length work′ ≡ length work
-      → Lent n m injection grounds angle′ flow′ work′
-  lent-again h p q w =
+module _ (n m : ℕ) (injection : List Float) (grounds : List ℕ) (angle flow angle′ flow′ : List Float) where
+  pub lent-again : Lent n m injection grounds angle flow → length angle′ ≡ length angle → length flow′ ≡ length flow
+      → Lent n m injection grounds angle′ flow′
+  lent-again h p q =
       record {
         few-grounds = h .few-grounds;
         ground-below = h .ground-below;
         injection-size = h .injection-size;
         angle-size = p ∙ h .angle-size;
         flow-size = q ∙ h .flow-size;
-        work-size = w ∙ h .work-size;
       }
 
 module _ (above : ℕ) (ladder : List Float) (level a b : List ℕ) (km share sheet : List Float) (leader grounds : List ℕ) (injection banks : List Float)
-    (upsized circuits : List ℕ) (flow rate angle added work : List Float)
-    (h : Settleable above ladder level a b km share sheet leader grounds injection banks upsized circuits flow rate angle added work) where
-  pub settleable-again : (circuits′ : List ℕ) (flow′ angle′ work′ : List Float) → length circuits′ ≡ length circuits → length flow′ ≡ length flow → length angle′ ≡ length angle
-      → length work′ ≡ length work → Settleable above ladder level a b km share sheet leader grounds injection banks upsized circuits′ flow′ rate angle′ added work′
-  settleable-again circuits′ flow′ angle′ work′ p q w z =
+    (upsized circuits : List ℕ) (flow rate angle added : List Float)
+    (h : Settleable above ladder level a b km share sheet leader grounds injection banks upsized circuits flow rate angle added) where
+  pub settleable-again : (circuits′ : List ℕ) (flow′ angle′ : List Float) → length circuits′ ≡ length circuits → length flow′ ≡ length flow → length angle′ ≡ length angle
+      → Settleable above ladder level a b km share sheet leader grounds injection banks upsized circuits′ flow′ rate angle′ added
+  settleable-again circuits′ flow′ angle′ p q w =
       record {
         drawing =
             record {
@@ -65,7 +64,7 @@ module _ (above : ℕ) (ladder : List Float) (level a b : List ℕ) (km share sh
               bank-size = h .drawing .bank-size;
               banks-ok = h .drawing .banks-ok;
             };
-        lent = lent-again (length level) (length a) injection grounds angle flow work angle′ flow′ work′ (h .lent) w q z;
+        lent = lent-again (length level) (length a) injection grounds angle flow angle′ flow′ (h .lent) w q;
         closable =
             record {
               few = h .closable .few;

@@ -1,6 +1,6 @@
 -- A solve over slices is the defined planning state: the edges that were drawn, the angles of `dc_angles`, which refuses 9 alone, and the flows.
 -- Drawn edges join buses, so the request is sound; and `dc_angles` refuses exactly where an angle is not finite.
-use Prim.Native.Nat.{ℕ, _-_, _<_, _≤_}
+use Prim.Native.Nat.{ℕ, _*_, _-_, _<_, _≤_}
 use mathlib.Core.Bool.{Bool, true, false, not}
 use mathlib.Core.List.{List, map}
 use mathlib.Core.Path.{_≡_, refl, sym, ap, _∙_, subst}
@@ -20,7 +20,7 @@ use Rattle.refusal.specs.declared.Refusal.{Refusal}
 use Rattle.refusal.specs.declared.Refusal.the-variants.{NotFinite}
 use Rattle.angles_defs.specs.Network.{Edges, edgesOf, zeros}
 use Rattle.angles_defs.specs.Solve.{Solved, solve}
-use Rattle.angles_defs.specs.Operation.{Request, requestOf, Outcome, outcome, finiteAt, finishIf, solveOf, dcAngles}
+use Rattle.angles_defs.specs.Operation.{Request, requestOf, Outcome, outcome, workPlaces, most, finiteAt, finishIf, solveOf, dcAngles}
 use Rattle.angles_defs.specs.declared.Solution.{Solution}
 use Rattle.angles_defs.specs.declared.Angles.{Angles}
 use Rattle.angles_defs.specs.declared.Angles.the-variants.{Answered as Found, Refused as Declined}
@@ -72,10 +72,10 @@ angles-stage q result work S r y w e =
     ∙ ap (λ (b : Bool). finiteIf b (o .x)) (sym (flip i (q .n)))
     ∙ ap (λ (n : ℕ). finiteIf (leb n (first (finiteAt (o .x)) n 0)) (o .x)) (sym (solve-places (q .n) (q .edges) (q .grounds) (q .injection) (q .guess)))
 
-pub sound-request : (n : ℕ) (from to : List ℕ) (weight : List Float) (grounds : List ℕ) (injection guess angle work : List Float)
-    → Net n from to weight grounds → Places n injection guess angle work
+sound-request : (n : ℕ) (from to : List ℕ) (weight : List Float) (grounds : List ℕ) (injection guess angle work : List Float)
+    → Net n from to weight grounds → Places n injection guess angle → length work ≡ workPlaces n
     → Sound (requestOf n (length from) (length grounds) from to weight injection grounds guess) (length angle) (length work)
-sound-request n from to weight grounds injection guess angle work N P =
+sound-request n from to weight grounds injection guess angle work N P w =
     record {
       lengths =
           record {
@@ -86,7 +86,7 @@ sound-request n from to weight grounds injection guess angle work N P =
             grounds = refl;
             guess = P .guess-size;
             result = P .angle-size;
-            work = P .work-size;
+            work = w;
           };
       buses = N .few-buses;
       edges = N .few-edges;
@@ -95,6 +95,17 @@ sound-request n from to weight grounds injection guess angle work N P =
       to-below = N .to-below;
       ground-below = N .ground-below;
     }
+
+-- where the solver's work is a part of an array of zeros
+pub work-room : (n : ℕ) → n ≤ most → 8 * n ≤ 2_048
+work-room n h = omega arith
+
+pub own-request : (n : ℕ) (from to : List ℕ) (weight : List Float) (grounds : List ℕ) (injection guess angle : List Float)
+    → Net n from to weight grounds → Places n injection guess angle
+    → Sound (requestOf n (length from) (length grounds) from to weight injection grounds guess) (length angle) (length (take (8 * n - 0) (replicate 2_048 nought)))
+own-request n from to weight grounds injection guess angle N P =
+    sound-request n from to weight grounds injection guess angle (take (8 * n - 0) (replicate 2_048 nought)) N P
+    (ap length (front-replicate 2_048 (8 * n) nought (work-room n (N .few-buses))) ∙ length-replicate (8 * n) nought)
 
 -- ---- the ends of a drawn corridor
 drawn-ends : (b : Bool) (d : CircuitDesign) (mva : Float) → (bankedBy b d mva .from ≡ d .from) × (bankedBy b d mva .to ≡ d .to)

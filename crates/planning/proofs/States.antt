@@ -7,7 +7,7 @@ use mathlib.Core.Path.{_≡_, refl, sym, ap, _∙_, subst}
 use native.Mathlib.Nat.{sub-zero}
 use native.Mathlib.Omega.{arith}
 use lib.ListN.{length, getD, take}
-use lib.Seq.{getD-take}
+use lib.Seq.{getD-take, length-take-le}
 use lib.Ieee.{Float}
 use Rattle.loops.specs.Figures.{at}
 use Rattle.loops.specs.Loops.{tab}
@@ -23,12 +23,12 @@ use Rattle.plan_defs.specs.Case.{Case}
 use Rattle.plan_defs.specs.Stage.{stopped, going}
 use Rattle.plan_defs.specs.Design.{drawn}
 use Rattle.plan_defs.specs.Build.{drawnAll}
-use Rattle.plan_defs.specs.Solve.{PlanningCase, weightAt, edgesFor, flowsOf, allFinite, ifFinite, planningState}
+use Rattle.plan_defs.specs.Solve.{PlanningCase, weightAt, edgesFor, flowsOf, allFinite, ifFinite, planningOn, planningState}
 use Rattle.plan_defs.specs.declared.CircuitDesign.{CircuitDesign}
 use Rattle.planning.specs.Design.{linesFor}
 use Rattle.planning.specs.Opening.{stageOf}
-use Rattle.planning.specs.Solve.{peakFor, solvedOf, finiteIf, finiteAngles, finiteAnswer, Net, Drawing, Drawn}
-use Rattle.loops.proofs.Fronts.{map-tab, front-room}
+use Rattle.planning.specs.Solve.{peakFor, solvedOf, finiteIf, finiteAngles, finiteAnswer, Net, Drawing, Peaked}
+use Rattle.loops.proofs.Fronts.{map-tab}
 use Rattle.planning.proofs.Solving.{drawn-from-below, drawn-to-below}
 
 -- ---- a stage that goes on is not one that stops
@@ -70,10 +70,6 @@ module _ (ladder : List Float) (level a b : List ℕ) (km share sheet : List Flo
   unfolding edgesFor drawnAll
   tos = map-tab (λ (d : CircuitDesign). d .to) (length a) (λ k. drawn lines level k (at banks k))
 
-  weights : length (edges .weight) ≡ length a
-  unfolding edgesFor drawnAll
-  weights = length-tab _ (weightAt designs circuits) ∙ length-tab (length a) (λ k. drawn lines level k (at banks k))
-
   module _ (D : Drawing ladder level a b km share sheet circuits banks) where
     from-bus : (k : ℕ) → k < length a → getD (edges .from) k 0 < length level
     from-bus k h =
@@ -85,22 +81,6 @@ module _ (ladder : List Float) (level a b : List ℕ) (km share sheet : List Flo
         subst (λ (i : ℕ). i < length level) (sym (ap (λ (l : List ℕ). getD l k 0) tos ∙ get-tab (length a) (λ k. drawn lines level k (at banks k) .to) k 0 h))
         (drawn-to-below ladder level a b km share sheet k (at banks k) (D .lines) h)
 
-    pub edges-net : (grounds : List ℕ) → length grounds ≤ most → ((g : ℕ) → g < length grounds → getD grounds g 0 < length level)
-        → Net (length level) (edges .from) (edges .to) (edges .weight) grounds
-    edges-net grounds few below =
-        let f : length (edges .from) ≡ length a = ap length froms ∙ length-tab (length a) (λ k. drawn lines level k (at banks k) .from) in
-        let t : length (edges .to) ≡ length a = ap length tos ∙ length-tab (length a) (λ k. drawn lines level k (at banks k) .to) in
-        record {
-          few-buses = D .few-buses;
-          few-edges = omega (arith, f, D .few-corridors);
-          few-grounds = few;
-          to-size = t ∙ sym f;
-          weight-size = weights ∙ sym f;
-          from-below = λ k h. from-bus k (omega (arith, f, h));
-          to-below = λ k h. to-bus k (omega (arith, f, h));
-          ground-below = below;
-        }
-
     -- ---- edges drawn at the front of three lists
     module _ (from to : List ℕ) (weight : List Float) (e : edgesOf (take (length a) from) (take (length a) to) (take (length a) weight) ≡ edges) where
       from-is : take (length a) from ≡ edges .from
@@ -109,77 +89,101 @@ module _ (ladder : List Float) (level a b : List ℕ) (km share sheet : List Flo
       to-is : take (length a) to ≡ edges .to
       to-is = ap (λ (x : Edges). x .to) e
 
-      pub from-room : length a ≤ length from
-      from-room = front-room (length a) from (edges .from) from-is (ap length froms ∙ length-tab (length a) (λ k. drawn lines level k (at banks k) .from))
-
-      pub to-room : length a ≤ length to
-      to-room = front-room (length a) to (edges .to) to-is (ap length tos ∙ length-tab (length a) (λ k. drawn lines level k (at banks k) .to))
-
-      pub weight-room : length a ≤ length weight
-      weight-room = front-room (length a) weight (edges .weight) (ap (λ (x : Edges). x .weight) e) weights
-
-      lent : edgesOf (take (length a - 0) from) (take (length a - 0) to) (take (length a - 0) weight) ≡ edges
-      lent = ap (λ (m : ℕ). edgesOf (take m from) (take m to) (take m weight)) (sub-zero (length a)) ∙ e
-
-      pub lent-net : (n : ℕ) → n ≡ length level → (grounds : List ℕ) → length grounds ≤ most → ((g : ℕ) → g < length grounds → getD grounds g 0 < length level)
-          → Net n (take (length a - 0) from) (take (length a - 0) to) (take (length a - 0) weight) grounds
-      lent-net n s grounds few below =
-          subst (λ (k : ℕ). Net k (take (length a - 0) from) (take (length a - 0) to) (take (length a - 0) weight) grounds) (sym s)
-          (subst (λ (x : Edges). Net (length level) (x .from) (x .to) (x .weight) grounds) (sym lent) (edges-net grounds few below))
-
-      pub drawn-edges : (n m : ℕ) → n ≡ length level → m ≡ length a → Drawn n m from to
-      drawn-edges n m s t =
+      pub peaked : (n m : ℕ) → n ≡ length level → m ≡ length a → length from ≡ most → length to ≡ most → length weight ≡ most → Peaked n m from to weight
+      peaked n m s t pf pt pw =
           record {
-            few = omega (arith, t, D .few-corridors);
-            room = omega (arith, t, from-room);
-            from-below = λ k h.
-                let l : k < length a = omega (arith, t, h) in
-                let q : getD from k 0 ≡ getD (edges .from) k 0 = sym (getD-take (length a) from k 0 l) ∙ ap (λ (x : List ℕ). getD x k 0) from-is in
-                omega (arith, q, s, from-bus k l);
-            to-below = λ k h.
-                let l : k < length a = omega (arith, t, h) in
-                let q : getD to k 0 ≡ getD (edges .to) k 0 = sym (getD-take (length a) to k 0 l) ∙ ap (λ (x : List ℕ). getD x k 0) to-is in
-                omega (arith, q, s, to-bus k l);
+            drawn =
+                record {
+                  few = omega (arith, t, D .few-corridors);
+                  room = omega (arith, t, pf, D .few-corridors);
+                  from-below = λ k h.
+                      let l : k < length a = omega (arith, t, h) in
+                      let q : getD from k 0 ≡ getD (edges .from) k 0 = sym (getD-take (length a) from k 0 l) ∙ ap (λ (x : List ℕ). getD x k 0) from-is in
+                      omega (arith, q, s, from-bus k l);
+                  to-below = λ k h.
+                      let l : k < length a = omega (arith, t, h) in
+                      let q : getD to k 0 ≡ getD (edges .to) k 0 = sym (getD-take (length a) to k 0 l) ∙ ap (λ (x : List ℕ). getD x k 0) to-is in
+                      omega (arith, q, s, to-bus k l);
+                };
+            few-buses = omega (arith, s, D .few-buses);
+            from-size = pf;
+            to-size = pt;
+            weight-size = pw;
           }
 
-      -- ---- the whole
-      module _ (grounds : List ℕ) (injection angle guess : List Float) (size : length angle ≡ length level) (same : take (length angle) guess ≡ angle) (r : Answer) (y : List Float)
-          (told : stageOf r y
-          ≡ finiteAngles (solve (length angle) (edgesOf (take (length a - 0) from) (take (length a - 0) to) (take (length a - 0) weight)) grounds injection (take (length angle - 0) guess) .x)) where
-        abbrev theta : List Float
-        theta = solve (length level) edges grounds injection angle .x
+  -- ---- what is solved on the drawn edges is the defined planning state
+  pub state-of : (from to : List ℕ) (weight : List Float) → edgesOf (take (length a) from) (take (length a) to) (take (length a) weight) ≡ edges
+      → (n m : ℕ) → n ≡ length level → m ≡ length a → (grounds : List ℕ) (injection angle : List Float) (r : Answer) (theta flows : List Float)
+      → solvedOf r (edgesOf (take m from) (take m to) (take m weight)) theta flows
+      ≡ planningOn (peakFor n grounds injection) (edgesOf (take m from) (take m to) (take m weight)) angle
+      → solvedOf r edges theta flows ≡ planningState (peakFor (length level) grounds injection) designs circuits angle
+  unfolding planningState
+  state-of from to weight e n m s t grounds injection angle r theta flows q =
+      let E : edgesOf (take m from) (take m to) (take m weight) ≡ edges = ap (λ (k : ℕ). edgesOf (take k from) (take k to) (take k weight)) t ∙ e in
+      ap (λ (x : Edges). solvedOf r x theta flows) (sym E)
+      ∙ q
+      ∙ ap (λ (x : Edges). planningOn (peakFor n grounds injection) x angle) E
+      ∙ ap (λ (k : ℕ). planningOn (peakFor k grounds injection) edges angle) s
 
-        abbrev state : List Float → PlanningCase
-        state x = record { edges = edges; theta = x; flows = flowsOf edges x }
+-- ---- edges at the front of three lists, as they are lent to a solve
+pub front-fits : {A : Type 0} (m : ℕ) (l : List A) → m ≤ most → length l ≡ most → m ≤ length l
+front-fits m l h e = omega arith
 
-        defined : stageOf r y ≡ finiteAngles theta
-        defined =
-            told
-            ∙ ap (λ (x : Edges). finiteAngles (solve (length angle) x grounds injection (take (length angle - 0) guess) .x)) lent
-            ∙ ap (λ (n : ℕ). finiteAngles (solve (length angle) edges grounds injection (take n guess) .x)) (sub-zero (length angle))
-            ∙ ap (λ (g : List Float). finiteAngles (solve (length angle) edges grounds injection g .x)) same
-            ∙ ap (λ (n : ℕ). finiteAngles (solve n edges grounds injection angle .x)) size
+pub front-net : (n n′ m : ℕ) (from to : List ℕ) (weight : List Float) (grounds : List ℕ) → n′ ≡ n → Peaked n m from to weight
+    → length grounds ≤ most → ((g : ℕ) → g < length grounds → getD grounds g 0 < n)
+    → Net n′ (take (m - 0) from) (take (m - 0) to) (take (m - 0) weight) grounds
+front-net n n′ m from to weight grounds e h gs gb =
+    let D = h .drawn in
+    let k : m - 0 ≡ m = sub-zero m in
+    let f = length-take-le (m - 0) from (omega (arith, D .few, h .from-size)) in
+    let t = length-take-le (m - 0) to (omega (arith, D .few, h .to-size)) in
+    let w = length-take-le (m - 0) weight (omega (arith, D .few, h .weight-size)) in
+    record {
+      few-buses = omega (arith, h .few-buses);
+      few-edges = omega (arith, D .few);
+      few-grounds = gs;
+      to-size = t ∙ sym f;
+      weight-size = w ∙ sym f;
+      from-below = λ j x. let v : j < m - 0 = omega arith in omega (arith, D .from-below j (omega arith), getD-take (m - 0) from j 0 v);
+      to-below = λ j x. let v : j < m - 0 = omega arith in omega (arith, D .to-below j (omega arith), getD-take (m - 0) to j 0 v);
+      ground-below = λ j x. omega (arith, gb j x);
+    }
 
-        pub state-refused : (f : Refusal) → r ≡ Refused f → stopped f ≡ planningState (peakFor (length level) grounds injection) designs circuits angle
-        unfolding planningState
-        state-refused f h =
-            let p = finite-refused r y theta defined f h in
-            ap stopped (p .0) ∙ ap (λ (t : Bool). ifFinite (t && allFinite (flowsOf edges theta)) (state theta)) (sym (p .1))
+-- ---- a peak's angles and flows, by what the solve answers
+module _ (m : ℕ) (from to : List ℕ) (weight : List Float) (grounds : List ℕ) (injection angle guess : List Float) (same : take (length angle) guess ≡ angle) (r : Answer) (y : List Float)
+    (told : stageOf r y
+    ≡ finiteAngles (solve (length angle) (edgesOf (take (m - 0) from) (take (m - 0) to) (take (m - 0) weight)) grounds injection (take (length angle - 0) guess) .x)) where
+  abbrev front : Edges
+  front = edgesOf (take m from) (take m to) (take m weight)
 
-        tested : (t : Bool) (x : List Float) → solvedOf (finiteAnswer t) edges x (flowsOf edges x) ≡ ifFinite t (state x)
-        tested true x = refl
-        tested false x = refl
+  abbrev theta : List Float
+  theta = solve (length angle) front grounds injection angle .x
 
-        pub state-answered : r ≡ Answered → (flow flows : List Float) → length flow ≡ length a
-            → flows ≡ flowsOf (edgesOf (take (length flow) from) (take (length flow) to) (take (length flow) weight)) y
-            → (s : Answer) → s ≡ finiteAnswer (allFinite flows)
-            → solvedOf s edges y flows ≡ planningState (peakFor (length level) grounds injection) designs circuits angle
-        unfolding planningState
-        state-answered h flow flows p q s w =
-            let o = finite-answered r y theta defined h in
-            let flows-is : flows ≡ flowsOf edges y = q ∙ ap (λ (m : ℕ). flowsOf (edgesOf (take m from) (take m to) (take m weight)) y) p ∙ ap (λ (x : Edges). flowsOf x y) e in
-            ap (λ (x : Answer). solvedOf x edges y flows) w
-            ∙ ap (λ (l : List Float). solvedOf (finiteAnswer (allFinite l)) edges y l) flows-is
-            ∙ ap (λ (x : List Float). solvedOf (finiteAnswer (allFinite (flowsOf edges x))) edges x (flowsOf edges x)) (o .0)
-            ∙ tested (allFinite (flowsOf edges theta)) theta
-            ∙ ap (λ (t : Bool). ifFinite (t && allFinite (flowsOf edges theta)) (state theta)) (sym (o .1))
+  abbrev state : List Float → PlanningCase
+  state x = record { edges = front; theta = x; flows = flowsOf front x }
+
+  defined : stageOf r y ≡ finiteAngles theta
+  defined =
+      told
+      ∙ ap (λ (k : ℕ). finiteAngles (solve (length angle) (edgesOf (take k from) (take k to) (take k weight)) grounds injection (take (length angle - 0) guess) .x)) (sub-zero m)
+      ∙ ap (λ (n : ℕ). finiteAngles (solve (length angle) front grounds injection (take n guess) .x)) (sub-zero (length angle))
+      ∙ ap (λ (g : List Float). finiteAngles (solve (length angle) front grounds injection g .x)) same
+
+  pub peak-refused : (f : Refusal) → r ≡ Refused f → stopped f ≡ planningOn (peakFor (length angle) grounds injection) front angle
+  peak-refused f h =
+      let p = finite-refused r y theta defined f h in
+      ap stopped (p .0) ∙ ap (λ (t : Bool). ifFinite (t && allFinite (flowsOf front theta)) (state theta)) (sym (p .1))
+
+  tested : (t : Bool) (x : List Float) → solvedOf (finiteAnswer t) front x (flowsOf front x) ≡ ifFinite t (state x)
+  tested true x = refl
+  tested false x = refl
+
+  pub peak-answered : r ≡ Answered → (flows : List Float) → flows ≡ flowsOf front y → (s : Answer) → s ≡ finiteAnswer (allFinite flows)
+      → solvedOf s front y flows ≡ planningOn (peakFor (length angle) grounds injection) front angle
+  peak-answered h flows q s w =
+      let o = finite-answered r y theta defined h in
+      ap (λ (x : Answer). solvedOf x front y flows) w
+      ∙ ap (λ (l : List Float). solvedOf (finiteAnswer (allFinite l)) front y l) q
+      ∙ ap (λ (x : List Float). solvedOf (finiteAnswer (allFinite (flowsOf front x))) front x (flowsOf front x)) (o .0)
+      ∙ tested (allFinite (flowsOf front theta)) theta
+      ∙ ap (λ (t : Bool). ifFinite (t && allFinite (flowsOf front theta)) (state theta)) (sym (o .1))

@@ -2,14 +2,14 @@
 -- in the proof of the round loop each would be worked out beside all that is known there.
 use Prim.Native.Nat.{ℕ, _+_, _-_, _*_, _<_, _≤_}
 use mathlib.Core.List.{List}
-use mathlib.Core.Path.{_≡_, sym, ap, _∙_, subst}
+use mathlib.Core.Path.{_≡_, refl, sym, _∙_, subst}
 use native.Mathlib.Omega.{arith}
 use lib.ListN.{length, getD}
 use lib.Ieee.{Float}
-use Rattle.angles_defs.specs.Operation.{workPlaces}
 use Rattle.plan_defs.specs.Constants.{mostBuses, mostCorridors, planningMaxRounds}
 use Rattle.planning.specs.Design.{Lines, Banks}
 use Rattle.planning.specs.Size.{Few}
+use Rattle.planning.specs.Solve.{Drawing, Lent}
 use Rattle.planning.specs.Rounds.{Tallies, RoundsFit}
 use Rattle.planning.specs.declared.rounds.Progress.{Progress}
 
@@ -40,14 +40,14 @@ ends-more s₀ s q m i f g h = omega arith
 
 -- ---- what the rounds ask
 pub fit-again : {above left : ℕ} {p q : Progress} {ladder : List Float} {level level′ a b : List ℕ} {km share sheet load : List Float} {bus : List ℕ} {pmax : List Float} {leader grounds : List ℕ} {injection : List Float}
-    {circuits circuits′ : List ℕ} {banks banks′ floors floors′ : List Float} {upsized upsized′ marks marks′ : List ℕ} {angle angle′ flow flow′ work work′ : List Float}
-    → RoundsFit above left p ladder level a b km share sheet load bus pmax leader grounds injection circuits banks floors upsized marks angle flow work
+    {circuits circuits′ : List ℕ} {banks banks′ floors floors′ : List Float} {upsized upsized′ marks marks′ : List ℕ} {angle angle′ flow flow′ : List Float}
+    → RoundsFit above left p ladder level a b km share sheet load bus pmax leader grounds injection circuits banks floors upsized marks angle flow
     → length level′ ≡ length level → Lines ladder level′ a b km share sheet
     → length circuits′ ≡ length a → length banks′ ≡ length a → length floors′ ≡ length a → length upsized′ ≡ length a → length marks′ ≡ length level
-    → length angle′ ≡ length level → length flow′ ≡ length a → length work′ ≡ workPlaces (length level)
+    → length angle′ ≡ length level → length flow′ ≡ length a
     → Tallies above (left - 1) q → Banks banks′ → Few circuits′
-    → RoundsFit above (left - 1) q ladder level′ a b km share sheet load bus pmax leader grounds injection circuits′ banks′ floors′ upsized′ marks′ angle′ flow′ work′
-fit-again {grounds = grounds} f n lines count bank floor upsize mark angles flows works tallies banked few =
+    → RoundsFit above (left - 1) q ladder level′ a b km share sheet load bus pmax leader grounds injection circuits′ banks′ floors′ upsized′ marks′ angle′ flow′
+fit-again {grounds = grounds} f n lines count bank floor upsize mark angles flows tallies banked few =
     record {
       columns =
           record {
@@ -69,10 +69,33 @@ fit-again {grounds = grounds} f n lines count bank floor upsize mark angles flow
             mark-size = mark ∙ sym n;
             angle-size = angles ∙ sym n;
             flow-size = flows;
-            work-size = works ∙ ap (λ (x : ℕ). workPlaces x) (sym n);
           };
       tallies = tallies;
       some = f .some;
       banked = banked;
       few = few;
     }
+
+module _ {above left : ℕ} {p : Progress} {ladder : List Float} {level a b : List ℕ} {km share sheet load : List Float} {bus : List ℕ} {pmax : List Float} {leader grounds : List ℕ} {injection : List Float}
+    {circuits : List ℕ} {banks floors : List Float} {upsized marks : List ℕ} {angle flow : List Float}
+    (f : RoundsFit above left p ladder level a b km share sheet load bus pmax leader grounds injection circuits banks floors upsized marks angle flow) where
+  pub drawing-of : Drawing ladder level a b km share sheet circuits banks
+  drawing-of =
+      record {
+        lines = f .columns .lines;
+        few-buses = f .columns .loads .few;
+        few-corridors = f .columns .few;
+        count-size = f .places .count-size;
+        bank-size = f .places .bank-size;
+        banks-ok = f .banked;
+      }
+
+  pub lent-of : Lent (length angle) (length flow) injection grounds angle flow
+  lent-of =
+      record {
+        few-grounds = f .places .few-grounds;
+        ground-below = λ i h. subst (λ (x : ℕ). getD grounds i 0 < x) (sym (f .places .angle-size)) (f .places .ground-below i h);
+        injection-size = f .places .injection-size ∙ sym (f .places .angle-size);
+        angle-size = refl;
+        flow-size = refl;
+      }

@@ -10,16 +10,13 @@ use lib.Ieee.{Float}
 use Rattle.loops.specs.Figures.{nought}
 use Rattle.mode.specs.declared.PlanMode.{PlanMode}
 use Rattle.angles_defs.specs.Network.{zeros}
-use Rattle.angles_defs.specs.Operation.{workPlaces}
 use Rattle.plan_defs.specs.Constants.{mostBuses, mostLevels, planningMaxRounds}
 use Rattle.plan_defs.specs.Stage.{Stage, stopped, going, onward}
 use Rattle.plan_defs.specs.Case.{Case, caseOf, expand, firstLevels, lowerBounds}
 use Rattle.plan_defs.specs.Components.{component, groundsOf}
 use Rattle.plan_defs.specs.Dispatch.{dispatchOf, injections}
-use Rattle.plan_defs.specs.Solve.{Peak}
-use Rattle.plan_defs.specs.Raise.{Raised}
 use Rattle.plan_defs.specs.Rounds.{allRounds}
-use Rattle.plan_defs.specs.Plan.{Plan, Opened, openedWith, firstDraft, settled, closing, planFor}
+use Rattle.plan_defs.specs.Plan.{Plan, openedWith, settled, closing, planFor}
 use Rattle.plan_defs.specs.Outcome.{Slices, upTo, summary}
 use Rattle.plan_defs.specs.declared.CorridorPlan.{CorridorPlan}
 use Rattle.plan_defs.specs.declared.Planned.{Planned}
@@ -27,7 +24,6 @@ use Rattle.plan_defs.specs.declared.Planned.the-variants.{Answered, Refused}
 use Rattle.planning.specs.Design.{Lines, Banks}
 use Rattle.planning.specs.Size.{Few}
 use Rattle.planning.specs.Solve.{peakFor}
-use Rattle.planning.specs.Raises.{raisedOf}
 use Rattle.planning.specs.Rounds.{roundsCase, draftOf, ranAs, Columns, Places}
 use Rattle.planning.specs.Sound.{Sound, Lengths}
 use Rattle.planning.specs.declared.rounds.Progress.{Progress}
@@ -82,9 +78,9 @@ abbrev pub startOf : PlanMode → ℕ → ℕ → Progress
 startOf mode m promoted = record { rounds = 0; promoted = promoted; capacity = 0; stiffening = 0; converged = not (expand mode) || eqb m 0 }
 
 pub record Runnable (above promoted : ℕ) (ladder : List Float) (level a b : List ℕ) (km share sheet load : List Float) (bus : List ℕ) (pmax : List Float) (leader grounds : List ℕ)
-    (injection : List Float) (circuits : List ℕ) (banks floors : List Float) (upsized marks : List ℕ) (angle flow work : List Float) : Type 0 where
+    (injection : List Float) (circuits : List ℕ) (banks floors : List Float) (upsized marks : List ℕ) (angle flow : List Float) : Type 0 where
   pub columns : Columns ladder level a b km share sheet load bus pmax
-  pub places : Places (length level) (length a) leader grounds injection circuits banks floors upsized marks angle flow work
+  pub places : Places (length level) (length a) leader grounds injection circuits banks floors upsized marks angle flow
   pub few-levels : above ≤ mostLevels
   pub few-moves : promoted ≤ mostBuses * mostLevels
   pub banked : Banks banks
@@ -138,24 +134,11 @@ abbrev pub PlannedAs : Planned → List ℕ → List ℕ → List Float → List
 PlannedAs r circuits tier flow rate angle added c (stopped f) = r ≡ Refused f
 PlannedAs r circuits tier flow rate angle added c (going q) = Holds r circuits tier flow rate angle added (c .above) q
 
--- ---- from the raises on
-abbrev pub openedFor : Case → List ℕ → List Float → Peak → Raised → Opened
-openedFor c led mw P s = record { led = led; mw = mw; peak = P; draft = firstDraft c s }
-
-pub record RaisedPlan (mode : PlanMode) (target above promoted : ℕ) (ladder : List Float) (level a b : List ℕ) (km share sheet load : List Float) (bus : List ℕ) (pmax : List Float)
-    (leader grounds : List ℕ) (injection : List Float) (circuits : List ℕ) (banks floors : List Float) (upsized : List ℕ)
-    (circuits′ level′ : List ℕ) (flow′ rate′ angle′ added′ : List Float) (r : Planned) : Type 0 where
-  pub plan : (o : Case) (mw : List Float)
-      → (let c = roundsCase o mode above ladder a b km share sheet load bus pmax in
-      Sound c target → length level ≡ o .buses → circuits ≡ lowerBounds c → floors ≡ zeros (o .corridors) → upsized ≡ replicate (o .corridors) 0
-      → PlannedAs r circuits′ level′ flow′ rate′ angle′ added′ c
-      (onward (settled c (openedFor c leader mw (peakFor (o .buses) grounds injection) (raisedOf c level banks promoted))) (closing c target)))
-
 -- ---- from the opening on
 pub record Plannable (ladder : List Float) (level a b : List ℕ) (km share sheet load : List Float) (bus : List ℕ) (pmax : List Float) (leader grounds : List ℕ)
-    (injection : List Float) (circuits : List ℕ) (banks floors : List Float) (upsized marks : List ℕ) (angle flow work : List Float) : Type 0 where
+    (injection : List Float) (circuits : List ℕ) (banks floors : List Float) (upsized marks : List ℕ) (angle flow : List Float) : Type 0 where
   pub columns : Columns ladder level a b km share sheet load bus pmax
-  pub places : Places (length level) (length a) leader grounds injection circuits banks floors upsized marks angle flow work
+  pub places : Places (length level) (length a) leader grounds injection circuits banks floors upsized marks angle flow
   pub few-levels : length ladder ≤ mostLevels
   pub unset : floors ≡ zeros (length a)
   pub few : Few circuits
@@ -173,27 +156,6 @@ abbrev pub wholeCase : Case → PlanMode → ℕ → List Float → List ℕ →
     → List Float → List Float → List Float → Case
 wholeCase o mode above ladder tier load bus slack pmin pmax c1 c2 a b initial km share sheet =
     caseOf mode (o .buses) (o .corridors) (o .generators) above (o .requested) ladder tier load bus slack pmin pmax c1 c2 a b initial km share sheet
-
-pub record Stageable (mode : PlanMode) (target above : ℕ) (ladder : List Float) (tier : List ℕ) (load : List Float) (bus slack : List ℕ) (pmin pmax c1 c2 : List Float) (a b initial : List ℕ)
-    (km share sheet : List Float) (leader : List ℕ) (injection banks floors : List Float) (upsized marks circuits : List ℕ) (flow rate mw angle : List Float) (level ground : List ℕ)
-    (added work : List Float) : Type 0 where
-  pub whole : Case
-  pub sound : Sound (wholeCase whole mode above ladder tier load bus slack pmin pmax c1 c2 a b initial km share sheet) target
-  pub leader-size : length leader ≡ whole .buses
-  pub injection-size : length injection ≡ whole .buses
-  pub bank-size : length banks ≡ whole .corridors
-  pub unset : floors ≡ zeros (length a)
-  pub not-upsized : upsized ≡ replicate (length a) 0
-  pub mark-size : length marks ≡ whole .buses
-  pub circuits-size : length circuits ≡ whole .corridors
-  pub flow-size : length flow ≡ whole .corridors
-  pub rate-size : length rate ≡ whole .corridors
-  pub mw-size : length mw ≡ whole .generators
-  pub angle-size : length angle ≡ whole .buses
-  pub level-size : length level ≡ whole .buses
-  pub ground-size : length ground ≡ whole .buses
-  pub added-size : length added ≡ above
-  pub work-size : length work ≡ workPlaces (whole .buses)
 
 -- the slices of a plan, with those that the opening fills
 pub record HoldsAll (r : Planned) (circuits : List ℕ) (flow rate mw angle : List Float) (tier ground : List ℕ) (added : List Float) (c : Case) (q : Plan) : Type 0 where

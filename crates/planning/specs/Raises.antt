@@ -63,9 +63,9 @@ pub record HeavyRaised (ladder : List Float) (level a b : List ℕ) (km share sh
 
 -- ---- what a pass asks: no bank floor is set yet
 pub record Raisable (ladder : List Float) (level a b : List ℕ) (km share sheet load : List Float) (bus : List ℕ) (pmax : List Float) (grounds : List ℕ) (injection : List Float)
-    (circuits : List ℕ) (floors banks : List Float) (marks : List ℕ) (angle flow work : List Float) : Type 0 where
+    (circuits : List ℕ) (floors banks : List Float) (marks : List ℕ) (angle flow : List Float) : Type 0 where
   pub drawing : Drawing ladder level a b km share sheet circuits banks
-  pub lent : Lent (length level) (length a) injection grounds angle flow work
+  pub lent : Lent (length level) (length a) injection grounds angle flow
   pub redesigns : RedesignFits ladder level a b km share sheet load bus pmax floors banks
   pub unset : floors ≡ zeros (length a)
   pub mark-size : length marks ≡ length level

@@ -4,7 +4,6 @@ use mathlib.Core.List.{List}
 use mathlib.Core.Path.{_≡_}
 use lib.ListN.{length, getD}
 use lib.Ieee.{Float}
-use Rattle.angles_defs.specs.Operation.{workPlaces}
 use Rattle.mode.specs.declared.PlanMode.{PlanMode}
 use Rattle.plan_defs.specs.Constants.{mostBuses, mostCorridors, mostLevels, planningMaxRounds}
 use Rattle.plan_defs.specs.Case.{Case}
@@ -53,7 +52,7 @@ pub record Columns (ladder : List Float) (level a b : List ℕ) (km share sheet 
   pub units : Units bus pmax
   pub few : length a ≤ mostCorridors
 
-pub record Places (n m : ℕ) (leader grounds : List ℕ) (injection : List Float) (circuits : List ℕ) (banks floors : List Float) (upsized marks : List ℕ) (angle flow work : List Float) : Type 0 where
+pub record Places (n m : ℕ) (leader grounds : List ℕ) (injection : List Float) (circuits : List ℕ) (banks floors : List Float) (upsized marks : List ℕ) (angle flow : List Float) : Type 0 where
   pub leader-size : length leader ≡ n
   pub few-grounds : length grounds ≤ mostBuses
   pub ground-below : (g : ℕ) → g < length grounds → getD grounds g 0 < n
@@ -65,7 +64,6 @@ pub record Places (n m : ℕ) (leader grounds : List ℕ) (injection : List Floa
   pub mark-size : length marks ≡ n
   pub angle-size : length angle ≡ n
   pub flow-size : length flow ≡ m
-  pub work-size : length work ≡ workPlaces n
 
 -- how far the tallies may have come
 pub record Tallies (above budget : ℕ) (p : Progress) : Type 0 where
@@ -76,9 +74,9 @@ pub record Tallies (above budget : ℕ) (p : Progress) : Type 0 where
   pub stiffening : p .stiffening ≤ 65_536 * p .rounds
 
 pub record RoundsFit (above budget : ℕ) (start : Progress) (ladder : List Float) (level a b : List ℕ) (km share sheet load : List Float) (bus : List ℕ) (pmax : List Float)
-    (leader grounds : List ℕ) (injection : List Float) (circuits : List ℕ) (banks floors : List Float) (upsized marks : List ℕ) (angle flow work : List Float) : Type 0 where
+    (leader grounds : List ℕ) (injection : List Float) (circuits : List ℕ) (banks floors : List Float) (upsized marks : List ℕ) (angle flow : List Float) : Type 0 where
   pub columns : Columns ladder level a b km share sheet load bus pmax
-  pub places : Places (length level) (length a) leader grounds injection circuits banks floors upsized marks angle flow work
+  pub places : Places (length level) (length a) leader grounds injection circuits banks floors upsized marks angle flow
   pub tallies : Tallies above budget start
   pub some : 1 ≤ length a
   pub banked : Banks banks

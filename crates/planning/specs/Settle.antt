@@ -29,9 +29,9 @@ use Rattle.planning.specs.declared.settle.Settled.the-variants.{Refused,
 
 -- ---- what it asks of the columns
 pub record Settleable (above : ℕ) (ladder : List Float) (level a b : List ℕ) (km share sheet : List Float) (leader grounds : List ℕ) (injection banks : List Float)
-    (upsized circuits : List ℕ) (flow rate angle added work : List Float) : Type 0 where
+    (upsized circuits : List ℕ) (flow rate angle added : List Float) : Type 0 where
   pub drawing : Drawing ladder level a b km share sheet circuits banks
-  pub lent : Lent (length level) (length a) injection grounds angle flow work
+  pub lent : Lent (length level) (length a) injection grounds angle flow
   pub closable : Closable above ladder a leader upsized angle rate added
 
 -- ---- what is said, with the slices that it is said of

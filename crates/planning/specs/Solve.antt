@@ -9,7 +9,7 @@ use Rattle.refusal.specs.declared.Refusal.the-variants.{NotFinite}
 use Rattle.refusal.specs.declared.Answer.{Answer}
 use Rattle.refusal.specs.declared.Answer.the-variants.{Answered, Refused}
 use Rattle.angles_defs.specs.Network.{Edges}
-use Rattle.angles_defs.specs.Operation.{workPlaces, most}
+use Rattle.angles_defs.specs.Operation.{most}
 use Rattle.plan_defs.specs.Stage.{Stage, stopped, going}
 use Rattle.plan_defs.specs.Solve.{Peak, PlanningCase, allFinite}
 use Rattle.planning.specs.Design.{Lines, Banks}
@@ -41,12 +41,11 @@ pub record Net (n : ℕ) (from to : List ℕ) (weight : List Float) (grounds : L
   pub to-below : (k : ℕ) → k < length from → getD to k 0 < n
   pub ground-below : (g : ℕ) → g < length grounds → getD grounds g 0 < n
 
--- a place for each bus: injections and guess; angles and work that are lent
-pub record Places (n : ℕ) (injection guess angle work : List Float) : Type 0 where
+-- a place for each bus: injections and guess; angles that are lent
+pub record Places (n : ℕ) (injection guess angle : List Float) : Type 0 where
   pub injection-size : length injection ≡ n
   pub guess-size : length guess ≡ n
   pub angle-size : length angle ≡ n
-  pub work-size : length work ≡ workPlaces n
 
 -- ---- the corridors as they are built: few of them, with circuits and a bank for each
 pub record Drawing (ladder : List Float) (level a b : List ℕ) (km share sheet : List Float) (circuits : List ℕ) (banks : List Float) : Type 0 where
@@ -57,14 +56,13 @@ pub record Drawing (ladder : List Float) (level a b : List ℕ) (km share sheet 
   pub bank-size : length banks ≡ length a
   pub banks-ok : Banks banks
 
--- the buses' injections and the grounds, and the slices lent: angles, flows and work
-pub record Lent (n m : ℕ) (injection : List Float) (grounds : List ℕ) (angle flow work : List Float) : Type 0 where
+-- the buses' injections and the grounds, and the slices lent: angles and flows
+pub record Lent (n m : ℕ) (injection : List Float) (grounds : List ℕ) (angle flow : List Float) : Type 0 where
   pub few-grounds : length grounds ≤ most
   pub ground-below : (g : ℕ) → g < length grounds → getD grounds g 0 < n
   pub injection-size : length injection ≡ n
   pub angle-size : length angle ≡ n
   pub flow-size : length flow ≡ m
-  pub work-size : length work ≡ workPlaces n
 
 -- ---- a test of all figures, as an answer
 abbrev pub finiteAnswer : Bool → Answer
@@ -77,3 +75,10 @@ pub record Drawn (n m : ℕ) (from to : List ℕ) : Type 0 where
   pub room : m ≤ length from
   pub from-below : (k : ℕ) → k < m → getD from k 0 < n
   pub to-below : (k : ℕ) → k < m → getD to k 0 < n
+
+pub record Peaked (n m : ℕ) (from to : List ℕ) (weight : List Float) : Type 0 where
+  pub drawn : Drawn n m from to
+  pub few-buses : n ≤ most
+  pub from-size : length from ≡ most
+  pub to-size : length to ≡ most
+  pub weight-size : length weight ≡ most

@@ -9,7 +9,7 @@ use lib.Ieee.{Float, lt}
 use Rattle.loops.specs.Figures.{at, nought}
 use Rattle.loops.specs.Loops.{iter}
 use Rattle.angles_defs.specs.Network.{edgesOf}
-use Rattle.angles_defs.specs.Operation.{most, workPlaces}
+use Rattle.angles_defs.specs.Operation.{most}
 use Rattle.plan_defs.specs.Constants.{maxCircuitsPerCorridor}
 use Rattle.plan_defs.specs.Lists.{each}
 use Rattle.plan_defs.specs.Case.{Case, levels}
@@ -26,7 +26,7 @@ use Rattle.planning.specs.Raise.{largestCount, pairsFor}
 use Rattle.planning.specs.Size.{Few}
 use Rattle.planning.specs.Fill.{designsFor, insertBy, Ranked}
 use Rattle.planning.specs.Opening.{stageIf}
-use Rattle.planning.specs.Solve.{peakFor, Drawn}
+use Rattle.planning.specs.Solve.{peakFor, Peaked}
 use Rattle.planning.specs.Sound.{Sound}
 use Rattle.planning.specs.Whole.{withLines}
 use Rattle.planning.specs.declared.stiffen.Limits.{Limits}
@@ -52,15 +52,11 @@ roundOf m from to weight theta flows = record { edges = edgesOf (take m from) (t
 
 -- ---- what a component asks of the slices: a place for each corridor, or for each bus
 pub record Stiffenable (ladder : List Float) (level a b : List ℕ) (km share sheet : List Float) (leader grounds from to : List ℕ) (weight angle : List Float)
-    (circuits : List ℕ) (banks floors : List Float) (upsized marks : List ℕ) (work : List Float) : Type 0 where
+    (circuits : List ℕ) (banks floors : List Float) (upsized marks : List ℕ) : Type 0 where
   pub lines : Lines ladder level a b km share sheet
-  pub few-buses : length level ≤ most
+  pub edges : Peaked (length level) (length a) from to weight
   pub few-grounds : length grounds ≤ most
   pub ground-below : (g : ℕ) → g < length grounds → getD grounds g 0 < length level
-  pub drawn : Drawn (length level) (length a) from to
-  pub to-size : length to ≡ most
-  pub from-size : length from ≡ most
-  pub weight-size : length weight ≡ most
   pub leader-size : length leader ≡ length level
   pub angle-size : length angle ≡ length level
   pub count-size : length circuits ≡ length a
@@ -68,7 +64,6 @@ pub record Stiffenable (ladder : List Float) (level a b : List ℕ) (km share sh
   pub floor-size : length floors ≡ length a
   pub upsized-size : length upsized ≡ length a
   pub mark-size : length marks ≡ length level
-  pub work-size : length work ≡ workPlaces (length level)
   pub banked : Banks banks
 
 -- room for what m corridors may add

@@ -325,8 +325,17 @@ fn clear_figures_if(refused: bool, l: &mut [f64])
     }
 }
 
+pub fn is_refused(said: Planned) -> bool
+    ensures { λ r. ⌜ r ≡ isRefused said ⌝ }
+{
+    match said {
+        Planned::Answered(_) => false,
+        Planned::Refused(_) => true,
+    }
+}
+
 // After 8 or 9 every result place is zero; work is zero always.
-fn finish(
+pub fn finish(
     refused: bool,
     circuits: &mut [u32],
     flow: &mut [f64],
@@ -351,57 +360,4 @@ fn finish(
     clear_figures_if(refused, added);
     clear_figures(figures);
     clear_counts(counts);
-}
-
-// The slices as planning hands them back, by what it says.
-pub fn hand_back(
-    said: Planned,
-    circuits: &mut [u32],
-    flow: &mut [f64],
-    rate: &mut [f64],
-    mw: &mut [f64],
-    angle: &mut [f64],
-    tier: &mut [u32],
-    ground: &mut [u32],
-    added: &mut [f64],
-    figures: &mut [f64],
-    counts: &mut [u32],
-) -> Planned
-    ensures said { λ r. ⌜ r ≡ said ⌝ }
-    ensures lent { λ _. ⌜ slices (now (circuits .exit)) (now (flow .exit)) (now (rate .exit)) (now (mw .exit)) (now (angle .exit)) (now (tier .exit)) (now (ground .exit)) (now (added .exit)) (now (figures .exit)) (now (counts .exit)) ≡ finished (isRefused said) (slices (now (circuits .entry)) (now (flow .entry)) (now (rate .entry)) (now (mw .entry)) (now (angle .entry)) (now (tier .entry)) (now (ground .entry)) (now (added .entry)) (now (figures .entry)) (now (counts .entry))) ⌝ }
-{
-    match said {
-        Planned::Refused(f) => {
-            finish(
-                true,
-                circuits,
-                flow,
-                rate,
-                mw,
-                angle,
-                tier,
-                ground,
-                added,
-                figures,
-                counts,
-            );
-            Planned::Refused(f)
-        }
-        Planned::Answered(p) => {
-            finish(
-                false,
-                circuits,
-                flow,
-                rate,
-                mw,
-                angle,
-                tier,
-                ground,
-                added,
-                figures,
-                counts,
-            );
-            Planned::Answered(p)
-        }
-    }
 }

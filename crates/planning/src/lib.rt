@@ -139,8 +139,8 @@ pub fn plan_corridors(
         figures,
         counts,
     );
-    close::hand_back(
-        said,
+    close::finish(
+        close::is_refused(said),
         circuits,
         flow,
         rate,
@@ -151,5 +151,6 @@ pub fn plan_corridors(
         added,
         figures,
         counts,
-    )
+    );
+    said
 }

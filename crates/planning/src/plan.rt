@@ -2,7 +2,7 @@
 ghost use mathlib.Core.Path.{_≡_};
 ghost use Rattle.plan_defs.specs.Outcome.{slices};
 ghost use Rattle.planning.specs.Close.{Closable};
-ghost use Rattle.planning.specs.Plan.{Openable, OpeningDone, roundsFor, startOf, Runnable, RanAll, plannedBy, RaisedPlan, Plannable, OpenedPlan, Stageable, PlanDone, Lendable};
+ghost use Rattle.planning.specs.Plan.{Openable, OpeningDone, roundsFor, startOf, Runnable, RanAll, plannedBy, Plannable, OpenedPlan, PlanDone, Lendable};
 use crate::figures::clear_counts;
 use crate::figures::clear_figures;
 use crate::opening::component_leaders;
@@ -27,9 +27,6 @@ use refusal::Answer;
 use refusal::Refusal;
 
 const PLANNING_MAX_ROUNDS: u32 = 64;
-
-// Places of the solver's work for each bus.
-const SOLVER_ROWS: usize = 8;
 
 // How many grounds there are; or refusal 8.
 pub enum Opening {
@@ -123,9 +120,8 @@ fn run_rounds(
     marks: &mut [u32],
     angle: &mut [f64],
     flow: &mut [f64],
-    work: &mut [f64],
 ) -> Rounds
-    requires { ⌜ Runnable above promoted (now ladder) (now level) (now a) (now b) (now km) (now share) (now sheet) (now load) (now bus) (now pmax) (now leader) (now grounds) (now injection) (now circuits) (now banks) (now floors) (now upsized) (now marks) (now angle) (now flow) (now work) ⌝ }
+    requires { ⌜ Runnable above promoted (now ladder) (now level) (now a) (now b) (now km) (now share) (now sheet) (now load) (now bus) (now pmax) (now leader) (now grounds) (now injection) (now circuits) (now banks) (now floors) (now upsized) (now marks) (now angle) (now flow) ⌝ }
     ensures { λ r. ⌜ RanAll mode above promoted (now (ladder .entry)) (now (level .entry)) (now (a .entry)) (now (b .entry)) (now (km .entry)) (now (share .entry)) (now (sheet .entry)) (now (load .entry)) (now (bus .entry)) (now (pmax .entry)) (now (leader .entry)) (now (grounds .entry)) (now (injection .entry))
         (now (circuits .entry)) (now (banks .entry)) (now (floors .entry)) (now (upsized .entry))
         (now (level .exit)) (now (circuits .exit)) (now (banks .exit)) (now (floors .exit)) (now (upsized .exit)) (now (angle .exit)) r ⌝ }
@@ -161,7 +157,6 @@ fn run_rounds(
         marks,
         angle,
         flow,
-        work,
     )
 }
 
@@ -190,99 +185,7 @@ fn conclude(progress: Progress, grounds: u32, settled: Settled) -> Planned
     }
 }
 
-// After the raises before the rounds: the rounds, and what comes after them.
-fn plan_raised(
-    mode: PlanMode,
-    target: u32,
-    above: usize,
-    promoted: u32,
-    ladder: &[f64],
-    a: &[u32],
-    b: &[u32],
-    km: &[f64],
-    share: &[f64],
-    sheet: &[f64],
-    load: &[f64],
-    bus: &[u32],
-    pmax: &[f64],
-    leader: &[u32],
-    grounds: &[u32],
-    injection: &[f64],
-    circuits: &mut [u32],
-    banks: &mut [f64],
-    floors: &mut [f64],
-    upsized: &mut [u32],
-    level: &mut [u32],
-    marks: &mut [u32],
-    flow: &mut [f64],
-    rate: &mut [f64],
-    angle: &mut [f64],
-    added: &mut [f64],
-    work: &mut [f64],
-) -> Planned
-    requires { ⌜ Runnable above promoted (now ladder) (now level) (now a) (now b) (now km) (now share) (now sheet) (now load) (now bus) (now pmax) (now leader) (now grounds) (now injection) (now circuits) (now banks) (now floors) (now upsized) (now marks) (now angle) (now flow) (now work) ⌝ }
-    requires { ⌜ Closable above (now ladder) (now a) (now leader) (now upsized) (now angle) (now rate) (now added) ⌝ }
-    ensures { λ r. ⌜ RaisedPlan mode target above promoted (now (ladder .entry)) (now (level .entry)) (now (a .entry)) (now (b .entry)) (now (km .entry)) (now (share .entry)) (now (sheet .entry)) (now (load .entry)) (now (bus .entry)) (now (pmax .entry)) (now (leader .entry)) (now (grounds .entry)) (now (injection .entry))
-        (now (circuits .entry)) (now (banks .entry)) (now (floors .entry)) (now (upsized .entry))
-        (now (circuits .exit)) (now (level .exit)) (now (flow .exit)) (now (rate .exit)) (now (angle .exit)) (now (added .exit)) r ⌝ }
-{
-    match run_rounds(
-        mode,
-        above,
-        promoted,
-        ladder,
-        a,
-        b,
-        km,
-        share,
-        sheet,
-        load,
-        bus,
-        pmax,
-        leader,
-        grounds,
-        injection,
-        circuits,
-        banks,
-        floors,
-        upsized,
-        level,
-        marks,
-        angle,
-        flow,
-        work,
-    ) {
-        Rounds::Refused(f) => Planned::Refused(f),
-        Rounds::Ran(progress) => {
-            let settled = settle(
-                mode,
-                target,
-                above,
-                ladder,
-                a,
-                b,
-                km,
-                share,
-                sheet,
-                leader,
-                grounds,
-                injection,
-                banks,
-                upsized,
-                circuits,
-                level,
-                flow,
-                rate,
-                angle,
-                added,
-                work,
-            );
-            conclude(progress, grounds.len() as u32, settled)
-        }
-    }
-}
-
-// After the opening: the first designs, the raises, and what comes after them.
+// After the opening: the first designs, the raises, the rounds, and what comes after them.
 fn plan_opened(
     mode: PlanMode,
     target: u32,
@@ -309,9 +212,8 @@ fn plan_opened(
     rate: &mut [f64],
     angle: &mut [f64],
     added: &mut [f64],
-    work: &mut [f64],
 ) -> Planned
-    requires { ⌜ Plannable (now ladder) (now level) (now a) (now b) (now km) (now share) (now sheet) (now load) (now bus) (now pmax) (now leader) (now grounds) (now injection) (now circuits) (now banks) (now floors) (now upsized) (now marks) (now angle) (now flow) (now work) ⌝ }
+    requires { ⌜ Plannable (now ladder) (now level) (now a) (now b) (now km) (now share) (now sheet) (now load) (now bus) (now pmax) (now leader) (now grounds) (now injection) (now circuits) (now banks) (now floors) (now upsized) (now marks) (now angle) (now flow) ⌝ }
     requires { ⌜ Closable above (now ladder) (now a) (now leader) (now upsized) (now angle) (now rate) (now added) ⌝ }
     ensures { λ r. ⌜ OpenedPlan mode target above (now (ladder .entry)) (now (level .entry)) (now (a .entry)) (now (b .entry)) (now (km .entry)) (now (share .entry)) (now (sheet .entry)) (now (load .entry)) (now (bus .entry)) (now (pmax .entry)) (now (leader .entry)) (now (grounds .entry)) (now (injection .entry))
         (now (circuits .entry)) (now (upsized .entry))
@@ -351,12 +253,10 @@ fn plan_opened(
         marks,
         angle,
         flow,
-        work,
     ) {
         Raised::Refused(f) => Planned::Refused(f),
-        Raised::Promoted(promoted) => plan_raised(
+        Raised::Promoted(promoted) => match run_rounds(
             mode,
-            target,
             above,
             promoted,
             ladder,
@@ -377,110 +277,41 @@ fn plan_opened(
             upsized,
             level,
             marks,
-            flow,
-            rate,
             angle,
-            added,
-            work,
-        ),
+            flow,
+        ) {
+            Rounds::Refused(f) => Planned::Refused(f),
+            Rounds::Ran(progress) => {
+                let settled = settle(
+                    mode,
+                    target,
+                    above,
+                    ladder,
+                    a,
+                    b,
+                    km,
+                    share,
+                    sheet,
+                    leader,
+                    grounds,
+                    injection,
+                    banks,
+                    upsized,
+                    circuits,
+                    level,
+                    flow,
+                    rate,
+                    angle,
+                    added,
+                );
+                conclude(progress, grounds.len() as u32, settled)
+            }
+        },
     }
 }
 
-// All stages: the opening, and what comes after it.
-fn plan_stages(
-    mode: PlanMode,
-    target: u32,
-    above: usize,
-    ladder: &[f64],
-    tier: &[u32],
-    load: &[f64],
-    bus: &[u32],
-    slack: &[u32],
-    pmin: &[f64],
-    pmax: &[f64],
-    c1: &[f64],
-    c2: &[f64],
-    a: &[u32],
-    b: &[u32],
-    initial: &[u32],
-    km: &[f64],
-    share: &[f64],
-    sheet: &[f64],
-    leader: &mut [u32],
-    injection: &mut [f64],
-    banks: &mut [f64],
-    floors: &mut [f64],
-    upsized: &mut [u32],
-    marks: &mut [u32],
-    circuits: &mut [u32],
-    flow: &mut [f64],
-    rate: &mut [f64],
-    mw: &mut [f64],
-    angle: &mut [f64],
-    level: &mut [u32],
-    ground: &mut [u32],
-    added: &mut [f64],
-    work: &mut [f64],
-) -> Planned
-    requires { ⌜ Stageable mode target above (now ladder) (now tier) (now load) (now bus) (now slack) (now pmin) (now pmax) (now c1) (now c2) (now a) (now b) (now initial) (now km) (now share) (now sheet)
-        (now leader) (now injection) (now banks) (now floors) (now upsized) (now marks) (now circuits) (now flow) (now rate) (now mw) (now angle) (now level) (now ground) (now added) (now work) ⌝ }
-    ensures { λ r. ⌜ PlanDone mode target above (now (ladder .entry)) (now (tier .entry)) (now (load .entry)) (now (bus .entry)) (now (slack .entry)) (now (pmin .entry)) (now (pmax .entry)) (now (c1 .entry)) (now (c2 .entry)) (now (a .entry)) (now (b .entry)) (now (initial .entry)) (now (km .entry)) (now (share .entry)) (now (sheet .entry))
-        (now (circuits .exit)) (now (flow .exit)) (now (rate .exit)) (now (mw .exit)) (now (angle .exit)) (now (level .exit)) (now (ground .exit)) (now (added .exit)) r ⌝ }
-{
-    match open(
-        above,
-        tier,
-        load,
-        bus,
-        slack,
-        pmin,
-        pmax,
-        c1,
-        c2,
-        a,
-        b,
-        initial,
-        leader,
-        injection,
-        ground,
-        mw,
-        level,
-        circuits,
-    ) {
-        Opening::Refused(f) => Planned::Refused(f),
-        Opening::Opened(count) => plan_opened(
-            mode,
-            target,
-            above,
-            ladder,
-            a,
-            b,
-            km,
-            share,
-            sheet,
-            load,
-            bus,
-            pmax,
-            leader,
-            &ground[0..count],
-            injection,
-            circuits,
-            banks,
-            floors,
-            upsized,
-            level,
-            marks,
-            flow,
-            rate,
-            angle,
-            added,
-            work,
-        ),
-    }
-}
-
-// The stages with their own arrays. Two parts of one lent slice cannot be lent on at the same time, so that of the work that is lent
-// the solver has figures, `upsized` has counts, and the rest is here.
+// All stages: the opening, and what comes after it. Two parts of one lent slice cannot be lent on at the same time, so that of the work that is lent
+// the banks have figures, `upsized` has counts, and the rest has arrays here.
 pub fn run(
     mode: PlanMode,
     target: u32,
@@ -520,15 +351,11 @@ pub fn run(
     let m = a.len();
     let mut leader = [0u32; 256];
     let mut injection = [0.0; 256];
-    let mut banks = [0.0; 256];
     let mut floors = [0.0; 256];
     let mut marks = [0u32; 256];
     clear_counts(counts);
-    plan_stages(
-        mode,
-        target,
+    match open(
         above,
-        ladder,
         tier,
         load,
         bus,
@@ -540,23 +367,40 @@ pub fn run(
         a,
         b,
         initial,
-        km,
-        share,
-        sheet,
         &mut leader[0..n],
         &mut injection[0..n],
-        &mut banks[0..m],
-        &mut floors[0..m],
-        &mut counts[0..m],
-        &mut marks[0..n],
-        circuits,
-        flow,
-        rate,
-        mw,
-        angle,
-        level,
         ground,
-        added,
-        &mut figures[0..SOLVER_ROWS * n],
-    )
+        mw,
+        level,
+        circuits,
+    ) {
+        Opening::Refused(f) => Planned::Refused(f),
+        Opening::Opened(count) => plan_opened(
+            mode,
+            target,
+            above,
+            ladder,
+            a,
+            b,
+            km,
+            share,
+            sheet,
+            load,
+            bus,
+            pmax,
+            &leader[0..n],
+            &ground[0..count],
+            &injection[0..n],
+            circuits,
+            &mut figures[0..m],
+            &mut floors[0..m],
+            &mut counts[0..m],
+            level,
+            &mut marks[0..n],
+            flow,
+            rate,
+            angle,
+            added,
+        ),
+    }
 }

@@ -149,10 +149,9 @@ fn pass(
     marks: &mut [u32],
     angle: &mut [f64],
     flow: &mut [f64],
-    work: &mut [f64],
 ) -> Raised
     requires { ⌜ Raisable (now ladder) (now level) (now a) (now b) (now km) (now share) (now sheet) (now load) (now bus) (now pmax) (now grounds) (now injection)
-        (now circuits) (now floors) (now banks) (now marks) (now angle) (now flow) (now work) ⌝ }
+        (now circuits) (now floors) (now banks) (now marks) (now angle) (now flow) ⌝ }
     ensures { λ r. ⌜ Passed (now (ladder .entry)) (now (level .entry)) (now (a .entry)) (now (b .entry)) (now (km .entry)) (now (share .entry)) (now (sheet .entry))
         (now (load .entry)) (now (bus .entry)) (now (pmax .entry)) (now (grounds .entry)) (now (injection .entry)) (now (circuits .entry)) (now (banks .entry))
         (now (level .exit)) (now (banks .exit)) r ⌝ }
@@ -172,7 +171,6 @@ fn pass(
         grounds,
         angle,
         flow,
-        work,
     ) {
         Answer::Refused(f) => return Raised::Refused(f),
         Answer::Answered => {}
@@ -217,10 +215,9 @@ pub fn raises(
     marks: &mut [u32],
     angle: &mut [f64],
     flow: &mut [f64],
-    work: &mut [f64],
 ) -> Raised
     requires { ⌜ Raisable (now ladder) (now level) (now a) (now b) (now km) (now share) (now sheet) (now load) (now bus) (now pmax) (now grounds) (now injection)
-        (now circuits) (now floors) (now banks) (now marks) (now angle) (now flow) (now work) ⌝ }
+        (now circuits) (now floors) (now banks) (now marks) (now angle) (now flow) ⌝ }
     ensures { λ r. ⌜ RaisesDone mode (now (ladder .entry)) (now (level .entry)) (now (a .entry)) (now (b .entry)) (now (km .entry)) (now (share .entry)) (now (sheet .entry))
         (now (load .entry)) (now (bus .entry)) (now (pmax .entry)) (now (grounds .entry)) (now (injection .entry)) (now (circuits .entry)) (now (banks .entry))
         (now (level .exit)) (now (banks .exit)) r ⌝ }
@@ -250,7 +247,6 @@ pub fn raises(
             marks,
             angle,
             flow,
-            work,
         ) {
             Raised::Refused(f) => return Raised::Refused(f),
             Raised::Promoted(moved) => {

@@ -13,7 +13,7 @@ use crate::redesign::redesign;
 use crate::size::Tally;
 use crate::size::size_corridor;
 use crate::solve::draw_edges;
-use crate::solve::planning_state;
+use crate::solve::peak_state;
 use crate::stiffen::Stiffened;
 use crate::stiffen::limits_of;
 use crate::stiffen::stiffen_led;
@@ -107,38 +107,20 @@ pub fn size_rounds(
     marks: &mut [u32],
     angle: &mut [f64],
     flow: &mut [f64],
-    work: &mut [f64],
 ) -> Rounds
-    requires { ⌜ RoundsFit above budget start (now ladder) (now level) (now a) (now b) (now km) (now share) (now sheet) (now load) (now bus) (now pmax) (now leader) (now grounds) (now injection) (now circuits) (now banks) (now floors) (now upsized) (now marks) (now angle) (now flow) (now work) ⌝ }
+    requires { ⌜ RoundsFit above budget start (now ladder) (now level) (now a) (now b) (now km) (now share) (now sheet) (now load) (now bus) (now pmax) (now leader) (now grounds) (now injection) (now circuits) (now banks) (now floors) (now upsized) (now marks) (now angle) (now flow) ⌝ }
     ensures { λ r. ⌜ RoundsRun mode above budget start (now (ladder .entry)) (now (level .entry)) (now (a .entry)) (now (b .entry)) (now (km .entry)) (now (share .entry)) (now (sheet .entry)) (now (load .entry)) (now (bus .entry)) (now (pmax .entry)) (now (leader .entry)) (now (grounds .entry)) (now (injection .entry))
         (now (circuits .entry)) (now (banks .entry)) (now (floors .entry)) (now (upsized .entry)) (now (angle .entry))
         (now (level .exit)) (now (circuits .exit)) (now (banks .exit)) (now (floors .exit)) (now (upsized .exit)) (now (angle .exit)) r ⌝ }
 {
-    let mut from = [0u32; 256];
-    let mut to = [0u32; 256];
-    let mut weight = [0.0; 256];
     let mut p = start;
     let mut left = budget;
     'rounds: while left > 0 {
         left -= 1;
         p.rounds += 1;
         p.converged = false;
-        match planning_state(
-            ladder,
-            level,
-            a,
-            b,
-            km,
-            share,
-            sheet,
-            circuits,
-            banks,
-            injection,
-            grounds,
-            angle,
-            flow,
-            work,
-        ) {
+        let e = draw_edges(ladder, level, a, b, km, share, sheet, circuits, banks);
+        match peak_state(e, injection, grounds, angle, flow) {
             Answer::Refused(f) => return Rounds::Refused(f),
             Answer::Answered => {}
         }
@@ -198,21 +180,6 @@ pub fn size_rounds(
                 }
             }
         }
-        // Sizing changed nothing, so these are the edges that the round was solved with.
-        draw_edges(
-            ladder,
-            level,
-            a,
-            b,
-            km,
-            share,
-            sheet,
-            circuits,
-            banks,
-            &mut from,
-            &mut to,
-            &mut weight,
-        );
         let g = limits_of(above, level);
         let mut s = stiffness_from(g, level, circuits, p.stiffening, marks);
         let mut i = 0;
@@ -230,16 +197,13 @@ pub fn size_rounds(
                 sheet,
                 leader,
                 grounds,
-                &from,
-                &to,
-                &weight,
+                e,
                 angle,
                 circuits,
                 banks,
                 floors,
                 upsized,
                 marks,
-                work,
                 s,
             ) {
                 Stiffened::Refused(f) => return Rounds::Refused(f),

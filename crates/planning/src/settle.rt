@@ -43,10 +43,9 @@ fn solve_from_zero(
     grounds: &[u32],
     angle: &mut [f64],
     flow: &mut [f64],
-    work: &mut [f64],
 ) -> Answer
     requires { ⌜ Drawing (now ladder) (now level) (now a) (now b) (now km) (now share) (now sheet) (now circuits) (now banks) ⌝ }
-    requires { ⌜ Lent (length (now level)) (length (now a)) (now injection) (now grounds) (now angle) (now flow) (now work) ⌝ }
+    requires { ⌜ Lent (length (now level)) (length (now a)) (now injection) (now grounds) (now angle) (now flow) ⌝ }
     ensures { λ r. ⌜ solvedOf r
         (edgesFor (designsFor (now (ladder .entry)) (now (level .entry)) (now (a .entry)) (now (b .entry)) (now (km .entry)) (now (share .entry)) (now (sheet .entry)) (now (banks .entry))) (now (circuits .entry)))
         (now (angle .exit)) (now (flow .exit))
@@ -69,7 +68,6 @@ fn solve_from_zero(
         grounds,
         angle,
         flow,
-        work,
     )
 }
 
@@ -95,9 +93,8 @@ fn close_up(
     rate: &mut [f64],
     angle: &mut [f64],
     added: &mut [f64],
-    work: &mut [f64],
 ) -> Settled
-    requires { ⌜ Settleable above (now ladder) (now level) (now a) (now b) (now km) (now share) (now sheet) (now leader) (now grounds) (now injection) (now banks) (now upsized) (now circuits) (now flow) (now rate) (now angle) (now added) (now work) ⌝ }
+    requires { ⌜ Settleable above (now ladder) (now level) (now a) (now b) (now km) (now share) (now sheet) (now leader) (now grounds) (now injection) (now banks) (now upsized) (now circuits) (now flow) (now rate) (now angle) (now added) ⌝ }
     ensures { λ r. ⌜ endedOf r (now (circuits .entry)) (now (level .exit)) (now (flow .exit)) (now (rate .exit)) (now (angle .exit)) (now (added .exit))
         ≡ closedFrom mode above (now (leader .entry)) (now (ladder .entry)) (now (level .entry))
         (designsFor (now (ladder .entry)) (now (level .entry)) (now (a .entry)) (now (b .entry)) (now (km .entry)) (now (share .entry)) (now (sheet .entry)) (now (banks .entry)))
@@ -117,7 +114,6 @@ fn close_up(
         grounds,
         angle,
         flow,
-        work,
     ) {
         Answer::Refused(f) => return Settled::Refused(f),
         Answer::Answered => {}
@@ -166,9 +162,8 @@ fn fill_up(
     rate: &mut [f64],
     angle: &mut [f64],
     added: &mut [f64],
-    work: &mut [f64],
 ) -> Settled
-    requires { ⌜ Settleable above (now ladder) (now level) (now a) (now b) (now km) (now share) (now sheet) (now leader) (now grounds) (now injection) (now banks) (now upsized) (now circuits) (now flow) (now rate) (now angle) (now added) (now work) ⌝ }
+    requires { ⌜ Settleable above (now ladder) (now level) (now a) (now b) (now km) (now share) (now sheet) (now leader) (now grounds) (now injection) (now banks) (now upsized) (now circuits) (now flow) (now rate) (now angle) (now added) ⌝ }
     requires { ⌜ Few (now circuits) ⌝ }
     ensures { λ r. ⌜ endedOf r (now (circuits .exit)) (now (level .exit)) (now (flow .exit)) (now (rate .exit)) (now (angle .exit)) (now (added .exit))
         ≡ filledFrom mode above (now (leader .entry)) (now (ladder .entry)) (now (level .entry))
@@ -211,7 +206,6 @@ fn fill_up(
         rate,
         angle,
         added,
-        work,
     )
 }
 
@@ -237,9 +231,8 @@ pub fn settle(
     rate: &mut [f64],
     angle: &mut [f64],
     added: &mut [f64],
-    work: &mut [f64],
 ) -> Settled
-    requires { ⌜ Settleable above (now ladder) (now level) (now a) (now b) (now km) (now share) (now sheet) (now leader) (now grounds) (now injection) (now banks) (now upsized) (now circuits) (now flow) (now rate) (now angle) (now added) (now work) ⌝ }
+    requires { ⌜ Settleable above (now ladder) (now level) (now a) (now b) (now km) (now share) (now sheet) (now leader) (now grounds) (now injection) (now banks) (now upsized) (now circuits) (now flow) (now rate) (now angle) (now added) ⌝ }
     requires { ⌜ Few (now circuits) ⌝ }
     ensures { λ r. ⌜ Settles mode target above (now (ladder .entry)) (now (a .entry)) (now (b .entry)) (now (km .entry)) (now (share .entry)) (now (sheet .entry)) (now (leader .entry)) (now (grounds .entry)) (now (injection .entry)) (now (banks .entry)) (now (upsized .entry)) (now (circuits .entry)) (now (level .entry))
         (now (circuits .exit)) (now (level .exit)) (now (flow .exit)) (now (rate .exit)) (now (angle .exit)) (now (added .exit)) r ⌝ }
@@ -258,7 +251,6 @@ pub fn settle(
         grounds,
         angle,
         flow,
-        work,
     ) {
         Answer::Refused(f) => Settled::Refused(f),
         Answer::Answered => fill_up(
@@ -282,7 +274,6 @@ pub fn settle(
             rate,
             angle,
             added,
-            work,
         ),
     }
 }

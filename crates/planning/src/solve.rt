@@ -5,14 +5,14 @@ ghost use Prim.Native.Nat.{_<_, _≤_};
 ghost use lib.ListN.{length, take};
 ghost use Rattle.loops.specs.Figures.{float};
 ghost use Rattle.angles_defs.specs.Network.{edgesOf, zeros};
-ghost use Rattle.angles_defs.specs.Operation.{most, workPlaces};
+ghost use Rattle.angles_defs.specs.Operation.{most};
 ghost use Rattle.angles_defs.specs.Solve.{solve};
 ghost use Rattle.plan_defs.specs.Build.{drawnAll};
-ghost use Rattle.plan_defs.specs.Solve.{susceptance, edgesFor, flowsOf, allFinite, planningState};
+ghost use Rattle.plan_defs.specs.Solve.{susceptance, edgesFor, flowsOf, allFinite, planningOn, planningState};
 ghost use Rattle.plan_defs.specs.Stiffen.{unitAt};
 ghost use Rattle.planning.specs.Opening.{stageOf};
 ghost use Rattle.planning.specs.Design.{linesFor};
-ghost use Rattle.planning.specs.Solve.{peakFor, solvedOf, finiteAngles, finiteAnswer, Net, Places, Drawing, Lent, Drawn};
+ghost use Rattle.planning.specs.Solve.{peakFor, solvedOf, finiteAngles, finiteAnswer, Net, Places, Drawing, Lent, Drawn, Peaked};
 use crate::design::circuit;
 use crate::figures::float;
 use crate::figures::is_finite;
@@ -32,7 +32,13 @@ pub fn susceptance(d: CircuitDesign) -> f64
     d.x_pu / (d.r_pu * d.r_pu + d.x_pu * d.x_pu)
 }
 
-// Edge k of corridor k, at the front of the three.
+// Edge k is of corridor k, at the front of the three.
+pub struct Edges {
+    pub from: [u32; 256],
+    pub to: [u32; 256],
+    pub weight: [f64; 256],
+}
+
 pub fn draw_edges(
     ladder: &[f64],
     level: &[u32],
@@ -43,17 +49,16 @@ pub fn draw_edges(
     sheet: &[f64],
     circuits: &[u32],
     banks: &[f64],
-    from: &mut [u32; 256],
-    to: &mut [u32; 256],
-    weight: &mut [f64; 256],
-)
+) -> Edges
     requires { ⌜ Drawing (now ladder) (now level) (now a) (now b) (now km) (now share) (now sheet) (now circuits) (now banks) ⌝ }
-    requires { ⌜ (length (now from) ≡ most) × (length (now to) ≡ most) × (length (now weight) ≡ most) ⌝ }
-    ensures edges { λ _. ⌜ edgesOf (take (length (now (a .entry))) (now (from .exit))) (take (length (now (a .entry))) (now (to .exit))) (take (length (now (a .entry))) (now (weight .exit)))
+    ensures edges { λ e. ⌜ edgesOf (take (length (now (a .entry))) (e .from)) (take (length (now (a .entry))) (e .to)) (take (length (now (a .entry))) (e .weight))
         ≡ edgesFor (drawnAll (linesFor (now (ladder .entry)) (now (a .entry)) (now (b .entry)) (now (km .entry)) (now (share .entry)) (now (sheet .entry)))
         (now (level .entry)) (now (banks .entry))) (now (circuits .entry)) ⌝ }
-    ensures sizes { λ _. ⌜ (length (now (from .exit)) ≡ most) × (length (now (to .exit)) ≡ most) × (length (now (weight .exit)) ≡ most) ⌝ }
+    ensures sizes { λ e. ⌜ (length (e .from) ≡ most) × (length (e .to) ≡ most) × (length (e .weight) ≡ most) ⌝ }
 {
+    let mut from = [0u32; 256];
+    let mut to = [0u32; 256];
+    let mut weight = [0.0; 256];
     let mut k = 0;
     while k < a.len() {
         let d = circuit(ladder, level, a, b, km, share, sheet, k, banks[k]);
@@ -62,9 +67,13 @@ pub fn draw_edges(
         weight[k] = susceptance(d) * float(circuits[k]);
         k += 1;
     }
+    Edges { from, to, weight }
 }
 
 // ---- angles
+// Places of the solver's work for each bus.
+const SOLVER_ROWS: usize = 8;
+
 // The angles from a guess; 9 where one is not finite.
 fn angles_from(
     from: &[u32],
@@ -74,15 +83,16 @@ fn angles_from(
     grounds: &[u32],
     guess: &[f64],
     angle: &mut [f64],
-    work: &mut [f64],
 ) -> Answer
     requires { ⌜ Net (length (now angle)) (now from) (now to) (now weight) (now grounds) ⌝ }
-    requires { ⌜ Places (length (now angle)) (now injection) (now guess) (now angle) (now work) ⌝ }
+    requires { ⌜ Places (length (now angle)) (now injection) (now guess) (now angle) ⌝ }
     ensures { λ r. ⌜ stageOf r (now (angle .exit))
         ≡ finiteAngles (solve (length (now (angle .entry))) (edgesOf (now (from .entry)) (now (to .entry)) (now (weight .entry))) (now (grounds .entry)) (now (injection .entry)) (now (guess .entry)) .x) ⌝ }
 {
+    let n = angle.len();
+    let mut work = [0.0; 2048];
     match angles::dc_angles(
-        angle.len(),
+        n,
         from.len(),
         grounds.len(),
         from,
@@ -92,7 +102,7 @@ fn angles_from(
         grounds,
         guess,
         angle,
-        work,
+        &mut work[0..SOLVER_ROWS * n],
     ) {
         Angles::Refused(_) => Answer::Refused(Refusal::NotFinite(0)),
         Angles::Answered(_) => Answer::Answered,
@@ -108,10 +118,9 @@ pub fn unit_angles(
     lead: usize,
     lag: usize,
     phi: &mut [f64],
-    work: &mut [f64],
 ) -> Answer
     requires { ⌜ Net (length (now phi)) (now from) (now to) (now weight) (now grounds) ⌝ }
-    requires { ⌜ (lead < length (now phi)) × (lag < length (now phi)) × (length (now work) ≡ workPlaces (length (now phi))) ⌝ }
+    requires { ⌜ (lead < length (now phi)) × (lag < length (now phi)) ⌝ }
     ensures { λ r. ⌜ stageOf r (now (phi .exit))
         ≡ finiteAngles (solve (length (now (phi .entry))) (edgesOf (now (from .entry)) (now (to .entry)) (now (weight .entry))) (now (grounds .entry))
         (unitAt (length (now (phi .entry))) lead lag) (zeros (length (now (phi .entry)))) .x) ⌝ }
@@ -129,7 +138,6 @@ pub fn unit_angles(
         grounds,
         &guess[0..n],
         phi,
-        work,
     )
 }
 
@@ -190,7 +198,44 @@ fn copy(angle: &[f64], guess: &mut [f64; 256])
     }
 }
 
-// The angles and the flows at the peak, from the angles that `angle` holds; refusal 9 where one of them is not finite.
+// The angles and the flows at the peak on these edges, from the angles that `angle` holds; refusal 9 where one of them is not finite.
+pub fn peak_state(
+    e: Edges,
+    injection: &[f64],
+    grounds: &[u32],
+    angle: &mut [f64],
+    flow: &mut [f64],
+) -> Answer
+    requires { ⌜ Peaked (length (now angle)) (length (now flow)) (e .from) (e .to) (e .weight) ⌝ }
+    requires { ⌜ Lent (length (now angle)) (length (now flow)) (now injection) (now grounds) (now angle) (now flow) ⌝ }
+    ensures { λ r. ⌜ solvedOf r (edgesOf (take (length (now (flow .entry))) (e .from)) (take (length (now (flow .entry))) (e .to)) (take (length (now (flow .entry))) (e .weight)))
+        (now (angle .exit)) (now (flow .exit))
+        ≡ planningOn (peakFor (length (now (angle .entry))) (now (grounds .entry)) (now (injection .entry)))
+        (edgesOf (take (length (now (flow .entry))) (e .from)) (take (length (now (flow .entry))) (e .to)) (take (length (now (flow .entry))) (e .weight))) (now (angle .entry)) ⌝ }
+{
+    let n = angle.len();
+    let m = flow.len();
+    let from = e.from;
+    let to = e.to;
+    let weight = e.weight;
+    let mut guess = [0.0; 256];
+    copy(angle, &mut guess);
+    match angles_from(
+        &from[0..m],
+        &to[0..m],
+        &weight[0..m],
+        injection,
+        grounds,
+        &guess[0..n],
+        angle,
+    ) {
+        Answer::Refused(f) => return Answer::Refused(f),
+        Answer::Answered => corridor_flows(&from, &to, &weight, angle, flow),
+    }
+    finite_flows(flow)
+}
+
+// The same on the edges of the corridors as they are.
 pub fn planning_state(
     ladder: &[f64],
     level: &[u32],
@@ -205,10 +250,9 @@ pub fn planning_state(
     grounds: &[u32],
     angle: &mut [f64],
     flow: &mut [f64],
-    work: &mut [f64],
 ) -> Answer
     requires { ⌜ Drawing (now ladder) (now level) (now a) (now b) (now km) (now share) (now sheet) (now circuits) (now banks) ⌝ }
-    requires { ⌜ Lent (length (now level)) (length (now a)) (now injection) (now grounds) (now angle) (now flow) (now work) ⌝ }
+    requires { ⌜ Lent (length (now level)) (length (now a)) (now injection) (now grounds) (now angle) (now flow) ⌝ }
     ensures { λ r. ⌜ solvedOf r
         (edgesFor (drawnAll (linesFor (now (ladder .entry)) (now (a .entry)) (now (b .entry)) (now (km .entry)) (now (share .entry)) (now (sheet .entry)))
         (now (level .entry)) (now (banks .entry))) (now (circuits .entry)))
@@ -217,39 +261,6 @@ pub fn planning_state(
         (drawnAll (linesFor (now (ladder .entry)) (now (a .entry)) (now (b .entry)) (now (km .entry)) (now (share .entry)) (now (sheet .entry)))
         (now (level .entry)) (now (banks .entry))) (now (circuits .entry)) (now (angle .entry)) ⌝ }
 {
-    let n = angle.len();
-    let m = a.len();
-    let mut from = [0u32; 256];
-    let mut to = [0u32; 256];
-    let mut weight = [0.0; 256];
-    let mut guess = [0.0; 256];
-    draw_edges(
-        ladder,
-        level,
-        a,
-        b,
-        km,
-        share,
-        sheet,
-        circuits,
-        banks,
-        &mut from,
-        &mut to,
-        &mut weight,
-    );
-    copy(angle, &mut guess);
-    match angles_from(
-        &from[0..m],
-        &to[0..m],
-        &weight[0..m],
-        injection,
-        grounds,
-        &guess[0..n],
-        angle,
-        work,
-    ) {
-        Answer::Refused(f) => return Answer::Refused(f),
-        Answer::Answered => corridor_flows(&from, &to, &weight, angle, flow),
-    }
-    finite_flows(flow)
+    let e = draw_edges(ladder, level, a, b, km, share, sheet, circuits, banks);
+    peak_state(e, injection, grounds, angle, flow)
 }

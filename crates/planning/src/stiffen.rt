@@ -31,6 +31,7 @@ use crate::raise::mark_raise_to;
 use crate::raise::raise_of;
 use crate::size::bank_below;
 use crate::size::keep_bank;
+use crate::solve::Edges;
 use crate::solve::susceptance;
 use crate::solve::unit_angles;
 use plan_defs::CircuitDesign;
@@ -703,9 +704,7 @@ fn narrow(
     sheet: &[f64],
     leader: &[u32],
     grounds: &[u32],
-    from: &[u32; 256],
-    to: &[u32; 256],
-    weight: &[f64; 256],
+    e: Edges,
     angle: &[f64],
     phi: &mut [f64],
     circuits: &mut [u32],
@@ -713,29 +712,27 @@ fn narrow(
     floors: &mut [f64],
     upsized: &mut [u32],
     marks: &mut [u32],
-    work: &mut [f64],
     t: Stiffness,
 ) -> Stiffened
-    requires { ⌜ Stiffenable (now ladder) (now level) (now a) (now b) (now km) (now share) (now sheet) (now leader) (now grounds) (now from) (now to) (now weight) (now angle) (now circuits) (now banks) (now floors) (now upsized) (now marks) (now work) ⌝ }
+    requires { ⌜ Stiffenable (now ladder) (now level) (now a) (now b) (now km) (now share) (now sheet) (now leader) (now grounds) (e .from) (e .to) (e .weight) (now angle) (now circuits) (now banks) (now floors) (now upsized) (now marks) ⌝ }
     requires { ⌜ (length (now phi) ≡ length (now level)) × (lead < length (now level)) × (lag < length (now level)) × Room (length (now a)) t ⌝ }
-    ensures { λ r. ⌜ Stepped (narrowStep root lead lag excess g (now (level .entry)) (now (leader .entry)) (now (grounds .entry)) (length (now (a .entry))) (now (from .entry)) (now (to .entry)) (now (weight .entry)) (now (angle .entry)))
+    ensures { λ r. ⌜ Stepped (narrowStep root lead lag excess g (now (level .entry)) (now (leader .entry)) (now (grounds .entry)) (length (now (a .entry))) (e .from) (e .to) (e .weight) (now (angle .entry)))
         (now (ladder .entry)) (now (level .entry)) (now (a .entry)) (now (b .entry)) (now (km .entry)) (now (share .entry)) (now (sheet .entry))
         (now (circuits .entry)) (now (banks .entry)) (now (floors .entry)) (now (upsized .entry)) (now (marks .entry)) t
         (now (circuits .exit)) (now (banks .exit)) (now (floors .exit)) (now (upsized .exit)) (now (marks .exit)) r ⌝ }
 {
     let m = a.len();
-    let from_all = &from[..];
-    let to_all = &to[..];
-    let weight_all = &weight[..];
+    let from = e.from;
+    let to = e.to;
+    let weight = e.weight;
     match unit_angles(
-        &from_all[0..m],
-        &to_all[0..m],
-        &weight_all[0..m],
+        &from[0..m],
+        &to[0..m],
+        &weight[0..m],
         grounds,
         lead,
         lag,
         phi,
-        work,
     ) {
         Answer::Refused(f) => Stiffened::Refused(f),
         Answer::Answered => Stiffened::Going(reinforce(
@@ -788,21 +785,18 @@ fn stiffen_component(
     sheet: &[f64],
     leader: &[u32],
     grounds: &[u32],
-    from: &[u32; 256],
-    to: &[u32; 256],
-    weight: &[f64; 256],
+    e: Edges,
     angle: &[f64],
     circuits: &mut [u32],
     banks: &mut [f64],
     floors: &mut [f64],
     upsized: &mut [u32],
     marks: &mut [u32],
-    work: &mut [f64],
     t: Stiffness,
 ) -> Stiffened
-    requires { ⌜ Stiffenable (now ladder) (now level) (now a) (now b) (now km) (now share) (now sheet) (now leader) (now grounds) (now from) (now to) (now weight) (now angle) (now circuits) (now banks) (now floors) (now upsized) (now marks) (now work) ⌝ }
+    requires { ⌜ Stiffenable (now ladder) (now level) (now a) (now b) (now km) (now share) (now sheet) (now leader) (now grounds) (e .from) (e .to) (e .weight) (now angle) (now circuits) (now banks) (now floors) (now upsized) (now marks) ⌝ }
     requires { ⌜ Led root (now leader) (now angle) × Room (length (now a)) t ⌝ }
-    ensures { λ r. ⌜ Stepped (componentStep root round g (now (level .entry)) (now (leader .entry)) (now (grounds .entry)) (length (now (a .entry))) (now (from .entry)) (now (to .entry)) (now (weight .entry)) (now (angle .entry)))
+    ensures { λ r. ⌜ Stepped (componentStep root round g (now (level .entry)) (now (leader .entry)) (now (grounds .entry)) (length (now (a .entry))) (e .from) (e .to) (e .weight) (now (angle .entry)))
         (now (ladder .entry)) (now (level .entry)) (now (a .entry)) (now (b .entry)) (now (km .entry)) (now (share .entry)) (now (sheet .entry))
         (now (circuits .entry)) (now (banks .entry)) (now (floors .entry)) (now (upsized .entry)) (now (marks .entry)) t
         (now (circuits .exit)) (now (banks .exit)) (now (floors .exit)) (now (upsized .exit)) (now (marks .exit)) r ⌝ }
@@ -833,9 +827,7 @@ fn stiffen_component(
         sheet,
         leader,
         grounds,
-        from,
-        to,
-        weight,
+        e,
         angle,
         &mut phi[0..level.len()],
         circuits,
@@ -843,7 +835,6 @@ fn stiffen_component(
         floors,
         upsized,
         marks,
-        work,
         s,
     )
 }
@@ -862,21 +853,18 @@ pub fn stiffen_led(
     sheet: &[f64],
     leader: &[u32],
     grounds: &[u32],
-    from: &[u32; 256],
-    to: &[u32; 256],
-    weight: &[f64; 256],
+    e: Edges,
     angle: &[f64],
     circuits: &mut [u32],
     banks: &mut [f64],
     floors: &mut [f64],
     upsized: &mut [u32],
     marks: &mut [u32],
-    work: &mut [f64],
     t: Stiffness,
 ) -> Stiffened
-    requires { ⌜ Stiffenable (now ladder) (now level) (now a) (now b) (now km) (now share) (now sheet) (now leader) (now grounds) (now from) (now to) (now weight) (now angle) (now circuits) (now banks) (now floors) (now upsized) (now marks) (now work) ⌝ }
+    requires { ⌜ Stiffenable (now ladder) (now level) (now a) (now b) (now km) (now share) (now sheet) (now leader) (now grounds) (e .from) (e .to) (e .weight) (now angle) (now circuits) (now banks) (now floors) (now upsized) (now marks) ⌝ }
     requires { ⌜ (i < length (now leader)) × Room (length (now a)) t ⌝ }
-    ensures { λ r. ⌜ LedStiffened i round g (now (ladder .entry)) (now (level .entry)) (now (a .entry)) (now (b .entry)) (now (km .entry)) (now (share .entry)) (now (sheet .entry)) (now (leader .entry)) (now (grounds .entry)) (now (from .entry)) (now (to .entry)) (now (weight .entry)) (now (angle .entry))
+    ensures { λ r. ⌜ LedStiffened i round g (now (ladder .entry)) (now (level .entry)) (now (a .entry)) (now (b .entry)) (now (km .entry)) (now (share .entry)) (now (sheet .entry)) (now (leader .entry)) (now (grounds .entry)) (e .from) (e .to) (e .weight) (now (angle .entry))
         (now (circuits .entry)) (now (banks .entry)) (now (floors .entry)) (now (upsized .entry)) (now (marks .entry)) t
         (now (circuits .exit)) (now (banks .exit)) (now (floors .exit)) (now (upsized .exit)) (now (marks .exit)) r ⌝ }
 {
@@ -894,16 +882,13 @@ pub fn stiffen_led(
             sheet,
             leader,
             grounds,
-            from,
-            to,
-            weight,
+            e,
             angle,
             circuits,
             banks,
             floors,
             upsized,
             marks,
-            work,
             t,
         );
     }

@@ -12,15 +12,14 @@ clear-figures-requires c κs = search needs
 
 planning-state-requires : tie.Need-planning-state-requires
 planning-state-requires c κs =
-    let p = c .before .before .before .before .before .before .before .before .before .before .before .before .before .before .before .before .before .before .before .before .before .before .before .before .before .before .before .before .pre in (
+    let p = c .before .before .before .before .before .before .before .before .before .before .before .before .before .before .before .before .before .before .before .before .before .before .before .before .before .before .pre in (
       p .drawing,
       record {
         few-grounds = p .lent .few-grounds;
         ground-below = p .lent .ground-below;
         injection-size = p .lent .injection-size;
-        angle-size = c .before .before .before .before .before .before .before .clear-figures .kept .0 ∙ p .lent .angle-size;
+        angle-size = c .before .before .before .before .before .before .clear-figures .kept .0 ∙ p .lent .angle-size;
         flow-size = p .lent .flow-size;
-        work-size = p .lent .work-size;
       },
     )
 
@@ -34,23 +33,20 @@ same-length-2 : tie.Need-same-length-2
 same-length-2 c = refl
 
 same-length-3 : tie.Need-same-length-3
-same-length-3 c = c .before .before .before .before .before .before .before .before .before .planning-state .kept .1 .1 .1 .1 .1 .1 .1 .1 .1 .1 .1 .0 ∙ c .before .before .before .before .before .before .before .before .before .before .before .before .before .before .before .before .before .clear-figures .kept .0
+same-length-3 c = c .before .before .before .before .before .before .before .planning-state .kept .1 .1 .1 .1 .1 .1 .1 .1 .1 .1 .1 .0 ∙ c .before .before .before .before .before .before .before .before .before .before .before .before .before .before .clear-figures .kept .0
 
 same-length-4 : tie.Need-same-length-4
-same-length-4 c = c .before .before .before .before .before .before .before .before .before .planning-state .kept .1 .1 .1 .1 .1 .1 .1 .1 .1 .1 .1 .1 .0
-
-same-length-5 : tie.Need-same-length-5
-same-length-5 c = c .before .before .before .before .before .before .before .before .before .planning-state .kept .1 .1 .1 .1 .1 .1 .1 .1 .1 .1 .1 .1 .1 .0
+same-length-4 c = c .before .before .before .before .before .before .before .planning-state .kept .1 .1 .1 .1 .1 .1 .1 .1 .1 .1 .1 .1 .0
 
 returns : tie.Need-returns
 returns c =
-    let s = c .before .before .before .before .before .before .before .before .before .before .before .before .before .before .before .before .before .before .before .before .before .before .before .before .before .before .before .before .before .before .before .before .before .before .before .before .before .before in
+    let s = c .before .before .before .before .before .before .before .before .before .before .before .before .before .before .before .before .before .before .before .before .before .before .before .before .before .before .before .before .before .before .before .before .before .before in
     let z = s .args in
     record {
       passed = λ o mode target w n d promoted.
           pass-refused (now (z .ladder)) (now (z .level)) (now (z .a)) (now (z .b)) (now (z .km)) (now (z .share)) (now (z .sheet)) (now (z .load)) (now (z .bus)) (now (z .pmax))
-          (now (z .grounds)) (now (z .injection)) (now (z .circuits)) (now (z .banks)) _ _ (c .before .before .before .before .before .before .before .before .before .before .before .before .before .before .before .before .before .clear-figures .ensures) (s .pre .lent .angle-size)
-          (c .before .before .before .before .before .before .before .before .before .planning-state .result) _ _ (c .before .before .before .before .before .before .before .before .before .planning-state .ensures) o mode target w n d promoted _ (c .before .f .given .1);
+          (now (z .grounds)) (now (z .injection)) (now (z .circuits)) (now (z .banks)) _ _ (c .before .before .before .before .before .before .before .before .before .before .before .before .before .before .clear-figures .ensures) (s .pre .lent .angle-size)
+          (c .before .before .before .before .before .before .before .planning-state .result) _ _ (c .before .before .before .before .before .before .before .planning-state .ensures) o mode target w n d promoted _ (c .before .f .given .1);
       lines = s .pre .drawing .lines;
       banked = s .pre .drawing .banks-ok;
       bound = tt;
@@ -61,45 +57,42 @@ enum-told c = c .match .keys2
 
 raise-heavy-requires : tie.Need-raise-heavy-requires
 raise-heavy-requires c κs =
-    let p = c .before .before .before .before .before .before .before .before .before .before .before .before .before .before .before .before .before .before .before .before .before .before .before .before .before .before .before .before .before .before .before .before .before .before .before .before .before .before .before .before .before .pre in (
+    let p = c .before .before .before .before .before .before .before .before .before .before .before .before .before .before .before .before .before .before .before .before .before .before .before .before .before .before .before .before .before .before .before .before .before .before .before .before .before .pre in (
       record {
         lines = p .drawing .lines;
         banked = p .drawing .banks-ok;
         bank-size = p .drawing .bank-size;
-        flow-size = c .before .before .before .before .before .before .before .before .before .before .before .before .planning-state .kept .1 .1 .1 .1 .1 .1 .1 .1 .1 .1 .1 .1 .0 ∙ p .lent .flow-size;
+        flow-size = c .before .before .before .before .before .before .before .before .before .before .planning-state .kept .1 .1 .1 .1 .1 .1 .1 .1 .1 .1 .1 .1 .0 ∙ p .lent .flow-size;
         mark-size = p .mark-size;
       },
       p .redesigns,
     )
 
+same-length-5 : tie.Need-same-length-5
+same-length-5 c = c .before .before .before .before .before .before .raise-heavy .kept .1 .1 .1 .1 .1 .1 .1 .1 .1 .1 .1 .0
+
 same-length-6 : tie.Need-same-length-6
-same-length-6 c = c .before .before .before .before .before .before .raise-heavy .kept .1 .1 .1 .1 .1 .1 .1 .1 .1 .1 .1 .0
+same-length-6 c = c .before .before .before .before .before .before .raise-heavy .kept .1 .1 .1 .1 .1 .1 .1 .1 .1 .1 .1 .1 .0
 
 same-length-7 : tie.Need-same-length-7
-same-length-7 c = c .before .before .before .before .before .before .raise-heavy .kept .1 .1 .1 .1 .1 .1 .1 .1 .1 .1 .1 .1 .0
+same-length-7 c = c .before .before .before .before .before .before .raise-heavy .kept .1 .1 .1 .1 .1 .1 .1 .1 .1 .1 .1 .1 .1 .0
 
 same-length-8 : tie.Need-same-length-8
-same-length-8 c = c .before .before .before .before .before .before .raise-heavy .kept .1 .1 .1 .1 .1 .1 .1 .1 .1 .1 .1 .1 .1 .0
+same-length-8 c = c .before .before .before .before .before .before .before .before .before .before .before .before .before .before .before .before .before .planning-state .kept .1 .1 .1 .1 .1 .1 .1 .1 .1 .1 .1 .0 ∙ c .before .before .before .before .before .before .before .before .before .before .before .before .before .before .before .before .before .before .before .before .before .before .before .before .clear-figures .kept .0
 
 same-length-9 : tie.Need-same-length-9
-same-length-9 c = c .before .before .before .before .before .before .before .before .before .before .before .before .before .before .before .before .before .before .before .planning-state .kept .1 .1 .1 .1 .1 .1 .1 .1 .1 .1 .1 .0 ∙ c .before .before .before .before .before .before .before .before .before .before .before .before .before .before .before .before .before .before .before .before .before .before .before .before .before .before .before .clear-figures .kept .0
-
-same-length-10 : tie.Need-same-length-10
-same-length-10 c = c .before .before .before .before .before .before .before .before .before .before .before .before .before .before .before .before .before .before .before .planning-state .kept .1 .1 .1 .1 .1 .1 .1 .1 .1 .1 .1 .1 .0
-
-same-length-11 : tie.Need-same-length-11
-same-length-11 c = c .before .before .before .before .before .before .before .before .before .before .before .before .before .before .before .before .before .before .before .planning-state .kept .1 .1 .1 .1 .1 .1 .1 .1 .1 .1 .1 .1 .1 .0
+same-length-9 c = c .before .before .before .before .before .before .before .before .before .before .before .before .before .before .before .before .before .planning-state .kept .1 .1 .1 .1 .1 .1 .1 .1 .1 .1 .1 .1 .0
 
 returns-2 : tie.Need-returns-2
 returns-2 c =
-    let s = c .before .before .before .before .before .before .before .before .before .before .before .before .before .before .before .before .before .before .before .before .before .before .before .before .before .before .before .before .before .before .before .before .before .before .before .before .before .before .before .before .before .before .before .before .before .before .before .before in
+    let s = c .before .before .before .before .before .before .before .before .before .before .before .before .before .before .before .before .before .before .before .before .before .before .before .before .before .before .before .before .before .before .before .before .before .before .before .before .before .before .before .before .before .before .before .before in
     let z = s .args in
     let r = c .before .before .before .before .before .before .raise-heavy .ensures in
     record {
       passed = λ o mode target w n d promoted.
           pass-going (now (z .ladder)) (now (z .level)) (now (z .a)) (now (z .b)) (now (z .km)) (now (z .share)) (now (z .sheet)) (now (z .load)) (now (z .bus)) (now (z .pmax))
-          (now (z .grounds)) (now (z .injection)) (now (z .circuits)) (now (z .banks)) _ _ (c .before .before .before .before .before .before .before .before .before .before .before .before .before .before .before .before .before .before .before .before .before .before .before .before .before .before .before .clear-figures .ensures) (s .pre .lent .angle-size)
-          (c .before .before .before .before .before .before .before .before .before .before .before .before .before .before .before .before .before .before .before .planning-state .result) _ _ (c .before .before .before .before .before .before .before .before .before .before .before .before .before .before .before .before .before .before .before .planning-state .ensures) o mode target w n d promoted
+          (now (z .grounds)) (now (z .injection)) (now (z .circuits)) (now (z .banks)) _ _ (c .before .before .before .before .before .before .before .before .before .before .before .before .before .before .before .before .before .before .before .before .before .before .before .before .clear-figures .ensures) (s .pre .lent .angle-size)
+          (c .before .before .before .before .before .before .before .before .before .before .before .before .before .before .before .before .before .planning-state .result) _ _ (c .before .before .before .before .before .before .before .before .before .before .before .before .before .before .before .before .before .planning-state .ensures) o mode target w n d promoted
           (c .before .before .before .before .before .before .before .before .before .before .before .enum-told .given .1) (now (z .floors)) (s .pre .unset) _ _ (c .before .before .before .before .before .before .raise-heavy .result) _ r;
       lines = lines-again (now (z .ladder)) (now (z .level)) (now (z .a)) (now (z .b)) (now (z .km)) (now (z .share)) (now (z .sheet)) _ _ (r .levels) (s .pre .drawing .lines);
       banked = r .banked;
@@ -117,14 +110,12 @@ pass-spec =
     same-length-2
     same-length-3
     same-length-4
-    same-length-5
     returns
     enum-told
     raise-heavy-requires
+    same-length-5
     same-length-6
     same-length-7
     same-length-8
     same-length-9
-    same-length-10
-    same-length-11
     returns-2)

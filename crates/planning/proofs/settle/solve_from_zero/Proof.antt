@@ -13,8 +13,8 @@ clear-figures-requires c κs = search needs
 
 planning-state-requires : tie.Need-planning-state-requires
 planning-state-requires c κs =
-    let s = c .before .before .before .before .before .before .before .before .before .before .before .before .before .before .before .before .before .before .before .before .before in
-    (s .pre .0, lent-again _ _ _ _ _ _ _ _ _ _ (s .pre .1) (c .before .before .before .before .before .clear-figures .kept .0) refl refl)
+    let s = c .before .before .before .before .before .before .before .before .before .before .before .before .before .before .before .before .before .before .before in
+    (s .pre .0, lent-again _ _ _ _ _ _ _ _ (s .pre .1) (c .before .before .before .before .clear-figures .kept .0) refl)
 
 same-length : tie.Need-same-length
 same-length c = search needs
@@ -22,14 +22,11 @@ same-length c = search needs
 same-length-2 : tie.Need-same-length-2
 same-length-2 c = search needs
 
-same-length-3 : tie.Need-same-length-3
-same-length-3 c = search needs
-
 returns : tie.Need-returns
 returns c =
-    let s = c .before .before .before .before .before .before .before .before .before .before .before .before .before .before .before .before .before .before .before .before .before .before .before .before .before .before .before .before in
-    c .before .before .before .before .before .before .planning-state .ensures
-    ∙ ap (planningState _ _ _) (c .before .before .before .before .before .before .before .before .before .before .before .before .clear-figures .ensures ∙ ap (λ (n : ℕ). zeros n) (s .pre .1 .angle-size))
+    let s = c .before .before .before .before .before .before .before .before .before .before .before .before .before .before .before .before .before .before .before .before .before .before .before .before in
+    c .before .before .before .before .planning-state .ensures
+    ∙ ap (planningState _ _ _) (c .before .before .before .before .before .before .before .before .before .clear-figures .ensures ∙ ap (λ (n : ℕ). zeros n) (s .pre .1 .angle-size))
 
 pub solve-from-zero-spec : {M : Type 1} → statement M
 solve-from-zero-spec =
@@ -39,5 +36,4 @@ solve-from-zero-spec =
     planning-state-requires
     same-length
     same-length-2
-    same-length-3
     returns)

@@ -40,7 +40,7 @@ part-angles-from-end-2 c = search needs
 
 angles-from-requires : tie.Need-angles-from-requires
 angles-from-requires c κs =
-    let s = c .before .before .before .before .before .before .before .before .before .before .before .before in
+    let s = c .before .before .before .before .before .before .before .before .before .before in
     let n = length (s .args .phi .now) in
     let few = s .pre .0 .few-buses in (
       s .pre .0,
@@ -48,22 +48,18 @@ angles-from-requires c κs =
         injection-size = ap length (unit-front 256 n (s .args .lead) (s .args .lag) few (s .pre .1 .0) (s .pre .1 .1)) ∙ unit-length n (s .args .lead) (s .args .lag);
         guess-size = ap length (front-replicate 256 n nought few) ∙ length-replicate n nought;
         angle-size = refl;
-        work-size = s .pre .1 .2;
       },
     )
 
 same-length : tie.Need-same-length
 same-length c = search needs
 
-same-length-2 : tie.Need-same-length-2
-same-length-2 c = search needs
-
 returns : tie.Need-returns
 returns c =
-    let s = c .before .before .before .before .before .before .before .before .before .before .before .before .before .before .before .before .before in
+    let s = c .before .before .before .before .before .before .before .before .before .before .before .before .before in
     let n = length (s .args .phi .now) in
     let few = s .pre .0 .few-buses in
-    unit-angles-are _ n _ _ _ _ _ _ (unit-front 256 n (s .args .lead) (s .args .lag) few (s .pre .1 .0) (s .pre .1 .1)) (front-replicate 256 n nought few) (c .before .before .before .before .angles-from .ensures)
+    unit-angles-are _ n _ _ _ _ _ _ (unit-front 256 n (s .args .lead) (s .args .lag) few (s .pre .1 .0) (s .pre .1 .1)) (front-replicate 256 n nought few) (c .before .before .angles-from .ensures)
 
 pub unit-angles-spec : {M : Type 1} → statement M
 unit-angles-spec =
@@ -81,5 +77,4 @@ unit-angles-spec =
     part-angles-from-end-2
     angles-from-requires
     same-length
-    same-length-2
     returns)

@@ -4,9 +4,9 @@ use mathlib.Core.Path.{sym, ap, _∙_}
 use native.Mathlib.Omega.{arith}
 use denote.Ref.{now}
 use lib.ListN.{length}
-use Rattle.angles_defs.specs.Operation.{workPlaces}
 use borrow.Author.Needs.{needs}
-use Rattle.planning.proofs.Narrowing.{round-net, narrowed-refused, narrowed-answered}
+use Rattle.planning.proofs.Narrowing.{narrowed-refused, narrowed-answered}
+use Rattle.planning.proofs.States.{front-fits, front-net}
 use Rattle.planning.proofs.stiffen.narrow.Statement.{statement}
 use Rattle.planning.proofs.stiffen.narrow.Tie as tie
 
@@ -17,7 +17,7 @@ part-unit-angles-start : tie.Need-part-unit-angles-start
 part-unit-angles-start c = search needs
 
 part-unit-angles-end : tie.Need-part-unit-angles-end
-part-unit-angles-end c = search needs
+part-unit-angles-end c = let s = c .before .before .before .before .before .before .before .before .before .before .before .before .before .before .before .before .before .before .before .before in front-fits (length (now (s .args .a))) (s .args .e .from) (s .pre .0 .edges .drawn .few) (s .pre .0 .edges .from-size)
 
 sub-unit-angles-2 : tie.Need-sub-unit-angles-2
 sub-unit-angles-2 c = search needs
@@ -26,7 +26,7 @@ part-unit-angles-start-2 : tie.Need-part-unit-angles-start-2
 part-unit-angles-start-2 c = search needs
 
 part-unit-angles-end-2 : tie.Need-part-unit-angles-end-2
-part-unit-angles-end-2 c = search needs
+part-unit-angles-end-2 c = let s = c .before .before .before .before .before .before .before .before .before .before .before .before .before .before .before .before .before .before .before .before .before .before in front-fits (length (now (s .args .a))) (s .args .e .to) (s .pre .0 .edges .drawn .few) (s .pre .0 .edges .to-size)
 
 sub-unit-angles-3 : tie.Need-sub-unit-angles-3
 sub-unit-angles-3 c = search needs
@@ -35,16 +35,16 @@ part-unit-angles-start-3 : tie.Need-part-unit-angles-start-3
 part-unit-angles-start-3 c = search needs
 
 part-unit-angles-end-3 : tie.Need-part-unit-angles-end-3
-part-unit-angles-end-3 c = search needs
+part-unit-angles-end-3 c = let s = c .before .before .before .before .before .before .before .before .before .before .before .before .before .before .before .before .before .before .before .before .before .before .before .before in front-fits (length (now (s .args .a))) (s .args .e .weight) (s .pre .0 .edges .drawn .few) (s .pre .0 .edges .weight-size)
 
 unit-angles-requires : tie.Need-unit-angles-requires
 unit-angles-requires c κs =
-    let s = c .before .before .before .before .before .before .before .before .before .before .before .before .before .before .before .before .before .before .before .before .before .before .before .before .before in
+    let s = c .before .before .before .before .before .before .before .before .before .before .before .before .before .before .before .before .before .before .before .before .before .before .before .before .before .before in
     let z = s .args in
     let p = s .pre .0 in
     let e = s .pre .1 .0 in (
-      round-net (length (now (z .level))) (length (now (z .phi))) (length (now (z .a))) (now (z .from)) (now (z .to)) (now (z .weight)) (now (z .grounds)) e (p .few-buses) (p .drawn) (p .from-size) (p .to-size) (p .weight-size) (p .few-grounds) (p .ground-below),
-      (omega (arith, e, s .pre .1 .1), omega (arith, e, s .pre .1 .2), p .work-size ∙ ap (λ (n : ℕ). workPlaces n) (sym e)),
+      front-net (length (now (z .level))) (length (now (z .phi))) (length (now (z .a))) (z .e .from) (z .e .to) (z .e .weight) (now (z .grounds)) e (p .edges) (p .few-grounds) (p .ground-below),
+      (omega (arith, e, s .pre .1 .1), omega (arith, e, s .pre .1 .2)),
     )
 
 enum-known-f : tie.Need-enum-known-f
@@ -55,7 +55,7 @@ enum-told c = c .match .keys2
 
 reinforce-requires : tie.Need-reinforce-requires
 reinforce-requires c κs =
-    let s = c .before .before .before .before .before .before .before .before .before .before .before .before .before .before .before .before .before .before .before .before .before .before .before .before .before .before .before .before .before .before .before .before .before .before .before .before .before .before in
+    let s = c .before .before .before .before .before .before .before .before .before .before .before .before .before .before .before .before .before .before .before .before .before .before .before .before .before .before .before .before .before .before .before .before .before .before .before .before .before in
     let p = s .pre .0 in (
       record {
         lines = p .lines;
@@ -66,49 +66,43 @@ reinforce-requires c κs =
         mark-size = p .mark-size;
         banked = p .banked;
       },
-      (p .leader-size, p .angle-size, c .before .before .before .before .before .before .before .before .before .before .before .before .unit-angles .kept .1 .1 .1 .1 .1 .1 .0 ∙ s .pre .1 .0, p .drawn .few, s .pre .1 .3),
+      (p .leader-size, p .angle-size, c .before .before .before .before .before .before .before .before .before .before .unit-angles .kept .1 .1 .1 .1 .1 .1 .0 ∙ s .pre .1 .0, p .edges .drawn .few, s .pre .1 .3),
     )
 
 same-length : tie.Need-same-length
-same-length c = c .before .before .before .before .before .before .before .unit-angles .kept .1 .1 .1 .1 .1 .1 .0
-
-same-length-2 : tie.Need-same-length-2
-same-length-2 c = c .before .before .before .before .before .before .before .unit-angles .kept .1 .1 .1 .1 .1 .1 .1 .0
+same-length c = c .before .before .before .before .before .unit-angles .kept .1 .1 .1 .1 .1 .1 .0
 
 returns : tie.Need-returns
 returns c =
-    let s = c .before .before .before .before .before .before .before .before .before .before .before .before .before .before .before .before .before .before .before .before .before .before .before .before .before .before .before .before .before .before .before .before .before in
+    let s = c .before .before .before .before .before .before .before .before .before .before .before .before .before .before .before .before .before .before .before .before .before .before .before .before .before .before .before .before .before .before .before .before in
     let z = s .args in
-    narrowed-refused (z .root) (z .lead) (z .lag) (z .excess) (z .g) (now (z .ladder)) (now (z .level)) (now (z .a)) (now (z .b)) (now (z .km)) (now (z .share)) (now (z .sheet)) (now (z .leader)) (now (z .grounds)) (now (z .from)) (now (z .to)) (now (z .weight)) (now (z .angle))
-    (now (z .circuits)) (now (z .banks)) (now (z .floors)) (now (z .upsized)) (now (z .marks)) (z .t) _ _ _ (s .pre .1 .0) (c .before .before .before .before .before .before .before .unit-angles .ensures) _ (c .before .f .given .1) (s .pre .0 .banked)
+    narrowed-refused (z .root) (z .lead) (z .lag) (z .excess) (z .g) (now (z .ladder)) (now (z .level)) (now (z .a)) (now (z .b)) (now (z .km)) (now (z .share)) (now (z .sheet)) (now (z .leader)) (now (z .grounds)) (z .e .from) (z .e .to) (z .e .weight) (now (z .angle))
+    (now (z .circuits)) (now (z .banks)) (now (z .floors)) (now (z .upsized)) (now (z .marks)) (z .t) _ _ _ (s .pre .1 .0) (c .before .before .before .before .before .unit-angles .ensures) _ (c .before .f .given .1) (s .pre .0 .banked)
+
+same-length-2 : tie.Need-same-length-2
+same-length-2 c = c .before .before .before .before .before .before .before .before .before .before .before .before .before .before .before .before .before .before .before .before .before .unit-angles .kept .1 .1 .1 .1 .1 .1 .0
 
 same-length-3 : tie.Need-same-length-3
-same-length-3 c = c .before .before .before .before .before .before .before .before .before .before .before .before .before .before .before .before .before .before .before .before .before .before .before .unit-angles .kept .1 .1 .1 .1 .1 .1 .0
+same-length-3 c = c .before .before .before .before .before .before .before .before .before .before .reinforce .kept .1 .1 .1 .1 .1 .1 .1 .1 .1 .1 .1 .1 .1 .0
 
 same-length-4 : tie.Need-same-length-4
-same-length-4 c = c .before .before .before .before .before .before .before .before .before .before .reinforce .kept .1 .1 .1 .1 .1 .1 .1 .1 .1 .1 .1 .1 .1 .0
+same-length-4 c = c .before .before .before .before .before .before .before .before .before .before .reinforce .kept .1 .1 .1 .1 .1 .1 .1 .1 .1 .1 .1 .1 .1 .1 .0
 
 same-length-5 : tie.Need-same-length-5
-same-length-5 c = c .before .before .before .before .before .before .before .before .before .before .reinforce .kept .1 .1 .1 .1 .1 .1 .1 .1 .1 .1 .1 .1 .1 .1 .0
+same-length-5 c = c .before .before .before .before .before .before .before .before .before .before .reinforce .kept .1 .1 .1 .1 .1 .1 .1 .1 .1 .1 .1 .1 .1 .1 .1 .0
 
 same-length-6 : tie.Need-same-length-6
-same-length-6 c = c .before .before .before .before .before .before .before .before .before .before .reinforce .kept .1 .1 .1 .1 .1 .1 .1 .1 .1 .1 .1 .1 .1 .1 .1 .0
+same-length-6 c = c .before .before .before .before .before .before .before .before .before .before .reinforce .kept .1 .1 .1 .1 .1 .1 .1 .1 .1 .1 .1 .1 .1 .1 .1 .1 .0
 
 same-length-7 : tie.Need-same-length-7
-same-length-7 c = c .before .before .before .before .before .before .before .before .before .before .reinforce .kept .1 .1 .1 .1 .1 .1 .1 .1 .1 .1 .1 .1 .1 .1 .1 .1 .0
-
-same-length-8 : tie.Need-same-length-8
-same-length-8 c = c .before .before .before .before .before .before .before .before .before .before .reinforce .kept .1 .1 .1 .1 .1 .1 .1 .1 .1 .1 .1 .1 .1 .1 .1 .1 .1 .0
-
-same-length-9 : tie.Need-same-length-9
-same-length-9 c = c .before .before .before .before .before .before .before .before .before .before .before .before .before .before .before .before .before .before .before .before .before .before .before .unit-angles .kept .1 .1 .1 .1 .1 .1 .1 .0
+same-length-7 c = c .before .before .before .before .before .before .before .before .before .before .reinforce .kept .1 .1 .1 .1 .1 .1 .1 .1 .1 .1 .1 .1 .1 .1 .1 .1 .1 .0
 
 returns-2 : tie.Need-returns-2
 returns-2 c =
-    let s = c .before .before .before .before .before .before .before .before .before .before .before .before .before .before .before .before .before .before .before .before .before .before .before .before .before .before .before .before .before .before .before .before .before .before .before .before .before .before .before .before .before .before .before .before .before .before .before .before .before in
+    let s = c .before .before .before .before .before .before .before .before .before .before .before .before .before .before .before .before .before .before .before .before .before .before .before .before .before .before .before .before .before .before .before .before .before .before .before .before .before .before .before .before .before .before .before .before .before .before .before .before in
     let z = s .args in
-    narrowed-answered (z .root) (z .lead) (z .lag) (z .excess) (z .g) (now (z .ladder)) (now (z .level)) (now (z .a)) (now (z .b)) (now (z .km)) (now (z .share)) (now (z .sheet)) (now (z .leader)) (now (z .grounds)) (now (z .from)) (now (z .to)) (now (z .weight)) (now (z .angle))
-    (now (z .circuits)) (now (z .banks)) (now (z .floors)) (now (z .upsized)) (now (z .marks)) (z .t) _ _ _ (s .pre .1 .0) (c .before .before .before .before .before .before .before .before .before .before .before .before .before .before .before .before .before .before .before .before .before .before .before .unit-angles .ensures) _ _ _ _ _ _ (c .before .before .before .before .before .before .before .before .before .before .before .before .before .before .before .before .before .enum-told .given .1) (c .before .before .before .before .before .before .before .before .before .before .reinforce .ensures)
+    narrowed-answered (z .root) (z .lead) (z .lag) (z .excess) (z .g) (now (z .ladder)) (now (z .level)) (now (z .a)) (now (z .b)) (now (z .km)) (now (z .share)) (now (z .sheet)) (now (z .leader)) (now (z .grounds)) (z .e .from) (z .e .to) (z .e .weight) (now (z .angle))
+    (now (z .circuits)) (now (z .banks)) (now (z .floors)) (now (z .upsized)) (now (z .marks)) (z .t) _ _ _ (s .pre .1 .0) (c .before .before .before .before .before .before .before .before .before .before .before .before .before .before .before .before .before .before .before .before .before .unit-angles .ensures) _ _ _ _ _ _ (c .before .before .before .before .before .before .before .before .before .before .before .before .before .before .before .before .before .enum-told .given .1) (c .before .before .before .before .before .before .before .before .before .before .reinforce .ensures)
 
 pub narrow-spec : {M : Type 1} → statement M
 narrow-spec =
@@ -128,13 +122,11 @@ narrow-spec =
     enum-told
     reinforce-requires
     same-length
-    same-length-2
     returns
+    same-length-2
     same-length-3
     same-length-4
     same-length-5
     same-length-6
     same-length-7
-    same-length-8
-    same-length-9
     returns-2)

@@ -136,9 +136,9 @@ fn compare(
 
 pub fn run() {
     let none = (Duration::ZERO, Duration::ZERO);
-    let start_up = compare("an empty file (start-up)", &[], 400, none);
+    let start_up = compare("an empty file (start-up)", &[], 4_000, none);
     let small = std::fs::read("cases/files/CaseL.case").expect("case L is stored");
-    compare("a small case", &small, 400, start_up);
+    compare("a small case", &small, 4_000, start_up);
     compare("64 buses", &write_case(&feeder(64)), 200, start_up);
     compare("256 buses", &write_case(&feeder(256)), 100, start_up);
     let spent = write_case(&hopeless(256));

@@ -77,6 +77,16 @@ abbrev μ-rounds : tie.MeasureT-rounds
 μ-rounds mode above budget ladder a b km share sheet load bus pmax leader grounds injection circuits₀ banks₀ floors₀ upsized₀ level₀ marks₀ angle₀ flow₀ p₀ left₀ circuits banks floors upsized level marks angle flow p left =
     left
 
+-- where the loops stand, each seen from the one inside it
+abbrev start-of : tie.At-rounds Inv-corridors μ-corridors Inv-components μ-components Inv-rounds μ-rounds → tie.Start Inv-corridors μ-corridors Inv-components μ-components Inv-rounds μ-rounds
+start-of x = x .before .before .before .before .before .before .before .before .before .before .before .before .before .before .before .before .before .before .before .before .before
+
+abbrev round-of : tie.At-corridors Inv-corridors μ-corridors Inv-components μ-components Inv-rounds μ-rounds → tie.At-rounds Inv-corridors μ-corridors Inv-components μ-components Inv-rounds μ-rounds
+round-of x = x .before .before .before .before .before .before .before .before .before .before .before .before .before .before .before .before .before .before .before .before
+
+abbrev sized-of : tie.At-components Inv-corridors μ-corridors Inv-components μ-components Inv-rounds μ-rounds → tie.At-corridors Inv-corridors μ-corridors Inv-components μ-components Inv-rounds μ-rounds
+sized-of x = x .before .before .before .before .before .before .before .before .before .before
+
 rounds-holds :
     tie.Need-rounds-holds Inv-corridors μ-corridors Inv-components μ-components Inv-rounds μ-rounds
 rounds-holds c = (c .before .before .before .before .before .before .before .before .before .before .before .before .before .before .before .before .before .before .before .before .pre, refl, λ o target s e. refl)
@@ -107,7 +117,7 @@ peak-state-requires :
     Inv-rounds
     μ-rounds
 peak-state-requires c κs =
-    let z = c .before .before .before .before .before .before .before .before .before .before .before .before .before .before .before .before .before .before .before .before .before .before .before .before .before .before .before .before .before .args in
+    let z = (start-of (c .before .before .before .before .before .before .before .before)) .args in
     let r = c .before .before .before .before .before .before .before .before .rounds in
     let f = r .inv .0 in
     let d = c .before .before .draw-edges .ensures in
@@ -119,7 +129,7 @@ enum-known-f c = search needs
 
 same-length :
     tie.Need-same-length Inv-corridors μ-corridors Inv-components μ-components Inv-rounds μ-rounds
-same-length c = c .before .before .before .before .before .before .before .before .before .before .before .before .before .before .before .before .rounds .inv .0 .places .count-size ∙ sym (c .before .before .before .before .before .before .before .before .before .before .before .before .before .before .before .before .before .before .before .before .before .before .before .before .before .before .before .before .before .before .before .before .before .before .before .before .before .pre .places .count-size)
+same-length c = c .before .before .before .before .before .before .before .before .before .before .before .before .before .before .before .before .rounds .inv .0 .places .count-size ∙ sym ((start-of (c .before .before .before .before .before .before .before .before .before .before .before .before .before .before .before .before)) .pre .places .count-size)
 
 same-length-2 :
     tie.Need-same-length-2
@@ -129,7 +139,7 @@ same-length-2 :
     μ-components
     Inv-rounds
     μ-rounds
-same-length-2 c = c .before .before .before .before .before .before .before .before .before .before .before .before .before .before .before .before .rounds .inv .0 .places .bank-size ∙ sym (c .before .before .before .before .before .before .before .before .before .before .before .before .before .before .before .before .before .before .before .before .before .before .before .before .before .before .before .before .before .before .before .before .before .before .before .before .before .pre .places .bank-size)
+same-length-2 c = c .before .before .before .before .before .before .before .before .before .before .before .before .before .before .before .before .rounds .inv .0 .places .bank-size ∙ sym ((start-of (c .before .before .before .before .before .before .before .before .before .before .before .before .before .before .before .before)) .pre .places .bank-size)
 
 same-length-3 :
     tie.Need-same-length-3
@@ -139,7 +149,7 @@ same-length-3 :
     μ-components
     Inv-rounds
     μ-rounds
-same-length-3 c = c .before .before .before .before .before .before .before .before .before .before .before .before .before .before .before .before .rounds .inv .0 .places .floor-size ∙ sym (c .before .before .before .before .before .before .before .before .before .before .before .before .before .before .before .before .before .before .before .before .before .before .before .before .before .before .before .before .before .before .before .before .before .before .before .before .before .pre .places .floor-size)
+same-length-3 c = c .before .before .before .before .before .before .before .before .before .before .before .before .before .before .before .before .rounds .inv .0 .places .floor-size ∙ sym ((start-of (c .before .before .before .before .before .before .before .before .before .before .before .before .before .before .before .before)) .pre .places .floor-size)
 
 same-length-4 :
     tie.Need-same-length-4
@@ -149,7 +159,7 @@ same-length-4 :
     μ-components
     Inv-rounds
     μ-rounds
-same-length-4 c = c .before .before .before .before .before .before .before .before .before .before .before .before .before .before .before .before .rounds .inv .0 .places .upsized-size ∙ sym (c .before .before .before .before .before .before .before .before .before .before .before .before .before .before .before .before .before .before .before .before .before .before .before .before .before .before .before .before .before .before .before .before .before .before .before .before .before .pre .places .upsized-size)
+same-length-4 c = c .before .before .before .before .before .before .before .before .before .before .before .before .before .before .before .before .rounds .inv .0 .places .upsized-size ∙ sym ((start-of (c .before .before .before .before .before .before .before .before .before .before .before .before .before .before .before .before)) .pre .places .upsized-size)
 
 same-length-5 :
     tie.Need-same-length-5
@@ -169,7 +179,7 @@ same-length-6 :
     μ-components
     Inv-rounds
     μ-rounds
-same-length-6 c = c .before .before .before .before .before .before .before .before .before .before .before .before .before .before .before .before .rounds .inv .0 .places .mark-size ∙ c .before .before .before .before .before .before .before .before .before .before .before .before .before .before .before .before .rounds .inv .1 ∙ sym (c .before .before .before .before .before .before .before .before .before .before .before .before .before .before .before .before .before .before .before .before .before .before .before .before .before .before .before .before .before .before .before .before .before .before .before .before .before .pre .places .mark-size)
+same-length-6 c = c .before .before .before .before .before .before .before .before .before .before .before .before .before .before .before .before .rounds .inv .0 .places .mark-size ∙ c .before .before .before .before .before .before .before .before .before .before .before .before .before .before .before .before .rounds .inv .1 ∙ sym ((start-of (c .before .before .before .before .before .before .before .before .before .before .before .before .before .before .before .before)) .pre .places .mark-size)
 
 same-length-7 :
     tie.Need-same-length-7
@@ -179,7 +189,7 @@ same-length-7 :
     μ-components
     Inv-rounds
     μ-rounds
-same-length-7 c = c .before .before .before .before .before .before .before .peak-state .kept .1 .1 .1 .0 ∙ c .before .before .before .before .before .before .before .before .before .before .before .before .before .before .before .before .rounds .inv .0 .places .angle-size ∙ c .before .before .before .before .before .before .before .before .before .before .before .before .before .before .before .before .rounds .inv .1 ∙ sym (c .before .before .before .before .before .before .before .before .before .before .before .before .before .before .before .before .before .before .before .before .before .before .before .before .before .before .before .before .before .before .before .before .before .before .before .before .before .pre .places .angle-size)
+same-length-7 c = c .before .before .before .before .before .before .before .peak-state .kept .1 .1 .1 .0 ∙ c .before .before .before .before .before .before .before .before .before .before .before .before .before .before .before .before .rounds .inv .0 .places .angle-size ∙ c .before .before .before .before .before .before .before .before .before .before .before .before .before .before .before .before .rounds .inv .1 ∙ sym ((start-of (c .before .before .before .before .before .before .before .before .before .before .before .before .before .before .before .before)) .pre .places .angle-size)
 
 same-length-8 :
     tie.Need-same-length-8
@@ -189,15 +199,15 @@ same-length-8 :
     μ-components
     Inv-rounds
     μ-rounds
-same-length-8 c = c .before .before .before .before .before .before .before .peak-state .kept .1 .1 .1 .1 .0 ∙ c .before .before .before .before .before .before .before .before .before .before .before .before .before .before .before .before .rounds .inv .0 .places .flow-size ∙ sym (c .before .before .before .before .before .before .before .before .before .before .before .before .before .before .before .before .before .before .before .before .before .before .before .before .before .before .before .before .before .before .before .before .before .before .before .before .before .pre .places .flow-size)
+same-length-8 c = c .before .before .before .before .before .before .before .peak-state .kept .1 .1 .1 .1 .0 ∙ c .before .before .before .before .before .before .before .before .before .before .before .before .before .before .before .before .rounds .inv .0 .places .flow-size ∙ sym ((start-of (c .before .before .before .before .before .before .before .before .before .before .before .before .before .before .before .before)) .pre .places .flow-size)
 
 returns :
     tie.Need-returns Inv-corridors μ-corridors Inv-components μ-components Inv-rounds μ-rounds
 returns c =
-    let z = c .before .before .before .before .before .before .before .before .before .before .before .before .before .before .before .before .before .before .before .before .before .before .before .before .before .before .before .before .before .before .before .before .before .before .before .before .before .args in
+    let z = (start-of (c .before .before .before .before .before .before .before .before .before .before .before .before .before .before .before .before)) .args in
     let r = c .before .before .before .before .before .before .before .before .before .before .before .before .before .before .before .before .rounds in
     record {
-      ran = λ o target s e. round-refused (z .mode) (z .above) (now (z .ladder)) (now (z .a)) (now (z .b)) (now (z .km)) (now (z .share)) (now (z .sheet)) (now (z .load)) (now (z .bus)) (now (z .pmax)) (now (z .leader)) (now (z .grounds)) (now (z .injection)) (length (now (z .leader))) (r .level) (r .level) (r .circuits) (r .banks) (r .floors) (r .upsized) (r .angle) (r .p) (goesOn (z .mode) (z .above) (now (z .ladder)) (now (z .a)) (now (z .b)) (now (z .km)) (now (z .share)) (now (z .sheet)) (now (z .load)) (now (z .bus)) (now (z .pmax)) (now (z .leader)) (now (z .grounds)) (now (z .injection)) (length (now (z .leader))) (z .budget) (now (z .level)) (now (z .circuits)) (now (z .banks)) (now (z .floors)) (now (z .upsized)) (now (z .angle)) (z .start)) (r .left) (r .left - 1) (omega (arith, c .before .before .before .before .before .before .before .before .before .before .before .before .before .before .before .rounds-test .taken)) refl (sym (r .inv .0 .places .leader-size)) (r .inv .2) _ _ _ (c .before .before .before .before .before .before .before .before .before .before .draw-edges .result .from) (c .before .before .before .before .before .before .before .before .before .before .draw-edges .result .to) (c .before .before .before .before .before .before .before .before .before .before .draw-edges .result .weight) (c .before .before .before .before .before .before .before .before .before .before .draw-edges .ensures .0) _ _ (r .inv .0 .places .angle-size) (r .inv .0 .places .flow-size) (c .before .before .before .before .before .before .before .peak-state .ensures) _ (c .before .f .given .1) o target s (c .before .before .before .before .before .before .before .before .before .before .before .before .before .before .before .before .before .before .before .before .before .before .before .before .before .before .before .before .before .before .before .before .before .before .before .before .before .pre .places .leader-size ∙ e);
+      ran = λ o target s e. round-refused (z .mode) (z .above) (now (z .ladder)) (now (z .a)) (now (z .b)) (now (z .km)) (now (z .share)) (now (z .sheet)) (now (z .load)) (now (z .bus)) (now (z .pmax)) (now (z .leader)) (now (z .grounds)) (now (z .injection)) (length (now (z .leader))) (r .level) (r .level) (r .circuits) (r .banks) (r .floors) (r .upsized) (r .angle) (r .p) (goesOn (z .mode) (z .above) (now (z .ladder)) (now (z .a)) (now (z .b)) (now (z .km)) (now (z .share)) (now (z .sheet)) (now (z .load)) (now (z .bus)) (now (z .pmax)) (now (z .leader)) (now (z .grounds)) (now (z .injection)) (length (now (z .leader))) (z .budget) (now (z .level)) (now (z .circuits)) (now (z .banks)) (now (z .floors)) (now (z .upsized)) (now (z .angle)) (z .start)) (r .left) (r .left - 1) (omega (arith, c .before .before .before .before .before .before .before .before .before .before .before .before .before .before .before .rounds-test .taken)) refl (sym (r .inv .0 .places .leader-size)) (r .inv .2) _ _ _ (c .before .before .before .before .before .before .before .before .before .before .draw-edges .result .from) (c .before .before .before .before .before .before .before .before .before .before .draw-edges .result .to) (c .before .before .before .before .before .before .before .before .before .before .draw-edges .result .weight) (c .before .before .before .before .before .before .before .before .before .before .draw-edges .ensures .0) _ _ (r .inv .0 .places .angle-size) (r .inv .0 .places .flow-size) (c .before .before .before .before .before .before .before .peak-state .ensures) _ (c .before .f .given .1) o target s ((start-of (c .before .before .before .before .before .before .before .before .before .before .before .before .before .before .before .before)) .pre .places .leader-size ∙ e);
       lines = r .inv .0 .columns .lines;
       banked = r .inv .0 .banked;
       few = r .inv .0 .few;
@@ -226,7 +236,7 @@ corridors-holds :
     Inv-rounds
     μ-rounds
 corridors-holds c =
-    let z = c .before .before .before .before .before .before .before .before .before .before .before .before .before .before .before .before .before .before .before .before .before .before .before .before .before .before .before .before .before .before .before .before .before .before .before .before .before .before .before .before .args in
+    let z = (start-of (c .before .before .before .before .before .before .before .before .before .before .before .before .before .before .before .before .before .before .before)) .args in
     let r = c .before .before .before .before .before .before .before .before .before .before .before .before .before .before .before .before .before .before .before .rounds in (
       omega arith,
       refl,
@@ -255,19 +265,19 @@ size-corridor-requires :
     Inv-rounds
     μ-rounds
 size-corridor-requires c κs =
-    let r = c .before .before .before .before .before .before .before .before .before .before .before .before .before .before .before .before .before .before .before .before .before .before .before .before .before .before .before .before .rounds in
+    let r = (round-of (c .before .before .before .before .before .before .before .before)) .rounds in
     let l = c .before .before .before .before .before .before .before .before .corridors in
-    let z = c .before .before .before .before .before .before .before .before .before .before .before .before .before .before .before .before .before .before .before .before .before .before .before .before .before .before .before .before .before .before .before .before .before .before .before .before .before .before .before .before .before .before .before .before .before .before .before .before .before .args in
+    let z = (start-of (round-of (c .before .before .before .before .before .before .before .before))) .args in
     record {
       lines = subst (λ (x : List ℕ). Lines (now (z .ladder)) x (now (z .a)) (now (z .b)) (now (z .km)) (now (z .share)) (now (z .sheet))) (sym (l .inv .1)) (r .inv .0 .columns .lines);
       held = l .inv .3;
       banked = l .inv .4;
       corridor = c .before .before .before .before .before .before .before .corridors-test .taken;
-      room = omega (arith, l .inv .6, c .before .before .before .before .before .before .before .corridors-test .taken, r .inv .0 .tallies .capacity, r .inv .0 .tallies .rounds, r .inv .0 .columns .few, c .before .before .before .before .before .before .before .before .before .before .before .before .before .before .before .before .before .before .before .before .before .before .before .before .before .before .before .rounds-test .taken);
+      room = omega (arith, l .inv .6, c .before .before .before .before .before .before .before .corridors-test .taken, r .inv .0 .tallies .capacity, r .inv .0 .tallies .rounds, r .inv .0 .columns .few, (c .before .before .before .before .before .before .before .before) .before .before .before .before .before .before .before .before .before .before .before .before .before .before .before .before .before .before .before .rounds-test .taken);
     }
 
 add-k : tie.Need-add-k Inv-corridors μ-corridors Inv-components μ-components Inv-rounds μ-rounds
-add-k c = omega (arith, c .before .before .before .before .before .before .before .before .before .before .before .before .before .before .before .before .before .before .corridors-test .taken, c .before .before .before .before .before .before .before .before .before .before .before .before .before .before .before .before .before .before .before .before .before .before .before .before .before .before .before .before .before .before .before .before .before .before .before .before .before .before .before .rounds .inv .0 .columns .few)
+add-k c = omega (arith, c .before .before .before .before .before .before .before .before .before .before .before .before .before .before .before .before .before .before .corridors-test .taken, (round-of (c .before .before .before .before .before .before .before .before .before .before .before .before .before .before .before .before .before .before .before)) .rounds .inv .0 .columns .few)
 
 raise-marked-requires :
     tie.Need-raise-marked-requires
@@ -278,9 +288,9 @@ raise-marked-requires :
     Inv-rounds
     μ-rounds
 raise-marked-requires c κs =
-    let r = c .before .before .before .before .before .before .before .before .before .before .before .before .before .before .before .before .before .before .before .before .before .before .before .before .before .before .before .before .before .before .before .before .before .before .before .before .before .before .before .before .before .before .before .before .rounds in
+    let r = (round-of (c .before .before .before .before .before .before .before .before .before .before .before .before .before .before .before .before .before .before .before .before .before .before .before .before)) .rounds in
     let l = c .before .before .before .before .before .before .before .before .before .before .before .before .before .before .before .before .before .before .before .before .before .before .before .before .corridors in
-    let z = c .before .before .before .before .before .before .before .before .before .before .before .before .before .before .before .before .before .before .before .before .before .before .before .before .before .before .before .before .before .before .before .before .before .before .before .before .before .before .before .before .before .before .before .before .before .before .before .before .before .before .before .before .before .before .before .before .before .before .before .before .before .before .before .before .before .args in
+    let z = (start-of (round-of (c .before .before .before .before .before .before .before .before .before .before .before .before .before .before .before .before .before .before .before .before .before .before .before .before))) .args in
     let n = ap (λ (x : List ℕ). length x) (l .inv .1) in (
       record {
         lines = subst (λ (x : List ℕ). Lines (now (z .ladder)) x (now (z .a)) (now (z .b)) (now (z .km)) (now (z .share)) (now (z .sheet))) (sym (l .inv .1)) (r .inv .0 .columns .lines);
@@ -295,17 +305,17 @@ raise-marked-requires c κs =
 
 add-p-2 :
     tie.Need-add-p-2 Inv-corridors μ-corridors Inv-components μ-components Inv-rounds μ-rounds
-add-p-2 c = omega (arith, c .before .before .before .before .before .before .before .raise-marked .ensures .few, ap (λ (x : List ℕ). length x) (c .before .before .before .before .before .before .before .before .before .before .before .before .before .before .before .before .before .before .before .before .before .before .before .before .before .before .before .before .before .before .before .before .corridors .inv .1), c .before .before .before .before .before .before .before .before .before .before .before .before .before .before .before .before .before .before .before .before .before .before .before .before .before .before .before .before .before .before .before .before .before .before .before .before .before .before .before .before .before .before .before .before .before .before .before .before .before .before .before .before .rounds .inv .0 .columns .loads .few, ap (λ (q : Progress). q .promoted) (c .before .before .before .before .before .before .before .before .before .before .before .before .before .before .before .before .before .before .before .before .before .before .before .before .before .before .before .before .before .before .before .before .corridors .inv .2), c .before .before .before .before .before .before .before .before .before .before .before .before .before .before .before .before .before .before .before .before .before .before .before .before .before .before .before .before .before .before .before .before .before .before .before .before .before .before .before .before .before .before .before .before .before .before .before .before .before .before .before .before .rounds .inv .0 .tallies .promoted, c .before .before .before .before .before .before .before .before .before .before .before .before .before .before .before .before .before .before .before .before .before .before .before .before .before .before .before .before .before .before .before .before .before .before .before .before .before .before .before .before .before .before .before .before .before .before .before .before .before .before .before .before .rounds .inv .0 .tallies .rounds)
+add-p-2 c = omega (arith, c .before .before .before .before .before .before .before .raise-marked .ensures .few, ap (λ (x : List ℕ). length x) (c .before .before .before .before .before .before .before .before .before .before .before .before .before .before .before .before .before .before .before .before .before .before .before .before .before .before .before .before .before .before .before .before .corridors .inv .1), (round-of (c .before .before .before .before .before .before .before .before .before .before .before .before .before .before .before .before .before .before .before .before .before .before .before .before .before .before .before .before .before .before .before .before)) .rounds .inv .0 .columns .loads .few, ap (λ (q : Progress). q .promoted) (c .before .before .before .before .before .before .before .before .before .before .before .before .before .before .before .before .before .before .before .before .before .before .before .before .before .before .before .before .before .before .before .before .corridors .inv .2), (round-of (c .before .before .before .before .before .before .before .before .before .before .before .before .before .before .before .before .before .before .before .before .before .before .before .before .before .before .before .before .before .before .before .before)) .rounds .inv .0 .tallies .promoted, (round-of (c .before .before .before .before .before .before .before .before .before .before .before .before .before .before .before .before .before .before .before .before .before .before .before .before .before .before .before .before .before .before .before .before)) .rounds .inv .0 .tallies .rounds)
 
 rounds-less :
     tie.Need-rounds-less Inv-corridors μ-corridors Inv-components μ-components Inv-rounds μ-rounds
-rounds-less c = omega (arith, c .before .before .before .before .before .before .before .before .before .before .before .before .before .before .before .before .before .before .before .before .before .before .before .before .before .before .before .before .before .before .before .before .before .before .before .before .before .before .before .before .before .before .before .before .before .before .before .before .before .before .before .rounds-test .taken)
+rounds-less c = omega (arith, (c .before .before .before .before .before .before .before .before .before .before .before .before .before .before .before .before .before .before .before .before .before .before .before .before .before .before .before .before .before .before .before .before) .before .before .before .before .before .before .before .before .before .before .before .before .before .before .before .before .before .before .before .rounds-test .taken)
 
 rounds-again :
     tie.Need-rounds-again Inv-corridors μ-corridors Inv-components μ-components Inv-rounds μ-rounds
 rounds-again c =
-    let z = c .before .before .before .before .before .before .before .before .before .before .before .before .before .before .before .before .before .before .before .before .before .before .before .before .before .before .before .before .before .before .before .before .before .before .before .before .before .before .before .before .before .before .before .before .before .before .before .before .before .before .before .before .before .before .before .before .before .before .before .before .before .before .before .before .before .before .before .before .before .before .before .before .before .args in
-    let r = c .before .before .before .before .before .before .before .before .before .before .before .before .before .before .before .before .before .before .before .before .before .before .before .before .before .before .before .before .before .before .before .before .before .before .before .before .before .before .before .before .before .before .before .before .before .before .before .before .before .before .before .before .rounds in
+    let z = (start-of (round-of (c .before .before .before .before .before .before .before .before .before .before .before .before .before .before .before .before .before .before .before .before .before .before .before .before .before .before .before .before .before .before .before .before))) .args in
+    let r = (round-of (c .before .before .before .before .before .before .before .before .before .before .before .before .before .before .before .before .before .before .before .before .before .before .before .before .before .before .before .before .before .before .before .before)) .rounds in
     let l = c .before .before .before .before .before .before .before .before .before .before .before .before .before .before .before .before .before .before .before .before .before .before .before .before .before .before .before .before .before .before .before .before .corridors in
     let ln = ap (λ (x : List ℕ). length x) (l .inv .1) in
     let n = c .before .before .before .before .before .before .before .raise-marked .kept .1 .1 .1 .1 .1 .1 .1 .1 .1 .1 .1 .0 ∙ ln in (
@@ -318,12 +328,12 @@ rounds-again c =
           (c .before .before .before .before .before .before .before .before .before .before .before .before .before .before .before .before .before .before .before .before .before .before .before .size-corridor .kept .1 .1 .1 .1 .1 .1 .1 .1 .1 .1 .1 .1 .0 ∙ l .inv .3 .floor-size)
           (c .before .before .before .before .before .before .before .before .before .before .before .before .before .before .before .before .before .before .before .before .before .before .before .size-corridor .kept .1 .1 .1 .1 .1 .1 .1 .1 .1 .1 .1 .1 .1 .0 ∙ l .inv .3 .upsized-size)
           (c .before .before .before .before .before .before .before .before .before .before .before .before .before .before .before .before .before .before .before .before .before .before .before .size-corridor .kept .1 .1 .1 .1 .1 .1 .1 .1 .1 .1 .1 .1 .1 .1 .0 ∙ l .inv .3 .mark-size ∙ ln)
-          (c .before .before .before .before .before .before .before .before .before .before .before .before .before .before .before .before .before .before .before .before .before .before .before .before .before .before .before .before .before .before .before .before .before .before .before .before .before .before .before .before .before .before .before .peak-state .kept .1 .1 .1 .0 ∙ r .inv .0 .places .angle-size)
-          (c .before .before .before .before .before .before .before .before .before .before .before .before .before .before .before .before .before .before .before .before .before .before .before .before .before .before .before .before .before .before .before .before .before .before .before .before .before .before .before .before .before .before .before .peak-state .kept .1 .1 .1 .1 .0 ∙ r .inv .0 .places .flow-size)
+          ((c .before .before .before .before .before .before .before .before .before .before .before .before .before .before .before .before .before .before .before .before .before .before .before .before .before .before .before .before .before .before .before .before) .before .before .before .before .before .before .before .before .before .before .before .peak-state .kept .1 .1 .1 .0 ∙ r .inv .0 .places .angle-size)
+          ((c .before .before .before .before .before .before .before .before .before .before .before .before .before .before .before .before .before .before .before .before .before .before .before .before .before .before .before .before .before .before .before .before) .before .before .before .before .before .before .before .before .before .before .before .peak-state .kept .1 .1 .1 .1 .0 ∙ r .inv .0 .places .flow-size)
           (
           record {
             few-levels = r .inv .0 .tallies .few-levels;
-            rounds = one-less (r .p .rounds) (l .p .rounds) (r .left) (ap (λ (q : Progress). q .rounds) (l .inv .2)) (r .inv .0 .tallies .rounds) (c .before .before .before .before .before .before .before .before .before .before .before .before .before .before .before .before .before .before .before .before .before .before .before .before .before .before .before .before .before .before .before .before .before .before .before .before .before .before .before .before .before .before .before .before .before .before .before .before .before .before .before .rounds-test .taken);
+            rounds = one-less (r .p .rounds) (l .p .rounds) (r .left) (ap (λ (q : Progress). q .rounds) (l .inv .2)) (r .inv .0 .tallies .rounds) ((c .before .before .before .before .before .before .before .before .before .before .before .before .before .before .before .before .before .before .before .before .before .before .before .before .before .before .before .before .before .before .before .before) .before .before .before .before .before .before .before .before .before .before .before .before .before .before .before .before .before .before .before .rounds-test .taken);
             promoted = moved-more (r .p .rounds) (l .p .rounds) (r .p .promoted) (l .p .promoted) _ (length (r .level)) (length (l .level)) (ap (λ (q : Progress). q .rounds) (l .inv .2)) (ap (λ (q : Progress). q .promoted) (l .inv .2)) (r .inv .0 .tallies .promoted) (c .before .before .before .before .before .before .before .raise-marked .ensures .few) ln (r .inv .0 .columns .loads .few);
             capacity = omega (arith, ap (λ (q : Progress). q .rounds) (l .inv .2), c .before .before .before .before .before .before .before .before .before .before .before .before .before .before .before .before .before .before .before .before .before .before .before .size-corridor .ensures .bound, l .inv .6, r .inv .0 .tallies .capacity, r .inv .0 .columns .few, c .before .before .before .before .before .before .before .before .before .before .before .before .before .before .before .before .before .before .before .before .before .before .before .before .before .before .before .before .before .before .before .corridors-test .taken);
             stiffening = still-stiffened (r .p .rounds) (l .p .rounds) (r .p .stiffening) (l .p .stiffening) (ap (λ (q : Progress). q .rounds) (l .inv .2)) (ap (λ (q : Progress). q .stiffening) (l .inv .2)) (r .inv .0 .tallies .stiffening);
@@ -331,7 +341,7 @@ rounds-again c =
           (c .before .before .before .before .before .before .before .raise-marked .ensures .banked)
           (c .before .before .before .before .before .before .before .before .before .before .before .before .before .before .before .before .before .before .before .before .before .before .before .size-corridor .ensures .few (l .inv .5)),
       n ∙ r .inv .1,
-      sized-again (z .mode) (z .above) (now (z .ladder)) (now (z .a)) (now (z .b)) (now (z .km)) (now (z .share)) (now (z .sheet)) (now (z .load)) (now (z .bus)) (now (z .pmax)) (now (z .leader)) (now (z .grounds)) (now (z .injection)) (length (now (z .leader))) (l .level) (r .level) (r .circuits) (r .banks) (r .floors) (r .upsized) (r .angle) (r .p) (goesOn (z .mode) (z .above) (now (z .ladder)) (now (z .a)) (now (z .b)) (now (z .km)) (now (z .share)) (now (z .sheet)) (now (z .load)) (now (z .bus)) (now (z .pmax)) (now (z .leader)) (now (z .grounds)) (now (z .injection)) (length (now (z .leader))) (z .budget) (now (z .level)) (now (z .circuits)) (now (z .banks)) (now (z .floors)) (now (z .upsized)) (now (z .angle)) (z .start)) (r .left) (r .left - 1) (omega (arith, c .before .before .before .before .before .before .before .before .before .before .before .before .before .before .before .before .before .before .before .before .before .before .before .before .before .before .before .before .before .before .before .before .before .before .before .before .before .before .before .before .before .before .before .before .before .before .before .before .before .before .before .rounds-test .taken)) (l .inv .1) (sym (r .inv .0 .places .leader-size)) (r .inv .2) _ _ _ (c .before .before .before .before .before .before .before .before .before .before .before .before .before .before .before .before .before .before .before .before .before .before .before .before .before .before .before .before .before .before .before .before .before .before .before .before .before .before .before .before .before .before .before .before .before .before .draw-edges .result .from) (c .before .before .before .before .before .before .before .before .before .before .before .before .before .before .before .before .before .before .before .before .before .before .before .before .before .before .before .before .before .before .before .before .before .before .before .before .before .before .before .before .before .before .before .before .before .before .draw-edges .result .to) (c .before .before .before .before .before .before .before .before .before .before .before .before .before .before .before .before .before .before .before .before .before .before .before .before .before .before .before .before .before .before .before .before .before .before .before .before .before .before .before .before .before .before .before .before .before .before .draw-edges .result .weight) (c .before .before .before .before .before .before .before .before .before .before .before .before .before .before .before .before .before .before .before .before .before .before .before .before .before .before .before .before .before .before .before .before .before .before .before .before .before .before .before .before .before .before .before .before .before .before .draw-edges .ensures .0) _ _ (r .inv .0 .places .angle-size) (r .inv .0 .places .flow-size) (c .before .before .before .before .before .before .before .before .before .before .before .before .before .before .before .before .before .before .before .before .before .before .before .before .before .before .before .before .before .before .before .before .before .before .before .before .before .before .before .before .before .before .before .peak-state .ensures) (c .before .before .before .before .before .before .before .before .before .before .before .before .before .before .before .before .before .before .before .before .before .before .before .before .before .before .before .before .before .before .before .before .before .before .before .before .before .enum-told .given .1) _ _ _ _ _ _ _ (omega (arith, c .before .before .before .before .before .before .before .before .before .before .before .before .if1 .taken)) (left-turn (z .mode) (length (l .level)) (now (z .ladder)) (l .level) (now (z .a)) (now (z .b)) (now (z .km)) (now (z .share)) (now (z .sheet)) _ (l .k) (l .circuits) (l .banks) (l .floors) (l .upsized) (l .marks) (l .t) _ _ _ _ _ _ (c .before .before .before .before .before .before .before .before .before .before .before .before .before .before .before .before .before .before .before .before .before .before .before .before .before .before .before .before .before .before .before .corridors-test .taken) (c .before .before .before .before .before .before .before .before .before .before .before .before .before .before .before .before .before .before .before .before .before .before .before .size-corridor .ensures .sized) ∙ l .inv .7) _ (l .inv .2) _ _ _ (c .before .before .before .before .before .before .before .raise-marked .ensures) (c .before .if2 .taken),
+      sized-again (z .mode) (z .above) (now (z .ladder)) (now (z .a)) (now (z .b)) (now (z .km)) (now (z .share)) (now (z .sheet)) (now (z .load)) (now (z .bus)) (now (z .pmax)) (now (z .leader)) (now (z .grounds)) (now (z .injection)) (length (now (z .leader))) (l .level) (r .level) (r .circuits) (r .banks) (r .floors) (r .upsized) (r .angle) (r .p) (goesOn (z .mode) (z .above) (now (z .ladder)) (now (z .a)) (now (z .b)) (now (z .km)) (now (z .share)) (now (z .sheet)) (now (z .load)) (now (z .bus)) (now (z .pmax)) (now (z .leader)) (now (z .grounds)) (now (z .injection)) (length (now (z .leader))) (z .budget) (now (z .level)) (now (z .circuits)) (now (z .banks)) (now (z .floors)) (now (z .upsized)) (now (z .angle)) (z .start)) (r .left) (r .left - 1) (omega (arith, (c .before .before .before .before .before .before .before .before .before .before .before .before .before .before .before .before .before .before .before .before .before .before .before .before .before .before .before .before .before .before .before .before) .before .before .before .before .before .before .before .before .before .before .before .before .before .before .before .before .before .before .before .rounds-test .taken)) (l .inv .1) (sym (r .inv .0 .places .leader-size)) (r .inv .2) _ _ _ ((c .before .before .before .before .before .before .before .before .before .before .before .before .before .before .before .before .before .before .before .before .before .before .before .before .before .before .before .before .before .before .before .before) .before .before .before .before .before .before .before .before .before .before .before .before .before .before .draw-edges .result .from) ((c .before .before .before .before .before .before .before .before .before .before .before .before .before .before .before .before .before .before .before .before .before .before .before .before .before .before .before .before .before .before .before .before) .before .before .before .before .before .before .before .before .before .before .before .before .before .before .draw-edges .result .to) ((c .before .before .before .before .before .before .before .before .before .before .before .before .before .before .before .before .before .before .before .before .before .before .before .before .before .before .before .before .before .before .before .before) .before .before .before .before .before .before .before .before .before .before .before .before .before .before .draw-edges .result .weight) ((c .before .before .before .before .before .before .before .before .before .before .before .before .before .before .before .before .before .before .before .before .before .before .before .before .before .before .before .before .before .before .before .before) .before .before .before .before .before .before .before .before .before .before .before .before .before .before .draw-edges .ensures .0) _ _ (r .inv .0 .places .angle-size) (r .inv .0 .places .flow-size) ((c .before .before .before .before .before .before .before .before .before .before .before .before .before .before .before .before .before .before .before .before .before .before .before .before .before .before .before .before .before .before .before .before) .before .before .before .before .before .before .before .before .before .before .before .peak-state .ensures) ((c .before .before .before .before .before .before .before .before .before .before .before .before .before .before .before .before .before .before .before .before .before .before .before .before .before .before .before .before .before .before .before .before) .before .before .before .before .before .enum-told .given .1) _ _ _ _ _ _ _ (omega (arith, c .before .before .before .before .before .before .before .before .before .before .before .before .if1 .taken)) (left-turn (z .mode) (length (l .level)) (now (z .ladder)) (l .level) (now (z .a)) (now (z .b)) (now (z .km)) (now (z .share)) (now (z .sheet)) _ (l .k) (l .circuits) (l .banks) (l .floors) (l .upsized) (l .marks) (l .t) _ _ _ _ _ _ (c .before .before .before .before .before .before .before .before .before .before .before .before .before .before .before .before .before .before .before .before .before .before .before .before .before .before .before .before .before .before .before .corridors-test .taken) (c .before .before .before .before .before .before .before .before .before .before .before .before .before .before .before .before .before .before .before .before .before .before .before .size-corridor .ensures .sized) ∙ l .inv .7) _ (l .inv .2) _ _ _ (c .before .before .before .before .before .before .before .raise-marked .ensures) (c .before .if2 .taken),
     )
 
 promotes-requires :
@@ -363,8 +373,8 @@ corridors-again :
     Inv-rounds
     μ-rounds
 corridors-again c =
-    let z = c .before .before .before .before .before .before .before .before .before .before .before .before .before .before .before .before .before .before .before .before .before .before .before .before .before .before .before .before .before .before .before .before .before .before .before .before .before .before .before .before .before .before .before .before .before .before .before .before .before .before .before .before .before .before .before .before .before .before .before .before .before .before .before .before .before .before .before .before .before .before .before .before .before .before .args in
-    let r = c .before .before .before .before .before .before .before .before .before .before .before .before .before .before .before .before .before .before .before .before .before .before .before .before .before .before .before .before .before .before .before .before .before .before .before .before .before .before .before .before .before .before .before .before .before .before .before .before .before .before .before .before .before .rounds in
+    let z = (start-of (round-of (c .before .before .before .before .before .before .before .before .before .before .before .before .before .before .before .before .before .before .before .before .before .before .before .before .before .before .before .before .before .before .before .before .before))) .args in
+    let r = (round-of (c .before .before .before .before .before .before .before .before .before .before .before .before .before .before .before .before .before .before .before .before .before .before .before .before .before .before .before .before .before .before .before .before .before)) .rounds in
     let l = c .before .before .before .before .before .before .before .before .before .before .before .before .before .before .before .before .before .before .before .before .before .before .before .before .before .before .before .before .before .before .before .before .before .corridors in
     let done = nothing-done _ _ (c .before .before .if2 .left) in
     let lv = c .before .before .before .before .before .before .before .before .raise-marked .ensures .still (done .0) .0 in
@@ -407,8 +417,8 @@ corridors-again-2 :
     Inv-rounds
     μ-rounds
 corridors-again-2 c =
-    let z = c .before .before .before .before .before .before .before .before .before .before .before .before .before .before .before .before .before .before .before .before .before .before .before .before .before .before .before .before .before .before .before .before .before .before .before .before .before .before .before .before .before .before .before .before .before .before .before .before .before .before .before .before .before .before .before .before .before .before .before .before .before .args in
-    let r = c .before .before .before .before .before .before .before .before .before .before .before .before .before .before .before .before .before .before .before .before .before .before .before .before .before .before .before .before .before .before .before .before .before .before .before .before .before .before .before .before .rounds in
+    let z = (start-of (round-of (c .before .before .before .before .before .before .before .before .before .before .before .before .before .before .before .before .before .before .before .before))) .args in
+    let r = (round-of (c .before .before .before .before .before .before .before .before .before .before .before .before .before .before .before .before .before .before .before .before)) .rounds in
     let l = c .before .before .before .before .before .before .before .before .before .before .before .before .before .before .before .before .before .before .before .before .corridors in (
       omega (arith, c .before .before .before .before .before .before .before .before .before .before .before .before .before .before .before .before .before .before .before .corridors-test .taken),
       l .inv .1,
@@ -436,7 +446,7 @@ limits-of-requires :
     μ-components
     Inv-rounds
     μ-rounds
-limits-of-requires c κs = (omega (arith, ap (λ (x : List ℕ). length x) (c .before .before .corridors .inv .1), c .before .before .before .before .before .before .before .before .before .before .before .before .before .before .before .before .before .before .before .before .before .before .rounds .inv .0 .columns .loads .few), c .before .before .before .before .before .before .before .before .before .before .before .before .before .before .before .before .before .before .before .before .before .before .rounds .inv .0 .tallies .few-levels)
+limits-of-requires c κs = (omega (arith, ap (λ (x : List ℕ). length x) (c .before .before .corridors .inv .1), (round-of (c .before .before)) .rounds .inv .0 .columns .loads .few), (round-of (c .before .before)) .rounds .inv .0 .tallies .few-levels)
 
 stiffness-from-requires :
     tie.Need-stiffness-from-requires
@@ -447,10 +457,10 @@ stiffness-from-requires :
     Inv-rounds
     μ-rounds
 stiffness-from-requires c κs =
-    let r = c .before .before .before .before .before .before .before .before .before .before .before .before .before .before .before .before .before .before .before .before .before .before .before .before .before .before .rounds in
+    let r = (round-of (c .before .before .before .before .before .before)) .rounds in
     let l = c .before .before .before .before .before .before .corridors in
     let n = ap (λ (x : List ℕ). length x) (l .inv .1) in
-    let m : length (l .circuits) ≡ length (now (c .before .before .before .before .before .before .before .before .before .before .before .before .before .before .before .before .before .before .before .before .before .before .before .before .before .before .before .before .before .before .before .before .before .before .before .before .before .before .before .before .before .before .before .before .before .before .before .args .a)) = l .inv .3 .count-size in
+    let m : length (l .circuits) ≡ length (now ((start-of (round-of (c .before .before .before .before .before .before))) .args .a)) = l .inv .3 .count-size in
     (omega (arith, n, r .inv .0 .columns .loads .few), l .inv .3 .mark-size, record { few = omega (arith, m, r .inv .0 .columns .few); each = λ k h. l .inv .5 k })
 
 components-holds :
@@ -462,9 +472,9 @@ components-holds :
     Inv-rounds
     μ-rounds
 components-holds c =
-    let r = c .before .before .before .before .before .before .before .before .before .before .before .before .before .before .before .before .before .before .before .before .before .before .before .before .before .before .before .before .before .rounds in
+    let r = (round-of (c .before .before .before .before .before .before .before .before .before)) .rounds in
     let l = c .before .before .before .before .before .before .before .before .before .corridors in
-    let z = c .before .before .before .before .before .before .before .before .before .before .before .before .before .before .before .before .before .before .before .before .before .before .before .before .before .before .before .before .before .before .before .before .before .before .before .before .before .before .before .before .before .before .before .before .before .before .before .before .before .before .args in
+    let z = (start-of (round-of (c .before .before .before .before .before .before .before .before .before))) .args in
     let h : 0 < length (r .level) = omega (arith, r .inv .0 .columns .lines .a-below 0 (r .inv .0 .some)) in
     let w : 0 < length (now (z .leader)) = omega (arith, h, r .inv .0 .places .leader-size) in
     (w, refl, refl, (refl, refl, refl, refl, refl), l .inv .4, l .inv .5, (omega arith, omega arith, omega arith), λ o target s e. refl)
@@ -477,7 +487,7 @@ rounds-less-2 :
     μ-components
     Inv-rounds
     μ-rounds
-rounds-less-2 c = omega (arith, c .before .before .before .before .before .before .before .before .before .before .before .before .before .before .before .before .before .before .before .before .before .before .before .before .before .before .before .before .before .before .rounds-test .taken)
+rounds-less-2 c = omega (arith, (sized-of (c .before)) .before .before .before .before .before .before .before .before .before .before .before .before .before .before .before .before .before .before .before .rounds-test .taken)
 
 rounds-again-2 :
     tie.Need-rounds-again-2
@@ -498,14 +508,14 @@ stiffen-led-requires :
     Inv-rounds
     μ-rounds
 stiffen-led-requires c κs =
-    let r = c .before .before .before .before .before .before .before .before .before .before .before .before .before .before .before .before .before .before .before .before .before .before .before .before .before .before .before .before .before .before .before .before .before .before .before .before .before .before .rounds in
-    let l = c .before .before .before .before .before .before .before .before .before .before .before .before .before .before .before .before .before .before .corridors in
+    let r = (round-of (sized-of (c .before .before .before .before .before .before .before .before))) .rounds in
+    let l = (sized-of (c .before .before .before .before .before .before .before .before)) .corridors in
     let k = c .before .before .before .before .before .before .before .before .components in
-    let z = c .before .before .before .before .before .before .before .before .before .before .before .before .before .before .before .before .before .before .before .before .before .before .before .before .before .before .before .before .before .before .before .before .before .before .before .before .before .before .before .before .before .before .before .before .before .before .before .before .before .before .before .before .before .before .before .before .before .before .before .args in
+    let z = (start-of (round-of (sized-of (c .before .before .before .before .before .before .before .before)))) .args in
     let lv = k .inv .1 ∙ l .inv .1 in
     let n = ap (λ (x : List ℕ). length x) lv in
     let f = r .inv .0 in
-    let d = c .before .before .before .before .before .before .before .before .before .before .before .before .before .before .before .before .before .before .before .before .before .before .before .before .before .before .before .before .before .before .before .before .draw-edges .ensures in
+    let d = (sized-of (c .before .before .before .before .before .before .before .before)) .before .before .before .before .before .before .before .before .before .before .before .before .before .before .draw-edges .ensures in
     let m : length (l .circuits) ≡ length (now (z .a)) = l .inv .3 .count-size in (
       record {
         lines = subst (λ (x : List ℕ). Lines (now (z .ladder)) x (now (z .a)) (now (z .b)) (now (z .km)) (now (z .share)) (now (z .sheet))) (sym lv) (f .columns .lines);
@@ -513,20 +523,20 @@ stiffen-led-requires c κs =
         few-grounds = f .places .few-grounds;
         ground-below = λ i h. omega (arith, n, f .places .ground-below i h);
         leader-size = f .places .leader-size ∙ sym n;
-        angle-size = c .before .before .before .before .before .before .before .before .before .before .before .before .before .before .before .before .before .before .before .before .before .before .before .before .before .before .before .before .before .peak-state .kept .1 .1 .1 .0 ∙ f .places .angle-size ∙ sym n;
+        angle-size = (sized-of (c .before .before .before .before .before .before .before .before)) .before .before .before .before .before .before .before .before .before .before .before .peak-state .kept .1 .1 .1 .0 ∙ f .places .angle-size ∙ sym n;
         count-size = k .inv .3 .0 ∙ l .inv .3 .count-size;
         bank-size = k .inv .3 .1 ∙ l .inv .3 .bank-size;
         floor-size = k .inv .3 .2 ∙ l .inv .3 .floor-size;
         upsized-size = k .inv .3 .3 ∙ l .inv .3 .upsized-size;
-        mark-size = k .inv .3 .4 ∙ c .before .before .before .before .before .before .before .before .before .before .before .stiffness-from .kept .1 .1 .1 .1 .0 ∙ l .inv .3 .mark-size ∙ ap (λ (x : List ℕ). length x) (sym (k .inv .1));
+        mark-size = k .inv .3 .4 ∙ (c .before .before .before .before .before .before .before .before) .before .before .before .stiffness-from .kept .1 .1 .1 .1 .0 ∙ l .inv .3 .mark-size ∙ ap (λ (x : List ℕ). length x) (sym (k .inv .1));
         banked = k .inv .4;
       },
       (
         c .before .before .before .before .before .before .before .components-test .taken,
         record {
-          total = omega (arith, k .inv .6 .0, ap (λ (x : Stiffness). x .total) (c .before .before .before .before .before .before .before .before .before .before .before .stiffness-from .ensures .1), few-sum (l .circuits) (l .inv .5), m, c .before .before .before .before .before .before .before .components-test .taken, f .places .leader-size, f .columns .loads .few, f .columns .few);
-          hv = omega (arith, k .inv .6 .1, ap (λ (x : Stiffness). x .hv) (c .before .before .before .before .before .before .before .before .before .before .before .stiffness-from .ensures .1), few-high (l .level) (c .before .before .before .before .before .before .before .before .before .before .before .before .before .before .before .limits-of .result .top), ap (λ (x : List ℕ). length x) (l .inv .1), f .columns .loads .few, c .before .before .before .before .before .before .before .components-test .taken, f .places .leader-size, f .columns .loads .few, f .columns .few);
-          stiffening = omega (arith, k .inv .6 .2, ap (λ (x : Stiffness). x .stiffening) (c .before .before .before .before .before .before .before .before .before .before .before .stiffness-from .ensures .1), ap (λ (q : Progress). q .stiffening) (l .inv .2), c .before .before .before .before .before .before .before .components-test .taken, f .places .leader-size, f .columns .loads .few, f .columns .few, f .tallies .stiffening, f .tallies .rounds);
+          total = omega (arith, k .inv .6 .0, ap (λ (x : Stiffness). x .total) ((c .before .before .before .before .before .before .before .before) .before .before .before .stiffness-from .ensures .1), few-sum (l .circuits) (l .inv .5), m, c .before .before .before .before .before .before .before .components-test .taken, f .places .leader-size, f .columns .loads .few, f .columns .few);
+          hv = omega (arith, k .inv .6 .1, ap (λ (x : Stiffness). x .hv) ((c .before .before .before .before .before .before .before .before) .before .before .before .stiffness-from .ensures .1), few-high (l .level) ((c .before .before .before .before .before .before .before .before) .before .before .before .before .before .before .before .limits-of .result .top), ap (λ (x : List ℕ). length x) (l .inv .1), f .columns .loads .few, c .before .before .before .before .before .before .before .components-test .taken, f .places .leader-size, f .columns .loads .few, f .columns .few);
+          stiffening = omega (arith, k .inv .6 .2, ap (λ (x : Stiffness). x .stiffening) ((c .before .before .before .before .before .before .before .before) .before .before .before .stiffness-from .ensures .1), ap (λ (q : Progress). q .stiffening) (l .inv .2), c .before .before .before .before .before .before .before .components-test .taken, f .places .leader-size, f .columns .loads .few, f .columns .few, f .tallies .stiffening, f .tallies .rounds);
         },
       ),
     )
@@ -537,19 +547,19 @@ Dom {A} f = A
 
 -- what is left of the stiffening comes to what all the rounds do
 whole : (c : Dom stiffen-led-requires)
-    → Alike (c .before .before .before .before .before .before .before .before .before .before .before .before .before .before .before .before .before .before .before .before .before .before .before .before .before .before .before .before .before .before .before .before .before .before .before .before .before .before .before .before .before .before .before .before .before .before .before .before .before .before .before .before .before .before .before .before .before .before .before .args .mode) (c .before .before .before .before .before .before .before .before .before .before .before .before .before .before .before .before .before .before .before .before .before .before .before .before .before .before .before .before .before .before .before .before .before .before .before .before .before .before .before .before .before .before .before .before .before .before .before .before .before .before .before .before .before .before .before .before .before .before .before .args .above) (now (c .before .before .before .before .before .before .before .before .before .before .before .before .before .before .before .before .before .before .before .before .before .before .before .before .before .before .before .before .before .before .before .before .before .before .before .before .before .before .before .before .before .before .before .before .before .before .before .before .before .before .before .before .before .before .before .before .before .before .before .args .ladder)) (now (c .before .before .before .before .before .before .before .before .before .before .before .before .before .before .before .before .before .before .before .before .before .before .before .before .before .before .before .before .before .before .before .before .before .before .before .before .before .before .before .before .before .before .before .before .before .before .before .before .before .before .before .before .before .before .before .before .before .before .before .args .a)) (now (c .before .before .before .before .before .before .before .before .before .before .before .before .before .before .before .before .before .before .before .before .before .before .before .before .before .before .before .before .before .before .before .before .before .before .before .before .before .before .before .before .before .before .before .before .before .before .before .before .before .before .before .before .before .before .before .before .before .before .before .args .b)) (now (c .before .before .before .before .before .before .before .before .before .before .before .before .before .before .before .before .before .before .before .before .before .before .before .before .before .before .before .before .before .before .before .before .before .before .before .before .before .before .before .before .before .before .before .before .before .before .before .before .before .before .before .before .before .before .before .before .before .before .before .args .km)) (now (c .before .before .before .before .before .before .before .before .before .before .before .before .before .before .before .before .before .before .before .before .before .before .before .before .before .before .before .before .before .before .before .before .before .before .before .before .before .before .before .before .before .before .before .before .before .before .before .before .before .before .before .before .before .before .before .before .before .before .before .args .share)) (now (c .before .before .before .before .before .before .before .before .before .before .before .before .before .before .before .before .before .before .before .before .before .before .before .before .before .before .before .before .before .before .before .before .before .before .before .before .before .before .before .before .before .before .before .before .before .before .before .before .before .before .before .before .before .before .before .before .before .before .before .args .sheet)) (now (c .before .before .before .before .before .before .before .before .before .before .before .before .before .before .before .before .before .before .before .before .before .before .before .before .before .before .before .before .before .before .before .before .before .before .before .before .before .before .before .before .before .before .before .before .before .before .before .before .before .before .before .before .before .before .before .before .before .before .before .args .load)) (now (c .before .before .before .before .before .before .before .before .before .before .before .before .before .before .before .before .before .before .before .before .before .before .before .before .before .before .before .before .before .before .before .before .before .before .before .before .before .before .before .before .before .before .before .before .before .before .before .before .before .before .before .before .before .before .before .before .before .before .before .args .bus)) (now (c .before .before .before .before .before .before .before .before .before .before .before .before .before .before .before .before .before .before .before .before .before .before .before .before .before .before .before .before .before .before .before .before .before .before .before .before .before .before .before .before .before .before .before .before .before .before .before .before .before .before .before .before .before .before .before .before .before .before .before .args .pmax)) (now (c .before .before .before .before .before .before .before .before .before .before .before .before .before .before .before .before .before .before .before .before .before .before .before .before .before .before .before .before .before .before .before .before .before .before .before .before .before .before .before .before .before .before .before .before .before .before .before .before .before .before .before .before .before .before .before .before .before .before .before .args .leader)) (now (c .before .before .before .before .before .before .before .before .before .before .before .before .before .before .before .before .before .before .before .before .before .before .before .before .before .before .before .before .before .before .before .before .before .before .before .before .before .before .before .before .before .before .before .before .before .before .before .before .before .before .before .before .before .before .before .before .before .before .before .args .grounds)) (now (c .before .before .before .before .before .before .before .before .before .before .before .before .before .before .before .before .before .before .before .before .before .before .before .before .before .before .before .before .before .before .before .before .before .before .before .before .before .before .before .before .before .before .before .before .before .before .before .before .before .before .before .before .before .before .before .before .before .before .before .args .injection)) (length (now (c .before .before .before .before .before .before .before .before .before .before .before .before .before .before .before .before .before .before .before .before .before .before .before .before .before .before .before .before .before .before .before .before .before .before .before .before .before .before .before .before .before .before .before .before .before .before .before .before .before .before .before .before .before .before .before .before .before .before .before .args .leader)))
-    (stiffensOn (c .before .before .before .before .before .before .before .before .before .before .before .before .before .before .before .before .before .before .before .before .before .before .before .before .before .before .before .before .before .before .before .before .before .before .before .before .before .before .before .before .before .before .before .before .before .before .before .before .before .before .before .before .before .before .before .before .before .before .before .args .mode) (c .before .before .before .before .before .before .before .before .before .before .before .before .before .before .before .before .before .before .before .before .before .before .before .before .before .before .before .before .before .before .before .before .before .before .before .before .before .before .before .before .before .before .before .before .before .before .before .before .before .before .before .before .before .before .before .before .before .before .before .args .above) (now (c .before .before .before .before .before .before .before .before .before .before .before .before .before .before .before .before .before .before .before .before .before .before .before .before .before .before .before .before .before .before .before .before .before .before .before .before .before .before .before .before .before .before .before .before .before .before .before .before .before .before .before .before .before .before .before .before .before .before .before .args .ladder)) (now (c .before .before .before .before .before .before .before .before .before .before .before .before .before .before .before .before .before .before .before .before .before .before .before .before .before .before .before .before .before .before .before .before .before .before .before .before .before .before .before .before .before .before .before .before .before .before .before .before .before .before .before .before .before .before .before .before .before .before .before .args .a)) (now (c .before .before .before .before .before .before .before .before .before .before .before .before .before .before .before .before .before .before .before .before .before .before .before .before .before .before .before .before .before .before .before .before .before .before .before .before .before .before .before .before .before .before .before .before .before .before .before .before .before .before .before .before .before .before .before .before .before .before .before .args .b)) (now (c .before .before .before .before .before .before .before .before .before .before .before .before .before .before .before .before .before .before .before .before .before .before .before .before .before .before .before .before .before .before .before .before .before .before .before .before .before .before .before .before .before .before .before .before .before .before .before .before .before .before .before .before .before .before .before .before .before .before .before .args .km)) (now (c .before .before .before .before .before .before .before .before .before .before .before .before .before .before .before .before .before .before .before .before .before .before .before .before .before .before .before .before .before .before .before .before .before .before .before .before .before .before .before .before .before .before .before .before .before .before .before .before .before .before .before .before .before .before .before .before .before .before .before .args .share)) (now (c .before .before .before .before .before .before .before .before .before .before .before .before .before .before .before .before .before .before .before .before .before .before .before .before .before .before .before .before .before .before .before .before .before .before .before .before .before .before .before .before .before .before .before .before .before .before .before .before .before .before .before .before .before .before .before .before .before .before .before .args .sheet)) (now (c .before .before .before .before .before .before .before .before .before .before .before .before .before .before .before .before .before .before .before .before .before .before .before .before .before .before .before .before .before .before .before .before .before .before .before .before .before .before .before .before .before .before .before .before .before .before .before .before .before .before .before .before .before .before .before .before .before .before .before .args .load)) (now (c .before .before .before .before .before .before .before .before .before .before .before .before .before .before .before .before .before .before .before .before .before .before .before .before .before .before .before .before .before .before .before .before .before .before .before .before .before .before .before .before .before .before .before .before .before .before .before .before .before .before .before .before .before .before .before .before .before .before .before .args .bus)) (now (c .before .before .before .before .before .before .before .before .before .before .before .before .before .before .before .before .before .before .before .before .before .before .before .before .before .before .before .before .before .before .before .before .before .before .before .before .before .before .before .before .before .before .before .before .before .before .before .before .before .before .before .before .before .before .before .before .before .before .before .args .pmax)) (now (c .before .before .before .before .before .before .before .before .before .before .before .before .before .before .before .before .before .before .before .before .before .before .before .before .before .before .before .before .before .before .before .before .before .before .before .before .before .before .before .before .before .before .before .before .before .before .before .before .before .before .before .before .before .before .before .before .before .before .before .args .leader)) (now (c .before .before .before .before .before .before .before .before .before .before .before .before .before .before .before .before .before .before .before .before .before .before .before .before .before .before .before .before .before .before .before .before .before .before .before .before .before .before .before .before .before .before .before .before .before .before .before .before .before .before .before .before .before .before .before .before .before .before .before .args .grounds)) (now (c .before .before .before .before .before .before .before .before .before .before .before .before .before .before .before .before .before .before .before .before .before .before .before .before .before .before .before .before .before .before .before .before .before .before .before .before .before .before .before .before .before .before .before .before .before .before .before .before .before .before .before .before .before .before .before .before .before .before .before .args .injection)) (length (now (c .before .before .before .before .before .before .before .before .before .before .before .before .before .before .before .before .before .before .before .before .before .before .before .before .before .before .before .before .before .before .before .before .before .before .before .before .before .before .before .before .before .before .before .before .before .before .before .before .before .before .before .before .before .before .before .before .before .before .before .args .leader))) (c .before .before .before .before .before .before .before .before .before .before .before .before .before .before .before .before .before .before .before .before .before .before .before .before .before .before .before .before .before .before .before .before .before .before .before .before .before .before .rounds .left - 1) (c .before .before .before .before .before .before .before .before .components .level) (c .before .before .before .before .before .before .before .before .before .before .before .before .before .before .before .limits-of .result) (c .before .before .before .before .before .before .before .before .before .before .before .before .before .before .before .before .before .before .before .before .before .before .before .before .before .before .before .before .before .before .before .before .draw-edges .result .from) (c .before .before .before .before .before .before .before .before .before .before .before .before .before .before .before .before .before .before .before .before .before .before .before .before .before .before .before .before .before .before .before .before .draw-edges .result .to) (c .before .before .before .before .before .before .before .before .before .before .before .before .before .before .before .before .before .before .before .before .before .before .before .before .before .before .before .before .before .before .before .before .draw-edges .result .weight) (c .before .before .before .before .before .before .before .before .before .before .before .before .before .before .before .before .before .before .before .before .before .before .before .before .before .before .before .before .before .peak-state .last .1 .1 .1 .0) (c .before .before .before .before .before .before .before .before .before .before .before .before .before .before .before .before .before .before .before .before .before .before .before .before .before .before .before .before .before .peak-state .last .1 .1 .1 .1 .0) (c .before .before .before .before .before .before .before .before .components .p) (c .before .before .before .before .before .before .before .before .before .before .before .before .before .before .before .before .before .before .corridors .t) (c .before .before .before .before .before .before .before .before .components .i) (c .before .before .before .before .before .before .before .before .components .circuits) (c .before .before .before .before .before .before .before .before .components .banks) (c .before .before .before .before .before .before .before .before .components .floors) (c .before .before .before .before .before .before .before .before .components .upsized) (c .before .before .before .before .before .before .before .before .components .marks) (c .before .before .before .before .before .before .before .before .components .s))
-    (goesOn (c .before .before .before .before .before .before .before .before .before .before .before .before .before .before .before .before .before .before .before .before .before .before .before .before .before .before .before .before .before .before .before .before .before .before .before .before .before .before .before .before .before .before .before .before .before .before .before .before .before .before .before .before .before .before .before .before .before .before .before .args .mode) (c .before .before .before .before .before .before .before .before .before .before .before .before .before .before .before .before .before .before .before .before .before .before .before .before .before .before .before .before .before .before .before .before .before .before .before .before .before .before .before .before .before .before .before .before .before .before .before .before .before .before .before .before .before .before .before .before .before .before .before .args .above) (now (c .before .before .before .before .before .before .before .before .before .before .before .before .before .before .before .before .before .before .before .before .before .before .before .before .before .before .before .before .before .before .before .before .before .before .before .before .before .before .before .before .before .before .before .before .before .before .before .before .before .before .before .before .before .before .before .before .before .before .before .args .ladder)) (now (c .before .before .before .before .before .before .before .before .before .before .before .before .before .before .before .before .before .before .before .before .before .before .before .before .before .before .before .before .before .before .before .before .before .before .before .before .before .before .before .before .before .before .before .before .before .before .before .before .before .before .before .before .before .before .before .before .before .before .before .args .a)) (now (c .before .before .before .before .before .before .before .before .before .before .before .before .before .before .before .before .before .before .before .before .before .before .before .before .before .before .before .before .before .before .before .before .before .before .before .before .before .before .before .before .before .before .before .before .before .before .before .before .before .before .before .before .before .before .before .before .before .before .before .args .b)) (now (c .before .before .before .before .before .before .before .before .before .before .before .before .before .before .before .before .before .before .before .before .before .before .before .before .before .before .before .before .before .before .before .before .before .before .before .before .before .before .before .before .before .before .before .before .before .before .before .before .before .before .before .before .before .before .before .before .before .before .before .args .km)) (now (c .before .before .before .before .before .before .before .before .before .before .before .before .before .before .before .before .before .before .before .before .before .before .before .before .before .before .before .before .before .before .before .before .before .before .before .before .before .before .before .before .before .before .before .before .before .before .before .before .before .before .before .before .before .before .before .before .before .before .before .args .share)) (now (c .before .before .before .before .before .before .before .before .before .before .before .before .before .before .before .before .before .before .before .before .before .before .before .before .before .before .before .before .before .before .before .before .before .before .before .before .before .before .before .before .before .before .before .before .before .before .before .before .before .before .before .before .before .before .before .before .before .before .before .args .sheet)) (now (c .before .before .before .before .before .before .before .before .before .before .before .before .before .before .before .before .before .before .before .before .before .before .before .before .before .before .before .before .before .before .before .before .before .before .before .before .before .before .before .before .before .before .before .before .before .before .before .before .before .before .before .before .before .before .before .before .before .before .before .args .load)) (now (c .before .before .before .before .before .before .before .before .before .before .before .before .before .before .before .before .before .before .before .before .before .before .before .before .before .before .before .before .before .before .before .before .before .before .before .before .before .before .before .before .before .before .before .before .before .before .before .before .before .before .before .before .before .before .before .before .before .before .before .args .bus)) (now (c .before .before .before .before .before .before .before .before .before .before .before .before .before .before .before .before .before .before .before .before .before .before .before .before .before .before .before .before .before .before .before .before .before .before .before .before .before .before .before .before .before .before .before .before .before .before .before .before .before .before .before .before .before .before .before .before .before .before .before .args .pmax)) (now (c .before .before .before .before .before .before .before .before .before .before .before .before .before .before .before .before .before .before .before .before .before .before .before .before .before .before .before .before .before .before .before .before .before .before .before .before .before .before .before .before .before .before .before .before .before .before .before .before .before .before .before .before .before .before .before .before .before .before .before .args .leader)) (now (c .before .before .before .before .before .before .before .before .before .before .before .before .before .before .before .before .before .before .before .before .before .before .before .before .before .before .before .before .before .before .before .before .before .before .before .before .before .before .before .before .before .before .before .before .before .before .before .before .before .before .before .before .before .before .before .before .before .before .before .args .grounds)) (now (c .before .before .before .before .before .before .before .before .before .before .before .before .before .before .before .before .before .before .before .before .before .before .before .before .before .before .before .before .before .before .before .before .before .before .before .before .before .before .before .before .before .before .before .before .before .before .before .before .before .before .before .before .before .before .before .before .before .before .before .args .injection)) (length (now (c .before .before .before .before .before .before .before .before .before .before .before .before .before .before .before .before .before .before .before .before .before .before .before .before .before .before .before .before .before .before .before .before .before .before .before .before .before .before .before .before .before .before .before .before .before .before .before .before .before .before .before .before .before .before .before .before .before .before .before .args .leader))) (c .before .before .before .before .before .before .before .before .before .before .before .before .before .before .before .before .before .before .before .before .before .before .before .before .before .before .before .before .before .before .before .before .before .before .before .before .before .before .before .before .before .before .before .before .before .before .before .before .before .before .before .before .before .before .before .before .before .before .before .args .budget) (now (c .before .before .before .before .before .before .before .before .before .before .before .before .before .before .before .before .before .before .before .before .before .before .before .before .before .before .before .before .before .before .before .before .before .before .before .before .before .before .before .before .before .before .before .before .before .before .before .before .before .before .before .before .before .before .before .before .before .before .before .args .level)) (now (c .before .before .before .before .before .before .before .before .before .before .before .before .before .before .before .before .before .before .before .before .before .before .before .before .before .before .before .before .before .before .before .before .before .before .before .before .before .before .before .before .before .before .before .before .before .before .before .before .before .before .before .before .before .before .before .before .before .before .before .args .circuits)) (now (c .before .before .before .before .before .before .before .before .before .before .before .before .before .before .before .before .before .before .before .before .before .before .before .before .before .before .before .before .before .before .before .before .before .before .before .before .before .before .before .before .before .before .before .before .before .before .before .before .before .before .before .before .before .before .before .before .before .before .before .args .banks)) (now (c .before .before .before .before .before .before .before .before .before .before .before .before .before .before .before .before .before .before .before .before .before .before .before .before .before .before .before .before .before .before .before .before .before .before .before .before .before .before .before .before .before .before .before .before .before .before .before .before .before .before .before .before .before .before .before .before .before .before .before .args .floors)) (now (c .before .before .before .before .before .before .before .before .before .before .before .before .before .before .before .before .before .before .before .before .before .before .before .before .before .before .before .before .before .before .before .before .before .before .before .before .before .before .before .before .before .before .before .before .before .before .before .before .before .before .before .before .before .before .before .before .before .before .before .args .upsized)) (now (c .before .before .before .before .before .before .before .before .before .before .before .before .before .before .before .before .before .before .before .before .before .before .before .before .before .before .before .before .before .before .before .before .before .before .before .before .before .before .before .before .before .before .before .before .before .before .before .before .before .before .before .before .before .before .before .before .before .before .before .args .angle)) (c .before .before .before .before .before .before .before .before .before .before .before .before .before .before .before .before .before .before .before .before .before .before .before .before .before .before .before .before .before .before .before .before .before .before .before .before .before .before .before .before .before .before .before .before .before .before .before .before .before .before .before .before .before .before .before .before .before .before .before .args .start))
+    → Alike ((start-of (round-of (sized-of (c .before .before .before .before .before .before .before .before)))) .args .mode) ((start-of (round-of (sized-of (c .before .before .before .before .before .before .before .before)))) .args .above) (now ((start-of (round-of (sized-of (c .before .before .before .before .before .before .before .before)))) .args .ladder)) (now ((start-of (round-of (sized-of (c .before .before .before .before .before .before .before .before)))) .args .a)) (now ((start-of (round-of (sized-of (c .before .before .before .before .before .before .before .before)))) .args .b)) (now ((start-of (round-of (sized-of (c .before .before .before .before .before .before .before .before)))) .args .km)) (now ((start-of (round-of (sized-of (c .before .before .before .before .before .before .before .before)))) .args .share)) (now ((start-of (round-of (sized-of (c .before .before .before .before .before .before .before .before)))) .args .sheet)) (now ((start-of (round-of (sized-of (c .before .before .before .before .before .before .before .before)))) .args .load)) (now ((start-of (round-of (sized-of (c .before .before .before .before .before .before .before .before)))) .args .bus)) (now ((start-of (round-of (sized-of (c .before .before .before .before .before .before .before .before)))) .args .pmax)) (now ((start-of (round-of (sized-of (c .before .before .before .before .before .before .before .before)))) .args .leader)) (now ((start-of (round-of (sized-of (c .before .before .before .before .before .before .before .before)))) .args .grounds)) (now ((start-of (round-of (sized-of (c .before .before .before .before .before .before .before .before)))) .args .injection)) (length (now ((start-of (round-of (sized-of (c .before .before .before .before .before .before .before .before)))) .args .leader)))
+    (stiffensOn ((start-of (round-of (sized-of (c .before .before .before .before .before .before .before .before)))) .args .mode) ((start-of (round-of (sized-of (c .before .before .before .before .before .before .before .before)))) .args .above) (now ((start-of (round-of (sized-of (c .before .before .before .before .before .before .before .before)))) .args .ladder)) (now ((start-of (round-of (sized-of (c .before .before .before .before .before .before .before .before)))) .args .a)) (now ((start-of (round-of (sized-of (c .before .before .before .before .before .before .before .before)))) .args .b)) (now ((start-of (round-of (sized-of (c .before .before .before .before .before .before .before .before)))) .args .km)) (now ((start-of (round-of (sized-of (c .before .before .before .before .before .before .before .before)))) .args .share)) (now ((start-of (round-of (sized-of (c .before .before .before .before .before .before .before .before)))) .args .sheet)) (now ((start-of (round-of (sized-of (c .before .before .before .before .before .before .before .before)))) .args .load)) (now ((start-of (round-of (sized-of (c .before .before .before .before .before .before .before .before)))) .args .bus)) (now ((start-of (round-of (sized-of (c .before .before .before .before .before .before .before .before)))) .args .pmax)) (now ((start-of (round-of (sized-of (c .before .before .before .before .before .before .before .before)))) .args .leader)) (now ((start-of (round-of (sized-of (c .before .before .before .before .before .before .before .before)))) .args .grounds)) (now ((start-of (round-of (sized-of (c .before .before .before .before .before .before .before .before)))) .args .injection)) (length (now ((start-of (round-of (sized-of (c .before .before .before .before .before .before .before .before)))) .args .leader))) ((round-of (sized-of (c .before .before .before .before .before .before .before .before))) .rounds .left - 1) (c .before .before .before .before .before .before .before .before .components .level) ((c .before .before .before .before .before .before .before .before) .before .before .before .before .before .before .before .limits-of .result) ((sized-of (c .before .before .before .before .before .before .before .before)) .before .before .before .before .before .before .before .before .before .before .before .before .before .before .draw-edges .result .from) ((sized-of (c .before .before .before .before .before .before .before .before)) .before .before .before .before .before .before .before .before .before .before .before .before .before .before .draw-edges .result .to) ((sized-of (c .before .before .before .before .before .before .before .before)) .before .before .before .before .before .before .before .before .before .before .before .before .before .before .draw-edges .result .weight) ((sized-of (c .before .before .before .before .before .before .before .before)) .before .before .before .before .before .before .before .before .before .before .before .peak-state .last .1 .1 .1 .0) ((sized-of (c .before .before .before .before .before .before .before .before)) .before .before .before .before .before .before .before .before .before .before .before .peak-state .last .1 .1 .1 .1 .0) (c .before .before .before .before .before .before .before .before .components .p) ((sized-of (c .before .before .before .before .before .before .before .before)) .corridors .t) (c .before .before .before .before .before .before .before .before .components .i) (c .before .before .before .before .before .before .before .before .components .circuits) (c .before .before .before .before .before .before .before .before .components .banks) (c .before .before .before .before .before .before .before .before .components .floors) (c .before .before .before .before .before .before .before .before .components .upsized) (c .before .before .before .before .before .before .before .before .components .marks) (c .before .before .before .before .before .before .before .before .components .s))
+    (goesOn ((start-of (round-of (sized-of (c .before .before .before .before .before .before .before .before)))) .args .mode) ((start-of (round-of (sized-of (c .before .before .before .before .before .before .before .before)))) .args .above) (now ((start-of (round-of (sized-of (c .before .before .before .before .before .before .before .before)))) .args .ladder)) (now ((start-of (round-of (sized-of (c .before .before .before .before .before .before .before .before)))) .args .a)) (now ((start-of (round-of (sized-of (c .before .before .before .before .before .before .before .before)))) .args .b)) (now ((start-of (round-of (sized-of (c .before .before .before .before .before .before .before .before)))) .args .km)) (now ((start-of (round-of (sized-of (c .before .before .before .before .before .before .before .before)))) .args .share)) (now ((start-of (round-of (sized-of (c .before .before .before .before .before .before .before .before)))) .args .sheet)) (now ((start-of (round-of (sized-of (c .before .before .before .before .before .before .before .before)))) .args .load)) (now ((start-of (round-of (sized-of (c .before .before .before .before .before .before .before .before)))) .args .bus)) (now ((start-of (round-of (sized-of (c .before .before .before .before .before .before .before .before)))) .args .pmax)) (now ((start-of (round-of (sized-of (c .before .before .before .before .before .before .before .before)))) .args .leader)) (now ((start-of (round-of (sized-of (c .before .before .before .before .before .before .before .before)))) .args .grounds)) (now ((start-of (round-of (sized-of (c .before .before .before .before .before .before .before .before)))) .args .injection)) (length (now ((start-of (round-of (sized-of (c .before .before .before .before .before .before .before .before)))) .args .leader))) ((start-of (round-of (sized-of (c .before .before .before .before .before .before .before .before)))) .args .budget) (now ((start-of (round-of (sized-of (c .before .before .before .before .before .before .before .before)))) .args .level)) (now ((start-of (round-of (sized-of (c .before .before .before .before .before .before .before .before)))) .args .circuits)) (now ((start-of (round-of (sized-of (c .before .before .before .before .before .before .before .before)))) .args .banks)) (now ((start-of (round-of (sized-of (c .before .before .before .before .before .before .before .before)))) .args .floors)) (now ((start-of (round-of (sized-of (c .before .before .before .before .before .before .before .before)))) .args .upsized)) (now ((start-of (round-of (sized-of (c .before .before .before .before .before .before .before .before)))) .args .angle)) ((start-of (round-of (sized-of (c .before .before .before .before .before .before .before .before)))) .args .start))
 whole c =
-    alike-trans (c .before .before .before .before .before .before .before .before .before .before .before .before .before .before .before .before .before .before .before .before .before .before .before .before .before .before .before .before .before .before .before .before .before .before .before .before .before .before .before .before .before .before .before .before .before .before .before .before .before .before .before .before .before .before .before .before .before .before .before .args .mode) (c .before .before .before .before .before .before .before .before .before .before .before .before .before .before .before .before .before .before .before .before .before .before .before .before .before .before .before .before .before .before .before .before .before .before .before .before .before .before .before .before .before .before .before .before .before .before .before .before .before .before .before .before .before .before .before .before .before .before .before .args .above) (now (c .before .before .before .before .before .before .before .before .before .before .before .before .before .before .before .before .before .before .before .before .before .before .before .before .before .before .before .before .before .before .before .before .before .before .before .before .before .before .before .before .before .before .before .before .before .before .before .before .before .before .before .before .before .before .before .before .before .before .before .args .ladder)) (now (c .before .before .before .before .before .before .before .before .before .before .before .before .before .before .before .before .before .before .before .before .before .before .before .before .before .before .before .before .before .before .before .before .before .before .before .before .before .before .before .before .before .before .before .before .before .before .before .before .before .before .before .before .before .before .before .before .before .before .before .args .a)) (now (c .before .before .before .before .before .before .before .before .before .before .before .before .before .before .before .before .before .before .before .before .before .before .before .before .before .before .before .before .before .before .before .before .before .before .before .before .before .before .before .before .before .before .before .before .before .before .before .before .before .before .before .before .before .before .before .before .before .before .before .args .b)) (now (c .before .before .before .before .before .before .before .before .before .before .before .before .before .before .before .before .before .before .before .before .before .before .before .before .before .before .before .before .before .before .before .before .before .before .before .before .before .before .before .before .before .before .before .before .before .before .before .before .before .before .before .before .before .before .before .before .before .before .before .args .km)) (now (c .before .before .before .before .before .before .before .before .before .before .before .before .before .before .before .before .before .before .before .before .before .before .before .before .before .before .before .before .before .before .before .before .before .before .before .before .before .before .before .before .before .before .before .before .before .before .before .before .before .before .before .before .before .before .before .before .before .before .before .args .share)) (now (c .before .before .before .before .before .before .before .before .before .before .before .before .before .before .before .before .before .before .before .before .before .before .before .before .before .before .before .before .before .before .before .before .before .before .before .before .before .before .before .before .before .before .before .before .before .before .before .before .before .before .before .before .before .before .before .before .before .before .before .args .sheet)) (now (c .before .before .before .before .before .before .before .before .before .before .before .before .before .before .before .before .before .before .before .before .before .before .before .before .before .before .before .before .before .before .before .before .before .before .before .before .before .before .before .before .before .before .before .before .before .before .before .before .before .before .before .before .before .before .before .before .before .before .before .args .load)) (now (c .before .before .before .before .before .before .before .before .before .before .before .before .before .before .before .before .before .before .before .before .before .before .before .before .before .before .before .before .before .before .before .before .before .before .before .before .before .before .before .before .before .before .before .before .before .before .before .before .before .before .before .before .before .before .before .before .before .before .before .args .bus)) (now (c .before .before .before .before .before .before .before .before .before .before .before .before .before .before .before .before .before .before .before .before .before .before .before .before .before .before .before .before .before .before .before .before .before .before .before .before .before .before .before .before .before .before .before .before .before .before .before .before .before .before .before .before .before .before .before .before .before .before .before .args .pmax)) (now (c .before .before .before .before .before .before .before .before .before .before .before .before .before .before .before .before .before .before .before .before .before .before .before .before .before .before .before .before .before .before .before .before .before .before .before .before .before .before .before .before .before .before .before .before .before .before .before .before .before .before .before .before .before .before .before .before .before .before .before .args .leader)) (now (c .before .before .before .before .before .before .before .before .before .before .before .before .before .before .before .before .before .before .before .before .before .before .before .before .before .before .before .before .before .before .before .before .before .before .before .before .before .before .before .before .before .before .before .before .before .before .before .before .before .before .before .before .before .before .before .before .before .before .before .args .grounds)) (now (c .before .before .before .before .before .before .before .before .before .before .before .before .before .before .before .before .before .before .before .before .before .before .before .before .before .before .before .before .before .before .before .before .before .before .before .before .before .before .before .before .before .before .before .before .before .before .before .before .before .before .before .before .before .before .before .before .before .before .before .args .injection)) (length (now (c .before .before .before .before .before .before .before .before .before .before .before .before .before .before .before .before .before .before .before .before .before .before .before .before .before .before .before .before .before .before .before .before .before .before .before .before .before .before .before .before .before .before .before .before .before .before .before .before .before .before .before .before .before .before .before .before .before .before .before .args .leader)))
-    (stiffensOn (c .before .before .before .before .before .before .before .before .before .before .before .before .before .before .before .before .before .before .before .before .before .before .before .before .before .before .before .before .before .before .before .before .before .before .before .before .before .before .before .before .before .before .before .before .before .before .before .before .before .before .before .before .before .before .before .before .before .before .before .args .mode) (c .before .before .before .before .before .before .before .before .before .before .before .before .before .before .before .before .before .before .before .before .before .before .before .before .before .before .before .before .before .before .before .before .before .before .before .before .before .before .before .before .before .before .before .before .before .before .before .before .before .before .before .before .before .before .before .before .before .before .before .args .above) (now (c .before .before .before .before .before .before .before .before .before .before .before .before .before .before .before .before .before .before .before .before .before .before .before .before .before .before .before .before .before .before .before .before .before .before .before .before .before .before .before .before .before .before .before .before .before .before .before .before .before .before .before .before .before .before .before .before .before .before .before .args .ladder)) (now (c .before .before .before .before .before .before .before .before .before .before .before .before .before .before .before .before .before .before .before .before .before .before .before .before .before .before .before .before .before .before .before .before .before .before .before .before .before .before .before .before .before .before .before .before .before .before .before .before .before .before .before .before .before .before .before .before .before .before .before .args .a)) (now (c .before .before .before .before .before .before .before .before .before .before .before .before .before .before .before .before .before .before .before .before .before .before .before .before .before .before .before .before .before .before .before .before .before .before .before .before .before .before .before .before .before .before .before .before .before .before .before .before .before .before .before .before .before .before .before .before .before .before .before .args .b)) (now (c .before .before .before .before .before .before .before .before .before .before .before .before .before .before .before .before .before .before .before .before .before .before .before .before .before .before .before .before .before .before .before .before .before .before .before .before .before .before .before .before .before .before .before .before .before .before .before .before .before .before .before .before .before .before .before .before .before .before .before .args .km)) (now (c .before .before .before .before .before .before .before .before .before .before .before .before .before .before .before .before .before .before .before .before .before .before .before .before .before .before .before .before .before .before .before .before .before .before .before .before .before .before .before .before .before .before .before .before .before .before .before .before .before .before .before .before .before .before .before .before .before .before .before .args .share)) (now (c .before .before .before .before .before .before .before .before .before .before .before .before .before .before .before .before .before .before .before .before .before .before .before .before .before .before .before .before .before .before .before .before .before .before .before .before .before .before .before .before .before .before .before .before .before .before .before .before .before .before .before .before .before .before .before .before .before .before .before .args .sheet)) (now (c .before .before .before .before .before .before .before .before .before .before .before .before .before .before .before .before .before .before .before .before .before .before .before .before .before .before .before .before .before .before .before .before .before .before .before .before .before .before .before .before .before .before .before .before .before .before .before .before .before .before .before .before .before .before .before .before .before .before .before .args .load)) (now (c .before .before .before .before .before .before .before .before .before .before .before .before .before .before .before .before .before .before .before .before .before .before .before .before .before .before .before .before .before .before .before .before .before .before .before .before .before .before .before .before .before .before .before .before .before .before .before .before .before .before .before .before .before .before .before .before .before .before .before .args .bus)) (now (c .before .before .before .before .before .before .before .before .before .before .before .before .before .before .before .before .before .before .before .before .before .before .before .before .before .before .before .before .before .before .before .before .before .before .before .before .before .before .before .before .before .before .before .before .before .before .before .before .before .before .before .before .before .before .before .before .before .before .before .args .pmax)) (now (c .before .before .before .before .before .before .before .before .before .before .before .before .before .before .before .before .before .before .before .before .before .before .before .before .before .before .before .before .before .before .before .before .before .before .before .before .before .before .before .before .before .before .before .before .before .before .before .before .before .before .before .before .before .before .before .before .before .before .before .args .leader)) (now (c .before .before .before .before .before .before .before .before .before .before .before .before .before .before .before .before .before .before .before .before .before .before .before .before .before .before .before .before .before .before .before .before .before .before .before .before .before .before .before .before .before .before .before .before .before .before .before .before .before .before .before .before .before .before .before .before .before .before .before .args .grounds)) (now (c .before .before .before .before .before .before .before .before .before .before .before .before .before .before .before .before .before .before .before .before .before .before .before .before .before .before .before .before .before .before .before .before .before .before .before .before .before .before .before .before .before .before .before .before .before .before .before .before .before .before .before .before .before .before .before .before .before .before .before .args .injection)) (length (now (c .before .before .before .before .before .before .before .before .before .before .before .before .before .before .before .before .before .before .before .before .before .before .before .before .before .before .before .before .before .before .before .before .before .before .before .before .before .before .before .before .before .before .before .before .before .before .before .before .before .before .before .before .before .before .before .before .before .before .before .args .leader))) (c .before .before .before .before .before .before .before .before .before .before .before .before .before .before .before .before .before .before .before .before .before .before .before .before .before .before .before .before .before .before .before .before .before .before .before .before .before .before .rounds .left - 1) (c .before .before .before .before .before .before .before .before .components .level) (c .before .before .before .before .before .before .before .before .before .before .before .before .before .before .before .limits-of .result) (c .before .before .before .before .before .before .before .before .before .before .before .before .before .before .before .before .before .before .before .before .before .before .before .before .before .before .before .before .before .before .before .before .draw-edges .result .from) (c .before .before .before .before .before .before .before .before .before .before .before .before .before .before .before .before .before .before .before .before .before .before .before .before .before .before .before .before .before .before .before .before .draw-edges .result .to) (c .before .before .before .before .before .before .before .before .before .before .before .before .before .before .before .before .before .before .before .before .before .before .before .before .before .before .before .before .before .before .before .before .draw-edges .result .weight) (c .before .before .before .before .before .before .before .before .before .before .before .before .before .before .before .before .before .before .before .before .before .before .before .before .before .before .before .before .before .peak-state .last .1 .1 .1 .0) (c .before .before .before .before .before .before .before .before .before .before .before .before .before .before .before .before .before .before .before .before .before .before .before .before .before .before .before .before .before .peak-state .last .1 .1 .1 .1 .0) (c .before .before .before .before .before .before .before .before .components .p) (c .before .before .before .before .before .before .before .before .before .before .before .before .before .before .before .before .before .before .corridors .t) (c .before .before .before .before .before .before .before .before .components .i) (c .before .before .before .before .before .before .before .before .components .circuits) (c .before .before .before .before .before .before .before .before .components .banks) (c .before .before .before .before .before .before .before .before .components .floors) (c .before .before .before .before .before .before .before .before .components .upsized) (c .before .before .before .before .before .before .before .before .components .marks) (c .before .before .before .before .before .before .before .before .components .s))
-    (stiffensOn (c .before .before .before .before .before .before .before .before .before .before .before .before .before .before .before .before .before .before .before .before .before .before .before .before .before .before .before .before .before .before .before .before .before .before .before .before .before .before .before .before .before .before .before .before .before .before .before .before .before .before .before .before .before .before .before .before .before .before .before .args .mode) (c .before .before .before .before .before .before .before .before .before .before .before .before .before .before .before .before .before .before .before .before .before .before .before .before .before .before .before .before .before .before .before .before .before .before .before .before .before .before .before .before .before .before .before .before .before .before .before .before .before .before .before .before .before .before .before .before .before .before .before .args .above) (now (c .before .before .before .before .before .before .before .before .before .before .before .before .before .before .before .before .before .before .before .before .before .before .before .before .before .before .before .before .before .before .before .before .before .before .before .before .before .before .before .before .before .before .before .before .before .before .before .before .before .before .before .before .before .before .before .before .before .before .before .args .ladder)) (now (c .before .before .before .before .before .before .before .before .before .before .before .before .before .before .before .before .before .before .before .before .before .before .before .before .before .before .before .before .before .before .before .before .before .before .before .before .before .before .before .before .before .before .before .before .before .before .before .before .before .before .before .before .before .before .before .before .before .before .before .args .a)) (now (c .before .before .before .before .before .before .before .before .before .before .before .before .before .before .before .before .before .before .before .before .before .before .before .before .before .before .before .before .before .before .before .before .before .before .before .before .before .before .before .before .before .before .before .before .before .before .before .before .before .before .before .before .before .before .before .before .before .before .before .args .b)) (now (c .before .before .before .before .before .before .before .before .before .before .before .before .before .before .before .before .before .before .before .before .before .before .before .before .before .before .before .before .before .before .before .before .before .before .before .before .before .before .before .before .before .before .before .before .before .before .before .before .before .before .before .before .before .before .before .before .before .before .before .args .km)) (now (c .before .before .before .before .before .before .before .before .before .before .before .before .before .before .before .before .before .before .before .before .before .before .before .before .before .before .before .before .before .before .before .before .before .before .before .before .before .before .before .before .before .before .before .before .before .before .before .before .before .before .before .before .before .before .before .before .before .before .before .args .share)) (now (c .before .before .before .before .before .before .before .before .before .before .before .before .before .before .before .before .before .before .before .before .before .before .before .before .before .before .before .before .before .before .before .before .before .before .before .before .before .before .before .before .before .before .before .before .before .before .before .before .before .before .before .before .before .before .before .before .before .before .before .args .sheet)) (now (c .before .before .before .before .before .before .before .before .before .before .before .before .before .before .before .before .before .before .before .before .before .before .before .before .before .before .before .before .before .before .before .before .before .before .before .before .before .before .before .before .before .before .before .before .before .before .before .before .before .before .before .before .before .before .before .before .before .before .before .args .load)) (now (c .before .before .before .before .before .before .before .before .before .before .before .before .before .before .before .before .before .before .before .before .before .before .before .before .before .before .before .before .before .before .before .before .before .before .before .before .before .before .before .before .before .before .before .before .before .before .before .before .before .before .before .before .before .before .before .before .before .before .before .args .bus)) (now (c .before .before .before .before .before .before .before .before .before .before .before .before .before .before .before .before .before .before .before .before .before .before .before .before .before .before .before .before .before .before .before .before .before .before .before .before .before .before .before .before .before .before .before .before .before .before .before .before .before .before .before .before .before .before .before .before .before .before .before .args .pmax)) (now (c .before .before .before .before .before .before .before .before .before .before .before .before .before .before .before .before .before .before .before .before .before .before .before .before .before .before .before .before .before .before .before .before .before .before .before .before .before .before .before .before .before .before .before .before .before .before .before .before .before .before .before .before .before .before .before .before .before .before .before .args .leader)) (now (c .before .before .before .before .before .before .before .before .before .before .before .before .before .before .before .before .before .before .before .before .before .before .before .before .before .before .before .before .before .before .before .before .before .before .before .before .before .before .before .before .before .before .before .before .before .before .before .before .before .before .before .before .before .before .before .before .before .before .before .args .grounds)) (now (c .before .before .before .before .before .before .before .before .before .before .before .before .before .before .before .before .before .before .before .before .before .before .before .before .before .before .before .before .before .before .before .before .before .before .before .before .before .before .before .before .before .before .before .before .before .before .before .before .before .before .before .before .before .before .before .before .before .before .before .args .injection)) (length (now (c .before .before .before .before .before .before .before .before .before .before .before .before .before .before .before .before .before .before .before .before .before .before .before .before .before .before .before .before .before .before .before .before .before .before .before .before .before .before .before .before .before .before .before .before .before .before .before .before .before .before .before .before .before .before .before .before .before .before .before .args .leader))) (c .before .before .before .before .before .before .before .before .before .before .before .before .before .before .before .before .before .before .before .before .before .before .before .before .before .before .before .before .before .before .before .before .before .before .before .before .before .before .rounds .left - 1) (c .before .before .before .before .before .before .before .before .before .before .before .before .before .before .before .before .before .before .corridors .level) (c .before .before .before .before .before .before .before .before .before .before .before .before .before .before .before .limits-of .result) (c .before .before .before .before .before .before .before .before .before .before .before .before .before .before .before .before .before .before .before .before .before .before .before .before .before .before .before .before .before .before .before .before .draw-edges .result .from) (c .before .before .before .before .before .before .before .before .before .before .before .before .before .before .before .before .before .before .before .before .before .before .before .before .before .before .before .before .before .before .before .before .draw-edges .result .to) (c .before .before .before .before .before .before .before .before .before .before .before .before .before .before .before .before .before .before .before .before .before .before .before .before .before .before .before .before .before .before .before .before .draw-edges .result .weight) (c .before .before .before .before .before .before .before .before .before .before .before .before .before .before .before .before .before .before .before .before .before .before .before .before .before .before .before .before .before .peak-state .last .1 .1 .1 .0) (c .before .before .before .before .before .before .before .before .before .before .before .before .before .before .before .before .before .before .before .before .before .before .before .before .before .before .before .before .before .peak-state .last .1 .1 .1 .1 .0) (c .before .before .before .before .before .before .before .before .before .before .before .before .before .before .before .before .before .before .corridors .p) (c .before .before .before .before .before .before .before .before .before .before .before .before .before .before .before .before .before .before .corridors .t) 0 (c .before .before .before .before .before .before .before .before .before .before .before .before .before .before .before .before .before .before .corridors .circuits) (c .before .before .before .before .before .before .before .before .before .before .before .before .before .before .before .before .before .before .corridors .banks) (c .before .before .before .before .before .before .before .before .before .before .before .before .before .before .before .before .before .before .corridors .floors) (c .before .before .before .before .before .before .before .before .before .before .before .before .before .before .before .before .before .before .corridors .upsized) (c .before .before .before .before .before .before .before .before .before .before .before .stiffness-from .last .1 .1 .1 .1 .0) (c .before .before .before .before .before .before .before .before .before .before .before .stiffness-from .result))
-    (goesOn (c .before .before .before .before .before .before .before .before .before .before .before .before .before .before .before .before .before .before .before .before .before .before .before .before .before .before .before .before .before .before .before .before .before .before .before .before .before .before .before .before .before .before .before .before .before .before .before .before .before .before .before .before .before .before .before .before .before .before .before .args .mode) (c .before .before .before .before .before .before .before .before .before .before .before .before .before .before .before .before .before .before .before .before .before .before .before .before .before .before .before .before .before .before .before .before .before .before .before .before .before .before .before .before .before .before .before .before .before .before .before .before .before .before .before .before .before .before .before .before .before .before .before .args .above) (now (c .before .before .before .before .before .before .before .before .before .before .before .before .before .before .before .before .before .before .before .before .before .before .before .before .before .before .before .before .before .before .before .before .before .before .before .before .before .before .before .before .before .before .before .before .before .before .before .before .before .before .before .before .before .before .before .before .before .before .before .args .ladder)) (now (c .before .before .before .before .before .before .before .before .before .before .before .before .before .before .before .before .before .before .before .before .before .before .before .before .before .before .before .before .before .before .before .before .before .before .before .before .before .before .before .before .before .before .before .before .before .before .before .before .before .before .before .before .before .before .before .before .before .before .before .args .a)) (now (c .before .before .before .before .before .before .before .before .before .before .before .before .before .before .before .before .before .before .before .before .before .before .before .before .before .before .before .before .before .before .before .before .before .before .before .before .before .before .before .before .before .before .before .before .before .before .before .before .before .before .before .before .before .before .before .before .before .before .before .args .b)) (now (c .before .before .before .before .before .before .before .before .before .before .before .before .before .before .before .before .before .before .before .before .before .before .before .before .before .before .before .before .before .before .before .before .before .before .before .before .before .before .before .before .before .before .before .before .before .before .before .before .before .before .before .before .before .before .before .before .before .before .before .args .km)) (now (c .before .before .before .before .before .before .before .before .before .before .before .before .before .before .before .before .before .before .before .before .before .before .before .before .before .before .before .before .before .before .before .before .before .before .before .before .before .before .before .before .before .before .before .before .before .before .before .before .before .before .before .before .before .before .before .before .before .before .before .args .share)) (now (c .before .before .before .before .before .before .before .before .before .before .before .before .before .before .before .before .before .before .before .before .before .before .before .before .before .before .before .before .before .before .before .before .before .before .before .before .before .before .before .before .before .before .before .before .before .before .before .before .before .before .before .before .before .before .before .before .before .before .before .args .sheet)) (now (c .before .before .before .before .before .before .before .before .before .before .before .before .before .before .before .before .before .before .before .before .before .before .before .before .before .before .before .before .before .before .before .before .before .before .before .before .before .before .before .before .before .before .before .before .before .before .before .before .before .before .before .before .before .before .before .before .before .before .before .args .load)) (now (c .before .before .before .before .before .before .before .before .before .before .before .before .before .before .before .before .before .before .before .before .before .before .before .before .before .before .before .before .before .before .before .before .before .before .before .before .before .before .before .before .before .before .before .before .before .before .before .before .before .before .before .before .before .before .before .before .before .before .before .args .bus)) (now (c .before .before .before .before .before .before .before .before .before .before .before .before .before .before .before .before .before .before .before .before .before .before .before .before .before .before .before .before .before .before .before .before .before .before .before .before .before .before .before .before .before .before .before .before .before .before .before .before .before .before .before .before .before .before .before .before .before .before .before .args .pmax)) (now (c .before .before .before .before .before .before .before .before .before .before .before .before .before .before .before .before .before .before .before .before .before .before .before .before .before .before .before .before .before .before .before .before .before .before .before .before .before .before .before .before .before .before .before .before .before .before .before .before .before .before .before .before .before .before .before .before .before .before .before .args .leader)) (now (c .before .before .before .before .before .before .before .before .before .before .before .before .before .before .before .before .before .before .before .before .before .before .before .before .before .before .before .before .before .before .before .before .before .before .before .before .before .before .before .before .before .before .before .before .before .before .before .before .before .before .before .before .before .before .before .before .before .before .before .args .grounds)) (now (c .before .before .before .before .before .before .before .before .before .before .before .before .before .before .before .before .before .before .before .before .before .before .before .before .before .before .before .before .before .before .before .before .before .before .before .before .before .before .before .before .before .before .before .before .before .before .before .before .before .before .before .before .before .before .before .before .before .before .before .args .injection)) (length (now (c .before .before .before .before .before .before .before .before .before .before .before .before .before .before .before .before .before .before .before .before .before .before .before .before .before .before .before .before .before .before .before .before .before .before .before .before .before .before .before .before .before .before .before .before .before .before .before .before .before .before .before .before .before .before .before .before .before .before .before .args .leader))) (c .before .before .before .before .before .before .before .before .before .before .before .before .before .before .before .before .before .before .before .before .before .before .before .before .before .before .before .before .before .before .before .before .before .before .before .before .before .before .before .before .before .before .before .before .before .before .before .before .before .before .before .before .before .before .before .before .before .before .before .args .budget) (now (c .before .before .before .before .before .before .before .before .before .before .before .before .before .before .before .before .before .before .before .before .before .before .before .before .before .before .before .before .before .before .before .before .before .before .before .before .before .before .before .before .before .before .before .before .before .before .before .before .before .before .before .before .before .before .before .before .before .before .before .args .level)) (now (c .before .before .before .before .before .before .before .before .before .before .before .before .before .before .before .before .before .before .before .before .before .before .before .before .before .before .before .before .before .before .before .before .before .before .before .before .before .before .before .before .before .before .before .before .before .before .before .before .before .before .before .before .before .before .before .before .before .before .before .args .circuits)) (now (c .before .before .before .before .before .before .before .before .before .before .before .before .before .before .before .before .before .before .before .before .before .before .before .before .before .before .before .before .before .before .before .before .before .before .before .before .before .before .before .before .before .before .before .before .before .before .before .before .before .before .before .before .before .before .before .before .before .before .before .args .banks)) (now (c .before .before .before .before .before .before .before .before .before .before .before .before .before .before .before .before .before .before .before .before .before .before .before .before .before .before .before .before .before .before .before .before .before .before .before .before .before .before .before .before .before .before .before .before .before .before .before .before .before .before .before .before .before .before .before .before .before .before .before .args .floors)) (now (c .before .before .before .before .before .before .before .before .before .before .before .before .before .before .before .before .before .before .before .before .before .before .before .before .before .before .before .before .before .before .before .before .before .before .before .before .before .before .before .before .before .before .before .before .before .before .before .before .before .before .before .before .before .before .before .before .before .before .before .args .upsized)) (now (c .before .before .before .before .before .before .before .before .before .before .before .before .before .before .before .before .before .before .before .before .before .before .before .before .before .before .before .before .before .before .before .before .before .before .before .before .before .before .before .before .before .before .before .before .before .before .before .before .before .before .before .before .before .before .before .before .before .before .before .args .angle)) (c .before .before .before .before .before .before .before .before .before .before .before .before .before .before .before .before .before .before .before .before .before .before .before .before .before .before .before .before .before .before .before .before .before .before .before .before .before .before .before .before .before .before .before .before .before .before .before .before .before .before .before .before .before .before .before .before .before .before .before .args .start))
+    alike-trans ((start-of (round-of (sized-of (c .before .before .before .before .before .before .before .before)))) .args .mode) ((start-of (round-of (sized-of (c .before .before .before .before .before .before .before .before)))) .args .above) (now ((start-of (round-of (sized-of (c .before .before .before .before .before .before .before .before)))) .args .ladder)) (now ((start-of (round-of (sized-of (c .before .before .before .before .before .before .before .before)))) .args .a)) (now ((start-of (round-of (sized-of (c .before .before .before .before .before .before .before .before)))) .args .b)) (now ((start-of (round-of (sized-of (c .before .before .before .before .before .before .before .before)))) .args .km)) (now ((start-of (round-of (sized-of (c .before .before .before .before .before .before .before .before)))) .args .share)) (now ((start-of (round-of (sized-of (c .before .before .before .before .before .before .before .before)))) .args .sheet)) (now ((start-of (round-of (sized-of (c .before .before .before .before .before .before .before .before)))) .args .load)) (now ((start-of (round-of (sized-of (c .before .before .before .before .before .before .before .before)))) .args .bus)) (now ((start-of (round-of (sized-of (c .before .before .before .before .before .before .before .before)))) .args .pmax)) (now ((start-of (round-of (sized-of (c .before .before .before .before .before .before .before .before)))) .args .leader)) (now ((start-of (round-of (sized-of (c .before .before .before .before .before .before .before .before)))) .args .grounds)) (now ((start-of (round-of (sized-of (c .before .before .before .before .before .before .before .before)))) .args .injection)) (length (now ((start-of (round-of (sized-of (c .before .before .before .before .before .before .before .before)))) .args .leader)))
+    (stiffensOn ((start-of (round-of (sized-of (c .before .before .before .before .before .before .before .before)))) .args .mode) ((start-of (round-of (sized-of (c .before .before .before .before .before .before .before .before)))) .args .above) (now ((start-of (round-of (sized-of (c .before .before .before .before .before .before .before .before)))) .args .ladder)) (now ((start-of (round-of (sized-of (c .before .before .before .before .before .before .before .before)))) .args .a)) (now ((start-of (round-of (sized-of (c .before .before .before .before .before .before .before .before)))) .args .b)) (now ((start-of (round-of (sized-of (c .before .before .before .before .before .before .before .before)))) .args .km)) (now ((start-of (round-of (sized-of (c .before .before .before .before .before .before .before .before)))) .args .share)) (now ((start-of (round-of (sized-of (c .before .before .before .before .before .before .before .before)))) .args .sheet)) (now ((start-of (round-of (sized-of (c .before .before .before .before .before .before .before .before)))) .args .load)) (now ((start-of (round-of (sized-of (c .before .before .before .before .before .before .before .before)))) .args .bus)) (now ((start-of (round-of (sized-of (c .before .before .before .before .before .before .before .before)))) .args .pmax)) (now ((start-of (round-of (sized-of (c .before .before .before .before .before .before .before .before)))) .args .leader)) (now ((start-of (round-of (sized-of (c .before .before .before .before .before .before .before .before)))) .args .grounds)) (now ((start-of (round-of (sized-of (c .before .before .before .before .before .before .before .before)))) .args .injection)) (length (now ((start-of (round-of (sized-of (c .before .before .before .before .before .before .before .before)))) .args .leader))) ((round-of (sized-of (c .before .before .before .before .before .before .before .before))) .rounds .left - 1) (c .before .before .before .before .before .before .before .before .components .level) ((c .before .before .before .before .before .before .before .before) .before .before .before .before .before .before .before .limits-of .result) ((sized-of (c .before .before .before .before .before .before .before .before)) .before .before .before .before .before .before .before .before .before .before .before .before .before .before .draw-edges .result .from) ((sized-of (c .before .before .before .before .before .before .before .before)) .before .before .before .before .before .before .before .before .before .before .before .before .before .before .draw-edges .result .to) ((sized-of (c .before .before .before .before .before .before .before .before)) .before .before .before .before .before .before .before .before .before .before .before .before .before .before .draw-edges .result .weight) ((sized-of (c .before .before .before .before .before .before .before .before)) .before .before .before .before .before .before .before .before .before .before .before .peak-state .last .1 .1 .1 .0) ((sized-of (c .before .before .before .before .before .before .before .before)) .before .before .before .before .before .before .before .before .before .before .before .peak-state .last .1 .1 .1 .1 .0) (c .before .before .before .before .before .before .before .before .components .p) ((sized-of (c .before .before .before .before .before .before .before .before)) .corridors .t) (c .before .before .before .before .before .before .before .before .components .i) (c .before .before .before .before .before .before .before .before .components .circuits) (c .before .before .before .before .before .before .before .before .components .banks) (c .before .before .before .before .before .before .before .before .components .floors) (c .before .before .before .before .before .before .before .before .components .upsized) (c .before .before .before .before .before .before .before .before .components .marks) (c .before .before .before .before .before .before .before .before .components .s))
+    (stiffensOn ((start-of (round-of (sized-of (c .before .before .before .before .before .before .before .before)))) .args .mode) ((start-of (round-of (sized-of (c .before .before .before .before .before .before .before .before)))) .args .above) (now ((start-of (round-of (sized-of (c .before .before .before .before .before .before .before .before)))) .args .ladder)) (now ((start-of (round-of (sized-of (c .before .before .before .before .before .before .before .before)))) .args .a)) (now ((start-of (round-of (sized-of (c .before .before .before .before .before .before .before .before)))) .args .b)) (now ((start-of (round-of (sized-of (c .before .before .before .before .before .before .before .before)))) .args .km)) (now ((start-of (round-of (sized-of (c .before .before .before .before .before .before .before .before)))) .args .share)) (now ((start-of (round-of (sized-of (c .before .before .before .before .before .before .before .before)))) .args .sheet)) (now ((start-of (round-of (sized-of (c .before .before .before .before .before .before .before .before)))) .args .load)) (now ((start-of (round-of (sized-of (c .before .before .before .before .before .before .before .before)))) .args .bus)) (now ((start-of (round-of (sized-of (c .before .before .before .before .before .before .before .before)))) .args .pmax)) (now ((start-of (round-of (sized-of (c .before .before .before .before .before .before .before .before)))) .args .leader)) (now ((start-of (round-of (sized-of (c .before .before .before .before .before .before .before .before)))) .args .grounds)) (now ((start-of (round-of (sized-of (c .before .before .before .before .before .before .before .before)))) .args .injection)) (length (now ((start-of (round-of (sized-of (c .before .before .before .before .before .before .before .before)))) .args .leader))) ((round-of (sized-of (c .before .before .before .before .before .before .before .before))) .rounds .left - 1) ((sized-of (c .before .before .before .before .before .before .before .before)) .corridors .level) ((c .before .before .before .before .before .before .before .before) .before .before .before .before .before .before .before .limits-of .result) ((sized-of (c .before .before .before .before .before .before .before .before)) .before .before .before .before .before .before .before .before .before .before .before .before .before .before .draw-edges .result .from) ((sized-of (c .before .before .before .before .before .before .before .before)) .before .before .before .before .before .before .before .before .before .before .before .before .before .before .draw-edges .result .to) ((sized-of (c .before .before .before .before .before .before .before .before)) .before .before .before .before .before .before .before .before .before .before .before .before .before .before .draw-edges .result .weight) ((sized-of (c .before .before .before .before .before .before .before .before)) .before .before .before .before .before .before .before .before .before .before .before .peak-state .last .1 .1 .1 .0) ((sized-of (c .before .before .before .before .before .before .before .before)) .before .before .before .before .before .before .before .before .before .before .before .peak-state .last .1 .1 .1 .1 .0) ((sized-of (c .before .before .before .before .before .before .before .before)) .corridors .p) ((sized-of (c .before .before .before .before .before .before .before .before)) .corridors .t) 0 ((sized-of (c .before .before .before .before .before .before .before .before)) .corridors .circuits) ((sized-of (c .before .before .before .before .before .before .before .before)) .corridors .banks) ((sized-of (c .before .before .before .before .before .before .before .before)) .corridors .floors) ((sized-of (c .before .before .before .before .before .before .before .before)) .corridors .upsized) ((c .before .before .before .before .before .before .before .before) .before .before .before .stiffness-from .last .1 .1 .1 .1 .0) ((c .before .before .before .before .before .before .before .before) .before .before .before .stiffness-from .result))
+    (goesOn ((start-of (round-of (sized-of (c .before .before .before .before .before .before .before .before)))) .args .mode) ((start-of (round-of (sized-of (c .before .before .before .before .before .before .before .before)))) .args .above) (now ((start-of (round-of (sized-of (c .before .before .before .before .before .before .before .before)))) .args .ladder)) (now ((start-of (round-of (sized-of (c .before .before .before .before .before .before .before .before)))) .args .a)) (now ((start-of (round-of (sized-of (c .before .before .before .before .before .before .before .before)))) .args .b)) (now ((start-of (round-of (sized-of (c .before .before .before .before .before .before .before .before)))) .args .km)) (now ((start-of (round-of (sized-of (c .before .before .before .before .before .before .before .before)))) .args .share)) (now ((start-of (round-of (sized-of (c .before .before .before .before .before .before .before .before)))) .args .sheet)) (now ((start-of (round-of (sized-of (c .before .before .before .before .before .before .before .before)))) .args .load)) (now ((start-of (round-of (sized-of (c .before .before .before .before .before .before .before .before)))) .args .bus)) (now ((start-of (round-of (sized-of (c .before .before .before .before .before .before .before .before)))) .args .pmax)) (now ((start-of (round-of (sized-of (c .before .before .before .before .before .before .before .before)))) .args .leader)) (now ((start-of (round-of (sized-of (c .before .before .before .before .before .before .before .before)))) .args .grounds)) (now ((start-of (round-of (sized-of (c .before .before .before .before .before .before .before .before)))) .args .injection)) (length (now ((start-of (round-of (sized-of (c .before .before .before .before .before .before .before .before)))) .args .leader))) ((start-of (round-of (sized-of (c .before .before .before .before .before .before .before .before)))) .args .budget) (now ((start-of (round-of (sized-of (c .before .before .before .before .before .before .before .before)))) .args .level)) (now ((start-of (round-of (sized-of (c .before .before .before .before .before .before .before .before)))) .args .circuits)) (now ((start-of (round-of (sized-of (c .before .before .before .before .before .before .before .before)))) .args .banks)) (now ((start-of (round-of (sized-of (c .before .before .before .before .before .before .before .before)))) .args .floors)) (now ((start-of (round-of (sized-of (c .before .before .before .before .before .before .before .before)))) .args .upsized)) (now ((start-of (round-of (sized-of (c .before .before .before .before .before .before .before .before)))) .args .angle)) ((start-of (round-of (sized-of (c .before .before .before .before .before .before .before .before)))) .args .start))
     (c .before .before .before .before .before .before .before .before .components .inv .7)
-    (stiffens (c .before .before .before .before .before .before .before .before .before .before .before .before .before .before .before .before .before .before .before .before .before .before .before .before .before .before .before .before .before .before .before .before .before .before .before .before .before .before .before .before .before .before .before .before .before .before .before .before .before .before .before .before .before .before .before .before .before .before .before .args .mode) (c .before .before .before .before .before .before .before .before .before .before .before .before .before .before .before .before .before .before .before .before .before .before .before .before .before .before .before .before .before .before .before .before .before .before .before .before .before .before .before .before .before .before .before .before .before .before .before .before .before .before .before .before .before .before .before .before .before .before .before .args .above) (now (c .before .before .before .before .before .before .before .before .before .before .before .before .before .before .before .before .before .before .before .before .before .before .before .before .before .before .before .before .before .before .before .before .before .before .before .before .before .before .before .before .before .before .before .before .before .before .before .before .before .before .before .before .before .before .before .before .before .before .before .args .ladder)) (now (c .before .before .before .before .before .before .before .before .before .before .before .before .before .before .before .before .before .before .before .before .before .before .before .before .before .before .before .before .before .before .before .before .before .before .before .before .before .before .before .before .before .before .before .before .before .before .before .before .before .before .before .before .before .before .before .before .before .before .before .args .a)) (now (c .before .before .before .before .before .before .before .before .before .before .before .before .before .before .before .before .before .before .before .before .before .before .before .before .before .before .before .before .before .before .before .before .before .before .before .before .before .before .before .before .before .before .before .before .before .before .before .before .before .before .before .before .before .before .before .before .before .before .before .args .b)) (now (c .before .before .before .before .before .before .before .before .before .before .before .before .before .before .before .before .before .before .before .before .before .before .before .before .before .before .before .before .before .before .before .before .before .before .before .before .before .before .before .before .before .before .before .before .before .before .before .before .before .before .before .before .before .before .before .before .before .before .before .args .km)) (now (c .before .before .before .before .before .before .before .before .before .before .before .before .before .before .before .before .before .before .before .before .before .before .before .before .before .before .before .before .before .before .before .before .before .before .before .before .before .before .before .before .before .before .before .before .before .before .before .before .before .before .before .before .before .before .before .before .before .before .before .args .share)) (now (c .before .before .before .before .before .before .before .before .before .before .before .before .before .before .before .before .before .before .before .before .before .before .before .before .before .before .before .before .before .before .before .before .before .before .before .before .before .before .before .before .before .before .before .before .before .before .before .before .before .before .before .before .before .before .before .before .before .before .before .args .sheet)) (now (c .before .before .before .before .before .before .before .before .before .before .before .before .before .before .before .before .before .before .before .before .before .before .before .before .before .before .before .before .before .before .before .before .before .before .before .before .before .before .before .before .before .before .before .before .before .before .before .before .before .before .before .before .before .before .before .before .before .before .before .args .load)) (now (c .before .before .before .before .before .before .before .before .before .before .before .before .before .before .before .before .before .before .before .before .before .before .before .before .before .before .before .before .before .before .before .before .before .before .before .before .before .before .before .before .before .before .before .before .before .before .before .before .before .before .before .before .before .before .before .before .before .before .before .args .bus)) (now (c .before .before .before .before .before .before .before .before .before .before .before .before .before .before .before .before .before .before .before .before .before .before .before .before .before .before .before .before .before .before .before .before .before .before .before .before .before .before .before .before .before .before .before .before .before .before .before .before .before .before .before .before .before .before .before .before .before .before .before .args .pmax)) (now (c .before .before .before .before .before .before .before .before .before .before .before .before .before .before .before .before .before .before .before .before .before .before .before .before .before .before .before .before .before .before .before .before .before .before .before .before .before .before .before .before .before .before .before .before .before .before .before .before .before .before .before .before .before .before .before .before .before .before .before .args .leader)) (now (c .before .before .before .before .before .before .before .before .before .before .before .before .before .before .before .before .before .before .before .before .before .before .before .before .before .before .before .before .before .before .before .before .before .before .before .before .before .before .before .before .before .before .before .before .before .before .before .before .before .before .before .before .before .before .before .before .before .before .before .args .grounds)) (now (c .before .before .before .before .before .before .before .before .before .before .before .before .before .before .before .before .before .before .before .before .before .before .before .before .before .before .before .before .before .before .before .before .before .before .before .before .before .before .before .before .before .before .before .before .before .before .before .before .before .before .before .before .before .before .before .before .before .before .before .args .injection)) (length (now (c .before .before .before .before .before .before .before .before .before .before .before .before .before .before .before .before .before .before .before .before .before .before .before .before .before .before .before .before .before .before .before .before .before .before .before .before .before .before .before .before .before .before .before .before .before .before .before .before .before .before .before .before .before .before .before .before .before .before .before .args .leader))) (c .before .before .before .before .before .before .before .before .before .before .before .before .before .before .before .before .before .before .corridors .level) (c .before .before .before .before .before .before .before .before .before .before .before .before .before .before .before .before .before .before .before .before .before .before .before .before .before .before .before .before .before .before .before .before .before .before .before .before .before .before .rounds .level) (c .before .before .before .before .before .before .before .before .before .before .before .before .before .before .before .before .before .before .before .before .before .before .before .before .before .before .before .before .before .before .before .before .before .before .before .before .before .before .rounds .circuits) (c .before .before .before .before .before .before .before .before .before .before .before .before .before .before .before .before .before .before .before .before .before .before .before .before .before .before .before .before .before .before .before .before .before .before .before .before .before .before .rounds .banks) (c .before .before .before .before .before .before .before .before .before .before .before .before .before .before .before .before .before .before .before .before .before .before .before .before .before .before .before .before .before .before .before .before .before .before .before .before .before .before .rounds .floors) (c .before .before .before .before .before .before .before .before .before .before .before .before .before .before .before .before .before .before .before .before .before .before .before .before .before .before .before .before .before .before .before .before .before .before .before .before .before .before .rounds .upsized) (c .before .before .before .before .before .before .before .before .before .before .before .before .before .before .before .before .before .before .before .before .before .before .before .before .before .before .before .before .before .before .before .before .before .before .before .before .before .before .rounds .angle) (c .before .before .before .before .before .before .before .before .before .before .before .before .before .before .before .before .before .before .before .before .before .before .before .before .before .before .before .before .before .before .before .before .before .before .before .before .before .before .rounds .p)
-    (goesOn (c .before .before .before .before .before .before .before .before .before .before .before .before .before .before .before .before .before .before .before .before .before .before .before .before .before .before .before .before .before .before .before .before .before .before .before .before .before .before .before .before .before .before .before .before .before .before .before .before .before .before .before .before .before .before .before .before .before .before .before .args .mode) (c .before .before .before .before .before .before .before .before .before .before .before .before .before .before .before .before .before .before .before .before .before .before .before .before .before .before .before .before .before .before .before .before .before .before .before .before .before .before .before .before .before .before .before .before .before .before .before .before .before .before .before .before .before .before .before .before .before .before .before .args .above) (now (c .before .before .before .before .before .before .before .before .before .before .before .before .before .before .before .before .before .before .before .before .before .before .before .before .before .before .before .before .before .before .before .before .before .before .before .before .before .before .before .before .before .before .before .before .before .before .before .before .before .before .before .before .before .before .before .before .before .before .before .args .ladder)) (now (c .before .before .before .before .before .before .before .before .before .before .before .before .before .before .before .before .before .before .before .before .before .before .before .before .before .before .before .before .before .before .before .before .before .before .before .before .before .before .before .before .before .before .before .before .before .before .before .before .before .before .before .before .before .before .before .before .before .before .before .args .a)) (now (c .before .before .before .before .before .before .before .before .before .before .before .before .before .before .before .before .before .before .before .before .before .before .before .before .before .before .before .before .before .before .before .before .before .before .before .before .before .before .before .before .before .before .before .before .before .before .before .before .before .before .before .before .before .before .before .before .before .before .before .args .b)) (now (c .before .before .before .before .before .before .before .before .before .before .before .before .before .before .before .before .before .before .before .before .before .before .before .before .before .before .before .before .before .before .before .before .before .before .before .before .before .before .before .before .before .before .before .before .before .before .before .before .before .before .before .before .before .before .before .before .before .before .before .args .km)) (now (c .before .before .before .before .before .before .before .before .before .before .before .before .before .before .before .before .before .before .before .before .before .before .before .before .before .before .before .before .before .before .before .before .before .before .before .before .before .before .before .before .before .before .before .before .before .before .before .before .before .before .before .before .before .before .before .before .before .before .before .args .share)) (now (c .before .before .before .before .before .before .before .before .before .before .before .before .before .before .before .before .before .before .before .before .before .before .before .before .before .before .before .before .before .before .before .before .before .before .before .before .before .before .before .before .before .before .before .before .before .before .before .before .before .before .before .before .before .before .before .before .before .before .before .args .sheet)) (now (c .before .before .before .before .before .before .before .before .before .before .before .before .before .before .before .before .before .before .before .before .before .before .before .before .before .before .before .before .before .before .before .before .before .before .before .before .before .before .before .before .before .before .before .before .before .before .before .before .before .before .before .before .before .before .before .before .before .before .before .args .load)) (now (c .before .before .before .before .before .before .before .before .before .before .before .before .before .before .before .before .before .before .before .before .before .before .before .before .before .before .before .before .before .before .before .before .before .before .before .before .before .before .before .before .before .before .before .before .before .before .before .before .before .before .before .before .before .before .before .before .before .before .before .args .bus)) (now (c .before .before .before .before .before .before .before .before .before .before .before .before .before .before .before .before .before .before .before .before .before .before .before .before .before .before .before .before .before .before .before .before .before .before .before .before .before .before .before .before .before .before .before .before .before .before .before .before .before .before .before .before .before .before .before .before .before .before .before .args .pmax)) (now (c .before .before .before .before .before .before .before .before .before .before .before .before .before .before .before .before .before .before .before .before .before .before .before .before .before .before .before .before .before .before .before .before .before .before .before .before .before .before .before .before .before .before .before .before .before .before .before .before .before .before .before .before .before .before .before .before .before .before .before .args .leader)) (now (c .before .before .before .before .before .before .before .before .before .before .before .before .before .before .before .before .before .before .before .before .before .before .before .before .before .before .before .before .before .before .before .before .before .before .before .before .before .before .before .before .before .before .before .before .before .before .before .before .before .before .before .before .before .before .before .before .before .before .before .args .grounds)) (now (c .before .before .before .before .before .before .before .before .before .before .before .before .before .before .before .before .before .before .before .before .before .before .before .before .before .before .before .before .before .before .before .before .before .before .before .before .before .before .before .before .before .before .before .before .before .before .before .before .before .before .before .before .before .before .before .before .before .before .before .args .injection)) (length (now (c .before .before .before .before .before .before .before .before .before .before .before .before .before .before .before .before .before .before .before .before .before .before .before .before .before .before .before .before .before .before .before .before .before .before .before .before .before .before .before .before .before .before .before .before .before .before .before .before .before .before .before .before .before .before .before .before .before .before .before .args .leader))) (c .before .before .before .before .before .before .before .before .before .before .before .before .before .before .before .before .before .before .before .before .before .before .before .before .before .before .before .before .before .before .before .before .before .before .before .before .before .before .before .before .before .before .before .before .before .before .before .before .before .before .before .before .before .before .before .before .before .before .before .args .budget) (now (c .before .before .before .before .before .before .before .before .before .before .before .before .before .before .before .before .before .before .before .before .before .before .before .before .before .before .before .before .before .before .before .before .before .before .before .before .before .before .before .before .before .before .before .before .before .before .before .before .before .before .before .before .before .before .before .before .before .before .before .args .level)) (now (c .before .before .before .before .before .before .before .before .before .before .before .before .before .before .before .before .before .before .before .before .before .before .before .before .before .before .before .before .before .before .before .before .before .before .before .before .before .before .before .before .before .before .before .before .before .before .before .before .before .before .before .before .before .before .before .before .before .before .before .args .circuits)) (now (c .before .before .before .before .before .before .before .before .before .before .before .before .before .before .before .before .before .before .before .before .before .before .before .before .before .before .before .before .before .before .before .before .before .before .before .before .before .before .before .before .before .before .before .before .before .before .before .before .before .before .before .before .before .before .before .before .before .before .before .args .banks)) (now (c .before .before .before .before .before .before .before .before .before .before .before .before .before .before .before .before .before .before .before .before .before .before .before .before .before .before .before .before .before .before .before .before .before .before .before .before .before .before .before .before .before .before .before .before .before .before .before .before .before .before .before .before .before .before .before .before .before .before .before .args .floors)) (now (c .before .before .before .before .before .before .before .before .before .before .before .before .before .before .before .before .before .before .before .before .before .before .before .before .before .before .before .before .before .before .before .before .before .before .before .before .before .before .before .before .before .before .before .before .before .before .before .before .before .before .before .before .before .before .before .before .before .before .before .args .upsized)) (now (c .before .before .before .before .before .before .before .before .before .before .before .before .before .before .before .before .before .before .before .before .before .before .before .before .before .before .before .before .before .before .before .before .before .before .before .before .before .before .before .before .before .before .before .before .before .before .before .before .before .before .before .before .before .before .before .before .before .before .before .args .angle)) (c .before .before .before .before .before .before .before .before .before .before .before .before .before .before .before .before .before .before .before .before .before .before .before .before .before .before .before .before .before .before .before .before .before .before .before .before .before .before .before .before .before .before .before .before .before .before .before .before .before .before .before .before .before .before .before .before .before .before .before .args .start))
-    (c .before .before .before .before .before .before .before .before .before .before .before .before .before .before .before .before .before .before .before .before .before .before .before .before .before .before .before .before .before .before .before .before .before .before .before .before .before .before .rounds .left) (c .before .before .before .before .before .before .before .before .before .before .before .before .before .before .before .before .before .before .before .before .before .before .before .before .before .before .before .before .before .before .before .before .before .before .before .before .before .before .rounds .left - 1) (omega (arith, c .before .before .before .before .before .before .before .before .before .before .before .before .before .before .before .before .before .before .before .before .before .before .before .before .before .before .before .before .before .before .before .before .before .before .before .before .before .rounds-test .taken)) (c .before .before .before .before .before .before .before .before .before .before .before .before .before .before .before .before .before .before .corridors .inv .1) (sym (c .before .before .before .before .before .before .before .before .before .before .before .before .before .before .before .before .before .before .before .before .before .before .before .before .before .before .before .before .before .before .before .before .before .before .before .before .before .before .rounds .inv .0 .places .leader-size)) (c .before .before .before .before .before .before .before .before .before .before .before .before .before .before .before .before .before .before .before .before .before .before .before .before .before .before .before .before .before .before .before .before .before .before .before .before .before .before .rounds .inv .2) _ _ _ (c .before .before .before .before .before .before .before .before .before .before .before .before .before .before .before .before .before .before .before .before .before .before .before .before .before .before .before .before .before .before .before .before .draw-edges .result .from) (c .before .before .before .before .before .before .before .before .before .before .before .before .before .before .before .before .before .before .before .before .before .before .before .before .before .before .before .before .before .before .before .before .draw-edges .result .to) (c .before .before .before .before .before .before .before .before .before .before .before .before .before .before .before .before .before .before .before .before .before .before .before .before .before .before .before .before .before .before .before .before .draw-edges .result .weight) (c .before .before .before .before .before .before .before .before .before .before .before .before .before .before .before .before .before .before .before .before .before .before .before .before .before .before .before .before .before .before .before .before .draw-edges .ensures .0) _ _ (c .before .before .before .before .before .before .before .before .before .before .before .before .before .before .before .before .before .before .before .before .before .before .before .before .before .before .before .before .before .before .before .before .before .before .before .before .before .before .rounds .inv .0 .places .angle-size) (c .before .before .before .before .before .before .before .before .before .before .before .before .before .before .before .before .before .before .before .before .before .before .before .before .before .before .before .before .before .before .before .before .before .before .before .before .before .before .rounds .inv .0 .places .flow-size) (c .before .before .before .before .before .before .before .before .before .before .before .before .before .before .before .before .before .before .before .before .before .before .before .before .before .before .before .before .before .peak-state .ensures) (c .before .before .before .before .before .before .before .before .before .before .before .before .before .before .before .before .before .before .before .before .before .before .before .enum-told .given .1) (c .before .before .before .before .before .before .before .before .before .before .before .before .before .before .before .before .before .before .corridors .circuits) (c .before .before .before .before .before .before .before .before .before .before .before .before .before .before .before .before .before .before .corridors .banks) (c .before .before .before .before .before .before .before .before .before .before .before .before .before .before .before .before .before .before .corridors .floors) (c .before .before .before .before .before .before .before .before .before .before .before .before .before .before .before .before .before .before .corridors .upsized) (c .before .before .before .before .before .before .before .before .before .before .before .before .before .before .before .before .before .before .corridors .marks) (c .before .before .before .before .before .before .before .before .before .before .before .before .before .before .before .before .before .before .corridors .t) (c .before .before .before .before .before .before .before .before .before .before .before .before .before .before .before .before .before .before .corridors .k) (c .before .before .before .before .before .before .before .before .before .before .before .before .before .before .before .before .before .corridors-test .left) (c .before .before .before .before .before .before .before .before .before .before .before .before .before .before .before .before .before .before .corridors .inv .7)
-    (c .before .before .before .before .before .before .before .before .before .before .before .before .before .before .before .before .before .before .corridors .inv .8 (le-antisymm (c .before .before .before .before .before .before .before .before .before .before .before .before .before .before .before .before .before .before .corridors .inv .0) (c .before .before .before .before .before .before .before .before .before .before .before .before .before .before .before .before .before .corridors-test .left)) .1) (c .before .before .before .before .before .before .before .before .before .before .before .before .before .before .before .before .before .before .corridors .inv .8 (le-antisymm (c .before .before .before .before .before .before .before .before .before .before .before .before .before .before .before .before .before .before .corridors .inv .0) (c .before .before .before .before .before .before .before .before .before .before .before .before .before .before .before .before .before .corridors-test .left)) .2) (c .before .before .before .before .before .before .before .before .before .before .before .before .before .before .before .before .before .before .corridors .inv .8 (le-antisymm (c .before .before .before .before .before .before .before .before .before .before .before .before .before .before .before .before .before .before .corridors .inv .0) (c .before .before .before .before .before .before .before .before .before .before .before .before .before .before .before .before .before .corridors-test .left)) .0) (c .before .before .before .before .before .before .before .before .before .before .before .before .before .before .before .before .before .before .corridors .p) (c .before .before .before .before .before .before .before .before .before .before .before .before .before .before .before .before .before .before .corridors .inv .2) (c .before .before .before .before .before .before .before .before .before .before .before .before .before .before .before .limits-of .result) _ _ (c .before .before .before .before .before .before .before .before .before .before .before .before .before .before .before .limits-of .ensures) (c .before .before .before .before .before .before .before .before .before .before .before .stiffness-from .ensures .0) (c .before .before .before .before .before .before .before .before .before .before .before .stiffness-from .ensures .1))
+    (stiffens ((start-of (round-of (sized-of (c .before .before .before .before .before .before .before .before)))) .args .mode) ((start-of (round-of (sized-of (c .before .before .before .before .before .before .before .before)))) .args .above) (now ((start-of (round-of (sized-of (c .before .before .before .before .before .before .before .before)))) .args .ladder)) (now ((start-of (round-of (sized-of (c .before .before .before .before .before .before .before .before)))) .args .a)) (now ((start-of (round-of (sized-of (c .before .before .before .before .before .before .before .before)))) .args .b)) (now ((start-of (round-of (sized-of (c .before .before .before .before .before .before .before .before)))) .args .km)) (now ((start-of (round-of (sized-of (c .before .before .before .before .before .before .before .before)))) .args .share)) (now ((start-of (round-of (sized-of (c .before .before .before .before .before .before .before .before)))) .args .sheet)) (now ((start-of (round-of (sized-of (c .before .before .before .before .before .before .before .before)))) .args .load)) (now ((start-of (round-of (sized-of (c .before .before .before .before .before .before .before .before)))) .args .bus)) (now ((start-of (round-of (sized-of (c .before .before .before .before .before .before .before .before)))) .args .pmax)) (now ((start-of (round-of (sized-of (c .before .before .before .before .before .before .before .before)))) .args .leader)) (now ((start-of (round-of (sized-of (c .before .before .before .before .before .before .before .before)))) .args .grounds)) (now ((start-of (round-of (sized-of (c .before .before .before .before .before .before .before .before)))) .args .injection)) (length (now ((start-of (round-of (sized-of (c .before .before .before .before .before .before .before .before)))) .args .leader))) ((sized-of (c .before .before .before .before .before .before .before .before)) .corridors .level) ((round-of (sized-of (c .before .before .before .before .before .before .before .before))) .rounds .level) ((round-of (sized-of (c .before .before .before .before .before .before .before .before))) .rounds .circuits) ((round-of (sized-of (c .before .before .before .before .before .before .before .before))) .rounds .banks) ((round-of (sized-of (c .before .before .before .before .before .before .before .before))) .rounds .floors) ((round-of (sized-of (c .before .before .before .before .before .before .before .before))) .rounds .upsized) ((round-of (sized-of (c .before .before .before .before .before .before .before .before))) .rounds .angle) ((round-of (sized-of (c .before .before .before .before .before .before .before .before))) .rounds .p)
+    (goesOn ((start-of (round-of (sized-of (c .before .before .before .before .before .before .before .before)))) .args .mode) ((start-of (round-of (sized-of (c .before .before .before .before .before .before .before .before)))) .args .above) (now ((start-of (round-of (sized-of (c .before .before .before .before .before .before .before .before)))) .args .ladder)) (now ((start-of (round-of (sized-of (c .before .before .before .before .before .before .before .before)))) .args .a)) (now ((start-of (round-of (sized-of (c .before .before .before .before .before .before .before .before)))) .args .b)) (now ((start-of (round-of (sized-of (c .before .before .before .before .before .before .before .before)))) .args .km)) (now ((start-of (round-of (sized-of (c .before .before .before .before .before .before .before .before)))) .args .share)) (now ((start-of (round-of (sized-of (c .before .before .before .before .before .before .before .before)))) .args .sheet)) (now ((start-of (round-of (sized-of (c .before .before .before .before .before .before .before .before)))) .args .load)) (now ((start-of (round-of (sized-of (c .before .before .before .before .before .before .before .before)))) .args .bus)) (now ((start-of (round-of (sized-of (c .before .before .before .before .before .before .before .before)))) .args .pmax)) (now ((start-of (round-of (sized-of (c .before .before .before .before .before .before .before .before)))) .args .leader)) (now ((start-of (round-of (sized-of (c .before .before .before .before .before .before .before .before)))) .args .grounds)) (now ((start-of (round-of (sized-of (c .before .before .before .before .before .before .before .before)))) .args .injection)) (length (now ((start-of (round-of (sized-of (c .before .before .before .before .before .before .before .before)))) .args .leader))) ((start-of (round-of (sized-of (c .before .before .before .before .before .before .before .before)))) .args .budget) (now ((start-of (round-of (sized-of (c .before .before .before .before .before .before .before .before)))) .args .level)) (now ((start-of (round-of (sized-of (c .before .before .before .before .before .before .before .before)))) .args .circuits)) (now ((start-of (round-of (sized-of (c .before .before .before .before .before .before .before .before)))) .args .banks)) (now ((start-of (round-of (sized-of (c .before .before .before .before .before .before .before .before)))) .args .floors)) (now ((start-of (round-of (sized-of (c .before .before .before .before .before .before .before .before)))) .args .upsized)) (now ((start-of (round-of (sized-of (c .before .before .before .before .before .before .before .before)))) .args .angle)) ((start-of (round-of (sized-of (c .before .before .before .before .before .before .before .before)))) .args .start))
+    ((round-of (sized-of (c .before .before .before .before .before .before .before .before))) .rounds .left) ((round-of (sized-of (c .before .before .before .before .before .before .before .before))) .rounds .left - 1) (omega (arith, (sized-of (c .before .before .before .before .before .before .before .before)) .before .before .before .before .before .before .before .before .before .before .before .before .before .before .before .before .before .before .before .rounds-test .taken)) ((sized-of (c .before .before .before .before .before .before .before .before)) .corridors .inv .1) (sym ((round-of (sized-of (c .before .before .before .before .before .before .before .before))) .rounds .inv .0 .places .leader-size)) ((round-of (sized-of (c .before .before .before .before .before .before .before .before))) .rounds .inv .2) _ _ _ ((sized-of (c .before .before .before .before .before .before .before .before)) .before .before .before .before .before .before .before .before .before .before .before .before .before .before .draw-edges .result .from) ((sized-of (c .before .before .before .before .before .before .before .before)) .before .before .before .before .before .before .before .before .before .before .before .before .before .before .draw-edges .result .to) ((sized-of (c .before .before .before .before .before .before .before .before)) .before .before .before .before .before .before .before .before .before .before .before .before .before .before .draw-edges .result .weight) ((sized-of (c .before .before .before .before .before .before .before .before)) .before .before .before .before .before .before .before .before .before .before .before .before .before .before .draw-edges .ensures .0) _ _ ((round-of (sized-of (c .before .before .before .before .before .before .before .before))) .rounds .inv .0 .places .angle-size) ((round-of (sized-of (c .before .before .before .before .before .before .before .before))) .rounds .inv .0 .places .flow-size) ((sized-of (c .before .before .before .before .before .before .before .before)) .before .before .before .before .before .before .before .before .before .before .before .peak-state .ensures) ((sized-of (c .before .before .before .before .before .before .before .before)) .before .before .before .before .before .enum-told .given .1) ((sized-of (c .before .before .before .before .before .before .before .before)) .corridors .circuits) ((sized-of (c .before .before .before .before .before .before .before .before)) .corridors .banks) ((sized-of (c .before .before .before .before .before .before .before .before)) .corridors .floors) ((sized-of (c .before .before .before .before .before .before .before .before)) .corridors .upsized) ((sized-of (c .before .before .before .before .before .before .before .before)) .corridors .marks) ((sized-of (c .before .before .before .before .before .before .before .before)) .corridors .t) ((sized-of (c .before .before .before .before .before .before .before .before)) .corridors .k) ((c .before .before .before .before .before .before .before .before) .before .before .before .before .before .before .before .before .before .corridors-test .left) ((sized-of (c .before .before .before .before .before .before .before .before)) .corridors .inv .7)
+    ((sized-of (c .before .before .before .before .before .before .before .before)) .corridors .inv .8 (le-antisymm ((sized-of (c .before .before .before .before .before .before .before .before)) .corridors .inv .0) ((c .before .before .before .before .before .before .before .before) .before .before .before .before .before .before .before .before .before .corridors-test .left)) .1) ((sized-of (c .before .before .before .before .before .before .before .before)) .corridors .inv .8 (le-antisymm ((sized-of (c .before .before .before .before .before .before .before .before)) .corridors .inv .0) ((c .before .before .before .before .before .before .before .before) .before .before .before .before .before .before .before .before .before .corridors-test .left)) .2) ((sized-of (c .before .before .before .before .before .before .before .before)) .corridors .inv .8 (le-antisymm ((sized-of (c .before .before .before .before .before .before .before .before)) .corridors .inv .0) ((c .before .before .before .before .before .before .before .before) .before .before .before .before .before .before .before .before .before .corridors-test .left)) .0) ((sized-of (c .before .before .before .before .before .before .before .before)) .corridors .p) ((sized-of (c .before .before .before .before .before .before .before .before)) .corridors .inv .2) ((c .before .before .before .before .before .before .before .before) .before .before .before .before .before .before .before .limits-of .result) _ _ ((c .before .before .before .before .before .before .before .before) .before .before .before .before .before .before .before .limits-of .ensures) ((c .before .before .before .before .before .before .before .before) .before .before .before .stiffness-from .ensures .0) ((c .before .before .before .before .before .before .before .before) .before .before .before .stiffness-from .ensures .1))
 
 enum-known-f-2 :
     tie.Need-enum-known-f-2
@@ -569,7 +579,7 @@ same-length-9 :
     μ-components
     Inv-rounds
     μ-rounds
-same-length-9 c = c .before .before .before .before .before .before .before .before .before .before .before .before .before .stiffen-led .kept .1 .1 .1 .1 .1 .1 .1 .1 .1 .1 .1 .1 .1 .1 .0 ∙ c .before .before .before .before .before .before .before .before .before .before .before .before .before .before .before .before .before .before .before .before .before .before .components .inv .3 .0 ∙ c .before .before .before .before .before .before .before .before .before .before .before .before .before .before .before .before .before .before .before .before .before .before .before .before .before .before .before .before .before .before .before .before .corridors .inv .3 .count-size ∙ sym (c .before .before .before .before .before .before .before .before .before .before .before .before .before .before .before .before .before .before .before .before .before .before .before .before .before .before .before .before .before .before .before .before .before .before .before .before .before .before .before .before .before .before .before .before .before .before .before .before .before .before .before .before .before .before .before .before .before .before .before .before .before .before .before .before .before .before .before .before .before .before .before .before .before .pre .places .count-size)
+same-length-9 c = c .before .before .before .before .before .before .before .before .before .before .before .before .before .stiffen-led .kept .1 .1 .1 .1 .1 .1 .1 .1 .1 .1 .1 .1 .1 .1 .0 ∙ c .before .before .before .before .before .before .before .before .before .before .before .before .before .before .before .before .before .before .before .before .before .before .components .inv .3 .0 ∙ (sized-of (c .before .before .before .before .before .before .before .before .before .before .before .before .before .before .before .before .before .before .before .before .before .before)) .corridors .inv .3 .count-size ∙ sym ((start-of (round-of (sized-of (c .before .before .before .before .before .before .before .before .before .before .before .before .before .before .before .before .before .before .before .before .before .before)))) .pre .places .count-size)
 
 same-length-10 :
     tie.Need-same-length-10
@@ -579,7 +589,7 @@ same-length-10 :
     μ-components
     Inv-rounds
     μ-rounds
-same-length-10 c = c .before .before .before .before .before .before .before .before .before .before .before .before .before .stiffen-led .kept .1 .1 .1 .1 .1 .1 .1 .1 .1 .1 .1 .1 .1 .1 .1 .0 ∙ c .before .before .before .before .before .before .before .before .before .before .before .before .before .before .before .before .before .before .before .before .before .before .components .inv .3 .1 ∙ c .before .before .before .before .before .before .before .before .before .before .before .before .before .before .before .before .before .before .before .before .before .before .before .before .before .before .before .before .before .before .before .before .corridors .inv .3 .bank-size ∙ sym (c .before .before .before .before .before .before .before .before .before .before .before .before .before .before .before .before .before .before .before .before .before .before .before .before .before .before .before .before .before .before .before .before .before .before .before .before .before .before .before .before .before .before .before .before .before .before .before .before .before .before .before .before .before .before .before .before .before .before .before .before .before .before .before .before .before .before .before .before .before .before .before .before .before .pre .places .bank-size)
+same-length-10 c = c .before .before .before .before .before .before .before .before .before .before .before .before .before .stiffen-led .kept .1 .1 .1 .1 .1 .1 .1 .1 .1 .1 .1 .1 .1 .1 .1 .0 ∙ c .before .before .before .before .before .before .before .before .before .before .before .before .before .before .before .before .before .before .before .before .before .before .components .inv .3 .1 ∙ (sized-of (c .before .before .before .before .before .before .before .before .before .before .before .before .before .before .before .before .before .before .before .before .before .before)) .corridors .inv .3 .bank-size ∙ sym ((start-of (round-of (sized-of (c .before .before .before .before .before .before .before .before .before .before .before .before .before .before .before .before .before .before .before .before .before .before)))) .pre .places .bank-size)
 
 same-length-11 :
     tie.Need-same-length-11
@@ -589,7 +599,7 @@ same-length-11 :
     μ-components
     Inv-rounds
     μ-rounds
-same-length-11 c = c .before .before .before .before .before .before .before .before .before .before .before .before .before .stiffen-led .kept .1 .1 .1 .1 .1 .1 .1 .1 .1 .1 .1 .1 .1 .1 .1 .1 .0 ∙ c .before .before .before .before .before .before .before .before .before .before .before .before .before .before .before .before .before .before .before .before .before .before .components .inv .3 .2 ∙ c .before .before .before .before .before .before .before .before .before .before .before .before .before .before .before .before .before .before .before .before .before .before .before .before .before .before .before .before .before .before .before .before .corridors .inv .3 .floor-size ∙ sym (c .before .before .before .before .before .before .before .before .before .before .before .before .before .before .before .before .before .before .before .before .before .before .before .before .before .before .before .before .before .before .before .before .before .before .before .before .before .before .before .before .before .before .before .before .before .before .before .before .before .before .before .before .before .before .before .before .before .before .before .before .before .before .before .before .before .before .before .before .before .before .before .before .before .pre .places .floor-size)
+same-length-11 c = c .before .before .before .before .before .before .before .before .before .before .before .before .before .stiffen-led .kept .1 .1 .1 .1 .1 .1 .1 .1 .1 .1 .1 .1 .1 .1 .1 .1 .0 ∙ c .before .before .before .before .before .before .before .before .before .before .before .before .before .before .before .before .before .before .before .before .before .before .components .inv .3 .2 ∙ (sized-of (c .before .before .before .before .before .before .before .before .before .before .before .before .before .before .before .before .before .before .before .before .before .before)) .corridors .inv .3 .floor-size ∙ sym ((start-of (round-of (sized-of (c .before .before .before .before .before .before .before .before .before .before .before .before .before .before .before .before .before .before .before .before .before .before)))) .pre .places .floor-size)
 
 same-length-12 :
     tie.Need-same-length-12
@@ -599,7 +609,7 @@ same-length-12 :
     μ-components
     Inv-rounds
     μ-rounds
-same-length-12 c = c .before .before .before .before .before .before .before .before .before .before .before .before .before .stiffen-led .kept .1 .1 .1 .1 .1 .1 .1 .1 .1 .1 .1 .1 .1 .1 .1 .1 .1 .0 ∙ c .before .before .before .before .before .before .before .before .before .before .before .before .before .before .before .before .before .before .before .before .before .before .components .inv .3 .3 ∙ c .before .before .before .before .before .before .before .before .before .before .before .before .before .before .before .before .before .before .before .before .before .before .before .before .before .before .before .before .before .before .before .before .corridors .inv .3 .upsized-size ∙ sym (c .before .before .before .before .before .before .before .before .before .before .before .before .before .before .before .before .before .before .before .before .before .before .before .before .before .before .before .before .before .before .before .before .before .before .before .before .before .before .before .before .before .before .before .before .before .before .before .before .before .before .before .before .before .before .before .before .before .before .before .before .before .before .before .before .before .before .before .before .before .before .before .before .before .pre .places .upsized-size)
+same-length-12 c = c .before .before .before .before .before .before .before .before .before .before .before .before .before .stiffen-led .kept .1 .1 .1 .1 .1 .1 .1 .1 .1 .1 .1 .1 .1 .1 .1 .1 .1 .0 ∙ c .before .before .before .before .before .before .before .before .before .before .before .before .before .before .before .before .before .before .before .before .before .before .components .inv .3 .3 ∙ (sized-of (c .before .before .before .before .before .before .before .before .before .before .before .before .before .before .before .before .before .before .before .before .before .before)) .corridors .inv .3 .upsized-size ∙ sym ((start-of (round-of (sized-of (c .before .before .before .before .before .before .before .before .before .before .before .before .before .before .before .before .before .before .before .before .before .before)))) .pre .places .upsized-size)
 
 same-length-13 :
     tie.Need-same-length-13
@@ -609,7 +619,7 @@ same-length-13 :
     μ-components
     Inv-rounds
     μ-rounds
-same-length-13 c = ap (λ (x : List ℕ). length x) (c .before .before .before .before .before .before .before .before .before .before .before .before .before .before .before .before .before .before .before .before .before .before .components .inv .1 ∙ c .before .before .before .before .before .before .before .before .before .before .before .before .before .before .before .before .before .before .before .before .before .before .before .before .before .before .before .before .before .before .before .before .corridors .inv .1) ∙ c .before .before .before .before .before .before .before .before .before .before .before .before .before .before .before .before .before .before .before .before .before .before .before .before .before .before .before .before .before .before .before .before .before .before .before .before .before .before .before .before .before .before .before .before .before .before .before .before .before .before .before .before .rounds .inv .1
+same-length-13 c = ap (λ (x : List ℕ). length x) (c .before .before .before .before .before .before .before .before .before .before .before .before .before .before .before .before .before .before .before .before .before .before .components .inv .1 ∙ (sized-of (c .before .before .before .before .before .before .before .before .before .before .before .before .before .before .before .before .before .before .before .before .before .before)) .corridors .inv .1) ∙ (round-of (sized-of (c .before .before .before .before .before .before .before .before .before .before .before .before .before .before .before .before .before .before .before .before .before .before))) .rounds .inv .1
 
 same-length-14 :
     tie.Need-same-length-14
@@ -619,7 +629,7 @@ same-length-14 :
     μ-components
     Inv-rounds
     μ-rounds
-same-length-14 c = c .before .before .before .before .before .before .before .before .before .before .before .before .before .stiffen-led .kept .1 .1 .1 .1 .1 .1 .1 .1 .1 .1 .1 .1 .1 .1 .1 .1 .1 .1 .0 ∙ c .before .before .before .before .before .before .before .before .before .before .before .before .before .before .before .before .before .before .before .before .before .before .components .inv .3 .4 ∙ c .before .before .before .before .before .before .before .before .before .before .before .before .before .before .before .before .before .before .before .before .before .before .before .before .before .stiffness-from .kept .1 .1 .1 .1 .0 ∙ c .before .before .before .before .before .before .before .before .before .before .before .before .before .before .before .before .before .before .before .before .before .before .before .before .before .before .before .before .before .before .before .before .corridors .inv .3 .mark-size ∙ ap (λ (x : List ℕ). length x) (c .before .before .before .before .before .before .before .before .before .before .before .before .before .before .before .before .before .before .before .before .before .before .before .before .before .before .before .before .before .before .before .before .corridors .inv .1) ∙ c .before .before .before .before .before .before .before .before .before .before .before .before .before .before .before .before .before .before .before .before .before .before .before .before .before .before .before .before .before .before .before .before .before .before .before .before .before .before .before .before .before .before .before .before .before .before .before .before .before .before .before .before .rounds .inv .1 ∙ sym (c .before .before .before .before .before .before .before .before .before .before .before .before .before .before .before .before .before .before .before .before .before .before .before .before .before .before .before .before .before .before .before .before .before .before .before .before .before .before .before .before .before .before .before .before .before .before .before .before .before .before .before .before .before .before .before .before .before .before .before .before .before .before .before .before .before .before .before .before .before .before .before .before .before .pre .places .mark-size)
+same-length-14 c = c .before .before .before .before .before .before .before .before .before .before .before .before .before .stiffen-led .kept .1 .1 .1 .1 .1 .1 .1 .1 .1 .1 .1 .1 .1 .1 .1 .1 .1 .1 .0 ∙ c .before .before .before .before .before .before .before .before .before .before .before .before .before .before .before .before .before .before .before .before .before .before .components .inv .3 .4 ∙ (c .before .before .before .before .before .before .before .before .before .before .before .before .before .before .before .before .before .before .before .before .before .before) .before .before .before .stiffness-from .kept .1 .1 .1 .1 .0 ∙ (sized-of (c .before .before .before .before .before .before .before .before .before .before .before .before .before .before .before .before .before .before .before .before .before .before)) .corridors .inv .3 .mark-size ∙ ap (λ (x : List ℕ). length x) ((sized-of (c .before .before .before .before .before .before .before .before .before .before .before .before .before .before .before .before .before .before .before .before .before .before)) .corridors .inv .1) ∙ (round-of (sized-of (c .before .before .before .before .before .before .before .before .before .before .before .before .before .before .before .before .before .before .before .before .before .before))) .rounds .inv .1 ∙ sym ((start-of (round-of (sized-of (c .before .before .before .before .before .before .before .before .before .before .before .before .before .before .before .before .before .before .before .before .before .before)))) .pre .places .mark-size)
 
 same-length-15 :
     tie.Need-same-length-15
@@ -629,7 +639,7 @@ same-length-15 :
     μ-components
     Inv-rounds
     μ-rounds
-same-length-15 c = c .before .before .before .before .before .before .before .before .before .before .before .before .before .before .before .before .before .before .before .before .before .before .before .before .before .before .before .before .before .before .before .before .before .before .before .before .before .before .before .before .before .before .before .peak-state .kept .1 .1 .1 .0 ∙ c .before .before .before .before .before .before .before .before .before .before .before .before .before .before .before .before .before .before .before .before .before .before .before .before .before .before .before .before .before .before .before .before .before .before .before .before .before .before .before .before .before .before .before .before .before .before .before .before .before .before .before .before .rounds .inv .0 .places .angle-size ∙ c .before .before .before .before .before .before .before .before .before .before .before .before .before .before .before .before .before .before .before .before .before .before .before .before .before .before .before .before .before .before .before .before .before .before .before .before .before .before .before .before .before .before .before .before .before .before .before .before .before .before .before .before .rounds .inv .1 ∙ sym (c .before .before .before .before .before .before .before .before .before .before .before .before .before .before .before .before .before .before .before .before .before .before .before .before .before .before .before .before .before .before .before .before .before .before .before .before .before .before .before .before .before .before .before .before .before .before .before .before .before .before .before .before .before .before .before .before .before .before .before .before .before .before .before .before .before .before .before .before .before .before .before .before .before .pre .places .angle-size)
+same-length-15 c = (sized-of (c .before .before .before .before .before .before .before .before .before .before .before .before .before .before .before .before .before .before .before .before .before .before)) .before .before .before .before .before .before .before .before .before .before .before .peak-state .kept .1 .1 .1 .0 ∙ (round-of (sized-of (c .before .before .before .before .before .before .before .before .before .before .before .before .before .before .before .before .before .before .before .before .before .before))) .rounds .inv .0 .places .angle-size ∙ (round-of (sized-of (c .before .before .before .before .before .before .before .before .before .before .before .before .before .before .before .before .before .before .before .before .before .before))) .rounds .inv .1 ∙ sym ((start-of (round-of (sized-of (c .before .before .before .before .before .before .before .before .before .before .before .before .before .before .before .before .before .before .before .before .before .before)))) .pre .places .angle-size)
 
 same-length-16 :
     tie.Need-same-length-16
@@ -639,14 +649,14 @@ same-length-16 :
     μ-components
     Inv-rounds
     μ-rounds
-same-length-16 c = c .before .before .before .before .before .before .before .before .before .before .before .before .before .before .before .before .before .before .before .before .before .before .before .before .before .before .before .before .before .before .before .before .before .before .before .before .before .before .before .before .before .before .before .peak-state .kept .1 .1 .1 .1 .0 ∙ c .before .before .before .before .before .before .before .before .before .before .before .before .before .before .before .before .before .before .before .before .before .before .before .before .before .before .before .before .before .before .before .before .before .before .before .before .before .before .before .before .before .before .before .before .before .before .before .before .before .before .before .before .rounds .inv .0 .places .flow-size ∙ sym (c .before .before .before .before .before .before .before .before .before .before .before .before .before .before .before .before .before .before .before .before .before .before .before .before .before .before .before .before .before .before .before .before .before .before .before .before .before .before .before .before .before .before .before .before .before .before .before .before .before .before .before .before .before .before .before .before .before .before .before .before .before .before .before .before .before .before .before .before .before .before .before .before .before .pre .places .flow-size)
+same-length-16 c = (sized-of (c .before .before .before .before .before .before .before .before .before .before .before .before .before .before .before .before .before .before .before .before .before .before)) .before .before .before .before .before .before .before .before .before .before .before .peak-state .kept .1 .1 .1 .1 .0 ∙ (round-of (sized-of (c .before .before .before .before .before .before .before .before .before .before .before .before .before .before .before .before .before .before .before .before .before .before))) .rounds .inv .0 .places .flow-size ∙ sym ((start-of (round-of (sized-of (c .before .before .before .before .before .before .before .before .before .before .before .before .before .before .before .before .before .before .before .before .before .before)))) .pre .places .flow-size)
 
 returns-2 :
     tie.Need-returns-2 Inv-corridors μ-corridors Inv-components μ-components Inv-rounds μ-rounds
 returns-2 c =
-    let z = c .before .before .before .before .before .before .before .before .before .before .before .before .before .before .before .before .before .before .before .before .before .before .before .before .before .before .before .before .before .before .before .before .before .before .before .before .before .before .before .before .before .before .before .before .before .before .before .before .before .before .before .before .before .before .before .before .before .before .before .before .before .before .before .before .before .before .before .before .before .before .before .before .before .args in
-    let r = c .before .before .before .before .before .before .before .before .before .before .before .before .before .before .before .before .before .before .before .before .before .before .before .before .before .before .before .before .before .before .before .before .before .before .before .before .before .before .before .before .before .before .before .before .before .before .before .before .before .before .before .before .rounds in
-    let l = c .before .before .before .before .before .before .before .before .before .before .before .before .before .before .before .before .before .before .before .before .before .before .before .before .before .before .before .before .before .before .before .before .corridors in
+    let z = (start-of (round-of (sized-of (c .before .before .before .before .before .before .before .before .before .before .before .before .before .before .before .before .before .before .before .before .before .before)))) .args in
+    let r = (round-of (sized-of (c .before .before .before .before .before .before .before .before .before .before .before .before .before .before .before .before .before .before .before .before .before .before))) .rounds in
+    let l = (sized-of (c .before .before .before .before .before .before .before .before .before .before .before .before .before .before .before .before .before .before .before .before .before .before)) .corridors in
     let k = c .before .before .before .before .before .before .before .before .before .before .before .before .before .before .before .before .before .before .before .before .before .before .components in
     let f = r .inv .0 in
     let lv = k .inv .1 ∙ l .inv .1 in
@@ -654,7 +664,7 @@ returns-2 c =
     record {
       ran = λ o target s e. stiffen-refused (z .mode) (z .above) (now (z .ladder)) (now (z .a)) (now (z .b)) (now (z .km)) (now (z .share)) (now (z .sheet)) (now (z .load)) (now (z .bus)) (now (z .pmax)) (now (z .leader)) (now (z .grounds)) (now (z .injection)) (length (now (z .leader)))
           (goesOn (z .mode) (z .above) (now (z .ladder)) (now (z .a)) (now (z .b)) (now (z .km)) (now (z .share)) (now (z .sheet)) (now (z .load)) (now (z .bus)) (now (z .pmax)) (now (z .leader)) (now (z .grounds)) (now (z .injection)) (length (now (z .leader))) (z .budget) (now (z .level)) (now (z .circuits)) (now (z .banks)) (now (z .floors)) (now (z .upsized)) (now (z .angle)) (z .start))
-          (r .left - 1) (k .level) (c .before .before .before .before .before .before .before .before .before .before .before .before .before .before .before .before .before .before .before .before .before .before .before .before .before .before .before .before .before .limits-of .result) (c .before .before .before .before .before .before .before .before .before .before .before .before .before .before .before .before .before .before .before .before .before .before .before .before .before .before .before .before .before .before .before .before .before .before .before .before .before .before .before .before .before .before .before .before .before .before .draw-edges .result .from) (c .before .before .before .before .before .before .before .before .before .before .before .before .before .before .before .before .before .before .before .before .before .before .before .before .before .before .before .before .before .before .before .before .before .before .before .before .before .before .before .before .before .before .before .before .before .before .draw-edges .result .to) (c .before .before .before .before .before .before .before .before .before .before .before .before .before .before .before .before .before .before .before .before .before .before .before .before .before .before .before .before .before .before .before .before .before .before .before .before .before .before .before .before .before .before .before .before .before .before .draw-edges .result .weight) (c .before .before .before .before .before .before .before .before .before .before .before .before .before .before .before .before .before .before .before .before .before .before .before .before .before .before .before .before .before .before .before .before .before .before .before .before .before .before .before .before .before .before .before .peak-state .last .1 .1 .1 .0) (c .before .before .before .before .before .before .before .before .before .before .before .before .before .before .before .before .before .before .before .before .before .before .before .before .before .before .before .before .before .before .before .before .before .before .before .before .before .before .before .before .before .before .before .peak-state .last .1 .1 .1 .1 .0) (k .p) (l .t) (ln ∙ sym (f .places .leader-size)) (k .i) (k .circuits) (k .banks) (k .floors) (k .upsized) (k .marks) (k .s) (whole (c .before .before .before .before .before .before .before .before .before .before .before .before .before .before)) (c .before .before .before .before .before .before .before .before .before .before .before .before .before .before .before .before .before .before .before .before .before .components-test .taken) (c .before .before .before .before .before .before .before .before .before .before .before .before .before .stiffen-led .last .1 .1 .1 .1 .1 .1 .1 .1 .1 .1 .1 .1 .1 .1 .0) (c .before .before .before .before .before .before .before .before .before .before .before .before .before .stiffen-led .last .1 .1 .1 .1 .1 .1 .1 .1 .1 .1 .1 .1 .1 .1 .1 .0) (c .before .before .before .before .before .before .before .before .before .before .before .before .before .stiffen-led .last .1 .1 .1 .1 .1 .1 .1 .1 .1 .1 .1 .1 .1 .1 .1 .1 .0) (c .before .before .before .before .before .before .before .before .before .before .before .before .before .stiffen-led .last .1 .1 .1 .1 .1 .1 .1 .1 .1 .1 .1 .1 .1 .1 .1 .1 .1 .0) (c .before .before .before .before .before .before .before .before .before .before .before .before .before .stiffen-led .last .1 .1 .1 .1 .1 .1 .1 .1 .1 .1 .1 .1 .1 .1 .1 .1 .1 .1 .0) (c .before .before .before .before .before .before .before .before .before .before .before .before .before .stiffen-led .result) (c .before .before .before .before .before .before .before .before .before .before .before .before .before .stiffen-led .ensures) _ (c .before .f2 .given .1) o target s (c .before .before .before .before .before .before .before .before .before .before .before .before .before .before .before .before .before .before .before .before .before .before .before .before .before .before .before .before .before .before .before .before .before .before .before .before .before .before .before .before .before .before .before .before .before .before .before .before .before .before .before .before .before .before .before .before .before .before .before .before .before .before .before .before .before .before .before .before .before .before .before .before .before .pre .places .leader-size ∙ e);
+          (r .left - 1) (k .level) ((c .before .before .before .before .before .before .before .before .before .before .before .before .before .before .before .before .before .before .before .before .before .before) .before .before .before .before .before .before .before .limits-of .result) ((sized-of (c .before .before .before .before .before .before .before .before .before .before .before .before .before .before .before .before .before .before .before .before .before .before)) .before .before .before .before .before .before .before .before .before .before .before .before .before .before .draw-edges .result .from) ((sized-of (c .before .before .before .before .before .before .before .before .before .before .before .before .before .before .before .before .before .before .before .before .before .before)) .before .before .before .before .before .before .before .before .before .before .before .before .before .before .draw-edges .result .to) ((sized-of (c .before .before .before .before .before .before .before .before .before .before .before .before .before .before .before .before .before .before .before .before .before .before)) .before .before .before .before .before .before .before .before .before .before .before .before .before .before .draw-edges .result .weight) ((sized-of (c .before .before .before .before .before .before .before .before .before .before .before .before .before .before .before .before .before .before .before .before .before .before)) .before .before .before .before .before .before .before .before .before .before .before .peak-state .last .1 .1 .1 .0) ((sized-of (c .before .before .before .before .before .before .before .before .before .before .before .before .before .before .before .before .before .before .before .before .before .before)) .before .before .before .before .before .before .before .before .before .before .before .peak-state .last .1 .1 .1 .1 .0) (k .p) (l .t) (ln ∙ sym (f .places .leader-size)) (k .i) (k .circuits) (k .banks) (k .floors) (k .upsized) (k .marks) (k .s) (whole (c .before .before .before .before .before .before .before .before .before .before .before .before .before .before)) (c .before .before .before .before .before .before .before .before .before .before .before .before .before .before .before .before .before .before .before .before .before .components-test .taken) (c .before .before .before .before .before .before .before .before .before .before .before .before .before .stiffen-led .last .1 .1 .1 .1 .1 .1 .1 .1 .1 .1 .1 .1 .1 .1 .0) (c .before .before .before .before .before .before .before .before .before .before .before .before .before .stiffen-led .last .1 .1 .1 .1 .1 .1 .1 .1 .1 .1 .1 .1 .1 .1 .1 .0) (c .before .before .before .before .before .before .before .before .before .before .before .before .before .stiffen-led .last .1 .1 .1 .1 .1 .1 .1 .1 .1 .1 .1 .1 .1 .1 .1 .1 .0) (c .before .before .before .before .before .before .before .before .before .before .before .before .before .stiffen-led .last .1 .1 .1 .1 .1 .1 .1 .1 .1 .1 .1 .1 .1 .1 .1 .1 .1 .0) (c .before .before .before .before .before .before .before .before .before .before .before .before .before .stiffen-led .last .1 .1 .1 .1 .1 .1 .1 .1 .1 .1 .1 .1 .1 .1 .1 .1 .1 .1 .0) (c .before .before .before .before .before .before .before .before .before .before .before .before .before .stiffen-led .result) (c .before .before .before .before .before .before .before .before .before .before .before .before .before .stiffen-led .ensures) _ (c .before .f2 .given .1) o target s ((start-of (round-of (sized-of (c .before .before .before .before .before .before .before .before .before .before .before .before .before .before .before .before .before .before .before .before .before .before)))) .pre .places .leader-size ∙ e);
       lines = subst (λ (x : List ℕ). Lines (now (z .ladder)) x (now (z .a)) (now (z .b)) (now (z .km)) (now (z .share)) (now (z .sheet))) (sym lv) (f .columns .lines);
       banked = c .before .before .before .before .before .before .before .before .before .before .before .before .before .stiffen-led .ensures .banked;
       few = c .before .before .before .before .before .before .before .before .before .before .before .before .before .stiffen-led .ensures .few (k .inv .5);
@@ -665,17 +675,17 @@ enum-known-u :
 enum-known-u c = search needs
 
 add-i : tie.Need-add-i Inv-corridors μ-corridors Inv-components μ-components Inv-rounds μ-rounds
-add-i c = omega (arith, c .before .before .before .before .before .before .before .before .before .before .before .before .before .before .before .before .before .before .before .before .before .components-test .taken, c .before .before .before .before .before .before .before .before .before .before .before .before .before .before .before .before .before .before .before .before .before .before .before .before .before .before .before .before .before .before .before .before .before .before .before .before .before .before .before .before .before .before .before .before .before .before .before .before .before .before .before .before .rounds .inv .0 .places .leader-size, c .before .before .before .before .before .before .before .before .before .before .before .before .before .before .before .before .before .before .before .before .before .before .before .before .before .before .before .before .before .before .before .before .before .before .before .before .before .before .before .before .before .before .before .before .before .before .before .before .before .before .before .before .rounds .inv .0 .columns .loads .few)
+add-i c = omega (arith, c .before .before .before .before .before .before .before .before .before .before .before .before .before .before .before .before .before .before .before .before .before .components-test .taken, (round-of (sized-of (c .before .before .before .before .before .before .before .before .before .before .before .before .before .before .before .before .before .before .before .before .before .before))) .rounds .inv .0 .places .leader-size, (round-of (sized-of (c .before .before .before .before .before .before .before .before .before .before .before .before .before .before .before .before .before .before .before .before .before .before))) .rounds .inv .0 .columns .loads .few)
 
 -- and so it does with this component done
 next : (c : Dom add-i)
-    → Alike (c .before .before .before .before .before .before .before .before .before .before .before .before .before .before .before .before .before .before .before .before .before .before .before .before .before .before .before .before .before .before .before .before .before .before .before .before .before .before .before .before .before .before .before .before .before .before .before .before .before .before .before .before .before .before .before .before .before .before .before .before .before .before .before .before .before .before .before .before .before .before .before .before .before .args .mode) (c .before .before .before .before .before .before .before .before .before .before .before .before .before .before .before .before .before .before .before .before .before .before .before .before .before .before .before .before .before .before .before .before .before .before .before .before .before .before .before .before .before .before .before .before .before .before .before .before .before .before .before .before .before .before .before .before .before .before .before .before .before .before .before .before .before .before .before .before .before .before .before .before .before .args .above) (now (c .before .before .before .before .before .before .before .before .before .before .before .before .before .before .before .before .before .before .before .before .before .before .before .before .before .before .before .before .before .before .before .before .before .before .before .before .before .before .before .before .before .before .before .before .before .before .before .before .before .before .before .before .before .before .before .before .before .before .before .before .before .before .before .before .before .before .before .before .before .before .before .before .before .args .ladder)) (now (c .before .before .before .before .before .before .before .before .before .before .before .before .before .before .before .before .before .before .before .before .before .before .before .before .before .before .before .before .before .before .before .before .before .before .before .before .before .before .before .before .before .before .before .before .before .before .before .before .before .before .before .before .before .before .before .before .before .before .before .before .before .before .before .before .before .before .before .before .before .before .before .before .before .args .a)) (now (c .before .before .before .before .before .before .before .before .before .before .before .before .before .before .before .before .before .before .before .before .before .before .before .before .before .before .before .before .before .before .before .before .before .before .before .before .before .before .before .before .before .before .before .before .before .before .before .before .before .before .before .before .before .before .before .before .before .before .before .before .before .before .before .before .before .before .before .before .before .before .before .before .before .args .b)) (now (c .before .before .before .before .before .before .before .before .before .before .before .before .before .before .before .before .before .before .before .before .before .before .before .before .before .before .before .before .before .before .before .before .before .before .before .before .before .before .before .before .before .before .before .before .before .before .before .before .before .before .before .before .before .before .before .before .before .before .before .before .before .before .before .before .before .before .before .before .before .before .before .before .before .args .km)) (now (c .before .before .before .before .before .before .before .before .before .before .before .before .before .before .before .before .before .before .before .before .before .before .before .before .before .before .before .before .before .before .before .before .before .before .before .before .before .before .before .before .before .before .before .before .before .before .before .before .before .before .before .before .before .before .before .before .before .before .before .before .before .before .before .before .before .before .before .before .before .before .before .before .before .args .share)) (now (c .before .before .before .before .before .before .before .before .before .before .before .before .before .before .before .before .before .before .before .before .before .before .before .before .before .before .before .before .before .before .before .before .before .before .before .before .before .before .before .before .before .before .before .before .before .before .before .before .before .before .before .before .before .before .before .before .before .before .before .before .before .before .before .before .before .before .before .before .before .before .before .before .before .args .sheet)) (now (c .before .before .before .before .before .before .before .before .before .before .before .before .before .before .before .before .before .before .before .before .before .before .before .before .before .before .before .before .before .before .before .before .before .before .before .before .before .before .before .before .before .before .before .before .before .before .before .before .before .before .before .before .before .before .before .before .before .before .before .before .before .before .before .before .before .before .before .before .before .before .before .before .before .args .load)) (now (c .before .before .before .before .before .before .before .before .before .before .before .before .before .before .before .before .before .before .before .before .before .before .before .before .before .before .before .before .before .before .before .before .before .before .before .before .before .before .before .before .before .before .before .before .before .before .before .before .before .before .before .before .before .before .before .before .before .before .before .before .before .before .before .before .before .before .before .before .before .before .before .before .before .args .bus)) (now (c .before .before .before .before .before .before .before .before .before .before .before .before .before .before .before .before .before .before .before .before .before .before .before .before .before .before .before .before .before .before .before .before .before .before .before .before .before .before .before .before .before .before .before .before .before .before .before .before .before .before .before .before .before .before .before .before .before .before .before .before .before .before .before .before .before .before .before .before .before .before .before .before .before .args .pmax)) (now (c .before .before .before .before .before .before .before .before .before .before .before .before .before .before .before .before .before .before .before .before .before .before .before .before .before .before .before .before .before .before .before .before .before .before .before .before .before .before .before .before .before .before .before .before .before .before .before .before .before .before .before .before .before .before .before .before .before .before .before .before .before .before .before .before .before .before .before .before .before .before .before .before .before .args .leader)) (now (c .before .before .before .before .before .before .before .before .before .before .before .before .before .before .before .before .before .before .before .before .before .before .before .before .before .before .before .before .before .before .before .before .before .before .before .before .before .before .before .before .before .before .before .before .before .before .before .before .before .before .before .before .before .before .before .before .before .before .before .before .before .before .before .before .before .before .before .before .before .before .before .before .before .args .grounds)) (now (c .before .before .before .before .before .before .before .before .before .before .before .before .before .before .before .before .before .before .before .before .before .before .before .before .before .before .before .before .before .before .before .before .before .before .before .before .before .before .before .before .before .before .before .before .before .before .before .before .before .before .before .before .before .before .before .before .before .before .before .before .before .before .before .before .before .before .before .before .before .before .before .before .before .args .injection)) (length (now (c .before .before .before .before .before .before .before .before .before .before .before .before .before .before .before .before .before .before .before .before .before .before .before .before .before .before .before .before .before .before .before .before .before .before .before .before .before .before .before .before .before .before .before .before .before .before .before .before .before .before .before .before .before .before .before .before .before .before .before .before .before .before .before .before .before .before .before .before .before .before .before .before .before .args .leader)))
-    (stiffensOn (c .before .before .before .before .before .before .before .before .before .before .before .before .before .before .before .before .before .before .before .before .before .before .before .before .before .before .before .before .before .before .before .before .before .before .before .before .before .before .before .before .before .before .before .before .before .before .before .before .before .before .before .before .before .before .before .before .before .before .before .before .before .before .before .before .before .before .before .before .before .before .before .before .before .args .mode) (c .before .before .before .before .before .before .before .before .before .before .before .before .before .before .before .before .before .before .before .before .before .before .before .before .before .before .before .before .before .before .before .before .before .before .before .before .before .before .before .before .before .before .before .before .before .before .before .before .before .before .before .before .before .before .before .before .before .before .before .before .before .before .before .before .before .before .before .before .before .before .before .before .before .args .above) (now (c .before .before .before .before .before .before .before .before .before .before .before .before .before .before .before .before .before .before .before .before .before .before .before .before .before .before .before .before .before .before .before .before .before .before .before .before .before .before .before .before .before .before .before .before .before .before .before .before .before .before .before .before .before .before .before .before .before .before .before .before .before .before .before .before .before .before .before .before .before .before .before .before .before .args .ladder)) (now (c .before .before .before .before .before .before .before .before .before .before .before .before .before .before .before .before .before .before .before .before .before .before .before .before .before .before .before .before .before .before .before .before .before .before .before .before .before .before .before .before .before .before .before .before .before .before .before .before .before .before .before .before .before .before .before .before .before .before .before .before .before .before .before .before .before .before .before .before .before .before .before .before .before .args .a)) (now (c .before .before .before .before .before .before .before .before .before .before .before .before .before .before .before .before .before .before .before .before .before .before .before .before .before .before .before .before .before .before .before .before .before .before .before .before .before .before .before .before .before .before .before .before .before .before .before .before .before .before .before .before .before .before .before .before .before .before .before .before .before .before .before .before .before .before .before .before .before .before .before .before .before .args .b)) (now (c .before .before .before .before .before .before .before .before .before .before .before .before .before .before .before .before .before .before .before .before .before .before .before .before .before .before .before .before .before .before .before .before .before .before .before .before .before .before .before .before .before .before .before .before .before .before .before .before .before .before .before .before .before .before .before .before .before .before .before .before .before .before .before .before .before .before .before .before .before .before .before .before .before .args .km)) (now (c .before .before .before .before .before .before .before .before .before .before .before .before .before .before .before .before .before .before .before .before .before .before .before .before .before .before .before .before .before .before .before .before .before .before .before .before .before .before .before .before .before .before .before .before .before .before .before .before .before .before .before .before .before .before .before .before .before .before .before .before .before .before .before .before .before .before .before .before .before .before .before .before .before .args .share)) (now (c .before .before .before .before .before .before .before .before .before .before .before .before .before .before .before .before .before .before .before .before .before .before .before .before .before .before .before .before .before .before .before .before .before .before .before .before .before .before .before .before .before .before .before .before .before .before .before .before .before .before .before .before .before .before .before .before .before .before .before .before .before .before .before .before .before .before .before .before .before .before .before .before .before .args .sheet)) (now (c .before .before .before .before .before .before .before .before .before .before .before .before .before .before .before .before .before .before .before .before .before .before .before .before .before .before .before .before .before .before .before .before .before .before .before .before .before .before .before .before .before .before .before .before .before .before .before .before .before .before .before .before .before .before .before .before .before .before .before .before .before .before .before .before .before .before .before .before .before .before .before .before .before .args .load)) (now (c .before .before .before .before .before .before .before .before .before .before .before .before .before .before .before .before .before .before .before .before .before .before .before .before .before .before .before .before .before .before .before .before .before .before .before .before .before .before .before .before .before .before .before .before .before .before .before .before .before .before .before .before .before .before .before .before .before .before .before .before .before .before .before .before .before .before .before .before .before .before .before .before .before .args .bus)) (now (c .before .before .before .before .before .before .before .before .before .before .before .before .before .before .before .before .before .before .before .before .before .before .before .before .before .before .before .before .before .before .before .before .before .before .before .before .before .before .before .before .before .before .before .before .before .before .before .before .before .before .before .before .before .before .before .before .before .before .before .before .before .before .before .before .before .before .before .before .before .before .before .before .before .args .pmax)) (now (c .before .before .before .before .before .before .before .before .before .before .before .before .before .before .before .before .before .before .before .before .before .before .before .before .before .before .before .before .before .before .before .before .before .before .before .before .before .before .before .before .before .before .before .before .before .before .before .before .before .before .before .before .before .before .before .before .before .before .before .before .before .before .before .before .before .before .before .before .before .before .before .before .before .args .leader)) (now (c .before .before .before .before .before .before .before .before .before .before .before .before .before .before .before .before .before .before .before .before .before .before .before .before .before .before .before .before .before .before .before .before .before .before .before .before .before .before .before .before .before .before .before .before .before .before .before .before .before .before .before .before .before .before .before .before .before .before .before .before .before .before .before .before .before .before .before .before .before .before .before .before .before .args .grounds)) (now (c .before .before .before .before .before .before .before .before .before .before .before .before .before .before .before .before .before .before .before .before .before .before .before .before .before .before .before .before .before .before .before .before .before .before .before .before .before .before .before .before .before .before .before .before .before .before .before .before .before .before .before .before .before .before .before .before .before .before .before .before .before .before .before .before .before .before .before .before .before .before .before .before .before .args .injection)) (length (now (c .before .before .before .before .before .before .before .before .before .before .before .before .before .before .before .before .before .before .before .before .before .before .before .before .before .before .before .before .before .before .before .before .before .before .before .before .before .before .before .before .before .before .before .before .before .before .before .before .before .before .before .before .before .before .before .before .before .before .before .before .before .before .before .before .before .before .before .before .before .before .before .before .before .args .leader))) (c .before .before .before .before .before .before .before .before .before .before .before .before .before .before .before .before .before .before .before .before .before .before .before .before .before .before .before .before .before .before .before .before .before .before .before .before .before .before .before .before .before .before .before .before .before .before .before .before .before .before .before .before .rounds .left - 1) (c .before .before .before .before .before .before .before .before .before .before .before .before .before .before .before .before .before .before .before .before .before .before .components .level) (c .before .before .before .before .before .before .before .before .before .before .before .before .before .before .before .before .before .before .before .before .before .before .before .before .before .before .before .before .before .limits-of .result) (c .before .before .before .before .before .before .before .before .before .before .before .before .before .before .before .before .before .before .before .before .before .before .before .before .before .before .before .before .before .before .before .before .before .before .before .before .before .before .before .before .before .before .before .before .before .before .draw-edges .result .from) (c .before .before .before .before .before .before .before .before .before .before .before .before .before .before .before .before .before .before .before .before .before .before .before .before .before .before .before .before .before .before .before .before .before .before .before .before .before .before .before .before .before .before .before .before .before .before .draw-edges .result .to) (c .before .before .before .before .before .before .before .before .before .before .before .before .before .before .before .before .before .before .before .before .before .before .before .before .before .before .before .before .before .before .before .before .before .before .before .before .before .before .before .before .before .before .before .before .before .before .draw-edges .result .weight) (c .before .before .before .before .before .before .before .before .before .before .before .before .before .before .before .before .before .before .before .before .before .before .before .before .before .before .before .before .before .before .before .before .before .before .before .before .before .before .before .before .before .before .before .peak-state .last .1 .1 .1 .0) (c .before .before .before .before .before .before .before .before .before .before .before .before .before .before .before .before .before .before .before .before .before .before .before .before .before .before .before .before .before .before .before .before .before .before .before .before .before .before .before .before .before .before .before .peak-state .last .1 .1 .1 .1 .0) (c .before .before .before .before .before .before .before .before .before .before .before .before .before .before .before .before .before .before .before .before .before .before .components .p) (c .before .before .before .before .before .before .before .before .before .before .before .before .before .before .before .before .before .before .before .before .before .before .before .before .before .before .before .before .before .before .before .before .corridors .t) (c .before .before .before .before .before .before .before .before .before .before .before .before .before .before .before .before .before .before .before .before .before .before .components .i + 1) (c .before .before .before .before .before .before .before .before .before .before .before .before .before .stiffen-led .last .1 .1 .1 .1 .1 .1 .1 .1 .1 .1 .1 .1 .1 .1 .0) (c .before .before .before .before .before .before .before .before .before .before .before .before .before .stiffen-led .last .1 .1 .1 .1 .1 .1 .1 .1 .1 .1 .1 .1 .1 .1 .1 .0) (c .before .before .before .before .before .before .before .before .before .before .before .before .before .stiffen-led .last .1 .1 .1 .1 .1 .1 .1 .1 .1 .1 .1 .1 .1 .1 .1 .1 .0) (c .before .before .before .before .before .before .before .before .before .before .before .before .before .stiffen-led .last .1 .1 .1 .1 .1 .1 .1 .1 .1 .1 .1 .1 .1 .1 .1 .1 .1 .0) (c .before .before .before .before .before .before .before .before .before .before .before .before .before .stiffen-led .last .1 .1 .1 .1 .1 .1 .1 .1 .1 .1 .1 .1 .1 .1 .1 .1 .1 .1 .0) (c .before .u .given .0 .0))
-    (goesOn (c .before .before .before .before .before .before .before .before .before .before .before .before .before .before .before .before .before .before .before .before .before .before .before .before .before .before .before .before .before .before .before .before .before .before .before .before .before .before .before .before .before .before .before .before .before .before .before .before .before .before .before .before .before .before .before .before .before .before .before .before .before .before .before .before .before .before .before .before .before .before .before .before .before .args .mode) (c .before .before .before .before .before .before .before .before .before .before .before .before .before .before .before .before .before .before .before .before .before .before .before .before .before .before .before .before .before .before .before .before .before .before .before .before .before .before .before .before .before .before .before .before .before .before .before .before .before .before .before .before .before .before .before .before .before .before .before .before .before .before .before .before .before .before .before .before .before .before .before .before .before .args .above) (now (c .before .before .before .before .before .before .before .before .before .before .before .before .before .before .before .before .before .before .before .before .before .before .before .before .before .before .before .before .before .before .before .before .before .before .before .before .before .before .before .before .before .before .before .before .before .before .before .before .before .before .before .before .before .before .before .before .before .before .before .before .before .before .before .before .before .before .before .before .before .before .before .before .before .args .ladder)) (now (c .before .before .before .before .before .before .before .before .before .before .before .before .before .before .before .before .before .before .before .before .before .before .before .before .before .before .before .before .before .before .before .before .before .before .before .before .before .before .before .before .before .before .before .before .before .before .before .before .before .before .before .before .before .before .before .before .before .before .before .before .before .before .before .before .before .before .before .before .before .before .before .before .before .args .a)) (now (c .before .before .before .before .before .before .before .before .before .before .before .before .before .before .before .before .before .before .before .before .before .before .before .before .before .before .before .before .before .before .before .before .before .before .before .before .before .before .before .before .before .before .before .before .before .before .before .before .before .before .before .before .before .before .before .before .before .before .before .before .before .before .before .before .before .before .before .before .before .before .before .before .before .args .b)) (now (c .before .before .before .before .before .before .before .before .before .before .before .before .before .before .before .before .before .before .before .before .before .before .before .before .before .before .before .before .before .before .before .before .before .before .before .before .before .before .before .before .before .before .before .before .before .before .before .before .before .before .before .before .before .before .before .before .before .before .before .before .before .before .before .before .before .before .before .before .before .before .before .before .before .args .km)) (now (c .before .before .before .before .before .before .before .before .before .before .before .before .before .before .before .before .before .before .before .before .before .before .before .before .before .before .before .before .before .before .before .before .before .before .before .before .before .before .before .before .before .before .before .before .before .before .before .before .before .before .before .before .before .before .before .before .before .before .before .before .before .before .before .before .before .before .before .before .before .before .before .before .before .args .share)) (now (c .before .before .before .before .before .before .before .before .before .before .before .before .before .before .before .before .before .before .before .before .before .before .before .before .before .before .before .before .before .before .before .before .before .before .before .before .before .before .before .before .before .before .before .before .before .before .before .before .before .before .before .before .before .before .before .before .before .before .before .before .before .before .before .before .before .before .before .before .before .before .before .before .before .args .sheet)) (now (c .before .before .before .before .before .before .before .before .before .before .before .before .before .before .before .before .before .before .before .before .before .before .before .before .before .before .before .before .before .before .before .before .before .before .before .before .before .before .before .before .before .before .before .before .before .before .before .before .before .before .before .before .before .before .before .before .before .before .before .before .before .before .before .before .before .before .before .before .before .before .before .before .before .args .load)) (now (c .before .before .before .before .before .before .before .before .before .before .before .before .before .before .before .before .before .before .before .before .before .before .before .before .before .before .before .before .before .before .before .before .before .before .before .before .before .before .before .before .before .before .before .before .before .before .before .before .before .before .before .before .before .before .before .before .before .before .before .before .before .before .before .before .before .before .before .before .before .before .before .before .before .args .bus)) (now (c .before .before .before .before .before .before .before .before .before .before .before .before .before .before .before .before .before .before .before .before .before .before .before .before .before .before .before .before .before .before .before .before .before .before .before .before .before .before .before .before .before .before .before .before .before .before .before .before .before .before .before .before .before .before .before .before .before .before .before .before .before .before .before .before .before .before .before .before .before .before .before .before .before .args .pmax)) (now (c .before .before .before .before .before .before .before .before .before .before .before .before .before .before .before .before .before .before .before .before .before .before .before .before .before .before .before .before .before .before .before .before .before .before .before .before .before .before .before .before .before .before .before .before .before .before .before .before .before .before .before .before .before .before .before .before .before .before .before .before .before .before .before .before .before .before .before .before .before .before .before .before .before .args .leader)) (now (c .before .before .before .before .before .before .before .before .before .before .before .before .before .before .before .before .before .before .before .before .before .before .before .before .before .before .before .before .before .before .before .before .before .before .before .before .before .before .before .before .before .before .before .before .before .before .before .before .before .before .before .before .before .before .before .before .before .before .before .before .before .before .before .before .before .before .before .before .before .before .before .before .before .args .grounds)) (now (c .before .before .before .before .before .before .before .before .before .before .before .before .before .before .before .before .before .before .before .before .before .before .before .before .before .before .before .before .before .before .before .before .before .before .before .before .before .before .before .before .before .before .before .before .before .before .before .before .before .before .before .before .before .before .before .before .before .before .before .before .before .before .before .before .before .before .before .before .before .before .before .before .before .args .injection)) (length (now (c .before .before .before .before .before .before .before .before .before .before .before .before .before .before .before .before .before .before .before .before .before .before .before .before .before .before .before .before .before .before .before .before .before .before .before .before .before .before .before .before .before .before .before .before .before .before .before .before .before .before .before .before .before .before .before .before .before .before .before .before .before .before .before .before .before .before .before .before .before .before .before .before .before .args .leader))) (c .before .before .before .before .before .before .before .before .before .before .before .before .before .before .before .before .before .before .before .before .before .before .before .before .before .before .before .before .before .before .before .before .before .before .before .before .before .before .before .before .before .before .before .before .before .before .before .before .before .before .before .before .before .before .before .before .before .before .before .before .before .before .before .before .before .before .before .before .before .before .before .before .before .args .budget) (now (c .before .before .before .before .before .before .before .before .before .before .before .before .before .before .before .before .before .before .before .before .before .before .before .before .before .before .before .before .before .before .before .before .before .before .before .before .before .before .before .before .before .before .before .before .before .before .before .before .before .before .before .before .before .before .before .before .before .before .before .before .before .before .before .before .before .before .before .before .before .before .before .before .before .args .level)) (now (c .before .before .before .before .before .before .before .before .before .before .before .before .before .before .before .before .before .before .before .before .before .before .before .before .before .before .before .before .before .before .before .before .before .before .before .before .before .before .before .before .before .before .before .before .before .before .before .before .before .before .before .before .before .before .before .before .before .before .before .before .before .before .before .before .before .before .before .before .before .before .before .before .before .args .circuits)) (now (c .before .before .before .before .before .before .before .before .before .before .before .before .before .before .before .before .before .before .before .before .before .before .before .before .before .before .before .before .before .before .before .before .before .before .before .before .before .before .before .before .before .before .before .before .before .before .before .before .before .before .before .before .before .before .before .before .before .before .before .before .before .before .before .before .before .before .before .before .before .before .before .before .before .args .banks)) (now (c .before .before .before .before .before .before .before .before .before .before .before .before .before .before .before .before .before .before .before .before .before .before .before .before .before .before .before .before .before .before .before .before .before .before .before .before .before .before .before .before .before .before .before .before .before .before .before .before .before .before .before .before .before .before .before .before .before .before .before .before .before .before .before .before .before .before .before .before .before .before .before .before .before .args .floors)) (now (c .before .before .before .before .before .before .before .before .before .before .before .before .before .before .before .before .before .before .before .before .before .before .before .before .before .before .before .before .before .before .before .before .before .before .before .before .before .before .before .before .before .before .before .before .before .before .before .before .before .before .before .before .before .before .before .before .before .before .before .before .before .before .before .before .before .before .before .before .before .before .before .before .before .args .upsized)) (now (c .before .before .before .before .before .before .before .before .before .before .before .before .before .before .before .before .before .before .before .before .before .before .before .before .before .before .before .before .before .before .before .before .before .before .before .before .before .before .before .before .before .before .before .before .before .before .before .before .before .before .before .before .before .before .before .before .before .before .before .before .before .before .before .before .before .before .before .before .before .before .before .before .before .args .angle)) (c .before .before .before .before .before .before .before .before .before .before .before .before .before .before .before .before .before .before .before .before .before .before .before .before .before .before .before .before .before .before .before .before .before .before .before .before .before .before .before .before .before .before .before .before .before .before .before .before .before .before .before .before .before .before .before .before .before .before .before .before .before .before .before .before .before .before .before .before .before .before .before .before .before .args .start))
+    → Alike ((start-of (round-of (sized-of (c .before .before .before .before .before .before .before .before .before .before .before .before .before .before .before .before .before .before .before .before .before .before)))) .args .mode) ((start-of (round-of (sized-of (c .before .before .before .before .before .before .before .before .before .before .before .before .before .before .before .before .before .before .before .before .before .before)))) .args .above) (now ((start-of (round-of (sized-of (c .before .before .before .before .before .before .before .before .before .before .before .before .before .before .before .before .before .before .before .before .before .before)))) .args .ladder)) (now ((start-of (round-of (sized-of (c .before .before .before .before .before .before .before .before .before .before .before .before .before .before .before .before .before .before .before .before .before .before)))) .args .a)) (now ((start-of (round-of (sized-of (c .before .before .before .before .before .before .before .before .before .before .before .before .before .before .before .before .before .before .before .before .before .before)))) .args .b)) (now ((start-of (round-of (sized-of (c .before .before .before .before .before .before .before .before .before .before .before .before .before .before .before .before .before .before .before .before .before .before)))) .args .km)) (now ((start-of (round-of (sized-of (c .before .before .before .before .before .before .before .before .before .before .before .before .before .before .before .before .before .before .before .before .before .before)))) .args .share)) (now ((start-of (round-of (sized-of (c .before .before .before .before .before .before .before .before .before .before .before .before .before .before .before .before .before .before .before .before .before .before)))) .args .sheet)) (now ((start-of (round-of (sized-of (c .before .before .before .before .before .before .before .before .before .before .before .before .before .before .before .before .before .before .before .before .before .before)))) .args .load)) (now ((start-of (round-of (sized-of (c .before .before .before .before .before .before .before .before .before .before .before .before .before .before .before .before .before .before .before .before .before .before)))) .args .bus)) (now ((start-of (round-of (sized-of (c .before .before .before .before .before .before .before .before .before .before .before .before .before .before .before .before .before .before .before .before .before .before)))) .args .pmax)) (now ((start-of (round-of (sized-of (c .before .before .before .before .before .before .before .before .before .before .before .before .before .before .before .before .before .before .before .before .before .before)))) .args .leader)) (now ((start-of (round-of (sized-of (c .before .before .before .before .before .before .before .before .before .before .before .before .before .before .before .before .before .before .before .before .before .before)))) .args .grounds)) (now ((start-of (round-of (sized-of (c .before .before .before .before .before .before .before .before .before .before .before .before .before .before .before .before .before .before .before .before .before .before)))) .args .injection)) (length (now ((start-of (round-of (sized-of (c .before .before .before .before .before .before .before .before .before .before .before .before .before .before .before .before .before .before .before .before .before .before)))) .args .leader)))
+    (stiffensOn ((start-of (round-of (sized-of (c .before .before .before .before .before .before .before .before .before .before .before .before .before .before .before .before .before .before .before .before .before .before)))) .args .mode) ((start-of (round-of (sized-of (c .before .before .before .before .before .before .before .before .before .before .before .before .before .before .before .before .before .before .before .before .before .before)))) .args .above) (now ((start-of (round-of (sized-of (c .before .before .before .before .before .before .before .before .before .before .before .before .before .before .before .before .before .before .before .before .before .before)))) .args .ladder)) (now ((start-of (round-of (sized-of (c .before .before .before .before .before .before .before .before .before .before .before .before .before .before .before .before .before .before .before .before .before .before)))) .args .a)) (now ((start-of (round-of (sized-of (c .before .before .before .before .before .before .before .before .before .before .before .before .before .before .before .before .before .before .before .before .before .before)))) .args .b)) (now ((start-of (round-of (sized-of (c .before .before .before .before .before .before .before .before .before .before .before .before .before .before .before .before .before .before .before .before .before .before)))) .args .km)) (now ((start-of (round-of (sized-of (c .before .before .before .before .before .before .before .before .before .before .before .before .before .before .before .before .before .before .before .before .before .before)))) .args .share)) (now ((start-of (round-of (sized-of (c .before .before .before .before .before .before .before .before .before .before .before .before .before .before .before .before .before .before .before .before .before .before)))) .args .sheet)) (now ((start-of (round-of (sized-of (c .before .before .before .before .before .before .before .before .before .before .before .before .before .before .before .before .before .before .before .before .before .before)))) .args .load)) (now ((start-of (round-of (sized-of (c .before .before .before .before .before .before .before .before .before .before .before .before .before .before .before .before .before .before .before .before .before .before)))) .args .bus)) (now ((start-of (round-of (sized-of (c .before .before .before .before .before .before .before .before .before .before .before .before .before .before .before .before .before .before .before .before .before .before)))) .args .pmax)) (now ((start-of (round-of (sized-of (c .before .before .before .before .before .before .before .before .before .before .before .before .before .before .before .before .before .before .before .before .before .before)))) .args .leader)) (now ((start-of (round-of (sized-of (c .before .before .before .before .before .before .before .before .before .before .before .before .before .before .before .before .before .before .before .before .before .before)))) .args .grounds)) (now ((start-of (round-of (sized-of (c .before .before .before .before .before .before .before .before .before .before .before .before .before .before .before .before .before .before .before .before .before .before)))) .args .injection)) (length (now ((start-of (round-of (sized-of (c .before .before .before .before .before .before .before .before .before .before .before .before .before .before .before .before .before .before .before .before .before .before)))) .args .leader))) ((round-of (sized-of (c .before .before .before .before .before .before .before .before .before .before .before .before .before .before .before .before .before .before .before .before .before .before))) .rounds .left - 1) (c .before .before .before .before .before .before .before .before .before .before .before .before .before .before .before .before .before .before .before .before .before .before .components .level) ((c .before .before .before .before .before .before .before .before .before .before .before .before .before .before .before .before .before .before .before .before .before .before) .before .before .before .before .before .before .before .limits-of .result) ((sized-of (c .before .before .before .before .before .before .before .before .before .before .before .before .before .before .before .before .before .before .before .before .before .before)) .before .before .before .before .before .before .before .before .before .before .before .before .before .before .draw-edges .result .from) ((sized-of (c .before .before .before .before .before .before .before .before .before .before .before .before .before .before .before .before .before .before .before .before .before .before)) .before .before .before .before .before .before .before .before .before .before .before .before .before .before .draw-edges .result .to) ((sized-of (c .before .before .before .before .before .before .before .before .before .before .before .before .before .before .before .before .before .before .before .before .before .before)) .before .before .before .before .before .before .before .before .before .before .before .before .before .before .draw-edges .result .weight) ((sized-of (c .before .before .before .before .before .before .before .before .before .before .before .before .before .before .before .before .before .before .before .before .before .before)) .before .before .before .before .before .before .before .before .before .before .before .peak-state .last .1 .1 .1 .0) ((sized-of (c .before .before .before .before .before .before .before .before .before .before .before .before .before .before .before .before .before .before .before .before .before .before)) .before .before .before .before .before .before .before .before .before .before .before .peak-state .last .1 .1 .1 .1 .0) (c .before .before .before .before .before .before .before .before .before .before .before .before .before .before .before .before .before .before .before .before .before .before .components .p) ((sized-of (c .before .before .before .before .before .before .before .before .before .before .before .before .before .before .before .before .before .before .before .before .before .before)) .corridors .t) (c .before .before .before .before .before .before .before .before .before .before .before .before .before .before .before .before .before .before .before .before .before .before .components .i + 1) (c .before .before .before .before .before .before .before .before .before .before .before .before .before .stiffen-led .last .1 .1 .1 .1 .1 .1 .1 .1 .1 .1 .1 .1 .1 .1 .0) (c .before .before .before .before .before .before .before .before .before .before .before .before .before .stiffen-led .last .1 .1 .1 .1 .1 .1 .1 .1 .1 .1 .1 .1 .1 .1 .1 .0) (c .before .before .before .before .before .before .before .before .before .before .before .before .before .stiffen-led .last .1 .1 .1 .1 .1 .1 .1 .1 .1 .1 .1 .1 .1 .1 .1 .1 .0) (c .before .before .before .before .before .before .before .before .before .before .before .before .before .stiffen-led .last .1 .1 .1 .1 .1 .1 .1 .1 .1 .1 .1 .1 .1 .1 .1 .1 .1 .0) (c .before .before .before .before .before .before .before .before .before .before .before .before .before .stiffen-led .last .1 .1 .1 .1 .1 .1 .1 .1 .1 .1 .1 .1 .1 .1 .1 .1 .1 .1 .0) (c .before .u .given .0 .0))
+    (goesOn ((start-of (round-of (sized-of (c .before .before .before .before .before .before .before .before .before .before .before .before .before .before .before .before .before .before .before .before .before .before)))) .args .mode) ((start-of (round-of (sized-of (c .before .before .before .before .before .before .before .before .before .before .before .before .before .before .before .before .before .before .before .before .before .before)))) .args .above) (now ((start-of (round-of (sized-of (c .before .before .before .before .before .before .before .before .before .before .before .before .before .before .before .before .before .before .before .before .before .before)))) .args .ladder)) (now ((start-of (round-of (sized-of (c .before .before .before .before .before .before .before .before .before .before .before .before .before .before .before .before .before .before .before .before .before .before)))) .args .a)) (now ((start-of (round-of (sized-of (c .before .before .before .before .before .before .before .before .before .before .before .before .before .before .before .before .before .before .before .before .before .before)))) .args .b)) (now ((start-of (round-of (sized-of (c .before .before .before .before .before .before .before .before .before .before .before .before .before .before .before .before .before .before .before .before .before .before)))) .args .km)) (now ((start-of (round-of (sized-of (c .before .before .before .before .before .before .before .before .before .before .before .before .before .before .before .before .before .before .before .before .before .before)))) .args .share)) (now ((start-of (round-of (sized-of (c .before .before .before .before .before .before .before .before .before .before .before .before .before .before .before .before .before .before .before .before .before .before)))) .args .sheet)) (now ((start-of (round-of (sized-of (c .before .before .before .before .before .before .before .before .before .before .before .before .before .before .before .before .before .before .before .before .before .before)))) .args .load)) (now ((start-of (round-of (sized-of (c .before .before .before .before .before .before .before .before .before .before .before .before .before .before .before .before .before .before .before .before .before .before)))) .args .bus)) (now ((start-of (round-of (sized-of (c .before .before .before .before .before .before .before .before .before .before .before .before .before .before .before .before .before .before .before .before .before .before)))) .args .pmax)) (now ((start-of (round-of (sized-of (c .before .before .before .before .before .before .before .before .before .before .before .before .before .before .before .before .before .before .before .before .before .before)))) .args .leader)) (now ((start-of (round-of (sized-of (c .before .before .before .before .before .before .before .before .before .before .before .before .before .before .before .before .before .before .before .before .before .before)))) .args .grounds)) (now ((start-of (round-of (sized-of (c .before .before .before .before .before .before .before .before .before .before .before .before .before .before .before .before .before .before .before .before .before .before)))) .args .injection)) (length (now ((start-of (round-of (sized-of (c .before .before .before .before .before .before .before .before .before .before .before .before .before .before .before .before .before .before .before .before .before .before)))) .args .leader))) ((start-of (round-of (sized-of (c .before .before .before .before .before .before .before .before .before .before .before .before .before .before .before .before .before .before .before .before .before .before)))) .args .budget) (now ((start-of (round-of (sized-of (c .before .before .before .before .before .before .before .before .before .before .before .before .before .before .before .before .before .before .before .before .before .before)))) .args .level)) (now ((start-of (round-of (sized-of (c .before .before .before .before .before .before .before .before .before .before .before .before .before .before .before .before .before .before .before .before .before .before)))) .args .circuits)) (now ((start-of (round-of (sized-of (c .before .before .before .before .before .before .before .before .before .before .before .before .before .before .before .before .before .before .before .before .before .before)))) .args .banks)) (now ((start-of (round-of (sized-of (c .before .before .before .before .before .before .before .before .before .before .before .before .before .before .before .before .before .before .before .before .before .before)))) .args .floors)) (now ((start-of (round-of (sized-of (c .before .before .before .before .before .before .before .before .before .before .before .before .before .before .before .before .before .before .before .before .before .before)))) .args .upsized)) (now ((start-of (round-of (sized-of (c .before .before .before .before .before .before .before .before .before .before .before .before .before .before .before .before .before .before .before .before .before .before)))) .args .angle)) ((start-of (round-of (sized-of (c .before .before .before .before .before .before .before .before .before .before .before .before .before .before .before .before .before .before .before .before .before .before)))) .args .start))
 next c =
-    stiffen-next (c .before .before .before .before .before .before .before .before .before .before .before .before .before .before .before .before .before .before .before .before .before .before .before .before .before .before .before .before .before .before .before .before .before .before .before .before .before .before .before .before .before .before .before .before .before .before .before .before .before .before .before .before .before .before .before .before .before .before .before .before .before .before .before .before .before .before .before .before .before .before .before .before .before .args .mode) (c .before .before .before .before .before .before .before .before .before .before .before .before .before .before .before .before .before .before .before .before .before .before .before .before .before .before .before .before .before .before .before .before .before .before .before .before .before .before .before .before .before .before .before .before .before .before .before .before .before .before .before .before .before .before .before .before .before .before .before .before .before .before .before .before .before .before .before .before .before .before .before .before .before .args .above) (now (c .before .before .before .before .before .before .before .before .before .before .before .before .before .before .before .before .before .before .before .before .before .before .before .before .before .before .before .before .before .before .before .before .before .before .before .before .before .before .before .before .before .before .before .before .before .before .before .before .before .before .before .before .before .before .before .before .before .before .before .before .before .before .before .before .before .before .before .before .before .before .before .before .before .args .ladder)) (now (c .before .before .before .before .before .before .before .before .before .before .before .before .before .before .before .before .before .before .before .before .before .before .before .before .before .before .before .before .before .before .before .before .before .before .before .before .before .before .before .before .before .before .before .before .before .before .before .before .before .before .before .before .before .before .before .before .before .before .before .before .before .before .before .before .before .before .before .before .before .before .before .before .before .args .a)) (now (c .before .before .before .before .before .before .before .before .before .before .before .before .before .before .before .before .before .before .before .before .before .before .before .before .before .before .before .before .before .before .before .before .before .before .before .before .before .before .before .before .before .before .before .before .before .before .before .before .before .before .before .before .before .before .before .before .before .before .before .before .before .before .before .before .before .before .before .before .before .before .before .before .before .args .b)) (now (c .before .before .before .before .before .before .before .before .before .before .before .before .before .before .before .before .before .before .before .before .before .before .before .before .before .before .before .before .before .before .before .before .before .before .before .before .before .before .before .before .before .before .before .before .before .before .before .before .before .before .before .before .before .before .before .before .before .before .before .before .before .before .before .before .before .before .before .before .before .before .before .before .before .args .km)) (now (c .before .before .before .before .before .before .before .before .before .before .before .before .before .before .before .before .before .before .before .before .before .before .before .before .before .before .before .before .before .before .before .before .before .before .before .before .before .before .before .before .before .before .before .before .before .before .before .before .before .before .before .before .before .before .before .before .before .before .before .before .before .before .before .before .before .before .before .before .before .before .before .before .before .args .share)) (now (c .before .before .before .before .before .before .before .before .before .before .before .before .before .before .before .before .before .before .before .before .before .before .before .before .before .before .before .before .before .before .before .before .before .before .before .before .before .before .before .before .before .before .before .before .before .before .before .before .before .before .before .before .before .before .before .before .before .before .before .before .before .before .before .before .before .before .before .before .before .before .before .before .before .args .sheet)) (now (c .before .before .before .before .before .before .before .before .before .before .before .before .before .before .before .before .before .before .before .before .before .before .before .before .before .before .before .before .before .before .before .before .before .before .before .before .before .before .before .before .before .before .before .before .before .before .before .before .before .before .before .before .before .before .before .before .before .before .before .before .before .before .before .before .before .before .before .before .before .before .before .before .before .args .load)) (now (c .before .before .before .before .before .before .before .before .before .before .before .before .before .before .before .before .before .before .before .before .before .before .before .before .before .before .before .before .before .before .before .before .before .before .before .before .before .before .before .before .before .before .before .before .before .before .before .before .before .before .before .before .before .before .before .before .before .before .before .before .before .before .before .before .before .before .before .before .before .before .before .before .before .args .bus)) (now (c .before .before .before .before .before .before .before .before .before .before .before .before .before .before .before .before .before .before .before .before .before .before .before .before .before .before .before .before .before .before .before .before .before .before .before .before .before .before .before .before .before .before .before .before .before .before .before .before .before .before .before .before .before .before .before .before .before .before .before .before .before .before .before .before .before .before .before .before .before .before .before .before .before .args .pmax)) (now (c .before .before .before .before .before .before .before .before .before .before .before .before .before .before .before .before .before .before .before .before .before .before .before .before .before .before .before .before .before .before .before .before .before .before .before .before .before .before .before .before .before .before .before .before .before .before .before .before .before .before .before .before .before .before .before .before .before .before .before .before .before .before .before .before .before .before .before .before .before .before .before .before .before .args .leader)) (now (c .before .before .before .before .before .before .before .before .before .before .before .before .before .before .before .before .before .before .before .before .before .before .before .before .before .before .before .before .before .before .before .before .before .before .before .before .before .before .before .before .before .before .before .before .before .before .before .before .before .before .before .before .before .before .before .before .before .before .before .before .before .before .before .before .before .before .before .before .before .before .before .before .before .args .grounds)) (now (c .before .before .before .before .before .before .before .before .before .before .before .before .before .before .before .before .before .before .before .before .before .before .before .before .before .before .before .before .before .before .before .before .before .before .before .before .before .before .before .before .before .before .before .before .before .before .before .before .before .before .before .before .before .before .before .before .before .before .before .before .before .before .before .before .before .before .before .before .before .before .before .before .before .args .injection)) (length (now (c .before .before .before .before .before .before .before .before .before .before .before .before .before .before .before .before .before .before .before .before .before .before .before .before .before .before .before .before .before .before .before .before .before .before .before .before .before .before .before .before .before .before .before .before .before .before .before .before .before .before .before .before .before .before .before .before .before .before .before .before .before .before .before .before .before .before .before .before .before .before .before .before .before .args .leader)))
-    (goesOn (c .before .before .before .before .before .before .before .before .before .before .before .before .before .before .before .before .before .before .before .before .before .before .before .before .before .before .before .before .before .before .before .before .before .before .before .before .before .before .before .before .before .before .before .before .before .before .before .before .before .before .before .before .before .before .before .before .before .before .before .before .before .before .before .before .before .before .before .before .before .before .before .before .before .args .mode) (c .before .before .before .before .before .before .before .before .before .before .before .before .before .before .before .before .before .before .before .before .before .before .before .before .before .before .before .before .before .before .before .before .before .before .before .before .before .before .before .before .before .before .before .before .before .before .before .before .before .before .before .before .before .before .before .before .before .before .before .before .before .before .before .before .before .before .before .before .before .before .before .before .before .args .above) (now (c .before .before .before .before .before .before .before .before .before .before .before .before .before .before .before .before .before .before .before .before .before .before .before .before .before .before .before .before .before .before .before .before .before .before .before .before .before .before .before .before .before .before .before .before .before .before .before .before .before .before .before .before .before .before .before .before .before .before .before .before .before .before .before .before .before .before .before .before .before .before .before .before .before .args .ladder)) (now (c .before .before .before .before .before .before .before .before .before .before .before .before .before .before .before .before .before .before .before .before .before .before .before .before .before .before .before .before .before .before .before .before .before .before .before .before .before .before .before .before .before .before .before .before .before .before .before .before .before .before .before .before .before .before .before .before .before .before .before .before .before .before .before .before .before .before .before .before .before .before .before .before .before .args .a)) (now (c .before .before .before .before .before .before .before .before .before .before .before .before .before .before .before .before .before .before .before .before .before .before .before .before .before .before .before .before .before .before .before .before .before .before .before .before .before .before .before .before .before .before .before .before .before .before .before .before .before .before .before .before .before .before .before .before .before .before .before .before .before .before .before .before .before .before .before .before .before .before .before .before .before .args .b)) (now (c .before .before .before .before .before .before .before .before .before .before .before .before .before .before .before .before .before .before .before .before .before .before .before .before .before .before .before .before .before .before .before .before .before .before .before .before .before .before .before .before .before .before .before .before .before .before .before .before .before .before .before .before .before .before .before .before .before .before .before .before .before .before .before .before .before .before .before .before .before .before .before .before .before .args .km)) (now (c .before .before .before .before .before .before .before .before .before .before .before .before .before .before .before .before .before .before .before .before .before .before .before .before .before .before .before .before .before .before .before .before .before .before .before .before .before .before .before .before .before .before .before .before .before .before .before .before .before .before .before .before .before .before .before .before .before .before .before .before .before .before .before .before .before .before .before .before .before .before .before .before .before .args .share)) (now (c .before .before .before .before .before .before .before .before .before .before .before .before .before .before .before .before .before .before .before .before .before .before .before .before .before .before .before .before .before .before .before .before .before .before .before .before .before .before .before .before .before .before .before .before .before .before .before .before .before .before .before .before .before .before .before .before .before .before .before .before .before .before .before .before .before .before .before .before .before .before .before .before .before .args .sheet)) (now (c .before .before .before .before .before .before .before .before .before .before .before .before .before .before .before .before .before .before .before .before .before .before .before .before .before .before .before .before .before .before .before .before .before .before .before .before .before .before .before .before .before .before .before .before .before .before .before .before .before .before .before .before .before .before .before .before .before .before .before .before .before .before .before .before .before .before .before .before .before .before .before .before .before .args .load)) (now (c .before .before .before .before .before .before .before .before .before .before .before .before .before .before .before .before .before .before .before .before .before .before .before .before .before .before .before .before .before .before .before .before .before .before .before .before .before .before .before .before .before .before .before .before .before .before .before .before .before .before .before .before .before .before .before .before .before .before .before .before .before .before .before .before .before .before .before .before .before .before .before .before .before .args .bus)) (now (c .before .before .before .before .before .before .before .before .before .before .before .before .before .before .before .before .before .before .before .before .before .before .before .before .before .before .before .before .before .before .before .before .before .before .before .before .before .before .before .before .before .before .before .before .before .before .before .before .before .before .before .before .before .before .before .before .before .before .before .before .before .before .before .before .before .before .before .before .before .before .before .before .before .args .pmax)) (now (c .before .before .before .before .before .before .before .before .before .before .before .before .before .before .before .before .before .before .before .before .before .before .before .before .before .before .before .before .before .before .before .before .before .before .before .before .before .before .before .before .before .before .before .before .before .before .before .before .before .before .before .before .before .before .before .before .before .before .before .before .before .before .before .before .before .before .before .before .before .before .before .before .before .args .leader)) (now (c .before .before .before .before .before .before .before .before .before .before .before .before .before .before .before .before .before .before .before .before .before .before .before .before .before .before .before .before .before .before .before .before .before .before .before .before .before .before .before .before .before .before .before .before .before .before .before .before .before .before .before .before .before .before .before .before .before .before .before .before .before .before .before .before .before .before .before .before .before .before .before .before .before .args .grounds)) (now (c .before .before .before .before .before .before .before .before .before .before .before .before .before .before .before .before .before .before .before .before .before .before .before .before .before .before .before .before .before .before .before .before .before .before .before .before .before .before .before .before .before .before .before .before .before .before .before .before .before .before .before .before .before .before .before .before .before .before .before .before .before .before .before .before .before .before .before .before .before .before .before .before .before .args .injection)) (length (now (c .before .before .before .before .before .before .before .before .before .before .before .before .before .before .before .before .before .before .before .before .before .before .before .before .before .before .before .before .before .before .before .before .before .before .before .before .before .before .before .before .before .before .before .before .before .before .before .before .before .before .before .before .before .before .before .before .before .before .before .before .before .before .before .before .before .before .before .before .before .before .before .before .before .args .leader))) (c .before .before .before .before .before .before .before .before .before .before .before .before .before .before .before .before .before .before .before .before .before .before .before .before .before .before .before .before .before .before .before .before .before .before .before .before .before .before .before .before .before .before .before .before .before .before .before .before .before .before .before .before .before .before .before .before .before .before .before .before .before .before .before .before .before .before .before .before .before .before .before .before .before .args .budget) (now (c .before .before .before .before .before .before .before .before .before .before .before .before .before .before .before .before .before .before .before .before .before .before .before .before .before .before .before .before .before .before .before .before .before .before .before .before .before .before .before .before .before .before .before .before .before .before .before .before .before .before .before .before .before .before .before .before .before .before .before .before .before .before .before .before .before .before .before .before .before .before .before .before .before .args .level)) (now (c .before .before .before .before .before .before .before .before .before .before .before .before .before .before .before .before .before .before .before .before .before .before .before .before .before .before .before .before .before .before .before .before .before .before .before .before .before .before .before .before .before .before .before .before .before .before .before .before .before .before .before .before .before .before .before .before .before .before .before .before .before .before .before .before .before .before .before .before .before .before .before .before .before .args .circuits)) (now (c .before .before .before .before .before .before .before .before .before .before .before .before .before .before .before .before .before .before .before .before .before .before .before .before .before .before .before .before .before .before .before .before .before .before .before .before .before .before .before .before .before .before .before .before .before .before .before .before .before .before .before .before .before .before .before .before .before .before .before .before .before .before .before .before .before .before .before .before .before .before .before .before .before .args .banks)) (now (c .before .before .before .before .before .before .before .before .before .before .before .before .before .before .before .before .before .before .before .before .before .before .before .before .before .before .before .before .before .before .before .before .before .before .before .before .before .before .before .before .before .before .before .before .before .before .before .before .before .before .before .before .before .before .before .before .before .before .before .before .before .before .before .before .before .before .before .before .before .before .before .before .before .args .floors)) (now (c .before .before .before .before .before .before .before .before .before .before .before .before .before .before .before .before .before .before .before .before .before .before .before .before .before .before .before .before .before .before .before .before .before .before .before .before .before .before .before .before .before .before .before .before .before .before .before .before .before .before .before .before .before .before .before .before .before .before .before .before .before .before .before .before .before .before .before .before .before .before .before .before .before .args .upsized)) (now (c .before .before .before .before .before .before .before .before .before .before .before .before .before .before .before .before .before .before .before .before .before .before .before .before .before .before .before .before .before .before .before .before .before .before .before .before .before .before .before .before .before .before .before .before .before .before .before .before .before .before .before .before .before .before .before .before .before .before .before .before .before .before .before .before .before .before .before .before .before .before .before .before .before .args .angle)) (c .before .before .before .before .before .before .before .before .before .before .before .before .before .before .before .before .before .before .before .before .before .before .before .before .before .before .before .before .before .before .before .before .before .before .before .before .before .before .before .before .before .before .before .before .before .before .before .before .before .before .before .before .before .before .before .before .before .before .before .before .before .before .before .before .before .before .before .before .before .before .before .before .before .args .start))
-    (c .before .before .before .before .before .before .before .before .before .before .before .before .before .before .before .before .before .before .before .before .before .before .before .before .before .before .before .before .before .before .before .before .before .before .before .before .before .before .before .before .before .before .before .before .before .before .before .before .before .before .before .before .rounds .left - 1) (c .before .before .before .before .before .before .before .before .before .before .before .before .before .before .before .before .before .before .before .before .before .before .components .level) (c .before .before .before .before .before .before .before .before .before .before .before .before .before .before .before .before .before .before .before .before .before .before .before .before .before .before .before .before .before .limits-of .result) (c .before .before .before .before .before .before .before .before .before .before .before .before .before .before .before .before .before .before .before .before .before .before .before .before .before .before .before .before .before .before .before .before .before .before .before .before .before .before .before .before .before .before .before .before .before .before .draw-edges .result .from) (c .before .before .before .before .before .before .before .before .before .before .before .before .before .before .before .before .before .before .before .before .before .before .before .before .before .before .before .before .before .before .before .before .before .before .before .before .before .before .before .before .before .before .before .before .before .before .draw-edges .result .to) (c .before .before .before .before .before .before .before .before .before .before .before .before .before .before .before .before .before .before .before .before .before .before .before .before .before .before .before .before .before .before .before .before .before .before .before .before .before .before .before .before .before .before .before .before .before .before .draw-edges .result .weight) (c .before .before .before .before .before .before .before .before .before .before .before .before .before .before .before .before .before .before .before .before .before .before .before .before .before .before .before .before .before .before .before .before .before .before .before .before .before .before .before .before .before .before .before .peak-state .last .1 .1 .1 .0) (c .before .before .before .before .before .before .before .before .before .before .before .before .before .before .before .before .before .before .before .before .before .before .before .before .before .before .before .before .before .before .before .before .before .before .before .before .before .before .before .before .before .before .before .peak-state .last .1 .1 .1 .1 .0) (c .before .before .before .before .before .before .before .before .before .before .before .before .before .before .before .before .before .before .before .before .before .before .components .p) (c .before .before .before .before .before .before .before .before .before .before .before .before .before .before .before .before .before .before .before .before .before .before .before .before .before .before .before .before .before .before .before .before .corridors .t) (ap (λ (x : List ℕ). length x) (c .before .before .before .before .before .before .before .before .before .before .before .before .before .before .before .before .before .before .before .before .before .before .components .inv .1 ∙ c .before .before .before .before .before .before .before .before .before .before .before .before .before .before .before .before .before .before .before .before .before .before .before .before .before .before .before .before .before .before .before .before .corridors .inv .1) ∙ sym (c .before .before .before .before .before .before .before .before .before .before .before .before .before .before .before .before .before .before .before .before .before .before .before .before .before .before .before .before .before .before .before .before .before .before .before .before .before .before .before .before .before .before .before .before .before .before .before .before .before .before .before .before .rounds .inv .0 .places .leader-size)) (c .before .before .before .before .before .before .before .before .before .before .before .before .before .before .before .before .before .before .before .before .before .before .components .i) (c .before .before .before .before .before .before .before .before .before .before .before .before .before .before .before .before .before .before .before .before .before .before .components .circuits) (c .before .before .before .before .before .before .before .before .before .before .before .before .before .before .before .before .before .before .before .before .before .before .components .banks) (c .before .before .before .before .before .before .before .before .before .before .before .before .before .before .before .before .before .before .before .before .before .before .components .floors) (c .before .before .before .before .before .before .before .before .before .before .before .before .before .before .before .before .before .before .before .before .before .before .components .upsized) (c .before .before .before .before .before .before .before .before .before .before .before .before .before .before .before .before .before .before .before .before .before .before .components .marks) (c .before .before .before .before .before .before .before .before .before .before .before .before .before .before .before .before .before .before .before .before .before .before .components .s) (whole (c .before .before .before .before .before .before .before .before .before .before .before .before .before .before)) (c .before .before .before .before .before .before .before .before .before .before .before .before .before .before .before .before .before .before .before .before .before .components-test .taken) (c .before .before .before .before .before .before .before .before .before .before .before .before .before .stiffen-led .last .1 .1 .1 .1 .1 .1 .1 .1 .1 .1 .1 .1 .1 .1 .0) (c .before .before .before .before .before .before .before .before .before .before .before .before .before .stiffen-led .last .1 .1 .1 .1 .1 .1 .1 .1 .1 .1 .1 .1 .1 .1 .1 .0) (c .before .before .before .before .before .before .before .before .before .before .before .before .before .stiffen-led .last .1 .1 .1 .1 .1 .1 .1 .1 .1 .1 .1 .1 .1 .1 .1 .1 .0) (c .before .before .before .before .before .before .before .before .before .before .before .before .before .stiffen-led .last .1 .1 .1 .1 .1 .1 .1 .1 .1 .1 .1 .1 .1 .1 .1 .1 .1 .0) (c .before .before .before .before .before .before .before .before .before .before .before .before .before .stiffen-led .last .1 .1 .1 .1 .1 .1 .1 .1 .1 .1 .1 .1 .1 .1 .1 .1 .1 .1 .0) (c .before .before .before .before .before .before .before .before .before .before .before .before .before .stiffen-led .result) (c .before .before .before .before .before .before .before .before .before .before .before .before .before .stiffen-led .ensures) (c .before .u .given .0 .0) (c .before .u .given .1)
+    stiffen-next ((start-of (round-of (sized-of (c .before .before .before .before .before .before .before .before .before .before .before .before .before .before .before .before .before .before .before .before .before .before)))) .args .mode) ((start-of (round-of (sized-of (c .before .before .before .before .before .before .before .before .before .before .before .before .before .before .before .before .before .before .before .before .before .before)))) .args .above) (now ((start-of (round-of (sized-of (c .before .before .before .before .before .before .before .before .before .before .before .before .before .before .before .before .before .before .before .before .before .before)))) .args .ladder)) (now ((start-of (round-of (sized-of (c .before .before .before .before .before .before .before .before .before .before .before .before .before .before .before .before .before .before .before .before .before .before)))) .args .a)) (now ((start-of (round-of (sized-of (c .before .before .before .before .before .before .before .before .before .before .before .before .before .before .before .before .before .before .before .before .before .before)))) .args .b)) (now ((start-of (round-of (sized-of (c .before .before .before .before .before .before .before .before .before .before .before .before .before .before .before .before .before .before .before .before .before .before)))) .args .km)) (now ((start-of (round-of (sized-of (c .before .before .before .before .before .before .before .before .before .before .before .before .before .before .before .before .before .before .before .before .before .before)))) .args .share)) (now ((start-of (round-of (sized-of (c .before .before .before .before .before .before .before .before .before .before .before .before .before .before .before .before .before .before .before .before .before .before)))) .args .sheet)) (now ((start-of (round-of (sized-of (c .before .before .before .before .before .before .before .before .before .before .before .before .before .before .before .before .before .before .before .before .before .before)))) .args .load)) (now ((start-of (round-of (sized-of (c .before .before .before .before .before .before .before .before .before .before .before .before .before .before .before .before .before .before .before .before .before .before)))) .args .bus)) (now ((start-of (round-of (sized-of (c .before .before .before .before .before .before .before .before .before .before .before .before .before .before .before .before .before .before .before .before .before .before)))) .args .pmax)) (now ((start-of (round-of (sized-of (c .before .before .before .before .before .before .before .before .before .before .before .before .before .before .before .before .before .before .before .before .before .before)))) .args .leader)) (now ((start-of (round-of (sized-of (c .before .before .before .before .before .before .before .before .before .before .before .before .before .before .before .before .before .before .before .before .before .before)))) .args .grounds)) (now ((start-of (round-of (sized-of (c .before .before .before .before .before .before .before .before .before .before .before .before .before .before .before .before .before .before .before .before .before .before)))) .args .injection)) (length (now ((start-of (round-of (sized-of (c .before .before .before .before .before .before .before .before .before .before .before .before .before .before .before .before .before .before .before .before .before .before)))) .args .leader)))
+    (goesOn ((start-of (round-of (sized-of (c .before .before .before .before .before .before .before .before .before .before .before .before .before .before .before .before .before .before .before .before .before .before)))) .args .mode) ((start-of (round-of (sized-of (c .before .before .before .before .before .before .before .before .before .before .before .before .before .before .before .before .before .before .before .before .before .before)))) .args .above) (now ((start-of (round-of (sized-of (c .before .before .before .before .before .before .before .before .before .before .before .before .before .before .before .before .before .before .before .before .before .before)))) .args .ladder)) (now ((start-of (round-of (sized-of (c .before .before .before .before .before .before .before .before .before .before .before .before .before .before .before .before .before .before .before .before .before .before)))) .args .a)) (now ((start-of (round-of (sized-of (c .before .before .before .before .before .before .before .before .before .before .before .before .before .before .before .before .before .before .before .before .before .before)))) .args .b)) (now ((start-of (round-of (sized-of (c .before .before .before .before .before .before .before .before .before .before .before .before .before .before .before .before .before .before .before .before .before .before)))) .args .km)) (now ((start-of (round-of (sized-of (c .before .before .before .before .before .before .before .before .before .before .before .before .before .before .before .before .before .before .before .before .before .before)))) .args .share)) (now ((start-of (round-of (sized-of (c .before .before .before .before .before .before .before .before .before .before .before .before .before .before .before .before .before .before .before .before .before .before)))) .args .sheet)) (now ((start-of (round-of (sized-of (c .before .before .before .before .before .before .before .before .before .before .before .before .before .before .before .before .before .before .before .before .before .before)))) .args .load)) (now ((start-of (round-of (sized-of (c .before .before .before .before .before .before .before .before .before .before .before .before .before .before .before .before .before .before .before .before .before .before)))) .args .bus)) (now ((start-of (round-of (sized-of (c .before .before .before .before .before .before .before .before .before .before .before .before .before .before .before .before .before .before .before .before .before .before)))) .args .pmax)) (now ((start-of (round-of (sized-of (c .before .before .before .before .before .before .before .before .before .before .before .before .before .before .before .before .before .before .before .before .before .before)))) .args .leader)) (now ((start-of (round-of (sized-of (c .before .before .before .before .before .before .before .before .before .before .before .before .before .before .before .before .before .before .before .before .before .before)))) .args .grounds)) (now ((start-of (round-of (sized-of (c .before .before .before .before .before .before .before .before .before .before .before .before .before .before .before .before .before .before .before .before .before .before)))) .args .injection)) (length (now ((start-of (round-of (sized-of (c .before .before .before .before .before .before .before .before .before .before .before .before .before .before .before .before .before .before .before .before .before .before)))) .args .leader))) ((start-of (round-of (sized-of (c .before .before .before .before .before .before .before .before .before .before .before .before .before .before .before .before .before .before .before .before .before .before)))) .args .budget) (now ((start-of (round-of (sized-of (c .before .before .before .before .before .before .before .before .before .before .before .before .before .before .before .before .before .before .before .before .before .before)))) .args .level)) (now ((start-of (round-of (sized-of (c .before .before .before .before .before .before .before .before .before .before .before .before .before .before .before .before .before .before .before .before .before .before)))) .args .circuits)) (now ((start-of (round-of (sized-of (c .before .before .before .before .before .before .before .before .before .before .before .before .before .before .before .before .before .before .before .before .before .before)))) .args .banks)) (now ((start-of (round-of (sized-of (c .before .before .before .before .before .before .before .before .before .before .before .before .before .before .before .before .before .before .before .before .before .before)))) .args .floors)) (now ((start-of (round-of (sized-of (c .before .before .before .before .before .before .before .before .before .before .before .before .before .before .before .before .before .before .before .before .before .before)))) .args .upsized)) (now ((start-of (round-of (sized-of (c .before .before .before .before .before .before .before .before .before .before .before .before .before .before .before .before .before .before .before .before .before .before)))) .args .angle)) ((start-of (round-of (sized-of (c .before .before .before .before .before .before .before .before .before .before .before .before .before .before .before .before .before .before .before .before .before .before)))) .args .start))
+    ((round-of (sized-of (c .before .before .before .before .before .before .before .before .before .before .before .before .before .before .before .before .before .before .before .before .before .before))) .rounds .left - 1) (c .before .before .before .before .before .before .before .before .before .before .before .before .before .before .before .before .before .before .before .before .before .before .components .level) ((c .before .before .before .before .before .before .before .before .before .before .before .before .before .before .before .before .before .before .before .before .before .before) .before .before .before .before .before .before .before .limits-of .result) ((sized-of (c .before .before .before .before .before .before .before .before .before .before .before .before .before .before .before .before .before .before .before .before .before .before)) .before .before .before .before .before .before .before .before .before .before .before .before .before .before .draw-edges .result .from) ((sized-of (c .before .before .before .before .before .before .before .before .before .before .before .before .before .before .before .before .before .before .before .before .before .before)) .before .before .before .before .before .before .before .before .before .before .before .before .before .before .draw-edges .result .to) ((sized-of (c .before .before .before .before .before .before .before .before .before .before .before .before .before .before .before .before .before .before .before .before .before .before)) .before .before .before .before .before .before .before .before .before .before .before .before .before .before .draw-edges .result .weight) ((sized-of (c .before .before .before .before .before .before .before .before .before .before .before .before .before .before .before .before .before .before .before .before .before .before)) .before .before .before .before .before .before .before .before .before .before .before .peak-state .last .1 .1 .1 .0) ((sized-of (c .before .before .before .before .before .before .before .before .before .before .before .before .before .before .before .before .before .before .before .before .before .before)) .before .before .before .before .before .before .before .before .before .before .before .peak-state .last .1 .1 .1 .1 .0) (c .before .before .before .before .before .before .before .before .before .before .before .before .before .before .before .before .before .before .before .before .before .before .components .p) ((sized-of (c .before .before .before .before .before .before .before .before .before .before .before .before .before .before .before .before .before .before .before .before .before .before)) .corridors .t) (ap (λ (x : List ℕ). length x) (c .before .before .before .before .before .before .before .before .before .before .before .before .before .before .before .before .before .before .before .before .before .before .components .inv .1 ∙ (sized-of (c .before .before .before .before .before .before .before .before .before .before .before .before .before .before .before .before .before .before .before .before .before .before)) .corridors .inv .1) ∙ sym ((round-of (sized-of (c .before .before .before .before .before .before .before .before .before .before .before .before .before .before .before .before .before .before .before .before .before .before))) .rounds .inv .0 .places .leader-size)) (c .before .before .before .before .before .before .before .before .before .before .before .before .before .before .before .before .before .before .before .before .before .before .components .i) (c .before .before .before .before .before .before .before .before .before .before .before .before .before .before .before .before .before .before .before .before .before .before .components .circuits) (c .before .before .before .before .before .before .before .before .before .before .before .before .before .before .before .before .before .before .before .before .before .before .components .banks) (c .before .before .before .before .before .before .before .before .before .before .before .before .before .before .before .before .before .before .before .before .before .before .components .floors) (c .before .before .before .before .before .before .before .before .before .before .before .before .before .before .before .before .before .before .before .before .before .before .components .upsized) (c .before .before .before .before .before .before .before .before .before .before .before .before .before .before .before .before .before .before .before .before .before .before .components .marks) (c .before .before .before .before .before .before .before .before .before .before .before .before .before .before .before .before .before .before .before .before .before .before .components .s) (whole (c .before .before .before .before .before .before .before .before .before .before .before .before .before .before)) (c .before .before .before .before .before .before .before .before .before .before .before .before .before .before .before .before .before .before .before .before .before .components-test .taken) (c .before .before .before .before .before .before .before .before .before .before .before .before .before .stiffen-led .last .1 .1 .1 .1 .1 .1 .1 .1 .1 .1 .1 .1 .1 .1 .0) (c .before .before .before .before .before .before .before .before .before .before .before .before .before .stiffen-led .last .1 .1 .1 .1 .1 .1 .1 .1 .1 .1 .1 .1 .1 .1 .1 .0) (c .before .before .before .before .before .before .before .before .before .before .before .before .before .stiffen-led .last .1 .1 .1 .1 .1 .1 .1 .1 .1 .1 .1 .1 .1 .1 .1 .1 .0) (c .before .before .before .before .before .before .before .before .before .before .before .before .before .stiffen-led .last .1 .1 .1 .1 .1 .1 .1 .1 .1 .1 .1 .1 .1 .1 .1 .1 .1 .0) (c .before .before .before .before .before .before .before .before .before .before .before .before .before .stiffen-led .last .1 .1 .1 .1 .1 .1 .1 .1 .1 .1 .1 .1 .1 .1 .1 .1 .1 .1 .0) (c .before .before .before .before .before .before .before .before .before .before .before .before .before .stiffen-led .result) (c .before .before .before .before .before .before .before .before .before .before .before .before .before .stiffen-led .ensures) (c .before .u .given .0 .0) (c .before .u .given .1)
 
 raise-marked-requires-2 :
     tie.Need-raise-marked-requires-2
@@ -686,9 +696,9 @@ raise-marked-requires-2 :
     Inv-rounds
     μ-rounds
 raise-marked-requires-2 c κs =
-    let z = c .before .before .before .before .before .before .before .before .before .before .before .before .before .before .before .before .before .before .before .before .before .before .before .before .before .before .before .before .before .before .before .before .before .before .before .before .before .before .before .before .before .before .before .before .before .before .before .before .before .before .before .before .before .before .before .before .before .before .before .before .before .before .before .before .before .before .before .before .before .before .before .before .before .before .before .before .before .before .args in
-    let r = c .before .before .before .before .before .before .before .before .before .before .before .before .before .before .before .before .before .before .before .before .before .before .before .before .before .before .before .before .before .before .before .before .before .before .before .before .before .before .before .before .before .before .before .before .before .before .before .before .before .before .before .before .before .before .before .before .before .rounds in
-    let l = c .before .before .before .before .before .before .before .before .before .before .before .before .before .before .before .before .before .before .before .before .before .before .before .before .before .before .before .before .before .before .before .before .before .before .before .before .before .corridors in
+    let z = (start-of (round-of (sized-of (c .before .before .before .before .before .before .before .before .before .before .before .before .before .before .before .before .before .before .before .before .before .before .before .before .before .before .before)))) .args in
+    let r = (round-of (sized-of (c .before .before .before .before .before .before .before .before .before .before .before .before .before .before .before .before .before .before .before .before .before .before .before .before .before .before .before))) .rounds in
+    let l = (sized-of (c .before .before .before .before .before .before .before .before .before .before .before .before .before .before .before .before .before .before .before .before .before .before .before .before .before .before .before)) .corridors in
     let k = c .before .before .before .before .before .before .before .before .before .before .before .before .before .before .before .before .before .before .before .before .before .before .before .before .before .before .before .components in
     let f = r .inv .0 in
     let lv = k .inv .1 ∙ l .inv .1 in
@@ -701,12 +711,12 @@ raise-marked-requires-2 c κs =
         floor-size = c .before .before .before .before .before .before .before .before .before .before .before .before .before .before .before .before .before .before .stiffen-led .kept .1 .1 .1 .1 .1 .1 .1 .1 .1 .1 .1 .1 .1 .1 .1 .1 .0 ∙ k .inv .3 .2 ∙ l .inv .3 .floor-size;
         bank-size = c .before .before .before .before .before .before .before .before .before .before .before .before .before .before .before .before .before .before .stiffen-led .kept .1 .1 .1 .1 .1 .1 .1 .1 .1 .1 .1 .1 .1 .1 .1 .0 ∙ k .inv .3 .1 ∙ l .inv .3 .bank-size;
       },
-      (c .before .before .before .before .before .before .before .before .before .before .before .before .before .before .before .before .before .before .stiffen-led .kept .1 .1 .1 .1 .1 .1 .1 .1 .1 .1 .1 .1 .1 .1 .1 .1 .1 .1 .0 ∙ k .inv .3 .4 ∙ c .before .before .before .before .before .before .before .before .before .before .before .before .before .before .before .before .before .before .before .before .before .before .before .before .before .before .before .before .before .before .stiffness-from .kept .1 .1 .1 .1 .0 ∙ l .inv .3 .mark-size ∙ ap (λ (x : List ℕ). length x) (sym (k .inv .1)), c .before .before .before .before .before .before .before .before .before .before .before .before .before .before .before .before .before .before .stiffen-led .ensures .banked),
+      (c .before .before .before .before .before .before .before .before .before .before .before .before .before .before .before .before .before .before .stiffen-led .kept .1 .1 .1 .1 .1 .1 .1 .1 .1 .1 .1 .1 .1 .1 .1 .1 .1 .1 .0 ∙ k .inv .3 .4 ∙ (c .before .before .before .before .before .before .before .before .before .before .before .before .before .before .before .before .before .before .before .before .before .before .before .before .before .before .before) .before .before .before .stiffness-from .kept .1 .1 .1 .1 .0 ∙ l .inv .3 .mark-size ∙ ap (λ (x : List ℕ). length x) (sym (k .inv .1)), c .before .before .before .before .before .before .before .before .before .before .before .before .before .before .before .before .before .before .stiffen-led .ensures .banked),
     )
 
 add-p-3 :
     tie.Need-add-p-3 Inv-corridors μ-corridors Inv-components μ-components Inv-rounds μ-rounds
-add-p-3 c = omega (arith, c .before .before .before .before .before .raise-marked2 .ensures .few, ap (λ (x : List ℕ). length x) (c .before .before .before .before .before .before .before .before .before .before .before .before .before .before .before .before .before .before .before .before .before .before .before .before .before .before .before .before .before .before .before .before .before .components .inv .1 ∙ c .before .before .before .before .before .before .before .before .before .before .before .before .before .before .before .before .before .before .before .before .before .before .before .before .before .before .before .before .before .before .before .before .before .before .before .before .before .before .before .before .before .before .before .corridors .inv .1), c .before .before .before .before .before .before .before .before .before .before .before .before .before .before .before .before .before .before .before .before .before .before .before .before .before .before .before .before .before .before .before .before .before .before .before .before .before .before .before .before .before .before .before .before .before .before .before .before .before .before .before .before .before .before .before .before .before .before .before .before .before .before .before .rounds .inv .0 .columns .loads .few, ap (λ (q : Progress). q .promoted) (c .before .before .before .before .before .before .before .before .before .before .before .before .before .before .before .before .before .before .before .before .before .before .before .before .before .before .before .before .before .before .before .before .before .components .inv .2 ∙ c .before .before .before .before .before .before .before .before .before .before .before .before .before .before .before .before .before .before .before .before .before .before .before .before .before .before .before .before .before .before .before .before .before .before .before .before .before .before .before .before .before .before .before .corridors .inv .2), c .before .before .before .before .before .before .before .before .before .before .before .before .before .before .before .before .before .before .before .before .before .before .before .before .before .before .before .before .before .before .before .before .before .before .before .before .before .before .before .before .before .before .before .before .before .before .before .before .before .before .before .before .before .before .before .before .before .before .before .before .before .before .before .rounds .inv .0 .tallies .promoted, c .before .before .before .before .before .before .before .before .before .before .before .before .before .before .before .before .before .before .before .before .before .before .before .before .before .before .before .before .before .before .before .before .before .before .before .before .before .before .before .before .before .before .before .before .before .before .before .before .before .before .before .before .before .before .before .before .before .before .before .before .before .before .before .rounds .inv .0 .tallies .rounds)
+add-p-3 c = omega (arith, c .before .before .before .before .before .raise-marked2 .ensures .few, ap (λ (x : List ℕ). length x) (c .before .before .before .before .before .before .before .before .before .before .before .before .before .before .before .before .before .before .before .before .before .before .before .before .before .before .before .before .before .before .before .before .before .components .inv .1 ∙ (sized-of (c .before .before .before .before .before .before .before .before .before .before .before .before .before .before .before .before .before .before .before .before .before .before .before .before .before .before .before .before .before .before .before .before .before)) .corridors .inv .1), (round-of (sized-of (c .before .before .before .before .before .before .before .before .before .before .before .before .before .before .before .before .before .before .before .before .before .before .before .before .before .before .before .before .before .before .before .before .before))) .rounds .inv .0 .columns .loads .few, ap (λ (q : Progress). q .promoted) (c .before .before .before .before .before .before .before .before .before .before .before .before .before .before .before .before .before .before .before .before .before .before .before .before .before .before .before .before .before .before .before .before .before .components .inv .2 ∙ (sized-of (c .before .before .before .before .before .before .before .before .before .before .before .before .before .before .before .before .before .before .before .before .before .before .before .before .before .before .before .before .before .before .before .before .before)) .corridors .inv .2), (round-of (sized-of (c .before .before .before .before .before .before .before .before .before .before .before .before .before .before .before .before .before .before .before .before .before .before .before .before .before .before .before .before .before .before .before .before .before))) .rounds .inv .0 .tallies .promoted, (round-of (sized-of (c .before .before .before .before .before .before .before .before .before .before .before .before .before .before .before .before .before .before .before .before .before .before .before .before .before .before .before .before .before .before .before .before .before))) .rounds .inv .0 .tallies .rounds)
 
 rounds-less-3 :
     tie.Need-rounds-less-3
@@ -716,7 +726,7 @@ rounds-less-3 :
     μ-components
     Inv-rounds
     μ-rounds
-rounds-less-3 c = omega (arith, c .before .before .before .before .before .before .before .before .before .before .before .before .before .before .before .before .before .before .before .before .before .before .before .before .before .before .before .before .before .before .before .before .before .before .before .before .before .before .before .before .before .before .before .before .before .before .before .before .before .before .before .before .before .before .before .before .before .before .before .before .before .before .before .before .rounds-test .taken)
+rounds-less-3 c = omega (arith, (sized-of (c .before .before .before .before .before .before .before .before .before .before .before .before .before .before .before .before .before .before .before .before .before .before .before .before .before .before .before .before .before .before .before .before .before .before .before)) .before .before .before .before .before .before .before .before .before .before .before .before .before .before .before .before .before .before .before .rounds-test .taken)
 
 rounds-again-3 :
     tie.Need-rounds-again-3
@@ -727,9 +737,9 @@ rounds-again-3 :
     Inv-rounds
     μ-rounds
 rounds-again-3 c =
-    let z = c .before .before .before .before .before .before .before .before .before .before .before .before .before .before .before .before .before .before .before .before .before .before .before .before .before .before .before .before .before .before .before .before .before .before .before .before .before .before .before .before .before .before .before .before .before .before .before .before .before .before .before .before .before .before .before .before .before .before .before .before .before .before .before .before .before .before .before .before .before .before .before .before .before .before .before .before .before .before .before .before .before .before .before .before .before .before .args in
-    let r = c .before .before .before .before .before .before .before .before .before .before .before .before .before .before .before .before .before .before .before .before .before .before .before .before .before .before .before .before .before .before .before .before .before .before .before .before .before .before .before .before .before .before .before .before .before .before .before .before .before .before .before .before .before .before .before .before .before .before .before .before .before .before .before .before .before .rounds in
-    let l = c .before .before .before .before .before .before .before .before .before .before .before .before .before .before .before .before .before .before .before .before .before .before .before .before .before .before .before .before .before .before .before .before .before .before .before .before .before .before .before .before .before .before .before .before .before .corridors in
+    let z = (start-of (round-of (sized-of (c .before .before .before .before .before .before .before .before .before .before .before .before .before .before .before .before .before .before .before .before .before .before .before .before .before .before .before .before .before .before .before .before .before .before .before)))) .args in
+    let r = (round-of (sized-of (c .before .before .before .before .before .before .before .before .before .before .before .before .before .before .before .before .before .before .before .before .before .before .before .before .before .before .before .before .before .before .before .before .before .before .before))) .rounds in
+    let l = (sized-of (c .before .before .before .before .before .before .before .before .before .before .before .before .before .before .before .before .before .before .before .before .before .before .before .before .before .before .before .before .before .before .before .before .before .before .before)) .corridors in
     let k = c .before .before .before .before .before .before .before .before .before .before .before .before .before .before .before .before .before .before .before .before .before .before .before .before .before .before .before .before .before .before .before .before .before .before .before .components in
     let f = r .inv .0 in
     let lv = k .inv .1 ∙ l .inv .1 in
@@ -745,23 +755,23 @@ rounds-again-3 c =
           (c .before .before .before .before .before .before .before .raise-marked2 .kept .1 .1 .1 .1 .1 .1 .1 .1 .1 .1 .1 .1 .0 ∙ c .before .before .before .before .before .before .before .before .before .before .before .before .before .before .before .before .before .before .before .before .before .before .before .before .before .before .stiffen-led .kept .1 .1 .1 .1 .1 .1 .1 .1 .1 .1 .1 .1 .1 .1 .1 .0 ∙ k .inv .3 .1 ∙ l .inv .3 .bank-size)
           (c .before .before .before .before .before .before .before .before .before .before .before .before .before .before .before .before .before .before .before .before .before .before .before .before .before .before .stiffen-led .kept .1 .1 .1 .1 .1 .1 .1 .1 .1 .1 .1 .1 .1 .1 .1 .1 .0 ∙ k .inv .3 .2 ∙ l .inv .3 .floor-size)
           (c .before .before .before .before .before .before .before .before .before .before .before .before .before .before .before .before .before .before .before .before .before .before .before .before .before .before .stiffen-led .kept .1 .1 .1 .1 .1 .1 .1 .1 .1 .1 .1 .1 .1 .1 .1 .1 .1 .0 ∙ k .inv .3 .3 ∙ l .inv .3 .upsized-size)
-          (c .before .before .before .before .before .before .before .before .before .before .before .before .before .before .before .before .before .before .before .before .before .before .before .before .before .before .stiffen-led .kept .1 .1 .1 .1 .1 .1 .1 .1 .1 .1 .1 .1 .1 .1 .1 .1 .1 .1 .0 ∙ k .inv .3 .4 ∙ c .before .before .before .before .before .before .before .before .before .before .before .before .before .before .before .before .before .before .before .before .before .before .before .before .before .before .before .before .before .before .before .before .before .before .before .before .before .before .stiffness-from .kept .1 .1 .1 .1 .0 ∙ l .inv .3 .mark-size ∙ ap (λ (x : List ℕ). length x) (l .inv .1))
-          (c .before .before .before .before .before .before .before .before .before .before .before .before .before .before .before .before .before .before .before .before .before .before .before .before .before .before .before .before .before .before .before .before .before .before .before .before .before .before .before .before .before .before .before .before .before .before .before .before .before .before .before .before .before .before .before .before .peak-state .kept .1 .1 .1 .0 ∙ r .inv .0 .places .angle-size)
-          (c .before .before .before .before .before .before .before .before .before .before .before .before .before .before .before .before .before .before .before .before .before .before .before .before .before .before .before .before .before .before .before .before .before .before .before .before .before .before .before .before .before .before .before .before .before .before .before .before .before .before .before .before .before .before .before .before .peak-state .kept .1 .1 .1 .1 .0 ∙ r .inv .0 .places .flow-size)
+          (c .before .before .before .before .before .before .before .before .before .before .before .before .before .before .before .before .before .before .before .before .before .before .before .before .before .before .stiffen-led .kept .1 .1 .1 .1 .1 .1 .1 .1 .1 .1 .1 .1 .1 .1 .1 .1 .1 .1 .0 ∙ k .inv .3 .4 ∙ (c .before .before .before .before .before .before .before .before .before .before .before .before .before .before .before .before .before .before .before .before .before .before .before .before .before .before .before .before .before .before .before .before .before .before .before) .before .before .before .stiffness-from .kept .1 .1 .1 .1 .0 ∙ l .inv .3 .mark-size ∙ ap (λ (x : List ℕ). length x) (l .inv .1))
+          ((sized-of (c .before .before .before .before .before .before .before .before .before .before .before .before .before .before .before .before .before .before .before .before .before .before .before .before .before .before .before .before .before .before .before .before .before .before .before)) .before .before .before .before .before .before .before .before .before .before .before .peak-state .kept .1 .1 .1 .0 ∙ r .inv .0 .places .angle-size)
+          ((sized-of (c .before .before .before .before .before .before .before .before .before .before .before .before .before .before .before .before .before .before .before .before .before .before .before .before .before .before .before .before .before .before .before .before .before .before .before)) .before .before .before .before .before .before .before .before .before .before .before .peak-state .kept .1 .1 .1 .1 .0 ∙ r .inv .0 .places .flow-size)
           (
           record {
             few-levels = f .tallies .few-levels;
-            rounds = one-less (r .p .rounds) (k .p .rounds) (r .left) (ap (λ (q : Progress). q .rounds) pv) (f .tallies .rounds) (c .before .before .before .before .before .before .before .before .before .before .before .before .before .before .before .before .before .before .before .before .before .before .before .before .before .before .before .before .before .before .before .before .before .before .before .before .before .before .before .before .before .before .before .before .before .before .before .before .before .before .before .before .before .before .before .before .before .before .before .before .before .before .before .before .rounds-test .taken);
+            rounds = one-less (r .p .rounds) (k .p .rounds) (r .left) (ap (λ (q : Progress). q .rounds) pv) (f .tallies .rounds) ((sized-of (c .before .before .before .before .before .before .before .before .before .before .before .before .before .before .before .before .before .before .before .before .before .before .before .before .before .before .before .before .before .before .before .before .before .before .before)) .before .before .before .before .before .before .before .before .before .before .before .before .before .before .before .before .before .before .before .rounds-test .taken);
             promoted = moved-more (r .p .rounds) (k .p .rounds) (r .p .promoted) (k .p .promoted) _ (length (r .level)) (length (k .level)) (ap (λ (q : Progress). q .rounds) pv) (ap (λ (q : Progress). q .promoted) pv) (f .tallies .promoted) (c .before .before .before .before .before .before .before .raise-marked2 .ensures .few) ln (f .columns .loads .few);
             capacity = sized-more (r .p .rounds) (k .p .rounds) (r .p .capacity) (l .t .capacity) (l .k) (length (now (z .a))) (ap (λ (q : Progress). q .rounds) pv) (l .inv .6) (l .inv .0) (f .columns .few) (f .tallies .capacity);
-            stiffening = stiffened-more (r .p .rounds) (k .p .rounds) (r .p .stiffening) _ (k .s .stiffening) _ (k .i) (length (r .level)) (length (now (z .leader))) (length (now (z .a))) (ap (λ (q : Progress). q .rounds) pv) (w .2) (k .inv .6 .2) (ap (λ (x : Stiffness). x .stiffening) (c .before .before .before .before .before .before .before .before .before .before .before .before .before .before .before .before .before .before .before .before .before .before .before .before .before .before .before .before .before .before .before .before .before .before .before .before .before .before .stiffness-from .ensures .1) ∙ ap (λ (q : Progress). q .stiffening) (l .inv .2)) (f .tallies .stiffening) (c .before .before .before .before .before .before .before .before .before .before .before .before .before .before .before .before .before .before .before .before .before .before .before .before .before .before .before .before .before .before .before .before .before .before .components-test .taken) (f .places .leader-size) (f .columns .loads .few) (f .columns .few);
+            stiffening = stiffened-more (r .p .rounds) (k .p .rounds) (r .p .stiffening) _ (k .s .stiffening) _ (k .i) (length (r .level)) (length (now (z .leader))) (length (now (z .a))) (ap (λ (q : Progress). q .rounds) pv) (w .2) (k .inv .6 .2) (ap (λ (x : Stiffness). x .stiffening) ((c .before .before .before .before .before .before .before .before .before .before .before .before .before .before .before .before .before .before .before .before .before .before .before .before .before .before .before .before .before .before .before .before .before .before .before) .before .before .before .stiffness-from .ensures .1) ∙ ap (λ (q : Progress). q .stiffening) (l .inv .2)) (f .tallies .stiffening) (c .before .before .before .before .before .before .before .before .before .before .before .before .before .before .before .before .before .before .before .before .before .before .before .before .before .before .before .before .before .before .before .before .before .before .components-test .taken) (f .places .leader-size) (f .columns .loads .few) (f .columns .few);
           })
           (c .before .before .before .before .before .before .before .raise-marked2 .ensures .banked)
           (c .before .before .before .before .before .before .before .before .before .before .before .before .before .before .before .before .before .before .before .before .before .before .before .before .before .before .stiffen-led .ensures .few (k .inv .5)),
       n ∙ r .inv .1,
       stiffened-again (z .mode) (z .above) (now (z .ladder)) (now (z .a)) (now (z .b)) (now (z .km)) (now (z .share)) (now (z .sheet)) (now (z .load)) (now (z .bus)) (now (z .pmax)) (now (z .leader)) (now (z .grounds)) (now (z .injection)) (length (now (z .leader)))
           (goesOn (z .mode) (z .above) (now (z .ladder)) (now (z .a)) (now (z .b)) (now (z .km)) (now (z .share)) (now (z .sheet)) (now (z .load)) (now (z .bus)) (now (z .pmax)) (now (z .leader)) (now (z .grounds)) (now (z .injection)) (length (now (z .leader))) (z .budget) (now (z .level)) (now (z .circuits)) (now (z .banks)) (now (z .floors)) (now (z .upsized)) (now (z .angle)) (z .start))
-          (r .left - 1) (k .level) (c .before .before .before .before .before .before .before .before .before .before .before .before .before .before .before .before .before .before .before .before .before .before .before .before .before .before .before .before .before .before .before .before .before .before .before .before .before .before .before .before .before .before .limits-of .result) (c .before .before .before .before .before .before .before .before .before .before .before .before .before .before .before .before .before .before .before .before .before .before .before .before .before .before .before .before .before .before .before .before .before .before .before .before .before .before .before .before .before .before .before .before .before .before .before .before .before .before .before .before .before .before .before .before .before .before .before .draw-edges .result .from) (c .before .before .before .before .before .before .before .before .before .before .before .before .before .before .before .before .before .before .before .before .before .before .before .before .before .before .before .before .before .before .before .before .before .before .before .before .before .before .before .before .before .before .before .before .before .before .before .before .before .before .before .before .before .before .before .before .before .before .before .draw-edges .result .to) (c .before .before .before .before .before .before .before .before .before .before .before .before .before .before .before .before .before .before .before .before .before .before .before .before .before .before .before .before .before .before .before .before .before .before .before .before .before .before .before .before .before .before .before .before .before .before .before .before .before .before .before .before .before .before .before .before .before .before .before .draw-edges .result .weight) (c .before .before .before .before .before .before .before .before .before .before .before .before .before .before .before .before .before .before .before .before .before .before .before .before .before .before .before .before .before .before .before .before .before .before .before .before .before .before .before .before .before .before .before .before .before .before .before .before .before .before .before .before .before .before .before .before .peak-state .last .1 .1 .1 .0) (c .before .before .before .before .before .before .before .before .before .before .before .before .before .before .before .before .before .before .before .before .before .before .before .before .before .before .before .before .before .before .before .before .before .before .before .before .before .before .before .before .before .before .before .before .before .before .before .before .before .before .before .before .before .before .before .before .peak-state .last .1 .1 .1 .1 .0) (k .p) (l .t) (ln ∙ sym (f .places .leader-size)) (k .i + 1) (c .before .before .before .before .before .before .before .before .before .before .before .before .before .before .before .before .before .before .before .before .before .before .before .before .before .before .stiffen-led .last .1 .1 .1 .1 .1 .1 .1 .1 .1 .1 .1 .1 .1 .1 .0) (c .before .before .before .before .before .before .before .before .before .before .before .before .before .before .before .before .before .before .before .before .before .before .before .before .before .before .stiffen-led .last .1 .1 .1 .1 .1 .1 .1 .1 .1 .1 .1 .1 .1 .1 .1 .0) (c .before .before .before .before .before .before .before .before .before .before .before .before .before .before .before .before .before .before .before .before .before .before .before .before .before .before .stiffen-led .last .1 .1 .1 .1 .1 .1 .1 .1 .1 .1 .1 .1 .1 .1 .1 .1 .0) (c .before .before .before .before .before .before .before .before .before .before .before .before .before .before .before .before .before .before .before .before .before .before .before .before .before .before .stiffen-led .last .1 .1 .1 .1 .1 .1 .1 .1 .1 .1 .1 .1 .1 .1 .1 .1 .1 .0) (c .before .before .before .before .before .before .before .before .before .before .before .before .before .before .before .before .before .before .before .before .before .before .before .before .before .before .stiffen-led .last .1 .1 .1 .1 .1 .1 .1 .1 .1 .1 .1 .1 .1 .1 .1 .1 .1 .1 .0) (c .before .before .before .before .before .before .before .before .before .before .before .before .before .before .u .given .0 .0) (next (c .before .before .before .before .before .before .before .before .before .before .before .before .before)) (omega (arith, c .before .before .before .before .before .before .before .before .before .before .before .before .if4 .taken)) (omega (arith, ap (λ (q : Progress). q .rounds) (k .inv .2 ∙ l .inv .2))) (ap (λ (q : Progress). q .converged) (k .inv .2 ∙ l .inv .2)) (c .before .before .before .before .before .before .before .raise-marked2 .last .1 .1 .1 .1 .1 .1 .1 .1 .1 .1 .1 .0) (c .before .before .before .before .before .before .before .raise-marked2 .last .1 .1 .1 .1 .1 .1 .1 .1 .1 .1 .1 .1 .0) (c .before .before .before .before .before .before .before .raise-marked2 .result) (c .before .before .before .before .before .before .before .raise-marked2 .ensures) (c .if5 .taken),
+          (r .left - 1) (k .level) ((c .before .before .before .before .before .before .before .before .before .before .before .before .before .before .before .before .before .before .before .before .before .before .before .before .before .before .before .before .before .before .before .before .before .before .before) .before .before .before .before .before .before .before .limits-of .result) ((sized-of (c .before .before .before .before .before .before .before .before .before .before .before .before .before .before .before .before .before .before .before .before .before .before .before .before .before .before .before .before .before .before .before .before .before .before .before)) .before .before .before .before .before .before .before .before .before .before .before .before .before .before .draw-edges .result .from) ((sized-of (c .before .before .before .before .before .before .before .before .before .before .before .before .before .before .before .before .before .before .before .before .before .before .before .before .before .before .before .before .before .before .before .before .before .before .before)) .before .before .before .before .before .before .before .before .before .before .before .before .before .before .draw-edges .result .to) ((sized-of (c .before .before .before .before .before .before .before .before .before .before .before .before .before .before .before .before .before .before .before .before .before .before .before .before .before .before .before .before .before .before .before .before .before .before .before)) .before .before .before .before .before .before .before .before .before .before .before .before .before .before .draw-edges .result .weight) ((sized-of (c .before .before .before .before .before .before .before .before .before .before .before .before .before .before .before .before .before .before .before .before .before .before .before .before .before .before .before .before .before .before .before .before .before .before .before)) .before .before .before .before .before .before .before .before .before .before .before .peak-state .last .1 .1 .1 .0) ((sized-of (c .before .before .before .before .before .before .before .before .before .before .before .before .before .before .before .before .before .before .before .before .before .before .before .before .before .before .before .before .before .before .before .before .before .before .before)) .before .before .before .before .before .before .before .before .before .before .before .peak-state .last .1 .1 .1 .1 .0) (k .p) (l .t) (ln ∙ sym (f .places .leader-size)) (k .i + 1) (c .before .before .before .before .before .before .before .before .before .before .before .before .before .before .before .before .before .before .before .before .before .before .before .before .before .before .stiffen-led .last .1 .1 .1 .1 .1 .1 .1 .1 .1 .1 .1 .1 .1 .1 .0) (c .before .before .before .before .before .before .before .before .before .before .before .before .before .before .before .before .before .before .before .before .before .before .before .before .before .before .stiffen-led .last .1 .1 .1 .1 .1 .1 .1 .1 .1 .1 .1 .1 .1 .1 .1 .0) (c .before .before .before .before .before .before .before .before .before .before .before .before .before .before .before .before .before .before .before .before .before .before .before .before .before .before .stiffen-led .last .1 .1 .1 .1 .1 .1 .1 .1 .1 .1 .1 .1 .1 .1 .1 .1 .0) (c .before .before .before .before .before .before .before .before .before .before .before .before .before .before .before .before .before .before .before .before .before .before .before .before .before .before .stiffen-led .last .1 .1 .1 .1 .1 .1 .1 .1 .1 .1 .1 .1 .1 .1 .1 .1 .1 .0) (c .before .before .before .before .before .before .before .before .before .before .before .before .before .before .before .before .before .before .before .before .before .before .before .before .before .before .stiffen-led .last .1 .1 .1 .1 .1 .1 .1 .1 .1 .1 .1 .1 .1 .1 .1 .1 .1 .1 .0) (c .before .before .before .before .before .before .before .before .before .before .before .before .before .before .u .given .0 .0) (next (c .before .before .before .before .before .before .before .before .before .before .before .before .before)) (omega (arith, c .before .before .before .before .before .before .before .before .before .before .before .before .if4 .taken)) (omega (arith, ap (λ (q : Progress). q .rounds) (k .inv .2 ∙ l .inv .2))) (ap (λ (q : Progress). q .converged) (k .inv .2 ∙ l .inv .2)) (c .before .before .before .before .before .before .before .raise-marked2 .last .1 .1 .1 .1 .1 .1 .1 .1 .1 .1 .1 .0) (c .before .before .before .before .before .before .before .raise-marked2 .last .1 .1 .1 .1 .1 .1 .1 .1 .1 .1 .1 .1 .0) (c .before .before .before .before .before .before .before .raise-marked2 .result) (c .before .before .before .before .before .before .before .raise-marked2 .ensures) (c .if5 .taken),
     )
 
 components-less :
@@ -783,9 +793,9 @@ components-again :
     Inv-rounds
     μ-rounds
 components-again c =
-    let z = c .before .before .before .before .before .before .before .before .before .before .before .before .before .before .before .before .before .before .before .before .before .before .before .before .before .before .before .before .before .before .before .before .before .before .before .before .before .before .before .before .before .before .before .before .before .before .before .before .before .before .before .before .before .before .before .before .before .before .before .before .before .before .before .before .before .before .before .before .before .before .before .before .before .before .args in
-    let r = c .before .before .before .before .before .before .before .before .before .before .before .before .before .before .before .before .before .before .before .before .before .before .before .before .before .before .before .before .before .before .before .before .before .before .before .before .before .before .before .before .before .before .before .before .before .before .before .before .before .before .before .before .before .rounds in
-    let l = c .before .before .before .before .before .before .before .before .before .before .before .before .before .before .before .before .before .before .before .before .before .before .before .before .before .before .before .before .before .before .before .before .before .corridors in
+    let z = (start-of (round-of (sized-of (c .before .before .before .before .before .before .before .before .before .before .before .before .before .before .before .before .before .before .before .before .before .before .before)))) .args in
+    let r = (round-of (sized-of (c .before .before .before .before .before .before .before .before .before .before .before .before .before .before .before .before .before .before .before .before .before .before .before))) .rounds in
+    let l = (sized-of (c .before .before .before .before .before .before .before .before .before .before .before .before .before .before .before .before .before .before .before .before .before .before .before)) .corridors in
     let k = c .before .before .before .before .before .before .before .before .before .before .before .before .before .before .before .before .before .before .before .before .before .before .before .components in
     let f = r .inv .0 in
     let lv = k .inv .1 ∙ l .inv .1 in
@@ -799,8 +809,8 @@ components-again c =
       c .before .before .before .before .before .before .before .before .before .before .before .before .before .before .stiffen-led .ensures .few (k .inv .5),
       (circuits-more _ (k .s .total) _ (length (now (z .a))) (k .i) (w .0) (k .inv .6 .0) (f .columns .few), ends-more _ (k .s .hv) _ (length (now (z .a))) (k .i) (w .1) (k .inv .6 .1) (f .columns .few), circuits-more _ (k .s .stiffening) _ (length (now (z .a))) (k .i) (w .2) (k .inv .6 .2) (f .columns .few)),
       stiffen-next (z .mode) (z .above) (now (z .ladder)) (now (z .a)) (now (z .b)) (now (z .km)) (now (z .share)) (now (z .sheet)) (now (z .load)) (now (z .bus)) (now (z .pmax)) (now (z .leader)) (now (z .grounds)) (now (z .injection)) (length (now (z .leader)))
-          (stiffensOn (z .mode) (z .above) (now (z .ladder)) (now (z .a)) (now (z .b)) (now (z .km)) (now (z .share)) (now (z .sheet)) (now (z .load)) (now (z .bus)) (now (z .pmax)) (now (z .leader)) (now (z .grounds)) (now (z .injection)) (length (now (z .leader))) (r .left - 1) (l .level) (c .before .before .before .before .before .before .before .before .before .before .before .before .before .before .before .before .before .before .before .before .before .before .before .before .before .before .before .before .before .before .limits-of .result) (c .before .before .before .before .before .before .before .before .before .before .before .before .before .before .before .before .before .before .before .before .before .before .before .before .before .before .before .before .before .before .before .before .before .before .before .before .before .before .before .before .before .before .before .before .before .before .before .draw-edges .result .from) (c .before .before .before .before .before .before .before .before .before .before .before .before .before .before .before .before .before .before .before .before .before .before .before .before .before .before .before .before .before .before .before .before .before .before .before .before .before .before .before .before .before .before .before .before .before .before .before .draw-edges .result .to) (c .before .before .before .before .before .before .before .before .before .before .before .before .before .before .before .before .before .before .before .before .before .before .before .before .before .before .before .before .before .before .before .before .before .before .before .before .before .before .before .before .before .before .before .before .before .before .before .draw-edges .result .weight) (c .before .before .before .before .before .before .before .before .before .before .before .before .before .before .before .before .before .before .before .before .before .before .before .before .before .before .before .before .before .before .before .before .before .before .before .before .before .before .before .before .before .before .before .before .peak-state .last .1 .1 .1 .0) (c .before .before .before .before .before .before .before .before .before .before .before .before .before .before .before .before .before .before .before .before .before .before .before .before .before .before .before .before .before .before .before .before .before .before .before .before .before .before .before .before .before .before .before .before .peak-state .last .1 .1 .1 .1 .0) (l .p) (l .t) 0 (l .circuits) (l .banks) (l .floors) (l .upsized) (c .before .before .before .before .before .before .before .before .before .before .before .before .before .before .before .before .before .before .before .before .before .before .before .before .before .before .stiffness-from .last .1 .1 .1 .1 .0) (c .before .before .before .before .before .before .before .before .before .before .before .before .before .before .before .before .before .before .before .before .before .before .before .before .before .before .stiffness-from .result))
-          (r .left - 1) (k .level) (c .before .before .before .before .before .before .before .before .before .before .before .before .before .before .before .before .before .before .before .before .before .before .before .before .before .before .before .before .before .before .limits-of .result) (c .before .before .before .before .before .before .before .before .before .before .before .before .before .before .before .before .before .before .before .before .before .before .before .before .before .before .before .before .before .before .before .before .before .before .before .before .before .before .before .before .before .before .before .before .before .before .before .draw-edges .result .from) (c .before .before .before .before .before .before .before .before .before .before .before .before .before .before .before .before .before .before .before .before .before .before .before .before .before .before .before .before .before .before .before .before .before .before .before .before .before .before .before .before .before .before .before .before .before .before .before .draw-edges .result .to) (c .before .before .before .before .before .before .before .before .before .before .before .before .before .before .before .before .before .before .before .before .before .before .before .before .before .before .before .before .before .before .before .before .before .before .before .before .before .before .before .before .before .before .before .before .before .before .before .draw-edges .result .weight) (c .before .before .before .before .before .before .before .before .before .before .before .before .before .before .before .before .before .before .before .before .before .before .before .before .before .before .before .before .before .before .before .before .before .before .before .before .before .before .before .before .before .before .before .before .peak-state .last .1 .1 .1 .0) (c .before .before .before .before .before .before .before .before .before .before .before .before .before .before .before .before .before .before .before .before .before .before .before .before .before .before .before .before .before .before .before .before .before .before .before .before .before .before .before .before .before .before .before .before .peak-state .last .1 .1 .1 .1 .0) (k .p) (l .t) (ln ∙ sym (f .places .leader-size)) (k .i) (k .circuits) (k .banks) (k .floors) (k .upsized) (k .marks) (k .s) (k .inv .7) (c .before .before .before .before .before .before .before .before .before .before .before .before .before .before .before .before .before .before .before .before .before .before .components-test .taken) (c .before .before .before .before .before .before .before .before .before .before .before .before .before .before .stiffen-led .last .1 .1 .1 .1 .1 .1 .1 .1 .1 .1 .1 .1 .1 .1 .0) (c .before .before .before .before .before .before .before .before .before .before .before .before .before .before .stiffen-led .last .1 .1 .1 .1 .1 .1 .1 .1 .1 .1 .1 .1 .1 .1 .1 .0) (c .before .before .before .before .before .before .before .before .before .before .before .before .before .before .stiffen-led .last .1 .1 .1 .1 .1 .1 .1 .1 .1 .1 .1 .1 .1 .1 .1 .1 .0) (c .before .before .before .before .before .before .before .before .before .before .before .before .before .before .stiffen-led .last .1 .1 .1 .1 .1 .1 .1 .1 .1 .1 .1 .1 .1 .1 .1 .1 .1 .0) (c .before .before .before .before .before .before .before .before .before .before .before .before .before .before .stiffen-led .last .1 .1 .1 .1 .1 .1 .1 .1 .1 .1 .1 .1 .1 .1 .1 .1 .1 .1 .0) (c .before .before .before .before .before .before .before .before .before .before .before .before .before .before .stiffen-led .result) (c .before .before .before .before .before .before .before .before .before .before .before .before .before .before .stiffen-led .ensures) (c .before .before .u .given .0 .0) (c .before .before .u .given .1),
+          (stiffensOn (z .mode) (z .above) (now (z .ladder)) (now (z .a)) (now (z .b)) (now (z .km)) (now (z .share)) (now (z .sheet)) (now (z .load)) (now (z .bus)) (now (z .pmax)) (now (z .leader)) (now (z .grounds)) (now (z .injection)) (length (now (z .leader))) (r .left - 1) (l .level) ((c .before .before .before .before .before .before .before .before .before .before .before .before .before .before .before .before .before .before .before .before .before .before .before) .before .before .before .before .before .before .before .limits-of .result) ((sized-of (c .before .before .before .before .before .before .before .before .before .before .before .before .before .before .before .before .before .before .before .before .before .before .before)) .before .before .before .before .before .before .before .before .before .before .before .before .before .before .draw-edges .result .from) ((sized-of (c .before .before .before .before .before .before .before .before .before .before .before .before .before .before .before .before .before .before .before .before .before .before .before)) .before .before .before .before .before .before .before .before .before .before .before .before .before .before .draw-edges .result .to) ((sized-of (c .before .before .before .before .before .before .before .before .before .before .before .before .before .before .before .before .before .before .before .before .before .before .before)) .before .before .before .before .before .before .before .before .before .before .before .before .before .before .draw-edges .result .weight) ((sized-of (c .before .before .before .before .before .before .before .before .before .before .before .before .before .before .before .before .before .before .before .before .before .before .before)) .before .before .before .before .before .before .before .before .before .before .before .peak-state .last .1 .1 .1 .0) ((sized-of (c .before .before .before .before .before .before .before .before .before .before .before .before .before .before .before .before .before .before .before .before .before .before .before)) .before .before .before .before .before .before .before .before .before .before .before .peak-state .last .1 .1 .1 .1 .0) (l .p) (l .t) 0 (l .circuits) (l .banks) (l .floors) (l .upsized) ((c .before .before .before .before .before .before .before .before .before .before .before .before .before .before .before .before .before .before .before .before .before .before .before) .before .before .before .stiffness-from .last .1 .1 .1 .1 .0) ((c .before .before .before .before .before .before .before .before .before .before .before .before .before .before .before .before .before .before .before .before .before .before .before) .before .before .before .stiffness-from .result))
+          (r .left - 1) (k .level) ((c .before .before .before .before .before .before .before .before .before .before .before .before .before .before .before .before .before .before .before .before .before .before .before) .before .before .before .before .before .before .before .limits-of .result) ((sized-of (c .before .before .before .before .before .before .before .before .before .before .before .before .before .before .before .before .before .before .before .before .before .before .before)) .before .before .before .before .before .before .before .before .before .before .before .before .before .before .draw-edges .result .from) ((sized-of (c .before .before .before .before .before .before .before .before .before .before .before .before .before .before .before .before .before .before .before .before .before .before .before)) .before .before .before .before .before .before .before .before .before .before .before .before .before .before .draw-edges .result .to) ((sized-of (c .before .before .before .before .before .before .before .before .before .before .before .before .before .before .before .before .before .before .before .before .before .before .before)) .before .before .before .before .before .before .before .before .before .before .before .before .before .before .draw-edges .result .weight) ((sized-of (c .before .before .before .before .before .before .before .before .before .before .before .before .before .before .before .before .before .before .before .before .before .before .before)) .before .before .before .before .before .before .before .before .before .before .before .peak-state .last .1 .1 .1 .0) ((sized-of (c .before .before .before .before .before .before .before .before .before .before .before .before .before .before .before .before .before .before .before .before .before .before .before)) .before .before .before .before .before .before .before .before .before .before .before .peak-state .last .1 .1 .1 .1 .0) (k .p) (l .t) (ln ∙ sym (f .places .leader-size)) (k .i) (k .circuits) (k .banks) (k .floors) (k .upsized) (k .marks) (k .s) (k .inv .7) (c .before .before .before .before .before .before .before .before .before .before .before .before .before .before .before .before .before .before .before .before .before .before .components-test .taken) (c .before .before .before .before .before .before .before .before .before .before .before .before .before .before .stiffen-led .last .1 .1 .1 .1 .1 .1 .1 .1 .1 .1 .1 .1 .1 .1 .0) (c .before .before .before .before .before .before .before .before .before .before .before .before .before .before .stiffen-led .last .1 .1 .1 .1 .1 .1 .1 .1 .1 .1 .1 .1 .1 .1 .1 .0) (c .before .before .before .before .before .before .before .before .before .before .before .before .before .before .stiffen-led .last .1 .1 .1 .1 .1 .1 .1 .1 .1 .1 .1 .1 .1 .1 .1 .1 .0) (c .before .before .before .before .before .before .before .before .before .before .before .before .before .before .stiffen-led .last .1 .1 .1 .1 .1 .1 .1 .1 .1 .1 .1 .1 .1 .1 .1 .1 .1 .0) (c .before .before .before .before .before .before .before .before .before .before .before .before .before .before .stiffen-led .last .1 .1 .1 .1 .1 .1 .1 .1 .1 .1 .1 .1 .1 .1 .1 .1 .1 .1 .0) (c .before .before .before .before .before .before .before .before .before .before .before .before .before .before .stiffen-led .result) (c .before .before .before .before .before .before .before .before .before .before .before .before .before .before .stiffen-led .ensures) (c .before .before .u .given .0 .0) (c .before .before .u .given .1),
     )
 
 same-length-17 :
@@ -811,7 +821,7 @@ same-length-17 :
     μ-components
     Inv-rounds
     μ-rounds
-same-length-17 c = c .before .rounds .inv .0 .places .count-size ∙ sym (c .before .before .before .before .before .before .before .before .before .before .before .before .before .before .before .before .before .before .before .before .before .before .pre .places .count-size)
+same-length-17 c = c .before .rounds .inv .0 .places .count-size ∙ sym ((start-of (c .before)) .pre .places .count-size)
 
 same-length-18 :
     tie.Need-same-length-18
@@ -821,7 +831,7 @@ same-length-18 :
     μ-components
     Inv-rounds
     μ-rounds
-same-length-18 c = c .before .rounds .inv .0 .places .bank-size ∙ sym (c .before .before .before .before .before .before .before .before .before .before .before .before .before .before .before .before .before .before .before .before .before .before .pre .places .bank-size)
+same-length-18 c = c .before .rounds .inv .0 .places .bank-size ∙ sym ((start-of (c .before)) .pre .places .bank-size)
 
 same-length-19 :
     tie.Need-same-length-19
@@ -831,7 +841,7 @@ same-length-19 :
     μ-components
     Inv-rounds
     μ-rounds
-same-length-19 c = c .before .rounds .inv .0 .places .floor-size ∙ sym (c .before .before .before .before .before .before .before .before .before .before .before .before .before .before .before .before .before .before .before .before .before .before .pre .places .floor-size)
+same-length-19 c = c .before .rounds .inv .0 .places .floor-size ∙ sym ((start-of (c .before)) .pre .places .floor-size)
 
 same-length-20 :
     tie.Need-same-length-20
@@ -841,7 +851,7 @@ same-length-20 :
     μ-components
     Inv-rounds
     μ-rounds
-same-length-20 c = c .before .rounds .inv .0 .places .upsized-size ∙ sym (c .before .before .before .before .before .before .before .before .before .before .before .before .before .before .before .before .before .before .before .before .before .before .pre .places .upsized-size)
+same-length-20 c = c .before .rounds .inv .0 .places .upsized-size ∙ sym ((start-of (c .before)) .pre .places .upsized-size)
 
 same-length-21 :
     tie.Need-same-length-21
@@ -861,7 +871,7 @@ same-length-22 :
     μ-components
     Inv-rounds
     μ-rounds
-same-length-22 c = c .before .rounds .inv .0 .places .mark-size ∙ c .before .rounds .inv .1 ∙ sym (c .before .before .before .before .before .before .before .before .before .before .before .before .before .before .before .before .before .before .before .before .before .before .pre .places .mark-size)
+same-length-22 c = c .before .rounds .inv .0 .places .mark-size ∙ c .before .rounds .inv .1 ∙ sym ((start-of (c .before)) .pre .places .mark-size)
 
 same-length-23 :
     tie.Need-same-length-23
@@ -871,7 +881,7 @@ same-length-23 :
     μ-components
     Inv-rounds
     μ-rounds
-same-length-23 c = c .before .rounds .inv .0 .places .angle-size ∙ c .before .rounds .inv .1 ∙ sym (c .before .before .before .before .before .before .before .before .before .before .before .before .before .before .before .before .before .before .before .before .before .before .pre .places .angle-size)
+same-length-23 c = c .before .rounds .inv .0 .places .angle-size ∙ c .before .rounds .inv .1 ∙ sym ((start-of (c .before)) .pre .places .angle-size)
 
 same-length-24 :
     tie.Need-same-length-24
@@ -881,15 +891,15 @@ same-length-24 :
     μ-components
     Inv-rounds
     μ-rounds
-same-length-24 c = c .before .rounds .inv .0 .places .flow-size ∙ sym (c .before .before .before .before .before .before .before .before .before .before .before .before .before .before .before .before .before .before .before .before .before .before .pre .places .flow-size)
+same-length-24 c = c .before .rounds .inv .0 .places .flow-size ∙ sym ((start-of (c .before)) .pre .places .flow-size)
 
 returns-3 :
     tie.Need-returns-3 Inv-corridors μ-corridors Inv-components μ-components Inv-rounds μ-rounds
 returns-3 c =
     let r = c .before .rounds in
-    let z = c .before .before .before .before .before .before .before .before .before .before .before .before .before .before .before .before .before .before .before .before .before .before .args in
+    let z = (start-of (c .before)) .args in
     record {
-      ran = λ o target s e. ended (z .mode) (z .above) (now (z .ladder)) (now (z .a)) (now (z .b)) (now (z .km)) (now (z .share)) (now (z .sheet)) (now (z .load)) (now (z .bus)) (now (z .pmax)) (now (z .leader)) (now (z .grounds)) (now (z .injection)) (length (now (z .leader))) (r .level) (r .circuits) (r .banks) (r .floors) (r .upsized) (r .angle) (r .p) (goesOn (z .mode) (z .above) (now (z .ladder)) (now (z .a)) (now (z .b)) (now (z .km)) (now (z .share)) (now (z .sheet)) (now (z .load)) (now (z .bus)) (now (z .pmax)) (now (z .leader)) (now (z .grounds)) (now (z .injection)) (length (now (z .leader))) (z .budget) (now (z .level)) (now (z .circuits)) (now (z .banks)) (now (z .floors)) (now (z .upsized)) (now (z .angle)) (z .start)) (r .left) (c .rounds-test .left) (r .inv .2) o target s (c .before .before .before .before .before .before .before .before .before .before .before .before .before .before .before .before .before .before .before .before .before .before .pre .places .leader-size ∙ e);
+      ran = λ o target s e. ended (z .mode) (z .above) (now (z .ladder)) (now (z .a)) (now (z .b)) (now (z .km)) (now (z .share)) (now (z .sheet)) (now (z .load)) (now (z .bus)) (now (z .pmax)) (now (z .leader)) (now (z .grounds)) (now (z .injection)) (length (now (z .leader))) (r .level) (r .circuits) (r .banks) (r .floors) (r .upsized) (r .angle) (r .p) (goesOn (z .mode) (z .above) (now (z .ladder)) (now (z .a)) (now (z .b)) (now (z .km)) (now (z .share)) (now (z .sheet)) (now (z .load)) (now (z .bus)) (now (z .pmax)) (now (z .leader)) (now (z .grounds)) (now (z .injection)) (length (now (z .leader))) (z .budget) (now (z .level)) (now (z .circuits)) (now (z .banks)) (now (z .floors)) (now (z .upsized)) (now (z .angle)) (z .start)) (r .left) (c .rounds-test .left) (r .inv .2) o target s ((start-of (c .before)) .pre .places .leader-size ∙ e);
       lines = r .inv .0 .columns .lines;
       banked = r .inv .0 .banked;
       few = r .inv .0 .few;
@@ -903,7 +913,7 @@ same-length-25 :
     μ-components
     Inv-rounds
     μ-rounds
-same-length-25 c = c .before .before .before .before .before .before .before .before .before .before .before .before .before .before .before .before .before .before .before .before .before .before .before .before .before .size-corridor .kept .1 .1 .1 .1 .1 .1 .1 .1 .1 .1 .0 ∙ c .before .before .before .before .before .before .before .before .before .before .before .before .before .before .before .before .before .before .before .before .before .before .before .before .before .before .before .before .before .before .before .before .before .before .corridors .inv .3 .count-size ∙ sym (c .before .before .before .before .before .before .before .before .before .before .before .before .before .before .before .before .before .before .before .before .before .before .before .before .before .before .before .before .before .before .before .before .before .before .before .before .before .before .before .before .before .before .before .before .before .before .before .before .before .before .before .before .before .before .before .before .before .before .before .before .before .before .before .before .before .before .before .before .before .before .before .before .before .before .before .pre .places .count-size)
+same-length-25 c = c .before .before .before .before .before .before .before .before .before .before .before .before .before .before .before .before .before .before .before .before .before .before .before .before .before .size-corridor .kept .1 .1 .1 .1 .1 .1 .1 .1 .1 .1 .0 ∙ c .before .before .before .before .before .before .before .before .before .before .before .before .before .before .before .before .before .before .before .before .before .before .before .before .before .before .before .before .before .before .before .before .before .before .corridors .inv .3 .count-size ∙ sym ((start-of (round-of (c .before .before .before .before .before .before .before .before .before .before .before .before .before .before .before .before .before .before .before .before .before .before .before .before .before .before .before .before .before .before .before .before .before .before))) .pre .places .count-size)
 
 same-length-26 :
     tie.Need-same-length-26
@@ -913,7 +923,7 @@ same-length-26 :
     μ-components
     Inv-rounds
     μ-rounds
-same-length-26 c = c .before .before .before .before .before .before .before .before .before .raise-marked .kept .1 .1 .1 .1 .1 .1 .1 .1 .1 .1 .1 .1 .0 ∙ c .before .before .before .before .before .before .before .before .before .before .before .before .before .before .before .before .before .before .before .before .before .before .before .before .before .size-corridor .kept .1 .1 .1 .1 .1 .1 .1 .1 .1 .1 .1 .0 ∙ c .before .before .before .before .before .before .before .before .before .before .before .before .before .before .before .before .before .before .before .before .before .before .before .before .before .before .before .before .before .before .before .before .before .before .corridors .inv .3 .bank-size ∙ sym (c .before .before .before .before .before .before .before .before .before .before .before .before .before .before .before .before .before .before .before .before .before .before .before .before .before .before .before .before .before .before .before .before .before .before .before .before .before .before .before .before .before .before .before .before .before .before .before .before .before .before .before .before .before .before .before .before .before .before .before .before .before .before .before .before .before .before .before .before .before .before .before .before .before .before .before .pre .places .bank-size)
+same-length-26 c = c .before .before .before .before .before .before .before .before .before .raise-marked .kept .1 .1 .1 .1 .1 .1 .1 .1 .1 .1 .1 .1 .0 ∙ c .before .before .before .before .before .before .before .before .before .before .before .before .before .before .before .before .before .before .before .before .before .before .before .before .before .size-corridor .kept .1 .1 .1 .1 .1 .1 .1 .1 .1 .1 .1 .0 ∙ c .before .before .before .before .before .before .before .before .before .before .before .before .before .before .before .before .before .before .before .before .before .before .before .before .before .before .before .before .before .before .before .before .before .before .corridors .inv .3 .bank-size ∙ sym ((start-of (round-of (c .before .before .before .before .before .before .before .before .before .before .before .before .before .before .before .before .before .before .before .before .before .before .before .before .before .before .before .before .before .before .before .before .before .before))) .pre .places .bank-size)
 
 same-length-27 :
     tie.Need-same-length-27
@@ -923,7 +933,7 @@ same-length-27 :
     μ-components
     Inv-rounds
     μ-rounds
-same-length-27 c = c .before .before .before .before .before .before .before .before .before .before .before .before .before .before .before .before .before .before .before .before .before .before .before .before .before .size-corridor .kept .1 .1 .1 .1 .1 .1 .1 .1 .1 .1 .1 .1 .0 ∙ c .before .before .before .before .before .before .before .before .before .before .before .before .before .before .before .before .before .before .before .before .before .before .before .before .before .before .before .before .before .before .before .before .before .before .corridors .inv .3 .floor-size ∙ sym (c .before .before .before .before .before .before .before .before .before .before .before .before .before .before .before .before .before .before .before .before .before .before .before .before .before .before .before .before .before .before .before .before .before .before .before .before .before .before .before .before .before .before .before .before .before .before .before .before .before .before .before .before .before .before .before .before .before .before .before .before .before .before .before .before .before .before .before .before .before .before .before .before .before .before .before .pre .places .floor-size)
+same-length-27 c = c .before .before .before .before .before .before .before .before .before .before .before .before .before .before .before .before .before .before .before .before .before .before .before .before .before .size-corridor .kept .1 .1 .1 .1 .1 .1 .1 .1 .1 .1 .1 .1 .0 ∙ c .before .before .before .before .before .before .before .before .before .before .before .before .before .before .before .before .before .before .before .before .before .before .before .before .before .before .before .before .before .before .before .before .before .before .corridors .inv .3 .floor-size ∙ sym ((start-of (round-of (c .before .before .before .before .before .before .before .before .before .before .before .before .before .before .before .before .before .before .before .before .before .before .before .before .before .before .before .before .before .before .before .before .before .before))) .pre .places .floor-size)
 
 same-length-28 :
     tie.Need-same-length-28
@@ -933,7 +943,7 @@ same-length-28 :
     μ-components
     Inv-rounds
     μ-rounds
-same-length-28 c = c .before .before .before .before .before .before .before .before .before .before .before .before .before .before .before .before .before .before .before .before .before .before .before .before .before .size-corridor .kept .1 .1 .1 .1 .1 .1 .1 .1 .1 .1 .1 .1 .1 .0 ∙ c .before .before .before .before .before .before .before .before .before .before .before .before .before .before .before .before .before .before .before .before .before .before .before .before .before .before .before .before .before .before .before .before .before .before .corridors .inv .3 .upsized-size ∙ sym (c .before .before .before .before .before .before .before .before .before .before .before .before .before .before .before .before .before .before .before .before .before .before .before .before .before .before .before .before .before .before .before .before .before .before .before .before .before .before .before .before .before .before .before .before .before .before .before .before .before .before .before .before .before .before .before .before .before .before .before .before .before .before .before .before .before .before .before .before .before .before .before .before .before .before .before .pre .places .upsized-size)
+same-length-28 c = c .before .before .before .before .before .before .before .before .before .before .before .before .before .before .before .before .before .before .before .before .before .before .before .before .before .size-corridor .kept .1 .1 .1 .1 .1 .1 .1 .1 .1 .1 .1 .1 .1 .0 ∙ c .before .before .before .before .before .before .before .before .before .before .before .before .before .before .before .before .before .before .before .before .before .before .before .before .before .before .before .before .before .before .before .before .before .before .corridors .inv .3 .upsized-size ∙ sym ((start-of (round-of (c .before .before .before .before .before .before .before .before .before .before .before .before .before .before .before .before .before .before .before .before .before .before .before .before .before .before .before .before .before .before .before .before .before .before))) .pre .places .upsized-size)
 
 same-length-29 :
     tie.Need-same-length-29
@@ -943,7 +953,7 @@ same-length-29 :
     μ-components
     Inv-rounds
     μ-rounds
-same-length-29 c = c .before .before .before .before .before .before .before .before .before .raise-marked .kept .1 .1 .1 .1 .1 .1 .1 .1 .1 .1 .1 .0 ∙ ap (λ (x : List ℕ). length x) (c .before .before .before .before .before .before .before .before .before .before .before .before .before .before .before .before .before .before .before .before .before .before .before .before .before .before .before .before .before .before .before .before .before .before .corridors .inv .1) ∙ c .before .before .before .before .before .before .before .before .before .before .before .before .before .before .before .before .before .before .before .before .before .before .before .before .before .before .before .before .before .before .before .before .before .before .before .before .before .before .before .before .before .before .before .before .before .before .before .before .before .before .before .before .before .before .rounds .inv .1
+same-length-29 c = c .before .before .before .before .before .before .before .before .before .raise-marked .kept .1 .1 .1 .1 .1 .1 .1 .1 .1 .1 .1 .0 ∙ ap (λ (x : List ℕ). length x) (c .before .before .before .before .before .before .before .before .before .before .before .before .before .before .before .before .before .before .before .before .before .before .before .before .before .before .before .before .before .before .before .before .before .before .corridors .inv .1) ∙ (round-of (c .before .before .before .before .before .before .before .before .before .before .before .before .before .before .before .before .before .before .before .before .before .before .before .before .before .before .before .before .before .before .before .before .before .before)) .rounds .inv .1
 
 same-length-30 :
     tie.Need-same-length-30
@@ -953,7 +963,7 @@ same-length-30 :
     μ-components
     Inv-rounds
     μ-rounds
-same-length-30 c = c .before .before .before .before .before .before .before .before .before .before .before .before .before .before .before .before .before .before .before .before .before .before .before .before .before .size-corridor .kept .1 .1 .1 .1 .1 .1 .1 .1 .1 .1 .1 .1 .1 .1 .0 ∙ c .before .before .before .before .before .before .before .before .before .before .before .before .before .before .before .before .before .before .before .before .before .before .before .before .before .before .before .before .before .before .before .before .before .before .corridors .inv .3 .mark-size ∙ ap (λ (x : List ℕ). length x) (c .before .before .before .before .before .before .before .before .before .before .before .before .before .before .before .before .before .before .before .before .before .before .before .before .before .before .before .before .before .before .before .before .before .before .corridors .inv .1) ∙ c .before .before .before .before .before .before .before .before .before .before .before .before .before .before .before .before .before .before .before .before .before .before .before .before .before .before .before .before .before .before .before .before .before .before .before .before .before .before .before .before .before .before .before .before .before .before .before .before .before .before .before .before .before .before .rounds .inv .1 ∙ sym (c .before .before .before .before .before .before .before .before .before .before .before .before .before .before .before .before .before .before .before .before .before .before .before .before .before .before .before .before .before .before .before .before .before .before .before .before .before .before .before .before .before .before .before .before .before .before .before .before .before .before .before .before .before .before .before .before .before .before .before .before .before .before .before .before .before .before .before .before .before .before .before .before .before .before .before .pre .places .mark-size)
+same-length-30 c = c .before .before .before .before .before .before .before .before .before .before .before .before .before .before .before .before .before .before .before .before .before .before .before .before .before .size-corridor .kept .1 .1 .1 .1 .1 .1 .1 .1 .1 .1 .1 .1 .1 .1 .0 ∙ c .before .before .before .before .before .before .before .before .before .before .before .before .before .before .before .before .before .before .before .before .before .before .before .before .before .before .before .before .before .before .before .before .before .before .corridors .inv .3 .mark-size ∙ ap (λ (x : List ℕ). length x) (c .before .before .before .before .before .before .before .before .before .before .before .before .before .before .before .before .before .before .before .before .before .before .before .before .before .before .before .before .before .before .before .before .before .before .corridors .inv .1) ∙ (round-of (c .before .before .before .before .before .before .before .before .before .before .before .before .before .before .before .before .before .before .before .before .before .before .before .before .before .before .before .before .before .before .before .before .before .before)) .rounds .inv .1 ∙ sym ((start-of (round-of (c .before .before .before .before .before .before .before .before .before .before .before .before .before .before .before .before .before .before .before .before .before .before .before .before .before .before .before .before .before .before .before .before .before .before))) .pre .places .mark-size)
 
 same-length-31 :
     tie.Need-same-length-31
@@ -963,7 +973,7 @@ same-length-31 :
     μ-components
     Inv-rounds
     μ-rounds
-same-length-31 c = c .before .before .before .before .before .before .before .before .before .before .before .before .before .before .before .before .before .before .before .before .before .before .before .before .before .before .before .before .before .before .before .before .before .before .before .before .before .before .before .before .before .before .before .before .before .peak-state .kept .1 .1 .1 .0 ∙ c .before .before .before .before .before .before .before .before .before .before .before .before .before .before .before .before .before .before .before .before .before .before .before .before .before .before .before .before .before .before .before .before .before .before .before .before .before .before .before .before .before .before .before .before .before .before .before .before .before .before .before .before .before .before .rounds .inv .0 .places .angle-size ∙ c .before .before .before .before .before .before .before .before .before .before .before .before .before .before .before .before .before .before .before .before .before .before .before .before .before .before .before .before .before .before .before .before .before .before .before .before .before .before .before .before .before .before .before .before .before .before .before .before .before .before .before .before .before .before .rounds .inv .1 ∙ sym (c .before .before .before .before .before .before .before .before .before .before .before .before .before .before .before .before .before .before .before .before .before .before .before .before .before .before .before .before .before .before .before .before .before .before .before .before .before .before .before .before .before .before .before .before .before .before .before .before .before .before .before .before .before .before .before .before .before .before .before .before .before .before .before .before .before .before .before .before .before .before .before .before .before .before .before .pre .places .angle-size)
+same-length-31 c = (c .before .before .before .before .before .before .before .before .before .before .before .before .before .before .before .before .before .before .before .before .before .before .before .before .before .before .before .before .before .before .before .before .before .before) .before .before .before .before .before .before .before .before .before .before .before .peak-state .kept .1 .1 .1 .0 ∙ (round-of (c .before .before .before .before .before .before .before .before .before .before .before .before .before .before .before .before .before .before .before .before .before .before .before .before .before .before .before .before .before .before .before .before .before .before)) .rounds .inv .0 .places .angle-size ∙ (round-of (c .before .before .before .before .before .before .before .before .before .before .before .before .before .before .before .before .before .before .before .before .before .before .before .before .before .before .before .before .before .before .before .before .before .before)) .rounds .inv .1 ∙ sym ((start-of (round-of (c .before .before .before .before .before .before .before .before .before .before .before .before .before .before .before .before .before .before .before .before .before .before .before .before .before .before .before .before .before .before .before .before .before .before))) .pre .places .angle-size)
 
 same-length-32 :
     tie.Need-same-length-32
@@ -973,16 +983,16 @@ same-length-32 :
     μ-components
     Inv-rounds
     μ-rounds
-same-length-32 c = c .before .before .before .before .before .before .before .before .before .before .before .before .before .before .before .before .before .before .before .before .before .before .before .before .before .before .before .before .before .before .before .before .before .before .before .before .before .before .before .before .before .before .before .before .before .peak-state .kept .1 .1 .1 .1 .0 ∙ c .before .before .before .before .before .before .before .before .before .before .before .before .before .before .before .before .before .before .before .before .before .before .before .before .before .before .before .before .before .before .before .before .before .before .before .before .before .before .before .before .before .before .before .before .before .before .before .before .before .before .before .before .before .before .rounds .inv .0 .places .flow-size ∙ sym (c .before .before .before .before .before .before .before .before .before .before .before .before .before .before .before .before .before .before .before .before .before .before .before .before .before .before .before .before .before .before .before .before .before .before .before .before .before .before .before .before .before .before .before .before .before .before .before .before .before .before .before .before .before .before .before .before .before .before .before .before .before .before .before .before .before .before .before .before .before .before .before .before .before .before .before .pre .places .flow-size)
+same-length-32 c = (c .before .before .before .before .before .before .before .before .before .before .before .before .before .before .before .before .before .before .before .before .before .before .before .before .before .before .before .before .before .before .before .before .before .before) .before .before .before .before .before .before .before .before .before .before .before .peak-state .kept .1 .1 .1 .1 .0 ∙ (round-of (c .before .before .before .before .before .before .before .before .before .before .before .before .before .before .before .before .before .before .before .before .before .before .before .before .before .before .before .before .before .before .before .before .before .before)) .rounds .inv .0 .places .flow-size ∙ sym ((start-of (round-of (c .before .before .before .before .before .before .before .before .before .before .before .before .before .before .before .before .before .before .before .before .before .before .before .before .before .before .before .before .before .before .before .before .before .before))) .pre .places .flow-size)
 
 returns-4 :
     tie.Need-returns-4 Inv-corridors μ-corridors Inv-components μ-components Inv-rounds μ-rounds
 returns-4 c =
-    let z = c .before .before .before .before .before .before .before .before .before .before .before .before .before .before .before .before .before .before .before .before .before .before .before .before .before .before .before .before .before .before .before .before .before .before .before .before .before .before .before .before .before .before .before .before .before .before .before .before .before .before .before .before .before .before .before .before .before .before .before .before .before .before .before .before .before .before .before .before .before .before .before .before .before .before .before .args in
-    let r = c .before .before .before .before .before .before .before .before .before .before .before .before .before .before .before .before .before .before .before .before .before .before .before .before .before .before .before .before .before .before .before .before .before .before .before .before .before .before .before .before .before .before .before .before .before .before .before .before .before .before .before .before .before .before .rounds in
+    let z = (start-of (round-of (c .before .before .before .before .before .before .before .before .before .before .before .before .before .before .before .before .before .before .before .before .before .before .before .before .before .before .before .before .before .before .before .before .before .before))) .args in
+    let r = (round-of (c .before .before .before .before .before .before .before .before .before .before .before .before .before .before .before .before .before .before .before .before .before .before .before .before .before .before .before .before .before .before .before .before .before .before)) .rounds in
     let l = c .before .before .before .before .before .before .before .before .before .before .before .before .before .before .before .before .before .before .before .before .before .before .before .before .before .before .before .before .before .before .before .before .before .before .corridors in
     record {
-      ran = λ o target s e. sized-settled (z .mode) (z .above) (now (z .ladder)) (now (z .a)) (now (z .b)) (now (z .km)) (now (z .share)) (now (z .sheet)) (now (z .load)) (now (z .bus)) (now (z .pmax)) (now (z .leader)) (now (z .grounds)) (now (z .injection)) (length (now (z .leader))) (l .level) (r .level) (r .circuits) (r .banks) (r .floors) (r .upsized) (r .angle) (r .p) (goesOn (z .mode) (z .above) (now (z .ladder)) (now (z .a)) (now (z .b)) (now (z .km)) (now (z .share)) (now (z .sheet)) (now (z .load)) (now (z .bus)) (now (z .pmax)) (now (z .leader)) (now (z .grounds)) (now (z .injection)) (length (now (z .leader))) (z .budget) (now (z .level)) (now (z .circuits)) (now (z .banks)) (now (z .floors)) (now (z .upsized)) (now (z .angle)) (z .start)) (r .left) (r .left - 1) (omega (arith, c .before .before .before .before .before .before .before .before .before .before .before .before .before .before .before .before .before .before .before .before .before .before .before .before .before .before .before .before .before .before .before .before .before .before .before .before .before .before .before .before .before .before .before .before .before .before .before .before .before .before .before .before .before .rounds-test .taken)) (l .inv .1) (sym (r .inv .0 .places .leader-size)) (r .inv .2) _ _ _ (c .before .before .before .before .before .before .before .before .before .before .before .before .before .before .before .before .before .before .before .before .before .before .before .before .before .before .before .before .before .before .before .before .before .before .before .before .before .before .before .before .before .before .before .before .before .before .before .before .draw-edges .result .from) (c .before .before .before .before .before .before .before .before .before .before .before .before .before .before .before .before .before .before .before .before .before .before .before .before .before .before .before .before .before .before .before .before .before .before .before .before .before .before .before .before .before .before .before .before .before .before .before .before .draw-edges .result .to) (c .before .before .before .before .before .before .before .before .before .before .before .before .before .before .before .before .before .before .before .before .before .before .before .before .before .before .before .before .before .before .before .before .before .before .before .before .before .before .before .before .before .before .before .before .before .before .before .before .draw-edges .result .weight) (c .before .before .before .before .before .before .before .before .before .before .before .before .before .before .before .before .before .before .before .before .before .before .before .before .before .before .before .before .before .before .before .before .before .before .before .before .before .before .before .before .before .before .before .before .before .before .before .before .draw-edges .ensures .0) _ _ (r .inv .0 .places .angle-size) (r .inv .0 .places .flow-size) (c .before .before .before .before .before .before .before .before .before .before .before .before .before .before .before .before .before .before .before .before .before .before .before .before .before .before .before .before .before .before .before .before .before .before .before .before .before .before .before .before .before .before .before .before .before .peak-state .ensures) (c .before .before .before .before .before .before .before .before .before .before .before .before .before .before .before .before .before .before .before .before .before .before .before .before .before .before .before .before .before .before .before .before .before .before .before .before .before .before .before .enum-told .given .1) _ _ _ _ _ _ _ (omega (arith, c .before .before .before .before .before .before .before .before .before .before .before .before .before .before .if1 .taken)) (left-turn (z .mode) (length (l .level)) (now (z .ladder)) (l .level) (now (z .a)) (now (z .b)) (now (z .km)) (now (z .share)) (now (z .sheet)) _ (l .k) (l .circuits) (l .banks) (l .floors) (l .upsized) (l .marks) (l .t) _ _ _ _ _ _ (c .before .before .before .before .before .before .before .before .before .before .before .before .before .before .before .before .before .before .before .before .before .before .before .before .before .before .before .before .before .before .before .before .before .corridors-test .taken) (c .before .before .before .before .before .before .before .before .before .before .before .before .before .before .before .before .before .before .before .before .before .before .before .before .before .size-corridor .ensures .sized) ∙ l .inv .7) _ (l .inv .2) _ _ _ (c .before .before .before .before .before .before .before .before .before .raise-marked .ensures) (c .before .before .before .if2 .left) (sym (c .before .before .promotes .ensures) ∙ not-true _ (c .before .if3 .taken)) o target s (c .before .before .before .before .before .before .before .before .before .before .before .before .before .before .before .before .before .before .before .before .before .before .before .before .before .before .before .before .before .before .before .before .before .before .before .before .before .before .before .before .before .before .before .before .before .before .before .before .before .before .before .before .before .before .before .before .before .before .before .before .before .before .before .before .before .before .before .before .before .before .before .before .before .before .before .pre .places .leader-size ∙ e);
+      ran = λ o target s e. sized-settled (z .mode) (z .above) (now (z .ladder)) (now (z .a)) (now (z .b)) (now (z .km)) (now (z .share)) (now (z .sheet)) (now (z .load)) (now (z .bus)) (now (z .pmax)) (now (z .leader)) (now (z .grounds)) (now (z .injection)) (length (now (z .leader))) (l .level) (r .level) (r .circuits) (r .banks) (r .floors) (r .upsized) (r .angle) (r .p) (goesOn (z .mode) (z .above) (now (z .ladder)) (now (z .a)) (now (z .b)) (now (z .km)) (now (z .share)) (now (z .sheet)) (now (z .load)) (now (z .bus)) (now (z .pmax)) (now (z .leader)) (now (z .grounds)) (now (z .injection)) (length (now (z .leader))) (z .budget) (now (z .level)) (now (z .circuits)) (now (z .banks)) (now (z .floors)) (now (z .upsized)) (now (z .angle)) (z .start)) (r .left) (r .left - 1) (omega (arith, (c .before .before .before .before .before .before .before .before .before .before .before .before .before .before .before .before .before .before .before .before .before .before .before .before .before .before .before .before .before .before .before .before .before .before) .before .before .before .before .before .before .before .before .before .before .before .before .before .before .before .before .before .before .before .rounds-test .taken)) (l .inv .1) (sym (r .inv .0 .places .leader-size)) (r .inv .2) _ _ _ ((c .before .before .before .before .before .before .before .before .before .before .before .before .before .before .before .before .before .before .before .before .before .before .before .before .before .before .before .before .before .before .before .before .before .before) .before .before .before .before .before .before .before .before .before .before .before .before .before .before .draw-edges .result .from) ((c .before .before .before .before .before .before .before .before .before .before .before .before .before .before .before .before .before .before .before .before .before .before .before .before .before .before .before .before .before .before .before .before .before .before) .before .before .before .before .before .before .before .before .before .before .before .before .before .before .draw-edges .result .to) ((c .before .before .before .before .before .before .before .before .before .before .before .before .before .before .before .before .before .before .before .before .before .before .before .before .before .before .before .before .before .before .before .before .before .before) .before .before .before .before .before .before .before .before .before .before .before .before .before .before .draw-edges .result .weight) ((c .before .before .before .before .before .before .before .before .before .before .before .before .before .before .before .before .before .before .before .before .before .before .before .before .before .before .before .before .before .before .before .before .before .before) .before .before .before .before .before .before .before .before .before .before .before .before .before .before .draw-edges .ensures .0) _ _ (r .inv .0 .places .angle-size) (r .inv .0 .places .flow-size) ((c .before .before .before .before .before .before .before .before .before .before .before .before .before .before .before .before .before .before .before .before .before .before .before .before .before .before .before .before .before .before .before .before .before .before) .before .before .before .before .before .before .before .before .before .before .before .peak-state .ensures) ((c .before .before .before .before .before .before .before .before .before .before .before .before .before .before .before .before .before .before .before .before .before .before .before .before .before .before .before .before .before .before .before .before .before .before) .before .before .before .before .before .enum-told .given .1) _ _ _ _ _ _ _ (omega (arith, c .before .before .before .before .before .before .before .before .before .before .before .before .before .before .if1 .taken)) (left-turn (z .mode) (length (l .level)) (now (z .ladder)) (l .level) (now (z .a)) (now (z .b)) (now (z .km)) (now (z .share)) (now (z .sheet)) _ (l .k) (l .circuits) (l .banks) (l .floors) (l .upsized) (l .marks) (l .t) _ _ _ _ _ _ (c .before .before .before .before .before .before .before .before .before .before .before .before .before .before .before .before .before .before .before .before .before .before .before .before .before .before .before .before .before .before .before .before .before .corridors-test .taken) (c .before .before .before .before .before .before .before .before .before .before .before .before .before .before .before .before .before .before .before .before .before .before .before .before .before .size-corridor .ensures .sized) ∙ l .inv .7) _ (l .inv .2) _ _ _ (c .before .before .before .before .before .before .before .before .before .raise-marked .ensures) (c .before .before .before .if2 .left) (sym (c .before .before .promotes .ensures) ∙ not-true _ (c .before .if3 .taken)) o target s ((start-of (round-of (c .before .before .before .before .before .before .before .before .before .before .before .before .before .before .before .before .before .before .before .before .before .before .before .before .before .before .before .before .before .before .before .before .before .before))) .pre .places .leader-size ∙ e);
       lines = c .before .before .before .before .before .before .before .before .before .raise-marked .ensures .lines;
       banked = c .before .before .before .before .before .before .before .before .before .raise-marked .ensures .banked;
       few = c .before .before .before .before .before .before .before .before .before .before .before .before .before .before .before .before .before .before .before .before .before .before .before .before .before .size-corridor .ensures .few (l .inv .5);
@@ -996,7 +1006,7 @@ same-length-33 :
     μ-components
     Inv-rounds
     μ-rounds
-same-length-33 c = c .before .before .before .before .before .before .before .before .before .before .before .before .before .before .before .before .before .before .before .before .before .before .before .before .before .before .before .before .stiffen-led .kept .1 .1 .1 .1 .1 .1 .1 .1 .1 .1 .1 .1 .1 .1 .0 ∙ c .before .before .before .before .before .before .before .before .before .before .before .before .before .before .before .before .before .before .before .before .before .before .before .before .before .before .before .before .before .before .before .before .before .before .before .before .before .components .inv .3 .0 ∙ c .before .before .before .before .before .before .before .before .before .before .before .before .before .before .before .before .before .before .before .before .before .before .before .before .before .before .before .before .before .before .before .before .before .before .before .before .before .before .before .before .before .before .before .before .before .before .before .corridors .inv .3 .count-size ∙ sym (c .before .before .before .before .before .before .before .before .before .before .before .before .before .before .before .before .before .before .before .before .before .before .before .before .before .before .before .before .before .before .before .before .before .before .before .before .before .before .before .before .before .before .before .before .before .before .before .before .before .before .before .before .before .before .before .before .before .before .before .before .before .before .before .before .before .before .before .before .before .before .before .before .before .before .before .before .before .before .before .before .before .before .before .before .before .before .before .before .pre .places .count-size)
+same-length-33 c = c .before .before .before .before .before .before .before .before .before .before .before .before .before .before .before .before .before .before .before .before .before .before .before .before .before .before .before .before .stiffen-led .kept .1 .1 .1 .1 .1 .1 .1 .1 .1 .1 .1 .1 .1 .1 .0 ∙ c .before .before .before .before .before .before .before .before .before .before .before .before .before .before .before .before .before .before .before .before .before .before .before .before .before .before .before .before .before .before .before .before .before .before .before .before .before .components .inv .3 .0 ∙ (sized-of (c .before .before .before .before .before .before .before .before .before .before .before .before .before .before .before .before .before .before .before .before .before .before .before .before .before .before .before .before .before .before .before .before .before .before .before .before .before)) .corridors .inv .3 .count-size ∙ sym ((start-of (round-of (sized-of (c .before .before .before .before .before .before .before .before .before .before .before .before .before .before .before .before .before .before .before .before .before .before .before .before .before .before .before .before .before .before .before .before .before .before .before .before .before)))) .pre .places .count-size)
 
 same-length-34 :
     tie.Need-same-length-34
@@ -1006,7 +1016,7 @@ same-length-34 :
     μ-components
     Inv-rounds
     μ-rounds
-same-length-34 c = c .before .before .before .before .before .before .before .before .before .raise-marked2 .kept .1 .1 .1 .1 .1 .1 .1 .1 .1 .1 .1 .1 .0 ∙ c .before .before .before .before .before .before .before .before .before .before .before .before .before .before .before .before .before .before .before .before .before .before .before .before .before .before .before .before .stiffen-led .kept .1 .1 .1 .1 .1 .1 .1 .1 .1 .1 .1 .1 .1 .1 .1 .0 ∙ c .before .before .before .before .before .before .before .before .before .before .before .before .before .before .before .before .before .before .before .before .before .before .before .before .before .before .before .before .before .before .before .before .before .before .before .before .before .components .inv .3 .1 ∙ c .before .before .before .before .before .before .before .before .before .before .before .before .before .before .before .before .before .before .before .before .before .before .before .before .before .before .before .before .before .before .before .before .before .before .before .before .before .before .before .before .before .before .before .before .before .before .before .corridors .inv .3 .bank-size ∙ sym (c .before .before .before .before .before .before .before .before .before .before .before .before .before .before .before .before .before .before .before .before .before .before .before .before .before .before .before .before .before .before .before .before .before .before .before .before .before .before .before .before .before .before .before .before .before .before .before .before .before .before .before .before .before .before .before .before .before .before .before .before .before .before .before .before .before .before .before .before .before .before .before .before .before .before .before .before .before .before .before .before .before .before .before .before .before .before .before .before .pre .places .bank-size)
+same-length-34 c = c .before .before .before .before .before .before .before .before .before .raise-marked2 .kept .1 .1 .1 .1 .1 .1 .1 .1 .1 .1 .1 .1 .0 ∙ c .before .before .before .before .before .before .before .before .before .before .before .before .before .before .before .before .before .before .before .before .before .before .before .before .before .before .before .before .stiffen-led .kept .1 .1 .1 .1 .1 .1 .1 .1 .1 .1 .1 .1 .1 .1 .1 .0 ∙ c .before .before .before .before .before .before .before .before .before .before .before .before .before .before .before .before .before .before .before .before .before .before .before .before .before .before .before .before .before .before .before .before .before .before .before .before .before .components .inv .3 .1 ∙ (sized-of (c .before .before .before .before .before .before .before .before .before .before .before .before .before .before .before .before .before .before .before .before .before .before .before .before .before .before .before .before .before .before .before .before .before .before .before .before .before)) .corridors .inv .3 .bank-size ∙ sym ((start-of (round-of (sized-of (c .before .before .before .before .before .before .before .before .before .before .before .before .before .before .before .before .before .before .before .before .before .before .before .before .before .before .before .before .before .before .before .before .before .before .before .before .before)))) .pre .places .bank-size)
 
 same-length-35 :
     tie.Need-same-length-35
@@ -1016,7 +1026,7 @@ same-length-35 :
     μ-components
     Inv-rounds
     μ-rounds
-same-length-35 c = c .before .before .before .before .before .before .before .before .before .before .before .before .before .before .before .before .before .before .before .before .before .before .before .before .before .before .before .before .stiffen-led .kept .1 .1 .1 .1 .1 .1 .1 .1 .1 .1 .1 .1 .1 .1 .1 .1 .0 ∙ c .before .before .before .before .before .before .before .before .before .before .before .before .before .before .before .before .before .before .before .before .before .before .before .before .before .before .before .before .before .before .before .before .before .before .before .before .before .components .inv .3 .2 ∙ c .before .before .before .before .before .before .before .before .before .before .before .before .before .before .before .before .before .before .before .before .before .before .before .before .before .before .before .before .before .before .before .before .before .before .before .before .before .before .before .before .before .before .before .before .before .before .before .corridors .inv .3 .floor-size ∙ sym (c .before .before .before .before .before .before .before .before .before .before .before .before .before .before .before .before .before .before .before .before .before .before .before .before .before .before .before .before .before .before .before .before .before .before .before .before .before .before .before .before .before .before .before .before .before .before .before .before .before .before .before .before .before .before .before .before .before .before .before .before .before .before .before .before .before .before .before .before .before .before .before .before .before .before .before .before .before .before .before .before .before .before .before .before .before .before .before .before .pre .places .floor-size)
+same-length-35 c = c .before .before .before .before .before .before .before .before .before .before .before .before .before .before .before .before .before .before .before .before .before .before .before .before .before .before .before .before .stiffen-led .kept .1 .1 .1 .1 .1 .1 .1 .1 .1 .1 .1 .1 .1 .1 .1 .1 .0 ∙ c .before .before .before .before .before .before .before .before .before .before .before .before .before .before .before .before .before .before .before .before .before .before .before .before .before .before .before .before .before .before .before .before .before .before .before .before .before .components .inv .3 .2 ∙ (sized-of (c .before .before .before .before .before .before .before .before .before .before .before .before .before .before .before .before .before .before .before .before .before .before .before .before .before .before .before .before .before .before .before .before .before .before .before .before .before)) .corridors .inv .3 .floor-size ∙ sym ((start-of (round-of (sized-of (c .before .before .before .before .before .before .before .before .before .before .before .before .before .before .before .before .before .before .before .before .before .before .before .before .before .before .before .before .before .before .before .before .before .before .before .before .before)))) .pre .places .floor-size)
 
 same-length-36 :
     tie.Need-same-length-36
@@ -1026,7 +1036,7 @@ same-length-36 :
     μ-components
     Inv-rounds
     μ-rounds
-same-length-36 c = c .before .before .before .before .before .before .before .before .before .before .before .before .before .before .before .before .before .before .before .before .before .before .before .before .before .before .before .before .stiffen-led .kept .1 .1 .1 .1 .1 .1 .1 .1 .1 .1 .1 .1 .1 .1 .1 .1 .1 .0 ∙ c .before .before .before .before .before .before .before .before .before .before .before .before .before .before .before .before .before .before .before .before .before .before .before .before .before .before .before .before .before .before .before .before .before .before .before .before .before .components .inv .3 .3 ∙ c .before .before .before .before .before .before .before .before .before .before .before .before .before .before .before .before .before .before .before .before .before .before .before .before .before .before .before .before .before .before .before .before .before .before .before .before .before .before .before .before .before .before .before .before .before .before .before .corridors .inv .3 .upsized-size ∙ sym (c .before .before .before .before .before .before .before .before .before .before .before .before .before .before .before .before .before .before .before .before .before .before .before .before .before .before .before .before .before .before .before .before .before .before .before .before .before .before .before .before .before .before .before .before .before .before .before .before .before .before .before .before .before .before .before .before .before .before .before .before .before .before .before .before .before .before .before .before .before .before .before .before .before .before .before .before .before .before .before .before .before .before .before .before .before .before .before .before .pre .places .upsized-size)
+same-length-36 c = c .before .before .before .before .before .before .before .before .before .before .before .before .before .before .before .before .before .before .before .before .before .before .before .before .before .before .before .before .stiffen-led .kept .1 .1 .1 .1 .1 .1 .1 .1 .1 .1 .1 .1 .1 .1 .1 .1 .1 .0 ∙ c .before .before .before .before .before .before .before .before .before .before .before .before .before .before .before .before .before .before .before .before .before .before .before .before .before .before .before .before .before .before .before .before .before .before .before .before .before .components .inv .3 .3 ∙ (sized-of (c .before .before .before .before .before .before .before .before .before .before .before .before .before .before .before .before .before .before .before .before .before .before .before .before .before .before .before .before .before .before .before .before .before .before .before .before .before)) .corridors .inv .3 .upsized-size ∙ sym ((start-of (round-of (sized-of (c .before .before .before .before .before .before .before .before .before .before .before .before .before .before .before .before .before .before .before .before .before .before .before .before .before .before .before .before .before .before .before .before .before .before .before .before .before)))) .pre .places .upsized-size)
 
 same-length-37 :
     tie.Need-same-length-37
@@ -1036,7 +1046,7 @@ same-length-37 :
     μ-components
     Inv-rounds
     μ-rounds
-same-length-37 c = c .before .before .before .before .before .before .before .before .before .raise-marked2 .kept .1 .1 .1 .1 .1 .1 .1 .1 .1 .1 .1 .0 ∙ ap (λ (x : List ℕ). length x) (c .before .before .before .before .before .before .before .before .before .before .before .before .before .before .before .before .before .before .before .before .before .before .before .before .before .before .before .before .before .before .before .before .before .before .before .before .before .components .inv .1 ∙ c .before .before .before .before .before .before .before .before .before .before .before .before .before .before .before .before .before .before .before .before .before .before .before .before .before .before .before .before .before .before .before .before .before .before .before .before .before .before .before .before .before .before .before .before .before .before .before .corridors .inv .1) ∙ c .before .before .before .before .before .before .before .before .before .before .before .before .before .before .before .before .before .before .before .before .before .before .before .before .before .before .before .before .before .before .before .before .before .before .before .before .before .before .before .before .before .before .before .before .before .before .before .before .before .before .before .before .before .before .before .before .before .before .before .before .before .before .before .before .before .before .before .rounds .inv .1
+same-length-37 c = c .before .before .before .before .before .before .before .before .before .raise-marked2 .kept .1 .1 .1 .1 .1 .1 .1 .1 .1 .1 .1 .0 ∙ ap (λ (x : List ℕ). length x) (c .before .before .before .before .before .before .before .before .before .before .before .before .before .before .before .before .before .before .before .before .before .before .before .before .before .before .before .before .before .before .before .before .before .before .before .before .before .components .inv .1 ∙ (sized-of (c .before .before .before .before .before .before .before .before .before .before .before .before .before .before .before .before .before .before .before .before .before .before .before .before .before .before .before .before .before .before .before .before .before .before .before .before .before)) .corridors .inv .1) ∙ (round-of (sized-of (c .before .before .before .before .before .before .before .before .before .before .before .before .before .before .before .before .before .before .before .before .before .before .before .before .before .before .before .before .before .before .before .before .before .before .before .before .before))) .rounds .inv .1
 
 same-length-38 :
     tie.Need-same-length-38
@@ -1046,7 +1056,7 @@ same-length-38 :
     μ-components
     Inv-rounds
     μ-rounds
-same-length-38 c = c .before .before .before .before .before .before .before .before .before .before .before .before .before .before .before .before .before .before .before .before .before .before .before .before .before .before .before .before .stiffen-led .kept .1 .1 .1 .1 .1 .1 .1 .1 .1 .1 .1 .1 .1 .1 .1 .1 .1 .1 .0 ∙ c .before .before .before .before .before .before .before .before .before .before .before .before .before .before .before .before .before .before .before .before .before .before .before .before .before .before .before .before .before .before .before .before .before .before .before .before .before .components .inv .3 .4 ∙ c .before .before .before .before .before .before .before .before .before .before .before .before .before .before .before .before .before .before .before .before .before .before .before .before .before .before .before .before .before .before .before .before .before .before .before .before .before .before .before .before .stiffness-from .kept .1 .1 .1 .1 .0 ∙ c .before .before .before .before .before .before .before .before .before .before .before .before .before .before .before .before .before .before .before .before .before .before .before .before .before .before .before .before .before .before .before .before .before .before .before .before .before .before .before .before .before .before .before .before .before .before .before .corridors .inv .3 .mark-size ∙ ap (λ (x : List ℕ). length x) (c .before .before .before .before .before .before .before .before .before .before .before .before .before .before .before .before .before .before .before .before .before .before .before .before .before .before .before .before .before .before .before .before .before .before .before .before .before .before .before .before .before .before .before .before .before .before .before .corridors .inv .1) ∙ c .before .before .before .before .before .before .before .before .before .before .before .before .before .before .before .before .before .before .before .before .before .before .before .before .before .before .before .before .before .before .before .before .before .before .before .before .before .before .before .before .before .before .before .before .before .before .before .before .before .before .before .before .before .before .before .before .before .before .before .before .before .before .before .before .before .before .before .rounds .inv .1 ∙ sym (c .before .before .before .before .before .before .before .before .before .before .before .before .before .before .before .before .before .before .before .before .before .before .before .before .before .before .before .before .before .before .before .before .before .before .before .before .before .before .before .before .before .before .before .before .before .before .before .before .before .before .before .before .before .before .before .before .before .before .before .before .before .before .before .before .before .before .before .before .before .before .before .before .before .before .before .before .before .before .before .before .before .before .before .before .before .before .before .before .pre .places .mark-size)
+same-length-38 c = c .before .before .before .before .before .before .before .before .before .before .before .before .before .before .before .before .before .before .before .before .before .before .before .before .before .before .before .before .stiffen-led .kept .1 .1 .1 .1 .1 .1 .1 .1 .1 .1 .1 .1 .1 .1 .1 .1 .1 .1 .0 ∙ c .before .before .before .before .before .before .before .before .before .before .before .before .before .before .before .before .before .before .before .before .before .before .before .before .before .before .before .before .before .before .before .before .before .before .before .before .before .components .inv .3 .4 ∙ (c .before .before .before .before .before .before .before .before .before .before .before .before .before .before .before .before .before .before .before .before .before .before .before .before .before .before .before .before .before .before .before .before .before .before .before .before .before) .before .before .before .stiffness-from .kept .1 .1 .1 .1 .0 ∙ (sized-of (c .before .before .before .before .before .before .before .before .before .before .before .before .before .before .before .before .before .before .before .before .before .before .before .before .before .before .before .before .before .before .before .before .before .before .before .before .before)) .corridors .inv .3 .mark-size ∙ ap (λ (x : List ℕ). length x) ((sized-of (c .before .before .before .before .before .before .before .before .before .before .before .before .before .before .before .before .before .before .before .before .before .before .before .before .before .before .before .before .before .before .before .before .before .before .before .before .before)) .corridors .inv .1) ∙ (round-of (sized-of (c .before .before .before .before .before .before .before .before .before .before .before .before .before .before .before .before .before .before .before .before .before .before .before .before .before .before .before .before .before .before .before .before .before .before .before .before .before))) .rounds .inv .1 ∙ sym ((start-of (round-of (sized-of (c .before .before .before .before .before .before .before .before .before .before .before .before .before .before .before .before .before .before .before .before .before .before .before .before .before .before .before .before .before .before .before .before .before .before .before .before .before)))) .pre .places .mark-size)
 
 same-length-39 :
     tie.Need-same-length-39
@@ -1056,7 +1066,7 @@ same-length-39 :
     μ-components
     Inv-rounds
     μ-rounds
-same-length-39 c = c .before .before .before .before .before .before .before .before .before .before .before .before .before .before .before .before .before .before .before .before .before .before .before .before .before .before .before .before .before .before .before .before .before .before .before .before .before .before .before .before .before .before .before .before .before .before .before .before .before .before .before .before .before .before .before .before .before .before .peak-state .kept .1 .1 .1 .0 ∙ c .before .before .before .before .before .before .before .before .before .before .before .before .before .before .before .before .before .before .before .before .before .before .before .before .before .before .before .before .before .before .before .before .before .before .before .before .before .before .before .before .before .before .before .before .before .before .before .before .before .before .before .before .before .before .before .before .before .before .before .before .before .before .before .before .before .before .before .rounds .inv .0 .places .angle-size ∙ c .before .before .before .before .before .before .before .before .before .before .before .before .before .before .before .before .before .before .before .before .before .before .before .before .before .before .before .before .before .before .before .before .before .before .before .before .before .before .before .before .before .before .before .before .before .before .before .before .before .before .before .before .before .before .before .before .before .before .before .before .before .before .before .before .before .before .before .rounds .inv .1 ∙ sym (c .before .before .before .before .before .before .before .before .before .before .before .before .before .before .before .before .before .before .before .before .before .before .before .before .before .before .before .before .before .before .before .before .before .before .before .before .before .before .before .before .before .before .before .before .before .before .before .before .before .before .before .before .before .before .before .before .before .before .before .before .before .before .before .before .before .before .before .before .before .before .before .before .before .before .before .before .before .before .before .before .before .before .before .before .before .before .before .before .pre .places .angle-size)
+same-length-39 c = (sized-of (c .before .before .before .before .before .before .before .before .before .before .before .before .before .before .before .before .before .before .before .before .before .before .before .before .before .before .before .before .before .before .before .before .before .before .before .before .before)) .before .before .before .before .before .before .before .before .before .before .before .peak-state .kept .1 .1 .1 .0 ∙ (round-of (sized-of (c .before .before .before .before .before .before .before .before .before .before .before .before .before .before .before .before .before .before .before .before .before .before .before .before .before .before .before .before .before .before .before .before .before .before .before .before .before))) .rounds .inv .0 .places .angle-size ∙ (round-of (sized-of (c .before .before .before .before .before .before .before .before .before .before .before .before .before .before .before .before .before .before .before .before .before .before .before .before .before .before .before .before .before .before .before .before .before .before .before .before .before))) .rounds .inv .1 ∙ sym ((start-of (round-of (sized-of (c .before .before .before .before .before .before .before .before .before .before .before .before .before .before .before .before .before .before .before .before .before .before .before .before .before .before .before .before .before .before .before .before .before .before .before .before .before)))) .pre .places .angle-size)
 
 same-length-40 :
     tie.Need-same-length-40
@@ -1066,14 +1076,14 @@ same-length-40 :
     μ-components
     Inv-rounds
     μ-rounds
-same-length-40 c = c .before .before .before .before .before .before .before .before .before .before .before .before .before .before .before .before .before .before .before .before .before .before .before .before .before .before .before .before .before .before .before .before .before .before .before .before .before .before .before .before .before .before .before .before .before .before .before .before .before .before .before .before .before .before .before .before .before .before .peak-state .kept .1 .1 .1 .1 .0 ∙ c .before .before .before .before .before .before .before .before .before .before .before .before .before .before .before .before .before .before .before .before .before .before .before .before .before .before .before .before .before .before .before .before .before .before .before .before .before .before .before .before .before .before .before .before .before .before .before .before .before .before .before .before .before .before .before .before .before .before .before .before .before .before .before .before .before .before .before .rounds .inv .0 .places .flow-size ∙ sym (c .before .before .before .before .before .before .before .before .before .before .before .before .before .before .before .before .before .before .before .before .before .before .before .before .before .before .before .before .before .before .before .before .before .before .before .before .before .before .before .before .before .before .before .before .before .before .before .before .before .before .before .before .before .before .before .before .before .before .before .before .before .before .before .before .before .before .before .before .before .before .before .before .before .before .before .before .before .before .before .before .before .before .before .before .before .before .before .before .pre .places .flow-size)
+same-length-40 c = (sized-of (c .before .before .before .before .before .before .before .before .before .before .before .before .before .before .before .before .before .before .before .before .before .before .before .before .before .before .before .before .before .before .before .before .before .before .before .before .before)) .before .before .before .before .before .before .before .before .before .before .before .peak-state .kept .1 .1 .1 .1 .0 ∙ (round-of (sized-of (c .before .before .before .before .before .before .before .before .before .before .before .before .before .before .before .before .before .before .before .before .before .before .before .before .before .before .before .before .before .before .before .before .before .before .before .before .before))) .rounds .inv .0 .places .flow-size ∙ sym ((start-of (round-of (sized-of (c .before .before .before .before .before .before .before .before .before .before .before .before .before .before .before .before .before .before .before .before .before .before .before .before .before .before .before .before .before .before .before .before .before .before .before .before .before)))) .pre .places .flow-size)
 
 returns-5 :
     tie.Need-returns-5 Inv-corridors μ-corridors Inv-components μ-components Inv-rounds μ-rounds
 returns-5 c =
-    let z = c .before .before .before .before .before .before .before .before .before .before .before .before .before .before .before .before .before .before .before .before .before .before .before .before .before .before .before .before .before .before .before .before .before .before .before .before .before .before .before .before .before .before .before .before .before .before .before .before .before .before .before .before .before .before .before .before .before .before .before .before .before .before .before .before .before .before .before .before .before .before .before .before .before .before .before .before .before .before .before .before .before .before .before .before .before .before .before .before .args in
-    let r = c .before .before .before .before .before .before .before .before .before .before .before .before .before .before .before .before .before .before .before .before .before .before .before .before .before .before .before .before .before .before .before .before .before .before .before .before .before .before .before .before .before .before .before .before .before .before .before .before .before .before .before .before .before .before .before .before .before .before .before .before .before .before .before .before .before .before .before .rounds in
-    let l = c .before .before .before .before .before .before .before .before .before .before .before .before .before .before .before .before .before .before .before .before .before .before .before .before .before .before .before .before .before .before .before .before .before .before .before .before .before .before .before .before .before .before .before .before .before .before .before .corridors in
+    let z = (start-of (round-of (sized-of (c .before .before .before .before .before .before .before .before .before .before .before .before .before .before .before .before .before .before .before .before .before .before .before .before .before .before .before .before .before .before .before .before .before .before .before .before .before)))) .args in
+    let r = (round-of (sized-of (c .before .before .before .before .before .before .before .before .before .before .before .before .before .before .before .before .before .before .before .before .before .before .before .before .before .before .before .before .before .before .before .before .before .before .before .before .before))) .rounds in
+    let l = (sized-of (c .before .before .before .before .before .before .before .before .before .before .before .before .before .before .before .before .before .before .before .before .before .before .before .before .before .before .before .before .before .before .before .before .before .before .before .before .before)) .corridors in
     let k = c .before .before .before .before .before .before .before .before .before .before .before .before .before .before .before .before .before .before .before .before .before .before .before .before .before .before .before .before .before .before .before .before .before .before .before .before .before .components in
     let f = r .inv .0 in
     let lv = k .inv .1 ∙ l .inv .1 in
@@ -1081,7 +1091,7 @@ returns-5 c =
     record {
       ran = λ o target s e. stiffened-settled (z .mode) (z .above) (now (z .ladder)) (now (z .a)) (now (z .b)) (now (z .km)) (now (z .share)) (now (z .sheet)) (now (z .load)) (now (z .bus)) (now (z .pmax)) (now (z .leader)) (now (z .grounds)) (now (z .injection)) (length (now (z .leader)))
           (goesOn (z .mode) (z .above) (now (z .ladder)) (now (z .a)) (now (z .b)) (now (z .km)) (now (z .share)) (now (z .sheet)) (now (z .load)) (now (z .bus)) (now (z .pmax)) (now (z .leader)) (now (z .grounds)) (now (z .injection)) (length (now (z .leader))) (z .budget) (now (z .level)) (now (z .circuits)) (now (z .banks)) (now (z .floors)) (now (z .upsized)) (now (z .angle)) (z .start))
-          (r .left - 1) (k .level) (c .before .before .before .before .before .before .before .before .before .before .before .before .before .before .before .before .before .before .before .before .before .before .before .before .before .before .before .before .before .before .before .before .before .before .before .before .before .before .before .before .before .before .before .before .limits-of .result) (c .before .before .before .before .before .before .before .before .before .before .before .before .before .before .before .before .before .before .before .before .before .before .before .before .before .before .before .before .before .before .before .before .before .before .before .before .before .before .before .before .before .before .before .before .before .before .before .before .before .before .before .before .before .before .before .before .before .before .before .before .before .draw-edges .result .from) (c .before .before .before .before .before .before .before .before .before .before .before .before .before .before .before .before .before .before .before .before .before .before .before .before .before .before .before .before .before .before .before .before .before .before .before .before .before .before .before .before .before .before .before .before .before .before .before .before .before .before .before .before .before .before .before .before .before .before .before .before .before .draw-edges .result .to) (c .before .before .before .before .before .before .before .before .before .before .before .before .before .before .before .before .before .before .before .before .before .before .before .before .before .before .before .before .before .before .before .before .before .before .before .before .before .before .before .before .before .before .before .before .before .before .before .before .before .before .before .before .before .before .before .before .before .before .before .before .before .draw-edges .result .weight) (c .before .before .before .before .before .before .before .before .before .before .before .before .before .before .before .before .before .before .before .before .before .before .before .before .before .before .before .before .before .before .before .before .before .before .before .before .before .before .before .before .before .before .before .before .before .before .before .before .before .before .before .before .before .before .before .before .before .before .peak-state .last .1 .1 .1 .0) (c .before .before .before .before .before .before .before .before .before .before .before .before .before .before .before .before .before .before .before .before .before .before .before .before .before .before .before .before .before .before .before .before .before .before .before .before .before .before .before .before .before .before .before .before .before .before .before .before .before .before .before .before .before .before .before .before .before .before .peak-state .last .1 .1 .1 .1 .0) (k .p) (l .t) (ln ∙ sym (f .places .leader-size)) (k .i + 1) (c .before .before .before .before .before .before .before .before .before .before .before .before .before .before .before .before .before .before .before .before .before .before .before .before .before .before .before .before .stiffen-led .last .1 .1 .1 .1 .1 .1 .1 .1 .1 .1 .1 .1 .1 .1 .0) (c .before .before .before .before .before .before .before .before .before .before .before .before .before .before .before .before .before .before .before .before .before .before .before .before .before .before .before .before .stiffen-led .last .1 .1 .1 .1 .1 .1 .1 .1 .1 .1 .1 .1 .1 .1 .1 .0) (c .before .before .before .before .before .before .before .before .before .before .before .before .before .before .before .before .before .before .before .before .before .before .before .before .before .before .before .before .stiffen-led .last .1 .1 .1 .1 .1 .1 .1 .1 .1 .1 .1 .1 .1 .1 .1 .1 .0) (c .before .before .before .before .before .before .before .before .before .before .before .before .before .before .before .before .before .before .before .before .before .before .before .before .before .before .before .before .stiffen-led .last .1 .1 .1 .1 .1 .1 .1 .1 .1 .1 .1 .1 .1 .1 .1 .1 .1 .0) (c .before .before .before .before .before .before .before .before .before .before .before .before .before .before .before .before .before .before .before .before .before .before .before .before .before .before .before .before .stiffen-led .last .1 .1 .1 .1 .1 .1 .1 .1 .1 .1 .1 .1 .1 .1 .1 .1 .1 .1 .0) (c .before .before .before .before .before .before .before .before .before .before .before .before .before .before .before .before .u .given .0 .0) (next (c .before .before .before .before .before .before .before .before .before .before .before .before .before .before .before)) (omega (arith, c .before .before .before .before .before .before .before .before .before .before .before .before .before .before .if4 .taken)) (omega (arith, ap (λ (q : Progress). q .rounds) (k .inv .2 ∙ l .inv .2))) (ap (λ (q : Progress). q .converged) (k .inv .2 ∙ l .inv .2)) (c .before .before .before .before .before .before .before .before .before .raise-marked2 .last .1 .1 .1 .1 .1 .1 .1 .1 .1 .1 .1 .0) (c .before .before .before .before .before .before .before .before .before .raise-marked2 .last .1 .1 .1 .1 .1 .1 .1 .1 .1 .1 .1 .1 .0) (c .before .before .before .before .before .before .before .before .before .raise-marked2 .result) (c .before .before .before .before .before .before .before .before .before .raise-marked2 .ensures) (c .before .before .if5 .left) o target s (c .before .before .before .before .before .before .before .before .before .before .before .before .before .before .before .before .before .before .before .before .before .before .before .before .before .before .before .before .before .before .before .before .before .before .before .before .before .before .before .before .before .before .before .before .before .before .before .before .before .before .before .before .before .before .before .before .before .before .before .before .before .before .before .before .before .before .before .before .before .before .before .before .before .before .before .before .before .before .before .before .before .before .before .before .before .before .before .before .pre .places .leader-size ∙ e);
+          (r .left - 1) (k .level) ((c .before .before .before .before .before .before .before .before .before .before .before .before .before .before .before .before .before .before .before .before .before .before .before .before .before .before .before .before .before .before .before .before .before .before .before .before .before) .before .before .before .before .before .before .before .limits-of .result) ((sized-of (c .before .before .before .before .before .before .before .before .before .before .before .before .before .before .before .before .before .before .before .before .before .before .before .before .before .before .before .before .before .before .before .before .before .before .before .before .before)) .before .before .before .before .before .before .before .before .before .before .before .before .before .before .draw-edges .result .from) ((sized-of (c .before .before .before .before .before .before .before .before .before .before .before .before .before .before .before .before .before .before .before .before .before .before .before .before .before .before .before .before .before .before .before .before .before .before .before .before .before)) .before .before .before .before .before .before .before .before .before .before .before .before .before .before .draw-edges .result .to) ((sized-of (c .before .before .before .before .before .before .before .before .before .before .before .before .before .before .before .before .before .before .before .before .before .before .before .before .before .before .before .before .before .before .before .before .before .before .before .before .before)) .before .before .before .before .before .before .before .before .before .before .before .before .before .before .draw-edges .result .weight) ((sized-of (c .before .before .before .before .before .before .before .before .before .before .before .before .before .before .before .before .before .before .before .before .before .before .before .before .before .before .before .before .before .before .before .before .before .before .before .before .before)) .before .before .before .before .before .before .before .before .before .before .before .peak-state .last .1 .1 .1 .0) ((sized-of (c .before .before .before .before .before .before .before .before .before .before .before .before .before .before .before .before .before .before .before .before .before .before .before .before .before .before .before .before .before .before .before .before .before .before .before .before .before)) .before .before .before .before .before .before .before .before .before .before .before .peak-state .last .1 .1 .1 .1 .0) (k .p) (l .t) (ln ∙ sym (f .places .leader-size)) (k .i + 1) (c .before .before .before .before .before .before .before .before .before .before .before .before .before .before .before .before .before .before .before .before .before .before .before .before .before .before .before .before .stiffen-led .last .1 .1 .1 .1 .1 .1 .1 .1 .1 .1 .1 .1 .1 .1 .0) (c .before .before .before .before .before .before .before .before .before .before .before .before .before .before .before .before .before .before .before .before .before .before .before .before .before .before .before .before .stiffen-led .last .1 .1 .1 .1 .1 .1 .1 .1 .1 .1 .1 .1 .1 .1 .1 .0) (c .before .before .before .before .before .before .before .before .before .before .before .before .before .before .before .before .before .before .before .before .before .before .before .before .before .before .before .before .stiffen-led .last .1 .1 .1 .1 .1 .1 .1 .1 .1 .1 .1 .1 .1 .1 .1 .1 .0) (c .before .before .before .before .before .before .before .before .before .before .before .before .before .before .before .before .before .before .before .before .before .before .before .before .before .before .before .before .stiffen-led .last .1 .1 .1 .1 .1 .1 .1 .1 .1 .1 .1 .1 .1 .1 .1 .1 .1 .0) (c .before .before .before .before .before .before .before .before .before .before .before .before .before .before .before .before .before .before .before .before .before .before .before .before .before .before .before .before .stiffen-led .last .1 .1 .1 .1 .1 .1 .1 .1 .1 .1 .1 .1 .1 .1 .1 .1 .1 .1 .0) (c .before .before .before .before .before .before .before .before .before .before .before .before .before .before .before .before .u .given .0 .0) (next (c .before .before .before .before .before .before .before .before .before .before .before .before .before .before .before)) (omega (arith, c .before .before .before .before .before .before .before .before .before .before .before .before .before .before .if4 .taken)) (omega (arith, ap (λ (q : Progress). q .rounds) (k .inv .2 ∙ l .inv .2))) (ap (λ (q : Progress). q .converged) (k .inv .2 ∙ l .inv .2)) (c .before .before .before .before .before .before .before .before .before .raise-marked2 .last .1 .1 .1 .1 .1 .1 .1 .1 .1 .1 .1 .0) (c .before .before .before .before .before .before .before .before .before .raise-marked2 .last .1 .1 .1 .1 .1 .1 .1 .1 .1 .1 .1 .1 .0) (c .before .before .before .before .before .before .before .before .before .raise-marked2 .result) (c .before .before .before .before .before .before .before .before .before .raise-marked2 .ensures) (c .before .before .if5 .left) o target s ((start-of (round-of (sized-of (c .before .before .before .before .before .before .before .before .before .before .before .before .before .before .before .before .before .before .before .before .before .before .before .before .before .before .before .before .before .before .before .before .before .before .before .before .before)))) .pre .places .leader-size ∙ e);
       lines = c .before .before .before .before .before .before .before .before .before .raise-marked2 .ensures .lines;
       banked = c .before .before .before .before .before .before .before .before .before .raise-marked2 .ensures .banked;
       few = c .before .before .before .before .before .before .before .before .before .before .before .before .before .before .before .before .before .before .before .before .before .before .before .before .before .before .before .before .stiffen-led .ensures .few (k .inv .5);

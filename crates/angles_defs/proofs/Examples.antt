@@ -1,13 +1,18 @@
--- Worked examples, by computation: the solves of four small networks, whole.
+-- Worked examples, by computation: the solves of four small networks, whole, and what the operation leaves where it refuses.
 -- The figures are halves and whole numbers, so that each operation is exact.
+use Prim.Native.Nat.{ℕ}
 use mathlib.Core.Path.{_≡_, refl}
-use mathlib.Core.List.{[], _∷_}
+use mathlib.Core.List.{List, [], _∷_}
+use lib.ListN.{replicate}
 use lib.Ieee.{Float, add, sub, mul, div, neg, lt, eq, le, ne, ofBits, binary64}
-use Rattle.loops.specs.Figures.{nought, half, one, two}
-use Rattle.loops.specs.Loops.{iter, tab, sumTo}
+use Rattle.loops.specs.Figures.{nought, half, one, two, infinity}
+use Rattle.loops.specs.Loops.{iter, tab, sumTo, first}
+use Rattle.refusal.specs.Number.{numberOf, indexOf}
+use Rattle.refusal.specs.Reply.{refused}
 use Rattle.root.specs.Root.{root}
 use Rattle.angles_defs.specs.Network.{Edges, Network, edgesOf, networkOf, zeros, groundedOf, diagOf, scatter, kept, shares, along, back, less}
 use Rattle.angles_defs.specs.Solve.{Solved, solved, settledShare, step, run, begin, solveFrom, solve}
+use Rattle.angles_defs.specs.Operation.{Request, requestOf, fault, finishIf, Outcome, dcAngles}
 use Rattle.angles_defs.specs.declared.Ended.the-variants.{Settled, NoDescent}
 
 abbrev minusQuarter : Float
@@ -45,3 +50,25 @@ pub examples :
     ∷ []
 unfolding iter tab sumTo root groundedOf diagOf scatter kept shares along back less step run begin solveFrom solve ofBits add sub mul div neg lt eq le ne
 examples = refl
+
+-- ---- refusals, lent a result and a work slice of ones: 10 names the edge and not the ground before it, and touches nothing;
+-- 9 names the lowest bus whose angle is not finite, and leaves zeros
+abbrev ones : ℕ → List Float
+ones n = replicate n one
+
+abbrev refuses : ℕ → ℕ → List Float → List Float → Outcome
+refuses number index result work = record { reply = refused number index; result = result; work = work }
+
+-- the second edge and the first ground name a bus that is not there
+abbrev pub wrongEnds : Request
+wrongEnds = requestOf 2 2 1 (0 ∷ 1 ∷ []) (1 ∷ 2 ∷ []) (one ∷ one ∷ []) (one ∷ one ∷ []) (2 ∷ []) (zeros 2)
+
+-- the norm overflows, so that the guess settles at once; bus 1's is infinite, and bus 0's gives way to the ground
+abbrev pub infiniteGuess : Request
+infiniteGuess = requestOf 2 1 1 (0 ∷ []) (1 ∷ []) (one ∷ []) (nought ∷ ofBits binary64 0x7fe0_0000_0000_0000 ∷ []) (0 ∷ []) (infinity ∷ infinity ∷ [])
+
+pub refusals :
+    dcAngles wrongEnds (ones 2) (ones 16) ∷ dcAngles infiniteGuess (ones 2) (ones 16) ∷ []
+    ≡ refuses 10 1 (ones 2) (ones 16) ∷ refuses 9 1 (zeros 2) (zeros 16) ∷ []
+unfolding dcAngles fault finishIf first numberOf indexOf iter tab sumTo root groundedOf diagOf scatter kept shares along back less step run begin solveFrom solve ofBits add sub mul div neg lt eq le ne
+refusals = refl

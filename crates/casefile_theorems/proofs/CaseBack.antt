@@ -25,14 +25,14 @@ use Rattle.casefile.specs.declared.Kind.{Kind}
 use Rattle.casefile.specs.declared.Kind.the-variants.{Head, Level, Bus, Generator, Corridor, Line}
 use Rattle.casefile.specs.declared.Header.{Header}
 use Rattle.casefile.specs.declared.Reading.the-variants.{Read}
-use Rattle.casefile.proofs.Counts.{small-of}
+use Rattle.casefile.proofs.Counts.{small-of, lines-small}
 use Rattle.casefile.proofs.Spots.{number-there, number-past, figure-there, figure-past, line-there, line-basis, line-field, sheet-there, sheet-past}
 use Rattle.casefile.proofs.Whole.{tables-same, read-whole}
 use Rattle.casefile_theorems.specs.Writer.{headRow, fileOf, wordsOf, countOf, bitsAt, basisAt, rowPlace}
-use Rattle.casefile_theorems.specs.Cases.{Numbers, Figures, Sheet, Case}
-use Rattle.casefile_theorems.proofs.Back.{Whole, reading-back, level-stands, bus-stands, generator-stands, corridor-stands, line-stands}
+use Rattle.casefile_theorems.specs.Cases.{Numbers, Figures, Sheet, Case, longest}
+use Rattle.casefile_theorems.proofs.Back.{Whole, length-file, reading-back, level-stands, bus-stands, generator-stands, corridor-stands, line-stands}
 use Rattle.casefile_theorems.proofs.Bytes.{Fine}
-use Rattle.casefile_theorems.proofs.Written.{Stands}
+use Rattle.casefile_theorems.proofs.Written.{Stands, spot-many}
 
 -- ---- a column from its places
 numbers-back : (k : Kind) (j : ℕ) (s : List ℕ) (at count n : ℕ) {f : Field} (l : List ℕ) → Numbers f n count l
@@ -145,6 +145,22 @@ row-fine h p c Line i l =
 
 whole-of : (h : Header) (p : Places) → Case h p → Whole h (wordsOf p)
 whole-of h p c = record { counts = c .counts; head = head-fine h (c .counts); rows = λ k i l. row-fine h p c k i l }
+
+-- ---- the file of a case is never too long
+pub file-short : (h : Header) (p : Places) → Case h p → length (fileOf h p) ≤ longest
+unfolding fileOf
+file-short h p c =
+    let b = small-of h (c .counts) in
+    omega (
+      arith,
+      lines-small h b,
+      length-file h (wordsOf p) 0 (whole-of h p c),
+      spot-many Level levelsAt (levels h),
+      spot-many Bus (busesAt h) (h .buses),
+      spot-many Generator (generatorsAt h) (h .generators),
+      spot-many Corridor (corridorsAt h) (h .corridors),
+      spot-many Line (linesAt h) (lines h),
+    )
 
 module _ (h : Header) (p : Places) (n : ℕ) (c : Case h p) where
   abbrev pub paddedCase : List ℕ

@@ -1,8 +1,8 @@
--- A case and its file. Reading the file of a case, followed by zeros, gives the case (case-back); every answered file is the file of its answer, followed
--- by zeros, but that the answer's file has one pattern for each NaN (case-forth, plain-forth); no two cases share a file (cases-apart); a refusal but 1 leaves zeros (refused-zero).
+-- A case and its file. Reading the file of a case gives the case (case-back), zeros after it or not (case-padded); every answered file is the file of its
+-- answer, followed by zeros, but that the answer's file has one pattern for each NaN (case-forth, plain-forth); no two cases share a file (cases-apart); a refusal but 1 leaves zeros (refused-zero).
 use Prim.Native.Nat.{ℕ, _<_, _≤_}
 use mathlib.Core.Bool.{true, false}
-use mathlib.Core.List.{List, _++_}
+use mathlib.Core.List.{List, _++_, append-nil}
 use mathlib.Core.Path.{_≡_, refl, sym, ap, _∙_, subst}
 use native.Mathlib.Omega.{arith}
 use lib.Ieee.{binary64, nanBits}
@@ -23,14 +23,20 @@ use Rattle.casefile_theorems.specs.Writer.{countOf, fileWith, fileOf, ti
 use Rattle.casefile_theorems.specs.Cases.{Case, blank}
 use Rattle.casefile_theorems.proofs.Answers.{answer-case, refused-blank}
 use Rattle.casefile_theorems.proofs.Bytes.{Bytes}
-use Rattle.casefile_theorems.proofs.CaseBack.{case-read}
+use Rattle.casefile_theorems.proofs.CaseBack.{case-read, file-short}
 use Rattle.casefile_theorems.proofs.CaseForth.{answer-file, files-alike}
 use Rattle.casefile_theorems.proofs.Forth.{wordsIn, restOf, written}
 
--- ---- reading the file of a case
-pub case-back : (h : Header) (p q : Places) (n : ℕ) → Case h p → sizesOk q ≡ true → length (fileOf h p ++ replicate n 0) ≤ mostBytes
+-- ---- reading the file of a case, and then so many zeros as keep it within a file's length
+pub case-padded : (h : Header) (p q : Places) (n : ℕ) → Case h p → sizesOk q ≡ true → length (fileOf h p ++ replicate n 0) ≤ mostBytes
     → readCase (fileOf h p ++ replicate n 0) q ≡ outcome (Read h) p
-case-back h p q n c z l = case-read h p n c q z l
+case-padded h p q n c z l = case-read h p n c q z l
+
+-- without zeros every case's file is short enough (file-short)
+pub case-back : (h : Header) (p q : Places) → Case h p → sizesOk q ≡ true → readCase (fileOf h p) q ≡ outcome (Read h) p
+case-back h p q c z =
+    subst (λ (s : List ℕ). readCase s q ≡ outcome (Read h) p) (append-nil (fileOf h p))
+    (case-padded h p q 0 c z (rw append-nil (omega (arith, file-short h p c))))
 
 -- ---- the file of an answer
 -- s is the file of some numbers and then zeros; the file of the case has the same numbers, with each NaN's pattern made the one that is written
@@ -102,9 +108,9 @@ pub cases-apart : (h h′ : Header) (p p′ : Places) (n n′ : ℕ) → Case h 
 cases-apart h h′ p p′ n n′ c c′ l e =
     let z = case-sizes h p c in
     read-same
-    (sym (case-back h p p n c z l)
+    (sym (case-padded h p p n c z l)
     ∙ ap (λ (s : List ℕ). readCase s p) e
-    ∙ case-back h′ p′ p n′ c′ z (subst (λ (s : List ℕ). length s ≤ mostBytes) e l))
+    ∙ case-padded h′ p′ p n′ c′ z (subst (λ (s : List ℕ). length s ≤ mostBytes) e l))
 
 -- ---- a refusal of a file, with every table at its size, leaves zeros
 zero-by : (s : List ℕ) (p : Places) (f : Refusal) (r : Reading) → outcome (Refused f) p ≡ outcome r (tablesOf s (held r)) → p ≡ blank

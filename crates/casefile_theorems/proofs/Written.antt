@@ -1,6 +1,6 @@
 -- Records and tables as they are written: each record is read back in its place, and a walk over them passes.
 -- A table is the records before one, that one, and the rest (split).
-use Prim.Native.Nat.{ℕ, zero, suc, _+_, _-_, _<_, _≤_}
+use Prim.Native.Nat.{ℕ, zero, suc, _+_, _-_, _*_, _<_, _≤_}
 use mathlib.Core.Path.{_≡_, sym, ap, _∙_, subst}
 use mathlib.Core.List.{List, [], _++_, append-assoc, append-nil}
 use mathlib.Core.Logic.{⊎-elim}
@@ -106,6 +106,12 @@ module _ (k : Kind) (v : ℕ → ℕ → ℕ) where
         (e ∙ ap (λ (y : List ℕ). p ++ (y ++ rest)) (x .parts) ∙ simp append-assoc)
         (length-table p at i l)
         (g i h)
+
+-- so many records on
+pub spot-many : (k : Kind) (at n : ℕ) → spot k at n ≡ at + n * sizeOf k
+unfolding spot
+spot-many k at zero = omega arith
+spot-many k at (suc n) = omega (arith, spot-many k at n)
 
 -- a walk over records that stand
 walk-on : (k : Kind) (s : List ℕ) (at : ℕ) (d i r : ℕ) → ((m : ℕ) → i ≤ m → m < i + d → (q : ℕ) → recordAt k s q (spot k at m) ≡ At (spot k at m + sizeOf k))

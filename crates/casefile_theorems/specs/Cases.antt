@@ -51,6 +51,11 @@ pub record Case (h : Header) (p : Places) : Type 0 where
   pub share : Figures mostCorridors (h .corridors) (p .share)
   pub sheet : Sheet (lines h) (p .sheet)
 
+-- the longest file of a case, without zeros after it: 15 bytes of header, 5 levels of 10, 256 buses of 11, 128 generators of 37, 256 corridors of 23 and
+-- 1,280 sheet rows of 35
+abbrev pub longest : ℕ
+longest = 58305
+
 -- tables of zeros
 unfoldable pub blank : Places
 blank = placesOf

@@ -40,7 +40,7 @@ unfolding dispatched dispatchedBy settled settledIf checkOf faultyUnit faultyCos
 starred = refl
 
 -- ---- corners: three units of which the first takes the gap; a middle of the prices that overflows, so that the unit stands at its most;
--- no units; 8, the second unit's cost overflows at its upper limit; 5, the second unit's limits; 5, a demand above 1e9
+-- no units; 8, the second unit's cost overflows at its upper limit; 5, the second unit's limits, whatever the demand; 5, a demand above 1e9
 abbrev pub three : Units
 three = unitsOf (f 10 ∷ f 0 ∷ f 5 ∷ []) (f 100 ∷ f 80 ∷ f 60 ∷ []) (f 20 ∷ f 22 ∷ f 30 ∷ []) (decimal 1 4 ∷ decimal 1 2 ∷ decimal 1 8 ∷ [])
 
@@ -55,10 +55,11 @@ crossed = unitsOf (f 0 ∷ f 10 ∷ []) (f 60 ∷ f 5 ∷ []) (f 0 ∷ f 0 ∷ [
 
 pub corners :
     dispatched 3 three (f 120) (f 7 ∷ f 7 ∷ f 7 ∷ []) ∷ dispatched 1 steep (f 950_000) (f 7 ∷ []) ∷ dispatched 0 (unitsOf [] [] [] []) (f 5) []
-    ∷ dispatched 2 unpriced (f 50) (f 7 ∷ f 7 ∷ []) ∷ dispatched 2 crossed (f 50) (f 7 ∷ f 7 ∷ []) ∷ dispatched 1 flat (f 2_000_000_000) (f 7 ∷ [])
+    ∷ dispatched 2 unpriced (f 50) (f 7 ∷ f 7 ∷ []) ∷ dispatched 2 crossed (f 50) (f 7 ∷ f 7 ∷ [])
+    ∷ dispatched 2 crossed (f 2_000_000_000) (f 7 ∷ f 7 ∷ []) ∷ dispatched 1 flat (f 2_000_000_000) (f 7 ∷ [])
     ∷ []
     ≡ gives (bits 0x4047_2492_4924_5c00 ∷ bits 0x4035_2492_4924_a800 ∷ bits 0x404a_4924_9249_5000 ∷ []) ∷ gives (f 1_000_000 ∷ []) ∷ gives []
-    ∷ refuses 8 1 (f 7 ∷ f 7 ∷ []) ∷ refuses 5 1 (f 7 ∷ f 7 ∷ []) ∷ refuses 5 0 (f 7 ∷ [])
+    ∷ refuses 8 1 (f 7 ∷ f 7 ∷ []) ∷ refuses 5 1 (f 7 ∷ f 7 ∷ []) ∷ refuses 5 1 (f 7 ∷ f 7 ∷ []) ∷ refuses 5 0 (f 7 ∷ [])
     ∷ []
 unfolding dispatched dispatchedBy settled settledIf checkOf faultyUnit faultyCost faultyCostAt infiniteCost economicDispatch dispatchAt standing shared closed firstFree outputs priceOf bisected halved opening totalAt outputAt first tab sumTo leastTo greatestTo numberOf indexOf neg add sub mul div lt eq le ofBits round
 corners = refl

@@ -1,11 +1,13 @@
--- Worked examples of the corners that document 01 names ("Ports that come out wrong") and of the order in which stiffening takes corridors.
+-- Worked examples of the corners that document 01 names ("Ports that come out wrong"), of the order in which stiffening takes corridors, of whole cases and of
+-- the listing's places.
 -- By evaluation.
 use Prim.Native.Nat.{ℕ}
+use mathlib.Core.Bool.{true}
 use mathlib.Core.List.{List, [], _∷_, map}
 use mathlib.Core.Path.{_≡_, refl}
 use lib.ListN.{replicate}
 use lib.Ieee.{Float, binary64, ofBits}
-use Rattle.loops.specs.Figures.{nought, one, hundred, decimal}
+use Rattle.loops.specs.Figures.{nought, half, one, hundred, decimal}
 use Rattle.mode.specs.declared.PlanMode.the-variants.{Expand, Reinforce}
 use Rattle.plan_defs.specs.Lists.{each}
 use Rattle.plan_defs.specs.Case.{Case, caseOf, rowOf}
@@ -13,8 +15,9 @@ use Rattle.plan_defs.specs.Design.{lineOf, setTransformerMva, keptBank}
 use Rattle.plan_defs.specs.Raise.{noMarks, markEnds, raisedLevels, movedBuses}
 use Rattle.plan_defs.specs.Build.{built}
 use Rattle.plan_defs.specs.Stiffen.{Budget, hvBudget, stiffenOne, stiffenFrom, Gain, insert, batch}
+use Rattle.plan_defs.specs.Plan.{Plan, planned}
 use Rattle.plan_defs.specs.Outcome.{Slices, Outcome, slices, planCorridors}
-use Rattle.plan_defs.specs.Listing.{bitsOf, listingOf}
+use Rattle.plan_defs.specs.Listing.{bitsOf, lines, listingOf}
 use Rattle.plan_defs.specs.declared.CircuitDesign.{CircuitDesign}
 
 abbrev whole : ℕ → Float
@@ -76,11 +79,27 @@ pub batches : picked 4 9 ∷ picked 4 11 ∷ picked 2 99 ∷ picked 4 99 ∷ [] 
 unfolding listingOf
 batches = refl
 
--- A whole case in Reinforce: the first round makes a bank larger, the second makes it larger once more, the third finds it enough. So a plan that copies the
--- initial circuits and banks, one that only counts after the first round, and one that counts a round too many each list something else.
+-- ---- whole cases
 abbrev figures : List ℕ → List Float
 figures bits = map (ofBits binary64) bits
 
+-- Expand: a round adds two circuits, the next finds them enough, and filling adds one to the target. So a plan that copies the circuits with which the case
+-- began lists something else.
+-- HD 0 4 2 1 1 0 1; LV 138; BU 0 0, 0 200; GE 0 1 0 300 20 0.25; CO 0 1 1 10 1; LN 0 0.0625 0 100 0
+abbrev expanded : Case
+expanded =
+    caseOf Expand 2 1 1 0 1 (whole 138 ∷ []) (0 ∷ 0 ∷ []) (nought ∷ whole 200 ∷ []) (0 ∷ []) (1 ∷ []) (nought ∷ []) (whole 300 ∷ []) (whole 20 ∷ []) (decimal 1 4 ∷ [])
+    (0 ∷ []) (1 ∷ []) (1 ∷ []) (whole 10 ∷ []) (one ∷ []) (nought ∷ decimal 1 16 ∷ nought ∷ hundred ∷ nought ∷ [])
+
+pub circuits-added :
+    listingOf expanded 4
+    ≡ (0 ∷ 2 ∷ 1 ∷ 2 ∷ 0 ∷ 1 ∷ 0 ∷ 0 ∷ 0 ∷ 0 ∷ []) ∷ [] ∷ (0 ∷ []) ∷ (0 ∷ 0 ∷ []) ∷ (0 ∷ 0xBFA0_0000_0000_0000 ∷ []) ∷ (0x4069_0000_0000_0000 ∷ []) ∷ (4 ∷ [])
+    ∷ (0x4069_0000_0000_0000 ∷ []) ∷ (0x4059_0000_0000_0000 ∷ []) ∷ (0x3FE0_0000_0000_0000 ∷ 0x3FA0_0000_0000_0000 ∷ []) ∷ []
+unfolding listingOf
+circuits-added = refl
+
+-- Reinforce: the first round makes a bank larger, the second makes it larger once more, the third finds it enough. So a plan that only counts after the first
+-- round, and one that counts a round too many, each list something else.
 -- HD 1 0 3 2 1 0 2; LV 345, 138; BU 0 0, 1 0, 1 4212.304191654775; GE 0 0 0 1000000 20 0.01; CO 0 1 7 10 0.5814084460531092, 1 2 1 10 1; LN 0 0.0004378194579937841 0 20000 0, four times
 abbrev reinforced : Case
 reinforced =
@@ -113,3 +132,38 @@ leftBy o = map bitsOf (o .lent .figures) ∷ o .lent .counts ∷ o .lent .circui
 pub work-zeroed : leftBy (planCorridors reinforced 0 lentWithOnes) ≡ replicate 72 0 ∷ replicate 72 0 ∷ (7 ∷ 1 ∷ []) ∷ (0 ∷ 1 ∷ 1 ∷ []) ∷ (2 ∷ 0 ∷ 0 ∷ []) ∷ []
 unfolding listingOf
 work-zeroed = refl
+
+-- ---- what is listed of a plan whose tallies all differ, with a level added: each stands in its own place
+abbrev pub sample : Plan
+sample =
+    record {
+      rounds = 2;
+      converged = true;
+      capacity = 3;
+      stiffening = 4;
+      filler = 5;
+      promoted = 6;
+      upsized = 7;
+      overloaded = 8;
+      capped = 9;
+      loading = half;
+      spread = decimal 1 4;
+      added = whole 345 ∷ [];
+      grounds = 1 ∷ [];
+      tier = 0 ∷ 1 ∷ [];
+      angle = decimal 1 4 ∷ nought ∷ [];
+      mw = whole 300 ∷ [];
+      before = 2 ∷ [];
+      circuits = 4 ∷ [];
+      flow = whole 200 ∷ [];
+      designs = line ∷ [];
+      order = 0 ∷ [];
+    }
+
+pub sample-listed :
+    lines Expand (planned sample)
+    ≡ (0 ∷ 2 ∷ 1 ∷ 3 ∷ 4 ∷ 5 ∷ 6 ∷ 7 ∷ 8 ∷ 9 ∷ []) ∷ (0x4075_9000_0000_0000 ∷ []) ∷ (1 ∷ []) ∷ (0 ∷ 1 ∷ []) ∷ (0x3FD0_0000_0000_0000 ∷ 0 ∷ [])
+    ∷ (0x4072_C000_0000_0000 ∷ []) ∷ (4 ∷ []) ∷ (0x4069_0000_0000_0000 ∷ []) ∷ (0x4072_C000_0000_0000 ∷ []) ∷ (0x3FE0_0000_0000_0000 ∷ 0x3FD0_0000_0000_0000 ∷ [])
+    ∷ []
+unfolding listingOf
+sample-listed = refl

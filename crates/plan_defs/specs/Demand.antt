@@ -60,9 +60,11 @@ pub record Demand3 (c : Case) (target : ℕ) (p : Plan) : Type 0 where
       → circuitsAt p k < maxCircuitsPerCorridor → fillerAt p j ≤ fillerAt p k + 1
 
 -- What the tallies are, besides: the counts before filling exceed the lower bounds by capacity and stiffening, the plan's by filler as well,
--- and PL's filler is the sum of the corridors' fillers.
+-- and PL's filler is the sum of the corridors' fillers. No count is lower than the one before it, so that no difference is cut at 0.
 pub record Tallies (c : Case) (p : Plan) : Type 0 where
   pub places : length (p .circuits) ≡ c .corridors
+  pub sized-up : (k : ℕ) → k < c .corridors → lowerBound c k ≤ getD (p .before) k 0
+  pub filled-up : (k : ℕ) → getD (p .before) k 0 ≤ circuitsAt p k
   pub rounds : p .capacity + p .stiffening ≡ sum (tab (c .corridors) (λ k. getD (p .before) k 0 - lowerBound c k))
   pub filler : p .filler ≡ sum (tab (c .corridors) (fillerAt p))
 

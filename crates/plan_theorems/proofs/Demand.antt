@@ -189,7 +189,7 @@ module _ (c : Case) (target : ℕ) (ok : Accepted c target) (r : Ready) (d : Don
       }
 
   tallies-of : (v : PlanningCase) → Tallies c (planOf c r filled v)
-  tallies-of v = record { places = size; rounds = round-additions; filler = fillers }
+  tallies-of v = record { places = size; sized-up = built .low; filled-up = grown .low; rounds = round-additions; filler = fillers }
 
 -- ---- along the plan: a refusal owes nothing
 module _ (c : Case) (target : ℕ) (ok : Accepted c target) where

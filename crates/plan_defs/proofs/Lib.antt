@@ -6,6 +6,7 @@ pub mod Drawn
 pub mod Solved
 pub mod Rising
 pub mod Counts
+pub mod Turns
 pub mod Rounds
 pub mod Opened
 pub mod Examples

@@ -60,9 +60,12 @@ firstRaised c = record { level = firstLevels c; designs = designCircuits c (firs
 abbrev pub firstBuild : Case → List CircuitDesign → Build
 firstBuild c ds = built (lowerBounds c) ds (zeros (c .corridors)) (replicate (c .corridors) 0)
 
+-- whether no round is to run
+abbrev pub noRounds : Case → Bool
+noRounds c = not (expand (c .mode)) || eqb (c .corridors) 0
+
 abbrev pub firstDraft : Case → Raised → Draft
-firstDraft c s =
-    draft (s .level) (firstBuild c (s .designs)) (zeros (c .buses)) 0 (s .promoted) 0 0 (not (expand (c .mode)) || eqb (c .corridors) 0)
+firstDraft c s = draft (s .level) (firstBuild c (s .designs)) (zeros (c .buses)) 0 (s .promoted) 0 0 (noRounds c) (noRounds c)
 
 -- what every stage after dispatch reads, and the draft
 pub record Opened : Type 0 where

@@ -25,9 +25,11 @@ pub record Draft : Type 0 where
   pub capacity : ℕ
   pub stiffening : ℕ
   pub converged : Bool
+  -- whether the last round led to no other, or none was to run
+  pub settled : Bool
 
-abbrev pub draft : List ℕ → Build → List Float → ℕ → ℕ → ℕ → ℕ → Bool → Draft
-draft level build warm rounds promoted capacity stiffening converged =
+abbrev pub draft : List ℕ → Build → List Float → ℕ → ℕ → ℕ → ℕ → Bool → Bool → Draft
+draft level build warm rounds promoted capacity stiffening converged settled =
     record {
       level = level;
       build = build;
@@ -37,6 +39,7 @@ draft level build warm rounds promoted capacity stiffening converged =
       capacity = capacity;
       stiffening = stiffening;
       converged = converged;
+      settled = settled;
     }
 
 -- what a round leaves, and what it leads to
@@ -44,13 +47,18 @@ pub record Turn : Type 0 where
   pub draft : Draft
   pub end : RoundEnd
 
-abbrev pub turn : RoundEnd → Draft → Turn
-turn end s = record { draft = s; end = end }
+abbrev pub settles : RoundEnd → Bool
+settles Again = false
+settles Settled = true
+
+-- the draft keeps what the round leads to
+abbrev pub turn : RoundEnd → (Bool → Draft) → Turn
+turn end s = record { draft = s (settles end); end = end }
 
 -- after a round that began with s and was solved with v
-abbrev pub after : Draft → PlanningCase → List ℕ → Build → ℕ → ℕ → ℕ → Bool → Draft
-after s v level b promoted capacity stiffening converged =
-    draft level b (v .theta) (suc (s .rounds)) promoted capacity stiffening converged
+abbrev pub after : Draft → PlanningCase → List ℕ → Build → ℕ → ℕ → ℕ → Bool → Bool → Draft
+after s v level b promoted capacity stiffening converged settled =
+    draft level b (v .theta) (suc (s .rounds)) promoted capacity stiffening converged settled
 
 module _ (c : Case) (P : Peak) (led : List ℕ) where
   -- ---- after the components of a stiffening: a raise, then anything else that was done, leads to another round

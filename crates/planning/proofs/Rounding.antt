@@ -113,7 +113,7 @@ module _ (mode : PlanMode) (above : ℕ) (ladder : List Float) (a b : List ℕ) 
   -- ---- after the components: of the round's state only its level, tallies and angles are read
   abbrev closes : List ℕ → List Float → Progress → Tally → Case → Stiffening → Stage Turn
   closes level theta p t o u =
-      stiffenedTo (C o) (P o) leader (draft level (built [] [] [] []) [] (p .rounds - 1) (p .promoted) (p .capacity) (p .stiffening) false)
+      stiffenedTo (C o) (P o) leader (draft level (built [] [] [] []) [] (p .rounds - 1) (p .promoted) (p .capacity) (p .stiffening) false false)
       (record { edges = edgesOf [] [] []; theta = theta; flows = [] }) (sizing (built [] [] [] []) [] (t .capacity) (t .added) (t .capped)) u
 
   abbrev component : List ℕ → ℕ → Limits → List ℕ → List ℕ → List Float → List Float → List Float → Case → ℕ → Stiffening → Stage Stiffening
@@ -167,7 +167,7 @@ module _ (mode : PlanMode) (above : ℕ) (ladder : List Float) (a b : List ℕ) 
 
     -- the tallies while the round runs
     abbrev pub running : Progress
-    running = record { rounds = p .rounds + 1; promoted = p .promoted; capacity = p .capacity; stiffening = p .stiffening; converged = false }
+    running = record { rounds = p .rounds + 1; promoted = p .promoted; capacity = p .capacity; stiffening = p .stiffening; converged = false; settled = false }
 
     abbrev S : Case → Draft
     S o = draftOf (C o) level circuits banks floors upsized angle p
@@ -217,16 +217,16 @@ module _ (mode : PlanMode) (above : ℕ) (ladder : List Float) (a b : List ℕ) 
 
       module _ (p′ : Progress) (runs : p′ ≡ running) (level″ : List ℕ) (banks″ : List Float) (moved : ℕ) (redrawn : Redrawn ladder level a b km share sheet load bus pmax marks′ floors′ banks′ level″ banks″ moved) where
         abbrev grown : Progress
-        grown = record { rounds = p .rounds + 1; promoted = p .promoted + moved; capacity = t .capacity; stiffening = p .stiffening; converged = false }
+        grown = record { rounds = p .rounds + 1; promoted = p .promoted + moved; capacity = t .capacity; stiffening = p .stiffening; converged = false; settled = false }
 
         -- a raise, then an addition, leads to another round
         pub sized-again : (ltb 0 moved || t .added) ≡ true
             → Alike (goesOn d level″ circuits′ banks″ floors′ upsized′ theta
-            (record { rounds = p′ .rounds; promoted = p′ .promoted + moved; capacity = t .capacity; stiffening = p′ .stiffening; converged = p′ .converged })) W
+            (record { rounds = p′ .rounds; promoted = p′ .promoted + moved; capacity = t .capacity; stiffening = p′ .stiffening; converged = p′ .converged; settled = p′ .settled })) W
         sized-again h o target s e =
             ap (λ (x : Progress).
             goesOn d level″ circuits′ banks″ floors′ upsized′ theta
-            (record { rounds = x .rounds; promoted = x .promoted + moved; capacity = t .capacity; stiffening = x .stiffening; converged = x .converged }) o) runs
+            (record { rounds = x .rounds; promoted = x .promoted + moved; capacity = t .capacity; stiffening = x .stiffening; converged = x .converged; settled = x .settled }) o) runs
             ∙ go moved refl h
             ∙ sized-on o target s e
           where
@@ -250,15 +250,15 @@ module _ (mode : PlanMode) (above : ℕ) (ladder : List Float) (a b : List ℕ) 
           pub sized-settled : promote mode ≡ false
               → Alike (λ o.
               going (draftOf (C o) level″ circuits′ banks″ floors′ upsized′ theta
-              (record { rounds = p′ .rounds; promoted = p′ .promoted; capacity = t .capacity; stiffening = p′ .stiffening; converged = not (t .capped) }))) W
+              (record { rounds = p′ .rounds; promoted = p′ .promoted; capacity = t .capacity; stiffening = p′ .stiffening; converged = not (t .capped); settled = true }))) W
           sized-settled m o target s e =
               let x : level″ ≡ level = redrawn .still (nothing-done moved (t .added) h .0) .0 in
               let y = still-build level marks′ circuits′ banks′ floors′ upsized′ level″ banks″ moved redrawn o (nothing-done moved (t .added) h .0) in
-              let z : going (draftOf (C o) level″ circuits′ banks″ floors′ upsized′ theta (record { rounds = p .rounds + 1; promoted = p .promoted; capacity = t .capacity; stiffening = p .stiffening; converged = not (t .capped) }))
+              let z : going (draftOf (C o) level″ circuits′ banks″ floors′ upsized′ theta (record { rounds = p .rounds + 1; promoted = p .promoted; capacity = t .capacity; stiffening = p .stiffening; converged = not (t .capped); settled = true }))
               ≡ then d o (sizedTo (C o) (P o) leader (S o) (Solved o) (Z o)) = rw (y, x, add-one (p .rounds), still, nothing-done moved (t .added) h .1, m) in
               ap (λ (x : Progress).
               going (draftOf (C o) level″ circuits′ banks″ floors′ upsized′ theta
-              (record { rounds = x .rounds; promoted = x .promoted; capacity = t .capacity; stiffening = x .stiffening; converged = not (t .capped) }))) runs
+              (record { rounds = x .rounds; promoted = x .promoted; capacity = t .capacity; stiffening = x .stiffening; converged = not (t .capped); settled = true }))) runs
               ∙ z
               ∙ sized-on o target s e
 
@@ -296,7 +296,7 @@ module _ (mode : PlanMode) (above : ℕ) (ladder : List Float) (a b : List ℕ) 
             back = omega arith
 
             go : (i : ℕ)
-                → going (stiffenedBy (C o) (P o) leader i (draft level (built [] [] [] []) [] (p .rounds + 1 - 1) (p .promoted) (p .capacity) (p .stiffening) false)
+                → going (stiffenedBy (C o) (P o) leader i (draft level (built [] [] [] []) [] (p .rounds + 1 - 1) (p .promoted) (p .capacity) (p .stiffening) false false)
                 (record { edges = edgesOf [] [] []; theta = theta; flows = [] }) (sizing (built [] [] [] []) [] (t .capacity) (t .added) (t .capped)) v)
                 ≡ going (stiffenedBy (C o) (P o) leader i (S o) (Solved o) (Z o) v)
             go zero = rw back
@@ -352,7 +352,7 @@ module _ (mode : PlanMode) (above : ℕ) (ladder : List Float) (a b : List ℕ) 
           (sym q) ∙ stepped o target sound e
 
     -- ---- after the last of them: a raise, then anything else that was done, leads to another round
-    module _ (all : length leader ≤ i) (some : 1 ≤ p .rounds) (unsettled : p .converged ≡ false) (level″ : List ℕ) (banks″ : List Float) (moved : ℕ)
+    module _ (all : length leader ≤ i) (some : 1 ≤ p .rounds) (unsettled : p .converged ≡ false) (going-on : p .settled ≡ false) (level″ : List ℕ) (banks″ : List Float) (moved : ℕ)
         (redrawn : Redrawn ladder level a b km share sheet load bus pmax marks floors banks level″ banks″ moved) where
       forth : suc (p .rounds - 1) ≡ p .rounds
       forth = omega arith
@@ -365,29 +365,29 @@ module _ (mode : PlanMode) (above : ℕ) (ladder : List Float) (a b : List ℕ) 
           ∙ whole o target sound e
 
       pub stiffened-again : (ltb 0 moved || s .stiffened) ≡ true
-          → Alike (goesOn d level″ circuits banks″ floors upsized theta (record { rounds = p .rounds; promoted = p .promoted + moved; capacity = t .capacity; stiffening = s .stiffening; converged = p .converged })) W
+          → Alike (goesOn d level″ circuits banks″ floors upsized theta (record { rounds = p .rounds; promoted = p .promoted + moved; capacity = t .capacity; stiffening = s .stiffening; converged = p .converged; settled = p .settled })) W
       stiffened-again h o target sound e = go moved refl h ∙ closed o target sound e
         where
           go : (m : ℕ) → moved ≡ m → (ltb 0 m || s .stiffened) ≡ true
-              → goesOn d level″ circuits banks″ floors upsized theta (record { rounds = p .rounds; promoted = p .promoted + moved; capacity = t .capacity; stiffening = s .stiffening; converged = p .converged }) o
+              → goesOn d level″ circuits banks″ floors upsized theta (record { rounds = p .rounds; promoted = p .promoted + moved; capacity = t .capacity; stiffening = s .stiffening; converged = p .converged; settled = p .settled }) o
               ≡ then d o (closes level theta p t o (stiffOf (C o) level circuits banks floors upsized marks s))
           go zero u v =
               let w : movedBuses level marks ≡ 0 = sym (redrawn .count) ∙ u in
               let x : level″ ≡ level = redrawn .still u .0 in
               let y = still-build level marks circuits banks floors upsized level″ banks″ moved redrawn o u in
-              rw (y, x, u, add-zero (p .promoted), w, v, forth, unsettled)
+              rw (y, x, u, add-zero (p .promoted), w, v, forth, unsettled, going-on)
           go (suc m) u v =
               let w : movedBuses level marks ≡ suc m = sym (redrawn .count) ∙ u in
               let x : level″ ≡ raisedLevels level marks = redrawn .anew m u .0 in
               let y = anew-build level marks circuits banks floors upsized level″ banks″ moved redrawn o target m sound u in
-              rw (y, x, u, w, forth, unsettled)
+              rw (y, x, u, w, forth, unsettled, going-on)
 
       pub stiffened-settled : (ltb 0 moved || s .stiffened) ≡ false
-          → Alike (λ o. going (draftOf (C o) level″ circuits banks″ floors upsized theta (record { rounds = p .rounds; promoted = p .promoted + moved; capacity = t .capacity; stiffening = s .stiffening; converged = not (s .wide) && not (t .capped) }))) W
+          → Alike (λ o. going (draftOf (C o) level″ circuits banks″ floors upsized theta (record { rounds = p .rounds; promoted = p .promoted + moved; capacity = t .capacity; stiffening = s .stiffening; converged = not (s .wide) && not (t .capped); settled = true }))) W
       stiffened-settled h o target sound e = go moved refl h ∙ closed o target sound e
         where
           go : (m : ℕ) → moved ≡ m → (ltb 0 m || s .stiffened) ≡ false
-              → going (draftOf (C o) level″ circuits banks″ floors upsized theta (record { rounds = p .rounds; promoted = p .promoted + moved; capacity = t .capacity; stiffening = s .stiffening; converged = not (s .wide) && not (t .capped) }))
+              → going (draftOf (C o) level″ circuits banks″ floors upsized theta (record { rounds = p .rounds; promoted = p .promoted + moved; capacity = t .capacity; stiffening = s .stiffening; converged = not (s .wide) && not (t .capped); settled = true }))
               ≡ then d o (closes level theta p t o (stiffOf (C o) level circuits banks floors upsized marks s))
           go zero u v =
               let w : movedBuses level marks ≡ 0 = sym (redrawn .count) ∙ u in

@@ -75,7 +75,7 @@ abbrev pub roundsFor : PlanMode → ℕ → ℕ
 roundsFor mode m = cond (expand mode && not (eqb m 0)) planningMaxRounds 0
 
 abbrev pub startOf : PlanMode → ℕ → ℕ → Progress
-startOf mode m promoted = record { rounds = 0; promoted = promoted; capacity = 0; stiffening = 0; converged = not (expand mode) || eqb m 0 }
+startOf mode m promoted = record { rounds = 0; promoted = promoted; capacity = 0; stiffening = 0; converged = not (expand mode) || eqb m 0; settled = not (expand mode) || eqb m 0 }
 
 pub record Runnable (above promoted : ℕ) (ladder : List Float) (level a b : List ℕ) (km share sheet load : List Float) (bus : List ℕ) (pmax : List Float) (leader grounds : List ℕ)
     (injection : List Float) (circuits : List ℕ) (banks floors : List Float) (upsized marks : List ℕ) (angle flow : List Float) : Type 0 where

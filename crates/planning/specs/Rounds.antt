@@ -28,7 +28,7 @@ roundsCase o mode above ladder a b km share sheet load bus pmax = withLines (wit
 -- ---- the draft that the slices stand for
 abbrev pub draftOf : Case → List ℕ → List ℕ → List Float → List Float → List ℕ → List Float → Progress → Draft
 draftOf c level circuits banks floors upsized angle p =
-    draft level (buildOf c level circuits banks floors upsized) angle (p .rounds) (p .promoted) (p .capacity) (p .stiffening) (p .converged)
+    draft level (buildOf c level circuits banks floors upsized) angle (p .rounds) (p .promoted) (p .capacity) (p .stiffening) (p .converged) (p .settled)
 
 abbrev pub ranAs : Rounds → Case → List ℕ → List ℕ → List Float → List Float → List ℕ → List Float → Stage Draft
 ranAs (Refused f) c level circuits banks floors upsized angle = stopped f

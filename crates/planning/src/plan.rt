@@ -86,12 +86,14 @@ fn rounds_to_run(mode: PlanMode, m: usize) -> u32
 fn first_progress(mode: PlanMode, m: usize, promoted: u32) -> Progress
     ensures { λ r. ⌜ r ≡ startOf mode m promoted ⌝ }
 {
+    let none = !expands(mode) | (m == 0);
     Progress {
         rounds: 0,
         promoted,
         capacity: 0,
         stiffening: 0,
-        converged: !expands(mode) | (m == 0),
+        converged: none,
+        settled: none,
     }
 }
 

@@ -32,6 +32,8 @@ pub struct Progress {
     pub capacity: u32,
     pub stiffening: u32,
     pub converged: bool,
+    // Whether the last round led to no other, or none was to run.
+    pub settled: bool,
 }
 
 // How they ended.
@@ -119,6 +121,7 @@ pub fn size_rounds(
         left -= 1;
         p.rounds += 1;
         p.converged = false;
+        p.settled = false;
         let e = draw_edges(ladder, level, a, b, km, share, sheet, circuits, banks);
         match peak_state(e, injection, grounds, angle, flow) {
             Answer::Refused(f) => return Rounds::Refused(f),
@@ -176,6 +179,7 @@ pub fn size_rounds(
                 if !promotes(mode) {
                     p.capacity = t.capacity;
                     p.converged = !t.capped;
+                    p.settled = true;
                     break 'rounds;
                 }
             }
@@ -234,6 +238,7 @@ pub fn size_rounds(
                     continue 'rounds;
                 }
                 p.converged = !s.wide & !t.capped;
+                p.settled = true;
                 break 'rounds;
             }
         }

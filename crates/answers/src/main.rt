@@ -26,7 +26,7 @@ const LINE_FEED: u8 = b'\n';
 // Every request is shorter: the longest, ANG with 400 of everything, has 32,443 bytes.
 const MOST_LINE: usize = 300_000;
 
-// Every answer is shorter: the longest, of ANG with 256 buses, has 4,395 bytes.
+// Every answer is shorter: PLACE with a condenser at each of 256 buses would have 5,272 bytes.
 const MOST_ANSWER: usize = 16_384;
 
 // Whether the line begins with a word.

@@ -1,6 +1,5 @@
--- What an operation's outcome says of the number that stands for its reply, and of the slices.
+-- What an operation's outcome says of the struct that stands for its reply, and of the slices.
 -- Each part is a field of the outcome.
-use Prim.Native.Nat.{ℕ}
 use mathlib.Core.List.{List}
 use mathlib.Core.Path.{_≡_, ap, _∙_}
 use lib.Ieee.{Float}
@@ -8,12 +7,14 @@ use Rattle.angles_defs.specs.Operation as angles
 use Rattle.angles_defs.specs.declared.Angles.{Angles}
 use Rattle.casefile.specs.Tables as tables
 use Rattle.casefile.specs.declared.Reading.{Reading}
-use Rattle.exports.specs.Said.{stepsSaid, refusalSaid}
+use Rattle.exports.specs.Said.{anglesSaid, readingSaid}
+use Rattle.exports.specs.declared.AnglesSaid.{AnglesSaid}
+use Rattle.exports.specs.declared.ReadingSaid.{ReadingSaid}
 
-pub angles-told : (a : Angles) (n : ℕ) (x w : List Float) (o : angles.Outcome) → angles.outcome a x w ≡ o → n ≡ stepsSaid (angles.replyOf a)
-    → (n ≡ stepsSaid (o .reply)) × ((x ≡ o .result) × (w ≡ o .work))
-angles-told a n x w o e q = (q ∙ ap (λ (p : angles.Outcome). stepsSaid (p .reply)) e, (ap (λ (p : angles.Outcome). p .result) e, ap (λ (p : angles.Outcome). p .work) e))
+pub angles-told : (a : Angles) (s : AnglesSaid) (x w : List Float) (o : angles.Outcome) → angles.outcome a x w ≡ o → s ≡ anglesSaid (angles.replyOf a)
+    → (s ≡ anglesSaid (o .reply)) × ((x ≡ o .result) × (w ≡ o .work))
+angles-told a s x w o e q = (q ∙ ap (λ (p : angles.Outcome). anglesSaid (p .reply)) e, (ap (λ (p : angles.Outcome). p .result) e, ap (λ (p : angles.Outcome). p .work) e))
 
-pub reading-told : (r : Reading) (n : ℕ) (t : tables.Places) (o : tables.Outcome) → tables.outcome r t ≡ o → n ≡ refusalSaid (tables.replyOf r)
-    → (n ≡ refusalSaid (o .reply)) × (t ≡ o .places)
-reading-told r n t o e q = (q ∙ ap (λ (p : tables.Outcome). refusalSaid (p .reply)) e, ap (λ (p : tables.Outcome). p .places) e)
+pub reading-told : (r : Reading) (s : ReadingSaid) (t : tables.Places) (o : tables.Outcome) → tables.outcome r t ≡ o → s ≡ readingSaid (tables.replyOf r)
+    → (s ≡ readingSaid (o .reply)) × (t ≡ o .places)
+reading-told r s t o e q = (q ∙ ap (λ (p : tables.Outcome). readingSaid (p .reply)) e, ap (λ (p : tables.Outcome). p .places) e)

@@ -1,4 +1,5 @@
 -- Theorems about the defined plan, by subject.
+pub mod Ranking
 pub mod Filling
 pub mod Cursor
 pub mod Dispatched

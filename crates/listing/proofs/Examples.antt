@@ -1,7 +1,7 @@
 -- Document 01's listing of case L, whole, and that of a plan whose tallies all differ: their figures give their texts, byte for byte.
 use Prim.Native.Nat.{ℕ}
 use mathlib.Core.Bool.{true}
-use mathlib.Core.List.{List, [], _∷_}
+use mathlib.Core.List.{[], _∷_}
 use mathlib.Core.Path.{_≡_, refl}
 use lib.Ieee.{Float, binary64, ofBits}
 use Rattle.mode.specs.declared.PlanMode.the-variants.{Expand, Observe}

@@ -1,9 +1,9 @@
 -- One listing: the text that the program puts is that of the figures which crates/plan_cases evaluates (`one-listing`).
 -- A column's bits are those of its figures, place by place.
 use Prim.Native.Nat.{ℕ, zero, suc}
-use mathlib.Core.List.{List, [], _∷_, map, _++_}
+use mathlib.Core.List.{List, [], _∷_, map}
 use mathlib.Core.Path.{_≡_, refl, sym, ap, _∙_}
-use lib.Ieee.{Float, nan}
+use lib.Ieee.{Float}
 use lib.ListN.{length, getD, length-map}
 use Rattle.loops.specs.Figures.{at}
 use Rattle.mode.specs.declared.PlanMode.{PlanMode}

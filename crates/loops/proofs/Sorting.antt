@@ -1,12 +1,12 @@
 -- Sorting by insertion gives a list that is in order and names each index as often as it was put in, and there is no other such list.
 -- `ahead` is an order of the indices: no two are ahead of each other, and of two different ones one is. A later index is put in by a test that agrees with it.
-use Prim.Native.Nat.{ℕ, zero, suc, _+_, _≤_, _<_}
+use Prim.Native.Nat.{ℕ, suc, _+_, _≤_, _<_}
 use mathlib.Core.Bool.{Bool, true, false, not, cond, _&&_, _||_}
 use mathlib.Core.List.{List, [], _∷_}
 use mathlib.Core.Path.{_≡_, refl, sym, ap, _∙_}
 use native.Mathlib.Omega.{arith}
 use native.Mathlib.Decide.{ℕ-discrete}
-use borrow.Author.Tests.{ltb-true, ltb-false, lt-ltb, eqb-true, eqb-false, eq-eqb}
+use borrow.Author.Tests.{ltb-true, ltb-false, lt-ltb, eqb-true, eq-eqb}
 use lib.Arith.{lt-of-le-ne}
 use lib.Dec.{T, ltb, eqb}
 use lib.Ieee.{Float, lt, le, eq}

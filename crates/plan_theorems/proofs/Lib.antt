@@ -4,6 +4,7 @@ pub mod Filling
 pub mod Cursor
 pub mod Dispatched
 pub mod Ladder
+pub mod Loadings
 pub mod Demand
 pub mod Tally
 pub mod Larger

@@ -7,7 +7,7 @@ use mathlib.Core.List.{List, [], _∷_, map}
 use mathlib.Core.Path.{_≡_, refl, sym, ap, _∙_, subst}
 use native.Mathlib.Omega.{arith}
 use native.Mathlib.Decide.{ℕ-discrete}
-use borrow.Author.Tests.{ltb-true, ltb-false, lt-ltb, le-ltb}
+use borrow.Author.Tests.{ltb-true, ltb-false, le-ltb}
 use lib.Arith.{lt-of-le-ne}
 use lib.Dec.{T, ltb}
 use lib.Ieee.{Float, lt, eq}
@@ -20,7 +20,7 @@ use Rattle.loops.proofs.Sorting.{same-yes, same-no, all-occ, Strict, Ascending,
 use Rattle.plan_defs.specs.Lists.{keep, passFrom, passing}
 use Rattle.plan_defs.specs.Design.{design}
 use Rattle.plan_defs.specs.Fill.{Rank, loadingAt, rankAt, before, placedRank, insertRank, rankNext, corridorsIn, orderOf}
-use Rattle.plan_defs.specs.Stiffen.{Gain, gainOf, placed, insert, insertIf, insertGain, gains}
+use Rattle.plan_defs.specs.Stiffen.{Gain, gainOf, placed, insert, insertIf, gains}
 use Rattle.plan_defs.specs.declared.CircuitDesign.{CircuitDesign}
 
 -- ---- the indices below m that pass a test, each once

@@ -1,12 +1,13 @@
--- Document 01's listing of case L, whole: its figures give its text, byte for byte.
+-- Document 01's listing of case L, whole, and that of a plan whose tallies all differ: their figures give their texts, byte for byte.
 use Prim.Native.Nat.{ℕ}
 use mathlib.Core.Bool.{true}
-use mathlib.Core.List.{List, [], _∷_}
+use mathlib.Core.List.{[], _∷_}
 use mathlib.Core.Path.{_≡_, refl}
 use lib.Ieee.{Float, binary64, ofBits}
-use Rattle.mode.specs.declared.PlanMode.the-variants.{Observe}
+use Rattle.mode.specs.declared.PlanMode.the-variants.{Expand, Observe}
 use Rattle.plan_defs.specs.declared.CorridorPlan.{CorridorPlan}
-use Rattle.listing.specs.Listing.{listed}
+use Rattle.plan_defs.proofs.Examples.{sample}
+use Rattle.listing.specs.Listing.{listed, planText}
 
 abbrev pub bits : ℕ → Float
 bits n = ofBits binary64 n
@@ -39,3 +40,17 @@ pub case-l :
     ∷ 77 ∷ 88 ∷ 32 ∷ 51 ∷ 70 ∷ 69 ∷ 48 ∷ 48 ∷ 48 ∷ 48 ∷ 48 ∷ 48 ∷ 48 ∷ 48 ∷ 48 ∷ 48 ∷ 48 ∷ 48 ∷ 48 ∷ 32 ∷ 51 ∷ 70 ∷ 68 ∷ 48 ∷ 48 ∷ 48 ∷ 48 ∷ 48 ∷ 48 ∷ 48 ∷ 48 ∷ 48 ∷ 48 ∷ 48 ∷ 48 ∷ 48 ∷ 10 ∷ []
 unfolding Rattle.mode.specs.Number.modeNumber Rattle.listing.specs.Text.decimal Rattle.listing.specs.Text.hexadecimal Rattle.listing.specs.Text.number Rattle.listing.specs.Text.figure Rattle.listing.specs.Lines.planLine Rattle.listing.specs.Lines.addedLine Rattle.listing.specs.Lines.groundLine Rattle.listing.specs.Lines.busLine Rattle.listing.specs.Lines.generatorLine Rattle.listing.specs.Lines.corridorLine Rattle.listing.specs.Lines.mostLine Rattle.listing.specs.Lines.lines lib.Ieee.ofBits lib.Ieee.toBits lib.Ieee.eq
 case-l = refl
+
+-- A plan whose tallies all differ, with a level added: each stands in its own place of the text, and the figures that are evaluated give the same text.
+pub sample-text :
+    planText Expand sample
+    ≡ 80 ∷ 76 ∷ 32 ∷ 48 ∷ 32 ∷ 50 ∷ 32 ∷ 49 ∷ 32 ∷ 51 ∷ 32 ∷ 52 ∷ 32 ∷ 53 ∷ 32 ∷ 54 ∷ 32 ∷ 55 ∷ 32 ∷ 56 ∷ 32 ∷ 57 ∷ 10
+    ∷ 65 ∷ 68 ∷ 32 ∷ 52 ∷ 48 ∷ 55 ∷ 53 ∷ 57 ∷ 48 ∷ 48 ∷ 48 ∷ 48 ∷ 48 ∷ 48 ∷ 48 ∷ 48 ∷ 48 ∷ 48 ∷ 48 ∷ 10
+    ∷ 71 ∷ 82 ∷ 32 ∷ 49 ∷ 10
+    ∷ 66 ∷ 85 ∷ 32 ∷ 48 ∷ 32 ∷ 48 ∷ 32 ∷ 51 ∷ 70 ∷ 68 ∷ 48 ∷ 48 ∷ 48 ∷ 48 ∷ 48 ∷ 48 ∷ 48 ∷ 48 ∷ 48 ∷ 48 ∷ 48 ∷ 48 ∷ 48 ∷ 10
+    ∷ 66 ∷ 85 ∷ 32 ∷ 49 ∷ 32 ∷ 49 ∷ 32 ∷ 48 ∷ 48 ∷ 48 ∷ 48 ∷ 48 ∷ 48 ∷ 48 ∷ 48 ∷ 48 ∷ 48 ∷ 48 ∷ 48 ∷ 48 ∷ 48 ∷ 48 ∷ 48 ∷ 10
+    ∷ 71 ∷ 69 ∷ 32 ∷ 48 ∷ 32 ∷ 52 ∷ 48 ∷ 55 ∷ 50 ∷ 67 ∷ 48 ∷ 48 ∷ 48 ∷ 48 ∷ 48 ∷ 48 ∷ 48 ∷ 48 ∷ 48 ∷ 48 ∷ 48 ∷ 10
+    ∷ 67 ∷ 79 ∷ 32 ∷ 48 ∷ 32 ∷ 52 ∷ 32 ∷ 52 ∷ 48 ∷ 54 ∷ 57 ∷ 48 ∷ 48 ∷ 48 ∷ 48 ∷ 48 ∷ 48 ∷ 48 ∷ 48 ∷ 48 ∷ 48 ∷ 48 ∷ 48 ∷ 32 ∷ 52 ∷ 48 ∷ 55 ∷ 50 ∷ 67 ∷ 48 ∷ 48 ∷ 48 ∷ 48 ∷ 48 ∷ 48 ∷ 48 ∷ 48 ∷ 48 ∷ 48 ∷ 48 ∷ 10
+    ∷ 77 ∷ 88 ∷ 32 ∷ 51 ∷ 70 ∷ 69 ∷ 48 ∷ 48 ∷ 48 ∷ 48 ∷ 48 ∷ 48 ∷ 48 ∷ 48 ∷ 48 ∷ 48 ∷ 48 ∷ 48 ∷ 48 ∷ 32 ∷ 51 ∷ 70 ∷ 68 ∷ 48 ∷ 48 ∷ 48 ∷ 48 ∷ 48 ∷ 48 ∷ 48 ∷ 48 ∷ 48 ∷ 48 ∷ 48 ∷ 48 ∷ 48 ∷ 10 ∷ []
+unfolding Rattle.mode.specs.Number.modeNumber Rattle.listing.specs.Text.decimal Rattle.listing.specs.Text.hexadecimal Rattle.listing.specs.Text.number Rattle.listing.specs.Text.figure Rattle.listing.specs.Lines.planLine Rattle.listing.specs.Lines.addedLine Rattle.listing.specs.Lines.groundLine Rattle.listing.specs.Lines.busLine Rattle.listing.specs.Lines.generatorLine Rattle.listing.specs.Lines.corridorLine Rattle.listing.specs.Lines.mostLine Rattle.listing.specs.Lines.lines lib.Ieee.ofBits lib.Ieee.toBits lib.Ieee.eq lib.Ieee.mul lib.Ieee.round Rattle.plan_defs.specs.Design.lineOf Rattle.plan_defs.specs.Outcome.summary Rattle.listing.specs.Listing.planText
+sample-text = refl

@@ -4,3 +4,4 @@ pub mod Outcomes
 pub mod Cases
 pub mod Files
 pub mod Examples
+pub mod Figures

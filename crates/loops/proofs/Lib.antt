@@ -18,3 +18,4 @@ pub mod Most
 pub mod Places
 pub mod Collect
 pub mod Fronts
+pub mod Sorting

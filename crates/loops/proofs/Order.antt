@@ -1,16 +1,19 @@
 -- The order of floats that are no NaN: it is total, and what is clamped lies between the limits. Assumes nothing.
-use Prim.Native.Nat.{ℕ, zero, suc, _+_, _*_, _≤_}
-use mathlib.Core.Bool.{Bool, true, false, not, cond, _&&_, Bool·beq, true≢false, _||_}
-use mathlib.Core.Logic.{_⊎_, inl, inr}
-use mathlib.Core.Path.{_≡_, refl, sym, _∙_, subst}
-use native.Mathlib.Nat.{eq-or-lt-of-le}
+use Prim.Native.Nat.{ℕ, zero, suc, _+_, _*_, _<_, _≤_}
+use mathlib.Core.Bool.{Bool, true, false, not, cond, _&&_, Bool·beq, _||_}
+use mathlib.Core.Logic.{inl, inr, ⊎-elim}
+use mathlib.Core.Path.{_≡_, refl, sym, ap, _∙_}
+use native.Mathlib.Nat.{eq-or-lt-of-le, le-of-eq, zero-mul, suc-mul}
+use native.Mathlib.Nat.{le-of-lt as less-le}
 use native.Mathlib.Omega.{arith}
-use borrow.Author.Tests.{ltb-false, lt-ltb, eq-eqb}
+use borrow.Author.Tests.{ltb-true, ltb-false, lt-ltb, le-ltb, eqb-true, eq-eqb}
 use lib.Dec.{T, ltb, eqb}
 use lib.Ieee.{Float, nan, inf, fin, isNan, ofBits, up, down, below, level, lt, eq, ne, le, neg}
 use lib.Ieee.Compare.{nan-differs}
+use lib.Ieee.Fits.{down-pos}
+use lib.Ieee.Positive.{through}
 use Rattle.loops.specs.Figures.{clamped, finite, inside, infinity}
-use Rattle.loops.proofs.Bools.{no, both, and-of, or-left, or-right}
+use Rattle.loops.proofs.Bools.{no, both, and-of, or-left, or-right, either}
 
 -- no NaN; no NaN and no infinity; no NaN and not minus infinity
 abbrev pub real : Float → Bool
@@ -184,3 +187,162 @@ below-infinity nan u h = absurd u
 below-infinity (inf true) u h = absurd u
 below-infinity (inf false) u h = absurd (no refl h)
 below-infinity (fin s m e) u h = tt
+
+-- ---- the order is transitive, and `lt` and `eq` are its strict part and its ties
+-- ±a / c is at most ±b / d
+AtMost : Bool → ℕ → ℕ → Bool → ℕ → ℕ → Type 0
+AtMost false a c false b d = a * d ≤ b * c
+AtMost true a c true b d = b * c ≤ a * d
+AtMost true a c false b d = Unit
+AtMost false a c true b d = (a ≡ 0) × (b ≡ 0)
+
+no-numerator : (a d : ℕ) → 0 < d → a * d ≤ 0 → a ≡ 0
+no-numerator zero d h q = refl
+no-numerator (suc a) d h q = absurd (omega (arith, suc-mul a d))
+
+none : (a d : ℕ) → a ≡ 0 → a * d ≡ 0
+none a d e = ap (λ (n : ℕ). n * d) e ∙ zero-mul d
+
+at-most-of : (s t : Bool) (a c b d : ℕ) → 0 < c → 0 < d → (below s (a * d) t (b * c) || level s (a * d) t (b * c)) ≡ true → AtMost s a c t b d
+unfolding AtMost
+at-most-of false false a c b d C D h =
+    ⊎-elim (λ l. less-le (ltb-true _ _ l)) (λ l. le-of-eq (eqb-true _ _ (both (eqb (a * d) (b * c)) _ l .0))) (either (ltb (a * d) (b * c)) _ h)
+at-most-of true true a c b d C D h =
+    ⊎-elim (λ l. less-le (ltb-true _ _ l)) (λ l. le-of-eq (sym (eqb-true _ _ (both (eqb (a * d) (b * c)) _ l .0)))) (either (ltb (b * c) (a * d)) _ h)
+at-most-of true false a c b d C D h = tt
+at-most-of false true a c b d C D h =
+    let p = both (eqb (a * d) (b * c)) (eqb (a * d) 0) h in
+    let z : a * d ≡ 0 = eqb-true (a * d) 0 (p .1) in
+    let e : a * d ≡ b * c = eqb-true (a * d) (b * c) (p .0) in
+    (no-numerator a d D (omega arith), no-numerator b c C (omega arith))
+
+of-at-most : (s t : Bool) (a c b d : ℕ) → AtMost s a c t b d → (below s (a * d) t (b * c) || level s (a * d) t (b * c)) ≡ true
+unfolding AtMost
+of-at-most false false a c b d h = other false false (b * c) (a * d) (le-ltb (b * c) (a * d) h)
+of-at-most true true a c b d h = other true true (b * c) (a * d) (le-ltb (a * d) (b * c) h)
+of-at-most true false a c b d h = other false true (b * c) (a * d) refl
+of-at-most false true a c b d h = or-right false (level false (a * d) true (b * c)) (zeros false true (a * d) (b * c) (none a d (h .0)) (none b c (h .1)))
+
+at-most-through : (s t u : Bool) (a c b d n m : ℕ) → 0 < c → 0 < d → 0 < m → AtMost s a c t b d → AtMost t b d u n m → AtMost s a c u n m
+unfolding AtMost
+at-most-through false false false a c b d n m C D M p q = through a b n c d m D p q
+at-most-through true true true a c b d n m C D M p q = through n b a m d c D q p
+at-most-through false false true a c b d n m C D M p q = (no-numerator a d D (omega (arith, none b c (q .0))), q .1)
+at-most-through false true true a c b d n m C D M p q = (p .0, no-numerator n d D (omega (arith, none b m (p .1))))
+at-most-through false true false a c b d n m C D M p q = omega (arith, none a m (p .0))
+at-most-through true false true a c b d n m C D M p q = omega (arith, none n c (q .1))
+at-most-through true false false a c b d n m C D M p q = tt
+at-most-through true true false a c b d n m C D M p q = tt
+
+pub le-through : (x y z : Float) → le x y ≡ true → le y z ≡ true → le x z ≡ true
+unfolding lt eq le
+le-through nan y z p q = p
+le-through (inf s) nan z p q = absurd (no refl p)
+le-through (inf true) (inf t) nan p q = absurd (no refl q)
+le-through (inf true) (inf t) (inf true) p q = refl
+le-through (inf true) (inf t) (inf false) p q = refl
+le-through (inf true) (inf t) (fin u n d) p q = refl
+le-through (inf true) (fin t m e) nan p q = absurd (no refl q)
+le-through (inf true) (fin t m e) (inf true) p q = refl
+le-through (inf true) (fin t m e) (inf false) p q = refl
+le-through (inf true) (fin t m e) (fin u n d) p q = refl
+le-through (inf false) (inf true) z p q = absurd (no refl p)
+le-through (inf false) (inf false) z p q = q
+le-through (inf false) (fin t m e) z p q = absurd (no refl p)
+le-through (fin s m e) nan z p q = absurd (no refl p)
+le-through (fin s m e) (inf true) z p q = absurd (no refl p)
+le-through (fin s m e) (inf false) nan p q = absurd (no refl q)
+le-through (fin s m e) (inf false) (inf true) p q = absurd (no refl q)
+le-through (fin s m e) (inf false) (inf false) p q = refl
+le-through (fin s m e) (inf false) (fin u n d) p q = absurd (no refl q)
+le-through (fin s m e) (fin t k f) nan p q = absurd (no refl q)
+le-through (fin s m e) (fin t k f) (inf true) p q = absurd (no refl q)
+le-through (fin s m e) (fin t k f) (inf false) p q = refl
+le-through (fin s m e) (fin t k f) (fin u n d) p q =
+    of-at-most s u (m * up e) (down e) (n * up d) (down d)
+    (at-most-through s t u (m * up e) (down e) (k * up f) (down f) (n * up d) (down d) (down-pos e) (down-pos f) (down-pos d)
+    (at-most-of s t (m * up e) (down e) (k * up f) (down f) (down-pos e) (down-pos f) p)
+    (at-most-of t u (k * up f) (down f) (n * up d) (down d) (down-pos f) (down-pos d) q))
+
+-- what is less is not level, and nothing is less than itself in turn
+apart : (s t : Bool) (a b : ℕ) → below s a t b ≡ true → (below t b s a || level t b s a) ≡ true → ⊥
+apart false false a b h q =
+    let l = ltb-true a b h in
+    ⊎-elim (λ r. omega (arith, ltb-true b a r)) (λ r. omega (arith, eqb-true b a (both (eqb b a) _ r .0))) (either (ltb b a) _ q)
+apart true true a b h q =
+    let l = ltb-true b a h in
+    ⊎-elim (λ r. omega (arith, ltb-true a b r)) (λ r. omega (arith, eqb-true b a (both (eqb b a) _ r .0))) (either (ltb a b) _ q)
+apart true false a b h q =
+    let l = ltb-true 0 (a + b) h in
+    let p = both (eqb b a) (eqb b 0) q in
+    omega (arith, eqb-true b a (p .0), eqb-true b 0 (p .1))
+apart false true a b h q = no refl h
+
+pub lt-not-le : (x y : Float) → lt x y ≡ true → le y x ≡ true → ⊥
+unfolding lt eq le
+lt-not-le nan y h q = no refl h
+lt-not-le (inf s) nan h q = no refl h
+lt-not-le (inf true) (inf true) h q = no refl h
+lt-not-le (inf true) (inf false) h q = no refl q
+lt-not-le (inf false) (inf t) h q = no refl h
+lt-not-le (inf true) (fin t n d) h q = no refl q
+lt-not-le (inf false) (fin t n d) h q = no refl h
+lt-not-le (fin s m e) nan h q = no refl h
+lt-not-le (fin s m e) (inf true) h q = no refl h
+lt-not-le (fin s m e) (inf false) h q = no refl q
+lt-not-le (fin s m e) (fin t n d) h q = apart s t (m * up e * down d) (n * up d * down e) h q
+
+level-back : (s t : Bool) (a b : ℕ) → level s a t b ≡ true → level t b s a ≡ true
+level-back s t a b h =
+    let p = both (eqb a b) (Bool·beq s t || eqb a 0) h in
+    let e : a ≡ b = eqb-true a b (p .0) in
+    and-of (eq-eqb b a (sym e)) (go s t e (p .1))
+  where
+    go : (s t : Bool) → a ≡ b → (Bool·beq s t || eqb a 0) ≡ true → (Bool·beq t s || eqb b 0) ≡ true
+    go true true e q = refl
+    go false false e q = refl
+    go true false e q = eq-eqb b 0 (sym e ∙ eqb-true a 0 q)
+    go false true e q = eq-eqb b 0 (sym e ∙ eqb-true a 0 q)
+
+eq-back : (x y : Float) → eq x y ≡ true → eq y x ≡ true
+unfolding eq
+eq-back nan y h = absurd (no refl h)
+eq-back (inf s) nan h = absurd (no refl h)
+eq-back (inf true) (inf true) h = refl
+eq-back (inf true) (inf false) h = absurd (no refl h)
+eq-back (inf false) (inf true) h = absurd (no refl h)
+eq-back (inf false) (inf false) h = refl
+eq-back (inf s) (fin t n d) h = absurd (no refl h)
+eq-back (fin s m e) nan h = absurd (no refl h)
+eq-back (fin s m e) (inf t) h = absurd (no refl h)
+eq-back (fin s m e) (fin t n d) h = level-back s t (m * up e * down d) (n * up d * down e) h
+
+eq-le : (x y : Float) → eq x y ≡ true → le x y ≡ true
+unfolding lt eq le
+eq-le x y h = or-right (lt x y) (eq x y) h
+
+le-both : (x y : Float) → le x y ≡ true → le y x ≡ true → eq x y ≡ true
+unfolding lt eq le
+le-both x y p q = ⊎-elim (λ l. absurd (lt-not-le x y l q)) (λ e. e) (either (lt x y) (eq x y) p)
+
+pub eq-is : (x y : Float) → eq x y ≡ (le x y && le y x)
+eq-is x y = go (eq x y) (le x y) (le y x) refl refl refl
+  where
+    go : (a b c : Bool) → eq x y ≡ a → le x y ≡ b → le y x ≡ c → a ≡ (b && c)
+    go true true true e f g = refl
+    go true false c e f g = absurd (no f (eq-le x y e))
+    go true true false e f g = absurd (no g (eq-le y x (eq-back x y e)))
+    go false true true e f g = absurd (no e (le-both x y f g))
+    go false false c e f g = refl
+    go false true false e f g = refl
+
+-- of figures that are no NaN
+module _ (x y : Float) (p : T (real x)) (q : T (real y)) where
+  pub lt-is : lt x y ≡ not (le y x)
+  lt-is = go (lt x y) (le y x) refl refl
+    where
+      go : (a b : Bool) → lt x y ≡ a → le y x ≡ b → a ≡ not b
+      go true true e f = absurd (lt-not-le x y e f)
+      go true false e f = refl
+      go false true e f = refl
+      go false false e f = absurd (no f (le-of-not-lt x y p q e))

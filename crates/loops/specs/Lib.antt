@@ -2,3 +2,4 @@
 pub mod Figures
 pub mod Loops
 pub mod Parts
+pub mod Sorting

@@ -10,7 +10,7 @@ use native.Mathlib.Omega.{arith}
 use native.Mathlib.Decide.{ℕ-discrete}
 use borrow.Author.Tests.{ltb-true}
 use lib.Dec.{ltb}
-use lib.Ieee.{Float, le}
+use lib.Ieee.{Float, lt, le}
 use lib.ListN.{length, getD, set, length-set, length-replicate}
 use lib.Seq.{getD-set-same, getD-set-other}
 use Rattle.loops.specs.Figures.{at, minus, nought}
@@ -124,14 +124,15 @@ module _ (c : Case) where
     pub upsized : length (b .upsized) ≡ c .corridors
     pub drawn : Drawn c level (b .designs)
 
-  kept-bank : (level : List ℕ) (b : Build) (k : ℕ) (mva : Float) → bankBelow (circuitAt b k) ≡ true → Kept level b → Kept level (setBank k mva b)
+  kept-bank : (level : List ℕ) (b : Build) (k : ℕ) (mva : Float) → bankBelow (circuitAt b k) ≡ true → lt (circuitAt b k .«transformer_mva») mva ≡ true → Kept level b
+      → Kept level (setBank k mva b)
   unfolding setBank
-  kept-bank level b k mva e h =
+  kept-bank level b k mva e l h =
       let w : k < c .corridors = omega (arith, bank-in (b .designs) k e, drawn-size c level (b .designs) (h .drawn)) in
       record {
         floors = length-set (b .floors) k mva ∙ h .floors;
         upsized = length-set (b .upsized) k 1 ∙ h .upsized;
-        drawn = drawn-bank c level (b .designs) (h .drawn) k mva w e;
+        drawn = drawn-bank c level (b .designs) (h .drawn) k mva w e l;
       }
 
   pub kept-rebuilt : (level again : List ℕ) (b : Build) → Kept level b → Kept again (rebuilt c again b)
@@ -146,12 +147,13 @@ module _ (c : Case) where
     pub still : promote (c .mode) ≡ false → z .marks ≡ noMarks (c .buses)
 
   module _ (level : List ℕ) (unraised : promote (c .mode) ≡ false → level ≡ firstLevels c) (st : ℕ) where
-    enlarge-sized : (k : ℕ) (mva : Float) (b : Bool) (z : Sizing) → (b ≡ true → bankBelow (circuitAt (z .build) k) ≡ true) → Sized level st z
+    enlarge-sized : (k : ℕ) (mva : Float) (b : Bool) (z : Sizing)
+        → (b ≡ true → (bankBelow (circuitAt (z .build) k) ≡ true) × (lt (circuitAt (z .build) k .«transformer_mva») mva ≡ true)) → Sized level st z
         → Sized level st (enlargeIf b k mva z)
     unfolding setBank
     enlarge-sized k mva false z t f = f
     enlarge-sized k mva true z t f =
-        record { built = f .built; kept = kept-bank level (z .build) k mva (t refl) (f .kept); places = f .places; still = f .still }
+        record { built = f .built; kept = kept-bank level (z .build) k mva (t refl .0) (t refl .1) (f .kept); places = f .places; still = f .still }
 
     add-sized : (cap need k : ℕ) (capped b : Bool) (z : Sizing) → k < c .corridors → cap ≡ capOf c k → ltb (countAt (z .build) k) (min need cap) ≡ b → Sized level st z
         → Sized level st (addIf b k (min need cap) capped z)
@@ -201,7 +203,7 @@ module _ (c : Case) where
         let next = nextBank r n d in
         let y = enlargeIf (enlarges r n d next) k next z in
         grow-sized r k (enough r (countAt (y .build) k) (circuitAt (y .build) k)) y h
-        (enlarge-sized k next (enlarges r n d next) z (λ e. both (bankBelow d) _ (both (not (enough r n d)) _ e .1) .0) f)
+        (enlarge-sized k next (enlarges r n d next) z (λ e. both (bankBelow d) _ (both (not (enough r n d)) _ e .1)) f)
 
     pub all-sized : (flows : List Float) (b : Build) (capacity : ℕ) → Built (b .circuits) (capacity + st) → Kept level b
         → Sized level st (sizeAll c level flows b capacity)
@@ -222,7 +224,7 @@ module _ (c : Case) where
         → Stiff level cp (stiffenBy x y z c level G k s)
     unfolding setBank setCount
     by-stiff G k true y z s e t b =
-        record { built = b .built; kept = kept-bank level (s .build) k (circuitAt (s .build) k .«line_rate») e (b .kept); places = b .places; total = b .total }
+        record { built = b .built; kept = kept-bank level (s .build) k (circuitAt (s .build) k .«line_rate») e (both (circuitAt (s .build) k .«is_transformer») _ e .1) (b .kept); places = b .places; total = b .total }
     by-stiff G k false true z s e t b =
         record {
           built = b .built;

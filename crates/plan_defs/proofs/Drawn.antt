@@ -1,18 +1,20 @@
 -- A design is its corridor's line and the rating of its bank: so code keeps a bank for each corridor and builds the struct anew.
 -- A new bank forgets the old one (`bank-twice`); the rest goes by whether the corridor steps down.
-use Prim.Native.Nat.{ℕ, _<_}
+use Prim.Native.Nat.{ℕ, _<_, max}
 use mathlib.Core.Bool.{Bool, true, false, cond}
 use mathlib.Core.List.{List}
 use mathlib.Core.Path.{_≡_, refl, sym, ap, _∙_}
 use native.Mathlib.Decide.{ℕ-discrete}
 use native.Mathlib.Omega.{arith}
-use lib.Ieee.{Float, nan, lt}
+use lib.Ieee.{Float, nan, lt, ofBits}
 use lib.ListN.{length, getD, set, length-set}
 use lib.Seq.{ext-getD, getD-set-same, getD-set-other}
-use Rattle.loops.specs.Figures.{at, lesser}
+use Rattle.loops.specs.Figures.{at, float, times, over, lesser, greater}
+use Rattle.loops.proofs.Order.{le-of-not-lt, le-of-lt, left-real, le-through, lt-not-le}
 use Rattle.loops.proofs.Tab.{length-tab, get-tab, tab-same}
-use Rattle.plan_defs.specs.Case.{Case, fromOf, toOf, kvHigh}
-use Rattle.plan_defs.specs.Design.{withBank, setTransformerMva, bankedBy, lineAt, lineOf, drawn, designAt, designCircuits, stepsDown, bankFor, keptBy, keptBank, redesign, design, noDesign}
+use Rattle.plan_defs.specs.Constants.{transformerHeadroom, transformerMinMva}
+use Rattle.plan_defs.specs.Case.{Case, loadOf, fromOf, toOf, kvHigh}
+use Rattle.plan_defs.specs.Design.{withBank, setTransformerMva, bankedBy, lineAt, lineOf, drawn, designAt, designCircuits, stepsDown, genAt, transformerCorridors, bankFor, keptBy, keptBank, redesign, design, noDesign}
 use Rattle.plan_defs.specs.Build.{built, bankBelow, setBank, rebuilt, drawnAll, freshBanks, keptMva, keptFor, keptBanks, buildOf}
 use Rattle.plan_defs.specs.declared.CircuitDesign.{CircuitDesign}
 
@@ -92,6 +94,16 @@ module _ (c : Case) (level : List ℕ) (k : ℕ) where
   unfolding drawn
   drawn-rate a = rate-by (stepsDown c level k) a
 
+  -- a bank that is there is the one drawn
+  mva-by : (b : Bool) (a : Float) → bankBelow (bankedBy b (lineAt c level k) a) ≡ true → bankedBy b (lineAt c level k) a .«transformer_mva» ≡ a
+  unfolding setTransformerMva withBank lineAt lineOf
+  mva-by true a e = refl
+  mva-by false a e = cc
+
+  drawn-mva : (a : Float) → bankBelow (drawn c level k a) ≡ true → drawn c level k a .«transformer_mva» ≡ a
+  unfolding drawn
+  drawn-mva a e = mva-by (stepsDown c level k) a e
+
   pub drawn-down : (a : Float) → drawn c level k a .«is_transformer» ≡ stepsDown c level k
   unfolding drawn
   drawn-down a = down-by (stepsDown c level k) a
@@ -159,20 +171,64 @@ module _ (c : Case) (level : List ℕ) where
       ∙ ap (set (drawnAll c level banks) k) (bank-drawn c level k (at banks k) mva e)
       ∙ drawn-set banks k mva h n)
 
+-- ---- no bank is below the least one: a fresh bank is not, and only a larger one takes its place
+pub larger-bank : (a b : Float) → lt a transformerMinMva ≡ false → lt a b ≡ true → lt b transformerMinMva ≡ false
+unfolding ofBits
+larger-bank a b e l = go (lt b transformerMinMva) refl
+  where
+    go : (t : Bool) → lt b transformerMinMva ≡ t → t ≡ false
+    go false q = refl
+    go true q =
+        let m = le-of-lt a b l in
+        absurd (lt-not-le b transformerMinMva q (le-through transformerMinMva a b (le-of-not-lt a transformerMinMva (left-real a b m) tt e) m))
+
+fresh-large : (c : Case) (level : List ℕ) (lo : ℕ) → lt (bankFor c level lo) transformerMinMva ≡ false
+unfolding bankFor lt ofBits
+fresh-large c level lo = go (over (times (greater (loadOf c lo) (genAt c lo)) transformerHeadroom) (float (max (transformerCorridors c level lo) 1)))
+  where
+    by : (t : Bool) (x : Float) → lt x transformerMinMva ≡ t → lt (cond t transformerMinMva x) transformerMinMva ≡ false
+    by true x e = refl
+    by false x e = e
+
+    go : (x : Float) → lt (greater x transformerMinMva) transformerMinMva ≡ false
+    go x = by (lt x transformerMinMva) x refl
+
+kept-large : (a keep : Float) → lt a transformerMinMva ≡ false → lt (keptMva a keep) transformerMinMva ≡ false
+kept-large a keep e = go (lt a keep) refl
+  where
+    go : (t : Bool) → lt a keep ≡ t → lt (cond t keep a) transformerMinMva ≡ false
+    go true l = larger-bank a keep e l
+    go false l = e
+
 -- ---- what a list of designs is, where the banks are not named
 pub record Drawn (c : Case) (level : List ℕ) (ds : List CircuitDesign) : Type 0 where
   pub banks : List Float
   pub size : length banks ≡ c .corridors
   pub are : ds ≡ drawnAll c level banks
+  pub large : (k : ℕ) → k < c .corridors → lt (at banks k) transformerMinMva ≡ false
 
 module _ (c : Case) (level : List ℕ) where
   pub drawn-first : Drawn c level (designCircuits c level)
   unfolding freshBanks
-  drawn-first = record { banks = freshBanks c level; size = length-tab (c .corridors) _; are = design-is c level }
+  drawn-first =
+      record {
+        banks = freshBanks c level;
+        size = length-tab (c .corridors) _;
+        are = design-is c level;
+        large = λ k h. rw (get-tab (c .corridors) (λ (j : ℕ). bankFor c level (toOf c level j)) k nan h) (fresh-large c level (toOf c level k));
+      }
 
   pub drawn-again : (floors : List Float) → Drawn c level (redesign c level floors)
   unfolding keptBanks
-  drawn-again floors = record { banks = keptBanks c level floors; size = length-tab (c .corridors) _; are = redesign-is c level floors }
+  drawn-again floors =
+      record {
+        banks = keptBanks c level floors;
+        size = length-tab (c .corridors) _;
+        are = redesign-is c level floors;
+        large = λ k h.
+            rw (get-tab (c .corridors) (keptFor c level floors) k nan h)
+            (kept-large (bankFor c level (toOf c level k)) (lesser (at floors k) (lineAt c level k .«line_rate»)) (fresh-large c level (toOf c level k)));
+      }
 
   module _ (ds : List CircuitDesign) (D : Drawn c level ds) where
     pub drawn-size : length ds ≡ c .corridors
@@ -185,14 +241,30 @@ module _ (c : Case) (level : List ℕ) where
     design-kv k h = ap (λ (d : CircuitDesign). d .kv) (drawn-here k h) ∙ drawn-kv c level k (at (D .banks) k)
 
     -- with a larger bank
-    pub drawn-bank : (k : ℕ) (mva : Float) → k < c .corridors → bankBelow (design ds k) ≡ true → Drawn c level (set ds k (setTransformerMva (design ds k) mva))
-    drawn-bank k mva h e =
+    larger-here : (k : ℕ) (mva : Float) → k < c .corridors → bankBelow (design ds k) ≡ true → lt (design ds k .«transformer_mva») mva ≡ true
+        → lt mva transformerMinMva ≡ false
+    larger-here k mva h e l =
+        let q = drawn-here k h in
+        let a : design ds k .«transformer_mva» ≡ at (D .banks) k =
+        ap (λ (d : CircuitDesign). d .«transformer_mva») q ∙ drawn-mva c level k (at (D .banks) k) (sym (ap (λ (d : CircuitDesign). bankBelow d) q) ∙ e) in
+        larger-bank (at (D .banks) k) mva (D .large k h) (sym (ap (λ (x : Float). lt x mva) a) ∙ l)
+
+    pub drawn-bank : (k : ℕ) (mva : Float) → k < c .corridors → bankBelow (design ds k) ≡ true → lt (design ds k .«transformer_mva») mva ≡ true
+        → Drawn c level (set ds k (setTransformerMva (design ds k) mva))
+    drawn-bank k mva h e larger =
         record {
           banks = set (D .banks) k mva;
           size = length-set (D .banks) k mva ∙ D .size;
+          large = λ j q. large-at j q (ℕ-discrete j k);
           are =
               ap (λ (d : CircuitDesign). set ds k (setTransformerMva d mva)) (drawn-here k h)
               ∙ ap (set ds k) (bank-drawn c level k (at (D .banks) k) mva (sym (ap (λ (d : CircuitDesign). bankBelow d) (drawn-here k h)) ∙ e))
               ∙ ap (λ (l : List CircuitDesign). set l k (drawn c level k mva)) (D .are)
               ∙ drawn-set c level (D .banks) k mva h (D .size);
         }
+      where
+        large-at : (j : ℕ) → j < c .corridors → Dec (j ≡ k) → lt (at (set (D .banks) k mva) j) transformerMinMva ≡ false
+        large-at j q (yes i) =
+            let w : k < length (D .banks) = omega (arith, D .size) in
+            rw (i, getD-set-same (D .banks) k mva nan w) (larger-here k mva h e larger)
+        large-at j q (no n) = rw (getD-set-other (D .banks) k j mva nan n) (D .large j q)

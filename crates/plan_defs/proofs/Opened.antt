@@ -1,12 +1,12 @@
 -- What opening leaves, and what filling begins from: nothing here turns on the target.
 -- Stage by stage; where the mode does not expand no round runs, and the counts are the lower bounds.
-use Prim.Native.Nat.{ℕ}
+use Prim.Native.Nat.{ℕ, _<_}
 use mathlib.Core.Bool.{Bool, true, false}
 use mathlib.Core.List.{List}
 use mathlib.Core.Path.{_≡_, refl, sym, ap, _∙_}
 use lib.Ieee.{Float}
 use lib.ListN.{length, length-replicate}
-use Rattle.loops.specs.Figures.{nought}
+use Rattle.loops.specs.Figures.{at, nought, finite}
 use Rattle.angles_defs.specs.Network.{zeros}
 use Rattle.plan_defs.specs.Constants.{planningMaxRounds}
 use Rattle.plan_defs.specs.Stage.{Stage, stopped, going, onward}
@@ -74,7 +74,10 @@ module _ (c : Case) where
     pub peak : r .peak ≡ peakOf c (r .led) (r .mw)
     pub ran : Ran c planningMaxRounds (r .draft)
     pub observed : expand (c .mode) ≡ false → r .draft .build .circuits ≡ lowerBounds c
+    -- the flows of the solve before filling, all finite
     pub flows : List Float
+    pub all-flows : length flows ≡ length (r .draft .build .designs)
+    pub finite-flows : (k : ℕ) → k < length flows → finite (at flows k) ≡ true
     pub order : r .order ≡ orderOf (c .corridors) (r .draft .build .designs) (r .draft .build .circuits) flows
 
   settled-done : (o : Opened) → Begun o → On Done (settled c o)
@@ -87,7 +90,7 @@ module _ (c : Case) where
       (λ s r.
       on-onward (Solved (o .peak .n) (length (s .build .designs))) Done (planningState (o .peak) (s .build .designs) (s .build .circuits) (zeros (c .buses))) _
       (state-solved (o .peak) (s .build .designs) (s .build .circuits) (zeros (c .buses)))
-      (λ v w. record { led = h .led; dispatched = h .dispatched; peak = h .peak; ran = r .0; observed = r .1; flows = v .flows; order = refl }))
+      (λ v w. record { led = h .led; dispatched = h .dispatched; peak = h .peak; ran = r .0; observed = r .1; flows = v .flows; all-flows = w .flows; finite-flows = w .finite-flows; order = refl }))
 
   pub done : On Done (readyOf c)
   unfolding readyOf

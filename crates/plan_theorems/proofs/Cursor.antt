@@ -13,6 +13,7 @@ use borrow.Author.Tests.{ltb-true, ltb-false, le-ltb}
 use lib.Dec.{ltb}
 use lib.Ieee.{Float}
 use lib.ListN.{length, getD, List·getD-eq-default}
+use Rattle.loops.specs.Sorting.{occ}
 use Rattle.loops.specs.Loops.{iter}
 use Rattle.loops.proofs.Bools.{both}
 use Rattle.plan_defs.specs.Lists.{each}
@@ -21,7 +22,8 @@ use Rattle.plan_defs.specs.Fill.{Filled, unfilled, fillIf, fillAt, belowFull, r
 use Rattle.plan_defs.specs.declared.CircuitDesign.{CircuitDesign}
 use Rattle.plan_defs.proofs.Lists.{each-places}
 use Rattle.plan_defs.proofs.Counts.{any-default}
-use Rattle.plan_theorems.proofs.Filling.{rounds-grown, Ends, reached, unreached, fills, occ, order-once}
+use Rattle.plan_theorems.proofs.Filling.{rounds-grown, Ends, reached, unreached, fills}
+use Rattle.plan_theorems.proofs.Ranking.{order-once}
 
 and-false : (a b : Bool) → b ≡ false → (a && b) ≡ false
 and-false true b e = e

@@ -12,6 +12,7 @@ use lib.Dec.{ltb}
 use lib.Ieee.{le}
 use lib.ListN.{length, getD, take, drop, length-take, length-drop}
 use Rattle.loops.specs.Loops.{tab}
+use Rattle.loops.specs.Sorting.{occ}
 use Rattle.loops.proofs.Tab.{get-tab, tab-of}
 use Rattle.angles_defs.specs.Network.{zeros}
 use Rattle.mode.specs.declared.PlanMode.the-variants.{Observe}
@@ -35,7 +36,8 @@ use Rattle.plan_defs.proofs.Accepted.{Accepted, accepted}
 use Rattle.plan_defs.proofs.Solved.{Solved, solved}
 use Rattle.plan_defs.proofs.Counts.{Built, full-cap}
 use Rattle.plan_defs.proofs.Opened.{Done, done}
-use Rattle.plan_theorems.proofs.Filling.{Grown, grown-same, rounds-grown, Ends, reached, unreached, fills, occ, order-once}
+use Rattle.plan_theorems.proofs.Filling.{Grown, grown-same, rounds-grown, Ends, reached, unreached, fills}
+use Rattle.plan_theorems.proofs.Ranking.{order-once}
 use Rattle.plan_theorems.proofs.Dispatched.{Dispatched, dispatched}
 use Rattle.plan_theorems.proofs.Ladder.{raised-kv}
 

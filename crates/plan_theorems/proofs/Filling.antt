@@ -3,21 +3,19 @@
 use Prim.Native.Nat.{ℕ, zero, suc, _+_, _≤_, _<_, max}
 use mathlib.Core.Bool.{Bool, true, false, _&&_}
 use mathlib.Core.List.{List, [], _∷_}
-use mathlib.Core.Path.{_≡_, refl, sym, ap, _∙_, subst}
+use mathlib.Core.Path.{_≡_, refl, ap, _∙_, subst}
 use native.Mathlib.Nat.{le-refl}
 use native.Mathlib.Omega.{arith}
 use native.Mathlib.Decide.{ℕ-discrete}
-use borrow.Author.Tests.{ltb-true, ltb-false, lt-ltb, eqb-true, eqb-false}
-use lib.Arith.{lt-of-le-ne}
-use lib.Dec.{ltb, eqb}
-use lib.Ieee.{Float}
+use borrow.Author.Tests.{ltb-true, ltb-false, lt-ltb}
+use lib.Dec.{ltb}
 use lib.ListN.{length, getD, set, length-set}
 use lib.Seq.{getD-set-other}
-use Rattle.loops.specs.Loops.{iter}
+use Rattle.loops.specs.Sorting.{occ}
 use Rattle.loops.proofs.Bools.{both}
+use Rattle.loops.proofs.Sorting.{same-yes, same-no}
 use Rattle.plan_defs.specs.Lists.{each, sum}
-use Rattle.plan_defs.specs.Fill.{Filled, fillIf, fillAt, belowFull, room, fillOnce, fillRounds, Rank, rankAt, before, placedRank, insertRank, rankNext, corridorsIn, orderOf}
-use Rattle.plan_defs.specs.declared.CircuitDesign.{CircuitDesign}
+use Rattle.plan_defs.specs.Fill.{Filled, fillIf, fillAt, belowFull, room, fillOnce, fillRounds}
 use Rattle.plan_defs.proofs.Lists.{sum-set}
 use Rattle.plan_defs.proofs.Counts.{in-list, any-default, set-here}
 
@@ -100,75 +98,6 @@ module _ (full : ℕ → ℕ) where
     unfolding fillRounds
     full-rounds zero ks s h = refl
     full-rounds (suc d) ks s h = ap (fillRounds d full target ks) (full-once ks s h) ∙ full-rounds d ks s h
-
--- ---- how often an order names a corridor
-abbrev oneIf : Bool → ℕ
-oneIf true = 1
-oneIf false = 0
-
-same : ℕ → ℕ → ℕ
-same j k = oneIf (eqb j k)
-
-same-yes : (j k : ℕ) → j ≡ k → same j k ≡ 1
-unfolding same
-same-yes j k p = go (eqb j k) refl
-  where
-    go : (b : Bool) → eqb j k ≡ b → oneIf b ≡ 1
-    go true e = refl
-    go false e = absurd (eqb-false j k e p)
-
-same-no : (j k : ℕ) → (j ≡ k → ⊥) → same j k ≡ 0
-unfolding same
-same-no j k n = go (eqb j k) refl
-  where
-    go : (b : Bool) → eqb j k ≡ b → oneIf b ≡ 0
-    go true e = absurd (n (eqb-true j k e))
-    go false e = refl
-
-pub occ : ℕ → List ℕ → ℕ
-occ j [] = 0
-occ j (k ∷ ks) = same j k + occ j ks
-
--- ---- the order names each corridor once
-hits : ℕ → ℕ → ℕ → ℕ
-hits j zero k = 0
-hits j (suc d) k = same j k + hits j d (suc k)
-
-hits-before : (j d k : ℕ) → j < k → hits j d k ≡ 0
-unfolding hits
-hits-before j zero k h = refl
-hits-before j (suc d) k h = omega (arith, same-no j k (λ e. omega arith), hits-before j d (suc k) (omega arith))
-
-hits-once : (j d k : ℕ) → k ≤ j → j < k + d → hits j d k ≡ 1
-unfolding hits
-hits-once j zero k h q = absurd (omega arith)
-hits-once j (suc d) k h q = go (ℕ-discrete j k) (λ a. hits-once j d (suc k) a (omega arith))
-  where
-    go : Dec (j ≡ k) → (suc k ≤ j → hits j d (suc k) ≡ 1) → same j k + hits j d (suc k) ≡ 1
-    go (yes e) r = omega (arith, same-yes j k e, hits-before j d (suc k) (omega arith))
-    go (no n) r = omega (arith, same-no j k n, r (lt-of-le-ne h (λ e. n (sym e))))
-
--- an insertion names what it inserts once more
-insert-occ : (j : ℕ) (r : Rank) (l : List Rank) → occ j (corridorsIn (insertRank r l)) ≡ same j (r .corridor) + occ j (corridorsIn l)
-unfolding occ corridorsIn insertRank
-insert-occ j r [] = refl
-insert-occ j r (q ∷ l) = go (before r q) (insert-occ j r l)
-  where
-    go : (b : Bool) → occ j (corridorsIn (insertRank r l)) ≡ same j (r .corridor) + occ j (corridorsIn l)
-        → occ j (corridorsIn (placedRank b r q l (insertRank r l))) ≡ same j (r .corridor) + (same j (q .corridor) + occ j (corridorsIn l))
-    go true e = refl
-    go false e = omega arith
-
-module _ (ds : List CircuitDesign) (counts : List ℕ) (flows : List Float) where
-  ranked-occ : (j d k : ℕ) (l : List Rank) → occ j (corridorsIn (iter (rankNext ds counts flows) d k l)) ≡ hits j d k + occ j (corridorsIn l)
-  unfolding iter hits
-  ranked-occ j zero k l = omega arith
-  ranked-occ j (suc d) k l =
-      omega (arith, ranked-occ j d (suc k) (insertRank (rankAt ds counts flows k) l), insert-occ j (rankAt ds counts flows k) l)
-
-  pub order-once : (m j : ℕ) → j < m → occ j (orderOf m ds counts flows) ≡ 1
-  unfolding orderOf occ corridorsIn
-  order-once m j h = omega (arith, ranked-occ j m 0 [], hits-once j m 0 (omega arith) (omega arith))
 
 -- ---- evenness. m corridors, b the counts with which filling begins
 module _ (full : ℕ → ℕ) (target m : ℕ) (b : List ℕ) where

@@ -1,8 +1,10 @@
 -- Theorems about the defined plan, by subject.
+pub mod Ranking
 pub mod Filling
 pub mod Cursor
 pub mod Dispatched
 pub mod Ladder
+pub mod Loadings
 pub mod Demand
 pub mod Tally
 pub mod Larger

@@ -64,8 +64,9 @@ class Drawing:
             groups.setdefault((min(a, b), max(a, b)), []).append(corridor)
         bows = [0.0] * len(self.edges)
         for group in groups.values():
+            apart = PARALLEL * min(1.0, 8.0 / len(group))
             for place, corridor in enumerate(group):
-                bows[corridor] = PARALLEL * (place - (len(group) - 1) / 2.0)
+                bows[corridor] = apart * (place - (len(group) - 1) / 2.0)
         return bows
 
     def corridor(self, corridor, bow):

@@ -61,7 +61,7 @@ class Report:
     def what(self):
         case = self.case
         mode = case.head("mode")
-        target = " and a target of %s" % count(case.head("target"), "circuit") if mode == 0 and case.head("target") else ""
+        target = ", with a target of %s" % count(case.head("target"), "circuit") if mode == 0 and case.head("target") else ""
         done = ("a plan that may raise voltages and add circuits", "a plan that adds circuits and transformers and keeps every voltage", "the network as it is, only measured")
         return "%s: %s, for %s, %s and %s%s." % (
             MODES[mode],

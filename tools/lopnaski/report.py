@@ -6,7 +6,7 @@ import subprocess
 import sys
 from html import escape
 
-from lopnaski import casefile, drawing, listing, tables, words
+from lopnaski import casefile, drawing, layout, listing, tables, words
 from lopnaski.case import Failure, bytes_of, write_out
 from lopnaski.casefile import MODES
 from lopnaski.figures import rounded, shortest
@@ -22,11 +22,14 @@ Exit status: 0 a plan, 1 a refusal (the page says what is wrong and what to do),
 
 STYLE = """body{font-family:sans-serif;max-width:75em;margin:1.5em auto;padding:0 1em;color:#111;background:#fff;line-height:1.4}
 h1{font-size:1.5em}h2{font-size:1.15em;margin-top:1.8em}.draw{overflow:auto;border:1px solid #ccc}.draw svg{display:block;margin:auto}
+#fit:checked~.draw svg{max-width:100%;height:auto}
 table{border-collapse:collapse;font-variant-numeric:tabular-nums}th,td{padding:.2em .7em;text-align:right;border-bottom:1px solid #ddd}
 th{background:#f2f2f2;vertical-align:bottom}.t{overflow-x:auto}.bad{color:#c4001a;font-weight:bold}.note{color:#555;font-size:.9em}
 @media print{.draw{border:0;overflow:visible}.draw svg{max-width:100%;height:auto}tr{break-inside:avoid}}"""
 
 MOST_ROUNDS = 64
+# A difference of load and output below this share of the load is rounding.
+NOTHING = 1e-6
 
 
 class Table:
@@ -87,12 +90,23 @@ class Report:
             self.figure(given, 2),
             self.figure(self.cost(), 2),
         )
-        if abs(load - given) > 1e-6 * max(1.0, load):
-            text += " %s MW are %s; the ground of each island takes up the difference." % (
-                self.figure(abs(load - given), 2),
-                "not served" if load > given else "given beyond the load",
-            )
-        return text
+        unserved, beyond = self.imbalance()
+        if unserved:
+            text += " %s MW are not served." % self.figure(unserved, 2)
+        if beyond:
+            text += " %s MW are given beyond the load of their island." % self.figure(beyond, 2)
+        return text + (" The ground of an island takes up the difference." if unserved or beyond else "")
+
+    def imbalance(self):
+        """The load that islands lack in MW, and what they are given beyond it; what is rounding alone is nothing."""
+        case, lacking, beyond = self.case, [], []
+        ends = [(case.whole("CO", k, "a"), case.whole("CO", k, "b")) for k in range(case.count("CO"))]
+        for members in layout.islands_of(case.count("BU"), ends):
+            load = math.fsum(case.figure("BU", bus, "load") for bus in members)
+            given = math.fsum(p for k, p in enumerate(self.plan.dispatch) if case.whole("GE", k, "bus") in members)
+            if abs(load - given) > NOTHING * max(1.0, load):
+                (lacking if load > given else beyond).append(abs(load - given))
+        return math.fsum(lacking), math.fsum(beyond)
 
     def cost(self):
         """c1 p + c2 p^2 over all generators; what a unit costs at standstill is not in a case."""
@@ -232,7 +246,8 @@ def html_table(table):
 
 def plan_page(name, report):
     body = "<p>%s</p>\n" % escape(" ".join(report.sentences()))
-    body += '<h2>The network</h2><div class="draw">%s</div>\n' % plan_drawing(name, report)
+    fit = '<input type="checkbox" id="fit"><label for="fit">the whole drawing at once</label>'
+    body += '<h2>The network</h2>%s<div class="draw">%s</div>\n' % (fit, plan_drawing(name, report))
     body += '<p class="note">Places are chosen for the drawing: a case has none. A bus is called by its number; a pointer held over a bus or a corridor shows its figures.</p>\n'
     return page("Plan of " + name, body + "".join(html_table(table) for table in report.tables()))
 

@@ -28,6 +28,16 @@ th{background:#f2f2f2;vertical-align:bottom}.t{overflow-x:auto}.bad{color:#c4001
 @media print{.draw{border:0;overflow:visible}.draw svg{max-width:100%;height:auto}tr{break-inside:avoid}}"""
 
 MOST_ROUNDS = 64
+DRAWING_NOTE = (
+    "Places are chosen for the drawing: a case has none. A bus is called by its number; "
+    "a pointer held over a bus or a corridor shows its figures."
+)
+# What a plan of each mode is.
+DONE = (
+    "a plan that may raise voltages and add circuits",
+    "a plan that adds circuits and transformers and keeps every voltage",
+    "the network as it is, only measured",
+)
 # A difference of load and output below this share of the load is rounding.
 NOTHING = 1e-6
 
@@ -54,7 +64,7 @@ class Report:
         return shortest(value) if self.exact else rounded(value, places)
 
     def rounding(self, text):
-        return "shortest decimals that read back to the same figure" if self.exact else text
+        return "Figures are shortest decimals that read back to the same value" if self.exact else text
 
     def initial(self, corridor):
         return max(1, self.case.whole("CO", corridor, "circuits"))
@@ -69,10 +79,9 @@ class Report:
         case = self.case
         mode = case.head("mode")
         target = ", with a target of %s" % count(case.head("target"), "circuit") if mode == 0 and case.head("target") else ""
-        done = ("a plan that may raise voltages and add circuits", "a plan that adds circuits and transformers and keeps every voltage", "the network as it is, only measured")
         return "%s: %s, for %s, %s and %s%s." % (
             MODES[mode],
-            done[mode],
+            DONE[mode],
             count(case.count("BU"), "bus", "buses"),
             count(case.count("CO"), "corridor"),
             count(case.count("GE"), "generator"),
@@ -167,13 +176,15 @@ class Report:
         for k in range(self.case.count("CO")):
             start, end = self.plan.ends(self.case, k)
             rows.append(
-                [str(k), self.names[start], self.names[end], shortest(self.plan.kv(self.case, start)), str(self.case.whole("CO", k, "circuits")), str(self.plan.circuits[k])]
+                [str(k), self.names[start], self.names[end], shortest(self.plan.kv(self.case, start))]
+                + [str(self.case.whole("CO", k, "circuits")), str(self.plan.circuits[k])]
                 + [self.figure(self.plan.flows[k], 2), self.figure(self.plan.rates[k], 2)]
                 + [self.figure(100.0 * self.plan.loading_of(k), 1), self.mark(k)]
             )
-        note = "A flow is that of all circuits, above 0 from the first end to the second; a rating is one circuit's; loading is the flow as a share of all circuits' ratings. " + self.rounding(
-            "Flow and rating are rounded to 0.01, loading to 0.1"
-        )
+        note = (
+            "A flow is that of all circuits, above 0 from the first end to the second; a rating is one circuit's; "
+            "loading is the flow as a share of all circuits' ratings. "
+        ) + self.rounding("Flow and rating are rounded to 0.01, loading to 0.1")
         columns = ("corridor", "from", "to", "kV", "circuits before", "circuits after", "flow, MW", "rating, MVA", "loading, %", "marks")
         return Table("Corridors", note, columns, rows)
 
@@ -248,7 +259,7 @@ def plan_page(name, report):
     body = "<p>%s</p>\n" % escape(" ".join(report.sentences()))
     fit = '<input type="checkbox" id="fit"><label for="fit">the whole drawing at once</label>'
     body += '<h2>The network</h2>%s<div class="draw">%s</div>\n' % (fit, plan_drawing(name, report))
-    body += '<p class="note">Places are chosen for the drawing: a case has none. A bus is called by its number; a pointer held over a bus or a corridor shows its figures.</p>\n'
+    body += '<p class="note">%s</p>\n' % DRAWING_NOTE
     return page("Plan of " + name, body + "".join(html_table(table) for table in report.tables()))
 
 

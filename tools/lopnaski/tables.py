@@ -401,7 +401,7 @@ def level_names(case):
     return names
 
 
-def rows_of(case, mark, table):
+def rows_of(case, mark):
     """The rows of a table but lines.csv, without its header."""
     names = level_names(case)
     for place, fields in enumerate(case.records[mark]):
@@ -427,7 +427,7 @@ def line_rows(case):
 
 def texts(case):
     """The text of each table of a case, by its name."""
-    content = {table: rows_of(case, mark, table) for mark, table in TABLE_OF.items() if mark != "LN"}
+    content = {table: rows_of(case, mark) for mark, table in TABLE_OF.items() if mark != "LN"}
     content["case"] = [[MODES[case.head("mode")], str(case.head("target"))]]
     content["lines"] = line_rows(case)
     made = {}

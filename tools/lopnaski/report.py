@@ -4,6 +4,7 @@ import math
 import os
 import subprocess
 import sys
+import textwrap
 from html import escape
 
 from lopnaski import casefile, drawing, layout, listing, tables, words
@@ -28,6 +29,7 @@ th{background:#f2f2f2;vertical-align:bottom}.t{overflow-x:auto}.bad{color:#c4001
 @media print{.draw{border:0;overflow:visible}.draw svg{max-width:100%;height:auto}tr{break-inside:avoid}}"""
 
 MOST_ROUNDS = 64
+TEXT_WIDTH = 120
 DRAWING_NOTE = (
     "Places are chosen for the drawing: a case has none. A bus is called by its number; "
     "a pointer held over a bus or a corridor shows its figures."
@@ -279,17 +281,21 @@ def text_table(table):
     grid = [table.columns] + table.rows
     widths = [max(len(row[k]) for row in grid) for k in range(len(table.columns))]
     lines = ["  ".join(cell.rjust(width) for cell, width in zip(row, widths)).rstrip() for row in grid]
-    return "%s\n%s.\n\n%s\n" % (table.title, table.note, "\n".join(lines))
+    return "%s\n%s\n\n%s\n" % (table.title, wrapped(table.note + "."), "\n".join(lines))
+
+
+def wrapped(text):
+    return textwrap.fill(text, TEXT_WIDTH)
 
 
 def plan_text(name, report):
     title = "Plan of " + name
-    parts = [title + "\n" + "=" * len(title) + "\n", "\n".join(report.sentences()) + "\n"]
+    parts = [title + "\n" + "=" * len(title) + "\n", "\n".join(wrapped(line) for line in report.sentences()) + "\n"]
     return "\n".join(parts + [text_table(table) for table in report.tables()])
 
 
 def refusal_text(name, refusal, data, details):
-    return "\n".join(["No plan of " + name, ""] + refusal_lines(refusal, data, details)) + "\n"
+    return "\n".join(["No plan of " + name, ""] + [wrapped(line) for line in refusal_lines(refusal, data, details)]) + "\n"
 
 
 def refusal_lines(refusal, data, details):

@@ -239,7 +239,7 @@ def level_key(fill, _):
 
 
 def load_key():
-    return '<circle cx="4" cy="2" r="4" fill="#ddd" stroke="#111"/><circle cx="15" cy="0" r="7" fill="#ddd" stroke="#111"/>'
+    return '<circle cx="3.5" cy="2" r="3.5" fill="#ddd" stroke="#111"/><circle cx="13" cy="0" r="6" fill="#ddd" stroke="#111"/>'
 
 
 def raised_key():

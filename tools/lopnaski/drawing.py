@@ -35,8 +35,9 @@ def colour_of(loading):
 class Drawing:
     """A plan's network: its case, its places and the parts of its SVG."""
 
-    def __init__(self, case, plan):
-        self.case, self.plan = case, plan
+    def __init__(self, case, plan, names):
+        """`names`: how each bus is called in what a pointer shows."""
+        self.case, self.plan, self.names = case, plan, names
         self.edges = [(case.whole("CO", k, "a"), case.whole("CO", k, "b")) for k in range(case.count("CO"))]
         self.levels = plan.added + case.levels()[case.head("above") :]
         self.most_load = max([case.figure("BU", bus, "load") for bus in range(case.count("BU"))] + [0.0])
@@ -64,8 +65,9 @@ class Drawing:
             groups.setdefault((min(a, b), max(a, b)), []).append(corridor)
         bows = [0.0] * len(self.edges)
         for group in groups.values():
+            apart = PARALLEL * min(1.0, 8.0 / len(group))
             for place, corridor in enumerate(group):
-                bows[corridor] = PARALLEL * (place - (len(group) - 1) / 2.0)
+                bows[corridor] = apart * (place - (len(group) - 1) / 2.0)
         return bows
 
     def corridor(self, corridor, bow):
@@ -97,13 +99,11 @@ class Drawing:
     def corridor_words(self, corridor):
         plan = self.plan
         start, end = plan.ends(self.case, corridor)
-        words = "corridor %d, bus %d to bus %d: %d circuits" % (corridor, start, end, plan.circuits[corridor])
+        words = "corridor %d, bus %s to bus %s: %d circuits" % (corridor, self.names[start], self.names[end], plan.circuits[corridor])
         added = plan.circuits[corridor] - self.initial(corridor)
         words += " (%d added)" % added if added else ""
-        return words + ", flow %s MW, %s %% of the rating" % (
-            rounded(plan.flows[corridor], 2),
-            rounded(100.0 * plan.loading_of(corridor), 1),
-        )
+        words += ", flow %s MW, %s %% of the rating" % (rounded(plan.flows[corridor], 2), rounded(100.0 * plan.loading_of(corridor), 1))
+        return escape(words)
 
     def bus(self, bus):
         x, y = self.places[bus]
@@ -120,15 +120,15 @@ class Drawing:
         self.add("</g>")
 
     def bus_words(self, bus):
-        words = "bus %d: %s kV, load %s MW, angle %s degrees" % (
-            bus,
+        words = "bus %s: %s kV, load %s MW, angle %s degrees" % (
+            self.names[bus],
             shortest(self.plan.kv(self.case, bus)),
             shortest(self.case.figure("BU", bus, "load")),
             rounded(math.degrees(self.plan.angles[bus]), 2),
         )
         units = [str(k) for k in range(self.case.count("GE")) if self.case.whole("GE", k, "bus") == bus]
         words += ", generator " + " ".join(units) if units else ""
-        return words + (", ground of its island" if bus in self.plan.grounds else "")
+        return escape(words + (", ground of its island" if bus in self.plan.grounds else ""))
 
     def is_raised(self, bus):
         """Whether the plan moved a bus to a higher level."""
@@ -148,12 +148,12 @@ class Drawing:
             [
                 '<svg xmlns="http://www.w3.org/2000/svg" width="%d" height="%d" viewBox="0 0 %d %d" role="img" aria-label="The network">'
                 % (width, height, width, height),
-                "<style>%s</style>" % STYLE,
+                '<style>%s</style><rect width="100%%" height="100%%" fill="#fff"/>' % STYLE,
                 '<g transform="translate(%.1f %.1f)">' % (shift, MARGIN),
                 "\n".join(self.parts),
                 '</g><g transform="translate(%.1f %.1f)">' % (MARGIN, self.height + 2.0 * MARGIN),
                 legend,
-                "</g></svg>",
+                "</g></svg>\n",
             ]
         )
 
@@ -239,7 +239,7 @@ def level_key(fill, _):
 
 
 def load_key():
-    return '<circle cx="4" cy="2" r="4" fill="#ddd" stroke="#111"/><circle cx="15" cy="0" r="7" fill="#ddd" stroke="#111"/>'
+    return '<circle cx="3.5" cy="2" r="3.5" fill="#ddd" stroke="#111"/><circle cx="13" cy="0" r="6" fill="#ddd" stroke="#111"/>'
 
 
 def raised_key():

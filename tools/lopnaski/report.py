@@ -4,27 +4,44 @@ import math
 import os
 import subprocess
 import sys
+import textwrap
 from html import escape
 
-from lopnaski import casefile, drawing, listing, words
+from lopnaski import casefile, drawing, layout, listing, tables, words
 from lopnaski.case import Failure, bytes_of, write_out
 from lopnaski.casefile import MODES
 from lopnaski.figures import rounded, shortest
 
-USAGE = """usage: ./report [--text] [--exact] [--listing LISTING] FILE
+USAGE = """usage: ./report [--text | --svg] [--exact] [--listing LISTING] [--names FOLDER] FILE
   FILE                 a case file, - for standard input; ./plan is run on it
   --text               plain text for a terminal, and not a page
+  --svg                the drawing alone
   --exact              every figure as the shortest decimal that reads back to it, and none rounded
   --listing LISTING    the plan from what ./plan printed before, and not from a run now
+  --names FOLDER       the names of the buses from the tables in FOLDER, beside their numbers
 Exit status: 0 a plan, 1 a refusal (the page says what is wrong and what to do), 2 everything else."""
 
 STYLE = """body{font-family:sans-serif;max-width:75em;margin:1.5em auto;padding:0 1em;color:#111;background:#fff;line-height:1.4}
-h1{font-size:1.5em}h2{font-size:1.15em;margin-top:1.8em}.draw{overflow:auto;border:1px solid #ccc}
+h1{font-size:1.5em}h2{font-size:1.15em;margin-top:1.8em}.draw{overflow:auto;border:1px solid #ccc}.draw svg{display:block;margin:auto}
+#fit:checked~.draw svg{max-width:100%;height:auto}
 table{border-collapse:collapse;font-variant-numeric:tabular-nums}th,td{padding:.2em .7em;text-align:right;border-bottom:1px solid #ddd}
-th{background:#f2f2f2;vertical-align:bottom}.t{overflow-x:auto}.mark{color:#c4001a;font-weight:bold}.note{color:#555;font-size:.9em}
+th{background:#f2f2f2;vertical-align:bottom}.t{overflow-x:auto}.bad{color:#c4001a;font-weight:bold}.note{color:#555;font-size:.9em}
 @media print{.draw{border:0;overflow:visible}.draw svg{max-width:100%;height:auto}tr{break-inside:avoid}}"""
 
 MOST_ROUNDS = 64
+TEXT_WIDTH = 120
+DRAWING_NOTE = (
+    "Places are chosen for the drawing: a case has none. A bus is called by its number; "
+    "a pointer held over a bus or a corridor shows its figures."
+)
+# What a plan of each mode is.
+DONE = (
+    "a plan that may raise voltages and add circuits",
+    "a plan that adds circuits and transformers and keeps every voltage",
+    "the network as it is, only measured",
+)
+# A difference of load and output below this share of the load is rounding.
+NOTHING = 1e-6
 
 
 class Table:
@@ -40,14 +57,16 @@ class Table:
 class Report:
     """A plan beside its case, as sentences and tables."""
 
-    def __init__(self, case, plan, exact):
+    def __init__(self, case, plan, exact, names=None):
+        """`names`: how each bus is called; by its number where there is none."""
         self.case, self.plan, self.exact = case, plan, exact
+        self.names = names or [str(bus) for bus in range(case.count("BU"))]
 
     def figure(self, value, places):
         return shortest(value) if self.exact else rounded(value, places)
 
     def rounding(self, text):
-        return "shortest decimals that read back to the same figure" if self.exact else text
+        return "Figures are shortest decimals that read back to the same value" if self.exact else text
 
     def initial(self, corridor):
         return max(1, self.case.whole("CO", corridor, "circuits"))
@@ -61,11 +80,10 @@ class Report:
     def what(self):
         case = self.case
         mode = case.head("mode")
-        target = " and a target of %s" % count(case.head("target"), "circuit") if mode == 0 and case.head("target") else ""
-        done = ("a plan that may raise voltages and add circuits", "a plan that adds circuits and transformers and keeps every voltage", "the network as it is, only measured")
+        target = ", with a target of %s" % count(case.head("target"), "circuit") if mode == 0 and case.head("target") else ""
         return "%s: %s, for %s, %s and %s%s." % (
             MODES[mode],
-            done[mode],
+            DONE[mode],
             count(case.count("BU"), "bus", "buses"),
             count(case.count("CO"), "corridor"),
             count(case.count("GE"), "generator"),
@@ -83,12 +101,23 @@ class Report:
             self.figure(given, 2),
             self.figure(self.cost(), 2),
         )
-        if abs(load - given) > 1e-6 * max(1.0, load):
-            text += " %s MW are %s; the ground of each island takes up the difference." % (
-                self.figure(abs(load - given), 2),
-                "not served" if load > given else "given beyond the load",
-            )
-        return text
+        unserved, beyond = self.imbalance()
+        if unserved:
+            text += " %s MW are not served." % self.figure(unserved, 2)
+        if beyond:
+            text += " %s MW are given beyond the load of their island." % self.figure(beyond, 2)
+        return text + (" The ground of an island takes up the difference." if unserved or beyond else "")
+
+    def imbalance(self):
+        """The load that islands lack in MW, and what they are given beyond it; what is rounding alone is nothing."""
+        case, lacking, beyond = self.case, [], []
+        ends = [(case.whole("CO", k, "a"), case.whole("CO", k, "b")) for k in range(case.count("CO"))]
+        for members in layout.islands_of(case.count("BU"), ends):
+            load = math.fsum(case.figure("BU", bus, "load") for bus in members)
+            given = math.fsum(p for k, p in enumerate(self.plan.dispatch) if case.whole("GE", k, "bus") in members)
+            if abs(load - given) > NOTHING * max(1.0, load):
+                (lacking if load > given else beyond).append(abs(load - given))
+        return math.fsum(lacking), math.fsum(beyond)
 
     def cost(self):
         """c1 p + c2 p^2 over all generators; what a unit costs at standstill is not in a case."""
@@ -149,13 +178,15 @@ class Report:
         for k in range(self.case.count("CO")):
             start, end = self.plan.ends(self.case, k)
             rows.append(
-                [str(k), str(start), str(end), shortest(self.plan.kv(self.case, start)), str(self.case.whole("CO", k, "circuits")), str(self.plan.circuits[k])]
+                [str(k), self.names[start], self.names[end], shortest(self.plan.kv(self.case, start))]
+                + [str(self.case.whole("CO", k, "circuits")), str(self.plan.circuits[k])]
                 + [self.figure(self.plan.flows[k], 2), self.figure(self.plan.rates[k], 2)]
                 + [self.figure(100.0 * self.plan.loading_of(k), 1), self.mark(k)]
             )
-        note = "A flow is that of all circuits, above 0 from the first end to the second; a rating is one circuit's; loading is the flow as a share of all circuits' ratings. " + self.rounding(
-            "Flow and rating are rounded to 0.01, loading to 0.1"
-        )
+        note = (
+            "A flow is that of all circuits, above 0 from the first end to the second; a rating is one circuit's; "
+            "loading is the flow as a share of all circuits' ratings. "
+        ) + self.rounding("Flow and rating are rounded to 0.01, loading to 0.1")
         columns = ("corridor", "from", "to", "kV", "circuits before", "circuits after", "flow, MW", "rating, MVA", "loading, %", "marks")
         return Table("Corridors", note, columns, rows)
 
@@ -171,7 +202,7 @@ class Report:
         for k, p in enumerate(self.plan.dispatch):
             price = case.figure("GE", k, "c1") + 2.0 * case.figure("GE", k, "c2") * p
             rows.append(
-                [str(k), str(case.whole("GE", k, "bus")), self.figure(p, 2)]
+                [str(k), self.names[case.whole("GE", k, "bus")], self.figure(p, 2)]
                 + [shortest(case.figure("GE", k, field)) for field in ("pmin", "pmax")]
                 + [self.figure(price, 4), "slack" if case.whole("GE", k, "slack") else ""]
             )
@@ -186,7 +217,7 @@ class Report:
             marks = ["raised"] if after > before else []
             marks += ["ground"] if bus in plan.grounds else []
             rows.append(
-                [str(bus), shortest(before), shortest(after), shortest(case.figure("BU", bus, "load"))]
+                [self.names[bus], shortest(before), shortest(after), shortest(case.figure("BU", bus, "load"))]
                 + [self.figure(math.degrees(plan.angles[bus]), 2), ", ".join(marks)]
             )
         note = self.rounding("Angles are rounded to 0.01 degrees") + "; the ground of an island has angle 0"
@@ -210,12 +241,14 @@ def page(title, body):
     )
 
 
+def html_cell(cell):
+    bad = ' class="bad"' if cell.startswith(("overloaded", "capped")) else ""
+    return "<td%s>%s</td>" % (bad, escape(cell))
+
+
 def html_table(table):
     head = "".join("<th>%s</th>" % escape(column) for column in table.columns)
-    rows = []
-    for row in table.rows:
-        cells = ['<td class="mark">%s</td>' % escape(cell) if name == "marks" else "<td>%s</td>" % escape(cell) for name, cell in zip(table.columns, row)]
-        rows.append("<tr>%s</tr>" % "".join(cells))
+    rows = ["<tr>%s</tr>" % "".join(html_cell(cell) for cell in row) for row in table.rows]
     return '<h2>%s</h2><p class="note">%s.</p><div class="t"><table><thead><tr>%s</tr></thead><tbody>\n%s\n</tbody></table></div>\n' % (
         escape(table.title),
         escape(table.note),
@@ -226,9 +259,14 @@ def html_table(table):
 
 def plan_page(name, report):
     body = "<p>%s</p>\n" % escape(" ".join(report.sentences()))
-    body += '<h2>The network</h2><div class="draw">%s</div>\n' % drawing.Drawing(report.case, report.plan).svg()
-    body += '<p class="note">Places are chosen for the drawing: a case has none. A bus is called by its number; a pointer held over a bus or a corridor shows its figures.</p>\n'
+    fit = '<input type="checkbox" id="fit"><label for="fit">the whole drawing at once</label>'
+    body += '<h2>The network</h2>%s<div class="draw">%s</div>\n' % (fit, plan_drawing(name, report))
+    body += '<p class="note">%s</p>\n' % DRAWING_NOTE
     return page("Plan of " + name, body + "".join(html_table(table) for table in report.tables()))
+
+
+def plan_drawing(_, report):
+    return drawing.Drawing(report.case, report.plan, report.names).svg()
 
 
 def refusal_page(name, refusal, data, details):
@@ -243,17 +281,21 @@ def text_table(table):
     grid = [table.columns] + table.rows
     widths = [max(len(row[k]) for row in grid) for k in range(len(table.columns))]
     lines = ["  ".join(cell.rjust(width) for cell, width in zip(row, widths)).rstrip() for row in grid]
-    return "%s\n%s.\n\n%s\n" % (table.title, table.note, "\n".join(lines))
+    return "%s\n%s\n\n%s\n" % (table.title, wrapped(table.note + "."), "\n".join(lines))
+
+
+def wrapped(text):
+    return textwrap.fill(text, TEXT_WIDTH)
 
 
 def plan_text(name, report):
     title = "Plan of " + name
-    parts = [title + "\n" + "=" * len(title) + "\n", "\n".join(report.sentences()) + "\n"]
+    parts = [title + "\n" + "=" * len(title) + "\n", "\n".join(wrapped(line) for line in report.sentences()) + "\n"]
     return "\n".join(parts + [text_table(table) for table in report.tables()])
 
 
 def refusal_text(name, refusal, data, details):
-    return "\n".join(["No plan of " + name, ""] + refusal_lines(refusal, data, details)) + "\n"
+    return "\n".join(["No plan of " + name, ""] + [wrapped(line) for line in refusal_lines(refusal, data, details)]) + "\n"
 
 
 def refusal_lines(refusal, data, details):
@@ -271,20 +313,20 @@ def refusal_lines(refusal, data, details):
 
 class Options:
     def __init__(self, arguments):
-        self.text = self.exact = False
-        self.listing = self.file = None
+        self.text = self.svg = self.exact = False
+        self.listing = self.names = self.file = None
         rest = list(arguments)
         while rest:
             word = rest.pop(0)
-            if word in ("--text", "--exact"):
+            if word in ("--text", "--svg", "--exact"):
                 setattr(self, word[2:], True)
-            elif word == "--listing" and rest:
-                self.listing = rest.pop(0)
+            elif word in ("--listing", "--names") and rest:
+                setattr(self, word[2:], rest.pop(0))
             elif self.file is None and (word == "-" or not word.startswith("-")):
                 self.file = word
             else:
                 raise Failure(USAGE, 2)
-        if self.file is None:
+        if self.file is None or self.text and self.svg:
             raise Failure(USAGE, 2)
 
 
@@ -327,16 +369,30 @@ def details_of(refusal, data):
         return []
 
 
+def names_of(folder, case):
+    """How the tables of a folder call the buses of a case: number and name."""
+    read = tables.Folder(folder)
+    rows = tables.read_rows(read, "buses")
+    if read.faults:
+        raise Failure("\n".join(read.faults), 2)
+    if len(rows) != case.count("BU"):
+        raise Failure("buses.csv has %d rows, and the case %d buses" % (len(rows), case.count("BU")), 2)
+    names = [row.cells.get("bus", "") for row in rows]
+    return [str(bus) if name in ("", str(bus)) else "%d %s" % (bus, name) for bus, name in enumerate(names)]
+
+
 def run(options):
     data = bytes_of(options.file)
     name = "standard input" if options.file == "-" else os.path.basename(options.file)
     try:
-        report = Report(*planned(data, listing_of(options, data)), options.exact)
+        case, plan = planned(data, listing_of(options, data))
+        report = Report(case, plan, options.exact, options.names and names_of(options.names, case))
     except casefile.Refusal as refusal:
-        make = refusal_text if options.text else refusal_page
+        make = refusal_page if not (options.text or options.svg) else refusal_text
         write_out(make(name, refusal, data, details_of(refusal, data)).encode())
         return 1
-    write_out((plan_text if options.text else plan_page)(name, report).encode())
+    make = plan_text if options.text else plan_drawing if options.svg else plan_page
+    write_out(make(name, report).encode())
     return 0
 
 

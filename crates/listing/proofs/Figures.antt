@@ -13,9 +13,14 @@ use Rattle.plan_defs.specs.Outcome.{summary}
 use Rattle.plan_defs.specs.Listing.{bitsOf, listingOf}
 use Rattle.plan_defs.specs.Listing.{lines as figuresOf}
 use Rattle.plan_defs.specs.declared.CircuitDesign.{CircuitDesign}
+use Rattle.casefile.specs.Reading.{readingOf}
+use Rattle.casefile.specs.Tables.{tablesOf}
+use Rattle.casefile.specs.declared.Header.{Header}
+use Rattle.casefile.specs.declared.Reading.{Reading}
+use Rattle.casefile.specs.declared.Reading.the-variants.{Read}
 use Rattle.listing.specs.Text.{number, figure}
 use Rattle.listing.specs.Lines.{line, lines, refusalLine, planLine, addedLine, addedLines, groundLine, groundLines, busLine, busLines, generatorLine, generatorLines, corridorLine, corridorLines, mostLine}
-use Rattle.listing.specs.Listing.{planText, endingText}
+use Rattle.listing.specs.Listing.{planText, endingText, caseIn, readText, fileText}
 use Rattle.listing.specs.Figures.{bitsField, bitsAt, figuresText}
 
 lines-same : (f g : ℕ → List ℕ) → ((i : ℕ) → f i ≡ g i) → (n : ℕ) → lines f n ≡ lines g n
@@ -87,3 +92,8 @@ one-listing mode (planned p) = plan-same mode p
 pub case-listing : (c : Case) (target : ℕ) → endingText (c .mode) (endingOf c target) ≡ figuresText (listingOf c target)
 unfolding listingOf
 case-listing c target = one-listing (c .mode) (endingOf c target)
+
+-- and of a file that holds a case
+pub file-listing : (s : List ℕ) (h : Header) → readingOf s ≡ Read h → fileText s ≡ figuresText (listingOf (caseIn h (tablesOf s h)) (h .target))
+unfolding fileText
+file-listing s h e = ap (λ (r : Reading). readText s r) e ∙ case-listing (caseIn h (tablesOf s h)) (h .target)

@@ -1,4 +1,4 @@
--- Banks designed anew: what the code stores for a corridor draws the definition's design, and is above 0 and finite; and so for a whole case.
+-- Corridors designed anew: the code's design is the definition's, and the bank that is kept of it is above 0 and finite; and so for a whole case.
 -- A design is its line and its bank, so that the bank alone says which design it was.
 use Prim.Native.Nat.{ℕ, _*_, _^_, _<_, _≤_}
 use mathlib.Core.Bool.{Bool, true, false, _&&_}
@@ -16,10 +16,10 @@ use Rattle.loops.proofs.Tab.{length-tab, get-tab}
 use Rattle.loops.proofs.Places.{tab-read}
 use Rattle.impedance.specs.Impedance.{ratingOk}
 use Rattle.plan_defs.specs.Case.{Case, toOf}
-use Rattle.plan_defs.specs.Design.{bankedBy, drawn, keptBy, keptTo, keptBank, freshBank, bankFor, genAt, transformerCorridors}
+use Rattle.plan_defs.specs.Design.{bankedBy, drawn, keptBy, keptTo, keptBank, freshBank, bankFor, genAt, transformerCorridors, designAt}
 use Rattle.plan_defs.specs.declared.CircuitDesign.{CircuitDesign}
 use Rattle.planning.specs.Design.{linesFor, endsFor, endsOf, Lines, Banks}
-use Rattle.planning.specs.Redesign.{unitsFor, redesignFor, Units, Loads, bankOf, bankFrom, freshAt, bankAnew, banksAnew}
+use Rattle.planning.specs.Redesign.{unitsFor, redesignFor, Units, Loads, anewFrom, bankOf, freshAt, bankAnew, banksAnew}
 use Rattle.planning.specs.declared.design.Ends.{Ends}
 use Rattle.planning.proofs.Lists.{sum-most, count-most}
 use Rattle.planning.proofs.Draws.{ends-fit, to-below, drawn-lifts}
@@ -50,14 +50,14 @@ module _ (ladder : List Float) (level a b : List ℕ) (km share sheet load gens 
       ∙ ap (λ (n : ℕ). freshBank (at load (e .to)) (at gens (e .to)) n) ps
       ∙ ap (λ (z : Ends). freshBank (at load (z .to)) (at gens (z .to)) (getD shared (z .to) 0)) p
 
-  pub anew-is : (fresh floor mva : Float) (first d : CircuitDesign) (r : Float) → mva ≡ fresh
-      → first ≡ drawn (linesFor ladder a b km share sheet) level k mva → d ≡ keptBank first floor → r ≡ bankOf d mva
-      → r ≡ bankFrom (linesFor ladder a b km share sheet) level fresh floor k
-  unfolding bankFrom
-  anew-is fresh floor mva first d r pm pf pd pr =
-      pr
-      ∙ ap (λ (z : CircuitDesign). bankOf z mva) (pd ∙ ap (λ (z : CircuitDesign). keptBank z floor) pf)
-      ∙ ap (λ (x : Float). bankOf (keptBank (drawn (linesFor ladder a b km share sheet) level k x) floor) x) pm
+  pub anew-is : (fresh floor mva : Float) (first d : CircuitDesign) → mva ≡ fresh
+      → first ≡ drawn (linesFor ladder a b km share sheet) level k mva → d ≡ keptBank first floor
+      → d ≡ anewFrom (linesFor ladder a b km share sheet) level fresh floor k
+  unfolding anewFrom
+  anew-is fresh floor mva first d pm pf pd =
+      pd
+      ∙ ap (λ (z : CircuitDesign). keptBank z floor) pf
+      ∙ ap (λ (x : Float). keptBank (drawn (linesFor ladder a b km share sheet) level k x) floor) pm
 
 -- ---- where the two lists hold what each bus's units give and how many corridors step down to it
 module _ (ladder : List Float) (level a b : List ℕ) (km share sheet load : List Float) (bus : List ℕ) (pmax floors gens : List Float) (shared : List ℕ)
@@ -113,18 +113,24 @@ module _ (ladder : List Float) (level a b : List ℕ) (km share sheet load : Lis
       ap (λ (x : Float). freshBank (at load lo) x (getD shared lo 0)) gen-is
       ∙ ap (λ (n : ℕ). freshBank (at load lo) (genAt (unitsFor bus pmax) lo) n) shared-is
 
-  pub anew-defined : bankFrom (linesFor ladder a b km share sheet) level (freshAt (endsFor ladder a b) level load gens shared k) (at floors k) k ≡ bankAnew C level floors k
-  unfolding bankFrom bankAnew
+  anew-defined : anewFrom (linesFor ladder a b km share sheet) level (freshAt (endsFor ladder a b) level load gens shared k) (at floors k) k
+      ≡ keptBank (designAt C level k) (at floors k)
+  unfolding anewFrom designAt
   anew-defined =
-      ap (λ (x : Float). bankOf (keptBank (drawn (linesFor ladder a b km share sheet) level k x) (at floors k)) x) fresh-defined
-      ∙ ap (λ (d : CircuitDesign). bankOf (keptBank d (at floors k)) (bankFor C level (toOf C level k))) (drawn-lifts C level k _ (omega arith))
+      ap (λ (x : Float). keptBank (drawn (linesFor ladder a b km share sheet) level k x) (at floors k)) fresh-defined
+      ∙ ap (λ (d : CircuitDesign). keptBank d (at floors k)) (drawn-lifts C level k _ (omega arith))
+
+  pub bank-defined : (d : CircuitDesign) (mva : Float) → mva ≡ bankOf d
+      → d ≡ anewFrom (linesFor ladder a b km share sheet) level (freshAt (endsFor ladder a b) level load gens shared k) (at floors k) k → mva ≡ bankAnew C level floors k
+  unfolding bankAnew
+  bank-defined d mva e f = e ∙ ap (λ (x : CircuitDesign). bankOf x) (f ∙ anew-defined)
 
   pub anew-ok : ratingOk (bankAnew C level floors k) ≡ true
-  unfolding bankFrom
+  unfolding anewFrom
   anew-ok =
-      subst (λ (x : Float). ratingOk x ≡ true) anew-defined
-      (anew-sound (drawn (linesFor ladder a b km share sheet) level k (freshAt (endsFor ladder a b) level load gens shared k)) (at floors k) _
-      (drawn-rated ladder level a b km share sheet k lines h _ fresh-ok) fresh-ok)
+      subst (λ (x : Float). ratingOk x ≡ true) (bank-defined _ _ refl refl)
+      (anew-sound (drawn (linesFor ladder a b km share sheet) level k (freshAt (endsFor ladder a b) level load gens shared k)) (at floors k)
+      (drawn-rated ladder level a b km share sheet k lines h _ fresh-ok))
 
 -- every bank anew is above 0 and finite
 pub banks-anew-sound : (ladder : List Float) (level a b : List ℕ) (km share sheet load : List Float) (bus : List ℕ) (pmax floors : List Float)

@@ -17,7 +17,15 @@ use Rattle.plan_defs.specs.Design.{lineOf, lineAt, withBank, setTransformerMva,
 use Rattle.plan_defs.specs.Build.{built, buildOf, bankBelow, setBank, drawnAll}
 use Rattle.plan_defs.specs.declared.CircuitDesign.{CircuitDesign}
 use Rattle.planning.specs.Design.{linesFor}
+use Rattle.planning.specs.Size.{setIf}
 use Rattle.planning.proofs.Draws.{drawn-lifts}
+
+-- ---- what is kept of the enlarged design is the larger bank
+pub kept-next : (larger : Bool) (first d : CircuitDesign) (next : Float) (banks : List Float) (k : ℕ) → d ≡ bankedBy larger first next
+    → setIf larger banks k (d .«transformer_mva») ≡ setIf larger banks k next
+unfolding setTransformerMva withBank
+kept-next true first d next banks k e = ap (λ (x : CircuitDesign). set banks k (x .«transformer_mva»)) e
+kept-next false first d next banks k e = refl
 
 module _ (c : Case) (level : List ℕ) where
   -- ---- a larger bank, where there is one below its line

@@ -26,7 +26,7 @@ use Rattle.planning.specs.Design.{linesFor, Banks}
 use Rattle.planning.specs.Size.{sizeFor, growFor, sizedOf, sizingOf, setIf, Grows}
 use Rattle.planning.specs.declared.size.Tally.{Tally}
 use Rattle.planning.proofs.Draws.{drawn-lifts}
-use Rattle.planning.proofs.Builds.{bank-drawn, drawn-at, set-bank, drawn-all-lifts}
+use Rattle.planning.proofs.Builds.{kept-next, bank-drawn, drawn-at, set-bank, drawn-all-lifts}
 
 -- ---- a larger bank
 module _ (c : Case) (level circuits : List ℕ) (banks floors : List Float) (upsized marks : List ℕ) (t : Tally) (k : ℕ) (h : k < c .corridors) (n : length banks ≡ c .corridors) where
@@ -121,13 +121,15 @@ module _ (mode : PlanMode) (buses : ℕ) (ladder : List Float) (level a b : List
         → first ≡ drawn (linesFor ladder a b km share sheet) level k (at banks k)
         → next ≡ nextBank required (getD circuits k 0) first
         → larger ≡ enlarges required (getD circuits k 0) first next
-        → banks′ ≡ setIf larger banks k next → floors′ ≡ setIf larger floors k next → upsized′ ≡ setIf larger upsized k 1
         → d ≡ bankedBy larger first next
+        → banks′ ≡ setIf larger banks k (d .«transformer_mva») → floors′ ≡ setIf larger floors k (d .«transformer_mva») → upsized′ ≡ setIf larger upsized k 1
         → s ≡ record { capacity = t .capacity; added = t .added || larger; capped = t .capped }
         → Grows (growFor mode a b) level required k d circuits marks s circuits′ marks′ t′
         → sizingOf C level circuits′ banks′ floors′ upsized′ marks′ t′ ≡ sizeOne C level flow k (sizingOf C level circuits banks floors upsized marks t)
     unfolding sizeOne
-    size-is required first next larger banks′ floors′ upsized′ d s circuits′ marks′ t′ pr pf pn pl pb pc pu pd ps g =
+    size-is required first next larger banks′ floors′ upsized′ d s circuits′ marks′ t′ pr pf pn pl pd qb qc pu ps g =
+        let pb = qb ∙ kept-next larger first d next banks k pd in
+        let pc = qc ∙ kept-next larger first d next floors k pd in
         let first-is = pf ∙ drawn-lifts C level k (at banks k) (omega arith) in
         let design-is : design (drawnAll C level banks′) k ≡ d =
         ap (λ (l : List Float). design (drawnAll C level l) k) pb

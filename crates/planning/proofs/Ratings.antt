@@ -149,15 +149,15 @@ kept-sound d floor r e =
     let p = both (d .«is_transformer») (lt (d .«transformer_mva») (lesser floor (d .«line_rate»))) e in
     kept-rating (d .«transformer_mva») floor (d .«line_rate») (r .bank (p .0)) (r .line) (p .1)
 
-pub anew-sound : (d : CircuitDesign) (floor mva : Float) → Rated d → ratingOk mva ≡ true → ratingOk (bankOf (keptBank d floor) mva) ≡ true
+pub anew-sound : (d : CircuitDesign) (floor : Float) → Rated d → ratingOk (bankOf (keptBank d floor)) ≡ true
 unfolding setTransformerMva withBank
-anew-sound d floor mva r ok = go (d .«is_transformer» && lt (d .«transformer_mva») (lesser floor (d .«line_rate»))) refl
+anew-sound d floor r = go (d .«is_transformer» && lt (d .«transformer_mva») (lesser floor (d .«line_rate»))) refl
   where
-    own : (t : Bool) → d .«is_transformer» ≡ t → ratingOk (cond t (d .«transformer_mva») mva) ≡ true
+    own : (t : Bool) → d .«is_transformer» ≡ t → ratingOk (cond t (d .«transformer_mva») (d .«line_rate»)) ≡ true
     own true e = r .bank e
-    own false e = ok
+    own false e = r .line
 
     go : (t : Bool) → (d .«is_transformer» && lt (d .«transformer_mva») (lesser floor (d .«line_rate»))) ≡ t
-        → ratingOk (bankOf (keptBy t d (lesser floor (d .«line_rate»))) mva) ≡ true
+        → ratingOk (bankOf (keptBy t d (lesser floor (d .«line_rate»)))) ≡ true
     go true e = kept-sound d floor r e
     go false e = own (d .«is_transformer») refl

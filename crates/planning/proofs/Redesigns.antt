@@ -22,7 +22,7 @@ use Rattle.plan_defs.specs.Design.{lineOf, lineAt, withBank, setTransformerMva,
 use Rattle.plan_defs.specs.Build.{built, buildOf, drawnAll, rebuilt}
 use Rattle.plan_defs.specs.declared.CircuitDesign.{CircuitDesign}
 use Rattle.planning.specs.Design.{Lines, Rated}
-use Rattle.planning.specs.Redesign.{redesignFor, bankOf, bankFrom, bankAnew, banksAnew, Loads, Units}
+use Rattle.planning.specs.Redesign.{redesignFor, bankOf, bankAnew, banksAnew, Loads, Units}
 use Rattle.planning.proofs.Draws.{drawn-lifts}
 use Rattle.planning.proofs.Ratings.{rating-positive, drawn-rated}
 use Rattle.planning.proofs.Anew.{fresh-ok, fresh-defined}
@@ -47,7 +47,7 @@ unkept d r = ap (λ (t : Bool). keptTo d (cond t (d .«line_rate») nought)) (no
 module _ (c : Case) (level : List ℕ) where
   -- ---- a bank drawn again
   again-by : (k : ℕ) (t : Bool) (mva floor : Float)
-      → bankedBy t (lineAt c level k) (bankOf (keptBank (bankedBy t (lineAt c level k) mva) floor) mva) ≡ keptBank (bankedBy t (lineAt c level k) mva) floor
+      → bankedBy t (lineAt c level k) (bankOf (keptBank (bankedBy t (lineAt c level k) mva) floor)) ≡ keptBank (bankedBy t (lineAt c level k) mva) floor
   unfolding setTransformerMva withBank lineAt lineOf
   again-by k false mva floor = refl
   again-by k true mva floor = go (lt mva (lesser floor (lineAt c level k .«line_rate»)))
@@ -56,12 +56,12 @@ module _ (c : Case) (level : List ℕ) where
       keep = lesser floor (lineAt c level k .«line_rate»)
 
       go : (t : Bool)
-          → setTransformerMva (lineAt c level k) (bankOf (keptBy t (setTransformerMva (lineAt c level k) mva) keep) mva) ≡ keptBy t (setTransformerMva (lineAt c level k) mva) keep
+          → setTransformerMva (lineAt c level k) (bankOf (keptBy t (setTransformerMva (lineAt c level k) mva) keep)) ≡ keptBy t (setTransformerMva (lineAt c level k) mva) keep
       go true = refl
       go false = refl
 
   anew-at : (floors : List Float) (k : ℕ) → keptBank (designAt c level k) (at floors k) ≡ drawn c level k (bankAnew c level floors k)
-  unfolding designAt drawn bankAnew bankFrom
+  unfolding designAt drawn bankAnew
   anew-at floors k = sym (again-by k (stepsDown c level k) (bankFor c level (toOf c level k)) (at floors k))
 
   pub redesign-is : (floors : List Float) → redesign c level floors ≡ drawnAll c level (banksAnew c level floors)
@@ -99,10 +99,10 @@ module _ (c : Case) (level : List ℕ) (m : length (c .a) ≡ c .corridors) (g :
   circuit-lifts k mva = sym (drawn-lifts R level k mva (omega arith)) ∙ drawn-lifts c level k mva l
 
   anew-lifts : (floors : List Float) (k : ℕ) → bankAnew R level floors k ≡ bankAnew c level floors k
-  unfolding bankAnew bankFrom toOf
+  unfolding bankAnew designAt toOf
   anew-lifts floors k =
-      ap (λ (x : Float). bankOf (keptBank (drawn R level k x) (at floors k)) x) (bank-lifts (toOf c level k))
-      ∙ ap (λ (d : CircuitDesign). bankOf (keptBank d (at floors k)) (bankFor c level (toOf c level k))) (circuit-lifts k (bankFor c level (toOf c level k)))
+      ap (λ (x : Float). bankOf (keptBank (drawn R level k x) (at floors k))) (bank-lifts (toOf c level k))
+      ∙ ap (λ (d : CircuitDesign). bankOf (keptBank d (at floors k))) (circuit-lifts k (bankFor c level (toOf c level k)))
 
   pub banks-lift : (floors : List Float) → banksAnew R level floors ≡ banksAnew c level floors
   unfolding banksAnew

@@ -17,7 +17,7 @@ use Rattle.loops.proofs.Bools.{both}
 use Rattle.impedance.specs.Impedance.{ratingOk}
 use Rattle.plan_defs.specs.Lists.{each}
 use Rattle.plan_defs.specs.Case.{Case, levels, fullAt}
-use Rattle.plan_defs.specs.Design.{drawn, design}
+use Rattle.plan_defs.specs.Design.{setTransformerMva, drawn, design}
 use Rattle.plan_defs.specs.Build.{Build, built, buildOf, setBank, setCount, bankBelow, drawnAll}
 use Rattle.plan_defs.specs.Raise.{raiseOf, canRaise, markEnds, markIf}
 use Rattle.plan_defs.specs.Stiffen.{Stiffening, stiff, arrives, arrival, stiffenBy, hasRoom, stiffenOne}
@@ -34,7 +34,7 @@ use Rattle.planning.specs.Whole.{withLines}
 use Rattle.planning.proofs.Sizes.{few-set}
 use Rattle.planning.proofs.Draws.{drawn-lifts}
 use Rattle.planning.proofs.Ratings.{drawn-rated}
-use Rattle.planning.proofs.Builds.{drawn-at, set-bank}
+use Rattle.planning.proofs.Builds.{kept-next, drawn-at, set-bank}
 use Rattle.planning.proofs.Corridors.{banks-set}
 
 -- ---- buses that come to the top
@@ -209,11 +209,13 @@ module _ (g : Limits) (ladder : List Float) (level a b : List ℕ) (km share she
         ∙ ap (λ (x : Bool). stiffenBy false (raisable g (t .hv) level a b k) x C level (budgetFor g) k S) (room-lifts C g k S (omega arith))
         ∙ one-by false e
 
-  pub one-full : below ≡ true → Lines ladder level a b km share sheet → Banks banks → (banks′ floors′ : List Float) (upsized′ : List ℕ) (t′ : Stiffness)
-      → banks′ ≡ set banks k (d .«line_rate») → floors′ ≡ set floors k (d .«line_rate») → upsized′ ≡ set upsized k 1 → t′ ≡ reckoned 0 0 t
+  pub one-full : below ≡ true → Lines ladder level a b km share sheet → Banks banks → (full : CircuitDesign) (banks′ floors′ : List Float) (upsized′ : List ℕ) (t′ : Stiffness)
+      → full ≡ setTransformerMva d (d .«line_rate») → banks′ ≡ set banks k (full .«transformer_mva») → floors′ ≡ set floors k (full .«transformer_mva») → upsized′ ≡ set upsized k 1 → t′ ≡ reckoned 0 0 t
       → BatchStiffened (k ∷ []) g ladder level a b km share sheet circuits banks floors upsized marks t circuits banks′ floors′ upsized′ marks t′
-  one-full e lines banked banks′ floors′ upsized′ t′ qb qf qu pt =
+  one-full e lines banked full banks′ floors′ upsized′ t′ pf rb rf qu pt =
       let mva = d .«line_rate» in
+      let qb = rb ∙ kept-next true d full mva banks k pf in
+      let qf = rf ∙ kept-next true d full mva floors k pf in
       let w : k < length banks = omega arith in
       let u = ap (λ (x : Stiffness). x .total) pt in
       let v = ap (λ (x : Stiffness). x .hv) pt in

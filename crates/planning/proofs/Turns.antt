@@ -1,6 +1,6 @@
 -- After a round what the rounds ask holds again of what it left, with one round less to run. The numbers are laws of their own:
 -- in the proof of the round loop each would be worked out beside all that is known there.
-use Prim.Native.Nat.{ℕ, _+_, _-_, _*_, _<_, _≤_}
+use Prim.Native.Nat.{ℕ, zero, suc, _+_, _-_, _*_, _<_, _≤_}
 use mathlib.Core.List.{List}
 use mathlib.Core.Path.{_≡_, refl, sym, _∙_, subst}
 use native.Mathlib.Omega.{arith}
@@ -12,6 +12,14 @@ use Rattle.planning.specs.Size.{Few}
 use Rattle.planning.specs.Solve.{Drawing, Lent}
 use Rattle.planning.specs.Rounds.{Tallies, RoundsFit}
 use Rattle.planning.specs.declared.rounds.Progress.{Progress}
+
+-- ---- a round is left where they are not spent
+pub some-left : {n : ℕ} → (n ≡ 0 → ⊥) → 0 < n
+some-left {n} h = go n h
+  where
+    go : (m : ℕ) → (m ≡ 0 → ⊥) → 0 < m
+    go zero h = absurd (h refl)
+    go (suc m) h = omega arith
 
 -- ---- the tallies: of d rounds, and of one more
 pub one-less : (d e left : ℕ) → e ≡ d + 1 → d + left ≤ planningMaxRounds → 0 < left → e + (left - 1) ≤ planningMaxRounds

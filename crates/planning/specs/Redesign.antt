@@ -1,4 +1,4 @@
--- What the contracts of module redesign cite: the columns that a redesign reads, as a case; what they must be; and the bank of a corridor designed anew.
+-- What the contracts of module redesign cite: the columns that a redesign reads, as a case; what they must be; a corridor designed anew, and its bank.
 use Prim.Native.Nat.{ℕ, _<_, _≤_}
 use mathlib.Core.Bool.{true, cond}
 use mathlib.Core.List.{List, []}
@@ -11,7 +11,7 @@ use Rattle.mode.specs.declared.PlanMode.the-variants.{Observe}
 use Rattle.impedance.specs.Impedance.{ratingOk}
 use Rattle.plan_defs.specs.Constants.{mostBuses, mostCorridors, mostGenerators}
 use Rattle.plan_defs.specs.Case.{Case, caseOf, toOf}
-use Rattle.plan_defs.specs.Design.{freshBank, bankFor, drawn, keptBank}
+use Rattle.plan_defs.specs.Design.{freshBank, drawn, designAt, keptBank}
 use Rattle.plan_defs.specs.declared.CircuitDesign.{CircuitDesign}
 use Rattle.planning.specs.Design.{endsFor, Lines, EndsFit}
 
@@ -40,26 +40,26 @@ pub record Corridors (ladder : List Float) (level a b : List ℕ) : Type 0 where
   pub few-buses : length level ≤ mostBuses
   pub ends : (k : ℕ) → k < length a → EndsFit ladder level a b k
 
--- ---- a bank anew: what the design kept, or the fresh one where there is no bank
-abbrev pub bankOf : CircuitDesign → Float → Float
-bankOf d mva = cond (d .«is_transformer») (d .«transformer_mva») mva
-
--- from a fresh bank and a floor
-unfoldable pub bankFrom : Case → List ℕ → Float → Float → ℕ → Float
-bankFrom c level mva floor k = bankOf (keptBank (drawn c level k mva) floor) mva
+-- ---- a corridor designed anew, from a fresh bank and a floor
+unfoldable pub anewFrom : Case → List ℕ → Float → Float → ℕ → CircuitDesign
+anewFrom c level mva floor k = keptBank (drawn c level k mva) floor
 
 -- from what the units at each bus give and how many corridors step down to it
 unfoldable pub freshAt : Case → List ℕ → List Float → List Float → List ℕ → ℕ → Float
 freshAt c level load gens shared k = freshBank (at load (toOf c level k)) (at gens (toOf c level k)) (getD shared (toOf c level k) 0)
 
--- of corridor k, and of all
+-- ---- the bank that is kept of a design. Where it has none its line's rate stands there, which no design reads
+abbrev pub bankOf : CircuitDesign → Float
+bankOf d = cond (d .«is_transformer») (d .«transformer_mva») (d .«line_rate»)
+
+-- of corridor k designed anew, and of all: those of `redesign`
 unfoldable pub bankAnew : Case → List ℕ → List Float → ℕ → Float
-bankAnew c level floors k = bankFrom c level (bankFor c level (toOf c level k)) (at floors k) k
+bankAnew c level floors k = bankOf (keptBank (designAt c level k) (at floors k))
 
 unfoldable pub banksAnew : Case → List ℕ → List Float → List Float
 banksAnew c level floors = tab (c .corridors) (bankAnew c level floors)
 
--- what one corridor's bank anew asks
+-- what one corridor designed anew asks
 pub record AnewFits (ladder : List Float) (level a b : List ℕ) (km share sheet load gens : List Float) (shared : List ℕ) (floors : List Float) (k : ℕ) : Type 0 where
   pub lines : Lines ladder level a b km share sheet
   pub loads : Loads level load

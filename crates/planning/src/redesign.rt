@@ -1,5 +1,5 @@
-// Every corridor designed anew at the buses' levels, after `design_circuits` of branches.rs and `redesign` of planning.rs. Of each
-// design its bank is kept.
+// Every corridor designed anew at the buses' levels, after `design_circuits` of branches.rs and `redesign` of planning.rs. Each
+// design is whole, its basis with it; of each its bank is kept.
 ghost use mathlib.Core.Path.{_≡_};
 ghost use Prim.Native.Nat.{_<_};
 ghost use lib.ListN.{replicate};
@@ -8,7 +8,7 @@ ghost use Rattle.loops.specs.Loops.{tab};
 ghost use Rattle.plan_defs.specs.Constants.{mostBuses};
 ghost use Rattle.plan_defs.specs.Design.{genAt, transformerCorridors, freshBank, keptBank};
 ghost use Rattle.planning.specs.Design.{linesFor, endsFor, Banks, Rated};
-ghost use Rattle.planning.specs.Redesign.{unitsFor, redesignFor, Units, Corridors, AnewFits, RedesignFits, bankOf, bankFrom, freshAt, banksAnew};
+ghost use Rattle.planning.specs.Redesign.{unitsFor, redesignFor, Units, Corridors, AnewFits, RedesignFits, anewFrom, bankOf, freshAt, banksAnew};
 use crate::design::banked_if;
 use crate::design::circuit;
 use crate::design::ends_of;
@@ -80,13 +80,8 @@ fn kept_bank(d: CircuitDesign, floor: f64) -> CircuitDesign
     banked_if(d.is_transformer & (d.transformer_mva < keep), d, keep)
 }
 
-fn bank_of(d: CircuitDesign, mva: f64) -> f64
-    ensures { λ r. ⌜ r ≡ bankOf d mva ⌝ }
-{
-    pick(d.is_transformer, d.transformer_mva, mva)
-}
-
-fn bank_anew(
+// Corridor k with a fresh bank, or with the one that the plan made larger.
+fn circuit_anew(
     ladder: &[f64],
     level: &[u32],
     a: &[u32],
@@ -99,9 +94,9 @@ fn bank_anew(
     shared: &[u32; MOST_BUSES],
     floors: &[f64],
     k: usize,
-) -> f64
+) -> CircuitDesign
     requires { ⌜ AnewFits (now ladder) (now level) (now a) (now b) (now km) (now share) (now sheet) (now load) (now «gen_at») (now shared) (now floors) k ⌝ }
-    ensures { λ r. ⌜ r ≡ bankFrom (linesFor (now (ladder .entry)) (now (a .entry)) (now (b .entry)) (now (km .entry)) (now (share .entry)) (now (sheet .entry))) (now (level .entry))
+    ensures { λ d. ⌜ d ≡ anewFrom (linesFor (now (ladder .entry)) (now (a .entry)) (now (b .entry)) (now (km .entry)) (now (share .entry)) (now (sheet .entry))) (now (level .entry))
         (freshAt (endsFor (now (ladder .entry)) (now (a .entry)) (now (b .entry))) (now (level .entry)) (now (load .entry)) (now («gen_at» .entry)) (now (shared .entry)) k)
         (at (now (floors .entry)) k) k ⌝ }
 {
@@ -109,8 +104,14 @@ fn bank_anew(
     let lo = e.to;
     let mva = fresh_bank(load[lo], gen_at[lo], shared[lo]);
     let fresh = circuit(ladder, level, a, b, km, share, sheet, k, mva);
-    let d = kept_bank(fresh, floors[k]);
-    bank_of(d, mva)
+    kept_bank(fresh, floors[k])
+}
+
+// The bank that is kept of a design. Where it has none its line's rate stands there, which no design reads.
+fn bank_of(d: CircuitDesign) -> f64
+    ensures { λ r. ⌜ r ≡ bankOf d ⌝ }
+{
+    pick(d.is_transformer, d.transformer_mva, d.line_rate)
 }
 
 pub fn redesign(
@@ -137,7 +138,7 @@ pub fn redesign(
     transformer_corridors(ladder, level, a, b, &mut shared);
     let mut k = 0;
     while k < a.len() {
-        banks[k] = bank_anew(
+        let d = circuit_anew(
             ladder,
             level,
             a,
@@ -151,6 +152,7 @@ pub fn redesign(
             floors,
             k,
         );
+        banks[k] = bank_of(d);
         k += 1;
     }
 }

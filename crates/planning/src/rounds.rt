@@ -117,14 +117,17 @@ pub fn size_rounds(
 {
     let mut p = start;
     let mut left = budget;
-    'rounds: while left > 0 {
+    'rounds: loop {
+        if left == 0 {
+            break 'rounds Rounds::Ran(p);
+        }
         left -= 1;
         p.rounds += 1;
         p.converged = false;
         p.settled = false;
         let e = draw_edges(ladder, level, a, b, km, share, sheet, circuits, banks);
         match peak_state(e, injection, grounds, angle, flow) {
-            Answer::Refused(f) => return Rounds::Refused(f),
+            Answer::Refused(f) => break 'rounds Rounds::Refused(f),
             Answer::Answered => {}
         }
         clear_counts(marks);
@@ -134,7 +137,7 @@ pub fn size_rounds(
             capped: false,
         };
         let mut k = 0;
-        'corridors: while k < a.len() {
+        while k < a.len() {
             t = size_corridor(
                 mode,
                 ladder,
@@ -154,7 +157,7 @@ pub fn size_rounds(
                 t,
             );
             k += 1;
-            // The last corridor ends the sizing: a raise or an addition leads to another round.
+            // Only the last corridor can say what follows: all are sized with the flows of the round's start and raised together.
             if k == a.len() {
                 let moved = raise_marked(
                     ladder,
@@ -180,14 +183,14 @@ pub fn size_rounds(
                     p.capacity = t.capacity;
                     p.converged = !t.capped;
                     p.settled = true;
-                    break 'rounds;
+                    break 'rounds Rounds::Ran(p);
                 }
             }
         }
         let g = limits_of(above, level);
         let mut s = stiffness_from(g, level, circuits, p.stiffening, marks);
         let mut i = 0;
-        'components: while i < leader.len() {
+        while i < leader.len() {
             match stiffen_led(
                 i,
                 p.rounds,
@@ -210,11 +213,11 @@ pub fn size_rounds(
                 marks,
                 s,
             ) {
-                Stiffened::Refused(f) => return Rounds::Refused(f),
+                Stiffened::Refused(f) => break 'rounds Rounds::Refused(f),
                 Stiffened::Going(u) => s = u,
             }
             i += 1;
-            // The last component ends the round: a raise or anything else that was done leads to another.
+            // Only the last component can say what follows: the raises of all are made together.
             if i == leader.len() {
                 let moved = raise_marked(
                     ladder,
@@ -239,9 +242,8 @@ pub fn size_rounds(
                 }
                 p.converged = !s.wide & !t.capped;
                 p.settled = true;
-                break 'rounds;
+                break 'rounds Rounds::Ran(p);
             }
         }
     }
-    Rounds::Ran(p)
 }

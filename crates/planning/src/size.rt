@@ -78,23 +78,23 @@ fn enlarges(required: f64, count: u32, d: CircuitDesign, next: f64) -> bool
     !has & (below & (d.transformer_mva < next))
 }
 
-// Keeps a larger bank of corridor k, which a redesign keeps too.
+// Keeps the bank of corridor k's design where it was made larger; a redesign keeps it too.
 pub fn keep_bank(
     larger: bool,
     k: usize,
-    mva: f64,
+    d: CircuitDesign,
     banks: &mut [f64],
     floors: &mut [f64],
     upsized: &mut [u32],
 )
     requires { ⌜ (k < length (now banks)) × (k < length (now floors)) × (k < length (now upsized)) ⌝ }
-    ensures banks { λ _. ⌜ now (banks .exit) ≡ setIf larger (now (banks .entry)) k mva ⌝ }
-    ensures floors { λ _. ⌜ now (floors .exit) ≡ setIf larger (now (floors .entry)) k mva ⌝ }
+    ensures banks { λ _. ⌜ now (banks .exit) ≡ setIf larger (now (banks .entry)) k (d .«transformer_mva») ⌝ }
+    ensures floors { λ _. ⌜ now (floors .exit) ≡ setIf larger (now (floors .entry)) k (d .«transformer_mva») ⌝ }
     ensures upsized { λ _. ⌜ now (upsized .exit) ≡ setIf larger (now (upsized .entry)) k 1 ⌝ }
 {
     if larger {
-        banks[k] = mva;
-        floors[k] = mva;
+        banks[k] = d.transformer_mva;
+        floors[k] = d.transformer_mva;
         upsized[k] = 1;
     }
 }
@@ -209,8 +209,8 @@ pub fn size_corridor(
     let first = circuit(ladder, level, a, b, km, share, sheet, k, banks[k]);
     let next = next_bank(required, count, first);
     let larger = enlarges(required, count, first, next);
-    keep_bank(larger, k, next, banks, floors, upsized);
     let d = banked_if(larger, first, next);
+    keep_bank(larger, k, d, banks, floors, upsized);
     let s = with_bank_added(t, larger);
     grow(mode, level, a, b, k, required, d, circuits, marks, s)
 }

@@ -16,6 +16,7 @@ ghost use Rattle.planning.specs.Raise.{largestCount, pairsFor, PairFits}
 ghost use Rattle.planning.specs.Stiffen.{budgetFor, Stiffenable, Room, LedStiffened, raisable, roomFor, reckoned, Strengthened, StiffenFits, BatchStiffened, Gainful, candidateAt, gainAt, gainsMore, gainNext, gainOrder, gainFor, Chosen, Stepped, reinforceStep, narrowStep, componentStep, Led, leadOf, lagOf};
 ghost use Rattle.planning.specs.declared.stiffen.Stiffened.the-variants.{Going};
 use crate::design::circuit;
+use crate::design::set_transformer_mva;
 use crate::figures::ceil;
 use crate::figures::choose;
 use crate::figures::clear_counts;
@@ -257,7 +258,8 @@ fn stiffen_one(
 {
     let d = circuit(ladder, level, a, b, km, share, sheet, k, banks[k]);
     if bank_below(d) {
-        keep_bank(true, k, d.line_rate, banks, floors, upsized);
+        let full = set_transformer_mva(d, d.line_rate);
+        keep_bank(true, k, full, banks, floors, upsized);
         return reckoned(0, 0, t);
     }
     raise_or_add(g, level, a, b, k, circuits, marks, t)

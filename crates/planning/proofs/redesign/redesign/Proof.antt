@@ -1,7 +1,7 @@
 -- `planning::redesign::redesign` meets its contract.
 -- The invariant: the corridors passed have their banks anew.
 use Prim.Native.Nat.{_-_, _≤_}
-use mathlib.Core.Path.{_≡_, refl, _∙_, sym, subst}
+use mathlib.Core.Path.{_≡_, refl, sym, subst}
 use native.Mathlib.Omega.{arith}
 use native.Mathlib.Nat.{le-antisymm}
 use denote.Ref.{now}
@@ -11,7 +11,7 @@ use Rattle.loops.proofs.Tab.{fill-start, fill-turn, fill-end, fill-length}
 use Rattle.planning.specs.Design.{Banks}
 use Rattle.planning.specs.Redesign.{redesignFor, bankAnew, banksAnew}
 use Rattle.planning.proofs.Draws.{ends-fit}
-use Rattle.planning.proofs.Anew.{fresh-ok, anew-defined, banks-anew-sound}
+use Rattle.planning.proofs.Anew.{fresh-ok, bank-defined, banks-anew-sound}
 use borrow.Author.Needs.{needs}
 use Rattle.planning.proofs.redesign.redesign.Statement.{statement}
 use Rattle.planning.proofs.redesign.redesign.Tie as tie
@@ -34,8 +34,8 @@ transformer-corridors-requires c κs =
 loop-holds : tie.Need-loop-holds Inv-loop μ-loop
 loop-holds c = let z = c .before .before .before .before .before .before .before .before .before .before .before .before .before .before .before .before .args in (search needs, fill-start (now (z .banks)) (bankAnew (redesignFor (now (z .ladder)) (now (z .load)) (now (z .bus)) (now (z .pmax)) (now (z .a)) (now (z .b)) (now (z .km)) (now (z .share)) (now (z .sheet))) (now (z .level)) (now (z .floors))))
 
-bank-anew-requires : tie.Need-bank-anew-requires Inv-loop μ-loop
-bank-anew-requires c κs =
+circuit-anew-requires : tie.Need-circuit-anew-requires Inv-loop μ-loop
+circuit-anew-requires c κs =
     let s = c .before .before .before .before .before .before .before .before .before .before .before .before .before .before .before .before .before .before .before .before in
     let z = s .args in
     let h = c .before .before .loop-test .taken in
@@ -47,27 +47,29 @@ bank-anew-requires c κs =
       fresh = fresh-ok (now (z .ladder)) (now (z .level)) (now (z .a)) (now (z .b)) (now (z .km)) (now (z .share)) (now (z .sheet)) (now (z .load)) (now (z .bus)) (now (z .pmax)) (now (z .floors)) _ _ (c .before .before .before .loop .k) (s .pre .lines) (s .pre .loads) (s .pre .units) (s .pre .few) h (c .before .before .before .before .before .before .generation-at .ensures) (c .before .before .before .before .transformer-corridors .ensures);
     }
 
+bank-of-requires : tie.Need-bank-of-requires Inv-loop μ-loop
+bank-of-requires c κs = search needs
+
 mul-banks : tie.Need-mul-banks Inv-loop μ-loop
-mul-banks c = omega (arith, c .before .before .before .loop-test .taken, c .before .before .before .before .before .before .before .before .before .before .before .before .before .before .before .before .before .before .before .before .before .pre .few)
+mul-banks c = omega (arith, c .before .before .before .before .loop-test .taken, c .before .before .before .before .before .before .before .before .before .before .before .before .before .before .before .before .before .before .before .before .before .before .pre .few)
 
 slice-write-banks : tie.Need-slice-write-banks Inv-loop μ-loop
-slice-write-banks c = omega (arith, c .before .before .before .loop-test .taken, c .before .before .before .before .before .before .before .before .before .before .before .before .before .before .before .before .before .before .before .before .before .pre .bank-size, fill-length _ _ _ _ (c .before .before .before .before .loop .inv .1) (omega (arith, c .before .before .before .before .loop .inv .0, c .before .before .before .before .before .before .before .before .before .before .before .before .before .before .before .before .before .before .before .before .before .pre .bank-size)))
+slice-write-banks c = omega (arith, c .before .before .before .before .loop-test .taken, c .before .before .before .before .before .before .before .before .before .before .before .before .before .before .before .before .before .before .before .before .before .before .pre .bank-size, fill-length _ _ _ _ (c .before .before .before .before .before .loop .inv .1) (omega (arith, c .before .before .before .before .before .loop .inv .0, c .before .before .before .before .before .before .before .before .before .before .before .before .before .before .before .before .before .before .before .before .before .before .pre .bank-size)))
 
 add-k : tie.Need-add-k Inv-loop μ-loop
-add-k c = search needs
+add-k c = omega (arith, c .before .before .before .before .loop-test .taken, c .before .before .before .before .before .before .before .before .before .before .before .before .before .before .before .before .before .before .before .before .before .before .pre .few)
 
 loop-less : tie.Need-loop-less Inv-loop μ-loop
 loop-less c = search needs
 
 loop-again : tie.Need-loop-again Inv-loop μ-loop
 loop-again c =
-    let s = c .before .before .before .before .before .before .before .before .before .before .before .before .before .before .before .before .before .before .before .before .before in
+    let s = c .before .before .before .before .before .before .before .before .before .before .before .before .before .before .before .before .before .before .before .before .before .before in
     let z = s .args in
-    let h = c .before .before .before .loop-test .taken in (
+    let h = c .before .before .before .before .loop-test .taken in (
       omega arith,
-      fill-turn (now (z .banks)) _ _ _ _ (c .before .before .before .before .loop .inv .1) (omega (arith, h, s .pre .bank-size))
-          (c .bank-anew .ensures
-          ∙ anew-defined (now (z .ladder)) (now (z .level)) (now (z .a)) (now (z .b)) (now (z .km)) (now (z .share)) (now (z .sheet)) (now (z .load)) (now (z .bus)) (now (z .pmax)) (now (z .floors)) _ _ (c .before .before .before .before .loop .k) (s .pre .lines) (s .pre .loads) (s .pre .units) (s .pre .few) h (c .before .before .before .before .before .before .before .generation-at .ensures) (c .before .before .before .before .before .transformer-corridors .ensures)),
+      fill-turn (now (z .banks)) _ _ _ _ (c .before .before .before .before .before .loop .inv .1) (omega (arith, h, s .pre .bank-size))
+          (bank-defined (now (z .ladder)) (now (z .level)) (now (z .a)) (now (z .b)) (now (z .km)) (now (z .share)) (now (z .sheet)) (now (z .load)) (now (z .bus)) (now (z .pmax)) (now (z .floors)) _ _ (c .before .before .before .before .before .loop .k) (s .pre .lines) (s .pre .loads) (s .pre .units) (s .pre .few) h (c .before .before .before .before .before .before .before .before .generation-at .ensures) (c .before .before .before .before .before .before .transformer-corridors .ensures) _ _ (c .bank-of .ensures) (c .before .circuit-anew .ensures)),
     )
 
 same-length : tie.Need-same-length Inv-loop μ-loop
@@ -90,7 +92,8 @@ redesign-spec =
     generation-at-requires
     transformer-corridors-requires
     loop-holds
-    bank-anew-requires
+    circuit-anew-requires
+    bank-of-requires
     mul-banks
     slice-write-banks
     add-k

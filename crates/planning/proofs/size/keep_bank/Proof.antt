@@ -38,12 +38,12 @@ same-length-3 c = search needs
 returns : tie.Need-returns
 returns c =
     let z = c .before .args in
-    (ap (λ (x : Bool). setIf x (now (z .banks)) (z .k) (z .mva)) (sym (c .if1 .taken)), (ap (λ (x : Bool). setIf x (now (z .floors)) (z .k) (z .mva)) (sym (c .if1 .taken)), ap (λ (x : Bool). setIf x (now (z .upsized)) (z .k) 1) (sym (c .if1 .taken))))
+    (ap (λ (x : Bool). setIf x (now (z .banks)) (z .k) (z .d .«transformer_mva»)) (sym (c .if1 .taken)), (ap (λ (x : Bool). setIf x (now (z .floors)) (z .k) (z .d .«transformer_mva»)) (sym (c .if1 .taken)), ap (λ (x : Bool). setIf x (now (z .upsized)) (z .k) 1) (sym (c .if1 .taken))))
 
 returns-2 : tie.Need-returns-2
 returns-2 c =
     let z = c .before .args in
-    (ap (λ (x : Bool). setIf x (now (z .banks)) (z .k) (z .mva)) (sym (c .if1 .left)), (ap (λ (x : Bool). setIf x (now (z .floors)) (z .k) (z .mva)) (sym (c .if1 .left)), ap (λ (x : Bool). setIf x (now (z .upsized)) (z .k) 1) (sym (c .if1 .left))))
+    (ap (λ (x : Bool). setIf x (now (z .banks)) (z .k) (z .d .«transformer_mva»)) (sym (c .if1 .left)), (ap (λ (x : Bool). setIf x (now (z .floors)) (z .k) (z .d .«transformer_mva»)) (sym (c .if1 .left)), ap (λ (x : Bool). setIf x (now (z .upsized)) (z .k) 1) (sym (c .if1 .left))))
 
 pub keep-bank-spec : {M : Type 1} → statement M
 keep-bank-spec =

@@ -1,7 +1,7 @@
 -- `planning::size::size_corridor` meets its contract.
 -- A larger bank, then more circuits or a raise: the definition's two steps.
 use Prim.Native.Nat.{_<_}
-use mathlib.Core.Path.{_≡_, sym, subst, ap}
+use mathlib.Core.Path.{_≡_, sym, subst, ap, _∙_}
 use native.Mathlib.Omega.{arith}
 use denote.Ref.{now}
 use lib.ListN.{length}
@@ -12,6 +12,7 @@ use Rattle.planning.specs.Design.{linesFor, Banks, Rated}
 use Rattle.planning.specs.declared.size.Tally.{Tally}
 use Rattle.planning.proofs.Ratings.{drawn-rated}
 use Rattle.planning.proofs.Sizes.{larger-ok}
+use Rattle.planning.proofs.Builds.{kept-next}
 use Rattle.planning.proofs.Corridors.{banks-set, size-is}
 use borrow.Author.Needs.{needs}
 use Rattle.planning.proofs.size.size_corridor.Statement.{statement}
@@ -55,11 +56,11 @@ next-bank-requires c κs = search needs
 enlarges-requires : tie.Need-enlarges-requires
 enlarges-requires c κs = search needs
 
-keep-bank-requires : tie.Need-keep-bank-requires
-keep-bank-requires c κs = let s = c .before .before .before .before .before .before .before .before .before .before .before .before .before .before .before .before .before .before .before .before .before .before .before in (omega (arith, s .pre .corridor, s .pre .held .bank-size), omega (arith, s .pre .corridor, s .pre .held .floor-size), omega (arith, s .pre .corridor, s .pre .held .upsized-size))
-
 banked-if-requires : tie.Need-banked-if-requires
-banked-if-requires c κs = larger-ok _ _ _ _ _ (first-rated (c .before .before .before .before .before .before .before .before .before .before .before .before .before .before .before .before .before .before .before .before .before .before .before .before .before .before .before .before .before .before) _ (c .before .before .before .before .before .before .before .before .before .before .before .before .circuit .ensures)) (c .before .before .before .before .before .before .before .before .before .before .before .next-bank .ensures) (c .before .before .before .before .before .before .before .before .before .before .enlarges .ensures)
+banked-if-requires c κs = larger-ok _ _ _ _ _ (first-rated (c .before .before .before .before .before .before .before .before .before .before .before .before .before .before .before .before .before .before .before .before) _ (c .before .before .circuit .ensures)) (c .before .next-bank .ensures) (c .enlarges .ensures)
+
+keep-bank-requires : tie.Need-keep-bank-requires
+keep-bank-requires c κs = let s = c .before .before .before .before .before .before .before .before .before .before .before .before .before .before .before .before .before .before .before .before .before .before .before .before in (omega (arith, s .pre .corridor, s .pre .held .bank-size), omega (arith, s .pre .corridor, s .pre .held .floor-size), omega (arith, s .pre .corridor, s .pre .held .upsized-size))
 
 with-bank-added-requires : tie.Need-with-bank-added-requires
 with-bank-added-requires c κs = search needs
@@ -83,13 +84,13 @@ same-length : tie.Need-same-length
 same-length c = c .before .before .before .before .grow .kept .1 .1 .1 .1 .1 .1 .1 .0
 
 same-length-2 : tie.Need-same-length-2
-same-length-2 c = c .before .before .before .before .before .before .before .before .before .before .before .before .before .before .before .keep-bank .kept .1 .1 .1 .0
+same-length-2 c = c .before .before .before .before .before .before .before .before .before .before .before .before .before .before .keep-bank .kept .1 .1 .1 .0
 
 same-length-3 : tie.Need-same-length-3
-same-length-3 c = c .before .before .before .before .before .before .before .before .before .before .before .before .before .before .before .keep-bank .kept .1 .1 .1 .1 .0
+same-length-3 c = c .before .before .before .before .before .before .before .before .before .before .before .before .before .before .keep-bank .kept .1 .1 .1 .1 .0
 
 same-length-4 : tie.Need-same-length-4
-same-length-4 c = c .before .before .before .before .before .before .before .before .before .before .before .before .before .before .before .keep-bank .kept .1 .1 .1 .1 .1 .0
+same-length-4 c = c .before .before .before .before .before .before .before .before .before .before .before .before .before .before .keep-bank .kept .1 .1 .1 .1 .1 .0
 
 same-length-5 : tie.Need-same-length-5
 same-length-5 c = c .before .before .before .before .grow .kept .1 .1 .1 .1 .1 .1 .1 .1 .0
@@ -101,14 +102,15 @@ returns c =
     let first = c .before .before .before .before .before .before .before .before .before .before .before .before .before .before .before .before .before .before .before .before .before .circuit .ensures in
     let next = c .before .before .before .before .before .before .before .before .before .before .before .before .before .before .before .before .before .before .before .before .next-bank .ensures in
     let larger = c .before .before .before .before .before .before .before .before .before .before .before .before .before .before .before .before .before .before .before .enlarges .ensures in
-    let kept = c .before .before .before .before .before .before .before .before .before .before .before .before .before .before .before .keep-bank .ensures in
+    let d = c .before .before .before .before .before .before .before .before .before .before .before .before .before .before .before .before .before .before .banked-if .ensures in
+    let kept = c .before .before .before .before .before .before .before .before .before .before .before .before .before .before .keep-bank .ensures in
     let t = c .before .before .before .before .before .before .before .with-bank-added .ensures in
     let g = c .before .before .before .before .grow .ensures in
     let h : z .k < length (now (z .banks)) = omega (arith, s .pre .corridor, s .pre .held .bank-size) in
     record {
       sized = size-is (z .mode) (length (now (z .level))) (now (z .ladder)) (now (z .level)) (now (z .a)) (now (z .b)) (now (z .km)) (now (z .share)) (now (z .sheet)) (now (z .flow)) (z .k) (now (z .circuits)) (now (z .banks)) (now (z .floors)) (now (z .upsized)) (now (z .marks)) (z .t)
-          (s .pre .corridor) (s .pre .held .bank-size) _ _ _ _ _ _ _ _ _ _ _ _ (c .before .before .before .before .before .before .before .before .before .before .before .before .before .before .before .before .before .before .before .before .before .before .before .before .required-for .ensures) first next larger (kept .0) (kept .1 .0) (kept .1 .1) (c .before .before .before .before .before .before .before .before .banked-if .ensures) t g;
-      banked = subst Banks (sym (kept .0)) (banks-set (now (z .banks)) (z .k) _ _ h (larger-ok _ _ _ _ _ (first-rated s _ first) next larger) (s .pre .banked));
+          (s .pre .corridor) (s .pre .held .bank-size) _ _ _ _ _ _ _ _ _ _ _ _ (c .before .before .before .before .before .before .before .before .before .before .before .before .before .before .before .before .before .before .before .before .before .before .before .before .required-for .ensures) first next larger d (kept .0) (kept .1 .0) (kept .1 .1) t g;
+      banked = subst Banks (sym (kept .0 ∙ kept-next (c .before .before .before .before .before .before .before .before .before .before .before .before .before .before .before .before .before .before .before .enlarges .result) (c .before .before .before .before .before .before .before .before .before .before .before .before .before .before .before .before .before .before .before .before .before .circuit .result) (c .before .before .before .before .before .before .before .before .before .before .before .before .before .before .before .before .before .before .banked-if .result) (c .before .before .before .before .before .before .before .before .before .before .before .before .before .before .before .before .before .before .before .before .next-bank .result) (now (z .banks)) (z .k) d)) (banks-set (now (z .banks)) (z .k) _ _ h (larger-ok _ _ _ _ _ (first-rated s _ first) next larger) (s .pre .banked));
       bound = omega (arith, g .bound, ap (λ (x : Tally). x .capacity) t);
       few = g .few;
     }
@@ -127,8 +129,8 @@ size-corridor-spec =
     circuit-requires
     next-bank-requires
     enlarges-requires
-    keep-bank-requires
     banked-if-requires
+    keep-bank-requires
     with-bank-added-requires
     grow-requires
     same-length

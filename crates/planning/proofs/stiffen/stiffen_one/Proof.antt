@@ -1,6 +1,11 @@
 -- `planning::stiffen::stiffen_one` meets its contract.
+use mathlib.Core.Path.{ap, _∙_}
 use native.Mathlib.Omega.{arith}
 use denote.Ref.{now}
+use Rattle.loops.specs.Figures.{at}
+use Rattle.impedance.specs.Impedance.{ratingOk}
+use Rattle.plan_defs.specs.declared.CircuitDesign.{CircuitDesign}
+use Rattle.planning.proofs.Ratings.{drawn-rated}
 use borrow.Author.Needs.{needs}
 use Rattle.planning.proofs.Stiffenings.{one-full, one-rest}
 use Rattle.planning.proofs.stiffen.stiffen_one.Statement.{statement}
@@ -18,11 +23,19 @@ circuit-requires c κs = let s = c .before .before .before .before .before .befo
 bank-below-requires : tie.Need-bank-below-requires
 bank-below-requires c κs = search needs
 
+set-transformer-mva-requires : tie.Need-set-transformer-mva-requires
+set-transformer-mva-requires c κs =
+    let s = c .before .before .before .before .before .before .before .before .before .before .before .before .before .before .before .before in
+    let z = s .args in
+    let banked = s .pre .0 .banked (z .k) (omega (arith, s .pre .1 .0, s .pre .0 .bank-size)) in
+    let rated = drawn-rated (now (z .ladder)) (now (z .level)) (now (z .a)) (now (z .b)) (now (z .km)) (now (z .share)) (now (z .sheet)) (z .k) (s .pre .0 .lines) (s .pre .1 .0) (at (now (z .banks)) (z .k)) banked in
+    ap (λ (d : CircuitDesign). ratingOk (d .«line_rate»)) (c .before .before .circuit .ensures) ∙ rated .line
+
 keep-bank-requires : tie.Need-keep-bank-requires
-keep-bank-requires c κs = let s = c .before .before .before .before .before .before .before .before .before .before .before .before .before .before .before .before .before .before .before in (omega (arith, s .pre .1 .0, s .pre .0 .bank-size), omega (arith, s .pre .1 .0, s .pre .0 .floor-size), omega (arith, s .pre .1 .0, s .pre .0 .upsized-size))
+keep-bank-requires c κs = let s = c .before .before .before .before .before .before .before .before .before .before .before .before .before .before .before .before .before .before .before .before in (omega (arith, s .pre .1 .0, s .pre .0 .bank-size), omega (arith, s .pre .1 .0, s .pre .0 .floor-size), omega (arith, s .pre .1 .0, s .pre .0 .upsized-size))
 
 reckoned-requires : tie.Need-reckoned-requires
-reckoned-requires c κs = let r = c .before .before .before .before .before .before .before .before .before .before .before .before .before .before .before .before .before .before .before .before .before .before .before .before .before .before .pre .1 .1 in (omega (arith, r .total), omega (arith, r .hv), omega (arith, r .stiffening))
+reckoned-requires c κs = let r = c .before .before .before .before .before .before .before .before .before .before .before .before .before .before .before .before .before .before .before .before .before .before .before .before .before .before .before .pre .1 .1 in (omega (arith, r .total), omega (arith, r .hv), omega (arith, r .stiffening))
 
 same-length : tie.Need-same-length
 same-length c = c .before .before .before .before .before .before .before .keep-bank .kept .1 .1 .1 .0
@@ -35,11 +48,11 @@ same-length-3 c = c .before .before .before .before .before .before .before .kee
 
 returns : tie.Need-returns
 returns c =
-    let s = c .before .before .before .before .before .before .before .before .before .before .before .before .before .before .before .before .before .before .before .before .before .before .before .before .before .before .before in
+    let s = c .before .before .before .before .before .before .before .before .before .before .before .before .before .before .before .before .before .before .before .before .before .before .before .before .before .before .before .before in
     let z = s .args in
     let k = c .before .before .before .before .before .before .before .keep-bank .ensures in
     one-full (z .g) (now (z .ladder)) (now (z .level)) (now (z .a)) (now (z .b)) (now (z .km)) (now (z .share)) (now (z .sheet)) (z .k) (now (z .circuits)) (now (z .banks)) (now (z .floors)) (now (z .upsized)) (now (z .marks)) (z .t)
-    (s .pre .1 .0) (s .pre .0 .count-size) (s .pre .0 .bank-size) _ (c .before .before .before .before .before .before .before .before .before .before .before .before .before .circuit .ensures) _ (c .before .before .before .before .before .before .before .before .before .before .before .before .bank-below .ensures) (c .before .before .before .before .before .before .before .before .before .before .before .if1 .taken) (s .pre .0 .lines) (s .pre .0 .banked) _ _ _ _ (k .0) (k .1 .0) (k .1 .1) (c .reckoned .ensures)
+    (s .pre .1 .0) (s .pre .0 .count-size) (s .pre .0 .bank-size) _ (c .before .before .before .before .before .before .before .before .before .before .before .before .before .before .circuit .ensures) _ (c .before .before .before .before .before .before .before .before .before .before .before .before .before .bank-below .ensures) (c .before .before .before .before .before .before .before .before .before .before .before .before .if1 .taken) (s .pre .0 .lines) (s .pre .0 .banked) _ _ _ _ _ (c .before .before .before .before .before .before .before .before .before .before .before .set-transformer-mva .ensures) (k .0) (k .1 .0) (k .1 .1) (c .reckoned .ensures)
 
 raise-or-add-requires : tie.Need-raise-or-add-requires
 raise-or-add-requires c κs =
@@ -77,6 +90,7 @@ stiffen-one-spec =
     slice-read-circuit
     circuit-requires
     bank-below-requires
+    set-transformer-mva-requires
     keep-bank-requires
     reckoned-requires
     same-length

@@ -1,5 +1,5 @@
--- `planning::redesign::bank_anew` meets its contract.
--- A fresh bank, the design with it, and the bank that this keeps.
+-- `planning::redesign::circuit_anew` meets its contract.
+-- A fresh bank, the design with it, and that with the bank that is kept.
 use mathlib.Core.Bool.{true}
 use mathlib.Core.Path.{_≡_, refl, sym, subst}
 use native.Mathlib.Omega.{arith}
@@ -16,8 +16,8 @@ use Rattle.planning.proofs.Draws.{ends-fit, end-below}
 use Rattle.planning.proofs.Ratings.{drawn-rated}
 use Rattle.planning.proofs.Anew.{fresh-is, anew-is}
 use borrow.Author.Needs.{needs}
-use Rattle.planning.proofs.redesign.bank_anew.Statement.{statement}
-use Rattle.planning.proofs.redesign.bank_anew.Tie as tie
+use Rattle.planning.proofs.redesign.circuit_anew.Statement.{statement}
+use Rattle.planning.proofs.redesign.circuit_anew.Tie as tie
 
 -- the fresh bank, from the corridor's lower end
 fresh-at : (s : tie.Start) (e : Ends) (mva : Float) → e ≡ endsOf (endsFor (now (s .args .ladder)) (now (s .args .a)) (now (s .args .b))) (now (s .args .level)) (s .args .k)
@@ -67,18 +67,15 @@ kept-bank-requires c κs =
     let m = subst (λ (x : Float). ratingOk x ≡ true) (sym (fresh-at s _ _ (c .before .before .before .before .before .before .ends-of .ensures) (c .before .before .fresh-bank .ensures))) (s .pre .fresh) in
     subst Rated (sym (c .before .circuit .ensures)) (drawn-rated (now (z .ladder)) (now (z .level)) (now (z .a)) (now (z .b)) (now (z .km)) (now (z .share)) (now (z .sheet)) (z .k) (s .pre .lines) (s .pre .corridor) _ m)
 
-bank-of-requires : tie.Need-bank-of-requires
-bank-of-requires c κs = search needs
-
 returns : tie.Need-returns
 returns c =
-    let s = c .before .before .before .before .before .before .before .before .before .before .before .before .before .before .before .before .before .before in
+    let s = c .before .before .before .before .before .before .before .before .before .before .before .before .before .before .before .before .before in
     let z = s .args in
-    anew-is (now (z .ladder)) (now (z .level)) (now (z .a)) (now (z .b)) (now (z .km)) (now (z .share)) (now (z .sheet)) (now (z .load)) (now (z .gen-at)) (now (z .shared)) (z .k) _ _ _ _ _ _ (fresh-at s _ _ (c .before .before .before .before .before .before .before .before .ends-of .ensures) (c .before .before .before .before .fresh-bank .ensures))
-    (c .before .before .before .circuit .ensures) (c .before .kept-bank .ensures) (c .bank-of .ensures)
+    anew-is (now (z .ladder)) (now (z .level)) (now (z .a)) (now (z .b)) (now (z .km)) (now (z .share)) (now (z .sheet)) (now (z .load)) (now (z .gen-at)) (now (z .shared)) (z .k) _ _ _ _ _ (fresh-at s _ _ (c .before .before .before .before .before .before .before .ends-of .ensures) (c .before .before .before .fresh-bank .ensures))
+    (c .before .before .circuit .ensures) (c .kept-bank .ensures)
 
-pub bank-anew-spec : {M : Type 1} → statement M
-bank-anew-spec =
+pub circuit-anew-spec : {M : Type 1} → statement M
+circuit-anew-spec =
     tie.close
     (tie.spec
     ends-of-requires
@@ -93,5 +90,4 @@ bank-anew-spec =
     mul-kept-bank
     shared-slice-read-kept-bank
     kept-bank-requires
-    bank-of-requires
     returns)

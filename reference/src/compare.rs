@@ -40,7 +40,7 @@ pub struct Outcome {
 
 impl Outcome {
     /// Counts one comparison; `describe` says what differs.
-    fn count(&mut self, equal: bool, describe: impl FnOnce() -> String) {
+    pub(crate) fn count(&mut self, equal: bool, describe: impl FnOnce() -> String) {
         self.compared += 1;
         if !equal {
             self.differences += 1;
@@ -121,7 +121,7 @@ fn shown(lines: &[&[u8]], place: usize) -> String {
 
 /// Counts how a run ended and has `compare` look at what it wrote; answers
 /// whether to go on with the next input.
-fn judge(
+pub(crate) fn judge(
     program: &Program,
     input: Vec<u8>,
     seed: u64,

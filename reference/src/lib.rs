@@ -15,5 +15,6 @@ pub mod compare;
 pub mod generate;
 pub mod harness;
 pub mod tally;
+pub mod targets;
 pub mod theorem;
 pub mod watch;

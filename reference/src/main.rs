@@ -11,6 +11,7 @@ use reference::harness::case_file::{answer_read, write_case};
 use reference::harness::case_text::parse_text;
 use reference::harness::listing::answer_list;
 use reference::tally::Tally;
+use reference::targets::compare_targets;
 use reference::theorem::theorem;
 
 const USAGE: &str = "usage:
@@ -21,6 +22,7 @@ const USAGE: &str = "usage:
   reference case SEED
   reference compare-answers PROGRAM KIND FIRST_SEED BATCHES COUNTS
   reference compare-cases PROGRAM list|read FIRST_SEED COUNT COUNTS
+  reference compare-targets PROGRAM FIRST_SEED COUNT          each Expand case under several targets
   reference branches COUNTS...
   reference write                                            a case as text on standard input
   reference theorem                                          a case on standard input
@@ -69,7 +71,7 @@ fn run(words: &[&str]) -> Result<(), Failure> {
         ["compare-answers", path, kind, first, batches, counts] if KINDS.contains(&kind) => {
             let program = Program { path, limit: LIMIT };
             let outcome = compare_answers(&program, kind, number(first)?, number(batches)?)?;
-            report(kind, "requests", &outcome, counts)
+            report_counted(kind, "requests", &outcome, counts)
         }
         ["case", seed] => write(&case_file(number(seed)?).bytes),
         ["compare-cases", path, what, first, count, counts] => {
@@ -80,7 +82,12 @@ fn run(words: &[&str]) -> Result<(), Failure> {
                 _ => return Err(Failure::Usage),
             };
             let outcome = compare_cases(&program, answerer, number(first)?, number(count)?)?;
-            report(what, "cases", &outcome, counts)
+            report_counted(what, "cases", &outcome, counts)
+        }
+        ["compare-targets", path, first, count] => {
+            let program = Program { path, limit: LIMIT };
+            let outcome = compare_targets(&program, number(first)?, number(count)?)?;
+            report("targets", "comparisons", &outcome)
         }
         ["branches", ref files @ ..] if !files.is_empty() => branches(files),
         ["write"] => {
@@ -107,8 +114,13 @@ fn write(bytes: &[u8]) -> Result<(), Failure> {
 }
 
 /// Says how a comparison ended and writes what it counted to the file `counts`.
-fn report(what: &str, things: &str, outcome: &Outcome, counts: &str) -> Result<(), Failure> {
+fn report_counted(what: &str, things: &str, outcome: &Outcome, counts: &str) -> Result<(), Failure> {
     std::fs::write(counts, outcome.tally.to_string())?;
+    report(what, things, outcome)
+}
+
+/// Says how a comparison ended.
+fn report(what: &str, things: &str, outcome: &Outcome) -> Result<(), Failure> {
     println!(
         "{what}: {} {things}, {} differences",
         outcome.compared, outcome.differences

@@ -35,6 +35,7 @@ pub mod InitialNought
 pub mod InitialZero
 pub mod IsolatedBus
 pub mod IsolatedBusObserved
+pub mod LargerTarget
 pub mod LevelsAdded
 pub mod LevelsUnused
 pub mod LoadingAtLimit
@@ -76,6 +77,7 @@ pub mod SeveralIslands
 pub mod SeveralIslandsObserved
 pub mod SeveralIslandsReinforced
 pub mod SeveralUnits
+pub mod SmallerTarget
 pub mod SpreadExactlyAllowed
 pub mod StiffenedBankFloorKept
 pub mod StiffenedByAllMeans

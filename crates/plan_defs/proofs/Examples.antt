@@ -14,6 +14,7 @@ use Rattle.plan_defs.specs.Case.{Case, caseOf, rowOf}
 use Rattle.plan_defs.specs.Design.{lineOf, setTransformerMva, keptBank}
 use Rattle.plan_defs.specs.Raise.{noMarks, markEnds, raisedLevels, movedBuses}
 use Rattle.plan_defs.specs.Build.{built}
+use Rattle.plan_defs.specs.Fill.{fill}
 use Rattle.plan_defs.specs.Stiffen.{Budget, hvBudget, stiffenOne, stiffenFrom, Gain, insert, batch}
 use Rattle.plan_defs.specs.Plan.{Plan, planned}
 use Rattle.plan_defs.specs.Outcome.{Slices, Outcome, slices, planCorridors}
@@ -78,6 +79,15 @@ picked most tenths = batch most nought (decimal tenths 10) (insert (gain 1 3) (i
 pub batches : picked 4 9 ∷ picked 4 11 ∷ picked 2 99 ∷ picked 4 99 ∷ [] ≡ (1 ∷ 2 ∷ []) ∷ (1 ∷ 2 ∷ 0 ∷ []) ∷ (1 ∷ 2 ∷ []) ∷ (1 ∷ 2 ∷ 0 ∷ 3 ∷ []) ∷ []
 unfolding listingOf
 batches = refl
+
+-- Filling up to one target after another, each corridor before filling at 3 and 1, in the order 1, 0: what a smaller target gave stays, and with both
+-- corridors full a larger target gives no more.
+abbrev filledTo : ℕ → List ℕ
+filledTo target = fill (row (0 ∷ 0 ∷ 0 ∷ [])) target (1 ∷ 0 ∷ []) (3 ∷ 1 ∷ []) .counts
+
+pub nothing-taken : map filledTo (0 ∷ 4 ∷ 5 ∷ 6 ∷ 7 ∷ 8 ∷ 20 ∷ []) ≡ (3 ∷ 1 ∷ []) ∷ (3 ∷ 1 ∷ []) ∷ (3 ∷ 2 ∷ []) ∷ (4 ∷ 2 ∷ []) ∷ (4 ∷ 3 ∷ []) ∷ (4 ∷ 4 ∷ []) ∷ (4 ∷ 4 ∷ []) ∷ []
+unfolding listingOf
+nothing-taken = refl
 
 -- ---- whole cases
 abbrev figures : List ℕ → List Float

@@ -1,7 +1,7 @@
 -- Two targets for one case (requests K1 and K13): what does not turn on the target is the same, the filling alone tells the plans apart, and a larger
 -- target takes nothing away.
 -- The plan up to filling does not know the target; two fillings side by side are equal until the first stops.
-use Prim.Native.Nat.{ℕ, zero, suc, _+_, _≤_, _<_, max}
+use Prim.Native.Nat.{ℕ, zero, suc, _+_, _-_, _≤_, _<_, zero-le, max}
 use mathlib.Core.Bool.{Bool, true, false, _&&_}
 use mathlib.Core.List.{List, [], _∷_}
 use mathlib.Core.Option.{Option, none, some}
@@ -10,7 +10,7 @@ use native.Mathlib.Nat.{le-refl}
 use native.Mathlib.Omega.{arith}
 use borrow.Author.Tests.{ltb-true, ltb-false, lt-ltb}
 use lib.Dec.{ltb}
-use lib.ListN.{getD}
+use lib.ListN.{length, getD}
 use Rattle.loops.proofs.Bools.{both}
 use Rattle.angles_defs.specs.Network.{zeros}
 use Rattle.refusal.specs.declared.Refusal.{Refusal}
@@ -21,6 +21,9 @@ use Rattle.plan_defs.specs.Accept.{caseFault}
 use Rattle.plan_defs.specs.Solve.{PlanningCase, planningState}
 use Rattle.plan_defs.specs.Fill.{Filled, unfilled, fillIf, belowFull, room, fillOnce, fillRounds, fillTurns, filledIf, fill}
 use Rattle.plan_defs.specs.Plan.{Plan, Ready, readyOf, planOf, closing, planFor, planned, endingOn, endingBy, endingOf}
+use Rattle.plan_defs.specs.Outcome.{Slices, Outcome, held, summary}
+use Rattle.plan_defs.specs.Demand.{AnswerTo}
+use Rattle.plan_defs.specs.declared.CorridorPlan.{CorridorPlan}
 use Rattle.plan_theorems.proofs.Filling.{Grown, rounds-grown, step}
 
 -- ---- where a plan comes from
@@ -204,4 +207,44 @@ larger-target c t u less p q e f =
       before = a .1 .before ∙ ap (λ (r : Ready). r .draft .build .circuits) x ∙ sym (b .1 .before);
       order = a .1 .order ∙ ap (λ (r : Ready). r .order) x ∙ sym (b .1 .order);
       totals = omega (arith, l .totals, ap sum y, ap sum z);
+    }
+
+-- ---- two lists of counts, the one no higher anywhere
+sum-le : (l r : List ℕ) → length l ≡ length r → ((j : ℕ) → getD l j 0 ≤ getD r j 0) → sum l ≤ sum r
+unfolding sum
+sum-le [] [] e h = zero-le
+sum-le [] (y ∷ r) e h = absurd (omega arith)
+sum-le (x ∷ l) [] e h = absurd (omega arith)
+sum-le (x ∷ l) (y ∷ r) e h = omega (arith, h 0, sum-le l r (let z : length l ≡ length r = omega arith in z) (λ j. h (suc j)))
+
+-- ---- K13, of two calls: o and x are what a call of `plan_corridors` with target t leaves and says, v and y the same with target u.
+-- The premises are what the calls promise of an answer (`AnswerTo`). It holds in every mode; outside Expand nothing is filled and all is equal.
+pub record LargerAnswer (c : Case) (t u : ℕ) (o v : Outcome) (x y : CorridorPlan) : Type 0 where
+  pub no-fewer : (k : ℕ) → k < c .corridors → getD (o .lent .circuits) k 0 ≤ getD (v .lent .circuits) k 0
+  pub rounds : x .rounds ≡ y .rounds
+  pub capacity : x .capacity ≡ y .capacity
+  pub stiffening : x .stiffening ≡ y .stiffening
+  -- the totals differ by no more than the targets do
+  pub no-less : sum (o .lent .circuits) ≤ sum (v .lent .circuits)
+  pub no-more : sum (v .lent .circuits) ≤ sum (o .lent .circuits) + (u - t)
+
+pub larger-answers : (c : Case) (t u : ℕ) → t ≤ u → (o v : Outcome) (x y : CorridorPlan) → AnswerTo c t o x → AnswerTo c u v y → LargerAnswer c t u o v x y
+unfolding held summary
+larger-answers c t u less o v x y a b =
+    let p = a .plan in
+    let q = b .plan in
+    let n = larger-target c t u less p q (a .ending) (b .ending) in
+    let e : o .lent .circuits ≡ p .circuits = ap (λ (s : Slices). s .circuits) (a .lent) in
+    let f : v .lent .circuits ≡ q .circuits = ap (λ (s : Slices). s .circuits) (b .lent) in
+    record {
+      no-fewer = λ k h.
+          let g : getD (o .lent .circuits) k 0 ≡ getD (p .circuits) k 0 = ap (λ (l : List ℕ). getD l k 0) e in
+          let w : getD (v .lent .circuits) k 0 ≡ getD (q .circuits) k 0 = ap (λ (l : List ℕ). getD l k 0) f in
+          omega (arith, n .no-fewer k);
+      rounds = ap (λ (z : CorridorPlan). z .rounds) (a .said) ∙ n .rounds ∙ sym (ap (λ (z : CorridorPlan). z .rounds) (b .said));
+      capacity = ap (λ (z : CorridorPlan). z .capacity) (a .said) ∙ n .capacity ∙ sym (ap (λ (z : CorridorPlan). z .capacity) (b .said));
+      stiffening = ap (λ (z : CorridorPlan). z .stiffening) (a .said) ∙ n .stiffening ∙ sym (ap (λ (z : CorridorPlan). z .stiffening) (b .said));
+      no-less =
+          omega (arith, ap sum e, ap sum f, sum-le (p .circuits) (q .circuits) (a .tally .places ∙ sym (b .tally .places)) (n .no-fewer));
+      no-more = omega (arith, ap sum e, ap sum f, n .totals);
     }

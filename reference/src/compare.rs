@@ -6,7 +6,10 @@ use std::process::{Command, Stdio};
 
 use crate::generate::cases::{case_file, CaseFile};
 use crate::generate::requests::{as_input, batch, Request, MOST_REQUESTS};
-use crate::harness::answers::answer_all;
+use crate::harness::answers::{answer_all, sheet_request};
+use crate::harness::figures::{listed, parse_hex};
+use crate::harness::sheet::ROW;
+use crate::judge::judge;
 
 /// Differences that are printed in full; the rest are counted.
 const SHOWN: usize = 5;
@@ -32,7 +35,7 @@ impl Outcome {
 }
 
 /// What `program` writes to standard output when given `input`.
-fn run(program: &str, input: Vec<u8>) -> io::Result<Vec<u8>> {
+pub fn run(program: &str, input: Vec<u8>) -> io::Result<Vec<u8>> {
     let mut child = Command::new(program)
         .stdin(Stdio::piped())
         .stdout(Stdio::piped())
@@ -47,7 +50,7 @@ fn run(program: &str, input: Vec<u8>) -> io::Result<Vec<u8>> {
 }
 
 /// The lines of an output; what stands after the last line feed counts as one.
-fn lines(output: &[u8]) -> Vec<&[u8]> {
+pub fn lines(output: &[u8]) -> Vec<&[u8]> {
     let mut lines: Vec<&[u8]> = output.split(|&c| c == b'\n').collect();
     if lines.last().is_some_and(|last| last.is_empty()) {
         lines.pop();
@@ -61,6 +64,35 @@ fn shown(lines: &[&[u8]], place: usize) -> String {
         Some(line) => String::from_utf8_lossy(line).into_owned(),
         None => "(no line)".to_owned(),
     }
+}
+
+/// Whether an answer is right: equal to ours, or where a sheet is answered,
+/// right by the judge.
+fn agree(line: Option<&[u8]>, ours: Option<&[u8]>, theirs: Option<&[u8]>) -> Result<(), String> {
+    let request = match ours {
+        Some(words) if words.starts_with(b"OK") => line.and_then(sheet_request),
+        _ => None,
+    };
+    match (request, theirs.and_then(rows_of)) {
+        (Some(request), Some(rows)) => judge(&request, &rows),
+        (Some(_), None) => Err("no rows".to_owned()),
+        (None, _) if ours == theirs => Ok(()),
+        (None, _) => Err("another answer".to_owned()),
+    }
+}
+
+/// The rows of an answered sheet, every figure as it is listed.
+pub fn rows_of(answer: &[u8]) -> Option<Vec<[f64; ROW]>> {
+    let mut words = answer.split(|&c| c == b' ');
+    words.next().filter(|&word| word == b"OK")?;
+    let figures: Vec<f64> = words
+        .map(|word| {
+            let v = f64::from_bits(parse_hex(word)?);
+            (listed(v).as_bytes() == word).then_some(v)
+        })
+        .collect::<Option<_>>()?;
+    let rows = figures.chunks(ROW).map(|row| row.try_into().ok());
+    rows.collect()
 }
 
 /// Compares `batches` batches of requests of one kind.
@@ -78,14 +110,17 @@ pub fn compare_answers(
         let theirs = run(program, input)?;
         let (our_lines, their_lines) = (lines(&ours), lines(&theirs));
         for place in 0..our_lines.len().max(their_lines.len()) {
-            let equal = our_lines.get(place) == their_lines.get(place);
-            outcome.count(equal, || {
+            let line = requests.get(place).map(|request| &request.line[..]);
+            let (our_line, their_line) = (our_lines.get(place), their_lines.get(place));
+            let verdict = agree(line, our_line.copied(), their_line.copied());
+            outcome.count(verdict.is_ok(), || {
                 let (family, request) = match requests.get(place) {
                     Some(request) => (request.family, String::from_utf8_lossy(&request.line)),
                     None => ("no request", "".into()),
                 };
+                let why = verdict.err().unwrap_or_default();
                 format!(
-                    "seed {seed}, {family}\n  request   {request}\n  reference {}\n  program   {}",
+                    "seed {seed}, {family}: {why}\n  request   {request}\n  reference {}\n  program   {}",
                     shown(&our_lines, place),
                     shown(&their_lines, place)
                 )

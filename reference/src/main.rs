@@ -4,6 +4,7 @@ use std::io::{self, Read, Write};
 use std::process::ExitCode;
 
 use reference::compare::{compare_answers, compare_cases, Outcome};
+use reference::differences::sheet_differences;
 use reference::generate::cases::case_file;
 use reference::generate::requests::{as_input, batch, KINDS};
 use reference::harness::answers::answer_all;
@@ -21,10 +22,11 @@ const USAGE: &str = "usage:
   reference case SEED
   reference compare-answers PROGRAM KIND FIRST_SEED BATCHES
   reference compare-cases PROGRAM list|read FIRST_SEED COUNT
+  reference sheet-differences PROGRAM FIRST_SEED BATCHES
   reference branches FIRST_SEED COUNT
   reference write                                            a case as text on standard input
   reference theorem                                          a case on standard input
-KIND is one of SQRT IMP LEAD DISP ANG PLACE BAD.";
+KIND is one of SQRT IMP LEAD DISP ANG PLACE SHEET ROWS BAD.";
 
 /// Why a command did not run to its end.
 enum Failure {
@@ -69,6 +71,10 @@ fn run(words: &[&str]) -> Result<(), Failure> {
         ["compare-answers", program, kind, first, batches] if KINDS.contains(&kind) => {
             let outcome = compare_answers(program, kind, number(first)?, number(batches)?)?;
             report(kind, "requests", &outcome)
+        }
+        ["sheet-differences", program, first, batches] => {
+            let text = sheet_differences(program, number(first)?, number(batches)?)?;
+            write(text.as_bytes())
         }
         ["case", seed] => write(&case_file(number(seed)?).bytes),
         ["compare-cases", program, what, first, count] => {

@@ -7,7 +7,11 @@ mod dispatch;
 mod impedance;
 mod leaders;
 mod placement;
+mod rows;
+mod sheet;
 mod square_root;
+
+pub use self::sheet::{BENDS, CLASS_BOUNDS};
 
 use crate::generate::random::Random;
 use crate::harness::figures::hex;
@@ -23,7 +27,9 @@ pub const MOST_REQUESTS: usize = 4_096;
 const USUAL_LINE: usize = 1_000;
 
 /// The kinds of request, `BAD` being lines that are none.
-pub const KINDS: [&str; 7] = ["SQRT", "IMP", "LEAD", "DISP", "ANG", "PLACE", "BAD"];
+pub const KINDS: [&str; 9] = [
+    "SQRT", "IMP", "LEAD", "DISP", "ANG", "PLACE", "SHEET", "ROWS", "BAD",
+];
 
 /// One line, without its line feed, and the family it comes from.
 pub struct Request {
@@ -43,6 +49,8 @@ fn families(kind: &str) -> Option<&'static [Family]> {
         "DISP" => dispatch::FAMILIES,
         "ANG" => angles::FAMILIES,
         "PLACE" => placement::FAMILIES,
+        "SHEET" => sheet::FAMILIES,
+        "ROWS" => rows::FAMILIES,
         _ => return None,
     })
 }

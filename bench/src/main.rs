@@ -1,11 +1,12 @@
 //! The port against the reference build on the same inputs, from one driver in one run. Both sides are called in turn,
-//! the results are compared bit for bit, and the least time of many runs of each gives the ratio. A ratio below 1 says
+//! the results are compared bit for bit (sheets are judged), and the least time of many runs of each gives the ratio. A ratio below 1 says
 //! that the port is faster.
 
 mod angles;
 mod ports;
 mod programs;
 mod reading;
+mod sheet;
 
 use std::time::{Duration, Instant};
 
@@ -41,5 +42,6 @@ fn main() {
     );
     angles::run();
     reading::run();
+    sheet::run();
     programs::run();
 }

@@ -57,6 +57,18 @@ extern "C" {
         sheet: *mut f64,
         sheet_len: usize,
     ) -> u32;
+    fn lopnaski_line_sheet(
+        levels: usize,
+        corridors: usize,
+        ladder: *const f64,
+        ladder_len: usize,
+        km: *const f64,
+        km_len: usize,
+        spread: *const f64,
+        spread_len: usize,
+        sheet: *mut f64,
+        sheet_len: usize,
+    ) -> u32;
 }
 
 /// A network to solve, in the port's columns.
@@ -163,6 +175,24 @@ pub fn read_case(file: &[u8], t: &mut Tables) -> u32 {
             f[7].1,
             f[8].0,
             f[8].1,
+        )
+    }
+}
+
+/// 0, or the refusal's number. The rows are in `sheet`.
+pub fn line_sheet(ladder: &[f64], km: &[f64], spread: &[f64], sheet: &mut [f64]) -> u32 {
+    unsafe {
+        lopnaski_line_sheet(
+            ladder.len(),
+            km.len(),
+            ladder.as_ptr(),
+            ladder.len(),
+            km.as_ptr(),
+            km.len(),
+            spread.as_ptr(),
+            spread.len(),
+            sheet.as_mut_ptr(),
+            sheet.len(),
         )
     }
 }

@@ -6,6 +6,8 @@ mod disp;
 mod lead;
 mod place;
 mod print;
+mod rows;
+mod sheet;
 mod single;
 mod text;
 
@@ -19,6 +21,8 @@ use libc::STDOUT_FILENO;
 use place::answer_placement;
 use print::put_byte;
 use print::put_no_request;
+use rows::answer_rows;
+use sheet::answer_sheet;
 use single::answer_impedance;
 use single::answer_square_root;
 
@@ -60,6 +64,12 @@ fn answer(line: &[u8], out: &mut [u8]) -> usize
     }
     if begins(line, b"PLACE ") {
         return answer_placement(line, out);
+    }
+    if begins(line, b"SHEET ") {
+        return answer_sheet(line, out);
+    }
+    if begins(line, b"ROWS ") {
+        return answer_rows(line, out);
     }
     put_no_request(out)
 }

@@ -1,13 +1,12 @@
--- Replies as numbers: how often x was moved, all ones where the request was refused; and 0 for an answer, else document 01's number.
+-- Replies as numbers: how often x was moved, all ones where the request was refused; and 0 for an answer, else the documents' number.
 use Prim.Native.Nat.{ℕ}
 use Rattle.refusal.specs.Reply.{Reply, answered, refused}
 use Rattle.angles_defs.specs.declared.Solution.{Solution}
-use Rattle.casefile.specs.declared.Header.{Header}
 
 abbrev pub stepsSaid : Reply Solution → ℕ
 stepsSaid (answered s) = s .steps
 stepsSaid (refused number index) = 0xFFFF_FFFF_FFFF_FFFF
 
-abbrev pub refusalSaid : Reply Header → ℕ
-refusalSaid (answered h) = 0
+abbrev pub refusalSaid : {A : Type 0} → Reply A → ℕ
+refusalSaid (answered a) = 0
 refusalSaid (refused number index) = number

@@ -2,9 +2,11 @@
 ghost use mathlib.Core.Path.{_≡_};
 ghost use Rattle.angles_defs.specs.Operation.{requestOf, dcAngles};
 ghost use Rattle.casefile.specs.Tables.{placesOf, readCase};
+ghost use Rattle.line_defs.specs.Sheet.{lineSheet};
 ghost use Rattle.exports.specs.Said.{stepsSaid, refusalSaid};
 use angles_defs::Angles;
 use casefile::Reading;
+use refusal::Answer;
 
 const REFUSED: u64 = 0xFFFF_FFFF_FFFF_FFFF;
 
@@ -91,5 +93,24 @@ pub extern "C" fn lopnaski_read_case(
     ) {
         Reading::Read(_) => 0,
         Reading::Refused(f) => f.number(),
+    }
+}
+
+// `line_sheet`: 0, or the refusal's number.
+#[no_mangle]
+pub extern "C" fn lopnaski_line_sheet(
+    levels: usize,
+    corridors: usize,
+    ladder: &[f64],
+    km: &[f64],
+    spread: &[f64],
+    sheet: &mut [f64],
+) -> u32
+    ensures said { λ r. ⌜ r ≡ refusalSaid (lineSheet levels corridors (now (ladder .entry)) (now (km .entry)) (now (spread .entry)) (now (sheet .entry)) .reply) ⌝ }
+    ensures rows { λ r. ⌜ now (sheet .exit) ≡ lineSheet levels corridors (now (ladder .entry)) (now (km .entry)) (now (spread .entry)) (now (sheet .entry)) .sheet ⌝ }
+{
+    match line_sheet::line_sheet(levels, corridors, ladder, km, spread, sheet) {
+        Answer::Answered => 0,
+        Answer::Refused(f) => f.number(),
     }
 }

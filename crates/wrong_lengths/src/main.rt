@@ -6,6 +6,7 @@ mod leaders_calls;
 mod placement_calls;
 mod reading_calls;
 mod report;
+mod sheet_calls;
 
 fn main() {
     leaders_calls::all();
@@ -13,4 +14,5 @@ fn main() {
     angles_calls::all();
     placement_calls::all();
     reading_calls::all();
+    sheet_calls::all();
 }

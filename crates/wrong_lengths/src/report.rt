@@ -8,7 +8,7 @@ pub const MARK: u32 = 7;
 
 pub const FIGURE: f64 = 7.0;
 
-fn say_number(n: u64) {
+pub fn say_number(n: u64) {
     io::write_all(STDOUT_FILENO, b" ");
     io::print_decimal(STDOUT_FILENO, n);
 }

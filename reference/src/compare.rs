@@ -1,24 +1,44 @@
 //! Comparing a program with the reference, seed by seed: the same input for
-//! both, the answers line by line.
+//! both, the answers line by line. What was compared is counted on the way.
 
-use std::io::{self, Write};
-use std::process::{Command, Stdio};
+use std::io::{self, Read, Write};
+use std::process::{Child, Command, ExitStatus, Stdio};
+use std::sync::mpsc;
+use std::thread;
+use std::time::{Duration, Instant};
 
 use crate::generate::cases::{case_file, CaseFile};
 use crate::generate::requests::{as_input, batch, Request, MOST_REQUESTS};
 use crate::harness::answers::{answer_all, sheet_request};
 use crate::harness::figures::{listed, parse_hex};
 use crate::harness::sheet::ROW;
-use crate::judge::judge;
+use crate::judge::{judge as judge_sheet, Verdict};
+use crate::tally::Tally;
+use crate::watch;
 
 /// Differences that are printed in full; the rest are counted.
 const SHOWN: usize = 5;
 
-/// How many answers were compared and how many differed.
+/// How long a program may take for one input.
+pub const LIMIT: Duration = Duration::from_secs(120);
+
+/// How long to wait before asking again whether a program has ended that has
+/// written its last.
+const PAUSE: Duration = Duration::from_micros(50);
+
+/// A program that is compared; it reads standard input and takes no arguments.
+pub struct Program<'a> {
+    pub path: &'a str,
+    /// How long one run may take.
+    pub limit: Duration,
+}
+
+/// How many answers were compared, how many differed, and what was met.
 #[derive(Default)]
 pub struct Outcome {
     pub compared: usize,
     pub differences: usize,
+    pub tally: Tally,
 }
 
 impl Outcome {
@@ -34,19 +54,55 @@ impl Outcome {
     }
 }
 
-/// What `program` writes to standard output when given `input`.
-pub fn run(program: &str, input: Vec<u8>) -> io::Result<Vec<u8>> {
-    let mut child = Command::new(program)
-        .stdin(Stdio::piped())
-        .stdout(Stdio::piped())
-        .spawn()?;
-    let mut stdin = child.stdin.take().expect("standard input is piped");
-    // A thread of its own: a program may answer before it has read all. One
-    // that stops reading shows in its answers.
-    let writer = std::thread::spawn(move || stdin.write_all(&input));
-    let output = child.wait_with_output()?;
-    let _ = writer.join();
-    Ok(output.stdout)
+/// How a run of a program ended.
+pub enum Run {
+    /// With status 0; what it wrote.
+    Ended(Vec<u8>),
+    /// With another status, or by a signal.
+    Failed(ExitStatus),
+    /// Not within its time.
+    Hung,
+}
+
+impl Program<'_> {
+    /// Runs the program on `input`.
+    pub fn run(&self, input: Vec<u8>) -> io::Result<Run> {
+        let until = Instant::now() + self.limit;
+        let mut child = Command::new(self.path)
+            .stdin(Stdio::piped())
+            .stdout(Stdio::piped())
+            .spawn()?;
+        let mut stdin = child.stdin.take().expect("standard input is piped");
+        let mut stdout = child.stdout.take().expect("standard output is piped");
+        // Threads of their own: a program may answer before it has read all, and
+        // may never end. One that stops reading shows in its answers.
+        thread::spawn(move || stdin.write_all(&input));
+        let (sender, written) = mpsc::channel();
+        thread::spawn(move || {
+            let mut output = Vec::new();
+            let read = stdout.read_to_end(&mut output);
+            // Nobody listens any more where the program hung.
+            let _ = sender.send(read.map(|_| output));
+        });
+        let Ok(output) = written.recv_timeout(self.limit) else {
+            return end(child);
+        };
+        let output = output?;
+        loop {
+            match child.try_wait()? {
+                Some(status) if status.success() => return Ok(Run::Ended(output)),
+                Some(status) => return Ok(Run::Failed(status)),
+                None if Instant::now() > until => return end(child),
+                None => thread::sleep(PAUSE),
+            }
+        }
+    }
+}
+
+fn end(mut child: Child) -> io::Result<Run> {
+    child.kill()?;
+    child.wait()?;
+    Ok(Run::Hung)
 }
 
 /// The lines of an output; what stands after the last line feed counts as one.
@@ -68,13 +124,13 @@ fn shown(lines: &[&[u8]], place: usize) -> String {
 
 /// Whether an answer is right: equal to ours, or where a sheet is answered,
 /// right by the judge.
-fn agree(line: Option<&[u8]>, ours: Option<&[u8]>, theirs: Option<&[u8]>) -> Result<(), String> {
+fn agree(line: Option<&[u8]>, ours: Option<&[u8]>, theirs: Option<&[u8]>) -> Verdict {
     let request = match ours {
         Some(words) if words.starts_with(b"OK") => line.and_then(sheet_request),
         _ => None,
     };
     match (request, theirs.and_then(rows_of)) {
-        (Some(request), Some(rows)) => judge(&request, &rows),
+        (Some(request), Some(rows)) => judge_sheet(&request, &rows),
         (Some(_), None) => Err("no rows".to_owned()),
         (None, _) if ours == theirs => Ok(()),
         (None, _) => Err("another answer".to_owned()),
@@ -95,42 +151,99 @@ pub fn rows_of(answer: &[u8]) -> Option<Vec<[f64; ROW]>> {
     rows.collect()
 }
 
+/// Counts how a run ended and has `compare` look at what it wrote; answers
+/// whether to go on with the next input.
+fn judge(
+    program: &Program,
+    input: Vec<u8>,
+    seed: u64,
+    outcome: &mut Outcome,
+    compare: impl FnOnce(&[u8], &mut Outcome),
+) -> io::Result<bool> {
+    match program.run(input)? {
+        Run::Ended(written) => compare(&written, outcome),
+        Run::Failed(status) => {
+            outcome.count(false, || format!("seed {seed}: the program ended with {status}"))
+        }
+        Run::Hung => {
+            let limit = program.limit.as_secs();
+            outcome.count(false, || {
+                format!("seed {seed}: the program did not end within {limit} s; nothing more is compared")
+            });
+            return Ok(false);
+        }
+    }
+    Ok(true)
+}
+
 /// Compares `batches` batches of requests of one kind.
 pub fn compare_answers(
-    program: &str,
+    program: &Program,
     kind: &str,
     first_seed: u64,
     batches: u64,
 ) -> io::Result<Outcome> {
     let mut outcome = Outcome::default();
     for seed in first_seed..first_seed + batches {
-        let requests = batch(kind, seed, MOST_REQUESTS).expect("the kind is known");
+        let (requests, _) = watch::apart(|| batch(kind, seed, MOST_REQUESTS));
+        let requests = requests.expect("the kind is known");
         let input = input_of_seed(&requests, seed);
-        let ours = answer_all(&input).into_bytes();
-        let theirs = run(program, input)?;
-        let (our_lines, their_lines) = (lines(&ours), lines(&theirs));
-        for place in 0..our_lines.len().max(their_lines.len()) {
-            let line = requests.get(place).map(|request| &request.line[..]);
-            let (our_line, their_line) = (our_lines.get(place), their_lines.get(place));
-            let verdict = agree(line, our_line.copied(), their_line.copied());
-            outcome.count(verdict.is_ok(), || {
-                let (family, request) = match requests.get(place) {
-                    Some(request) => (request.family, String::from_utf8_lossy(&request.line)),
-                    None => ("no request", "".into()),
-                };
-                let why = verdict.err().unwrap_or_default();
-                format!(
-                    "seed {seed}, {family}: {why}\n  request   {request}\n  reference {}\n  program   {}",
-                    shown(&our_lines, place),
-                    shown(&their_lines, place)
-                )
-            });
+        let (ours, taken) = watch::apart(|| answer_all(&input).into_bytes());
+        outcome.tally.branches(&taken);
+        for (request, answer) in requests.iter().zip(lines(&ours)) {
+            outcome.tally.request(kind, request, answer);
         }
-        if our_lines == their_lines && ours != theirs {
-            outcome.count(false, || format!("seed {seed}: the last line feed differs"));
+        let goes_on = judge(program, input, seed, &mut outcome, |theirs, outcome| {
+            compare_lines(&requests, seed, &ours, theirs, outcome)
+        })?;
+        if !goes_on {
+            break;
         }
     }
     Ok(outcome)
+}
+
+/// The answers to one batch.
+fn compare_lines(
+    requests: &[Request],
+    seed: u64,
+    ours: &[u8],
+    theirs: &[u8],
+    outcome: &mut Outcome,
+) {
+    let (our_lines, their_lines) = (lines(ours), lines(theirs));
+    for place in 0..our_lines.len().max(their_lines.len()) {
+        let line = requests.get(place).map(|request| &request.line[..]);
+        let (our_line, their_line) = (our_lines.get(place), their_lines.get(place));
+        let verdict = agree(line, our_line.copied(), their_line.copied());
+        outcome.count(verdict.is_ok(), || {
+            let (family, request) = match requests.get(place) {
+                Some(request) => (request.family, String::from_utf8_lossy(&request.line)),
+                None => ("no request", "".into()),
+            };
+            let why = verdict.err().unwrap_or_default();
+            format!(
+                "seed {seed}, {family}: {why}\n  request   {request}\n  reference {}\n  program   {}",
+                shown(&our_lines, place),
+                shown(&their_lines, place)
+            )
+        });
+    }
+    if our_lines.len() == their_lines.len() && theirs.last() != ours.last() {
+        outcome.count(false, || format!("seed {seed}: the last line feed differs"));
+    }
+}
+
+/// How many of the stored answers to some requests are wrong.
+pub fn wrong_answers(requests: &[u8], answers: &[u8]) -> usize {
+    let ours = answer_all(requests).into_bytes();
+    let (asked, ours, theirs) = (lines(requests), lines(&ours), lines(answers));
+    (0..ours.len().max(theirs.len()))
+        .filter(|&i| {
+            let [line, ours, theirs] = [&asked, &ours, &theirs].map(|l| l.get(i).copied());
+            agree(line, ours, theirs).is_err()
+        })
+        .count()
 }
 
 /// The batch as input; every fifth seed leaves out the last line feed, where
@@ -143,29 +256,50 @@ fn input_of_seed(requests: &[Request], seed: u64) -> Vec<u8> {
     input
 }
 
-/// Compares the answers to `count` case files; `ours` is the reference's.
+/// What the reference answers to a case file, and the word for it.
+pub type Answerer = (&'static str, fn(&[u8]) -> String);
+
+/// Compares the answers to `count` case files.
 pub fn compare_cases(
-    program: &str,
-    ours: fn(&[u8]) -> String,
+    program: &Program,
+    (what, answer): Answerer,
     first_seed: u64,
     count: u64,
 ) -> io::Result<Outcome> {
     let mut outcome = Outcome::default();
     for seed in first_seed..first_seed + count {
-        let CaseFile { family, bytes } = case_file(seed);
-        let ours = ours(&bytes).into_bytes();
-        let theirs = run(program, bytes)?;
-        outcome.count(ours == theirs, || {
-            let (our_lines, their_lines) = (lines(&ours), lines(&theirs));
-            let place = (0..our_lines.len())
-                .find(|&i| our_lines.get(i) != their_lines.get(i))
-                .unwrap_or(our_lines.len());
-            format!(
-                "seed {seed}, {family}, line {place}\n  reference {}\n  program   {}",
-                shown(&our_lines, place),
-                shown(&their_lines, place)
-            )
-        });
+        let (file, _) = watch::apart(|| case_file(seed));
+        let (ours, taken) = watch::apart(|| answer(&file.bytes));
+        outcome.tally.branches(&taken);
+        outcome.tally.case(what, &file, &ours);
+        let CaseFile { family, bytes } = file;
+        let goes_on = judge(program, bytes, seed, &mut outcome, |theirs, outcome| {
+            compare_listings(family, seed, ours.as_bytes(), theirs, outcome)
+        })?;
+        if !goes_on {
+            break;
+        }
     }
     Ok(outcome)
+}
+
+/// The answers to one case file.
+fn compare_listings(
+    family: &str,
+    seed: u64,
+    ours: &[u8],
+    theirs: &[u8],
+    outcome: &mut Outcome,
+) {
+    outcome.count(ours == theirs, || {
+        let (our_lines, their_lines) = (lines(ours), lines(theirs));
+        let place = (0..our_lines.len())
+            .find(|&i| our_lines.get(i) != their_lines.get(i))
+            .unwrap_or(our_lines.len());
+        format!(
+            "seed {seed}, {family}, line {place}\n  reference {}\n  program   {}",
+            shown(&our_lines, place),
+            shown(&their_lines, place)
+        )
+    });
 }

@@ -4,7 +4,7 @@
 use std::collections::{BTreeMap, BTreeSet};
 use std::io;
 
-use crate::compare::{lines, rows_of, run};
+use crate::compare::{lines, rows_of, Program, Run};
 use crate::electrical::params::line_class_for;
 use crate::generate::requests::{as_input, batch, MOST_REQUESTS};
 use crate::harness::answers::sheet_request;
@@ -92,11 +92,13 @@ fn rate_of(km: f64, basis: f64) -> &'static str {
 
 /// What `program` answers to `batches` batches of SHEET requests, against the
 /// published code.
-pub fn sheet_differences(program: &str, first_seed: u64, batches: u64) -> io::Result<String> {
+pub fn sheet_differences(program: &Program, first_seed: u64, batches: u64) -> io::Result<String> {
     let mut tally = Tally::default();
     for seed in first_seed..first_seed + batches {
         let requests = batch("SHEET", seed, MOST_REQUESTS).expect("the kind is known");
-        let output = run(program, as_input(&requests))?;
+        let Run::Ended(output) = program.run(as_input(&requests))? else {
+            return Err(io::Error::other("the program did not end well"));
+        };
         for (request, line) in requests.iter().zip(lines(&output)) {
             if let (Some(request), Some(rows)) = (sheet_request(&request.line), rows_of(line)) {
                 tally.sheet(&request, &rows);

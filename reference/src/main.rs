@@ -3,7 +3,7 @@
 use std::io::{self, Read, Write};
 use std::process::ExitCode;
 
-use reference::compare::{compare_answers, compare_cases, Outcome};
+use reference::compare::{compare_answers, compare_cases, wrong_answers, Outcome, Program, LIMIT};
 use reference::differences::sheet_differences;
 use reference::generate::cases::case_file;
 use reference::generate::requests::{as_input, batch, KINDS};
@@ -11,7 +11,7 @@ use reference::harness::answers::answer_all;
 use reference::harness::case_file::{answer_read, write_case};
 use reference::harness::case_text::parse_text;
 use reference::harness::listing::answer_list;
-use reference::tally::branches;
+use reference::tally::Tally;
 use reference::theorem::theorem;
 
 const USAGE: &str = "usage:
@@ -20,10 +20,11 @@ const USAGE: &str = "usage:
   reference read                                             a case on standard input
   reference requests KIND SEED COUNT
   reference case SEED
-  reference compare-answers PROGRAM KIND FIRST_SEED BATCHES
-  reference compare-cases PROGRAM list|read FIRST_SEED COUNT
+  reference compare-answers PROGRAM KIND FIRST_SEED BATCHES COUNTS
+  reference compare-cases PROGRAM list|read FIRST_SEED COUNT COUNTS
+  reference branches COUNTS...
+  reference judge REQUESTS ANSWERS
   reference sheet-differences PROGRAM FIRST_SEED BATCHES
-  reference branches FIRST_SEED COUNT
   reference write                                            a case as text on standard input
   reference theorem                                          a case on standard input
 KIND is one of SQRT IMP LEAD DISP ANG PLACE SHEET ROWS BAD.";
@@ -68,32 +69,35 @@ fn run(words: &[&str]) -> Result<(), Failure> {
             let requests = batch(kind, number(seed)?, number(count)? as usize);
             write(&as_input(&requests.ok_or(Failure::Usage)?))
         }
-        ["compare-answers", program, kind, first, batches] if KINDS.contains(&kind) => {
-            let outcome = compare_answers(program, kind, number(first)?, number(batches)?)?;
-            report(kind, "requests", &outcome)
+        ["compare-answers", path, kind, first, batches, counts] if KINDS.contains(&kind) => {
+            let program = Program { path, limit: LIMIT };
+            let outcome = compare_answers(&program, kind, number(first)?, number(batches)?)?;
+            report(kind, "requests", &outcome, counts)
         }
-        ["sheet-differences", program, first, batches] => {
-            let text = sheet_differences(program, number(first)?, number(batches)?)?;
-            write(text.as_bytes())
-        }
-        ["case", seed] => write(&case_file(number(seed)?).bytes),
-        ["compare-cases", program, what, first, count] => {
-            let ours = match what {
-                "list" => answer_list,
-                "read" => answer_read,
-                _ => return Err(Failure::Usage),
-            };
-            let outcome = compare_cases(program, ours, number(first)?, number(count)?)?;
-            report(what, "cases", &outcome)
-        }
-        ["branches", first, count] => {
-            let (text, missing) = branches(number(first)?, number(count)?);
-            write(text.as_bytes())?;
-            match missing {
+        ["judge", requests, answers] => {
+            let (requests, answers) = (std::fs::read(requests)?, std::fs::read(answers)?);
+            match wrong_answers(&requests, &answers) {
                 0 => Ok(()),
                 _ => Err(Failure::Found),
             }
         }
+        ["sheet-differences", path, first, batches] => {
+            let program = Program { path, limit: LIMIT };
+            let text = sheet_differences(&program, number(first)?, number(batches)?)?;
+            write(text.as_bytes())
+        }
+        ["case", seed] => write(&case_file(number(seed)?).bytes),
+        ["compare-cases", path, what, first, count, counts] => {
+            let program = Program { path, limit: LIMIT };
+            let answerer = match what {
+                "list" => ("list", answer_list as fn(&[u8]) -> String),
+                "read" => ("read", answer_read as fn(&[u8]) -> String),
+                _ => return Err(Failure::Usage),
+            };
+            let outcome = compare_cases(&program, answerer, number(first)?, number(count)?)?;
+            report(what, "cases", &outcome, counts)
+        }
+        ["branches", ref files @ ..] if !files.is_empty() => branches(files),
         ["write"] => {
             let text = String::from_utf8(input()?).map_err(|_| Failure::Found)?;
             write(&write_case(&parse_text(&text).ok_or(Failure::Found)?))
@@ -117,12 +121,32 @@ fn write(bytes: &[u8]) -> Result<(), Failure> {
     Ok(io::stdout().lock().write_all(bytes)?)
 }
 
-fn report(what: &str, things: &str, outcome: &Outcome) -> Result<(), Failure> {
+/// Says how a comparison ended and writes what it counted to the file `counts`.
+fn report(what: &str, things: &str, outcome: &Outcome, counts: &str) -> Result<(), Failure> {
+    std::fs::write(counts, outcome.tally.to_string())?;
     println!(
         "{what}: {} {things}, {} differences",
         outcome.compared, outcome.differences
     );
     match outcome.differences {
+        0 => Ok(()),
+        _ => Err(Failure::Found),
+    }
+}
+
+/// Adds up what comparisons counted.
+fn branches(files: &[&str]) -> Result<(), Failure> {
+    let mut tally = Tally::default();
+    for file in files {
+        let text = std::fs::read_to_string(file)?;
+        if tally.read(&text).is_none() {
+            eprintln!("reference: {file} holds no counts");
+            return Err(Failure::Found);
+        }
+    }
+    let (text, too_low) = tally.report();
+    write(text.as_bytes())?;
+    match too_low {
         0 => Ok(()),
         _ => Err(Failure::Found),
     }

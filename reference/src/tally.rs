@@ -1,20 +1,22 @@
-//! The count of branches: generated cases and requests are answered, and
-//! everything that was meant to be reached is listed with how often it was.
+//! The count of branches: of everything that is compared, what the reference
+//! build did with it and what it was like. A comparison writes its counts to a
+//! file; the counts of several are added up and held to what must be met.
 
 use std::collections::BTreeMap;
-use std::fmt::Write;
+use std::fmt;
 
-use crate::generate::cases::{self, case_file};
-use crate::generate::requests::{batch, family_names, KINDS};
-use crate::harness::answers::answer;
+use crate::generate::cases::{self, CaseFile};
+use crate::generate::requests::{family_names, largest, Request, KINDS};
 use crate::harness::case_file::{read_case, MOST_BYTES};
-use crate::harness::listing::answer_list;
 use crate::harness::operations::leaders;
 use crate::harness::tables::{Case, MOST_BUSES, MOST_CORRIDORS, MOST_GENERATORS, MOST_LEVELS};
-use crate::watch::{self, BRANCHES};
+use crate::watch::BRANCHES;
 
-/// Requests of each kind that are answered for one seed.
-const REQUESTS_PER_SEED: usize = 6;
+/// How many requests of each largest family must be compared.
+const LARGEST: u64 = 100;
+
+/// What is compared of case files.
+const CASES: [&str; 2] = ["list", "read"];
 
 /// Answers that must be met, by what was asked.
 const ANSWERS: &[(&str, &[&str])] = &[
@@ -28,12 +30,20 @@ const ANSWERS: &[(&str, &[&str])] = &[
         "list",
         &["RF 9", "RF 13", "RF 14", "RF 15", "RF 16", "RF 17"],
     ),
+    (
+        "read",
+        &[
+            "HD 0", "HD 1", "HD 2", "RF 2", "RF 13", "RF 14", "RF 15", "RF 16", "RF 17",
+        ],
+    ),
     ("SQRT", &["OK"]),
     ("IMP", &["OK", "RF 12"]),
     ("LEAD", &["OK", "RF 2", "RF 6"]),
     ("DISP", &["OK", "RF 2", "RF 5", "RF 8"]),
     ("ANG", &["OK", "RF 2", "RF 9", "RF 10"]),
     ("PLACE", &["OK", "RF 2", "RF 4", "RF 5", "RF 6"]),
+    ("SHEET", &["OK", "RF 2", "RF 3", "RF 6", "RF 22"]),
+    ("ROWS", &["OK"]),
     ("BAD", &["??"]),
 ];
 
@@ -97,100 +107,134 @@ pub fn shapes(case: &Case) -> impl Iterator<Item = &'static str> + '_ {
     so.map(|&(name, _)| name)
 }
 
-/// How often each thing was met, by its name; what was expected and never met
-/// stands at zero.
-struct Tally {
+/// How often each thing was met, by its name.
+#[derive(Default)]
+pub struct Tally {
     counts: BTreeMap<String, u64>,
 }
 
 impl Tally {
-    /// Everything that is expected, at zero.
-    fn expecting() -> Self {
-        let answers = ANSWERS.iter().flat_map(|(what, kinds)| {
-            kinds
-                .iter()
-                .map(move |kind| format!("answer: {what} {kind}"))
-        });
-        let case_families = cases::family_names()
-            .into_iter()
-            .map(|name| format!("case: {name}"));
-        let request_families = KINDS.iter().flat_map(|kind| {
-            family_names(kind)
-                .into_iter()
-                .map(move |name| format!("request: {kind}, {name}"))
-        });
-        let shapes = SHAPES.iter().map(|(name, _)| format!("tables: {name}"));
-        let files = FILES.iter().map(|(name, _)| format!("file: {name}"));
-        let names = answers
-            .chain(case_families)
-            .chain(request_families)
-            .chain(shapes)
-            .chain(files);
-        Self {
-            counts: names.map(|name| (name, 0)).collect(),
-        }
+    fn add(&mut self, name: String, times: u64) {
+        *self.counts.entry(name).or_default() += times;
     }
 
     fn count(&mut self, name: String) {
-        *self.counts.entry(name).or_default() += 1;
+        self.add(name, 1);
+    }
+
+    /// Counts the branches that the reference build took, in the order of
+    /// [`BRANCHES`].
+    pub fn branches(&mut self, taken: &[u64]) {
+        for (name, &times) in BRANCHES.iter().zip(taken) {
+            self.add(format!("branch: {name}"), times);
+        }
     }
 
     /// Counts an answer by its first word, or two where they say more.
     fn answer(&mut self, what: &str, answer: &str) {
         let mut words = answer.split_ascii_whitespace();
         let kind = match (words.next(), words.next()) {
-            (Some(first @ ("RF" | "PL")), Some(second)) => format!("{first} {second}"),
+            (Some(first @ ("RF" | "PL" | "HD")), Some(second)) => format!("{first} {second}"),
             (first, _) => first.unwrap_or("nothing").to_owned(),
         };
         self.count(format!("answer: {what} {kind}"));
     }
 
-    fn case(&mut self, seed: u64) {
-        let file = case_file(seed);
-        self.count(format!("case: {}", file.family));
+    /// Counts a case file and what the reference build answers to it.
+    pub fn case(&mut self, what: &str, file: &CaseFile, answer: &str) {
+        self.count(format!("compared: {what}"));
+        self.count(format!("case: {what}, {}", file.family));
         for (name, is_so) in FILES {
             if is_so(&file.bytes) {
-                self.count(format!("file: {name}"));
+                self.count(format!("file: {what}, {name}"));
             }
         }
         if let Ok(case) = read_case(&file.bytes) {
             for name in shapes(&case) {
-                self.count(format!("tables: {name}"));
+                self.count(format!("tables: {what}, {name}"));
             }
         }
-        self.answer("list", &answer_list(&file.bytes));
+        self.answer(what, answer);
     }
 
-    fn requests(&mut self, kind: &str, seed: u64) {
-        for request in batch(kind, seed, REQUESTS_PER_SEED).expect("the kind is known") {
-            self.count(format!("request: {kind}, {}", request.family));
-            self.answer(kind, &answer(&request.line));
+    /// Counts a request and the reference build's answer.
+    pub fn request(&mut self, kind: &str, request: &Request, answer: &[u8]) {
+        self.count(format!("compared: {kind}"));
+        self.count(format!("request: {kind}, {}", request.family));
+        self.answer(kind, &String::from_utf8_lossy(answer));
+    }
+
+    /// Adds the counts that another tally's text has; `None` where it is none.
+    pub fn read(&mut self, text: &str) -> Option<()> {
+        for line in text.lines() {
+            let (times, name) = line.trim_start().split_once("  ")?;
+            self.add(name.to_owned(), times.parse().ok()?);
         }
+        Some(())
+    }
+
+    /// The counts as text, with what is expected and was never met, and how many
+    /// counts are too low.
+    pub fn report(mut self) -> (String, usize) {
+        let expected = expected();
+        for name in expected.keys() {
+            self.add(name.clone(), 0);
+        }
+        let seldom = expected.iter().filter(|(name, &least)| self.counts[*name] < least);
+        let seldom: Vec<String> = seldom
+            .map(|(name, least)| format!("met less than {least} times: {name}\n"))
+            .collect();
+        let compared = self.counts.iter().filter_map(|(name, times)| {
+            let what = name.strip_prefix("compared: ")?;
+            Some(format!("{times} {what}"))
+        });
+        let compared: Vec<String> = compared.collect();
+        let last = format!(
+            "of the inputs that were compared ({}): {} counts, {} too low\n",
+            compared.join(", "),
+            self.counts.len(),
+            seldom.len()
+        );
+        (format!("{self}{}{last}", seldom.concat()), seldom.len())
     }
 }
 
-/// Answers the cases and requests of `count` seeds. The text lists every count;
-/// the number is how many stand at zero.
-pub fn branches(first_seed: u64, count: u64) -> (String, usize) {
-    let mut tally = Tally::expecting();
-    let before = watch::counts();
-    for seed in first_seed..first_seed + count {
-        tally.case(seed);
-        for kind in KINDS {
-            tally.requests(kind, seed);
+/// One count a line.
+impl fmt::Display for Tally {
+    fn fmt(&self, f: &mut fmt::Formatter) -> fmt::Result {
+        let mut counts = self.counts.iter();
+        counts.try_for_each(|(name, times)| writeln!(f, "{times:>10}  {name}"))
+    }
+}
+
+/// What must be met in all comparisons together, and how often at least.
+fn expected() -> BTreeMap<String, u64> {
+    let branches = BRANCHES.iter().map(|name| format!("branch: {name}"));
+    let answers = ANSWERS.iter().flat_map(|(what, kinds)| {
+        kinds
+            .iter()
+            .map(move |kind| format!("answer: {what} {kind}"))
+    });
+    let of_cases = CASES.iter().flat_map(|what| {
+        let families = cases::family_names().into_iter();
+        let shapes = SHAPES.iter().map(|(name, _)| *name);
+        let files = FILES.iter().map(|(name, _)| *name);
+        let families = families.map(move |name| format!("case: {what}, {name}"));
+        let shapes = shapes.map(move |name| format!("tables: {what}, {name}"));
+        let files = files.map(move |name| format!("file: {what}, {name}"));
+        families.chain(shapes).chain(files)
+    });
+    let of_requests = KINDS.iter().flat_map(|kind| {
+        family_names(kind)
+            .into_iter()
+            .map(move |name| format!("request: {kind}, {name}"))
+    });
+    let names = branches.chain(answers).chain(of_cases).chain(of_requests);
+    let mut expected: BTreeMap<String, u64> = names.map(|name| (name, 1)).collect();
+    for kind in KINDS {
+        if let Some((family, _)) = largest(kind) {
+            expected.insert(format!("request: {kind}, {family}"), LARGEST);
         }
     }
-    let after = watch::counts();
-    let taken = BRANCHES
-        .iter()
-        .zip(after.iter().zip(before))
-        .map(|(name, (after, before))| (name.to_string(), after - before));
-    let all: Vec<(String, u64)> = taken.chain(tally.counts).collect();
-    let missing = all.iter().filter(|(_, times)| *times == 0).count();
-    let mut text = String::new();
-    for (name, times) in &all {
-        writeln!(text, "{times:>10}  {name}").expect("text grows");
-    }
-    writeln!(text, "{} counted, {missing} never met", all.len()).expect("text grows");
-    (text, missing)
+    expected
 }

@@ -113,16 +113,12 @@ pub fn seen_if(taken: bool, branch: Branch) {
     }
 }
 
-/// How often each branch was taken on this thread, in the order of [`Branch`].
-pub fn counts() -> Vec<u64> {
-    COUNTS.with_borrow(|counts| counts.to_vec())
-}
-
-/// Runs `search` without counting; answers too how often each branch was taken
-/// in it. For a generator that looks for a case of some branch.
-pub fn apart<T>(search: impl FnOnce() -> T) -> (T, Vec<u64>) {
+/// Runs `work` by itself; answers too how often each branch was taken in it, in
+/// the order of [`Branch`]. A generator that looks for a case of some branch
+/// counts nowhere else.
+pub fn apart<T>(work: impl FnOnce() -> T) -> (T, Vec<u64>) {
     let before = COUNTS.replace([0; BRANCHES.len()]);
-    let answer = search();
+    let answer = work();
     let taken = COUNTS.replace(before);
     (answer, taken.to_vec())
 }

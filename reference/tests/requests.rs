@@ -1,7 +1,9 @@
 //! Requests as text: IEEE values, the two treatments of NaN and zero, what is
 //! no request, and the order of the refusals.
 
-use reference::generate::requests::{as_input, batch, KINDS, MOST_BYTES};
+use reference::generate::requests::{
+    as_input, batch, is_long, KINDS, MOST_BYTES, MOST_REQUESTS, USUAL_BYTES,
+};
 use reference::harness::answers::{answer, answer_all};
 use reference::harness::figures::{as_read, listed};
 
@@ -157,9 +159,14 @@ fn lines() {
 fn a_seed_gives_the_same_batch_and_keeps_to_its_bytes() {
     for kind in KINDS {
         for seed in 0..8 {
-            let input = as_input(&batch(kind, seed, 4_096).expect("a kind"));
-            assert!(input.len() <= MOST_BYTES && input.len() > MOST_BYTES / 2);
-            assert_eq!(input, as_input(&batch(kind, seed, 4_096).expect("a kind")));
+            let input = as_input(&batch(kind, seed, MOST_REQUESTS).expect("a kind"));
+            let (least, most) = match is_long(seed) {
+                true => (USUAL_BYTES, MOST_BYTES),
+                false => (USUAL_BYTES / 2, USUAL_BYTES),
+            };
+            assert!(least < input.len() && input.len() <= most);
+            let again = as_input(&batch(kind, seed, MOST_REQUESTS).expect("a kind"));
+            assert_eq!(input, again);
         }
     }
 }

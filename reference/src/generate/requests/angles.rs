@@ -13,7 +13,7 @@ pub const FAMILIES: &[Family] = &[
     ("small", small),
     ("middling", middling),
     ("large", large),
-    ("256 buses, 256 edges", largest),
+    LARGEST,
     ("one bus", one_bus),
     ("no bus", no_bus),
     ("zero right side", zero_right_side),
@@ -45,6 +45,8 @@ pub const FAMILIES: &[Family] = &[
     ("count past its bound", past_bounds),
     ("any bits", any_bits),
 ];
+
+pub const LARGEST: Family = ("256 buses, 256 edges", largest);
 
 fn ask(network: &Network) -> Words {
     let words = Words::new("ANG")

@@ -82,6 +82,30 @@ const GUESSES: &[&[u8]] = &[
     b"ANG 1 0 1 1 0000000000000000 0",
 ];
 
+/// A family of long batches alone: a batch holds two.
+const OVERLONG: &str = "longer than every request";
+
+/// The bytes of the longest line that the program takes for a request; none of
+/// ours is as long.
+const MOST_LINE: usize = 300_000;
+
+pub fn family_names() -> Vec<&'static str> {
+    let names = FAMILIES.iter().map(|&(name, _)| name);
+    names.chain([OVERLONG]).collect()
+}
+
+/// A line with a request at its end, which a program that cuts the line may
+/// take for one.
+pub fn overlong(random: &mut Random) -> Request {
+    let before = random.from_to(MOST_LINE - 2, MOST_LINE + 2);
+    let mut line = vec![random.pick(b" 0A"); before];
+    line.extend(good_line(random));
+    Request {
+        family: OVERLONG,
+        line,
+    }
+}
+
 /// A damaged line; by chance it may still be a request, which is no harm.
 pub fn one(random: &mut Random) -> Request {
     let (family, damage) = random.pick(FAMILIES);

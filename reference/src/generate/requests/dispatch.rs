@@ -12,7 +12,7 @@ pub const FAMILIES: &[Family] = &[
     ("one unit", one_unit),
     ("no unit", no_unit),
     ("many units", many),
-    ("128 units", most_units),
+    LARGEST,
     ("demand around a sum", around_a_sum),
     ("sums equal", sums_equal),
     ("no quadratic cost", no_quadratic_cost),
@@ -28,6 +28,8 @@ pub const FAMILIES: &[Family] = &[
     ("count past its bound", past_bounds),
     ("any bits", any_bits),
 ];
+
+pub const LARGEST: Family = ("128 units", most_units);
 
 pub fn ask(units: &[Unit], demand: f64) -> Words {
     Words::new("DISP")

@@ -15,12 +15,15 @@ pub const FAMILIES: &[Family] = &[
     ("no corridor", no_corridor),
     ("large", large),
     ("at its bounds", at_bounds),
+    LARGEST,
     ("count past its bound", past_bounds),
     ("an end past the buses", far_end),
     ("equal ends", equal_ends),
     ("faults in several corridors", several_faults),
     ("leading zeros", leading_zeros),
 ];
+
+pub const LARGEST: Family = ("256 buses, 256 corridors", largest);
 
 type Ends = Vec<(usize, usize)>;
 
@@ -115,6 +118,11 @@ fn at_bounds(random: &mut Random) -> Words {
     let buses = random.pick(&[MOST_BUSES - 1, MOST_BUSES]);
     let corridors = random.pick(&[0, MOST_CORRIDORS - 1, MOST_CORRIDORS]);
     ask(buses, &pairs(random, buses, corridors))
+}
+
+fn largest(random: &mut Random) -> Words {
+    let ends = pairs(random, MOST_BUSES, MOST_CORRIDORS);
+    ask(MOST_BUSES, &laid_out(random, ends))
 }
 
 /// A count past its bound, its first value past it included; the corridors

@@ -16,15 +16,23 @@ pub use self::sheet::{BENDS, CLASS_BOUNDS};
 use crate::generate::random::Random;
 use crate::harness::figures::hex;
 
-/// A batch is the input of one run of a program.
-pub const MOST_BYTES: usize = 65_536;
+/// A batch is the input of one run of a program. Three of four have at most so
+/// many bytes, and no line longer than [`USUAL_LINE`], so that they hold many
+/// requests.
+pub const USUAL_BYTES: usize = 65_536;
+const USUAL_LINE: usize = 1_000;
+
+/// Every fourth batch, the last of each four seeds, is a long one: it may have
+/// so many bytes, lines of any length, and every other one a largest request.
+pub const MOST_BYTES: usize = 1_048_576;
 
 /// The most requests of one batch where only the bytes matter.
 pub const MOST_REQUESTS: usize = 4_096;
 
-/// Three batches of four hold no longer line than this, so that they hold
-/// many requests; every fourth batch, the last of each four seeds, takes all.
-const USUAL_LINE: usize = 1_000;
+/// Whether the batch of a seed is a long one.
+pub fn is_long(seed: u64) -> bool {
+    seed % 4 == 3
+}
 
 /// The kinds of request, `BAD` being lines that are none.
 pub const KINDS: [&str; 9] = [
@@ -38,7 +46,7 @@ pub struct Request {
 }
 
 /// A family: its name and how one of its lines is made.
-type Family = (&'static str, fn(&mut Random) -> Words);
+pub type Family = (&'static str, fn(&mut Random) -> Words);
 
 /// The families of a kind.
 fn families(kind: &str) -> Option<&'static [Family]> {
@@ -55,41 +63,50 @@ fn families(kind: &str) -> Option<&'static [Family]> {
     })
 }
 
+/// The family whose counts are all at their bounds, where a kind has counts.
+pub fn largest(kind: &str) -> Option<Family> {
+    match kind {
+        "LEAD" => Some(leaders::LARGEST),
+        "DISP" => Some(dispatch::LARGEST),
+        "ANG" => Some(angles::LARGEST),
+        "PLACE" => Some(placement::LARGEST),
+        "SHEET" => Some(sheet::LARGEST),
+        _ => None,
+    }
+}
+
 /// Names of all families of a kind.
 pub fn family_names(kind: &str) -> Vec<&'static str> {
     match families(kind) {
         Some(families) => families.iter().map(|&(name, _)| name).collect(),
-        None => bad::FAMILIES.iter().map(|&(name, _)| name).collect(),
+        None => bad::family_names(),
     }
 }
 
-/// At most `count` requests of one kind, together at most [`MOST_BYTES`] with
-/// their line feeds; `None` for an unknown kind.
+/// At most `count` requests of one kind, with their line feeds at most the
+/// bytes of the seed's batch; `None` for an unknown kind.
 pub fn batch(kind: &str, seed: u64, count: usize) -> Option<Vec<Request>> {
     if !KINDS.contains(&kind) {
         return None;
     }
-    let mut random = Random::new(kind, seed);
-    let longest = if seed % 4 == 3 {
-        MOST_BYTES
-    } else {
-        USUAL_LINE
+    let (most_bytes, longest) = match is_long(seed) {
+        true => (MOST_BYTES, MOST_BYTES),
+        false => (USUAL_BYTES, USUAL_LINE),
     };
-    let mut binades = square_root::binades(seed);
+    let mut random = Random::new(kind, seed);
     let mut requests: Vec<Request> = Vec::new();
     let mut bytes = 0;
     while requests.len() < count {
-        // Every other root is of a binade's end, as long as there are any.
-        let in_turn = match kind == "SQRT" && requests.len() % 2 == 1 {
-            true => binades.next(),
-            false => None,
+        let in_turn = match requests.len() % 2 {
+            1 => in_turn(kind, seed, requests.len() / 2, &mut random),
+            _ => None,
         };
         let request = in_turn.unwrap_or_else(|| one(kind, &mut random));
         if request.line.len() > longest {
             continue;
         }
         bytes += request.line.len() + 1;
-        if bytes > MOST_BYTES {
+        if bytes > most_bytes {
             break;
         }
         requests.push(request);
@@ -97,15 +114,28 @@ pub fn batch(kind: &str, seed: u64, count: usize) -> Option<Vec<Request>> {
     Some(requests)
 }
 
+/// What takes every other place of a batch, where something does: the ends of
+/// binades; in a long batch the largest requests, and two lines that are longer
+/// than every request.
+fn in_turn(kind: &str, seed: u64, turn: usize, random: &mut Random) -> Option<Request> {
+    match kind {
+        "SQRT" => square_root::binades(seed).nth(turn),
+        _ if !is_long(seed) => None,
+        "BAD" => (turn < 2).then(|| bad::overlong(random)),
+        _ => largest(kind).map(|family| of_family(family, random)),
+    }
+}
+
+fn of_family((family, words): Family, random: &mut Random) -> Request {
+    Request {
+        family,
+        line: words(random).line(),
+    }
+}
+
 fn one(kind: &str, random: &mut Random) -> Request {
     match families(kind) {
-        Some(families) => {
-            let (family, words) = random.pick(families);
-            Request {
-                family,
-                line: words(random).line(),
-            }
-        }
+        Some(families) => of_family(random.pick(families), random),
         None => bad::one(random),
     }
 }
@@ -122,7 +152,7 @@ pub fn as_input(requests: &[Request]) -> Vec<u8> {
 
 /// A line put together word by word.
 #[derive(Clone)]
-struct Words(String);
+pub struct Words(String);
 
 impl Words {
     fn new(word: &str) -> Self {

@@ -23,6 +23,7 @@ pub const FAMILIES: &[Family] = &[
     ("small loads", small_loads),
     ("large", large),
     ("at its bounds", at_bounds),
+    LARGEST,
     ("a faulty load", faulty_load),
     ("a faulty generator", faulty_generator),
     ("a faulty corridor", faulty_corridor),
@@ -30,6 +31,8 @@ pub const FAMILIES: &[Family] = &[
     ("count past its bound", past_bounds),
     ("any bits", any_bits),
 ];
+
+pub const LARGEST: Family = ("256 buses, 256 corridors, 128 generators", largest);
 
 fn ask(support: &Support) -> Words {
     Words::new("PLACE")
@@ -196,6 +199,17 @@ fn at_bounds(random: &mut Random) -> Words {
     });
     for load in &mut support.loads {
         *load = random.pick(&[0.0, 1.0, 1e6]);
+    }
+    ask(&support)
+}
+
+/// The generators stand at one, some or many of the buses, so that more or
+/// fewer loads are far from all of them.
+fn largest(random: &mut Random) -> Words {
+    let mut support = support(random, MOST_BUSES, MOST_CORRIDORS, MOST_GENERATORS, length);
+    let sites = random.pick(&[1, 8, 64, MOST_BUSES]);
+    for bus in &mut support.generator_buses {
+        *bus = random.below(sites);
     }
     ask(&support)
 }

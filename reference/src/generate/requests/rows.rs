@@ -93,14 +93,13 @@ fn all_surveyed(random: &mut Random) -> Words {
     ask(random, asked, [0, 0])
 }
 
-/// As large as one line takes with both sheets.
+/// Up to two whole sheets at their bounds.
 fn large(random: &mut Random) -> Words {
-    let levels = random.from_to(1, MOST_LEVELS);
-    let corridors = MOST_CORRIDORS / (2 * levels);
+    let corridors = MOST_CORRIDORS;
     let asked = Asked {
         corridors,
-        levels,
-        count: random.from_to(0, corridors),
+        levels: random.from_to(1, MOST_LEVELS),
+        count: random.pick(&[0, 1, corridors / 2, corridors]),
         corridor: random.below(corridors),
     };
     ask(random, asked, [0, 0])

@@ -22,12 +22,15 @@ pub const FAMILIES: &[Family] = &[
     ("no corridor", no_corridor),
     ("large", large),
     ("at its bounds", at_bounds),
+    LARGEST,
     ("count past its bound", past_bounds),
     ("a level at fault", level_fault),
     ("a length at fault", length_fault),
     ("a spread at fault", spread_fault),
     ("faults in several places", several_faults),
 ];
+
+pub const LARGEST: Family = ("256 corridors, 5 levels", largest);
 
 /// The greatest kV whose square, rounded, is at most the product of two
 /// neighbouring classes.
@@ -233,6 +236,13 @@ fn at_bounds(random: &mut Random) -> Words {
     ladder[0] = random.pick(&[MOST_KV, ladder[0]]);
     let count = random.pick(&[1, 5, MOST_CORRIDORS - 1, MOST_CORRIDORS]);
     ask(&ladder, &usual_corridors(random, count))
+}
+
+fn largest(random: &mut Random) -> Words {
+    ask(
+        &full_ladder(random),
+        &usual_corridors(random, MOST_CORRIDORS),
+    )
 }
 
 /// A count past its bound; the tables may be faulty too, which 2 comes before.

@@ -1,8 +1,10 @@
 //! Solves by conjugate gradients: 8, 64 and 256 buses, ordinary ones and ones with a bus that cannot settle, of which the largest spends all its steps.
 
-use crate::ports::{dc_angles, Request};
+use crate::ports::{dc_angles, AnglesSaid, Request};
 use crate::{least, report};
-use reference::electrical::planning::dc_angles_cg;
+use reference::electrical::planning::{dc_angles_cg, End, Solve};
+use reference::harness::operations::{angles, Network};
+use reference::harness::refusal::Refusal;
 
 /// A small generator of figures in (0, 1), the same on every machine.
 struct Draws(u64);
@@ -50,22 +52,65 @@ fn hopeless(n: usize) -> Request {
     q
 }
 
-fn compare(what: &str, q: &Request, runs: usize) {
+fn network(q: &Request) -> Network {
+    Network {
+        edges: (0..q.from.len())
+            .map(|k| (q.from[k] as usize, q.to[k] as usize, q.weight[k]))
+            .collect(),
+        injection: q.injection.clone(),
+        grounds: q.grounds.iter().map(|&g| g as usize).collect(),
+        guess: None,
+    }
+}
+
+/// The reference build's answer as the port says it.
+fn said(answer: &Result<Solve, Refusal>) -> AnglesSaid {
+    match answer {
+        Err(refusal) => AnglesSaid {
+            refusal: refusal.number,
+            index: refusal.index,
+            steps: 0,
+            ended: 0,
+            figure: 0.0,
+        },
+        Ok(solve) => {
+            let (ended, figure) = match solve.end {
+                End::Settled(norm) => (1, norm),
+                End::NoDescent(dq) => (2, dq),
+                End::Spent(norm) => (3, norm),
+            };
+            AnglesSaid {
+                refusal: 0,
+                index: 0,
+                steps: solve.moves as usize,
+                ended,
+                figure,
+            }
+        }
+    }
+}
+
+/// Both answers alike, and the angles of an answered request; how often x was moved.
+fn agree(what: &str, q: &Request) -> usize {
     let n = q.injection.len();
-    let edges: Vec<(usize, usize, f64)> = (0..q.from.len())
-        .map(|k| (q.from[k] as usize, q.to[k] as usize, q.weight[k]))
-        .collect();
-    let grounds: Vec<usize> = q.grounds.iter().map(|&g| g as usize).collect();
     let (mut result, mut work) = (vec![0.0; n], vec![0.0; 8 * n]);
-    let steps = dc_angles(q, &mut result, &mut work);
-    let rust = dc_angles_cg(n, &edges, &q.injection, &grounds, None);
-    assert_eq!(steps, rust.moves as u64, "{what}: steps");
-    for (ours, theirs) in result.iter().zip(&rust.angles) {
+    let port = dc_angles(q, &mut result, &mut work);
+    let rust = angles(&network(q));
+    assert_eq!(port, said(&rust), "{what}: what is said");
+    for (ours, theirs) in result.iter().zip(rust.iter().flat_map(|s| &s.angles)) {
         assert!(
             ours == theirs || ours.to_bits() == theirs.to_bits(),
             "{what}: an angle differs"
         );
     }
+    port.steps
+}
+
+fn compare(what: &str, q: &Request, runs: usize) {
+    let steps = agree(what, q);
+    let n = q.injection.len();
+    let Network { edges, grounds, .. } = network(q);
+    let (mut result, mut work) = (vec![0.0; n], vec![0.0; 8 * n]);
     let times = least(
         runs,
         || {
@@ -78,7 +123,21 @@ fn compare(what: &str, q: &Request, runs: usize) {
     report(what, &format!("{steps} steps"), times);
 }
 
+/// Each way to end, and refusals with an index.
+fn answers() {
+    let mut q = feeder(8, 0.5);
+    agree("settled", &q);
+    agree("steps spent", &hopeless(256));
+    q.weight.fill(-1.0);
+    agree("no descent", &q);
+    q.grounds = vec![0, 8];
+    agree("a ground past the buses", &q);
+    q.to[3] = 8;
+    agree("an end past the buses", &q);
+}
+
 pub fn run() {
+    answers();
     for (n, runs) in [(8, 4000), (64, 800), (256, 200)] {
         compare(
             &format!("angles, {n} buses, settles"),

@@ -1,6 +1,9 @@
 //! The port against the reference build on the same inputs, from one driver in one run. Both sides are called in turn,
-//! the results are compared bit for bit (sheets are judged), and the least time of many runs of each gives the ratio. A ratio below 1 says
-//! that the port is faster.
+//! the results are compared bit for bit, line sheets judged, and the least time of many runs of each gives the ratio. A
+//! ratio below 1 says that the port is faster.
+//!
+//!     bench           the table
+//!     bench --once    the same with one run of each, for what it compares: its times say nothing
 
 mod angles;
 mod ports;
@@ -10,10 +13,15 @@ mod sheet;
 
 use std::time::{Duration, Instant};
 
+/// Whether each side is to be run once.
+fn once() -> bool {
+    std::env::args().any(|word| word == "--once")
+}
+
 /// The least time of `runs` runs of each of two functions, called in turn.
 fn least(runs: usize, mut port: impl FnMut(), mut rust: impl FnMut()) -> (Duration, Duration) {
     let mut best = (Duration::MAX, Duration::MAX);
-    for _ in 0..runs {
+    for _ in 0..if once() { 1 } else { runs } {
         let start = Instant::now();
         port();
         best.0 = best.0.min(start.elapsed());

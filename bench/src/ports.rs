@@ -1,5 +1,40 @@
-//! The proved operations under their C names: each slice is a pointer and a length. crates/exports has their contracts;
-//! nothing but this file checks that the two agree.
+//! The proved operations under their C names: each slice is a pointer and a length, each answer a struct. crates/exports has
+//! their contracts. That the declarations here are those of the archive shows only where both sides answer alike.
+
+/// What `dc_angles` answers: the refusal's number and index, or 0 and how the solve ended.
+#[repr(C)]
+#[derive(Clone, Copy, Debug, PartialEq)]
+pub struct AnglesSaid {
+    pub refusal: u32,
+    pub index: usize,
+    pub steps: usize,
+    /// 1 settled, 2 no descent, 3 steps spent.
+    pub ended: u32,
+    pub figure: f64,
+}
+
+/// What `read_case` answers: the refusal's number and index, or 0 and the header.
+#[repr(C)]
+#[derive(Clone, Copy, Debug, PartialEq)]
+pub struct ReadingSaid {
+    pub refusal: u32,
+    pub index: usize,
+    pub mode: u32,
+    pub target: u32,
+    pub buses: usize,
+    pub corridors: usize,
+    pub generators: usize,
+    pub above: usize,
+    pub requested: usize,
+}
+
+/// What `line_sheet` answers: the refusal's number and index, or 0.
+#[repr(C)]
+#[derive(Clone, Copy, Debug, PartialEq)]
+pub struct SheetSaid {
+    pub refusal: u32,
+    pub index: usize,
+}
 
 extern "C" {
     fn lopnaski_dc_angles(
@@ -22,7 +57,7 @@ extern "C" {
         result_len: usize,
         work: *mut f64,
         work_len: usize,
-    ) -> u64;
+    ) -> AnglesSaid;
     fn lopnaski_read_case(
         file: *const u8,
         file_len: usize,
@@ -56,7 +91,7 @@ extern "C" {
         share_len: usize,
         sheet: *mut f64,
         sheet_len: usize,
-    ) -> u32;
+    ) -> ReadingSaid;
     fn lopnaski_line_sheet(
         levels: usize,
         corridors: usize,
@@ -68,7 +103,7 @@ extern "C" {
         spread_len: usize,
         sheet: *mut f64,
         sheet_len: usize,
-    ) -> u32;
+    ) -> SheetSaid;
 }
 
 /// A network to solve, in the port's columns.
@@ -81,8 +116,8 @@ pub struct Request {
     pub guess: Vec<f64>,
 }
 
-/// How often x was moved; all ones where the request is refused. The angles are in `result`.
-pub fn dc_angles(q: &Request, result: &mut [f64], work: &mut [f64]) -> u64 {
+/// The angles are in `result`.
+pub fn dc_angles(q: &Request, result: &mut [f64], work: &mut [f64]) -> AnglesSaid {
     unsafe {
         lopnaski_dc_angles(
             q.injection.len(),
@@ -129,8 +164,7 @@ impl Tables {
     }
 }
 
-/// 0, or the refusal's number.
-pub fn read_case(file: &[u8], t: &mut Tables) -> u32 {
+pub fn read_case(file: &[u8], t: &mut Tables) -> ReadingSaid {
     let f: Vec<(*mut f64, usize)> = t
         .figures
         .iter_mut()
@@ -179,8 +213,8 @@ pub fn read_case(file: &[u8], t: &mut Tables) -> u32 {
     }
 }
 
-/// 0, or the refusal's number. The rows are in `sheet`.
-pub fn line_sheet(ladder: &[f64], km: &[f64], spread: &[f64], sheet: &mut [f64]) -> u32 {
+/// What the operation answers. The rows are in `sheet`.
+pub fn line_sheet(ladder: &[f64], km: &[f64], spread: &[f64], sheet: &mut [f64]) -> SheetSaid {
     unsafe {
         lopnaski_line_sheet(
             ladder.len(),

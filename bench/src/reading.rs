@@ -1,7 +1,9 @@
 //! Reading case files: case L, and the largest file there is.
 
-use crate::ports::{read_case, Tables};
+use crate::ports::{read_case, ReadingSaid, Tables};
 use crate::{least, report};
+use reference::harness::refusal::Refusal;
+use reference::harness::tables::Case;
 
 fn record(file: &mut Vec<u8>, mark: &[u8; 2], fields: &[&[u8]]) {
     file.extend_from_slice(mark);
@@ -77,20 +79,56 @@ fn case(buses: u16, corridors: u16, generators: u16, levels: u8) -> Vec<u8> {
     file
 }
 
-fn compare(what: &str, file: &[u8], runs: usize) {
-    let mut tables = Tables::new();
-    assert_eq!(read_case(file, &mut tables), 0, "{what}: refused");
-    let rust = match reference::harness::case_file::read_case(file) {
-        Ok(case) => case,
-        Err(_) => panic!("{what}: the reference build refuses it"),
+/// The reference build's answer as the port says it.
+fn said(answer: &Result<Case, Refusal>) -> ReadingSaid {
+    let nothing = ReadingSaid {
+        refusal: 0,
+        index: 0,
+        mode: 0,
+        target: 0,
+        buses: 0,
+        corridors: 0,
+        generators: 0,
+        above: 0,
+        requested: 0,
     };
-    for (i, bus) in rust.buses.iter().enumerate() {
+    match answer {
+        Err(refusal) => ReadingSaid {
+            refusal: refusal.number,
+            index: refusal.index,
+            ..nothing
+        },
+        Ok(case) => ReadingSaid {
+            mode: case.mode.into(),
+            target: case.target,
+            buses: case.buses.len(),
+            corridors: case.corridors.len(),
+            generators: case.generators.len(),
+            above: case.above,
+            requested: case.ladder.len() - case.above,
+            ..nothing
+        },
+    }
+}
+
+/// Both answers alike, and the loads of a file that is read.
+fn agree(what: &str, file: &[u8]) {
+    let mut tables = Tables::new();
+    let port = read_case(file, &mut tables);
+    let rust = reference::harness::case_file::read_case(file);
+    assert_eq!(port, said(&rust), "{what}: what is said");
+    for (i, bus) in rust.iter().flat_map(|case| &case.buses).enumerate() {
         assert_eq!(
             bus.load.to_bits(),
             tables.loads()[i].to_bits(),
             "{what}: a load differs"
         );
     }
+}
+
+fn compare(what: &str, file: &[u8], runs: usize) {
+    agree(what, file);
+    let mut tables = Tables::new();
     let times = least(
         runs,
         || {
@@ -104,6 +142,10 @@ fn compare(what: &str, file: &[u8], runs: usize) {
 }
 
 pub fn run() {
+    let mut damaged = case(3, 2, 1, 2);
+    agree("cut", &damaged[..damaged.len() - 1]);
+    damaged[15] = b'X';
+    agree("a wrong mark", &damaged);
     compare("reading, a small case", &case(2, 1, 1, 1), 4000);
     let mut largest = case(256, 256, 128, 5);
     compare("reading, the largest case", &largest, 400);

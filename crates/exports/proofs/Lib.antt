@@ -1,2 +1,2 @@
--- Laws of the exported numbers.
+-- Laws of the exported structs.
 pub mod Told

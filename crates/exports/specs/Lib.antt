@@ -1,2 +1,2 @@
--- What the exported numbers mean.
+-- What the fields of the exported structs mean.
 pub mod Said

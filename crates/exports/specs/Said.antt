@@ -1,12 +1,37 @@
--- Replies as numbers: how often x was moved, all ones where the request was refused; and 0 for an answer, else the documents' number.
+-- Answers as the fields of a struct. Of a refusal the documents' number and index; of an answer what it holds, with a number for
+-- how the solve ended and for the mode. The rest is 0.
 use Prim.Native.Nat.{ℕ}
+use lib.Ieee.{Float}
+use Rattle.loops.specs.Figures.{nought}
 use Rattle.refusal.specs.Reply.{Reply, answered, refused}
+use Rattle.mode.specs.Number.{modeNumber}
+use Rattle.angles_defs.specs.declared.Ended.{Ended}
+use Rattle.angles_defs.specs.declared.Ended.the-variants.{Settled, NoDescent, StepsSpent}
 use Rattle.angles_defs.specs.declared.Solution.{Solution}
+use Rattle.casefile.specs.declared.Header.{Header}
+use Rattle.exports.specs.declared.AnglesSaid.{AnglesSaid}
+use Rattle.exports.specs.declared.ReadingSaid.{ReadingSaid}
+use Rattle.exports.specs.declared.SheetSaid.{SheetSaid}
 
-abbrev pub stepsSaid : Reply Solution → ℕ
-stepsSaid (answered s) = s .steps
-stepsSaid (refused number index) = 0xFFFF_FFFF_FFFF_FFFF
+unfoldable pub endedNumber : Ended → ℕ
+endedNumber (Settled x) = 1
+endedNumber (NoDescent x) = 2
+endedNumber (StepsSpent x) = 3
 
-abbrev pub refusalSaid : {A : Type 0} → Reply A → ℕ
-refusalSaid (answered a) = 0
-refusalSaid (refused number index) = number
+unfoldable pub endedFigure : Ended → Float
+endedFigure (Settled x) = x
+endedFigure (NoDescent x) = x
+endedFigure (StepsSpent x) = x
+
+abbrev pub anglesSaid : Reply Solution → AnglesSaid
+anglesSaid (answered s) = record { refusal = 0; index = 0; steps = s .steps; ended = endedNumber (s .ended); figure = endedFigure (s .ended) }
+anglesSaid (refused number index) = record { refusal = number; index = index; steps = 0; ended = 0; figure = nought }
+
+abbrev pub readingSaid : Reply Header → ReadingSaid
+readingSaid (answered h) =
+    record { refusal = 0; index = 0; mode = modeNumber (h .mode); target = h .target; buses = h .buses; corridors = h .corridors; generators = h .generators; above = h .above; requested = h .requested }
+readingSaid (refused number index) = record { refusal = number; index = index; mode = 0; target = 0; buses = 0; corridors = 0; generators = 0; above = 0; requested = 0 }
+
+abbrev pub sheetSaid : Reply (Unit {0}) → SheetSaid
+sheetSaid (answered u) = record { refusal = 0; index = 0 }
+sheetSaid (refused number index) = record { refusal = number; index = index }

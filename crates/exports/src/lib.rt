@@ -1,16 +1,48 @@
-// Operations under C names, for the Rust driver of bench/: what an enum would answer comes back as a number.
+// Operations under C names, for a driver in C or Rust such as bench/: what an operation answers comes back in the fields of a struct.
+mod said;
+
 ghost use mathlib.Core.Path.{_≡_};
 ghost use Rattle.angles_defs.specs.Operation.{requestOf, dcAngles};
 ghost use Rattle.casefile.specs.Tables.{placesOf, readCase};
 ghost use Rattle.line_defs.specs.Sheet.{lineSheet};
-ghost use Rattle.exports.specs.Said.{stepsSaid, refusalSaid};
-use angles_defs::Angles;
-use casefile::Reading;
-use refusal::Answer;
+ghost use Rattle.exports.specs.Said.{anglesSaid, readingSaid, sheetSaid};
 
-const REFUSED: u64 = 0xFFFF_FFFF_FFFF_FFFF;
+// The answer of `dc_angles`. A field that has nothing to say is 0.
+#[repr(C)]
+pub struct AnglesSaid {
+    // Document 01's number and index of the refusal; 0 where the request is answered.
+    pub refusal: u32,
+    pub index: usize,
+    // How often x was moved.
+    pub steps: usize,
+    // How the solve ended: 1 settled, 2 no descent, 3 steps spent; and its last figure.
+    pub ended: u32,
+    pub figure: f64,
+}
 
-// `dc_angles`: how often x was moved, or 2^64 - 1 where the request is refused.
+// The answer of `read_case`. A field that has nothing to say is 0.
+#[repr(C)]
+pub struct ReadingSaid {
+    // Document 01's number and index of the refusal; 0 where the file is read.
+    pub refusal: u32,
+    pub index: usize,
+    // The header, the mode by document 01's number.
+    pub mode: u32,
+    pub target: u32,
+    pub buses: usize,
+    pub corridors: usize,
+    pub generators: usize,
+    pub above: usize,
+    pub requested: usize,
+}
+
+// The answer of `line_sheet`: document 02's number and index of the refusal; 0 where the sheet is worked out.
+#[repr(C)]
+pub struct SheetSaid {
+    pub refusal: u32,
+    pub index: usize,
+}
+
 #[no_mangle]
 pub extern "C" fn lopnaski_dc_angles(
     n: usize,
@@ -24,15 +56,15 @@ pub extern "C" fn lopnaski_dc_angles(
     guess: &[f64],
     result: &mut [f64],
     work: &mut [f64],
-) -> u64
-    ensures said { λ r. ⌜ r ≡ stepsSaid (dcAngles (requestOf n m k (now (from .entry)) (now (to .entry)) (now (weight .entry)) (now (injection .entry)) (now (grounds .entry)) (now (guess .entry)))
+) -> AnglesSaid
+    ensures said { λ r. ⌜ r ≡ anglesSaid (dcAngles (requestOf n m k (now (from .entry)) (now (to .entry)) (now (weight .entry)) (now (injection .entry)) (now (grounds .entry)) (now (guess .entry)))
         (now (result .entry)) (now (work .entry)) .reply) ⌝ }
     ensures angles { λ r. ⌜ now (result .exit) ≡ dcAngles (requestOf n m k (now (from .entry)) (now (to .entry)) (now (weight .entry)) (now (injection .entry)) (now (grounds .entry)) (now (guess .entry)))
         (now (result .entry)) (now (work .entry)) .result ⌝ }
     ensures cleared { λ r. ⌜ now (work .exit) ≡ dcAngles (requestOf n m k (now (from .entry)) (now (to .entry)) (now (weight .entry)) (now (injection .entry)) (now (grounds .entry)) (now (guess .entry)))
         (now (result .entry)) (now (work .entry)) .work ⌝ }
 {
-    match angles::dc_angles(
+    said::angles(angles::dc_angles(
         n,
         m,
         k,
@@ -44,13 +76,9 @@ pub extern "C" fn lopnaski_dc_angles(
         guess,
         result,
         work,
-    ) {
-        Angles::Answered(s) => s.steps as u64,
-        Angles::Refused(_) => REFUSED,
-    }
+    ))
 }
 
-// `read_case`: 0, or the refusal's number.
 #[no_mangle]
 pub extern "C" fn lopnaski_read_case(
     file: &[u8],
@@ -69,11 +97,11 @@ pub extern "C" fn lopnaski_read_case(
     length_km: &mut [f64],
     share: &mut [f64],
     sheet: &mut [f64],
-) -> u32
-    ensures said { λ r. ⌜ r ≡ refusalSaid (readCase (now (file .entry)) (placesOf (now (ladder .entry)) (now (tier .entry)) (now (load .entry)) (now («generator_bus» .entry)) (now (slack .entry)) (now (pmin .entry)) (now (pmax .entry)) (now (c1 .entry)) (now (c2 .entry)) (now (a .entry)) (now (b .entry)) (now (circuits .entry)) (now («length_km» .entry)) (now (share .entry)) (now (sheet .entry))) .reply) ⌝ }
+) -> ReadingSaid
+    ensures said { λ r. ⌜ r ≡ readingSaid (readCase (now (file .entry)) (placesOf (now (ladder .entry)) (now (tier .entry)) (now (load .entry)) (now («generator_bus» .entry)) (now (slack .entry)) (now (pmin .entry)) (now (pmax .entry)) (now (c1 .entry)) (now (c2 .entry)) (now (a .entry)) (now (b .entry)) (now (circuits .entry)) (now («length_km» .entry)) (now (share .entry)) (now (sheet .entry))) .reply) ⌝ }
     ensures tables { λ r. ⌜ placesOf (now (ladder .exit)) (now (tier .exit)) (now (load .exit)) (now («generator_bus» .exit)) (now (slack .exit)) (now (pmin .exit)) (now (pmax .exit)) (now (c1 .exit)) (now (c2 .exit)) (now (a .exit)) (now (b .exit)) (now (circuits .exit)) (now («length_km» .exit)) (now (share .exit)) (now (sheet .exit)) ≡ readCase (now (file .entry)) (placesOf (now (ladder .entry)) (now (tier .entry)) (now (load .entry)) (now («generator_bus» .entry)) (now (slack .entry)) (now (pmin .entry)) (now (pmax .entry)) (now (c1 .entry)) (now (c2 .entry)) (now (a .entry)) (now (b .entry)) (now (circuits .entry)) (now («length_km» .entry)) (now (share .entry)) (now (sheet .entry))) .places ⌝ }
 {
-    match casefile::read_case(
+    said::reading(casefile::read_case(
         file,
         ladder,
         tier,
@@ -90,13 +118,9 @@ pub extern "C" fn lopnaski_read_case(
         length_km,
         share,
         sheet,
-    ) {
-        Reading::Read(_) => 0,
-        Reading::Refused(f) => f.number(),
-    }
+    ))
 }
 
-// `line_sheet`: 0, or the refusal's number.
 #[no_mangle]
 pub extern "C" fn lopnaski_line_sheet(
     levels: usize,
@@ -105,12 +129,9 @@ pub extern "C" fn lopnaski_line_sheet(
     km: &[f64],
     spread: &[f64],
     sheet: &mut [f64],
-) -> u32
-    ensures said { λ r. ⌜ r ≡ refusalSaid (lineSheet levels corridors (now (ladder .entry)) (now (km .entry)) (now (spread .entry)) (now (sheet .entry)) .reply) ⌝ }
+) -> SheetSaid
+    ensures said { λ r. ⌜ r ≡ sheetSaid (lineSheet levels corridors (now (ladder .entry)) (now (km .entry)) (now (spread .entry)) (now (sheet .entry)) .reply) ⌝ }
     ensures rows { λ r. ⌜ now (sheet .exit) ≡ lineSheet levels corridors (now (ladder .entry)) (now (km .entry)) (now (spread .entry)) (now (sheet .entry)) .sheet ⌝ }
 {
-    match line_sheet::line_sheet(levels, corridors, ladder, km, spread, sheet) {
-        Answer::Answered => 0,
-        Answer::Refused(f) => f.number(),
-    }
+    said::sheet(line_sheet::line_sheet(levels, corridors, ladder, km, spread, sheet))
 }

@@ -1,0 +1,133 @@
+// Answers as the fields of a struct.
+ghost use mathlib.Core.Path.{_≡_};
+ghost use Rattle.angles_defs.specs.Operation as defined;
+ghost use Rattle.casefile.specs.Tables as tables;
+ghost use Rattle.refusal.specs.Reply as replies;
+ghost use Rattle.exports.specs.Said.{anglesSaid, endedFigure, endedNumber, readingSaid, sheetSaid};
+use crate::AnglesSaid;
+use crate::ReadingSaid;
+use crate::SheetSaid;
+use angles_defs::Angles;
+use angles_defs::Ended;
+use angles_defs::Solution;
+use casefile::Header;
+use casefile::Reading;
+use refusal::Answer;
+use refusal::Refusal;
+
+fn ended_number(ended: Ended) -> u32
+    ensures { λ r. ⌜ r ≡ endedNumber ended ⌝ }
+{
+    match ended {
+        Ended::Settled(_) => 1,
+        Ended::NoDescent(_) => 2,
+        Ended::StepsSpent(_) => 3,
+    }
+}
+
+fn ended_figure(ended: Ended) -> f64
+    ensures { λ r. ⌜ r ≡ endedFigure ended ⌝ }
+{
+    match ended {
+        Ended::Settled(x) => x,
+        Ended::NoDescent(x) => x,
+        Ended::StepsSpent(x) => x,
+    }
+}
+
+fn solved(s: Solution) -> AnglesSaid
+    ensures { λ r. ⌜ r ≡ anglesSaid (defined.replyOf (Angles.Answered s)) ⌝ }
+{
+    let ended = s.ended;
+    AnglesSaid {
+        refusal: 0,
+        index: 0,
+        steps: s.steps,
+        ended: ended_number(ended),
+        figure: ended_figure(ended),
+    }
+}
+
+fn not_solved(f: Refusal) -> AnglesSaid
+    ensures { λ r. ⌜ r ≡ anglesSaid (defined.replyOf (Angles.Refused f)) ⌝ }
+{
+    AnglesSaid {
+        refusal: f.number(),
+        index: f.index(),
+        steps: 0,
+        ended: 0,
+        figure: 0.0,
+    }
+}
+
+pub fn angles(a: Angles) -> AnglesSaid
+    ensures { λ r. ⌜ r ≡ anglesSaid (defined.replyOf a) ⌝ }
+{
+    match a {
+        Angles::Answered(s) => solved(s),
+        Angles::Refused(f) => not_solved(f),
+    }
+}
+
+fn read(h: Header) -> ReadingSaid
+    ensures { λ r. ⌜ r ≡ readingSaid (tables.replyOf (Reading.Read h)) ⌝ }
+{
+    let mode = h.mode;
+    ReadingSaid {
+        refusal: 0,
+        index: 0,
+        mode: mode.number(),
+        target: h.target,
+        buses: h.buses,
+        corridors: h.corridors,
+        generators: h.generators,
+        above: h.above,
+        requested: h.requested,
+    }
+}
+
+fn not_read(f: Refusal) -> ReadingSaid
+    ensures { λ r. ⌜ r ≡ readingSaid (tables.replyOf (Reading.Refused f)) ⌝ }
+{
+    ReadingSaid {
+        refusal: f.number(),
+        index: f.index(),
+        mode: 0,
+        target: 0,
+        buses: 0,
+        corridors: 0,
+        generators: 0,
+        above: 0,
+        requested: 0,
+    }
+}
+
+pub fn reading(r: Reading) -> ReadingSaid
+    ensures { λ s. ⌜ s ≡ readingSaid (tables.replyOf r) ⌝ }
+{
+    match r {
+        Reading::Read(h) => read(h),
+        Reading::Refused(f) => not_read(f),
+    }
+}
+
+fn not_worked(f: Refusal) -> SheetSaid
+    ensures { λ r. ⌜ r ≡ sheetSaid (replies.replyOf (Answer.Refused f)) ⌝ }
+{
+    SheetSaid {
+        refusal: f.number(),
+        index: f.index(),
+    }
+}
+
+pub fn sheet(a: Answer) -> SheetSaid
+    ensures { λ r. ⌜ r ≡ sheetSaid (replies.replyOf a) ⌝ }
+{
+    match a {
+        Answer::Answered => SheetSaid {
+            refusal: 0,
+            index: 0,
+        },
+        Answer::Refused(f) => not_worked(f),
+    }
+}

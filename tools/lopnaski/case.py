@@ -21,13 +21,13 @@ class Failure(Exception):
         self.status = status
 
 
-def bytes_of(name):
-    """A file's bytes, at most one more than a case file can have; - is standard input."""
+def bytes_of(name, most=casefile.MOST_BYTES):
+    """A file's bytes, at most one more than `most`; - is standard input."""
     try:
         if name == "-":
-            return sys.stdin.buffer.read(casefile.MOST_BYTES + 1)
+            return sys.stdin.buffer.read(most + 1)
         with open(name, "rb") as file:
-            return file.read(casefile.MOST_BYTES + 1)
+            return file.read(most + 1)
     except OSError as error:
         raise Failure("%s: %s" % (name, error.strerror), 2) from None
 

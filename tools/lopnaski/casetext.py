@@ -6,7 +6,8 @@ from lopnaski import casefile
 from lopnaski.casefile import FIELDS, NAMES, SMALL, WIDEST
 from lopnaski.figures import bits_of_text, text_of_bits
 
-WHOLE = re.compile(r"\+?[0-9]+\Z")
+# A whole number; longer ones than any field can hold are none.
+WHOLE = re.compile(r"\+?[0-9]{1,20}\Z")
 
 
 class Wrong(Exception):

@@ -22,13 +22,13 @@ COLUMNS = {
     "corridors": ("[corridor]", "a", "b", "circuits", "length", "share", "[spread]"),
     "lines": ("corridor", "level", "r", "x", "b", "rate", "basis"),
 }
+# lines.csv has a row for each corridor and level, which is looked for row by row.
 MOST_ROWS = {
     "case": 1,
     "levels": casefile.MOST_LEVELS,
     "buses": casefile.MOST_BUSES,
     "generators": casefile.MOST_GENERATORS,
     "corridors": casefile.MOST_CORRIDORS,
-    "lines": casefile.MOST_CORRIDORS * casefile.MOST_LEVELS,
 }
 TABLE_OF = {"LV": "levels", "BU": "buses", "GE": "generators", "CO": "corridors", "LN": "lines"}
 YES_NO = {"yes": 1, "y": 1, "true": 1, "1": 1, "no": 0, "n": 0, "false": 0, "0": 0}
@@ -94,12 +94,10 @@ def is_optional(column):
     return column.startswith("[")
 
 
-def delimiter_of(line):
-    """The mark between cells: a comma, or the semicolon or tab that some offices' programs write."""
-    for mark in (",", ";", "\t"):
-        if mark in line:
-            return mark
-    return ","
+def delimiter_of(text):
+    """The mark between cells: a comma, or the semicolon or tab that some offices' programs write; the header tells."""
+    header = next((line for line in text.split("\n") if line.strip()), "")
+    return next((mark for mark in (",", ";", "\t") if mark in header), ",")
 
 
 def text_of_file(folder, table):
@@ -164,7 +162,7 @@ def read_rows(folder, table):
     text = text_of_file(folder, table)
     if text is None:
         return []
-    reader = csv.reader(io.StringIO(text, newline=""), delimiter=delimiter_of(text.split("\n", 1)[0]), strict=True)
+    reader = csv.reader(io.StringIO(text, newline=""), delimiter=delimiter_of(text), strict=True)
     names, rows = None, []
     try:
         for cells in reader:
@@ -187,9 +185,9 @@ def read_rows(folder, table):
 
 
 def count_rows(folder, table):
-    """A fault where a table has more rows than its bound."""
-    rows, most = folder.rows[table], MOST_ROWS[table]
-    if len(rows) > most and table != "lines":
+    """A fault where a table has more rows than its bound, or none where one is needed."""
+    rows, most = folder.rows[table], MOST_ROWS.get(table, len(folder.rows[table]))
+    if len(rows) > most:
         folder.wrong(table, "this is row %d, and %d is the most" % (most + 1, most), rows[most].line)
     if table == "case" and not rows and not folder.faults:
         folder.wrong(table, "it has no row: mode and target are needed")
@@ -439,7 +437,7 @@ def level_names(case):
     return names
 
 
-def rows_of(case, mark, table):
+def rows_of(case, mark):
     """The rows of a table but lines.csv, without its header."""
     names = level_names(case)
     for place, fields in enumerate(case.records[mark]):
@@ -465,7 +463,7 @@ def line_rows(case):
 
 def texts(case):
     """The text of each table of a case, by its name."""
-    content = {table: rows_of(case, mark, table) for mark, table in TABLE_OF.items() if mark != "LN"}
+    content = {table: rows_of(case, mark) for mark, table in TABLE_OF.items() if mark != "LN"}
     content["case"] = [[MODES[case.head("mode")], str(case.head("target"))]]
     content["lines"] = line_rows(case)
     made = {}

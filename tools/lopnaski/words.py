@@ -5,8 +5,8 @@ import os
 from lopnaski import casefile, checks
 
 TABLE = os.path.join(os.path.dirname(os.path.abspath(__file__)), "..", "..", "docs", "refusals.txt")
-# The refusals whose index is a record's place in the file.
-OF_RECORDS = (14, 15, 16)
+# The refusals whose index is a row of the line sheet, and those whose index is a record's place in the file.
+OF_ROWS, OF_RECORDS = (7,), (14, 15, 16)
 
 
 class Entry:
@@ -26,6 +26,13 @@ def table():
     return {entry.number: entry for entry in (Entry(*line.split("\t")) for line in lines)}
 
 
+def named_row(data, row):
+    """A row of the line sheet, with its corridor and its level: 20 (corridor 6, level 2)."""
+    header = casefile.header_of(data)
+    levels = header and header[casefile.place_of("HD", "above")] + header[casefile.place_of("HD", "requested")]
+    return "%d (corridor %d, level %d)" % (row, row // levels, row % levels) if levels else str(row)
+
+
 def named(data, record):
     """A record's place, with what it is where the header tells it: 7 (bus 4)."""
     if record == 0:
@@ -37,7 +44,8 @@ def named(data, record):
 
 def meaning(refusal, data=b""):
     """What is wrong, with its index."""
-    index = named(data, refusal.index) if refusal.number in OF_RECORDS else str(refusal.index)
+    name = named_row if refusal.number in OF_ROWS else named if refusal.number in OF_RECORDS else lambda _, index: str(index)
+    index = name(data, refusal.index)
     return table()[refusal.number].meaning.replace("{i}", index)
 
 

@@ -86,9 +86,16 @@ impl Words<'_> {
     }
 }
 
+/// What a line says: all before a `#`, which begins a comment.
+fn said(line: &str) -> &str {
+    line.split('#').next().unwrap_or_default()
+}
+
 /// The case that `text` says, or None where it says none. What no case file
 /// can hold is not looked for, and nothing else is refused here.
 pub fn parse_text(text: &str) -> Option<Case> {
+    let text: Vec<&str> = text.lines().map(said).collect();
+    let text = text.join("\n");
     let mut words = Words(text.split_ascii_whitespace());
     words.mark("HD")?;
     let (mode, target) = (words.field()?, words.field()?);

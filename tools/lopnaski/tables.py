@@ -342,6 +342,7 @@ def sheet_of(folder, corridors, levels):
         sheet.setdefault(place, record)
     if not folder.faults:
         work_out(folder, sheet, levels)
+    if not folder.faults:
         say_missing_rows(folder, sheet, corridors, levels)
     return sheet, rows
 

@@ -48,7 +48,7 @@ fn compare(corridors: usize, levels: usize, runs: usize) {
         },
     );
     report(
-        &format!("sheet, {corridors} corridors, {levels} levels"),
+        &format!("sheet, corridors {corridors}, levels {levels}"),
         &format!("{} rows", corridors * levels),
         times,
     );

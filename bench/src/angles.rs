@@ -90,8 +90,8 @@ fn said(answer: &Result<Solve, Refusal>) -> AnglesSaid {
     }
 }
 
-/// Both answers alike, and the angles of an answered request; how often x was moved.
-fn agree(what: &str, q: &Request) -> usize {
+/// Both answers alike, and the angles of an answered request; the answer.
+fn agree(what: &str, q: &Request) -> AnglesSaid {
     let n = q.injection.len();
     let (mut result, mut work) = (vec![0.0; n], vec![0.0; 8 * n]);
     let port = dc_angles(q, &mut result, &mut work);
@@ -103,11 +103,11 @@ fn agree(what: &str, q: &Request) -> usize {
             "{what}: an angle differs"
         );
     }
-    port.steps
+    port
 }
 
 fn compare(what: &str, q: &Request, runs: usize) {
-    let steps = agree(what, q);
+    let steps = agree(what, q).steps;
     let n = q.injection.len();
     let Network { edges, grounds, .. } = network(q);
     let (mut result, mut work) = (vec![0.0; n], vec![0.0; 8 * n]);
@@ -126,14 +126,16 @@ fn compare(what: &str, q: &Request, runs: usize) {
 /// Each way to end, and refusals with an index.
 fn answers() {
     let mut q = feeder(8, 0.5);
-    agree("settled", &q);
-    agree("steps spent", &hopeless(256));
+    assert_eq!(agree("settled", &q).ended, 1);
+    assert_eq!(agree("steps spent", &hopeless(256)).ended, 3);
     q.weight.fill(-1.0);
-    agree("no descent", &q);
+    assert_eq!(agree("no descent", &q).ended, 2);
     q.grounds = vec![0, 8];
-    agree("a ground past the buses", &q);
+    let ground = agree("a ground past the buses", &q);
+    assert_eq!((ground.refusal, ground.index), (10, 1));
     q.to[3] = 8;
-    agree("an end past the buses", &q);
+    let end = agree("an end past the buses", &q);
+    assert_eq!((end.refusal, end.index), (10, 3));
 }
 
 pub fn run() {

@@ -111,8 +111,8 @@ fn said(answer: &Result<Case, Refusal>) -> ReadingSaid {
     }
 }
 
-/// Both answers alike, and the loads of a file that is read.
-fn agree(what: &str, file: &[u8]) {
+/// Both answers alike, and the loads of a file that is read; the refusal's number and index.
+fn agree(what: &str, file: &[u8]) -> (u32, usize) {
     let mut tables = Tables::new();
     let port = read_case(file, &mut tables);
     let rust = reference::harness::case_file::read_case(file);
@@ -124,10 +124,11 @@ fn agree(what: &str, file: &[u8]) {
             "{what}: a load differs"
         );
     }
+    (port.refusal, port.index)
 }
 
 fn compare(what: &str, file: &[u8], runs: usize) {
-    agree(what, file);
+    assert_eq!(agree(what, file), (0, 0), "{what}: refused");
     let mut tables = Tables::new();
     let times = least(
         runs,
@@ -143,9 +144,9 @@ fn compare(what: &str, file: &[u8], runs: usize) {
 
 pub fn run() {
     let mut damaged = case(3, 2, 1, 2);
-    agree("cut", &damaged[..damaged.len() - 1]);
+    assert_eq!(agree("cut", &damaged[..damaged.len() - 1]), (14, 12));
     damaged[15] = b'X';
-    agree("a wrong mark", &damaged);
+    assert_eq!(agree("a wrong mark", &damaged), (15, 1));
     compare("reading, a small case", &case(2, 1, 1, 1), 4000);
     let mut largest = case(256, 256, 128, 5);
     compare("reading, the largest case", &largest, 400);

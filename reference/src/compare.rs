@@ -162,9 +162,9 @@ fn judge(
 ) -> io::Result<bool> {
     match program.run(input)? {
         Run::Ended(written) => compare(&written, outcome),
-        Run::Failed(status) => {
-            outcome.count(false, || format!("seed {seed}: the program ended with {status}"))
-        }
+        Run::Failed(status) => outcome.count(false, || {
+            format!("seed {seed}: the program ended with {status}")
+        }),
         Run::Hung => {
             let limit = program.limit.as_secs();
             outcome.count(false, || {
@@ -284,13 +284,7 @@ pub fn compare_cases(
 }
 
 /// The answers to one case file.
-fn compare_listings(
-    family: &str,
-    seed: u64,
-    ours: &[u8],
-    theirs: &[u8],
-    outcome: &mut Outcome,
-) {
+fn compare_listings(family: &str, seed: u64, ours: &[u8], theirs: &[u8], outcome: &mut Outcome) {
     outcome.count(ours == theirs, || {
         let (our_lines, their_lines) = (lines(ours), lines(theirs));
         let place = (0..our_lines.len())

@@ -180,7 +180,9 @@ impl Tally {
         for name in expected.keys() {
             self.add(name.clone(), 0);
         }
-        let seldom = expected.iter().filter(|(name, &least)| self.counts[*name] < least);
+        let seldom = expected
+            .iter()
+            .filter(|(name, &least)| self.counts[*name] < least);
         let seldom: Vec<String> = seldom
             .map(|(name, least)| format!("met less than {least} times: {name}\n"))
             .collect();

@@ -1,5 +1,6 @@
 // Answers requests on standard input, a line each, with one line each on standard output: the way in for vectors and for the
-// comparison with the reference build. Proved: the program is safe and ends. What it reads, asks and prints is tested.
+// comparison with the reference build. Proved: it is safe, and ends where each read and write does. What it reads, asks and
+// prints is tested.
 mod ang;
 mod disp;
 mod lead;

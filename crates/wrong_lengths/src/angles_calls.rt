@@ -1,65 +1,58 @@
 // Two buses, an edge between them and a ground at the first.
-ghost use Prim.Native.Nat.{_≤_};
+use crate::report::FIGURE;
+use crate::report::ROOM;
+use crate::report::Wrong;
 use crate::report::figures_kept;
+use crate::report::made;
+use crate::report::none;
+use crate::report::say_answered;
+use crate::report::say_call;
 use crate::report::say_kept;
 use crate::report::say_refusal;
 use angles_defs::Angles;
-use libc::STDOUT_FILENO;
 
-fn call(
-    what: &[u8],
-    from: usize,
-    to: usize,
-    weight: usize,
-    injection: usize,
-    grounds: usize,
-    guess: usize,
-    result: usize,
-    work: usize,
-)
-    requires { ⌜ (from ≤ 3) × (to ≤ 3) × (weight ≤ 3) × (injection ≤ 3) ⌝ }
-    requires { ⌜ (grounds ≤ 3) × (guess ≤ 3) × (result ≤ 3) × (work ≤ 32) ⌝ }
-{
-    let ends_from = [0u32, 0, 0];
-    let ends_to = [1u32, 1, 1];
-    let weights = [2.0f64, 1.0, 1.0];
-    let power = [0.0f64, -0.5, 0.0];
-    let ground = [0u32, 0, 0];
-    let first = [0.0f64, 0.0, 0.0];
-    let mut held_result = [7.0f64; 32];
-    let mut held_work = [7.0f64; 32];
+const SLICES: usize = 8;
+
+fn call(what: &[u8], buses: usize, wrong: Wrong) {
+    let from = [0u32, 0];
+    let to = [1u32, 1];
+    let weight = [2.0f64, 1.0];
+    let injection = [0.0f64, -0.5, 0.0];
+    let grounds = [0u32, 0];
+    let guess = [0.0f64, 0.0, 0.0];
+    let mut result = [FIGURE; ROOM];
+    let mut work = [FIGURE; ROOM];
     let r = angles::dc_angles(
-        2,
+        buses,
         1,
         1,
-        &ends_from[0..from],
-        &ends_to[0..to],
-        &weights[0..weight],
-        &power[0..injection],
-        &ground[0..grounds],
-        &first[0..guess],
-        &mut held_result[0..result],
-        &mut held_work[0..work],
+        &from[0..made(1, 0, wrong)],
+        &to[0..made(1, 1, wrong)],
+        &weight[0..made(1, 2, wrong)],
+        &injection[0..made(2, 3, wrong)],
+        &grounds[0..made(1, 4, wrong)],
+        &guess[0..made(2, 5, wrong)],
+        &mut result[0..made(2, 6, wrong)],
+        &mut work[0..made(16, 7, wrong)],
     );
-    io::write_all(STDOUT_FILENO, what);
+    say_call(what, wrong);
     match r {
-        Angles::Answered(_) => {
-            io::write_all(STDOUT_FILENO, b"OK");
-        }
+        Angles::Answered(_) => say_answered(),
         Angles::Refused(f) => say_refusal(f),
     }
-    say_kept(figures_kept(&held_result) & figures_kept(&held_work));
+    say_kept(figures_kept(&result) & figures_kept(&work));
 }
 
-pub fn all() {
-    call(b"angles: ", 1, 1, 1, 2, 1, 2, 2, 16);
-    call(b"angles, from short: ", 0, 1, 1, 2, 1, 2, 2, 16);
-    call(b"angles, to long: ", 1, 2, 1, 2, 1, 2, 2, 16);
-    call(b"angles, weight short: ", 1, 1, 0, 2, 1, 2, 2, 16);
-    call(b"angles, injection long: ", 1, 1, 1, 3, 1, 2, 2, 16);
-    call(b"angles, grounds short: ", 1, 1, 1, 2, 0, 2, 2, 16);
-    call(b"angles, guess long: ", 1, 1, 1, 2, 1, 3, 2, 16);
-    call(b"angles, result short: ", 1, 1, 1, 2, 1, 2, 1, 16);
-    call(b"angles, work short: ", 1, 1, 1, 2, 1, 2, 2, 15);
-    call(b"angles, work long: ", 1, 1, 1, 2, 1, 2, 2, 17);
+// Every length right; then a count past its bound with these lengths.
+pub fn first() {
+    call(b"angles", 2, none());
+    call(b"angles of 257 buses", 257, none());
+}
+
+// One slice too short, and too long, where there is such a slice.
+pub fn both(slice: usize) {
+    if slice < SLICES {
+        call(b"angles", 2, Wrong { slice, long: false });
+        call(b"angles", 2, Wrong { slice, long: true });
+    }
 }

@@ -1,18 +1,41 @@
-// Calls each operation with one slice too short or too long, which no text can ask for, and prints what it answered and
-// whether the lent slices kept their contents. The first call of each operation has every length right.
+// Calls each operation with each of its slices one place too short and one too long, which no text can ask for, and prints what
+// it answered and whether the lent arrays kept their contents. Before that each is called with every length right, and with a
+// count past its bound that makes lengths wrong too: refusal 1 comes before 2.
 mod angles_calls;
 mod dispatch_calls;
 mod leaders_calls;
 mod placement_calls;
+mod planning_calls;
 mod reading_calls;
 mod report;
 mod sheet_calls;
 
+// Of planning, which has the most.
+const MOST_SLICES: usize = 25;
+
+fn first() {
+    leaders_calls::first();
+    dispatch_calls::first();
+    angles_calls::first();
+    placement_calls::first();
+    planning_calls::first();
+    reading_calls::first();
+    sheet_calls::first();
+}
+
+fn both(slice: usize) {
+    leaders_calls::both(slice);
+    dispatch_calls::both(slice);
+    angles_calls::both(slice);
+    placement_calls::both(slice);
+    planning_calls::both(slice);
+    reading_calls::both(slice);
+    sheet_calls::both(slice);
+}
+
 fn main() {
-    leaders_calls::all();
-    dispatch_calls::all();
-    angles_calls::all();
-    placement_calls::all();
-    reading_calls::all();
-    sheet_calls::all();
+    first();
+    for slice in 0..MOST_SLICES {
+        both(slice);
+    }
 }

@@ -1,65 +1,96 @@
-// A case of one level and nothing else. The ladder is the table with a wrong length: five places are right.
-ghost use Prim.Native.Nat.{_≤_};
+// A case of one level and nothing else.
+use crate::report::FIGURE;
+use crate::report::MARK;
+use crate::report::ROOM;
+use crate::report::Wrong;
 use crate::report::figures_kept;
+use crate::report::made;
+use crate::report::marks_kept;
+use crate::report::none;
+use crate::report::say_answered;
+use crate::report::say_call;
 use crate::report::say_kept;
 use crate::report::say_refusal;
 use casefile::MOST_BUSES;
 use casefile::MOST_CORRIDORS;
 use casefile::MOST_GENERATORS;
+use casefile::MOST_LEVELS;
 use casefile::MOST_SHEET;
 use casefile::Reading;
-use libc::STDOUT_FILENO;
 
-fn call(what: &[u8], file: &[u8], levels: usize)
-    requires { ⌜ levels ≤ 32 ⌝ }
-{
-    let mut ladder = [7.0f64; 32];
-    let mut tier = [0u32; MOST_BUSES];
-    let mut load = [0.0f64; MOST_BUSES];
-    let mut bus = [0u32; MOST_GENERATORS];
-    let mut slack = [0u32; MOST_GENERATORS];
-    let mut pmin = [0.0f64; MOST_GENERATORS];
-    let mut pmax = [0.0f64; MOST_GENERATORS];
-    let mut c1 = [0.0f64; MOST_GENERATORS];
-    let mut c2 = [0.0f64; MOST_GENERATORS];
-    let mut a = [0u32; MOST_CORRIDORS];
-    let mut b = [0u32; MOST_CORRIDORS];
-    let mut circuits = [0u32; MOST_CORRIDORS];
-    let mut km = [0.0f64; MOST_CORRIDORS];
-    let mut share = [0.0f64; MOST_CORRIDORS];
-    let mut sheet = [0.0f64; MOST_SHEET];
+// The tables.
+const SLICES: usize = 15;
+
+fn call(what: &[u8], file: &[u8], wrong: Wrong) {
+    let mut ladder = [FIGURE; ROOM];
+    let mut tier = [MARK; ROOM];
+    let mut load = [FIGURE; ROOM];
+    let mut bus = [MARK; ROOM];
+    let mut slack = [MARK; ROOM];
+    let mut pmin = [FIGURE; ROOM];
+    let mut pmax = [FIGURE; ROOM];
+    let mut c1 = [FIGURE; ROOM];
+    let mut c2 = [FIGURE; ROOM];
+    let mut a = [MARK; ROOM];
+    let mut b = [MARK; ROOM];
+    let mut circuits = [MARK; ROOM];
+    let mut km = [FIGURE; ROOM];
+    let mut share = [FIGURE; ROOM];
+    let mut sheet = [FIGURE; ROOM];
     let r = casefile::read_case(
         file,
-        &mut ladder[0..levels],
-        &mut tier,
-        &mut load,
-        &mut bus,
-        &mut slack,
-        &mut pmin,
-        &mut pmax,
-        &mut c1,
-        &mut c2,
-        &mut a,
-        &mut b,
-        &mut circuits,
-        &mut km,
-        &mut share,
-        &mut sheet,
+        &mut ladder[0..made(MOST_LEVELS, 0, wrong)],
+        &mut tier[0..made(MOST_BUSES, 1, wrong)],
+        &mut load[0..made(MOST_BUSES, 2, wrong)],
+        &mut bus[0..made(MOST_GENERATORS, 3, wrong)],
+        &mut slack[0..made(MOST_GENERATORS, 4, wrong)],
+        &mut pmin[0..made(MOST_GENERATORS, 5, wrong)],
+        &mut pmax[0..made(MOST_GENERATORS, 6, wrong)],
+        &mut c1[0..made(MOST_GENERATORS, 7, wrong)],
+        &mut c2[0..made(MOST_GENERATORS, 8, wrong)],
+        &mut a[0..made(MOST_CORRIDORS, 9, wrong)],
+        &mut b[0..made(MOST_CORRIDORS, 10, wrong)],
+        &mut circuits[0..made(MOST_CORRIDORS, 11, wrong)],
+        &mut km[0..made(MOST_CORRIDORS, 12, wrong)],
+        &mut share[0..made(MOST_CORRIDORS, 13, wrong)],
+        &mut sheet[0..made(MOST_SHEET, 14, wrong)],
     );
-    io::write_all(STDOUT_FILENO, what);
+    say_call(what, wrong);
     match r {
-        Reading::Read(_) => {
-            io::write_all(STDOUT_FILENO, b"OK");
-        }
+        Reading::Read(_) => say_answered(),
         Reading::Refused(f) => say_refusal(f),
     }
-    say_kept(figures_kept(&ladder));
+    let buses = marks_kept(&tier) & figures_kept(&load) & marks_kept(&bus) & marks_kept(&slack);
+    let units = figures_kept(&pmin) & figures_kept(&pmax) & figures_kept(&c1) & figures_kept(&c2);
+    let ends = marks_kept(&a) & marks_kept(&b) & marks_kept(&circuits) & figures_kept(&km);
+    say_kept(
+        figures_kept(&ladder) & buses & units & ends & figures_kept(&share) & figures_kept(&sheet),
+    );
 }
 
-pub fn all() {
+// Every length right; then a header whose count is past its bound, with these lengths and with a wrong one.
+pub fn first() {
     let file =
         b"HD\x02\x00\x00\x00\x00\x00\x00\x00\x00\x00\x00\x00\x01LV\x00\x00\x00\x00\x00\x40\x61\x40";
-    call(b"reading: ", file, 5);
-    call(b"reading, ladder short: ", file, 4);
-    call(b"reading, ladder long: ", file, 6);
+    let past = b"HD\x02\x00\x00\x00\x00\x01\x01\x00\x00\x00\x00\x00\x01";
+    call(b"reading", file, none());
+    call(b"reading of 257 buses", past, none());
+    call(
+        b"reading of 257 buses",
+        past,
+        Wrong {
+            slice: 0,
+            long: false,
+        },
+    );
+}
+
+// One slice too short, and too long, where there is such a slice.
+pub fn both(slice: usize) {
+    if slice < SLICES {
+        let file =
+            b"HD\x02\x00\x00\x00\x00\x00\x00\x00\x00\x00\x00\x00\x01LV\x00\x00\x00\x00\x00\x40\x61\x40";
+        call(b"reading", file, Wrong { slice, long: false });
+        call(b"reading", file, Wrong { slice, long: true });
+    }
 }

@@ -5,10 +5,10 @@ use Rattle.wrong_lengths.proofs.report.figures_kept.Statement.{statemen
 use Rattle.wrong_lengths.proofs.report.figures_kept.Tie as tie
 
 abbrev Inv-loop : tie.InvT-loop
-Inv-loop xs i₀ i = i ≤ 32
+Inv-loop xs i₀ i = i ≤ 6401
 
 abbrev μ-loop : tie.MeasureT-loop
-μ-loop xs i₀ i = 32 - i
+μ-loop xs i₀ i = 6401 - i
 
 loop-holds : tie.Need-loop-holds Inv-loop μ-loop
 loop-holds c = search needs

@@ -115,18 +115,26 @@ def main(arguments):
     name = arguments[0]
     try:
         text, status = answer(name)
-        sys.stdout.write(text)
-        sys.stdout.flush()
+        write_out(text.encode())
         return status
     except Wrong as wrong:
         say("%s, line %d: %s" % (name, wrong.line, wrong.why))
     except UnicodeDecodeError:
         say("%s is not UTF-8 text" % name)
     except OSError as error:
-        say("%s: %s" % (error.filename or "standard output", error.strerror))
+        say("%s: %s" % (name, error.strerror))
     except Failure as failure:
         say(str(failure))
     return 2
+
+
+def write_out(data):
+    try:
+        sys.stdout.buffer.write(data)
+        sys.stdout.buffer.flush()
+    except OSError as error:
+        os.dup2(os.open(os.devnull, os.O_WRONLY), sys.stdout.fileno())
+        raise Failure("standard output: %s" % error.strerror) from None
 
 
 def say(message):

@@ -11,6 +11,9 @@ pub const MARK: u32 = 7;
 
 pub const FIGURE: f64 = 7.0;
 
+// More than any operation has.
+const NO_SLICE: usize = 99;
+
 // The slice that has not its length, by its place among the operation's slices from 0, and whether it is one place too long
 // or too short.
 pub struct Wrong {
@@ -21,7 +24,7 @@ pub struct Wrong {
 // No slice is wrong.
 pub fn none() -> Wrong {
     Wrong {
-        slice: 99,
+        slice: NO_SLICE,
         long: false,
     }
 }
@@ -48,7 +51,7 @@ fn say_number(n: u64) {
 // The call: what it is of, and what is wrong.
 pub fn say_call(what: &[u8], wrong: Wrong) {
     io::write_all(STDOUT_FILENO, what);
-    if wrong.slice < 99 {
+    if wrong.slice < NO_SLICE {
         io::write_all(STDOUT_FILENO, b", slice");
         say_number(wrong.slice as u64);
         if wrong.long {

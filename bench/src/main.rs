@@ -1,6 +1,6 @@
 //! The port against the reference build on the same inputs, from one driver in one run. Both sides are called in turn,
-//! the results are compared bit for bit, and the least time of many runs of each gives the ratio. A ratio below 1 says
-//! that the port is faster.
+//! the results are compared bit for bit, line sheets judged, and the least time of many runs of each gives the ratio. A
+//! ratio below 1 says that the port is faster.
 //!
 //!     bench           the table
 //!     bench --once    the same with one run of each, for what it compares: its times say nothing
@@ -9,6 +9,7 @@ mod angles;
 mod ports;
 mod programs;
 mod reading;
+mod sheet;
 
 use std::time::{Duration, Instant};
 
@@ -49,5 +50,6 @@ fn main() {
     );
     angles::run();
     reading::run();
+    sheet::run();
     programs::run();
 }

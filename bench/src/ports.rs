@@ -28,6 +28,14 @@ pub struct ReadingSaid {
     pub requested: usize,
 }
 
+/// What `line_sheet` answers: the refusal's number and index, or 0.
+#[repr(C)]
+#[derive(Clone, Copy, Debug, PartialEq)]
+pub struct SheetSaid {
+    pub refusal: u32,
+    pub index: usize,
+}
+
 extern "C" {
     fn lopnaski_dc_angles(
         n: usize,
@@ -84,6 +92,18 @@ extern "C" {
         sheet: *mut f64,
         sheet_len: usize,
     ) -> ReadingSaid;
+    fn lopnaski_line_sheet(
+        levels: usize,
+        corridors: usize,
+        ladder: *const f64,
+        ladder_len: usize,
+        km: *const f64,
+        km_len: usize,
+        spread: *const f64,
+        spread_len: usize,
+        sheet: *mut f64,
+        sheet_len: usize,
+    ) -> SheetSaid;
 }
 
 /// A network to solve, in the port's columns.
@@ -189,6 +209,24 @@ pub fn read_case(file: &[u8], t: &mut Tables) -> ReadingSaid {
             f[7].1,
             f[8].0,
             f[8].1,
+        )
+    }
+}
+
+/// What the operation answers. The rows are in `sheet`.
+pub fn line_sheet(ladder: &[f64], km: &[f64], spread: &[f64], sheet: &mut [f64]) -> SheetSaid {
+    unsafe {
+        lopnaski_line_sheet(
+            ladder.len(),
+            km.len(),
+            ladder.as_ptr(),
+            ladder.len(),
+            km.as_ptr(),
+            km.len(),
+            spread.as_ptr(),
+            spread.len(),
+            sheet.as_mut_ptr(),
+            sheet.len(),
         )
     }
 }

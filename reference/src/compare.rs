@@ -9,7 +9,10 @@ use std::time::{Duration, Instant};
 
 use crate::generate::cases::{case_file, CaseFile};
 use crate::generate::requests::{as_input, batch, Request, MOST_REQUESTS};
-use crate::harness::answers::answer_all;
+use crate::harness::answers::{answer_all, sheet_request};
+use crate::harness::figures::{listed, parse_hex};
+use crate::harness::sheet::ROW;
+use crate::judge::{judge as judge_sheet, Verdict};
 use crate::tally::Tally;
 use crate::watch;
 
@@ -52,7 +55,7 @@ impl Outcome {
 }
 
 /// How a run of a program ended.
-enum Run {
+pub enum Run {
     /// With status 0; what it wrote.
     Ended(Vec<u8>),
     /// With another status, or by a signal.
@@ -63,7 +66,7 @@ enum Run {
 
 impl Program<'_> {
     /// Runs the program on `input`.
-    fn run(&self, input: Vec<u8>) -> io::Result<Run> {
+    pub fn run(&self, input: Vec<u8>) -> io::Result<Run> {
         let until = Instant::now() + self.limit;
         let mut child = Command::new(self.path)
             .stdin(Stdio::piped())
@@ -103,7 +106,7 @@ fn end(mut child: Child) -> io::Result<Run> {
 }
 
 /// The lines of an output; what stands after the last line feed counts as one.
-fn lines(output: &[u8]) -> Vec<&[u8]> {
+pub fn lines(output: &[u8]) -> Vec<&[u8]> {
     let mut lines: Vec<&[u8]> = output.split(|&c| c == b'\n').collect();
     if lines.last().is_some_and(|last| last.is_empty()) {
         lines.pop();
@@ -117,6 +120,35 @@ fn shown(lines: &[&[u8]], place: usize) -> String {
         Some(line) => String::from_utf8_lossy(line).into_owned(),
         None => "(no line)".to_owned(),
     }
+}
+
+/// Whether an answer is right: equal to ours, or where a sheet is answered,
+/// right by the judge.
+fn agree(line: Option<&[u8]>, ours: Option<&[u8]>, theirs: Option<&[u8]>) -> Verdict {
+    let request = match ours {
+        Some(words) if words.starts_with(b"OK") => line.and_then(sheet_request),
+        _ => None,
+    };
+    match (request, theirs.and_then(rows_of)) {
+        (Some(request), Some(rows)) => judge_sheet(&request, &rows),
+        (Some(_), None) => Err("no rows".to_owned()),
+        (None, _) if ours == theirs => Ok(()),
+        (None, _) => Err("another answer".to_owned()),
+    }
+}
+
+/// The rows of an answered sheet, every figure as it is listed.
+pub fn rows_of(answer: &[u8]) -> Option<Vec<[f64; ROW]>> {
+    let mut words = answer.split(|&c| c == b' ');
+    words.next().filter(|&word| word == b"OK")?;
+    let figures: Vec<f64> = words
+        .map(|word| {
+            let v = f64::from_bits(parse_hex(word)?);
+            (listed(v).as_bytes() == word).then_some(v)
+        })
+        .collect::<Option<_>>()?;
+    let rows = figures.chunks(ROW).map(|row| row.try_into().ok());
+    rows.collect()
 }
 
 /// Counts how a run ended and has `compare` look at what it wrote; answers
@@ -181,22 +213,37 @@ fn compare_lines(
 ) {
     let (our_lines, their_lines) = (lines(ours), lines(theirs));
     for place in 0..our_lines.len().max(their_lines.len()) {
-        let equal = our_lines.get(place) == their_lines.get(place);
-        outcome.count(equal, || {
+        let line = requests.get(place).map(|request| &request.line[..]);
+        let (our_line, their_line) = (our_lines.get(place), their_lines.get(place));
+        let verdict = agree(line, our_line.copied(), their_line.copied());
+        outcome.count(verdict.is_ok(), || {
             let (family, request) = match requests.get(place) {
                 Some(request) => (request.family, String::from_utf8_lossy(&request.line)),
                 None => ("no request", "".into()),
             };
+            let why = verdict.err().unwrap_or_default();
             format!(
-                "seed {seed}, {family}\n  request   {request}\n  reference {}\n  program   {}",
+                "seed {seed}, {family}: {why}\n  request   {request}\n  reference {}\n  program   {}",
                 shown(&our_lines, place),
                 shown(&their_lines, place)
             )
         });
     }
-    if our_lines == their_lines && ours != theirs {
+    if our_lines.len() == their_lines.len() && theirs.last() != ours.last() {
         outcome.count(false, || format!("seed {seed}: the last line feed differs"));
     }
+}
+
+/// How many of the stored answers to some requests are wrong.
+pub fn wrong_answers(requests: &[u8], answers: &[u8]) -> usize {
+    let ours = answer_all(requests).into_bytes();
+    let (asked, ours, theirs) = (lines(requests), lines(&ours), lines(answers));
+    (0..ours.len().max(theirs.len()))
+        .filter(|&i| {
+            let [line, ours, theirs] = [&asked, &ours, &theirs].map(|l| l.get(i).copied());
+            agree(line, ours, theirs).is_err()
+        })
+        .count()
 }
 
 /// The batch as input; every fifth seed leaves out the last line feed, where

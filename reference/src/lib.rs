@@ -12,9 +12,12 @@ pub mod tuning;
 
 // The harness.
 pub mod compare;
+pub mod differences;
 pub mod generate;
 pub mod harness;
+pub mod judge;
 pub mod tally;
 pub mod targets;
 pub mod theorem;
 pub mod watch;
+pub mod whole;

@@ -3,7 +3,8 @@
 use std::io::{self, Read, Write};
 use std::process::ExitCode;
 
-use reference::compare::{compare_answers, compare_cases, Outcome, Program, LIMIT};
+use reference::compare::{compare_answers, compare_cases, wrong_answers, Outcome, Program, LIMIT};
+use reference::differences::sheet_differences;
 use reference::generate::cases::case_file;
 use reference::generate::requests::{as_input, batch, KINDS};
 use reference::harness::answers::answer_all;
@@ -24,9 +25,11 @@ const USAGE: &str = "usage:
   reference compare-cases PROGRAM list|read FIRST_SEED COUNT COUNTS
   reference compare-targets PROGRAM FIRST_SEED COUNT          each Expand case under several targets
   reference branches COUNTS...
+  reference judge REQUESTS ANSWERS
+  reference sheet-differences PROGRAM FIRST_SEED BATCHES
   reference write                                            a case as text on standard input
   reference theorem                                          a case on standard input
-KIND is one of SQRT IMP LEAD DISP ANG PLACE BAD.";
+KIND is one of SQRT IMP LEAD DISP ANG PLACE SHEET ROWS BAD.";
 
 /// Why a command did not run to its end.
 enum Failure {
@@ -72,6 +75,18 @@ fn run(words: &[&str]) -> Result<(), Failure> {
             let program = Program { path, limit: LIMIT };
             let outcome = compare_answers(&program, kind, number(first)?, number(batches)?)?;
             report_counted(kind, "requests", &outcome, counts)
+        }
+        ["judge", requests, answers] => {
+            let (requests, answers) = (std::fs::read(requests)?, std::fs::read(answers)?);
+            match wrong_answers(&requests, &answers) {
+                0 => Ok(()),
+                _ => Err(Failure::Found),
+            }
+        }
+        ["sheet-differences", path, first, batches] => {
+            let program = Program { path, limit: LIMIT };
+            let text = sheet_differences(&program, number(first)?, number(batches)?)?;
+            write(text.as_bytes())
         }
         ["case", seed] => write(&case_file(number(seed)?).bytes),
         ["compare-cases", path, what, first, count, counts] => {

@@ -42,6 +42,8 @@ const ANSWERS: &[(&str, &[&str])] = &[
     ("DISP", &["OK", "RF 2", "RF 5", "RF 8"]),
     ("ANG", &["OK", "RF 2", "RF 9", "RF 10"]),
     ("PLACE", &["OK", "RF 2", "RF 4", "RF 5", "RF 6"]),
+    ("SHEET", &["OK", "RF 2", "RF 3", "RF 6", "RF 22"]),
+    ("ROWS", &["OK"]),
     ("BAD", &["??"]),
 ];
 

@@ -3,7 +3,7 @@
 import os
 import sys
 
-from lopnaski import casefile, casetext, checks, tables, words
+from lopnaski import casefile, casetext, checks, sheet, tables, words
 
 USAGE = """usage:
   ./case make SOURCE > FILE    the case file of SOURCE: a text, - for one on standard input, or a folder of CSV tables
@@ -81,6 +81,8 @@ def from_tables(name, as_is):
         if len(faulty.faults) > MOST_FAULTS:
             shown.append("and %d more" % (len(faulty.faults) - MOST_FAULTS))
         raise Failure("\n".join(os.path.join(name, "") + line for line in shown)) from None
+    except sheet.Failure as failure:
+        raise Failure(str(failure), 2) from None
 
 
 def make(source, as_is=False):

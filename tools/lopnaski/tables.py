@@ -8,7 +8,7 @@ import io
 import os
 import re
 
-from lopnaski import casefile, checks
+from lopnaski import casefile, checks, sheet as sheets, words
 from lopnaski.casefile import BASES, FIELDS, MODES, WIDEST
 from lopnaski.casetext import WHOLE, text_of, whole_of
 from lopnaski.figures import DECIMAL, bits_of_text, text_of_bits
@@ -19,7 +19,7 @@ COLUMNS = {
     "levels": ("[level]", "kv", "requested"),
     "buses": ("[bus]", "level", "load"),
     "generators": ("[generator]", "bus", "slack", "pmin", "pmax", "c1", "c2"),
-    "corridors": ("[corridor]", "a", "b", "circuits", "length", "share"),
+    "corridors": ("[corridor]", "a", "b", "circuits", "length", "share", "[spread]"),
     "lines": ("corridor", "level", "r", "x", "b", "rate", "basis"),
 }
 # lines.csv has a row for each corridor and level, which is looked for row by row.
@@ -33,6 +33,10 @@ MOST_ROWS = {
 TABLE_OF = {"LV": "levels", "BU": "buses", "GE": "generators", "CO": "corridors", "LN": "lines"}
 YES_NO = {"yes": 1, "y": 1, "true": 1, "1": 1, "no": 0, "n": 0, "false": 0, "0": 0}
 KV = re.compile(r"(.*?)\s*kv\Z", re.IGNORECASE)
+# A column that is only read: a case file does not hold it.
+ONLY_READ = ("[spread]",)
+# Of a sheet that cannot be worked out: the table and the column at fault, by the refusal's number.
+AT_FAULT = {3: ("levels", "kv"), 6: ("corridors", "length"), 22: ("corridors", "spread")}
 # As many missing rows are named one by one.
 FEW = 5
 
@@ -118,7 +122,7 @@ def text_of_file(folder, table):
 
 def missing(table):
     if table == "lines":
-        return "it is missing, and the line sheet is needed: a row for each corridor and level with r, x, b, rate and basis"
+        return "it is missing, and the line sheet is needed: a row for each corridor and level with r, x, b, rate and basis; or a spread for each corridor in corridors.csv"
     columns = ", ".join(bare(column) for column in COLUMNS[table])
     return "it is missing; its columns are %s" % columns
 
@@ -144,8 +148,17 @@ def width_fault(cells, names):
     return why + ": is there a comma in a number?" if len(cells) > len(names) else why
 
 
+def is_left_out(folder, table):
+    """Whether a table may be missing and is: the line sheet, where every corridor has a spread."""
+    if table != "lines" or os.path.exists(os.path.join(folder.path, "lines.csv")):
+        return False
+    return all(row.cells.get("spread") for row in folder.rows["corridors"]) and not folder.faults
+
+
 def read_rows(folder, table):
     """The rows of a table; none with faults."""
+    if is_left_out(folder, table):
+        return []
     text = text_of_file(folder, table)
     if text is None:
         return []
@@ -328,8 +341,29 @@ def sheet_of(folder, corridors, levels):
         rows.setdefault(place, row)
         sheet.setdefault(place, record)
     if not folder.faults:
+        work_out(folder, sheet, levels)
+    if not folder.faults:
         say_missing_rows(folder, sheet, corridors, levels)
     return sheet, rows
+
+
+def work_out(folder, sheet, levels):
+    """Adds the rows of each corridor that has a spread and no row."""
+    surveyed = {place // levels.count for place in sheet}
+    corridors = folder.rows["corridors"]
+    lacking = [k for k, row in enumerate(corridors) if row.cells.get("spread") and k not in surveyed]
+    figures = [[folder.cell("corridors", corridors[k], column, bits_of_text) for column in ("length", "spread")] for k in lacking]
+    if not lacking or folder.faults:
+        return
+    try:
+        records = sheets.worked(levels.kv, figures)
+    except casefile.Refusal as refusal:
+        table, column = AT_FAULT[refusal.number]
+        row = folder.rows["levels"][refusal.index] if table == "levels" else corridors[lacking[refusal.index]]
+        folder.wrong(table, "the line sheet cannot be worked out: %s" % words.meaning(refusal), row.line, column)
+        return
+    for place, record in enumerate(records):
+        sheet[lacking[place // levels.count] * levels.count + place % levels.count] = record
 
 
 def say_missing_rows(folder, sheet, corridors, levels):
@@ -357,6 +391,11 @@ def say_bounds(folder, case, sheet_rows):
     """A fault for each field that planning would refuse."""
     for fault in checks.faults(case):
         table = TABLE_OF[fault.mark]
+        if table == "lines" and fault.place not in sheet_rows:
+            corridor, level = divmod(fault.place, case.count("LV"))
+            why = "at level %d its worked-out row cannot be used: %s" % (level, fault.why)
+            folder.wrong("corridors", why, folder.rows["corridors"][corridor].line)
+            continue
         row = sheet_rows[fault.place] if table == "lines" else folder.rows[table][fault.place]
         folder.wrong(table, fault.why, row.line, "level" if fault.field == "tier" else fault.field)
 
@@ -432,7 +471,7 @@ def texts(case):
     for table, columns in COLUMNS.items():
         out = io.StringIO(newline="")
         writer = csv.writer(out, lineterminator="\n")
-        writer.writerow([bare(column) for column in columns])
+        writer.writerow([bare(column) for column in columns if column not in ONLY_READ])
         writer.writerows(content[table])
         made[table] = out.getvalue()
     return made

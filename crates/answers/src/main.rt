@@ -6,6 +6,8 @@ mod disp;
 mod lead;
 mod place;
 mod print;
+mod rows;
+mod sheet;
 mod single;
 mod text;
 
@@ -19,16 +21,18 @@ use libc::STDOUT_FILENO;
 use place::answer_placement;
 use print::put_byte;
 use print::put_no_request;
+use rows::answer_rows;
+use sheet::answer_sheet;
 use single::answer_impedance;
 use single::answer_square_root;
 
 const LINE_FEED: u8 = b'\n';
 
-// Every request is shorter: the longest, ANG with 400 of everything, has 32,443 bytes.
+// Every request is shorter: the longest, ROWS with 7,710 figures in each sheet, has 262,204 bytes.
 const MOST_LINE: usize = 300_000;
 
-// Every answer is shorter: PLACE with a condenser at each of 256 buses would have 5,272 bytes.
-const MOST_ANSWER: usize = 16_384;
+// Every answer is shorter: the longest, of SHEET with 256 corridors and 5 levels, has 108,802 bytes.
+const MOST_ANSWER: usize = 131_072;
 
 // Whether the line begins with a word.
 fn begins(line: &[u8], word: &[u8]) -> bool {
@@ -70,6 +74,12 @@ fn answer(line: &[u8], out: &mut [u8]) -> usize
     }
     if begins(line, b"PLACE ") {
         return answer_placement(line, out);
+    }
+    if begins(line, b"SHEET ") {
+        return answer_sheet(line, out);
+    }
+    if begins(line, b"ROWS ") {
+        return answer_rows(line, out);
     }
     put_no_request(out)
 }

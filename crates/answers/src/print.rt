@@ -92,6 +92,20 @@ pub fn put_figures(out: &mut [u8], len: usize, xs: &[f64; 400], n: usize) -> usi
     used
 }
 
+// All figures of a part of a table.
+pub fn put_part(out: &mut [u8], len: usize, xs: &[f64]) -> usize
+    requires { ⌜ len ≤ length (now out) ⌝ }
+    ensures { λ r. ⌜ r ≤ length (now (out .entry)) ⌝ }
+{
+    let mut used = len;
+    let mut i = 0;
+    while i < xs.len() {
+        used = put_figure(out, used, xs[i]);
+        i += 1;
+    }
+    used
+}
+
 pub fn put_refusal(out: &mut [u8], f: Refusal) -> usize
     ensures { λ r. ⌜ r ≤ length (now (out .entry)) ⌝ }
 {

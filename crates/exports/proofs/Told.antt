@@ -7,9 +7,13 @@ use Rattle.angles_defs.specs.Operation as angles
 use Rattle.angles_defs.specs.declared.Angles.{Angles}
 use Rattle.casefile.specs.Tables as tables
 use Rattle.casefile.specs.declared.Reading.{Reading}
-use Rattle.exports.specs.Said.{anglesSaid, readingSaid}
+use Rattle.refusal.specs.Reply.{replyOf}
+use Rattle.refusal.specs.declared.Answer.{Answer}
+use Rattle.line_defs.specs.Sheet as sheets
+use Rattle.exports.specs.Said.{anglesSaid, readingSaid, sheetSaid}
 use Rattle.exports.specs.declared.AnglesSaid.{AnglesSaid}
 use Rattle.exports.specs.declared.ReadingSaid.{ReadingSaid}
+use Rattle.exports.specs.declared.SheetSaid.{SheetSaid}
 
 pub angles-told : (a : Angles) (s : AnglesSaid) (x w : List Float) (o : angles.Outcome) → angles.outcome a x w ≡ o → s ≡ anglesSaid (angles.replyOf a)
     → (s ≡ anglesSaid (o .reply)) × ((x ≡ o .result) × (w ≡ o .work))
@@ -18,3 +22,7 @@ angles-told a s x w o e q = (q ∙ ap (λ (p : angles.Outcome). anglesSaid (p .r
 pub reading-told : (r : Reading) (s : ReadingSaid) (t : tables.Places) (o : tables.Outcome) → tables.outcome r t ≡ o → s ≡ readingSaid (tables.replyOf r)
     → (s ≡ readingSaid (o .reply)) × (t ≡ o .places)
 reading-told r s t o e q = (q ∙ ap (λ (p : tables.Outcome). readingSaid (p .reply)) e, ap (λ (p : tables.Outcome). p .places) e)
+
+pub sheet-told : (a : Answer) (s : SheetSaid) (x : List Float) (o : sheets.Outcome) → sheets.outcome a x ≡ o → s ≡ sheetSaid (replyOf a)
+    → (s ≡ sheetSaid (o .reply)) × (x ≡ o .sheet)
+sheet-told a s x o e q = (q ∙ ap (λ (p : sheets.Outcome). sheetSaid (p .reply)) e, ap (λ (p : sheets.Outcome). p .sheet) e)

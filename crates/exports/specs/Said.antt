@@ -1,4 +1,4 @@
--- Answers as the fields of a struct. Of a refusal document 01's number and index; of an answer what it holds, with a number for
+-- Answers as the fields of a struct. Of a refusal the documents' number and index; of an answer what it holds, with a number for
 -- how the solve ended and for the mode. The rest is 0.
 use Prim.Native.Nat.{ℕ}
 use lib.Ieee.{Float}
@@ -11,6 +11,7 @@ use Rattle.angles_defs.specs.declared.Solution.{Solution}
 use Rattle.casefile.specs.declared.Header.{Header}
 use Rattle.exports.specs.declared.AnglesSaid.{AnglesSaid}
 use Rattle.exports.specs.declared.ReadingSaid.{ReadingSaid}
+use Rattle.exports.specs.declared.SheetSaid.{SheetSaid}
 
 unfoldable pub endedNumber : Ended → ℕ
 endedNumber (Settled x) = 1
@@ -30,3 +31,7 @@ abbrev pub readingSaid : Reply Header → ReadingSaid
 readingSaid (answered h) =
     record { refusal = 0; index = 0; mode = modeNumber (h .mode); target = h .target; buses = h .buses; corridors = h .corridors; generators = h .generators; above = h .above; requested = h .requested }
 readingSaid (refused number index) = record { refusal = number; index = index; mode = 0; target = 0; buses = 0; corridors = 0; generators = 0; above = 0; requested = 0 }
+
+abbrev pub sheetSaid : Reply (Unit {0}) → SheetSaid
+sheetSaid (answered u) = record { refusal = 0; index = 0 }
+sheetSaid (refused number index) = record { refusal = number; index = index }

@@ -4,7 +4,8 @@ mod said;
 ghost use mathlib.Core.Path.{_≡_};
 ghost use Rattle.angles_defs.specs.Operation.{requestOf, dcAngles};
 ghost use Rattle.casefile.specs.Tables.{placesOf, readCase};
-ghost use Rattle.exports.specs.Said.{anglesSaid, readingSaid};
+ghost use Rattle.line_defs.specs.Sheet.{lineSheet};
+ghost use Rattle.exports.specs.Said.{anglesSaid, readingSaid, sheetSaid};
 
 // The answer of `dc_angles`. A field that has nothing to say is 0.
 #[repr(C)]
@@ -33,6 +34,13 @@ pub struct ReadingSaid {
     pub generators: usize,
     pub above: usize,
     pub requested: usize,
+}
+
+// The answer of `line_sheet`: document 02's number and index of the refusal; 0 where the sheet is worked out.
+#[repr(C)]
+pub struct SheetSaid {
+    pub refusal: u32,
+    pub index: usize,
 }
 
 #[no_mangle]
@@ -111,4 +119,19 @@ pub extern "C" fn lopnaski_read_case(
         share,
         sheet,
     ))
+}
+
+#[no_mangle]
+pub extern "C" fn lopnaski_line_sheet(
+    levels: usize,
+    corridors: usize,
+    ladder: &[f64],
+    km: &[f64],
+    spread: &[f64],
+    sheet: &mut [f64],
+) -> SheetSaid
+    ensures said { λ r. ⌜ r ≡ sheetSaid (lineSheet levels corridors (now (ladder .entry)) (now (km .entry)) (now (spread .entry)) (now (sheet .entry)) .reply) ⌝ }
+    ensures rows { λ r. ⌜ now (sheet .exit) ≡ lineSheet levels corridors (now (ladder .entry)) (now (km .entry)) (now (spread .entry)) (now (sheet .entry)) .sheet ⌝ }
+{
+    said::sheet(line_sheet::line_sheet(levels, corridors, ladder, km, spread, sheet))
 }

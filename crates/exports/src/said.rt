@@ -2,14 +2,17 @@
 ghost use mathlib.Core.Path.{_≡_};
 ghost use Rattle.angles_defs.specs.Operation as defined;
 ghost use Rattle.casefile.specs.Tables as tables;
-ghost use Rattle.exports.specs.Said.{anglesSaid, endedFigure, endedNumber, readingSaid};
+ghost use Rattle.refusal.specs.Reply as replies;
+ghost use Rattle.exports.specs.Said.{anglesSaid, endedFigure, endedNumber, readingSaid, sheetSaid};
 use crate::AnglesSaid;
 use crate::ReadingSaid;
+use crate::SheetSaid;
 use angles_defs::Angles;
 use angles_defs::Ended;
 use angles_defs::Solution;
 use casefile::Header;
 use casefile::Reading;
+use refusal::Answer;
 use refusal::Refusal;
 
 fn ended_number(ended: Ended) -> u32
@@ -105,5 +108,26 @@ pub fn reading(r: Reading) -> ReadingSaid
     match r {
         Reading::Read(h) => read(h),
         Reading::Refused(f) => not_read(f),
+    }
+}
+
+fn not_worked(f: Refusal) -> SheetSaid
+    ensures { λ r. ⌜ r ≡ sheetSaid (replies.replyOf (Answer.Refused f)) ⌝ }
+{
+    SheetSaid {
+        refusal: f.number(),
+        index: f.index(),
+    }
+}
+
+pub fn sheet(a: Answer) -> SheetSaid
+    ensures { λ r. ⌜ r ≡ sheetSaid (replies.replyOf a) ⌝ }
+{
+    match a {
+        Answer::Answered => SheetSaid {
+            refusal: 0,
+            index: 0,
+        },
+        Answer::Refused(f) => not_worked(f),
     }
 }

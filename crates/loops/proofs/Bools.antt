@@ -1,5 +1,5 @@
 -- Tests joined by `and` and `or`, taken apart and put together.
-use mathlib.Core.Bool.{Bool, true, false, not, _&&_, _||_, true≢false}
+use mathlib.Core.Bool.{Bool, true, false, _&&_, _||_, true≢false}
 use mathlib.Core.Logic.{_⊎_, inl, inr}
 use mathlib.Core.Path.{_≡_, refl, sym, _∙_, subst}
 use lib.Dec.{T}
@@ -16,6 +16,10 @@ both false b e = (e, cc)
 
 pub and-of : {a b : Bool} → a ≡ true → b ≡ true → (a && b) ≡ true
 and-of p q = rw (p, q)
+
+pub and-true : (a : Bool) {b : Bool} → b ≡ true → (a && b) ≡ a
+and-true true e = e
+and-true false e = refl
 
 pub or-left : (a b : Bool) → a ≡ true → (a || b) ≡ true
 or-left a b e = rw e

@@ -1,5 +1,6 @@
 -- The laws that every crate shares, by subject.
 pub mod Bools
+pub mod Products
 pub mod Loops
 pub mod Scan
 pub mod Tab

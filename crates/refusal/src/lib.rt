@@ -1,4 +1,4 @@
-// What every operation says of a request that it does not answer, and document 01's number and index for it.
+// What every operation says of a request that it does not answer, and the documents' number and index for it.
 ghost use mathlib.Core.Path.{_≡_};
 ghost use Rattle.refusal.specs.Number.{numberOf, indexOf};
 
@@ -40,6 +40,8 @@ pub enum Refusal {
     Code(usize),
     // A byte after the last record.
     Trailing(usize),
+    // A corridor's impedance spread.
+    Spread(usize),
 }
 
 impl Refusal {
@@ -65,10 +67,11 @@ impl Refusal {
             Refusal::Mark(_) => 15,
             Refusal::Code(_) => 16,
             Refusal::Trailing(_) => 17,
+            Refusal::Spread(_) => 22,
         }
     }
 
-    // The lowest faulty index, 0 where document 01 names none.
+    // The lowest faulty index, 0 where the documents name none.
     pub fn index(self) -> usize
         ensures { λ r. ⌜ r ≡ indexOf self ⌝ }
     {
@@ -91,6 +94,7 @@ impl Refusal {
             Refusal::Mark(i) => i,
             Refusal::Code(i) => i,
             Refusal::Trailing(i) => i,
+            Refusal::Spread(i) => i,
         }
     }
 }

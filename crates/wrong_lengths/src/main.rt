@@ -8,6 +8,7 @@ mod placement_calls;
 mod planning_calls;
 mod reading_calls;
 mod report;
+mod sheet_calls;
 
 // Of planning, which has the most.
 const MOST_SLICES: usize = 25;
@@ -19,6 +20,7 @@ fn first() {
     placement_calls::first();
     planning_calls::first();
     reading_calls::first();
+    sheet_calls::first();
 }
 
 fn both(slice: usize) {
@@ -28,6 +30,7 @@ fn both(slice: usize) {
     placement_calls::both(slice);
     planning_calls::both(slice);
     reading_calls::both(slice);
+    sheet_calls::both(slice);
 }
 
 fn main() {

@@ -62,6 +62,13 @@ pub fn say_call(what: &[u8], wrong: Wrong) {
     }
 }
 
+// Of an operation that hands a part of a slice back: how many figures that has.
+pub fn say_figures(count: usize) {
+    io::write_all(STDOUT_FILENO, b":");
+    say_number(count as u64);
+    io::write_all(STDOUT_FILENO, b" figures\n");
+}
+
 pub fn say_answered() {
     io::write_all(STDOUT_FILENO, b": OK");
 }

@@ -1,8 +1,6 @@
 //! Physical parameter tables. Every constant carries its source. Per unit
 //! values are on a 100 MVA system base and the branch's nominal kV.
-// reference edit: the tables that only the random stages or the computed line
-// parameters read are left out; the line classes stay, since a design names
-// its class.
+// reference edit: the tables that only the stages left out read are left out too.
 
 /// A transmission line class: representative ACSR bundles per nominal voltage.
 #[derive(Clone, Copy, Debug, PartialEq)]
@@ -112,6 +110,39 @@ pub fn line_class_for(kv: f64) -> &'static LineClass {
         .expect("table is non-empty")
 }
 
+/// St. Clair loadability in multiples of SIL as a function of line length.
+///
+/// source: Dunlop, Gutman, Marchenko, "Analytical development of loadability
+/// characteristics for EHV and UHV transmission lines", IEEE Trans. PAS-98
+/// (1979), Fig. 2: about 3.0 SIL at 50 mi (80 km), 2.0 at 100 mi (160 km),
+/// 1.35 at 200 mi (320 km), 1.0 at 300 mi (480 km), 0.85 at 400 mi (640 km),
+/// 0.6 at 600 mi (965 km). Log-linear between the knots, extrapolated as
+/// `0.6 · (965 / L)^0.5` beyond, floored at 0.4 SIL. Below 80 km the curve's
+/// region is thermal: the stability limit rises as 1/L (the angle a line
+/// carries at its limit is held at its 80 km value), so a short line is
+/// rated by its conductor.
+pub fn st_clair_loadability(length_km: f64) -> f64 {
+    const KNOTS: [(f64, f64); 6] = [
+        (80.0, 3.0),
+        (160.0, 2.0),
+        (320.0, 1.35),
+        (480.0, 1.0),
+        (640.0, 0.85),
+        (965.0, 0.6),
+    ];
+    if length_km <= KNOTS[0].0 {
+        return KNOTS[0].1 * KNOTS[0].0 / length_km.max(1e-3);
+    }
+    for w in KNOTS.windows(2) {
+        let ((l0, m0), (l1, m1)) = (w[0], w[1]);
+        if length_km <= l1 {
+            let t = (length_km.ln() - l0.ln()) / (l1.ln() - l0.ln());
+            return m0 + (m1 - m0) * t;
+        }
+    }
+    (0.6 * (965.0 / length_km).sqrt()).max(0.4)
+}
+
 /// A two-winding transformer class by size.
 #[derive(Clone, Copy, Debug, PartialEq)]
 pub struct TransformerClass {
@@ -167,6 +198,15 @@ pub fn transformer_class_for(mva: f64) -> &'static TransformerClass {
         .iter()
         .find(|c| mva <= c.max_mva)
         .unwrap_or(&TRANSFORMER_CLASSES[2])
+}
+
+/// The class a nominal voltage takes its parameters from, and the ratio of
+/// that voltage to the class voltage. The same conductors and banks at the
+/// bus's own voltage carry power in proportion to it (`S = √3 V I`), so
+/// capacities quoted per class scale by this ratio.
+pub fn class_ratio(kv: f64) -> (&'static LineClass, f64) {
+    let class = line_class_for(kv);
+    (class, kv / class.kv)
 }
 
 /// Corridor planning: circuits are added to a corridor until the planning

@@ -6,6 +6,14 @@ use crate::harness::operations::{
     accepted_leaders, angles, dispatch, impedance, placement, square_root, Network, Support,
 };
 use crate::harness::refusal::Refusal;
+use crate::harness::sheet::{RowsRequest, SheetRequest, ROW};
+use crate::harness::tables::{MOST_CORRIDORS, MOST_LEVELS};
+
+/// Levels, corridors and figures of a sheet up to these are taken: one past
+/// each bound.
+pub const MOST_SHEET_LEVELS: usize = MOST_LEVELS + 1;
+pub const MOST_SHEET_CORRIDORS: usize = MOST_CORRIDORS + 1;
+pub const MOST_SHEET_FIGURES: usize = ROW * MOST_SHEET_LEVELS * MOST_SHEET_CORRIDORS;
 
 /// Counts up to this are taken, so that refusal 2 can be asked.
 pub const MOST_COUNT: usize = 400;
@@ -44,6 +52,8 @@ fn ask(line: &[u8]) -> Option<Result<String, Refusal>> {
         b"DISP" => ask_dispatch(fields),
         b"ANG" => ask_angles(fields),
         b"PLACE" => ask_placement(fields),
+        b"SHEET" => ask_sheet(fields),
+        b"ROWS" => ask_rows(fields),
         _ => None,
     }
 }
@@ -62,7 +72,10 @@ impl<'a, I: Iterator<Item = &'a [u8]>> Fields<I> {
         parse_whole(self.0.next()?)
     }
     fn count(&mut self) -> Option<usize> {
-        self.whole().filter(|&count| count <= MOST_COUNT)
+        self.at_most(MOST_COUNT)
+    }
+    fn at_most(&mut self, bound: usize) -> Option<usize> {
+        self.whole().filter(|&count| count <= bound)
     }
     fn many<T>(&mut self, count: usize, one: impl Fn(&mut Self) -> Option<T>) -> Option<Vec<T>> {
         (0..count).map(|_| one(self)).collect()
@@ -160,4 +173,56 @@ fn ask_placement<'a>(mut fields: Fields<impl Iterator<Item = &'a [u8]>>) -> Answ
             .flat_map(|(bus, mvar)| [bus.to_string(), listed(mvar)]);
         ok(std::iter::once(count).chain(each))
     }))
+}
+
+/// What a line asks of the sheet, where it is such a request.
+pub fn sheet_request(line: &[u8]) -> Option<SheetRequest> {
+    let mut fields = Fields(line.split(|&c| c == b' '));
+    fields.0.next().filter(|&word| word == b"SHEET")?;
+    read_sheet(fields)
+}
+
+fn read_sheet<'a>(mut fields: Fields<impl Iterator<Item = &'a [u8]>>) -> Option<SheetRequest> {
+    let levels = fields.at_most(MOST_SHEET_LEVELS)?;
+    let ladder = fields.many(levels, Fields::figure)?;
+    let corridors = fields.at_most(MOST_SHEET_CORRIDORS)?;
+    let corridors = fields.many(corridors, |f| Some((f.figure()?, f.figure()?)))?;
+    fields.end()?;
+    Some(SheetRequest { ladder, corridors })
+}
+
+/// The rows by the published code, from which ours may differ within the
+/// bounds of K8: the judge, and no comparison with this, decides.
+fn ask_sheet<'a>(fields: Fields<impl Iterator<Item = &'a [u8]>>) -> Answer {
+    let request = read_sheet(fields)?;
+    Some(request.check().map(|()| {
+        let rows = request.published();
+        ok(rows.into_iter().flatten().map(listed))
+    }))
+}
+
+fn ask_rows<'a>(mut fields: Fields<impl Iterator<Item = &'a [u8]>>) -> Answer {
+    let [corridors, levels, count, corridor] = [
+        fields.count()?,
+        fields.count()?,
+        fields.count()?,
+        fields.count()?,
+    ];
+    let mut sheet = || {
+        let figures = fields.at_most(MOST_SHEET_FIGURES)?;
+        fields.many(figures, Fields::figure)
+    };
+    let (surveyed, worked) = (sheet()?, sheet()?);
+    fields.end()?;
+    let request = RowsRequest {
+        corridors,
+        levels,
+        count,
+        corridor,
+        surveyed,
+        worked,
+    };
+    let rows = request.rows();
+    let head = std::iter::once(rows.len().to_string());
+    Some(Ok(ok(head.chain(rows.iter().copied().map(listed)))))
 }

@@ -20,6 +20,8 @@ const MOST_DEMAND: f64 = 1e9;
 const MOST_CIRCUITS: u8 = 64;
 const MOST_LENGTH_KM: f64 = 10_000.0;
 const LEAST_SHARE: f64 = 0.5;
+const LEAST_SPREAD: f64 = 0.25;
+const MOST_SPREAD: f64 = 4.0;
 const LEAST_RATE: f64 = 0.001;
 const MOST_RATE: f64 = 1e6;
 
@@ -37,6 +39,11 @@ pub fn load_is_good(load: f64) -> bool {
 
 pub fn length_is_good(length_km: f64) -> bool {
     within(length_km, 0.0, MOST_LENGTH_KM)
+}
+
+/// An impedance spread (document 02, K8).
+pub fn spread_is_good(spread: f64) -> bool {
+    within(spread, LEAST_SPREAD, MOST_SPREAD)
 }
 
 /// Two different buses, both below the count of buses.
@@ -63,6 +70,11 @@ fn level_is_good(ladder: &[f64], i: usize) -> bool {
         None => true,
     };
     kv > 0.0 && kv <= MOST_KV && above_the_next
+}
+
+/// Refusal 3.
+pub fn ladder_is_good(ladder: &[f64]) -> Result<(), Refusal> {
+    first_fault(LADDER, 0..ladder.len(), |i| !level_is_good(ladder, i))
 }
 
 fn bus_is_good(bus: &Bus, requested: usize) -> bool {
@@ -105,8 +117,7 @@ pub fn accept_case(case: &Case) -> Result<(), Refusal> {
     }
     let buses = case.buses.len();
     let requested = case.requested();
-    let ladder = &case.ladder;
-    first_fault(LADDER, 0..ladder.len(), |i| !level_is_good(ladder, i))?;
+    ladder_is_good(&case.ladder)?;
     first_fault(BUS, &case.buses, |bus| !bus_is_good(bus, requested))?;
     first_fault(GENERATOR, &case.generators, |g| {
         !generator_is_good(g, buses)

@@ -10,4 +10,5 @@ pub mod listing;
 pub mod operations;
 pub mod plan;
 pub mod refusal;
+pub mod sheet;
 pub mod tables;

@@ -1,4 +1,4 @@
-//! A refusal as document 01 numbers them.
+//! A refusal as documents 01 and 02 number them.
 
 use std::fmt;
 
@@ -24,6 +24,7 @@ pub const FILE_ENDS: u32 = 14;
 pub const MARK: u32 = 15;
 pub const SMALL_FIELD: u32 = 16;
 pub const AFTER_THE_END: u32 = 17;
+pub const SPREAD: u32 = 22;
 
 impl Refusal {
     pub fn new(number: u32, index: usize) -> Self {

@@ -34,7 +34,7 @@ pub const FAMILIES: &[(&str, Damage)] = &[
 ];
 
 const WORDS: &[&[u8]] = &[
-    b"SQRT", b"IMP", b"LEAD", b"DISP", b"ANG", b"PLACE", b"RF", b"OK", b"??",
+    b"SQRT", b"IMP", b"LEAD", b"DISP", b"ANG", b"PLACE", b"SHEET", b"ROWS", b"RF", b"OK", b"??",
 ];
 
 const LARGE_COUNTS: &[&[u8]] = &[
@@ -49,6 +49,12 @@ const LARGE_COUNTS: &[&[u8]] = &[
     b"PLACE 401 0 0",
     b"PLACE 0 401 0",
     b"PLACE 0 0 401",
+    b"SHEET 7 4059000000000000 4058000000000000 4057000000000000 4056000000000000 4055000000000000 4054000000000000 4053000000000000 0",
+    b"SHEET 1 4059000000000000 258",
+    b"ROWS 401 1 0 0 0 0",
+    b"ROWS 1 1 0 401 0 0",
+    b"ROWS 1 1 0 0 7711 0",
+    b"ROWS 1 1 0 0 0 999999999",
 ];
 
 const LONG_NUMBERS: &[&[u8]] = &[
@@ -112,7 +118,9 @@ pub fn one(random: &mut Random) -> Request {
 /// A good line short enough to leave room for many.
 fn good_line(random: &mut Random) -> Vec<u8> {
     loop {
-        let kind = random.pick(&["SQRT", "IMP", "LEAD", "DISP", "ANG", "PLACE"]);
+        let kind = random.pick(&[
+            "SQRT", "IMP", "LEAD", "DISP", "ANG", "PLACE", "SHEET", "ROWS",
+        ]);
         let (_, words) = random.pick(families(kind).expect("a kind of request"));
         let line = words(random).line();
         if line.len() <= 300 {
@@ -205,6 +213,8 @@ fn another_word(random: &mut Random, line: Vec<u8>) -> Vec<u8> {
         b"DISPATCH",
         b"AND",
         b"PLACES",
+        b"SHEETS",
+        b"ROW",
         b"",
         b"0",
     ]);

@@ -7,7 +7,11 @@ mod dispatch;
 mod impedance;
 mod leaders;
 mod placement;
+mod rows;
+mod sheet;
 mod square_root;
+
+pub use self::sheet::{BENDS, CLASS_BOUNDS};
 
 use crate::generate::random::Random;
 use crate::harness::figures::hex;
@@ -31,7 +35,9 @@ pub fn is_long(seed: u64) -> bool {
 }
 
 /// The kinds of request, `BAD` being lines that are none.
-pub const KINDS: [&str; 7] = ["SQRT", "IMP", "LEAD", "DISP", "ANG", "PLACE", "BAD"];
+pub const KINDS: [&str; 9] = [
+    "SQRT", "IMP", "LEAD", "DISP", "ANG", "PLACE", "SHEET", "ROWS", "BAD",
+];
 
 /// One line, without its line feed, and the family it comes from.
 pub struct Request {
@@ -51,6 +57,8 @@ fn families(kind: &str) -> Option<&'static [Family]> {
         "DISP" => dispatch::FAMILIES,
         "ANG" => angles::FAMILIES,
         "PLACE" => placement::FAMILIES,
+        "SHEET" => sheet::FAMILIES,
+        "ROWS" => rows::FAMILIES,
         _ => return None,
     })
 }
@@ -62,6 +70,7 @@ pub fn largest(kind: &str) -> Option<Family> {
         "DISP" => Some(dispatch::LARGEST),
         "ANG" => Some(angles::LARGEST),
         "PLACE" => Some(placement::LARGEST),
+        "SHEET" => Some(sheet::LARGEST),
         _ => None,
     }
 }

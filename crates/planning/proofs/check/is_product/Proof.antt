@@ -1,7 +1,7 @@
 -- `planning::check::is_product` meets its contract.
 -- By dividing: a total is a product exactly where the quotient is the other factor and nothing is left.
 use borrow.Author.Needs.{needs}
-use Rattle.planning.proofs.Checks.{product-nought, product-is}
+use Rattle.loops.proofs.Products.{product-nought, product-is}
 use Rattle.planning.proofs.check.is_product.Statement.{statement}
 use Rattle.planning.proofs.check.is_product.Tie as tie
 

@@ -3,7 +3,8 @@
 use mathlib.Core.Path.{sym, _∙_}
 use native.Mathlib.Omega.{arith}
 use borrow.Author.Needs.{needs}
-use Rattle.planning.proofs.Checks.{rows-not, sheet-is}
+use Rattle.loops.proofs.Products.{rows-not}
+use Rattle.planning.proofs.Checks.{sheet-is}
 use Rattle.planning.proofs.check.sheet_ok.Statement.{statement}
 use Rattle.planning.proofs.check.sheet_ok.Tie as tie
 

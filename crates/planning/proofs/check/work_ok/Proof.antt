@@ -3,7 +3,8 @@
 use mathlib.Core.Path.{sym}
 use native.Mathlib.Omega.{arith}
 use borrow.Author.Needs.{needs}
-use Rattle.planning.proofs.Checks.{rows-not, work-not, work-is}
+use Rattle.loops.proofs.Products.{rows-not}
+use Rattle.planning.proofs.Checks.{work-not, work-is}
 use Rattle.planning.proofs.check.work_ok.Statement.{statement}
 use Rattle.planning.proofs.check.work_ok.Tie as tie
 

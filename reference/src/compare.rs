@@ -8,9 +8,12 @@ use std::thread;
 use std::time::{Duration, Instant};
 
 use crate::generate::cases::{case_file, CaseFile};
+use crate::generate::random::Random;
 use crate::generate::requests::{as_input, batch, Request, MOST_REQUESTS};
+use crate::generate::seasons::{as_blocks, season, Season};
 use crate::harness::answers::{answer_all, sheet_request};
 use crate::harness::figures::{listed, parse_hex};
+use crate::harness::season::answer_season;
 use crate::harness::sheet::ROW;
 use crate::judge::{judge as judge_sheet, Verdict};
 use crate::tally::Tally;
@@ -296,4 +299,34 @@ fn compare_listings(family: &str, seed: u64, ours: &[u8], theirs: &[u8], outcome
             shown(&their_lines, place)
         )
     });
+}
+
+/// Compares the figures of `count` seasons, each fed in two orders. Where no
+/// file is refused both orders must give the same.
+pub fn compare_seasons(program: &Program, first_seed: u64, count: u64) -> io::Result<Outcome> {
+    let mut outcome = Outcome::default();
+    for seed in first_seed..first_seed + count {
+        let Season { family, files } = season(seed);
+        let mut random = Random::new("another order", seed);
+        let order = random.shuffled(files.len());
+        let shuffled: Vec<Vec<u8>> = order.iter().map(|&i| files[i].clone()).collect();
+        let mut answers = Vec::new();
+        for files in [files, shuffled] {
+            let input = as_blocks(&files, random.once_in(2));
+            let ours = answer_season(&input);
+            let goes_on = judge(program, input, seed, &mut outcome, |theirs, outcome| {
+                compare_listings(family, seed, ours.as_bytes(), theirs, outcome);
+                answers.push(theirs.to_vec());
+            })?;
+            if !goes_on {
+                return Ok(outcome);
+            }
+        }
+        if answers.iter().all(|answer| answer.starts_with(b"SE")) {
+            outcome.count(answers.first() == answers.last(), || {
+                format!("seed {seed}, {family}: the order changes a figure")
+            });
+        }
+    }
+    Ok(outcome)
 }

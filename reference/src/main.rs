@@ -3,14 +3,18 @@
 use std::io::{self, Read, Write};
 use std::process::ExitCode;
 
-use reference::compare::{compare_answers, compare_cases, wrong_answers, Outcome, Program, LIMIT};
+use reference::compare::{
+    compare_answers, compare_cases, compare_seasons, wrong_answers, Outcome, Program, LIMIT,
+};
 use reference::differences::sheet_differences;
 use reference::generate::cases::case_file;
 use reference::generate::requests::{as_input, batch, KINDS};
+use reference::generate::seasons::{as_blocks, season};
 use reference::harness::answers::answer_all;
 use reference::harness::case_file::{answer_read, write_case};
 use reference::harness::case_text::parse_text;
 use reference::harness::listing::answer_list;
+use reference::harness::season::answer_season;
 use reference::tally::Tally;
 use reference::targets::compare_targets;
 use reference::theorem::theorem;
@@ -24,6 +28,9 @@ const USAGE: &str = "usage:
   reference compare-answers PROGRAM KIND FIRST_SEED BATCHES COUNTS
   reference compare-cases PROGRAM list|read FIRST_SEED COUNT COUNTS
   reference compare-targets PROGRAM FIRST_SEED COUNT          each Expand case under several targets
+  reference season                                           case files on standard input, 65,536 bytes each
+  reference season-files SEED
+  reference compare-seasons PROGRAM FIRST_SEED COUNT
   reference branches COUNTS...
   reference judge REQUESTS ANSWERS
   reference sheet-differences PROGRAM FIRST_SEED BATCHES
@@ -103,6 +110,13 @@ fn run(words: &[&str]) -> Result<(), Failure> {
             let program = Program { path, limit: LIMIT };
             let outcome = compare_targets(&program, number(first)?, number(count)?)?;
             report("targets", "comparisons", &outcome)
+        }
+        ["season"] => write(answer_season(&input()?).as_bytes()),
+        ["season-files", seed] => write(&as_blocks(&season(number(seed)?).files, false)),
+        ["compare-seasons", path, first, count] => {
+            let program = Program { path, limit: LIMIT };
+            let outcome = compare_seasons(&program, number(first)?, number(count)?)?;
+            report("seasons", "answers", &outcome)
         }
         ["branches", ref files @ ..] if !files.is_empty() => branches(files),
         ["write"] => {

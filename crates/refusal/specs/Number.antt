@@ -1,7 +1,7 @@
 -- The documents' number and index of each refusal (document 01, "Refusals of each operation, in order"; document 02); the index is 0 where they name none.
 use Prim.Native.Nat.{ℕ}
 use Rattle.refusal.specs.declared.Refusal.{Refusal}
-use Rattle.refusal.specs.declared.Refusal.the-variants.{Length, Count, Level, Bus, Generator, Demand, Corridor, Row, Cost, NotFinite, Edge, Ground, Rating, FileLength, Cut, Mark, Code, Trailing, Spread}
+use Rattle.refusal.specs.declared.Refusal.the-variants.{Length, Count, Level, Bus, Generator, Demand, Corridor, Row, Cost, NotFinite, Edge, Ground, Rating, FileLength, Cut, Mark, Code, Trailing, Uneven, SeasonFull, Spread}
 
 unfoldable pub numberOf : Refusal → ℕ
 numberOf Length = 1
@@ -22,6 +22,8 @@ numberOf (Cut i) = 14
 numberOf (Mark i) = 15
 numberOf (Code i) = 16
 numberOf (Trailing i) = 17
+numberOf Uneven = 19
+numberOf SeasonFull = 20
 numberOf (Spread i) = 22
 
 unfoldable pub indexOf : Refusal → ℕ
@@ -43,4 +45,6 @@ indexOf (Cut i) = i
 indexOf (Mark i) = i
 indexOf (Code i) = i
 indexOf (Trailing i) = i
+indexOf Uneven = 0
+indexOf SeasonFull = 0
 indexOf (Spread i) = i

@@ -40,6 +40,10 @@ pub enum Refusal {
     Code(usize),
     // A byte after the last record.
     Trailing(usize),
+    // A plan has not as many corridors as the season's first.
+    Uneven,
+    // The season has taken all the plans that it may.
+    SeasonFull,
     // A corridor's impedance spread.
     Spread(usize),
 }
@@ -67,6 +71,8 @@ impl Refusal {
             Refusal::Mark(_) => 15,
             Refusal::Code(_) => 16,
             Refusal::Trailing(_) => 17,
+            Refusal::Uneven => 19,
+            Refusal::SeasonFull => 20,
             Refusal::Spread(_) => 22,
         }
     }
@@ -94,6 +100,8 @@ impl Refusal {
             Refusal::Mark(i) => i,
             Refusal::Code(i) => i,
             Refusal::Trailing(i) => i,
+            Refusal::Uneven => 0,
+            Refusal::SeasonFull => 0,
             Refusal::Spread(i) => i,
         }
     }

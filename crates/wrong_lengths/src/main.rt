@@ -8,6 +8,7 @@ mod placement_calls;
 mod planning_calls;
 mod reading_calls;
 mod report;
+mod season_calls;
 mod sheet_calls;
 
 // Of planning, which has the most.
@@ -21,6 +22,7 @@ fn first() {
     planning_calls::first();
     reading_calls::first();
     sheet_calls::first();
+    season_calls::first();
 }
 
 fn both(slice: usize) {
@@ -31,6 +33,7 @@ fn both(slice: usize) {
     planning_calls::both(slice);
     reading_calls::both(slice);
     sheet_calls::both(slice);
+    season_calls::both(slice);
 }
 
 fn main() {

@@ -3,3 +3,4 @@
 pub mod cases;
 pub mod random;
 pub mod requests;
+pub mod seasons;

@@ -10,5 +10,6 @@ pub mod listing;
 pub mod operations;
 pub mod plan;
 pub mod refusal;
+pub mod season;
 pub mod sheet;
 pub mod tables;

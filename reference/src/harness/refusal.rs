@@ -24,6 +24,8 @@ pub const FILE_ENDS: u32 = 14;
 pub const MARK: u32 = 15;
 pub const SMALL_FIELD: u32 = 16;
 pub const AFTER_THE_END: u32 = 17;
+pub const UNEVEN: u32 = 19;
+pub const SEASON_FULL: u32 = 20;
 pub const SPREAD: u32 = 22;
 
 impl Refusal {

@@ -1,0 +1,3 @@
+-- The laws of feeding a file.
+pub mod Planned
+pub mod Files

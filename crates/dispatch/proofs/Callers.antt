@@ -3,7 +3,6 @@
 use Prim.Native.Nat.{ℕ, _<_, _≤_}
 use mathlib.Core.Bool.{Bool, true, false}
 use mathlib.Core.List.{List}
-use mathlib.Core.Logic.{_⊎_, inl, inr}
 use mathlib.Core.Path.{_≡_, refl, sym, ap, _∙_}
 use native.Mathlib.Omega.{arith}
 use borrow.Author.Tests.{ltb-true, ltb-false}
@@ -59,14 +58,6 @@ module _ (n : ℕ) (u : Units) (d : Float) (mw : List Float) where
 
     pub refuses : faultyCost u d < count u → dispatched n u d mw ≡ outcome (Refused (Cost (faultyCost u d))) mw
     refuses h = accepted ∙ settled-refused u d mw h
-
-    pub answered-or-8 : (dispatched n u d mw .reply ≡ answered tt) ⊎ (dispatched n u d mw .reply ≡ refused 8 (faultyCost u d))
-    unfolding numberOf indexOf
-    answered-or-8 = go (ltb (faultyCost u d) (count u)) refl
-      where
-        go : (b : Bool) → ltb (faultyCost u d) (count u) ≡ b → (dispatched n u d mw .reply ≡ answered tt) ⊎ (dispatched n u d mw .reply ≡ refused 8 (faultyCost u d))
-        go true e = inr (ap (λ (o : Outcome). o .reply) (refuses (ltb-true (faultyCost u d) (count u) e)))
-        go false e = inl (ap (λ (o : Outcome). o .reply) (answers (ltb-false (faultyCost u d) (count u) e)))
 
     -- what the two answers of a call say, as the promise of `economic_dispatch` has it
     module _ (a : Answer) (out : List Float) (e : outcome a out ≡ dispatched n u d mw) where

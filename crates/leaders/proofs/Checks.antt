@@ -12,10 +12,9 @@ use Rattle.loops.proofs.Bools.{both}
 use Rattle.loops.proofs.Scan.{all-pass}
 use Rattle.refusal.specs.declared.Refusal.{Refusal}
 use Rattle.refusal.specs.declared.Refusal.the-variants.{Length, Count, Corridor}
-use Rattle.refusal.specs.declared.Answer.{Answer}
 use Rattle.refusal.specs.declared.Answer.the-variants.{Answered, Refused}
 use Rattle.leaders.specs.Leaders.{themselves, joinAll, leadersOf}
-use Rattle.leaders.specs.Operation.{lengthsOk, countsOk, corridorOk, corridorOkAt, faultyCorridor, checkOf, Ends, outcome, ledBy, ledOutcome}
+use Rattle.leaders.specs.Operation.{lengthsOk, countsOk, corridorOkAt, faultyCorridor, checkOf, Ends, outcome, ledBy, ledOutcome}
 
 module _ (buses corridors : ℕ) (a b : List ℕ) (places : ℕ) where
   abbrev lengths : Bool

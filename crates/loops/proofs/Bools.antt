@@ -7,6 +7,10 @@ use lib.Dec.{T}
 pub is : {b : Bool} → b ≡ true → T b
 is e = subst T (sym e) tt
 
+pub holds : (b : Bool) → T b → b ≡ true
+holds true t = refl
+holds false t = absurd t
+
 pub no : {b : Bool} → b ≡ false → b ≡ true → ⊥
 no e h = true≢false (sym h ∙ e)
 

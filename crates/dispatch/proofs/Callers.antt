@@ -4,11 +4,11 @@ use Prim.Native.Nat.{ℕ, _<_, _≤_}
 use mathlib.Core.Bool.{Bool, true, false}
 use mathlib.Core.List.{List}
 use mathlib.Core.Path.{_≡_, refl, sym, ap, _∙_}
-use native.Mathlib.Omega.{arith}
 use borrow.Author.Tests.{ltb-true, ltb-false}
 use lib.Dec.{ltb}
 use lib.ListN.{length}
 use lib.Ieee.{Float}
+use Rattle.loops.proofs.Bools.{unequal}
 use Rattle.refusal.specs.Number.{numberOf, indexOf}
 use Rattle.refusal.specs.Reply.{answered, refused, refusedBy, replyOf}
 use Rattle.refusal.specs.declared.Refusal.{Refusal}
@@ -23,7 +23,7 @@ use Rattle.dispatch.proofs.Checks.{accepts}
 use Rattle.dispatch.proofs.Settling.{settled-refused, settled-answered}
 
 never : {A : Type 0} (x : A) (k i : ℕ) → answered x ≡ refused k i → ⊥
-never x k i e = let z : _≡_ {A = ℕ} 0 1 = cc in omega arith
+never x k i e = unequal cc
 
 module _ (n : ℕ) (u : Units) (d : Float) (mw : List Float) where
   -- ---- an answer is the economic dispatch of the units, whatever the result held

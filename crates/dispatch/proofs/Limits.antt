@@ -13,7 +13,7 @@ use lib.Seq.{getD-set-same, getD-set-other}
 use lib.Ieee.{Float, nan, binary64, lt, le}
 use Rattle.loops.specs.Figures.{at, plus, nought, clamped, inside}
 use Rattle.loops.specs.Loops.{sumTo}
-use Rattle.loops.proofs.Bools.{both}
+use Rattle.loops.proofs.Bools.{both, unequal}
 use Rattle.loops.proofs.Scan.{all-pass}
 use Rattle.loops.proofs.Tab.{length-tab, get-tab}
 use Rattle.loops.proofs.Order.{lt-of-not-le, real, bounded, bounded-real, right-real, le-self, clamped-inside, inside-bounded}
@@ -104,8 +104,8 @@ unfolding standing
 unsettled u d e = go (le (total (u .pmax)) d) (le d (total (u .pmin))) e
   where
     go : (a b : Bool) → cond a most (cond b least between) ≡ between → (a ≡ false) × (b ≡ false)
-    go true b h = absurd (let z : _≡_ {A = ℕ} 0 1 = cc in omega arith)
-    go false true h = absurd (let z : _≡_ {A = ℕ} 0 1 = cc in omega arith)
+    go true b h = absurd (unequal cc)
+    go false true h = absurd (unequal cc)
     go false false h = (refl, refl)
 
 costs-pass : (u : Units) → count u ≤ infiniteCost u → (i : ℕ) → i < count u → costOkAt u i ≡ true
@@ -177,10 +177,10 @@ unfolding dispatched dispatchedBy settled settledIf
 within n u d mw h = go (checkOf n u d (length mw)) refl h
   where
     settles : Accepted n u d (length mw) → (b : Bool) → ltb (faultyCost u d) (count u) ≡ b → settledIf b u d mw .reply ≡ answered tt → Within u (settledIf b u d mw .mw)
-    settles p true e a = absurd (let z : _≡_ {A = ℕ} 0 1 = cc in omega arith)
+    settles p true e a = absurd (unequal cc)
     settles p false e a =
         dispatch-within u d (p .units) (right-real nought d (both (le nought d) (le d mostDemand) (p .demand) .0)) (ltb-false (faultyCost u d) (count u) e)
 
     go : (k : Answer) → checkOf n u d (length mw) ≡ k → dispatchedBy k u d mw .reply ≡ answered tt → Within u (dispatchedBy k u d mw .mw)
-    go (Refused f) e a = absurd (let z : _≡_ {A = ℕ} 0 1 = cc in omega arith)
+    go (Refused f) e a = absurd (unequal cc)
     go Answered e a = settles (passes n u d (length mw) e) (ltb (faultyCost u d) (count u)) refl a

@@ -10,12 +10,12 @@ use lib.ListN.{length, getD, take}
 use lib.Seq.{drop-cons}
 use Rattle.casefile.specs.Layout.{little, word}
 
-word-none : (p : ℕ) (s : List ℕ) → word 0 p s ≡ 0
+pub word-none : (p : ℕ) (s : List ℕ) → word 0 p s ≡ 0
 unfolding word little
 word-none p s = refl
 
 -- one byte more in front
-word-more : (k p : ℕ) (s : List ℕ) → p < length s → word (suc k) p s ≡ getD s p 0 + 256 * word k (suc p) s
+pub word-more : (k p : ℕ) (s : List ℕ) → p < length s → word (suc k) p s ≡ getD s p 0 + 256 * word k (suc p) s
 unfolding word little
 word-more k p s h = ap (λ (l : List ℕ). little (take (suc k) l)) (drop-cons s p 0 h)
 

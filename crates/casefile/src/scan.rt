@@ -10,6 +10,7 @@ use crate::Header;
 use crate::Kind;
 use crate::Reading;
 use crate::Walk;
+use crate::bytes::eight;
 use crate::bytes::word;
 use crate::record;
 use crate::record::record_at;
@@ -141,7 +142,7 @@ fn past_words(file: &[u8], at: usize) -> Looked
     let words = left(file, at) / WORD;
     let mut k = 0;
     while k < words {
-        if word(file, at + WORD * k, WORD) != 0 {
+        if eight(file, at + WORD * k) != 0 {
             return came_to(at + WORD * k, k + 1);
         }
         k += 1;

@@ -34,6 +34,7 @@ case-padded h p q n c z l = case-read h p n c q z l
 
 -- without zeros every case's file is short enough (file-short), and nothing is looked at
 pub case-back : (h : Header) (p q : Places) → Case h p → sizesOk q ≡ true → readCase (fileOf h p) q ≡ outcome (caseRead (Read h) 0) p
+unfolding looksFor
 case-back h p q c z =
     subst (λ (s : List ℕ). readCase s q ≡ outcome (caseRead (Read h) 0) p) (append-nil (fileOf h p))
     (case-padded h p q 0 c z (rw append-nil (omega (arith, file-short h p c))))

@@ -20,14 +20,14 @@ left-requires c κs = tt
 loop-holds : tie.Need-loop-holds Inv-loop μ-loop
 loop-holds c = (words-start _ _, (omega arith, omega (arith, c .left .ensures)))
 
-mul-word : tie.Need-mul-word Inv-loop μ-loop
-mul-word c = omega arith
+mul-eight : tie.Need-mul-eight Inv-loop μ-loop
+mul-eight c = omega arith
 
-add-word : tie.Need-add-word Inv-loop μ-loop
-add-word c = omega arith
+add-eight : tie.Need-add-eight Inv-loop μ-loop
+add-eight c = omega arith
 
-word-requires : tie.Need-word-requires Inv-loop μ-loop
-word-requires c κs = omega arith
+eight-requires : tie.Need-eight-requires Inv-loop μ-loop
+eight-requires c κs = omega arith
 
 mul-came-to : tie.Need-mul-came-to Inv-loop μ-loop
 mul-came-to c = omega arith
@@ -45,7 +45,7 @@ returns : tie.Need-returns Inv-loop μ-loop
 returns c =
     let l = c .before .before .before .before in
     c .came-to .ensures
-    ∙ words-stop _ _ (l .loop .k) (omega arith) (omega (arith, c .before .before .word .ensures .0)) (l .loop .inv .0)
+    ∙ words-stop _ _ (l .loop .k) (omega arith) (omega (arith, c .before .before .eight .ensures)) (l .loop .inv .0)
 
 add-k : tie.Need-add-k Inv-loop μ-loop
 add-k c = omega arith
@@ -56,7 +56,7 @@ loop-less c = omega arith
 loop-again : tie.Need-loop-again Inv-loop μ-loop
 loop-again c =
     let l = c .before .before .before in
-    (words-turn _ _ (l .loop .k) (omega arith) (omega (arith, c .before .word .ensures .0)) (l .loop .inv .0), (omega arith, l .loop .inv .1 .1))
+    (words-turn _ _ (l .loop .k) (omega arith) (omega (arith, c .before .eight .ensures)) (l .loop .inv .0), (omega arith, l .loop .inv .1 .1))
 
 mul-came-to-2 : tie.Need-mul-came-to-2 Inv-loop μ-loop
 mul-came-to-2 c = omega arith
@@ -78,9 +78,9 @@ past-words-spec =
     μ-loop
     left-requires
     loop-holds
-    mul-word
-    add-word
-    word-requires
+    mul-eight
+    add-eight
+    eight-requires
     mul-came-to
     add-came-to
     add-came-to-2

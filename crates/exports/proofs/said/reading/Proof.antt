@@ -20,10 +20,10 @@ not-read-requires : tie.Need-not-read-requires
 not-read-requires c κs = search needs
 
 returns : tie.Need-returns
-returns c = c .read .ensures ∙ sym (ap (λ (r : Reading). readingSaid (replyOf r) _) (c .before .before .reading .given .1))
+returns c = c .read .ensures ∙ sym (ap (λ (r : Reading). readingSaid (replyOf r) (c .before .before .before .before .args .r .looks)) (c .before .before .reading .given .1))
 
 returns-2 : tie.Need-returns-2
-returns-2 c = c .not-read .ensures ∙ sym (ap (λ (r : Reading). readingSaid (replyOf r) _) (c .before .before .reading2 .given .1))
+returns-2 c = c .not-read .ensures ∙ sym (ap (λ (r : Reading). readingSaid (replyOf r) (c .before .before .before .before .args .r .looks)) (c .before .before .reading2 .given .1))
 
 pub reading-spec : {M : Type 1} → statement M
 reading-spec =

@@ -118,11 +118,7 @@ fn agree(what: &str, file: &[u8]) -> (u32, usize) {
     let mut tables = Tables::new();
     let port = read_case(file, &mut tables);
     let rust = reference::harness::case_file::read_case(file);
-    assert_eq!(
-        port,
-        said(&rust, looks(file)),
-        "{what}: what is said"
-    );
+    assert_eq!(port, said(&rust, looks(file)), "{what}: what is said");
     for (i, bus) in rust.iter().flat_map(|case| &case.buses).enumerate() {
         assert_eq!(
             bus.load.to_bits(),

@@ -22,7 +22,6 @@ use Rattle.casefile.specs.declared.Header.{Header}
 use Rattle.casefile.specs.declared.Walk.{Walk}
 use Rattle.casefile.specs.declared.Walk.the-variants.{At, Fault}
 use Rattle.casefile.specs.declared.CaseRead.{CaseRead}
-use Rattle.casefile.specs.declared.Reading.{Reading}
 use Rattle.casefile.specs.declared.Reading.the-variants.{Refused, Read}
 use Rattle.casefile.proofs.Records.{Passed, passed, fault-not-at}
 use Rattle.casefile.proofs.Spots.{spot-next}

@@ -183,18 +183,6 @@ module _ (s : List ℕ) (at : ℕ) where
       let y : b .looks ≡ min (trailing s p - p + 1) (length s - p) = ap (λ (y : Looked). y .looks) (g ∙ ap (λ (x : Looked). bytesLooked s (x .at)) e) in
       omega arith
 
--- ---- document 02: from an eighth of the zeros passed to 8 above an eighth of the trailing bytes
-pub record Bounded (t z n : ℕ) : Type 0 where
-  pub least : z ≤ 8 * n
-  pub most : 8 * n ≤ t + 64
-
-pub looks-bounded : (t z : ℕ) → z ≤ t → Bounded t z (looksFor t z)
-unfolding looksFor
-looks-bounded t z h = record { least = omega arith; most = omega arith }
-
--- of the bytes after a place
+-- ---- the zeros passed are among the bytes
 pub zeros-among : (s : List ℕ) (at : ℕ) → zerosPassed s at ≤ length s - at
 zeros-among s at = let u = trailing-high s at in omega arith
-
-pub looks-within : (s : List ℕ) (at : ℕ) → Bounded (length s - at) (zerosPassed s at) (looks s at)
-looks-within s at = looks-bounded (length s - at) (zerosPassed s at) (zeros-among s at)

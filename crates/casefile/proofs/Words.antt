@@ -55,22 +55,31 @@ small-end w i h l = let g : w - i ≡ w = omega arith in rw g at l
 pub within : (w k : ℕ) {x : ℕ} → k ≤ w → x < 256 ^ k → x < 256 ^ w
 within w k h l = let m : 256 ^ k ≤ 256 ^ w = pow-le-pow-right (lit< tt) h in omega arith
 
--- ---- eight bytes in two halves: byte by byte both come to the same
-pub word-halves : (p low high : ℕ) (s : List ℕ) → p + 8 ≤ length s → low ≡ word 4 p s → high ≡ word 4 (p + 4) s → low + high * 0x100000000 ≡ word 8 p s
-word-halves p low high s h l g =
-    let p₁ : ℕ = suc p in
-    let p₂ : ℕ = suc p₁ in
-    let p₃ : ℕ = suc p₂ in
-    let p₄ : ℕ = suc p₃ in
-    let n : p₄ ≡ p + 4 = omega arith in
-    let a₀ : word 8 p s ≡ getD s p 0 + 256 * word 7 p₁ s = word-more 7 p s (omega arith) in
-    let a₁ : word 7 p₁ s ≡ getD s p₁ 0 + 256 * word 6 p₂ s = word-more 6 p₁ s (omega arith) in
-    let a₂ : word 6 p₂ s ≡ getD s p₂ 0 + 256 * word 5 p₃ s = word-more 5 p₂ s (omega arith) in
-    let a₃ : word 5 p₃ s ≡ getD s p₃ 0 + 256 * word 4 p₄ s = word-more 4 p₃ s (omega arith) in
-    let b₀ : word 4 p s ≡ getD s p 0 + 256 * word 3 p₁ s = word-more 3 p s (omega arith) in
-    let b₁ : word 3 p₁ s ≡ getD s p₁ 0 + 256 * word 2 p₂ s = word-more 2 p₁ s (omega arith) in
-    let b₂ : word 2 p₂ s ≡ getD s p₂ 0 + 256 * word 1 p₃ s = word-more 1 p₂ s (omega arith) in
-    let b₃ : word 1 p₃ s ≡ getD s p₃ 0 + 256 * word 0 p₄ s = word-more 0 p₃ s (omega arith) in
-    let z : word 0 p₄ s ≡ 0 = word-none p₄ s in
-    let e : word 4 p₄ s ≡ word 4 (p + 4) s = ap (λ (m : ℕ). word 4 m s) n in
+-- ---- eight bytes by pairs: byte by byte both come to the same
+pair : (p : ℕ) (s : List ℕ) → p + 2 ≤ length s → word 2 p s ≡ getD s p 0 + 256 * getD s (suc p) 0
+pair p s h =
+    let a : word 2 p s ≡ getD s p 0 + 256 * word 1 (suc p) s = word-more 1 p s (omega arith) in
+    let b : word 1 (suc p) s ≡ getD s (suc p) 0 + 256 * word 0 (suc (suc p)) s = word-more 0 (suc p) s (omega arith) in
+    let z : word 0 (suc (suc p)) s ≡ 0 = word-none (suc (suc p)) s in
+    omega arith
+
+-- a pair more in front
+pair-more : (k p : ℕ) (s : List ℕ) → p + 2 ≤ length s → word (suc (suc k)) p s ≡ word 2 p s + 0x10000 * word k (p + 2) s
+pair-more k p s h =
+    let a : word (suc (suc k)) p s ≡ getD s p 0 + 256 * word (suc k) (suc p) s = word-more (suc k) p s (omega arith) in
+    let b : word (suc k) (suc p) s ≡ getD s (suc p) 0 + 256 * word k (suc (suc p)) s = word-more k (suc p) s (omega arith) in
+    let n : suc (suc p) ≡ p + 2 = omega arith in
+    let e : word k (suc (suc p)) s ≡ word k (p + 2) s = ap (λ (m : ℕ). word k m s) n in
+    omega (arith, pair p s h)
+
+pub word-pairs : (p a b c d : ℕ) (s : List ℕ) → p + 8 ≤ length s → a ≡ word 2 p s → b ≡ word 2 (p + 2) s → c ≡ word 2 (p + 4) s → d ≡ word 2 (p + 6) s
+    → a + b * 0x10000 + c * 0x100000000 + d * 0x1000000000000 ≡ word 8 p s
+word-pairs p a b c d s h ea eb ec ed =
+    let w₈ : word 8 p s ≡ word 2 p s + 0x10000 * word 6 (p + 2) s = pair-more 6 p s (omega arith) in
+    let w₆ : word 6 (p + 2) s ≡ word 2 (p + 2) s + 0x10000 * word 4 (p + 2 + 2) s = pair-more 4 (p + 2) s (omega arith) in
+    let w₄ : word 4 (p + 2 + 2) s ≡ word 2 (p + 2 + 2) s + 0x10000 * word 2 (p + 2 + 2 + 2) s = pair-more 2 (p + 2 + 2) s (omega arith) in
+    let n₄ : p + 2 + 2 ≡ p + 4 = omega arith in
+    let n₆ : p + 2 + 2 + 2 ≡ p + 6 = omega arith in
+    let e₄ : word 2 (p + 2 + 2) s ≡ word 2 (p + 4) s = ap (λ (m : ℕ). word 2 m s) n₄ in
+    let e₆ : word 2 (p + 2 + 2 + 2) s ≡ word 2 (p + 6) s = ap (λ (m : ℕ). word 2 m s) n₆ in
     omega arith

@@ -19,6 +19,9 @@ use refusal::Refusal;
 
 const MOST_TARGET: u32 = 65536;
 
+// The bytes of a word.
+const WORD: usize = 8;
+
 // A fault is passed on.
 fn step(file: &[u8], from: Walk, kind: Kind, r: usize) -> Walk
     ensures { λ w. ⌜ w ≡ stepped kind (now (file .entry)) r from ⌝ }
@@ -110,9 +113,6 @@ fn walk_tables(file: &[u8], h: Header, from: Walk) -> Walk
     walk_kind(file, w4, Kind::Line, lines, end)
 }
 
-// A word of the trailing bytes.
-const WORD: usize = 8;
-
 // How far a test of the trailing bytes came: the place of the next byte, and the words or bytes looked at.
 pub struct Looked {
     pub at: usize,
@@ -135,7 +135,7 @@ fn left(file: &[u8], at: usize) -> usize
     0
 }
 
-// Past the words of zeros from a place on.
+// Past the words of zeros from a place on, the word after them looked at too.
 fn past_words(file: &[u8], at: usize) -> Looked
     ensures { λ r. ⌜ r ≡ wordsLooked (now (file .entry)) at ⌝ }
 {
@@ -150,7 +150,7 @@ fn past_words(file: &[u8], at: usize) -> Looked
     came_to(at + WORD * k, k)
 }
 
-// Past the zeros from a place on, byte by byte.
+// Past the zeros from a place on, byte by byte, the byte after them looked at too.
 fn past_bytes(file: &[u8], at: usize) -> Looked
     ensures { λ r. ⌜ r ≡ bytesLooked (now (file .entry)) at ⌝ }
 {
@@ -175,6 +175,7 @@ fn trailing(file: &[u8], at: usize) -> Looked
     came_to(bytes.at, words.looks + bytes.looks)
 }
 
+// A reading with its count: one place that makes the struct, since each more is a proof of its own.
 pub fn said(reading: Reading, looks: usize) -> CaseRead
     ensures { λ r. ⌜ r ≡ caseRead reading looks ⌝ }
 {

@@ -200,10 +200,7 @@ fn read_records(file: &[u8]) -> Result<(Case, &[u8]), Refusal> {
 pub fn read_case(file: &[u8]) -> Result<Case, Refusal> {
     let (case, rest) = read_records(file)?;
     match rest.iter().position(|&byte| byte != 0) {
-        Some(place) => Err(Refusal::new(
-            AFTER_THE_END,
-            file.len() - rest.len() + place,
-        )),
+        Some(place) => Err(Refusal::new(AFTER_THE_END, file.len() - rest.len() + place)),
         None => Ok(case),
     }
 }

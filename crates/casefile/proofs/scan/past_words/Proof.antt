@@ -1,7 +1,7 @@
 -- `casefile::scan::past_words` meets its contract. The invariant: the words passed are zeros, so the search from behind them answers the same.
 -- The measure is the number of words left.
 use Prim.Native.Nat.{_-_, _/_, _≤_}
-use mathlib.Core.Path.{_≡_, refl, sym, ap, _∙_}
+use mathlib.Core.Path.{_≡_, _∙_}
 use native.Mathlib.Omega.{arith}
 use lib.ListN.{length}
 use Rattle.casefile.proofs.Trailing.{ZeroWords, words-start, words-turn, words-stop, words-end}

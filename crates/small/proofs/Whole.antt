@@ -24,7 +24,7 @@ use Rattle.small.proofs.Filled.{column-of, equal-three, sheet-column, b
 pub sized : {A : Type 0} (f : ℕ → Shape → List A) {n n′ : ℕ} {s s′ : Shape} {x : List A} → n ≡ n′ → s ≡ s′ → x ≡ f n s → x ≡ f n′ s′
 sized {A} f {n} {n′} {s} {s′} p q e = e ∙ ap (λ (m : ℕ). f m s) p ∙ ap (λ (t : Shape). f n′ t) q
 
-places-same : {ladder ladder′ : List Float} {tier tier′ : List ℕ} {load load′ : List Float} {bus bus′ slack slack′ : List ℕ} {pmin pmin′ pmax pmax′ c1 c1′ c2 c2′ : List Float}
+pub places-same : {ladder ladder′ : List Float} {tier tier′ : List ℕ} {load load′ : List Float} {bus bus′ slack slack′ : List ℕ} {pmin pmin′ pmax pmax′ c1 c1′ c2 c2′ : List Float}
     {a a′ b b′ circuits circuits′ : List ℕ} {km km′ share share′ sheet sheet′ : List Float}
     → ladder ≡ ladder′ → tier ≡ tier′ → load ≡ load′ → bus ≡ bus′ → slack ≡ slack′ → pmin ≡ pmin′ → pmax ≡ pmax′ → c1 ≡ c1′ → c2 ≡ c2′
     → a ≡ a′ → b ≡ b′ → circuits ≡ circuits′ → km ≡ km′ → share ≡ share′ → sheet ≡ sheet′

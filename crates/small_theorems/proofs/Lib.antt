@@ -4,3 +4,4 @@ pub mod Places
 pub mod Accepted
 pub mod Tables
 pub mod Theorems
+pub mod Examples

@@ -1,21 +1,20 @@
 -- The words of the tables as they are read are those of the file's definition: a place within a table holds the same whatever stands for one past it.
-use Prim.Native.Nat.{ℕ, zero, suc, _+_, _*_, _≤_, _<_}
+use Prim.Native.Nat.{ℕ, zero, suc, _+_, _*_, _<_}
 use mathlib.Core.Bool.{true}
 use mathlib.Core.List.{List, [], _∷_}
 use mathlib.Core.Path.{_≡_, refl, ap, _∙_}
 use native.Mathlib.Omega.{arith}
-use lib.Ieee.{Float, nan}
+use lib.Ieee.{Float}
 use lib.ListN.{length, getD}
 use Rattle.loops.specs.Figures.{at, nought}
 use Rattle.casefile.specs.Bounds.{rowFigures}
-use Rattle.casefile.specs.Layout.{layoutOf}
 use Rattle.casefile.specs.Reading.{levels, lines, Small}
 use Rattle.casefile.specs.Tables.{Places, basisField, sizesOk}
 use Rattle.casefile.specs.declared.Header.{Header}
 use Rattle.casefile.specs.declared.Kind.the-variants.{Level, Bus, Generator, Corridor, Line}
 use Rattle.casefile.proofs.Counts.{lines-small}
 use Rattle.casefile.proofs.Whole.{sizes}
-use Rattle.casefile_theorems.specs.Writer.{row, fileWith, fileOf, wordsOf, rowPlace}
+use Rattle.casefile_theorems.specs.Writer.{fileWith, fileOf, wordsOf, rowPlace}
 use Rattle.casefile_theorems.proofs.CaseForth.{Alike, files-alike}
 use Rattle.case_writer.specs.Words.{levelRow, busRow, generatorRow, corridorRow, lineRow, wordsIn}
 

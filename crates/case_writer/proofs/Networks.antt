@@ -1,8 +1,8 @@
 -- What small_network says and leaves, for its caller: of the definition's three ways only one gives an answer, and one refuses a place.
 use Prim.Native.Nat.{ℕ, _≤_, _<_}
-use mathlib.Core.Bool.{Bool, true, false, cond}
+use mathlib.Core.Bool.{true}
 use mathlib.Core.List.{List}
-use mathlib.Core.Path.{_≡_, refl, sym, ap, _∙_, subst}
+use mathlib.Core.Path.{_≡_, sym, ap, _∙_, subst}
 use native.Mathlib.Decide.{decLt}
 use native.Mathlib.Omega.{arith}
 use borrow.Author.Tests.{lt-ltb, le-ltb}
@@ -10,9 +10,9 @@ use Rattle.loops.proofs.Tab.{length-tab}
 use Rattle.refusal.specs.Number.{numberOf, indexOf}
 use Rattle.refusal.specs.Reply.{Reply, answered, refused}
 use Rattle.refusal.specs.declared.Refusal.{Refusal}
-use Rattle.refusal.specs.declared.Refusal.the-variants.{Length, Place}
+use Rattle.refusal.specs.declared.Refusal.the-variants.{Place}
 use Rattle.casefile.specs.Reading.{Small}
-use Rattle.casefile.specs.Tables.{Places, sizesOk, replyOf}
+use Rattle.casefile.specs.Tables.{Places, sizesOk}
 use Rattle.casefile.specs.declared.Header.{Header}
 use Rattle.casefile.specs.declared.Reading.{Reading}
 use Rattle.casefile.specs.declared.Reading.the-variants.{Refused, Read}

@@ -1,5 +1,5 @@
 -- Bytes put one behind another are put as one list: a number's bytes, a record's fields, a table's records.
-use Prim.Native.Nat.{ℕ, zero, suc, _+_, _/_, _%_, _<_, _≤_}
+use Prim.Native.Nat.{ℕ, zero, suc, _+_, _/_, _%_, _<_}
 use mathlib.Core.Bool.{true}
 use mathlib.Core.List.{List, [], _∷_, _++_, append-assoc, append-nil}
 use mathlib.Core.Path.{_≡_, refl, sym, ap, subst, _∙_}
@@ -13,7 +13,6 @@ use Rattle.casefile.specs.Layout.{layoutOf}
 use Rattle.casefile.specs.declared.Kind.{Kind}
 use Rattle.casefile.specs.declared.Kind.the-variants.{Head, Level, Bus, Generator, Corridor, Line}
 use Rattle.casefile_theorems.specs.Writer.{bytes, recordBytes, tableBytes}
-use Rattle.casefile_theorems.proofs.Bytes.{length-bytes}
 use Rattle.case_writer.specs.Put.{Put}
 use Rattle.case_writer.specs.Words.{markOf}
 

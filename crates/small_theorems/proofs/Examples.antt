@@ -1,8 +1,8 @@
 -- Some networks by hand: one bus with a load, two that a corridor joins, and three with loads at 0 and 1, with corridors 0-2 and 1-2, and with all.
 use mathlib.Core.Bool.{true, false}
-use mathlib.Core.List.{List, [], _∷_}
+use mathlib.Core.List.{[], _∷_}
 use mathlib.Core.Path.{_≡_, refl}
-use Rattle.small.specs.Networks.{Network, bits, numbered, busesAt, numberAt, networkAt}
+use Rattle.small.specs.Networks.{bits, numbered, busesAt, numberAt, networkAt}
 use Rattle.small.specs.Tables.{chosen, corridorsOf}
 
 pub by-hand : networkAt 1 ∷ networkAt 6 ∷ networkAt 13 ∷ networkAt 58 ∷ networkAt 73 ∷ []

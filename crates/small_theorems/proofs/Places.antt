@@ -1,8 +1,8 @@
 -- Every network of the request has one place below 74, and every such place one network: arithmetic, for one, two and three buses.
 use Prim.Native.Nat.{ℕ, zero, suc, _+_, _-_, _*_, _/_, _%_, _^_, _≤_, _<_}
-use mathlib.Core.Bool.{Bool, true, false, cond}
+use mathlib.Core.Bool.{Bool}
 use mathlib.Core.List.{List}
-use mathlib.Core.Path.{_≡_, refl, sym, ap, _∙_, subst}
+use mathlib.Core.Path.{_≡_, sym, ap, _∙_, subst}
 use native.Mathlib.Decide.{decLt}
 use native.Mathlib.Omega.{arith}
 use borrow.Author.Tests.{lt-ltb, le-ltb}
@@ -103,7 +103,6 @@ back i h = elim (decLt i firstOfTwo) [
       of 1 i i (omega arith) (omega arith) (one-bus i l) (place-of 1 i p q ∙ (let e : 0 + (i / 2 * 2 + i % 2) ≡ i = omega arith in e))
   | no g ↦ elim (decLt i firstOfThree) [
     | yes l ↦
-        let k = i - 2 in
         let p : (i - 2) / 4 < 2 = omega arith in
         let q : (i - 2) % 4 < 4 = omega arith in
         of 2 (i - 2) i (omega arith) (omega arith) (two-buses i (omega arith) l) (place-of 2 (i - 2) p q ∙ (let e : 2 + ((i - 2) / 4 * 4 + (i - 2) % 4) ≡ i = omega arith in e))

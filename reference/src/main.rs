@@ -16,6 +16,7 @@ use reference::harness::case_file::{answer_read, write_case};
 use reference::harness::case_text::parse_text;
 use reference::harness::listing::answer_list;
 use reference::harness::season::answer_season;
+use reference::harness::small::small_networks;
 use reference::tally::Tally;
 use reference::targets::compare_targets;
 use reference::theorem::theorem;
@@ -33,6 +34,7 @@ const USAGE: &str = "usage:
   reference season                                           case files on standard input, 65,536 bytes each
   reference season-files SEED
   reference compare-seasons PROGRAM FIRST_SEED COUNT
+  reference small PLACE                                      the case file of a small network
   reference branches COUNTS...
   reference judge REQUESTS ANSWERS
   reference sheet-differences PROGRAM FIRST_SEED BATCHES
@@ -123,6 +125,10 @@ fn run(words: &[&str]) -> Result<(), Failure> {
             let program = Program { path, limit: LIMIT };
             let outcome = compare_seasons(&program, number(first)?, number(count)?)?;
             report("seasons", "answers", &outcome)
+        }
+        ["small", place] => {
+            let place = usize::try_from(number(place)?).map_err(|_| Failure::Usage)?;
+            write(&write_case(small_networks().get(place).ok_or(Failure::Found)?))
         }
         ["branches", ref files @ ..] if !files.is_empty() => branches(files),
         ["write"] => {

@@ -46,6 +46,8 @@ pub enum Refusal {
     SeasonFull,
     // A corridor's impedance spread.
     Spread(usize),
+    // A place past the last small network.
+    Place,
 }
 
 impl Refusal {
@@ -74,6 +76,7 @@ impl Refusal {
             Refusal::Uneven => 19,
             Refusal::SeasonFull => 20,
             Refusal::Spread(_) => 22,
+            Refusal::Place => 23,
         }
     }
 
@@ -103,6 +106,7 @@ impl Refusal {
             Refusal::Uneven => 0,
             Refusal::SeasonFull => 0,
             Refusal::Spread(i) => i,
+            Refusal::Place => 0,
         }
     }
 }

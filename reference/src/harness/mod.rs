@@ -12,4 +12,5 @@ pub mod plan;
 pub mod refusal;
 pub mod season;
 pub mod sheet;
+pub mod small;
 pub mod tables;

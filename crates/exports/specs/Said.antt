@@ -11,7 +11,8 @@ use Rattle.angles_defs.specs.declared.Solution.{Solution}
 use Rattle.casefile.specs.declared.Header.{Header}
 use Rattle.exports.specs.declared.AnglesSaid.{AnglesSaid}
 use Rattle.exports.specs.declared.ReadingSaid.{ReadingSaid}
-use Rattle.exports.specs.declared.SheetSaid.{SheetSaid}
+use Rattle.exports.specs.declared.AnswerSaid.{AnswerSaid}
+use Rattle.exports.specs.declared.PlacementSaid.{PlacementSaid}
 
 unfoldable pub endedNumber : Ended → ℕ
 endedNumber (Settled x) = 1
@@ -32,6 +33,10 @@ readingSaid (answered h) =
     record { refusal = 0; index = 0; mode = modeNumber (h .mode); target = h .target; buses = h .buses; corridors = h .corridors; generators = h .generators; above = h .above; requested = h .requested }
 readingSaid (refused number index) = record { refusal = number; index = index; mode = 0; target = 0; buses = 0; corridors = 0; generators = 0; above = 0; requested = 0 }
 
-abbrev pub sheetSaid : Reply (Unit {0}) → SheetSaid
-sheetSaid (answered u) = record { refusal = 0; index = 0 }
-sheetSaid (refused number index) = record { refusal = number; index = index }
+abbrev pub answerSaid : Reply (Unit {0}) → AnswerSaid
+answerSaid (answered u) = record { refusal = 0; index = 0 }
+answerSaid (refused number index) = record { refusal = number; index = index }
+
+abbrev pub placementSaid : Reply ℕ → PlacementSaid
+placementSaid (answered count) = record { refusal = 0; index = 0; count = count }
+placementSaid (refused number index) = record { refusal = number; index = index; count = 0 }

@@ -13,7 +13,7 @@ pub struct AnglesSaid {
     pub figure: f64,
 }
 
-/// What `read_case` answers: the refusal's number and index, or 0 and the header.
+/// What `read_case` answers: the refusal's number and index, or 0 and the header; and the looks.
 #[repr(C)]
 #[derive(Clone, Copy, Debug, PartialEq)]
 pub struct ReadingSaid {
@@ -26,12 +26,14 @@ pub struct ReadingSaid {
     pub generators: usize,
     pub above: usize,
     pub requested: usize,
+    /// The words and bytes looked at after the last record.
+    pub looks: usize,
 }
 
 /// What `line_sheet` answers: the refusal's number and index, or 0.
 #[repr(C)]
 #[derive(Clone, Copy, Debug, PartialEq)]
-pub struct SheetSaid {
+pub struct AnswerSaid {
     pub refusal: u32,
     pub index: usize,
 }
@@ -103,7 +105,7 @@ extern "C" {
         spread_len: usize,
         sheet: *mut f64,
         sheet_len: usize,
-    ) -> SheetSaid;
+    ) -> AnswerSaid;
 }
 
 /// A network to solve, in the port's columns.
@@ -214,7 +216,7 @@ pub fn read_case(file: &[u8], t: &mut Tables) -> ReadingSaid {
 }
 
 /// What the operation answers. The rows are in `sheet`.
-pub fn line_sheet(ladder: &[f64], km: &[f64], spread: &[f64], sheet: &mut [f64]) -> SheetSaid {
+pub fn line_sheet(ladder: &[f64], km: &[f64], spread: &[f64], sheet: &mut [f64]) -> AnswerSaid {
     unsafe {
         lopnaski_line_sheet(
             ladder.len(),

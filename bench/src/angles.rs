@@ -1,26 +1,15 @@
 //! Solves by conjugate gradients: 8, 64 and 256 buses, ordinary ones and ones with a bus that cannot settle, of which the largest spends all its steps.
 
+use crate::draws::Draws;
 use crate::ports::{dc_angles, AnglesSaid, Request};
 use crate::{least, report};
 use reference::electrical::planning::{dc_angles_cg, End, Solve};
 use reference::harness::operations::{angles, Network};
 use reference::harness::refusal::Refusal;
 
-/// A small generator of figures in (0, 1), the same on every machine.
-struct Draws(u64);
-
-impl Draws {
-    fn next(&mut self) -> f64 {
-        self.0 ^= self.0 << 13;
-        self.0 ^= self.0 >> 7;
-        self.0 ^= self.0 << 17;
-        ((self.0 >> 11) as f64 + 0.5) / (1u64 << 53) as f64
-    }
-}
-
 /// A feeder with some loops, grounded at bus 0: bus i hangs on an earlier one, and every fourth bus has a second line.
 fn feeder(n: usize, least_weight: f64) -> Request {
-    let mut draws = Draws(0x9E37_79B9_7F4A_7C15 ^ n as u64);
+    let mut draws = Draws::new(n);
     let mut q = Request {
         from: Vec::new(),
         to: Vec::new(),

@@ -6,6 +6,10 @@
 //!     bench --once    the same with one run of each, for what it compares: its times say nothing
 
 mod angles;
+mod cases;
+mod draws;
+mod memory;
+mod operations;
 mod ports;
 mod programs;
 mod reading;
@@ -49,6 +53,7 @@ fn main() {
         "case", "", "port, us", "Rust, us", "ratio"
     );
     angles::run();
+    operations::run();
     reading::run();
     sheet::run();
     programs::run();

@@ -30,12 +30,21 @@ pub struct ReadingSaid {
     pub looks: usize,
 }
 
-/// What `line_sheet` answers: the refusal's number and index, or 0.
+/// What an operation answers that leaves its results in a slice: the refusal's number and index, or 0.
 #[repr(C)]
 #[derive(Clone, Copy, Debug, PartialEq)]
-pub struct SheetSaid {
+pub struct AnswerSaid {
     pub refusal: u32,
     pub index: usize,
+}
+
+/// What `place_voltage_support` answers: the refusal's number and index, or 0 and the count of condensers.
+#[repr(C)]
+#[derive(Clone, Copy, Debug, PartialEq)]
+pub struct PlacementSaid {
+    pub refusal: u32,
+    pub index: usize,
+    pub count: usize,
 }
 
 extern "C" {
@@ -105,7 +114,50 @@ extern "C" {
         spread_len: usize,
         sheet: *mut f64,
         sheet_len: usize,
-    ) -> SheetSaid;
+    ) -> AnswerSaid;
+    fn lopnaski_economic_dispatch(
+        units: usize,
+        pmin: *const f64,
+        pmin_len: usize,
+        pmax: *const f64,
+        pmax_len: usize,
+        c1: *const f64,
+        c1_len: usize,
+        c2: *const f64,
+        c2_len: usize,
+        demand: f64,
+        mw: *mut f64,
+        mw_len: usize,
+    ) -> AnswerSaid;
+    fn lopnaski_leaders(
+        buses: usize,
+        corridors: usize,
+        a: *const u32,
+        a_len: usize,
+        b: *const u32,
+        b_len: usize,
+        leader: *mut u32,
+        leader_len: usize,
+    ) -> AnswerSaid;
+    fn lopnaski_place_voltage_support(
+        n: usize,
+        m: usize,
+        g: usize,
+        loads: *const f64,
+        loads_len: usize,
+        a: *const u32,
+        a_len: usize,
+        b: *const u32,
+        b_len: usize,
+        km: *const f64,
+        km_len: usize,
+        generators: *const u32,
+        generators_len: usize,
+        buses: *mut u32,
+        buses_len: usize,
+        mvars: *mut f64,
+        mvars_len: usize,
+    ) -> PlacementSaid;
 }
 
 /// A network to solve, in the port's columns.
@@ -147,8 +199,10 @@ pub fn dc_angles(q: &Request, result: &mut [f64], work: &mut [f64]) -> AnglesSai
 
 /// The tables of a case at their largest size.
 pub struct Tables {
-    figures: Vec<Vec<f64>>,
-    wholes: Vec<Vec<u32>>,
+    /// Ladder, loads, pmin, pmax, c1, c2, lengths, shares, the sheet.
+    pub figures: Vec<Vec<f64>>,
+    /// Tiers, the generators' buses, slack, the corridors' two ends, circuits.
+    pub wholes: Vec<Vec<u32>>,
 }
 
 impl Tables {
@@ -159,10 +213,6 @@ impl Tables {
             figures: figures.iter().map(|&n| vec![0.0; n]).collect(),
             wholes: wholes.iter().map(|&n| vec![0; n]).collect(),
         }
-    }
-
-    pub fn loads(&self) -> &[f64] {
-        &self.figures[1]
     }
 }
 
@@ -216,7 +266,7 @@ pub fn read_case(file: &[u8], t: &mut Tables) -> ReadingSaid {
 }
 
 /// What the operation answers. The rows are in `sheet`.
-pub fn line_sheet(ladder: &[f64], km: &[f64], spread: &[f64], sheet: &mut [f64]) -> SheetSaid {
+pub fn line_sheet(ladder: &[f64], km: &[f64], spread: &[f64], sheet: &mut [f64]) -> AnswerSaid {
     unsafe {
         lopnaski_line_sheet(
             ladder.len(),
@@ -230,5 +280,80 @@ pub fn line_sheet(ladder: &[f64], km: &[f64], spread: &[f64], sheet: &mut [f64])
             sheet.as_mut_ptr(),
             sheet.len(),
         )
+    }
+}
+
+/// The MW are in `mw`. The columns are pmin, pmax, c1 and c2.
+pub fn dispatch_columns(columns: &[Vec<f64>], demand: f64, mw: &mut [f64]) -> AnswerSaid {
+    let [pmin, pmax, c1, c2] = columns else {
+        panic!("four columns");
+    };
+    unsafe {
+        lopnaski_economic_dispatch(
+            pmin.len(),
+            pmin.as_ptr(),
+            pmin.len(),
+            pmax.as_ptr(),
+            pmax.len(),
+            c1.as_ptr(),
+            c1.len(),
+            c2.as_ptr(),
+            c2.len(),
+            demand,
+            mw.as_mut_ptr(),
+            mw.len(),
+        )
+    }
+}
+
+/// The leaders are in `leader`, of which there are as many as buses.
+pub fn leaders(a: &[u32], b: &[u32], leader: &mut [u32]) -> AnswerSaid {
+    unsafe {
+        lopnaski_leaders(
+            leader.len(),
+            a.len(),
+            a.as_ptr(),
+            a.len(),
+            b.as_ptr(),
+            b.len(),
+            leader.as_mut_ptr(),
+            leader.len(),
+        )
+    }
+}
+
+/// What placement is asked, in the port's columns.
+pub struct PlacementColumns {
+    pub loads: Vec<f64>,
+    pub a: Vec<u32>,
+    pub b: Vec<u32>,
+    pub km: Vec<f64>,
+    pub generators: Vec<u32>,
+}
+
+impl PlacementColumns {
+    /// The condensers' buses and Mvar are in the two slices.
+    pub fn place(&self, buses: &mut [u32], mvars: &mut [f64]) -> PlacementSaid {
+        unsafe {
+            lopnaski_place_voltage_support(
+                self.loads.len(),
+                self.a.len(),
+                self.generators.len(),
+                self.loads.as_ptr(),
+                self.loads.len(),
+                self.a.as_ptr(),
+                self.a.len(),
+                self.b.as_ptr(),
+                self.b.len(),
+                self.km.as_ptr(),
+                self.km.len(),
+                self.generators.as_ptr(),
+                self.generators.len(),
+                buses.as_mut_ptr(),
+                buses.len(),
+                mvars.as_mut_ptr(),
+                mvars.len(),
+            )
+        }
     }
 }

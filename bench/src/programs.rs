@@ -7,9 +7,10 @@ use std::time::Duration;
 
 use reference::harness::case_file::write_case;
 use reference::harness::listing::answer_list;
-use reference::harness::tables::{Bus, Case, CorridorRecord, Generator, Line};
 use reference::watch::{self, Branch};
 
+use crate::cases::{draft, hopeless, Shape, FEEDER, OBSERVE, REINFORCE};
+use crate::memory::most_kilobytes;
 use crate::{least, report};
 
 const PORT: &[&str] = &["target/bin/listing"];
@@ -27,82 +28,6 @@ fn listing(words: &[&str], file: &[u8]) -> Vec<u8> {
     input.write_all(file).expect("the program reads");
     drop(input);
     child.wait_with_output().expect("the program ends").stdout
-}
-
-/// A feeder with some loops: bus i hangs on an earlier one, and every fourth bus has a second corridor. A generator at
-/// every eighth bus.
-fn feeder(n: usize) -> Case {
-    let mut draw = 0x9E37_79B9_7F4A_7C15 ^ n as u64;
-    let mut next = |most: f64| {
-        draw ^= draw << 13;
-        draw ^= draw >> 7;
-        draw ^= draw << 17;
-        most * (draw >> 11) as f64 / (1u64 << 53) as f64
-    };
-    let mut case = Case {
-        mode: 0,
-        target: 0,
-        above: 0,
-        ladder: vec![230.0, 138.0],
-        buses: Vec::new(),
-        generators: Vec::new(),
-        corridors: Vec::new(),
-        sheet: Vec::new(),
-    };
-    for i in 0..n {
-        case.buses.push(Bus {
-            tier: 1,
-            load: 1.0 + next(4.0),
-        });
-        if i % 8 == 0 {
-            case.generators.push(Generator {
-                bus: i as u16,
-                slack: u8::from(i == 0),
-                pmin: 0.0,
-                pmax: 40.0,
-                c1: 10.0 + next(20.0),
-                c2: 0.01,
-            });
-        }
-    }
-    for i in 1..n {
-        let near = i - 1 - (next(3.0) as usize).min(i - 1);
-        join(&mut case, near, i, 8.0 + next(20.0));
-        if i % 4 == 0 && n < 256 {
-            let far = next(i as f64) as usize;
-            join(&mut case, far, i, 8.0 + next(20.0));
-        }
-    }
-    case
-}
-
-fn join(case: &mut Case, a: usize, b: usize, km: f64) {
-    case.corridors.push(CorridorRecord {
-        a: a as u16,
-        b: b as u16,
-        circuits: 1,
-        length: km,
-        share: 1.0,
-    });
-    for kv in [230.0, 138.0] {
-        let ohms = kv * kv / 100.0;
-        case.sheet.push(Line {
-            r: 0.1 * km / ohms,
-            x: 0.4 * km / ohms,
-            b: 0.0,
-            rate: kv * 2.0,
-            basis: 0,
-        });
-    }
-}
-
-/// The same, the first corridor of so much resistance that its susceptance is zero: what lies behind it never settles.
-fn hopeless(n: usize) -> Case {
-    let mut case = feeder(n);
-    for line in &mut case.sheet[..2] {
-        line.r = 1e160;
-    }
-    case
 }
 
 fn compare(
@@ -134,20 +59,110 @@ fn compare(
     times
 }
 
-pub fn run() {
-    let none = (Duration::ZERO, Duration::ZERO);
-    let start_up = compare("an empty file (start-up)", &[], 4_000, none);
-    let small = std::fs::read("cases/files/CaseL.case").expect("case L is stored");
-    compare("a small case", &small, 4_000, start_up);
-    compare("64 buses", &write_case(&feeder(64)), 200, start_up);
-    compare("256 buses", &write_case(&feeder(256)), 100, start_up);
-    let spent = write_case(&hopeless(256));
-    let (_, taken) = watch::apart(|| answer_list(&spent));
+/// What the plan of a listing did, by the places of its first line.
+const CAPACITY: usize = 4;
+const STIFFENING: usize = 5;
+const FILLER: usize = 6;
+const PROMOTED: usize = 7;
+
+/// The first line of a listing has more than zero at each of these places: the case is what its name says.
+fn does(file: &[u8], what: &str, places: &[usize]) {
+    let listing = listing(PORT, file);
+    let line = listing.split(|&c| c == b'\n').next().unwrap_or_default();
+    let line = String::from_utf8_lossy(line).into_owned();
+    let fields: Vec<&str> = line.split(' ').collect();
+    assert_eq!(fields[0], "PL", "{what}: {line}");
+    for &place in places {
+        assert_ne!(fields[place], "0", "{what}: {line}");
+    }
+}
+
+/// Every solve of this case spends its steps.
+fn spends_all_steps(file: &[u8]) {
+    let (_, taken) = watch::apart(|| answer_list(file));
     let settled = taken[Branch::AnglesSettledLater as usize];
     let steps_spent = taken[Branch::AnglesSpent as usize];
     assert!(
         settled == 0 && steps_spent > 0,
         "{settled} settled, {steps_spent} spent"
     );
+}
+
+/// What a plan may do, one draft each: its name, its shape, what its listing must say that it did, and runs.
+fn drafts() -> Vec<(&'static str, Shape, Vec<usize>, usize)> {
+    const FIVE: &[f64] = &[765.0, 345.0, 230.0, 138.0, 69.0];
+    let with = |change: fn(&mut Shape)| {
+        let mut shape = FEEDER;
+        change(&mut shape);
+        shape
+    };
+    vec![
+        (
+            "64 buses",
+            with(|s| (s.buses, s.corridors) = (64, 79)),
+            vec![],
+            200,
+        ),
+        ("128 buses, a mesh", with(|s| s.buses = 128), vec![], 200),
+        (
+            "256 buses, eight islands",
+            with(|s| s.islands = 8),
+            vec![],
+            200,
+        ),
+        (
+            "256 buses, Observe",
+            with(|s| s.mode = OBSERVE),
+            vec![],
+            200,
+        ),
+        (
+            "256 buses, Reinforce",
+            with(|s| (s.mode, s.load) = (REINFORCE, 40.0)),
+            vec![CAPACITY],
+            100,
+        ),
+        ("256 buses", FEEDER, vec![STIFFENING, PROMOTED], 100),
+        (
+            "256 buses, filled to 600",
+            with(|s| s.target = 600),
+            vec![STIFFENING, FILLER, PROMOTED],
+            100,
+        ),
+        (
+            "256 buses, five levels",
+            with(|s| (s.ladder, s.load) = (FIVE, 100.0)),
+            vec![CAPACITY, STIFFENING, PROMOTED],
+            40,
+        ),
+    ]
+}
+
+/// The most memory that each program takes for a case, as the system counts it, in KB.
+fn memory(what: &str, file: &[u8]) {
+    let (port, rust) = (most_kilobytes(PORT, file), most_kilobytes(RUST, file));
+    println!(
+        "{:<54} {:>11} {port:>12} {rust:>12} {:>8.2}",
+        format!("memory of the listing, KB, {what}"),
+        "",
+        port as f64 / rust as f64
+    );
+}
+
+pub fn run() {
+    let none = (Duration::ZERO, Duration::ZERO);
+    let start_up = compare("an empty file (start-up)", &[], 4_000, none);
+    let small = std::fs::read("cases/files/CaseL.case").expect("case L is stored");
+    compare("a small case", &small, 4_000, start_up);
+    for (what, shape, did, runs) in drafts() {
+        let file = write_case(&draft(shape));
+        does(&file, what, &did);
+        compare(what, &file, runs, start_up);
+    }
+    let mut tree = FEEDER;
+    tree.corridors = tree.buses - 1;
+    let spent = write_case(&hopeless(tree));
+    spends_all_steps(&spent);
     compare("256 buses, all steps spent", &spent, 20, start_up);
+    memory("256 buses", &write_case(&draft(FEEDER)));
 }

@@ -4,7 +4,7 @@ use crate::ports::{read_case, ReadingSaid, Tables};
 use crate::{least, report};
 use reference::harness::case_file::looks;
 use reference::harness::refusal::Refusal;
-use reference::harness::tables::Case;
+use reference::harness::tables::{Case, Line};
 
 fn record(file: &mut Vec<u8>, mark: &[u8; 2], fields: &[&[u8]]) {
     file.extend_from_slice(mark);
@@ -113,19 +113,51 @@ fn said(answer: &Result<Case, Refusal>, looks: usize) -> ReadingSaid {
     }
 }
 
-/// Both answers alike, and the loads of a file that is read; the refusal's number and index.
+/// The tables of a case, zero past their counts; of a refused file all zero.
+fn tables_of(answer: &Result<Case, Refusal>) -> Tables {
+    let mut tables = Tables::new();
+    let Ok(case) = answer else {
+        return tables;
+    };
+    let mut figures = |k: usize, column: Vec<f64>| {
+        tables.figures[k][..column.len()].copy_from_slice(&column);
+    };
+    figures(0, case.ladder.clone());
+    figures(1, case.buses.iter().map(|b| b.load).collect());
+    figures(2, case.generators.iter().map(|g| g.pmin).collect());
+    figures(3, case.generators.iter().map(|g| g.pmax).collect());
+    figures(4, case.generators.iter().map(|g| g.c1).collect());
+    figures(5, case.generators.iter().map(|g| g.c2).collect());
+    figures(6, case.corridors.iter().map(|c| c.length).collect());
+    figures(7, case.corridors.iter().map(|c| c.share).collect());
+    let row = |l: &Line| [l.r, l.x, l.b, l.rate, l.basis.into()];
+    figures(8, case.sheet.iter().flat_map(row).collect());
+    let mut wholes = |k: usize, column: Vec<u32>| {
+        tables.wholes[k][..column.len()].copy_from_slice(&column);
+    };
+    wholes(0, case.buses.iter().map(|b| b.tier.into()).collect());
+    wholes(1, case.generators.iter().map(|g| g.bus.into()).collect());
+    wholes(2, case.generators.iter().map(|g| g.slack.into()).collect());
+    wholes(3, case.corridors.iter().map(|c| c.a.into()).collect());
+    wholes(4, case.corridors.iter().map(|c| c.b.into()).collect());
+    wholes(
+        5,
+        case.corridors.iter().map(|c| c.circuits.into()).collect(),
+    );
+    tables
+}
+
+/// Both answers alike, and every place of every table; the refusal's number and index.
 fn agree(what: &str, file: &[u8]) -> (u32, usize) {
     let mut tables = Tables::new();
     let port = read_case(file, &mut tables);
     let rust = reference::harness::case_file::read_case(file);
     assert_eq!(port, said(&rust, looks(file)), "{what}: what is said");
-    for (i, bus) in rust.iter().flat_map(|case| &case.buses).enumerate() {
-        assert_eq!(
-            bus.load.to_bits(),
-            tables.loads()[i].to_bits(),
-            "{what}: a load differs"
-        );
-    }
+    let theirs = tables_of(&rust);
+    assert!(tables.wholes == theirs.wholes, "{what}: a whole differs");
+    let bits =
+        |t: &Tables| -> Vec<u64> { t.figures.concat().iter().map(|x| x.to_bits()).collect() };
+    assert!(bits(&tables) == bits(&theirs), "{what}: a figure differs");
     (port.refusal, port.index)
 }
 

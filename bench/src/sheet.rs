@@ -2,7 +2,7 @@
 //! row out for a kV, a length and a spread. The two are not equal bit by bit (docs/DIFFERENCES.md), so the port's rows are
 //! judged by the rules of document 02 and the Rust's are not looked at.
 
-use crate::ports::{line_sheet, SheetSaid};
+use crate::ports::{line_sheet, AnswerSaid};
 use crate::{least, report};
 use reference::harness::sheet::{SheetRequest, ROW};
 use reference::judge::judge;
@@ -26,7 +26,7 @@ fn compare(corridors: usize, levels: usize, runs: usize) {
     let (km, spread): (Vec<f64>, Vec<f64>) = request.corridors.iter().copied().unzip();
     let mut sheet = vec![0.0; ROW * corridors * levels];
     let said = line_sheet(&request.ladder, &km, &spread, &mut sheet);
-    let answered = SheetSaid {
+    let answered = AnswerSaid {
         refusal: 0,
         index: 0,
     };
@@ -57,7 +57,7 @@ fn compare(corridors: usize, levels: usize, runs: usize) {
 /// A refusal is told with its number and index: the spread of the last of three corridors.
 fn compare_refusal() {
     let said = line_sheet(&[138.0], &[1.0; 3], &[1.0, 4.0, 5.0], &mut [0.0; 3 * ROW]);
-    let refused = SheetSaid {
+    let refused = AnswerSaid {
         refusal: 22,
         index: 2,
     };

@@ -12,7 +12,8 @@ use Rattle.casefile.specs.Tables.{Outcome}
 use Rattle.casefile.specs.declared.Header.{Header}
 use Rattle.exports.specs.declared.AnglesSaid.{AnglesSaid}
 use Rattle.exports.specs.declared.ReadingSaid.{ReadingSaid}
-use Rattle.exports.specs.declared.SheetSaid.{SheetSaid}
+use Rattle.exports.specs.declared.AnswerSaid.{AnswerSaid}
+use Rattle.exports.specs.declared.PlacementSaid.{PlacementSaid}
 
 unfoldable pub endedNumber : Ended → ℕ
 endedNumber (Settled x) = 1
@@ -36,6 +37,10 @@ readingSaid (refused number index) looks = record { refusal = number; index = in
 abbrev pub caseSaid : Outcome → ReadingSaid
 caseSaid o = readingSaid (o .reply) (o .looks)
 
-abbrev pub sheetSaid : Reply (Unit {0}) → SheetSaid
-sheetSaid (answered u) = record { refusal = 0; index = 0 }
-sheetSaid (refused number index) = record { refusal = number; index = index }
+abbrev pub answerSaid : Reply (Unit {0}) → AnswerSaid
+answerSaid (answered u) = record { refusal = 0; index = 0 }
+answerSaid (refused number index) = record { refusal = number; index = index }
+
+abbrev pub placementSaid : Reply ℕ → PlacementSaid
+placementSaid (answered count) = record { refusal = 0; index = 0; count = count }
+placementSaid (refused number index) = record { refusal = number; index = index; count = 0 }

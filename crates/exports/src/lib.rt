@@ -4,8 +4,13 @@ mod said;
 ghost use mathlib.Core.Path.{_≡_};
 ghost use Rattle.angles_defs.specs.Operation.{requestOf, dcAngles};
 ghost use Rattle.casefile.specs.Tables.{placesOf, readCase};
+ghost use Rattle.dispatch.specs.Operation.{dispatched};
+ghost use Rattle.dispatch.specs.Units.{unitsOf};
+ghost use Rattle.leaders.specs.Operation.{ledOutcome};
 ghost use Rattle.line_defs.specs.Sheet.{lineSheet};
-ghost use Rattle.exports.specs.Said.{anglesSaid, caseSaid, sheetSaid};
+ghost use Rattle.placement.specs.Request as asked;
+ghost use Rattle.placement.specs.Support.{placement};
+ghost use Rattle.exports.specs.Said.{anglesSaid, caseSaid, answerSaid, placementSaid};
 
 // The answer of `dc_angles`. A field that has nothing to say is 0.
 #[repr(C)]
@@ -38,11 +43,20 @@ pub struct ReadingSaid {
     pub looks: usize,
 }
 
-// The answer of `line_sheet`: document 02's number and index of the refusal; 0 where the sheet is worked out.
+// The answer of an operation that leaves its results in a slice: the documents' number and index of the refusal; 0 where it is answered.
 #[repr(C)]
-pub struct SheetSaid {
+pub struct AnswerSaid {
     pub refusal: u32,
     pub index: usize,
+}
+
+// The answer of `place_voltage_support`: document 01's number and index of the refusal, 0 where it is answered, and then the count of
+// condensers.
+#[repr(C)]
+pub struct PlacementSaid {
+    pub refusal: u32,
+    pub index: usize,
+    pub count: usize,
 }
 
 #[no_mangle]
@@ -131,9 +145,70 @@ pub extern "C" fn lopnaski_line_sheet(
     km: &[f64],
     spread: &[f64],
     sheet: &mut [f64],
-) -> SheetSaid
-    ensures said { λ r. ⌜ r ≡ sheetSaid (lineSheet levels corridors (now (ladder .entry)) (now (km .entry)) (now (spread .entry)) (now (sheet .entry)) .reply) ⌝ }
+) -> AnswerSaid
+    ensures said { λ r. ⌜ r ≡ answerSaid (lineSheet levels corridors (now (ladder .entry)) (now (km .entry)) (now (spread .entry)) (now (sheet .entry)) .reply) ⌝ }
     ensures rows { λ r. ⌜ now (sheet .exit) ≡ lineSheet levels corridors (now (ladder .entry)) (now (km .entry)) (now (spread .entry)) (now (sheet .entry)) .sheet ⌝ }
 {
-    said::sheet(line_sheet::line_sheet(levels, corridors, ladder, km, spread, sheet))
+    said::answer(line_sheet::line_sheet(levels, corridors, ladder, km, spread, sheet))
+}
+
+#[no_mangle]
+pub extern "C" fn lopnaski_economic_dispatch(
+    units: usize,
+    pmin: &[f64],
+    pmax: &[f64],
+    c1: &[f64],
+    c2: &[f64],
+    demand: f64,
+    mw: &mut [f64],
+) -> AnswerSaid
+    ensures said { λ r. ⌜ r ≡ answerSaid (dispatched units (unitsOf (now (pmin .entry)) (now (pmax .entry)) (now (c1 .entry)) (now (c2 .entry))) demand (now (mw .entry)) .reply) ⌝ }
+    ensures given { λ r. ⌜ now (mw .exit) ≡ dispatched units (unitsOf (now (pmin .entry)) (now (pmax .entry)) (now (c1 .entry)) (now (c2 .entry))) demand (now (mw .entry)) .mw ⌝ }
+{
+    said::answer(dispatch::economic_dispatch(units, pmin, pmax, c1, c2, demand, mw))
+}
+
+#[no_mangle]
+pub extern "C" fn lopnaski_leaders(
+    buses: usize,
+    corridors: usize,
+    a: &[u32],
+    b: &[u32],
+    leader: &mut [u32],
+) -> AnswerSaid
+    ensures said { λ r. ⌜ r ≡ answerSaid (ledOutcome buses corridors (now (a .entry)) (now (b .entry)) (now (leader .entry)) .reply) ⌝ }
+    ensures led { λ r. ⌜ now (leader .exit) ≡ ledOutcome buses corridors (now (a .entry)) (now (b .entry)) (now (leader .entry)) .leader ⌝ }
+{
+    said::answer(leaders::leaders(buses, corridors, a, b, leader))
+}
+
+#[no_mangle]
+pub extern "C" fn lopnaski_place_voltage_support(
+    n: usize,
+    m: usize,
+    g: usize,
+    loads: &[f64],
+    a: &[u32],
+    b: &[u32],
+    km: &[f64],
+    generators: &[u32],
+    buses: &mut [u32],
+    mvars: &mut [f64],
+) -> PlacementSaid
+    ensures said { λ r. ⌜ r ≡ placementSaid (placement (asked.requestOf n m g (now (loads .entry)) (now (a .entry)) (now (b .entry)) (now (km .entry)) (now (generators .entry))) (now (buses .entry)) (now (mvars .entry)) .reply) ⌝ }
+    ensures stand { λ r. ⌜ now (buses .exit) ≡ placement (asked.requestOf n m g (now (loads .entry)) (now (a .entry)) (now (b .entry)) (now (km .entry)) (now (generators .entry))) (now (buses .entry)) (now (mvars .entry)) .buses ⌝ }
+    ensures sized { λ r. ⌜ now (mvars .exit) ≡ placement (asked.requestOf n m g (now (loads .entry)) (now (a .entry)) (now (b .entry)) (now (km .entry)) (now (generators .entry))) (now (buses .entry)) (now (mvars .entry)) .mvars ⌝ }
+{
+    said::placement(placement::place_voltage_support(
+        n,
+        m,
+        g,
+        loads,
+        a,
+        b,
+        km,
+        generators,
+        buses,
+        mvars,
+    ))
 }

@@ -2,17 +2,20 @@
 ghost use mathlib.Core.Path.{_≡_};
 ghost use Rattle.angles_defs.specs.Operation as defined;
 ghost use Rattle.casefile.specs.Tables as tables;
+ghost use Rattle.placement.specs.Support as support;
 ghost use Rattle.refusal.specs.Reply as replies;
-ghost use Rattle.exports.specs.Said.{anglesSaid, endedFigure, endedNumber, readingSaid, sheetSaid};
+ghost use Rattle.exports.specs.Said.{anglesSaid, endedFigure, endedNumber, readingSaid, answerSaid, placementSaid};
 use crate::AnglesSaid;
+use crate::AnswerSaid;
+use crate::PlacementSaid;
 use crate::ReadingSaid;
-use crate::SheetSaid;
 use angles_defs::Angles;
 use angles_defs::Ended;
 use angles_defs::Solution;
 use casefile::CaseRead;
 use casefile::Header;
 use casefile::Reading;
+use placement::Placement;
 use refusal::Answer;
 use refusal::Refusal;
 
@@ -115,23 +118,46 @@ pub fn reading(r: CaseRead) -> ReadingSaid
     }
 }
 
-fn not_worked(f: Refusal) -> SheetSaid
-    ensures { λ r. ⌜ r ≡ sheetSaid (replies.replyOf (Answer.Refused f)) ⌝ }
+fn not_done(f: Refusal) -> AnswerSaid
+    ensures { λ r. ⌜ r ≡ answerSaid (replies.replyOf (Answer.Refused f)) ⌝ }
 {
-    SheetSaid {
+    AnswerSaid {
         refusal: f.number(),
         index: f.index(),
     }
 }
 
-pub fn sheet(a: Answer) -> SheetSaid
-    ensures { λ r. ⌜ r ≡ sheetSaid (replies.replyOf a) ⌝ }
+pub fn answer(a: Answer) -> AnswerSaid
+    ensures { λ r. ⌜ r ≡ answerSaid (replies.replyOf a) ⌝ }
 {
     match a {
-        Answer::Answered => SheetSaid {
+        Answer::Answered => AnswerSaid {
             refusal: 0,
             index: 0,
         },
-        Answer::Refused(f) => not_worked(f),
+        Answer::Refused(f) => not_done(f),
+    }
+}
+
+fn not_placed(f: Refusal) -> PlacementSaid
+    ensures { λ r. ⌜ r ≡ placementSaid (support.replyOf (Placement.Refused f)) ⌝ }
+{
+    PlacementSaid {
+        refusal: f.number(),
+        index: f.index(),
+        count: 0,
+    }
+}
+
+pub fn placement(p: Placement) -> PlacementSaid
+    ensures { λ r. ⌜ r ≡ placementSaid (support.replyOf p) ⌝ }
+{
+    match p {
+        Placement::Placed(count) => PlacementSaid {
+            refusal: 0,
+            index: 0,
+            count: count,
+        },
+        Placement::Refused(f) => not_placed(f),
     }
 }

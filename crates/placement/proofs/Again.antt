@@ -17,6 +17,7 @@ use Rattle.loops.specs.Figures.{at, plus, nought, infinity}
 use Rattle.loops.proofs.Sums.{unsigned, plus-unsigned, nought-least, infinity-above, le-refl, lt-alike}
 use Rattle.placement.specs.Request.{Net}
 use Rattle.placement.specs.Distance.{Network, Labels, labels, rest, candidate, settled, reached, seeded, searched, distances, distancesFrom, nobody}
+use Rattle.placement.specs.Blocks.{Numbers}
 use Rattle.placement.specs.Support.{supportKm, farther, farthestTo, ifFar, nextBy, nextOf}
 use Rattle.placement.specs.Chain.{Chain, here, along, Source}
 use Rattle.placement.proofs.Chains.{chain-as, nought-unsigned, infinity-unsigned, limit-unsigned, length-at}
@@ -208,6 +209,13 @@ module _ (w : Network) (net : Net (w .n) (w .m) (w .a) (w .b) (w .km)) (sources 
         mark = mark;
         ready = subst (λ (s : Labels). Ready w (set sources i 1) s) (sym e) (ready-with w net sources (k .long) i h (labels (k .mark) dist₀ from₀) (k .ready));
       }
+
+-- its distances are numbers, also once all buses are in C again
+pub known-numbers : (w : Network) → Net (w .n) (w .m) (w .a) (w .b) (w .km) → (sources : List ℕ) (dist : List Float) (from : List ℕ) → Known w sources dist from → Numbers (w .n) (replicate 256 rest) dist
+known-numbers w net sources dist from k =
+    let s = labels (k .mark) dist from in
+    let r = k .ready .0 .kept in
+    record { marks = length-replicate 256 rest; dists = r .dists; real = λ j h. le-refl (at dist j) (sign-at w net sources s r j h .0) }
 
 pub known-choice : (w : Network) → Net (w .n) (w .m) (w .a) (w .b) (w .km) → (sources : List ℕ) (dist : List Float) (from : List ℕ) (loads : List Float) (i : ℕ)
     → Known w sources dist from → i ≡ nextBy (w .n) loads dist → i ≡ nextOf w loads sources

@@ -96,10 +96,10 @@ passed k buses mvars e =
     let h4 = after (ltb gen g) (Faulty (Generator gen)) c5 (h3 .1) (λ q. let z : _≡_ {A = ℕ} 0 1 = cc in omega arith) in
     let h5 = after (ltb cor m) (Faulty (Corridor cor)) Sound (h4 .1) (λ q. let z : _≡_ {A = ℕ} 0 1 = cc in omega arith) in
     let l = lengths-of k buses mvars (h1 .0) in
-    let few = leb-true n 256 (both (leb n 256) (leb m 256) (both (leb n 256 && leb m 256) (leb g 128) (h2 .0) .0) .0) in
+    let counts = both (leb n 256) (leb m 256) (both (leb n 256 && leb m 256) (leb g 128) (h2 .0) .0) in
     record {
       lengths = l;
-      net = record { few = few; a-length = l .a; b-length = l .b; km-length = l .km; ends = ends k (ltb-false cor m (h5 .0)) };
+      net = record { few = leb-true n 256 (counts .0); short = leb-true m 256 (counts .1); a-length = l .a; b-length = l .b; km-length = l .km; ends = ends k (ltb-false cor m (h5 .0)) };
       units = record { stand = stand k (l .generators) (ltb-false gen g (h4 .0)) };
       loaded = loads k (ltb-false load n (h3 .0));
     }

@@ -1,4 +1,4 @@
--- The choices, the nearest candidate and the farthest loaded bus, are at most n; and what a turn of the loops over them gives.
+-- The choice of the farthest loaded bus is at most n; and what a turn of the loops over it and over the loads served gives.
 -- By the definitions, a turn at a time.
 use mathlib.Core.Path.{_≡_, ap, _∙_}
 use mathlib.Core.Bool.{Bool, true, false, cond, _&&_, _||_}
@@ -10,18 +10,12 @@ use lib.Dec.{eqb}
 use lib.ListN.{getD}
 use lib.Ieee.{Float, lt}
 use Rattle.loops.specs.Figures.{at, nought, infinity}
-use Rattle.placement.specs.Distance.{candidate, nearer, nearestTo}
 use Rattle.placement.specs.Support.{farther, farthestTo, servedTo, added}
 
 -- a choice between two numbers below a bound is below it
 pub choice-within : (b : Bool) (x y n : ℕ) → x ≤ n → y ≤ n → cond b x y ≤ n
 choice-within true x y n h k = h
 choice-within false x y n h k = k
-
-nearer-within : (n : ℕ) (mark : List ℕ) (dist : List Float) (best i : ℕ) → i < n → best ≤ n → nearer n mark dist best i ≤ n
-unfolding nearer
-nearer-within n mark dist best i h k =
-    choice-within (eqb (getD mark i 0) candidate && (eqb best n || lt (at dist i) (at dist best))) i best n (omega arith) k
 
 farther-within : (n : ℕ) (loads dist : List Float) (best i : ℕ) → i < n → best ≤ n → farther n loads dist best i ≤ n
 unfolding farther
@@ -32,15 +26,6 @@ pub farthest-within : (n : ℕ) (loads dist : List Float) (i : ℕ) → i ≤ n 
 unfolding farthestTo
 farthest-within n loads dist zero h = omega arith
 farthest-within n loads dist (suc i) h = farther-within n loads dist (farthestTo n loads dist i) i (omega arith) (farthest-within n loads dist i (omega arith))
-
-pub nearest-turn : (n : ℕ) (mark : List ℕ) (dist : List Float) (best r i : ℕ) → i < n → best ≤ n → best ≡ nearestTo n mark dist i → r ≡ nearer n mark dist best i
-    → (i + 1 ≤ n) × (r ≤ n) × (r ≡ nearestTo n mark dist (i + 1))
-unfolding nearestTo
-nearest-turn n mark dist best r i h k e q = (
-  omega arith,
-  rw q (nearer-within n mark dist best i h k),
-  rw add-one (q ∙ ap (λ (t : ℕ). nearer n mark dist t i) e),
-)
 
 pub farthest-turn : (n : ℕ) (loads dist : List Float) (best r i : ℕ) → i < n → best ≤ n → best ≡ farthestTo n loads dist i → r ≡ farther n loads dist best i
     → (i + 1 ≤ n) × (r ≤ n) × (r ≡ farthestTo n loads dist (i + 1))

@@ -2,6 +2,8 @@
 pub mod Choice
 pub mod Tests
 pub mod Turns
+pub mod Walk
+pub mod Ranges
 pub mod Checks
 pub mod Chains
 pub mod Count

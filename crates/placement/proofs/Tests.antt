@@ -13,7 +13,7 @@ use lib.Ieee.{Float, lt, le}
 use Rattle.loops.specs.Figures.{at, plus, inside, nought, tenThousand, infinity}
 use Rattle.loops.proofs.Bools.{both}
 use Rattle.placement.specs.Request.{Net, corridorOk}
-use Rattle.placement.specs.Distance.{Labels, shortens, farEnd, considered, offered, reached}
+use Rattle.placement.specs.Distance.{Labels, settled, shortens, farEnd, considered, offered, reached}
 
 -- a choice that is none, and one that is a bus
 pub none-chosen : (best n : ℕ) → best ≤ n → n ≤ best → eqb best n ≡ true
@@ -54,6 +54,10 @@ module _ (i a b : ℕ) (km : Float) (s : Labels) where
     pub consider-taken : not r ≡ false → reached j (plus (at (s .dist) i) km) (getD (s .from) i 0) s ≡ considered i a b km s
     unfolding considered offered
     consider-taken u = rw (either (eqb a i) (eqb b i) t, ← e, ← q, not-false r u)
+
+-- a way that is taken is shorter
+pub taken-less : (m : ℕ) (nd d : Float) (r : Bool) → r ≡ shortens m nd d → not r ≡ false → lt nd d ≡ true
+taken-less m nd d r e t = both (not (eqb m settled)) (lt nd d) (sym e ∙ not-false r t) .1
 
 -- ---- a corridor that passes
 pub record Ends (n a b : ℕ) (km : Float) : Type 0 where

@@ -90,6 +90,7 @@ checkOf k buses mvars =
 -- what a request that passes has
 pub record Net (n m : ℕ) (a b : List ℕ) (km : List Float) : Type 0 where
   pub few : n ≤ mostBuses
+  pub short : m ≤ mostCorridors
   pub a-length : length a ≡ m
   pub b-length : length b ≡ m
   pub km-length : length km ≡ m

@@ -5,8 +5,11 @@ ghost use lib.ListN.{length, replicate};
 ghost use Rattle.placement.specs.Request.{mostBuses, Net, Units};
 ghost use Rattle.loops.specs.Figures.{infinity, nought, greater};
 ghost use Rattle.placement.specs.Distance.{network};
+ghost use Rattle.placement.specs.Corridors.{Listed};
 ghost use Rattle.placement.specs.Support.{farther, farthestTo, ifFar, nextBy, added, servedTo, leastMvar, mvarOf, sized, flagged, Joined, Placing};
 use crate::MOST_BUSES;
+use crate::MOST_CORRIDORS;
+use crate::corridors::list_corridors;
 use crate::distance::NOBODY;
 use crate::distance::REST;
 use crate::distance::distance_to_sources;
@@ -86,17 +89,34 @@ fn join_condensers(
     a: &[u32],
     b: &[u32],
     km: &[f64],
+    head: &[usize; MOST_BUSES],
+    after_a: &[usize; MOST_CORRIDORS],
+    after_b: &[usize; MOST_CORRIDORS],
     sources: &mut [u32; MOST_BUSES],
     buses: &mut [u32],
 ) -> usize
     requires { ⌜ Net n m (now a) (now b) (now km) ⌝ }
+    requires { ⌜ Listed (network n m (now a) (now b) (now km)) 0 (now head) (now «after_a») (now «after_b») ⌝ }
     requires { ⌜ (length (now loads) ≡ n) × (length (now sources) ≡ mostBuses) × (length (now buses) ≡ n) ⌝ }
     ensures { λ r. ⌜ Joined (network n m (now (a .entry)) (now (b .entry)) (now (km .entry))) (now (loads .entry)) (now (sources .entry)) (now (buses .entry)) (now (sources .exit)) (now (buses .exit)) r ⌝ }
 {
     let mut mark = [REST; MOST_BUSES];
     let mut dist = [infinity(); MOST_BUSES];
     let mut from = [NOBODY; MOST_BUSES];
-    distance_to_sources(n, m, a, b, km, sources, &mut mark, &mut dist, &mut from);
+    distance_to_sources(
+        n,
+        m,
+        a,
+        b,
+        km,
+        head,
+        after_a,
+        after_b,
+        sources,
+        &mut mark,
+        &mut dist,
+        &mut from,
+    );
     let mut count = 0;
     while count < n {
         let i = next_condenser(n, loads, &dist);
@@ -106,7 +126,20 @@ fn join_condensers(
         sources[i] = 1;
         buses[count] = i as u32;
         mark = [REST; MOST_BUSES];
-        distance_with_source(n, m, a, b, km, i, &mut mark, &mut dist, &mut from);
+        distance_with_source(
+            n,
+            m,
+            a,
+            b,
+            km,
+            head,
+            after_a,
+            after_b,
+            i,
+            &mut mark,
+            &mut dist,
+            &mut from,
+        );
         count += 1;
     }
     count
@@ -160,12 +193,16 @@ fn size_condensers(
     a: &[u32],
     b: &[u32],
     km: &[f64],
+    head: &[usize; MOST_BUSES],
+    after_a: &[usize; MOST_CORRIDORS],
+    after_b: &[usize; MOST_CORRIDORS],
     sources: &[u32; MOST_BUSES],
     count: usize,
     buses: &[u32],
     mvars: &mut [f64],
 )
     requires { ⌜ Net n m (now a) (now b) (now km) ⌝ }
+    requires { ⌜ Listed (network n m (now a) (now b) (now km)) 0 (now head) (now «after_a») (now «after_b») ⌝ }
     requires { ⌜ (length (now loads) ≡ n) × (length (now buses) ≡ n) × (length (now mvars) ≡ n) × (count ≤ n) ⌝ }
     ensures { λ _. ⌜ now (mvars .exit) ≡ sized (network n m (now (a .entry)) (now (b .entry)) (now (km .entry))) (now (loads .entry)) (now (sources .entry)) (now (buses .entry)) count (now (mvars .entry)) ⌝ }
 {
@@ -175,7 +212,20 @@ fn size_condensers(
     let mut mark = [REST; MOST_BUSES];
     let mut dist = [infinity(); MOST_BUSES];
     let mut from = [NOBODY; MOST_BUSES];
-    distance_to_sources(n, m, a, b, km, sources, &mut mark, &mut dist, &mut from);
+    distance_to_sources(
+        n,
+        m,
+        a,
+        b,
+        km,
+        head,
+        after_a,
+        after_b,
+        sources,
+        &mut mark,
+        &mut dist,
+        &mut from,
+    );
     let mut k = 0;
     while k < count {
         mvars[k] = mvar_of(n, loads, &from, buses[k]);
@@ -238,7 +288,37 @@ pub fn place(
     clear_mvars(mvars);
     let mut sources = [0; MOST_BUSES];
     flag_generators(generators, &mut sources);
-    let count = join_condensers(n, m, loads, a, b, km, &mut sources, buses);
-    size_condensers(n, m, loads, a, b, km, &sources, count, buses, mvars);
+    let mut head = [m; MOST_BUSES];
+    let mut after_a = [0; MOST_CORRIDORS];
+    let mut after_b = [0; MOST_CORRIDORS];
+    list_corridors(n, m, a, b, km, &mut head, &mut after_a, &mut after_b);
+    let count = join_condensers(
+        n,
+        m,
+        loads,
+        a,
+        b,
+        km,
+        &head,
+        &after_a,
+        &after_b,
+        &mut sources,
+        buses,
+    );
+    size_condensers(
+        n,
+        m,
+        loads,
+        a,
+        b,
+        km,
+        &head,
+        &after_a,
+        &after_b,
+        &sources,
+        count,
+        buses,
+        mvars,
+    );
     count
 }

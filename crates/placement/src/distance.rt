@@ -3,16 +3,25 @@ ghost use mathlib.Core.Path.{_≡_};
 ghost use Prim.Native.Nat.{_≤_, _<_};
 ghost use Rattle.loops.specs.Loops.{iter};
 ghost use Rattle.placement.specs.Request.{mostBuses, Net};
-ghost use Rattle.placement.specs.Distance.{labels, network, seeded, seed, shortens, farEnd, considered, nearer, nearestTo, spread, searched, distancesFrom};
+ghost use Rattle.placement.specs.Distance.{labels, network, seeded, seed, shortens, farEnd, considered, spread, searched, distancesFrom};
+ghost use Rattle.placement.specs.Corridors.{Listed};
+ghost use Rattle.placement.specs.Blocks.{Numbers, Front};
+use crate::BLOCKS;
 use crate::MOST_BUSES;
+use crate::MOST_CORRIDORS;
+use crate::blocks::look_at_blocks;
+use crate::blocks::nearest_candidate;
+use crate::blocks::reach_bus;
+use crate::blocks::settle_bus;
+use crate::corridors::next_corridor;
 use crate::wide;
 
 // The three sets.
 pub const REST: u32 = 0;
 
-const CANDIDATE: u32 = 1;
+pub const CANDIDATE: u32 = 1;
 
-const SETTLED: u32 = 2;
+pub const SETTLED: u32 = 2;
 
 // The source of a bus that none reaches.
 pub const NOBODY: u32 = 256;
@@ -63,16 +72,17 @@ fn shortens_way(mark: u32, nd: f64, d: f64) -> bool
     !(mark == SETTLED) & (nd < d)
 }
 
-fn far_end(a: usize, b: usize, i: usize) -> usize
-    requires { ⌜ (a < mostBuses) × (b < mostBuses) ⌝ }
+fn far_end(n: usize, a: usize, b: usize, i: usize) -> usize
+    requires { ⌜ (a < n) × (b < n) ⌝ }
     ensures { λ r. ⌜ r ≡ farEnd a b i ⌝ }
-    ensures { λ r. ⌜ r < mostBuses ⌝ }
+    ensures { λ r. ⌜ r < n ⌝ }
 {
     if a == i { b } else { a }
 }
 
 // Step 1 for one corridor: where it ends at i, its other end is reached over it if that is shorter.
 fn consider(
+    n: usize,
     i: usize,
     a: usize,
     b: usize,
@@ -80,22 +90,24 @@ fn consider(
     mark: &mut [u32; MOST_BUSES],
     dist: &mut [f64; MOST_BUSES],
     from: &mut [u32; MOST_BUSES],
+    nearest: &mut [usize; BLOCKS],
 )
-    requires { ⌜ (i < mostBuses) × (a < mostBuses) × (b < mostBuses) ⌝ }
+    requires { ⌜ (n ≤ mostBuses) × (i < n) × (a < n) × (b < n) ⌝ }
+    requires { ⌜ Front n (now mark) (now dist) (now nearest) ⌝ }
     ensures { λ _. ⌜ labels (now (mark .exit)) (now (dist .exit)) (now (from .exit))
         ≡ considered i a b km (labels (now (mark .entry)) (now (dist .entry)) (now (from .entry))) ⌝ }
+    ensures { λ _. ⌜ Front n (now (mark .exit)) (now (dist .exit)) (now (nearest .exit)) ⌝ }
 {
     if (a != i) & (b != i) {
         return;
     }
-    let j = far_end(a, b, i);
+    let j = far_end(n, a, b, i);
     let nd = dist[i] + km;
     if !shortens_way(mark[j], nd, dist[j]) {
         return;
     }
-    mark[j] = CANDIDATE;
-    dist[j] = nd;
-    from[j] = from[i];
+    let src = from[i];
+    reach_bus(n, j, nd, src, mark, dist, from, nearest);
 }
 
 // Settles bus i, and considers its corridors.
@@ -105,56 +117,30 @@ fn spread_from(
     a: &[u32],
     b: &[u32],
     km: &[f64],
+    head: &[usize; MOST_BUSES],
+    after_a: &[usize; MOST_CORRIDORS],
+    after_b: &[usize; MOST_CORRIDORS],
     i: usize,
     mark: &mut [u32; MOST_BUSES],
     dist: &mut [f64; MOST_BUSES],
     from: &mut [u32; MOST_BUSES],
+    nearest: &mut [usize; BLOCKS],
 )
     requires { ⌜ Net n m (now a) (now b) (now km) ⌝ }
-    requires { ⌜ i < mostBuses ⌝ }
+    requires { ⌜ Listed (network n m (now a) (now b) (now km)) 0 (now head) (now «after_a») (now «after_b») ⌝ }
+    requires { ⌜ i < n ⌝ }
+    requires { ⌜ Front n (now mark) (now dist) (now nearest) ⌝ }
     ensures { λ _. ⌜ labels (now (mark .exit)) (now (dist .exit)) (now (from .exit))
         ≡ spread (network n m (now (a .entry)) (now (b .entry)) (now (km .entry))) i (labels (now (mark .entry)) (now (dist .entry)) (now (from .entry))) ⌝ }
+    ensures { λ _. ⌜ Front n (now (mark .exit)) (now (dist .exit)) (now (nearest .exit)) ⌝ }
 {
-    mark[i] = SETTLED;
-    let mut c = 0;
+    settle_bus(n, i, mark, dist, nearest);
+    let mut c = head[i];
     while c < m {
-        consider(i, wide(a[c]), wide(b[c]), km[c], mark, dist, from);
-        c += 1;
+        let end = wide(a[c]);
+        consider(n, i, end, wide(b[c]), km[c], mark, dist, from, nearest);
+        c = next_corridor(end, i, after_a[c], after_b[c]);
     }
-}
-
-// The better of two choices: i where it is a candidate and none was found before it, or is closer.
-fn nearer_bus(
-    n: usize,
-    mark: &[u32; MOST_BUSES],
-    dist: &[f64; MOST_BUSES],
-    best: usize,
-    i: usize,
-) -> usize
-    requires { ⌜ (n ≤ mostBuses) × (best ≤ n) × (i < n) ⌝ }
-    ensures { λ r. ⌜ r ≡ nearer n (now (mark .entry)) (now (dist .entry)) best i ⌝ }
-{
-    if mark[i] != CANDIDATE {
-        return best;
-    }
-    if best >= n {
-        return i;
-    }
-    if dist[i] < dist[best] { i } else { best }
-}
-
-// Step 2: the candidate of least distance, the lowest on a tie, or n.
-fn nearest_candidate(n: usize, mark: &[u32; MOST_BUSES], dist: &[f64; MOST_BUSES]) -> usize
-    requires { ⌜ n ≤ mostBuses ⌝ }
-    ensures { λ r. ⌜ r ≡ nearestTo n (now (mark .entry)) (now (dist .entry)) n ⌝ }
-{
-    let mut best = n;
-    let mut i = 0;
-    while i < n {
-        best = nearer_bus(n, mark, dist, best, i);
-        i += 1;
-    }
-    best
 }
 
 // Both steps, until no candidate is left.
@@ -164,21 +150,42 @@ pub fn search(
     a: &[u32],
     b: &[u32],
     km: &[f64],
+    head: &[usize; MOST_BUSES],
+    after_a: &[usize; MOST_CORRIDORS],
+    after_b: &[usize; MOST_CORRIDORS],
     mark: &mut [u32; MOST_BUSES],
     dist: &mut [f64; MOST_BUSES],
     from: &mut [u32; MOST_BUSES],
 )
     requires { ⌜ Net n m (now a) (now b) (now km) ⌝ }
+    requires { ⌜ Listed (network n m (now a) (now b) (now km)) 0 (now head) (now «after_a») (now «after_b») ⌝ }
+    requires { ⌜ Numbers n (now mark) (now dist) ⌝ }
     ensures { λ _. ⌜ labels (now (mark .exit)) (now (dist .exit)) (now (from .exit))
         ≡ searched (network n m (now (a .entry)) (now (b .entry)) (now (km .entry))) (labels (now (mark .entry)) (now (dist .entry)) (now (from .entry))) ⌝ }
 {
+    let mut nearest = [0; BLOCKS];
+    look_at_blocks(n, mark, dist, &mut nearest);
     let mut k = 0;
     while k < n {
-        let i = nearest_candidate(n, mark, dist);
+        let i = nearest_candidate(n, mark, dist, &nearest);
         if i >= n {
             return;
         }
-        spread_from(n, m, a, b, km, i, mark, dist, from);
+        spread_from(
+            n,
+            m,
+            a,
+            b,
+            km,
+            head,
+            after_a,
+            after_b,
+            i,
+            mark,
+            dist,
+            from,
+            &mut nearest,
+        );
         k += 1;
     }
 }
@@ -190,17 +197,22 @@ pub fn distance_to_sources(
     a: &[u32],
     b: &[u32],
     km: &[f64],
+    head: &[usize; MOST_BUSES],
+    after_a: &[usize; MOST_CORRIDORS],
+    after_b: &[usize; MOST_CORRIDORS],
     sources: &[u32; MOST_BUSES],
     mark: &mut [u32; MOST_BUSES],
     dist: &mut [f64; MOST_BUSES],
     from: &mut [u32; MOST_BUSES],
 )
     requires { ⌜ Net n m (now a) (now b) (now km) ⌝ }
+    requires { ⌜ Listed (network n m (now a) (now b) (now km)) 0 (now head) (now «after_a») (now «after_b») ⌝ }
+    requires { ⌜ Numbers n (now mark) (now dist) ⌝ }
     ensures { λ _. ⌜ labels (now (mark .exit)) (now (dist .exit)) (now (from .exit))
         ≡ distancesFrom (network n m (now (a .entry)) (now (b .entry)) (now (km .entry))) (now (sources .entry)) (labels (now (mark .entry)) (now (dist .entry)) (now (from .entry))) ⌝ }
 {
     place_sources(n, sources, mark, dist, from);
-    search(n, m, a, b, km, mark, dist, from);
+    search(n, m, a, b, km, head, after_a, after_b, mark, dist, from);
 }
 
 // The distances after bus i has joined the sources, from those before: only the buses that now lie nearer to i are reached again. The
@@ -211,16 +223,21 @@ pub fn distance_with_source(
     a: &[u32],
     b: &[u32],
     km: &[f64],
+    head: &[usize; MOST_BUSES],
+    after_a: &[usize; MOST_CORRIDORS],
+    after_b: &[usize; MOST_CORRIDORS],
     i: usize,
     mark: &mut [u32; MOST_BUSES],
     dist: &mut [f64; MOST_BUSES],
     from: &mut [u32; MOST_BUSES],
 )
     requires { ⌜ Net n m (now a) (now b) (now km) ⌝ }
-    requires { ⌜ i < mostBuses ⌝ }
+    requires { ⌜ Listed (network n m (now a) (now b) (now km)) 0 (now head) (now «after_a») (now «after_b») ⌝ }
+    requires { ⌜ Numbers n (now mark) (now dist) ⌝ }
+    requires { ⌜ i < n ⌝ }
     ensures { λ _. ⌜ labels (now (mark .exit)) (now (dist .exit)) (now (from .exit))
         ≡ searched (network n m (now (a .entry)) (now (b .entry)) (now (km .entry))) (seeded i 1 (labels (now (mark .entry)) (now (dist .entry)) (now (from .entry)))) ⌝ }
 {
     place_source(i, 1, mark, dist, from);
-    search(n, m, a, b, km, mark, dist, from);
+    search(n, m, a, b, km, head, after_a, after_b, mark, dist, from);
 }

@@ -4,11 +4,18 @@ ghost use Rattle.placement.specs.Request.{requestOf};
 ghost use Rattle.placement.specs.Support.{outcome, placement};
 use refusal::Refusal;
 
+mod blocks;
 mod check;
 mod condenser;
+mod corridors;
 mod distance;
 
 const MOST_BUSES: usize = 256;
+
+const MOST_CORRIDORS: usize = 256;
+
+// Blocks of sixteen buses.
+const BLOCKS: usize = 16;
 
 // How many condensers were placed, or why none could be looked for.
 pub enum Placement {

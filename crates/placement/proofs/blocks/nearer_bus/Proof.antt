@@ -1,11 +1,11 @@
--- `placement::distance::nearer_bus` meets its contract.
+-- `placement::blocks::nearer_bus` meets its contract.
 -- By its three tests; a choice that is none is n.
 use Rattle.placement.proofs.Tests.{none-chosen, some-chosen}
 use Rattle.placement.specs.Distance.{nearer}
 use borrow.Author.Tests.{eq-eqb, ne-eqb}
 use borrow.Author.Needs.{needs}
-use Rattle.placement.proofs.distance.nearer_bus.Statement.{statement}
-use Rattle.placement.proofs.distance.nearer_bus.Tie as tie
+use Rattle.placement.proofs.blocks.nearer_bus.Statement.{statement}
+use Rattle.placement.proofs.blocks.nearer_bus.Tie as tie
 
 mul-if1 : tie.Need-mul-if1
 mul-if1 c = search needs

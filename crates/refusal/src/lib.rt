@@ -46,6 +46,10 @@ pub enum Refusal {
     SeasonFull,
     // A corridor's impedance spread.
     Spread(usize),
+    // A plan of a mode that does not fill.
+    Mode,
+    // A place of a filling order that names no corridor, or one again.
+    Order(usize),
 }
 
 impl Refusal {
@@ -74,6 +78,8 @@ impl Refusal {
             Refusal::Uneven => 19,
             Refusal::SeasonFull => 20,
             Refusal::Spread(_) => 22,
+            Refusal::Mode => 18,
+            Refusal::Order(_) => 30,
         }
     }
 
@@ -103,6 +109,8 @@ impl Refusal {
             Refusal::Uneven => 0,
             Refusal::SeasonFull => 0,
             Refusal::Spread(i) => i,
+            Refusal::Mode => 0,
+            Refusal::Order(i) => i,
         }
     }
 }

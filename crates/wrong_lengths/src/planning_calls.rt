@@ -14,7 +14,7 @@ use crate::report::say_refusal;
 use mode::PlanMode;
 use plan_defs::Planned;
 
-const SLICES: usize = 25;
+const SLICES: usize = 27;
 
 // The places of a work slice.
 const WORK: usize = 48;
@@ -38,6 +38,8 @@ fn call(what: &[u8], buses: usize, wrong: Wrong) {
     let mut circuits = [MARK; ROOM];
     let mut flow = [FIGURE; ROOM];
     let mut rate = [FIGURE; ROOM];
+    let mut before = [MARK; ROOM];
+    let mut order = [MARK; ROOM];
     let mut mw = [FIGURE; ROOM];
     let mut angle = [FIGURE; ROOM];
     let mut level = [MARK; ROOM];
@@ -71,13 +73,15 @@ fn call(what: &[u8], buses: usize, wrong: Wrong) {
         &mut circuits[0..made(1, 15, wrong)],
         &mut flow[0..made(1, 16, wrong)],
         &mut rate[0..made(1, 17, wrong)],
-        &mut mw[0..made(1, 18, wrong)],
-        &mut angle[0..made(2, 19, wrong)],
-        &mut level[0..made(2, 20, wrong)],
-        &mut ground[0..made(2, 21, wrong)],
-        &mut added[0..made(1, 22, wrong)],
-        &mut figures[0..made(WORK, 23, wrong)],
-        &mut counts[0..made(WORK, 24, wrong)],
+        &mut before[0..made(1, 18, wrong)],
+        &mut order[0..made(1, 19, wrong)],
+        &mut mw[0..made(1, 20, wrong)],
+        &mut angle[0..made(2, 21, wrong)],
+        &mut level[0..made(2, 22, wrong)],
+        &mut ground[0..made(2, 23, wrong)],
+        &mut added[0..made(1, 24, wrong)],
+        &mut figures[0..made(WORK, 25, wrong)],
+        &mut counts[0..made(WORK, 26, wrong)],
     );
     say_call(what, wrong);
     match r {
@@ -88,9 +92,10 @@ fn call(what: &[u8], buses: usize, wrong: Wrong) {
         & figures_kept(&flow)
         & figures_kept(&rate)
         & figures_kept(&mw);
+    let filling = marks_kept(&before) & marks_kept(&order);
     let buses_kept = figures_kept(&angle) & marks_kept(&level) & marks_kept(&ground);
     let work = figures_kept(&figures) & marks_kept(&counts);
-    say_kept(plan & buses_kept & figures_kept(&added) & work);
+    say_kept(plan & filling & buses_kept & figures_kept(&added) & work);
 }
 
 // Every length right; then a count past its bound with these lengths.

@@ -20,7 +20,7 @@ use Rattle.casefile.specs.declared.Header.{Header}
 use Rattle.casefile.specs.declared.Reading.{Reading}
 use Rattle.casefile.specs.declared.Reading.the-variants.{Read}
 use Rattle.casefile.specs.declared.Reading.the-variants.{Refused as Unread}
-use Rattle.previews.specs.declared.Draft.{Draft}
+use Rattle.previews.specs.declared.draft.Draft.{Draft}
 
 abbrev pub mostCorridors : ℕ
 mostCorridors = 256
@@ -53,7 +53,7 @@ caseAs h p =
     caseOf (h .mode) (h .buses) (h .corridors) (h .generators) (h .above) (h .requested) (p .ladder) (p .tier) (p .load) (p .bus) (p .slack) (p .pmin) (p .pmax)
     (p .c1) (p .c2) (p .a) (p .b) (p .circuits) (p .lengthKm) (p .share) (p .sheet)
 
-unfoldable pub keptCase : Header → Places → Reply Kept
+abbrev pub keptCase : Header → Places → Reply Kept
 keptCase h p = keptBy (caseAs h p) (endingOf (caseAs h p) (h .target))
 
 -- ---- of the file

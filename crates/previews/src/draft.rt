@@ -4,7 +4,7 @@ ghost use mathlib.Core.Path.{_≡_};
 ghost use lib.ListN.{take, replicate};
 ghost use Rattle.casefile.specs.Reading.{Small};
 ghost use Rattle.casefile.specs.Tables.{placesOf};
-ghost use Rattle.plan_defs.specs.Preview.{outcome, preview};
+ghost use Rattle.plan_defs.specs.Preview.{keptAs, outcome, preview};
 ghost use Rattle.previews.specs.Files.{mostCorridors, saidOf, keptIn, draftOf, keptCase, keptFile};
 ghost use Rattle.refusal.specs.declared.Answer.the-variants.{Refused};
 use casefile::Header;
@@ -219,15 +219,16 @@ pub struct Filling {
     pub circuits: [u32; MOST_CORRIDORS],
 }
 
-// The preview of a draft for a target.
-pub fn preview_draft(draft: Draft, target: u32) -> Filling
-    requires { ⌜ draft .corridors ≤ mostCorridors ⌝ }
-    ensures { λ r. ⌜ outcome (r .said) (take (draft .corridors) (r .circuits)) ≡ preview (keptIn draft) target (replicate (draft .corridors) 0) ⌝ }
+fn preview_kept(
+    mode: PlanMode,
+    target: u32,
+    m: usize,
+    before: [u32; MOST_CORRIDORS],
+    order: [u32; MOST_CORRIDORS],
+) -> Filling
+    requires { ⌜ m ≤ mostCorridors ⌝ }
+    ensures { λ r. ⌜ outcome (r .said) (take m (r .circuits)) ≡ preview (keptAs mode m (take m before) (take m order)) target (replicate m 0) ⌝ }
 {
-    let mode = draft.mode;
-    let m = draft.corridors;
-    let before = draft.before;
-    let order = draft.order;
     let mut circuits = [0u32; MOST_CORRIDORS];
     let said = preview_filling(
         mode,
@@ -238,4 +239,15 @@ pub fn preview_draft(draft: Draft, target: u32) -> Filling
         &mut circuits[0..m],
     );
     Filling { said, circuits }
+}
+
+// The preview of a draft for a target.
+pub fn preview_draft(draft: Draft, target: u32) -> Filling
+    requires { ⌜ draft .corridors ≤ mostCorridors ⌝ }
+    ensures { λ r. ⌜ outcome (r .said) (take (draft .corridors) (r .circuits)) ≡ preview (keptIn draft) target (replicate (draft .corridors) 0) ⌝ }
+{
+    let mode = draft.mode;
+    let before = draft.before;
+    let order = draft.order;
+    preview_kept(mode, target, draft.corridors, before, order)
 }

@@ -6,7 +6,6 @@ mod draft;
 mod print;
 
 ghost use Prim.Native.Nat.{_≤_};
-ghost use lib.ListN.{length};
 ghost use Rattle.previews.specs.Files.{mostCorridors};
 use casefile::MOST_BYTES;
 use casefile::MOST_CORRIDORS;
@@ -74,13 +73,19 @@ fn print_refusal(f: Refusal) {
 }
 
 // CO index circuits
-fn print_circuits(circuits: &[u32]) {
+fn print_corridor(k: usize, circuits: u32) {
+    mark(b"CO");
+    number(k as u64);
+    number(circuits as u64);
+    end_line();
+}
+
+fn print_corridors(circuits: [u32; MOST_CORRIDORS], m: usize)
+    requires { ⌜ m ≤ mostCorridors ⌝ }
+{
     let mut k = 0;
-    while k < circuits.len() {
-        mark(b"CO");
-        number(k as u64);
-        number(circuits[k] as u64);
-        end_line();
+    while k < m {
+        print_corridor(k, circuits[k]);
         k += 1;
     }
 }
@@ -98,7 +103,7 @@ fn print_preview(draft: Draft, target: u32)
     let circuits = filling.circuits;
     match said {
         Answer::Refused(f) => print_refusal(f),
-        Answer::Answered => print_circuits(&circuits[0..m]),
+        Answer::Answered => print_corridors(circuits, m),
     }
 }
 

@@ -2,7 +2,7 @@
 use Prim.Native.Nat.{ℕ, _-_, _≤_}
 use mathlib.Core.Bool.{Bool, true}
 use mathlib.Core.List.{List, _++_}
-use mathlib.Core.Path.{_≡_, refl, sym, ap, _∙_}
+use mathlib.Core.Path.{_≡_, refl, ap, _∙_}
 use native.Mathlib.Omega.{arith}
 use lib.ListN.{length, take, drop, replicate, length-append, length-take, length-replicate}
 use lib.Seq.{take-at}
@@ -11,7 +11,7 @@ use Rattle.loops.proofs.Fronts.{front-replicate}
 use Rattle.refusal.specs.Reply.{Reply, answered, refused}
 use Rattle.refusal.specs.declared.Refusal.{Refusal}
 use Rattle.refusal.specs.declared.Answer.{Answer}
-use Rattle.refusal.specs.declared.Answer.the-variants.{Answered, Refused}
+use Rattle.refusal.specs.declared.Answer.the-variants.{Refused}
 use Rattle.mode.specs.declared.PlanMode.{PlanMode}
 use Rattle.plan_defs.specs.Case.{Case}
 use Rattle.plan_defs.specs.Plan.{Ending, unaccepted, unanswered, planned, endingOf}

@@ -13,7 +13,7 @@ pub struct AnglesSaid {
     pub figure: f64,
 }
 
-/// What `read_case` answers: the refusal's number and index, or 0 and the header.
+/// What `read_case` answers: the refusal's number and index, or 0 and the header; and the looks.
 #[repr(C)]
 #[derive(Clone, Copy, Debug, PartialEq)]
 pub struct ReadingSaid {
@@ -26,6 +26,8 @@ pub struct ReadingSaid {
     pub generators: usize,
     pub above: usize,
     pub requested: usize,
+    /// The words and bytes looked at after the last record.
+    pub looks: usize,
 }
 
 /// What `line_sheet` answers: the refusal's number and index, or 0.

@@ -2,6 +2,7 @@
 
 use crate::ports::{read_case, ReadingSaid, Tables};
 use crate::{least, report};
+use reference::harness::case_file::looks;
 use reference::harness::refusal::Refusal;
 use reference::harness::tables::Case;
 
@@ -80,7 +81,7 @@ fn case(buses: u16, corridors: u16, generators: u16, levels: u8) -> Vec<u8> {
 }
 
 /// The reference build's answer as the port says it.
-fn said(answer: &Result<Case, Refusal>) -> ReadingSaid {
+fn said(answer: &Result<Case, Refusal>, looks: usize) -> ReadingSaid {
     let nothing = ReadingSaid {
         refusal: 0,
         index: 0,
@@ -91,6 +92,7 @@ fn said(answer: &Result<Case, Refusal>) -> ReadingSaid {
         generators: 0,
         above: 0,
         requested: 0,
+        looks,
     };
     match answer {
         Err(refusal) => ReadingSaid {
@@ -116,7 +118,7 @@ fn agree(what: &str, file: &[u8]) -> (u32, usize) {
     let mut tables = Tables::new();
     let port = read_case(file, &mut tables);
     let rust = reference::harness::case_file::read_case(file);
-    assert_eq!(port, said(&rust), "{what}: what is said");
+    assert_eq!(port, said(&rust, looks(file)), "{what}: what is said");
     for (i, bus) in rust.iter().flat_map(|case| &case.buses).enumerate() {
         assert_eq!(
             bus.load.to_bits(),
@@ -147,7 +149,12 @@ pub fn run() {
     assert_eq!(agree("cut", &damaged[..damaged.len() - 1]), (14, 12));
     damaged[15] = b'X';
     assert_eq!(agree("a wrong mark", &damaged), (15, 1));
-    compare("reading, a small case", &case(2, 1, 1, 1), 4000);
+    let mut small = case(2, 1, 1, 1);
+    compare("reading, a small case", &small, 4000);
+    small.resize(65_536, 0);
+    compare("reading, a small case, padded", &small, 1000);
+    small[65_535] = 1;
+    assert_eq!(agree("not zero at the end", &small), (17, 65_535));
     let mut largest = case(256, 256, 128, 5);
     compare("reading, the largest case", &largest, 400);
     largest.resize(65_536, 0);

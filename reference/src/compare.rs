@@ -7,11 +7,13 @@ use std::sync::mpsc;
 use std::thread;
 use std::time::{Duration, Instant};
 
+use crate::generate::cases::padding::padded_files;
 use crate::generate::cases::{case_file, CaseFile};
 use crate::generate::random::Random;
 use crate::generate::requests::{as_input, batch, Request, MOST_REQUESTS};
 use crate::generate::seasons::{as_blocks, season, Season};
 use crate::harness::answers::{answer_all, sheet_request};
+use crate::harness::case_file::answer_read;
 use crate::harness::figures::{listed, parse_hex};
 use crate::harness::season::answer_season;
 use crate::harness::sheet::ROW;
@@ -278,6 +280,22 @@ pub fn compare_cases(
         let CaseFile { family, bytes } = file;
         let goes_on = judge(program, bytes, seed, &mut outcome, |theirs, outcome| {
             compare_listings(family, seed, ours.as_bytes(), theirs, outcome)
+        })?;
+        if !goes_on {
+            break;
+        }
+    }
+    Ok(outcome)
+}
+
+/// Compares what is read of the padded files that are made by hand.
+pub fn compare_padded(program: &Program) -> io::Result<Outcome> {
+    let mut outcome = Outcome::default();
+    for (place, file) in padded_files().into_iter().enumerate() {
+        let ours = answer_read(&file);
+        let place = place as u64;
+        let goes_on = judge(program, file, place, &mut outcome, |theirs, outcome| {
+            compare_listings("padded by hand", place, ours.as_bytes(), theirs, outcome)
         })?;
         if !goes_on {
             break;

@@ -4,7 +4,8 @@ use std::io::{self, Read, Write};
 use std::process::ExitCode;
 
 use reference::compare::{
-    compare_answers, compare_cases, compare_seasons, wrong_answers, Outcome, Program, LIMIT,
+    compare_answers, compare_cases, compare_padded, compare_seasons, wrong_answers, Outcome,
+    Program, LIMIT,
 };
 use reference::differences::sheet_differences;
 use reference::generate::cases::case_file;
@@ -29,6 +30,7 @@ const USAGE: &str = "usage:
   reference case SEED
   reference compare-answers PROGRAM KIND FIRST_SEED BATCHES COUNTS
   reference compare-cases PROGRAM list|read FIRST_SEED COUNT COUNTS
+  reference compare-padded PROGRAM                           padded files made by hand, read by both
   reference compare-targets PROGRAM FIRST_SEED COUNT          each Expand case under several targets
   reference season                                           case files on standard input, 65,536 bytes each
   reference season-files SEED
@@ -110,6 +112,10 @@ fn run(words: &[&str]) -> Result<(), Failure> {
             };
             let outcome = compare_cases(&program, answerer, number(first)?, number(count)?)?;
             report_counted(what, "cases", &outcome, counts)
+        }
+        ["compare-padded", path] => {
+            let program = Program { path, limit: LIMIT };
+            report("padded", "files", &compare_padded(&program)?)
         }
         ["compare-targets", path, first, count] => {
             let program = Program { path, limit: LIMIT };

@@ -1,7 +1,8 @@
 //! Case reading: the refusals and their indices.
 
 use reference::generate::cases::case_file;
-use reference::harness::case_file::{answer_read, read_case, write_case, MOST_BYTES};
+use reference::generate::cases::padding::padded_files;
+use reference::harness::case_file::{answer_read, looks, read_case, write_case, MOST_BYTES};
 use reference::harness::listing::answer_list;
 use reference::harness::refusal::Refusal;
 use reference::harness::tables::Case;
@@ -79,6 +80,55 @@ fn what_was_read_is_printed_record_by_record() {
         marks.iter().filter(|&&m| m == "LN").count(),
         case.sheet.len()
     );
-    assert_eq!(answer_read(b"HD"), "RF 14 0\n");
+    assert_eq!(text.lines().last(), Some("LK 0"));
+    assert_eq!(answer_read(b"HD"), "RF 14 0\nLK 0\n");
     assert_eq!(answer_list(b"HD"), "RF 14 0\n");
+}
+
+/// The count as READINGS has it, by division: with `t` bytes behind the records
+/// of which the first `z` are zero.
+fn looks_by_division(t: usize, z: usize) -> usize {
+    if z == t {
+        t / 8 + t % 8
+    } else if z / 8 < t / 8 {
+        z / 8 + z % 8 + 2
+    } else {
+        t / 8 + z % 8 + 1
+    }
+}
+
+#[test]
+fn words_and_bytes_looked_at_behind_the_records() {
+    let end = padded_files()[0].len();
+    let mut most = 0;
+    for file in padded_files() {
+        let rest = &file[end..];
+        let t = rest.len();
+        let z = rest.iter().position(|&byte| byte != 0).unwrap_or(t);
+        let n = looks(&file);
+        assert_eq!(n, looks_by_division(t, z), "{t} bytes, {z} zeros");
+        assert!(z <= 8 * n && 8 * n <= t + 64, "{t} bytes, {z} zeros");
+        most = most.max(8 * n - t.min(8 * n));
+        match read_case(&file) {
+            Ok(_) => assert_eq!(z, t),
+            Err(refusal) => assert_eq!((refusal.number, refusal.index), (17, end + z)),
+        }
+    }
+    // The upper bound is met: a byte in the last place of the last whole word.
+    assert_eq!(most, 64);
+}
+
+#[test]
+fn nothing_is_looked_at_where_the_records_are_refused() {
+    let (_, mut file) = good();
+    file.resize(MOST_BYTES, 0);
+    assert_ne!(looks(&file), 0);
+    for (place, byte) in [(0, b'X'), (2, 3), (14, 0)] {
+        let mut damaged = file.clone();
+        damaged[place] = byte;
+        assert_eq!(looks(&damaged), 0);
+    }
+    file.push(0);
+    assert_eq!(looks(&file), 0);
+    assert_eq!(looks(&file[..20]), 0);
 }

@@ -7,6 +7,7 @@ use mathlib.Core.List.{List, [], _∷_}
 use native.Mathlib.Omega.{arith}
 use lib.Ieee.{Float, le, eq}
 use lib.ListN.{set}
+use Rattle.loops.proofs.Bools.{unequal}
 use Rattle.loops.specs.Figures.{times, over, nought}
 use Rattle.root.specs.Root.{root}
 use Rattle.angles_defs.specs.Network.{Edges, Network, apply, precondition, shares, dot, along, back, less, zeros}
@@ -26,13 +27,13 @@ within v bound norm h = go (le v bound) refl h
   where
     go : (b : Bool) → le v bound ≡ b → Within norm ≡ cond b (Within v) Beyond → (le v bound ≡ true) × (norm ≡ v)
     go true e p = (e, cc)
-    go false e p = absurd (let z : _≡_ {A = ℕ} 0 1 = cc in omega arith)
+    go false e p = absurd (unequal cc)
 
 pub beyond : (v bound : Float) → Beyond ≡ judgement v bound → le v bound ≡ false
 beyond v bound h = go (le v bound) refl h
   where
     go : (b : Bool) → le v bound ≡ b → Beyond ≡ cond b (Within v) Beyond → le v bound ≡ false
-    go true e p = absurd (let z : _≡_ {A = ℕ} 0 1 = cc in omega arith)
+    go true e p = absurd (unequal cc)
     go false e p = e
 
 -- ---- an iteration that goes on, and a beginning, with a name for each value

@@ -12,7 +12,7 @@ use lib.Ieee.{Float, eq}
 use lib.ListN.{length, getD}
 use Rattle.loops.specs.Figures.{at, nought, finite}
 use Rattle.loops.specs.Loops.{first}
-use Rattle.loops.proofs.Bools.{both, and-of}
+use Rattle.loops.proofs.Bools.{both, and-of, unequal}
 use Rattle.loops.proofs.Order.{finite-bounded}
 use Rattle.loops.proofs.Scan.{all-pass, pass-all}
 use Rattle.loops.proofs.Zeros.{void-zero}
@@ -93,7 +93,7 @@ module _ (q : Request) (result work : ℕ) where
       go (lengthsOk q result work) (countsOk (q .n) (q .m) (q .k)) (ltb (firstEdge q) (q .m)) (ltb (firstGround q) (q .k)) refl refl refl refl h
     where
       refused : {f : Refusal} → some f ≡ none → ⊥
-      refused e = let z : _≡_ {A = ℕ} 0 1 = cc in omega arith
+      refused e = unequal cc
 
       go : (a b c d : Bool) → lengthsOk q result work ≡ a → countsOk (q .n) (q .m) (q .k) ≡ b → ltb (firstEdge q) (q .m) ≡ c → ltb (firstGround q) (q .k) ≡ d
           → cond a (cond b (cond c (some (Edge (firstEdge q))) (cond d (some (Ground (firstGround q))) none)) (some Count)) (some Length) ≡ none
@@ -158,7 +158,7 @@ unfolding dcAngles finishIf
 answer-to q result work s h = at-fault (fault q (length result) (length work)) refl h
   where
     refused-not : (a b : ℕ) → _≡_ {A = Reply Solution} (refused a b) (answered s) → ⊥
-    refused-not a b e = let z : _≡_ {A = ℕ} 0 1 = cc in omega arith
+    refused-not a b e = unequal cc
 
     i : ℕ
     i = first (finiteAt (solveOf q .x)) (q .n) 0

@@ -1,4 +1,5 @@
-// Reads a case file on standard input and prints what was read, a line for each record, or the refusal.
+// Reads a case file on standard input and prints what was read, a line for each record, or the refusal; and last how many words and bytes were
+// looked at after the records.
 // What is printed is tested, not proved; that the program is safe, ends and prints the places of the records alone is proved.
 mod print;
 
@@ -26,6 +27,12 @@ fn print_refusal(f: Refusal) {
     mark(b"RF");
     whole(f.number());
     number(f.index());
+    end_line();
+}
+
+fn print_looks(looks: usize) {
+    mark(b"LK");
+    number(looks);
     end_line();
 }
 
@@ -201,7 +208,7 @@ fn main() {
     let mut length_km = [0.0; MOST_CORRIDORS];
     let mut share = [0.0; MOST_CORRIDORS];
     let mut sheet = [0.0; MOST_SHEET];
-    let reading = casefile::read_case(
+    let read = casefile::read_case(
         &buffer[0..n],
         &mut ladder,
         &mut tier,
@@ -219,6 +226,7 @@ fn main() {
         &mut share,
         &mut sheet,
     );
+    let reading = read.reading;
     match reading {
         Reading::Refused(f) => print_refusal(f),
         Reading::Read(h) => {
@@ -231,4 +239,5 @@ fn main() {
             print_lines(lines(h.corridors, levels), &sheet);
         }
     }
+    print_looks(read.looks);
 }

@@ -14,14 +14,14 @@ use Rattle.loops.proofs.Loops.{iter-still}
 use Rattle.refusal.specs.declared.Refusal.{Refusal}
 use Rattle.casefile.specs.Bounds.{mostBytes}
 use Rattle.casefile.specs.Layout.{sizeOf, spot}
-use Rattle.casefile.specs.Reading.{recordAt, stepped, walked, countsOk, headerOf, levels, lines, tablesWalked, trailing, endRead, bodyRead, readingOf, beforeBuses, beforeGenerators, beforeCorridors, beforeLines, recordsOf}
+use Rattle.casefile.specs.Reading.{recordAt, stepped, walked, countsOk, headerOf, levels, lines, tablesWalked, trailing, unread, endRead, bodyRead, readOf, readingOf, beforeBuses, beforeGenerators, beforeCorridors, beforeLines, recordsOf}
 use Rattle.casefile.specs.Tables.{levelsAt, busesAt, generatorsAt, corridorsAt, linesAt}
 use Rattle.casefile.specs.declared.Kind.{Kind}
 use Rattle.casefile.specs.declared.Kind.the-variants.{Head, Level, Bus, Generator, Corridor, Line}
 use Rattle.casefile.specs.declared.Header.{Header}
 use Rattle.casefile.specs.declared.Walk.{Walk}
 use Rattle.casefile.specs.declared.Walk.the-variants.{At, Fault}
-use Rattle.casefile.specs.declared.Reading.{Reading}
+use Rattle.casefile.specs.declared.CaseRead.{CaseRead}
 use Rattle.casefile.specs.declared.Reading.the-variants.{Refused, Read}
 use Rattle.casefile.proofs.Records.{Passed, passed, fault-not-at}
 use Rattle.casefile.proofs.Spots.{spot-next}
@@ -150,18 +150,18 @@ pub record Ended (s : List ℕ) (h h₀ : Header) (w : Walk) : Type 0 where
   pub same : h ≡ h₀
   pub zeros : length s ≤ trailing s next
 
-ended : (s : List ℕ) (h h₀ : Header) (w : Walk) → endRead h₀ s w ≡ Read h → Ended s h h₀ w
+ended : (s : List ℕ) (h h₀ : Header) (w : Walk) → endRead h₀ s w .reading ≡ Read h → Ended s h h₀ w
 unfolding endRead
 ended s h h₀ (Fault f) e = absurd (refused-not-read e)
 ended s h h₀ (At next) e =
     let g = end-by s h h₀ next _ (trailing s next) _ refl e in
     record { next = next; walk = refl; same = g .0; zeros = g .1 }
 
-counted : (s : List ℕ) (h : Header) (y : Bool) (r : Reading) (f : Refusal) → cond y r (Refused f) ≡ Read h → (y ≡ true) × (r ≡ Read h)
+counted : (s : List ℕ) (h : Header) (y : Bool) (r : CaseRead) (f : Refusal) → cond y r (unread f) .reading ≡ Read h → (y ≡ true) × (r .reading ≡ Read h)
 counted s h true r f e = (refl, e)
 counted s h false r f e = absurd (refused-not-read e)
 
-body-accepted : (s : List ℕ) (h : Header) (w : Walk) → length s ≤ mostBytes → recordAt Head s 0 0 ≡ w → bodyRead s w ≡ Read h → Accepted s h
+body-accepted : (s : List ℕ) (h : Header) (w : Walk) → length s ≤ mostBytes → recordAt Head s 0 0 ≡ w → bodyRead s w .reading ≡ Read h → Accepted s h
 unfolding bodyRead
 body-accepted s h (Fault f) l q e = absurd (refused-not-read e)
 body-accepted s h (At at) l q e =
@@ -184,13 +184,13 @@ body-accepted s h (At at) l q e =
       zeros = subst (λ (m : ℕ). length s ≤ trailing s m) (t .end) (n .zeros);
     }
 
-whole-by : (s : List ℕ) (h : Header) (x : Bool) (r : Reading) (f : Refusal) → ltb mostBytes (length s) ≡ x → cond x (Refused f) r ≡ Read h
-    → (length s ≤ mostBytes) × (r ≡ Read h)
+whole-by : (s : List ℕ) (h : Header) (x : Bool) (r : CaseRead) (f : Refusal) → ltb mostBytes (length s) ≡ x → cond x (unread f) r .reading ≡ Read h
+    → (length s ≤ mostBytes) × (r .reading ≡ Read h)
 whole-by s h true r f q e = absurd (refused-not-read e)
 whole-by s h false r f q e = (ltb-false mostBytes (length s) q, e)
 
 pub accepted : (s : List ℕ) (h : Header) → readingOf s ≡ Read h → Accepted s h
-unfolding readingOf
+unfolding readOf
 accepted s h e =
     let g = whole-by s h _ _ _ refl e in
     body-accepted s h (recordAt Head s 0 0) (g .0) refl (g .1)

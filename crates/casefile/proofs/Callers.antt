@@ -3,12 +3,13 @@
 use Prim.Native.Nat.{ℕ}
 use mathlib.Core.Bool.{Bool, true, false, cond}
 use mathlib.Core.List.{List}
-use mathlib.Core.Path.{_≡_, refl, sym, ap, _∙_}
+use mathlib.Core.Path.{_≡_, sym, ap, _∙_}
 use native.Mathlib.Omega.{arith}
 use Rattle.refusal.specs.declared.Refusal.the-variants.{Length}
-use Rattle.casefile.specs.Reading.{Small, readingOf}
+use Rattle.casefile.specs.Reading.{Small, readOf, readingOf, unread}
 use Rattle.casefile.specs.Tables.{Places, Outcome, replyOf, outcome, tablesOf, held, sizesOk, readCase}
 use Rattle.casefile.specs.declared.Header.{Header}
+use Rattle.casefile.specs.declared.CaseRead.{CaseRead}
 use Rattle.casefile.specs.declared.Reading.{Reading}
 use Rattle.casefile.specs.declared.Reading.the-variants.{Refused, Read}
 use Rattle.casefile.proofs.Accepted.{accepted}
@@ -23,17 +24,21 @@ pub record Answered (s : List ℕ) (h : Header) (p : Places) : Type 0 where
   pub reading : readingOf s ≡ Read h
   pub places : p ≡ tablesOf s h
 
-answered-by : (s : List ℕ) (q p : Places) (h : Header) (r : Reading) (b : Bool) → readingOf s ≡ r
-    → outcome (Read h) p ≡ cond b (outcome r (tablesOf s (held r))) (outcome (Refused Length) q) → Answered s h p
+answered-by : (s : List ℕ) (q p : Places) (h : Header) (r : CaseRead) (b : Bool) → r .reading ≡ Read h
+    → outcome r p ≡ cond b (outcome (readOf s) (tablesOf s (held (readingOf s)))) (outcome (unread Length) q) → Answered s h p
 unfolding held
-answered-by s q p h r false d e = absurd (let v = read-of (Refused Length) h (ap (λ (o : Outcome). o .reply) e) in let z : _≡_ {A = ℕ} 0 1 = cc in omega arith)
-answered-by s q p h r true d e =
-    let g : r ≡ Read h = read-of r h (ap (λ (o : Outcome). o .reply) e) in
-    record { reading = d ∙ g; places = ap (λ (o : Outcome). o .places) e ∙ ap (λ (x : Reading). tablesOf s (held x)) g }
+answered-by s q p h r false g e =
+    absurd
+    (let v = read-of (Refused Length) h (ap (λ (x : Reading). replyOf x) (sym g) ∙ ap (λ (o : Outcome). o .reply) e) in
+    let z : _≡_ {A = ℕ} 0 1 = cc in
+    omega arith)
+answered-by s q p h r true g e =
+    let d : readingOf s ≡ Read h = read-of (readingOf s) h (ap (λ (x : Reading). replyOf x) (sym g) ∙ ap (λ (o : Outcome). o .reply) e) in
+    record { reading = d; places = ap (λ (o : Outcome). o .places) e ∙ ap (λ (x : Reading). tablesOf s (held x)) d }
 
-pub answered-case : (s : List ℕ) (q p : Places) {r : Reading} {h : Header} → outcome r p ≡ readCase s q → r ≡ Read h → Answered s h p
+pub answered-case : (s : List ℕ) (q p : Places) {r : CaseRead} {h : Header} → outcome r p ≡ readCase s q → r .reading ≡ Read h → Answered s h p
 unfolding readCase
-answered-case s q p {r} {h} e g = answered-by s q p h (readingOf s) (sizesOk q) refl (ap (λ (x : Reading). outcome x p) (sym g) ∙ e)
+answered-case s q p {r} {h} e g = answered-by s q p h r (sizesOk q) g e
 
-pub answered-small : (s : List ℕ) (q p : Places) {r : Reading} {h : Header} → outcome r p ≡ readCase s q → r ≡ Read h → Small h
+pub answered-small : (s : List ℕ) (q p : Places) {r : CaseRead} {h : Header} → outcome r p ≡ readCase s q → r .reading ≡ Read h → Small h
 answered-small s q p {r} {h} e g = small-of h (accepted s h (answered-case s q p e g .reading) .counts)

@@ -1,5 +1,6 @@
 -- The laws of case reading, by subject.
 pub mod Words
+pub mod Trailing
 pub mod Records
 pub mod Counts
 pub mod Walks

@@ -11,14 +11,13 @@ use Rattle.loops.specs.Loops.{tab}
 use Rattle.loops.proofs.Bools.{both}
 use Rattle.refusal.specs.declared.Refusal.the-variants.{Length}
 use Rattle.casefile.specs.Bounds.{mostLevels, mostBuses, mostGenerators, mostCorridors, mostSheet}
-use Rattle.casefile.specs.Reading.{levels, lines, readingOf}
+use Rattle.casefile.specs.Reading.{levels, lines, readOf, unread}
 use Rattle.casefile.specs.Tables.{Places, placesOf, numbers, figures, sheetIn, levelsAt, busesAt, generatorsAt, corridorsAt, linesAt, tablesOf, held, sizesOk, outcome, readCase}
 use Rattle.casefile.specs.declared.Kind.{Kind}
 use Rattle.casefile.specs.declared.Kind.the-variants.{Level, Bus, Generator, Corridor}
 use Rattle.casefile.specs.declared.Header.{Header}
 use Rattle.casefile.specs.declared.columns.Span.{Span}
-use Rattle.casefile.specs.declared.Reading.{Reading}
-use Rattle.casefile.specs.declared.Reading.the-variants.{Refused}
+use Rattle.casefile.specs.declared.CaseRead.{CaseRead}
 
 -- every table has its largest size
 pub record Sizes (p : Places) : Type 0 where
@@ -107,10 +106,10 @@ pub tables-same : (s : List ℕ) (h : Header) (ladder : List Float) (tier : List
 unfolding tablesOf
 tables-same s h ladder tier load bus slack pmin pmax c1 c2 a b circuits lengthKm share sheet e0 e1 e2 e3 e4 e5 e6 e7 e8 e9 e10 e11 e12 e13 e14 = cc
 
-pub refused-lengths : (s : List ℕ) (p : Places) → sizesOk p ≡ false → outcome (Refused Length) p ≡ readCase s p
+pub refused-lengths : (s : List ℕ) (p : Places) → sizesOk p ≡ false → outcome (unread Length) p ≡ readCase s p
 unfolding readCase
 refused-lengths s p e = simp e
 
-pub read-whole : (s : List ℕ) (p q : Places) (r : Reading) (h : Header) → sizesOk p ≡ true → r ≡ readingOf s → h ≡ held r → q ≡ tablesOf s h → outcome r q ≡ readCase s p
+pub read-whole : (s : List ℕ) (p q : Places) (r : CaseRead) (h : Header) → sizesOk p ≡ true → r ≡ readOf s → h ≡ held (r .reading) → q ≡ tablesOf s h → outcome r q ≡ readCase s p
 unfolding readCase
 read-whole s p q r h z e g t = simp (z, sym e, sym g, t)

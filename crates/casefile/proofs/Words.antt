@@ -10,12 +10,12 @@ use lib.ListN.{length, getD, take}
 use lib.Seq.{drop-cons}
 use Rattle.casefile.specs.Layout.{little, word}
 
-word-none : (p : ℕ) (s : List ℕ) → word 0 p s ≡ 0
+pub word-none : (p : ℕ) (s : List ℕ) → word 0 p s ≡ 0
 unfolding word little
 word-none p s = refl
 
 -- one byte more in front
-word-more : (k p : ℕ) (s : List ℕ) → p < length s → word (suc k) p s ≡ getD s p 0 + 256 * word k (suc p) s
+pub word-more : (k p : ℕ) (s : List ℕ) → p < length s → word (suc k) p s ≡ getD s p 0 + 256 * word k (suc p) s
 unfolding word little
 word-more k p s h = ap (λ (l : List ℕ). little (take (suc k) l)) (drop-cons s p 0 h)
 
@@ -54,3 +54,32 @@ small-end w i h l = let g : w - i ≡ w = omega arith in rw g at l
 -- a number of k bytes is below that of any width of at least as many
 pub within : (w k : ℕ) {x : ℕ} → k ≤ w → x < 256 ^ k → x < 256 ^ w
 within w k h l = let m : 256 ^ k ≤ 256 ^ w = pow-le-pow-right (lit< tt) h in omega arith
+
+-- ---- eight bytes by pairs: byte by byte both come to the same
+pair : (p : ℕ) (s : List ℕ) → p + 2 ≤ length s → word 2 p s ≡ getD s p 0 + 256 * getD s (suc p) 0
+pair p s h =
+    let a : word 2 p s ≡ getD s p 0 + 256 * word 1 (suc p) s = word-more 1 p s (omega arith) in
+    let b : word 1 (suc p) s ≡ getD s (suc p) 0 + 256 * word 0 (suc (suc p)) s = word-more 0 (suc p) s (omega arith) in
+    let z : word 0 (suc (suc p)) s ≡ 0 = word-none (suc (suc p)) s in
+    omega arith
+
+-- a pair more in front
+pair-more : (k p : ℕ) (s : List ℕ) → p + 2 ≤ length s → word (suc (suc k)) p s ≡ word 2 p s + 0x10000 * word k (p + 2) s
+pair-more k p s h =
+    let a : word (suc (suc k)) p s ≡ getD s p 0 + 256 * word (suc k) (suc p) s = word-more (suc k) p s (omega arith) in
+    let b : word (suc k) (suc p) s ≡ getD s (suc p) 0 + 256 * word k (suc (suc p)) s = word-more k (suc p) s (omega arith) in
+    let n : suc (suc p) ≡ p + 2 = omega arith in
+    let e : word k (suc (suc p)) s ≡ word k (p + 2) s = ap (λ (m : ℕ). word k m s) n in
+    omega (arith, pair p s h)
+
+pub word-pairs : (p a b c d : ℕ) (s : List ℕ) → p + 8 ≤ length s → a ≡ word 2 p s → b ≡ word 2 (p + 2) s → c ≡ word 2 (p + 4) s → d ≡ word 2 (p + 6) s
+    → a + b * 0x10000 + c * 0x100000000 + d * 0x1000000000000 ≡ word 8 p s
+word-pairs p a b c d s h ea eb ec ed =
+    let w₈ : word 8 p s ≡ word 2 p s + 0x10000 * word 6 (p + 2) s = pair-more 6 p s (omega arith) in
+    let w₆ : word 6 (p + 2) s ≡ word 2 (p + 2) s + 0x10000 * word 4 (p + 2 + 2) s = pair-more 4 (p + 2) s (omega arith) in
+    let w₄ : word 4 (p + 2 + 2) s ≡ word 2 (p + 2 + 2) s + 0x10000 * word 2 (p + 2 + 2 + 2) s = pair-more 2 (p + 2 + 2) s (omega arith) in
+    let n₄ : p + 2 + 2 ≡ p + 4 = omega arith in
+    let n₆ : p + 2 + 2 + 2 ≡ p + 6 = omega arith in
+    let e₄ : word 2 (p + 2 + 2) s ≡ word 2 (p + 4) s = ap (λ (m : ℕ). word 2 m s) n₄ in
+    let e₆ : word 2 (p + 2 + 2 + 2) s ≡ word 2 (p + 6) s = ap (λ (m : ℕ). word 2 m s) n₆ in
+    omega arith

@@ -1,10 +1,11 @@
 -- Document 01's "Case reading": the header that a file is read as, or the first refusal, record by record.
-use Prim.Native.Nat.{ℕ, _+_, _-_, _*_, _≤_}
+use Prim.Native.Nat.{ℕ, _+_, _-_, _*_, _/_, _%_, _≤_, min}
 use mathlib.Core.Bool.{Bool, _&&_, cond}
 use mathlib.Core.List.{List}
 use lib.Dec.{leb, ltb, eqb}
 use lib.ListN.{length, getD}
 use Rattle.loops.specs.Loops.{iter, first}
+use Rattle.refusal.specs.declared.Refusal.{Refusal}
 use Rattle.refusal.specs.declared.Refusal.the-variants.{Count, FileLength, Cut, Mark, Code, Trailing}
 use Rattle.mode.specs.Number.{modeNumber}
 use Rattle.mode.specs.declared.PlanMode.{PlanMode}
@@ -16,6 +17,7 @@ use Rattle.casefile.specs.declared.Kind.the-variants.{Head, Level, Bus, 
 use Rattle.casefile.specs.declared.Header.{Header}
 use Rattle.casefile.specs.declared.Walk.{Walk}
 use Rattle.casefile.specs.declared.Walk.the-variants.{At, Fault}
+use Rattle.casefile.specs.declared.CaseRead.{CaseRead}
 use Rattle.casefile.specs.declared.Reading.{Reading}
 use Rattle.casefile.specs.declared.Reading.the-variants.{Refused, Read}
 
@@ -107,16 +109,41 @@ zeroAt s i = eqb (getD s i 0) 0
 unfoldable pub trailing : List ℕ → ℕ → ℕ
 trailing s at = first (zeroAt s) (length s - at) at
 
+-- ---- document 02's K2: the words of eight bytes and the single bytes that the test of the trailing bytes looks at
+abbrev pub wordBytes : ℕ
+wordBytes = 8
+
+-- of t trailing bytes, of which the first z are zero: each word of zeros and the word after them, where one is left whole; then each byte up to
+-- the first that is not zero
+unfoldable pub looksFor : ℕ → ℕ → ℕ
+looksFor t z = min (z / wordBytes + 1) (t / wordBytes) + min (z % wordBytes + 1) (t - wordBytes * (z / wordBytes))
+
+abbrev pub zerosPassed : List ℕ → ℕ → ℕ
+zerosPassed s at = trailing s at - at
+
+abbrev pub looks : List ℕ → ℕ → ℕ
+looks s at = looksFor (length s - at) (zerosPassed s at)
+
+abbrev pub caseRead : Reading → ℕ → CaseRead
+caseRead r n = record { reading = r; looks = n }
+
+-- refused before any trailing byte was looked at
+abbrev pub unread : Refusal → CaseRead
+unread f = caseRead (Refused f) 0
+
 -- after the last record (17)
-unfoldable pub endRead : Header → List ℕ → Walk → Reading
-endRead h s (Fault f) = Refused f
-endRead h s (At at) = cond (ltb (trailing s at) (length s)) (Refused (Trailing (trailing s at))) (Read h)
+unfoldable pub endRead : Header → List ℕ → Walk → CaseRead
+endRead h s (Fault f) = unread f
+endRead h s (At at) = caseRead (cond (ltb (trailing s at) (length s)) (Refused (Trailing (trailing s at))) (Read h)) (looks s at)
 
 -- after the header (2, then the tables)
-unfoldable pub bodyRead : List ℕ → Walk → Reading
-bodyRead s (Fault f) = Refused f
-bodyRead s (At at) = cond (countsOk (headerOf s)) (endRead (headerOf s) s (tablesWalked (headerOf s) s (At at))) (Refused Count)
+unfoldable pub bodyRead : List ℕ → Walk → CaseRead
+bodyRead s (Fault f) = unread f
+bodyRead s (At at) = cond (countsOk (headerOf s)) (endRead (headerOf s) s (tablesWalked (headerOf s) s (At at))) (unread Count)
 
--- the reading of a file: its header, or the first refusal
-unfoldable pub readingOf : List ℕ → Reading
-readingOf s = cond (ltb mostBytes (length s)) (Refused FileLength) (bodyRead s (recordAt Head s 0 0))
+-- the reading of a file: its header, or the first refusal; and how much of what follows its records was looked at
+unfoldable pub readOf : List ℕ → CaseRead
+readOf s = cond (ltb mostBytes (length s)) (unread FileLength) (bodyRead s (recordAt Head s 0 0))
+
+abbrev pub readingOf : List ℕ → Reading
+readingOf s = readOf s .reading

@@ -12,10 +12,11 @@ use Rattle.refusal.specs.declared.Refusal.the-variants.{Length}
 use Rattle.mode.specs.declared.PlanMode.the-variants.{Expand}
 use Rattle.casefile.specs.Bounds.{mostLevels, mostBuses, mostGenerators, mostCorridors, rowFigures, mostSheet}
 use Rattle.casefile.specs.Layout.{sizeOf, placeOf, spanOf, spot, word, field}
-use Rattle.casefile.specs.Reading.{levels, lines, readingOf}
+use Rattle.casefile.specs.Reading.{levels, lines, readOf, unread}
 use Rattle.casefile.specs.declared.Kind.{Kind}
 use Rattle.casefile.specs.declared.Kind.the-variants.{Head, Level, Bus, Generator, Corridor, Line}
 use Rattle.casefile.specs.declared.Header.{Header}
+use Rattle.casefile.specs.declared.CaseRead.{CaseRead}
 use Rattle.casefile.specs.declared.columns.Span.{Span}
 use Rattle.casefile.specs.declared.Reading.{Reading}
 use Rattle.casefile.specs.declared.Reading.the-variants.{Refused, Read}
@@ -143,18 +144,19 @@ sizesOk p =
     && eqb (length (p .a)) mostCorridors) && eqb (length (p .b)) mostCorridors) && eqb (length (p .circuits)) mostCorridors)
     && eqb (length (p .lengthKm)) mostCorridors) && eqb (length (p .share)) mostCorridors) && eqb (length (p .sheet)) mostSheet
 
--- what the operation says, and every place of every table
+-- what the operation says, how much of what follows the records it looked at, and every place of every table
 pub record Outcome : Type 0 where
   pub reply : Reply Header
+  pub looks : ℕ
   pub places : Places
 
 abbrev pub replyOf : Reading → Reply Header
 replyOf (Read h) = answered h
 replyOf (Refused f) = refusedBy f
 
-abbrev pub outcome : Reading → Places → Outcome
-outcome r p = record { reply = replyOf r; places = p }
+abbrev pub outcome : CaseRead → Places → Outcome
+outcome r p = record { reply = replyOf (r .reading); looks = r .looks; places = p }
 
 -- case reading, whole
 unfoldable pub readCase : List ℕ → Places → Outcome
-readCase s p = cond (sizesOk p) (outcome (readingOf s) (tablesOf s (held (readingOf s)))) (outcome (Refused Length) p)
+readCase s p = cond (sizesOk p) (outcome (readOf s) (tablesOf s (held (readOf s .reading)))) (outcome (unread Length) p)

@@ -5,6 +5,15 @@ ghost use lib.ListN.{length};
 ghost use lib.Ieee.{binary64, ofBits};
 ghost use Rattle.casefile.specs.Layout.{word};
 
+// Two bytes, and what the later pairs of eight bytes count for.
+const PAIR: usize = 2;
+
+const SECOND: u64 = 0x1_0000;
+
+const THIRD: u64 = 0x1_0000_0000;
+
+const FOURTH: u64 = 0x1_0000_0000_0000;
+
 // A figure's bits without its sign; above those of infinity they are a NaN's.
 const UNSIGNED: u64 = 0x8000_0000_0000_0000;
 
@@ -23,6 +32,18 @@ pub fn word(file: &[u8], at: usize, width: usize) -> u64
         sum = sum * 256 + file[at + i] as u64;
     }
     sum
+}
+
+// The number of eight bytes at a place. By pairs, since of these the compiler makes one load of eight bytes, and of a loop over the bytes none.
+pub fn eight(file: &[u8], at: usize) -> u64
+    requires { ⌜ at + 8 ≤ length (now file) ⌝ }
+    ensures { λ r. ⌜ r ≡ word 8 at (now (file .entry)) ⌝ }
+{
+    let a = word(file, at, PAIR);
+    let b = word(file, at + PAIR, PAIR);
+    let c = word(file, at + 2 * PAIR, PAIR);
+    let d = word(file, at + 3 * PAIR, PAIR);
+    a + b * SECOND + c * THIRD + d * FOURTH
 }
 
 // The figure of any 64 bits. No float is made from a NaN's bits: every NaN is the same.

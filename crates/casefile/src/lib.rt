@@ -43,6 +43,12 @@ pub enum Reading {
     Refused(Refusal),
 }
 
+// A reading, and how many words of eight bytes and single bytes were looked at after the last record (none where it was refused before).
+pub struct CaseRead {
+    pub reading: Reading,
+    pub looks: usize,
+}
+
 // The kinds of record, in the file's order.
 pub enum Kind {
     Head,
@@ -95,7 +101,7 @@ pub fn read_case(
     length_km: &mut [f64],
     share: &mut [f64],
     sheet: &mut [f64],
-) -> Reading
+) -> CaseRead
     ensures { λ r. ⌜ outcome r (placesOf (now (ladder .exit)) (now (tier .exit)) (now (load .exit)) (now («generator_bus» .exit)) (now (slack .exit)) (now (pmin .exit)) (now (pmax .exit)) (now (c1 .exit)) (now (c2 .exit)) (now (a .exit)) (now (b .exit)) (now (circuits .exit)) (now («length_km» .exit)) (now (share .exit)) (now (sheet .exit))) ≡ readCase (now (file .entry)) (placesOf (now (ladder .entry)) (now (tier .entry)) (now (load .entry)) (now («generator_bus» .entry)) (now (slack .entry)) (now (pmin .entry)) (now (pmax .entry)) (now (c1 .entry)) (now (c2 .entry)) (now (a .entry)) (now (b .entry)) (now (circuits .entry)) (now («length_km» .entry)) (now (share .entry)) (now (sheet .entry))) ⌝ }
 {
     let sized = (ladder.len() == MOST_LEVELS)
@@ -114,9 +120,10 @@ pub fn read_case(
         & (share.len() == MOST_CORRIDORS)
         & (sheet.len() == MOST_SHEET);
     if !sized {
-        return Reading::Refused(Refusal::Length);
+        return scan::said(Reading::Refused(Refusal::Length), 0);
     }
-    let reading = scan::reading_of(file);
+    let read = scan::read_of(file);
+    let reading = read.reading;
     let h = held(reading);
     let levels = columns::Span {
         at: record::HEAD_END,
@@ -131,5 +138,5 @@ pub fn read_case(
     tables::read_generators(file, generators, generator_bus, slack, pmin, pmax, c1, c2);
     tables::read_corridors(file, corridors, a, b, circuits, length_km, share);
     tables::read_lines(file, lines, sheet);
-    reading
+    read
 }

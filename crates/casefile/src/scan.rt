@@ -1,13 +1,16 @@
 // The walk over the file: header and counts, each table's records, and the bytes after the last.
 ghost use mathlib.Core.Path.{_≡_};
-ghost use Prim.Native.Nat.{_<_, _≤_};
+ghost use Prim.Native.Nat.{_-_, _<_, _≤_};
 ghost use lib.ListN.{length};
 ghost use Rattle.casefile.specs.Layout.{sizeOf};
-ghost use Rattle.casefile.specs.Reading.{stepped, walked, headerOf, modeOf, countsOk, Small, tablesWalked, trailing, endRead, bodyRead, readingOf};
+ghost use Rattle.casefile.specs.Reading.{stepped, walked, headerOf, modeOf, countsOk, Small, tablesWalked, caseRead, endRead, bodyRead, readOf};
+ghost use Rattle.casefile.specs.Looks.{lookedAs, lookedAt, wordsLooked, bytesLooked};
+use crate::CaseRead;
 use crate::Header;
 use crate::Kind;
 use crate::Reading;
 use crate::Walk;
+use crate::bytes::eight;
 use crate::bytes::word;
 use crate::record;
 use crate::record::record_at;
@@ -15,6 +18,9 @@ use mode::PlanMode;
 use refusal::Refusal;
 
 const MOST_TARGET: u32 = 65536;
+
+// The bytes of a word.
+const WORD: usize = 8;
 
 // A fault is passed on.
 fn step(file: &[u8], from: Walk, kind: Kind, r: usize) -> Walk
@@ -107,59 +113,114 @@ fn walk_tables(file: &[u8], h: Header, from: Walk) -> Walk
     walk_kind(file, w4, Kind::Line, lines, end)
 }
 
-// The first byte from a place on that is not zero.
-fn trailing(file: &[u8], at: usize) -> usize
-    ensures { λ r. ⌜ r ≡ trailing (now (file .entry)) at ⌝ }
+// How far a test of the trailing bytes came: the place of the next byte, and the words or bytes looked at.
+pub struct Looked {
+    pub at: usize,
+    pub looks: usize,
+}
+
+fn came_to(at: usize, looks: usize) -> Looked
+    ensures { λ r. ⌜ r ≡ lookedAs at looks ⌝ }
+{
+    Looked { at, looks }
+}
+
+// The bytes from a place on.
+fn left(file: &[u8], at: usize) -> usize
+    ensures { λ r. ⌜ r ≡ length (now (file .entry)) - at ⌝ }
+{
+    if at < file.len() {
+        return file.len() - at;
+    }
+    0
+}
+
+// Past the words of zeros from a place on, the word after them looked at too.
+fn past_words(file: &[u8], at: usize) -> Looked
+    ensures { λ r. ⌜ r ≡ wordsLooked (now (file .entry)) at ⌝ }
+{
+    let words = left(file, at) / WORD;
+    let mut k = 0;
+    while k < words {
+        if eight(file, at + WORD * k) != 0 {
+            return came_to(at + WORD * k, k + 1);
+        }
+        k += 1;
+    }
+    came_to(at + WORD * k, k)
+}
+
+// Past the zeros from a place on, byte by byte, the byte after them looked at too.
+fn past_bytes(file: &[u8], at: usize) -> Looked
+    ensures { λ r. ⌜ r ≡ bytesLooked (now (file .entry)) at ⌝ }
 {
     let mut i = at;
+    let mut looks = 0;
     while i < file.len() {
+        looks += 1;
         if file[i] != 0 {
-            return i;
+            return came_to(i, looks);
         }
         i += 1;
     }
-    i
+    came_to(i, looks)
+}
+
+// The first byte from a place on that is not zero, by words and then by bytes.
+fn trailing(file: &[u8], at: usize) -> Looked
+    ensures { λ r. ⌜ r ≡ lookedAt (now (file .entry)) at ⌝ }
+{
+    let words = past_words(file, at);
+    let bytes = past_bytes(file, words.at);
+    came_to(bytes.at, words.looks + bytes.looks)
+}
+
+// A reading with its count: one place that makes the struct, since each more is a proof of its own.
+pub fn said(reading: Reading, looks: usize) -> CaseRead
+    ensures { λ r. ⌜ r ≡ caseRead reading looks ⌝ }
+{
+    CaseRead { reading, looks }
 }
 
 // What follows the last record: nothing but zeros.
-fn end_read(file: &[u8], h: Header, w: Walk) -> Reading
+fn end_read(file: &[u8], h: Header, w: Walk) -> CaseRead
     ensures { λ r. ⌜ r ≡ endRead h (now (file .entry)) w ⌝ }
 {
     match w {
-        Walk::Fault(f) => Reading::Refused(f),
+        Walk::Fault(f) => said(Reading::Refused(f), 0),
         Walk::At(at) => {
-            let i = trailing(file, at);
-            if i < file.len() {
-                return Reading::Refused(Refusal::Trailing(i));
+            let t = trailing(file, at);
+            if t.at < file.len() {
+                return said(Reading::Refused(Refusal::Trailing(t.at)), t.looks);
             }
-            Reading::Read(h)
+            said(Reading::Read(h), t.looks)
         }
     }
 }
 
 // What follows a header that stands.
-fn body_read(file: &[u8], at: usize) -> Reading
+fn body_read(file: &[u8], at: usize) -> CaseRead
     requires { ⌜ sizeOf Kind.Head ≤ length (now file) ⌝ }
     ensures { λ r. ⌜ r ≡ bodyRead (now (file .entry)) (Walk.At at) ⌝ }
 {
     let h = header_of(file);
     if !counts_ok(h) {
-        return Reading::Refused(Refusal::Count);
+        return said(Reading::Refused(Refusal::Count), 0);
     }
     let w = walk_tables(file, h, Walk::At(at));
     end_read(file, h, w)
 }
 
-// The header, or the first refusal.
-pub fn reading_of(file: &[u8]) -> Reading
-    ensures { λ r. ⌜ r ≡ readingOf (now (file .entry)) ⌝ }
+// The header, or the first refusal, and the words and bytes looked at after the last record.
+pub fn read_of(file: &[u8]) -> CaseRead
+    ensures { λ r. ⌜ r ≡ readOf (now (file .entry)) ⌝ }
 {
     if crate::MOST_BYTES < file.len() {
-        return Reading::Refused(Refusal::FileLength);
+        return said(Reading::Refused(Refusal::FileLength), 0);
     }
     let w = record_at(file, Kind::Head, 0, 0);
     match w {
-        Walk::Fault(f) => Reading::Refused(f),
+        Walk::Fault(f) => said(Reading::Refused(f), 0),
         Walk::At(at) => body_read(file, at),
     }
 }

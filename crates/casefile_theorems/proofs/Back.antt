@@ -7,14 +7,15 @@ use mathlib.Core.List.{List, [], _∷_, _++_, append-assoc}
 use native.Mathlib.Omega.{arith}
 use borrow.Author.Tests.{eq-eqb}
 use lib.Dec.{lit<}
-use lib.ListN.{length, getD, replicate}
+use lib.ListN.{length, getD, replicate, length-append, length-replicate}
 use Rattle.loops.proofs.Scan.{passed}
 use Rattle.mode.specs.Number.{modeNumber}
 use Rattle.mode.specs.declared.PlanMode.{PlanMode}
 use Rattle.mode.specs.declared.PlanMode.the-variants.{Expand, Reinforce, Observe}
 use Rattle.casefile.specs.Bounds.{mostBytes}
 use Rattle.casefile.specs.Layout.{layoutOf, field, spot}
-use Rattle.casefile.specs.Reading.{headerOf, modeOf, countsOk, levels, lines, tablesWalked, trailing, zeroAt, readingOf, beforeBuses, beforeGenerators, beforeCorridors, beforeLines, recordsOf}
+use Rattle.casefile.specs.Reading.{headerOf, modeOf, countsOk, levels, lines, tablesWalked, trailing, zeroAt, zerosPassed, looksFor, looks, caseRead, readOf, beforeBuses, beforeGenerators, beforeCorridors, beforeLines, recordsOf}
+use Rattle.casefile.specs.Looks.{lookedAt}
 use Rattle.casefile.specs.Tables.{levelsAt, busesAt, generatorsAt, corridorsAt, linesAt}
 use Rattle.casefile.specs.declared.Kind.{Kind}
 use Rattle.casefile.specs.declared.Kind.the-variants.{Head, Level, Bus, Generator, Corridor, Line}
@@ -22,6 +23,7 @@ use Rattle.casefile.specs.declared.Header.{Header}
 use Rattle.casefile.specs.declared.Walk.the-variants.{At}
 use Rattle.casefile.specs.declared.Reading.the-variants.{Read}
 use Rattle.casefile.proofs.Accepted.{endAt}
+use Rattle.casefile.proofs.Trailing.{zeros-among}
 use Rattle.casefile.proofs.Walks.{tables-walked, end-good, body-end, whole-body}
 use Rattle.casefile_theorems.specs.Writer.{recordBytes, tableBytes, headRow, fileWith, countOf}
 use Rattle.casefile_theorems.proofs.Bytes.{Fine}
@@ -43,6 +45,9 @@ pub record Whole (h : Header) (v : Kind → ℕ → ℕ → ℕ) : Type 0 where
   pub rows : (k : Kind) (i : ℕ) → i < countOf k h → Fine (layoutOf k .fields) (v k i)
 
 -- ---- zeros to the end
+length-zeros : (n : ℕ) → length (replicate {A = ℕ} n 0) ≡ n
+length-zeros n = length-replicate n 0
+
 pub no-trailing : (s : List ℕ) (at : ℕ) → ((m : ℕ) → at ≤ m → getD s m 0 ≡ 0) → length s ≤ trailing s at
 unfolding trailing
 no-trailing s at g =
@@ -156,11 +161,22 @@ module _ (h : Header) (v : Kind → ℕ → ℕ → ℕ) (n : ℕ) (g : Whole h 
       let m : modeOf (field Head 0 0 padded) ≡ h .mode = ap (λ (x : ℕ). modeOf x) e₀ ∙ mode-back (h .mode) in
       simp (m, e₁, e₂, e₃, e₄, e₅, e₆)
 
+  -- nothing but the zeros follows the records, and each word or byte of them is looked at
+  nothing : length padded ≤ trailing padded (endAt h)
+  nothing = no-trailing padded (endAt h) (λ m b. past-zeros (fileWith h v) n m (subst (λ (x : ℕ). x ≤ m) (sym length-file) b))
+
+  looks-back : looks padded (endAt h) ≡ looksFor n n
+  looks-back =
+      let l : length padded ≡ endAt h + n = length-append (fileWith h v) (replicate {A = ℕ} n 0) ∙ ap (λ (m : ℕ). m + length (replicate {A = ℕ} n 0)) length-file ∙ ap (λ (m : ℕ). endAt h + m) (length-zeros n) in
+      let a : length padded - endAt h ≡ n = omega arith in
+      let b : zerosPassed padded (endAt h) ≡ n = omega (arith, nothing, zeros-among padded (endAt h)) in
+      ap (λ (m : ℕ). looksFor m (zerosPassed padded (endAt h))) a ∙ ap (λ (m : ℕ). looksFor n m) b
+
   -- the first direction: the padded file of a case is answered, with its header
-  pub reading-back : length padded ≤ mostBytes → readingOf padded ≡ Read h
+  pub reading-back : length padded ≤ mostBytes → readOf padded ≡ caseRead (Read h) (looksFor n n)
   reading-back short =
       sym
-      (whole-body padded (At levelsAt) levelsAt (Read h) short (sym (head-stands .goes 0)) refl
-      (body-end padded levelsAt h header-back (At (endAt h)) (Read h) (g .counts) tables-pass
-      (end-good h padded (At (endAt h)) (endAt h) (trailing padded (endAt h)) refl refl
-      (no-trailing padded (endAt h) (λ m b. past-zeros (fileWith h v) n m (subst (λ (x : ℕ). x ≤ m) (sym length-file) b))))))
+      (whole-body padded (At levelsAt) levelsAt (caseRead (Read h) (looks padded (endAt h))) short (sym (head-stands .goes 0)) refl
+      (body-end padded levelsAt h header-back (At (endAt h)) (caseRead (Read h) (looks padded (endAt h))) (g .counts) tables-pass
+      (end-good h padded (At (endAt h)) (endAt h) (lookedAt padded (endAt h)) refl refl nothing)))
+      ∙ ap (λ (m : ℕ). caseRead (Read h) m) looks-back

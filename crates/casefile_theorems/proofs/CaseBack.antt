@@ -19,7 +19,7 @@ use Rattle.mode.specs.declared.PlanMode.{PlanMode}
 use Rattle.mode.specs.declared.PlanMode.the-variants.{Expand, Reinforce, Observe}
 use Rattle.casefile.specs.Bounds.{mostLevels, mostBuses, mostGenerators, mostCorridors, mostSheet, mostBytes, rowFigures}
 use Rattle.casefile.specs.Layout.{Field, layoutOf, placeOf, spanOf, spot, word}
-use Rattle.casefile.specs.Reading.{countsOk, levels, lines, readingOf}
+use Rattle.casefile.specs.Reading.{countsOk, levels, lines, looksFor, caseRead}
 use Rattle.casefile.specs.Tables.{Places, numbers, figures, basisField, sheetIn, lineFigure, levelsAt, busesAt, generatorsAt, corridorsAt, linesAt, tablesOf, held, sizesOk, outcome, readCase}
 use Rattle.casefile.specs.declared.Kind.{Kind}
 use Rattle.casefile.specs.declared.Kind.the-variants.{Head, Level, Bus, Generator, Corridor, Line}
@@ -190,8 +190,7 @@ module _ (h : Header) (p : Places) (n : ℕ) (c : Case h p) where
       (sheet-back s (linesAt h) (lines h) p (c .sheet) (λ i l. line-stands h (wordsOf p) n w i l))
 
   -- the first direction, whole: reading the file of a case, followed by zeros, gives the case
-  pub case-read : (q : Places) → sizesOk q ≡ true → length paddedCase ≤ mostBytes → readCase paddedCase q ≡ outcome (Read h) p
+  pub case-read : (q : Places) → sizesOk q ≡ true → length paddedCase ≤ mostBytes → readCase paddedCase q ≡ outcome (caseRead (Read h) (looksFor n n)) p
   unfolding held fileOf
   case-read q z l =
-      let e : readingOf paddedCase ≡ Read h = reading-back h (wordsOf p) n (whole-of h p c) l in
-      sym (read-whole paddedCase q p (Read h) h z (sym e) refl tables-back)
+      sym (read-whole paddedCase q p (caseRead (Read h) (looksFor n n)) h z (sym (reading-back h (wordsOf p) n (whole-of h p c) l)) refl tables-back)

@@ -7,3 +7,5 @@ pub mod CaseBack
 pub mod CaseForth
 pub mod Answers
 pub mod Theorems
+pub mod Padding
+pub mod Examples

@@ -10,8 +10,8 @@ use lib.ListN.{length, getD, replicate}
 use Rattle.refusal.specs.declared.Refusal.{Refusal}
 use Rattle.casefile.specs.Bounds.{mostBytes}
 use Rattle.casefile.specs.Layout.{Field, number, upTo, figure, layoutOf}
-use Rattle.casefile.specs.Reading.{readingOf}
-use Rattle.casefile.specs.Tables.{Places, Outcome, outcome, tablesOf, held, sizesOk, readCase}
+use Rattle.casefile.specs.Reading.{looksFor, caseRead, readOf, readingOf}
+use Rattle.casefile.specs.Tables.{Places, Outcome, replyOf, outcome, tablesOf, held, sizesOk, readCase}
 use Rattle.casefile.specs.declared.Kind.{Kind}
 use Rattle.casefile.specs.declared.Kind.the-variants.{Level, Bus, Generator, Corridor, Line}
 use Rattle.casefile.specs.declared.Header.{Header}
@@ -27,15 +27,16 @@ use Rattle.casefile_theorems.proofs.CaseBack.{case-read, file-short}
 use Rattle.casefile_theorems.proofs.CaseForth.{answer-file, files-alike}
 use Rattle.casefile_theorems.proofs.Forth.{wordsIn, restOf, written}
 
--- ---- reading the file of a case, and then so many zeros as keep it within a file's length
+-- ---- reading the file of a case, and then so many zeros as keep it within a file's length: the case, and the words and bytes of the zeros looked at
 pub case-padded : (h : Header) (p q : Places) (n : ℕ) → Case h p → sizesOk q ≡ true → length (fileOf h p ++ replicate n 0) ≤ mostBytes
-    → readCase (fileOf h p ++ replicate n 0) q ≡ outcome (Read h) p
+    → readCase (fileOf h p ++ replicate n 0) q ≡ outcome (caseRead (Read h) (looksFor n n)) p
 case-padded h p q n c z l = case-read h p n c q z l
 
--- without zeros every case's file is short enough (file-short)
-pub case-back : (h : Header) (p q : Places) → Case h p → sizesOk q ≡ true → readCase (fileOf h p) q ≡ outcome (Read h) p
+-- without zeros every case's file is short enough (file-short), and nothing is looked at
+pub case-back : (h : Header) (p q : Places) → Case h p → sizesOk q ≡ true → readCase (fileOf h p) q ≡ outcome (caseRead (Read h) 0) p
+unfolding looksFor
 case-back h p q c z =
-    subst (λ (s : List ℕ). readCase s q ≡ outcome (Read h) p) (append-nil (fileOf h p))
+    subst (λ (s : List ℕ). readCase s q ≡ outcome (caseRead (Read h) 0) p) (append-nil (fileOf h p))
     (case-padded h p q 0 c z (rw append-nil (omega (arith, file-short h p c))))
 
 -- ---- the file of an answer
@@ -46,9 +47,9 @@ pub record Written (s : List ℕ) (h : Header) (p : Places) : Type 0 where
   pub file : s ≡ fileWith h words ++ replicate rest 0
   pub answer : fileOf h p ≡ fileWith h (tidied words)
 
-pub case-forth : (s : List ℕ) (h : Header) (p q : Places) → Bytes s → outcome (Read h) p ≡ readCase s q → Case h p × Written s h p
-case-forth s h p q b e =
-    let a = answered-case s q p e refl in (
+pub case-forth : (s : List ℕ) (h : Header) (n : ℕ) (p q : Places) → Bytes s → outcome (caseRead (Read h) n) p ≡ readCase s q → Case h p × Written s h p
+case-forth s h n p q b e =
+    let a = answered-case s q p {r = caseRead (Read h) n} e refl in (
       subst (λ (x : Places). Case h x) (sym (a .places)) (answer-case s h b (a .reading)),
       record {
         words = wordsIn s h;
@@ -100,7 +101,7 @@ case-sizes h p c =
       c .sheet .size,
     )
 
-read-same : {h h′ : Header} {p p′ : Places} → outcome (Read h) p ≡ outcome (Read h′) p′ → (h ≡ h′) × (p ≡ p′)
+read-same : {h h′ : Header} {n n′ : ℕ} {p p′ : Places} → outcome (caseRead (Read h) n) p ≡ outcome (caseRead (Read h′) n′) p′ → (h ≡ h′) × (p ≡ p′)
 read-same e = (cc (ap (λ (o : Outcome). o .reply) e), ap (λ (o : Outcome). o .places) e)
 
 pub cases-apart : (h h′ : Header) (p p′ : Places) (n n′ : ℕ) → Case h p → Case h′ p′ → length (fileOf h p ++ replicate n 0) ≤ mostBytes
@@ -113,10 +114,12 @@ cases-apart h h′ p p′ n n′ c c′ l e =
     ∙ case-padded h′ p′ p n′ c′ z (subst (λ (s : List ℕ). length s ≤ mostBytes) e l))
 
 -- ---- a refusal of a file, with every table at its size, leaves zeros
-zero-by : (s : List ℕ) (p : Places) (f : Refusal) (r : Reading) → outcome (Refused f) p ≡ outcome r (tablesOf s (held r)) → p ≡ blank
-zero-by s p f (Read h) e = absurd (let g = ap (λ (o : Outcome). o .reply) e in let z : _≡_ {A = ℕ} 0 1 = cc in omega arith)
-zero-by s p f (Refused g) e = ap (λ (o : Outcome). o .places) e ∙ sym (refused-blank s g)
+zero-by : (s : List ℕ) (p : Places) (f : Refusal) (r : Reading) → replyOf (Refused f) ≡ replyOf r → p ≡ tablesOf s (held r) → p ≡ blank
+zero-by s p f (Read h) g e = absurd (let z : _≡_ {A = ℕ} 0 1 = cc in omega arith)
+zero-by s p f (Refused g) q e = e ∙ sym (refused-blank s g)
 
-pub refused-zero : (s : List ℕ) (p q : Places) (f : Refusal) → sizesOk q ≡ true → outcome (Refused f) p ≡ readCase s q → p ≡ blank
+pub refused-zero : (s : List ℕ) (n : ℕ) (p q : Places) (f : Refusal) → sizesOk q ≡ true → outcome (caseRead (Refused f) n) p ≡ readCase s q → p ≡ blank
 unfolding readCase
-refused-zero s p q f z e = zero-by s p f (readingOf s) (simp z at e)
+refused-zero s n p q f z e =
+    let d : outcome (caseRead (Refused f) n) p ≡ outcome (readOf s) (tablesOf s (held (readingOf s))) = simp z at e in
+    zero-by s p f (readingOf s) (ap (λ (o : Outcome). o .reply) d) (ap (λ (o : Outcome). o .places) d)

@@ -1,3 +1,4 @@
--- The file of a case, and the cases that a file can hold.
+-- The file of a case, the cases that a file can hold, and the reading with its trailing bytes tested one by one.
 pub mod Writer
 pub mod Cases
+pub mod Plain

@@ -3,13 +3,12 @@
 use Prim.Native.Nat.{ℕ, _<_, _≤_}
 use mathlib.Core.Bool.{Bool, true, false}
 use mathlib.Core.List.{List}
-use mathlib.Core.Logic.{_⊎_, inl, inr}
 use mathlib.Core.Path.{_≡_, refl, sym, ap, _∙_}
-use native.Mathlib.Omega.{arith}
 use borrow.Author.Tests.{ltb-true, ltb-false}
 use lib.Dec.{ltb}
 use lib.ListN.{length}
 use lib.Ieee.{Float}
+use Rattle.loops.proofs.Bools.{unequal}
 use Rattle.refusal.specs.Number.{numberOf, indexOf}
 use Rattle.refusal.specs.Reply.{answered, refused, refusedBy, replyOf}
 use Rattle.refusal.specs.declared.Refusal.{Refusal}
@@ -24,7 +23,7 @@ use Rattle.dispatch.proofs.Checks.{accepts}
 use Rattle.dispatch.proofs.Settling.{settled-refused, settled-answered}
 
 never : {A : Type 0} (x : A) (k i : ℕ) → answered x ≡ refused k i → ⊥
-never x k i e = let z : _≡_ {A = ℕ} 0 1 = cc in omega arith
+never x k i e = unequal cc
 
 module _ (n : ℕ) (u : Units) (d : Float) (mw : List Float) where
   -- ---- an answer is the economic dispatch of the units, whatever the result held
@@ -59,14 +58,6 @@ module _ (n : ℕ) (u : Units) (d : Float) (mw : List Float) where
 
     pub refuses : faultyCost u d < count u → dispatched n u d mw ≡ outcome (Refused (Cost (faultyCost u d))) mw
     refuses h = accepted ∙ settled-refused u d mw h
-
-    pub answered-or-8 : (dispatched n u d mw .reply ≡ answered tt) ⊎ (dispatched n u d mw .reply ≡ refused 8 (faultyCost u d))
-    unfolding numberOf indexOf
-    answered-or-8 = go (ltb (faultyCost u d) (count u)) refl
-      where
-        go : (b : Bool) → ltb (faultyCost u d) (count u) ≡ b → (dispatched n u d mw .reply ≡ answered tt) ⊎ (dispatched n u d mw .reply ≡ refused 8 (faultyCost u d))
-        go true e = inr (ap (λ (o : Outcome). o .reply) (refuses (ltb-true (faultyCost u d) (count u) e)))
-        go false e = inl (ap (λ (o : Outcome). o .reply) (answers (ltb-false (faultyCost u d) (count u) e)))
 
     -- what the two answers of a call say, as the promise of `economic_dispatch` has it
     module _ (a : Answer) (out : List Float) (e : outcome a out ≡ dispatched n u d mw) where

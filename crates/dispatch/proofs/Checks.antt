@@ -4,12 +4,11 @@ use Prim.Native.Nat.{ℕ, _<_, _≤_}
 use mathlib.Core.Bool.{Bool, true, false, cond, _&&_}
 use mathlib.Core.Path.{_≡_, refl, sym, _∙_}
 use native.Mathlib.Nat.{le-of-eq}
-use native.Mathlib.Omega.{arith}
 use borrow.Author.Tests.{eqb-true, eq-eqb, ltb-false, leb-true, lt-ltb, le-ltb, le-leb, lt-leb}
 use lib.Dec.{eqb, leb, ltb}
 use lib.ListN.{length}
 use lib.Ieee.{Float}
-use Rattle.loops.proofs.Bools.{both, and-of}
+use Rattle.loops.proofs.Bools.{both, and-of, unequal}
 use Rattle.loops.proofs.Scan.{all-pass, pass-all}
 use Rattle.refusal.specs.declared.Answer.the-variants.{Answered, Refused}
 use Rattle.refusal.specs.declared.Refusal.{Refusal}
@@ -57,7 +56,7 @@ module _ (n : ℕ) (u : Units) (m : ℕ) where
       record { pmax = l .pmax ∙ sym (l .pmin); c1 = l .c1 ∙ sym (l .pmin); c2 = l .c2 ∙ sym (l .pmin) }
 
 never : (f : Refusal) → Refused f ≡ Answered → ⊥
-never f e = let z : _≡_ {A = ℕ} 0 1 = cc in omega arith
+never f e = unequal cc
 
 module _ (n : ℕ) (u : Units) (d : Float) (m : ℕ) where
   -- ---- the ways out

@@ -3,7 +3,7 @@
 use Prim.Native.Nat.{ℕ, zero, suc, _<_, _≤_}
 use mathlib.Core.Bool.{Bool, true, false, cond}
 use mathlib.Core.List.{List}
-use mathlib.Core.Path.{_≡_, refl, sym, ap, _∙_, subst}
+use mathlib.Core.Path.{_≡_, refl, ap, _∙_, subst}
 use native.Mathlib.Decide.{ℕ-discrete}
 use native.Mathlib.Omega.{arith}
 use borrow.Author.Tests.{ltb-true, ltb-false}
@@ -13,19 +13,19 @@ use lib.Seq.{getD-set-same, getD-set-other}
 use lib.Ieee.{Float, nan, binary64, lt, le}
 use Rattle.loops.specs.Figures.{at, plus, nought, clamped, inside}
 use Rattle.loops.specs.Loops.{sumTo}
-use Rattle.loops.proofs.Bools.{both}
+use Rattle.loops.proofs.Bools.{both, unequal}
 use Rattle.loops.proofs.Scan.{all-pass}
 use Rattle.loops.proofs.Tab.{length-tab, get-tab}
 use Rattle.loops.proofs.Order.{lt-of-not-le, real, bounded, bounded-real, right-real, le-self, clamped-inside, inside-bounded}
 use Rattle.loops.proofs.Signs.{add-real, sub-real}
 use Rattle.loops.proofs.Real.{sum-real, between-bounded}
-use Rattle.refusal.specs.Reply.{answered, replyOf}
+use Rattle.refusal.specs.Reply.{answered}
 use Rattle.refusal.specs.declared.Answer.{Answer}
 use Rattle.refusal.specs.declared.Answer.the-variants.{Answered, Refused}
-use Rattle.dispatch.specs.Units.{Units, Even, count, total, unitOkAt, costOkAt, outputAt}
+use Rattle.dispatch.specs.Units.{Units, count, total, unitOkAt, costOkAt, outputAt}
 use Rattle.dispatch.specs.Share.{priceOf, outputs, firstFree, gapOf, closedAt, closed, shared}
 use Rattle.dispatch.specs.Dispatch.{Standing, most, least, between, standing, dispatchAt, economicDispatch, infiniteCost, faultyCostAt, faultyCost}
-use Rattle.dispatch.specs.Operation.{mostDemand, checkOf, Outcome, outcome, settledIf, settled, dispatchedBy, dispatched}
+use Rattle.dispatch.specs.Operation.{mostDemand, checkOf, settledIf, settled, dispatchedBy, dispatched}
 use Rattle.dispatch.specs.Limits.{Within, SoundUnits, Accepted}
 use Rattle.dispatch.proofs.Checks.{passes}
 use Rattle.dispatch.proofs.Prices.{Fit, fit-at, price-real, output-at-inside}
@@ -97,15 +97,6 @@ shared-length : (u : Units) (d : Float) → length (shared u d) ≡ count u
 unfolding shared
 shared-length u d = closed-length (u .pmin) (u .pmax) d (outputs u (priceOf u d)) ∙ outputs-length u (priceOf u d)
 
-pub dispatch-length : (u : Units) (d : Float) → Even u → length (economicDispatch u d) ≡ count u
-unfolding economicDispatch dispatchAt
-dispatch-length u d e = go (standing u d)
-  where
-    go : (s : Standing) → length (dispatchAt s u d) ≡ count u
-    go most = e .pmax
-    go least = refl
-    go between = shared-length u d
-
 -- ---- a demand strictly between the sums
 -- neither test settled it
 unsettled : (u : Units) (d : Float) → standing u d ≡ between → (le (total (u .pmax)) d ≡ false) × (le d (total (u .pmin)) ≡ false)
@@ -113,8 +104,8 @@ unfolding standing
 unsettled u d e = go (le (total (u .pmax)) d) (le d (total (u .pmin))) e
   where
     go : (a b : Bool) → cond a most (cond b least between) ≡ between → (a ≡ false) × (b ≡ false)
-    go true b h = absurd (let z : _≡_ {A = ℕ} 0 1 = cc in omega arith)
-    go false true h = absurd (let z : _≡_ {A = ℕ} 0 1 = cc in omega arith)
+    go true b h = absurd (unequal cc)
+    go false true h = absurd (unequal cc)
     go false false h = (refl, refl)
 
 costs-pass : (u : Units) → count u ≤ infiniteCost u → (i : ℕ) → i < count u → costOkAt u i ≡ true
@@ -186,14 +177,10 @@ unfolding dispatched dispatchedBy settled settledIf
 within n u d mw h = go (checkOf n u d (length mw)) refl h
   where
     settles : Accepted n u d (length mw) → (b : Bool) → ltb (faultyCost u d) (count u) ≡ b → settledIf b u d mw .reply ≡ answered tt → Within u (settledIf b u d mw .mw)
-    settles p true e a = absurd (let z : _≡_ {A = ℕ} 0 1 = cc in omega arith)
+    settles p true e a = absurd (unequal cc)
     settles p false e a =
         dispatch-within u d (p .units) (right-real nought d (both (le nought d) (le d mostDemand) (p .demand) .0)) (ltb-false (faultyCost u d) (count u) e)
 
     go : (k : Answer) → checkOf n u d (length mw) ≡ k → dispatchedBy k u d mw .reply ≡ answered tt → Within u (dispatchedBy k u d mw .mw)
-    go (Refused f) e a = absurd (let z : _≡_ {A = ℕ} 0 1 = cc in omega arith)
+    go (Refused f) e a = absurd (unequal cc)
     go Answered e a = settles (passes n u d (length mw) e) (ltb (faultyCost u d) (count u)) refl a
-
-pub answer-within : (n : ℕ) (u : Units) (d : Float) (mw : List Float) (a : Answer) (out : List Float) → outcome a out ≡ dispatched n u d mw → a ≡ Answered → Within u out
-answer-within n u d mw a out e h =
-    subst (λ (o : Outcome). Within u (o .mw)) (sym e) (within n u d mw (ap (λ (o : Outcome). o .reply) (sym e) ∙ ap replyOf h))

@@ -8,6 +8,7 @@ use Rattle.mode.specs.Number.{modeNumber}
 use Rattle.angles_defs.specs.declared.Ended.{Ended}
 use Rattle.angles_defs.specs.declared.Ended.the-variants.{Settled, NoDescent, StepsSpent}
 use Rattle.angles_defs.specs.declared.Solution.{Solution}
+use Rattle.casefile.specs.Tables.{Outcome}
 use Rattle.casefile.specs.declared.Header.{Header}
 use Rattle.exports.specs.declared.AnglesSaid.{AnglesSaid}
 use Rattle.exports.specs.declared.ReadingSaid.{ReadingSaid}
@@ -27,10 +28,13 @@ abbrev pub anglesSaid : Reply Solution → AnglesSaid
 anglesSaid (answered s) = record { refusal = 0; index = 0; steps = s .steps; ended = endedNumber (s .ended); figure = endedFigure (s .ended) }
 anglesSaid (refused number index) = record { refusal = number; index = index; steps = 0; ended = 0; figure = nought }
 
-abbrev pub readingSaid : Reply Header → ReadingSaid
-readingSaid (answered h) =
-    record { refusal = 0; index = 0; mode = modeNumber (h .mode); target = h .target; buses = h .buses; corridors = h .corridors; generators = h .generators; above = h .above; requested = h .requested }
-readingSaid (refused number index) = record { refusal = number; index = index; mode = 0; target = 0; buses = 0; corridors = 0; generators = 0; above = 0; requested = 0 }
+abbrev pub readingSaid : Reply Header → ℕ → ReadingSaid
+readingSaid (answered h) looks =
+    record { refusal = 0; index = 0; mode = modeNumber (h .mode); target = h .target; buses = h .buses; corridors = h .corridors; generators = h .generators; above = h .above; requested = h .requested; looks = looks }
+readingSaid (refused number index) looks = record { refusal = number; index = index; mode = 0; target = 0; buses = 0; corridors = 0; generators = 0; above = 0; requested = 0; looks = looks }
+
+abbrev pub caseSaid : Outcome → ReadingSaid
+caseSaid o = readingSaid (o .reply) (o .looks)
 
 abbrev pub sheetSaid : Reply (Unit {0}) → SheetSaid
 sheetSaid (answered u) = record { refusal = 0; index = 0 }

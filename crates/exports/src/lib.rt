@@ -5,7 +5,7 @@ ghost use mathlib.Core.Path.{_≡_};
 ghost use Rattle.angles_defs.specs.Operation.{requestOf, dcAngles};
 ghost use Rattle.casefile.specs.Tables.{placesOf, readCase};
 ghost use Rattle.line_defs.specs.Sheet.{lineSheet};
-ghost use Rattle.exports.specs.Said.{anglesSaid, readingSaid, sheetSaid};
+ghost use Rattle.exports.specs.Said.{anglesSaid, caseSaid, sheetSaid};
 
 // The answer of `dc_angles`. A field that has nothing to say is 0.
 #[repr(C)]
@@ -34,6 +34,8 @@ pub struct ReadingSaid {
     pub generators: usize,
     pub above: usize,
     pub requested: usize,
+    // The words and bytes looked at after the last record.
+    pub looks: usize,
 }
 
 // The answer of `line_sheet`: document 02's number and index of the refusal; 0 where the sheet is worked out.
@@ -98,7 +100,7 @@ pub extern "C" fn lopnaski_read_case(
     share: &mut [f64],
     sheet: &mut [f64],
 ) -> ReadingSaid
-    ensures said { λ r. ⌜ r ≡ readingSaid (readCase (now (file .entry)) (placesOf (now (ladder .entry)) (now (tier .entry)) (now (load .entry)) (now («generator_bus» .entry)) (now (slack .entry)) (now (pmin .entry)) (now (pmax .entry)) (now (c1 .entry)) (now (c2 .entry)) (now (a .entry)) (now (b .entry)) (now (circuits .entry)) (now («length_km» .entry)) (now (share .entry)) (now (sheet .entry))) .reply) ⌝ }
+    ensures said { λ r. ⌜ r ≡ caseSaid (readCase (now (file .entry)) (placesOf (now (ladder .entry)) (now (tier .entry)) (now (load .entry)) (now («generator_bus» .entry)) (now (slack .entry)) (now (pmin .entry)) (now (pmax .entry)) (now (c1 .entry)) (now (c2 .entry)) (now (a .entry)) (now (b .entry)) (now (circuits .entry)) (now («length_km» .entry)) (now (share .entry)) (now (sheet .entry)))) ⌝ }
     ensures tables { λ r. ⌜ placesOf (now (ladder .exit)) (now (tier .exit)) (now (load .exit)) (now («generator_bus» .exit)) (now (slack .exit)) (now (pmin .exit)) (now (pmax .exit)) (now (c1 .exit)) (now (c2 .exit)) (now (a .exit)) (now (b .exit)) (now (circuits .exit)) (now («length_km» .exit)) (now (share .exit)) (now (sheet .exit)) ≡ readCase (now (file .entry)) (placesOf (now (ladder .entry)) (now (tier .entry)) (now (load .entry)) (now («generator_bus» .entry)) (now (slack .entry)) (now (pmin .entry)) (now (pmax .entry)) (now (c1 .entry)) (now (c2 .entry)) (now (a .entry)) (now (b .entry)) (now (circuits .entry)) (now («length_km» .entry)) (now (share .entry)) (now (sheet .entry))) .places ⌝ }
 {
     said::reading(casefile::read_case(

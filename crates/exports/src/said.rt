@@ -10,6 +10,7 @@ use crate::SheetSaid;
 use angles_defs::Angles;
 use angles_defs::Ended;
 use angles_defs::Solution;
+use casefile::CaseRead;
 use casefile::Header;
 use casefile::Reading;
 use refusal::Answer;
@@ -69,8 +70,8 @@ pub fn angles(a: Angles) -> AnglesSaid
     }
 }
 
-fn read(h: Header) -> ReadingSaid
-    ensures { λ r. ⌜ r ≡ readingSaid (tables.replyOf (Reading.Read h)) ⌝ }
+fn read(h: Header, looks: usize) -> ReadingSaid
+    ensures { λ r. ⌜ r ≡ readingSaid (tables.replyOf (Reading.Read h)) looks ⌝ }
 {
     let mode = h.mode;
     ReadingSaid {
@@ -83,11 +84,12 @@ fn read(h: Header) -> ReadingSaid
         generators: h.generators,
         above: h.above,
         requested: h.requested,
+        looks,
     }
 }
 
-fn not_read(f: Refusal) -> ReadingSaid
-    ensures { λ r. ⌜ r ≡ readingSaid (tables.replyOf (Reading.Refused f)) ⌝ }
+fn not_read(f: Refusal, looks: usize) -> ReadingSaid
+    ensures { λ r. ⌜ r ≡ readingSaid (tables.replyOf (Reading.Refused f)) looks ⌝ }
 {
     ReadingSaid {
         refusal: f.number(),
@@ -99,15 +101,17 @@ fn not_read(f: Refusal) -> ReadingSaid
         generators: 0,
         above: 0,
         requested: 0,
+        looks,
     }
 }
 
-pub fn reading(r: Reading) -> ReadingSaid
-    ensures { λ s. ⌜ s ≡ readingSaid (tables.replyOf r) ⌝ }
+pub fn reading(r: CaseRead) -> ReadingSaid
+    ensures { λ s. ⌜ s ≡ readingSaid (tables.replyOf (r .reading)) (r .looks) ⌝ }
 {
-    match r {
-        Reading::Read(h) => read(h),
-        Reading::Refused(f) => not_read(f),
+    let reading = r.reading;
+    match reading {
+        Reading::Read(h) => read(h, r.looks),
+        Reading::Refused(f) => not_read(f, r.looks),
     }
 }
 

@@ -1,6 +1,6 @@
 -- The operation with its test decided, and what a caller with a sound rating learns.
 use mathlib.Core.Bool.{true, false}
-use mathlib.Core.Path.{_≡_, sym, _∙_}
+use mathlib.Core.Path.{_≡_, _∙_}
 use lib.Ieee.{Float}
 use Rattle.refusal.specs.Reply.{answered, refusedBy}
 use Rattle.refusal.specs.declared.Refusal.the-variants.{Rating}

@@ -1,12 +1,12 @@
 -- Document 01, module 3: "Class: first with rating ≤ 100, ≤ 400, any; z 0.12, 0.125, 0.13; X/R 25, 35, 45."
 -- After `transformer_impedance` of branches.rs, operation by operation. Refusal 12: rating not finite or not above 0.
 use mathlib.Core.Bool.{Bool, cond, _&&_}
-use mathlib.Core.List.{List, [], _∷_}
+use mathlib.Core.List.{[], _∷_}
 use mathlib.Core.Path.{_≡_, refl}
 use lib.Ieee.{Float, binary64, ofBits, round, lt, le}
 use Rattle.loops.specs.Figures.{plus, times, over, nought, one, hundred, fourHundred, infinity, decimal}
 use Rattle.root.specs.Root.{root}
-use Rattle.refusal.specs.Reply.{Reply, answered, refused, refusedBy}
+use Rattle.refusal.specs.Reply.{Reply, answered, refusedBy}
 use Rattle.refusal.specs.declared.Refusal.the-variants.{Rating}
 use Rattle.impedance.specs.declared.SeriesImpedance.{SeriesImpedance}
 use Rattle.impedance.specs.declared.TransformerImpedance.{TransformerImpedance}

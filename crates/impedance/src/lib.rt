@@ -1,8 +1,6 @@
 // Series impedance of a transformer by its size class (`transformer_impedance` of branches.rs, classes of params.rs).
-ghost use mathlib.Core.Bool.{_&&_, cond};
+ghost use mathlib.Core.Bool.{cond};
 ghost use mathlib.Core.Path.{_≡_};
-ghost use lib.Ieee.{lt};
-ghost use Rattle.loops.specs.Figures.{infinity, nought, one, over, plus, times};
 ghost use Rattle.root.specs.Root.{root};
 ghost use Rattle.impedance.specs.Impedance.{byClass, reactance, impedanceOf, ratingOk, replyOf, defined};
 use refusal::Refusal;

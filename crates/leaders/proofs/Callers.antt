@@ -10,7 +10,7 @@ use lib.ListN.{length}
 use Rattle.loops.proofs.Bools.{and-of}
 use Rattle.loops.proofs.Scan.{pass-all}
 use Rattle.refusal.specs.declared.Answer.{Answer}
-use Rattle.refusal.specs.declared.Answer.the-variants.{Answered, Refused}
+use Rattle.refusal.specs.declared.Answer.the-variants.{Answered}
 use Rattle.leaders.specs.Leaders.{leadersOf}
 use Rattle.leaders.specs.Operation.{corridorOkAt, faultyCorridor, checkOf, outcome, ledOutcome, ledBy}
 use Rattle.leaders.proofs.Checks.{passed}

@@ -4,18 +4,16 @@ use Prim.Native.Nat.{ℕ, _<_, _≤_}
 use mathlib.Core.Bool.{Bool, true, false, cond, _&&_}
 use mathlib.Core.List.{List}
 use mathlib.Core.Path.{_≡_, refl, sym, ap, _∙_, subst}
-use native.Mathlib.Omega.{arith}
 use borrow.Author.Tests.{eqb-true, ltb-true, ltb-false, leb-true, lt-ltb, le-ltb}
 use lib.Dec.{ltb, leb, eqb}
 use lib.ListN.{length, getD}
-use Rattle.loops.proofs.Bools.{both}
+use Rattle.loops.proofs.Bools.{both, unequal}
 use Rattle.loops.proofs.Scan.{all-pass}
 use Rattle.refusal.specs.declared.Refusal.{Refusal}
 use Rattle.refusal.specs.declared.Refusal.the-variants.{Length, Count, Corridor}
-use Rattle.refusal.specs.declared.Answer.{Answer}
 use Rattle.refusal.specs.declared.Answer.the-variants.{Answered, Refused}
 use Rattle.leaders.specs.Leaders.{themselves, joinAll, leadersOf}
-use Rattle.leaders.specs.Operation.{lengthsOk, countsOk, corridorOk, corridorOkAt, faultyCorridor, checkOf, Ends, outcome, ledBy, ledOutcome}
+use Rattle.leaders.specs.Operation.{lengthsOk, countsOk, corridorOkAt, faultyCorridor, checkOf, Ends, outcome, ledBy, ledOutcome}
 
 module _ (buses corridors : ℕ) (a b : List ℕ) (places : ℕ) where
   abbrev lengths : Bool
@@ -76,9 +74,9 @@ module _ (buses corridors : ℕ) (a b : List ℕ) (places : ℕ) where
       go : (p q r : Bool) → lengths buses corridors a b places ≡ p → counts buses corridors a b places ≡ q → ltb (faultyCorridor buses a b) (length a) ≡ r
           → Answered ≡ cond p (cond q (cond r (Refused (Corridor (faultyCorridor buses a b))) Answered) (Refused Count)) (Refused Length)
           → Sound buses a b places
-      go false q r s t u h = let z : _≡_ {A = ℕ} 0 1 = cc in absurd (omega arith)
-      go true false r s t u h = let z : _≡_ {A = ℕ} 0 1 = cc in absurd (omega arith)
-      go true true true s t u h = let z : _≡_ {A = ℕ} 0 1 = cc in absurd (omega arith)
+      go false q r s t u h = absurd (unequal cc)
+      go true false r s t u h = absurd (unequal cc)
+      go true true true s t u h = absurd (unequal cc)
       go true true false s t u h = sound s t (ltb-false _ _ u)
 
 -- ends of as many buses; and the two stages of leading

@@ -1,7 +1,6 @@
 -- What is true of the leaders of sound corridors: each leads itself, and two buses have one leader exactly where a chain of corridors joins them.
 -- The invariant over the corridors, `Held`, is all of it for the corridors joined so far; a turn renames one leader to another.
-use Prim.Native.Nat.{ℕ, suc, _<_, zero-le}
-use mathlib.Core.Bool.{Bool, true, false, cond}
+use Prim.Native.Nat.{ℕ, suc, _<_}
 use mathlib.Core.List.{List}
 use mathlib.Core.Path.{_≡_, refl, sym, ap, _∙_, subst}
 use mathlib.Core.Logic.{⊎-elim}

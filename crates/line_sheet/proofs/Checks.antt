@@ -10,7 +10,7 @@ use lib.ListN.{length}
 use lib.Ieee.{Float, lt, le, ofBits}
 use lib.Ieee.Positive.{num, den, positive, le→cross, between}
 use Rattle.loops.specs.Figures.{at, plus, nought, tenThousand, millionth, inside}
-use Rattle.loops.proofs.Bools.{both, and-true, or-left, is}
+use Rattle.loops.proofs.Bools.{both, and-true, or-left, is, unequal}
 use Rattle.loops.proofs.Products.{rows-are}
 use Rattle.loops.proofs.Scan.{all-pass}
 use Rattle.refusal.specs.declared.Refusal.{Refusal}
@@ -70,7 +70,7 @@ passed-fault ok fault l next e = go (ltb (faulty ok l) (length l)) refl e
     go true f g = absurd (apart g)
       where
         apart : Refused (fault (faulty ok l)) ≡ Answered → ⊥
-        apart g = let z : _≡_ {A = ℕ} 0 1 = cc in omega arith
+        apart g = unequal cc
     go false f g = (ltb-false (faulty ok l) (length l) f, g)
 
 all-spreads : (spread : List Float) → length spread ≤ faulty spreadOk spread → (k : ℕ) → k < length spread → spreadOk spread k ≡ true
@@ -88,8 +88,8 @@ passed levels corridors ladder km spread sheet e = lengths (lengthsOk levels cor
     lengths : (a b : Bool) → lengthsOk levels corridors (length ladder) (length km) (length spread) sheet ≡ a → countsOk levels corridors ≡ b
         → cond a (cond b (faultIn levelOk Level ladder (faultIn lengthOk Corridor km (faultIn spreadOk Width spread Answered))) (Refused Count)) (Refused Length) ≡ Answered
         → Passed levels corridors ladder km spread sheet
-    lengths false b p q r = absurd (let z : _≡_ {A = ℕ} 0 1 = cc in omega arith)
-    lengths true false p q r = absurd (let z : _≡_ {A = ℕ} 0 1 = cc in omega arith)
+    lengths false b p q r = absurd (unequal cc)
+    lengths true false p q r = absurd (unequal cc)
     lengths true true p q r =
         let x = both (eqb (length ladder) levels && eqb (length km) corridors && eqb (length spread) corridors) (eqb sheet (sheetFigures levels corridors)) p in
         let y = both (eqb (length ladder) levels && eqb (length km) corridors) (eqb (length spread) corridors) (x .0) in

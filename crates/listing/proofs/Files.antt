@@ -6,8 +6,9 @@ use mathlib.Core.Path.{_≡_, refl, sym, ap, _∙_}
 use Rattle.refusal.specs.Reply.{Reply, answered, refused}
 use Rattle.refusal.specs.declared.Refusal.{Refusal}
 use Rattle.refusal.specs.declared.Refusal.the-variants.{Length}
-use Rattle.casefile.specs.Reading.{readingOf}
-use Rattle.casefile.specs.Tables.{Places, Outcome, outcome, tablesOf, held, sizesOk, readCase}
+use Rattle.casefile.specs.Reading.{unread, readOf, readingOf}
+use Rattle.casefile.specs.Tables.{Places, Outcome, replyOf, outcome, tablesOf, held, sizesOk, readCase}
+use Rattle.casefile.specs.declared.CaseRead.{CaseRead}
 use Rattle.casefile.specs.declared.Header.{Header}
 use Rattle.casefile.specs.declared.Reading.{Reading}
 use Rattle.casefile.specs.declared.Reading.the-variants.{Refused, Read}
@@ -24,7 +25,7 @@ saidText (refused n i) p = line 82 70 (number n ∷ number i ∷ [])
 abbrev outcomeText : Outcome → List ℕ
 outcomeText o = saidText (o .reply) (o .places)
 
-reading-text : (s : List ℕ) (r : Reading) → outcomeText (outcome r (tablesOf s (held r))) ≡ readText s r
+reading-text : (s : List ℕ) (r : Reading) → saidText (replyOf r) (tablesOf s (held r)) ≡ readText s r
 unfolding held refusalLine
 reading-text s (Refused f) = refl
 reading-text s (Read h) = refl
@@ -32,11 +33,11 @@ reading-text s (Read h) = refl
 file-text : (s : List ℕ) (p : Places) → sizesOk p ≡ true → outcomeText (readCase s p) ≡ fileText s
 unfolding readCase fileText
 file-text s p z =
-    ap (λ (b : Bool). outcomeText (cond b (outcome (readingOf s) (tablesOf s (held (readingOf s)))) (outcome (Refused Length) p))) z ∙ reading-text s (readingOf s)
+    ap (λ (b : Bool). outcomeText (cond b (outcome (readOf s) (tablesOf s (held (readingOf s)))) (outcome (unread Length) p))) z ∙ reading-text s (readingOf s)
 
-pub refused-file : (s : List ℕ) (q p : Places) {r : Reading} {f : Refusal} → sizesOk q ≡ true → outcome r p ≡ readCase s q → r ≡ Refused f → refusalLine f ≡ fileText s
+pub refused-file : (s : List ℕ) (q p : Places) {r : CaseRead} {f : Refusal} → sizesOk q ≡ true → outcome r p ≡ readCase s q → r .reading ≡ Refused f → refusalLine f ≡ fileText s
 unfolding refusalLine
-refused-file s q p {r} {f} z e g = ap outcomeText (ap (λ (x : Reading). outcome x p) (sym g) ∙ e) ∙ file-text s q z
+refused-file s q p {r} {f} z e g = ap (λ (x : Reading). saidText (replyOf x) p) (sym g) ∙ ap outcomeText e ∙ file-text s q z
 
-pub read-file : (s : List ℕ) (q p : Places) {r : Reading} {h : Header} → sizesOk q ≡ true → outcome r p ≡ readCase s q → r ≡ Read h → caseText h p ≡ fileText s
-read-file s q p {r} {h} z e g = ap outcomeText (ap (λ (x : Reading). outcome x p) (sym g) ∙ e) ∙ file-text s q z
+pub read-file : (s : List ℕ) (q p : Places) {r : CaseRead} {h : Header} → sizesOk q ≡ true → outcome r p ≡ readCase s q → r .reading ≡ Read h → caseText h p ≡ fileText s
+read-file s q p {r} {h} z e g = ap (λ (x : Reading). saidText (replyOf x) p) (sym g) ∙ ap outcomeText e ∙ file-text s q z

@@ -127,7 +127,7 @@ pub fn put_file(out: &mut [u8], file: &[u8]) -> usize
     let mut km = [0.0; MOST_CORRIDORS];
     let mut share = [0.0; MOST_CORRIDORS];
     let mut sheet = [0.0; MOST_SHEET];
-    let reading = casefile::read_case(
+    let read = casefile::read_case(
         file,
         &mut ladder,
         &mut tier,
@@ -145,6 +145,7 @@ pub fn put_file(out: &mut [u8], file: &[u8]) -> usize
         &mut share,
         &mut sheet,
     );
+    let reading = read.reading;
     match reading {
         Reading::Refused(f) => put_refusal(out, 0, f),
         Reading::Read(h) => put_case(

@@ -1,11 +1,21 @@
--- Tests joined by `and` and `or`, taken apart and put together.
+-- Tests joined by `and` and `or`, taken apart and put together; and what two constructors that are said to be equal give.
+use Prim.Native.Nat.{ℕ}
 use mathlib.Core.Bool.{Bool, true, false, _&&_, _||_, true≢false}
 use mathlib.Core.Logic.{_⊎_, inl, inr}
 use mathlib.Core.Path.{_≡_, refl, sym, _∙_, subst}
+use native.Mathlib.Omega.{arith}
 use lib.Dec.{T}
+
+-- where two constructors are said to be equal everything is, 0 and 1 too, and `cc` finds that
+pub unequal : _≡_ {A = ℕ} 0 1 → ⊥
+unequal e = omega arith
 
 pub is : {b : Bool} → b ≡ true → T b
 is e = subst T (sym e) tt
+
+pub holds : (b : Bool) → T b → b ≡ true
+holds true t = refl
+holds false t = absurd t
 
 pub no : {b : Bool} → b ≡ false → b ≡ true → ⊥
 no e h = true≢false (sym h ∙ e)

@@ -6,12 +6,13 @@ pub mod Scan
 pub mod Tab
 pub mod Parts
 pub mod Rows
+pub mod Rounded
 pub mod Order
+pub mod Zeros
 pub mod Signs
 pub mod Real
 pub mod Sums
 pub mod Puts
-pub mod Zeros
 pub mod Totals
 pub mod Bits
 pub mod Wholes

@@ -1,23 +1,25 @@
 -- Figures that are at most a whole number in size, whatever their sign: sums, products and quotients of such figures are too, and so none is infinite.
 -- Rounding is monotone (`round-mono`), and a whole number up to 2 ^ 53 is held exactly.
-use Prim.Native.Nat.{ℕ, zero, suc, _+_, _-_, _*_, _/_, _%_, _^_, _<_, _≤_, compare}
-use mathlib.Core.Bool.{Bool, true, false, cond, _&&_, _||_, Bool·beq, true≢false}
-use mathlib.Core.Logic.{⊎-elim}
+use Prim.Native.Nat.{ℕ, zero, suc, _+_, _-_, _*_, _^_, _<_, _≤_}
+use mathlib.Core.Bool.{Bool, true, false, _&&_, true≢false}
 use mathlib.Core.Path.{_≡_, refl, sym, ap, _∙_}
-use native.Mathlib.Nat.{le-trans, le-of-eq, le-of-lt, lt-of-lt-of-le, zero-lt-suc, zero-mul, mul-one, one-mul, mul-comm, mul-assoc, mul-right-comm, mul-mul-mul-comm, mul-pos, mul-le-mul, mul-le-mul-right, le-of-mul-le-mul-right, add-mul}
+use native.Mathlib.Nat.{le-trans, le-of-eq, lt-of-lt-of-le, zero-lt-suc, zero-mul, mul-one, one-mul, mul-comm, mul-assoc, mul-right-comm, mul-mul-mul-comm, mul-pos, mul-le-mul, mul-le-mul-right, le-of-mul-le-mul-right, add-mul}
 use native.Mathlib.Omega.{arith}
-use borrow.Author.Tests.{ltb-true, eqb-true, ne-eqb}
-use lib.Dec.{T, ltb, eqb}
+use borrow.Author.Tests.{ne-eqb}
+use lib.Dec.{T, ltb}
 use lib.IntN.{ℤ}
-use lib.Ieee.{Float, nan, inf, fin, binary64, prec, emax, low, up, down, unlike, size, nearest, odd, units, round, sum, add, mul, div, lt, eq, le, ofBits, ofInt}
+use lib.Ieee.{Float, nan, inf, fin, binary64, up, down, unlike, round, sum, add, mul, div, lt, eq, le, ofBits, ofInt}
 use lib.Ieee.Fits.{down-pos}
 use lib.Ieee.Exact.{HasValue}
 use lib.Ieee.Order.{round-mono}
 use lib.Ieee.Back.{round-whole}
 use Rattle.loops.specs.Figures.{plus, times, over, float, nought, million, inside}
-use Rattle.loops.proofs.Bools.{both, either}
+use Rattle.loops.proofs.Bools.{holds, both}
+use Rattle.loops.proofs.Rounded.{alike, sum-is}
 use Rattle.loops.proofs.Order.{bounded}
+use Rattle.loops.proofs.Zeros.{size-zero}
 use Rattle.loops.proofs.Signs.{sound, sound-of}
+use Rattle.loops.proofs.Sums.{cross}
 
 abbrev pub Most : ℕ → Float → Type 0
 Most N nan = ⊥
@@ -35,29 +37,16 @@ most-more N M (inf s) l h = absurd h
 most-more N M (fin s m e) l h = le-trans h (mul-le-mul-right (down e) l)
 
 -- ---- what is rounded
-at-or-below : (a b : ℕ) → (ltb a b || (eqb a b && true)) ≡ true → a ≤ b
-at-or-below a b h = ⊎-elim (λ l. le-of-lt (ltb-true a b l)) (λ l. le-of-eq (eqb-true a b (both (eqb a b) true l .0))) (either (ltb a b) (eqb a b && true) h)
-
-holds : (b : Bool) → T b → b ≡ true
-holds true t = refl
-holds false t = absurd t
-
 -- a figure without a sign, at most y, where y is N
 size-most : (N m : ℕ) (e : ℤ) (y : Float) → HasValue y false N 1 → le (fin false m e) y ≡ true → m * up e ≤ N * down e
-unfolding le lt eq
 size-most N m e nan v h = absurd v
 size-most N m e (inf t) v h = absurd v
 size-most N m e (fin true n d) v h = absurd (true≢false (v .0))
 size-most N m e (fin false n d) v h =
     le-of-mul-le-mul-right
-    (le-trans (at-or-below (m * up e * down d) (n * up d * down e) h)
+    (le-trans (cross m e n d h)
     (le-of-eq (ap (λ (z : ℕ). z * down e) (sym (mul-one (n * up d)) ∙ v .1) ∙ mul-right-comm N (down d) (down e))))
     (down-pos d)
-
-odd-most : (N d : ℕ) (s : Bool) (q k l : ℕ) (y : Float) → HasValue y false N 1 → le (odd d false q k l) y ≡ true → Most N (odd d s q k l)
-unfolding odd
-odd-most N d s zero k l y v h = size-most N _ _ y v h
-odd-most N d s (suc q) k l y v h = size-most N _ _ y v h
 
 infinity-above : (y : Float) (N : ℕ) → HasValue y false N 1 → le (inf false) y ≡ true → ⊥
 unfolding le lt eq
@@ -65,22 +54,10 @@ infinity-above nan N v h = v
 infinity-above (inf t) N v h = v
 infinity-above (fin t n d) N v h = true≢false (sym h)
 
-units-most : (N : ℕ) (s : Bool) (q k : ℕ) (y : Float) → HasValue y false N 1 → le (units binary64 false q k) y ≡ true → Most N (units binary64 s q k)
-unfolding units
-units-most N s q k y v h = go (ltb (q * 2 ^ k) (2 ^ (low binary64 + suc (emax binary64)))) h
-  where
-    go : (b : Bool) → le (cond b (odd (suc (prec binary64)) false q k (low binary64)) (inf false)) y ≡ true
-        → Most N (cond b (odd (suc (prec binary64)) s q k (low binary64)) (inf s))
-    go true h = odd-most N (suc (prec binary64)) s q k (low binary64) y v h
-    go false h = absurd (infinity-above y N v h)
-
+-- so what is rounded, whatever its sign
 round-under : (N : ℕ) (s : Bool) (a b : ℕ) (y : Float) → HasValue y false N 1 → le (round binary64 false a b) y ≡ true → Most N (round binary64 s a b)
-unfolding round
-round-under N s a b y v h =
-    let n = a * 2 ^ low binary64 in
-    let k = size (n / b) - prec binary64 in
-    let u = b * 2 ^ k in
-    units-most N s (nearest (n / u) (compare (n % u * 2) u)) k y v h
+round-under N s a b y v =
+    alike binary64 s (λ (x z : Float). le x y ≡ true → Most N z) (λ m e h. size-most N m e y v h) (λ h. absurd (infinity-above y N v h)) a b
 
 pub round-most : (N : ℕ) (s : Bool) (a b : ℕ) → 0 < b → a ≤ N * b → N ≤ 2 ^ 53 → Most N (round binary64 s a b)
 round-most N s a b B h k =
@@ -89,16 +66,12 @@ round-most N s a b B h k =
 
 -- ---- sums, products and quotients
 sum-most : (N M : ℕ) (s : Bool) (a : ℕ) (t : Bool) (b c : ℕ) → 0 < c → a ≤ N * c → b ≤ M * c → N + M ≤ 2 ^ 53 → Most (N + M) (sum binary64 s a t b c)
-unfolding sum
 sum-most N M s a t b c C p q k =
     let e : (N + M) * c ≡ N * c + M * c = add-mul N M c in
-    go (Bool·beq s t) (ltb a b) (omega arith) (omega arith) (omega arith)
-  where
-    go : (x y : Bool) → a + b ≤ (N + M) * c → b - a ≤ (N + M) * c → a - b ≤ (N + M) * c
-        → Most (N + M) (cond x (round binary64 s (a + b) c) (cond y (round binary64 t (b - a) c) (round binary64 (s && ltb b a) (a - b) c)))
-    go true y u v w = round-most (N + M) s (a + b) c C u k
-    go false true u v w = round-most (N + M) t (b - a) c C v k
-    go false false u v w = round-most (N + M) (s && ltb b a) (a - b) c C w k
+    sum-is binary64 (Most (N + M)) s a t b c
+    (round-most (N + M) s (a + b) c C (omega arith) k)
+    (round-most (N + M) t (b - a) c C (omega arith) k)
+    (round-most (N + M) (s && ltb b a) (a - b) c C (omega arith) k)
 
 pub plus-most : (N M : ℕ) (x y : Float) → Most N x → Most M y → N + M ≤ 2 ^ 53 → Most (N + M) (plus x y)
 unfolding add
@@ -172,6 +145,6 @@ million-most x h = go x (sound-of x (both (le nought x) (le x million) h .0)) (b
     go (inf true) s l = absurd s
     go (inf false) s l = absurd (infinity-above million 1_000_000 million-is l)
     go (fin true m e) s l =
-        let z : m ≡ 0 = eqb-true m 0 (holds (eqb m 0) s) in
+        let z : m ≡ 0 = size-zero m s in
         le-trans (le-of-eq (ap (λ (n : ℕ). n * up e) z ∙ zero-mul (up e))) (omega arith)
     go (fin false m e) s l = size-most 1_000_000 m e million million-is l

@@ -166,14 +166,6 @@ inside-bounded lo hi x a b h =
     let p = both (le lo x) (le x hi) h in
     bounded-down x hi (upper-up lo x (bounded-upper lo a) (p .0)) (p .1) b
 
--- the test on infinities
-pub finite-is : (x : Float) → finite x ≡ bounded x
-unfolding lt neg ofBits
-finite-is nan = refl
-finite-is (inf true) = refl
-finite-is (inf false) = refl
-finite-is (fin s m e) = refl
-
 pub finite-bounded : (x : Float) → finite x ≡ true → T (bounded x)
 unfolding lt neg ofBits
 finite-bounded nan h = absurd (no refl h)

@@ -1,15 +1,15 @@
 -- Laws of `part`, `put` and `tab`, over any element type: what a loop that reads one part of a slice and writes another asks for.
 -- Assumes nothing.
-use mathlib.Core.Path.{_≡_, refl, sym, ap, _∙_, subst}
+use mathlib.Core.Path.{_≡_, sym, ap, _∙_}
 use mathlib.Core.List.{List, [], _∷_, _++_, append-assoc, append-nil}
-use Prim.Native.Nat.{ℕ, zero, suc, _+_, _-_, _<_, _≤_}
-use native.Mathlib.Nat.{add-zero, zero-add, suc-add, add-suc, le-of-suc-le-suc, not-suc-le-zero, add-assoc, add-sub-of-le, eq-or-lt-of-le}
+use Prim.Native.Nat.{ℕ, suc, _+_, _-_, _<_, _≤_}
+use native.Mathlib.Nat.{add-zero, zero-add, suc-add, add-sub-of-le}
 use native.Mathlib.Decide.{decLt}
 use mathlib.Core.Logic.{⊎-elim, _⊎_, inl, inr}
 use native.Mathlib.Numerals.{add-one}
 use native.Mathlib.Omega.{arith}
 use lib.ListN.{length, getD, set, take, drop, length-append, length-take, length-drop, length-set, List·getD-append, take-append-drop}
-use lib.Seq.{getD-take, getD-drop, getD-append-add, set-append-left, length-take-le, drop-cons, set-at, take-append-le, drop-append-add, take-append-add, take-at, drop-at, take-take, drop-drop, drop-append-le, append-snoc, ext-getD, getD-at, drop-length, take-all}
+use lib.Seq.{getD-take, getD-drop, getD-append-add, set-append-left, length-take-le, drop-cons, set-at, take-at, drop-at, drop-drop, append-snoc, ext-getD, drop-length}
 use Rattle.loops.specs.Loops.{tab}
 use Rattle.loops.specs.Parts.{part, put, Apart}
 use Rattle.loops.proofs.Tab.{length-tab, tab-of}
@@ -146,17 +146,7 @@ module _ {ℓ} {A : Type ℓ} where
   unfolding tab
   tab-next w o f i h = rw add-one (put-next w o (tab i f) i (f i) (f i) (length-tab i f) h)
 
-  -- ---- a turn that updates one place of a part, and a read of another part
-  pub put-update : (w : List A) (o : ℕ) (v : List A) (i : ℕ) (h : A → A) (d : A) → o + length v ≤ length w → i < length v
-      → set (put w o v) (o + i) (h (getD (put w o v) (o + i) d)) ≡ put w o (set v i (h (getD v i d)))
-  put-update w o v i h d b l = ap (λ (a : A). set (put w o v) (o + i) (h a)) (get-put-in w o v i d b l) ∙ set-put w o v i (h (getD v i d)) b l
-
-  pub get-put-apart : (w : List A) (o : ℕ) (v : List A) (p n i : ℕ) (d : A) → Apart p o n → length v ≡ n → o + n ≤ length w → i < n
-      → getD (put w o v) (p + i) d ≡ getD (part p n w) i d
-  get-put-apart w o v p n i d s e h l =
-      ⊎-elim (λ a. get-put-low w o v (p + i) d (omega arith) (omega arith)) (λ a. get-put-high w o v (p + i) d (omega arith) (omega arith)) (cases p o n s)
-      ∙ sym (get-part p n w i d l)
-
+  -- ---- a part after another was written
   pub part-put-apart : (d : A) (w : List A) (o : ℕ) (v : List A) (p n : ℕ) → Apart p o n → length v ≡ n → o + n ≤ length w → p + n ≤ length w
       → part p n (put w o v) ≡ part p n w
   part-put-apart d w o v p n s e h l =
@@ -191,10 +181,6 @@ module _ {ℓ} {A : Type ℓ} where
   unfolding put
   put-whole w v e =
       ap (λ (k : ℕ). v ++ drop k w) (zero-add (length v) ∙ e) ∙ ap (λ (r : List A). v ++ r) (drop-length w) ∙ append-nil v
-
-  pub part-whole : (n : ℕ) (w : List A) → length w ≡ n → part 0 n w ≡ w
-  unfolding part
-  part-whole n w e = take-all n w (omega arith)
 
   -- ---- after a call that wrote v, n elements long, to the part from o
   module _ (n o : ℕ) (w₀ w v : List A) (e : w ≡ put w₀ o v) (k : length v ≡ n) (h : o + n ≤ length w₀) where

@@ -1,18 +1,17 @@
 -- A list as rows of n elements each: a part at a multiple of n is a row, and a part put there is a row set. Over any element type.
 -- Assumes nothing.
-use mathlib.Core.Path.{_≡_, refl, sym, ap, _∙_, subst}
-use mathlib.Core.Logic.{⊎-elim, _⊎_, inl, inr}
-use mathlib.Core.List.{List, [], _∷_, _++_}
+use mathlib.Core.Path.{_≡_, refl, sym, ap, _∙_}
+use mathlib.Core.List.{List, []}
 use Prim.Native.Nat.{ℕ, zero, suc, _+_, _*_, _<_, _≤_}
 use native.Mathlib.Nat.{le-of-suc-le-suc, not-suc-le-zero, mul-le-mul-right, zero-mul}
 use native.Mathlib.Decide.{decLt, ℕ-discrete}
 use native.Mathlib.Omega.{arith}
-use lib.ListN.{length, getD, set, take, drop, length-drop, length-set, replicate, length-replicate, getD-replicate}
+use lib.ListN.{length, getD, set, take, drop, length-set, replicate, length-replicate, getD-replicate}
 use lib.Seq.{drop-drop, ext-getD, getD-set-same, getD-set-other}
 use Rattle.loops.specs.Loops.{tab}
 use Rattle.loops.specs.Parts.{part, put, rows, Apart}
 use Rattle.loops.proofs.Tab.{length-tab, get-tab}
-use Rattle.loops.proofs.Parts.{length-put, part-put-same, part-put-apart, length-part, get-part}
+use Rattle.loops.proofs.Parts.{part-put-same, part-put-apart, length-part, get-part}
 
 -- rows k and j of n elements have none in common
 pub rows-apart : (k j n : ℕ) → (k ≡ j → ⊥) → Apart (k * n) (j * n) n

@@ -52,15 +52,3 @@ pub pass-all : (ok : ℕ → Bool) (n : ℕ) → ((j : ℕ) → j < n → ok j �
 pass-all ok n h = passed ok n 0 (λ j l b. h j (omega arith)) ∙ omega arith
 
 -- ---- where it stops before the end, the test fails there
-stops : (ok : ℕ → Bool) (k i : ℕ) → first ok k i < i + k → ok (first ok k i) ≡ false
-unfolding first
-stops ok zero i h = absurd (omega arith)
-stops ok (suc k) i h = go (λ l. stops ok k (suc i) l) (ok i) refl h
-  where
-    go : (first ok k (suc i) < suc i + k → ok (first ok k (suc i)) ≡ false) → (b : Bool) → ok i ≡ b → cond b (first ok k (suc i)) i < i + suc k
-        → ok (cond b (first ok k (suc i)) i) ≡ false
-    go ih true q r = ih (omega arith)
-    go ih false q r = q
-
-pub first-fails : (ok : ℕ → Bool) (n : ℕ) → first ok n 0 < n → ok (first ok n 0) ≡ false
-first-fails ok n h = stops ok n 0 (omega arith)

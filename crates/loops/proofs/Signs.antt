@@ -1,51 +1,27 @@
 -- Which operations give no NaN, and which give nothing below zero, where minus zero counts as zero. Assumes nothing.
-use Prim.Native.Nat.{ℕ, zero, suc, _+_, _-_, _*_, _/_, _%_, _^_, _<_, compare}
+use Prim.Native.Nat.{ℕ, zero, suc, _+_, _-_, _*_, _<_}
 use mathlib.Core.Bool.{Bool, true, false, not, cond, _&&_, Bool·beq, true≢false, _||_}
-use mathlib.Core.Path.{_≡_, refl, sym, ap, _∙_, subst}
-use native.Mathlib.Nat.{zero-mul, mul-zero, mul-pos, lt-irrefl, eq-zero-or-pos}
+use mathlib.Core.Path.{_≡_, refl, sym, _∙_}
+use native.Mathlib.Nat.{mul-pos}
 use native.Mathlib.Omega.{arith}
-use mathlib.Core.Logic.{inl, inr, ⊎-elim}
+use mathlib.Core.Logic.{⊎-elim}
 use borrow.Author.Tests.{eqb-true, eq-eqb, ltb-true}
 use lib.Dec.{T, ltb, eqb, eqb·suc-zero}
-use lib.Pow.{pow-pos}
-use lib.Ieee.{Float, nan, inf, fin, Format, binary64, prec, emax, low, up, down, unlike, size, nearest, odd, units, round, sum, neg, add, sub, mul, div, le, lt, eq, below, level, ofBits}
+use lib.Ieee.{Float, nan, inf, fin, Format, binary64, up, down, unlike, round, sum, neg, add, sub, mul, div, le, lt, eq, below, level, ofBits}
 use lib.Ieee.Fits.{up-pos, down-pos}
-use lib.Ieee.Exact.{HasValue, round-exact}
 use lib.Ieee.Positive.{positive}
 use Rattle.loops.specs.Figures.{times, half, nought}
 use Rattle.loops.proofs.Bools.{is, no, both, either}
+use Rattle.loops.proofs.Rounded.{round-is, sum-is}
 use Rattle.loops.proofs.Order.{real, bounded}
+use Rattle.loops.proofs.Zeros.{void, size-zero, no-factor, nil-product, product-nil, round-void}
 
 -- ---- no NaN
-odd-real : (d : ℕ) (s : Bool) (q k l : ℕ) → T (real (odd d s q k l))
-unfolding odd
-odd-real d s zero k l = tt
-odd-real d s (suc q) k l = tt
-
-units-real : (f : Format) (s : Bool) (q k : ℕ) → T (real (units f s q k))
-unfolding units
-units-real f s q k = go (ltb (q * 2 ^ k) (2 ^ (low f + suc (emax f))))
-  where
-    go : (b : Bool) → T (real (cond b (odd (suc (prec f)) s q k (low f)) (inf s)))
-    go true = odd-real (suc (prec f)) s q k (low f)
-    go false = tt
-
-pub round-real : (f : Format) (s : Bool) (a b : ℕ) → T (real (round f s a b))
-unfolding round
-round-real f s a b =
-    let n = a * 2 ^ low f in
-    let k = size (n / b) - prec f in
-    let u = b * 2 ^ k in
-    units-real f s (nearest (n / u) (compare (n % u * 2) u)) k
+round-real : (f : Format) (s : Bool) (a b : ℕ) → T (real (round f s a b))
+round-real f s = round-is f s (λ (x : Float). T (real x)) (λ m e. tt) tt
 
 sum-real : (f : Format) (s : Bool) (a : ℕ) (t : Bool) (b c : ℕ) → T (real (sum f s a t b c))
-unfolding sum
-sum-real f s a t b c = go (Bool·beq s t) (ltb a b)
-  where
-    go : (x y : Bool) → T (real (cond x (round f s (a + b) c) (cond y (round f t (b - a) c) (round f (s && ltb b a) (a - b) c))))
-    go true y = round-real f s (a + b) c
-    go false true = round-real f t (b - a) c
-    go false false = round-real f (s && ltb b a) (a - b) c
+sum-real f s a t b c = sum-is f (λ (x : Float). T (real x)) s a t b c (round-real f s (a + b) c) (round-real f t (b - a) c) (round-real f (s && ltb b a) (a - b) c)
 
 -- a sum and a difference of which one side is finite
 pub add-real : (f : Format) (x y : Float) → T (bounded x) → T (real y) → T (real (add f x y))
@@ -140,52 +116,21 @@ sound-real (inf s) h = tt
 sound-real (fin s m e) h = tt
 
 nil-size : (s : Bool) (m : ℕ) → T (not s || eqb m 0) → s ≡ true → m ≡ 0
-nil-size true m h e = eqb-true m 0 (go (eqb m 0) h)
-  where
-    go : (b : Bool) → T b → b ≡ true
-    go true t = refl
-    go false t = absurd t
+nil-size true m h e = size-zero m h
 nil-size false m h e = absurd (true≢false (sym e))
 
-nil-sound : (s : Bool) (m : ℕ) → m ≡ 0 → T (not s || eqb m 0)
-nil-sound true m e = is (eq-eqb m 0 e)
-nil-sound false m e = tt
-
-odd-sound : (d q k l : ℕ) → T (sound (odd d false q k l))
-unfolding odd
-odd-sound d zero k l = tt
-odd-sound d (suc q) k l = tt
-
-units-sound : (f : Format) (q k : ℕ) → T (sound (units f false q k))
-unfolding units
-units-sound f q k = go (ltb (q * 2 ^ k) (2 ^ (low f + suc (emax f))))
-  where
-    go : (b : Bool) → T (sound (cond b (odd (suc (prec f)) false q k (low f)) (inf false)))
-    go true = odd-sound (suc (prec f)) q k (low f)
-    go false = tt
-
 round-sound : (f : Format) (a b : ℕ) → T (sound (round f false a b))
-unfolding round
-round-sound f a b =
-    let n = a * 2 ^ low f in
-    let k = size (n / b) - prec f in
-    let u = b * 2 ^ k in
-    units-sound f (nearest (n / u) (compare (n % u * 2) u)) k
+round-sound f = round-is f false (λ (x : Float). T (sound x)) (λ m e. tt) tt
 
 -- zero, with either sign, rounds to zero
-no-factor : (m u c : ℕ) → 0 < u → 0 < c → m * u * c ≡ 0 → m ≡ 0
-no-factor m u c U C e = elim (eq-zero-or-pos m) [ inl z ↦ z | inr p ↦ absurd (lt-irrefl 0 (subst (λ (z : ℕ). 0 < z) e (mul-pos (mul-pos p U) C))) ]
-
-zero-value : (x : Float) (s : Bool) (c : ℕ) → 0 < c → HasValue x s 0 c → T (sound x)
-zero-value nan s c C h = absurd h
-zero-value (inf t) s c C h = absurd h
-zero-value (fin t m e) s c C h = nil-sound t m (no-factor m (up e) c (up-pos e) C (h .1 ∙ zero-mul (down e)))
+void-sound : (x : Float) → T (real x) → T (void x) → T (sound x)
+void-sound nan r v = absurd r
+void-sound (inf s) r v = absurd v
+void-sound (fin true m e) r v = v
+void-sound (fin false m e) r v = tt
 
 round-nil : (f : Format) (s : Bool) (a c : ℕ) → a ≡ 0 → 0 < c → T (sound (round f s a c))
-round-nil f s a c e C =
-    subst (λ (z : ℕ). T (sound (round f s z c))) (sym e)
-    (zero-value (round f s 0 c) s c C
-    (round-exact f s 0 c 0 0 C (pow-pos (prec f)) (pow-pos (low f + suc (emax f))) (zero-mul (2 ^ low f) ∙ sym (zero-mul c))))
+round-nil f s a c e C = void-sound (round f s a c) (round-real f s a c) (round-void f s a c e C)
 
 sum-sound : (f : Format) (s : Bool) (a : ℕ) (t : Bool) (b c : ℕ) → (s ≡ true → a ≡ 0) → (t ≡ true → b ≡ 0) → 0 < c → T (sound (sum f s a t b c))
 unfolding sum
@@ -201,9 +146,6 @@ sum-sound f false a true b c p q C = go (ltb a b)
     go : (y : Bool) → T (sound (cond y (round f true (b - a) c) (round f (false && ltb b a) (a - b) c)))
     go true = let y = q refl in round-nil f true (b - a) c (omega arith) C
     go false = round-sound f (a - b) c
-
-nil-product : (m u v : ℕ) → m ≡ 0 → m * u * v ≡ 0
-nil-product m u v e = ap (λ (z : ℕ). z * u * v) e ∙ ap (λ (z : ℕ). z * v) (zero-mul u) ∙ zero-mul v
 
 pub add-sound : (f : Format) (x y : Float) → T (sound x) → T (sound y) → T (sound (add f x y))
 unfolding add
@@ -229,10 +171,7 @@ mul-sound f (fin false m e) (fin false n d) a b p q = round-sound f (m * up e * 
 mul-sound f (fin true m e) (fin t n d) a b p q =
     round-nil f (unlike true t) (m * up e * (n * up d)) (down e * down d) (nil-product m (up e) (n * up d) (nil-size true m p refl)) (mul-pos (down-pos e) (down-pos d))
 mul-sound f (fin false m e) (fin true n d) a b p q =
-    round-nil f true (m * up e * (n * up d)) (down e * down d) (nil (m * up e) n (up d) (nil-size true n q refl)) (mul-pos (down-pos e) (down-pos d))
-  where
-    nil : (x n u : ℕ) → n ≡ 0 → x * (n * u) ≡ 0
-    nil x n u z = ap (λ (k : ℕ). x * (k * u)) z ∙ ap (λ (k : ℕ). x * k) (zero-mul u) ∙ mul-zero x
+    round-nil f true (m * up e * (n * up d)) (down e * down d) (product-nil (m * up e) n (up d) (nil-size true n q refl)) (mul-pos (down-pos e) (down-pos d))
 
 -- half of a figure, infinity included
 pub half-sound : (x : Float) → T (sound x) → T (sound (times half x))

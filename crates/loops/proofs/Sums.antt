@@ -2,28 +2,26 @@
 -- grows with its other term and is at least that.
 -- Rounding is monotone (`round-mono`), and a figure that binary64 holds is what it rounds to.
 use mathlib.Core.Path.{_≡_, refl, sym, ap, _∙_, subst}
-use mathlib.Core.Bool.{Bool, true, false, not, cond, _&&_, _||_}
+use mathlib.Core.Bool.{Bool, true, false, not, cond, _&&_}
 use mathlib.Core.Logic.{⊎-elim}
-use Prim.Native.Nat.{ℕ, zero, suc, _+_, _-_, _*_, _/_, _%_, _^_, _<_, _≤_, compare}
+use Prim.Native.Nat.{ℕ, zero, suc, _+_, _-_, _*_, _%_, _^_, _<_, _≤_}
 use native.Mathlib.Nat.{le-of-eq, le-of-lt, lt-irrefl, lt-of-lt-of-le, lt-of-le-of-lt, zero-mul, mul-one, mul-comm, mul-assoc, mul-left-comm, mul-le-mul-right, mul-pos, add-mul, add-zero, sub-zero, mul-lt-mul-of-pos-right}
 use native.Mathlib.Omega.{arith}
 use borrow.Author.Tests.{ltb-true, eqb-true, le-ltb}
 use lib.IntN.{ℤ, pos, negsuc}
 use lib.Dec.{T, ltb, leb, eqb, ltb→lt, leb→le}
 use lib.Pow.{pow-pos, pow-mono, pow-lt, pow-add, shl-lt}
-use lib.Ieee.{Float, nan, inf, fin, binary64, up, down, size, nearest, odd, units, round, add, sum, lt, eq, le, fits, ofBits, low, emax, prec}
+use lib.Ieee.{Float, nan, inf, fin, binary64, up, down, round, add, sum, lt, eq, le, fits, ofBits}
 use lib.Ieee.Fits.{down-pos, and-l, and-r}
 use lib.Ieee.Exact.{HasValue, round-exact}
 use lib.Ieee.Order.{le-of-values, round-mono}
 use lib.Ieee.Positive.{num, den, den-pos, through}
 use Rattle.loops.specs.Figures.{plus, nought, infinity}
-use Rattle.loops.proofs.Bools.{no, both, either}
+use Rattle.loops.proofs.Bools.{holds, no, both, either}
+use Rattle.loops.proofs.Rounded.{round-is}
 use Rattle.loops.proofs.Order.{real, bounded, le-self, le-of-not-lt}
+use Rattle.loops.proofs.Zeros.{size-zero, nil-product}
 use Rattle.loops.proofs.Signs.{sound}
-
-holds : (b : Bool) → T b → b ≡ true
-holds true t = refl
-holds false t = absurd t
 
 abbrev pub unsigned : Float → Bool
 unsigned nan = false
@@ -42,12 +40,12 @@ pub le-of-not-less : (x y : Float) → T (unsigned x) → T (unsigned y) → lt 
 le-of-not-less x y g h e = le-of-not-lt x y (unsigned-real x g) (unsigned-real y h) e
 
 -- ---- the order, as that of fractions
-cross : (m : ℕ) (e : ℤ) (n : ℕ) (d : ℤ) → le (fin false m e) (fin false n d) ≡ true → m * up e * down d ≤ n * up d * down e
+pub cross : (m : ℕ) (e : ℤ) (n : ℕ) (d : ℤ) → le (fin false m e) (fin false n d) ≡ true → m * up e * down d ≤ n * up d * down e
 unfolding le lt eq
-cross m e n d h = go (m * up e * down d) (n * up d * down e) h
-  where
-    go : (a b : ℕ) → (ltb a b || (eqb a b && true)) ≡ true → a ≤ b
-    go a b h = ⊎-elim (λ l. le-of-lt (ltb-true a b l)) (λ l. le-of-eq (eqb-true a b (both (eqb a b) true l .0))) (either (ltb a b) (eqb a b && true) h)
+cross m e n d h =
+    let a = m * up e * down d in
+    let b = n * up d * down e in
+    ⊎-elim (λ l. le-of-lt (ltb-true a b l)) (λ l. le-of-eq (eqb-true a b (both (eqb a b) true l .0))) (either (ltb a b) (eqb a b && true) h)
 
 back : (m : ℕ) (e : ℤ) (n : ℕ) (d : ℤ) → m * up e * down d ≤ n * up d * down e → le (fin false m e) (fin false n d) ≡ true
 back m e n d h =
@@ -61,7 +59,7 @@ under (inf true) g = absurd g
 under (inf false) g = refl
 under (fin s m e) g = refl
 
-over : (m : ℕ) (e : ℤ) → le (inf false) (fin false m e) ≡ true → ⊥
+pub over : (m : ℕ) (e : ℤ) → le (inf false) (fin false m e) ≡ true → ⊥
 unfolding le lt eq
 over m e h = no refl h
 
@@ -151,7 +149,7 @@ unfolding add sum
 plus-minus m e n d h =
     let a = m * up e * down d in
     let c = down e * down d in
-    let z : n * up d * down e ≡ 0 = ap (λ (t : ℕ). t * up d * down e) h ∙ ap (λ (t : ℕ). t * down e) (zero-mul (up d)) ∙ zero-mul (down e) in
+    let z : n * up d * down e ≡ 0 = nil-product n (up d) (down e) h in
     ap (λ (t : ℕ). cond (ltb a t) (round binary64 true (t - a) c) (round binary64 (false && ltb t a) (a - t) c)) z
     ∙ ap (λ (b : Bool). cond b (round binary64 true (0 - a) c) (round binary64 false (a - 0) c)) (le-ltb a 0 (omega arith))
     ∙ ap (λ (t : ℕ). round binary64 false t c) (sub-zero a ∙ sym (add-zero a) ∙ ap (λ (t : ℕ). a + t) (sym z))
@@ -160,7 +158,7 @@ plus-form : (m : ℕ) (e : ℤ) (k : Float) → Term k → plus (fin false m e) 
 plus-form m e nan l = absurd (l .1)
 plus-form m e (inf s) l = absurd (l .1)
 plus-form m e (fin false n d) l = unfold add sum in refl
-plus-form m e (fin true n d) l = plus-minus m e n d (eqb-true n 0 (holds (eqb n 0) (l .0)))
+plus-form m e (fin true n d) l = plus-minus m e n d (size-zero n (l .0))
 
 plus-inf : (k : Float) → Term k → plus (inf false) k ≡ inf false
 plus-inf nan l = absurd (l .1)
@@ -172,26 +170,8 @@ unfolding ofBits
 plus-infinity k l = plus-inf k l
 
 -- what is rounded from a fraction has no sign
-odd-unsigned : (d q k l : ℕ) → T (unsigned (odd d false q k l))
-unfolding odd
-odd-unsigned d zero k l = tt
-odd-unsigned d (suc q) k l = tt
-
-units-unsigned : (q k : ℕ) → T (unsigned (units binary64 false q k))
-unfolding units
-units-unsigned q k = go (ltb (q * 2 ^ k) (2 ^ (low binary64 + suc (emax binary64))))
-  where
-    go : (b : Bool) → T (unsigned (cond b (odd (suc (prec binary64)) false q k (low binary64)) (inf false)))
-    go true = odd-unsigned (suc (prec binary64)) q k (low binary64)
-    go false = tt
-
 round-unsigned : (a c : ℕ) → T (unsigned (round binary64 false a c))
-unfolding round
-round-unsigned a c =
-    let n = a * 2 ^ low binary64 in
-    let k = size (n / c) - prec binary64 in
-    let u = c * 2 ^ k in
-    units-unsigned (nearest (n / u) (compare (n % u * 2) u)) k
+round-unsigned = round-is binary64 false (λ (x : Float). T (unsigned x)) (λ m e. tt) tt
 
 pub plus-unsigned : (x k : Float) → T (unsigned x) → Term k → T (unsigned (plus x k))
 plus-unsigned nan k g l = absurd g

@@ -1,27 +1,24 @@
 -- Sums of figures that are not negative, bounded by whole numbers: where no term is above B, a sum of n terms is not above n · B, rounding included.
 -- A whole number below 2 ^ 53 is a figure, and rounding is monotone (`round-mono`).
-use Prim.Native.Nat.{ℕ, zero, suc, _+_, _-_, _*_, _^_, _≤_, _<_}
-use mathlib.Core.Bool.{Bool, true, false, not, cond, _&&_, _||_, Bool·beq}
-use mathlib.Core.Path.{_≡_, refl, sym, ap, _∙_, subst}
+use Prim.Native.Nat.{ℕ, suc, _+_, _-_, _*_, _^_, _≤_, _<_}
+use mathlib.Core.Bool.{Bool, true, false, cond, _&&_}
+use mathlib.Core.Path.{_≡_, refl, sym, ap, _∙_}
 use native.Mathlib.Nat.{mul-assoc, mul-comm, mul-one, mul-pos, add-mul, zero-mul, mul-right-comm, mul-le-mul-right, le-of-mul-le-mul-right, lt-of-lt-of-le, zero-lt-suc}
 use native.Mathlib.Omega.{arith}
-use borrow.Author.Tests.{ltb-true, ltb-false, eqb-true}
-use lib.Dec.{T, ltb, eqb}
-use lib.IntN.{ℤ}
+use borrow.Author.Tests.{ltb-true}
+use lib.Dec.{T, ltb}
 use lib.Pow.{pow-mono, shl-lt}
-use lib.Ieee.{Float, nan, inf, fin, binary64, prec, emax, low, up, down, round, sum, add, lt, le, eq}
+use lib.Ieee.{Float, nan, inf, fin, binary64, emax, low, up, down, round, sum, add, le}
 use lib.Ieee.Fits.{down-pos}
 use lib.Ieee.Exact.{HasValue, round-exact}
 use lib.Ieee.Order.{le-of-values, round-mono}
 use lib.Ieee.Positive.{num, den}
 use Rattle.loops.specs.Figures.{plus}
+use Rattle.loops.proofs.Bools.{holds}
 use Rattle.loops.proofs.Order.{bounded}
 use Rattle.loops.proofs.Signs.{sound}
-use Rattle.loops.proofs.Sums.{unsigned, Term, plus-unsigned}
-
-holds : (b : Bool) → T b → b ≡ true
-holds true t = refl
-holds false t = absurd t
+use Rattle.loops.proofs.Zeros.{size-zero, nil-product}
+use Rattle.loops.proofs.Sums.{unsigned, Term, cross, over, plus-unsigned}
 
 -- the figure of a whole number, and its value
 abbrev pub whole : ℕ → Float
@@ -37,23 +34,6 @@ whole-value n h =
 abbrev pub Few : ℕ → Float → Type 0
 Few n x = T (bounded x) × (num x ≤ n * den x)
 
--- ---- the order, as that of fractions
-level-or-less : (a b : ℕ) → T (ltb a b || (eqb a b && true)) → a ≤ b
-level-or-less a b t = go (ltb a b) (eqb a b) refl refl t
-  where
-    go : (x y : Bool) → ltb a b ≡ x → eqb a b ≡ y → T (x || (y && true)) → a ≤ b
-    go true y p q t = let z = ltb-true a b p in omega arith
-    go false true p q t = let z = eqb-true a b q in omega arith
-    go false false p q t = absurd t
-
-cross : (m : ℕ) (e : ℤ) (k : ℕ) (d : ℤ) → T (le (fin false m e) (fin false k d)) → m * up e * down d ≤ k * up d * down e
-unfolding le lt eq
-cross m e k d t = level-or-less (m * up e * down d) (k * up d * down e) t
-
-endless : (k : ℕ) (d : ℤ) → T (le (inf false) (fin false k d)) → ⊥
-unfolding le lt eq
-endless k d t = t
-
 -- what is not above the figure of n is not above n
 few-by : (n : ℕ) (x y : Float) → T (unsigned x) → HasValue y false n 1 → T (le x y) → Few n x
 few-by n nan y g v t = absurd g
@@ -62,12 +42,12 @@ few-by n (fin true m e) y g v t = absurd g
 few-by n (inf false) nan g v t = absurd v
 few-by n (inf false) (inf s) g v t = absurd v
 few-by n (inf false) (fin true k d) g v t = let z : _≡_ {A = ℕ} 0 1 = (let w : true ≡ false = v .0 in cc) in absurd (omega arith)
-few-by n (inf false) (fin false k d) g v t = absurd (endless k d t)
+few-by n (inf false) (fin false k d) g v t = absurd (over k d (holds (le (inf false) (fin false k d)) t))
 few-by n (fin false m e) nan g v t = absurd v
 few-by n (fin false m e) (inf s) g v t = absurd v
 few-by n (fin false m e) (fin true k d) g v t = let z : _≡_ {A = ℕ} 0 1 = (let w : true ≡ false = v .0 in cc) in absurd (omega arith)
 few-by n (fin false m e) (fin false k d) g v t =
-    let a = cross m e k d t in
+    let a = cross m e k d (holds (le (fin false m e) (fin false k d)) t) in
     let b : k * up d ≡ n * down d = sym (mul-one (k * up d)) ∙ v .1 in
     let c : k * up d * down e ≡ n * down e * down d = ap (λ (z : ℕ). z * down e) b ∙ mul-right-comm n (down d) (down e) in
     (tt, le-of-mul-le-mul-right (let z : m * up e * down d ≤ n * down e * down d = omega arith in z) (down-pos d))
@@ -109,9 +89,7 @@ module _ (a b : ℕ) where
   le-plus (fin false m e) (fin true n d) g f l h = go (ltb (m * up e * down d) (n * up d * down e)) refl
     where
       none : n * up d * down e ≡ 0
-      none =
-          ap (λ (z : ℕ). z * up d * down e) (eqb-true n 0 (holds (eqb n 0) (l .0)))
-          ∙ ap (λ (z : ℕ). z * down e) (zero-mul (up d)) ∙ zero-mul (down e)
+      none = nil-product n (up d) (down e) (size-zero n (l .0))
 
       go : (x : Bool) → ltb (m * up e * down d) (n * up d * down e) ≡ x
           → T (le (cond x (round binary64 true (n * up d * down e - m * up e * down d) (down e * down d))
@@ -131,4 +109,4 @@ few-within n (inf true) g h t = absurd g
 few-within n (inf false) g h t = few-of n (inf false) tt h t
 few-within n (fin false m e) g h t = few-of n (fin false m e) tt h t
 few-within n (fin true m e) g h t =
-    (tt, (let z : m * up e ≡ 0 = ap (λ (k : ℕ). k * up e) (eqb-true m 0 (holds (eqb m 0) g)) ∙ zero-mul (up e) in omega arith))
+    (tt, (let z : m * up e ≡ 0 = ap (λ (k : ℕ). k * up e) (size-zero m g) ∙ zero-mul (up e) in omega arith))

@@ -13,7 +13,7 @@ use lib.ListN.{length, getD, set, replicate, length-set, length-replicate}
 use lib.Ieee.{Float, lt, le}
 use Rattle.loops.specs.Loops.{iter}
 use Rattle.loops.proofs.Bools as bools
-use Rattle.loops.proofs.Bools.{and-of}
+use Rattle.loops.proofs.Bools.{and-of, unequal}
 use Rattle.loops.proofs.Loops.{iter-still}
 use Rattle.loops.specs.Figures.{at, nought, infinity}
 use Rattle.placement.specs.Request.{Request, Net}
@@ -115,7 +115,7 @@ module _ (w : Network) (net : Net (w .n) (w .m) (w .a) (w .b) (w .km)) (loads : 
       no-source i h f =
           elim (ℕ-discrete (getD sources i 0) 0) [
             | yes e ↦ e
-            | no e ↦ absurd (let a : lt supportKm (at (distances w sources .dist) i) ≡ false = source-near sources i h e in let z : _≡_ {A = ℕ} 0 1 = cc in omega arith)
+            | no e ↦ absurd (let a : lt supportKm (at (distances w sources .dist) i) ≡ false = source-near sources i h e in unequal cc)
           ]
 
   -- ---- all turns

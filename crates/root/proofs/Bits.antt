@@ -12,6 +12,7 @@ use lib.Ieee.{Float, nan, inf, fin, binary64, up, down, size, nearest, odd, unit
 use lib.Ieee.Fits.{odd-fits, nearest-le, kept-lt, nan-fits, inf-fits, up-pos, down-pos, and-i, and-l, eq→eqb}
 use lib.Ieee.Order.{le-of-values}
 use lib.Ieee.Bits.{ofBits-toBits, nanBits-is}
+use Rattle.loops.proofs.Rounded.{units-is}
 use Rattle.root.specs.Root.{isqrt, roundRoot, root, rootBits}
 
 -- ---- binary64 holds the root
@@ -48,18 +49,9 @@ root-by-bits x h = ap (λ (z : Float). ofBits binary64 (toBits binary64 (root z)
 
 -- ---- a root that is no NaN
 
-odd-real : (d : ℕ) (s : Bool) (q k l : ℕ) → T (not (isNan (odd d s q k l)))
-unfolding odd isNan
-odd-real d s zero k l = tt
-odd-real d s (suc q) k l = tt
-
 units-real : (q k : ℕ) → T (not (isNan (units binary64 false q k)))
-unfolding units
-units-real q k = go (ltb (q * 2 ^ k) (2 ^ 2098))
-  where
-    go : (b : Bool) → T (not (isNan (cond b (odd 54 false q k 1074) (inf false))))
-    go true = odd-real 54 false q k 1074
-    go false = unfold isNan in tt
+unfolding isNan
+units-real = units-is binary64 false (λ (x : Float). T (not (isNan x))) (λ m e. tt) tt
 
 roundRoot-real : (n : ℕ) → T (not (isNan (roundRoot n)))
 unfolding roundRoot

@@ -1,7 +1,7 @@
 -- The definition's `ceil` by the tests of a function that computes it: the whole part t by a cast, and t + 1 where t is below x. Assumes nothing.
 -- Five cases cover every x: above 0 and below 2 ^ 53, where t may be x or below it; 2 ^ 53 or more; below 0 and above -2 ^ 53; -2 ^ 53 or less; neither above 0 nor below it.
 use mathlib.Core.Path.{_≡_, refl, sym, ap, _∙_, subst}
-use mathlib.Core.Bool.{Bool, true, false, not, cond}
+use mathlib.Core.Bool.{Bool, true, false, not}
 use Prim.Native.Nat.{ℕ, zero, suc, _+_, _-_, _*_, _/_, _%_, _^_, _≤_, _<_, min}
 use native.Mathlib.Nat.{le-trans, le-of-eq, le-of-lt, lt-of-lt-of-le, lt-of-le-of-lt, zero-lt-suc, zero-mul, mul-one, one-mul, mul-right-comm, add-mul, lt-of-mul-lt-mul-right, le-of-mul-le-mul-right, mul-pos, div-lt-iff-lt-mul, div-eq-of-lt, div-add-mod', mod-lt, le-add-right}
 use native.Mathlib.Omega.{arith}
@@ -9,14 +9,15 @@ use lib.Arith.{digits-div}
 use lib.Dec.{T, ltb, ltb→lt, lt→ltb, nltb→le, lit≤}
 use lib.Pow.{pow-mono}
 use lib.IntN.{ℤ, pos}
-use lib.Ieee.{Float, nan, inf, fin, binary64, up, down, odd, units, round, neg, lt, fits, ofBits, ofInt, toUnsigned}
-use lib.Ieee.Fits.{down-pos, up-pos, round-is, round-fits}
+use lib.Ieee.{Float, nan, inf, fin, binary64, up, down, round, neg, lt, fits, ofBits, ofInt, toUnsigned}
+use lib.Ieee.Fits.{down-pos, up-pos, round-fits}
 use lib.Ieee.Exact.{HasValue}
 use lib.Ieee.Back.{round-whole, whole-unique}
 use lib.Ieee.Positive.{num, den, den-pos, value→cross}
+use Rattle.loops.proofs.Rounded.{alike}
 use Rattle.root.specs.Ceiling.{ceil}
 use Rattle.root.proofs.Bits.{Zero, zero-is, yes-is}
-use Rattle.root.proofs.Units.{unsigned, value-unsigned, lt-cross}
+use Rattle.root.proofs.Units.{unsignedFinite, value-unsigned, lt-cross}
 use Rattle.root.proofs.Ceiling.{count, ceil-fin, large-itself}
 
 -- 2 ^ 53 and its negative
@@ -96,13 +97,13 @@ up-same n d D h =
     let f : n + (d - 1) ≡ n / d * d + (d - 1) = omega arith in
     ap (λ (z : ℕ). z / d) f ∙ digits-div (n / d) r
 
-under-unsigned : (x : Float) → Under 53 x → T (unsigned x)
+under-unsigned : (x : Float) → Under 53 x → T (unsignedFinite x)
 under-unsigned nan i = absurd i
 under-unsigned (inf s) i = absurd i
 under-unsigned (fin true m e) i = absurd i
 under-unsigned (fin false m e) i = tt
 
-ceil-unsigned : (x : Float) → T (unsigned x) → ceil x ≡ round binary64 false ((num x + (den x - 1)) / den x) 1
+ceil-unsigned : (x : Float) → T (unsignedFinite x) → ceil x ≡ round binary64 false ((num x + (den x - 1)) / den x) 1
 ceil-unsigned nan i = absurd i
 ceil-unsigned (inf s) i = absurd i
 ceil-unsigned (fin true m e) i = absurd i
@@ -112,7 +113,7 @@ of-nat : (n : ℕ) → ofInt binary64 (pos n) ≡ round binary64 false n 1
 unfolding ofInt
 of-nat n = refl
 
-not-lt-cross : (x y : Float) → T (unsigned x) → T (unsigned y) → T (not (lt x y)) → num y * den x ≤ num x * den y
+not-lt-cross : (x y : Float) → T (unsignedFinite x) → T (unsignedFinite y) → T (not (lt x y)) → num y * den x ≤ num x * den y
 unfolding lt
 not-lt-cross nan y u w t = absurd u
 not-lt-cross (inf s) y u w t = absurd u
@@ -188,21 +189,9 @@ under-neg (fin false m e) a b = absurd (no-less (m * up e * 1) (down e) (ltb→l
 pub under-minus-big : (x : Float) → lt x (ofBits binary64 0) ≡ true → lt (neg (ofBits binary64 0x4340_0000_0000_0000)) x ≡ true → Under 53 (neg x)
 under-minus-big x a b = under-neg x (subst (λ (z : Float). T (lt x z)) zero-is (yes-is a)) (subst (λ (z : Float). T (lt z x)) minus-big-is (yes-is b))
 
-neg-odd : (d q k l : ℕ) → neg (odd d false q k l) ≡ odd d true q k l
-unfolding neg odd
-neg-odd d zero k l = refl
-neg-odd d (suc q) k l = refl
-
-neg-units : (q k : ℕ) → neg (units binary64 false q k) ≡ units binary64 true q k
-unfolding units
-neg-units q k = go (ltb (q * 2 ^ k) (2 ^ 2098))
-  where
-    go : (b : Bool) → neg (cond b (odd 54 false q k 1074) (inf false)) ≡ cond b (odd 54 true q k 1074) (inf true)
-    go true = neg-odd 54 q k 1074
-    go false = unfold neg in refl
-
 neg-round : (n d : ℕ) → neg (round binary64 false n d) ≡ round binary64 true n d
-neg-round n d = ap neg (round-is binary64 false n d) ∙ neg-units _ _ ∙ sym (round-is binary64 true n d)
+unfolding neg
+neg-round = alike binary64 true (λ (x y : Float). neg x ≡ y) (λ m e. refl) refl
 
 ceil-neg : (x : Float) → Under 53 (neg x) → ceil x ≡ round binary64 true (num (neg x) / den (neg x)) 1
 unfolding neg

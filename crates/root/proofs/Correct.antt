@@ -3,20 +3,20 @@
 use mathlib.Core.Path.{_≡_, refl, sym, ap, _∙_, subst}
 use mathlib.Core.Bool.{Bool, true, false, cond}
 use Prim.Native.Nat.{ℕ, zero, suc, _+_, _-_, _*_, _≤_, _<_, _^_}
-use native.Mathlib.Nat.{le-refl, le-trans, le-of-eq, le-of-lt, le-antisymm, lt-of-lt-of-le, lt-of-le-of-lt, lt-irrefl, zero-lt-suc, zero-mul, add-zero, mul-comm, mul-assoc, mul-left-comm, mul-right-comm, mul-mul-mul-comm, add-mul, mul-le-mul-right, mul-lt-mul-of-pos-right, lt-of-mul-lt-mul-right, mul-pos}
+use native.Mathlib.Nat.{le-refl, le-trans, le-of-eq, le-of-lt, le-antisymm, lt-of-lt-of-le, lt-of-le-of-lt, lt-irrefl, zero-mul, add-zero, mul-comm, mul-assoc, mul-left-comm, mul-right-comm, mul-mul-mul-comm, add-mul, mul-le-mul-right, mul-lt-mul-of-pos-right, lt-of-mul-lt-mul-right, mul-pos}
 use native.Mathlib.Omega.{arith}
 use lib.Dec.{T, ltb, ltb→lt, lt→ltb}
 use lib.Pow.{pow-pos}
 use lib.IntN.{ℤ, pos, negsuc, negℤ, _+ℤ_, +ℤ-comm}
-use lib.Ieee.{Float, nan, inf, fin, binary64, up, down, fits, lt, le}
+use lib.Ieee.{Float, nan, inf, fin, binary64, up, down, fits, lt}
 use lib.Ieee.Fits.{up-pos, down-pos}
 use lib.Ieee.Exact.{HasValue}
 use lib.Ieee.Positive.{num, den, positive, den-pos, value→cross, positive-of-value, positive-finite}
 use lib.Ieee.Scale.{finite}
 use Rattle.root.specs.Root.{root, minusSign, signed, total, over, BelowTwice, AboveTwice, Nearer, NearestRoot, Correct}
 use Rattle.root.proofs.Isqrt.{sq-mono}
-use Rattle.root.proofs.Bits.{Zero, zero-not-le, root-fits}
-use Rattle.root.proofs.Units.{unsigned, positive-unsigned, value-unsigned, in-units, le-of-not-lt, less-units, lt-cross, cross-lt, same-value}
+use Rattle.root.proofs.Bits.{root-fits}
+use Rattle.root.proofs.Units.{unsignedFinite, positive-unsigned, value-unsigned, in-units, le-of-not-lt, less-units, lt-cross, cross-lt, same-value}
 use Rattle.root.proofs.Middle.{NearerUnits, rooted}
 
 -- ---- from units to fractions
@@ -53,7 +53,7 @@ module _ (nr dr ny dy nx dx R Y X L : ℕ) (p : nr * L ≡ R * dr) (q : ny * L �
 
 -- ---- the sum of a value with no minus sign and another
 
-total-unsigned : (r y : Float) → T (unsigned r) → T (unsigned y) → total r y ≡ pos (num r * den y + num y * den r)
+total-unsigned : (r y : Float) → T (unsignedFinite r) → T (unsignedFinite y) → total r y ≡ pos (num r * den y + num y * den r)
 total-unsigned nan y u w = absurd u
 total-unsigned (inf s) y u w = absurd u
 total-unsigned (fin true m e) y u w = absurd u
@@ -62,7 +62,7 @@ total-unsigned (fin false m e) (inf s) u w = absurd w
 total-unsigned (fin false m e) (fin true n d) u w = absurd w
 total-unsigned (fin false m e) (fin false n d) u w = refl
 
-total-minus : (r : Float) (n : ℕ) (d : ℤ) → T (unsigned r) → total r (fin true n d) ≡ pos (num r * down d) +ℤ negℤ (pos (n * up d * den r))
+total-minus : (r : Float) (n : ℕ) (d : ℤ) → T (unsignedFinite r) → total r (fin true n d) ≡ pos (num r * down d) +ℤ negℤ (pos (n * up d * den r))
 total-minus nan n d u = absurd u
 total-minus (inf s) n d u = absurd u
 total-minus (fin true m e) n d u = absurd u
@@ -80,7 +80,7 @@ lowered x a (suc b) d h = go (ltb a (suc b))
     go true = tt
     go false = lt-of-le-of-lt (mul-le-mul-right (den x) (sq-mono fewer)) h
 
-not-above : (r : Float) (n : ℕ) (d : ℤ) → T (unsigned r) → T (lt r (fin true n d)) → ⊥
+not-above : (r : Float) (n : ℕ) (d : ℤ) → T (unsignedFinite r) → T (lt r (fin true n d)) → ⊥
 unfolding lt
 not-above nan n d u t = u
 not-above (inf s) n d u t = u
@@ -94,7 +94,7 @@ wide x r y = mul-pos (mul-pos (mul-pos (den-pos r) (den-pos y)) (mul-pos (den-po
 
 -- x is X units and r is R, and R is the rounded root of X * 2 ^ 1074
 module _ (x r : Float) (X R : ℕ) (vx : HasValue x false X (2 ^ 1074)) (vr : HasValue r false R (2 ^ 1074)) (middle : (b j : ℕ) → b < 2 ^ 53 → NearerUnits (X * 2 ^ 1074) R (b * 2 ^ j)) where
-  ur : T (unsigned r)
+  ur : T (unsignedFinite r)
   ur = value-unsigned r R (2 ^ 1074) vr
 
   ex : num x * 2 ^ 1074 ≡ X * den x
@@ -103,7 +103,7 @@ module _ (x r : Float) (X R : ℕ) (vx : HasValue x false X (2 ^ 1074)) (vr : Ha
   er : num r * 2 ^ 1074 ≡ R * den r
   er = value→cross r R (2 ^ 1074) vr
 
-  than-unsigned : (y : Float) → T (fits binary64 y) → T (unsigned y) → Nearer x r y
+  than-unsigned : (y : Float) → T (fits binary64 y) → T (unsignedFinite y) → Nearer x r y
   than-unsigned y f u =
       let i = in-units y f u in
       let Y = i .0 * 2 ^ i .1 in
@@ -136,14 +136,6 @@ module _ (x r : Float) (X R : ℕ) (vx : HasValue x false X (2 ^ 1074)) (vr : Ha
 
 pub root-positive : (x : Float) → T (fits binary64 x) → T (positive x) → T (positive (root x))
 root-positive x f p = let w = rooted x f p in positive-of-value (root x) (w .1) (2 ^ 1074) (w .4) (w .2)
-
--- no root overflows
-pub root-finite : (x : Float) → T (fits binary64 x) → T (le Zero x) → T (finite x) → T (finite (root x))
-root-finite nan f z b = absurd b
-root-finite (inf s) f z b = absurd b
-root-finite (fin s zero e) f z b = unfold root in tt
-root-finite (fin true (suc m) e) f z b = absurd (zero-not-le m e z)
-root-finite (fin false (suc m) e) f z b = positive-finite (root (fin false (suc m) e)) (root-positive (fin false (suc m) e) f (lt→ltb 0 (suc m) (zero-lt-suc m)))
 
 pub root-nearest : (x : Float) → T (fits binary64 x) → T (positive x) → NearestRoot x (root x)
 root-nearest x f p =

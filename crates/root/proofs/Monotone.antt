@@ -6,7 +6,7 @@ use Prim.Native.Nat.{ℕ, zero, suc, _+_, _*_, _<_}
 use native.Mathlib.Nat.{le-trans, le-of-eq, lt-of-lt-of-le, lt-irrefl, zero-lt-suc, zero-mul, mul-pos}
 use native.Mathlib.Omega.{arith}
 use lib.Dec.{T, ltb, eqb, ltb→lt, lt→ltb, eqb→eq}
-use lib.IntN.{ℤ, pos}
+use lib.IntN.{ℤ}
 use lib.Ieee.{Float, nan, inf, fin, binary64, up, down, fits, le}
 use lib.Ieee.Fits.{up-pos, down-pos, and-l}
 use lib.Ieee.Positive.{positive, above, positive-finite, above-of-le, le→cross, cross→le}
@@ -125,7 +125,3 @@ root-mono (inf false) y f g z h = unfold root in infinity-mono y h
 root-mono (fin s zero e) y f g z h = unfold root in zero-mono s e y g h
 root-mono (fin true (suc m) e) y f g z h = absurd (zero-not-le m e z)
 root-mono (fin false (suc m) e) y f g z h = above-mono m e y f g (above-of-le (fin false (suc m) e) y (one-or-more m) h) h
-
--- so the root is not below zero either
-pub root-not-below : (x : Float) → T (fits binary64 x) → T (le Zero x) → T (le Zero (root x))
-root-not-below x f z = zero-mono false (pos 0) x f z

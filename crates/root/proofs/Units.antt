@@ -15,19 +15,19 @@ use lib.Ieee.Positive.{num, den, positive, den-pos, value→cross}
 use Rattle.root.proofs.Round.{value-bits}
 
 -- finite, with no minus sign
-abbrev pub unsigned : Float → Bool
-unsigned nan = false
-unsigned (inf s) = false
-unsigned (fin true m e) = false
-unsigned (fin false m e) = true
+abbrev pub unsignedFinite : Float → Bool
+unsignedFinite nan = false
+unsignedFinite (inf s) = false
+unsignedFinite (fin true m e) = false
+unsignedFinite (fin false m e) = true
 
-pub positive-unsigned : (x : Float) → T (positive x) → T (unsigned x)
+pub positive-unsigned : (x : Float) → T (positive x) → T (unsignedFinite x)
 positive-unsigned nan p = p
 positive-unsigned (inf s) p = p
 positive-unsigned (fin true m e) p = p
 positive-unsigned (fin false m e) p = tt
 
-pub value-unsigned : (x : Float) (a c : ℕ) → HasValue x false a c → T (unsigned x)
+pub value-unsigned : (x : Float) (a c : ℕ) → HasValue x false a c → T (unsignedFinite x)
 value-unsigned nan a c v = v
 value-unsigned (inf s) a c v = v
 value-unsigned (fin true m e) a c v = absurd (true≢false (v .0))
@@ -48,7 +48,7 @@ pow-le-back i p h = le-of-not-lt (λ (g : p < i). lt-irrefl (2 ^ p) (lt-of-lt-of
 abbrev pub InUnits : Float → Type 0
 InUnits y = (a : ℕ) × (j : ℕ) × (a < 2 ^ 53) × (j < 2098) × HasValue y false (a * 2 ^ j) (2 ^ 1074)
 
-pub in-units : (y : Float) → T (fits binary64 y) → T (unsigned y) → InUnits y
+pub in-units : (y : Float) → T (fits binary64 y) → T (unsignedFinite y) → InUnits y
 unfolding fits
 in-units nan f u = absurd u
 in-units (inf s) f u = absurd u
@@ -93,7 +93,7 @@ less-units n d a m e b L P p q h =
     let y : m * d * L ≡ b * (d * e) = mul-right-comm m d L ∙ ap (λ (z : ℕ). z * d) q ∙ mul-assoc b e d ∙ ap (λ (z : ℕ). b * z) (mul-comm e d) in
     lt-of-mul-lt-mul-right (d * e) (lt-of-le-of-lt (le-of-eq (sym x)) (lt-of-lt-of-le (mul-lt-mul-of-pos-right h P) (le-of-eq y)))
 
-pub lt-cross : (x y : Float) → T (unsigned x) → T (unsigned y) → T (lt x y) → num x * den y < num y * den x
+pub lt-cross : (x y : Float) → T (unsignedFinite x) → T (unsignedFinite y) → T (lt x y) → num x * den y < num y * den x
 unfolding lt
 lt-cross nan y u w t = absurd u
 lt-cross (inf s) y u w t = absurd u
@@ -103,7 +103,7 @@ lt-cross (fin false m e) (inf s) u w t = absurd w
 lt-cross (fin false m e) (fin true n d) u w t = absurd w
 lt-cross (fin false m e) (fin false n d) u w t = ltb→lt (m * up e * down d) (n * up d * down e) t
 
-pub cross-lt : (x y : Float) → T (unsigned x) → T (unsigned y) → num x * den y < num y * den x → T (lt x y)
+pub cross-lt : (x y : Float) → T (unsignedFinite x) → T (unsignedFinite y) → num x * den y < num y * den x → T (lt x y)
 unfolding lt
 cross-lt nan y u w h = absurd u
 cross-lt (inf s) y u w h = absurd u
@@ -128,7 +128,7 @@ same-units n d m e R S L P p q h =
     ∙ mul-assoc S e d
     ∙ ap (λ (z : ℕ). S * z) (mul-comm e d))
 
-pub same-value : (r s : Float) → T (fits binary64 r) → T (fits binary64 s) → T (unsigned r) → T (unsigned s) → num r * den s ≡ num s * den r → r ≡ s
+pub same-value : (r s : Float) → T (fits binary64 r) → T (fits binary64 s) → T (unsignedFinite r) → T (unsignedFinite s) → num r * den s ≡ num s * den r → r ≡ s
 same-value r s f g u w h =
     let i = in-units r f u in
     let j = in-units s g w in

@@ -7,7 +7,7 @@
 //    where the check fails, one at a time, and round by what is left over.
 // 5. Put the halved exponent before them. A carry out of the digits raises it by one.
 ghost use mathlib.Core.Path.{_≡_};
-ghost use Prim.Native.Nat.{ℕ, _+_, _*_, _^_, _<_, _≤_};
+ghost use Prim.Native.Nat.{_+_, _*_, _^_, _<_, _≤_};
 ghost use lib.Ieee.{binary64, toBits};
 ghost use Rattle.root.specs.Root.{closestRoot, roundRoot, rootBits};
 

@@ -2,9 +2,9 @@
 use Prim.Native.Nat.{ℕ, _≤_, _<_}
 use mathlib.Core.Bool.{Bool, true, false, cond}
 use mathlib.Core.Path.{_≡_, refl, ap}
-use native.Mathlib.Omega.{arith}
 use borrow.Author.Tests.{eqb-true, eq-eqb, ne-eqb, leb-true, le-leb, lt-leb, ltb-true, lt-ltb, le-ltb}
 use lib.Dec.{eqb, leb, ltb}
+use Rattle.loops.proofs.Bools.{unequal}
 use Rattle.refusal.specs.declared.Refusal.{Refusal}
 use Rattle.refusal.specs.declared.Refusal.the-variants.{Length, Count, Uneven, SeasonFull}
 use Rattle.refusal.specs.declared.Answer.the-variants.{Answered, Refused}
@@ -45,10 +45,10 @@ passed s corridors places e = go (eqb places corridors) (leb corridors mostCorri
     go : (a b c d : Bool) → eqb places corridors ≡ a → leb corridors mostCorridors ≡ b → evenWith s corridors ≡ c → ltb (s .taken) mostPlans ≡ d
         → cond a (cond b (cond c (cond d Answered (Refused SeasonFull)) (Refused Uneven)) (Refused Count)) (Refused Length) ≡ Answered
         → Passed s corridors places
-    go false b c d p q r t h = let z : _≡_ {A = ℕ} 0 1 = cc in absurd (omega arith)
-    go true false c d p q r t h = let z : _≡_ {A = ℕ} 0 1 = cc in absurd (omega arith)
-    go true true false d p q r t h = let z : _≡_ {A = ℕ} 0 1 = cc in absurd (omega arith)
-    go true true true false p q r t h = let z : _≡_ {A = ℕ} 0 1 = cc in absurd (omega arith)
+    go false b c d p q r t h = absurd (unequal cc)
+    go true false c d p q r t h = absurd (unequal cc)
+    go true true false d p q r t h = absurd (unequal cc)
+    go true true true false p q r t h = absurd (unequal cc)
     go true true true true p q r t h = record { size = eqb-true _ _ p; few = leb-true _ _ q; even = r; room = ltb-true _ _ t }
 
 pub passes : (s : Season) (corridors places : ℕ) → Passed s corridors places → checkOf s corridors places ≡ Answered

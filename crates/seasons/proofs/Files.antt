@@ -12,10 +12,12 @@ use Rattle.refusal.specs.declared.Refusal.{Refusal}
 use Rattle.refusal.specs.declared.Refusal.the-variants.{Length}
 use Rattle.refusal.specs.declared.Answer.the-variants.{Refused as NotTaken}
 use Rattle.casefile.specs.Bounds.{mostLevels, mostCorridors, mostSheet, rowFigures}
-use Rattle.casefile.specs.Reading.{Small, levels, lines, readingOf}
-use Rattle.casefile.specs.Tables.{Places, placesOf, tablesOf, held, sizesOk, readCase}
+use Rattle.casefile.specs.Reading.{Small, levels, lines, readOf, readingOf}
+use Rattle.casefile.specs.Reading.{unread as unread-case}
+use Rattle.casefile.specs.Tables.{Places, placesOf, replyOf, tablesOf, held, sizesOk, readCase}
 use Rattle.casefile.specs.Tables.{Outcome as ReadOutcome}
 use Rattle.casefile.specs.Tables.{outcome as read-outcome}
+use Rattle.casefile.specs.declared.CaseRead.{CaseRead}
 use Rattle.casefile.specs.declared.Header.{Header}
 use Rattle.casefile.specs.declared.Reading.{Reading}
 use Rattle.casefile.specs.declared.Reading.the-variants.{Refused, Read}
@@ -64,7 +66,7 @@ module _ (s : Season) (file : List ℕ) where
   abbrev fedBy : ReadOutcome → Outcome
   fedBy o = fedReply (o .reply) (o .places)
 
-  reading-fed : (r : Reading) → fedBy (read-outcome r (tablesOf file (held r))) ≡ fedRead s file r
+  reading-fed : (r : Reading) → fedReply (replyOf r) (tablesOf file (held r)) ≡ fedRead s file r
   unfolding held
   reading-fed (Refused f) = refl
   reading-fed (Read h) = refl
@@ -72,15 +74,16 @@ module _ (s : Season) (file : List ℕ) where
   file-fed : (q : Places) → sizesOk q ≡ true → fedBy (readCase file q) ≡ fedFile s file
   unfolding readCase fedFile
   file-fed q z =
-      ap (λ (b : Bool). fedBy (cond b (read-outcome (readingOf file) (tablesOf file (held (readingOf file)))) (read-outcome (Refused Length) q))) z ∙ reading-fed (readingOf file)
+      ap (λ (b : Bool). fedBy (cond b (read-outcome (readOf file) (tablesOf file (held (readingOf file)))) (read-outcome (unread-case Length) q))) z ∙ reading-fed (readingOf file)
 
-  module _ (q p : Places) (z : sizesOk q ≡ true) {r : Reading} (e : read-outcome r p ≡ readCase file q) where
-    pub unread : {f : Refusal} → r ≡ Refused f → outcome (NotTaken f) s ≡ fedFile s file
-    unread g = ap fedBy (ap (λ (x : Reading). read-outcome x p) (sym g) ∙ e) ∙ file-fed q z
+  module _ (q p : Places) (z : sizesOk q ≡ true) {r : CaseRead} (e : read-outcome r p ≡ readCase file q) where
+    pub unread : {f : Refusal} → r .reading ≡ Refused f → outcome (NotTaken f) s ≡ fedFile s file
+    unread g = ap (λ (x : Reading). fedReply (replyOf x) p) (sym g) ∙ ap fedBy e ∙ file-fed q z
 
-    pub read : {h : Header} → r ≡ Read h
+    pub read : {h : Header} → r .reading ≡ Read h
         → fedCase s h (parts p (levels h - 0) (h .buses - 0) (h .generators - 0) (h .corridors - 0) (lines h * rowFigures - 0)) ≡ fedFile s file
     read {h} g =
         ap (fedCase s h) (same-parts p (less (levels h)) (less (h .buses)) (less (h .generators)) (less (h .corridors)) (less (lines h * rowFigures)))
-        ∙ ap fedBy (ap (λ (x : Reading). read-outcome x p) (sym g) ∙ e)
+        ∙ ap (λ (x : Reading). fedReply (replyOf x) p) (sym g)
+        ∙ ap fedBy e
         ∙ file-fed q z

@@ -136,7 +136,7 @@ pub fn feed_file(season: Season, file: &[u8]) -> Fed
     let mut km = [0.0; MOST_CORRIDORS];
     let mut share = [0.0; MOST_CORRIDORS];
     let mut sheet = [0.0; MOST_SHEET];
-    let reading = casefile::read_case(
+    let read = casefile::read_case(
         file,
         &mut ladder,
         &mut tier,
@@ -154,6 +154,7 @@ pub fn feed_file(season: Season, file: &[u8]) -> Fed
         &mut share,
         &mut sheet,
     );
+    let reading = read.reading;
     match reading {
         Reading::Refused(f) => Fed {
             said: Answer::Refused(f),

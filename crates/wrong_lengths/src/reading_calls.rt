@@ -37,7 +37,7 @@ fn call(what: &[u8], file: &[u8], wrong: Wrong) {
     let mut km = [FIGURE; ROOM];
     let mut share = [FIGURE; ROOM];
     let mut sheet = [FIGURE; ROOM];
-    let r = casefile::read_case(
+    let read = casefile::read_case(
         file,
         &mut ladder[0..made(MOST_LEVELS, 0, wrong)],
         &mut tier[0..made(MOST_BUSES, 1, wrong)],
@@ -56,7 +56,8 @@ fn call(what: &[u8], file: &[u8], wrong: Wrong) {
         &mut sheet[0..made(MOST_SHEET, 14, wrong)],
     );
     say_call(what, wrong);
-    match r {
+    let reading = read.reading;
+    match reading {
         Reading::Read(_) => say_answered(),
         Reading::Refused(f) => say_refusal(f),
     }

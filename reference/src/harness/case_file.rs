@@ -156,8 +156,8 @@ impl<'a> Reader<'a> {
     }
 }
 
-/// The case that `file` holds.
-pub fn read_case(file: &[u8]) -> Result<Case, Refusal> {
+/// The case of the records of `file`, and the bytes behind them.
+fn read_records(file: &[u8]) -> Result<(Case, &[u8]), Refusal> {
     if file.len() > MOST_BYTES {
         return Err(Refusal::new(FILE_TOO_LONG, 0));
     }
@@ -193,13 +193,42 @@ pub fn read_case(file: &[u8]) -> Result<Case, Refusal> {
         corridors: reader.table(corridors, Reader::corridor)?,
         sheet: reader.table(corridors * levels, Reader::line)?,
     };
-    match reader.rest.iter().position(|&byte| byte != 0) {
-        Some(place) => Err(Refusal::new(
-            AFTER_THE_END,
-            file.len() - reader.rest.len() + place,
-        )),
+    Ok((case, reader.rest))
+}
+
+/// The case that `file` holds.
+pub fn read_case(file: &[u8]) -> Result<Case, Refusal> {
+    let (case, rest) = read_records(file)?;
+    match rest.iter().position(|&byte| byte != 0) {
+        Some(place) => Err(Refusal::new(AFTER_THE_END, file.len() - rest.len() + place)),
         None => Ok(case),
     }
+}
+
+/// The words of eight bytes and the single bytes that a test of the bytes behind
+/// the records looks at (document 02, K2): whole words up to the first that is
+/// not zero, then from there byte by byte.
+fn looks_at(mut rest: &[u8]) -> usize {
+    let mut looks = 0;
+    while let Some((word, after)) = rest.split_first_chunk::<8>() {
+        looks += 1;
+        if *word != [0; 8] {
+            break;
+        }
+        rest = after;
+    }
+    for &byte in rest {
+        looks += 1;
+        if byte != 0 {
+            break;
+        }
+    }
+    looks
+}
+
+/// How often that test looks; 0 where the file is refused before it.
+pub fn looks(file: &[u8]) -> usize {
+    read_records(file).map_or(0, |(_, rest)| looks_at(rest))
 }
 
 /// The file of `case`, without padding. Counts are written as the tables have
@@ -306,10 +335,12 @@ pub fn print_case(case: &Case) -> String {
     text
 }
 
-/// The answer of the program that reads a case and prints what it read.
+/// The answer of the program that reads a case and prints what it read, and last
+/// how often it looked behind the records.
 pub fn answer_read(file: &[u8]) -> String {
-    match read_case(file) {
+    let answer = match read_case(file) {
         Ok(case) => print_case(&case),
         Err(refusal) => format!("{refusal}\n"),
-    }
+    };
+    format!("{answer}LK {}\n", looks(file))
 }

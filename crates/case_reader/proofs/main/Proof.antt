@@ -120,11 +120,11 @@ lines-requires c κs = let s = small (levels-printed (buses-printed (generators-
 print-lines-requires : tie.Need-print-lines-requires
 print-lines-requires c κs = search needs
 
+print-looks-requires : tie.Need-print-looks-requires
+print-looks-requires c κs = search needs
+
 returns : tie.Need-returns
 returns c = search needs
-
-returns-2 : tie.Need-returns-2
-returns-2 c = search needs
 
 pub main-spec : {M : Type 1} → statement M
 main-spec =
@@ -162,5 +162,5 @@ main-spec =
     print-corridors-requires
     lines-requires
     print-lines-requires
-    returns
-    returns-2)
+    print-looks-requires
+    returns)

@@ -10,9 +10,10 @@ use denote.Ref.{now}
 use native.Mathlib.Omega.{arith}
 use Rattle.casefile.specs.Layout.{spot}
 use Rattle.casefile.specs.Reading.{levels, lines}
-use Rattle.casefile.specs.Tables.{Places, placesOf, sizesOk, Room, following, figures, levelsAt, busesAt, generatorsAt, corridorsAt, linesAt}
+use Rattle.casefile.specs.Tables.{Places, placesOf, outcome, sizesOk, Room, following, figures, levelsAt, busesAt, generatorsAt, corridorsAt, linesAt}
 use Rattle.casefile.specs.declared.Kind.{Kind}
 use Rattle.casefile.specs.declared.Kind.the-variants.{Level, Bus, Generator, Corridor, Line}
+use Rattle.casefile.specs.declared.CaseRead.{CaseRead}
 use Rattle.casefile.specs.declared.columns.Span.{Span}
 use Rattle.casefile.proofs.Counts.{lines-small}
 use Rattle.casefile.proofs.Rooms.{Roomy, roomy, buses-low, generators-low, corridors-low, lines-low}
@@ -52,7 +53,10 @@ placesAt c =
     (now (c .args .share)) (now (c .args .sheet))
 
 -- ---- the slices' lengths
-sizes-false : (c : tie.Then1) → sizesOk (placesAt (c .before .before .before .before .before .before .before .before .before .before .before .before .before .before .before .before .before)) ≡ false
+abbrev start-before : tie.Then1 → tie.Start
+start-before c = c .before .before .before .before .before .before .before .before .before .before .before .before .before .before .before .before .before
+
+sizes-false : (c : tie.Then1) → sizesOk (placesAt (start-before c)) ≡ false
 unfolding sizesOk
 sizes-false c = not-true _ (c .if1 .taken)
 
@@ -63,7 +67,7 @@ sizes-true c = not-false _ (c .before .before .if1 .left)
 -- ---- where each table lies
 -- the counts fit the tables, and the tables the file
 room : (c : tie.After-held) → Roomy (fileAt c) (c .held .result)
-room c = roomy _ _ _ (c .before .reading-of .ensures) (c .held .ensures)
+room c = roomy _ _ _ (ap (λ (r : CaseRead). r .reading) (c .before .read-of .ensures)) (c .held .ensures)
 
 abbrev span : ℕ → ℕ → Span
 span at count = record { at = at; count = count }
@@ -87,17 +91,20 @@ low : (k : Kind) {t t′ : Span} → t′ ≡ t → spot k (t .at) (t .count) < 
 low k e r = subst (λ (u : Span). spot k (u .at) (u .count) < 2 ^ 64) (sym e) r
 
 -- ---- the needs
-returns : tie.Need-returns
-returns c = refused-lengths _ _ (sizes-false c)
+said-requires : tie.Need-said-requires
+said-requires c κs = search needs
 
-reading-of-requires : tie.Need-reading-of-requires
-reading-of-requires c κs = search needs
+returns : tie.Need-returns
+returns c = ap (λ (r : CaseRead). outcome r (placesAt (start-before (c .before)))) (c .said .ensures) ∙ refused-lengths _ _ (sizes-false (c .before))
+
+read-of-requires : tie.Need-read-of-requires
+read-of-requires c κs = search needs
 
 held-requires : tie.Need-held-requires
 held-requires c κs = search needs
 
-add-t25 : tie.Need-add-t25
-add-t25 c = omega (arith, room (c .before) .small .levels)
+add-t26 : tie.Need-add-t26
+add-t26 c = omega (arith, room (c .before) .small .levels)
 
 after-requires : tie.Need-after-requires
 after-requires c κs = omega (arith, buses-low _ (room (c .before) .small))
@@ -195,7 +202,7 @@ returns-2 c =
     let buses = buses-span (d .before .before .before .before .before) in
     let generators = generators-span (d .before .before .before .before) in
     let corridors = corridors-span (d .before .before .before) in
-    read-whole _ _ _ _ n (sizes-true h) (h .before .reading-of .ensures) (h .held .ensures)
+    read-whole _ _ _ _ n (sizes-true h) (h .before .read-of .ensures) (h .held .ensures)
     (tables-same s n _ _ _ _ _ _ _ _ _ _ _ _ _ _ _
     (levels-read b .read-levels .ensures ∙ ap (λ (m : ℕ). figures Level 0 s levelsAt (levels n) m) (z .ladder))
     (column-numbers Bus 0 s buses (z .tier) (b .read-buses .ensures .0))
@@ -217,10 +224,11 @@ pub read-case-spec : {M : Type 1} → statement M
 read-case-spec =
     tie.close
     (tie.spec
+    said-requires
     returns
-    reading-of-requires
+    read-of-requires
     held-requires
-    add-t25
+    add-t26
     after-requires
     after-requires-2
     after-requires-3

@@ -1,5 +1,4 @@
 -- `leaders::follow` meets its contract: the test is the definition's.
-use mathlib.Core.Path.{sym, ap}
 use borrow.Author.Tests.{eq-eqb, ne-eqb}
 use Rattle.leaders.proofs.follow.Statement.{statement}
 use Rattle.leaders.proofs.follow.Tie as tie

@@ -2,12 +2,11 @@
 -- The invariant: the places passed hold their own index.
 use Prim.Native.Nat.{ℕ, _-_, _≤_}
 use mathlib.Core.Path.{_≡_, refl}
-use native.Mathlib.Nat.{le-antisymm}
 use native.Mathlib.Omega.{arith}
 use lib.ListN.{length, length-set}
 use borrow.Author.Needs.{needs}
 use Rattle.loops.specs.Loops.{filled}
-use Rattle.loops.proofs.Tab.{fill-start, fill-turn, fill-end, fill-length}
+use Rattle.loops.proofs.Tab.{fill-start, fill-turn, fill-end}
 use Rattle.leaders.specs.Leaders.{themselves}
 use Rattle.leaders.proofs.lead_themselves.Statement.{statement}
 use Rattle.leaders.proofs.lead_themselves.Tie as tie

@@ -21,7 +21,7 @@ fn good_file(random: &mut Random) -> Vec<u8> {
 }
 
 /// A file with every kind of record, as small as can be: case L.
-fn smallest_file() -> Vec<u8> {
+pub fn smallest_file() -> Vec<u8> {
     let mut case = two_buses(OBSERVE, 138.0, 50.0, plain_line(0.5, 100.0));
     case.generators[0].pmax = 100.0;
     case.generators[0].c2 = 0.25;

@@ -5,6 +5,7 @@ mod damage;
 mod edges;
 mod faults;
 mod networks;
+pub mod padding;
 mod sketch;
 mod stiffening;
 

@@ -14,8 +14,13 @@ header-of-requires c κs = search needs
 counts-ok-requires : tie.Need-counts-ok-requires
 counts-ok-requires c κs = search needs
 
+said-requires : tie.Need-said-requires
+said-requires c κs = search needs
+
 returns : tie.Need-returns
-returns c = body-counts _ _ _ (c .before .before .header-of .ensures .0) (sym (c .before .counts-ok .ensures) ∙ not-true _ (c .if1 .taken))
+returns c =
+    c .said .ensures
+    ∙ body-counts _ _ _ (c .before .before .before .header-of .ensures .0) (sym (c .before .before .counts-ok .ensures) ∙ not-true _ (c .before .if1 .taken))
 
 walk-tables-requires : tie.Need-walk-tables-requires
 walk-tables-requires c κs = small-of _ (sym (c .before .counts-ok .ensures) ∙ not-false _ (c .if1 .left))
@@ -34,6 +39,7 @@ body-read-spec =
     (tie.spec
     header-of-requires
     counts-ok-requires
+    said-requires
     returns
     walk-tables-requires
     end-read-requires

@@ -1,58 +1,29 @@
--- `casefile::scan::trailing` meets its contract. The invariant: what is left of the search answers what the whole does.
--- The measure is what is left of the file.
-use Prim.Native.Nat.{_-_}
-use mathlib.Core.Path.{_≡_, refl, sym, _∙_}
-use borrow.Author.Tests.{eq-eqb, ne-eqb}
+-- `casefile::scan::trailing` meets its contract.
+-- The bytes behind the words of zeros (both-looked).
+use mathlib.Core.Path.{_∙_}
 use native.Mathlib.Omega.{arith}
-use lib.ListN.{length}
-use Rattle.loops.specs.Loops.{first}
-use Rattle.loops.proofs.Scan.{first-pass, first-stop, first-end}
-use Rattle.casefile.specs.Reading.{zeroAt, trailing}
+use borrow.Author.Needs.{needs}
+use denote.Ref.{now}
+use Rattle.casefile.proofs.Trailing.{both-looked, few}
 use Rattle.casefile.proofs.scan.trailing.Statement.{statement}
 use Rattle.casefile.proofs.scan.trailing.Tie as tie
 
-abbrev Inv-loop : tie.InvT-loop
-Inv-loop file at i₀ i = first (zeroAt file) (length file - i) i ≡ trailing file at
+past-words-requires : tie.Need-past-words-requires
+past-words-requires c κs = search needs
 
-abbrev μ-loop : tie.MeasureT-loop
-μ-loop file at i₀ i = length file - i
+past-bytes-requires : tie.Need-past-bytes-requires
+past-bytes-requires c κs = search needs
 
-loop-holds : tie.Need-loop-holds Inv-loop μ-loop
-unfolding trailing
-loop-holds c = refl
+add-came-to : tie.Need-add-came-to
+add-came-to c =
+    omega (arith, few (now (c .before .before .before .before .before .args .file)) (c .before .before .before .before .before .args .at) _ _ (c .before .before .before .past-words .ensures) (c .before .before .past-bytes .ensures))
 
-shared-slice-read-if1 : tie.Need-shared-slice-read-if1 Inv-loop μ-loop
-shared-slice-read-if1 c = omega arith
+came-to-requires : tie.Need-came-to-requires
+came-to-requires c κs = search needs
 
-returns : tie.Need-returns Inv-loop μ-loop
-returns c =
-    let l = c .before .before .before in
-    sym (first-stop _ _ (l .loop .i) (c .before .before .loop-test .taken) (ne-eqb _ _ (c .if1 .taken))) ∙ l .loop .inv
-
-add-i : tie.Need-add-i Inv-loop μ-loop
-add-i c = omega arith
-
-loop-less : tie.Need-loop-less Inv-loop μ-loop
-loop-less c = omega arith
-
-loop-again : tie.Need-loop-again Inv-loop μ-loop
-loop-again c =
-    let l = c .before .before .before in
-    sym (first-pass _ _ (l .loop .i) (c .before .before .loop-test .taken) (eq-eqb _ _ (c .if1 .left))) ∙ l .loop .inv
-
-returns-2 : tie.Need-returns-2 Inv-loop μ-loop
-returns-2 c = sym (first-end _ _ (c .before .loop .i) (c .loop-test .left)) ∙ c .before .loop .inv
+returns : tie.Need-returns
+returns c = c .came-to .ensures ∙ both-looked _ _ _ _ (c .before .before .before .before .past-words .ensures) (c .before .before .before .past-bytes .ensures)
 
 pub trailing-spec : {M : Type 1} → statement M
 trailing-spec =
-    tie.close
-    (tie.spec
-    Inv-loop
-    μ-loop
-    loop-holds
-    shared-slice-read-if1
-    returns
-    add-i
-    loop-less
-    loop-again
-    returns-2)
+    tie.close (tie.spec past-words-requires past-bytes-requires add-came-to came-to-requires returns)

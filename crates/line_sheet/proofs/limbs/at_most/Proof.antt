@@ -8,8 +8,6 @@ use borrow.Author.Needs.{needs}
 use Rattle.line_sheet.proofs.Worths.{Compared, differ, agree, last-limb, worth-none}
 use Rattle.line_sheet.proofs.limbs.at_most.Statement.{statement}
 use Rattle.line_sheet.proofs.limbs.at_most.Tie as tie
-use Rattle.line_sheet.proofs.limbs.at_most.Reads as reads
-use Rattle.line_sheet.proofs.limbs.at_most.Lts as lts
 
 abbrev Inv-loop : tie.InvT-loop
 Inv-loop a b r₀ i₀ r i = Compared a b r i

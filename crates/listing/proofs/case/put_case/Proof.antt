@@ -100,7 +100,7 @@ part-put-planned-start-6 : tie.Need-part-put-planned-start-6
 part-put-planned-start-6 c = search needs
 
 part-put-planned-end-6 : tie.Need-part-put-planned-end-6
-part-put-planned-end-6 c = search needs
+part-put-planned-end-6 c = in-table (small (c .before .before .before .before .before .before .before .before .before .before .before .before .before .before .before .before .before .before .before .before .before .before .before) .generators) (tables (c .before .before .before .before .before .before .before .before .before .before .before .before .before .before .before .before .before .before .before .before .before .before .before) .pmin)
 
 sub-put-planned-7 : tie.Need-sub-put-planned-7
 sub-put-planned-7 c = search needs

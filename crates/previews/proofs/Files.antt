@@ -10,10 +10,12 @@ use Rattle.refusal.specs.Reply.{Reply, answered, refused, refusedBy}
 use Rattle.refusal.specs.declared.Refusal.{Refusal}
 use Rattle.refusal.specs.declared.Refusal.the-variants.{Length}
 use Rattle.casefile.specs.Bounds.{mostLevels, mostCorridors, mostSheet, rowFigures}
-use Rattle.casefile.specs.Reading.{Small, levels, lines, readingOf}
-use Rattle.casefile.specs.Tables.{Places, placesOf, tablesOf, held, sizesOk, readCase}
+use Rattle.casefile.specs.Reading.{Small, levels, lines, readOf, readingOf}
+use Rattle.casefile.specs.Reading.{unread as unread-case}
+use Rattle.casefile.specs.Tables.{Places, placesOf, replyOf, tablesOf, held, sizesOk, readCase}
 use Rattle.casefile.specs.Tables.{Outcome as ReadOutcome}
 use Rattle.casefile.specs.Tables.{outcome as read-outcome}
+use Rattle.casefile.specs.declared.CaseRead.{CaseRead}
 use Rattle.casefile.specs.declared.Header.{Header}
 use Rattle.casefile.specs.declared.Reading.{Reading}
 use Rattle.casefile.specs.declared.Reading.the-variants.{Refused, Read}
@@ -50,7 +52,7 @@ module _ (file : List ℕ) where
   abbrev keptOut : ReadOutcome → Reply Kept
   keptOut o = keptReply (o .reply) (o .places)
 
-  reading-kept : (r : Reading) → keptOut (read-outcome r (tablesOf file (held r))) ≡ keptRead file r
+  reading-kept : (r : Reading) → keptReply (replyOf r) (tablesOf file (held r)) ≡ keptRead file r
   unfolding held
   reading-kept (Refused f) = refl
   reading-kept (Read h) = refl
@@ -58,15 +60,16 @@ module _ (file : List ℕ) where
   file-kept : (q : Places) → sizesOk q ≡ true → keptOut (readCase file q) ≡ keptFile file
   unfolding readCase keptFile
   file-kept q z =
-      ap (λ (b : Bool). keptOut (cond b (read-outcome (readingOf file) (tablesOf file (held (readingOf file)))) (read-outcome (Refused Length) q))) z ∙ reading-kept (readingOf file)
+      ap (λ (b : Bool). keptOut (cond b (read-outcome (readOf file) (tablesOf file (held (readingOf file)))) (read-outcome (unread-case Length) q))) z ∙ reading-kept (readingOf file)
 
-  module _ (q p : Places) (z : sizesOk q ≡ true) {r : Reading} (e : read-outcome r p ≡ readCase file q) where
-    pub unread : {f : Refusal} → r ≡ Refused f → refusedBy f ≡ keptFile file
-    unread g = ap keptOut (ap (λ (x : Reading). read-outcome x p) (sym g) ∙ e) ∙ file-kept q z
+  module _ (q p : Places) (z : sizesOk q ≡ true) {r : CaseRead} (e : read-outcome r p ≡ readCase file q) where
+    pub unread : {f : Refusal} → r .reading ≡ Refused f → refusedBy f ≡ keptFile file
+    unread g = ap (λ (x : Reading). keptReply (replyOf x) p) (sym g) ∙ ap keptOut e ∙ file-kept q z
 
-    pub read : {h : Header} → r ≡ Read h
+    pub read : {h : Header} → r .reading ≡ Read h
         → keptCase h (parts p (levels h - 0) (h .buses - 0) (h .generators - 0) (h .corridors - 0) (lines h * rowFigures - 0)) ≡ keptFile file
     read {h} g =
         ap (keptCase h) (same-parts p (less (levels h)) (less (h .buses)) (less (h .generators)) (less (h .corridors)) (less (lines h * rowFigures)))
-        ∙ ap keptOut (ap (λ (x : Reading). read-outcome x p) (sym g) ∙ e)
+        ∙ ap (λ (x : Reading). keptReply (replyOf x) p) (sym g)
+        ∙ ap keptOut e
         ∙ file-kept q z

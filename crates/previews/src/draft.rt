@@ -165,7 +165,7 @@ pub fn plan_file(file: &[u8]) -> Draft
     let mut km = [0.0; MOST_CORRIDORS];
     let mut share = [0.0; MOST_CORRIDORS];
     let mut sheet = [0.0; MOST_SHEET];
-    let reading = casefile::read_case(
+    let read = casefile::read_case(
         file,
         &mut ladder,
         &mut tier,
@@ -183,6 +183,7 @@ pub fn plan_file(file: &[u8]) -> Draft
         &mut share,
         &mut sheet,
     );
+    let reading = read.reading;
     match reading {
         Reading::Refused(f) => no_draft(f),
         Reading::Read(h) => {

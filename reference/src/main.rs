@@ -17,6 +17,7 @@ use reference::harness::case_text::parse_text;
 use reference::harness::listing::answer_list;
 use reference::harness::preview::answer_preview;
 use reference::harness::season::answer_season;
+use reference::harness::small::small_networks;
 use reference::previews::{compare_previews, preview_input};
 use reference::tally::Tally;
 use reference::targets::compare_targets;
@@ -38,6 +39,7 @@ const USAGE: &str = "usage:
   reference preview                                          a case file and targets on standard input
   reference preview-input SEED
   reference compare-previews PROGRAM FIRST_SEED COUNT COUNTS
+  reference small PLACE                                      the case file of a small network
   reference branches COUNTS...
   reference judge REQUESTS ANSWERS
   reference sheet-differences PROGRAM FIRST_SEED BATCHES
@@ -135,6 +137,10 @@ fn run(words: &[&str]) -> Result<(), Failure> {
             let program = Program { path, limit: LIMIT };
             let outcome = compare_previews(&program, number(first)?, number(count)?)?;
             report_counted("previews", "answers", &outcome, counts)
+        }
+        ["small", place] => {
+            let place = usize::try_from(number(place)?).map_err(|_| Failure::Usage)?;
+            write(&write_case(small_networks().get(place).ok_or(Failure::Found)?))
         }
         ["branches", ref files @ ..] if !files.is_empty() => branches(files),
         ["write"] => {

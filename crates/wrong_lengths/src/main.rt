@@ -1,6 +1,6 @@
 // Calls each operation with each of its slices one place too short and one too long, which no text can ask for, and prints what
 // it answered and whether the lent arrays kept their contents. Before that each is called with every length right, and with a
-// count past its bound that makes lengths wrong too: refusal 1 comes before 2.
+// count past its bound that makes lengths wrong too, or a place past the last: refusal 1 comes before 2 and 23.
 mod angles_calls;
 mod dispatch_calls;
 mod leaders_calls;
@@ -11,6 +11,7 @@ mod reading_calls;
 mod report;
 mod season_calls;
 mod sheet_calls;
+mod small_calls;
 
 // Of planning, which has the most.
 const MOST_SLICES: usize = 27;
@@ -25,6 +26,7 @@ fn first() {
     reading_calls::first();
     sheet_calls::first();
     season_calls::first();
+    small_calls::first();
 }
 
 fn both(slice: usize) {
@@ -37,6 +39,7 @@ fn both(slice: usize) {
     reading_calls::both(slice);
     sheet_calls::both(slice);
     season_calls::both(slice);
+    small_calls::both(slice);
 }
 
 fn main() {

@@ -13,4 +13,5 @@ pub mod preview;
 pub mod refusal;
 pub mod season;
 pub mod sheet;
+pub mod small;
 pub mod tables;

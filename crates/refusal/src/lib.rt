@@ -48,6 +48,10 @@ pub enum Refusal {
     Spread(usize),
     // A place past the last small network.
     Place,
+    // A plan of a mode that does not fill.
+    Mode,
+    // A place of a filling order that names no corridor, or one again.
+    Order(usize),
 }
 
 impl Refusal {
@@ -77,6 +81,8 @@ impl Refusal {
             Refusal::SeasonFull => 20,
             Refusal::Spread(_) => 22,
             Refusal::Place => 23,
+            Refusal::Mode => 18,
+            Refusal::Order(_) => 30,
         }
     }
 
@@ -107,6 +113,8 @@ impl Refusal {
             Refusal::SeasonFull => 0,
             Refusal::Spread(i) => i,
             Refusal::Place => 0,
+            Refusal::Mode => 0,
+            Refusal::Order(i) => i,
         }
     }
 }

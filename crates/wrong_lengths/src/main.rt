@@ -6,6 +6,7 @@ mod dispatch_calls;
 mod leaders_calls;
 mod placement_calls;
 mod planning_calls;
+mod preview_calls;
 mod reading_calls;
 mod report;
 mod season_calls;
@@ -13,7 +14,7 @@ mod sheet_calls;
 mod small_calls;
 
 // Of planning, which has the most.
-const MOST_SLICES: usize = 25;
+const MOST_SLICES: usize = 27;
 
 fn first() {
     leaders_calls::first();
@@ -21,6 +22,7 @@ fn first() {
     angles_calls::first();
     placement_calls::first();
     planning_calls::first();
+    preview_calls::first();
     reading_calls::first();
     sheet_calls::first();
     season_calls::first();
@@ -33,6 +35,7 @@ fn both(slice: usize) {
     angles_calls::both(slice);
     placement_calls::both(slice);
     planning_calls::both(slice);
+    preview_calls::both(slice);
     reading_calls::both(slice);
     sheet_calls::both(slice);
     season_calls::both(slice);

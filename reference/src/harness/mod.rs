@@ -9,6 +9,7 @@ pub mod figures;
 pub mod listing;
 pub mod operations;
 pub mod plan;
+pub mod preview;
 pub mod refusal;
 pub mod season;
 pub mod sheet;

@@ -16,6 +16,7 @@ pub mod differences;
 pub mod generate;
 pub mod harness;
 pub mod judge;
+pub mod previews;
 pub mod tally;
 pub mod targets;
 pub mod theorem;

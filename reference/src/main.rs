@@ -15,7 +15,10 @@ use reference::harness::answers::answer_all;
 use reference::harness::case_file::{answer_read, write_case};
 use reference::harness::case_text::parse_text;
 use reference::harness::listing::answer_list;
+use reference::harness::preview::answer_preview;
 use reference::harness::season::answer_season;
+use reference::harness::small::small_networks;
+use reference::previews::{compare_previews, preview_input};
 use reference::tally::Tally;
 use reference::targets::compare_targets;
 use reference::theorem::theorem;
@@ -33,12 +36,16 @@ const USAGE: &str = "usage:
   reference season                                           case files on standard input, 65,536 bytes each
   reference season-files SEED
   reference compare-seasons PROGRAM FIRST_SEED COUNT
+  reference preview                                          a case file and targets on standard input
+  reference preview-input SEED
+  reference compare-previews PROGRAM FIRST_SEED COUNT COUNTS
+  reference small PLACE                                      the case file of a small network
   reference branches COUNTS...
   reference judge REQUESTS ANSWERS
   reference sheet-differences PROGRAM FIRST_SEED BATCHES
   reference write                                            a case as text on standard input
   reference theorem                                          a case on standard input
-KIND is one of SQRT IMP LEAD DISP ANG PLACE SHEET ROWS BAD.";
+KIND is one of SQRT IMP LEAD DISP ANG PLACE SHEET ROWS PREV BAD.";
 
 /// Why a command did not run to its end.
 enum Failure {
@@ -124,6 +131,17 @@ fn run(words: &[&str]) -> Result<(), Failure> {
             let outcome = compare_seasons(&program, number(first)?, number(count)?)?;
             report("seasons", "answers", &outcome)
         }
+        ["preview"] => write(answer_preview(&input()?).as_bytes()),
+        ["preview-input", seed] => write(&preview_input(number(seed)?)),
+        ["compare-previews", path, first, count, counts] => {
+            let program = Program { path, limit: LIMIT };
+            let outcome = compare_previews(&program, number(first)?, number(count)?)?;
+            report_counted("previews", "answers", &outcome, counts)
+        }
+        ["small", place] => {
+            let place = usize::try_from(number(place)?).map_err(|_| Failure::Usage)?;
+            write(&write_case(small_networks().get(place).ok_or(Failure::Found)?))
+        }
         ["branches", ref files @ ..] if !files.is_empty() => branches(files),
         ["write"] => {
             let text = String::from_utf8(input()?).map_err(|_| Failure::Found)?;
@@ -149,7 +167,12 @@ fn write(bytes: &[u8]) -> Result<(), Failure> {
 }
 
 /// Says how a comparison ended and writes what it counted to the file `counts`.
-fn report_counted(what: &str, things: &str, outcome: &Outcome, counts: &str) -> Result<(), Failure> {
+fn report_counted(
+    what: &str,
+    things: &str,
+    outcome: &Outcome,
+    counts: &str,
+) -> Result<(), Failure> {
     std::fs::write(counts, outcome.tally.to_string())?;
     report(what, things, outcome)
 }

@@ -10,10 +10,14 @@ use crate::generate::requests::{family_names, largest, Request, KINDS};
 use crate::harness::case_file::{read_case, MOST_BYTES};
 use crate::harness::operations::leaders;
 use crate::harness::tables::{Case, MOST_BUSES, MOST_CORRIDORS, MOST_GENERATORS, MOST_LEVELS};
+use crate::previews::{OTHER, TARGETS};
 use crate::watch::BRANCHES;
 
 /// How many requests of each largest family must be compared.
 const LARGEST: u64 = 100;
+
+/// How many Expand cases must be previewed under each target.
+const PREVIEWED: u64 = 2_000;
 
 /// What is compared of case files.
 const CASES: [&str; 2] = ["list", "read"];
@@ -44,6 +48,12 @@ const ANSWERS: &[(&str, &[&str])] = &[
     ("PLACE", &["OK", "RF 2", "RF 4", "RF 5", "RF 6"]),
     ("SHEET", &["OK", "RF 2", "RF 3", "RF 6", "RF 22"]),
     ("ROWS", &["OK"]),
+    ("PREV", &["OK", "RF 2", "RF 6", "RF 18", "RF 30"]),
+    ("preview", &["CO", "nothing", "RF 2", "RF 18"]),
+    (
+        "preview of no plan",
+        &["RF 2", "RF 6", "RF 8", "RF 9", "RF 13", "RF 15", "RF 17"],
+    ),
     ("BAD", &["??"]),
 ];
 
@@ -164,6 +174,17 @@ impl Tally {
         self.answer(kind, &String::from_utf8_lossy(answer));
     }
 
+    /// Counts the answer of a preview under a target of the named sort: what
+    /// follows the line of the target, or the refusal of the case.
+    pub fn preview(&mut self, target: &str, answer: &str) {
+        self.count("compared: previews".to_owned());
+        self.count(format!("preview: {target}"));
+        match answer.strip_prefix("PV ").map(|rest| rest.split_once('\n')) {
+            None => self.answer("preview of no plan", answer),
+            Some(after) => self.answer("preview", after.map_or("", |(_, rest)| rest)),
+        }
+    }
+
     /// Adds the counts that another tally's text has; `None` where it is none.
     pub fn read(&mut self, text: &str) -> Option<()> {
         for line in text.lines() {
@@ -238,5 +259,9 @@ fn expected() -> BTreeMap<String, u64> {
             expected.insert(format!("request: {kind}, {family}"), LARGEST);
         }
     }
+    for target in TARGETS {
+        expected.insert(format!("preview: {target}"), PREVIEWED);
+    }
+    expected.insert(format!("preview: {OTHER}"), 1);
     expected
 }

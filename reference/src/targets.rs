@@ -8,12 +8,8 @@ use crate::compare::{judge, Outcome, Program};
 use crate::generate::cases::case_file;
 use crate::harness::case_file::{read_case, write_case};
 use crate::harness::listing::answer_list;
+use crate::harness::preview::{EXPAND, FULL};
 use crate::harness::tables::{Case, MOST_TARGET};
-
-/// The mode that fills.
-const EXPAND: u8 = 0;
-/// The most that filling gives a corridor.
-const FULL: usize = 4;
 
 /// What K13 speaks of, read off a listing; none where it is a refusal.
 #[derive(Debug, PartialEq)]

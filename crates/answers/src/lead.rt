@@ -2,9 +2,8 @@
 ghost use Prim.Native.Nat.{_≤_};
 ghost use lib.ListN.{length};
 use crate::print::put_no_request;
-use crate::print::put_number;
 use crate::print::put_refusal;
-use crate::print::put_text;
+use crate::print::put_wholes;
 use crate::text::Reading;
 use crate::text::complete;
 use crate::text::count;
@@ -30,23 +29,6 @@ fn read_ends(line: &[u8], r: Reading, corridors: usize, a: &mut [u32], b: &mut [
     s
 }
 
-pub fn long(x: u32) -> u64 {
-    x as u64
-}
-
-fn put_leaders(out: &mut [u8], leader: &[u32; 400], buses: usize) -> usize
-    requires { ⌜ buses ≤ 400 ⌝ }
-    ensures { λ r. ⌜ r ≤ length (now (out .entry)) ⌝ }
-{
-    let mut used = put_text(out, 0, b"OK");
-    let mut i = 0;
-    while i < buses {
-        used = put_number(out, used, long(leader[i]));
-        i += 1;
-    }
-    used
-}
-
 // LEAD n m (a b)×m
 pub fn answer_leaders(line: &[u8], out: &mut [u8]) -> usize
     ensures { λ r. ⌜ r ≤ length (now (out .entry)) ⌝ }
@@ -69,7 +51,7 @@ pub fn answer_leaders(line: &[u8], out: &mut [u8]) -> usize
         &b[0..corridors],
         &mut leader[0..buses],
     ) {
-        Answer::Answered => put_leaders(out, &leader, buses),
+        Answer::Answered => put_wholes(out, &leader, buses),
         Answer::Refused(f) => put_refusal(out, f),
     }
 }

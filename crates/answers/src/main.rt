@@ -5,6 +5,7 @@ mod ang;
 mod disp;
 mod lead;
 mod place;
+mod preview;
 mod print;
 mod rows;
 mod sheet;
@@ -19,6 +20,7 @@ use lead::answer_leaders;
 use libc::STDIN_FILENO;
 use libc::STDOUT_FILENO;
 use place::answer_placement;
+use preview::answer_preview;
 use print::put_byte;
 use print::put_no_request;
 use rows::answer_rows;
@@ -80,6 +82,9 @@ fn answer(line: &[u8], out: &mut [u8]) -> usize
     }
     if begins(line, b"ROWS ") {
         return answer_rows(line, out);
+    }
+    if begins(line, b"PREV ") {
+        return answer_preview(line, out);
     }
     put_no_request(out)
 }

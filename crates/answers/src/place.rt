@@ -1,7 +1,7 @@
 // Request PLACE.
 ghost use Prim.Native.Nat.{_≤_};
 ghost use lib.ListN.{length};
-use crate::lead::long;
+use crate::print::long;
 use crate::print::put_figure;
 use crate::print::put_no_request;
 use crate::print::put_number;

@@ -78,6 +78,24 @@ pub fn put_number(out: &mut [u8], len: usize, x: u64) -> usize
     put_text(out, used, &digits[..n])
 }
 
+pub fn long(x: u32) -> u64 {
+    x as u64
+}
+
+// `OK` and the first n whole numbers of a table.
+pub fn put_wholes(out: &mut [u8], table: &[u32; 400], n: usize) -> usize
+    requires { ⌜ n ≤ 400 ⌝ }
+    ensures { λ r. ⌜ r ≤ length (now (out .entry)) ⌝ }
+{
+    let mut used = put_text(out, 0, b"OK");
+    let mut i = 0;
+    while i < n {
+        used = put_number(out, used, long(table[i]));
+        i += 1;
+    }
+    used
+}
+
 // The first n figures of a table.
 pub fn put_figures(out: &mut [u8], len: usize, xs: &[f64; 400], n: usize) -> usize
     requires { ⌜ (len ≤ length (now out)) × (n ≤ 400) ⌝ }

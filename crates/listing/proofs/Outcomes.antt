@@ -4,21 +4,20 @@ use mathlib.Core.Bool.{Bool, true, false}
 use mathlib.Core.List.{List, [], _∷_}
 use mathlib.Core.Path.{_≡_, refl, sym, ap, subst, _∙_}
 use native.Mathlib.Omega.{arith}
-use borrow.Author.Tests.{eq-eqb}
 use lib.Ieee.{Float}
 use lib.ListN.{length, take, replicate, length-append}
 use lib.Seq.{take-at}
-use Rattle.loops.proofs.Bools.{and-of}
 use Rattle.loops.specs.Figures.{nought}
 use Rattle.mode.specs.declared.PlanMode.{PlanMode}
 use Rattle.refusal.specs.Reply.{Reply, answered, refused}
 use Rattle.refusal.specs.declared.Refusal.{Refusal}
 use Rattle.plan_defs.specs.Case.{Case}
 use Rattle.plan_defs.specs.Plan.{Ending, unaccepted, unanswered, planned, endingOf}
-use Rattle.plan_defs.specs.Outcome.{Slices, slicesOk, workPlaces, held, summary, upTo, Outcome, outcome, outcomeBy, outcomeIf, planCorridors}
+use Rattle.plan_defs.specs.Outcome.{Slices, slicesOk, held, summary, upTo, Outcome, outcome, outcomeBy, outcomeIf, planCorridors}
 use Rattle.plan_defs.specs.declared.CorridorPlan.{CorridorPlan}
 use Rattle.plan_defs.specs.declared.Planned.{Planned}
 use Rattle.plan_defs.specs.declared.Planned.the-variants.{Answered, Refused}
+use Rattle.plan_theorems.proofs.Outcomes.{Lengths, lengths-ok, lengths-kept}
 use Rattle.listing.specs.Text.{number}
 use Rattle.listing.specs.Lines.{line, refusalLine}
 use Rattle.listing.specs.Listing.{listed, plannedText, Counted, planText, endingText}
@@ -41,34 +40,14 @@ ending-text mode (unaccepted f) c s = refl
 ending-text mode (unanswered f) c s = refl
 ending-text mode (planned p) c s = rw (front (c .buses) 0 (p .grounds), front (c .above) nought (p .added))
 
--- ---- slices of the right length
-pub record Sized (c : Case) (s : Slices) : Type 0 where
-  pub circuits : length (s .circuits) ≡ c .corridors
-  pub flow : length (s .flow) ≡ c .corridors
-  pub rate : length (s .rate) ≡ c .corridors
-  pub mw : length (s .mw) ≡ c .generators
-  pub angle : length (s .angle) ≡ c .buses
-  pub tier : length (s .tier) ≡ c .buses
-  pub ground : length (s .ground) ≡ c .buses
-  pub added : length (s .added) ≡ c .above
-  pub figures : length (s .figures) ≡ workPlaces c
-  pub counts : length (s .counts) ≡ workPlaces c
+-- ---- with slices of the right length
+pub left-lengths : (c : Case) (target : ℕ) (s l : Slices) (r : Planned) → Lengths c s → outcome r l ≡ planCorridors c target s → Lengths c l
+left-lengths c target s l r z e = subst (λ (o : Outcome). Lengths c (o .lent)) (sym e) (lengths-kept c target s (lengths-ok c s z))
 
-sized-ok : (c : Case) (s : Slices) → Sized c s → slicesOk c s ≡ true
-unfolding slicesOk
-sized-ok c s z =
-    and-of (eq-eqb _ _ (z .circuits))
-    (and-of (eq-eqb _ _ (z .flow))
-    (and-of (eq-eqb _ _ (z .rate))
-    (and-of (eq-eqb _ _ (z .mw))
-    (and-of (eq-eqb _ _ (z .angle))
-    (and-of (eq-eqb _ _ (z .tier))
-    (and-of (eq-eqb _ _ (z .ground)) (and-of (eq-eqb _ _ (z .added)) (and-of (eq-eqb _ _ (z .figures)) (eq-eqb _ _ (z .counts))))))))))
-
-plan-text : (mode : PlanMode) (c : Case) (target : ℕ) (s : Slices) → Sized c s → outcomeText mode (planCorridors c target s) ≡ endingText mode (endingOf c target)
+plan-text : (mode : PlanMode) (c : Case) (target : ℕ) (s : Slices) → Lengths c s → outcomeText mode (planCorridors c target s) ≡ endingText mode (endingOf c target)
 unfolding planCorridors
 plan-text mode c target s z =
-    ap (λ (b : Bool). outcomeText mode (outcomeIf b c target s)) (sized-ok c s z) ∙ ending-text mode (endingOf c target) c s
+    ap (λ (b : Bool). outcomeText mode (outcomeIf b c target s)) (lengths-ok c s z) ∙ ending-text mode (endingOf c target) c s
 
 said-text : (mode : PlanMode) (r : Planned) (l : Slices)
     → plannedText mode r (l .added) (l .ground) (l .tier) (l .angle) (l .mw) (l .circuits) (l .flow) (l .rate) ≡ outcomeText mode (outcome r l)
@@ -76,7 +55,7 @@ unfolding plannedText refusalLine
 said-text mode (Answered p) l = refl
 said-text mode (Refused f) l = refl
 
-pub planned-text : (mode : PlanMode) (c : Case) (target : ℕ) (s l : Slices) (r : Planned) → Sized c s → outcome r l ≡ planCorridors c target s
+pub planned-text : (mode : PlanMode) (c : Case) (target : ℕ) (s l : Slices) (r : Planned) → Lengths c s → outcome r l ≡ planCorridors c target s
     → plannedText mode r (l .added) (l .ground) (l .tier) (l .angle) (l .mw) (l .circuits) (l .flow) (l .rate) ≡ endingText mode (endingOf c target)
 planned-text mode c target s l r z e = said-text mode r l ∙ ap (outcomeText mode) e ∙ plan-text mode c target s z
 

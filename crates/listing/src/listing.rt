@@ -116,6 +116,8 @@ pub fn put_planned(
     circuits: &mut [u32],
     flow: &mut [f64],
     rate: &mut [f64],
+    before: &mut [u32],
+    order: &mut [u32],
     mw: &mut [f64],
     angle: &mut [f64],
     level: &mut [u32],
@@ -125,8 +127,8 @@ pub fn put_planned(
     counts: &mut [u32],
 ) -> usize
     requires { ⌜ roomFor (above + n + n + g + m + 1) ≤ length (now out) ⌝ }
-    requires { ⌜ (length (now circuits) ≡ m) × (length (now flow) ≡ m) × (length (now rate) ≡ m) × (length (now mw) ≡ g) ⌝ }
-    requires { ⌜ (length (now angle) ≡ n) × (length (now level) ≡ n) × (length (now ground) ≡ n) × (length (now added) ≡ above) ⌝ }
+    requires { ⌜ (length (now circuits) ≡ m) × (length (now flow) ≡ m) × (length (now rate) ≡ m) × (length (now before) ≡ m) × (length (now order) ≡ m) ⌝ }
+    requires { ⌜ (length (now mw) ≡ g) × (length (now angle) ≡ n) × (length (now level) ≡ n) × (length (now ground) ≡ n) × (length (now added) ≡ above) ⌝ }
     requires { ⌜ (length (now figures) ≡ 12 * (n + m + g)) × (length (now counts) ≡ 12 * (n + m + g)) ⌝ }
     ensures { λ r. ⌜ Put (now (out .entry)) 0 (endingText mode (endingOf (caseOf mode n m g above requested (now (ladder .entry)) (now (tier .entry)) (now (load .entry)) (now (bus .entry)) (now (slack .entry)) (now (pmin .entry)) (now (pmax .entry)) (now (c1 .entry)) (now (c2 .entry)) (now (a .entry)) (now (b .entry)) (now (initial .entry)) (now (km .entry)) (now (share .entry)) (now (sheet .entry))) target)) (now (out .exit)) r ⌝ }
     ensures { λ r. ⌜ r ≤ length (now (out .entry)) ⌝ }
@@ -157,6 +159,8 @@ pub fn put_planned(
         circuits,
         flow,
         rate,
+        before,
+        order,
         mw,
         angle,
         level,

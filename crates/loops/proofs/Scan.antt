@@ -50,5 +50,3 @@ passed ok (suc k) i h =
 
 pub pass-all : (ok : ℕ → Bool) (n : ℕ) → ((j : ℕ) → j < n → ok j ≡ true) → first ok n 0 ≡ n
 pass-all ok n h = passed ok n 0 (λ j l b. h j (omega arith)) ∙ omega arith
-
--- ---- where it stops before the end, the test fails there

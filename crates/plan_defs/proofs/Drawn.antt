@@ -18,10 +18,6 @@ use Rattle.plan_defs.specs.Design.{withBank, setTransformerMva, bankedBy
 use Rattle.plan_defs.specs.Build.{built, bankBelow, setBank, rebuilt, drawnAll, freshBanks, keptMva, keptFor, keptBanks, buildOf}
 use Rattle.plan_defs.specs.declared.CircuitDesign.{CircuitDesign}
 
-pub bank-twice : (d : CircuitDesign) (a b : Float) → setTransformerMva (setTransformerMva d a) b ≡ setTransformerMva d b
-unfolding setTransformerMva withBank
-bank-twice d a b = refl
-
 module _ (c : Case) (level : List ℕ) (k : ℕ) where
   -- ---- a larger bank, where there is one below its line
   bank-by : (b : Bool) (a mva : Float) → bankBelow (bankedBy b (lineAt c level k) a) ≡ true
@@ -73,11 +69,6 @@ module _ (c : Case) (level : List ℕ) (k : ℕ) where
   rate-by true a = refl
   rate-by false a = refl
 
-  down-by : (b : Bool) (a : Float) → bankedBy b (lineAt c level k) a .«is_transformer» ≡ b
-  unfolding setTransformerMva withBank lineAt lineOf
-  down-by true a = refl
-  down-by false a = refl
-
   pub drawn-kv : (a : Float) → drawn c level k a .kv ≡ kvHigh c level k
   unfolding drawn
   drawn-kv a = kv-by (stepsDown c level k) a
@@ -103,10 +94,6 @@ module _ (c : Case) (level : List ℕ) (k : ℕ) where
   drawn-mva : (a : Float) → bankBelow (drawn c level k a) ≡ true → drawn c level k a .«transformer_mva» ≡ a
   unfolding drawn
   drawn-mva a e = mva-by (stepsDown c level k) a e
-
-  pub drawn-down : (a : Float) → drawn c level k a .«is_transformer» ≡ stepsDown c level k
-  unfolding drawn
-  drawn-down a = down-by (stepsDown c level k) a
 
 -- ---- all corridors
 module _ (c : Case) (level : List ℕ) where

@@ -1,14 +1,16 @@
--- Worked examples of the corners that document 01 names ("Ports that come out wrong"), of the order in which stiffening takes corridors, of whole cases and of
--- the listing's places.
+-- Worked examples of the corners that document 01 names ("Ports that come out wrong"), of the order in which stiffening takes corridors, of whole cases, of
+-- the listing's places, and of what a plan keeps of filling, with its preview.
 -- By evaluation.
 use Prim.Native.Nat.{ℕ}
 use mathlib.Core.Bool.{true}
-use mathlib.Core.List.{List, [], _∷_, map}
+use mathlib.Core.List.{List, [], _∷_, _++_, map}
 use mathlib.Core.Path.{_≡_, refl}
 use lib.ListN.{replicate}
 use lib.Ieee.{Float, binary64, ofBits}
 use Rattle.loops.specs.Figures.{nought, half, one, hundred, decimal}
-use Rattle.mode.specs.declared.PlanMode.the-variants.{Expand, Reinforce}
+use Rattle.mode.specs.declared.PlanMode.{PlanMode}
+use Rattle.mode.specs.declared.PlanMode.the-variants.{Expand, Reinforce, Observe}
+use Rattle.refusal.specs.Reply.{Reply, answered, refused}
 use Rattle.plan_defs.specs.Lists.{each}
 use Rattle.plan_defs.specs.Case.{Case, caseOf, rowOf}
 use Rattle.plan_defs.specs.Design.{lineOf, setTransformerMva, keptBank}
@@ -18,6 +20,7 @@ use Rattle.plan_defs.specs.Fill.{fill}
 use Rattle.plan_defs.specs.Stiffen.{Budget, hvBudget, stiffenOne, stiffenFrom, Gain, insert, batch}
 use Rattle.plan_defs.specs.Plan.{Plan, planned}
 use Rattle.plan_defs.specs.Outcome.{Slices, Outcome, slices, planCorridors}
+use Rattle.plan_defs.specs.Preview.{keptAs, lengthsOk, keptFault, previewFault, refilled, preview, Outcome as Previewed}
 use Rattle.plan_defs.specs.Listing.{bitsOf, lines, listingOf}
 use Rattle.plan_defs.specs.declared.CircuitDesign.{CircuitDesign}
 
@@ -128,18 +131,19 @@ pub sized-again :
 unfolding listingOf
 sized-again = refl
 
--- What stood in the lent slices does not matter, and work is zero after the answer: here every place is lent with a one.
+-- What stood in the lent slices does not matter, work is zero after the answer, and so is what is kept of filling, since the mode does not fill: here every
+-- place is lent with a one.
 abbrev ones : ℕ → List Float
 ones n = replicate n one
 
 abbrev lentWithOnes : Slices
 lentWithOnes =
-    slices (replicate 2 1) (ones 2) (ones 2) (ones 1) (ones 3) (replicate 3 1) (replicate 3 1) [] (ones 72) (replicate 72 1)
+    slices (replicate 2 1) (ones 2) (ones 2) (replicate 2 1) (replicate 2 1) (ones 1) (ones 3) (replicate 3 1) (replicate 3 1) [] (ones 72) (replicate 72 1)
 
 abbrev leftBy : Outcome → List (List ℕ)
-leftBy o = map bitsOf (o .lent .figures) ∷ o .lent .counts ∷ o .lent .circuits ∷ o .lent .tier ∷ o .lent .ground ∷ []
+leftBy o = map bitsOf (o .lent .figures) ∷ o .lent .counts ∷ o .lent .before ∷ o .lent .order ∷ o .lent .circuits ∷ o .lent .tier ∷ o .lent .ground ∷ []
 
-pub work-zeroed : leftBy (planCorridors reinforced 0 lentWithOnes) ≡ replicate 72 0 ∷ replicate 72 0 ∷ (7 ∷ 1 ∷ []) ∷ (0 ∷ 1 ∷ 1 ∷ []) ∷ (2 ∷ 0 ∷ 0 ∷ []) ∷ []
+pub work-zeroed : leftBy (planCorridors reinforced 0 lentWithOnes) ≡ replicate 72 0 ∷ replicate 72 0 ∷ (0 ∷ 0 ∷ []) ∷ (0 ∷ 0 ∷ []) ∷ (7 ∷ 1 ∷ []) ∷ (0 ∷ 1 ∷ 1 ∷ []) ∷ (2 ∷ 0 ∷ 0 ∷ []) ∷ []
 unfolding listingOf
 work-zeroed = refl
 
@@ -177,3 +181,60 @@ pub sample-listed :
     ∷ []
 unfolding listingOf
 sample-listed = refl
+
+-- ---- what a plan keeps of filling, and its preview
+-- Two corridors beside each other, the second with half the reactance: a round gives it a second circuit, and it is still the more loaded, so it stands first
+-- in the order. Target 0 fills nothing, target 5 gives each a circuit, and what is kept is the same.
+-- HD 0 5 2 2 1 0 1; LV 138; BU 0 0, 0 200; GE 0 1 0 300 20 0.25; CO 0 1 1 10 1, twice; LN 0 0.125 0 100 0, 0 0.0625 0 100 0
+abbrev beside : Case
+beside =
+    caseOf Expand 2 2 1 0 1 (whole 138 ∷ []) (0 ∷ 0 ∷ []) (nought ∷ whole 200 ∷ []) (0 ∷ []) (1 ∷ []) (nought ∷ []) (whole 300 ∷ []) (whole 20 ∷ []) (decimal 1 4 ∷ [])
+    (0 ∷ 0 ∷ []) (1 ∷ 1 ∷ []) (1 ∷ 1 ∷ []) (whole 10 ∷ whole 10 ∷ []) (one ∷ one ∷ [])
+    (nought ∷ decimal 1 8 ∷ nought ∷ hundred ∷ nought ∷ nought ∷ decimal 1 16 ∷ nought ∷ hundred ∷ nought ∷ [])
+
+abbrev lentBeside : Slices
+lentBeside = slices (replicate 2 7) (ones 2) (ones 2) (replicate 2 7) (replicate 2 7) (ones 1) (ones 2) (replicate 2 7) (replicate 2 7) [] (ones 60) (replicate 60 7)
+
+abbrev keptBeside : ℕ → List (List ℕ)
+keptBeside target = let s : Slices = planCorridors beside target lentBeside .lent in s .before ∷ s .order ∷ s .circuits ∷ []
+
+pub filling-kept :
+    keptBeside 0 ∷ keptBeside 5 ∷ []
+    ≡ ((1 ∷ 2 ∷ []) ∷ (1 ∷ 0 ∷ []) ∷ (1 ∷ 2 ∷ []) ∷ []) ∷ ((1 ∷ 2 ∷ []) ∷ (1 ∷ 0 ∷ []) ∷ (2 ∷ 3 ∷ []) ∷ []) ∷ []
+unfolding listingOf
+filling-kept = refl
+
+-- A reply in numbers, then the slice. Each place is lent with a 7.
+abbrev sayings : Reply (Unit {0}) → List ℕ
+sayings (answered u) = []
+sayings (refused number index) = number ∷ index ∷ []
+
+abbrev previewed : PlanMode → List ℕ → List ℕ → ℕ → ℕ → List ℕ
+previewed mode before order places target =
+    let o : Previewed = preview (keptAs mode 3 before order) target (replicate places 7) in
+    sayings (o .reply) ++ o .circuits
+
+-- The counts before filling of document 01's eighth example, with its target and others, and in two orders; a count at its bound stays as it is.
+pub previews :
+    previewed Expand (1 ∷ 4 ∷ 2 ∷ []) (0 ∷ 1 ∷ 2 ∷ []) 3 0 ∷ previewed Expand (1 ∷ 4 ∷ 2 ∷ []) (0 ∷ 1 ∷ 2 ∷ []) 3 10
+    ∷ previewed Expand (1 ∷ 4 ∷ 2 ∷ []) (0 ∷ 1 ∷ 2 ∷ []) 3 8 ∷ previewed Expand (1 ∷ 4 ∷ 2 ∷ []) (2 ∷ 0 ∷ 1 ∷ []) 3 8
+    ∷ previewed Expand (1 ∷ 64 ∷ 2 ∷ []) (0 ∷ 1 ∷ 2 ∷ []) 3 65536 ∷ []
+    ≡ (1 ∷ 4 ∷ 2 ∷ []) ∷ (3 ∷ 4 ∷ 3 ∷ [])
+    ∷ (2 ∷ 4 ∷ 2 ∷ []) ∷ (1 ∷ 4 ∷ 3 ∷ [])
+    ∷ (4 ∷ 64 ∷ 4 ∷ []) ∷ []
+unfolding listingOf preview previewFault keptFault lengthsOk refilled
+previews = refl
+
+-- The refusals, each where the next would be due too: a slice of two places; a target past 65,536; two modes that do not fill; the lower of two corridors
+-- whose counts are wrong, and a count of zero, which a refused plan leaves; a place that names no corridor; one that names one again, by its own place.
+pub preview-refusals :
+    previewed Reinforce (1 ∷ 4 ∷ 0 ∷ []) (0 ∷ 3 ∷ 0 ∷ []) 2 65537 ∷ previewed Reinforce (1 ∷ 4 ∷ 0 ∷ []) (0 ∷ 3 ∷ 0 ∷ []) 3 65537
+    ∷ previewed Reinforce (1 ∷ 4 ∷ 0 ∷ []) (0 ∷ 3 ∷ 0 ∷ []) 3 10 ∷ previewed Observe (1 ∷ 4 ∷ 0 ∷ []) (0 ∷ 3 ∷ 0 ∷ []) 3 10
+    ∷ previewed Expand (1 ∷ 65 ∷ 0 ∷ []) (0 ∷ 3 ∷ 0 ∷ []) 3 10 ∷ previewed Expand (1 ∷ 4 ∷ 0 ∷ []) (0 ∷ 3 ∷ 0 ∷ []) 3 10
+    ∷ previewed Expand (1 ∷ 4 ∷ 2 ∷ []) (0 ∷ 3 ∷ 0 ∷ []) 3 10 ∷ previewed Expand (1 ∷ 4 ∷ 2 ∷ []) (0 ∷ 1 ∷ 0 ∷ []) 3 10 ∷ []
+    ≡ (1 ∷ 0 ∷ 7 ∷ 7 ∷ []) ∷ (2 ∷ 0 ∷ 7 ∷ 7 ∷ 7 ∷ [])
+    ∷ (18 ∷ 0 ∷ 7 ∷ 7 ∷ 7 ∷ []) ∷ (18 ∷ 0 ∷ 7 ∷ 7 ∷ 7 ∷ [])
+    ∷ (6 ∷ 1 ∷ 7 ∷ 7 ∷ 7 ∷ []) ∷ (6 ∷ 2 ∷ 7 ∷ 7 ∷ 7 ∷ [])
+    ∷ (30 ∷ 1 ∷ 7 ∷ 7 ∷ 7 ∷ []) ∷ (30 ∷ 2 ∷ 7 ∷ 7 ∷ 7 ∷ []) ∷ []
+unfolding listingOf preview previewFault keptFault lengthsOk refilled
+preview-refusals = refl

@@ -1,25 +1,21 @@
 -- Raises only raise: every bus's level is at most the one it began at, and each move is counted against what the levels lose.
 -- A bus that moves loses a level or more; so promoted and the levels' sum together are at most what the levels began with.
 use Prim.Native.Nat.{ℕ, zero, suc, _+_, _-_, _≤_, _<_}
-use mathlib.Core.Bool.{Bool, true, false, cond, _&&_}
+use mathlib.Core.Bool.{Bool, true, false, cond}
 use mathlib.Core.List.{List}
 use mathlib.Core.Path.{_≡_, refl, sym, ap, _∙_}
 use native.Mathlib.Nat.{le-refl}
 use native.Mathlib.Omega.{arith}
 use borrow.Author.Tests.{ltb-true}
 use lib.Dec.{ltb}
-use lib.Ieee.{Float}
-use lib.ListN.{length, getD, length-set, length-replicate}
-use Rattle.loops.specs.Figures.{at}
+use lib.ListN.{length, getD, length-set}
 use Rattle.loops.specs.Loops.{tab}
-use Rattle.loops.proofs.Loops.{iter-keeps}
 use Rattle.loops.proofs.Tab.{length-tab, get-tab, tab-of}
 use Rattle.angles_defs.specs.Network.{zeros}
 use Rattle.plan_defs.specs.Lists.{counting, countFrom, sum}
-use Rattle.plan_defs.specs.Case.{Case, promote, levels, firstLevels, endA, endB}
-use Rattle.plan_defs.specs.Design.{design}
+use Rattle.plan_defs.specs.Case.{Case, promote, levels, firstLevels}
 use Rattle.plan_defs.specs.Solve.{Peak, planningState}
-use Rattle.plan_defs.specs.Raise.{noMarks, raiseOf, markBus, markBoth, markIf, canRaise, raisedTo, moves, raisedLevels, movedBuses, Raised, tooHeavy, heavyAt, heavyMarks, passedTo, passedBy, passes, passCount, raises}
+use Rattle.plan_defs.specs.Raise.{noMarks, raiseOf, markBus, markBoth, raisedTo, moves, raisedLevels, movedBuses, Raised, heavyMarks, passedTo, passedBy, passes, passCount, raises}
 use Rattle.plan_defs.specs.Plan.{firstRaised}
 use Rattle.plan_defs.specs.declared.Raise.{Raise}
 use Rattle.plan_defs.specs.declared.Raise.the-variants.{Stay, To}
@@ -51,10 +47,6 @@ moved-less l (To t) = go (ltb t l) refl
 pub length-mark : (t i j : ℕ) (marks : List ℕ) → length (markBoth t i j marks) ≡ length marks
 unfolding markBoth
 length-mark t i j marks = length-set (markBus t i marks) j _ ∙ length-set marks i _
-
-length-mark-if : (b : Bool) (c : Case) (level : List ℕ) (k : ℕ) (marks : List ℕ) → length (markIf b c level k marks) ≡ length marks
-length-mark-if true c level k marks = length-mark _ (endA c k) (endB c k) marks
-length-mark-if false c level k marks = refl
 
 no-mark : (n i : ℕ) → getD (noMarks n) i 0 ≡ 0
 no-mark zero i = refl
@@ -127,12 +119,6 @@ module _ (c : Case) where
 
   pub lifted-first : Lifted (firstRaised c)
   lifted-first = record { risen = risen-first; drawn = drawn-first c (firstLevels c); promoted = omega arith }
-
-  pub length-heavy : (s : Raised) (flows : List Float) → length (heavyMarks c s flows) ≡ c .buses
-  unfolding heavyMarks
-  length-heavy s flows =
-      iter-keeps (heavyAt c s flows) (λ (m : List ℕ). length m ≡ c .buses)
-      (λ k m e. length-mark-if (tooHeavy (design (s .designs) k) (at flows k) && canRaise c (s .level) 0 k) c (s .level) k m ∙ e) (c .corridors) 0 (noMarks (c .buses)) (length-replicate (c .buses) 0)
 
   module _ (P : Peak) (counts : List ℕ) (expanding : promote (c .mode) ≡ true) where
     passed-lifted : (d m : ℕ) (s : Raised) (marks : List ℕ) → movedBuses (s .level) marks ≡ m → Lifted s

@@ -17,5 +17,6 @@ pub mod Fill
 pub mod Closing
 pub mod Plan
 pub mod Outcome
+pub mod Preview
 pub mod Demand
 pub mod Listing

@@ -10,7 +10,7 @@ use Rattle.loops.specs.Figures.{nought}
 use Rattle.refusal.specs.Reply.{Reply, answered, refusedBy}
 use Rattle.refusal.specs.declared.Refusal.the-variants.{Length}
 use Rattle.plan_defs.specs.Constants.{workRows}
-use Rattle.plan_defs.specs.Case.{Case}
+use Rattle.plan_defs.specs.Case.{Case, promote}
 use Rattle.plan_defs.specs.Plan.{Plan, Ending, unaccepted, unanswered, planned, endingOf}
 use Rattle.plan_defs.specs.declared.CorridorPlan.{CorridorPlan}
 use Rattle.plan_defs.specs.declared.Planned.{Planned}
@@ -18,10 +18,12 @@ use Rattle.plan_defs.specs.declared.Planned.the-variants.{Answered, Refu
 
 -- ---- the slices that planning is lent
 pub record Slices : Type 0 where
-  -- a place for each corridor; flow in MW, rate in MVA of one circuit
+  -- a place for each corridor; flow in MW, rate in MVA of one circuit; the circuits before filling and the filling order, zero where the mode does not fill
   pub circuits : List ℕ
   pub flow : List Float
   pub rate : List Float
+  pub before : List ℕ
+  pub order : List ℕ
   -- for each generator, MW
   pub mw : List Float
   -- for each bus; the grounds by ascending leader, zero past their count
@@ -34,12 +36,14 @@ pub record Slices : Type 0 where
   pub figures : List Float
   pub counts : List ℕ
 
-abbrev pub slices : List ℕ → List Float → List Float → List Float → List Float → List ℕ → List ℕ → List Float → List Float → List ℕ → Slices
-slices circuits flow rate mw angle tier ground added figures counts =
+abbrev pub slices : List ℕ → List Float → List Float → List ℕ → List ℕ → List Float → List Float → List ℕ → List ℕ → List Float → List Float → List ℕ → Slices
+slices circuits flow rate before order mw angle tier ground added figures counts =
     record {
       circuits = circuits;
       flow = flow;
       rate = rate;
+      before = before;
+      order = order;
       mw = mw;
       angle = angle;
       tier = tier;
@@ -58,28 +62,38 @@ slicesOk c s =
     eqb (length (s .circuits)) (c .corridors)
     && (eqb (length (s .flow)) (c .corridors)
     && (eqb (length (s .rate)) (c .corridors)
+    && (eqb (length (s .before)) (c .corridors)
+    && (eqb (length (s .order)) (c .corridors)
     && (eqb (length (s .mw)) (c .generators)
     && (eqb (length (s .angle)) (c .buses)
     && (eqb (length (s .tier)) (c .buses)
     && (eqb (length (s .ground)) (c .buses)
     && (eqb (length (s .added)) (c .above)
     && (eqb (length (s .figures)) (workPlaces c)
-    && eqb (length (s .counts)) (workPlaces c)))))))))
+    && eqb (length (s .counts)) (workPlaces c)))))))))))
 
 -- ---- what they hold
 abbrev pub cleared : Case → Slices
 cleared c =
-    slices (replicate (c .corridors) 0) (replicate (c .corridors) nought) (replicate (c .corridors) nought) (replicate (c .generators) nought)
-    (replicate (c .buses) nought) (replicate (c .buses) 0) (replicate (c .buses) 0) (replicate (c .above) nought)
+    slices (replicate (c .corridors) 0) (replicate (c .corridors) nought) (replicate (c .corridors) nought) (replicate (c .corridors) 0) (replicate (c .corridors) 0)
+    (replicate (c .generators) nought) (replicate (c .buses) nought) (replicate (c .buses) 0) (replicate (c .buses) 0) (replicate (c .above) nought)
     (replicate (workPlaces c) nought) (replicate (workPlaces c) 0)
 
 -- a list, and v in the places up to n
 abbrev pub upTo : {A : Type 0} → ℕ → A → List A → List A
 upTo n v l = l ++ replicate (n - length l) v
 
+-- what a plan keeps of filling: nothing where the mode does not fill
+abbrev pub keptIf : Bool → ℕ → List ℕ → List ℕ
+keptIf true n l = l
+keptIf false n l = replicate n 0
+
+abbrev pub keptOf : Case → List ℕ → List ℕ
+keptOf c l = keptIf (promote (c .mode)) (c .corridors) l
+
 unfoldable pub held : Case → Plan → Slices
 held c p =
-    slices (p .circuits) (p .flow) (map (λ d. d .«rate_a») (p .designs)) (p .mw) (p .angle) (p .tier) (upTo (c .buses) 0 (p .grounds))
+    slices (p .circuits) (p .flow) (map (λ d. d .«rate_a») (p .designs)) (keptOf c (p .before)) (keptOf c (p .order)) (p .mw) (p .angle) (p .tier) (upTo (c .buses) 0 (p .grounds))
     (upTo (c .above) nought (p .added)) (replicate (workPlaces c) nought) (replicate (workPlaces c) 0)
 
 unfoldable pub summary : Plan → CorridorPlan

@@ -82,9 +82,9 @@ module _ (c : Case) (target : ℕ) (p : Plan) where
 same-ready : (c : Case) (t u : ℕ) (p q : Plan) (a b : Ready) → Origin c t p a → Origin c u q b → a ≡ b
 same-ready c t u p q a b x y = let w : going a ≡ going b = sym (x .ready) ∙ y .ready in cc
 
--- ---- K1: a preview for a target, from a plan's counts before filling and its order
-pub preview : (c : Case) (t u : ℕ) (p q : Plan) → endingOf c t ≡ planned p → endingOf c u ≡ planned q → q .circuits ≡ fill c u (p .order) (p .before) .counts
-preview c t u p q e f =
+-- ---- K1: the circuits for a target, from a plan's counts before filling and its order
+pub refill : (c : Case) (t u : ℕ) (p q : Plan) → endingOf c t ≡ planned p → endingOf c u ≡ planned q → q .circuits ≡ fill c u (p .order) (p .before) .counts
+refill c t u p q e f =
     let a = origin c t p e in
     let b = origin c u q f in
     let x = same-ready c t u p q (a .0) (b .0) (a .1) (b .1) in

@@ -8,6 +8,8 @@ pub mod Loadings
 pub mod Demand
 pub mod Tally
 pub mod Larger
+pub mod Naming
+pub mod Preview
 pub mod Outcomes
 pub mod Joined
 pub mod Demanded

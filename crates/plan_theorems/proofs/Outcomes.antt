@@ -6,24 +6,24 @@ use mathlib.Core.List.{List}
 use mathlib.Core.Option.{Option, none, some}
 use mathlib.Core.Path.{_≡_, refl, sym, ap, _∙_, subst}
 use native.Mathlib.Omega.{arith}
-use borrow.Author.Tests.{eqb-true}
+use borrow.Author.Tests.{eqb-true, eq-eqb}
 use lib.Dec.{eqb}
 use lib.ListN.{length, replicate, length-replicate, length-append, length-map, length-take, length-drop, take}
 use Rattle.loops.specs.Figures.{nought}
-use Rattle.loops.proofs.Bools.{both}
+use Rattle.loops.proofs.Bools.{both, and-of}
 use Rattle.angles_defs.specs.Network.{zeros}
 use Rattle.leaders.proofs.Laws.{led}
 use Rattle.refusal.specs.Reply.{answered, refused}
 use Rattle.refusal.specs.declared.Refusal.{Refusal}
 use Rattle.plan_defs.specs.Stage.{Stage, stopped, going}
-use Rattle.plan_defs.specs.Case.{Case}
+use Rattle.plan_defs.specs.Case.{Case, promote}
 use Rattle.plan_defs.specs.Accept.{caseFault}
 use Rattle.plan_defs.specs.Components.{component, groundsOf, groundOf, leads, roots}
 use Rattle.plan_defs.specs.Solve.{Peak, planningState}
 use Rattle.plan_defs.specs.Fill.{fill}
 use Rattle.plan_defs.specs.Closing.{leastOf, tiersOf, addedOf}
 use Rattle.plan_defs.specs.Plan.{Plan, Ready, readyOf, closing, planFor, Ending, unaccepted, unanswered, planned, endingOn, endingBy, endingOf}
-use Rattle.plan_defs.specs.Outcome.{Slices, slicesOk, cleared, upTo, held, summary, outcomeBy, outcomeIf, planCorridors, workPlaces}
+use Rattle.plan_defs.specs.Outcome.{Slices, slicesOk, cleared, upTo, keptIf, keptOf, held, summary, outcomeBy, outcomeIf, planCorridors, workPlaces}
 use Rattle.plan_defs.specs.Demand.{AnswerTo}
 use Rattle.plan_defs.specs.declared.CorridorPlan.{CorridorPlan}
 use Rattle.plan_defs.proofs.Lists.{pass-length}
@@ -33,6 +33,7 @@ use Rattle.plan_defs.proofs.Drawn.{drawn-size}
 use Rattle.plan_defs.proofs.Solved.{Solved, solved}
 use Rattle.plan_defs.proofs.Opened.{Done, done}
 use Rattle.plan_theorems.proofs.Dispatched.{Dispatched, dispatched}
+use Rattle.plan_theorems.proofs.Cursor.{order-length}
 use Rattle.plan_theorems.proofs.Demand.{fill-grown, demand-3, tallies}
 
 -- ---- an answer is a defined plan, with demand 3
@@ -60,6 +61,8 @@ pub record Lengths (c : Case) (s : Slices) : Type 0 where
   pub circuits : length (s .circuits) ≡ c .corridors
   pub flow : length (s .flow) ≡ c .corridors
   pub rate : length (s .rate) ≡ c .corridors
+  pub before : length (s .before) ≡ c .corridors
+  pub order : length (s .order) ≡ c .corridors
   pub mw : length (s .mw) ≡ c .generators
   pub angle : length (s .angle) ≡ c .buses
   pub tier : length (s .tier) ≡ c .buses
@@ -74,24 +77,41 @@ lengths-of c s h =
     let h₁ = both (eqb (length (s .circuits)) (c .corridors)) _ h in
     let h₂ = both (eqb (length (s .flow)) (c .corridors)) _ (h₁ .1) in
     let h₃ = both (eqb (length (s .rate)) (c .corridors)) _ (h₂ .1) in
-    let h₄ = both (eqb (length (s .mw)) (c .generators)) _ (h₃ .1) in
-    let h₅ = both (eqb (length (s .angle)) (c .buses)) _ (h₄ .1) in
-    let h₆ = both (eqb (length (s .tier)) (c .buses)) _ (h₅ .1) in
-    let h₇ = both (eqb (length (s .ground)) (c .buses)) _ (h₆ .1) in
-    let h₈ = both (eqb (length (s .added)) (c .above)) _ (h₇ .1) in
-    let h₉ = both (eqb (length (s .figures)) (workPlaces c)) _ (h₈ .1) in
+    let h₄ = both (eqb (length (s .before)) (c .corridors)) _ (h₃ .1) in
+    let h₅ = both (eqb (length (s .order)) (c .corridors)) _ (h₄ .1) in
+    let h₆ = both (eqb (length (s .mw)) (c .generators)) _ (h₅ .1) in
+    let h₇ = both (eqb (length (s .angle)) (c .buses)) _ (h₆ .1) in
+    let h₈ = both (eqb (length (s .tier)) (c .buses)) _ (h₇ .1) in
+    let h₉ = both (eqb (length (s .ground)) (c .buses)) _ (h₈ .1) in
+    let g₁ = both (eqb (length (s .added)) (c .above)) _ (h₉ .1) in
+    let g₂ = both (eqb (length (s .figures)) (workPlaces c)) _ (g₁ .1) in
     record {
       circuits = eqb-true _ _ (h₁ .0);
       flow = eqb-true _ _ (h₂ .0);
       rate = eqb-true _ _ (h₃ .0);
-      mw = eqb-true _ _ (h₄ .0);
-      angle = eqb-true _ _ (h₅ .0);
-      tier = eqb-true _ _ (h₆ .0);
-      ground = eqb-true _ _ (h₇ .0);
-      added = eqb-true _ _ (h₈ .0);
-      figures = eqb-true _ _ (h₉ .0);
-      counts = eqb-true _ _ (h₉ .1);
+      before = eqb-true _ _ (h₄ .0);
+      order = eqb-true _ _ (h₅ .0);
+      mw = eqb-true _ _ (h₆ .0);
+      angle = eqb-true _ _ (h₇ .0);
+      tier = eqb-true _ _ (h₈ .0);
+      ground = eqb-true _ _ (h₉ .0);
+      added = eqb-true _ _ (g₁ .0);
+      figures = eqb-true _ _ (g₂ .0);
+      counts = eqb-true _ _ (g₂ .1);
     }
+
+pub lengths-ok : (c : Case) (s : Slices) → Lengths c s → slicesOk c s ≡ true
+unfolding slicesOk
+lengths-ok c s l =
+    and-of (eq-eqb _ _ (l .circuits))
+    (and-of (eq-eqb _ _ (l .flow))
+    (and-of (eq-eqb _ _ (l .rate))
+    (and-of (eq-eqb _ _ (l .before))
+    (and-of (eq-eqb _ _ (l .order))
+    (and-of (eq-eqb _ _ (l .mw))
+    (and-of (eq-eqb _ _ (l .angle))
+    (and-of (eq-eqb _ _ (l .tier))
+    (and-of (eq-eqb _ _ (l .ground)) (and-of (eq-eqb _ _ (l .added)) (and-of (eq-eqb _ _ (l .figures)) (eq-eqb _ _ (l .counts))))))))))))
 
 cleared-lengths : (c : Case) → Lengths c (cleared c)
 cleared-lengths c =
@@ -99,6 +119,8 @@ cleared-lengths c =
       circuits = length-replicate (c .corridors) 0;
       flow = length-replicate (c .corridors) nought;
       rate = length-replicate (c .corridors) nought;
+      before = length-replicate (c .corridors) 0;
+      order = length-replicate (c .corridors) 0;
       mw = length-replicate (c .generators) nought;
       angle = length-replicate (c .buses) nought;
       tier = length-replicate (c .buses) 0;
@@ -110,6 +132,13 @@ cleared-lengths c =
 
 length-up : {A : Type 0} (n : ℕ) (v : A) (l : List A) → length l ≤ n → length (upTo n v l) ≡ n
 length-up n v l h = length-append l (replicate (n - length l) v) ∙ (let z = length-replicate (n - length l) v in omega arith)
+
+length-kept : (c : Case) (l : List ℕ) → length l ≡ c .corridors → length (keptOf c l) ≡ c .corridors
+length-kept c l e = go (promote (c .mode))
+  where
+    go : (b : Bool) → length (keptIf b (c .corridors) l) ≡ c .corridors
+    go true = e
+    go false = length-replicate (c .corridors) 0
 
 module _ (c : Case) (target : ℕ) (ok : Accepted c target) where
   -- a ground for each leader, and at most all levels above
@@ -145,6 +174,8 @@ module _ (c : Case) (target : ℕ) (ok : Accepted c target) where
         circuits = fill-grown c target (r .order) (r .draft .build .circuits) .size ∙ sound .built .size;
         flow = h .flows ∙ m;
         rate = length-map ds (λ d. d .«rate_a») ∙ m;
+        before = length-kept c (r .draft .build .circuits) (sound .built .size);
+        order = length-kept c (r .order) (ap length (d .order) ∙ order-length ds (r .draft .build .circuits) (d .flows) (c .corridors));
         mw = mw .size;
         angle = h .angles ∙ n;
         tier = length-map (r .draft .level) _ ∙ sound .risen .size;

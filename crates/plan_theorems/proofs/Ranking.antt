@@ -184,6 +184,12 @@ module _ (ds : List CircuitDesign) (counts : List ℕ) (flows : List Float) wher
       ap (λ (l : List ℕ). occ j l) (order-is m)
       ∙ omega (arith, all-occ comesInOrder j (passing every m) [], pass-here every m 0 j (omega arith) (omega arith))
 
+  -- and nothing else
+  pub order-past : (m j : ℕ) → m ≤ j → occ j (orderOf m ds counts flows) ≡ 0
+  unfolding occ
+  order-past m j h =
+      ap (λ (l : List ℕ). occ j l) (order-is m) ∙ omega (arith, all-occ comesInOrder j (passing every m) [], pass-past every m 0 j (omega arith))
+
   -- the theorem: where no figure is a NaN, at which the Rust's comparison would panic
   module _ (m : ℕ) (no-nan : (k : ℕ) → k < m → Real k) where
     pub order-sorted : Sorted aheadInOrder (once every m) (orderOf m ds counts flows)

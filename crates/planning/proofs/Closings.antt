@@ -24,12 +24,12 @@ use Rattle.plan_defs.specs.Design.{drawn}
 use Rattle.plan_defs.specs.Build.{drawnAll}
 use Rattle.plan_defs.specs.Fill.{loading}
 use Rattle.plan_defs.specs.Closing.{highest, lowest, spreadIn, spreadOf, maxLoading, overloadedOf, cappedAt, cappedOf, upsizedOf, leastOf, tiersOf, addedOf}
-use Rattle.plan_defs.specs.Outcome.{slices, upTo}
+use Rattle.plan_defs.specs.Outcome.{upTo}
 use Rattle.plan_defs.specs.declared.CircuitDesign.{CircuitDesign}
 use Rattle.plan_defs.proofs.Drawn.{length-drawn}
 use Rattle.planning.specs.Design.{linesFor}
 use Rattle.planning.specs.Fill.{designsFor, Loaded}
-use Rattle.planning.specs.Close.{corridorsOf, levelsFor, widerBy, loadingsBy, Rated, capFull, addedAt, closingOf, figuresIf, countsIf, finished}
+use Rattle.planning.specs.Close.{corridorsOf, levelsFor, widerBy, loadingsBy, Rated, capFull, addedAt, closingOf, figuresIf, countsIf, lentTo, finished}
 use Rattle.planning.proofs.Lists.{count-most}
 use Rattle.planning.proofs.Orders.{drawn-here}
 
@@ -233,6 +233,6 @@ module _ (refused : Bool) (circuits : List ℕ) (flow rate mw angle : List Float
       → circuits′ ≡ countsIf refused circuits → flow′ ≡ figuresIf refused flow → rate′ ≡ figuresIf refused rate → mw′ ≡ figuresIf refused mw
       → angle′ ≡ figuresIf refused angle → tier′ ≡ countsIf refused tier → ground′ ≡ countsIf refused ground → added′ ≡ figuresIf refused added
       → figures′ ≡ replicate (length figures) nought → counts′ ≡ replicate (length counts) 0
-      → slices circuits′ flow′ rate′ mw′ angle′ tier′ ground′ added′ figures′ counts′
-      ≡ finished refused (slices circuits flow rate mw angle tier ground added figures counts)
+      → lentTo circuits′ flow′ rate′ mw′ angle′ tier′ ground′ added′ figures′ counts′
+      ≡ finished refused (lentTo circuits flow rate mw angle tier ground added figures counts)
   finished-is circuits′ flow′ rate′ mw′ angle′ tier′ ground′ added′ figures′ counts′ e f g h i j k l m n = rw (e, f, g, h, i, j, k, l, m, n)

@@ -33,10 +33,6 @@ pub sum-all : (l : List ℕ) (k : ℕ) → length l ≡ k → sum (take k l) ≡
 sum-all l k e = ap (λ (n : ℕ). sum (take n l)) (sym e) ∙ ap sum (take-length l)
 
 -- ---- what a corridor gets
-gain-by : (b : Bool) → cond b 1 0 ≤ 1
-gain-by true = omega arith
-gain-by false = omega arith
-
 module _ (total target count : ℕ) where
   bounds : (b : Bool) → (ltb total target && ltb count maxCircuitsPerCorridor) ≡ b → total < 2 ^ 32 → target < 2 ^ 32 → count < 2 ^ 32
       → (total + cond b 1 0 < 2 ^ 32) × (count + cond b 1 0 < 2 ^ 32)

@@ -34,7 +34,7 @@ use Rattle.planning.specs.declared.raises.Raised.the-variants.{Promoted}
 use Rattle.planning.proofs.Draws.{drawn-lifts}
 use Rattle.planning.proofs.Builds.{drawn-at, drawn-all-lifts}
 use Rattle.planning.proofs.Redesigns.{redesign-is, banks-lift}
-use Rattle.planning.proofs.Marks.{mark-lifts, raised-length, none-raised, lines-raised}
+use Rattle.planning.proofs.Marks.{mark-lifts, none-raised, lines-raised}
 
 -- ---- one corridor's marks, and the loop over all
 module _ (ladder : List Float) (level a b : List ℕ) (km share sheet banks flow : List Float) where

@@ -29,7 +29,7 @@ use Rattle.plan_defs.specs.Dispatch.{dispatchOf, injections}
 use Rattle.plan_defs.specs.Solve.{Peak, PlanningCase, planningState}
 use Rattle.plan_defs.specs.Fill.{fill}
 use Rattle.plan_defs.specs.Plan.{Plan, Opened, Ready, peakOf, openedWith, opening, settled, readyOf, planOf, closing, planFor}
-use Rattle.plan_defs.specs.Outcome.{Slices, slices, upTo}
+use Rattle.plan_defs.specs.Outcome.{Slices, upTo}
 use Rattle.plan_defs.specs.declared.Planned.{Planned}
 use Rattle.plan_defs.specs.declared.Planned.the-variants.{Refused}
 use Rattle.plan_defs.proofs.Stages.{On, on-onward}
@@ -38,10 +38,11 @@ use Rattle.plan_defs.proofs.Opened.{Done, done}
 use Rattle.planning.specs.Redesign.{Units}
 use Rattle.planning.specs.Size.{Few}
 use Rattle.planning.specs.Solve.{peakFor}
-use Rattle.planning.specs.Close.{Closable}
+use Rattle.planning.specs.Close.{Closable, lentTo}
 use Rattle.planning.specs.Rounds.{Columns}
 use Rattle.planning.specs.Sound.{Sound, Lengths}
 use Rattle.planning.specs.Plan.{Openable, Opens, OpenedAs, OpeningDone, Plannable, OpenedPlan, PlannedAs, wholeCase, WholeAs, PlanDone, Lendable}
+use Rattle.planning.specs.declared.plan.PlanRun.{PlanRun}
 use Rattle.planning.specs.declared.plan.Opening.{Opening}
 use Rattle.planning.specs.declared.plan.Opening.the-variants.{Refused as Unopened, Opened as Begun}
 use Rattle.planning.proofs.Grounds.{grounds-few, grounds-below, grounds-lent}
@@ -206,11 +207,11 @@ module _ (c : Case) (target : ℕ) (s : Sound c target) where
           let z : going mw ≡ going (r .mw) = sym e ∙ d .dispatched in
           ((let y : mw ≡ r .mw = cc in y), sym (ap (λ (p : Peak). p .grounds) (d .peak) ∙ ap (groundsOf c) (d .led)))
 
-  whole-by : (r : Planned) (circuits : List ℕ) (flow rate mw angle : List Float) (tier ground : List ℕ) (added : List Float) (t : Stage Plan)
-      → On (Opening-of mw) t → ground ≡ upTo (c .buses) 0 (groundsOf c (component c)) → PlannedAs r circuits tier flow rate angle added c t
-      → WholeAs r circuits flow rate mw angle tier ground added c t
-  whole-by r circuits flow rate mw angle tier ground added (stopped f) k g h = h
-  whole-by r circuits flow rate mw angle tier ground added (going q) k g h = record { holds = h; mw-is = k .0; grounds-are = g ∙ ap (upTo (c .buses) 0) (k .1) }
+  whole-by : (r : Planned) (before order circuits : List ℕ) (flow rate mw angle : List Float) (tier ground : List ℕ) (added : List Float) (t : Stage Plan)
+      → On (Opening-of mw) t → ground ≡ upTo (c .buses) 0 (groundsOf c (component c)) → PlannedAs r before order circuits tier flow rate angle added c t
+      → WholeAs r before order circuits flow rate mw angle tier ground added c t
+  whole-by r before order circuits flow rate mw angle tier ground added (stopped f) k g h = h
+  whole-by r before order circuits flow rate mw angle tier ground added (going q) k g h = record { holds = h; mw-is = k .0; grounds-are = g ∙ ap (upTo (c .buses) 0) (k .1) }
 
   unopened : (f : Refusal) → dispatchOf c (component c) ≡ stopped f → planFor c target ≡ stopped f
   unfolding planFor readyOf opening
@@ -253,12 +254,12 @@ module _ (mode : PlanMode) (target above : ℕ) (ladder : List Float) (tier : Li
   abbrev C : Case → Case
   C o = wholeCase o mode above ladder tier load bus slack pmin pmax c1 c2 a b initial km share sheet
 
-  abbrev Done-with : List ℕ → List Float → List Float → List Float → List Float → List ℕ → List ℕ → List Float → Planned → Type 0
+  abbrev Done-with : List ℕ → List Float → List Float → List Float → List Float → List ℕ → List ℕ → List Float → PlanRun → Type 0
   Done-with circuits flow rate mw angle level ground added r =
       PlanDone mode target above ladder tier load bus slack pmin pmax c1 c2 a b initial km share sheet circuits flow rate mw angle level ground added r
 
   module _ (circuits : List ℕ) (flow rate mw angle : List Float) (level ground : List ℕ) (added figures : List Float) (counts : List ℕ)
-      (h : Lendable mode target above ladder tier load bus slack pmin pmax c1 c2 a b initial km share sheet (slices circuits flow rate mw angle level ground added figures counts)) where
+      (h : Lendable mode target above ladder tier load bus slack pmin pmax c1 c2 a b initial km share sheet (lentTo circuits flow rate mw angle level ground added figures counts)) where
     lent-size : {A : Type 0} (x : A) → length (fresh (length tier) x) ≡ h .whole .buses
     lent-size x = room (length tier) x (tier-fits (h .sound)) ∙ h .sound .tier-size
 
@@ -279,13 +280,14 @@ module _ (mode : PlanMode) (target above : ℕ) (ladder : List Float) (tier : Li
     -- after the opening
     module _ (leader′ : List ℕ) (injection′ : List Float) (ground′ : List ℕ) (mw′ : List Float) (level′ circuits′ : List ℕ) (r : Opening)
         (w : OpeningDone above tier load bus slack pmin pmax c1 c2 a b initial leader′ injection′ ground′ mw′ level′ circuits′ r) where
-      pub stages-refused : (f : Refusal) → r ≡ Unopened f → (circuits″ : List ℕ) (flow″ rate″ mw″ angle″ : List Float) (level″ ground″ : List ℕ) (added″ : List Float)
-          → Done-with circuits″ flow″ rate″ mw″ angle″ level″ ground″ added″ (Refused f)
-      stages-refused f q circuits″ flow″ rate″ mw″ angle″ level″ ground″ added″ =
+      pub stages-refused : (f : Refusal) → r ≡ Unopened f → (circuits″ : List ℕ) (flow″ rate″ mw″ angle″ : List Float) (level″ ground″ : List ℕ) (added″ : List Float) (x : PlanRun) → x .said ≡ Refused f
+          → Done-with circuits″ flow″ rate″ mw″ angle″ level″ ground″ added″ x
+      stages-refused f q circuits″ flow″ rate″ mw″ angle″ level″ ground″ added″ x j =
           record {
             plan = λ o s.
                 let e = subst (λ (x : Opening). OpenedAs x (C o) leader′ injection′ ground′ mw′ level′ circuits′) q (w .opens (C o) target s) in
-                subst (WholeAs (Refused f) circuits″ flow″ rate″ mw″ angle″ level″ ground″ added″ (C o)) (sym (unopened (C o) target s f e)) refl;
+                subst (WholeAs (x .said) (take (length a) (x .kept .before)) (take (length a) (x .kept .order)) circuits″ flow″ rate″ mw″ angle″ level″ ground″ added″ (C o))
+                (sym (unopened (C o) target s f e)) j;
           }
 
       module _ (count : ℕ) (q : r ≡ Begun count) (e : length leader′ ≡ length (fresh {A = ℕ} (length tier) 0)) where
@@ -339,7 +341,7 @@ module _ (mode : PlanMode) (target above : ℕ) (ladder : List Float) (tier : Li
                     (take (length a - 0) zeroed) angle rate added n not-upsized (l .angle) (l .rate) (l .added),
               )
 
-          pub stages-plan : (circuits″ : List ℕ) (flow″ rate″ angle″ : List Float) (level″ : List ℕ) (added″ : List Float) (x : Planned)
+          pub stages-plan : (circuits″ : List ℕ) (flow″ rate″ angle″ : List Float) (level″ : List ℕ) (added″ : List Float) (x : PlanRun)
               → OpenedPlan mode target above ladder level′ a b km share sheet load bus pmax (again (length tier) 0 leader′) (take (count - 0) ground′) (again (length tier) nought injection′) circuits′
               (take (length a - 0) zeroed) circuits″ level″ flow″ rate″ angle″ added″ x
               → Done-with circuits″ flow″ rate″ mw′ angle″ level″ ground′ added″ x
@@ -347,8 +349,8 @@ module _ (mode : PlanMode) (target above : ℕ) (ladder : List Float) (tier : Li
               record {
                 plan = λ o s.
                     let k = opens-again o s in
-                    whole-by (C o) target s x circuits″ flow″ rate″ mw′ angle″ level″ ground′ added″ (planFor (C o) target) (opening-kept (C o) target s mw′ (k .dispatched)) (k .grounded)
-                    (subst (PlannedAs x circuits″ level″ flow″ rate″ angle″ added″ (C o))
+                    whole-by (C o) target s (x .said) (take (length a) (x .kept .before)) (take (length a) (x .kept .order)) circuits″ flow″ rate″ mw′ angle″ level″ ground′ added″ (planFor (C o) target) (opening-kept (C o) target s mw′ (k .dispatched)) (k .grounded)
+                    (subst (PlannedAs (x .said) (take (length a) (x .kept .before)) (take (length a) (x .kept .order)) circuits″ level″ flow″ rate″ angle″ added″ (C o))
                     (sym (planned-from (C o) target s (again (length tier) 0 leader′) (again (length tier) nought injection′) count ground′ mw′ level′ circuits′ k))
                     (v .plan (C o) mw′ s (k .levels-are) (k .circuits-are) (not-upsized ∙ ap (λ (m : ℕ). replicate m 0) (s .a-size))));
               }

@@ -43,3 +43,4 @@ pub mod Narrowing
 pub mod Plans
 pub mod Joins
 pub mod Operation
+pub mod Previews

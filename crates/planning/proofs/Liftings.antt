@@ -5,7 +5,7 @@ use mathlib.Core.Bool.{true, false}
 use mathlib.Core.List.{List, map}
 use mathlib.Core.Path.{_≡_, refl, sym, ap, _∙_}
 use native.Mathlib.Omega.{arith}
-use lib.ListN.{length, getD, length-map}
+use lib.ListN.{length, getD, replicate, length-map}
 use lib.Ieee.{Float, nan}
 use Rattle.loops.specs.Figures.{at, nought}
 use Rattle.loops.specs.Loops.{tab}
@@ -16,11 +16,11 @@ use Rattle.plan_defs.specs.Build.{drawnAll}
 use Rattle.plan_defs.specs.Fill.{loading, loadingAt, fill}
 use Rattle.plan_defs.specs.Closing.{spreadOf, loadings, maxLoading, overloadedOf, cappedOf, upsizedOf, leastOf, tiersOf, addedOf}
 use Rattle.plan_defs.specs.Plan.{Plan}
-use Rattle.plan_defs.specs.Outcome.{Slices, upTo, workPlaces, cleared, held}
+use Rattle.plan_defs.specs.Outcome.{Slices, upTo, workPlaces, cleared, keptOf, held}
 use Rattle.plan_defs.specs.declared.CircuitDesign.{CircuitDesign}
 use Rattle.plan_defs.proofs.Lists.{get-map}
 use Rattle.planning.specs.Fill.{designsFor, modeFor}
-use Rattle.planning.specs.Close.{corridorsOf, levelsFor, loadingsBy, closingOf, finished}
+use Rattle.planning.specs.Close.{corridorsOf, levelsFor, loadingsBy, closingOf, withKept, finished}
 use Rattle.planning.specs.Sound.{Sound, Lengths}
 use Rattle.planning.specs.declared.close.Closing.{Closing}
 use Rattle.planning.proofs.Builds.{drawn-all-lifts}
@@ -84,11 +84,12 @@ unfolding addedOf
 added-lifts c level = refl
 
 -- ---- the slices at the end
-pub finished-refused : (c : Case) (s : Slices) → Lengths c s → finished true s ≡ cleared c
+pub finished-refused : (c : Case) (s : Slices) → Lengths c s → withKept (replicate (c .corridors) 0) (replicate (c .corridors) 0) (finished true s) ≡ cleared c
 finished-refused c s e = rw (e .circuits, e .flow, e .rate, e .mw, e .angle, e .tier, e .ground, e .added, e .figures, e .counts)
 
 pub finished-answered : (c : Case) (s : Slices) (p : Plan) → length (s .figures) ≡ workPlaces c → length (s .counts) ≡ workPlaces c
     → s .circuits ≡ p .circuits → s .flow ≡ p .flow → s .rate ≡ map (λ (d : CircuitDesign). d .«rate_a») (p .designs) → s .mw ≡ p .mw → s .angle ≡ p .angle
-    → s .tier ≡ p .tier → s .ground ≡ upTo (c .buses) 0 (p .grounds) → s .added ≡ upTo (c .above) nought (p .added) → finished false s ≡ held c p
+    → s .tier ≡ p .tier → s .ground ≡ upTo (c .buses) 0 (p .grounds) → s .added ≡ upTo (c .above) nought (p .added)
+    → withKept (keptOf c (p .before)) (keptOf c (p .order)) (finished false s) ≡ held c p
 unfolding held
 finished-answered c s p e f g h i j k l m n = rw (e, f, g, h, i, j, k, l, m, n)

@@ -1,28 +1,31 @@
 -- The operation: the check's refusal, the stages' refusal, or the plan that they lead to, with the slices finished, is the defined outcome; and an answer has demand 3.
-use mathlib.Core.Bool.{Bool, true, false}
+use mathlib.Core.Bool.{Bool, true, false, not, _&&_}
+use mathlib.Core.List.{List}
 use mathlib.Core.Option.{Option}
 use mathlib.Core.Path.{_≡_, refl, sym, ap, _∙_, subst}
-use Prim.Native.Nat.{ℕ}
+use Prim.Native.Nat.{ℕ, _≤_}
 use native.Mathlib.Omega.{arith}
-use lib.ListN.{length}
+use lib.ListN.{length, take, replicate}
 use Rattle.refusal.specs.declared.Refusal.{Refusal}
 use Rattle.refusal.specs.declared.Answer.{Answer}
 use Rattle.refusal.specs.declared.Answer.the-variants.{Answered as Accepted, Refused as Unaccepted}
 use Rattle.plan_defs.specs.Stage.{Stage, stopped, going}
-use Rattle.plan_defs.specs.Case.{Case}
+use Rattle.plan_defs.specs.Constants.{mostCorridors}
+use Rattle.plan_defs.specs.Case.{Case, promote}
 use Rattle.plan_defs.specs.Plan.{Plan, endingOn, endingBy, endingOf, planFor}
-use Rattle.plan_defs.specs.Outcome.{Slices, cleared, held, summary, Outcome, replyOf, outcome, outcomeBy, outcomeIf, planCorridors}
+use Rattle.plan_defs.specs.Outcome.{Slices, cleared, keptIf, keptOf, held, summary, Outcome, replyOf, outcome, outcomeBy, outcomeIf, planCorridors}
 use Rattle.plan_defs.specs.Demand.{AnswerTo}
 use Rattle.plan_defs.specs.declared.CorridorPlan.{CorridorPlan}
 use Rattle.plan_defs.specs.declared.Planned.{Planned}
 use Rattle.plan_defs.specs.declared.Planned.the-variants.{Answered, Refused}
 use Rattle.plan_theorems.proofs.Outcomes.{answer-to}
 use Rattle.planning.specs.Check.{checkOf}
-use Rattle.planning.specs.Close.{isRefused, finished}
+use Rattle.planning.specs.Close.{isRefused, lentTo, withKept, finished}
 use Rattle.planning.specs.Sound.{Sound, Lengths}
 use Rattle.planning.specs.Plan.{WholeAs, PlanDone, Lendable}
+use Rattle.planning.specs.declared.plan.PlanRun.{PlanRun}
 use Rattle.planning.proofs.Liftings.{finished-refused, finished-answered}
-use Rattle.planning.proofs.Sounds.{sound, lengths-of, refused-outcome, passed, placesOf, tablesOf}
+use Rattle.planning.proofs.Sounds.{sound, lengths-of, kept-lengths, refused-outcome, passed, placesOf, tablesOf}
 
 module _ (c : Case) (target : ℕ) (s : Slices) where
   -- ---- what is promised: the defined outcome, and of an answer demand 3
@@ -46,9 +49,27 @@ module _ (c : Case) (target : ℕ) (s : Slices) where
     sizes : Lengths c s
     sizes = lengths-of c s (passed c target s ok .0)
 
+    abbrev lentOf : Slices → Slices
+    lentOf t = lentTo (t .circuits) (t .flow) (t .rate) (t .mw) (t .angle) (t .tier) (t .ground) (t .added) (t .figures) (t .counts)
+
+    lent-sizes : Lengths c (lentOf s)
+    lent-sizes =
+        record {
+          circuits = sizes .circuits;
+          flow = sizes .flow;
+          rate = sizes .rate;
+          mw = sizes .mw;
+          angle = sizes .angle;
+          tier = sizes .tier;
+          ground = sizes .ground;
+          added = sizes .added;
+          figures = sizes .figures;
+          counts = sizes .counts;
+        }
+
     pub lendable-by : Lendable (c .mode) target (c .above) (c .ladder) (c .tier) (c .load) (c .bus) (c .slack) (c .pmin) (c .pmax) (c .c1) (c .c2) (c .a) (c .b) (c .circuits)
-        (c .km) (c .share) (c .sheet) s
-    lendable-by = record { whole = c; sound = is-sound; lengths = sizes }
+        (c .km) (c .share) (c .sheet) (lentOf s)
+    lendable-by = record { whole = c; sound = is-sound; lengths = lent-sizes }
 
     ends : outcomeBy (endingOn (planFor c target)) c s ≡ planCorridors c target s
     unfolding planCorridors endingOf
@@ -57,72 +78,131 @@ module _ (c : Case) (target : ℕ) (s : Slices) where
         (ap (λ (b : Bool). outcomeIf b c target s) (passed c target s ok .0)
         ∙ ap (λ (f : Option Refusal). outcomeBy (endingBy f c target) c s) (passed c target s ok .1))
 
-    module _ (r : Planned) (lent : Slices) (size : Lengths c lent)
+    module _ (r : PlanRun) (lent : Slices) (size : Lengths c lent)
         (done : PlanDone (c .mode) target (c .above) (c .ladder) (c .tier) (c .load) (c .bus) (c .slack) (c .pmin) (c .pmax) (c .c1) (c .c2) (c .a) (c .b) (c .circuits)
-        (c .km) (c .share) (c .sheet) (lent .circuits) (lent .flow) (lent .rate) (lent .mw) (lent .angle) (lent .tier) (lent .ground) (lent .added) r) (out : Slices) where
+        (c .km) (c .share) (c .sheet) (lent .circuits) (lent .flow) (lent .rate) (lent .mw) (lent .angle) (lent .tier) (lent .ground) (lent .added) r)
+        (out : Slices) (before order : List ℕ) where
+      abbrev front : List ℕ → List ℕ
+      front l = take (length (c .a)) l
+
       abbrev Whole : Stage Plan → Type 0
-      Whole t = WholeAs r (lent .circuits) (lent .flow) (lent .rate) (lent .mw) (lent .angle) (lent .tier) (lent .ground) (lent .added) c t
+      Whole t =
+          WholeAs (r .said) (front (r .kept .before)) (front (r .kept .order)) (lent .circuits) (lent .flow) (lent .rate) (lent .mw) (lent .angle) (lent .tier) (lent .ground)
+          (lent .added) c t
 
       whole : Whole (planFor c target)
       whole = done .plan c is-sound
 
       -- 8 and 9
-      refused-by : (f : Refusal) → r ≡ Refused f → (t : Stage Plan) → Whole t → outcome (Refused f) (finished true lent) ≡ outcomeBy (endingOn t) c s
+      refused-by : (f : Refusal) → r .said ≡ Refused f → (t : Stage Plan) → Whole t
+          → outcome (Refused f) (withKept (replicate (c .corridors) 0) (replicate (c .corridors) 0) (finished true lent)) ≡ outcomeBy (endingOn t) c s
       unfolding outcomeBy
       refused-by f q (stopped g) h =
           let z : Refused f ≡ Refused g = sym q ∙ h in
           ap (λ (x : Slices). outcome (Refused f) x) (finished-refused c lent size) ∙ ap (λ (x : Planned). outcome x (cleared c)) z
       refused-by f q (going p) h = let y : Refused f ≡ Answered (summary p) = sym q ∙ h .holds .said in let z : _≡_ {A = ℕ} 0 1 = cc in absurd (omega arith)
 
-      ends-refused : (f : Refusal) → r ≡ Refused f → out ≡ finished true lent → Ends (Refused f) out
-      ends-refused f q e =
-          ends-by (Refused f) out (ap (λ (x : Slices). outcome (Refused f) x) e ∙ refused-by f q (planFor c target) whole ∙ ends)
+      ends-refused : (f : Refusal) → r .said ≡ Refused f → out ≡ finished true lent → before ≡ replicate (c .corridors) 0 → order ≡ replicate (c .corridors) 0
+          → Ends (Refused f) (withKept before order out)
+      ends-refused f q e u v =
+          ends-by (Refused f) (withKept before order out)
+          (ap (λ (x : Slices). outcome (Refused f) (withKept before order x)) e
+          ∙ ap (λ (l : List ℕ). outcome (Refused f) (withKept l order (finished true lent))) u
+          ∙ ap (λ (l : List ℕ). outcome (Refused f) (withKept (replicate (c .corridors) 0) l (finished true lent))) v
+          ∙ refused-by f q (planFor c target) whole ∙ ends)
 
       -- an answer
-      answered-by : (x : CorridorPlan) → r ≡ Answered x → (t : Stage Plan) → Whole t → outcome (Answered x) (finished false lent) ≡ outcomeBy (endingOn t) c s
+      abbrev keptFront : List ℕ → List ℕ
+      keptFront l = keptOf c (front l)
+
+      answered-by : (x : CorridorPlan) → r .said ≡ Answered x → (t : Stage Plan) → Whole t
+          → outcome (Answered x) (withKept (keptFront (r .kept .before)) (keptFront (r .kept .order)) (finished false lent)) ≡ outcomeBy (endingOn t) c s
       unfolding outcomeBy
       answered-by x q (stopped g) h = let y : Answered x ≡ Refused g = sym q ∙ h in let z : _≡_ {A = ℕ} 0 1 = cc in absurd (omega arith)
       answered-by x q (going p) h =
           let y : Answered x ≡ Answered (summary p) = sym q ∙ h .holds .said in
-          ap (λ (u : Slices). outcome (Answered x) u)
+          ap (λ (l : List ℕ). outcome (Answered x) (withKept (keptOf c l) (keptFront (r .kept .order)) (finished false lent))) (h .holds .before-are)
+          ∙ ap (λ (l : List ℕ). outcome (Answered x) (withKept (keptOf c (p .before)) (keptOf c l) (finished false lent))) (h .holds .order-is)
+          ∙ ap (λ (u : Slices). outcome (Answered x) u)
           (finished-answered c lent p (size .figures) (size .counts) (h .holds .circuits-are) (h .holds .flows-are) (h .holds .rates-are) (h .mw-is) (h .holds .angles-are)
           (h .holds .tiers-are) (h .grounds-are) (h .holds .added-are))
           ∙ ap (λ (u : Planned). outcome u (held c p)) y
 
-      ends-answered : (x : CorridorPlan) → r ≡ Answered x → out ≡ finished false lent → Ends (Answered x) out
-      ends-answered x q e =
-          ends-by (Answered x) out (ap (λ (u : Slices). outcome (Answered x) u) e ∙ answered-by x q (planFor c target) whole ∙ ends)
+      ends-answered : (x : CorridorPlan) → r .said ≡ Answered x → out ≡ finished false lent → before ≡ keptFront (r .kept .before) → order ≡ keptFront (r .kept .order)
+          → Ends (Answered x) (withKept before order out)
+      ends-answered x q e u v =
+          ends-by (Answered x) (withKept before order out)
+          (ap (λ (o : Slices). outcome (Answered x) (withKept before order o)) e
+          ∙ ap (λ (l : List ℕ). outcome (Answered x) (withKept l order (finished false lent))) u
+          ∙ ap (λ (l : List ℕ). outcome (Answered x) (withKept (keptFront (r .kept .before)) l (finished false lent))) v
+          ∙ answered-by x q (planFor c target) whole ∙ ends)
 
       -- by what planning says
-      ends-as : (y : Planned) → r ≡ y → out ≡ finished (isRefused y) lent → Ends y out
-      ends-as (Refused f) q e = ends-refused f q e
-      ends-as (Answered x) q e = ends-answered x q e
+      abbrev keptAs : Planned → List ℕ → List ℕ
+      keptAs y l = keptIf (promote (c .mode) && not (isRefused y)) (c .corridors) (front l)
 
-      ends-said : (refused : Bool) → refused ≡ isRefused r → out ≡ finished refused lent → Ends r out
-      ends-said refused q e = ends-as r refl (e ∙ ap (λ (b : Bool). finished b lent) q)
+      and-false : (b : Bool) → (b && false) ≡ false
+      and-false true = refl
+      and-false false = refl
 
-  -- the same by what the check answers, and by what the stages leave, each slice as long as it was, and what is cleared
-  pub ends-when : (x : Answer) → x ≡ checkOf (tablesOf c) target (placesOf s) → x ≡ Accepted → (r : Planned) (lent : Slices)
-      → length (lent .circuits) ≡ length (s .circuits) → length (lent .flow) ≡ length (s .flow) → length (lent .rate) ≡ length (s .rate)
-      → length (lent .mw) ≡ length (s .mw) → length (lent .angle) ≡ length (s .angle) → length (lent .tier) ≡ length (s .tier) → length (lent .ground) ≡ length (s .ground)
-      → length (lent .added) ≡ length (s .added) → length (lent .figures) ≡ length (s .figures) → length (lent .counts) ≡ length (s .counts)
-      → PlanDone (c .mode) target (c .above) (c .ladder) (c .tier) (c .load) (c .bus) (c .slack) (c .pmin) (c .pmax) (c .c1) (c .c2) (c .a) (c .b) (c .circuits)
-      (c .km) (c .share) (c .sheet) (lent .circuits) (lent .flow) (lent .rate) (lent .mw) (lent .angle) (lent .tier) (lent .ground) (lent .added) r
-      → (out : Slices) (refused : Bool) → refused ≡ isRefused r → out ≡ finished refused lent → Ends r out
-  ends-when x k q r lent e₁ e₂ e₃ e₄ e₅ e₆ e₇ e₈ e₉ e₀ done out refused u v =
-      let ok = sym q ∙ k in
-      let w = sizes ok in
-      ends-said ok r lent
-      (record {
-        circuits = e₁ ∙ w .circuits;
-        flow = e₂ ∙ w .flow;
-        rate = e₃ ∙ w .rate;
-        mw = e₄ ∙ w .mw;
-        angle = e₅ ∙ w .angle;
-        tier = e₆ ∙ w .tier;
-        ground = e₇ ∙ w .ground;
-        added = e₈ ∙ w .added;
-        figures = e₉ ∙ w .figures;
-        counts = e₀ ∙ w .counts;
-      })
-      done out refused u v
+      and-true : (b : Bool) → (b && true) ≡ b
+      and-true true = refl
+      and-true false = refl
+
+      ends-as : (y : Planned) → r .said ≡ y → out ≡ finished (isRefused y) lent → before ≡ keptAs y (r .kept .before) → order ≡ keptAs y (r .kept .order)
+          → Ends y (withKept before order out)
+      ends-as (Refused f) q e u v =
+          let none : (l : List ℕ) → keptIf (promote (c .mode) && false) (c .corridors) l ≡ replicate (c .corridors) 0 =
+          λ l. ap (λ (b : Bool). keptIf b (c .corridors) l) (and-false (promote (c .mode))) in
+          ends-refused f q e (u ∙ none (front (r .kept .before))) (v ∙ none (front (r .kept .order)))
+      ends-as (Answered x) q e u v =
+          let all : (l : List ℕ) → keptIf (promote (c .mode) && true) (c .corridors) l ≡ keptOf c l =
+          λ l. ap (λ (b : Bool). keptIf b (c .corridors) l) (and-true (promote (c .mode))) in
+          ends-answered x q e (u ∙ all (front (r .kept .before))) (v ∙ all (front (r .kept .order)))
+
+  -- the same by what the check answers, and by what the stages leave, each slice as long as it was, what is cleared, and what is kept
+  module _ (x : Answer) (k : x ≡ checkOf (tablesOf c) target (placesOf s)) (q : x ≡ Accepted) where
+    -- the places lent for what is kept are those of the corridors, which the arrays have
+    pub kept-fits : (length (s .before) ≤ mostCorridors) × (length (s .order) ≤ mostCorridors)
+    kept-fits =
+        let ok = sym q ∙ k in
+        let w = kept-lengths c s (passed c target s ok .0) in
+        (omega (arith, w .0, is-sound ok .few-corridors), omega (arith, w .1, is-sound ok .few-corridors))
+
+    pub ends-when : (r : PlanRun) (lent : Slices)
+        → length (lent .circuits) ≡ length (s .circuits) → length (lent .flow) ≡ length (s .flow) → length (lent .rate) ≡ length (s .rate)
+        → length (lent .mw) ≡ length (s .mw) → length (lent .angle) ≡ length (s .angle) → length (lent .tier) ≡ length (s .tier) → length (lent .ground) ≡ length (s .ground)
+        → length (lent .added) ≡ length (s .added) → length (lent .figures) ≡ length (s .figures) → length (lent .counts) ≡ length (s .counts)
+        → PlanDone (c .mode) target (c .above) (c .ladder) (c .tier) (c .load) (c .bus) (c .slack) (c .pmin) (c .pmax) (c .c1) (c .c2) (c .a) (c .b) (c .circuits)
+        (c .km) (c .share) (c .sheet) (lent .circuits) (lent .flow) (lent .rate) (lent .mw) (lent .angle) (lent .tier) (lent .ground) (lent .added) r
+        → (out : Slices) (refused : Bool) → refused ≡ isRefused (r .said) → out ≡ finished refused lent
+        → (keeps : Bool) → keeps ≡ (promote (c .mode) && not refused) → (before order : List ℕ)
+        → before ≡ keptIf keeps (length (s .before)) (take (length (s .before)) (r .kept .before))
+        → order ≡ keptIf keeps (length (s .order)) (take (length (s .order)) (r .kept .order))
+        → Ends (r .said) (withKept before order out)
+    ends-when r lent e₁ e₂ e₃ e₄ e₅ e₆ e₇ e₈ e₉ e₀ done out refused u v keeps w before order f g =
+        let ok = sym q ∙ k in
+        let z = sizes ok in
+        let m = kept-lengths c s (passed c target s ok .0) in
+        let a = is-sound ok .a-size in
+        let keeps-is : keeps ≡ (promote (c .mode) && not (isRefused (r .said))) = w ∙ ap (λ (b : Bool). promote (c .mode) && not b) u in
+        let all : (i : ℕ) (l : List ℕ) → i ≡ c .corridors → keptIf keeps i (take i l) ≡ keptIf (promote (c .mode) && not (isRefused (r .said))) (c .corridors) (take (length (c .a)) l) =
+        λ i l h.
+        ap (λ (n : ℕ). keptIf keeps n (take n l)) h
+        ∙ ap (λ (n : ℕ). keptIf keeps (c .corridors) (take n l)) (sym a)
+        ∙ ap (λ (b : Bool). keptIf b (c .corridors) (take (length (c .a)) l)) keeps-is in
+        ends-as ok r lent
+        (record {
+          circuits = e₁ ∙ z .circuits;
+          flow = e₂ ∙ z .flow;
+          rate = e₃ ∙ z .rate;
+          mw = e₄ ∙ z .mw;
+          angle = e₅ ∙ z .angle;
+          tier = e₆ ∙ z .tier;
+          ground = e₇ ∙ z .ground;
+          added = e₈ ∙ z .added;
+          figures = e₉ ∙ z .figures;
+          counts = e₀ ∙ z .counts;
+        })
+        done out before order (r .said) refl (v ∙ ap (λ (b : Bool). finished b lent) u) (f ∙ all (length (s .before)) (r .kept .before) (m .0))
+        (g ∙ all (length (s .order)) (r .kept .order) (m .1))

@@ -7,7 +7,7 @@ use mathlib.Core.Path.{_≡_, refl, sym, ap, _∙_, subst}
 use native.Mathlib.Omega.{arith}
 use borrow.Author.Tests.{ne-eqb}
 use lib.Dec.{eqb}
-use lib.ListN.{length, replicate}
+use lib.ListN.{length, replicate, take}
 use lib.Ieee.{Float}
 use Rattle.loops.specs.Figures.{nought}
 use Rattle.refusal.specs.declared.Refusal.{Refusal}
@@ -43,7 +43,10 @@ use Rattle.planning.specs.declared.raises.Raised.the-variants.{Refused a
 use Rattle.planning.specs.declared.rounds.Progress.{Progress}
 use Rattle.planning.specs.declared.rounds.Rounds.{Rounds}
 use Rattle.planning.specs.declared.rounds.Rounds.the-variants.{Refused as Unrun, Ran}
+use Rattle.planning.specs.declared.fill.Kept.{Kept}
+use Rattle.planning.specs.declared.plan.PlanRun.{PlanRun}
 use Rattle.planning.specs.declared.settle.Settled.{Settled}
+use Rattle.planning.specs.declared.settle.Settling.{Settling}
 use Rattle.planning.proofs.Redesigns.{redesign-is, banks-lift, first-design}
 
 -- ---- how many rounds
@@ -165,13 +168,15 @@ module _ (c : Case) (target : ℕ) (o : Opened) (level circuits : List ℕ) (ban
       go (going v) =
           said-then (readyWith c o S v) refl refl (planningState (o .peak) (S .build .designs) (fill c target (readyWith c o S v .order) circuits .counts) (zeros (c .buses)))
 
-module _ (p : Progress) (gs : ℕ) (circuits tier : List ℕ) (flow rate angle added : List Float) (c : Case) where
-  planned-as : (x : Settled) (q : Planned) (t : Stage Plan) → On (λ y. summary y ≡ planBy p gs (settlementOf y)) t → SettledAs x circuits tier flow rate angle added c t
-      → q ≡ plannedBy p gs x → PlannedAs q circuits tier flow rate angle added c t
+module _ (p : Progress) (gs : ℕ) (before order circuits tier : List ℕ) (flow rate angle added : List Float) (c : Case) where
+  planned-as : (x : Settled) (q : Planned) (t : Stage Plan) → On (λ y. summary y ≡ planBy p gs (settlementOf y)) t → SettledAs x before order circuits tier flow rate angle added c t
+      → q ≡ plannedBy p gs x → PlannedAs q before order circuits tier flow rate angle added c t
   planned-as x q (stopped f) u h e = e ∙ ap (plannedBy p gs) h
   planned-as x q (going y) u h e =
       record {
         said = e ∙ ap (plannedBy p gs) (h .said) ∙ ap Answered (sym u);
+        before-are = h .before-are;
+        order-is = h .order-is;
         circuits-are = h .circuits-are;
         tiers-are = h .tiers-are;
         flows-are = h .flows-are;
@@ -339,16 +344,17 @@ module _ (mode : PlanMode) (target above : ℕ) (ladder : List Float) (level a b
             go (stopped f) = refl
             go (going t) = refl
 
-      pub opened-refused : (f : Refusal) → r ≡ Unraised f → (circuits″ level″ : List ℕ) (flow″ rate″ angle″ added″ : List Float)
-          → OpenedPlan mode target above ladder level a b km share sheet load bus pmax leader grounds injection circuits upsized circuits″ level″ flow″ rate″ angle″ added″ (Refused f)
-      opened-refused f q circuits″ level″ flow″ rate″ angle″ added″ =
+      pub opened-refused : (f : Refusal) → r ≡ Unraised f → (circuits″ level″ : List ℕ) (flow″ rate″ angle″ added″ : List Float) (i : PlanRun) → i .said ≡ Refused f
+          → OpenedPlan mode target above ladder level a b km share sheet load bus pmax leader grounds injection circuits upsized circuits″ level″ flow″ rate″ angle″ added″ i
+      opened-refused f q circuits″ level″ flow″ rate″ angle″ added″ i j =
           record {
             plan = λ o mw s l e g.
                 let c = E o mw s l e in
                 let P = Q o mw s l e in
                 let z : onward (openedWith c leader mw P) (settled c) ≡ stopped f = opened-is o mw s l e
                 ∙ ap (λ (x : Raising). onward (raisedAs x c level′ banks′) (λ t. settled c (openedFor c leader mw P t))) q in
-                subst (PlannedAs (Refused f) circuits″ level″ flow″ rate″ angle″ added″ c) (sym (ap (λ (t : Stage Ready). onward t (closing c target)) z)) refl;
+                subst (PlannedAs (i .said) (take (length a) (i .kept .before)) (take (length a) (i .kept .order)) circuits″ level″ flow″ rate″ angle″ added″ c)
+                (sym (ap (λ (t : Stage Ready). onward t (closing c target)) z)) j;
           }
 
       -- after the rounds
@@ -377,22 +383,23 @@ module _ (mode : PlanMode) (target above : ℕ) (ladder : List Float) (level a b
               ∙ ap (λ (y : Raising). onward (raisedAs y D level′ banks′) (λ t. settled D (openedFor D leader mw (Q o mw s l e) t))) q
               ∙ ap (λ (t : Stage Draft). onward t (settledTo D O)) (sym ran-is)
 
-        pub opened-unrun : (f : Refusal) → x ≡ Unrun f → (circuits‴ level‴ : List ℕ) (flow‴ rate‴ angle‴ added‴ : List Float)
-            → OpenedPlan mode target above ladder level a b km share sheet load bus pmax leader grounds injection circuits upsized circuits‴ level‴ flow‴ rate‴ angle‴ added‴ (Refused f)
-        opened-unrun f u circuits‴ level‴ flow‴ rate‴ angle‴ added‴ =
+        pub opened-unrun : (f : Refusal) → x ≡ Unrun f → (circuits‴ level‴ : List ℕ) (flow‴ rate‴ angle‴ added‴ : List Float) (i : PlanRun) → i .said ≡ Refused f
+            → OpenedPlan mode target above ladder level a b km share sheet load bus pmax leader grounds injection circuits upsized circuits‴ level‴ flow‴ rate‴ angle‴ added‴ i
+        opened-unrun f u circuits‴ level‴ flow‴ rate‴ angle‴ added‴ i j =
             record {
               plan = λ o mw s l e g.
                   let c = D o mw s l e g in
                   let z : onward (openedWith c leader mw (Q o mw s l e)) (settled c) ≡ stopped f = settled-is o mw s l e g
                   ∙ ap (λ (y : Rounds). onward (ranAs y c level″ circuits″ banks″ floors″ upsized″ angle″) (settledTo c (O o mw s l e g))) u in
-                  subst (PlannedAs (Refused f) circuits‴ level‴ flow‴ rate‴ angle‴ added‴ c) (sym (ap (λ (t : Stage Ready). onward t (closing c target)) z)) refl;
+                  subst (PlannedAs (i .said) (take (length a) (i .kept .before)) (take (length a) (i .kept .order)) circuits‴ level‴ flow‴ rate‴ angle‴ added‴ c)
+                  (sym (ap (λ (t : Stage Ready). onward t (closing c target)) z)) j;
             }
 
-        pub opened-plan : (p : Progress) → x ≡ Ran p → (circuits‴ level‴ : List ℕ) (flow‴ rate‴ angle‴ added‴ : List Float) (y : Settled)
+        pub opened-plan : (p : Progress) → x ≡ Ran p → (circuits‴ level‴ : List ℕ) (flow‴ rate‴ angle‴ added‴ : List Float) (y : Settling)
             → Settles mode target above ladder a b km share sheet leader grounds injection banks″ upsized″ circuits″ level″ circuits‴ level‴ flow‴ rate‴ angle‴ added‴ y
-            → length level″ ≡ length level′ → (i : Planned) → i ≡ plannedBy p (length grounds) y
+            → length level″ ≡ length level′ → (i : PlanRun) → i .said ≡ plannedBy p (length grounds) (y .settled) → i .kept ≡ y .kept
             → OpenedPlan mode target above ladder level a b km share sheet load bus pmax leader grounds injection circuits upsized circuits‴ level‴ flow‴ rate‴ angle‴ added‴ i
-        opened-plan p u circuits‴ level‴ flow‴ rate‴ angle‴ added‴ y d k i j =
+        opened-plan p u circuits‴ level‴ flow‴ rate‴ angle‴ added‴ y d k i j w =
             record {
               plan = λ o mw s l e g.
                   let c = D o mw s l e g in
@@ -400,7 +407,10 @@ module _ (mode : PlanMode) (target above : ℕ) (ladder : List Float) (level a b
                   let S′ = draftOf c level″ circuits″ banks″ floors″ upsized″ angle″ p in
                   let z : onward (openedWith c leader mw (Q o mw s l e)) (settled c) ≡ settledTo c O′ S′ = settled-is o mw s l e g
                   ∙ ap (λ (t : Rounds). onward (ranAs t c level″ circuits″ banks″ floors″ upsized″ angle″) (settledTo c O′)) u in
-                  subst (PlannedAs i circuits‴ level‴ flow‴ rate‴ angle‴ added‴ c) (sym (ap (λ (t : Stage Ready). onward t (closing c target)) z))
-                  (planned-as p (length grounds) circuits‴ level‴ flow‴ rate‴ angle‴ added‴ c y i (onward (settledTo c O′ S′) (closing c target))
-                  (said-of c target O′ level″ circuits″ banks″ floors″ upsized″ angle″ p) (d .plan c O′ S′ floors″ s (k ∙ size ∙ buses-are o mw s l e) refl refl refl refl) j);
+                  let t = onward (settledTo c O′ S′) (closing c target) in
+                  subst (PlannedAs (i .said) (take (length a) (i .kept .before)) (take (length a) (i .kept .order)) circuits‴ level‴ flow‴ rate‴ angle‴ added‴ c)
+                  (sym (ap (λ (t : Stage Ready). onward t (closing c target)) z))
+                  (subst (λ (n : Kept). PlannedAs (i .said) (take (length a) (n .before)) (take (length a) (n .order)) circuits‴ level‴ flow‴ rate‴ angle‴ added‴ c t) (sym w)
+                  (planned-as p (length grounds) (take (length a) (y .kept .before)) (take (length a) (y .kept .order)) circuits‴ level‴ flow‴ rate‴ angle‴ added‴ c (y .settled) (i .said) (onward (settledTo c O′ S′) (closing c target))
+                  (said-of c target O′ level″ circuits″ banks″ floors″ upsized″ angle″ p) (d .plan c O′ S′ floors″ s (k ∙ size ∙ buses-are o mw s l e) refl refl refl refl) j));
             }

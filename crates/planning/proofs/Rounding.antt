@@ -22,7 +22,7 @@ use Rattle.plan_defs.specs.Lists.{passFrom, sum}
 use Rattle.plan_defs.specs.Stage.{Stage, stopped, going, onward, eachStage}
 use Rattle.plan_defs.specs.Case.{Case, promote}
 use Rattle.plan_defs.specs.Components.{leads, roots}
-use Rattle.plan_defs.specs.Build.{Build, built, buildOf, drawnAll, rebuilt}
+use Rattle.plan_defs.specs.Build.{built, buildOf, drawnAll, rebuilt}
 use Rattle.plan_defs.specs.Solve.{Peak, PlanningCase, edgesFor, planningOn, planningState}
 use Rattle.plan_defs.specs.Raise.{raisedLevels, movedBuses, noMarks}
 use Rattle.plan_defs.specs.Size.{Sizing, sizing, sizeAll}

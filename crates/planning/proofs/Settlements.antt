@@ -3,7 +3,7 @@ use Prim.Native.Nat.{ℕ, _≤_}
 use mathlib.Core.List.{List, map}
 use mathlib.Core.Path.{_≡_, refl, sym, ap, _∙_}
 use native.Mathlib.Omega.{arith}
-use lib.ListN.{length}
+use lib.ListN.{length, take}
 use lib.Ieee.{Float}
 use Rattle.loops.specs.Figures.{nought}
 use Rattle.mode.specs.declared.PlanMode.{PlanMode}
@@ -25,6 +25,7 @@ use Rattle.planning.specs.Sound.{Sound}
 use Rattle.planning.specs.Whole.{withLines, withUnits}
 use Rattle.planning.specs.Settle.{Ended, endedOf, endedBy, closedAfter, filledFrom, settledFrom, settlementOf, SettledAs, Settles}
 use Rattle.planning.specs.declared.settle.Settled.{Settled}
+use Rattle.planning.specs.declared.settle.Settling.{Settling}
 use Rattle.planning.specs.declared.settle.Settled.the-variants.{Refused, Closed}
 use Rattle.planning.proofs.Liftings.{designs-lift, fill-lifts, closing-lifts, tiers-lift, added-lifts}
 
@@ -33,6 +34,8 @@ abbrev endedFor : ℕ → Plan → Ended
 endedFor above q =
     record {
       settlement = settlementOf q;
+      before = q .before;
+      order = q .order;
       circuits = q .circuits;
       tier = q .tier;
       flow = q .flow;
@@ -47,15 +50,17 @@ endedOn above t = onward t (λ q. going (endedFor above q))
 never : {S : Type 0} (f : Refusal) (s : S) → stopped f ≡ going s → ⊥
 never f s e = let z : _≡_ {A = ℕ} 0 1 = cc in omega arith
 
-module _ (circuits tier : List ℕ) (flow rate angle added : List Float) (c : Case) where
-  settled-as : (r : Settled) (t : Stage Plan) → endedOf r circuits tier flow rate angle added ≡ endedOn (c .above) t → SettledAs r circuits tier flow rate angle added c t
+module _ (before order circuits tier : List ℕ) (flow rate angle added : List Float) (c : Case) where
+  settled-as : (r : Settled) (t : Stage Plan) → endedOf r before order circuits tier flow rate angle added ≡ endedOn (c .above) t → SettledAs r before order circuits tier flow rate angle added c t
   settled-as (Refused f) (stopped g) e = let z : f ≡ g = cc in ap Refused z
   settled-as (Refused f) (going q) e = absurd (never f (endedFor (c .above) q) e)
   settled-as (Closed s) (stopped g) e = absurd (never g _ (sym e))
   settled-as (Closed s) (going q) e =
-      let z : record { settlement = s; circuits = circuits; tier = tier; flow = flow; rate = rate; angle = angle; added = added } ≡ endedFor (c .above) q = cc in
+      let z : record { settlement = s; before = before; order = order; circuits = circuits; tier = tier; flow = flow; rate = rate; angle = angle; added = added } ≡ endedFor (c .above) q = cc in
       record {
         said = ap (λ (x : Ended). Closed (x .settlement)) z;
+        before-are = ap (λ (x : Ended). x .before) z;
+        order-is = ap (λ (x : Ended). x .order) z;
         circuits-are = ap (λ (x : Ended). x .circuits) z;
         tiers-are = ap (λ (x : Ended). x .tier) z;
         flows-are = ap (λ (x : Ended). x .flow) z;
@@ -73,14 +78,14 @@ module _ (c : Case) (r : Ready) (few : c .above ≤ length (c .ladder)) (size : 
   level = r .draft .level
 
   abbrev by : ℕ → List ℕ → PlanningCase → Ended
-  by = endedBy (c .mode) (c .above) (r .led) (c .ladder) level ds (r .draft .build .upsized) (r .peak)
+  by filler circuits v = endedBy (c .mode) (c .above) (r .led) (c .ladder) level ds (r .draft .build .upsized) (r .peak) filler (r .draft .build .circuits) (r .order) circuits v
 
   ended-is : (f : Filled) (v : PlanningCase) → endedFor (c .above) (planOf c r f v) ≡ by (f .filler) (f .counts) v
   ended-is f v =
       rw (closing-lifts c ds size (r .led) level (f .counts) (r .draft .build .upsized) (v .flows) (v .theta) few, tiers-lift c level, added-lifts c level)
 
   abbrev closedBy : Filled → Stage Ended
-  closedBy = closedAfter (c .mode) (c .above) (r .led) (c .ladder) level ds (r .draft .build .upsized) (r .peak)
+  closedBy f = closedAfter (c .mode) (c .above) (r .led) (c .ladder) level ds (r .draft .build .upsized) (r .peak) (r .draft .build .circuits) (r .order) f
 
   closed-is : (f : Filled) → endedOn (c .above) (closedWith c r f) ≡ closedBy f
   closed-is f =
@@ -102,7 +107,9 @@ module _ (c : Case) (target : ℕ) (p : Opened) (s : Draft) (few : c .above ≤ 
   next-is : (v : PlanningCase) → endedOn (c .above) (closing c target (readyWith c p s v)) ≡ filledBy (v .flows)
   next-is v =
       filled-is c (readyWith c p s v) few size n target
-      ∙ ap (closedAfter (c .mode) (c .above) (p .led) (c .ladder) (s .level) (s .build .designs) (s .build .upsized) (p .peak))
+      ∙ ap
+      (closedAfter (c .mode) (c .above) (p .led) (c .ladder) (s .level) (s .build .designs) (s .build .upsized) (p .peak) (s .build .circuits)
+      (orderOf (c .corridors) (s .build .designs) (s .build .circuits) (v .flows)))
       (sym (fill-lifts c target (orderOf (c .corridors) (s .build .designs) (s .build .circuits) (v .flows)) (s .build .circuits)))
 
   pub settled-is : endedOn (c .above) (onward (settledTo c p s) (closing c target))
@@ -138,14 +145,23 @@ module _ (c : Case) (target : ℕ) (S : Sound c target) (leader grounds : List �
 
 -- ---- as the contract says it
 pub settles : (mode : PlanMode) (target above : ℕ) (ladder : List Float) (a b : List ℕ) (km share sheet : List Float) (leader grounds : List ℕ) (injection banks : List Float)
-    (upsized circuits level circuits′ level′ : List ℕ) (flow′ rate′ angle′ added′ : List Float) (r : Settled)
-    → endedOf r circuits′ level′ flow′ rate′ angle′ added′
+    (upsized circuits level circuits′ level′ : List ℕ) (flow′ rate′ angle′ added′ : List Float) (r : Settling)
+    → endedOf (r .settled) (take (length a) (r .kept .before)) (take (length a) (r .kept .order)) circuits′ level′ flow′ rate′ angle′ added′
     ≡ settledFrom mode above leader ladder level (designsFor ladder level a b km share sheet banks) upsized (peakFor (length level) grounds injection) target (length a) circuits
     → Settles mode target above ladder a b km share sheet leader grounds injection banks upsized circuits level circuits′ level′ flow′ rate′ angle′ added′ r
 settles mode target above ladder a b km share sheet leader grounds injection banks upsized circuits level circuits′ level′ flow′ rate′ angle′ added′ r e =
     record {
       plan = λ o p s floors S size led peak on build.
           let c = withLines (withUnits o mode above (o .load) (o .bus) (o .pmax)) ladder a b km share sheet in
-          settled-as circuits′ level′ flow′ rate′ angle′ added′ c r (onward (settledTo c p s) (closing c target))
+          settled-as (take (length a) (r .kept .before)) (take (length a) (r .kept .order)) circuits′ level′ flow′ rate′ angle′ added′ c (r .settled) (onward (settledTo c p s) (closing c target))
           (e ∙ columns-settle c target S leader grounds injection banks floors upsized circuits level p s size led peak on build);
     }
+
+pub settles-refused : (mode : PlanMode) (target above : ℕ) (ladder : List Float) (a b : List ℕ) (km share sheet : List Float) (leader grounds : List ℕ) (injection banks : List Float)
+    (upsized circuits level circuits′ level′ : List ℕ) (flow′ rate′ angle′ added′ : List Float) (r : Settling) (f : Refusal) → r .settled ≡ Refused f
+    → stopped f
+    ≡ settledFrom mode above leader ladder level (designsFor ladder level a b km share sheet banks) upsized (peakFor (length level) grounds injection) target (length a) circuits
+    → Settles mode target above ladder a b km share sheet leader grounds injection banks upsized circuits level circuits′ level′ flow′ rate′ angle′ added′ r
+settles-refused mode target above ladder a b km share sheet leader grounds injection banks upsized circuits level circuits′ level′ flow′ rate′ angle′ added′ r f q e =
+    settles mode target above ladder a b km share sheet leader grounds injection banks upsized circuits level circuits′ level′ flow′ rate′ angle′ added′ r
+    (ap (λ (x : Settled). endedOf x (take (length a) (r .kept .before)) (take (length a) (r .kept .order)) circuits′ level′ flow′ rate′ angle′ added′) q ∙ e)

@@ -22,7 +22,7 @@ use Rattle.planning.specs.Solve.{solvedOf, Lent}
 use Rattle.planning.specs.Fill.{modeFor, Loaded, Whole, Ranked, Counted}
 use Rattle.planning.specs.Size.{Few}
 use Rattle.planning.specs.Close.{levelsFor, closingOf}
-use Rattle.planning.specs.Settle.{Settleable, endedBy, closedFrom, closedAfter, filledFrom}
+use Rattle.planning.specs.Settle.{Settleable, endedBy, closedFrom, closedAfter, filledIn, filledFrom}
 use Rattle.planning.specs.declared.close.Closing.{Closing}
 use Rattle.planning.proofs.Orders.{order-ranked}
 
@@ -95,19 +95,23 @@ module _ (above : ℕ) (ladder : List Float) (level a b : List ℕ) (km share sh
 
 -- ---- the stages by columns, as calls say them
 module _ (mode : PlanMode) (above : ℕ) (led : List ℕ) (ladder : List Float) (level : List ℕ) (ds : List CircuitDesign) (upsized : List ℕ) (P : Peak) where
-  pub closed-answered : (filler : ℕ) (circuits tier : List ℕ) (flow rate angle added : List Float) (c : Closing) (r : Answer) (E : Edges)
+  pub closed-answered : (filler : ℕ) (before order circuits tier : List ℕ) (flow rate angle added : List Float) (c : Closing) (r : Answer) (E : Edges)
       → solvedOf r E angle flow ≡ planningState P ds circuits (zeros (P .n)) → r ≡ Answered
       → c ≡ closingOf mode above led level ds circuits upsized flow angle → rate ≡ map (λ (d : CircuitDesign). d .«rate_a») ds → tier ≡ tiersOf (levelsFor above ladder) level
       → added ≡ upTo above nought (addedOf (levelsFor above ladder) level)
-      → going (record { settlement = record { filler = filler; closing = c }; circuits = circuits; tier = tier; flow = flow; rate = rate; angle = angle; added = added })
-      ≡ closedFrom mode above led ladder level ds upsized P filler circuits
-  closed-answered filler circuits tier flow rate angle added c r E e q f g h i =
-      rw (f, g, h, i) (solved-answered (λ v. going (endedBy mode above led ladder level ds upsized P filler circuits v)) _ r E angle flow e q)
+      → going (record { settlement = record { filler = filler; closing = c }; before = before; order = order; circuits = circuits; tier = tier; flow = flow; rate = rate; angle = angle; added = added })
+      ≡ closedFrom mode above led ladder level ds upsized P filler before order circuits
+  closed-answered filler before order circuits tier flow rate angle added c r E e q f g h i =
+      rw (f, g, h, i) (solved-answered (λ v. going (endedBy mode above led ladder level ds upsized P filler before order circuits v)) _ r E angle flow e q)
 
-  pub filled-are : (target m filler : ℕ) (circuits order circuits′ : List ℕ) (flow : List Float) → length circuits ≡ m → take m order ≡ orderOf m ds circuits flow
+  pub filled-are : (target m filler : ℕ) (circuits order before′ order′ circuits′ : List ℕ) (flow : List Float) → length circuits ≡ m
+      → take m order ≡ orderOf m ds circuits flow → before′ ≡ circuits → order′ ≡ take m order
       → circuits′ ≡ fill (modeFor mode) target (take (length circuits) order) circuits .counts → filler ≡ fill (modeFor mode) target (take (length circuits) order) circuits .filler
-      → closedFrom mode above led ladder level ds upsized P filler circuits′ ≡ filledFrom mode above led ladder level ds upsized P target m circuits flow
-  filled-are target m filler circuits order circuits′ flow e o p q =
-      ap (λ (n : ℕ). closedFrom mode above led ladder level ds upsized P n circuits′) q
-      ∙ ap (closedFrom mode above led ladder level ds upsized P (fill (modeFor mode) target (take (length circuits) order) circuits .filler)) p
-      ∙ ap (λ (ks : List ℕ). closedAfter mode above led ladder level ds upsized P (fill (modeFor mode) target ks circuits)) (ap (λ (n : ℕ). take n order) e ∙ o)
+      → closedFrom mode above led ladder level ds upsized P filler before′ order′ circuits′ ≡ filledFrom mode above led ladder level ds upsized P target m circuits flow
+  filled-are target m filler circuits order before′ order′ circuits′ flow e o u v p q =
+      ap (λ (n : ℕ). closedFrom mode above led ladder level ds upsized P n before′ order′ circuits′) q
+      ∙ ap (closedFrom mode above led ladder level ds upsized P (fill (modeFor mode) target (take (length circuits) order) circuits .filler) before′ order′) p
+      ∙ ap (λ (l : List ℕ). closedAfter mode above led ladder level ds upsized P l order′ (fill (modeFor mode) target (take (length circuits) order) circuits)) u
+      ∙ ap (λ (l : List ℕ). closedAfter mode above led ladder level ds upsized P circuits l (fill (modeFor mode) target (take (length circuits) order) circuits)) v
+      ∙ ap (λ (n : ℕ). closedAfter mode above led ladder level ds upsized P circuits (take m order) (fill (modeFor mode) target (take n order) circuits)) e
+      ∙ ap (filledIn mode above led ladder level ds upsized P target circuits) o

@@ -6,7 +6,7 @@ use mathlib.Core.List.{List}
 use mathlib.Core.Option.{Option, none, some}
 use mathlib.Core.Path.{_≡_, refl, sym, ap, _∙_, subst}
 use native.Mathlib.Omega.{arith}
-use borrow.Author.Tests.{leb-true, eqb-true, eqb-false, lt-leb}
+use borrow.Author.Tests.{leb-true, eqb-false, lt-leb}
 use lib.Dec.{ltb, leb, eqb}
 use lib.ListN.{length, getD}
 use lib.Ieee.{lt, le}
@@ -22,9 +22,10 @@ use Rattle.plan_defs.specs.Constants.{kvTolerance, mostInitial, rowFigures}
 use Rattle.plan_defs.specs.Case.{Case, levels, kvOf, loadOf, endA, endB, rowPlace, rowAt}
 use Rattle.plan_defs.specs.Accept.{lengthsOk, countsOk, levelOk, busOk, generatorOk, corridorSound, rowOk, tablesFault, caseFault}
 use Rattle.plan_defs.specs.Plan.{endingOf}
-use Rattle.plan_defs.specs.Outcome.{Slices, workPlaces, slicesOk, outcome, outcomeIf, outcomeBy, planCorridors}
+use Rattle.plan_defs.specs.Outcome.{Slices, slicesOk, outcome, outcomeIf, outcomeBy, planCorridors}
 use Rattle.plan_defs.specs.declared.Planned.the-variants.{Refused as Unplanned}
 use Rattle.plan_defs.proofs.Accepted.{Accepted, accepted, end-a, end-b, bus-below, unit-ok, tier-below, initial-few, row-inside, row-sound}
+use Rattle.plan_theorems.proofs.Outcomes.{lengths-of as all-lengths}
 use Rattle.planning.specs.Design.{Lines, rateAt}
 use Rattle.planning.specs.Check.{tablesFor, placesIn, answerOf, checkOf}
 use Rattle.planning.specs.Sound.{Sound, Lengths}
@@ -123,31 +124,25 @@ module _ (c : Case) (target : ℕ) (ok : Accepted c target) where
 pub sound : (c : Case) (target : ℕ) → caseFault c target ≡ none → Sound c target
 sound c target e = sound-of c target (accepted c target e)
 
--- ---- the lent slices
+-- ---- the lent slices: those of the stages, and those for what is kept of filling
 pub lengths-of : (c : Case) (s : Slices) → slicesOk c s ≡ true → Lengths c s
-unfolding slicesOk
 lengths-of c s h =
-    let h₁ = both (eqb (length (s .circuits)) (c .corridors)) _ h in
-    let h₂ = both (eqb (length (s .flow)) (c .corridors)) _ (h₁ .1) in
-    let h₃ = both (eqb (length (s .rate)) (c .corridors)) _ (h₂ .1) in
-    let h₄ = both (eqb (length (s .mw)) (c .generators)) _ (h₃ .1) in
-    let h₅ = both (eqb (length (s .angle)) (c .buses)) _ (h₄ .1) in
-    let h₆ = both (eqb (length (s .tier)) (c .buses)) _ (h₅ .1) in
-    let h₇ = both (eqb (length (s .ground)) (c .buses)) _ (h₆ .1) in
-    let h₈ = both (eqb (length (s .added)) (c .above)) _ (h₇ .1) in
-    let h₉ = both (eqb (length (s .figures)) (workPlaces c)) _ (h₈ .1) in
+    let l = all-lengths c s h in
     record {
-      circuits = eqb-true _ _ (h₁ .0);
-      flow = eqb-true _ _ (h₂ .0);
-      rate = eqb-true _ _ (h₃ .0);
-      mw = eqb-true _ _ (h₄ .0);
-      angle = eqb-true _ _ (h₅ .0);
-      tier = eqb-true _ _ (h₆ .0);
-      ground = eqb-true _ _ (h₇ .0);
-      added = eqb-true _ _ (h₈ .0);
-      figures = eqb-true _ _ (h₉ .0);
-      counts = eqb-true _ _ (h₉ .1);
+      circuits = l .circuits;
+      flow = l .flow;
+      rate = l .rate;
+      mw = l .mw;
+      angle = l .angle;
+      tier = l .tier;
+      ground = l .ground;
+      added = l .added;
+      figures = l .figures;
+      counts = l .counts;
     }
+
+pub kept-lengths : (c : Case) (s : Slices) → slicesOk c s ≡ true → (length (s .before) ≡ c .corridors) × (length (s .order) ≡ c .corridors)
+kept-lengths c s h = let l = all-lengths c s h in (l .before, l .order)
 
 -- how many places they have, as `check_case` is told
 abbrev pub placesOf : Slices → Places
@@ -156,6 +151,8 @@ placesOf s =
       circuits = length (s .circuits);
       flow = length (s .flow);
       rate = length (s .rate);
+      before = length (s .before);
+      order = length (s .order);
       mw = length (s .mw);
       angle = length (s .angle);
       tier = length (s .tier);

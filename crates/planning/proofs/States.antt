@@ -11,7 +11,7 @@ use lib.Seq.{getD-take, length-take-le}
 use lib.Ieee.{Float}
 use Rattle.loops.specs.Figures.{at}
 use Rattle.loops.specs.Loops.{tab}
-use Rattle.loops.proofs.Tab.{length-tab, get-tab}
+use Rattle.loops.proofs.Tab.{get-tab}
 use Rattle.refusal.specs.declared.Refusal.{Refusal}
 use Rattle.refusal.specs.declared.Refusal.the-variants.{NotFinite}
 use Rattle.refusal.specs.declared.Answer.{Answer}
@@ -23,7 +23,7 @@ use Rattle.plan_defs.specs.Case.{Case}
 use Rattle.plan_defs.specs.Stage.{stopped, going}
 use Rattle.plan_defs.specs.Design.{drawn}
 use Rattle.plan_defs.specs.Build.{drawnAll}
-use Rattle.plan_defs.specs.Solve.{PlanningCase, weightAt, edgesFor, flowsOf, allFinite, ifFinite, planningOn, planningState}
+use Rattle.plan_defs.specs.Solve.{PlanningCase, edgesFor, flowsOf, allFinite, ifFinite, planningOn, planningState}
 use Rattle.plan_defs.specs.declared.CircuitDesign.{CircuitDesign}
 use Rattle.planning.specs.Design.{linesFor}
 use Rattle.planning.specs.Opening.{stageOf}

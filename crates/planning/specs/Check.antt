@@ -75,13 +75,15 @@ placesOk n m g above p =
     eqb (p .circuits) m
     && (eqb (p .flow) m
     && (eqb (p .rate) m
+    && (eqb (p .before) m
+    && (eqb (p .order) m
     && (eqb (p .mw) g
     && (eqb (p .angle) n
     && (eqb (p .tier) n
     && (eqb (p .ground) n
     && (eqb (p .added) above
     && (workIn n m g (p .figures)
-    && workIn n m g (p .counts)))))))))
+    && workIn n m g (p .counts)))))))))))
 
 -- ---- 2
 abbrev pub countsIn : ℕ → ℕ → ℕ → ℕ → ℕ → ℕ → Bool

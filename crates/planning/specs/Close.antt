@@ -70,6 +70,15 @@ closingOf mode above led level ds circuits upsized flow theta =
       added = above - leastOf above level;
     }
 
+-- ---- the slices that the stages are lent: all but those for what is kept of filling
+abbrev pub lentTo : List ℕ → List Float → List Float → List Float → List Float → List ℕ → List ℕ → List Float → List Float → List ℕ → Slices
+lentTo circuits flow rate mw angle tier ground added figures counts = slices circuits flow rate [] [] mw angle tier ground added figures counts
+
+-- with those
+abbrev pub withKept : List ℕ → List ℕ → Slices → Slices
+withKept before order s =
+    slices (s .circuits) (s .flow) (s .rate) before order (s .mw) (s .angle) (s .tier) (s .ground) (s .added) (s .figures) (s .counts)
+
 -- ---- the lent slices at the end: after 8 or 9 zero, after an answer work is zero
 abbrev pub figuresIf : Bool → List Float → List Float
 figuresIf refused l = cond refused (replicate (length l) nought) l
@@ -83,6 +92,6 @@ isRefused (Refused f) = true
 
 abbrev pub finished : Bool → Slices → Slices
 finished refused s =
-    slices (countsIf refused (s .circuits)) (figuresIf refused (s .flow)) (figuresIf refused (s .rate)) (figuresIf refused (s .mw))
+    lentTo (countsIf refused (s .circuits)) (figuresIf refused (s .flow)) (figuresIf refused (s .rate)) (figuresIf refused (s .mw))
     (figuresIf refused (s .angle)) (countsIf refused (s .tier)) (countsIf refused (s .ground)) (figuresIf refused (s .added))
     (replicate (length (s .figures)) nought) (replicate (length (s .counts)) 0)

@@ -15,3 +15,4 @@ pub mod Rounds
 pub mod Raises
 pub mod Settle
 pub mod Plan
+pub mod Preview

@@ -5,7 +5,7 @@ use mathlib.Core.Bool.{not, cond, _&&_, _||_}
 use mathlib.Core.List.{List, map}
 use mathlib.Core.Path.{_≡_}
 use lib.Dec.{eqb}
-use lib.ListN.{length, replicate}
+use lib.ListN.{length, take, replicate}
 use lib.Ieee.{Float}
 use Rattle.loops.specs.Figures.{nought}
 use Rattle.mode.specs.declared.PlanMode.{PlanMode}
@@ -31,6 +31,7 @@ use Rattle.planning.specs.declared.rounds.Rounds.{Rounds}
 use Rattle.planning.specs.declared.settle.Settlement.{Settlement}
 use Rattle.planning.specs.declared.settle.Settled.{Settled}
 use Rattle.planning.specs.declared.settle.Settled.the-variants.{Refused as Unsettled, Closed}
+use Rattle.planning.specs.declared.plan.PlanRun.{PlanRun}
 use Rattle.planning.specs.declared.plan.Opening.{Opening}
 use Rattle.planning.specs.declared.plan.Opening.the-variants.{Refused as Unopened, Opened as Begun}
 
@@ -121,8 +122,10 @@ plannedBy p grounds (Unsettled f) = Refused f
 plannedBy p grounds (Closed s) = Answered (planBy p grounds s)
 
 -- of a plan, with the slices that it fills after the opening
-pub record Holds (r : Planned) (circuits tier : List ℕ) (flow rate angle added : List Float) (above : ℕ) (q : Plan) : Type 0 where
+pub record Holds (r : Planned) (before order circuits tier : List ℕ) (flow rate angle added : List Float) (above : ℕ) (q : Plan) : Type 0 where
   pub said : r ≡ Answered (summary q)
+  pub before-are : before ≡ q .before
+  pub order-is : order ≡ q .order
   pub circuits-are : circuits ≡ q .circuits
   pub tiers-are : tier ≡ q .tier
   pub flows-are : flow ≡ q .flow
@@ -130,9 +133,9 @@ pub record Holds (r : Planned) (circuits tier : List ℕ) (flow rate angle added
   pub angles-are : angle ≡ q .angle
   pub added-are : added ≡ upTo above nought (q .added)
 
-abbrev pub PlannedAs : Planned → List ℕ → List ℕ → List Float → List Float → List Float → List Float → Case → Stage Plan → Type 0
-PlannedAs r circuits tier flow rate angle added c (stopped f) = r ≡ Refused f
-PlannedAs r circuits tier flow rate angle added c (going q) = Holds r circuits tier flow rate angle added (c .above) q
+abbrev pub PlannedAs : Planned → List ℕ → List ℕ → List ℕ → List ℕ → List Float → List Float → List Float → List Float → Case → Stage Plan → Type 0
+PlannedAs r before order circuits tier flow rate angle added c (stopped f) = r ≡ Refused f
+PlannedAs r before order circuits tier flow rate angle added c (going q) = Holds r before order circuits tier flow rate angle added (c .above) q
 
 -- ---- from the opening on
 pub record Plannable (ladder : List Float) (level a b : List ℕ) (km share sheet load : List Float) (bus : List ℕ) (pmax : List Float) (leader grounds : List ℕ)
@@ -144,11 +147,11 @@ pub record Plannable (ladder : List Float) (level a b : List ℕ) (km share shee
   pub few : Few circuits
 
 pub record OpenedPlan (mode : PlanMode) (target above : ℕ) (ladder : List Float) (level a b : List ℕ) (km share sheet load : List Float) (bus : List ℕ) (pmax : List Float)
-    (leader grounds : List ℕ) (injection : List Float) (circuits upsized : List ℕ) (circuits′ level′ : List ℕ) (flow′ rate′ angle′ added′ : List Float) (r : Planned) : Type 0 where
+    (leader grounds : List ℕ) (injection : List Float) (circuits upsized : List ℕ) (circuits′ level′ : List ℕ) (flow′ rate′ angle′ added′ : List Float) (r : PlanRun) : Type 0 where
   pub plan : (o : Case) (mw : List Float)
       → (let c = roundsCase o mode above ladder a b km share sheet load bus pmax in
       Sound c target → level ≡ firstLevels c → circuits ≡ lowerBounds c → upsized ≡ replicate (o .corridors) 0
-      → PlannedAs r circuits′ level′ flow′ rate′ angle′ added′ c
+      → PlannedAs (r .said) (take (length a) (r .kept .before)) (take (length a) (r .kept .order)) circuits′ level′ flow′ rate′ angle′ added′ c
       (onward (onward (openedWith c leader mw (peakFor (o .buses) grounds injection)) (settled c)) (closing c target)))
 
 -- ---- all stages, of a case that has all these columns
@@ -158,20 +161,20 @@ wholeCase o mode above ladder tier load bus slack pmin pmax c1 c2 a b initial km
     caseOf mode (o .buses) (o .corridors) (o .generators) above (o .requested) ladder tier load bus slack pmin pmax c1 c2 a b initial km share sheet
 
 -- the slices of a plan, with those that the opening fills
-pub record HoldsAll (r : Planned) (circuits : List ℕ) (flow rate mw angle : List Float) (tier ground : List ℕ) (added : List Float) (c : Case) (q : Plan) : Type 0 where
-  pub holds : Holds r circuits tier flow rate angle added (c .above) q
+pub record HoldsAll (r : Planned) (before order circuits : List ℕ) (flow rate mw angle : List Float) (tier ground : List ℕ) (added : List Float) (c : Case) (q : Plan) : Type 0 where
+  pub holds : Holds r before order circuits tier flow rate angle added (c .above) q
   pub mw-is : mw ≡ q .mw
   pub grounds-are : ground ≡ upTo (c .buses) 0 (q .grounds)
 
-abbrev pub WholeAs : Planned → List ℕ → List Float → List Float → List Float → List Float → List ℕ → List ℕ → List Float → Case → Stage Plan → Type 0
-WholeAs r circuits flow rate mw angle tier ground added c (stopped f) = r ≡ Refused f
-WholeAs r circuits flow rate mw angle tier ground added c (going q) = HoldsAll r circuits flow rate mw angle tier ground added c q
+abbrev pub WholeAs : Planned → List ℕ → List ℕ → List ℕ → List Float → List Float → List Float → List Float → List ℕ → List ℕ → List Float → Case → Stage Plan → Type 0
+WholeAs r before order circuits flow rate mw angle tier ground added c (stopped f) = r ≡ Refused f
+WholeAs r before order circuits flow rate mw angle tier ground added c (going q) = HoldsAll r before order circuits flow rate mw angle tier ground added c q
 
 pub record PlanDone (mode : PlanMode) (target above : ℕ) (ladder : List Float) (tier : List ℕ) (load : List Float) (bus slack : List ℕ) (pmin pmax c1 c2 : List Float) (a b initial : List ℕ)
-    (km share sheet : List Float) (circuits : List ℕ) (flow rate mw angle : List Float) (level ground : List ℕ) (added : List Float) (r : Planned) : Type 0 where
+    (km share sheet : List Float) (circuits : List ℕ) (flow rate mw angle : List Float) (level ground : List ℕ) (added : List Float) (r : PlanRun) : Type 0 where
   pub plan : (o : Case)
       → (let c = wholeCase o mode above ladder tier load bus slack pmin pmax c1 c2 a b initial km share sheet in
-      Sound c target → WholeAs r circuits flow rate mw angle level ground added c (planFor c target))
+      Sound c target → WholeAs (r .said) (take (length a) (r .kept .before)) (take (length a) (r .kept .order)) circuits flow rate mw angle level ground added c (planFor c target))
 
 -- ---- and over the slices that planning is lent
 pub record Lendable (mode : PlanMode) (target above : ℕ) (ladder : List Float) (tier : List ℕ) (load : List Float) (bus slack : List ℕ) (pmin pmax c1 c2 : List Float) (a b initial : List ℕ)

@@ -3,7 +3,7 @@
 use Prim.Native.Nat.{ℕ}
 use mathlib.Core.List.{List, map}
 use mathlib.Core.Path.{_≡_}
-use lib.ListN.{length}
+use lib.ListN.{length, take}
 use lib.Ieee.{Float}
 use Rattle.loops.specs.Figures.{nought}
 use Rattle.mode.specs.declared.PlanMode.{PlanMode}
@@ -25,6 +25,7 @@ use Rattle.planning.specs.Sound.{Sound}
 use Rattle.planning.specs.Whole.{withLines, withUnits}
 use Rattle.planning.specs.declared.settle.Settlement.{Settlement}
 use Rattle.planning.specs.declared.settle.Settled.{Settled}
+use Rattle.planning.specs.declared.settle.Settling.{Settling}
 use Rattle.planning.specs.declared.settle.Settled.the-variants.{Refused, Closed}
 
 -- ---- what it asks of the columns
@@ -37,6 +38,8 @@ pub record Settleable (above : ℕ) (ladder : List Float) (level a b : List ℕ)
 -- ---- what is said, with the slices that it is said of
 pub record Ended : Type 0 where
   pub settlement : Settlement
+  pub before : List ℕ
+  pub order : List ℕ
   pub circuits : List ℕ
   pub tier : List ℕ
   pub flow : List Float
@@ -44,17 +47,19 @@ pub record Ended : Type 0 where
   pub angle : List Float
   pub added : List Float
 
-abbrev pub endedOf : Settled → List ℕ → List ℕ → List Float → List Float → List Float → List Float → Stage Ended
-endedOf (Refused f) circuits tier flow rate angle added = stopped f
-endedOf (Closed s) circuits tier flow rate angle added =
-    going (record { settlement = s; circuits = circuits; tier = tier; flow = flow; rate = rate; angle = angle; added = added })
+abbrev pub endedOf : Settled → List ℕ → List ℕ → List ℕ → List ℕ → List Float → List Float → List Float → List Float → Stage Ended
+endedOf (Refused f) before order circuits tier flow rate angle added = stopped f
+endedOf (Closed s) before order circuits tier flow rate angle added =
+    going (record { settlement = s; before = before; order = order; circuits = circuits; tier = tier; flow = flow; rate = rate; angle = angle; added = added })
 
 -- ---- the stages, by columns: after filling, and from the order on
 module _ (mode : PlanMode) (above : ℕ) (led : List ℕ) (ladder : List Float) (level : List ℕ) (ds : List CircuitDesign) (upsized : List ℕ) (P : Peak) where
-  abbrev pub endedBy : ℕ → List ℕ → PlanningCase → Ended
-  endedBy filler circuits v =
+  abbrev pub endedBy : ℕ → List ℕ → List ℕ → List ℕ → PlanningCase → Ended
+  endedBy filler before order circuits v =
       record {
         settlement = record { filler = filler; closing = closingOf mode above led level ds circuits upsized (v .flows) (v .theta) };
+        before = before;
+        order = order;
         circuits = circuits;
         tier = tiersOf (levelsFor above ladder) level;
         flow = v .flows;
@@ -63,14 +68,17 @@ module _ (mode : PlanMode) (above : ℕ) (led : List ℕ) (ladder : List Float) 
         added = upTo above nought (addedOf (levelsFor above ladder) level);
       }
 
-  abbrev pub closedFrom : ℕ → List ℕ → Stage Ended
-  closedFrom filler circuits = onward (planningState P ds circuits (zeros (P .n))) (λ v. going (endedBy filler circuits v))
+  abbrev pub closedFrom : ℕ → List ℕ → List ℕ → List ℕ → Stage Ended
+  closedFrom filler before order circuits = onward (planningState P ds circuits (zeros (P .n))) (λ v. going (endedBy filler before order circuits v))
 
-  abbrev pub closedAfter : Filled → Stage Ended
-  closedAfter f = closedFrom (f .filler) (f .counts)
+  abbrev pub closedAfter : List ℕ → List ℕ → Filled → Stage Ended
+  closedAfter before order f = closedFrom (f .filler) before order (f .counts)
+
+  abbrev pub filledIn : ℕ → List ℕ → List ℕ → Stage Ended
+  filledIn target circuits order = closedAfter circuits order (fill (modeFor mode) target order circuits)
 
   abbrev pub filledFrom : ℕ → ℕ → List ℕ → List Float → Stage Ended
-  filledFrom target m circuits flow = closedAfter (fill (modeFor mode) target (orderOf m ds circuits flow) circuits)
+  filledFrom target m circuits flow = filledIn target circuits (orderOf m ds circuits flow)
 
   abbrev pub settledFrom : ℕ → ℕ → List ℕ → Stage Ended
   settledFrom target m circuits = onward (planningState P ds circuits (zeros (P .n))) (λ v. filledFrom target m circuits (v .flows))
@@ -92,8 +100,10 @@ settlementOf q =
     }
 
 -- said of a plan, with its slices
-pub record Held (r : Settled) (circuits tier : List ℕ) (flow rate angle added : List Float) (above : ℕ) (q : Plan) : Type 0 where
+pub record Held (r : Settled) (before order circuits tier : List ℕ) (flow rate angle added : List Float) (above : ℕ) (q : Plan) : Type 0 where
   pub said : r ≡ Closed (settlementOf q)
+  pub before-are : before ≡ q .before
+  pub order-is : order ≡ q .order
   pub circuits-are : circuits ≡ q .circuits
   pub tiers-are : tier ≡ q .tier
   pub flows-are : flow ≡ q .flow
@@ -101,15 +111,15 @@ pub record Held (r : Settled) (circuits tier : List ℕ) (flow rate angle added 
   pub angles-are : angle ≡ q .angle
   pub added-are : added ≡ upTo above nought (q .added)
 
-abbrev pub SettledAs : Settled → List ℕ → List ℕ → List Float → List Float → List Float → List Float → Case → Stage Plan → Type 0
-SettledAs r circuits tier flow rate angle added c (stopped f) = r ≡ Refused f
-SettledAs r circuits tier flow rate angle added c (going q) = Held r circuits tier flow rate angle added (c .above) q
+abbrev pub SettledAs : Settled → List ℕ → List ℕ → List ℕ → List ℕ → List Float → List Float → List Float → List Float → Case → Stage Plan → Type 0
+SettledAs r before order circuits tier flow rate angle added c (stopped f) = r ≡ Refused f
+SettledAs r before order circuits tier flow rate angle added c (going q) = Held r before order circuits tier flow rate angle added (c .above) q
 
 -- of any case with these columns, whose draft the slices stand for
 pub record Settles (mode : PlanMode) (target above : ℕ) (ladder : List Float) (a b : List ℕ) (km share sheet : List Float) (leader grounds : List ℕ) (injection banks : List Float)
-    (upsized circuits level : List ℕ) (circuits′ level′ : List ℕ) (flow′ rate′ angle′ added′ : List Float) (r : Settled) : Type 0 where
+    (upsized circuits level : List ℕ) (circuits′ level′ : List ℕ) (flow′ rate′ angle′ added′ : List Float) (r : Settling) : Type 0 where
   pub plan : (o : Case) (p : Opened) (s : Draft) (floors : List Float)
       → (let c = withLines (withUnits o mode above (o .load) (o .bus) (o .pmax)) ladder a b km share sheet in
       Sound c target → length level ≡ o .buses → p .led ≡ leader → p .peak ≡ peakFor (o .buses) grounds injection → s .level ≡ level
       → s .build ≡ buildOf c level circuits banks floors upsized
-      → SettledAs r circuits′ level′ flow′ rate′ angle′ added′ c (onward (settledTo c p s) (closing c target)))
+      → SettledAs (r .settled) (take (length a) (r .kept .before)) (take (length a) (r .kept .order)) circuits′ level′ flow′ rate′ angle′ added′ c (onward (settledTo c p s) (closing c target)))

@@ -24,15 +24,15 @@ use refusal::Refusal;
 // ---- bounds of the tables
 const MOST_BUSES: usize = 256;
 
-const MOST_CORRIDORS: usize = 256;
+pub const MOST_CORRIDORS: usize = 256;
 
 const MOST_GENERATORS: usize = 128;
 
 const MOST_LEVELS: usize = 5;
 
-const MOST_TARGET: u32 = 65536;
+pub const MOST_TARGET: u32 = 65536;
 
-const MOST_INITIAL: u32 = 64;
+pub const MOST_INITIAL: u32 = 64;
 
 const MOST_KV: f64 = 10000.0;
 
@@ -56,6 +56,8 @@ pub struct Places {
     pub circuits: usize,
     pub flow: usize,
     pub rate: usize,
+    pub before: usize,
+    pub order: usize,
     pub mw: usize,
     pub angle: usize,
     pub tier: usize,
@@ -111,9 +113,10 @@ fn places_ok(n: usize, m: usize, g: usize, above: usize, p: Places) -> bool
     ensures { λ r. ⌜ r ≡ placesOk n m g above p ⌝ }
 {
     let corridors = (p.circuits == m) & (p.flow == m) & (p.rate == m);
+    let kept = (p.before == m) & (p.order == m);
     let buses = (p.angle == n) & (p.tier == n) & (p.ground == n);
     let work = work_ok(p.figures, n, m, g) & work_ok(p.counts, n, m, g);
-    corridors & (p.mw == g) & buses & (p.added == above) & work
+    corridors & kept & (p.mw == g) & buses & (p.added == above) & work
 }
 
 fn generator_lengths_ok(

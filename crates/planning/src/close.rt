@@ -3,17 +3,17 @@ ghost use mathlib.Core.Bool.{cond};
 ghost use mathlib.Core.List.{map};
 ghost use mathlib.Core.Path.{_≡_};
 ghost use Prim.Native.Nat.{ℕ, _+_, _-_, _<_, _≤_};
-ghost use lib.ListN.{length, getD};
+ghost use lib.ListN.{length, getD, take};
 ghost use Rattle.loops.specs.Figures.{nought};
 ghost use Rattle.loops.specs.Loops.{tab};
 ghost use Rattle.plan_defs.specs.Constants.{mostCorridors, mostLevels};
 ghost use Rattle.plan_defs.specs.Components.{members};
 ghost use Rattle.plan_defs.specs.Closing.{highest, lowest, spreadOf, maxLoading, overloadedOf, cappedOf, upsizedOf, leastOf, tiersOf, addedOf};
-ghost use Rattle.plan_defs.specs.Outcome.{slices, upTo};
+ghost use Rattle.plan_defs.specs.Outcome.{upTo, keptIf};
 ghost use Rattle.plan_defs.specs.declared.CircuitDesign.{CircuitDesign};
 ghost use Rattle.planning.specs.Design.{Lines};
 ghost use Rattle.planning.specs.Fill.{designsFor, Drawable, Loaded};
-ghost use Rattle.planning.specs.Close.{corridorsOf, levelsFor, widerBy, loadingsBy, Rated, capFull, addedAt, Closable, closingOf, figuresIf, countsIf, isRefused, finished};
+ghost use Rattle.planning.specs.Close.{corridorsOf, levelsFor, widerBy, loadingsBy, Rated, capFull, addedAt, Closable, closingOf, figuresIf, countsIf, isRefused, lentTo, finished};
 use crate::design::circuit;
 use crate::figures::clear_counts;
 use crate::figures::clear_figures;
@@ -334,6 +334,29 @@ pub fn is_refused(said: Planned) -> bool
     }
 }
 
+// What a plan keeps of filling, or nothing.
+pub fn keep_if(keeps: bool, kept: [u32; 256], to: &mut [u32])
+    requires { ⌜ length (now to) ≤ mostCorridors ⌝ }
+    ensures { λ _. ⌜ now (to .exit) ≡ keptIf keeps (length (now (to .entry))) (take (length (now (to .entry))) kept) ⌝ }
+{
+    clear_counts(to);
+    if keeps {
+        copy_front(kept, to);
+    }
+}
+
+// The front of an array.
+pub fn copy_front(from: [u32; 256], to: &mut [u32])
+    requires { ⌜ length (now to) ≤ mostCorridors ⌝ }
+    ensures { λ _. ⌜ now (to .exit) ≡ take (length (now (to .entry))) from ⌝ }
+{
+    let mut k = 0;
+    while k < to.len() {
+        to[k] = from[k];
+        k += 1;
+    }
+}
+
 // After 8 or 9 every result place is zero; work is zero always.
 pub fn finish(
     refused: bool,
@@ -348,7 +371,7 @@ pub fn finish(
     figures: &mut [f64],
     counts: &mut [u32],
 )
-    ensures { λ _. ⌜ slices (now (circuits .exit)) (now (flow .exit)) (now (rate .exit)) (now (mw .exit)) (now (angle .exit)) (now (tier .exit)) (now (ground .exit)) (now (added .exit)) (now (figures .exit)) (now (counts .exit)) ≡ finished refused (slices (now (circuits .entry)) (now (flow .entry)) (now (rate .entry)) (now (mw .entry)) (now (angle .entry)) (now (tier .entry)) (now (ground .entry)) (now (added .entry)) (now (figures .entry)) (now (counts .entry))) ⌝ }
+    ensures { λ _. ⌜ lentTo (now (circuits .exit)) (now (flow .exit)) (now (rate .exit)) (now (mw .exit)) (now (angle .exit)) (now (tier .exit)) (now (ground .exit)) (now (added .exit)) (now (figures .exit)) (now (counts .exit)) ≡ finished refused (lentTo (now (circuits .entry)) (now (flow .entry)) (now (rate .entry)) (now (mw .entry)) (now (angle .entry)) (now (tier .entry)) (now (ground .entry)) (now (added .entry)) (now (figures .entry)) (now (counts .entry))) ⌝ }
 {
     clear_counts_if(refused, circuits);
     clear_figures_if(refused, flow);

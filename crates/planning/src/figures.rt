@@ -97,12 +97,6 @@ pub fn more(m: u32, n: u32) -> u32
     if m < n { n } else { m }
 }
 
-pub fn one_less(n: u32) -> u32
-    ensures { λ r. ⌜ r ≡ n - 1 ⌝ }
-{
-    if n > 0 { n - 1 } else { 0 }
-}
-
 pub fn one_if(test: bool) -> u32
     ensures { λ r. ⌜ r ≡ cond test 1 0 ⌝ }
 {

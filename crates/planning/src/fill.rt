@@ -175,6 +175,47 @@ pub fn fill_order(
     order_by(&loading, &kv, km, order);
 }
 
+// ---- what a plan keeps of filling
+// At the front of the two, the circuits before filling and the order.
+pub struct Kept {
+    pub before: [u32; 256],
+    pub order: [u32; 256],
+}
+
+// A slice at the front of an array.
+pub fn copied(circuits: &[u32]) -> [u32; 256]
+    requires { ⌜ length (now circuits) ≤ mostCorridors ⌝ }
+    ensures { λ r. ⌜ (take (length (now (circuits .entry))) r ≡ now (circuits .entry)) × Whole r ⌝ }
+{
+    let mut out = [0u32; 256];
+    let mut k = 0;
+    while k < circuits.len() {
+        out[k] = circuits[k];
+        k += 1;
+    }
+    out
+}
+
+pub fn keep(circuits: &[u32], order: [u32; 256]) -> Kept
+    requires { ⌜ length (now circuits) ≤ mostCorridors ⌝ }
+    ensures before { λ r. ⌜ take (length (now (circuits .entry))) (r .before) ≡ now (circuits .entry) ⌝ }
+    ensures order { λ r. ⌜ r .order ≡ order ⌝ }
+    ensures size { λ r. ⌜ Whole (r .before) ⌝ }
+{
+    let before = copied(circuits);
+    Kept { before, order }
+}
+
+// Where nothing is filled: zeros.
+pub fn nothing_kept() -> Kept
+    ensures { λ r. ⌜ Whole (r .before) × Whole (r .order) ⌝ }
+{
+    Kept {
+        before: [0u32; 256],
+        order: [0u32; 256],
+    }
+}
+
 // ---- filling
 pub fn total(circuits: &[u32]) -> u32
     requires { ⌜ Counted (now circuits) ⌝ }

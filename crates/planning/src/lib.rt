@@ -3,11 +3,13 @@ ghost use mathlib.Core.Path.{_≡_};
 ghost use Rattle.plan_defs.specs.Case.{caseOf};
 ghost use Rattle.plan_defs.specs.Outcome.{slices, outcome, planCorridors};
 ghost use Rattle.plan_defs.specs.Demand.{AnswerTo};
+ghost use Rattle.plan_defs.specs.Preview.{keptAs, outcome as outcomeOf, preview as previewOf};
 ghost use Rattle.plan_defs.specs.declared.CorridorPlan.{CorridorPlan};
 ghost use Rattle.plan_defs.specs.declared.Planned.the-variants.{Answered};
 use check::Places;
 use mode::PlanMode;
 use plan_defs::Planned;
+use policy::promotes;
 use refusal::Answer;
 
 mod check;
@@ -18,6 +20,7 @@ mod fill;
 mod opening;
 mod plan;
 mod policy;
+mod preview;
 mod raise;
 mod raises;
 mod redesign;
@@ -28,8 +31,9 @@ mod solve;
 mod stiffen;
 
 // The circuits of each corridor, with their flows and ratings, the dispatch, the angles, the tiers, the grounds and the levels added,
-// for a case of n buses, m corridors and g generators. Refusals 1 to 7 touch nothing; after 8 and 9 every place is zero; after an
-// answer the work, `figures` and `counts`, is zero.
+// for a case of n buses, m corridors and g generators. `before` and `order` are what a plan keeps of filling, also where nothing is
+// filled: the circuits with which it begins and the order of the corridors; zero in a mode that does not fill. Refusals 1 to 7 touch
+// nothing; after 8 and 9 every place is zero; after an answer the work, `figures` and `counts`, is zero.
 pub fn plan_corridors(
     mode: PlanMode,
     target: u32,
@@ -56,6 +60,8 @@ pub fn plan_corridors(
     circuits: &mut [u32],
     flow: &mut [f64],
     rate: &mut [f64],
+    before: &mut [u32],
+    order: &mut [u32],
     mw: &mut [f64],
     angle: &mut [f64],
     level: &mut [u32],
@@ -64,16 +70,18 @@ pub fn plan_corridors(
     figures: &mut [f64],
     counts: &mut [u32],
 ) -> Planned
-    ensures plan { λ r. ⌜ outcome r (slices (now (circuits .exit)) (now (flow .exit)) (now (rate .exit)) (now (mw .exit)) (now (angle .exit)) (now (level .exit)) (now (ground .exit)) (now (added .exit)) (now (figures .exit)) (now (counts .exit)))
+    ensures plan { λ r. ⌜ outcome r (slices (now (circuits .exit)) (now (flow .exit)) (now (rate .exit)) (now (before .exit)) (now (order .exit)) (now (mw .exit)) (now (angle .exit)) (now (level .exit)) (now (ground .exit)) (now (added .exit)) (now (figures .exit)) (now (counts .exit)))
         ≡ planCorridors (caseOf mode n m g above requested (now (ladder .entry)) (now (tier .entry)) (now (load .entry)) (now (bus .entry)) (now (slack .entry)) (now (pmin .entry)) (now (pmax .entry)) (now (c1 .entry)) (now (c2 .entry)) (now (a .entry)) (now (b .entry)) (now (initial .entry)) (now (km .entry)) (now (share .entry)) (now (sheet .entry))) target
-        (slices (now (circuits .entry)) (now (flow .entry)) (now (rate .entry)) (now (mw .entry)) (now (angle .entry)) (now (level .entry)) (now (ground .entry)) (now (added .entry)) (now (figures .entry)) (now (counts .entry))) ⌝ }
+        (slices (now (circuits .entry)) (now (flow .entry)) (now (rate .entry)) (now (before .entry)) (now (order .entry)) (now (mw .entry)) (now (angle .entry)) (now (level .entry)) (now (ground .entry)) (now (added .entry)) (now (figures .entry)) (now (counts .entry))) ⌝ }
     ensures demand { λ r. ⌜ ((x : CorridorPlan) → r ≡ Answered x → AnswerTo (caseOf mode n m g above requested (now (ladder .entry)) (now (tier .entry)) (now (load .entry)) (now (bus .entry)) (now (slack .entry)) (now (pmin .entry)) (now (pmax .entry)) (now (c1 .entry)) (now (c2 .entry)) (now (a .entry)) (now (b .entry)) (now (initial .entry)) (now (km .entry)) (now (share .entry)) (now (sheet .entry))) target
-        (outcome r (slices (now (circuits .exit)) (now (flow .exit)) (now (rate .exit)) (now (mw .exit)) (now (angle .exit)) (now (level .exit)) (now (ground .exit)) (now (added .exit)) (now (figures .exit)) (now (counts .exit)))) x) ⌝ }
+        (outcome r (slices (now (circuits .exit)) (now (flow .exit)) (now (rate .exit)) (now (before .exit)) (now (order .exit)) (now (mw .exit)) (now (angle .exit)) (now (level .exit)) (now (ground .exit)) (now (added .exit)) (now (figures .exit)) (now (counts .exit)))) x) ⌝ }
 {
     let places = Places {
         circuits: circuits.len(),
         flow: flow.len(),
         rate: rate.len(),
+        before: before.len(),
+        order: order.len(),
         mw: mw.len(),
         angle: angle.len(),
         tier: level.len(),
@@ -109,7 +117,7 @@ pub fn plan_corridors(
         Answer::Refused(f) => return Planned::Refused(f),
         Answer::Answered => {}
     }
-    let said = plan::run(
+    let ran = plan::run(
         mode,
         target,
         above,
@@ -139,8 +147,11 @@ pub fn plan_corridors(
         figures,
         counts,
     );
+    let said = ran.said;
+    let kept = ran.kept;
+    let refused = close::is_refused(said);
     close::finish(
-        close::is_refused(said),
+        refused,
         circuits,
         flow,
         rate,
@@ -152,5 +163,30 @@ pub fn plan_corridors(
         figures,
         counts,
     );
+    let keeps = promotes(mode) & !refused;
+    let first = kept.before;
+    let ranks = kept.order;
+    close::keep_if(keeps, first, before);
+    close::keep_if(keeps, ranks, order);
     said
+}
+
+// The circuits that each of m corridors of a plan would have with another target, from what the plan keeps of filling (`before` and
+// `order` of `plan_corridors`). A refusal touches nothing.
+pub fn preview_filling(
+    mode: PlanMode,
+    target: u32,
+    m: usize,
+    before: &[u32],
+    order: &[u32],
+    circuits: &mut [u32],
+) -> Answer
+    ensures { λ r. ⌜ outcomeOf r (now (circuits .exit)) ≡ previewOf (keptAs mode m (now (before .entry)) (now (order .entry))) target (now (circuits .entry)) ⌝ }
+{
+    match preview::check(mode, target, m, before, order, circuits.len()) {
+        Answer::Refused(f) => return Answer::Refused(f),
+        Answer::Answered => {}
+    }
+    preview::refill(mode, target, before, order, circuits);
+    Answer::Answered
 }

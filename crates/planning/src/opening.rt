@@ -2,7 +2,7 @@
 // injects; then the circuits and the levels that planning starts from. After `plan_corridors` of planning.rs, up to its step 1.
 ghost use mathlib.Core.Path.{_≡_};
 ghost use mathlib.Core.List.{map};
-ghost use Prim.Native.Nat.{ℕ, _+_, _-_, _<_, _≤_, max};
+ghost use Prim.Native.Nat.{ℕ, _+_, _<_, _≤_, max};
 ghost use lib.ListN.{length, getD, take};
 ghost use lib.Ieee.{neg};
 ghost use Rattle.loops.specs.Figures.{at, over};

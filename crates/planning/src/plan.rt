@@ -1,10 +1,12 @@
 // `plan_corridors` of planning.rs, stage by stage: the opening, the raises before the rounds, the rounds, and what comes after them.
 ghost use mathlib.Core.Path.{_≡_};
-ghost use Rattle.plan_defs.specs.Outcome.{slices};
-ghost use Rattle.planning.specs.Close.{Closable};
+ghost use Rattle.plan_defs.specs.declared.Planned.the-variants.{Refused};
+ghost use Rattle.planning.specs.Close.{Closable, lentTo};
 ghost use Rattle.planning.specs.Plan.{Openable, OpeningDone, roundsFor, startOf, Runnable, RanAll, plannedBy, Plannable, OpenedPlan, PlanDone, Lendable};
 use crate::figures::clear_counts;
 use crate::figures::clear_figures;
+use crate::fill::Kept;
+use crate::fill::nothing_kept;
 use crate::opening::component_leaders;
 use crate::opening::dispatch_components;
 use crate::opening::first_levels;
@@ -19,6 +21,7 @@ use crate::rounds::Progress;
 use crate::rounds::Rounds;
 use crate::rounds::size_rounds;
 use crate::settle::Settled;
+use crate::settle::Settling;
 use crate::settle::settle;
 use mode::PlanMode;
 use plan_defs::CorridorPlan;
@@ -163,6 +166,23 @@ fn run_rounds(
 }
 
 // ---- the stages joined
+// What planning says, with what the plan keeps of filling.
+pub struct PlanRun {
+    pub said: Planned,
+    pub kept: Kept,
+}
+
+// Refusals 8 and 9.
+fn unplanned(f: Refusal) -> PlanRun
+    ensures { λ r. ⌜ r .said ≡ Refused f ⌝ }
+{
+    let kept = nothing_kept();
+    PlanRun {
+        said: Planned::Refused(f),
+        kept,
+    }
+}
+
 // What planning says of the rounds and of what came after them.
 fn conclude(progress: Progress, grounds: u32, settled: Settled) -> Planned
     ensures { λ r. ⌜ r ≡ plannedBy progress grounds settled ⌝ }
@@ -185,6 +205,16 @@ fn conclude(progress: Progress, grounds: u32, settled: Settled) -> Planned
             added: s.closing.added,
         }),
     }
+}
+
+fn concluded(progress: Progress, grounds: u32, s: Settling) -> PlanRun
+    ensures said { λ r. ⌜ r .said ≡ plannedBy progress grounds (s .settled) ⌝ }
+    ensures kept { λ r. ⌜ r .kept ≡ s .kept ⌝ }
+{
+    let settled = s.settled;
+    let kept = s.kept;
+    let said = conclude(progress, grounds, settled);
+    PlanRun { said, kept }
 }
 
 // After the opening: the first designs, the raises, the rounds, and what comes after them.
@@ -214,7 +244,7 @@ fn plan_opened(
     rate: &mut [f64],
     angle: &mut [f64],
     added: &mut [f64],
-) -> Planned
+) -> PlanRun
     requires { ⌜ Plannable (now ladder) (now level) (now a) (now b) (now km) (now share) (now sheet) (now load) (now bus) (now pmax) (now leader) (now grounds) (now injection) (now circuits) (now banks) (now floors) (now upsized) (now marks) (now angle) (now flow) ⌝ }
     requires { ⌜ Closable above (now ladder) (now a) (now leader) (now upsized) (now angle) (now rate) (now added) ⌝ }
     ensures { λ r. ⌜ OpenedPlan mode target above (now (ladder .entry)) (now (level .entry)) (now (a .entry)) (now (b .entry)) (now (km .entry)) (now (share .entry)) (now (sheet .entry)) (now (load .entry)) (now (bus .entry)) (now (pmax .entry)) (now (leader .entry)) (now (grounds .entry)) (now (injection .entry))
@@ -256,7 +286,7 @@ fn plan_opened(
         angle,
         flow,
     ) {
-        Raised::Refused(f) => Planned::Refused(f),
+        Raised::Refused(f) => unplanned(f),
         Raised::Promoted(promoted) => match run_rounds(
             mode,
             above,
@@ -282,7 +312,7 @@ fn plan_opened(
             angle,
             flow,
         ) {
-            Rounds::Refused(f) => Planned::Refused(f),
+            Rounds::Refused(f) => unplanned(f),
             Rounds::Ran(progress) => {
                 let settled = settle(
                     mode,
@@ -306,7 +336,7 @@ fn plan_opened(
                     angle,
                     added,
                 );
-                conclude(progress, grounds.len() as u32, settled)
+                concluded(progress, grounds.len() as u32, settled)
             }
         },
     }
@@ -343,9 +373,9 @@ pub fn run(
     added: &mut [f64],
     figures: &mut [f64],
     counts: &mut [u32],
-) -> Planned
+) -> PlanRun
     requires { ⌜ Lendable mode target above (now ladder) (now tier) (now load) (now bus) (now slack) (now pmin) (now pmax) (now c1) (now c2) (now a) (now b) (now initial) (now km) (now share) (now sheet)
-        (slices (now circuits) (now flow) (now rate) (now mw) (now angle) (now level) (now ground) (now added) (now figures) (now counts)) ⌝ }
+        (lentTo (now circuits) (now flow) (now rate) (now mw) (now angle) (now level) (now ground) (now added) (now figures) (now counts)) ⌝ }
     ensures { λ r. ⌜ PlanDone mode target above (now (ladder .entry)) (now (tier .entry)) (now (load .entry)) (now (bus .entry)) (now (slack .entry)) (now (pmin .entry)) (now (pmax .entry)) (now (c1 .entry)) (now (c2 .entry)) (now (a .entry)) (now (b .entry)) (now (initial .entry)) (now (km .entry)) (now (share .entry)) (now (sheet .entry))
         (now (circuits .exit)) (now (flow .exit)) (now (rate .exit)) (now (mw .exit)) (now (angle .exit)) (now (level .exit)) (now (ground .exit)) (now (added .exit)) r ⌝ }
 {
@@ -376,7 +406,7 @@ pub fn run(
         level,
         circuits,
     ) {
-        Opening::Refused(f) => Planned::Refused(f),
+        Opening::Refused(f) => unplanned(f),
         Opening::Opened(count) => plan_opened(
             mode,
             target,

@@ -1,7 +1,6 @@
 // The rounds, "2. Capacity and stiffening" of `plan_corridors`: each solves, sizes every corridor, and where that changed nothing
 // stiffens the components whose angles are spread too wide.
 ghost use mathlib.Core.Path.{_≡_};
-ghost use Prim.Native.Nat.{_≤_};
 ghost use lib.ListN.{length};
 ghost use Rattle.planning.specs.Design.{Banks};
 ghost use Rattle.planning.specs.Redesign.{RedesignFits};

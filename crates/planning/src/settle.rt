@@ -1,17 +1,23 @@
 // All of planning after the rounds: a solve, the filling, the solve after it, and the closing figures. Both solves start from zero.
 ghost use mathlib.Core.Path.{_≡_};
-ghost use lib.ListN.{length};
+ghost use mathlib.Core.List.{List};
+ghost use Prim.Native.Nat.{ℕ};
+ghost use lib.ListN.{length, take};
 ghost use Rattle.angles_defs.specs.Network.{zeros};
 ghost use Rattle.plan_defs.specs.Solve.{edgesFor, planningState};
 ghost use Rattle.planning.specs.Solve.{peakFor, solvedOf, Drawing, Lent};
-ghost use Rattle.planning.specs.Fill.{designsFor};
+ghost use Rattle.planning.specs.Fill.{designsFor, Whole};
+ghost use Rattle.planning.specs.declared.settle.Settled.the-variants.{Refused};
 ghost use Rattle.planning.specs.Size.{Few};
 ghost use Rattle.planning.specs.Settle.{endedOf, closedFrom, filledFrom, Settleable, Settles};
 use crate::close::Closing;
 use crate::close::close;
 use crate::figures::clear_figures;
+use crate::fill::Kept;
 use crate::fill::fill;
 use crate::fill::fill_order;
+use crate::fill::keep;
+use crate::fill::nothing_kept;
 use crate::solve::planning_state;
 use mode::PlanMode;
 use refusal::Answer;
@@ -26,6 +32,12 @@ pub struct Settlement {
 pub enum Settled {
     Refused(Refusal),
     Closed(Settlement),
+}
+
+// With what the plan keeps of filling.
+pub struct Settling {
+    pub settled: Settled,
+    pub kept: Kept,
 }
 
 // The angles and the flows at the peak, from angles of zero; refusal 9 where one of them is not finite.
@@ -95,10 +107,10 @@ fn close_up(
     added: &mut [f64],
 ) -> Settled
     requires { ⌜ Settleable above (now ladder) (now level) (now a) (now b) (now km) (now share) (now sheet) (now leader) (now grounds) (now injection) (now banks) (now upsized) (now circuits) (now flow) (now rate) (now angle) (now added) ⌝ }
-    ensures { λ r. ⌜ endedOf r (now (circuits .entry)) (now (level .exit)) (now (flow .exit)) (now (rate .exit)) (now (angle .exit)) (now (added .exit))
+    ensures { λ r. ⌜ ((before order : List ℕ) → endedOf r before order (now (circuits .entry)) (now (level .exit)) (now (flow .exit)) (now (rate .exit)) (now (angle .exit)) (now (added .exit))
         ≡ closedFrom mode above (now (leader .entry)) (now (ladder .entry)) (now (level .entry))
         (designsFor (now (ladder .entry)) (now (level .entry)) (now (a .entry)) (now (b .entry)) (now (km .entry)) (now (share .entry)) (now (sheet .entry)) (now (banks .entry)))
-        (now (upsized .entry)) (peakFor (length (now (level .entry))) (now (grounds .entry)) (now (injection .entry))) filler (now (circuits .entry)) ⌝ }
+        (now (upsized .entry)) (peakFor (length (now (level .entry))) (now (grounds .entry)) (now (injection .entry))) filler before order (now (circuits .entry))) ⌝ }
 {
     match solve_from_zero(
         ladder,
@@ -162,10 +174,10 @@ fn fill_up(
     rate: &mut [f64],
     angle: &mut [f64],
     added: &mut [f64],
-) -> Settled
+) -> Settling
     requires { ⌜ Settleable above (now ladder) (now level) (now a) (now b) (now km) (now share) (now sheet) (now leader) (now grounds) (now injection) (now banks) (now upsized) (now circuits) (now flow) (now rate) (now angle) (now added) ⌝ }
     requires { ⌜ Few (now circuits) ⌝ }
-    ensures { λ r. ⌜ endedOf r (now (circuits .exit)) (now (level .exit)) (now (flow .exit)) (now (rate .exit)) (now (angle .exit)) (now (added .exit))
+    ensures { λ r. ⌜ endedOf (r .settled) (take (length (now (a .entry))) (r .kept .before)) (take (length (now (a .entry))) (r .kept .order)) (now (circuits .exit)) (now (level .exit)) (now (flow .exit)) (now (rate .exit)) (now (angle .exit)) (now (added .exit))
         ≡ filledFrom mode above (now (leader .entry)) (now (ladder .entry)) (now (level .entry))
         (designsFor (now (ladder .entry)) (now (level .entry)) (now (a .entry)) (now (b .entry)) (now (km .entry)) (now (share .entry)) (now (sheet .entry)) (now (banks .entry)))
         (now (upsized .entry)) (peakFor (length (now (level .entry))) (now (grounds .entry)) (now (injection .entry))) target (length (now (a .entry))) (now (circuits .entry)) (now (flow .entry)) ⌝ }
@@ -184,8 +196,9 @@ fn fill_up(
         flow,
         &mut order,
     );
+    let kept = keep(circuits, order);
     let filler = fill(mode, target, &order, circuits);
-    close_up(
+    let settled = close_up(
         mode,
         above,
         filler,
@@ -206,7 +219,19 @@ fn fill_up(
         rate,
         angle,
         added,
-    )
+    );
+    Settling { settled, kept }
+}
+
+// Refusal 9 of the solve before filling.
+fn unsettled(f: Refusal) -> Settling
+    ensures { λ r. ⌜ (r .settled ≡ Refused f) × Whole (r .kept .before) × Whole (r .kept .order) ⌝ }
+{
+    let kept = nothing_kept();
+    Settling {
+        settled: Settled::Refused(f),
+        kept,
+    }
 }
 
 // From what the rounds leave in the slices to the plan, or refusal 9.
@@ -231,7 +256,7 @@ pub fn settle(
     rate: &mut [f64],
     angle: &mut [f64],
     added: &mut [f64],
-) -> Settled
+) -> Settling
     requires { ⌜ Settleable above (now ladder) (now level) (now a) (now b) (now km) (now share) (now sheet) (now leader) (now grounds) (now injection) (now banks) (now upsized) (now circuits) (now flow) (now rate) (now angle) (now added) ⌝ }
     requires { ⌜ Few (now circuits) ⌝ }
     ensures { λ r. ⌜ Settles mode target above (now (ladder .entry)) (now (a .entry)) (now (b .entry)) (now (km .entry)) (now (share .entry)) (now (sheet .entry)) (now (leader .entry)) (now (grounds .entry)) (now (injection .entry)) (now (banks .entry)) (now (upsized .entry)) (now (circuits .entry)) (now (level .entry))
@@ -252,7 +277,7 @@ pub fn settle(
         angle,
         flow,
     ) {
-        Answer::Refused(f) => Settled::Refused(f),
+        Answer::Refused(f) => unsettled(f),
         Answer::Answered => fill_up(
             mode,
             target,

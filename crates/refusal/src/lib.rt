@@ -46,6 +46,12 @@ pub enum Refusal {
     SeasonFull,
     // A corridor's impedance spread.
     Spread(usize),
+    // A place past the last small network.
+    Place,
+    // A plan of a mode that does not fill.
+    Mode,
+    // A place of a filling order that names no corridor, or one again.
+    Order(usize),
 }
 
 impl Refusal {
@@ -74,6 +80,9 @@ impl Refusal {
             Refusal::Uneven => 19,
             Refusal::SeasonFull => 20,
             Refusal::Spread(_) => 22,
+            Refusal::Place => 23,
+            Refusal::Mode => 18,
+            Refusal::Order(_) => 30,
         }
     }
 
@@ -103,6 +112,9 @@ impl Refusal {
             Refusal::Uneven => 0,
             Refusal::SeasonFull => 0,
             Refusal::Spread(i) => i,
+            Refusal::Place => 0,
+            Refusal::Mode => 0,
+            Refusal::Order(i) => i,
         }
     }
 }

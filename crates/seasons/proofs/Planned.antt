@@ -3,15 +3,12 @@ use Prim.Native.Nat.{ℕ}
 use mathlib.Core.Bool.{Bool, true}
 use mathlib.Core.List.{List}
 use mathlib.Core.Path.{_≡_, refl, sym, ap, _∙_}
-use borrow.Author.Tests.{eq-eqb}
-use lib.ListN.{length}
-use Rattle.loops.proofs.Bools.{and-of}
 use Rattle.refusal.specs.Reply.{Reply, answered, refused}
 use Rattle.refusal.specs.declared.Refusal.{Refusal}
 use Rattle.refusal.specs.declared.Answer.the-variants.{Refused}
 use Rattle.plan_defs.specs.Case.{Case}
 use Rattle.plan_defs.specs.Plan.{Ending, unaccepted, unanswered, planned, endingOf}
-use Rattle.plan_defs.specs.Outcome.{Slices, slicesOk, workPlaces, held, outcomeBy, outcomeIf, planCorridors}
+use Rattle.plan_defs.specs.Outcome.{Slices, slicesOk, held, outcomeBy, outcomeIf, planCorridors}
 use Rattle.plan_defs.specs.Outcome.{Outcome as PlanOutcome}
 use Rattle.plan_defs.specs.Outcome.{outcome as plan-outcome}
 use Rattle.plan_defs.specs.declared.CorridorPlan.{CorridorPlan}
@@ -56,27 +53,3 @@ module _ (s : Season) (m : ℕ) where
   unfolding planCorridors
   as-ended c target l l′ r z e =
       said r l′ ∙ ap fedBy e ∙ ap (λ (b : Bool). fedBy (outcomeIf b c target l)) z ∙ ended (endingOf c target) c l
-
--- ---- slices of the right length
-pub record Sized (c : Case) (s : Slices) : Type 0 where
-  pub circuits : length (s .circuits) ≡ c .corridors
-  pub flow : length (s .flow) ≡ c .corridors
-  pub rate : length (s .rate) ≡ c .corridors
-  pub mw : length (s .mw) ≡ c .generators
-  pub angle : length (s .angle) ≡ c .buses
-  pub tier : length (s .tier) ≡ c .buses
-  pub ground : length (s .ground) ≡ c .buses
-  pub added : length (s .added) ≡ c .above
-  pub figures : length (s .figures) ≡ workPlaces c
-  pub counts : length (s .counts) ≡ workPlaces c
-
-pub sized-ok : (c : Case) (s : Slices) → Sized c s → slicesOk c s ≡ true
-unfolding slicesOk
-sized-ok c s z =
-    and-of (eq-eqb _ _ (z .circuits))
-    (and-of (eq-eqb _ _ (z .flow))
-    (and-of (eq-eqb _ _ (z .rate))
-    (and-of (eq-eqb _ _ (z .mw))
-    (and-of (eq-eqb _ _ (z .angle))
-    (and-of (eq-eqb _ _ (z .tier))
-    (and-of (eq-eqb _ _ (z .ground)) (and-of (eq-eqb _ _ (z .added)) (and-of (eq-eqb _ _ (z .figures)) (eq-eqb _ _ (z .counts))))))))))

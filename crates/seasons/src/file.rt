@@ -69,6 +69,8 @@ fn feed_case(
     let mut circuits = [0u32; MOST_CORRIDORS];
     let mut flow = [0.0; MOST_CORRIDORS];
     let mut rate = [0.0; MOST_CORRIDORS];
+    let mut before = [0u32; MOST_CORRIDORS];
+    let mut order = [0u32; MOST_CORRIDORS];
     let mut mw = [0.0; MOST_GENERATORS];
     let mut angle = [0.0; MOST_BUSES];
     let mut level = [0u32; MOST_BUSES];
@@ -102,6 +104,8 @@ fn feed_case(
         &mut circuits[0..m],
         &mut flow[0..m],
         &mut rate[0..m],
+        &mut before[0..m],
+        &mut order[0..m],
         &mut mw[0..g],
         &mut angle[0..n],
         &mut level[0..n],

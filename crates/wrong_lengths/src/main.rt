@@ -1,18 +1,20 @@
 // Calls each operation with each of its slices one place too short and one too long, which no text can ask for, and prints what
 // it answered and whether the lent arrays kept their contents. Before that each is called with every length right, and with a
-// count past its bound that makes lengths wrong too: refusal 1 comes before 2.
+// count past its bound that makes lengths wrong too, or a place past the last: refusal 1 comes before 2 and 23.
 mod angles_calls;
 mod dispatch_calls;
 mod leaders_calls;
 mod placement_calls;
 mod planning_calls;
+mod preview_calls;
 mod reading_calls;
 mod report;
 mod season_calls;
 mod sheet_calls;
+mod small_calls;
 
 // Of planning, which has the most.
-const MOST_SLICES: usize = 25;
+const MOST_SLICES: usize = 27;
 
 fn first() {
     leaders_calls::first();
@@ -20,9 +22,11 @@ fn first() {
     angles_calls::first();
     placement_calls::first();
     planning_calls::first();
+    preview_calls::first();
     reading_calls::first();
     sheet_calls::first();
     season_calls::first();
+    small_calls::first();
 }
 
 fn both(slice: usize) {
@@ -31,9 +35,11 @@ fn both(slice: usize) {
     angles_calls::both(slice);
     placement_calls::both(slice);
     planning_calls::both(slice);
+    preview_calls::both(slice);
     reading_calls::both(slice);
     sheet_calls::both(slice);
     season_calls::both(slice);
+    small_calls::both(slice);
 }
 
 fn main() {

@@ -1,4 +1,5 @@
 // Case L with one level more, above the request.
+ghost use Prim.Native.Nat.{_≤_};
 use crate::report::FIGURE;
 use crate::report::MARK;
 use crate::report::ROOM;
@@ -14,10 +15,18 @@ use crate::report::say_refusal;
 use mode::PlanMode;
 use plan_defs::Planned;
 
-const SLICES: usize = 25;
+const SLICES: usize = 27;
 
 // The places of a work slice.
 const WORK: usize = 48;
+
+// `made` for a slice of an array that has room: what is left to show of each is then said, and not worked out beside all the others.
+fn lent(right: usize, place: usize, wrong: Wrong) -> usize
+    requires { ⌜ (1 ≤ right) × (right ≤ 6400) ⌝ }
+    ensures { λ r. ⌜ r ≤ 6401 ⌝ }
+{
+    made(right, place, wrong)
+}
 
 fn call(what: &[u8], buses: usize, wrong: Wrong) {
     let ladder = [230.0f64, 138.0, 69.0];
@@ -38,6 +47,8 @@ fn call(what: &[u8], buses: usize, wrong: Wrong) {
     let mut circuits = [MARK; ROOM];
     let mut flow = [FIGURE; ROOM];
     let mut rate = [FIGURE; ROOM];
+    let mut before = [MARK; ROOM];
+    let mut order = [MARK; ROOM];
     let mut mw = [FIGURE; ROOM];
     let mut angle = [FIGURE; ROOM];
     let mut level = [MARK; ROOM];
@@ -68,16 +79,18 @@ fn call(what: &[u8], buses: usize, wrong: Wrong) {
         &km[0..made(1, 12, wrong)],
         &share[0..made(1, 13, wrong)],
         &sheet[0..made(10, 14, wrong)],
-        &mut circuits[0..made(1, 15, wrong)],
-        &mut flow[0..made(1, 16, wrong)],
-        &mut rate[0..made(1, 17, wrong)],
-        &mut mw[0..made(1, 18, wrong)],
-        &mut angle[0..made(2, 19, wrong)],
-        &mut level[0..made(2, 20, wrong)],
-        &mut ground[0..made(2, 21, wrong)],
-        &mut added[0..made(1, 22, wrong)],
-        &mut figures[0..made(WORK, 23, wrong)],
-        &mut counts[0..made(WORK, 24, wrong)],
+        &mut circuits[0..lent(1, 15, wrong)],
+        &mut flow[0..lent(1, 16, wrong)],
+        &mut rate[0..lent(1, 17, wrong)],
+        &mut before[0..lent(1, 18, wrong)],
+        &mut order[0..lent(1, 19, wrong)],
+        &mut mw[0..lent(1, 20, wrong)],
+        &mut angle[0..lent(2, 21, wrong)],
+        &mut level[0..lent(2, 22, wrong)],
+        &mut ground[0..lent(2, 23, wrong)],
+        &mut added[0..lent(1, 24, wrong)],
+        &mut figures[0..lent(WORK, 25, wrong)],
+        &mut counts[0..lent(WORK, 26, wrong)],
     );
     say_call(what, wrong);
     match r {
@@ -88,9 +101,10 @@ fn call(what: &[u8], buses: usize, wrong: Wrong) {
         & figures_kept(&flow)
         & figures_kept(&rate)
         & figures_kept(&mw);
+    let filling = marks_kept(&before) & marks_kept(&order);
     let buses_kept = figures_kept(&angle) & marks_kept(&level) & marks_kept(&ground);
     let work = figures_kept(&figures) & marks_kept(&counts);
-    say_kept(plan & buses_kept & figures_kept(&added) & work);
+    say_kept(plan & filling & buses_kept & figures_kept(&added) & work);
 }
 
 // Every length right; then a count past its bound with these lengths.

@@ -82,6 +82,11 @@ pub struct CorridorPlan {
     pub upsized_transformers: usize,
     /// Circuits added to reach the requested branch count.
     pub filler_circuits: usize,
+    // reference edit: kept for a preview, zeros outside Expand.
+    /// Circuits per corridor before filling.
+    pub before: Vec<u32>,
+    /// Corridors in the order in which filling takes them.
+    pub order: Vec<usize>,
     /// Highest circuit loading (flow over rating) of the planning case.
     pub max_loading: f64,
     /// Corridors still loaded above their rating (only when the plan hit a cap).
@@ -911,9 +916,14 @@ pub fn plan_corridors(
 
     // 3. Fill to the requested branch count, heaviest planned loading first.
     let mut filler = 0usize;
-    if promote && capacity_total + stiffening < branch_target && !corridors.is_empty() {
+    // reference edit: the counts and the order are kept under Expand, also
+    // where nothing is filled; the order was made inside the next `if`.
+    let mut before = vec![0; corridors.len()];
+    let mut order: Vec<usize> = vec![0; corridors.len()];
+    if promote {
+        before.clone_from(&circuits);
         let loading = |c: usize, k: u32| flows[c].abs() / (k as f64 * designs[c].rate_a);
-        let mut order: Vec<usize> = (0..corridors.len()).collect();
+        order = (0..corridors.len()).collect();
         order.sort_by(|&i, &j| {
             loading(j, circuits[j])
                 .partial_cmp(&loading(i, circuits[i]))
@@ -927,6 +937,8 @@ pub fn plan_corridors(
                 )
                 .then(i.cmp(&j))
         });
+    }
+    if promote && capacity_total + stiffening < branch_target && !corridors.is_empty() {
         let mut total = capacity_total + stiffening;
         let mut cursor = 0usize;
         let mut idle = 0usize;
@@ -1018,6 +1030,8 @@ pub fn plan_corridors(
         stiffening_circuits: stiffening,
         angle_spread_rad: spread_max, // reference edit: in radians
         filler_circuits: filler,
+        before, // reference edit
+        order,  // reference edit
         max_loading,
         overloaded_corridors: overloaded,
         added_levels_kv,

@@ -5,9 +5,10 @@ use crate::harness::figures::{hex, listed, parse_hex, parse_whole};
 use crate::harness::operations::{
     accepted_leaders, angles, dispatch, impedance, placement, square_root, Network, Support,
 };
+use crate::harness::preview::Kept;
 use crate::harness::refusal::Refusal;
 use crate::harness::sheet::{RowsRequest, SheetRequest, ROW};
-use crate::harness::tables::{MOST_CORRIDORS, MOST_LEVELS};
+use crate::harness::tables::{MOST_CORRIDORS, MOST_LEVELS, MOST_MODE};
 
 /// Levels, corridors and figures of a sheet up to these are taken: one past
 /// each bound.
@@ -54,6 +55,7 @@ fn ask(line: &[u8]) -> Option<Result<String, Refusal>> {
         b"PLACE" => ask_placement(fields),
         b"SHEET" => ask_sheet(fields),
         b"ROWS" => ask_rows(fields),
+        b"PREV" => ask_preview(fields),
         _ => None,
     }
 }
@@ -225,4 +227,18 @@ fn ask_rows<'a>(mut fields: Fields<impl Iterator<Item = &'a [u8]>>) -> Answer {
     let rows = request.rows();
     let head = std::iter::once(rows.len().to_string());
     Some(Ok(ok(head.chain(rows.iter().copied().map(listed)))))
+}
+
+fn ask_preview<'a>(mut fields: Fields<impl Iterator<Item = &'a [u8]>>) -> Answer {
+    let mode = fields.at_most(MOST_MODE.into())?;
+    let target = fields.whole()?;
+    let corridors = fields.count()?;
+    let kept = Kept {
+        mode: mode as u8,
+        before: fields.many(corridors, Fields::whole)?,
+        order: fields.many(corridors, Fields::whole)?,
+    };
+    fields.end()?;
+    let circuits = kept.preview(target);
+    Some(circuits.map(|circuits| ok(circuits.iter().map(usize::to_string))))
 }

@@ -24,9 +24,11 @@ pub const FILE_ENDS: u32 = 14;
 pub const MARK: u32 = 15;
 pub const SMALL_FIELD: u32 = 16;
 pub const AFTER_THE_END: u32 = 17;
+pub const MODE: u32 = 18;
 pub const UNEVEN: u32 = 19;
 pub const SEASON_FULL: u32 = 20;
 pub const SPREAD: u32 = 22;
+pub const ORDER: u32 = 30;
 
 impl Refusal {
     pub fn new(number: u32, index: usize) -> Self {

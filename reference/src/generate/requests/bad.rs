@@ -30,11 +30,13 @@ pub const FAMILIES: &[(&str, Damage)] = &[
     ("a guess that is neither 0 nor 1", |random, _| {
         random.pick(GUESSES).to_vec()
     }),
+    ("a mode above 2", |random, _| random.pick(MODES).to_vec()),
     ("any bytes", any_bytes),
 ];
 
 const WORDS: &[&[u8]] = &[
-    b"SQRT", b"IMP", b"LEAD", b"DISP", b"ANG", b"PLACE", b"SHEET", b"ROWS", b"RF", b"OK", b"??",
+    b"SQRT", b"IMP", b"LEAD", b"DISP", b"ANG", b"PLACE", b"SHEET", b"ROWS", b"PREV", b"RF", b"OK",
+    b"??",
 ];
 
 const LARGE_COUNTS: &[&[u8]] = &[
@@ -55,6 +57,8 @@ const LARGE_COUNTS: &[&[u8]] = &[
     b"ROWS 1 1 0 401 0 0",
     b"ROWS 1 1 0 0 7711 0",
     b"ROWS 1 1 0 0 0 999999999",
+    b"PREV 0 0 401",
+    b"PREV 0 0 999999999 1 0",
 ];
 
 const LONG_NUMBERS: &[&[u8]] = &[
@@ -80,6 +84,13 @@ const GUESSES: &[&[u8]] = &[
     b"ANG 1 0 1 2 0000000000000000 0 0000000000000000",
     b"ANG 1 0 1 0 0000000000000000 0 0000000000000000",
     b"ANG 1 0 1 1 0000000000000000 0",
+];
+
+const MODES: &[&[u8]] = &[
+    b"PREV 3 0 0",
+    b"PREV 3 0 1 1 0",
+    b"PREV 256 0 1 1 0",
+    b"PREV 999999999 2 1 1 0",
 ];
 
 /// A family of long batches alone: a batch holds two.
@@ -119,7 +130,7 @@ pub fn one(random: &mut Random) -> Request {
 fn good_line(random: &mut Random) -> Vec<u8> {
     loop {
         let kind = random.pick(&[
-            "SQRT", "IMP", "LEAD", "DISP", "ANG", "PLACE", "SHEET", "ROWS",
+            "SQRT", "IMP", "LEAD", "DISP", "ANG", "PLACE", "SHEET", "ROWS", "PREV",
         ]);
         let (_, words) = random.pick(families(kind).expect("a kind of request"));
         let line = words(random).line();
@@ -215,6 +226,7 @@ fn another_word(random: &mut Random, line: Vec<u8>) -> Vec<u8> {
         b"PLACES",
         b"SHEETS",
         b"ROW",
+        b"PREVIEW",
         b"",
         b"0",
     ]);

@@ -7,6 +7,7 @@ mod dispatch;
 mod impedance;
 mod leaders;
 mod placement;
+mod preview;
 mod rows;
 mod sheet;
 mod square_root;
@@ -35,8 +36,8 @@ pub fn is_long(seed: u64) -> bool {
 }
 
 /// The kinds of request, `BAD` being lines that are none.
-pub const KINDS: [&str; 9] = [
-    "SQRT", "IMP", "LEAD", "DISP", "ANG", "PLACE", "SHEET", "ROWS", "BAD",
+pub const KINDS: [&str; 10] = [
+    "SQRT", "IMP", "LEAD", "DISP", "ANG", "PLACE", "SHEET", "ROWS", "PREV", "BAD",
 ];
 
 /// One line, without its line feed, and the family it comes from.
@@ -59,6 +60,7 @@ fn families(kind: &str) -> Option<&'static [Family]> {
         "PLACE" => placement::FAMILIES,
         "SHEET" => sheet::FAMILIES,
         "ROWS" => rows::FAMILIES,
+        "PREV" => preview::FAMILIES,
         _ => return None,
     })
 }
@@ -71,6 +73,7 @@ pub fn largest(kind: &str) -> Option<Family> {
         "ANG" => Some(angles::LARGEST),
         "PLACE" => Some(placement::LARGEST),
         "SHEET" => Some(sheet::LARGEST),
+        "PREV" => Some(preview::LARGEST),
         _ => None,
     }
 }

@@ -100,7 +100,7 @@ part-put-planned-start-6 : tie.Need-part-put-planned-start-6
 part-put-planned-start-6 c = search needs
 
 part-put-planned-end-6 : tie.Need-part-put-planned-end-6
-part-put-planned-end-6 c = search needs
+part-put-planned-end-6 c = in-table (small (c .before .before .before .before .before .before .before .before .before .before .before .before .before .before .before .before .before .before .before .before .before .before .before) .generators) (tables (c .before .before .before .before .before .before .before .before .before .before .before .before .before .before .before .before .before .before .before .before .before .before .before) .pmin)
 
 sub-put-planned-7 : tie.Need-sub-put-planned-7
 sub-put-planned-7 c = search needs
@@ -213,86 +213,104 @@ part-rate-end c = small (c .before .before .before .before .before .before .befo
 sub-put-planned-19 : tie.Need-sub-put-planned-19
 sub-put-planned-19 c = search needs
 
+part-before-start : tie.Need-part-before-start
+part-before-start c = search needs
+
+part-before-end : tie.Need-part-before-end
+part-before-end c = small (c .before .before .before .before .before .before .before .before .before .before .before .before .before .before .before .before .before .before .before .before .before .before .before .before .before .before .before .before .before .before .before .before .before .before .before .before) .corridors
+
+sub-put-planned-20 : tie.Need-sub-put-planned-20
+sub-put-planned-20 c = search needs
+
+part-order-start : tie.Need-part-order-start
+part-order-start c = search needs
+
+part-order-end : tie.Need-part-order-end
+part-order-end c = small (c .before .before .before .before .before .before .before .before .before .before .before .before .before .before .before .before .before .before .before .before .before .before .before .before .before .before .before .before .before .before .before .before .before .before .before .before .before) .corridors
+
+sub-put-planned-21 : tie.Need-sub-put-planned-21
+sub-put-planned-21 c = search needs
+
 part-mw-start : tie.Need-part-mw-start
 part-mw-start c = search needs
 
 part-mw-end : tie.Need-part-mw-end
-part-mw-end c = small (c .before .before .before .before .before .before .before .before .before .before .before .before .before .before .before .before .before .before .before .before .before .before .before .before .before .before .before .before .before .before .before .before .before .before .before .before) .generators
+part-mw-end c = small (c .before .before .before .before .before .before .before .before .before .before .before .before .before .before .before .before .before .before .before .before .before .before .before .before .before .before .before .before .before .before .before .before .before .before .before .before .before .before) .generators
 
-sub-put-planned-20 : tie.Need-sub-put-planned-20
-sub-put-planned-20 c = search needs
+sub-put-planned-22 : tie.Need-sub-put-planned-22
+sub-put-planned-22 c = search needs
 
 part-angle-start : tie.Need-part-angle-start
 part-angle-start c = search needs
 
 part-angle-end : tie.Need-part-angle-end
-part-angle-end c = small (c .before .before .before .before .before .before .before .before .before .before .before .before .before .before .before .before .before .before .before .before .before .before .before .before .before .before .before .before .before .before .before .before .before .before .before .before .before) .buses
+part-angle-end c = small (c .before .before .before .before .before .before .before .before .before .before .before .before .before .before .before .before .before .before .before .before .before .before .before .before .before .before .before .before .before .before .before .before .before .before .before .before .before .before .before) .buses
 
-sub-put-planned-21 : tie.Need-sub-put-planned-21
-sub-put-planned-21 c = search needs
+sub-put-planned-23 : tie.Need-sub-put-planned-23
+sub-put-planned-23 c = search needs
 
 part-level-start : tie.Need-part-level-start
 part-level-start c = search needs
 
 part-level-end : tie.Need-part-level-end
-part-level-end c = small (c .before .before .before .before .before .before .before .before .before .before .before .before .before .before .before .before .before .before .before .before .before .before .before .before .before .before .before .before .before .before .before .before .before .before .before .before .before .before) .buses
+part-level-end c = small (c .before .before .before .before .before .before .before .before .before .before .before .before .before .before .before .before .before .before .before .before .before .before .before .before .before .before .before .before .before .before .before .before .before .before .before .before .before .before .before .before) .buses
 
-sub-put-planned-22 : tie.Need-sub-put-planned-22
-sub-put-planned-22 c = search needs
+sub-put-planned-24 : tie.Need-sub-put-planned-24
+sub-put-planned-24 c = search needs
 
 part-ground-start : tie.Need-part-ground-start
 part-ground-start c = search needs
 
 part-ground-end : tie.Need-part-ground-end
-part-ground-end c = small (c .before .before .before .before .before .before .before .before .before .before .before .before .before .before .before .before .before .before .before .before .before .before .before .before .before .before .before .before .before .before .before .before .before .before .before .before .before .before .before) .buses
+part-ground-end c = small (c .before .before .before .before .before .before .before .before .before .before .before .before .before .before .before .before .before .before .before .before .before .before .before .before .before .before .before .before .before .before .before .before .before .before .before .before .before .before .before .before .before) .buses
 
-sub-put-planned-23 : tie.Need-sub-put-planned-23
-sub-put-planned-23 c = search needs
+sub-put-planned-25 : tie.Need-sub-put-planned-25
+sub-put-planned-25 c = search needs
 
 part-added-start : tie.Need-part-added-start
 part-added-start c = search needs
 
 part-added-end : tie.Need-part-added-end
-part-added-end c = above-small (c .before .before .before .before .before .before .before .before .before .before .before .before .before .before .before .before .before .before .before .before .before .before .before .before .before .before .before .before .before .before .before .before .before .before .before .before .before .before .before .before)
+part-added-end c = above-small (c .before .before .before .before .before .before .before .before .before .before .before .before .before .before .before .before .before .before .before .before .before .before .before .before .before .before .before .before .before .before .before .before .before .before .before .before .before .before .before .before .before .before)
 
-sub-put-planned-24 : tie.Need-sub-put-planned-24
-sub-put-planned-24 c = search needs
+sub-put-planned-26 : tie.Need-sub-put-planned-26
+sub-put-planned-26 c = search needs
 
 part-figures-start : tie.Need-part-figures-start
 part-figures-start c = search needs
 
 part-figures-end : tie.Need-part-figures-end
-part-figures-end c = work-small (c .before .before .before .before .before .before .before .before .before .before .before .before .before .before .before .before .before .before .before .before .before .before .before .before .before .before .before .before .before .before .before .before .before .before .before .before .before .before .before .before .before)
+part-figures-end c = work-small (c .before .before .before .before .before .before .before .before .before .before .before .before .before .before .before .before .before .before .before .before .before .before .before .before .before .before .before .before .before .before .before .before .before .before .before .before .before .before .before .before .before .before .before)
 
-sub-put-planned-25 : tie.Need-sub-put-planned-25
-sub-put-planned-25 c = search needs
+sub-put-planned-27 : tie.Need-sub-put-planned-27
+sub-put-planned-27 c = search needs
 
 part-counts-start : tie.Need-part-counts-start
 part-counts-start c = search needs
 
 part-counts-end : tie.Need-part-counts-end
-part-counts-end c = work-small (c .before .before .before .before .before .before .before .before .before .before .before .before .before .before .before .before .before .before .before .before .before .before .before .before .before .before .before .before .before .before .before .before .before .before .before .before .before .before .before .before .before .before)
+part-counts-end c = work-small (c .before .before .before .before .before .before .before .before .before .before .before .before .before .before .before .before .before .before .before .before .before .before .before .before .before .before .before .before .before .before .before .before .before .before .before .before .before .before .before .before .before .before .before .before)
 
 put-planned-requires : tie.Need-put-planned-requires
 put-planned-requires c κs =
-    let o = c .before .before .before .before .before .before .before .before .before .before .before .before .before .before .before .before .before .before .before .before .before .before .before .before .before .before .before .before .before .before .before .before .before .before .before .before .before .before .before .before .before .before .before in (
+    let o = c .before .before .before .before .before .before .before .before .before .before .before .before .before .before .before .before .before .before .before .before .before .before .before .before .before .before .before .before .before .before .before .before .before .before .before .before .before .before .before .before .before .before .before .before .before in (
       omega (arith, o .pre .0, small o, above-small o),
       (
-        (part-length (o .args .h .corridors) 256 _ (small o .corridors), part-length (o .args .h .corridors) 256 _ (small o .corridors), part-length (o .args .h .corridors) 256 _ (small o .corridors), part-length (o .args .h .generators) 128 _ (small o .generators)),
+        (part-length (o .args .h .corridors) 256 _ (small o .corridors), part-length (o .args .h .corridors) 256 _ (small o .corridors), part-length (o .args .h .corridors) 256 _ (small o .corridors), part-length (o .args .h .corridors) 256 _ (small o .corridors), part-length (o .args .h .corridors) 256 _ (small o .corridors)),
         (
-          (part-length (o .args .h .buses) 256 _ (small o .buses), part-length (o .args .h .buses) 256 _ (small o .buses), part-length (o .args .h .buses) 256 _ (small o .buses), part-length (o .args .h .above) 5 _ (above-small o)),
+          (part-length (o .args .h .generators) 128 _ (small o .generators), part-length (o .args .h .buses) 256 _ (small o .buses), part-length (o .args .h .buses) 256 _ (small o .buses), part-length (o .args .h .buses) 256 _ (small o .buses), part-length (o .args .h .above) 5 _ (above-small o)),
           (part-length (12 * (o .args .h .buses + o .args .h .corridors + o .args .h .generators)) 7680 _ (work-small o), part-length (12 * (o .args .h .buses + o .args .h .corridors + o .args .h .generators)) 7680 _ (work-small o)),
         ),
       ),
     )
 
 same-length : tie.Need-same-length
-same-length c = c .before .before .before .before .before .before .before .before .before .before .before .before .put-planned .kept .0
+same-length c = c .before .before .before .before .before .before .before .before .before .before .before .before .before .before .put-planned .kept .0
 
 returns : tie.Need-returns
 returns c =
-    let o = c .before .before .before .before .before .before .before .before .before .before .before .before .before .before .before .before .before .before .before .before .before .before .before .before .before .before .before .before .before .before .before .before .before .before .before .before .before .before .before .before .before .before .before .before .before .before .before .before .before .before .before .before .before .before .before .before in
-    (same-text (case-text (o .args .h) (the-places o)) (c .before .before .before .before .before .before .before .before .before .before .before .before .put-planned .ensures .0), c .before .before .before .before .before .before .before .before .before .before .before .before .put-planned .ensures .1)
+    let o = c .before .before .before .before .before .before .before .before .before .before .before .before .before .before .before .before .before .before .before .before .before .before .before .before .before .before .before .before .before .before .before .before .before .before .before .before .before .before .before .before .before .before .before .before .before .before .before .before .before .before .before .before .before .before .before .before .before .before .before .before in
+    (same-text (case-text (o .args .h) (the-places o)) (c .before .before .before .before .before .before .before .before .before .before .before .before .before .before .put-planned .ensures .0), c .before .before .before .before .before .before .before .before .before .before .before .before .before .before .put-planned .ensures .1)
 
 pub put-case-spec : {M : Type 1} → statement M
 put-case-spec =
@@ -359,24 +377,30 @@ put-case-spec =
     part-rate-start
     part-rate-end
     sub-put-planned-19
+    part-before-start
+    part-before-end
+    sub-put-planned-20
+    part-order-start
+    part-order-end
+    sub-put-planned-21
     part-mw-start
     part-mw-end
-    sub-put-planned-20
+    sub-put-planned-22
     part-angle-start
     part-angle-end
-    sub-put-planned-21
+    sub-put-planned-23
     part-level-start
     part-level-end
-    sub-put-planned-22
+    sub-put-planned-24
     part-ground-start
     part-ground-end
-    sub-put-planned-23
+    sub-put-planned-25
     part-added-start
     part-added-end
-    sub-put-planned-24
+    sub-put-planned-26
     part-figures-start
     part-figures-end
-    sub-put-planned-25
+    sub-put-planned-27
     part-counts-start
     part-counts-end
     put-planned-requires

@@ -27,7 +27,7 @@ same-length-3 c = c .before .before .before .before .before .before .before .sol
 returns : tie.Need-returns
 returns c =
     let v = c .before .before .before .before .before .before .before .solve-from-zero in
-    solved-refused _ _ (v .result) _ _ _ _ (v .ensures) (c .before .f .given .1)
+    λ before order. solved-refused _ _ (v .result) _ _ _ _ (v .ensures) (c .before .f .given .1)
 
 enum-told : tie.Need-enum-told
 enum-told c = c .match .keys2
@@ -59,8 +59,9 @@ returns-2 c =
     let z = c .before .before .before .before .before .before .before .before .before .before .before .before .before .before .before .before .before .before .before .before .before .before .before .before .before .before .before .before .before .before .before .before .before .before .before .before .before .before .before .args in
     let v = c .before .before .before .before .before .before .before .before .before .before .before .before .before .before .before .before .before .before .solve-from-zero in
     let e = c .before .before .before .before .before .before .close .ensures in
+    λ before order.
     closed-answered (z .mode) (z .above) (now (z .leader)) (now (z .ladder)) (now (z .level)) (designsFor (now (z .ladder)) (now (z .level)) (now (z .a)) (now (z .b)) (now (z .km)) (now (z .share)) (now (z .sheet)) (now (z .banks)))
-    (now (z .upsized)) (peakFor (length (now (z .level))) (now (z .grounds)) (now (z .injection))) (z .filler) (now (z .circuits)) _ _ _ _ _ _ (v .result) _ (v .ensures) (c .before .before .before .before .before .before .before .before .before .before .before .before .enum-told .given .1) (e .0) (e .1 .0) (e .1 .1 .0) (e .1 .1 .1)
+    (now (z .upsized)) (peakFor (length (now (z .level))) (now (z .grounds)) (now (z .injection))) (z .filler) before order (now (z .circuits)) _ _ _ _ _ _ (v .result) _ (v .ensures) (c .before .before .before .before .before .before .before .before .before .before .before .before .enum-told .given .1) (e .0) (e .1 .0) (e .1 .1 .0) (e .1 .1 .1)
 
 pub close-up-spec : {M : Type 1} → statement M
 close-up-spec =

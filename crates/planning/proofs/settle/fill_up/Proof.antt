@@ -1,7 +1,9 @@
 -- `planning::settle::fill_up` meets its contract: the order that was made is the defined one, and so is the filling in it.
-use mathlib.Core.Path.{refl, _∙_}
+use Prim.Native.Nat.{ℕ}
+use mathlib.Core.Path.{refl, sym, ap, _∙_}
+use native.Mathlib.Omega.{arith}
 use denote.Ref.{now}
-use lib.ListN.{length}
+use lib.ListN.{length, take}
 use borrow.Author.Needs.{needs}
 use Rattle.planning.specs.Solve.{peakFor}
 use Rattle.planning.specs.Fill.{designsFor}
@@ -12,15 +14,20 @@ use Rattle.planning.proofs.settle.fill_up.Tie as tie
 fill-order-requires : tie.Need-fill-order-requires
 fill-order-requires c κs = search needs
 
+keep-requires : tie.Need-keep-requires
+keep-requires c κs =
+    let h = c .before .before .before .before .before .before .before .before .before .before .before .before .before .before .before .before .before .before .before .before .before .before .before .pre .0 .drawing in
+    omega (arith, h .count-size, h .few-corridors)
+
 fill-requires : tie.Need-fill-requires
 fill-requires c κs =
-    let s = c .before .before .before .before .before .before .before .before .before .before .before .before .before .before .before .before .before .before .before .before .before .before .before .before in
-    let o = c .before .before .fill-order .ensures in
+    let s = c .before .before .before .before .before .before .before .before .before .before .before .before .before .before .before .before .before .before .before .before .before .before .before .before .before .before in
+    let o = c .before .before .before .before .fill-order .ensures in
     (ranked _ _ _ _ _ _ _ _ _ _ _ _ _ _ _ _ _ _ (s .pre .0) _ _ (o .0) (o .1), counted _ _ _ _ _ _ _ _ _ _ _ _ _ _ _ _ _ _ (s .pre .0) (s .pre .1))
 
 close-up-requires : tie.Need-close-up-requires
 close-up-requires c κs =
-    settleable-again _ _ _ _ _ _ _ _ _ _ _ _ _ _ _ _ _ _ (c .before .before .before .before .before .before .before .before .before .before .before .before .before .before .before .before .before .before .before .before .before .before .before .before .before .before .before .before .before .before .before .before .before .pre .0) _ _ _ (c .before .before .before .before .before .before .before .before .fill .kept .1 .1 .1 .0) refl refl
+    settleable-again _ _ _ _ _ _ _ _ _ _ _ _ _ _ _ _ _ _ (c .before .before .before .before .before .before .before .before .before .before .before .before .before .before .before .before .before .before .before .before .before .before .before .before .before .before .before .before .before .before .before .before .before .before .before .pre .0) _ _ _ (c .before .before .before .before .before .before .before .before .fill .kept .1 .1 .1 .0) refl refl
 
 same-length : tie.Need-same-length
 same-length c = c .before .before .before .before .before .before .before .before .before .before .before .before .before .before .before .before .before .before .before .fill .kept .1 .1 .1 .0
@@ -42,18 +49,22 @@ same-length-6 c = c .before .before .before .before .before .before .before .bef
 
 returns : tie.Need-returns
 returns c =
-    let s = c .before .before .before .before .before .before .before .before .before .before .before .before .before .before .before .before .before .before .before .before .before .before .before .before .before .before .before .before .before .before .before .before .before .before .before .before .before .before .before .before .before .before .before .before in
+    let s = c .before .before .before .before .before .before .before .before .before .before .before .before .before .before .before .before .before .before .before .before .before .before .before .before .before .before .before .before .before .before .before .before .before .before .before .before .before .before .before .before .before .before .before .before .before .before in
     let z = s .args in
     let f = c .before .before .before .before .before .before .before .before .before .before .before .before .before .before .before .before .before .before .before .fill .ensures in
-    c .before .before .before .before .before .before .before .before .before .before .close-up .ensures
+    let k = c .before .before .before .before .before .before .before .before .before .before .before .before .before .before .before .before .before .before .before .before .before .before .keep .ensures in
+    let e = s .pre .0 .drawing .count-size in
+    c .before .before .before .before .before .before .before .before .before .before .close-up .ensures _ _
     ∙ filled-are (z .mode) (z .above) (now (z .leader)) (now (z .ladder)) (now (z .level)) (designsFor (now (z .ladder)) (now (z .level)) (now (z .a)) (now (z .b)) (now (z .km)) (now (z .share)) (now (z .sheet)) (now (z .banks)))
-    (now (z .upsized)) (peakFor (length (now (z .level))) (now (z .grounds)) (now (z .injection))) (z .target) (length (now (z .a))) _ (now (z .circuits)) _ _ (now (z .flow)) (s .pre .0 .drawing .count-size) (c .before .before .before .before .before .before .before .before .before .before .before .before .before .before .before .before .before .before .before .before .before .before .fill-order .ensures .1) (f .0) (f .1)
+    (now (z .upsized)) (peakFor (length (now (z .level))) (now (z .grounds)) (now (z .injection))) (z .target) (length (now (z .a))) _ (now (z .circuits)) _ _ _ _ (now (z .flow)) e (c .before .before .before .before .before .before .before .before .before .before .before .before .before .before .before .before .before .before .before .before .before .before .before .before .fill-order .ensures .1)
+    (ap (λ (n : ℕ). take n (c .before .before .before .before .before .before .before .before .before .before .before .before .before .before .before .before .before .before .before .before .before .before .keep .result .before)) (sym e) ∙ k .0) (ap (take (length (now (z .a)))) (k .1 .0)) (f .0) (f .1)
 
 pub fill-up-spec : {M : Type 1} → statement M
 fill-up-spec =
     tie.close
     (tie.spec
     fill-order-requires
+    keep-requires
     fill-requires
     close-up-requires
     same-length

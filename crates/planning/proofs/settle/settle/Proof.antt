@@ -8,7 +8,7 @@ use Rattle.planning.specs.Solve.{peakFor}
 use Rattle.planning.specs.Fill.{designsFor}
 use Rattle.planning.specs.Settle.{filledFrom}
 use Rattle.planning.proofs.Settling.{settleable-again, solved-refused, solved-answered}
-use Rattle.planning.proofs.Settlements.{settles}
+use Rattle.planning.proofs.Settlements.{settles, settles-refused}
 use Rattle.planning.proofs.settle.settle.Statement.{statement}
 use Rattle.planning.proofs.settle.settle.Tie as tie
 
@@ -17,6 +17,9 @@ solve-from-zero-requires c κs = search needs
 
 enum-known-f : tie.Need-enum-known-f
 enum-known-f c = c .match .keys1
+
+unsettled-requires : tie.Need-unsettled-requires
+unsettled-requires c κs = tt
 
 enum-told : tie.Need-enum-told
 enum-told c = c .match .keys2
@@ -34,15 +37,15 @@ same-length-2 : tie.Need-same-length-2
 same-length-2 c = refl
 
 same-length-3 : tie.Need-same-length-3
-same-length-3 c = c .before .before .before .before .before .before .before .solve-from-zero .kept .1 .1 .1 .1 .1 .1 .1 .1 .1 .1 .1 .1 .0
+same-length-3 c = c .before .before .before .before .before .before .before .before .solve-from-zero .kept .1 .1 .1 .1 .1 .1 .1 .1 .1 .1 .1 .1 .0
 
 same-length-4 : tie.Need-same-length-4
-same-length-4 c = c .before .before .before .before .before .before .before .solve-from-zero .kept .1 .1 .1 .1 .1 .1 .1 .1 .1 .1 .1 .0
+same-length-4 c = c .before .before .before .before .before .before .before .before .solve-from-zero .kept .1 .1 .1 .1 .1 .1 .1 .1 .1 .1 .1 .0
 
 returns : tie.Need-returns
 returns c =
-    let v = c .before .before .before .before .before .before .before .solve-from-zero in
-    settles _ _ _ _ _ _ _ _ _ _ _ _ _ _ _ _ _ _ _ _ _ _ _ (solved-refused _ _ (v .result) _ _ _ _ (v .ensures) (c .before .f .given .1))
+    let v = c .before .before .before .before .before .before .before .before .solve-from-zero in
+    settles-refused _ _ _ _ _ _ _ _ _ _ _ _ _ _ _ _ _ _ _ _ _ _ (c .unsettled .result) _ (c .unsettled .ensures .0) (solved-refused _ _ (v .result) _ _ _ _ (v .ensures) (c .before .before .f .given .1))
 
 same-length-5 : tie.Need-same-length-5
 same-length-5 c = c .before .before .before .before .before .before .before .before .before .before .before .before .fill-up .kept .1 .1 .1 .1 .1 .1 .1 .1 .1 .1 .1 .1 .1 .1 .0
@@ -79,6 +82,7 @@ settle-spec =
     (tie.spec
     solve-from-zero-requires
     enum-known-f
+    unsettled-requires
     enum-told
     fill-up-requires
     same-length

@@ -1,6 +1,6 @@
 -- `planning::solve::peak_state` meets its contract: the angles and the flows on these edges are the defined ones.
 use Prim.Native.Nat.{ℕ}
-use mathlib.Core.Path.{refl, sym, ap, subst, _∙_}
+use mathlib.Core.Path.{refl, sym, ap, subst}
 use lib.ListN.{length}
 use Rattle.loops.proofs.Fronts.{front-room, front-lent}
 use Rattle.planning.specs.Solve.{Drawn}

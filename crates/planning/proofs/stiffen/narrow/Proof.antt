@@ -1,6 +1,5 @@
 -- `planning::stiffen::narrow` meets its contract.
-use Prim.Native.Nat.{ℕ}
-use mathlib.Core.Path.{sym, ap, _∙_}
+use mathlib.Core.Path.{_∙_}
 use native.Mathlib.Omega.{arith}
 use denote.Ref.{now}
 use lib.ListN.{length}

@@ -1,16 +1,16 @@
--- `answers::lead::put_leaders` meets its contract. The measure: the buses that are left.
+-- `answers::print::put_wholes` meets its contract. The measure: the places that are left.
 use borrow.Author.Needs.{needs}
 use Prim.Native.Nat.{_-_, _≤_}
 use lib.ListN.{length}
 use mathlib.Core.Path.{_≡_}
-use Rattle.answers.proofs.lead.put_leaders.Statement.{statement}
-use Rattle.answers.proofs.lead.put_leaders.Tie as tie
+use Rattle.answers.proofs.print.put_wholes.Statement.{statement}
+use Rattle.answers.proofs.print.put_wholes.Tie as tie
 
 abbrev Inv-loop : tie.InvT-loop
-Inv-loop out₀ leader buses used₀ i₀ out used i = (i ≤ buses) × (length out ≡ length out₀) × (used ≤ length out)
+Inv-loop out₀ table n used₀ i₀ out used i = (i ≤ n) × (length out ≡ length out₀) × (used ≤ length out)
 
 abbrev μ-loop : tie.MeasureT-loop
-μ-loop out₀ leader buses used₀ i₀ out used i = buses - i
+μ-loop out₀ table n used₀ i₀ out used i = n - i
 
 slice-aggregate-put-text : tie.Need-slice-aggregate-put-text Inv-loop μ-loop
 slice-aggregate-put-text c = search needs
@@ -48,8 +48,8 @@ same-length c = search needs
 returns : tie.Need-returns Inv-loop μ-loop
 returns c = search needs
 
-pub put-leaders-spec : {M : Type 1} → statement M
-put-leaders-spec =
+pub put-wholes-spec : {M : Type 1} → statement M
+put-wholes-spec =
     tie.close
     (tie.spec
     Inv-loop

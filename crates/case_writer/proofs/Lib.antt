@@ -1,0 +1,4 @@
+-- Laws of what is put into a buffer.
+pub mod Puts
+pub mod Lent
+pub mod Networks

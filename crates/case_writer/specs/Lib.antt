@@ -1,0 +1,4 @@
+-- What the program writes.
+pub mod Put
+pub mod Words
+pub mod Files

@@ -1,0 +1,61 @@
+-- The numbers of a record, by the tables that they stand in: those of casefile_theorems' `wordsOf`, one kind at a time. And a mark as a number of two bytes.
+use Prim.Native.Nat.{ℕ, _+_, _*_}
+use mathlib.Core.Bool.{cond}
+use mathlib.Core.List.{List, [], _∷_}
+use lib.Ieee.{Float, binary64, toBits, eq}
+use lib.ListN.{getD}
+use Rattle.loops.specs.Figures.{at, nought}
+use Rattle.casefile.specs.Bounds.{rowFigures}
+use Rattle.casefile.specs.Layout.{layoutOf}
+use Rattle.casefile.specs.Tables.{Places, basisField}
+use Rattle.casefile.specs.declared.Kind.{Kind}
+use Rattle.casefile.specs.declared.Kind.the-variants.{Head, Level, Bus, Generator, Corridor, Line}
+use Rattle.casefile_theorems.specs.Writer.{row}
+
+abbrev pub markOf : Kind → ℕ
+markOf k = layoutOf k .first + 256 * layoutOf k .second
+
+abbrev pub basisNumber : Float → ℕ
+basisNumber x = cond (eq x nought) 0 1
+
+-- ---- a record's numbers, from its fields
+abbrev pub levelRow : Float → ℕ → ℕ
+levelRow kv = row (toBits binary64 kv ∷ [])
+
+abbrev pub busRow : ℕ → Float → ℕ → ℕ
+busRow tier load = row (tier ∷ toBits binary64 load ∷ [])
+
+abbrev pub generatorRow : ℕ → ℕ → Float → Float → Float → Float → ℕ → ℕ
+generatorRow bus slack pmin pmax c1 c2 = row (bus ∷ slack ∷ toBits binary64 pmin ∷ toBits binary64 pmax ∷ toBits binary64 c1 ∷ toBits binary64 c2 ∷ [])
+
+abbrev pub corridorRow : ℕ → ℕ → ℕ → Float → Float → ℕ → ℕ
+corridorRow a b circuits km share = row (a ∷ b ∷ circuits ∷ toBits binary64 km ∷ toBits binary64 share ∷ [])
+
+abbrev pub lineRow : Float → Float → Float → Float → Float → ℕ → ℕ
+lineRow r x b rate basis = row (toBits binary64 r ∷ toBits binary64 x ∷ toBits binary64 b ∷ toBits binary64 rate ∷ basisNumber basis ∷ [])
+
+-- ---- of record i of a table, as its places are read
+abbrev pub levelWords : List Float → ℕ → ℕ → ℕ
+levelWords ladder i = levelRow (at ladder i)
+
+abbrev pub busWords : List ℕ → List Float → ℕ → ℕ → ℕ
+busWords tier load i = busRow (getD tier i 0) (at load i)
+
+abbrev pub generatorWords : List ℕ → List ℕ → List Float → List Float → List Float → List Float → ℕ → ℕ → ℕ
+generatorWords bus slack pmin pmax c1 c2 i = generatorRow (getD bus i 0) (getD slack i 0) (at pmin i) (at pmax i) (at c1 i) (at c2 i)
+
+abbrev pub corridorWords : List ℕ → List ℕ → List ℕ → List Float → List Float → ℕ → ℕ → ℕ
+corridorWords a b circuits km share i = corridorRow (getD a i 0) (getD b i 0) (getD circuits i 0) (at km i) (at share i)
+
+abbrev pub lineWords : List Float → ℕ → ℕ → ℕ
+lineWords sheet i =
+    let p = i * rowFigures in
+    lineRow (at sheet p) (at sheet (p + 1)) (at sheet (p + 2)) (at sheet (p + 3)) (at sheet (p + basisField))
+
+unfoldable pub wordsIn : Places → Kind → ℕ → ℕ → ℕ
+wordsIn p Head i = row []
+wordsIn p Level i = levelWords (p .ladder) i
+wordsIn p Bus i = busWords (p .tier) (p .load) i
+wordsIn p Generator i = generatorWords (p .bus) (p .slack) (p .pmin) (p .pmax) (p .c1) (p .c2) i
+wordsIn p Corridor i = corridorWords (p .a) (p .b) (p .circuits) (p .lengthKm) (p .share) i
+wordsIn p Line i = lineWords (p .sheet) i

@@ -1,0 +1,123 @@
+// The preview of a filling (document 02, K1): its refusals, in order, and the circuits for a target from what a plan keeps.
+ghost use mathlib.Core.Bool.{_&&_, true};
+ghost use mathlib.Core.Path.{_≡_};
+ghost use Prim.Native.Nat.{_<_};
+ghost use lib.Dec.{leb};
+ghost use lib.ListN.{length};
+ghost use Rattle.loops.specs.Loops.{first};
+ghost use Rattle.plan_defs.specs.Case.{promote};
+ghost use Rattle.plan_defs.specs.Constants.{mostInitial};
+ghost use Rattle.plan_defs.specs.Preview.{keptAs, countOk, differsAt, placeOk, previewFault, refilled};
+ghost use Rattle.planning.specs.Check.{answerOf};
+ghost use Rattle.planning.specs.Preview.{countsFor, orderFor, Refillable};
+use crate::check::MOST_CORRIDORS;
+use crate::check::MOST_INITIAL;
+use crate::check::MOST_TARGET;
+use crate::close::copy_front;
+use crate::figures::wide;
+use crate::fill::copied;
+use crate::fill::fill;
+use crate::policy::promotes;
+use mode::PlanMode;
+use refusal::Answer;
+use refusal::Refusal;
+
+// ---- 6: the first corridor whose kept count is outside 1 to 64
+fn count_ok(count: u32) -> bool
+    ensures { λ r. ⌜ r ≡ (leb 1 count && leb count mostInitial) ⌝ }
+{
+    (1 <= count) & (count <= MOST_INITIAL)
+}
+
+fn faulty_count(before: &[u32]) -> usize
+    ensures { λ r. ⌜ r ≡ first (countOk (countsFor (now (before .entry)))) (length (now (before .entry))) 0 ⌝ }
+{
+    let mut k = 0;
+    while k < before.len() {
+        if !count_ok(before[k]) {
+            return k;
+        }
+        k += 1;
+    }
+    k
+}
+
+// ---- 30: the first place that names no corridor, or one again
+// The first place that names what place j names.
+fn first_named(order: &[u32], j: usize) -> usize
+    requires { ⌜ j < length (now order) ⌝ }
+    ensures { λ r. ⌜ r ≡ first (differsAt (now (order .entry)) j) j 0 ⌝ }
+{
+    let named = order[j];
+    let mut i = 0;
+    while i < j {
+        if order[i] == named {
+            return i;
+        }
+        i += 1;
+    }
+    i
+}
+
+fn place_ok(order: &[u32], j: usize) -> bool
+    requires { ⌜ j < length (now order) ⌝ }
+    ensures { λ r. ⌜ r ≡ placeOk (orderFor (now (order .entry))) j ⌝ }
+{
+    let found = first_named(order, j);
+    (wide(order[j]) < order.len()) & (found == j)
+}
+
+fn faulty_place(order: &[u32]) -> usize
+    ensures { λ r. ⌜ r ≡ first (placeOk (orderFor (now (order .entry)))) (length (now (order .entry))) 0 ⌝ }
+{
+    let mut j = 0;
+    while j < order.len() {
+        if !place_ok(order, j) {
+            return j;
+        }
+        j += 1;
+    }
+    j
+}
+
+// ---- all of them
+pub fn check(
+    mode: PlanMode,
+    target: u32,
+    m: usize,
+    before: &[u32],
+    order: &[u32],
+    places: usize,
+) -> Answer
+    ensures { λ r. ⌜ r ≡ answerOf (previewFault (keptAs mode m (now (before .entry)) (now (order .entry))) target places) ⌝ }
+{
+    if !((before.len() == m) & ((order.len() == m) & (places == m))) {
+        return Answer::Refused(Refusal::Length);
+    }
+    if !((m <= MOST_CORRIDORS) & (target <= MOST_TARGET)) {
+        return Answer::Refused(Refusal::Count);
+    }
+    if !promotes(mode) {
+        return Answer::Refused(Refusal::Mode);
+    }
+    let k = faulty_count(before);
+    if k < m {
+        return Answer::Refused(Refusal::Corridor(k));
+    }
+    let j = faulty_place(order);
+    if j < m {
+        return Answer::Refused(Refusal::Order(j));
+    }
+    Answer::Answered
+}
+
+// ---- the circuits for a target
+pub fn refill(mode: PlanMode, target: u32, before: &[u32], order: &[u32], circuits: &mut [u32])
+    requires { ⌜ (promote mode ≡ true) × Refillable (now before) (now order) (now circuits) ⌝ }
+    ensures { λ _. ⌜ now (circuits .exit) ≡ refilled (keptAs mode (length (now (before .entry))) (now (before .entry)) (now (order .entry))) target ⌝ }
+{
+    let all = copied(order);
+    let first = copied(before);
+    copy_front(first, circuits);
+    fill(mode, target, &all, circuits);
+}

@@ -1,0 +1,3 @@
+-- The laws of a draft and its previews.
+pub mod Planned
+pub mod Files

@@ -1,0 +1,2 @@
+-- What becomes of a case file that is previewed.
+pub mod Files

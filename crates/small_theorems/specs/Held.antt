@@ -1,0 +1,50 @@
+-- What the tables of a header hold: the case as planning takes it, and the network that can be read off them.
+use Prim.Native.Nat.{ℕ, _*_}
+use mathlib.Core.Bool.{Bool, false, _&&_, _||_}
+use mathlib.Core.List.{List, [], _∷_, map}
+use lib.Dec.{eqb}
+use lib.Ieee.{lt}
+use lib.ListN.{take}
+use Rattle.loops.specs.Figures.{nought}
+use Rattle.casefile.specs.Bounds.{rowFigures}
+use Rattle.casefile.specs.Reading.{levels, lines}
+use Rattle.casefile.specs.Tables.{Places, placesOf}
+use Rattle.casefile.specs.declared.Header.{Header}
+use Rattle.plan_defs.specs.Case.{Case, caseOf}
+use Rattle.small.specs.Networks.{Network, pairs, pairsOf}
+
+-- of each table the places of the header's records
+abbrev pub fronts : Header → Places → Places
+fronts h p =
+    let n = h .buses in
+    let g = h .generators in
+    let m = h .corridors in
+    placesOf (take (levels h) (p .ladder)) (take n (p .tier)) (take n (p .load)) (take g (p .bus)) (take g (p .slack)) (take g (p .pmin)) (take g (p .pmax))
+    (take g (p .c1)) (take g (p .c2)) (take m (p .a)) (take m (p .b)) (take m (p .circuits)) (take m (p .lengthKm)) (take m (p .share))
+    (take (lines h * rowFigures) (p .sheet))
+
+-- the case of a header and of columns of its records
+abbrev pub caseWith : Header → Places → Case
+caseWith h p =
+    caseOf (h .mode) (h .buses) (h .corridors) (h .generators) (h .above) (h .requested) (p .ladder) (p .tier) (p .load) (p .bus) (p .slack) (p .pmin) (p .pmax)
+    (p .c1) (p .c2) (p .a) (p .b) (p .circuits) (p .lengthKm) (p .share) (p .sheet)
+
+abbrev pub caseIn : Header → Places → Case
+caseIn h p = caseWith h (fronts h p)
+
+-- whether some corridor joins a pair
+unfoldable pub joins : List ℕ → List ℕ → ℕ × ℕ → Bool
+joins [] ys p = false
+joins (x ∷ xs) [] p = false
+joins (x ∷ xs) (y ∷ ys) p = (eqb x (p .0) && eqb y (p .1)) || joins xs ys p
+
+-- the network of columns: its buses, the pairs that corridors join, and the buses whose load is above zero
+unfoldable pub networkWith : Header → Places → Network
+networkWith h p = record {
+  buses = h .buses;
+  joined = map (joins (p .a) (p .b)) (take (pairsOf (h .buses)) pairs);
+  loaded = map (λ x. lt nought x) (p .load);
+}
+
+abbrev pub networkIn : Header → Places → Network
+networkIn h p = networkWith h (fronts h p)

@@ -1,0 +1,94 @@
+// The last small network.
+use crate::report::FIGURE;
+use crate::report::MARK;
+use crate::report::ROOM;
+use crate::report::Wrong;
+use crate::report::figures_kept;
+use crate::report::made;
+use crate::report::marks_kept;
+use crate::report::none;
+use crate::report::say_answered;
+use crate::report::say_call;
+use crate::report::say_kept;
+use crate::report::say_refusal;
+use casefile::MOST_BUSES;
+use casefile::MOST_CORRIDORS;
+use casefile::MOST_GENERATORS;
+use casefile::MOST_LEVELS;
+use casefile::MOST_SHEET;
+use casefile::Reading;
+
+// The tables.
+const SLICES: usize = 15;
+
+// The last place.
+const LAST: usize = 73;
+
+fn call(what: &[u8], place: usize, wrong: Wrong) {
+    let mut ladder = [FIGURE; ROOM];
+    let mut tier = [MARK; ROOM];
+    let mut load = [FIGURE; ROOM];
+    let mut bus = [MARK; ROOM];
+    let mut slack = [MARK; ROOM];
+    let mut pmin = [FIGURE; ROOM];
+    let mut pmax = [FIGURE; ROOM];
+    let mut c1 = [FIGURE; ROOM];
+    let mut c2 = [FIGURE; ROOM];
+    let mut a = [MARK; ROOM];
+    let mut b = [MARK; ROOM];
+    let mut circuits = [MARK; ROOM];
+    let mut km = [FIGURE; ROOM];
+    let mut share = [FIGURE; ROOM];
+    let mut sheet = [FIGURE; ROOM];
+    let reading = small::small_network(
+        place,
+        &mut ladder[0..made(MOST_LEVELS, 0, wrong)],
+        &mut tier[0..made(MOST_BUSES, 1, wrong)],
+        &mut load[0..made(MOST_BUSES, 2, wrong)],
+        &mut bus[0..made(MOST_GENERATORS, 3, wrong)],
+        &mut slack[0..made(MOST_GENERATORS, 4, wrong)],
+        &mut pmin[0..made(MOST_GENERATORS, 5, wrong)],
+        &mut pmax[0..made(MOST_GENERATORS, 6, wrong)],
+        &mut c1[0..made(MOST_GENERATORS, 7, wrong)],
+        &mut c2[0..made(MOST_GENERATORS, 8, wrong)],
+        &mut a[0..made(MOST_CORRIDORS, 9, wrong)],
+        &mut b[0..made(MOST_CORRIDORS, 10, wrong)],
+        &mut circuits[0..made(MOST_CORRIDORS, 11, wrong)],
+        &mut km[0..made(MOST_CORRIDORS, 12, wrong)],
+        &mut share[0..made(MOST_CORRIDORS, 13, wrong)],
+        &mut sheet[0..made(MOST_SHEET, 14, wrong)],
+    );
+    say_call(what, wrong);
+    match reading {
+        Reading::Read(_) => say_answered(),
+        Reading::Refused(f) => say_refusal(f),
+    }
+    let buses = marks_kept(&tier) & figures_kept(&load) & marks_kept(&bus) & marks_kept(&slack);
+    let units = figures_kept(&pmin) & figures_kept(&pmax) & figures_kept(&c1) & figures_kept(&c2);
+    let ends = marks_kept(&a) & marks_kept(&b) & marks_kept(&circuits) & figures_kept(&km);
+    say_kept(
+        figures_kept(&ladder) & buses & units & ends & figures_kept(&share) & figures_kept(&sheet),
+    );
+}
+
+// Every length right; then a place past the last, with these lengths and with a wrong one: refusal 1 comes before 23.
+pub fn first() {
+    call(b"small", LAST, none());
+    call(b"small at 74", LAST + 1, none());
+    call(
+        b"small at 74",
+        LAST + 1,
+        Wrong {
+            slice: 0,
+            long: false,
+        },
+    );
+}
+
+// One slice too short, and too long, where there is such a slice.
+pub fn both(slice: usize) {
+    if slice < SLICES {
+        call(b"small", LAST, Wrong { slice, long: false });
+        call(b"small", LAST, Wrong { slice, long: true });
+    }
+}

@@ -41,10 +41,17 @@ fn least(runs: usize, mut port: impl FnMut(), mut rust: impl FnMut()) -> (Durati
     least_by(runs, || time(&mut port), || time(&mut rust))
 }
 
+/// From start to end; where that is more than a millisecond, in which others may have had the processor, the processor time.
 fn time(work: &mut impl FnMut()) -> Duration {
+    let before = process::own_time();
     let start = Instant::now();
     work();
-    start.elapsed()
+    let passed = start.elapsed();
+    if passed < Duration::from_millis(1) {
+        passed
+    } else {
+        process::own_time() - before
+    }
 }
 
 /// One line of the table.

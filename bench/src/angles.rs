@@ -114,8 +114,8 @@ fn compare(what: &str, q: &Request, runs: usize) -> usize {
     steps
 }
 
-/// What a solve of so many steps cannot go below: in each step three sums over the buses (d·q, r·r and r·z), each in order,
-/// as the scope has it, and each after the one before it, on which it depends. This makes those additions and nothing else.
+/// The additions of a solve of so many steps as the code makes them: in each step three sums over the buses (d·q, r·r and
+/// r·z), each in order, as the scope has it, one after the other. This makes those additions and nothing else.
 fn additions(n: usize, steps: usize) {
     let terms = vec![1e-3; n];
     let mut sum = 0.0;

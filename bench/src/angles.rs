@@ -6,6 +6,7 @@ use crate::{least, report};
 use reference::electrical::planning::{dc_angles_cg, End, Solve};
 use reference::harness::operations::{angles, Network};
 use reference::harness::refusal::Refusal;
+use std::hint::black_box;
 
 /// A feeder with some loops, grounded at bus 0: bus i hangs on an earlier one, and every fourth bus has a second line.
 fn feeder(n: usize, least_weight: f64) -> Request {
@@ -95,7 +96,7 @@ fn agree(what: &str, q: &Request) -> AnglesSaid {
     port
 }
 
-fn compare(what: &str, q: &Request, runs: usize) {
+fn compare(what: &str, q: &Request, runs: usize) -> usize {
     let steps = agree(what, q).steps;
     let n = q.injection.len();
     let Network { edges, grounds, .. } = network(q);
@@ -103,13 +104,38 @@ fn compare(what: &str, q: &Request, runs: usize) {
     let times = least(
         runs,
         || {
-            std::hint::black_box(dc_angles(q, &mut result, &mut work));
+            black_box(dc_angles(q, &mut result, &mut work));
         },
         || {
-            std::hint::black_box(dc_angles_cg(n, &edges, &q.injection, &grounds, None));
+            black_box(dc_angles_cg(n, &edges, &q.injection, &grounds, None));
         },
     );
     report(what, &format!("{steps} steps"), times);
+    steps
+}
+
+/// The additions of a solve of so many steps as the code makes them: in each step three sums over the buses (d·q, r·r and
+/// r·z), each in order, as the scope has it, one after the other. This makes those additions and nothing else.
+fn additions(n: usize, steps: usize) {
+    let terms = vec![1e-3; n];
+    let mut sum = 0.0;
+    for _ in 0..3 * steps {
+        for term in black_box(&terms) {
+            sum += term;
+        }
+    }
+    black_box(sum);
+}
+
+/// One line: the least time of those additions alone.
+fn bound(n: usize, steps: usize, runs: usize) {
+    let (alone, _) = least(runs, || additions(n, steps), || ());
+    println!(
+        "{:<54} {:>11} {:>12.1}",
+        format!("angles, {n} buses, settles, the additions in order"),
+        format!("{steps} steps"),
+        alone.as_nanos() as f64 / 1000.0
+    );
 }
 
 /// Each way to end, and refusals with an index.
@@ -130,11 +156,12 @@ fn answers() {
 pub fn run() {
     answers();
     for (n, runs) in [(8, 4000), (64, 800), (256, 200)] {
-        compare(
+        let steps = compare(
             &format!("angles, {n} buses, settles"),
             &feeder(n, 0.5),
             runs,
         );
+        bound(n, steps, runs);
         compare(
             &format!("angles, {n} buses, uneven weights"),
             &feeder(n, 1e-4),

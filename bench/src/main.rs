@@ -2,15 +2,15 @@
 //! the results are compared bit for bit, line sheets judged, and the least time of many runs of each gives the ratio. A
 //! ratio below 1 says that the port is faster.
 //!
-//!     bench           the table
-//!     bench --once    the same with one run of each, for what it compares: its times say nothing
+//!     bench [PART..]         the table, or parts of it: angles, operations, reading, sheet, listing
+//!     bench --once [PART..]  the same with one run of each, for what it compares: its times say nothing
 
 mod angles;
 mod cases;
 mod draws;
-mod memory;
 mod operations;
 mod ports;
+mod process;
 mod programs;
 mod reading;
 mod sheet;
@@ -22,18 +22,36 @@ fn once() -> bool {
     std::env::args().any(|word| word == "--once")
 }
 
-/// The least time of `runs` runs of each of two functions, called in turn.
-fn least(runs: usize, mut port: impl FnMut(), mut rust: impl FnMut()) -> (Duration, Duration) {
+/// The least of `runs` measures of each of two sides, taken in turn.
+fn least_by(
+    runs: usize,
+    mut port: impl FnMut() -> Duration,
+    mut rust: impl FnMut() -> Duration,
+) -> (Duration, Duration) {
     let mut best = (Duration::MAX, Duration::MAX);
     for _ in 0..if once() { 1 } else { runs } {
-        let start = Instant::now();
-        port();
-        best.0 = best.0.min(start.elapsed());
-        let start = Instant::now();
-        rust();
-        best.1 = best.1.min(start.elapsed());
+        best.0 = best.0.min(port());
+        best.1 = best.1.min(rust());
     }
     best
+}
+
+/// The least time of `runs` runs of each of two functions, called in turn.
+fn least(runs: usize, mut port: impl FnMut(), mut rust: impl FnMut()) -> (Duration, Duration) {
+    least_by(runs, || time(&mut port), || time(&mut rust))
+}
+
+/// From start to end; where that is more than a millisecond, in which others may have had the processor, the processor time.
+fn time(work: &mut impl FnMut()) -> Duration {
+    let before = process::own_time();
+    let start = Instant::now();
+    work();
+    let passed = start.elapsed();
+    if passed < Duration::from_millis(1) {
+        passed
+    } else {
+        process::own_time() - before
+    }
 }
 
 /// One line of the table.
@@ -52,9 +70,18 @@ fn main() {
         "{:<54} {:>11} {:>12} {:>12} {:>8}",
         "case", "", "port, us", "Rust, us", "ratio"
     );
-    angles::run();
-    operations::run();
-    reading::run();
-    sheet::run();
-    programs::run();
+    let parts: [(&str, fn()); 5] = [
+        ("angles", angles::run),
+        ("operations", operations::run),
+        ("reading", reading::run),
+        ("sheet", sheet::run),
+        ("listing", programs::run),
+    ];
+    let words: Vec<String> = std::env::args().skip(1).collect();
+    let all = words.iter().all(|word| word == "--once");
+    for (name, run) in parts {
+        if all || words.iter().any(|word| word == name) {
+            run();
+        }
+    }
 }

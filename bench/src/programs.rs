@@ -1,8 +1,6 @@
-//! The listing program against the reference build's, on the same case files: what a run costs from start to end, and
-//! without what a run on an empty file costs. The listings are compared byte for byte.
+//! The listing program against the reference build's, on the same case files: the processor time of a run from start to
+//! end, and without what a run on an empty file costs. The listings are compared byte for byte.
 
-use std::io::Write;
-use std::process::{Command, Stdio};
 use std::time::Duration;
 
 use reference::harness::case_file::write_case;
@@ -10,24 +8,15 @@ use reference::harness::listing::answer_list;
 use reference::watch::{self, Branch};
 
 use crate::cases::{draft, hopeless, Shape, FEEDER, OBSERVE, REINFORCE};
-use crate::memory::most_kilobytes;
-use crate::{least, report};
+use crate::process::{most_kilobytes, run_program};
+use crate::{least_by, report};
 
 const PORT: &[&str] = &["target/bin/listing"];
 const RUST: &[&str] = &["reference/target/release/reference", "list"];
 
 /// What a program prints of a case file.
 fn listing(words: &[&str], file: &[u8]) -> Vec<u8> {
-    let mut child = Command::new(words[0])
-        .args(&words[1..])
-        .stdin(Stdio::piped())
-        .stdout(Stdio::piped())
-        .spawn()
-        .expect("the program starts");
-    let mut input = child.stdin.take().expect("standard input is piped");
-    input.write_all(file).expect("the program reads");
-    drop(input);
-    child.wait_with_output().expect("the program ends").stdout
+    run_program(words, file).0
 }
 
 fn compare(
@@ -38,14 +27,10 @@ fn compare(
 ) -> (Duration, Duration) {
     let ours = listing(PORT, file);
     assert_eq!(ours, listing(RUST, file), "{what}: the listings differ");
-    let times = least(
+    let times = least_by(
         runs,
-        || {
-            listing(PORT, file);
-        },
-        || {
-            listing(RUST, file);
-        },
+        || run_program(PORT, file).1,
+        || run_program(RUST, file).1,
     );
     let note = format!("{} lines", ours.iter().filter(|&&c| c == b'\n').count());
     report(&format!("listing, {what}"), &note, times);

@@ -2,7 +2,7 @@
 //! the results are compared bit for bit, line sheets judged, and the least time of many runs of each gives the ratio. A
 //! ratio below 1 says that the port is faster.
 //!
-//!     bench [PART..]         the table, or parts of it: angles, operations, reading, sheet, listing
+//!     bench [PART..]         the table, or parts of it: angles, operations, reading, sheet, previews, listing
 //!     bench --once [PART..]  the same with one run of each, for what it compares: its times say nothing
 
 mod angles;
@@ -10,6 +10,7 @@ mod cases;
 mod draws;
 mod operations;
 mod ports;
+mod previews;
 mod process;
 mod programs;
 mod reading;
@@ -70,11 +71,12 @@ fn main() {
         "{:<54} {:>11} {:>12} {:>12} {:>8}",
         "case", "", "port, us", "Rust, us", "ratio"
     );
-    let parts: [(&str, fn()); 5] = [
+    let parts: [(&str, fn()); 6] = [
         ("angles", angles::run),
         ("operations", operations::run),
         ("reading", reading::run),
         ("sheet", sheet::run),
+        ("previews", previews::run),
         ("listing", programs::run),
     ];
     let words: Vec<String> = std::env::args().skip(1).collect();

@@ -6,10 +6,10 @@ use native.Mathlib.Omega.{arith}
 use lib.ListN.{length, take, replicate, length-take, length-replicate}
 use Rattle.plan_defs.specs.Case.{Case, caseOf}
 use Rattle.plan_defs.specs.Plan.{endingOf}
-use Rattle.casefile.specs.Bounds.{mostLevels, mostCorridors, mostSheet, rowFigures}
-use Rattle.casefile.specs.Reading.{Small, levels, lines}
-use Rattle.casefile.specs.Tables.{Places}
-use Rattle.casefile.specs.declared.Header.{Header}
+use Rattle.casefile_defs.specs.Bounds.{mostLevels, mostCorridors, mostSheet, rowFigures}
+use Rattle.casefile_defs.specs.Reading.{Small, levels, lines}
+use Rattle.casefile_defs.specs.Tables.{Places}
+use Rattle.casefile_defs.specs.declared.Header.{Header}
 use Rattle.listing.specs.Listing.{endingText, caseText}
 
 -- the rows of the sheet are places of it

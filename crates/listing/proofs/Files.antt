@@ -6,12 +6,12 @@ use mathlib.Core.Path.{_≡_, refl, sym, ap, _∙_}
 use Rattle.refusal.specs.Reply.{Reply, answered, refused}
 use Rattle.refusal.specs.declared.Refusal.{Refusal}
 use Rattle.refusal.specs.declared.Refusal.the-variants.{Length}
-use Rattle.casefile.specs.Reading.{unread, readOf, readingOf}
-use Rattle.casefile.specs.Tables.{Places, Outcome, replyOf, outcome, tablesOf, held, sizesOk, readCase}
-use Rattle.casefile.specs.declared.CaseRead.{CaseRead}
-use Rattle.casefile.specs.declared.Header.{Header}
-use Rattle.casefile.specs.declared.Reading.{Reading}
-use Rattle.casefile.specs.declared.Reading.the-variants.{Refused, Read}
+use Rattle.casefile_defs.specs.Reading.{unread, readOf, readingOf}
+use Rattle.casefile_defs.specs.Tables.{Places, Outcome, replyOf, outcome, tablesOf, held, sizesOk, readCase}
+use Rattle.casefile_defs.specs.declared.CaseRead.{CaseRead}
+use Rattle.casefile_defs.specs.declared.Header.{Header}
+use Rattle.casefile_defs.specs.declared.Reading.{Reading}
+use Rattle.casefile_defs.specs.declared.Reading.the-variants.{Refused, Read}
 use mathlib.Core.Bool.{cond}
 use Rattle.listing.specs.Text.{number}
 use Rattle.listing.specs.Lines.{line, refusalLine}

@@ -11,13 +11,13 @@ use Rattle.plan_defs.specs.Outcome.{summary}
 use Rattle.plan_defs.specs.declared.CorridorPlan.{CorridorPlan}
 use Rattle.plan_defs.specs.declared.Planned.{Planned}
 use Rattle.plan_defs.specs.declared.Planned.the-variants.{Answered, Refused}
-use Rattle.casefile.specs.Bounds.{mostLevels, mostBuses, mostGenerators, mostCorridors, mostSheet, rowFigures}
-use Rattle.casefile.specs.Reading.{levels, lines, readingOf}
-use Rattle.casefile.specs.Tables.{Places, tablesOf}
-use Rattle.casefile.specs.declared.Header.{Header}
-use Rattle.casefile.specs.declared.Reading.{Reading}
-use Rattle.casefile.specs.declared.Reading.the-variants.{Read}
-use Rattle.casefile.specs.declared.Reading.the-variants.{Refused as Unread}
+use Rattle.casefile_defs.specs.Bounds.{mostLevels, mostBuses, mostGenerators, mostCorridors, mostSheet, rowFigures}
+use Rattle.casefile_defs.specs.Reading.{levels, lines, readingOf}
+use Rattle.casefile_defs.specs.Tables.{Places, tablesOf}
+use Rattle.casefile_defs.specs.declared.Header.{Header}
+use Rattle.casefile_defs.specs.declared.Reading.{Reading}
+use Rattle.casefile_defs.specs.declared.Reading.the-variants.{Read}
+use Rattle.casefile_defs.specs.declared.Reading.the-variants.{Refused as Unread}
 use Rattle.listing.specs.Lines.{planRoom, lineRoom, refusalLine, planLine, addedLines, groundLines, busLines, generatorLines, corridorLines, mostLine}
 
 -- PL, AD, GR, BU, GE, CO, MX

@@ -1,20 +1,20 @@
 // The listing of a case file.
 ghost use Prim.Native.Nat.{_≤_};
 ghost use lib.ListN.{length};
-ghost use Rattle.casefile.specs.Reading.{Small};
-ghost use Rattle.casefile.specs.Tables.{placesOf};
+ghost use Rattle.casefile_defs.specs.Reading.{Small};
+ghost use Rattle.casefile_defs.specs.Tables.{placesOf};
 ghost use Rattle.listing.specs.Text.{Put};
 ghost use Rattle.listing.specs.Listing.{Largest, caseText, fileText, mostText};
 use crate::line::put_refusal;
 use crate::listing::put_planned;
-use casefile::Header;
-use casefile::MOST_BUSES;
-use casefile::MOST_CORRIDORS;
-use casefile::MOST_GENERATORS;
-use casefile::MOST_LEVELS;
-use casefile::MOST_SHEET;
-use casefile::ROW_FIGURES;
-use casefile::Reading;
+use casefile_defs::Header;
+use casefile_defs::MOST_BUSES;
+use casefile_defs::MOST_CORRIDORS;
+use casefile_defs::MOST_GENERATORS;
+use casefile_defs::MOST_LEVELS;
+use casefile_defs::MOST_SHEET;
+use casefile_defs::ROW_FIGURES;
+use casefile_defs::Reading;
 
 // The places of a work slice for each bus, corridor and generator.
 const WORK_ROWS: usize = 12;

@@ -9,16 +9,16 @@ use lib.ListN.{take}
 use Rattle.refusal.specs.Reply.{Reply, answered, refused, refusedBy}
 use Rattle.refusal.specs.declared.Refusal.{Refusal}
 use Rattle.refusal.specs.declared.Refusal.the-variants.{Length}
-use Rattle.casefile.specs.Bounds.{mostLevels, mostCorridors, mostSheet, rowFigures}
-use Rattle.casefile.specs.Reading.{Small, levels, lines, readOf, readingOf}
-use Rattle.casefile.specs.Reading.{unread as unread-case}
-use Rattle.casefile.specs.Tables.{Places, placesOf, replyOf, tablesOf, held, sizesOk, readCase}
-use Rattle.casefile.specs.Tables.{Outcome as ReadOutcome}
-use Rattle.casefile.specs.Tables.{outcome as read-outcome}
-use Rattle.casefile.specs.declared.CaseRead.{CaseRead}
-use Rattle.casefile.specs.declared.Header.{Header}
-use Rattle.casefile.specs.declared.Reading.{Reading}
-use Rattle.casefile.specs.declared.Reading.the-variants.{Refused, Read}
+use Rattle.casefile_defs.specs.Bounds.{mostLevels, mostCorridors, mostSheet, rowFigures}
+use Rattle.casefile_defs.specs.Reading.{Small, levels, lines, readOf, readingOf}
+use Rattle.casefile_defs.specs.Reading.{unread as unread-case}
+use Rattle.casefile_defs.specs.Tables.{Places, placesOf, replyOf, tablesOf, held, sizesOk, readCase}
+use Rattle.casefile_defs.specs.Tables.{Outcome as ReadOutcome}
+use Rattle.casefile_defs.specs.Tables.{outcome as read-outcome}
+use Rattle.casefile_defs.specs.declared.CaseRead.{CaseRead}
+use Rattle.casefile_defs.specs.declared.Header.{Header}
+use Rattle.casefile_defs.specs.declared.Reading.{Reading}
+use Rattle.casefile_defs.specs.declared.Reading.the-variants.{Refused, Read}
 use Rattle.plan_defs.specs.Preview.{Kept}
 use Rattle.previews.specs.Files.{fronts, keptCase, keptRead, keptFile}
 

@@ -7,8 +7,8 @@ mod print;
 
 ghost use Prim.Native.Nat.{_≤_};
 ghost use Rattle.previews.specs.Files.{mostCorridors};
-use casefile::MOST_BYTES;
-use casefile::MOST_CORRIDORS;
+use casefile_defs::MOST_BYTES;
+use casefile_defs::MOST_CORRIDORS;
 use draft::Draft;
 use draft::plan_file;
 use draft::preview_draft;

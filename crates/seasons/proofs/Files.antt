@@ -11,16 +11,16 @@ use Rattle.refusal.specs.Reply.{Reply, answered, refused}
 use Rattle.refusal.specs.declared.Refusal.{Refusal}
 use Rattle.refusal.specs.declared.Refusal.the-variants.{Length}
 use Rattle.refusal.specs.declared.Answer.the-variants.{Refused as NotTaken}
-use Rattle.casefile.specs.Bounds.{mostLevels, mostCorridors, mostSheet, rowFigures}
-use Rattle.casefile.specs.Reading.{Small, levels, lines, readOf, readingOf}
-use Rattle.casefile.specs.Reading.{unread as unread-case}
-use Rattle.casefile.specs.Tables.{Places, placesOf, replyOf, tablesOf, held, sizesOk, readCase}
-use Rattle.casefile.specs.Tables.{Outcome as ReadOutcome}
-use Rattle.casefile.specs.Tables.{outcome as read-outcome}
-use Rattle.casefile.specs.declared.CaseRead.{CaseRead}
-use Rattle.casefile.specs.declared.Header.{Header}
-use Rattle.casefile.specs.declared.Reading.{Reading}
-use Rattle.casefile.specs.declared.Reading.the-variants.{Refused, Read}
+use Rattle.casefile_defs.specs.Bounds.{mostLevels, mostCorridors, mostSheet, rowFigures}
+use Rattle.casefile_defs.specs.Reading.{Small, levels, lines, readOf, readingOf}
+use Rattle.casefile_defs.specs.Reading.{unread as unread-case}
+use Rattle.casefile_defs.specs.Tables.{Places, placesOf, replyOf, tablesOf, held, sizesOk, readCase}
+use Rattle.casefile_defs.specs.Tables.{Outcome as ReadOutcome}
+use Rattle.casefile_defs.specs.Tables.{outcome as read-outcome}
+use Rattle.casefile_defs.specs.declared.CaseRead.{CaseRead}
+use Rattle.casefile_defs.specs.declared.Header.{Header}
+use Rattle.casefile_defs.specs.declared.Reading.{Reading}
+use Rattle.casefile_defs.specs.declared.Reading.the-variants.{Refused, Read}
 use Rattle.season_defs.specs.Feeding.{Outcome, outcome}
 use Rattle.season_defs.specs.declared.Season.{Season}
 use Rattle.seasons.specs.Files.{fronts, fedCase, fedRead, fedFile}

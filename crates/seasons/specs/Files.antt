@@ -9,13 +9,13 @@ use Rattle.plan_defs.specs.Outcome.{summary}
 use Rattle.plan_defs.specs.declared.Planned.{Planned}
 use Rattle.plan_defs.specs.declared.Planned.the-variants.{Answered}
 use Rattle.plan_defs.specs.declared.Planned.the-variants.{Refused as Unplanned}
-use Rattle.casefile.specs.Bounds.{rowFigures}
-use Rattle.casefile.specs.Reading.{levels, lines, readingOf}
-use Rattle.casefile.specs.Tables.{Places, placesOf, tablesOf}
-use Rattle.casefile.specs.declared.Header.{Header}
-use Rattle.casefile.specs.declared.Reading.{Reading}
-use Rattle.casefile.specs.declared.Reading.the-variants.{Read}
-use Rattle.casefile.specs.declared.Reading.the-variants.{Refused as Unread}
+use Rattle.casefile_defs.specs.Bounds.{rowFigures}
+use Rattle.casefile_defs.specs.Reading.{levels, lines, readingOf}
+use Rattle.casefile_defs.specs.Tables.{Places, placesOf, tablesOf}
+use Rattle.casefile_defs.specs.declared.Header.{Header}
+use Rattle.casefile_defs.specs.declared.Reading.{Reading}
+use Rattle.casefile_defs.specs.declared.Reading.the-variants.{Read}
+use Rattle.casefile_defs.specs.declared.Reading.the-variants.{Refused as Unread}
 use Rattle.season_defs.specs.Feeding.{Outcome, outcome, draftOf, feed}
 use Rattle.season_defs.specs.declared.Season.{Season}
 

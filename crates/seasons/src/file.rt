@@ -1,17 +1,17 @@
 // A case file, read, planned and taken.
 ghost use mathlib.Core.Path.{_≡_};
-ghost use Rattle.casefile.specs.Reading.{Small};
-ghost use Rattle.casefile.specs.Tables.{placesOf};
+ghost use Rattle.casefile_defs.specs.Reading.{Small};
+ghost use Rattle.casefile_defs.specs.Tables.{placesOf};
 ghost use Rattle.season_defs.specs.Feeding.{fedOf};
 ghost use Rattle.seasons.specs.Files.{fedPlanned, fedCase, fedFile};
-use casefile::Header;
-use casefile::MOST_BUSES;
-use casefile::MOST_CORRIDORS;
-use casefile::MOST_GENERATORS;
-use casefile::MOST_LEVELS;
-use casefile::MOST_SHEET;
-use casefile::ROW_FIGURES;
-use casefile::Reading;
+use casefile_defs::Header;
+use casefile_defs::MOST_BUSES;
+use casefile_defs::MOST_CORRIDORS;
+use casefile_defs::MOST_GENERATORS;
+use casefile_defs::MOST_LEVELS;
+use casefile_defs::MOST_SHEET;
+use casefile_defs::ROW_FIGURES;
+use casefile_defs::Reading;
 use plan_defs::Planned;
 use planning::plan_corridors;
 use refusal::Answer;

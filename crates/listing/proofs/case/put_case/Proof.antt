@@ -3,8 +3,8 @@ use Prim.Native.Nat.{ℕ, _+_, _*_, _≤_}
 use mathlib.Core.Path.{_≡_}
 use native.Mathlib.Omega.{arith}
 use borrow.Author.Needs.{needs}
-use Rattle.casefile.specs.Reading.{Small}
-use Rattle.casefile.specs.Tables.{Places, placesOf}
+use Rattle.casefile_defs.specs.Reading.{Small}
+use Rattle.casefile_defs.specs.Tables.{Places, placesOf}
 use Rattle.listing.specs.Listing.{Largest}
 use Rattle.listing.proofs.Cases.{rows-fit, part-length, case-text}
 use Rattle.listing.proofs.Texts.{same-text}

@@ -5,8 +5,8 @@ use native.Mathlib.Omega.{arith}
 use borrow.Author.Needs.{needs}
 use lib.ListN.{replicate}
 use Rattle.loops.specs.Figures.{nought}
-use Rattle.casefile.specs.Tables.{Places, placesOf, sizesOk}
-use Rattle.casefile.proofs.Callers.{answered-small}
+use Rattle.casefile_defs.specs.Tables.{Places, placesOf, sizesOk}
+use Rattle.casefile_defs.proofs.Callers.{answered-small}
 use Rattle.listing.proofs.Files.{refused-file, read-file}
 use Rattle.listing.proofs.Texts.{same-text}
 use Rattle.listing.proofs.case.put_file.Statement.{statement}

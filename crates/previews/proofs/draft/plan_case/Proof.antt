@@ -7,7 +7,7 @@ use native.Mathlib.Omega.{arith}
 use borrow.Author.Needs.{needs}
 use lib.ListN.{length, take, replicate}
 use Rattle.loops.specs.Figures.{nought}
-use Rattle.casefile.specs.Reading.{Small}
+use Rattle.casefile_defs.specs.Reading.{Small}
 use Rattle.plan_defs.specs.Case.{Case, caseOf}
 use Rattle.plan_defs.specs.Outcome.{Slices, slices}
 use Rattle.plan_theorems.proofs.Outcomes.{Lengths, lengths-ok}

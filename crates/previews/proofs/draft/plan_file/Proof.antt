@@ -5,9 +5,9 @@ use native.Mathlib.Omega.{arith}
 use borrow.Author.Needs.{needs}
 use lib.ListN.{replicate}
 use Rattle.loops.specs.Figures.{nought}
-use Rattle.casefile.specs.Reading.{Small}
-use Rattle.casefile.specs.Tables.{Places, placesOf, sizesOk}
-use Rattle.casefile.proofs.Callers.{answered-small}
+use Rattle.casefile_defs.specs.Reading.{Small}
+use Rattle.casefile_defs.specs.Tables.{Places, placesOf, sizesOk}
+use Rattle.casefile_defs.proofs.Callers.{answered-small}
 use Rattle.previews.proofs.Files.{rows-fit, in-table, unread, read}
 use Rattle.previews.proofs.Planned.{drafted-refused}
 use Rattle.previews.proofs.draft.plan_file.Statement.{statement}

@@ -8,11 +8,11 @@ use native.Mathlib.Nat.{mul-le-mul}
 use borrow.Author.Tests.{leb-true}
 use Rattle.loops.proofs.Bools.{both}
 use Rattle.mode.specs.declared.PlanMode.{PlanMode}
-use Rattle.casefile.specs.Bounds.{mostLevels, mostBuses, mostGenerators, mostCorridors, mostTarget}
-use Rattle.casefile.specs.Layout.{field}
-use Rattle.casefile.specs.Reading.{countsOk, Small, levels, lines, headerOf, modeOf}
-use Rattle.casefile.specs.declared.Header.{Header}
-use Rattle.casefile.specs.declared.Kind.the-variants.{Head}
+use Rattle.casefile_defs.specs.Bounds.{mostLevels, mostBuses, mostGenerators, mostCorridors, mostTarget}
+use Rattle.casefile_defs.specs.Layout.{field}
+use Rattle.casefile_defs.specs.Reading.{countsOk, Small, levels, lines, headerOf, modeOf}
+use Rattle.casefile_defs.specs.declared.Header.{Header}
+use Rattle.casefile_defs.specs.declared.Kind.the-variants.{Head}
 
 pub small-of : (h : Header) → countsOk h ≡ true → Small h
 small-of h e =

@@ -1,5 +1,5 @@
 -- Document 01's "Case reading": the lent tables, what reading leaves in each of their places, and the operation whole.
-use Prim.Native.Nat.{ℕ, _/_, _%_, _<_, _≤_, _+_}
+use Prim.Native.Nat.{ℕ, _/_, _%_, _+_}
 use mathlib.Core.Bool.{Bool, _&&_, cond}
 use mathlib.Core.List.{List}
 use lib.Dec.{ltb, eqb}
@@ -10,24 +10,15 @@ use Rattle.loops.specs.Loops.{tab}
 use Rattle.refusal.specs.Reply.{Reply, answered, refusedBy}
 use Rattle.refusal.specs.declared.Refusal.the-variants.{Length}
 use Rattle.mode.specs.declared.PlanMode.the-variants.{Expand}
-use Rattle.casefile.specs.Bounds.{mostLevels, mostBuses, mostGenerators, mostCorridors, rowFigures, mostSheet}
-use Rattle.casefile.specs.Layout.{sizeOf, placeOf, spanOf, spot, word, field}
-use Rattle.casefile.specs.Reading.{levels, lines, readOf, unread}
-use Rattle.casefile.specs.declared.Kind.{Kind}
-use Rattle.casefile.specs.declared.Kind.the-variants.{Head, Level, Bus, Generator, Corridor, Line}
-use Rattle.casefile.specs.declared.Header.{Header}
-use Rattle.casefile.specs.declared.CaseRead.{CaseRead}
-use Rattle.casefile.specs.declared.columns.Span.{Span}
-use Rattle.casefile.specs.declared.Reading.{Reading}
-use Rattle.casefile.specs.declared.Reading.the-variants.{Refused, Read}
-
--- every record of a table is inside the file
-abbrev pub Room : Kind → List ℕ → ℕ → ℕ → Type 0
-Room k s at count = (i : ℕ) → i < count → spot k at i + sizeOf k ≤ length s
-
--- the table of count records after a table of records of kind k
-abbrev pub following : Kind → Span → ℕ → Span
-following k t count = record { at = spot k (t .at) (t .count); count = count }
+use Rattle.casefile_defs.specs.Bounds.{mostLevels, mostBuses, mostGenerators, mostCorridors, rowFigures, mostSheet}
+use Rattle.casefile_defs.specs.Layout.{sizeOf, placeOf, spanOf, spot, word, field}
+use Rattle.casefile_defs.specs.Reading.{levels, lines, readOf, unread}
+use Rattle.casefile_defs.specs.declared.Kind.{Kind}
+use Rattle.casefile_defs.specs.declared.Kind.the-variants.{Head, Level, Bus, Generator, Corridor, Line}
+use Rattle.casefile_defs.specs.declared.Header.{Header}
+use Rattle.casefile_defs.specs.declared.CaseRead.{CaseRead}
+use Rattle.casefile_defs.specs.declared.Reading.{Reading}
+use Rattle.casefile_defs.specs.declared.Reading.the-variants.{Refused, Read}
 
 -- place i of a column: the w bytes at distance o in record i, and zero past the records
 unfoldable pub numberIn : Kind → List ℕ → ℕ → ℕ → ℕ → ℕ → ℕ → ℕ

@@ -8,11 +8,11 @@ use native.Mathlib.Omega.{arith}
 use borrow.Author.Tests.{lt-ltb, le-ltb}
 use lib.Ieee.{Float, binary64, ofBits}
 use Rattle.loops.specs.Figures.{nought}
-use Rattle.casefile.specs.Bounds.{rowFigures}
-use Rattle.casefile.specs.Layout.{sizeOf, spot, word, field}
-use Rattle.casefile.specs.Tables.{numberIn, figureIn, sheetIn, lineFigure, basisOf, basisField}
-use Rattle.casefile.specs.declared.Kind.{Kind}
-use Rattle.casefile.specs.declared.Kind.the-variants.{Line}
+use Rattle.casefile_defs.specs.Bounds.{rowFigures}
+use Rattle.casefile_defs.specs.Layout.{sizeOf, spot, word, field}
+use Rattle.casefile_defs.specs.Tables.{numberIn, figureIn, sheetIn, lineFigure, basisOf, basisField}
+use Rattle.casefile_defs.specs.declared.Kind.{Kind}
+use Rattle.casefile_defs.specs.declared.Kind.the-variants.{Line}
 
 pub spot-mul : (k : Kind) (at i : ℕ) → spot k at i ≡ at + i * sizeOf k
 unfolding spot

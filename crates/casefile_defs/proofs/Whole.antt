@@ -1,7 +1,7 @@
 -- The whole operation, from what its parts leave.
 -- Each column is its field's, so the tables are the definition's (tables-same); the lengths are a chain of `and`, taken apart link by link.
 use Prim.Native.Nat.{ℕ}
-use mathlib.Core.Path.{_≡_, sym, ap, _∙_}
+use mathlib.Core.Path.{_≡_, sym}
 use mathlib.Core.Bool.{true, false}
 use mathlib.Core.List.{List}
 use borrow.Author.Tests.{eqb-true}
@@ -10,14 +10,12 @@ use lib.ListN.{length}
 use Rattle.loops.specs.Loops.{tab}
 use Rattle.loops.proofs.Bools.{both}
 use Rattle.refusal.specs.declared.Refusal.the-variants.{Length}
-use Rattle.casefile.specs.Bounds.{mostLevels, mostBuses, mostGenerators, mostCorridors, mostSheet}
-use Rattle.casefile.specs.Reading.{levels, lines, readOf, unread}
-use Rattle.casefile.specs.Tables.{Places, placesOf, numbers, figures, sheetIn, levelsAt, busesAt, generatorsAt, corridorsAt, linesAt, tablesOf, held, sizesOk, outcome, readCase}
-use Rattle.casefile.specs.declared.Kind.{Kind}
-use Rattle.casefile.specs.declared.Kind.the-variants.{Level, Bus, Generator, Corridor}
-use Rattle.casefile.specs.declared.Header.{Header}
-use Rattle.casefile.specs.declared.columns.Span.{Span}
-use Rattle.casefile.specs.declared.CaseRead.{CaseRead}
+use Rattle.casefile_defs.specs.Bounds.{mostLevels, mostBuses, mostGenerators, mostCorridors, mostSheet}
+use Rattle.casefile_defs.specs.Reading.{levels, lines, readOf, unread}
+use Rattle.casefile_defs.specs.Tables.{Places, placesOf, numbers, figures, sheetIn, levelsAt, busesAt, generatorsAt, corridorsAt, linesAt, tablesOf, held, sizesOk, outcome, readCase}
+use Rattle.casefile_defs.specs.declared.Kind.the-variants.{Level, Bus, Generator, Corridor}
+use Rattle.casefile_defs.specs.declared.Header.{Header}
+use Rattle.casefile_defs.specs.declared.CaseRead.{CaseRead}
 
 -- every table has its largest size
 pub record Sizes (p : Places) : Type 0 where
@@ -71,19 +69,6 @@ sizes p e =
       share = eqb-true (length (p .share)) mostCorridors (t13 .1);
       sheet = eqb-true (length (p .sheet)) mostSheet (t14 .1);
     }
-
--- a column of a table whose records and size are known
-pub column-numbers : (k : Kind) (j : ℕ) (s : List ℕ) {x : List ℕ} {t t′ : Span} {n n′ : ℕ} → t ≡ t′ → n ≡ n′
-    → x ≡ numbers k j s (t .at) (t .count) n → x ≡ numbers k j s (t′ .at) (t′ .count) n′
-column-numbers k j s {x} {t} {t′} {n} {n′} p q e = e ∙ ap (λ (u : Span). numbers k j s (u .at) (u .count) n) p ∙ ap (λ (m : ℕ). numbers k j s (t′ .at) (t′ .count) m) q
-
-pub column-figures : (k : Kind) (j : ℕ) (s : List ℕ) {x : List Float} {t t′ : Span} {n n′ : ℕ} → t ≡ t′ → n ≡ n′
-    → x ≡ figures k j s (t .at) (t .count) n → x ≡ figures k j s (t′ .at) (t′ .count) n′
-column-figures k j s {x} {t} {t′} {n} {n′} p q e = e ∙ ap (λ (u : Span). figures k j s (u .at) (u .count) n) p ∙ ap (λ (m : ℕ). figures k j s (t′ .at) (t′ .count) m) q
-
-pub sheet-rows : (s : List ℕ) {x : List Float} {t t′ : Span} {n n′ : ℕ} → t ≡ t′ → n ≡ n′
-    → x ≡ tab n (sheetIn s (t .at) (t .count)) → x ≡ tab n′ (sheetIn s (t′ .at) (t′ .count))
-sheet-rows s {x} {t} {t′} {n} {n′} p q e = e ∙ ap (λ (u : Span). tab n (sheetIn s (u .at) (u .count))) p ∙ ap (λ (m : ℕ). tab m (sheetIn s (t′ .at) (t′ .count))) q
 
 -- the tables, column by column
 pub tables-same : (s : List ℕ) (h : Header) (ladder : List Float) (tier : List ℕ) (load : List Float) (bus : List ℕ) (slack : List ℕ) (pmin : List Float) (pmax : List Float) (c1 : List Float) (c2 : List Float) (a : List ℕ) (b : List ℕ) (circuits : List ℕ) (lengthKm : List Float) (share : List Float) (sheet : List Float)

@@ -6,14 +6,14 @@ use mathlib.Core.List.{List}
 use mathlib.Core.Path.{_≡_, sym, ap, _∙_}
 use native.Mathlib.Omega.{arith}
 use Rattle.refusal.specs.declared.Refusal.the-variants.{Length}
-use Rattle.casefile.specs.Reading.{Small, readOf, readingOf, unread}
-use Rattle.casefile.specs.Tables.{Places, Outcome, replyOf, outcome, tablesOf, held, sizesOk, readCase}
-use Rattle.casefile.specs.declared.Header.{Header}
-use Rattle.casefile.specs.declared.CaseRead.{CaseRead}
-use Rattle.casefile.specs.declared.Reading.{Reading}
-use Rattle.casefile.specs.declared.Reading.the-variants.{Refused, Read}
-use Rattle.casefile.proofs.Accepted.{accepted}
-use Rattle.casefile.proofs.Counts.{small-of}
+use Rattle.casefile_defs.specs.Reading.{Small, readOf, readingOf, unread}
+use Rattle.casefile_defs.specs.Tables.{Places, Outcome, replyOf, outcome, tablesOf, held, sizesOk, readCase}
+use Rattle.casefile_defs.specs.declared.Header.{Header}
+use Rattle.casefile_defs.specs.declared.CaseRead.{CaseRead}
+use Rattle.casefile_defs.specs.declared.Reading.{Reading}
+use Rattle.casefile_defs.specs.declared.Reading.the-variants.{Refused, Read}
+use Rattle.casefile_defs.proofs.Accepted.{accepted}
+use Rattle.casefile_defs.proofs.Counts.{small-of}
 
 -- a reply that answers is a reading that did
 read-of : (r : Reading) (h : Header) → replyOf (Read h) ≡ replyOf r → r ≡ Read h

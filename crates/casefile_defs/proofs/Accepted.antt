@@ -12,19 +12,19 @@ use lib.ListN.{length}
 use Rattle.loops.specs.Loops.{iter}
 use Rattle.loops.proofs.Loops.{iter-still}
 use Rattle.refusal.specs.declared.Refusal.{Refusal}
-use Rattle.casefile.specs.Bounds.{mostBytes}
-use Rattle.casefile.specs.Layout.{sizeOf, spot}
-use Rattle.casefile.specs.Reading.{recordAt, stepped, walked, countsOk, headerOf, levels, lines, tablesWalked, trailing, unread, endRead, bodyRead, readOf, readingOf, beforeBuses, beforeGenerators, beforeCorridors, beforeLines, recordsOf}
-use Rattle.casefile.specs.Tables.{levelsAt, busesAt, generatorsAt, corridorsAt, linesAt}
-use Rattle.casefile.specs.declared.Kind.{Kind}
-use Rattle.casefile.specs.declared.Kind.the-variants.{Head, Level, Bus, Generator, Corridor, Line}
-use Rattle.casefile.specs.declared.Header.{Header}
-use Rattle.casefile.specs.declared.Walk.{Walk}
-use Rattle.casefile.specs.declared.Walk.the-variants.{At, Fault}
-use Rattle.casefile.specs.declared.CaseRead.{CaseRead}
-use Rattle.casefile.specs.declared.Reading.the-variants.{Refused, Read}
-use Rattle.casefile.proofs.Records.{Passed, passed, fault-not-at}
-use Rattle.casefile.proofs.Spots.{spot-next}
+use Rattle.casefile_defs.specs.Bounds.{mostBytes}
+use Rattle.casefile_defs.specs.Layout.{sizeOf, spot}
+use Rattle.casefile_defs.specs.Reading.{recordAt, stepped, walked, countsOk, headerOf, levels, lines, tablesWalked, trailing, unread, endRead, bodyRead, readOf, readingOf, beforeBuses, beforeGenerators, beforeCorridors, beforeLines, recordsOf}
+use Rattle.casefile_defs.specs.Tables.{levelsAt, busesAt, generatorsAt, corridorsAt, linesAt}
+use Rattle.casefile_defs.specs.declared.Kind.{Kind}
+use Rattle.casefile_defs.specs.declared.Kind.the-variants.{Head, Level, Bus, Generator, Corridor, Line}
+use Rattle.casefile_defs.specs.declared.Header.{Header}
+use Rattle.casefile_defs.specs.declared.Walk.{Walk}
+use Rattle.casefile_defs.specs.declared.Walk.the-variants.{At, Fault}
+use Rattle.casefile_defs.specs.declared.CaseRead.{CaseRead}
+use Rattle.casefile_defs.specs.declared.Reading.the-variants.{Refused, Read}
+use Rattle.casefile_defs.proofs.Records.{Passed, passed, fault-not-at}
+use Rattle.casefile_defs.proofs.Spots.{spot-next}
 
 -- n records of kind k from a place on, each of them passed
 abbrev pub Table : Kind → List ℕ → ℕ → ℕ → Type 0

@@ -8,16 +8,16 @@ use borrow.Author.Tests.{lt-ltb, le-ltb}
 use lib.ListN.{length}
 use Rattle.refusal.specs.declared.Refusal.{Refusal}
 use Rattle.refusal.specs.declared.Refusal.the-variants.{Count, FileLength, Trailing}
-use Rattle.casefile.specs.Bounds.{mostBytes}
-use Rattle.casefile.specs.Looks.{lookedAt}
-use Rattle.casefile.specs.Reading.{recordAt, walked, countsOk, headerOf, tablesWalked, trailing, caseRead, unread, endRead, bodyRead, readOf, beforeBuses, beforeGenerators, beforeCorridors, beforeLines, recordsOf}
-use Rattle.casefile.specs.declared.Kind.the-variants.{Head, Level, Bus, Generator, Corridor, Line}
-use Rattle.casefile.specs.declared.Header.{Header}
-use Rattle.casefile.specs.declared.Walk.{Walk}
-use Rattle.casefile.specs.declared.Walk.the-variants.{At, Fault}
-use Rattle.casefile.specs.declared.CaseRead.{CaseRead}
-use Rattle.casefile.specs.declared.scan.Looked.{Looked}
-use Rattle.casefile.specs.declared.Reading.the-variants.{Refused, Read}
+use Rattle.casefile_defs.specs.Bounds.{mostBytes}
+use Rattle.casefile_defs.specs.Looks.{lookedAt}
+use Rattle.casefile_defs.specs.Reading.{recordAt, walked, countsOk, headerOf, tablesWalked, trailing, caseRead, unread, endRead, bodyRead, readOf, beforeBuses, beforeGenerators, beforeCorridors, beforeLines, recordsOf}
+use Rattle.casefile_defs.specs.declared.Kind.the-variants.{Head, Level, Bus, Generator, Corridor, Line}
+use Rattle.casefile_defs.specs.declared.Header.{Header}
+use Rattle.casefile_defs.specs.declared.Walk.{Walk}
+use Rattle.casefile_defs.specs.declared.Walk.the-variants.{At, Fault}
+use Rattle.casefile_defs.specs.declared.CaseRead.{CaseRead}
+use Rattle.casefile_defs.specs.declared.Looked.{Looked}
+use Rattle.casefile_defs.specs.declared.Reading.the-variants.{Refused, Read}
 
 -- five walks, one after the other
 pub tables-walked : (h : Header) (s : List ℕ) (w w₁ w₂ w₃ w₄ w₅ : Walk)

@@ -10,10 +10,10 @@ use lib.Dec.{leb, ltb}
 use lib.ListN.{length}
 use Rattle.refusal.specs.declared.Refusal.{Refusal}
 use Rattle.refusal.specs.declared.Refusal.the-variants.{Cut, Mark, Code}
-use Rattle.casefile.specs.Layout.{sizeOf, codesOk, word}
-use Rattle.casefile.specs.Reading.{recordAt, marked}
-use Rattle.casefile.specs.declared.Kind.{Kind}
-use Rattle.casefile.specs.declared.Walk.the-variants.{At, Fault}
+use Rattle.casefile_defs.specs.Layout.{sizeOf, codesOk, word}
+use Rattle.casefile_defs.specs.Reading.{recordAt, marked}
+use Rattle.casefile_defs.specs.declared.Kind.{Kind}
+use Rattle.casefile_defs.specs.declared.Walk.the-variants.{At, Fault}
 
 and-true : (b : Bool) → b ≡ (b && true)
 and-true true = refl

@@ -4,8 +4,8 @@ use mathlib.Core.Bool.{Bool, true, _&&_}
 use mathlib.Core.List.{List, [], _∷_}
 use lib.Dec.{leb}
 use lib.ListN.{getD, take, drop}
-use Rattle.casefile.specs.declared.Kind.{Kind}
-use Rattle.casefile.specs.declared.Kind.the-variants.{Head, Level, Bus, Generator, Corridor, Line}
+use Rattle.casefile_defs.specs.declared.Kind.{Kind}
+use Rattle.casefile_defs.specs.declared.Kind.the-variants.{Head, Level, Bus, Generator, Corridor, Line}
 
 -- the number that bytes stand for, the least significant first
 unfoldable pub little : List ℕ → ℕ

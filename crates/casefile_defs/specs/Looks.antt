@@ -2,8 +2,8 @@
 use Prim.Native.Nat.{ℕ, _+_, _-_, _*_, _/_, min}
 use mathlib.Core.List.{List}
 use lib.ListN.{length}
-use Rattle.casefile.specs.Reading.{trailing, wordBytes, zerosPassed, looks}
-use Rattle.casefile.specs.declared.scan.Looked.{Looked}
+use Rattle.casefile_defs.specs.Reading.{trailing, wordBytes, zerosPassed, looks}
+use Rattle.casefile_defs.specs.declared.Looked.{Looked}
 
 abbrev pub lookedAs : ℕ → ℕ → Looked
 lookedAs at n = record { at = at; looks = n }

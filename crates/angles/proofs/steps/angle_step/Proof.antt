@@ -1,4 +1,4 @@
--- `angles::steps::redirect` meets its contract. The invariant: the first i places of d are turned, and nothing else has changed.
+-- `angles::steps::angle_step` meets its contract. The invariant: the first i places of x are moved, and nothing else has changed.
 use Prim.Native.Nat.{_+_, _-_, _*_, _≤_}
 use mathlib.Core.Path.{_≡_, refl}
 use native.Mathlib.Omega.{arith}
@@ -10,19 +10,19 @@ use Rattle.loops.specs.Loops.{tab}
 use Rattle.loops.specs.Parts.{part, put}
 use Rattle.loops.proofs.Parts.{tab-start, tab-turn, tab-own, tab-other}
 use Rattle.angles_defs.specs.Network.{along}
-use Rattle.angles.proofs.Rows.{redirect-rows}
+use Rattle.angles.proofs.Rows.{angle-step-rows}
 use borrow.Author.Needs.{needs}
-use Rattle.angles.proofs.steps.redirect.Statement.{statement}
-use Rattle.angles.proofs.steps.redirect.Tie as tie
+use Rattle.angles.proofs.steps.angle_step.Statement.{statement}
+use Rattle.angles.proofs.steps.angle_step.Tie as tie
 
 abbrev Inv-loop : tie.InvT-loop
-Inv-loop w₀ n beta z d i₀ w i = (i ≤ n) × (length w ≡ length w₀) × (w ≡ put w₀ d (tab i (λ k. plus (at (part z n w₀) k) (times beta (at (part d n w₀) k)))))
+Inv-loop w₀ n alpha x d i₀ w i = (i ≤ n) × (length w ≡ length w₀) × (w ≡ put w₀ x (tab i (λ k. plus (at (part x n w₀) k) (times alpha (at (part d n w₀) k)))))
 
 abbrev μ-loop : tie.MeasureT-loop
-μ-loop w₀ n beta z d i₀ w i = n - i
+μ-loop w₀ n alpha x d i₀ w i = n - i
 
-mul-z : tie.Need-mul-z Inv-loop μ-loop
-mul-z c = search needs
+mul-x : tie.Need-mul-x Inv-loop μ-loop
+mul-x c = search needs
 
 mul-d : tie.Need-mul-d Inv-loop μ-loop
 mul-d c = search needs
@@ -71,10 +71,10 @@ loop-again c =
     let w = s .args .w .now in
     let t = c .before .before .loop-test .taken in
     let e = l .loop .inv .2 in
-    let h : 6 * n + n ≤ length w = omega arith in (
+    let h : 3 * n + n ≤ length w = omega arith in (
       omega arith,
       simp length-set (l .loop .inv .1),
-      tab-turn _ _ _ _ _ _ e (omega arith) (rw (tab-other _ _ _ _ _ _ nan (5 * n) (omega arith) e h t, tab-own _ _ _ _ _ _ nan e h t)),
+      tab-turn _ _ _ _ _ _ e (omega arith) (rw (tab-own _ _ _ _ _ _ nan e h t, tab-other _ _ _ _ _ _ nan (6 * n) (omega arith) e h t)),
     )
 
 same-length : tie.Need-same-length Inv-loop μ-loop
@@ -82,15 +82,15 @@ same-length c = search needs
 
 returns : tie.Need-returns Inv-loop μ-loop
 unfolding along
-returns c = redirect-rows _ _ _ (c .before .before .pre) _ (rw (le-antisymm (c .before .loop .inv .0) (c .loop-test .left)) at (c .before .loop .inv .2))
+returns c = angle-step-rows _ _ _ (c .before .before .pre) _ (rw (le-antisymm (c .before .loop .inv .0) (c .loop-test .left)) at (c .before .loop .inv .2))
 
-pub redirect-spec : {M : Type 1} → statement M
-redirect-spec =
+pub angle-step-spec : {M : Type 1} → statement M
+angle-step-spec =
     tie.close
     (tie.spec
     Inv-loop
     μ-loop
-    mul-z
+    mul-x
     mul-d
     loop-holds
     add-w

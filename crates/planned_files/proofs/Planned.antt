@@ -13,7 +13,7 @@ use Rattle.casefile.specs.Bounds.{mostBuses, mostCorridors, mostGenerators, mos
 use Rattle.plan_defs.specs.Case.{Case}
 use Rattle.plan_defs.specs.Outcome.{Slices, slices, workPlaces, cleared, Outcome, outcome, outcomeIf, planCorridors}
 use Rattle.plan_defs.specs.declared.Planned.{Planned}
-use Rattle.plan_theorems.proofs.Outcomes.{Lengths, lengths-ok}
+use Rattle.plan_theorems.proofs.Outcomes.{lengths-ok, cleared-lengths}
 use Rattle.planned_files.specs.Files.{results, resultsOf, planOf}
 
 -- ---- parts of arrays
@@ -64,25 +64,6 @@ lent-cleared c f =
       front-replicate mostWork (workPlaces c) nought (f .work),
       front-replicate {A = ℕ} mostWork (workPlaces c) 0 (f .work),
     )
-
--- LAB
-cleared-lengths : (c : Case) → Lengths c (cleared c)
-cleared-lengths c =
-    record {
-      circuits = length-replicate (c .corridors) 0;
-      flow = length-replicate (c .corridors) nought;
-      rate = length-replicate (c .corridors) nought;
-      before = length-replicate (c .corridors) 0;
-      order = length-replicate (c .corridors) 0;
-      mw = length-replicate (c .generators) nought;
-      angle = length-replicate (c .buses) nought;
-      tier = length-replicate (c .buses) 0;
-      ground = length-replicate (c .buses) 0;
-      added = length-replicate (c .above) nought;
-      figures = length-replicate (workPlaces c) nought;
-      counts = length-replicate (workPlaces c) 0;
-    }
--- LAB END
 
 pub as-planned : (c : Case) (target : ℕ) (l : Slices) (r : Planned) → Fits c → outcome r l ≡ planCorridors c target (lent c) → resultsOf (outcome r l) ≡ planOf c target
 unfolding planCorridors

@@ -2,7 +2,8 @@
 use Prim.Native.Nat.{ℕ, _-_, _≤_}
 use mathlib.Core.List.{List, _++_}
 use mathlib.Core.Path.{_≡_, refl, ap, _∙_}
-use lib.ListN.{length, take, drop, replicate}
+use native.Mathlib.Omega.{arith}
+use lib.ListN.{length, take, drop, replicate, length-append}
 use native.Mathlib.Nat.{sub-zero}
 use Rattle.loops.proofs.Fronts.{front-replicate}
 use Rattle.refusal.specs.Reply.{Reply, answered, refused}
@@ -30,9 +31,13 @@ use Rattle.planned_files.specs.declared.PlannedFile.{PlannedFile}
 use Rattle.planned_files.proofs.Planned.{part-length, back-front}
 use Rattle.previews.specs.Files.{saidOf, drafted, keptBy, keptRead, keptFile}
 
+-- an array of which the first places came back from a call has room for what was read of it
+pub back-room : {A : Type 0} (n k : ℕ) (ys xs : List A) → n ≤ length ys → n ≤ length (ys ++ drop k xs)
+back-room n k ys xs h = omega (arith, length-append ys (drop k xs))
+
 -- ---- what a draft holds
-pub drafted-said : {s : Answer} {r : Planned} (k : Kept) → s ≡ saidOf r → drafted s k ≡ drafted (saidOf r) k
-drafted-said k e = ap (λ (x : Answer). drafted x k) e
+pub drafted-said : {s : Answer} (r : Planned) (k : Kept) → s ≡ saidOf r → drafted s k ≡ drafted (saidOf r) k
+drafted-said r k e = ap (λ (x : Answer). drafted x k) e
 
 -- by what is said, in numbers
 abbrev keptReply : PlanMode → ℕ → Reply CorridorPlan → List ℕ → List ℕ → Reply Kept

@@ -20,7 +20,8 @@ use Rattle.casefile_defs.specs.declared.Reading.{Reading}
 use Rattle.casefile_defs.specs.declared.Reading.the-variants.{Read}
 use Rattle.listing.specs.Text.{number, figure}
 use Rattle.listing.specs.Lines.{line, lines, refusalLine, planLine, addedLine, addedLines, groundLine, groundLines, busLine, busLines, generatorLine, generatorLines, corridorLine, corridorLines, mostLine}
-use Rattle.listing.specs.Listing.{planText, endingText, caseIn, readText, fileText}
+use Rattle.planned_files.specs.Files.{caseIn}
+use Rattle.listing.specs.Listing.{planText, endingText, readText, fileText}
 use Rattle.listing.specs.Figures.{bitsField, bitsAt, figuresText}
 
 lines-same : (f g : ℕ → List ℕ) → ((i : ℕ) → f i ≡ g i) → (n : ℕ) → lines f n ≡ lines g n

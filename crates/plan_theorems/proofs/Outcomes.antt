@@ -113,7 +113,7 @@ lengths-ok c s l =
     (and-of (eq-eqb _ _ (l .tier))
     (and-of (eq-eqb _ _ (l .ground)) (and-of (eq-eqb _ _ (l .added)) (and-of (eq-eqb _ _ (l .figures)) (eq-eqb _ _ (l .counts))))))))))))
 
-cleared-lengths : (c : Case) → Lengths c (cleared c)
+pub cleared-lengths : (c : Case) → Lengths c (cleared c)
 cleared-lengths c =
     record {
       circuits = length-replicate (c .corridors) 0;

@@ -1,19 +1,20 @@
--- `previews::draft::plan_case` meets its contract. Every count is within its bound, so the parts lent are parts of the tables, and what planning says and leaves
--- is the case's ending (as-ended).
+-- `planned_files::plan_case` meets its contract. Every count is within its bound, so the parts lent are parts of the tables, and what planning says and leaves
+-- in slices that are zero is what the case's ending holds (as-planned).
 use Prim.Native.Nat.{ℕ, _+_, _-_, _*_, _≤_}
-use mathlib.Core.List.{List}
-use mathlib.Core.Path.{_≡_, _∙_}
+use mathlib.Core.List.{List, _++_}
+use mathlib.Core.Path.{_≡_, ap, _∙_}
 use native.Mathlib.Omega.{arith}
 use borrow.Author.Needs.{needs}
-use lib.ListN.{length, take, replicate}
+use lib.ListN.{length, take, drop, replicate}
 use Rattle.loops.specs.Figures.{nought}
 use Rattle.casefile_defs.specs.Reading.{Small}
 use Rattle.plan_defs.specs.Case.{Case, caseOf}
 use Rattle.plan_defs.specs.Outcome.{Slices, slices}
-use Rattle.plan_theorems.proofs.Outcomes.{Lengths, lengths-ok}
-use Rattle.previews.proofs.Planned.{part-length, back-front, drafted-as, as-ended}
-use Rattle.previews.proofs.draft.plan_case.Statement.{statement}
-use Rattle.previews.proofs.draft.plan_case.Tie as tie
+use Rattle.casefile_defs.specs.Bounds.{mostBuses, mostCorridors, mostGenerators, mostLevels}
+use Rattle.planned_files.specs.Files.{filed}
+use Rattle.planned_files.proofs.Planned.{part, part-length, back-front, back-length, Fits, as-planned, same-results}
+use Rattle.planned_files.proofs.plan_case.Statement.{statement}
+use Rattle.planned_files.proofs.plan_case.Tie as tie
 
 -- ---- the places of the code, each from the one after it
 abbrev from-tables : tie.After-shared-slice-known15 → tie.Start
@@ -35,45 +36,13 @@ work-small o = omega (arith, small o .buses, small o .corridors, small o .genera
 abbrev the-case : tie.Start → Case
 the-case o = caseOf (o .args .h .mode) (o .args .h .buses) (o .args .h .corridors) (o .args .h .generators) (o .args .h .above) (o .args .h .requested) (o .args .ladder .now) (o .args .tier .now) (o .args .load .now) (o .args .bus .now) (o .args .slack .now) (o .args .pmin .now) (o .args .pmax .now) (o .args .c1 .now) (o .args .c2 .now) (o .args .a .now) (o .args .b .now) (o .args .initial .now) (o .args .km .now) (o .args .share .now) (o .args .sheet .now)
 
--- the first n of k places that all hold v, as a part is lent
-abbrev part : {A : Type 0} → ℕ → ℕ → A → List A
-part n k v = take (n - 0) (replicate k v)
-
-abbrev lent : tie.Start → Slices
-lent o =
-    let n = o .args .h .buses in
-    let m = o .args .h .corridors in
-    let g = o .args .h .generators in
-    slices (part m 256 0) (part m 256 nought) (part m 256 nought) (part m 256 0) (part m 256 0) (part g 128 nought) (part n 256 nought) (part n 256 0) (part n 256 0) (part (o .args .h .above) 5 nought) (part (12 * (n + m + g)) 7680 nought) (part (12 * (n + m + g)) 7680 0)
-
 abbrev left : tie.After-plan-corridors → Slices
 left c =
     let r = c .plan-corridors .last .1 .1 .1 .1 .1 .1 .1 .1 .1 .1 .1 .1 .1 .1 .1 .1 .1 .1 .1 .1 .1 .1 in
     slices (r .0) (r .1 .0) (r .1 .1 .0) (r .1 .1 .1 .0) (r .1 .1 .1 .1 .0) (r .1 .1 .1 .1 .1 .0) (r .1 .1 .1 .1 .1 .1 .0) (r .1 .1 .1 .1 .1 .1 .1 .0) (r .1 .1 .1 .1 .1 .1 .1 .1 .0) (r .1 .1 .1 .1 .1 .1 .1 .1 .1 .0) (r .1 .1 .1 .1 .1 .1 .1 .1 .1 .1 .0) (r .1 .1 .1 .1 .1 .1 .1 .1 .1 .1 .1 .0)
 
-sized : (o : tie.Start) → Lengths (the-case o) (lent o)
-sized o =
-    record {
-      circuits = part-length _ 256 _ (small o .corridors);
-      flow = part-length _ 256 _ (small o .corridors);
-      rate = part-length _ 256 _ (small o .corridors);
-      before = part-length _ 256 _ (small o .corridors);
-      order = part-length _ 256 _ (small o .corridors);
-      mw = part-length _ 128 _ (small o .generators);
-      angle = part-length _ 256 _ (small o .buses);
-      tier = part-length _ 256 _ (small o .buses);
-      ground = part-length _ 256 _ (small o .buses);
-      added = part-length _ 5 _ (above-small o);
-      figures = part-length _ 7680 _ (work-small o);
-      counts = part-length _ 7680 _ (work-small o);
-    }
-
--- planning leaves as many counts, and as many places of the order, as there are corridors
-before-size : (c : tie.After-plan-corridors) → length (left c .before) ≡ from-slices (c .before) .args .h .corridors
-before-size c = c .plan-corridors .kept .1 .1 .1 .1 .1 .1 .1 .1 .1 .1 .1 .1 .1 .1 .1 .1 .1 .1 .1 .1 .1 .1 .1 .1 .1 .0 ∙ sized (from-slices (c .before)) .before
-
-order-size : (c : tie.After-plan-corridors) → length (left c .order) ≡ from-slices (c .before) .args .h .corridors
-order-size c = c .plan-corridors .kept .1 .1 .1 .1 .1 .1 .1 .1 .1 .1 .1 .1 .1 .1 .1 .1 .1 .1 .1 .1 .1 .1 .1 .1 .1 .1 .0 ∙ sized (from-slices (c .before)) .order
+fits : (o : tie.Start) → Fits (the-case o)
+fits o = record { buses = small o .buses; corridors = small o .corridors; generators = small o .generators; above = above-small o; work = work-small o }
 
 add-work : tie.Need-add-work
 add-work c = search needs
@@ -150,11 +119,11 @@ part-angle-end c = small (from-tables (c .before .before .before .before .before
 sub-plan-corridors-8 : tie.Need-sub-plan-corridors-8
 sub-plan-corridors-8 c = search needs
 
-part-level-start : tie.Need-part-level-start
-part-level-start c = search needs
+part-tiers-start : tie.Need-part-tiers-start
+part-tiers-start c = search needs
 
-part-level-end : tie.Need-part-level-end
-part-level-end c = small (from-tables (c .before .before .before .before .before .before .before)) .buses
+part-tiers-end : tie.Need-part-tiers-end
+part-tiers-end c = small (from-tables (c .before .before .before .before .before .before .before)) .buses
 
 sub-plan-corridors-9 : tie.Need-sub-plan-corridors-9
 sub-plan-corridors-9 c = search needs
@@ -195,19 +164,42 @@ part-counts-end c = work-small (from-tables (c .before .before .before .before .
 plan-corridors-requires : tie.Need-plan-corridors-requires
 plan-corridors-requires c κs = search needs
 
-said-of-requires : tie.Need-said-of-requires
-said-of-requires c κs = search needs
+-- what came back of a part of an array that was zero
+back : {A : Type 0} (n k : ℕ) (v : A) (ys : List A) → n ≤ k → length ys ≡ length (part n k v) → take n (ys ++ drop (n - 0) (replicate k v)) ≡ ys
+back n k v ys h e = back-front n (n - 0) ys (replicate k v) (e ∙ part-length n k v h)
 
 returns : tie.Need-returns
 returns c =
-    let p = c .before .before .before .before .before .before .before .before .before .before .before .before .before in
+    let p = c .before .before .before .before .before .before .before .before .before .before .before .before in
     let o = from-slices (p .before) in
-    let m = o .args .h .corridors in (
-      drafted-as (o .args .h .mode) m (c .said-of .ensures)
-          (back-front m (m - 0) (left p .before) (replicate 256 0) (before-size p))
-          (back-front m (m - 0) (left p .order) (replicate 256 0) (order-size p))
-          ∙ as-ended (the-case o) (o .args .h .target) (lent o) (left p) (p .plan-corridors .result) (lengths-ok (the-case o) (lent o) (sized o)) (p .plan-corridors .ensures .0),
-      small o .corridors,
+    let f = fits o in
+    let k = p .plan-corridors .kept .1 .1 .1 .1 .1 .1 .1 .1 .1 .1 .1 .1 .1 .1 .1 .1 .1 .1 .1 .1 .1 .1 in (
+      ap (filed (o .args .h))
+      (same-results (p .plan-corridors .result)
+      (back _ mostCorridors 0 _ (f .corridors) (k .0))
+      (back _ mostCorridors nought _ (f .corridors) (k .1 .0))
+      (back _ mostCorridors nought _ (f .corridors) (k .1 .1 .0))
+      (back _ mostCorridors 0 _ (f .corridors) (k .1 .1 .1 .0))
+      (back _ mostCorridors 0 _ (f .corridors) (k .1 .1 .1 .1 .0))
+      (back _ mostGenerators nought _ (f .generators) (k .1 .1 .1 .1 .1 .0))
+      (back _ mostBuses nought _ (f .buses) (k .1 .1 .1 .1 .1 .1 .0))
+      (back _ mostBuses 0 _ (f .buses) (k .1 .1 .1 .1 .1 .1 .1 .0))
+      (back _ mostBuses 0 _ (f .buses) (k .1 .1 .1 .1 .1 .1 .1 .1 .0))
+      (back _ mostLevels nought _ (f .above) (k .1 .1 .1 .1 .1 .1 .1 .1 .1 .0))
+      ∙ as-planned (the-case o) (o .args .h .target) (left p) (p .plan-corridors .result) f (p .plan-corridors .ensures .0)),
+      (small o,
+      record {
+        circuits = back-length _ mostCorridors 0 (left p .circuits) (f .corridors) (k .0);
+        flow = back-length _ mostCorridors nought (left p .flow) (f .corridors) (k .1 .0);
+        rate = back-length _ mostCorridors nought (left p .rate) (f .corridors) (k .1 .1 .0);
+        before = back-length _ mostCorridors 0 (left p .before) (f .corridors) (k .1 .1 .1 .0);
+        order = back-length _ mostCorridors 0 (left p .order) (f .corridors) (k .1 .1 .1 .1 .0);
+        mw = back-length _ mostGenerators nought (left p .mw) (f .generators) (k .1 .1 .1 .1 .1 .0);
+        angle = back-length _ mostBuses nought (left p .angle) (f .buses) (k .1 .1 .1 .1 .1 .1 .0);
+        tier = back-length _ mostBuses 0 (left p .tier) (f .buses) (k .1 .1 .1 .1 .1 .1 .1 .0);
+        ground = back-length _ mostBuses 0 (left p .ground) (f .buses) (k .1 .1 .1 .1 .1 .1 .1 .1 .0);
+        added = back-length _ mostLevels nought (left p .added) (f .above) (k .1 .1 .1 .1 .1 .1 .1 .1 .1 .0);
+      }),
     )
 
 pub plan-case-spec : {M : Type 1} → statement M
@@ -239,8 +231,8 @@ plan-case-spec =
     part-angle-start
     part-angle-end
     sub-plan-corridors-8
-    part-level-start
-    part-level-end
+    part-tiers-start
+    part-tiers-end
     sub-plan-corridors-9
     part-ground-start
     part-ground-end
@@ -254,5 +246,4 @@ plan-case-spec =
     part-counts-start
     part-counts-end
     plan-corridors-requires
-    said-of-requires
     returns)

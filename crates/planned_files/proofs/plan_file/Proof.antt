@@ -1,4 +1,4 @@
--- `previews::draft::plan_file` meets its contract. What reading says and leaves is the file's reading (unread, read).
+-- `planned_files::plan_file` meets its contract. What reading says and leaves is the file's reading (unread, read).
 use mathlib.Core.Bool.{true}
 use mathlib.Core.Path.{_≡_, refl, _∙_}
 use native.Mathlib.Omega.{arith}
@@ -8,10 +8,9 @@ use Rattle.loops.specs.Figures.{nought}
 use Rattle.casefile_defs.specs.Reading.{Small}
 use Rattle.casefile_defs.specs.Tables.{Places, placesOf, sizesOk}
 use Rattle.casefile_defs.proofs.Callers.{answered-small}
-use Rattle.previews.proofs.Files.{rows-fit, in-table, unread, read}
-use Rattle.previews.proofs.Planned.{drafted-refused}
-use Rattle.previews.proofs.draft.plan_file.Statement.{statement}
-use Rattle.previews.proofs.draft.plan_file.Tie as tie
+use Rattle.planned_files.proofs.Files.{rows-fit, in-table, unread, read}
+use Rattle.planned_files.proofs.plan_file.Statement.{statement}
+use Rattle.planned_files.proofs.plan_file.Tie as tie
 
 -- the tables as they are lent, and as reading leaves them
 abbrev empty : Places
@@ -136,8 +135,8 @@ read-case-requires c κs = search needs
 enum-known-reading : tie.Need-enum-known-reading
 enum-known-reading c = search needs
 
-no-draft-requires : tie.Need-no-draft-requires
-no-draft-requires c κs = search needs
+unread-requires : tie.Need-unread-requires
+unread-requires c κs = search needs
 
 enum-known-reading-2 : tie.Need-enum-known-reading-2
 enum-known-reading-2 c = search needs
@@ -291,9 +290,9 @@ plan-case-requires c κs = small (lent-15 c)
 
 returns : tie.Need-returns
 returns c = (
-  drafted-refused _ (c .no-draft .ensures .0)
+  c .unread .ensures .0
       ∙ unread _ empty (left (from-refused (c .before .before))) empty-sized (from-refused (c .before .before) .read-case .ensures) (c .before .before .reading .given .1),
-  c .no-draft .ensures .1,
+  c .unread .ensures .1,
 )
 
 returns-2 : tie.Need-returns-2
@@ -324,7 +323,7 @@ plan-file-spec =
     slice-aggregate-read-case-15
     read-case-requires
     enum-known-reading
-    no-draft-requires
+    unread-requires
     enum-known-reading-2
     add-levels
     mul-lines

@@ -1,6 +1,6 @@
 // The listing of a plan, and of what planning says.
 ghost use mathlib.Core.Path.{_≡_};
-ghost use Prim.Native.Nat.{_+_, _*_, _≤_};
+ghost use Prim.Native.Nat.{_+_, _≤_};
 ghost use lib.ListN.{length};
 ghost use Rattle.listing.specs.Text.{Put};
 ghost use Rattle.listing.specs.Listing.{listed, plannedText, Counted, roomFor};

@@ -11,7 +11,7 @@ use Rattle.loops.specs.Figures.{nought}
 use Rattle.loops.proofs.Fronts.{front-replicate}
 use Rattle.casefile_defs.specs.Bounds.{mostBuses, mostCorridors, mostGenerators, mostLevels}
 use Rattle.plan_defs.specs.Case.{Case}
-use Rattle.plan_defs.specs.Outcome.{Slices, slices, workPlaces, cleared, Outcome, outcome, outcomeIf, planCorridors}
+use Rattle.plan_defs.specs.Outcome.{Slices, slices, workPlaces, cleared, outcome, outcomeIf, planCorridors}
 use Rattle.plan_defs.specs.declared.Planned.{Planned}
 use Rattle.plan_theorems.proofs.Outcomes.{lengths-ok, cleared-lengths}
 use Rattle.planned_files.specs.Files.{results, resultsOf, planOf}

@@ -114,17 +114,24 @@ fn compare(what: &str, q: &Request, runs: usize) -> usize {
     steps
 }
 
-/// The additions of a solve of so many steps as the code makes them: in each step three sums over the buses (d·q, r·r and
-/// r·z), each in order, as the scope has it, one after the other. This makes those additions and nothing else.
+/// The additions of a solve of so many steps as the code makes them: in each step three sums over the buses, each in order, as
+/// the scope has it, d·q first and then r·r and r·z side by side. This makes those additions and nothing else; what begins a
+/// sum waits for the sums before it, as in a solve.
 fn additions(n: usize, steps: usize) {
     let terms = vec![1e-3; n];
-    let mut sum = 0.0;
-    for _ in 0..3 * steps {
+    let mut dq = 0.0;
+    for _ in 0..steps {
         for term in black_box(&terms) {
-            sum += term;
+            dq += term;
         }
+        let (mut rr, mut rz) = (dq, -dq);
+        for term in black_box(&terms) {
+            rr += term;
+            rz -= term;
+        }
+        dq = rr + rz;
     }
-    black_box(sum);
+    black_box(dq);
 }
 
 /// One line: the least time of those additions alone.

@@ -11,7 +11,7 @@ use lib.Dec.{leb, ltb, lit<}
 use lib.ListN.{length, getD, set, length-set, replicate}
 use lib.Seq.{getD-set-same, getD-set-other}
 use borrow.Author.Tests.{le-leb, lt-leb, lt-ltb, le-ltb}
-use Rattle.line_sheet.specs.Limbs.{base, worthTo, worth, Limbs}
+use Rattle.line_sheet.specs.Limbs.{base, mostFactor, worthTo, worth, Limbs}
 
 ruleset swap = (mul-assoc, mul-left-comm, mul-comm)
 
@@ -72,17 +72,17 @@ column W B c m wa ws x s d b q r h e =
 
 -- the sum after i columns; m is the limb of `sum` that moves into the next
 abbrev pub Columns : List ℕ → List ℕ → ℕ → List ℕ → ℕ → ℕ → ℕ → Type 0
-Columns sum a d r m c i = (i ≤ 6) × (length r ≡ 6) × Limbs r × (m < base) × (c < base) × (worthTo r i + c * base ^ i + m * base ^ i ≡ worthTo a i * d + worthTo sum i * base)
+Columns sum a d r m c i = (i ≤ 6) × (length r ≡ 6) × Limbs r × (m < base) × (c < mostFactor) × (worthTo r i + c * base ^ i + m * base ^ i ≡ worthTo a i * d + worthTo sum i * base)
 
 -- a column's sum fits
-pub column-most : (x d m c : ℕ) → x < base → d < base → m < base → c < base → (x * d ≤ 0xffff_fffe_0000_0001) × (x * d + m + c ≤ 0xffff_ffff_ffff_ffff)
+pub column-most : (x d m c : ℕ) → x < base → d < mostFactor → m < base → c < mostFactor → (x * d ≤ 0xffff_fff7_e000_0001) × (x * d + m + c ≤ 0xffff_ffff_ffff_ffff)
 column-most x d m c hx hd hm hc =
-    let a : x ≤ 0xffff_ffff = omega arith in
-    let b : d ≤ 0xffff_ffff = omega arith in
-    let e : x * d ≤ 0xffff_ffff * 0xffff_ffff = mul-le-mul a b in
+    let a : x ≤ 0x1fff_ffff = omega arith in
+    let b : d ≤ 0x7_ffff_ffff = omega arith in
+    let e : x * d ≤ 0x1fff_ffff * 0x7_ffff_ffff = mul-le-mul a b in
     (omega arith, omega arith)
 
-pub next-column : (sum a r : List ℕ) (d m c i t : ℕ) → i < 6 → Limbs sum → Limbs a → d < base → t ≡ getD a i 0 * d + m + c → Columns sum a d r m c i
+pub next-column : (sum a r : List ℕ) (d m c i t : ℕ) → i < 6 → Limbs sum → Limbs a → d < mostFactor → t ≡ getD a i 0 * d + m + c → Columns sum a d r m c i
     → Columns sum a d (set r i (t % base)) (getD sum i 0) (t / base) (i + 1)
 next-column sum a r d m c i t h ls la ld e k =
     let most = column-most (getD a i 0) d m c (la i) ld (k .3) (k .4) in
@@ -183,17 +183,16 @@ pub first-column : (sum a : List ℕ) (d : ℕ) → Columns sum a d (replicate 6
 unfolding worthTo
 first-column sum a d = (omega arith, refl, limbs-zero, lit< tt, lit< tt, sym (ap (λ (z : ℕ). z + 0) (zero-mul d)))
 
--- ---- n times a number: its upper limb first, then moved up with its lower one
+-- ---- n times a number: in one row where n is below the most factor, else by its upper limb, moved up, and its lower one
+pub one-row : (w n : ℕ) → worth (replicate 6 0) * base + w * n ≡ w * n
+one-row w n = ap (λ (z : ℕ). z * base + w * n) worth-zero ∙ zero-add (w * n)
+
 pub upper-fits : (w n T : ℕ) → w * n < T → worth (replicate 6 0) * base + w * (n / base) < T
-upper-fits w n T h =
-    let e : worth (replicate 6 0) * base ≡ 0 * base = ap (λ (z : ℕ). z * base) worth-zero in
-    let l : w * (n / base) ≤ w * n = mul-le-mul-left w (div-le-self n base) in
-    lt-of-le-of-lt (le-trans (le-of-eq (ap (λ (z : ℕ). z + w * (n / base)) e)) (le-trans (le-of-eq (zero-add (w * (n / base)))) l)) h
+upper-fits w n T h = lt-of-le-of-lt (le-trans (le-of-eq (one-row w (n / base))) (mul-le-mul-left w (div-le-self n base))) h
 
 pub both-limbs : (u w n : ℕ) → u ≡ worth (replicate 6 0) * base + w * (n / base) → u * base + w * (n % base) ≡ w * n
 both-limbs u w n e =
-    let z : u ≡ w * (n / base) = e ∙ ap (λ (z : ℕ). z * base + w * (n / base)) worth-zero ∙ zero-add (w * (n / base)) in
-    ap (λ (z : ℕ). z * base + w * (n % base)) z
+    ap (λ (z : ℕ). z * base + w * (n % base)) (e ∙ one-row w (n / base))
     ∙ ap (λ (z : ℕ). z + w * (n % base)) (mul-assoc w (n / base) base)
     ∙ sym (mul-add w (n / base * base) (n % base))
     ∙ ap (λ (z : ℕ). w * z) (div-add-mod' n base)

@@ -1,6 +1,6 @@
 // St. Clair loadability by the length of a line (`st_clair_loadability` of params.rs).
 ghost use mathlib.Core.Path.{_≡_};
-ghost use Prim.Native.Nat.{_+_, _-_, _*_, _^_, _<_};
+ghost use Prim.Native.Nat.{_+_, _-_, _*_, _/_, _^_, _<_};
 ghost use Rattle.line_defs.specs.Loadability.{bySegment, segmentOf, digits, middle, between, loadabilityOf};
 ghost use Rattle.line_defs.specs.Bounds.{Knots, Start, Below, OnSegment};
 use crate::figures::choose;
@@ -42,6 +42,29 @@ fn segment_of(km: f64) -> Segment
     }
 }
 
+// x / far. A division by a number that stands in the code is a multiplication to the machine, so the knots do.
+fn over_far(x: u64, far: u64) -> u64
+    requires { ⌜ 0 < far ⌝ }
+    ensures { λ r. ⌜ r ≡ x / far ⌝ }
+{
+    if far == 160 {
+        return x / 160;
+    }
+    if far == 320 {
+        return x / 320;
+    }
+    if far == 480 {
+        return x / 480;
+    }
+    if far == 640 {
+        return x / 640;
+    }
+    if far == 965 {
+        return x / 965;
+    }
+    x / far
+}
+
 // The first binary digits of ln x / ln (far / near), for x = u units from 1 to far / near: x is squared again and again, and each time
 // that it reaches far / near it is divided by that and the digit is 1.
 fn digits_of(near: u64, far: u64, u: u64) -> u64
@@ -54,7 +77,7 @@ fn digits_of(near: u64, far: u64, u: u64) -> u64
     while i < DIGITS {
         let w = v * v / UNIT;
         if w * near >= far * UNIT {
-            v = w * near / far;
+            v = over_far(w * near, far);
             p = 2 * p + 1;
         } else {
             v = w;

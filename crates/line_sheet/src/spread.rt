@@ -30,7 +30,7 @@ fn nearer(square: f64, z: f64) -> f64 {
 // Where the root of a spread is looked for first. The promise says nothing, since the search answers the same from any place; from this
 // one it ends at once. A polynomial is within a thirtieth of s^-0.4, two steps make that 1e-15, and s * s^-0.4 is cut to steps of
 // 2^-32, which is the spacing of binary64 from 2^20 on. A little is added first, so that an exact root is not missed from below.
-fn guess(s: f64) -> u64 {
+pub fn guess(s: f64) -> u64 {
     let first = 2.136 + s * (-2.087 + s * (1.2335 + s * (-0.3309 + s * 0.0322)));
     let square = s * s;
     let power = s * nearer(square, nearer(square, first));
@@ -77,10 +77,10 @@ fn fifth_root(a: u64, guess: u64) -> u64
     lo
 }
 
-// The spread to the power 0.6, of a spread from 0.25 to 4.
-pub fn kept_spread(s: f64) -> f64
+// The spread to the power 0.6, of a spread from 0.25 to 4, with a place where to look first.
+pub fn kept_spread(s: f64, guess: u64) -> f64
     requires { ⌜ Spread s ⌝ }
     ensures { λ r. ⌜ r ≡ keptSpread s ⌝ }
 {
-    on_grid(fifth_root(steps_of_spread(s), guess(s)))
+    on_grid(fifth_root(steps_of_spread(s), guess))
 }

@@ -89,9 +89,9 @@ fn join_condensers(
     a: &[u32],
     b: &[u32],
     km: &[f64],
-    head: &[usize; MOST_BUSES],
-    after_a: &[usize; MOST_CORRIDORS],
-    after_b: &[usize; MOST_CORRIDORS],
+    head: &[u16; MOST_BUSES],
+    after_a: &[u16; MOST_CORRIDORS],
+    after_b: &[u16; MOST_CORRIDORS],
     sources: &mut [u32; MOST_BUSES],
     buses: &mut [u32],
 ) -> usize
@@ -193,9 +193,9 @@ fn size_condensers(
     a: &[u32],
     b: &[u32],
     km: &[f64],
-    head: &[usize; MOST_BUSES],
-    after_a: &[usize; MOST_CORRIDORS],
-    after_b: &[usize; MOST_CORRIDORS],
+    head: &[u16; MOST_BUSES],
+    after_a: &[u16; MOST_CORRIDORS],
+    after_b: &[u16; MOST_CORRIDORS],
     sources: &[u32; MOST_BUSES],
     count: usize,
     buses: &[u32],
@@ -288,7 +288,7 @@ pub fn place(
     clear_mvars(mvars);
     let mut sources = [0; MOST_BUSES];
     flag_generators(generators, &mut sources);
-    let mut head = [m; MOST_BUSES];
+    let mut head = [m as u16; MOST_BUSES];
     let mut after_a = [0; MOST_CORRIDORS];
     let mut after_b = [0; MOST_CORRIDORS];
     list_corridors(n, m, a, b, km, &mut head, &mut after_a, &mut after_b);

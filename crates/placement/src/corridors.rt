@@ -17,9 +17,9 @@ fn list_corridor(
     c: usize,
     a: usize,
     b: usize,
-    head: &mut [usize; MOST_BUSES],
-    after_a: &mut [usize; MOST_CORRIDORS],
-    after_b: &mut [usize; MOST_CORRIDORS],
+    head: &mut [u16; MOST_BUSES],
+    after_a: &mut [u16; MOST_CORRIDORS],
+    after_b: &mut [u16; MOST_CORRIDORS],
 )
     requires { ⌜ (c < mostCorridors) × (a < mostBuses) × (b < mostBuses) ⌝ }
     ensures { λ _. ⌜ now (head .exit) ≡ set (set (now (head .entry)) a c) b c ⌝ }
@@ -27,9 +27,9 @@ fn list_corridor(
     ensures { λ _. ⌜ now («after_b» .exit) ≡ set (now («after_b» .entry)) c (getD (set (now (head .entry)) a c) b 0) ⌝ }
 {
     after_a[c] = head[a];
-    head[a] = c;
+    head[a] = c as u16;
     after_b[c] = head[b];
-    head[b] = c;
+    head[b] = c as u16;
 }
 
 // Lists the corridors, from the last to the first, so that each bus has them in the order of the table.
@@ -39,9 +39,9 @@ pub fn list_corridors(
     a: &[u32],
     b: &[u32],
     km: &[f64],
-    head: &mut [usize; MOST_BUSES],
-    after_a: &mut [usize; MOST_CORRIDORS],
-    after_b: &mut [usize; MOST_CORRIDORS],
+    head: &mut [u16; MOST_BUSES],
+    after_a: &mut [u16; MOST_CORRIDORS],
+    after_b: &mut [u16; MOST_CORRIDORS],
 )
     requires { ⌜ Net n m (now a) (now b) (now km) ⌝ }
     requires { ⌜ Listed (network n m (now a) (now b) (now km)) m (now head) (now «after_a») (now «after_b») ⌝ }
@@ -56,8 +56,12 @@ pub fn list_corridors(
 }
 
 // The corridor after one that begins at bus a: of those that come next at its ends, the one at bus i.
-pub fn next_corridor(a: usize, i: usize, next_a: usize, next_b: usize) -> usize
+pub fn next_corridor(a: usize, i: usize, next_a: u16, next_b: u16) -> usize
     ensures { λ r. ⌜ r ≡ cond (eqb a i) «next_a» «next_b» ⌝ }
 {
-    if a == i { next_a } else { next_b }
+    if a == i {
+        next_a as usize
+    } else {
+        next_b as usize
+    }
 }

@@ -14,6 +14,7 @@ use crate::blocks::nearest_candidate;
 use crate::blocks::reach_bus;
 use crate::blocks::settle_bus;
 use crate::corridors::next_corridor;
+use crate::index;
 use crate::wide;
 
 // The three sets.
@@ -117,9 +118,9 @@ fn spread_from(
     a: &[u32],
     b: &[u32],
     km: &[f64],
-    head: &[usize; MOST_BUSES],
-    after_a: &[usize; MOST_CORRIDORS],
-    after_b: &[usize; MOST_CORRIDORS],
+    head: &[u16; MOST_BUSES],
+    after_a: &[u16; MOST_CORRIDORS],
+    after_b: &[u16; MOST_CORRIDORS],
     i: usize,
     mark: &mut [u32; MOST_BUSES],
     dist: &mut [f64; MOST_BUSES],
@@ -135,7 +136,7 @@ fn spread_from(
     ensures { λ _. ⌜ Front n (now (mark .exit)) (now (dist .exit)) (now (nearest .exit)) ⌝ }
 {
     settle_bus(n, i, mark, dist, nearest);
-    let mut c = head[i];
+    let mut c = index(head[i]);
     while c < m {
         let end = wide(a[c]);
         consider(n, i, end, wide(b[c]), km[c], mark, dist, from, nearest);
@@ -150,9 +151,9 @@ pub fn search(
     a: &[u32],
     b: &[u32],
     km: &[f64],
-    head: &[usize; MOST_BUSES],
-    after_a: &[usize; MOST_CORRIDORS],
-    after_b: &[usize; MOST_CORRIDORS],
+    head: &[u16; MOST_BUSES],
+    after_a: &[u16; MOST_CORRIDORS],
+    after_b: &[u16; MOST_CORRIDORS],
     mark: &mut [u32; MOST_BUSES],
     dist: &mut [f64; MOST_BUSES],
     from: &mut [u32; MOST_BUSES],
@@ -197,9 +198,9 @@ pub fn distance_to_sources(
     a: &[u32],
     b: &[u32],
     km: &[f64],
-    head: &[usize; MOST_BUSES],
-    after_a: &[usize; MOST_CORRIDORS],
-    after_b: &[usize; MOST_CORRIDORS],
+    head: &[u16; MOST_BUSES],
+    after_a: &[u16; MOST_CORRIDORS],
+    after_b: &[u16; MOST_CORRIDORS],
     sources: &[u32; MOST_BUSES],
     mark: &mut [u32; MOST_BUSES],
     dist: &mut [f64; MOST_BUSES],
@@ -223,9 +224,9 @@ pub fn distance_with_source(
     a: &[u32],
     b: &[u32],
     km: &[f64],
-    head: &[usize; MOST_BUSES],
-    after_a: &[usize; MOST_CORRIDORS],
-    after_b: &[usize; MOST_CORRIDORS],
+    head: &[u16; MOST_BUSES],
+    after_a: &[u16; MOST_CORRIDORS],
+    after_b: &[u16; MOST_CORRIDORS],
     i: usize,
     mark: &mut [u32; MOST_BUSES],
     dist: &mut [f64; MOST_BUSES],

@@ -35,6 +35,13 @@ fn wide(x: u32) -> usize
     x as usize
 }
 
+// A corridor that a list names.
+fn index(x: u16) -> usize
+    ensures { λ r. ⌜ r ≡ x ⌝ }
+{
+    x as usize
+}
+
 // Puts a condenser at the farthest loaded bus as long as one lies more than 100 km of corridor from the nearest generator or
 // condenser, then sizes each to half the load that lies nearest to it, 5 Mvar at least. Reads n buses, m corridors and g generators;
 // writes the condensers' buses and Mvar, zero past their count.

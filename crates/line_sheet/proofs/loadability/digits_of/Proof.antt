@@ -1,7 +1,7 @@
 -- `line_sheet::loadability::digits_of` meets its contract. The invariant: what is left lies from 1 to far / near, and the digits that remain are those of the whole (proofs/Turns.antt).
 -- The measure is how many remain.
 use Prim.Native.Nat.{_-_}
-use mathlib.Core.Path.{refl}
+use mathlib.Core.Path.{refl, _∙_}
 use mathlib.Core.Logic.{⊎-elim}
 use native.Mathlib.Omega.{arith}
 use borrow.Author.Needs.{needs}
@@ -28,17 +28,17 @@ mul-if1 c = let s = c .before in omega (arith, product-most _ _ _ (s .loop .inv 
 mul-if1-2 : tie.Need-mul-if1-2 Inv-loop μ-loop
 mul-if1-2 c = search needs
 
-mul-v : tie.Need-mul-v Inv-loop μ-loop
-mul-v c = let s = c .before .before in omega (arith, product-most _ _ _ (s .loop .inv .2))
+mul-over-far : tie.Need-mul-over-far Inv-loop μ-loop
+mul-over-far c = let s = c .before .before in omega (arith, product-most _ _ _ (s .loop .inv .2))
 
-div-v : tie.Need-div-v Inv-loop μ-loop
-div-v c = omega (arith, c .before .before .before .pre .apart)
+over-far-requires : tie.Need-over-far-requires Inv-loop μ-loop
+over-far-requires c κs = omega (arith, c .before .before .before .pre .apart)
 
 mul-p : tie.Need-mul-p Inv-loop μ-loop
-mul-p c = let s = c .before .before .loop in omega (arith, few-digits _ _ (s .inv .0) (s .inv .1))
+mul-p c = let s = c .before .before .before .loop in omega (arith, few-digits _ _ (s .inv .0) (s .inv .1))
 
 add-p : tie.Need-add-p Inv-loop μ-loop
-add-p c = let s = c .before .before .loop in omega (arith, few-digits _ _ (s .inv .0) (s .inv .1))
+add-p c = let s = c .before .before .before .loop in omega (arith, few-digits _ _ (s .inv .0) (s .inv .1))
 
 mul-p-2 : tie.Need-mul-p-2 Inv-loop μ-loop
 mul-p-2 c = let s = c .before .before .loop in omega (arith, few-digits _ _ (s .inv .0) (s .inv .1))
@@ -54,7 +54,7 @@ loop-again c =
     let s = c .before .before in
     let turn = c .before .loop-test .taken in
     ⊎-elim
-    (λ w. one-turn _ _ _ _ _ _ turn (s .loop .inv) (w .0 .taken) (w .1) (w .2))
+    (λ w. one-turn _ _ _ _ _ _ turn (s .loop .inv) (w .0 .taken) (w .2) (w .3 ∙ w .1 .ensures))
     (λ w. zero-turn _ _ _ _ _ _ turn (s .loop .inv) (w .0 .left) (w .1) (w .2))
     (c .if1 .came)
 
@@ -71,8 +71,8 @@ digits-of-spec =
     mul-w
     mul-if1
     mul-if1-2
-    mul-v
-    div-v
+    mul-over-far
+    over-far-requires
     mul-p
     add-p
     mul-p-2

@@ -18,6 +18,9 @@ clear-mvars-requires c κs = search needs
 flag-generators-requires : tie.Need-flag-generators-requires
 flag-generators-requires c κs = let p = c .before .before .before .before .before .before .before .before .before .before .before .before .before .before .before .before .pre in units-wide _ _ (p .0 .few) (p .1 .0)
 
+cast-head : tie.Need-cast-head
+cast-head c = search needs
+
 list-corridors-requires : tie.Need-list-corridors-requires
 list-corridors-requires c κs =
     let p = c .before .before .before .before .before .before .before .before .before .before .before .before .before .before .before .before .before .before .before .before .pre in
@@ -60,6 +63,7 @@ place-spec =
     clear-buses-requires
     clear-mvars-requires
     flag-generators-requires
+    cast-head
     list-corridors-requires
     join-condensers-requires
     size-condensers-requires

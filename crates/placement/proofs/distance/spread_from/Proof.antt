@@ -27,17 +27,21 @@ abbrev μ-loop : tie.MeasureT-loop
 settle-bus-requires : tie.Need-settle-bus-requires Inv-loop μ-loop
 settle-bus-requires c κs = let p = c .before .before .before .before .before .before .pre in ((p .0 .few, p .1 .1 .0), p .1 .1 .1)
 
-mul-c : tie.Need-mul-c Inv-loop μ-loop
-mul-c c = let p = c .before .before .before .before .before .before .before .pre in omega (arith, p .0 .few, p .1 .1 .0)
+mul-index : tie.Need-mul-index Inv-loop μ-loop
+mul-index c = let p = c .before .before .before .before .before .before .before .pre in omega (arith, p .0 .few, p .1 .1 .0)
 
-element-copy-out-c : tie.Need-element-copy-out-c Inv-loop μ-loop
-element-copy-out-c c = let p = c .before .before .before .before .before .before .before .pre in omega (arith, p .0 .few, p .1 .1 .0)
+element-copy-out-index : tie.Need-element-copy-out-index Inv-loop μ-loop
+element-copy-out-index c = let p = c .before .before .before .before .before .before .before .pre in omega (arith, p .0 .few, p .1 .1 .0)
+
+index-requires : tie.Need-index-requires Inv-loop μ-loop
+index-requires c κs = search needs
 
 loop-holds : tie.Need-loop-holds Inv-loop μ-loop
 loop-holds c =
-    let p = c .before .before .before .before .before .before .before .before .pre in
+    let p = c .before .before .before .before .before .before .before .before .before .pre in
     let k = walk-start _ _ _ _ (p .1 .0) _ (p .1 .1 .0) _ in
-    (k .0, k .1, k .2, c .before .settle-bus .ensures .1)
+    let e = c .index .ensures in
+    (rw e (k .0), rw e (k .1), rw e (k .2), c .before .before .settle-bus .ensures .1)
 
 mul-wide : tie.Need-mul-wide Inv-loop μ-loop
 mul-wide c = search needs
@@ -65,7 +69,7 @@ shared-slice-read-consider c = search needs
 
 consider-requires : tie.Need-consider-requires Inv-loop μ-loop
 consider-requires c κs =
-    let p = c .before .before .before .before .before .before .before .before .before .before .before .before .before .before .before .before .before .before .before .pre in
+    let p = c .before .before .before .before .before .before .before .before .before .before .before .before .before .before .before .before .before .before .before .before .pre in
     let l = c .before .before .before .before .before .before .before .before .before .before .loop in
     let e = net-ends (p .0) (l .c) (c .before .before .before .before .before .before .before .before .before .loop-test .taken) in
     ((p .0 .few, p .1 .1 .0, omega (arith, e .a-below, c .before .before .before .before .before .before .before .wide .ensures), omega (arith, e .b-below, c .before .before .before .before .before .wide2 .ensures)), l .inv .3)
@@ -87,14 +91,14 @@ next-corridor-requires c κs = search needs
 
 loop-less : tie.Need-loop-less Inv-loop μ-loop
 loop-less c =
-    let p = c .before .before .before .before .before .before .before .before .before .before .before .before .before .before .before .before .before .before .before .before .before .before .before .pre in
+    let p = c .before .before .before .before .before .before .before .before .before .before .before .before .before .before .before .before .before .before .before .before .before .before .before .before .pre in
     let l = c .before .before .before .before .before .before .before .before .before .before .before .before .before .before .loop in
     let far = walk-farther _ _ _ _ (p .1 .0) _ _ _ _ (c .before .before .before .before .before .before .before .before .before .before .before .before .before .loop-test .taken) (l .inv .1 (c .before .before .before .before .before .before .before .before .before .before .before .before .before .loop-test .taken)) (c .before .before .before .before .before .before .before .before .before .before .before .wide .ensures) (c .next-corridor .ensures) in
     omega arith
 
 loop-again : tie.Need-loop-again Inv-loop μ-loop
 loop-again c =
-    let p = c .before .before .before .before .before .before .before .before .before .before .before .before .before .before .before .before .before .before .before .before .before .before .before .pre in
+    let p = c .before .before .before .before .before .before .before .before .before .before .before .before .before .before .before .before .before .before .before .before .before .before .before .before .pre in
     let l = c .before .before .before .before .before .before .before .before .before .before .before .before .before .before .loop in
     let h = c .before .before .before .before .before .before .before .before .before .before .before .before .before .loop-test .taken in
     let considered = rw (c .before .before .before .before .before .before .before .before .before .before .before .wide .ensures, c .before .before .before .before .before .before .before .before .before .wide2 .ensures) at (c .before .before .before .consider .ensures .0) in
@@ -104,7 +108,7 @@ loop-again c =
 returns : tie.Need-returns Inv-loop μ-loop
 returns c =
     let l = c .before .loop in
-    (spread-is _ _ _ _ _ _ _ (c .before .before .before .settle-bus .ensures .0) (sym (iter-end _ (omega arith)) ∙ l .inv .2), l .inv .3)
+    (spread-is _ _ _ _ _ _ _ (c .before .before .before .before .settle-bus .ensures .0) (sym (iter-end _ (omega arith)) ∙ l .inv .2), l .inv .3)
 
 pub spread-from-spec : {M : Type 1} → statement M
 spread-from-spec =
@@ -113,8 +117,9 @@ spread-from-spec =
     Inv-loop
     μ-loop
     settle-bus-requires
-    mul-c
-    element-copy-out-c
+    mul-index
+    element-copy-out-index
+    index-requires
     loop-holds
     mul-wide
     shared-slice-read-wide

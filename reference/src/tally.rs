@@ -9,7 +9,9 @@ use crate::generate::cases::{self, CaseFile};
 use crate::generate::requests::{family_names, largest, Request, KINDS};
 use crate::harness::case_file::{read_case, MOST_BYTES};
 use crate::harness::operations::leaders;
-use crate::harness::tables::{Case, MOST_BUSES, MOST_CORRIDORS, MOST_GENERATORS, MOST_LEVELS};
+use crate::harness::tables::{
+    Case, CorridorRecord, MOST_BUSES, MOST_CORRIDORS, MOST_GENERATORS, MOST_LEVELS, MOST_MODE,
+};
 use crate::previews::{OTHER, TARGETS};
 use crate::watch::BRANCHES;
 
@@ -82,7 +84,30 @@ const SHAPES: &[(&str, TestOf<Case>)] = &[
     ("an initial count above six", |case| {
         case.corridors.iter().any(|c| c.circuits > 6)
     }),
+    ("CO and CP mixed", |case| {
+        let is_capped = |capped| case.corridors.iter().any(|c| c.is_capped() == capped);
+        is_capped(false) && is_capped(true)
+    }),
+    ("every corridor a CP", |case| {
+        !case.corridors.is_empty() && case.corridors.iter().all(CorridorRecord::is_capped)
+    }),
+    ("an own cap below the initial count", |case| {
+        let below = |c: &CorridorRecord| 0 < c.cap && c.cap < c.circuits;
+        case.corridors.iter().any(below)
+    }),
+    ("an own cap above the initial count", |case| {
+        let above = |c: &CorridorRecord| c.cap > c.circuits;
+        case.corridors.iter().any(above)
+    }),
 ];
+
+/// Cap bytes that must be met under each mode.
+const CAPS: [u8; 10] = [0, 1, 2, 3, 4, 5, 6, 7, 128, 255];
+
+/// A corridor written as CP, by its cap and the mode of its case.
+fn capped(what: &str, mode: u8, cap: u8) -> String {
+    format!("cap: {what}, mode {mode}, cap {cap}")
+}
 
 /// What a file may be like, whether it is read or not.
 const FILES: &[(&str, TestOf<[u8]>)] = &[
@@ -162,6 +187,9 @@ impl Tally {
         if let Ok(case) = read_case(&file.bytes) {
             for name in shapes(&case) {
                 self.count(format!("tables: {what}, {name}"));
+            }
+            for c in case.corridors.iter().filter(|c| c.is_capped()) {
+                self.count(capped(what, case.mode, c.cap));
             }
         }
         self.answer(what, answer);
@@ -245,7 +273,9 @@ fn expected() -> BTreeMap<String, u64> {
         let families = families.map(move |name| format!("case: {what}, {name}"));
         let shapes = shapes.map(move |name| format!("tables: {what}, {name}"));
         let files = files.map(move |name| format!("file: {what}, {name}"));
-        families.chain(shapes).chain(files)
+        let modes = (0..=MOST_MODE).flat_map(|mode| CAPS.map(|cap| (mode, cap)));
+        let caps = modes.map(move |(mode, cap)| capped(what, mode, cap));
+        families.chain(shapes).chain(files).chain(caps)
     });
     let of_requests = KINDS.iter().flat_map(|kind| {
         family_names(kind)

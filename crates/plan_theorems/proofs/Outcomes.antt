@@ -32,7 +32,7 @@ use Rattle.plan_defs.proofs.Accepted.{Accepted, accepted, ends}
 use Rattle.plan_defs.proofs.Drawn.{drawn-size}
 use Rattle.plan_defs.proofs.Solved.{Solved, solved}
 use Rattle.plan_defs.proofs.Opened.{Done, done}
-use Rattle.plan_theorems.proofs.Dispatched.{Dispatched, dispatched}
+use Rattle.plan_theorems.proofs.Dispatched.{Binary, dispatched-size}
 use Rattle.plan_theorems.proofs.Cursor.{order-length}
 use Rattle.plan_theorems.proofs.Demand.{fill-grown, demand-3, tallies}
 
@@ -40,13 +40,13 @@ use Rattle.plan_theorems.proofs.Demand.{fill-grown, demand-3, tallies}
 never : {A : Type 0} (x : A) (k i : ℕ) → refused k i ≡ answered x → ⊥
 never x k i e = let z : _≡_ {A = ℕ} 0 1 = cc in omega arith
 
-module _ (c : Case) (target : ℕ) (s : Slices) (x : CorridorPlan) where
+module _ (c : Case) (target : ℕ) (binary : Binary c) (s : Slices) (x : CorridorPlan) where
   answer-by : (e : Ending) → endingOf c target ≡ e → outcomeBy e c s .reply ≡ answered x → AnswerTo c target (outcomeBy e c s) x
   unfolding outcomeBy
   answer-by (unaccepted f) h q = absurd (never x _ _ q)
   answer-by (unanswered f) h q = absurd (never x _ _ q)
   answer-by (planned p) h q =
-      record { plan = p; ending = h; said = (let z : summary p ≡ x = cc in sym z); lent = refl; demand = demand-3 c target p h; tally = tallies c target p h }
+      record { plan = p; ending = h; said = (let z : summary p ≡ x = cc in sym z); lent = refl; demand = demand-3 c target binary p h; tally = tallies c target binary p h }
 
   pub answer-to : planCorridors c target s .reply ≡ answered x → AnswerTo c target (planCorridors c target s) x
   unfolding planCorridors
@@ -166,7 +166,7 @@ module _ (c : Case) (target : ℕ) (ok : Accepted c target) where
       let m = drawn-size c (r .draft .level) ds (sound .kept .drawn) in
       let n : r .peak .n ≡ c .buses = ap (λ (p : Peak). p .n) (d .peak) in
       let gs : r .peak .grounds ≡ groundsOf c (component c) = ap (λ (p : Peak). p .grounds) (d .peak) ∙ ap (groundsOf c) (d .led) in
-      let mw = subst (On (Dispatched c target ok)) (d .dispatched) (dispatched c target ok) in
+      let mw = subst (On (λ l. length l ≡ c .generators)) (d .dispatched) (dispatched-size c (component c)) in
       on-onward (Solved (r .peak .n) (length ds)) (λ p. Lengths c (held c p)) (planningState (r .peak) ds (f .counts) (zeros (c .buses))) _
       (solved (r .peak) ds (f .counts) (zeros (c .buses)))
       (λ v h.
@@ -176,7 +176,7 @@ module _ (c : Case) (target : ℕ) (ok : Accepted c target) where
         rate = length-map ds (λ d. d .«rate_a») ∙ m;
         before = length-kept c (r .draft .build .circuits) (sound .built .size);
         order = length-kept c (r .order) (ap length (d .order) ∙ order-length ds (r .draft .build .circuits) (d .flows) (c .corridors));
-        mw = mw .size;
+        mw = mw;
         angle = h .angles ∙ n;
         tier = length-map (r .draft .level) _ ∙ sound .risen .size;
         ground = length-up (c .buses) 0 (r .peak .grounds) (subst (λ (l : List ℕ). length l ≤ c .buses) (sym gs) grounds-few);

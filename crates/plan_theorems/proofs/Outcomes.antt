@@ -111,10 +111,11 @@ lengths-ok c s l =
     (and-of (eq-eqb _ _ (l .rate))
     (and-of (eq-eqb _ _ (l .before))
     (and-of (eq-eqb _ _ (l .order))
+    (and-of (eq-eqb _ _ (l .cap))
     (and-of (eq-eqb _ _ (l .mw))
     (and-of (eq-eqb _ _ (l .angle))
     (and-of (eq-eqb _ _ (l .tier))
-    (and-of (eq-eqb _ _ (l .ground)) (and-of (eq-eqb _ _ (l .added)) (and-of (eq-eqb _ _ (l .figures)) (eq-eqb _ _ (l .counts))))))))))))
+    (and-of (eq-eqb _ _ (l .ground)) (and-of (eq-eqb _ _ (l .added)) (and-of (eq-eqb _ _ (l .figures)) (eq-eqb _ _ (l .counts)))))))))))))
 
 cleared-lengths : (c : Case) → Lengths c (cleared c)
 cleared-lengths c =

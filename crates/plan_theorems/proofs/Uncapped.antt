@@ -8,10 +8,11 @@ use native.Mathlib.Nat.{le-refl}
 use native.Mathlib.Omega.{arith}
 use lib.Ieee.{Float}
 use lib.ListN.{length}
+use Rattle.loops.specs.Sorting.{occ}
 use Rattle.plan_defs.specs.Constants.{maxCircuitsPerCorridor}
 use Rattle.plan_defs.specs.Case.{Case, promote, circuitCap, ownOr, ownCap, capAt, fullAt}
 use Rattle.plan_defs.specs.Fill.{Filled, unfilled, fillRounds, filledIf, fill}
-use Rattle.plan_theorems.proofs.Filling.{occ, turns-enough}
+use Rattle.plan_theorems.proofs.Filling.{turns-enough}
 
 -- filling before there were own caps: so many turns, and so many circuits, for every corridor
 abbrev pub usual : ℕ → ℕ

@@ -29,6 +29,7 @@ mod settle;
 mod size;
 mod solve;
 mod stiffen;
+mod top_up;
 
 // The circuits of each corridor, with their flows and ratings, the dispatch, the angles, the tiers, the grounds and the levels added,
 // for a case of n buses, m corridors and g generators; `cap` has the corridors' own caps, 0 for none. `before` and `order` are what a

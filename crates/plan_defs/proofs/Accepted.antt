@@ -1,6 +1,6 @@
 -- What acceptance gives: every length, every count within its bounds, every row of every table sound; and that of the ends, the levels and the sheet's rows.
 -- Each test of `caseFault` is taken apart; a refusal is no `none`.
-use Prim.Native.Nat.{ℕ, suc, _+_, _*_, _/_, _%_, _≤_, _<_}
+use Prim.Native.Nat.{ℕ, zero, suc, _+_, _*_, _/_, _%_, _≤_, _<_}
 use mathlib.Core.Bool.{Bool, true, false, cond, _&&_}
 use mathlib.Core.List.{List}
 use mathlib.Core.Option.{Option, none, some}
@@ -21,8 +21,13 @@ use Rattle.refusal.specs.declared.Refusal.the-variants.{Length, Count, Level, B
 use Rattle.leaders.specs.Operation.{Ends, corridorOk}
 use Rattle.dispatch.specs.Units.{unitOk}
 use Rattle.plan_defs.specs.Constants.{mostBuses, mostCorridors, mostGenerators, mostLevels, mostTarget, mostInitial, mostCap, rowFigures}
-use Rattle.plan_defs.specs.Case.{Case, levels, endA, endB, ownCap, higherA, fromOf, toOf, firstLevels, rowPlace, rowAt}
+use Rattle.plan_defs.specs.Case.{Case, levels, endA, endB, ownOr, ownCap, higherA, fromOf, toOf, firstLevels, rowPlace, rowAt}
 use Rattle.plan_defs.specs.Accept.{lengthsOk, countsOk, levelOk, busOk, generatorOk, corridorSound, rowOk, rowSound, firstFault, tablesFault, caseFault}
+
+-- where an own cap and the usual one are at most 6, so is the one that is taken
+pub own-few : (own usual : ℕ) → own ≤ mostCap → usual ≤ mostCap → ownOr own usual ≤ mostCap
+own-few zero usual h u = u
+own-few (suc own) usual h u = h
 
 pub record Columns (c : Case) : Type 0 where
   pub ladder : length (c .ladder) ≡ levels c

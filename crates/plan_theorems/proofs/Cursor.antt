@@ -18,10 +18,11 @@ use Rattle.loops.specs.Loops.{iter}
 use Rattle.loops.proofs.Bools.{both}
 use Rattle.plan_defs.specs.Lists.{each}
 use Rattle.plan_defs.specs.Constants.{maxCircuitsPerCorridor, mostCap}
-use Rattle.plan_defs.specs.Case.{Case, promote, ownOr, ownCap, fullAt}
+use Rattle.plan_defs.specs.Case.{Case, promote, ownCap, fullAt}
 use Rattle.plan_defs.specs.Fill.{Filled, unfilled, fillIf, fillAt, belowFull, room, fillOnce, fillRounds, fillTurns, Cursor, cursorAt, runs, advanceIf, advance, cursorIf, cursorStep, cursorRun, filledIf, fill, Rank, rankAt, rankNext, before, placedRank, insertRank, corridorsIn, orderOf}
 use Rattle.plan_defs.specs.declared.CircuitDesign.{CircuitDesign}
 use Rattle.plan_defs.proofs.Lists.{each-places}
+use Rattle.plan_defs.proofs.Accepted.{own-few}
 use Rattle.plan_defs.proofs.Counts.{any-default}
 use Rattle.plan_theorems.proofs.Filling.{rounds-grown, Ends, reached, unreached, fills, all-full}
 use Rattle.plan_theorems.proofs.Ranking.{order-once}
@@ -318,11 +319,7 @@ pub record FilledByCursor (c : Case) (target : ℕ) (order counts : List ℕ) : 
 -- what filling gives a corridor is at most 6, where its own cap is
 pub full-few : (c : Case) → ((k : ℕ) → ownCap c k ≤ mostCap) → (k : ℕ) → fullAt c k ≤ fillTurns
 unfolding fullAt
-full-few c few k = go (ownCap c k) (few k)
-  where
-    go : (own : ℕ) → own ≤ mostCap → ownOr own maxCircuitsPerCorridor ≤ fillTurns
-    go zero h = omega arith
-    go (suc own) h = h
+full-few c few k = own-few (ownCap c k) maxCircuitsPerCorridor (few k) (omega arith)
 
 pub fill-cursor : (c : Case) (target : ℕ) (ds : List CircuitDesign) (counts : List ℕ) (flows : List Float) → ((k : ℕ) → ownCap c k ≤ mostCap) → promote (c .mode) ≡ true → length counts ≡ c .corridors
     → FilledByCursor c target (orderOf (c .corridors) ds counts flows) counts

@@ -19,14 +19,14 @@ use Rattle.loops.proofs.Scan.{all-pass}
 use Rattle.loops.proofs.Signs.{div-real}
 use Rattle.leaders.specs.Operation.{corridorOk}
 use Rattle.plan_defs.specs.Constants.{transformerMinMva, mostInitial, mostCap, subtransmissionKv}
-use Rattle.plan_defs.specs.Case.{Case, levels, levelOf, rowAt, kvHigh, lowerBound, ownOr, ownCap, circuitCap, capAt, firstLevels, endA, endB, promote}
+use Rattle.plan_defs.specs.Case.{Case, levels, levelOf, rowAt, kvHigh, lowerBound, ownCap, circuitCap, capAt, firstLevels, endA, endB, promote}
 use Rattle.plan_defs.specs.Accept.{levelOk, corridorSound}
 use Rattle.plan_defs.specs.Demand.{capOf}
 use Rattle.plan_defs.specs.Design.{lineOf, lineAt, bankRate, withBank, setTransformerMva, bankedBy, stepsDown, drawn, design}
 use Rattle.plan_defs.specs.Plan.{Ready, readyOf}
 use Rattle.plan_defs.specs.declared.CircuitDesign.{CircuitDesign}
 use Rattle.plan_defs.proofs.Stages.{On, on-map}
-use Rattle.plan_defs.proofs.Accepted.{Accepted, from-below, initial-few, cap-few, row-sound}
+use Rattle.plan_defs.proofs.Accepted.{Accepted, from-below, initial-few, own-few, cap-few, row-sound}
 use Rattle.plan_defs.proofs.Drawn.{drawn-size, drawn-here, design-kv}
 use Rattle.plan_defs.proofs.Rising.{Risen, risen-below}
 use Rattle.plan_defs.proofs.Opened.{Done, done}
@@ -166,12 +166,11 @@ module _ (c : Case) (target : ℕ) (ok : Accepted c target) (level : List ℕ) (
 
 most-few : (c : Case) (k : ℕ) → ownCap c k ≤ mostCap → capOf c k ≤ 6
 unfolding capOf capAt circuitCap
-most-few c k h = go (ownCap c k) h (not (promote (c .mode)) && lt (kvHigh c (firstLevels c) k) subtransmissionKv)
+most-few c k h = own-few (ownCap c k) _ h (go (not (promote (c .mode)) && lt (kvHigh c (firstLevels c) k) subtransmissionKv))
   where
-    go : (own : ℕ) → own ≤ mostCap → (b : Bool) → ownOr own (cond b 6 4) ≤ 6
-    go (suc own) h b = h
-    go zero h true = omega arith
-    go zero h false = omega arith
+    go : (b : Bool) → cond b 6 4 ≤ 6
+    go true = omega arith
+    go false = omega arith
 
 -- ---- what filling begins from
 module _ (c : Case) (target : ℕ) (ok : Accepted c target) (r : Ready) (d : Done c r) where

@@ -24,7 +24,7 @@ use Rattle.planning.specs.declared.raises.Raised.the-variants.{Refused, 
 
 -- ---- cases: of which the marks read these columns only, with a place for each of n buses; and a whole one with the columns that a pass reads
 abbrev pub heavyFor : ℕ → List Float → List ℕ → List ℕ → List Float → List Float → List Float → Case
-heavyFor n ladder a b km share sheet = sizeFor Observe n ladder a b km share sheet
+heavyFor n ladder a b km share sheet = sizeFor Observe n ladder a b km share [] sheet
 
 abbrev pub passFor : Case → PlanMode → List Float → List ℕ → List ℕ → List Float → List Float → List Float → List Float → List ℕ → List Float → Case
 passFor o mode ladder a b km share sheet load bus pmax = withLines (withUnits o mode (o .above) load bus pmax) ladder a b km share sheet

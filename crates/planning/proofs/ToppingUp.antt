@@ -80,10 +80,10 @@ module _ (pmax : List Float) (demand : Float) (ks : List ℕ) (j k : ℕ) (h : j
   here =
       let z : suc j ≡ j + 1 = omega arith in
       sym (
-        ap (λ (l : List ℕ). topUp pmax demand l mw) (drop-cons ks j 0 h)
-        ∙ ap (λ (i : ℕ). toppedIf (lt nought (gapOf demand mw)) (at pmax i) i (gapOf demand mw) mw (topUp pmax demand (drop (suc j) ks))) (sym e)
-        ∙ ap (λ (i : ℕ). toppedIf (lt nought (gapOf demand mw)) (at pmax k) k (gapOf demand mw) mw (topUp pmax demand (drop i ks))) z
-        ∙ ap (λ (x : Float). toppedIf (lt nought x) (at pmax k) k x mw rest) (sym g)
+      ap (λ (l : List ℕ). topUp pmax demand l mw) (drop-cons ks j 0 h)
+      ∙ ap (λ (i : ℕ). toppedIf (lt nought (gapOf demand mw)) (at pmax i) i (gapOf demand mw) mw (topUp pmax demand (drop (suc j) ks))) (sym e)
+      ∙ ap (λ (i : ℕ). toppedIf (lt nought (gapOf demand mw)) (at pmax k) k (gapOf demand mw) mw (topUp pmax demand (drop i ks))) z
+      ∙ ap (λ (x : Float). toppedIf (lt nought x) (at pmax k) k x mw rest) (sym g)
       )
 
   pub pass-none : lt nought gap ≡ false → mw ≡ topUp pmax demand (drop j ks) mw

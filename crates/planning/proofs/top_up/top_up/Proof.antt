@@ -45,10 +45,12 @@ returns c =
     let z = c .before .before .before .before .before .before .before .before .before .before .before .args in
     let u = unit-at (now (z .c1)) _ (c .before .before .before .before .before .before .order-costs .ensures .1) (l .j) _ (c .before .before .before .before .loop-test .taken) (c .before .before .before .wide .ensures) in
     let h : l .j < length (byCost (now (z .c1))) = omega (arith, costs-length (now (z .c1)), c .before .before .before .before .loop-test .taken) in
-    pass-none (now (z .pmax)) (z .demand) (byCost (now (z .c1))) (l .j) _ h (u .0) (l .mw) _ (ap (minus (z .demand)) (c .before .sum .ensures)) (not-true (c .if1 .taken)) ∙ l .inv .2
+    pass-none (now (z .pmax)) (z .demand) (byCost (now (z .c1))) (l .j) _ h (u .0) (l .mw) _ (ap (minus (z .demand)) (c .before .sum .ensures)) (not-true _ (c .if1 .taken)) ∙ l .inv .2
 
 mul-lesser : tie.Need-mul-lesser Inv-loop μ-loop
-mul-lesser c = search needs
+mul-lesser c =
+    let u = unit-at (now (c .before .before .before .before .before .before .before .before .before .before .before .args .c1)) _ (c .before .before .before .before .before .before .order-costs .ensures .1) (c .before .before .before .before .before .loop .j) _ (c .before .before .before .before .loop-test .taken) (c .before .before .before .wide .ensures) in
+    omega (arith, u .1, c .before .before .before .before .before .before .before .before .before .before .before .pre .few)
 
 shared-slice-read-lesser : tie.Need-shared-slice-read-lesser Inv-loop μ-loop
 shared-slice-read-lesser c =
@@ -56,7 +58,9 @@ shared-slice-read-lesser c =
     omega (arith, u .1, c .before .before .before .before .before .before .before .before .before .before .before .before .pre .pmax-size)
 
 mul-lesser-2 : tie.Need-mul-lesser-2 Inv-loop μ-loop
-mul-lesser-2 c = search needs
+mul-lesser-2 c =
+    let u = unit-at (now (c .before .before .before .before .before .before .before .before .before .before .before .before .args .c1)) _ (c .before .before .before .before .before .before .before .order-costs .ensures .1) (c .before .before .before .before .before .before .loop .j) _ (c .before .before .before .before .before .loop-test .taken) (c .before .before .before .before .wide .ensures) in
+    omega (arith, u .1, c .before .before .before .before .before .before .before .before .before .before .before .before .pre .few)
 
 slice-read-lesser : tie.Need-slice-read-lesser Inv-loop μ-loop
 slice-read-lesser c =
@@ -67,7 +71,9 @@ lesser-requires : tie.Need-lesser-requires Inv-loop μ-loop
 lesser-requires c κs = search needs
 
 mul-mw : tie.Need-mul-mw Inv-loop μ-loop
-mul-mw c = search needs
+mul-mw c =
+    let u = unit-at (now (c .before .before .before .before .before .before .before .before .before .before .before .before .before .before .args .c1)) _ (c .before .before .before .before .before .before .before .before .before .order-costs .ensures .1) (c .before .before .before .before .before .before .before .before .loop .j) _ (c .before .before .before .before .before .before .before .loop-test .taken) (c .before .before .before .before .before .before .wide .ensures) in
+    omega (arith, u .1, c .before .before .before .before .before .before .before .before .before .before .before .before .before .before .pre .few)
 
 slice-write-mw : tie.Need-slice-write-mw Inv-loop μ-loop
 slice-write-mw c =
@@ -75,7 +81,9 @@ slice-write-mw c =
     omega (arith, u .1, c .before .before .before .before .before .before .before .before .loop .inv .1)
 
 mul-if2 : tie.Need-mul-if2 Inv-loop μ-loop
-mul-if2 c = search needs
+mul-if2 c =
+    let u = unit-at (now (c .before .before .before .before .before .before .before .before .before .before .before .before .before .before .args .c1)) _ (c .before .before .before .before .before .before .before .before .before .order-costs .ensures .1) (c .before .before .before .before .before .before .before .before .loop .j) _ (c .before .before .before .before .before .before .before .loop-test .taken) (c .before .before .before .before .before .before .wide .ensures) in
+    omega (arith, u .1, c .before .before .before .before .before .before .before .before .before .before .before .before .before .before .pre .few)
 
 shared-slice-read-if2 : tie.Need-shared-slice-read-if2 Inv-loop μ-loop
 shared-slice-read-if2 c =
@@ -91,7 +99,7 @@ returns-2 c =
     let z = c .before .before .before .before .before .before .before .before .before .before .before .before .before .before .before .before .args in
     let u = unit-at (now (z .c1)) _ (c .before .before .before .before .before .before .before .before .before .before .before .order-costs .ensures .1) (l .j) _ (c .before .before .before .before .before .before .before .before .before .loop-test .taken) (c .before .before .before .before .before .before .before .before .wide .ensures) in
     let h : l .j < length (byCost (now (z .c1))) = omega (arith, costs-length (now (z .c1)), c .before .before .before .before .before .before .before .before .before .loop-test .taken) in
-    pass-last (now (z .pmax)) (z .demand) (byCost (now (z .c1))) (l .j) _ h (u .0) (l .mw) _ (ap (minus (z .demand)) (c .before .before .before .before .before .before .sum .ensures)) (not-false (c .before .before .before .before .before .if1 .left)) _ (c .before .before .lesser .ensures)
+    pass-last (now (z .pmax)) (z .demand) (byCost (now (z .c1))) (l .j) _ h (u .0) (l .mw) _ (ap (minus (z .demand)) (c .before .before .before .before .before .before .sum .ensures)) (not-false _ (c .before .before .before .before .before .if1 .left)) _ (c .before .before .lesser .ensures)
     (c .if2 .taken) ∙ l .inv .2
 
 add-j : tie.Need-add-j Inv-loop μ-loop
@@ -105,11 +113,10 @@ loop-again c =
     let l = c .before .before .before .before .before .before .before .before .before .before .loop in
     let z = c .before .before .before .before .before .before .before .before .before .before .before .before .before .before .before .before .args in
     let u = unit-at (now (z .c1)) _ (c .before .before .before .before .before .before .before .before .before .before .before .order-costs .ensures .1) (l .j) _ (c .before .before .before .before .before .before .before .before .before .loop-test .taken) (c .before .before .before .before .before .before .before .before .wide .ensures) in
-    let h : l .j < length (byCost (now (z .c1))) = omega (arith, costs-length (now (z .c1)), c .before .before .before .before .before .before .before .before .before .loop-test .taken) in
-    (
+    let h : l .j < length (byCost (now (z .c1))) = omega (arith, costs-length (now (z .c1)), c .before .before .before .before .before .before .before .before .before .loop-test .taken) in (
       omega (arith, c .before .before .before .before .before .before .before .before .before .loop-test .taken),
       length-set (l .mw) _ _ ∙ l .inv .1,
-      pass-next (now (z .pmax)) (z .demand) (byCost (now (z .c1))) (l .j) _ h (u .0) (l .mw) _ (ap (minus (z .demand)) (c .before .before .before .before .before .before .sum .ensures)) (not-false (c .before .before .before .before .before .if1 .left)) _ (c .before .before .lesser .ensures)
+      pass-next (now (z .pmax)) (z .demand) (byCost (now (z .c1))) (l .j) _ h (u .0) (l .mw) _ (ap (minus (z .demand)) (c .before .before .before .before .before .before .sum .ensures)) (not-false _ (c .before .before .before .before .before .if1 .left)) _ (c .before .before .lesser .ensures)
           (c .if2 .left) ∙ l .inv .2,
     )
 

@@ -5,7 +5,7 @@ use mathlib.Core.Bool.{true, false}
 use mathlib.Core.List.{List, [], _∷_}
 use mathlib.Core.Path.{_≡_, refl, ap}
 use native.Mathlib.Omega.{arith}
-use lib.ListN.{getD}
+use lib.ListN.{getD, replicate}
 use lib.Ieee.{Float}
 use Rattle.loops.specs.Figures.{nought, one, two, hundred, million, decimal}
 use Rattle.mode.specs.declared.PlanMode.{PlanMode}
@@ -15,6 +15,7 @@ use Rattle.plan_defs.specs.Build.{built}
 use Rattle.plan_defs.specs.Stiffen.{Budget, stiff, stiffenOne}
 use Rattle.plan_defs.specs.Demand.{circuitsAt, fillerAt, Even}
 use Rattle.plan_defs.specs.Plan.{Plan}
+use Rattle.plan_defs.specs.Outcome.{Slices, slices, planCorridors}
 use Rattle.plan_defs.specs.Listing.{listingOf}
 
 abbrev whole : ℕ → Float
@@ -42,6 +43,20 @@ pub caps-taken :
     ∷ ((6 ∷ 0 ∷ []) ∷ [] ∷ []) ∷ []
 unfolding listingOf
 caps-taken = refl
+
+-- The plan record keeps the caps in every mode, also where it keeps zeros of filling; a refusal of the case leaves what was lent.
+abbrev lent : Slices
+lent =
+    slices (9 ∷ []) (one ∷ []) (one ∷ []) (9 ∷ []) (9 ∷ []) (9 ∷ []) (one ∷ []) (replicate 2 one) (replicate 2 9) (replicate 2 9) [] (replicate 48 one) (replicate 48 9)
+
+abbrev keptBy : Case → List ℕ
+keptBy c = planCorridors c 4 lent .lent .cap
+
+pub caps-kept :
+    keptBy (valley Expand 1 2) ∷ keptBy (valley Reinforce 1 2) ∷ keptBy (valley Observe 1 2) ∷ keptBy (valley Expand 1 7) ∷ []
+    ≡ (2 ∷ []) ∷ (2 ∷ []) ∷ (2 ∷ []) ∷ (9 ∷ []) ∷ []
+unfolding listingOf
+caps-kept = refl
 
 -- Two corridors in a row whose angles are spread too wide, with a budget of four circuits. The first narrows the spread the most; at its cap of 1 it is no
 -- candidate, and the second gets both circuits. With a cap of 2 it gets one.

@@ -4,6 +4,7 @@
 
 use std::collections::BTreeMap;
 use std::fmt;
+use std::ops::RangeInclusive;
 
 use crate::generate::cases::{self, CaseFile};
 use crate::generate::requests::{family_names, largest, Request, KINDS};
@@ -11,6 +12,7 @@ use crate::harness::case_file::{read_case, MOST_BYTES};
 use crate::harness::operations::leaders;
 use crate::harness::tables::{
     Case, CorridorRecord, MOST_BUSES, MOST_CORRIDORS, MOST_GENERATORS, MOST_LEVELS, MOST_MODE,
+    SERVING,
 };
 use crate::previews::{OTHER, TARGETS};
 use crate::watch::BRANCHES;
@@ -20,6 +22,9 @@ const LARGEST: u64 = 100;
 
 /// How many Expand cases must be previewed under each target.
 const PREVIEWED: u64 = 2_000;
+
+/// How many plans of each of modes 3 to 5 must be compared.
+const SERVED: u64 = 1_000;
 
 /// What is compared of case files.
 const CASES: [&str; 2] = ["list", "read"];
@@ -35,6 +40,10 @@ const ANSWERS: &[(&str, &[&str])] = &[
     (
         "list",
         &["RF 9", "RF 13", "RF 14", "RF 15", "RF 16", "RF 17"],
+    ),
+    (
+        "serve",
+        &["RF 3", "RF 4", "RF 5", "RF 6", "RF 7", "RF 8", "RF 9"],
     ),
     (
         "read",
@@ -258,6 +267,12 @@ impl fmt::Display for Tally {
     }
 }
 
+/// The caps that must be met under each of these modes.
+fn caps(what: &str, modes: RangeInclusive<u8>) -> impl Iterator<Item = String> + '_ {
+    let both = modes.flat_map(|mode| CAPS.map(|cap| (mode, cap)));
+    both.map(move |(mode, cap)| capped(what, mode, cap))
+}
+
 /// What must be met in all comparisons together, and how often at least.
 fn expected() -> BTreeMap<String, u64> {
     let branches = BRANCHES.iter().map(|name| format!("branch: {name}"));
@@ -273,21 +288,32 @@ fn expected() -> BTreeMap<String, u64> {
         let families = families.map(move |name| format!("case: {what}, {name}"));
         let shapes = shapes.map(move |name| format!("tables: {what}, {name}"));
         let files = files.map(move |name| format!("file: {what}, {name}"));
-        let modes = (0..=MOST_MODE).flat_map(|mode| CAPS.map(|cap| (mode, cap)));
-        let caps = modes.map(move |(mode, cap)| capped(what, mode, cap));
-        families.chain(shapes).chain(files).chain(caps)
+        families
+            .chain(shapes)
+            .chain(files)
+            .chain(caps(what, 0..=SERVING - 1))
     });
+    let serving = cases::serving_names().into_iter();
+    let serving = serving.map(|name| format!("case: serve, {name}"));
+    let serving = serving.chain(caps("serve", SERVING..=MOST_MODE));
     let of_requests = KINDS.iter().flat_map(|kind| {
         family_names(kind)
             .into_iter()
             .map(move |name| format!("request: {kind}, {name}"))
     });
-    let names = branches.chain(answers).chain(of_cases).chain(of_requests);
+    let names = branches
+        .chain(answers)
+        .chain(of_cases)
+        .chain(serving)
+        .chain(of_requests);
     let mut expected: BTreeMap<String, u64> = names.map(|name| (name, 1)).collect();
     for kind in KINDS {
         if let Some((family, _)) = largest(kind) {
             expected.insert(format!("request: {kind}, {family}"), LARGEST);
         }
+    }
+    for mode in SERVING..=MOST_MODE {
+        expected.insert(format!("answer: serve PL {mode}"), SERVED);
     }
     for target in TARGETS {
         expected.insert(format!("preview: {target}"), PREVIEWED);

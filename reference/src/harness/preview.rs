@@ -9,9 +9,9 @@ use crate::harness::case_file::read_case;
 use crate::harness::checks::MOST_CAP;
 use crate::harness::plan::plan_case;
 use crate::harness::refusal::{count_at_most, first_fault, Refusal, CORRIDOR, COUNT, MODE, ORDER};
-use crate::harness::tables::{Case, MOST_CORRIDORS, MOST_TARGET};
+use crate::harness::tables::{Case, MOST_CORRIDORS, MOST_TARGET, SERVING};
 
-/// The mode that fills.
+/// The mode that fills, whether or not idle units serve.
 pub const EXPAND: u8 = 0;
 /// Filling gives no corridor more that has no cap of its own.
 pub const FULL: usize = MAX_CIRCUITS_PER_CORRIDOR as usize;
@@ -24,6 +24,11 @@ pub fn full_at(cap: usize) -> usize {
         0 => FULL,
         own => own,
     }
+}
+
+/// Whether a mode counts as Expand.
+pub fn fills(mode: u8) -> bool {
+    mode % SERVING == EXPAND
 }
 
 /// What a plan keeps of filling; a place for each corridor in each list.
@@ -51,7 +56,7 @@ impl Kept {
     fn check(&self, target: usize) -> Result<(), Refusal> {
         count_at_most(self.before.len(), MOST_CORRIDORS)?;
         count_at_most(target, MOST_TARGET)?;
-        if self.mode != EXPAND {
+        if !fills(self.mode) {
             return Err(Refusal::new(MODE, 0));
         }
         first_fault(

@@ -68,15 +68,20 @@ pub fn with_caps(random: &mut Random, mut case: Case, capped: bool) -> Case {
     case
 }
 
+/// One corridor's cap past its bound.
+pub fn put_past(random: &mut Random, case: &mut Case) {
+    let cap = random.pick(&PAST);
+    if let Some(corridor) = some_corridor(random, case) {
+        put(corridor, cap);
+    }
+}
+
 /// One cap past its bound, or two; every other time beside another fault.
 pub fn past_its_bound(random: &mut Random, turn: usize, capped: bool) -> Vec<u8> {
     let file = good_file(random, capped);
     let mut case = read_case(&file).expect("the file is good");
     for _ in 0..random.from_to(1, 2) {
-        let cap = random.pick(&PAST);
-        if let Some(corridor) = some_corridor(random, &mut case) {
-            put(corridor, cap);
-        }
+        put_past(random, &mut case);
     }
     if turn.is_multiple_of(2) {
         if let Some(corridor) = some_corridor(random, &mut case) {

@@ -6,7 +6,7 @@ use super::networks::{middling_observe, small_expand, small_observe, small_reinf
 use super::sketch::{plain_line, uniform_sheet, OBSERVE};
 use crate::generate::random::Random;
 use crate::harness::case_file::{write_case, MOST_BYTES};
-use crate::harness::tables::CorridorRecord;
+use crate::harness::tables::{CorridorRecord, MOST_MODE};
 
 /// Where the header's fields lie in the file.
 const MODE: usize = 2;
@@ -74,7 +74,7 @@ pub fn counts(random: &mut Random, turn: usize, capped: bool) -> Vec<u8> {
         }
     }
     if random.once_in(8) {
-        file[MODE] = 3;
+        file[MODE] = MOST_MODE + 1;
     }
     file
 }
@@ -93,6 +93,10 @@ pub fn small_fields(random: &mut Random, turn: usize, capped: bool) -> Vec<u8> {
     let (mark, offset) = [(b"HD", MODE), (b"GE", 4), (b"LN", 34)][turn % 3];
     let places = records(&file, mark);
     if !places.is_empty() {
+        let past = match (mark, past) {
+            (b"HD", 3) => MOST_MODE + 1,
+            _ => past,
+        };
         file[random.pick(&places) + offset] = past;
     }
     if random.once_in(3) {

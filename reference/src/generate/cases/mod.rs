@@ -8,12 +8,13 @@ mod edges;
 mod faults;
 mod networks;
 pub mod padding;
+mod serving;
 mod sketch;
 mod stiffening;
 
 use crate::generate::random::Random;
 use crate::harness::case_file::write_case;
-use crate::harness::tables::Case;
+use crate::harness::tables::{Case, SERVING};
 
 /// How a file of a family is made.
 enum Make {
@@ -216,6 +217,49 @@ pub fn case_file(seed: u64) -> CaseFile {
         }
     };
     let family = family_name(family, capped);
+    CaseFile { family, bytes }
+}
+
+/// The cases among the families, for modes 3 to 5.
+fn plain_families() -> impl Iterator<Item = serving::Family> {
+    FAMILIES.iter().filter_map(|(family, make)| match make {
+        Make::Case(case) => Some((*family, *case)),
+        Make::File(_) => None,
+    })
+}
+
+/// Names of all families in modes 3 to 5.
+pub fn serving_names() -> Vec<String> {
+    let of = |capped| {
+        let own = serving::FAMILIES.iter().copied();
+        let names = own.chain(plain_families()).map(|(name, _)| name);
+        names.map(move |name| family_name(name, capped))
+    };
+    of(false).chain(of(true)).collect()
+}
+
+/// The case file of a seed in modes 3 to 5: of odd seeds a family with idle
+/// units, of even ones a case as in modes 0 to 2 with its mode raised. Of
+/// those with own caps one in twelve has a cap past its bound.
+pub fn serving_file(seed: u64) -> CaseFile {
+    let capped = seed >= CAPPED;
+    let number = if capped { seed - CAPPED } else { seed };
+    let families: Vec<serving::Family> = match number % 2 {
+        1 => serving::FAMILIES.to_vec(),
+        _ => plain_families().collect(),
+    };
+    let (family, make) = families[(number / 2) as usize % families.len()];
+    let mut random = Random::new(family, seed);
+    let mut case = make(&mut random);
+    if case.mode < SERVING {
+        case.mode += SERVING;
+    }
+    let mut case = caps::with_caps(&mut random, case, capped);
+    if capped && random.once_in(12) {
+        caps::put_past(&mut random, &mut case);
+    }
+    let family = family_name(family, capped);
+    let bytes = write_case(&case);
     CaseFile { family, bytes }
 }
 

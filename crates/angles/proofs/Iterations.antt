@@ -14,7 +14,8 @@ use Rattle.angles_defs.specs.Network.{Edges, Network, apply, precondition, shar
 use Rattle.angles_defs.specs.Solve.{Solved, solved, State, Next, halt, go, step, run, begin, beginIf, judged, descended, solveFrom, settledShare, maxIterations}
 use Rattle.angles_defs.specs.declared.Ended.the-variants.{Settled, NoDescent, StepsSpent}
 use Rattle.angles_defs.specs.declared.Solution.{Solution}
-use Rattle.angles.specs.Rows.{row, networkIn, stateIn, carriedBy, solvedIn, nextIn, judgement, Stepped, Begun, Preconditioned, Residual, Advanced, Redirected}
+use Rattle.angles.specs.Rows.{row, networkIn, stateIn, carriedBy, solvedIn, nextIn, judgement, Stepped, Begun, Preconditioned, Residual, nextR, nextZ, ResidualStep, AngleStep, DirectionStep}
+use Rattle.angles.specs.declared.steps.Sums.{Sums}
 use Rattle.angles.specs.declared.solve.Carried.{Carried}
 use Rattle.angles.specs.declared.solve.Iteration.{Iteration}
 use Rattle.angles.specs.declared.solve.Iteration.the-variants.{Ends, Continues}
@@ -36,8 +37,15 @@ beyond v bound h = go (le v bound) refl h
     go true e p = absurd (unequal cc)
     go false e p = e
 
--- ---- an iteration that goes on, and a beginning, with a name for each value
+-- ---- an iteration that goes on or settles, and a beginning, with a name for each value
 module _ (N : Network) (bound : Float) where
+  settles : (s : State) (q x r : List Float) (dq rr norm : Float)
+      → q ≡ apply N (s .d) → dq ≡ dot (N .n) (s .d) q → le dq nought ≡ false
+      → x ≡ along (N .n) (s .x) (over (s .rz) dq) (s .d) → r ≡ back (N .n) (s .r) (over (s .rz) dq) q → rr ≡ dot (N .n) r r → le (root rr) bound ≡ true → norm ≡ root rr
+      → halt (solved x (s .steps + 1) (Settled norm)) ≡ step N bound s
+  unfolding step
+  settles s q x r dq rr norm eq edq down ex er err near en = cc
+
   goes-on : (s : State) (q x r z : List Float) (dq rr rz : Float)
       → q ≡ apply N (s .d) → dq ≡ dot (N .n) (s .d) q → le dq nought ≡ false
       → x ≡ along (N .n) (s .x) (over (s .rz) dq) (s .d) → r ≡ back (N .n) (s .r) (over (s .rz) dq) q → rr ≡ dot (N .n) r r → le (root rr) bound ≡ false
@@ -64,34 +72,54 @@ module _ (n : ℕ) (E : Edges) (bound : Float) (b g c x r z d q : List Float) wh
     unfolding step
     step-none h = record { next = cc (A .left, A .answered, h); same = cc (A .left) }
 
-    module _ (R₂ : List (List Float)) (rr : Float) (down : le dq nought ≡ false) (M : Advanced n (over (k .rz) dq) R₁ R₂ rr) where
-      pub step-settled : (norm : Float) → Within norm ≡ judgement (root rr) bound
-          → Stepped n E bound R₀ k R₂ (Ends (record { steps = k .steps + 1; ended = Settled norm }))
-      unfolding step
-      step-settled norm j =
-          let w = within (root rr) bound norm j in
-          record { next = cc (A .left, A .answered, M .left, M .answered, down, w .0, w .1); same = cc (A .left, M .left) }
+    module _ (R₂ : List (List Float)) (sums : Sums) (down : le dq nought ≡ false) (M : ResidualStep n (over (k .rz) dq) R₁ R₂ sums) where
+      abbrev alpha : Float
+      alpha = over (k .rz) dq
 
-      pub step-more : (R₃ R₄ : List (List Float)) (rz : Float) → Beyond ≡ judgement (root rr) bound → Preconditioned n R₂ R₃ rz → Redirected n (over rz (k .rz)) R₃ R₄
-          → Stepped n E bound R₀ k R₄ (Continues (carriedBy rz rr (k .steps + 1)))
-      step-more R₃ R₄ rz j P D =
-          let y : List Float = apply N d in
-          let alpha : Float = over (k .rz) dq in
-          let x′ : List Float = along n x alpha d in
-          let r′ : List Float = back n r alpha y in
-          let z′ : List Float = shares n g c r′ in
-          let d′ : List Float = along n z′ (over rz (k .rz)) d in
-          let e₂ : R₂ ≡ b ∷ g ∷ c ∷ x′ ∷ r′ ∷ z ∷ d ∷ y ∷ [] =
-          M .left ∙ ap (λ (S : List (List Float)). set (set S 3 (along n (row S 3) alpha (row S 6))) 4 (back n (row S 4) alpha (row S 7))) (A .left) in
-          let e₃ : R₃ ≡ b ∷ g ∷ c ∷ x′ ∷ r′ ∷ z′ ∷ d ∷ y ∷ [] = P .left ∙ ap (λ (S : List (List Float)). set S 5 (shares n (row S 1) (row S 2) (row S 4))) e₂ in
-          let e₄ : R₄ ≡ b ∷ g ∷ c ∷ x′ ∷ r′ ∷ z′ ∷ d′ ∷ y ∷ [] = D .left ∙ ap (λ (S : List (List Float)). set S 6 (along n (row S 5) (over rz (k .rz)) (row S 6))) e₃ in
-          let err : rr ≡ dot n r′ r′ = M .answered ∙ ap (λ (S : List (List Float)). dot n (back n (row S 4) alpha (row S 7)) (back n (row S 4) alpha (row S 7))) (A .left) in
-          let erz : rz ≡ dot n r′ z′ = P .answered ∙ ap (λ (S : List (List Float)). dot n (row S 4) (shares n (row S 1) (row S 2) (row S 4))) e₂ in
+      abbrev y : List Float
+      y = apply N d
+
+      abbrev x′ : List Float
+      x′ = along n x alpha d
+
+      abbrev r′ : List Float
+      r′ = back n r alpha y
+
+      abbrev z′ : List Float
+      z′ = shares n g c r′
+
+      e₂ : R₂ ≡ b ∷ g ∷ c ∷ x ∷ r′ ∷ z′ ∷ d ∷ y ∷ []
+      e₂ = M .left ∙ ap (λ (S : List (List Float)). set (set S 4 (nextR n alpha S)) 5 (nextZ n alpha S)) (A .left)
+
+      err : sums .rr ≡ dot n r′ r′
+      err = M .square ∙ ap (λ (S : List (List Float)). dot n (nextR n alpha S) (nextR n alpha S)) (A .left)
+
+      erz : sums .rz ≡ dot n r′ z′
+      erz = M .shared ∙ ap (λ (S : List (List Float)). dot n (nextR n alpha S) (nextZ n alpha S)) (A .left)
+
+      pub step-settled : (R₃ : List (List Float)) (norm : Float) → Within norm ≡ judgement (root (sums .rr)) bound → AngleStep n alpha R₂ R₃
+          → Stepped n E bound R₀ k R₃ (Ends (record { steps = k .steps + 1; ended = Settled norm }))
+      step-settled R₃ norm j T =
+          let w = within (root (sums .rr)) bound norm j in
+          let e₃ : R₃ ≡ b ∷ g ∷ c ∷ x′ ∷ r′ ∷ z′ ∷ d ∷ y ∷ [] = T .left ∙ ap (λ (S : List (List Float)). set S 3 (along n (row S 3) alpha (row S 6))) e₂ in
           record {
             next =
-                ap (λ (S : List (List Float)). go (stateIn S (carriedBy rz rr (k .steps + 1)))) e₄
-                ∙ goes-on N bound (stateIn R₀ k) y x′ r′ z′ dq rr rz refl (A .answered) down refl refl err (beyond (root rr) bound j) refl erz;
-            same = ap (λ (S : List (List Float)). networkIn n E S) e₄;
+                ap (λ (S : List (List Float)). halt (solved (row S 3) (k .steps + 1) (Settled norm))) e₃
+                ∙ settles N bound (stateIn R₀ k) y x′ r′ dq (sums .rr) norm refl (A .answered) down refl refl err (w .0) (w .1);
+            same = ap (λ (S : List (List Float)). networkIn n E S) e₃;
+          }
+
+      pub step-more : (R₃ : List (List Float)) → Beyond ≡ judgement (root (sums .rr)) bound → DirectionStep n alpha (over (sums .rz) (k .rz)) R₂ R₃
+          → Stepped n E bound R₀ k R₃ (Continues (carriedBy (sums .rz) (sums .rr) (k .steps + 1)))
+      step-more R₃ j D =
+          let beta : Float = over (sums .rz) (k .rz) in
+          let e₃ : R₃ ≡ b ∷ g ∷ c ∷ x′ ∷ r′ ∷ z′ ∷ along n z′ beta d ∷ y ∷ [] =
+          D .left ∙ ap (λ (S : List (List Float)). set (set S 3 (along n (row S 3) alpha (row S 6))) 6 (along n (row S 5) beta (row S 6))) e₂ in
+          record {
+            next =
+                ap (λ (S : List (List Float)). go (stateIn S (carriedBy (sums .rz) (sums .rr) (k .steps + 1)))) e₃
+                ∙ goes-on N bound (stateIn R₀ k) y x′ r′ z′ dq (sums .rr) (sums .rz) refl (A .answered) down refl refl err (beyond (root (sums .rr)) bound j) refl erz;
+            same = ap (λ (S : List (List Float)). networkIn n E S) e₃;
           }
 
   module _ (R₁ R₂ : List (List Float)) (a rr : Float) (A : Set R₀ R₁ 4 (apply N x) (dot n x (apply N x)) a) (D : Residual n R₁ R₂ rr) where

@@ -14,7 +14,8 @@ use Rattle.loops.proofs.Rows.{length-rows, row-of, rows-wrote}
 use Rattle.root.specs.Root.{root}
 use Rattle.angles_defs.specs.Network.{Edges, scatter, kept, apply, shares, dot, along, back, less, zeros}
 use Rattle.angles_defs.proofs.Vectors.{length-zeros, length-kept, length-shares, length-along, length-back, length-less}
-use Rattle.angles.specs.Rows.{row, networkIn, Wrote, Preconditioned, Residual, Advanced, Redirected}
+use Rattle.angles.specs.Rows.{row, networkIn, Wrote, Preconditioned, Residual, nextR, nextZ, ResidualStep, AngleStep, DirectionStep}
+use Rattle.angles.specs.declared.steps.Sums.{Sums}
 
 -- row j set to v
 pub record Set (R R′ : List (List Float)) (j : ℕ) (v : List Float) (sum answer : Float) : Type 0 where
@@ -55,32 +56,56 @@ module _ (n : ℕ) (w w′ : List Float) (len : length w ≡ 8 * n) where
         answered = s ∙ rw (b, r);
       }
 
-  pub redirect-rows : (beta : Float) → w′ ≡ put w (6 * n) (along n (part (5 * n) n w) beta (part (6 * n) n w)) → Redirected n beta (rows 8 n w) (rows 8 n w′)
-  redirect-rows beta e =
-      let z = row-of 8 n 5 (5 * n) w refl (lit< tt) in
-      let d = row-of 8 n 6 (6 * n) w refl (lit< tt) in
-      record {
-        left = rows-wrote nan 8 n 6 (6 * n) w w′ (along n (row (rows 8 n w) 5) beta (row (rows 8 n w) 6)) refl (lit< tt) len (length-along n _ beta _) (rw (z, d) at e);
-      }
+  abbrev r′ : Float → List Float
+  r′ alpha = nextR n alpha (rows 8 n w)
 
-  pub advance-rows : (alpha rr : Float)
-      → w′ ≡ put (put w (3 * n) (along n (part (3 * n) n w) alpha (part (6 * n) n w))) (4 * n) (back n (part (4 * n) n w) alpha (part (7 * n) n w))
-      → rr ≡ dot n (back n (part (4 * n) n w) alpha (part (7 * n) n w)) (back n (part (4 * n) n w) alpha (part (7 * n) n w))
-      → Advanced n alpha (rows 8 n w) (rows 8 n w′) rr
-  advance-rows alpha rr e s =
-      let x = row-of 8 n 3 (3 * n) w refl (lit< tt) in
+  abbrev z′ : Float → List Float
+  z′ alpha = nextZ n alpha (rows 8 n w)
+
+  pub residual-step-rows : (alpha : Float) (sums : Sums)
+      → w′ ≡ put (put w (4 * n) (back n (part (4 * n) n w) alpha (part (7 * n) n w))) (5 * n)
+      (shares n (part (1 * n) n w) (part (2 * n) n w) (back n (part (4 * n) n w) alpha (part (7 * n) n w)))
+      → sums .rr ≡ dot n (back n (part (4 * n) n w) alpha (part (7 * n) n w)) (back n (part (4 * n) n w) alpha (part (7 * n) n w))
+      → sums .rz ≡ dot n (back n (part (4 * n) n w) alpha (part (7 * n) n w)) (shares n (part (1 * n) n w) (part (2 * n) n w) (back n (part (4 * n) n w) alpha (part (7 * n) n w)))
+      → ResidualStep n alpha (rows 8 n w) (rows 8 n w′) sums
+  residual-step-rows alpha sums e s t =
+      let g = row-of 8 n 1 (1 * n) w refl (lit< tt) in
+      let c = row-of 8 n 2 (2 * n) w refl (lit< tt) in
       let r = row-of 8 n 4 (4 * n) w refl (lit< tt) in
-      let d = row-of 8 n 6 (6 * n) w refl (lit< tt) in
       let q = row-of 8 n 7 (7 * n) w refl (lit< tt) in
-      let lX : length (along n (row (rows 8 n w) 3) alpha (row (rows 8 n w) 6)) ≡ n = length-along n _ alpha _ in
-      let long : length (put w (3 * n) (along n (row (rows 8 n w) 3) alpha (row (rows 8 n w) 6))) ≡ 8 * n = length-put w (3 * n) (along n (row (rows 8 n w) 3) alpha (row (rows 8 n w) 6)) (omega arith) ∙ len in
+      let lR : length (r′ alpha) ≡ n = length-back n _ alpha _ in
+      let long : length (put w (4 * n) (r′ alpha)) ≡ 8 * n = length-put w (4 * n) (r′ alpha) (omega arith) ∙ len in
       record {
         left =
-            rows-wrote nan 8 n 4 (4 * n) (put w (3 * n) (along n (row (rows 8 n w) 3) alpha (row (rows 8 n w) 6))) w′ (back n (row (rows 8 n w) 4) alpha (row (rows 8 n w) 7)) refl (lit< tt) long
-            (length-back n _ alpha _) (rw (x, d, r, q) at e)
-            ∙ ap (λ (S : List (List Float)). set S 4 (back n (row (rows 8 n w) 4) alpha (row (rows 8 n w) 7)))
-            (rows-wrote nan 8 n 3 (3 * n) w (put w (3 * n) (along n (row (rows 8 n w) 3) alpha (row (rows 8 n w) 6))) (along n (row (rows 8 n w) 3) alpha (row (rows 8 n w) 6)) refl (lit< tt) len lX refl);
-        answered = s ∙ rw (r, q);
+            rows-wrote nan 8 n 5 (5 * n) (put w (4 * n) (r′ alpha)) w′ (z′ alpha) refl (lit< tt) long (length-shares n _ _ _) (rw (g, c, r, q) at e)
+            ∙ ap (λ (S : List (List Float)). set S 5 (z′ alpha)) (rows-wrote nan 8 n 4 (4 * n) w (put w (4 * n) (r′ alpha)) (r′ alpha) refl (lit< tt) len lR refl);
+        square = s ∙ rw (r, q);
+        shared = t ∙ rw (g, c, r, q);
+      }
+
+  abbrev x′ : Float → List Float
+  x′ alpha = along n (row (rows 8 n w) 3) alpha (row (rows 8 n w) 6)
+
+  pub angle-step-rows : (alpha : Float) → w′ ≡ put w (3 * n) (along n (part (3 * n) n w) alpha (part (6 * n) n w)) → AngleStep n alpha (rows 8 n w) (rows 8 n w′)
+  angle-step-rows alpha e =
+      let x = row-of 8 n 3 (3 * n) w refl (lit< tt) in
+      let d = row-of 8 n 6 (6 * n) w refl (lit< tt) in
+      record { left = rows-wrote nan 8 n 3 (3 * n) w w′ (x′ alpha) refl (lit< tt) len (length-along n _ alpha _) (rw (x, d) at e) }
+
+  pub direction-step-rows : (alpha beta : Float)
+      → w′ ≡ put (put w (3 * n) (along n (part (3 * n) n w) alpha (part (6 * n) n w))) (6 * n) (along n (part (5 * n) n w) beta (part (6 * n) n w))
+      → DirectionStep n alpha beta (rows 8 n w) (rows 8 n w′)
+  direction-step-rows alpha beta e =
+      let x = row-of 8 n 3 (3 * n) w refl (lit< tt) in
+      let z = row-of 8 n 5 (5 * n) w refl (lit< tt) in
+      let d = row-of 8 n 6 (6 * n) w refl (lit< tt) in
+      let lX : length (x′ alpha) ≡ n = length-along n _ alpha _ in
+      let long : length (put w (3 * n) (x′ alpha)) ≡ 8 * n = length-put w (3 * n) (x′ alpha) (omega arith) ∙ len in
+      record {
+        left =
+            rows-wrote nan 8 n 6 (6 * n) (put w (3 * n) (x′ alpha)) w′ (along n (row (rows 8 n w) 5) beta (row (rows 8 n w) 6)) refl (lit< tt) long (length-along n _ beta _) (rw (x, d, z) at e)
+            ∙ ap (λ (S : List (List Float)). set S 6 (along n (row (rows 8 n w) 5) beta (row (rows 8 n w) 6)))
+            (rows-wrote nan 8 n 3 (3 * n) w (put w (3 * n) (x′ alpha)) (x′ alpha) refl (lit< tt) len lX refl);
       }
 
   -- `copy` from row 5 to row 6

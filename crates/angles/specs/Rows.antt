@@ -14,6 +14,7 @@ use Rattle.angles_defs.specs.Network.{Edges, Network, groundedOf, diagOf, weigh
 use Rattle.angles_defs.specs.Solve.{Solved, solved, State, Next, halt, go, step, begin}
 use Rattle.angles_defs.specs.Operation.{finiteAt, workPlaces}
 use Rattle.angles_defs.specs.declared.Solution.{Solution}
+use Rattle.angles.specs.declared.steps.Sums.{Sums}
 use Rattle.angles.specs.declared.solve.Carried.{Carried}
 use Rattle.angles.specs.declared.solve.Iteration.{Iteration}
 use Rattle.angles.specs.declared.solve.Iteration.the-variants.{Ends, Continues}
@@ -73,12 +74,23 @@ pub record Residual (n : ℕ) (R R′ : List (List Float)) (rr : Float) : Type 0
   pub left : R′ ≡ set R 4 (less n (row R 0) (row R 4))
   pub answered : rr ≡ dot n (less n (row R 0) (row R 4)) (less n (row R 0) (row R 4))
 
-pub record Advanced (n : ℕ) (alpha : Float) (R R′ : List (List Float)) (rr : Float) : Type 0 where
-  pub left : R′ ≡ set (set R 3 (along n (row R 3) alpha (row R 6))) 4 (back n (row R 4) alpha (row R 7))
-  pub answered : rr ≡ dot n (back n (row R 4) alpha (row R 7)) (back n (row R 4) alpha (row R 7))
+-- r after a step of alpha, and its z
+abbrev pub nextR : ℕ → Float → List (List Float) → List Float
+nextR n alpha R = back n (row R 4) alpha (row R 7)
 
-pub record Redirected (n : ℕ) (beta : Float) (R R′ : List (List Float)) : Type 0 where
-  pub left : R′ ≡ set R 6 (along n (row R 5) beta (row R 6))
+abbrev pub nextZ : ℕ → Float → List (List Float) → List Float
+nextZ n alpha R = shares n (row R 1) (row R 2) (nextR n alpha R)
+
+pub record ResidualStep (n : ℕ) (alpha : Float) (R R′ : List (List Float)) (sums : Sums) : Type 0 where
+  pub left : R′ ≡ set (set R 4 (nextR n alpha R)) 5 (nextZ n alpha R)
+  pub square : sums .rr ≡ dot n (nextR n alpha R) (nextR n alpha R)
+  pub shared : sums .rz ≡ dot n (nextR n alpha R) (nextZ n alpha R)
+
+pub record AngleStep (n : ℕ) (alpha : Float) (R R′ : List (List Float)) : Type 0 where
+  pub left : R′ ≡ set R 3 (along n (row R 3) alpha (row R 6))
+
+pub record DirectionStep (n : ℕ) (alpha beta : Float) (R R′ : List (List Float)) : Type 0 where
+  pub left : R′ ≡ set (set R 3 (along n (row R 3) alpha (row R 6))) 6 (along n (row R 5) beta (row R 6))
 
 -- a norm against the bound
 abbrev pub judgement : Float → Float → Judgement

@@ -14,10 +14,11 @@ use crate::steps::Q;
 use crate::steps::R;
 use crate::steps::X;
 use crate::steps::Z;
-use crate::steps::advance;
+use crate::steps::angle_step;
+use crate::steps::direction_step;
 use crate::steps::precondition;
-use crate::steps::redirect;
 use crate::steps::residual;
+use crate::steps::residual_step;
 use crate::vectors::clear;
 use crate::vectors::copy;
 use crate::vectors::dot;
@@ -111,15 +112,18 @@ fn step(
             ended: Ended::NoDescent(dq),
         });
     }
-    let rr = advance(w, n, rz / dq);
+    let alpha = rz / dq;
+    let sums = residual_step(w, n, alpha);
+    let rr = sums.rr;
     if let Judgement::Within(norm) = judge(rr, bound, beyond) {
+        angle_step(w, n, alpha);
         return Iteration::Ends(Solution {
             steps: steps + 1,
             ended: Ended::Settled(norm),
         });
     }
-    let rz_next = precondition(w, n);
-    redirect(w, n, rz_next / rz);
+    let rz_next = sums.rz;
+    direction_step(w, n, alpha, rz_next / rz);
     Iteration::Continues(Carried {
         rz: rz_next,
         rr,

@@ -4,7 +4,7 @@ ghost use Prim.Native.Nat.{_*_};
 ghost use lib.ListN.{length};
 ghost use Rattle.loops.specs.Parts.{rows};
 ghost use Rattle.angles_defs.specs.Network.{shareAt};
-ghost use Rattle.angles.specs.Rows.{Preconditioned, Residual, Advanced, Redirected};
+ghost use Rattle.angles.specs.Rows.{Preconditioned, Residual, ResidualStep, AngleStep, DirectionStep};
 
 // The rows, by number. The right side is row 0.
 pub const GROUNDED: usize = 1;
@@ -69,38 +69,66 @@ pub fn residual(w: &mut [f64], n: usize) -> f64
     rr
 }
 
-// x += alpha d, r -= alpha q; answers r · r.
-pub fn advance(w: &mut [f64], n: usize, alpha: f64) -> f64
-    requires { ⌜ length (now w) ≡ 8 * n ⌝ }
-    ensures { λ rr. ⌜ Advanced n alpha (rows 8 n (now (w .entry))) (rows 8 n (now (w .exit))) rr ⌝ }
-{
-    let x = X * n;
-    let r = R * n;
-    let d = D * n;
-    let q = Q * n;
-    let mut rr = 0.0;
-    let mut i = 0;
-    while i < n {
-        let xi = w[x + i] + alpha * w[d + i];
-        let ri = w[r + i] - alpha * w[q + i];
-        w[x + i] = xi;
-        w[r + i] = ri;
-        rr = rr + ri * ri;
-        i += 1;
-    }
-    rr
+// The sums that end an iteration: r · r and r · z.
+pub struct Sums {
+    pub rr: f64,
+    pub rz: f64,
 }
 
-// d = z + beta d
-pub fn redirect(w: &mut [f64], n: usize, beta: f64)
+// r -= alpha q, z = M r; answers r · r and r · z, which are added up side by side.
+pub fn residual_step(w: &mut [f64], n: usize, alpha: f64) -> Sums
     requires { ⌜ length (now w) ≡ 8 * n ⌝ }
-    ensures { λ _. ⌜ Redirected n beta (rows 8 n (now (w .entry))) (rows 8 n (now (w .exit))) ⌝ }
+    ensures { λ sums. ⌜ ResidualStep n alpha (rows 8 n (now (w .entry))) (rows 8 n (now (w .exit))) sums ⌝ }
 {
+    let grounded = GROUNDED * n;
+    let diag = DIAG * n;
+    let r = R * n;
+    let z = Z * n;
+    let q = Q * n;
+    let mut rr = 0.0;
+    let mut rz = 0.0;
+    let mut i = 0;
+    while i < n {
+        let ri = w[r + i] - alpha * w[q + i];
+        let zi = share(w[grounded + i], w[diag + i], ri);
+        w[r + i] = ri;
+        w[z + i] = zi;
+        rr = rr + ri * ri;
+        rz = rz + ri * zi;
+        i += 1;
+    }
+    Sums { rr, rz }
+}
+
+// x += alpha d
+pub fn angle_step(w: &mut [f64], n: usize, alpha: f64)
+    requires { ⌜ length (now w) ≡ 8 * n ⌝ }
+    ensures { λ _. ⌜ AngleStep n alpha (rows 8 n (now (w .entry))) (rows 8 n (now (w .exit))) ⌝ }
+{
+    let x = X * n;
+    let d = D * n;
+    let mut i = 0;
+    while i < n {
+        w[x + i] = w[x + i] + alpha * w[d + i];
+        i += 1;
+    }
+}
+
+// x += alpha d, d = z + beta d
+pub fn direction_step(w: &mut [f64], n: usize, alpha: f64, beta: f64)
+    requires { ⌜ length (now w) ≡ 8 * n ⌝ }
+    ensures { λ _. ⌜ DirectionStep n alpha beta (rows 8 n (now (w .entry))) (rows 8 n (now (w .exit))) ⌝ }
+{
+    let x = X * n;
     let z = Z * n;
     let d = D * n;
     let mut i = 0;
     while i < n {
-        w[d + i] = w[z + i] + beta * w[d + i];
+        let di = w[d + i];
+        let xi = w[x + i] + alpha * di;
+        let next = w[z + i] + beta * di;
+        w[x + i] = xi;
+        w[d + i] = next;
         i += 1;
     }
 }

@@ -4,15 +4,15 @@
 mod print;
 
 ghost use Prim.Native.Nat.{_*_, _<_, _≤_};
-ghost use Rattle.casefile.specs.Bounds.{mostLevels, mostBuses, mostGenerators, mostCorridors};
-use casefile::Header;
-use casefile::MOST_BUSES;
-use casefile::MOST_CORRIDORS;
-use casefile::MOST_GENERATORS;
-use casefile::MOST_LEVELS;
-use casefile::MOST_SHEET;
-use casefile::ROW_FIGURES;
-use casefile::Reading;
+ghost use Rattle.casefile_defs.specs.Bounds.{mostLevels, mostBuses, mostGenerators, mostCorridors};
+use casefile_defs::Header;
+use casefile_defs::MOST_BUSES;
+use casefile_defs::MOST_CORRIDORS;
+use casefile_defs::MOST_GENERATORS;
+use casefile_defs::MOST_LEVELS;
+use casefile_defs::MOST_SHEET;
+use casefile_defs::ROW_FIGURES;
+use casefile_defs::Reading;
 use print::end_line;
 use print::figure;
 use print::mark;
@@ -21,7 +21,7 @@ use print::whole;
 use refusal::Refusal;
 
 // One byte more than the largest file, so that a larger one shows.
-const BUFFER: usize = casefile::MOST_BYTES + 1;
+const BUFFER: usize = casefile_defs::MOST_BYTES + 1;
 
 fn print_refusal(f: Refusal) {
     mark(b"RF");

@@ -7,13 +7,13 @@ use native.Mathlib.Omega.{arith}
 use lib.Ieee.{Float}
 use lib.ListN.{length, getD}
 use Rattle.loops.specs.Figures.{at, nought}
-use Rattle.casefile.specs.Bounds.{rowFigures}
-use Rattle.casefile.specs.Reading.{levels, lines, Small}
-use Rattle.casefile.specs.Tables.{Places, basisField, sizesOk}
-use Rattle.casefile.specs.declared.Header.{Header}
-use Rattle.casefile.specs.declared.Kind.the-variants.{Level, Bus, Generator, Corridor, Line}
-use Rattle.casefile.proofs.Counts.{lines-small}
-use Rattle.casefile.proofs.Whole.{sizes}
+use Rattle.casefile_defs.specs.Bounds.{rowFigures}
+use Rattle.casefile_defs.specs.Reading.{levels, lines, Small}
+use Rattle.casefile_defs.specs.Tables.{Places, basisField, sizesOk}
+use Rattle.casefile_defs.specs.declared.Header.{Header}
+use Rattle.casefile_defs.specs.declared.Kind.the-variants.{Level, Bus, Generator, Corridor, Line}
+use Rattle.casefile_defs.proofs.Counts.{lines-small}
+use Rattle.casefile_defs.proofs.Whole.{sizes}
 use Rattle.casefile_theorems.specs.Writer.{fileWith, fileOf, wordsOf, rowPlace}
 use Rattle.casefile_theorems.proofs.CaseForth.{Alike, files-alike}
 use Rattle.case_writer.specs.Words.{levelRow, busRow, generatorRow, corridorRow, lineRow, wordsIn}

@@ -11,12 +11,12 @@ use Rattle.refusal.specs.Number.{numberOf, indexOf}
 use Rattle.refusal.specs.Reply.{Reply, answered, refused}
 use Rattle.refusal.specs.declared.Refusal.{Refusal}
 use Rattle.refusal.specs.declared.Refusal.the-variants.{Place}
-use Rattle.casefile.specs.Reading.{Small}
-use Rattle.casefile.specs.Tables.{Places, sizesOk}
-use Rattle.casefile.specs.declared.Header.{Header}
-use Rattle.casefile.specs.declared.Reading.{Reading}
-use Rattle.casefile.specs.declared.Reading.the-variants.{Refused, Read}
-use Rattle.casefile.proofs.Counts.{small-of}
+use Rattle.casefile_defs.specs.Reading.{Small}
+use Rattle.casefile_defs.specs.Tables.{Places, sizesOk}
+use Rattle.casefile_defs.specs.declared.Header.{Header}
+use Rattle.casefile_defs.specs.declared.Reading.{Reading}
+use Rattle.casefile_defs.specs.declared.Reading.the-variants.{Refused, Read}
+use Rattle.casefile_defs.proofs.Counts.{small-of}
 use Rattle.casefile_theorems.specs.Cases.{longest}
 use Rattle.casefile_theorems.specs.Writer.{fileOf}
 use Rattle.small.specs.Networks.{allPlaces}

@@ -9,9 +9,9 @@ use lib.Ieee.{Float, binary64, toBits, ne}
 use lib.Ieee.Compare.{differs-from-itself}
 use lib.ListN.{length, take, set, length-append}
 use Rattle.loops.proofs.Bools.{is}
-use Rattle.casefile.specs.Layout.{layoutOf}
-use Rattle.casefile.specs.declared.Kind.{Kind}
-use Rattle.casefile.specs.declared.Kind.the-variants.{Head, Level, Bus, Generator, Corridor, Line}
+use Rattle.casefile_defs.specs.Layout.{layoutOf}
+use Rattle.casefile_defs.specs.declared.Kind.{Kind}
+use Rattle.casefile_defs.specs.declared.Kind.the-variants.{Head, Level, Bus, Generator, Corridor, Line}
 use Rattle.casefile_theorems.specs.Writer.{bytes, recordBytes, tableBytes}
 use Rattle.case_writer.specs.Put.{Put}
 use Rattle.case_writer.specs.Words.{markOf}

@@ -5,11 +5,11 @@ use mathlib.Core.List.{List, [], _∷_}
 use lib.Ieee.{Float, binary64, toBits, eq}
 use lib.ListN.{getD}
 use Rattle.loops.specs.Figures.{at, nought}
-use Rattle.casefile.specs.Bounds.{rowFigures}
-use Rattle.casefile.specs.Layout.{layoutOf}
-use Rattle.casefile.specs.Tables.{Places, basisField}
-use Rattle.casefile.specs.declared.Kind.{Kind}
-use Rattle.casefile.specs.declared.Kind.the-variants.{Head, Level, Bus, Generator, Corridor, Line}
+use Rattle.casefile_defs.specs.Bounds.{rowFigures}
+use Rattle.casefile_defs.specs.Layout.{layoutOf}
+use Rattle.casefile_defs.specs.Tables.{Places, basisField}
+use Rattle.casefile_defs.specs.declared.Kind.{Kind}
+use Rattle.casefile_defs.specs.declared.Kind.the-variants.{Head, Level, Bus, Generator, Corridor, Line}
 use Rattle.casefile_theorems.specs.Writer.{row}
 
 abbrev pub markOf : Kind → ℕ

@@ -5,11 +5,11 @@ ghost use mathlib.Core.List.{[], _∷_};
 ghost use Prim.Native.Nat.{_+_, _≤_};
 ghost use lib.ListN.{length};
 ghost use lib.Ieee.{binary64, toBits};
-ghost use Rattle.casefile.specs.Layout.{layoutOf};
+ghost use Rattle.casefile_defs.specs.Layout.{layoutOf};
 ghost use Rattle.casefile_theorems.specs.Writer.{bytes};
 ghost use Rattle.case_writer.specs.Put.{Put};
 ghost use Rattle.case_writer.specs.Words.{markOf, basisNumber};
-use casefile::Kind;
+use casefile_defs::Kind;
 
 // The one pattern under which a NaN is written.
 const NAN: u64 = 0x7ff8_0000_0000_0000;

@@ -3,8 +3,8 @@ ghost use mathlib.Core.Bool.{true};
 ghost use mathlib.Core.Path.{_≡_};
 ghost use Prim.Native.Nat.{_≤_};
 ghost use lib.ListN.{length};
-ghost use Rattle.casefile.specs.Reading.{Small};
-ghost use Rattle.casefile.specs.Tables.{placesOf, sizesOk};
+ghost use Rattle.casefile_defs.specs.Reading.{Small};
+ghost use Rattle.casefile_defs.specs.Tables.{placesOf, sizesOk};
 ghost use Rattle.casefile_theorems.specs.Cases.{longest};
 ghost use Rattle.casefile_theorems.specs.Writer.{fileOf};
 ghost use Rattle.case_writer.specs.Files.{Wrote};
@@ -16,13 +16,13 @@ use crate::table::put_corridors;
 use crate::table::put_generators;
 use crate::table::put_levels;
 use crate::table::put_lines;
-use casefile::Header;
-use casefile::MOST_BUSES;
-use casefile::MOST_CORRIDORS;
-use casefile::MOST_GENERATORS;
-use casefile::MOST_LEVELS;
-use casefile::MOST_SHEET;
-use casefile::Reading;
+use casefile_defs::Header;
+use casefile_defs::MOST_BUSES;
+use casefile_defs::MOST_CORRIDORS;
+use casefile_defs::MOST_GENERATORS;
+use casefile_defs::MOST_LEVELS;
+use casefile_defs::MOST_SHEET;
+use casefile_defs::Reading;
 
 // The file of a case in tables of their largest size.
 fn put_case_file(

@@ -3,7 +3,7 @@ ghost use mathlib.Core.Path.{_≡_};
 ghost use mathlib.Core.List.{[], _∷_};
 ghost use Prim.Native.Nat.{_+_, _≤_};
 ghost use lib.ListN.{length};
-ghost use Rattle.casefile.specs.Layout.{sizeOf, u8, u16};
+ghost use Rattle.casefile_defs.specs.Layout.{sizeOf, u8, u16};
 ghost use Rattle.casefile_theorems.specs.Writer.{recordBytes, fieldBytes, headRow, row};
 ghost use Rattle.case_writer.specs.Put.{Put};
 ghost use Rattle.case_writer.specs.Words.{levelRow, busRow, generatorRow, corridorRow, lineRow};
@@ -11,8 +11,8 @@ use crate::bytes::put_basis;
 use crate::bytes::put_bytes;
 use crate::bytes::put_figure;
 use crate::bytes::put_mark;
-use casefile::Header;
-use casefile::Kind;
+use casefile_defs::Header;
+use casefile_defs::Kind;
 
 // The bytes of a number in a field.
 const U8: usize = 1;

@@ -2,8 +2,8 @@
 ghost use mathlib.Core.Path.{_≡_};
 ghost use Prim.Native.Nat.{_+_, _*_, _≤_};
 ghost use lib.ListN.{length};
-ghost use Rattle.casefile.specs.Bounds.{rowFigures};
-ghost use Rattle.casefile.specs.Layout.{sizeOf};
+ghost use Rattle.casefile_defs.specs.Bounds.{rowFigures};
+ghost use Rattle.casefile_defs.specs.Layout.{sizeOf};
 ghost use Rattle.casefile_theorems.specs.Writer.{tableBytes};
 ghost use Rattle.case_writer.specs.Put.{Put};
 ghost use Rattle.case_writer.specs.Words.{levelWords, busWords, generatorWords, corridorWords, lineWords};
@@ -12,8 +12,8 @@ use crate::record::put_corridor;
 use crate::record::put_generator;
 use crate::record::put_level;
 use crate::record::put_line;
-use casefile::Kind;
-use casefile::ROW_FIGURES;
+use casefile_defs::Kind;
+use casefile_defs::ROW_FIGURES;
 
 pub fn put_levels(out: &mut [u8], len: usize, count: usize, ladder: &[f64]) -> usize
     requires { ⌜ len + count * sizeOf Kind.Level ≤ length (now out) ⌝ }

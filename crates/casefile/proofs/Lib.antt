@@ -1,11 +1,5 @@
--- The laws of case reading, by subject.
+-- The laws of the reading's loops and columns, by subject.
 pub mod Words
-pub mod Trailing
-pub mod Records
-pub mod Counts
-pub mod Walks
-pub mod Spots
-pub mod Accepted
+pub mod Looks
 pub mod Rooms
-pub mod Whole
-pub mod Callers
+pub mod Spans

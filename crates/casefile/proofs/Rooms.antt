@@ -5,16 +5,17 @@ use mathlib.Core.Path.{_≡_, sym, subst}
 use mathlib.Core.List.{List}
 use native.Mathlib.Nat.{not-suc-le-zero}
 use native.Mathlib.Omega.{arith}
-use Rattle.casefile.specs.Reading.{Small, levels, lines, readingOf}
-use Rattle.casefile.specs.Tables.{Room, levelsAt, busesAt, generatorsAt, corridorsAt, linesAt, held}
-use Rattle.casefile.specs.declared.Kind.{Kind}
-use Rattle.casefile.specs.declared.Kind.the-variants.{Level, Bus, Generator, Corridor, Line}
-use Rattle.casefile.specs.declared.Header.{Header}
-use Rattle.casefile.specs.declared.Reading.{Reading}
-use Rattle.casefile.specs.declared.Reading.the-variants.{Refused, Read}
-use Rattle.casefile.proofs.Accepted.{Accepted, accepted}
-use Rattle.casefile.proofs.Counts.{small-of}
-use Rattle.casefile.proofs.Spots.{spot-mul}
+use Rattle.casefile_defs.specs.Reading.{Small, levels, lines, readingOf}
+use Rattle.casefile_defs.specs.Tables.{levelsAt, busesAt, generatorsAt, corridorsAt, linesAt, held}
+use Rattle.casefile.specs.Spans.{Room}
+use Rattle.casefile_defs.specs.declared.Kind.{Kind}
+use Rattle.casefile_defs.specs.declared.Kind.the-variants.{Level, Bus, Generator, Corridor, Line}
+use Rattle.casefile_defs.specs.declared.Header.{Header}
+use Rattle.casefile_defs.specs.declared.Reading.{Reading}
+use Rattle.casefile_defs.specs.declared.Reading.the-variants.{Refused, Read}
+use Rattle.casefile_defs.proofs.Accepted.{Accepted, accepted}
+use Rattle.casefile_defs.proofs.Counts.{small-of}
+use Rattle.casefile_defs.proofs.Spots.{spot-mul}
 
 pub record Roomy (s : List ℕ) (h : Header) : Type 0 where
   pub small : Small h

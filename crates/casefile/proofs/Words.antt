@@ -1,23 +1,14 @@
--- A number of several bytes, read from its most significant byte down, and how large it can be.
--- A byte more in front adds it to 256 times the rest (word-more).
+-- A number of several bytes, read from its most significant byte down, and how large it can be; eight bytes by pairs.
+-- Each turn is a byte more in front (word-more).
 use Prim.Native.Nat.{ℕ, suc, _+_, _-_, _*_, _^_, _<_, _≤_}
-use mathlib.Core.Path.{_≡_, refl, sym, ap, _∙_}
+use mathlib.Core.Path.{_≡_, sym, ap, _∙_}
 use mathlib.Core.List.{List}
 use native.Mathlib.Omega.{arith}
 use native.Mathlib.Nat.{pow-suc, pow-le-pow-right}
 use lib.Dec.{lit<}
-use lib.ListN.{length, getD, take}
-use lib.Seq.{drop-cons}
-use Rattle.casefile.specs.Layout.{little, word}
-
-pub word-none : (p : ℕ) (s : List ℕ) → word 0 p s ≡ 0
-unfolding word little
-word-none p s = refl
-
--- one byte more in front
-pub word-more : (k p : ℕ) (s : List ℕ) → p < length s → word (suc k) p s ≡ getD s p 0 + 256 * word k (suc p) s
-unfolding word little
-word-more k p s h = ap (λ (l : List ℕ). little (take (suc k) l)) (drop-cons s p 0 h)
+use lib.ListN.{length, getD}
+use Rattle.casefile_defs.specs.Layout.{word}
+use Rattle.casefile_defs.proofs.Words.{word-none, word-more}
 
 -- ---- the loop of `word`, from the last byte down: its start, a turn, its end
 pub word-start : (w at : ℕ) (s : List ℕ) → 0 ≡ word (w - w) (at + w) s

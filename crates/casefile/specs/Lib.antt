@@ -1,6 +1,2 @@
--- Document 01's case file and its reading.
-pub mod Bounds
-pub mod Layout
-pub mod Looks
-pub mod Reading
-pub mod Tables
+-- What the columns' functions ask and promise of a table's records.
+pub mod Spans

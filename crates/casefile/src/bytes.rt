@@ -3,7 +3,7 @@ ghost use mathlib.Core.Path.{_≡_};
 ghost use Prim.Native.Nat.{_+_, _^_, _<_, _≤_};
 ghost use lib.ListN.{length};
 ghost use lib.Ieee.{binary64, ofBits};
-ghost use Rattle.casefile.specs.Layout.{word};
+ghost use Rattle.casefile_defs.specs.Layout.{word};
 
 // Two bytes, and what the later pairs of eight bytes count for.
 const PAIR: usize = 2;

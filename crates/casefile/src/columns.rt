@@ -3,13 +3,14 @@ ghost use mathlib.Core.Path.{_≡_};
 ghost use Prim.Native.Nat.{_+_, _^_, _<_, _≤_};
 ghost use lib.ListN.{length};
 ghost use Rattle.loops.specs.Loops.{tab};
-ghost use Rattle.casefile.specs.Layout.{sizeOf, spot};
-ghost use Rattle.casefile.specs.Tables.{Room, following, numberIn, figureIn};
-use crate::Kind;
+ghost use Rattle.casefile_defs.specs.Layout.{sizeOf, spot};
+ghost use Rattle.casefile_defs.specs.Tables.{numberIn, figureIn};
+ghost use Rattle.casefile.specs.Spans.{Room, following};
 use crate::bytes::figure;
 use crate::bytes::word;
 use crate::record;
 use crate::record::size;
+use casefile_defs::Kind;
 
 // The records of a table: where the first starts, and how many there are.
 pub struct Span {

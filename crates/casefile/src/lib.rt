@@ -1,6 +1,15 @@
 // Case reading: the bytes of a case file into tables (document 01, "Case file" and "Case reading").
 ghost use mathlib.Core.Path.{_≡_};
-ghost use Rattle.casefile.specs.Tables.{held, outcome, placesOf, readCase};
+ghost use Rattle.casefile_defs.specs.Tables.{held, outcome, placesOf, readCase};
+use casefile_defs::CaseRead;
+use casefile_defs::Header;
+use casefile_defs::Kind;
+use casefile_defs::MOST_BUSES;
+use casefile_defs::MOST_CORRIDORS;
+use casefile_defs::MOST_GENERATORS;
+use casefile_defs::MOST_LEVELS;
+use casefile_defs::MOST_SHEET;
+use casefile_defs::Reading;
 use mode::PlanMode;
 use refusal::Refusal;
 
@@ -9,61 +18,6 @@ mod columns;
 mod record;
 mod scan;
 mod tables;
-
-// The largest file.
-pub const MOST_BYTES: usize = 65536;
-
-// The largest counts; a row of the sheet has five figures, and there is one for each corridor and level.
-pub const MOST_LEVELS: usize = 5;
-
-pub const MOST_BUSES: usize = 256;
-
-pub const MOST_GENERATORS: usize = 128;
-
-pub const MOST_CORRIDORS: usize = 256;
-
-pub const ROW_FIGURES: usize = 5;
-
-pub const MOST_SHEET: usize = MOST_CORRIDORS * MOST_LEVELS * ROW_FIGURES;
-
-// A case's mode, target and counts.
-pub struct Header {
-    pub mode: PlanMode,
-    pub target: u32,
-    pub buses: usize,
-    pub corridors: usize,
-    pub generators: usize,
-    pub above: usize,
-    pub requested: usize,
-}
-
-// What case reading answers.
-pub enum Reading {
-    Read(Header),
-    Refused(Refusal),
-}
-
-// A reading, and how many words of eight bytes and single bytes were looked at after the last record (none where it was refused before).
-pub struct CaseRead {
-    pub reading: Reading,
-    pub looks: usize,
-}
-
-// The kinds of record, in the file's order.
-pub enum Kind {
-    Head,
-    Level,
-    Bus,
-    Generator,
-    Corridor,
-    Line,
-}
-
-// A walk over the records: the next record's place, or the first fault.
-pub enum Walk {
-    At(usize),
-    Fault(Refusal),
-}
 
 // The counts that a reading leaves in the tables: none where it is refused.
 fn held(reading: Reading) -> Header

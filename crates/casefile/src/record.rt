@@ -2,11 +2,11 @@
 ghost use mathlib.Core.Path.{_≡_};
 ghost use Prim.Native.Nat.{_+_, _≤_};
 ghost use lib.ListN.{length};
-ghost use Rattle.casefile.specs.Layout.{sizeOf, layoutOf, codesOk};
-ghost use Rattle.casefile.specs.Reading.{marked, recordAt};
-use crate::Kind;
-use crate::Walk;
+ghost use Rattle.casefile_defs.specs.Layout.{sizeOf, layoutOf, codesOk};
+ghost use Rattle.casefile_defs.specs.Reading.{marked, recordAt};
 use crate::bytes::word;
+use casefile_defs::Kind;
+use casefile_defs::Walk;
 use refusal::Refusal;
 
 // The bytes of a mark, of a u8, a u16 and a u32, and of a figure.

@@ -2,18 +2,19 @@
 ghost use mathlib.Core.Path.{_≡_};
 ghost use Prim.Native.Nat.{_-_, _<_, _≤_};
 ghost use lib.ListN.{length};
-ghost use Rattle.casefile.specs.Layout.{sizeOf};
-ghost use Rattle.casefile.specs.Reading.{stepped, walked, headerOf, modeOf, countsOk, Small, tablesWalked, caseRead, endRead, bodyRead, readOf};
-ghost use Rattle.casefile.specs.Looks.{lookedAs, lookedAt, wordsLooked, bytesLooked};
-use crate::CaseRead;
-use crate::Header;
-use crate::Kind;
-use crate::Reading;
-use crate::Walk;
+ghost use Rattle.casefile_defs.specs.Layout.{sizeOf};
+ghost use Rattle.casefile_defs.specs.Reading.{stepped, walked, headerOf, modeOf, countsOk, Small, tablesWalked, caseRead, endRead, bodyRead, readOf};
+ghost use Rattle.casefile_defs.specs.Looks.{lookedAs, lookedAt, wordsLooked, bytesLooked};
 use crate::bytes::eight;
 use crate::bytes::word;
 use crate::record;
 use crate::record::record_at;
+use casefile_defs::CaseRead;
+use casefile_defs::Header;
+use casefile_defs::Kind;
+use casefile_defs::Looked;
+use casefile_defs::Reading;
+use casefile_defs::Walk;
 use mode::PlanMode;
 use refusal::Refusal;
 
@@ -96,11 +97,11 @@ fn counts_ok(h: Header) -> bool
     requires { ⌜ (h .above < 256) × (h .requested < 256) ⌝ }
     ensures { λ r. ⌜ r ≡ countsOk h ⌝ }
 {
-    (h.buses <= crate::MOST_BUSES)
-        & (h.corridors <= crate::MOST_CORRIDORS)
-        & (h.generators <= crate::MOST_GENERATORS)
+    (h.buses <= casefile_defs::MOST_BUSES)
+        & (h.corridors <= casefile_defs::MOST_CORRIDORS)
+        & (h.generators <= casefile_defs::MOST_GENERATORS)
         & (1 <= h.requested)
-        & (h.above + h.requested <= crate::MOST_LEVELS)
+        & (h.above + h.requested <= casefile_defs::MOST_LEVELS)
         & (h.target <= MOST_TARGET)
 }
 
@@ -120,12 +121,6 @@ fn walk_tables(file: &[u8], h: Header, from: Walk) -> Walk
     let w3 = walk_kind(file, w2, Kind::Generator, generators, corridors);
     let w4 = walk_kind(file, w3, Kind::Corridor, corridors, lines);
     walk_kind(file, w4, Kind::Line, lines, end)
-}
-
-// How far a test of the trailing bytes came: the place of the next byte, and the words or bytes looked at.
-pub struct Looked {
-    pub at: usize,
-    pub looks: usize,
 }
 
 fn came_to(at: usize, looks: usize) -> Looked
@@ -224,7 +219,7 @@ fn body_read(file: &[u8], at: usize) -> CaseRead
 pub fn read_of(file: &[u8]) -> CaseRead
     ensures { λ r. ⌜ r ≡ readOf (now (file .entry)) ⌝ }
 {
-    if crate::MOST_BYTES < file.len() {
+    if casefile_defs::MOST_BYTES < file.len() {
         return said(Reading::Refused(Refusal::FileLength), 0);
     }
     let w = record_at(file, Kind::Head, 0, 0);

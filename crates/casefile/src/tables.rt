@@ -3,9 +3,9 @@ ghost use mathlib.Core.Path.{_≡_};
 ghost use Prim.Native.Nat.{_+_, _≤_};
 ghost use lib.ListN.{length};
 ghost use Rattle.loops.specs.Loops.{tab};
-ghost use Rattle.casefile.specs.Layout.{sizeOf};
-ghost use Rattle.casefile.specs.Tables.{Room, sheetIn, basisOf, lineFigure, numbers, figures};
-use crate::Kind;
+ghost use Rattle.casefile_defs.specs.Layout.{sizeOf};
+ghost use Rattle.casefile_defs.specs.Tables.{sheetIn, basisOf, lineFigure, numbers, figures};
+ghost use Rattle.casefile.specs.Spans.{Room};
 use crate::bytes::figure;
 use crate::bytes::word;
 use crate::columns::Span;
@@ -13,6 +13,7 @@ use crate::columns::fill_figures;
 use crate::columns::fill_numbers;
 use crate::columns::past;
 use crate::record;
+use casefile_defs::Kind;
 
 // A line's first fields are figures; the last, its basis, is not.
 const BASIS: usize = 4;
@@ -47,9 +48,13 @@ fn sheet_in(file: &[u8], at: usize, count: usize, p: usize) -> f64
     requires { ⌜ Room Kind.Line (now file) at count ⌝ }
     ensures { λ r. ⌜ r ≡ sheetIn (now (file .entry)) at count p ⌝ }
 {
-    let row = p / crate::ROW_FIGURES;
+    let row = p / casefile_defs::ROW_FIGURES;
     if row < count {
-        return line_figure(file, past(Kind::Line, at, row), p % crate::ROW_FIGURES);
+        return line_figure(
+            file,
+            past(Kind::Line, at, row),
+            p % casefile_defs::ROW_FIGURES,
+        );
     }
     0.0
 }

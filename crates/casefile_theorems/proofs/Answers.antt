@@ -16,18 +16,18 @@ use Rattle.loops.specs.Loops.{tab}
 use Rattle.loops.proofs.Bools.{both}
 use Rattle.loops.proofs.Tab.{length-tab, get-tab, tab-same, tab-replicate}
 use Rattle.refusal.specs.declared.Refusal.{Refusal}
-use Rattle.casefile.specs.Bounds.{mostLevels, mostBuses, mostGenerators, mostCorridors, mostSheet}
-use Rattle.casefile.specs.Layout.{Field, upTo, u8, u16, widthOf, allowed, field, placeOf, spanOf, spot, word}
-use Rattle.casefile.specs.Reading.{levels, lines, readingOf}
-use Rattle.casefile.specs.Tables.{numbers, figures, basisField, sheetIn, lineFigure, basisOf, levelsAt, busesAt, generatorsAt, corridorsAt, linesAt, tablesOf, held}
-use Rattle.casefile.specs.declared.Kind.{Kind}
-use Rattle.casefile.specs.declared.Kind.the-variants.{Level, Bus, Generator, Corridor, Line}
-use Rattle.casefile.specs.declared.Header.{Header}
-use Rattle.casefile.specs.declared.Reading.the-variants.{Refused, Read}
-use Rattle.casefile.proofs.Accepted.{accepted}
-use Rattle.casefile.proofs.Counts.{small-of, lines-small}
-use Rattle.casefile.proofs.Spots.{number-past, figure-past, sheet-past}
-use Rattle.casefile.proofs.Whole.{tables-same}
+use Rattle.casefile_defs.specs.Bounds.{mostLevels, mostBuses, mostGenerators, mostCorridors, mostSheet}
+use Rattle.casefile_defs.specs.Layout.{Field, upTo, u8, u16, widthOf, allowed, field, placeOf, spanOf, spot, word}
+use Rattle.casefile_defs.specs.Reading.{levels, lines, readingOf}
+use Rattle.casefile_defs.specs.Tables.{numbers, figures, basisField, sheetIn, lineFigure, basisOf, levelsAt, busesAt, generatorsAt, corridorsAt, linesAt, tablesOf, held}
+use Rattle.casefile_defs.specs.declared.Kind.{Kind}
+use Rattle.casefile_defs.specs.declared.Kind.the-variants.{Level, Bus, Generator, Corridor, Line}
+use Rattle.casefile_defs.specs.declared.Header.{Header}
+use Rattle.casefile_defs.specs.declared.Reading.the-variants.{Refused, Read}
+use Rattle.casefile_defs.proofs.Accepted.{accepted}
+use Rattle.casefile_defs.proofs.Counts.{small-of, lines-small}
+use Rattle.casefile_defs.proofs.Spots.{number-past, figure-past, sheet-past}
+use Rattle.casefile_defs.proofs.Whole.{tables-same}
 use Rattle.casefile_theorems.specs.Writer.{rowPlace}
 use Rattle.casefile_theorems.specs.Cases.{Numbers, Figures, Sheet, Case, blank}
 use Rattle.casefile_theorems.proofs.Bytes.{Bytes, word-small}

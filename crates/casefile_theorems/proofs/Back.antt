@@ -12,19 +12,19 @@ use Rattle.loops.proofs.Scan.{passed}
 use Rattle.mode.specs.Number.{modeNumber}
 use Rattle.mode.specs.declared.PlanMode.{PlanMode}
 use Rattle.mode.specs.declared.PlanMode.the-variants.{Expand, Reinforce, Observe, ExpandServing, ReinforceServing, ObserveServing}
-use Rattle.casefile.specs.Bounds.{mostBytes}
-use Rattle.casefile.specs.Layout.{layoutOf, field, spot}
-use Rattle.casefile.specs.Reading.{headerOf, modeOf, countsOk, levels, lines, tablesWalked, trailing, zeroAt, zerosPassed, looksFor, looks, caseRead, readOf, beforeBuses, beforeGenerators, beforeCorridors, beforeLines, recordsOf}
-use Rattle.casefile.specs.Looks.{lookedAt}
-use Rattle.casefile.specs.Tables.{levelsAt, busesAt, generatorsAt, corridorsAt, linesAt}
-use Rattle.casefile.specs.declared.Kind.{Kind}
-use Rattle.casefile.specs.declared.Kind.the-variants.{Head, Level, Bus, Generator, Corridor, Line}
-use Rattle.casefile.specs.declared.Header.{Header}
-use Rattle.casefile.specs.declared.Walk.the-variants.{At}
-use Rattle.casefile.specs.declared.Reading.the-variants.{Read}
-use Rattle.casefile.proofs.Accepted.{endAt}
-use Rattle.casefile.proofs.Trailing.{zeros-among}
-use Rattle.casefile.proofs.Walks.{tables-walked, end-good, body-end, whole-body}
+use Rattle.casefile_defs.specs.Bounds.{mostBytes}
+use Rattle.casefile_defs.specs.Layout.{layoutOf, field, spot}
+use Rattle.casefile_defs.specs.Reading.{headerOf, modeOf, countsOk, levels, lines, tablesWalked, trailing, zeroAt, zerosPassed, looksFor, looks, caseRead, readOf, beforeBuses, beforeGenerators, beforeCorridors, beforeLines, recordsOf}
+use Rattle.casefile_defs.specs.Looks.{lookedAt}
+use Rattle.casefile_defs.specs.Tables.{levelsAt, busesAt, generatorsAt, corridorsAt, linesAt}
+use Rattle.casefile_defs.specs.declared.Kind.{Kind}
+use Rattle.casefile_defs.specs.declared.Kind.the-variants.{Head, Level, Bus, Generator, Corridor, Line}
+use Rattle.casefile_defs.specs.declared.Header.{Header}
+use Rattle.casefile_defs.specs.declared.Walk.the-variants.{At}
+use Rattle.casefile_defs.specs.declared.Reading.the-variants.{Read}
+use Rattle.casefile_defs.proofs.Accepted.{endAt}
+use Rattle.casefile_defs.proofs.Trailing.{zeros-among}
+use Rattle.casefile_defs.proofs.Walks.{tables-walked, end-good, body-end, whole-body}
 use Rattle.casefile_theorems.specs.Writer.{recordBytes, tableBytes, headRow, fileWith, countOf}
 use Rattle.casefile_theorems.proofs.Bytes.{Fine}
 use Rattle.casefile_theorems.proofs.Written.{Stands, stands, length-record, table-stands, length-table, walk-stands}

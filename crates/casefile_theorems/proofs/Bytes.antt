@@ -9,7 +9,7 @@ use native.Mathlib.Omega.{arith}
 use lib.Dec.{lit<}
 use lib.ListN.{length, getD, take, drop, length-append, length-take, length-drop}
 use lib.Seq.{take-at, drop-at, drop-drop, take-add, getD-drop, length-take-le}
-use Rattle.casefile.specs.Layout.{little, word, Field, figure, widthOf, widthsOf, offsetOf, allowed, allowedFrom}
+use Rattle.casefile_defs.specs.Layout.{little, word, Field, figure, widthOf, widthsOf, offsetOf, allowed, allowedFrom}
 use Rattle.casefile_theorems.specs.Writer.{bytes, fieldBytes}
 
 -- every element is a byte

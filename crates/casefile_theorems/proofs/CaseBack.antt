@@ -17,17 +17,17 @@ use Rattle.loops.proofs.Tab.{length-tab, get-tab}
 use Rattle.mode.specs.Number.{modeNumber}
 use Rattle.mode.specs.declared.PlanMode.{PlanMode}
 use Rattle.mode.specs.declared.PlanMode.the-variants.{Expand, Reinforce, Observe, ExpandServing, ReinforceServing, ObserveServing}
-use Rattle.casefile.specs.Bounds.{mostLevels, mostBuses, mostGenerators, mostCorridors, mostSheet, mostBytes, rowFigures}
-use Rattle.casefile.specs.Layout.{Field, layoutOf, placeOf, spanOf, spot, word}
-use Rattle.casefile.specs.Reading.{countsOk, levels, lines, looksFor, caseRead}
-use Rattle.casefile.specs.Tables.{Places, numbers, figures, basisField, sheetIn, lineFigure, levelsAt, busesAt, generatorsAt, corridorsAt, linesAt, tablesOf, held, sizesOk, outcome, readCase}
-use Rattle.casefile.specs.declared.Kind.{Kind}
-use Rattle.casefile.specs.declared.Kind.the-variants.{Head, Level, Bus, Generator, Corridor, Line}
-use Rattle.casefile.specs.declared.Header.{Header}
-use Rattle.casefile.specs.declared.Reading.the-variants.{Read}
-use Rattle.casefile.proofs.Counts.{small-of, lines-small}
-use Rattle.casefile.proofs.Spots.{number-there, number-past, figure-there, figure-past, line-there, line-basis, line-field, sheet-there, sheet-past}
-use Rattle.casefile.proofs.Whole.{tables-same, read-whole}
+use Rattle.casefile_defs.specs.Bounds.{mostLevels, mostBuses, mostGenerators, mostCorridors, mostSheet, mostBytes, rowFigures}
+use Rattle.casefile_defs.specs.Layout.{Field, layoutOf, placeOf, spanOf, spot, word}
+use Rattle.casefile_defs.specs.Reading.{countsOk, levels, lines, looksFor, caseRead}
+use Rattle.casefile_defs.specs.Tables.{Places, numbers, figures, basisField, sheetIn, lineFigure, levelsAt, busesAt, generatorsAt, corridorsAt, linesAt, tablesOf, held, sizesOk, outcome, readCase}
+use Rattle.casefile_defs.specs.declared.Kind.{Kind}
+use Rattle.casefile_defs.specs.declared.Kind.the-variants.{Head, Level, Bus, Generator, Corridor, Line}
+use Rattle.casefile_defs.specs.declared.Header.{Header}
+use Rattle.casefile_defs.specs.declared.Reading.the-variants.{Read}
+use Rattle.casefile_defs.proofs.Counts.{small-of, lines-small}
+use Rattle.casefile_defs.proofs.Spots.{number-there, number-past, figure-there, figure-past, line-there, line-basis, line-field, sheet-there, sheet-past}
+use Rattle.casefile_defs.proofs.Whole.{tables-same, read-whole}
 use Rattle.casefile_theorems.specs.Writer.{headRow, fileOf, wordsOf, countOf, bitsAt, basisAt, rowPlace}
 use Rattle.casefile_theorems.specs.Cases.{Numbers, Figures, Sheet, Case, longest}
 use Rattle.casefile_theorems.proofs.Back.{Whole, length-file, reading-back, level-stands, bus-stands, generator-stands, corridor-stands, line-stands}

@@ -15,16 +15,16 @@ use Rattle.loops.specs.Loops.{tab}
 use Rattle.loops.proofs.Bits.{only-nan}
 use Rattle.loops.proofs.Bools.{both}
 use Rattle.loops.proofs.Tab.{get-tab}
-use Rattle.casefile.specs.Bounds.{mostLevels, mostBuses, mostGenerators, mostCorridors, mostSheet, rowFigures}
-use Rattle.casefile.specs.Layout.{layoutOf, field, placeOf, spanOf, spot, word, figure, upTo}
-use Rattle.casefile.specs.Reading.{levels, lines, Small}
-use Rattle.casefile.specs.Tables.{numbers, figures, basisField, sheetIn, lineFigure, basisOf, levelsAt, busesAt, generatorsAt, corridorsAt, linesAt, tablesOf}
-use Rattle.casefile.specs.declared.Kind.{Kind}
-use Rattle.casefile.specs.declared.Kind.the-variants.{Level, Bus, Generator, Corridor, Line}
-use Rattle.casefile.specs.declared.Header.{Header}
-use Rattle.casefile.proofs.Accepted.{Accepted}
-use Rattle.casefile.proofs.Counts.{small-of, lines-small}
-use Rattle.casefile.proofs.Spots.{number-there, figure-there, sheet-there}
+use Rattle.casefile_defs.specs.Bounds.{mostLevels, mostBuses, mostGenerators, mostCorridors, mostSheet, rowFigures}
+use Rattle.casefile_defs.specs.Layout.{layoutOf, field, placeOf, spanOf, spot, word, figure, upTo}
+use Rattle.casefile_defs.specs.Reading.{levels, lines, Small}
+use Rattle.casefile_defs.specs.Tables.{numbers, figures, basisField, sheetIn, lineFigure, basisOf, levelsAt, busesAt, generatorsAt, corridorsAt, linesAt, tablesOf}
+use Rattle.casefile_defs.specs.declared.Kind.{Kind}
+use Rattle.casefile_defs.specs.declared.Kind.the-variants.{Level, Bus, Generator, Corridor, Line}
+use Rattle.casefile_defs.specs.declared.Header.{Header}
+use Rattle.casefile_defs.proofs.Accepted.{Accepted}
+use Rattle.casefile_defs.proofs.Counts.{small-of, lines-small}
+use Rattle.casefile_defs.proofs.Spots.{number-there, figure-there, sheet-there}
 use Rattle.casefile_theorems.specs.Writer.{recordBytes, tableBytes, fileWith, fileOf, wordsOf, rowPlace, nanPattern, tidy, tidied}
 use Rattle.casefile_theorems.proofs.Bytes.{Bytes, fields-same, word-small}
 use Rattle.casefile_theorems.proofs.Forth.{wordsIn}

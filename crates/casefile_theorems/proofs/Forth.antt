@@ -11,15 +11,15 @@ use lib.Seq.{drop-cons, drop-drop, getD-drop, ext-getD}
 use Rattle.loops.proofs.Bools.{both}
 use Rattle.loops.proofs.Scan.{first-all}
 use Rattle.mode.specs.Number.{modeNumber}
-use Rattle.casefile.specs.Layout.{layoutOf, sizeOf, widthsOf, field, spot}
-use Rattle.casefile.specs.Reading.{headerOf, modeOf, levels, lines, trailing, zeroAt, readingOf}
-use Rattle.casefile.specs.Tables.{levelsAt, busesAt, generatorsAt, corridorsAt, linesAt}
-use Rattle.casefile.specs.declared.Kind.{Kind}
-use Rattle.casefile.specs.declared.Kind.the-variants.{Head, Level, Bus, Generator, Corridor, Line}
-use Rattle.casefile.specs.declared.Header.{Header}
-use Rattle.casefile.specs.declared.Reading.the-variants.{Read}
-use Rattle.casefile.proofs.Records.{Passed}
-use Rattle.casefile.proofs.Accepted.{Table, Accepted, accepted, endAt}
+use Rattle.casefile_defs.specs.Layout.{layoutOf, sizeOf, widthsOf, field, spot}
+use Rattle.casefile_defs.specs.Reading.{headerOf, modeOf, levels, lines, trailing, zeroAt, readingOf}
+use Rattle.casefile_defs.specs.Tables.{levelsAt, busesAt, generatorsAt, corridorsAt, linesAt}
+use Rattle.casefile_defs.specs.declared.Kind.{Kind}
+use Rattle.casefile_defs.specs.declared.Kind.the-variants.{Head, Level, Bus, Generator, Corridor, Line}
+use Rattle.casefile_defs.specs.declared.Header.{Header}
+use Rattle.casefile_defs.specs.declared.Reading.the-variants.{Read}
+use Rattle.casefile_defs.proofs.Records.{Passed}
+use Rattle.casefile_defs.proofs.Accepted.{Table, Accepted, accepted, endAt}
 use Rattle.casefile_theorems.specs.Writer.{fieldBytes, recordBytes, tableBytes, headRow, fileWith}
 use Rattle.casefile_theorems.proofs.Bytes.{Bytes, drop-bytes, fields-same, fields-written}
 use Rattle.casefile_theorems.proofs.Back.{startOf}

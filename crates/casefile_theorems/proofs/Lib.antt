@@ -8,4 +8,3 @@ pub mod CaseForth
 pub mod Answers
 pub mod Theorems
 pub mod Padding
-pub mod Examples

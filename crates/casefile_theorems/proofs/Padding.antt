@@ -9,17 +9,17 @@ use lib.Dec.{ltb}
 use lib.ListN.{length}
 use Rattle.refusal.specs.Reply.{refusedBy}
 use Rattle.refusal.specs.declared.Refusal.the-variants.{Count, FileLength, Length}
-use Rattle.casefile.specs.Bounds.{mostBytes}
-use Rattle.casefile.specs.Reading.{recordAt, countsOk, headerOf, tablesWalked, looksFor, zerosPassed, looks, endRead, bodyRead, readOf, readingOf}
-use Rattle.casefile.specs.Tables.{Places, Outcome, replyOf, sizesOk, readCase}
-use Rattle.casefile.specs.declared.CaseRead.{CaseRead}
-use Rattle.casefile.specs.declared.Kind.the-variants.{Head}
-use Rattle.casefile.specs.declared.Header.{Header}
-use Rattle.casefile.specs.declared.Reading.{Reading}
-use Rattle.casefile.specs.declared.Reading.the-variants.{Refused}
-use Rattle.casefile.specs.declared.Walk.{Walk}
-use Rattle.casefile.specs.declared.Walk.the-variants.{At, Fault}
-use Rattle.casefile.proofs.Trailing.{zeros-among}
+use Rattle.casefile_defs.specs.Bounds.{mostBytes}
+use Rattle.casefile_defs.specs.Reading.{recordAt, countsOk, headerOf, tablesWalked, looksFor, zerosPassed, looks, endRead, bodyRead, readOf, readingOf}
+use Rattle.casefile_defs.specs.Tables.{Places, Outcome, replyOf, sizesOk, readCase}
+use Rattle.casefile_defs.specs.declared.CaseRead.{CaseRead}
+use Rattle.casefile_defs.specs.declared.Kind.the-variants.{Head}
+use Rattle.casefile_defs.specs.declared.Header.{Header}
+use Rattle.casefile_defs.specs.declared.Reading.{Reading}
+use Rattle.casefile_defs.specs.declared.Reading.the-variants.{Refused}
+use Rattle.casefile_defs.specs.declared.Walk.{Walk}
+use Rattle.casefile_defs.specs.declared.Walk.the-variants.{At, Fault}
+use Rattle.casefile_defs.proofs.Trailing.{zeros-among}
 use Rattle.casefile_theorems.specs.Plain.{plainEnd, plainBody, plainReading}
 
 -- ---- the same reading

@@ -8,17 +8,17 @@ use native.Mathlib.Omega.{arith}
 use lib.Ieee.{binary64, nanBits}
 use lib.ListN.{length, getD, replicate}
 use Rattle.refusal.specs.declared.Refusal.{Refusal}
-use Rattle.casefile.specs.Bounds.{mostBytes}
-use Rattle.casefile.specs.Layout.{Field, number, upTo, figure, layoutOf}
-use Rattle.casefile.specs.Reading.{looksFor, caseRead, readOf, readingOf}
-use Rattle.casefile.specs.Tables.{Places, Outcome, replyOf, outcome, tablesOf, held, sizesOk, readCase}
-use Rattle.casefile.specs.declared.Kind.{Kind}
-use Rattle.casefile.specs.declared.Kind.the-variants.{Level, Bus, Generator, Corridor, Line}
-use Rattle.casefile.specs.declared.Header.{Header}
-use Rattle.casefile.specs.declared.Reading.{Reading}
-use Rattle.casefile.specs.declared.Reading.the-variants.{Refused, Read}
-use Rattle.casefile.proofs.Accepted.{accepted}
-use Rattle.casefile.proofs.Callers.{answered-case}
+use Rattle.casefile_defs.specs.Bounds.{mostBytes}
+use Rattle.casefile_defs.specs.Layout.{Field, number, upTo, figure, layoutOf}
+use Rattle.casefile_defs.specs.Reading.{looksFor, caseRead, readOf, readingOf}
+use Rattle.casefile_defs.specs.Tables.{Places, Outcome, replyOf, outcome, tablesOf, held, sizesOk, readCase}
+use Rattle.casefile_defs.specs.declared.Kind.{Kind}
+use Rattle.casefile_defs.specs.declared.Kind.the-variants.{Level, Bus, Generator, Corridor, Line}
+use Rattle.casefile_defs.specs.declared.Header.{Header}
+use Rattle.casefile_defs.specs.declared.Reading.{Reading}
+use Rattle.casefile_defs.specs.declared.Reading.the-variants.{Refused, Read}
+use Rattle.casefile_defs.proofs.Accepted.{accepted}
+use Rattle.casefile_defs.proofs.Callers.{answered-case}
 use Rattle.casefile_theorems.specs.Writer.{countOf, fileWith, fileOf, tidy, tidied}
 use Rattle.casefile_theorems.specs.Cases.{Case, blank}
 use Rattle.casefile_theorems.proofs.Answers.{answer-case, refused-blank}

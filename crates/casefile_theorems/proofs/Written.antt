@@ -11,12 +11,12 @@ use lib.ListN.{length, getD, drop, length-append}
 use lib.Seq.{drop-at, drop-drop, getD-drop}
 use Rattle.loops.specs.Loops.{iter}
 use Rattle.loops.proofs.Bools.{and-of}
-use Rattle.casefile.specs.Layout.{layoutOf, sizeOf, offsetOf, field, spanOf, placeOf, word, spot}
-use Rattle.casefile.specs.Reading.{recordAt, stepped, walked}
-use Rattle.casefile.specs.declared.Kind.{Kind}
-use Rattle.casefile.specs.declared.Walk.{Walk}
-use Rattle.casefile.specs.declared.Walk.the-variants.{At}
-use Rattle.casefile.proofs.Records.{good-at}
+use Rattle.casefile_defs.specs.Layout.{layoutOf, sizeOf, offsetOf, field, spanOf, placeOf, word, spot}
+use Rattle.casefile_defs.specs.Reading.{recordAt, stepped, walked}
+use Rattle.casefile_defs.specs.declared.Kind.{Kind}
+use Rattle.casefile_defs.specs.declared.Walk.{Walk}
+use Rattle.casefile_defs.specs.declared.Walk.the-variants.{At}
+use Rattle.casefile_defs.proofs.Records.{good-at}
 use Rattle.casefile_theorems.specs.Writer.{fieldBytes, recordBytes, tableBytes}
 use Rattle.casefile_theorems.proofs.Bytes.{Fine, fieldIn, allowedIn, word-in, allowed-in, length-fields, fields-read, allowed-read}
 

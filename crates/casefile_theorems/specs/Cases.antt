@@ -7,11 +7,11 @@ use lib.Dec.{T}
 use lib.Ieee.{Float, binary64, fits}
 use lib.ListN.{length, getD, replicate}
 use Rattle.loops.specs.Figures.{nought}
-use Rattle.casefile.specs.Bounds.{mostLevels, mostBuses, mostGenerators, mostCorridors, mostSheet}
-use Rattle.casefile.specs.Layout.{Field, upTo, u8, u16, widthOf, allowed}
-use Rattle.casefile.specs.Reading.{levels, lines, countsOk}
-use Rattle.casefile.specs.Tables.{Places, placesOf, basisOf, basisField}
-use Rattle.casefile.specs.declared.Header.{Header}
+use Rattle.casefile_defs.specs.Bounds.{mostLevels, mostBuses, mostGenerators, mostCorridors, mostSheet}
+use Rattle.casefile_defs.specs.Layout.{Field, upTo, u8, u16, widthOf, allowed}
+use Rattle.casefile_defs.specs.Reading.{levels, lines, countsOk}
+use Rattle.casefile_defs.specs.Tables.{Places, placesOf, basisOf, basisField}
+use Rattle.casefile_defs.specs.declared.Header.{Header}
 use Rattle.casefile_theorems.specs.Writer.{basisAt, rowPlace}
 
 -- a column of n places: a number in its field's range for each record, and zero past them

@@ -5,14 +5,14 @@ use Prim.Native.Nat.{ℕ}
 use lib.Dec.{ltb}
 use lib.ListN.{length}
 use Rattle.refusal.specs.declared.Refusal.the-variants.{Count, FileLength, Trailing}
-use Rattle.casefile.specs.Bounds.{mostBytes}
-use Rattle.casefile.specs.Reading.{recordAt, countsOk, headerOf, tablesWalked, trailing}
-use Rattle.casefile.specs.declared.Kind.the-variants.{Head}
-use Rattle.casefile.specs.declared.Header.{Header}
-use Rattle.casefile.specs.declared.Walk.{Walk}
-use Rattle.casefile.specs.declared.Walk.the-variants.{At, Fault}
-use Rattle.casefile.specs.declared.Reading.{Reading}
-use Rattle.casefile.specs.declared.Reading.the-variants.{Refused, Read}
+use Rattle.casefile_defs.specs.Bounds.{mostBytes}
+use Rattle.casefile_defs.specs.Reading.{recordAt, countsOk, headerOf, tablesWalked, trailing}
+use Rattle.casefile_defs.specs.declared.Kind.the-variants.{Head}
+use Rattle.casefile_defs.specs.declared.Header.{Header}
+use Rattle.casefile_defs.specs.declared.Walk.{Walk}
+use Rattle.casefile_defs.specs.declared.Walk.the-variants.{At, Fault}
+use Rattle.casefile_defs.specs.declared.Reading.{Reading}
+use Rattle.casefile_defs.specs.declared.Reading.the-variants.{Refused, Read}
 
 -- after the last record (17)
 abbrev pub plainEnd : Header → List ℕ → Walk → Reading

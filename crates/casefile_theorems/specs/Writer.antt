@@ -6,13 +6,13 @@ use lib.Ieee.{Float, binary64, toBits, eq, nanBits}
 use lib.ListN.{getD}
 use Rattle.loops.specs.Figures.{nought}
 use Rattle.mode.specs.Number.{modeNumber}
-use Rattle.casefile.specs.Bounds.{rowFigures}
-use Rattle.casefile.specs.Layout.{Field, number, upTo, figure, widthOf, layoutOf}
-use Rattle.casefile.specs.Reading.{levels, lines}
-use Rattle.casefile.specs.Tables.{Places, basisField}
-use Rattle.casefile.specs.declared.Kind.{Kind}
-use Rattle.casefile.specs.declared.Kind.the-variants.{Head, Level, Bus, Generator, Corridor, Line}
-use Rattle.casefile.specs.declared.Header.{Header}
+use Rattle.casefile_defs.specs.Bounds.{rowFigures}
+use Rattle.casefile_defs.specs.Layout.{Field, number, upTo, figure, widthOf, layoutOf}
+use Rattle.casefile_defs.specs.Reading.{levels, lines}
+use Rattle.casefile_defs.specs.Tables.{Places, basisField}
+use Rattle.casefile_defs.specs.declared.Kind.{Kind}
+use Rattle.casefile_defs.specs.declared.Kind.the-variants.{Head, Level, Bus, Generator, Corridor, Line}
+use Rattle.casefile_defs.specs.declared.Header.{Header}
 
 -- w bytes of a number, the least significant first
 unfoldable pub bytes : ℕ → ℕ → List ℕ

@@ -6,8 +6,8 @@ use Prim.Native.Nat.{ℕ}
 use lib.Ieee.{Float}
 use Rattle.angles_defs.specs.Operation as angles
 use Rattle.angles_defs.specs.declared.Angles.{Angles}
-use Rattle.casefile.specs.Tables as tables
-use Rattle.casefile.specs.declared.CaseRead.{CaseRead}
+use Rattle.casefile_defs.specs.Tables as tables
+use Rattle.casefile_defs.specs.declared.CaseRead.{CaseRead}
 use Rattle.refusal.specs.Reply.{replyOf}
 use Rattle.refusal.specs.declared.Answer.{Answer}
 use Rattle.dispatch.specs.Operation as dispatch

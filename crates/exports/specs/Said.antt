@@ -8,8 +8,8 @@ use Rattle.mode.specs.Number.{modeNumber}
 use Rattle.angles_defs.specs.declared.Ended.{Ended}
 use Rattle.angles_defs.specs.declared.Ended.the-variants.{Settled, NoDescent, StepsSpent}
 use Rattle.angles_defs.specs.declared.Solution.{Solution}
-use Rattle.casefile.specs.Tables.{Outcome}
-use Rattle.casefile.specs.declared.Header.{Header}
+use Rattle.casefile_defs.specs.Tables.{Outcome}
+use Rattle.casefile_defs.specs.declared.Header.{Header}
 use Rattle.exports.specs.declared.AnglesSaid.{AnglesSaid}
 use Rattle.exports.specs.declared.ReadingSaid.{ReadingSaid}
 use Rattle.exports.specs.declared.AnswerSaid.{AnswerSaid}

@@ -3,7 +3,7 @@ mod said;
 
 ghost use mathlib.Core.Path.{_≡_};
 ghost use Rattle.angles_defs.specs.Operation.{requestOf, dcAngles};
-ghost use Rattle.casefile.specs.Tables.{placesOf, readCase};
+ghost use Rattle.casefile_defs.specs.Tables.{placesOf, readCase};
 ghost use Rattle.dispatch.specs.Operation.{dispatched};
 ghost use Rattle.dispatch.specs.Units.{unitsOf};
 ghost use Rattle.leaders.specs.Operation.{ledOutcome};

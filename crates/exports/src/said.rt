@@ -1,7 +1,7 @@
 // Answers as the fields of a struct.
 ghost use mathlib.Core.Path.{_≡_};
 ghost use Rattle.angles_defs.specs.Operation as defined;
-ghost use Rattle.casefile.specs.Tables as tables;
+ghost use Rattle.casefile_defs.specs.Tables as tables;
 ghost use Rattle.placement.specs.Support as support;
 ghost use Rattle.refusal.specs.Reply as replies;
 ghost use Rattle.exports.specs.Said.{anglesSaid, endedFigure, endedNumber, readingSaid, answerSaid, placementSaid};
@@ -12,9 +12,9 @@ use crate::ReadingSaid;
 use angles_defs::Angles;
 use angles_defs::Ended;
 use angles_defs::Solution;
-use casefile::CaseRead;
-use casefile::Header;
-use casefile::Reading;
+use casefile_defs::CaseRead;
+use casefile_defs::Header;
+use casefile_defs::Reading;
 use placement::Placement;
 use refusal::Answer;
 use refusal::Refusal;

@@ -4,6 +4,7 @@ use Prim.Native.Nat.{ℕ, _<_, _≤_}
 use mathlib.Core.Bool.{Bool, true, false, cond, _&&_}
 use mathlib.Core.List.{List}
 use mathlib.Core.Path.{_≡_, refl, sym, ap, _∙_, subst}
+use native.Mathlib.Omega.{arith}
 use borrow.Author.Tests.{eqb-true, ltb-true, ltb-false, leb-true, lt-ltb, le-ltb}
 use lib.Dec.{ltb, leb, eqb}
 use lib.ListN.{length, getD}
@@ -12,7 +13,7 @@ use Rattle.loops.proofs.Scan.{all-pass}
 use Rattle.refusal.specs.declared.Refusal.{Refusal}
 use Rattle.refusal.specs.declared.Refusal.the-variants.{Length, Count, Corridor}
 use Rattle.refusal.specs.declared.Answer.the-variants.{Answered, Refused}
-use Rattle.leaders.specs.Leaders.{themselves, joinAll, leadersOf}
+use Rattle.leaders.specs.Leaders.{leadersOf}
 use Rattle.leaders.specs.Operation.{lengthsOk, countsOk, corridorOkAt, faultyCorridor, checkOf, Ends, outcome, ledBy, ledOutcome}
 
 module _ (buses corridors : ℕ) (a b : List ℕ) (places : ℕ) where
@@ -79,13 +80,12 @@ module _ (buses corridors : ℕ) (a b : List ℕ) (places : ℕ) where
       go true true true s t u h = absurd (unequal cc)
       go true true false s t u h = sound s t (ltb-false _ _ u)
 
--- ends of as many buses; and the two stages of leading
+-- ends of as many buses, and of more
 pub ends-of : (m n : ℕ) (a b : List ℕ) → m ≡ n → Ends n a b → Ends m a b
 ends-of m n a b e h = subst (λ (k : ℕ). Ends k a b) (sym e) h
 
-pub led-by : (n : ℕ) (a b l l′ : List ℕ) → l ≡ themselves n → l′ ≡ joinAll a b l → l′ ≡ leadersOf n a b
-unfolding leadersOf
-led-by n a b l l′ e f = f ∙ ap (joinAll a b) e
+pub ends-more : (m n : ℕ) (a b : List ℕ) → n ≤ m → Ends n a b → Ends m a b
+ends-more m n a b h e = record { even = e .even; from = λ k l. omega (arith, e .from k l); to = λ k l. omega (arith, e .to k l) }
 
 -- ---- the outcome of each way
 module _ (buses corridors : ℕ) (a b leader : List ℕ) where

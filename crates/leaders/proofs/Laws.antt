@@ -17,15 +17,31 @@ use Rattle.leaders.specs.Operation.{Ends}
 use Rattle.leaders.specs.Chain.{Chain, here, forth, back, Led}
 
 -- ---- following
-follow-yes : (old new x : ℕ) → x ≡ old → follow old new x ≡ new
+pub follow-yes : (old new x : ℕ) → x ≡ old → follow old new x ≡ new
 follow-yes old new x e = rw (eq-eqb x old e)
 
-follow-no : (old new x : ℕ) → (x ≡ old → ⊥) → follow old new x ≡ x
+pub follow-no : (old new x : ℕ) → (x ≡ old → ⊥) → follow old new x ≡ x
 follow-no old new x n = rw (ne-eqb x old n)
 
 -- the new leader follows itself
-follow-new : (old new : ℕ) → follow old new new ≡ new
+pub follow-new : (old new : ℕ) → follow old new new ≡ new
 follow-new old new = elim (ℕ-discrete new old) [ yes e ↦ follow-yes old new new e | no n ↦ follow-no old new new n ]
+
+-- ---- joining
+pub join-size : (a b : ℕ) (l : List ℕ) → length (join a b l) ≡ length l
+unfolding join rename
+join-size a b l = length-tab (length l) _
+
+pub join-at : (a b : ℕ) (l : List ℕ) (i : ℕ) → i < length l → getD (join a b l) i 0 ≡ follow (getD l a 0) (getD l b 0) (getD l i 0)
+unfolding join rename
+join-at a b l i h = get-tab (length l) (λ (j : ℕ). follow (getD l a 0) (getD l b 0) (getD l j 0)) i 0 h
+
+-- the two ends then have b's leader
+pub join-first : (a b : ℕ) (l : List ℕ) → a < length l → getD (join a b l) a 0 ≡ getD l b 0
+join-first a b l h = join-at a b l a h ∙ follow-yes (getD l a 0) (getD l b 0) (getD l a 0) refl
+
+pub join-second : (a b : ℕ) (l : List ℕ) → b < length l → getD (join a b l) b 0 ≡ getD l b 0
+join-second a b l h = join-at a b l b h ∙ follow-new (getD l a 0) (getD l b 0)
 
 -- ---- chains, one after another
 chain-then : {a b : List ℕ} {i j k : ℕ} → Chain a b i j → Chain a b j k → Chain a b i k
@@ -67,18 +83,16 @@ module _ (n : ℕ) (a b : List ℕ) (sound : Ends n a b) (k : ℕ) (l : List ℕ
   l′ = joinAt a b k l
 
   at : (i : ℕ) → i < n → getD l′ i 0 ≡ follow old new (getD l i 0)
-  unfolding join rename
-  at i p = get-tab (length l) (λ (j : ℕ). follow old new (getD l j 0)) i 0 (omega (arith, h .size))
+  at i p = join-at (getD a k 0) (getD b k 0) l i (omega (arith, h .size))
 
   at-a : getD l′ (getD a k 0) 0 ≡ new
-  at-a = at (getD a k 0) (sound .from k K) ∙ follow-yes old new old refl
+  at-a = join-first (getD a k 0) (getD b k 0) l (omega (arith, h .size, sound .from k K))
 
   at-b : getD l′ (getD b k 0) 0 ≡ new
-  at-b = at (getD b k 0) (sound .to k K) ∙ follow-new old new
+  at-b = join-second (getD a k 0) (getD b k 0) l (omega (arith, h .size, sound .to k K))
 
   turn-size : length l′ ≡ n
-  unfolding join rename
-  turn-size = length-tab (length l) _ ∙ h .size
+  turn-size = join-size (getD a k 0) (getD b k 0) l ∙ h .size
 
   turn-below : (i : ℕ) → i < n → getD l′ i 0 < n
   turn-below i p =

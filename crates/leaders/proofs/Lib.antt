@@ -2,4 +2,5 @@
 pub mod Checks
 pub mod Callers
 pub mod Laws
+pub mod Forests
 pub mod Examples

@@ -2,3 +2,4 @@
 pub mod Leaders
 pub mod Operation
 pub mod Chain
+pub mod Forest

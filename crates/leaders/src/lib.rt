@@ -1,14 +1,19 @@
 // Leaders of the electrical components: two buses have one leader exactly where corridors join them.
 //
-// The Rust keeps a forest and looks a leader up (`UnionFind`, geom/delaunay.rs). Here each bus holds its leader, and a
-// corridor renames the leader of one of its two sets.
+// As in the Rust (`UnionFind`, geom/delaunay.rs) each bus has a parent, and the search for a root shortens the way of those that it
+// passes. There a root is the leader; here a parent is never a higher bus, and a root has its set's leader for its name.
+ghost use mathlib.Core.Bool.{cond};
 ghost use mathlib.Core.Path.{_≡_};
 ghost use Prim.Native.Nat.{_<_, _≤_};
 ghost use lib.ListN.{length};
-ghost use Rattle.leaders.specs.Leaders.{follow, rename, join, joinAll, themselves, leadersOf};
+ghost use Rattle.leaders.specs.Leaders.{themselves, leadersOf};
 ghost use Rattle.leaders.specs.Operation.{lengthsOk, countsOk, corridorOk, Ends, faultyCorridor, checkOf, outcome, ledOutcome};
+ghost use Rattle.leaders.specs.Forest.{Down, Root, Found, Joined, AllJoined, HandedOut};
 use refusal::Answer;
 use refusal::Refusal;
+
+// A bus fits a byte.
+const MOST_BUSES: usize = 256;
 
 fn wide(x: u32) -> usize
     ensures { λ r. ⌜ r ≡ x ⌝ }
@@ -16,55 +21,98 @@ fn wide(x: u32) -> usize
     x as usize
 }
 
-// A bus that followed `old` follows `new`.
-fn follow(old: u32, new: u32, leader: u32) -> u32
-    ensures { λ r. ⌜ r ≡ follow old new leader ⌝ }
+fn index(x: u8) -> usize
+    ensures { λ r. ⌜ r ≡ x ⌝ }
 {
-    if leader == old { new } else { leader }
+    x as usize
+}
+
+fn number(x: u8) -> u32
+    ensures { λ r. ⌜ r ≡ x ⌝ }
+{
+    x as u32
+}
+
+fn pick(first: bool, a: u32, b: u32) -> u32
+    ensures { λ r. ⌜ r ≡ cond first a b ⌝ }
+{
+    if first { a } else { b }
 }
 
 // At first each bus leads itself.
-fn lead_themselves(leader: &mut [u32])
-    requires { ⌜ length (now leader) ≤ 256 ⌝ }
-    ensures { λ _. ⌜ now (leader .exit) ≡ themselves (length (now (leader .entry))) ⌝ }
+fn lead_themselves(parent: &mut [u8; MOST_BUSES])
+    requires { ⌜ length (now parent) ≡ 256 ⌝ }
+    ensures { λ _. ⌜ now (parent .exit) ≡ themselves 256 ⌝ }
 {
     let mut i = 0;
-    while i < leader.len() {
-        leader[i] = i as u32;
+    while i < MOST_BUSES {
+        parent[i] = i as u8;
         i += 1;
     }
 }
 
-// All that followed `old` follow `new`.
-fn rename(old: u32, new: u32, leader: &mut [u32])
-    ensures { λ _. ⌜ now (leader .exit) ≡ rename old new (now (leader .entry)) ⌝ }
+// The root of x's set. Each bus that is passed takes its parent's parent.
+fn find(x: usize, parent: &mut [u8; MOST_BUSES]) -> usize
+    requires { ⌜ (x < 256) × Down (now parent) ⌝ }
+    ensures { λ r. ⌜ Found x (now (parent .entry)) (now (parent .exit)) r ⌝ }
 {
-    let mut i = 0;
-    while i < leader.len() {
-        leader[i] = follow(old, new, leader[i]);
-        i += 1;
+    let mut at = x;
+    let mut up = index(parent[at]);
+    while up != at {
+        let above = parent[up];
+        parent[at] = above;
+        at = index(above);
+        up = index(parent[at]);
+    }
+    at
+}
+
+// Joins the set of the root `from` to that of the root `to`, whose leader it takes.
+fn link(from: usize, to: usize, parent: &mut [u8; MOST_BUSES], name: &mut [u8; MOST_BUSES])
+    requires { ⌜ (from < 256) × (to < 256) × Down (now parent) ⌝ }
+    requires { ⌜ Root (now parent) from × Root (now parent) to ⌝ }
+    ensures { λ _. ⌜ Joined from to (now (parent .entry)) (now (name .entry)) (now (parent .exit)) (now (name .exit)) ⌝ }
+{
+    if from < to {
+        name[from] = name[to];
+        parent[to] = from as u8;
+    } else {
+        parent[from] = to as u8;
     }
 }
 
 // Joins a's set to b's.
-fn join(a: usize, b: usize, leader: &mut [u32])
-    requires { ⌜ (a < length (now leader)) × (b < length (now leader)) ⌝ }
-    ensures { λ _. ⌜ now (leader .exit) ≡ join a b (now (leader .entry)) ⌝ }
+fn join(a: usize, b: usize, parent: &mut [u8; MOST_BUSES], name: &mut [u8; MOST_BUSES])
+    requires { ⌜ (a < 256) × (b < 256) × Down (now parent) ⌝ }
+    ensures { λ _. ⌜ Joined a b (now (parent .entry)) (now (name .entry)) (now (parent .exit)) (now (name .exit)) ⌝ }
 {
-    let old = leader[a];
-    let new = leader[b];
-    rename(old, new, leader);
+    let from = find(a, parent);
+    let to = find(b, parent);
+    link(from, to, parent, name);
 }
 
 // Joins the ends of each corridor, in order.
-fn join_all(a: &[u32], b: &[u32], leader: &mut [u32])
-    requires { ⌜ Ends (length (now leader)) (now a) (now b) ⌝ }
-    ensures { λ _. ⌜ now (leader .exit) ≡ joinAll (now (a .entry)) (now (b .entry)) (now (leader .entry)) ⌝ }
+fn join_all(a: &[u32], b: &[u32], parent: &mut [u8; MOST_BUSES], name: &mut [u8; MOST_BUSES])
+    requires { ⌜ Ends 256 (now a) (now b) × Down (now parent) ⌝ }
+    ensures { λ _. ⌜ AllJoined (now (a .entry)) (now (b .entry)) (length (now (a .entry))) (now (parent .entry)) (now (name .entry)) (now (parent .exit)) (now (name .exit)) ⌝ }
 {
     let mut k = 0;
     while k < a.len() {
-        join(wide(a[k]), wide(b[k]), leader);
+        join(wide(a[k]), wide(b[k]), parent, name);
         k += 1;
+    }
+}
+
+// Each bus's leader: a root's name, else its parent's leader, which stands there already.
+fn hand_out(parent: &[u8; MOST_BUSES], name: &[u8; MOST_BUSES], leader: &mut [u32])
+    requires { ⌜ (length (now leader) ≤ 256) × Down (now parent) ⌝ }
+    ensures { λ _. ⌜ HandedOut (length (now (leader .entry))) (now (parent .entry)) (now (name .entry)) (length (now (leader .entry))) (now (leader .exit)) ⌝ }
+{
+    let mut i = 0;
+    while i < leader.len() {
+        let up = index(parent[i]);
+        leader[i] = pick(up == i, number(name[i]), leader[up]);
+        i += 1;
     }
 }
 
@@ -73,8 +121,11 @@ fn lead(a: &[u32], b: &[u32], leader: &mut [u32])
     requires { ⌜ (length (now leader) ≤ 256) × Ends (length (now leader)) (now a) (now b) ⌝ }
     ensures { λ _. ⌜ now (leader .exit) ≡ leadersOf (length (now (leader .entry))) (now (a .entry)) (now (b .entry)) ⌝ }
 {
-    lead_themselves(leader);
-    join_all(a, b, leader);
+    let mut parent = [0u8; MOST_BUSES];
+    lead_themselves(&mut parent);
+    let mut name = parent;
+    join_all(a, b, &mut parent, &mut name);
+    hand_out(&parent, &name, leader);
 }
 
 fn lengths_ok(buses: usize, corridors: usize, a: usize, b: usize, leader: usize) -> bool

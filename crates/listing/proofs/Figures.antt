@@ -13,14 +13,15 @@ use Rattle.plan_defs.specs.Outcome.{summary}
 use Rattle.plan_defs.specs.Listing.{bitsOf, listingOf}
 use Rattle.plan_defs.specs.Listing.{lines as figuresOf}
 use Rattle.plan_defs.specs.declared.CircuitDesign.{CircuitDesign}
-use Rattle.casefile.specs.Reading.{readingOf}
-use Rattle.casefile.specs.Tables.{tablesOf}
-use Rattle.casefile.specs.declared.Header.{Header}
-use Rattle.casefile.specs.declared.Reading.{Reading}
-use Rattle.casefile.specs.declared.Reading.the-variants.{Read}
+use Rattle.casefile_defs.specs.Reading.{readingOf}
+use Rattle.casefile_defs.specs.Tables.{tablesOf}
+use Rattle.casefile_defs.specs.declared.Header.{Header}
+use Rattle.casefile_defs.specs.declared.Reading.{Reading}
+use Rattle.casefile_defs.specs.declared.Reading.the-variants.{Read}
 use Rattle.listing.specs.Text.{number, figure}
 use Rattle.listing.specs.Lines.{line, lines, refusalLine, planLine, addedLine, addedLines, groundLine, groundLines, busLine, busLines, generatorLine, generatorLines, corridorLine, corridorLines, mostLine}
-use Rattle.listing.specs.Listing.{planText, endingText, caseIn, readText, fileText}
+use Rattle.planned_files.specs.Files.{caseIn}
+use Rattle.listing.specs.Listing.{planText, endingText, readText, fileText}
 use Rattle.listing.specs.Figures.{bitsField, bitsAt, figuresText}
 
 lines-same : (f g : ℕ → List ℕ) → ((i : ℕ) → f i ≡ g i) → (n : ℕ) → lines f n ≡ lines g n

@@ -1,23 +1,21 @@
 -- The whole text of the program: of a plan, of how planning a case ends, and of a case file.
 use Prim.Native.Nat.{ℕ, _+_, _*_, _≤_}
 use mathlib.Core.List.{List, map, _++_}
-use mathlib.Core.Path.{_≡_}
 use lib.ListN.{length, take}
 use lib.Ieee.{Float}
 use Rattle.mode.specs.declared.PlanMode.{PlanMode}
-use Rattle.plan_defs.specs.Case.{Case, caseOf}
 use Rattle.plan_defs.specs.Plan.{Plan, Ending, unaccepted, unanswered, planned, endingOf}
 use Rattle.plan_defs.specs.Outcome.{summary}
 use Rattle.plan_defs.specs.declared.CorridorPlan.{CorridorPlan}
 use Rattle.plan_defs.specs.declared.Planned.{Planned}
 use Rattle.plan_defs.specs.declared.Planned.the-variants.{Answered, Refused}
-use Rattle.casefile.specs.Bounds.{mostLevels, mostBuses, mostGenerators, mostCorridors, mostSheet, rowFigures}
-use Rattle.casefile.specs.Reading.{levels, lines, readingOf}
-use Rattle.casefile.specs.Tables.{Places, tablesOf}
-use Rattle.casefile.specs.declared.Header.{Header}
-use Rattle.casefile.specs.declared.Reading.{Reading}
-use Rattle.casefile.specs.declared.Reading.the-variants.{Read}
-use Rattle.casefile.specs.declared.Reading.the-variants.{Refused as Unread}
+use Rattle.casefile_defs.specs.Reading.{readingOf}
+use Rattle.casefile_defs.specs.Tables.{Places, tablesOf}
+use Rattle.casefile_defs.specs.declared.Header.{Header}
+use Rattle.casefile_defs.specs.declared.Reading.{Reading}
+use Rattle.casefile_defs.specs.declared.Reading.the-variants.{Read}
+use Rattle.casefile_defs.specs.declared.Reading.the-variants.{Refused as Unread}
+use Rattle.planned_files.specs.Files.{caseIn}
 use Rattle.listing.specs.Lines.{planRoom, lineRoom, refusalLine, planLine, addedLines, groundLines, busLines, generatorLines, corridorLines, mostLine}
 
 -- PL, AD, GR, BU, GE, CO, MX
@@ -47,34 +45,7 @@ endingText mode (unaccepted f) = refusalLine f
 endingText mode (unanswered f) = refusalLine f
 endingText mode (planned p) = planText mode p
 
--- each table is of its largest size
-pub record Largest (p : Places) : Type 0 where
-  pub ladder : length (p .ladder) ≡ mostLevels
-  pub tier : length (p .tier) ≡ mostBuses
-  pub load : length (p .load) ≡ mostBuses
-  pub bus : length (p .bus) ≡ mostGenerators
-  pub slack : length (p .slack) ≡ mostGenerators
-  pub pmin : length (p .pmin) ≡ mostGenerators
-  pub pmax : length (p .pmax) ≡ mostGenerators
-  pub c1 : length (p .c1) ≡ mostGenerators
-  pub c2 : length (p .c2) ≡ mostGenerators
-  pub a : length (p .a) ≡ mostCorridors
-  pub b : length (p .b) ≡ mostCorridors
-  pub circuits : length (p .circuits) ≡ mostCorridors
-  pub lengthKm : length (p .lengthKm) ≡ mostCorridors
-  pub share : length (p .share) ≡ mostCorridors
-  pub sheet : length (p .sheet) ≡ mostSheet
-
--- the case that the tables of a header hold: of each the places of its records
-abbrev pub caseIn : Header → Places → Case
-caseIn h p =
-    let n = h .buses in
-    let g = h .generators in
-    let m = h .corridors in
-    caseOf (h .mode) n m g (h .above) (h .requested) (take (levels h) (p .ladder)) (take n (p .tier)) (take n (p .load)) (take g (p .bus)) (take g (p .slack))
-    (take g (p .pmin)) (take g (p .pmax)) (take g (p .c1)) (take g (p .c2)) (take m (p .a)) (take m (p .b)) (take m (p .circuits)) (take m (p .lengthKm)) (take m (p .share))
-    (take (lines h * rowFigures) (p .sheet))
-
+-- ---- of a file
 abbrev pub caseText : Header → Places → List ℕ
 caseText h p = endingText (h .mode) (endingOf (caseIn h p) (h .target))
 

@@ -1,11 +1,9 @@
-// The listing of a plan, and of a case that is planned here.
+// The listing of a plan, and of what planning says.
 ghost use mathlib.Core.Path.{_≡_};
-ghost use Prim.Native.Nat.{_+_, _*_, _≤_};
+ghost use Prim.Native.Nat.{_+_, _≤_};
 ghost use lib.ListN.{length};
-ghost use Rattle.plan_defs.specs.Case.{caseOf};
-ghost use Rattle.plan_defs.specs.Plan.{endingOf};
 ghost use Rattle.listing.specs.Text.{Put};
-ghost use Rattle.listing.specs.Listing.{listed, plannedText, Counted, endingText, roomFor};
+ghost use Rattle.listing.specs.Listing.{listed, plannedText, Counted, roomFor};
 use crate::line::put_most;
 use crate::line::put_plan;
 use crate::line::put_refusal;
@@ -17,7 +15,6 @@ use crate::table::put_levels;
 use mode::PlanMode;
 use plan_defs::CorridorPlan;
 use plan_defs::Planned;
-use planning::plan_corridors;
 
 fn put_listing(
     out: &mut [u8],
@@ -47,7 +44,7 @@ fn put_listing(
 }
 
 // What planning says, with the slices that it leaves.
-fn put_answer(
+pub fn put_answer(
     out: &mut [u8],
     mode: PlanMode,
     planned: Planned,
@@ -86,100 +83,4 @@ fn put_answer(
             )
         }
     }
-}
-
-// Plans a case in the lent slices, and puts its listing or its refusal.
-pub fn put_planned(
-    out: &mut [u8],
-    mode: PlanMode,
-    target: u32,
-    n: usize,
-    m: usize,
-    g: usize,
-    above: usize,
-    requested: usize,
-    ladder: &[f64],
-    tier: &[u32],
-    load: &[f64],
-    bus: &[u32],
-    slack: &[u32],
-    pmin: &[f64],
-    pmax: &[f64],
-    c1: &[f64],
-    c2: &[f64],
-    a: &[u32],
-    b: &[u32],
-    initial: &[u32],
-    km: &[f64],
-    share: &[f64],
-    sheet: &[f64],
-    circuits: &mut [u32],
-    flow: &mut [f64],
-    rate: &mut [f64],
-    before: &mut [u32],
-    order: &mut [u32],
-    mw: &mut [f64],
-    angle: &mut [f64],
-    level: &mut [u32],
-    ground: &mut [u32],
-    added: &mut [f64],
-    figures: &mut [f64],
-    counts: &mut [u32],
-) -> usize
-    requires { ⌜ roomFor (above + n + n + g + m + 1) ≤ length (now out) ⌝ }
-    requires { ⌜ (length (now circuits) ≡ m) × (length (now flow) ≡ m) × (length (now rate) ≡ m) × (length (now before) ≡ m) × (length (now order) ≡ m) ⌝ }
-    requires { ⌜ (length (now mw) ≡ g) × (length (now angle) ≡ n) × (length (now level) ≡ n) × (length (now ground) ≡ n) × (length (now added) ≡ above) ⌝ }
-    requires { ⌜ (length (now figures) ≡ 12 * (n + m + g)) × (length (now counts) ≡ 12 * (n + m + g)) ⌝ }
-    ensures { λ r. ⌜ Put (now (out .entry)) 0 (endingText mode (endingOf (caseOf mode n m g above requested (now (ladder .entry)) (now (tier .entry)) (now (load .entry)) (now (bus .entry)) (now (slack .entry)) (now (pmin .entry)) (now (pmax .entry)) (now (c1 .entry)) (now (c2 .entry)) (now (a .entry)) (now (b .entry)) (now (initial .entry)) (now (km .entry)) (now (share .entry)) (now (sheet .entry))) target)) (now (out .exit)) r ⌝ }
-    ensures { λ r. ⌜ r ≤ length (now (out .entry)) ⌝ }
-{
-    let planned = plan_corridors(
-        mode,
-        target,
-        n,
-        m,
-        g,
-        above,
-        requested,
-        ladder,
-        tier,
-        load,
-        bus,
-        slack,
-        pmin,
-        pmax,
-        c1,
-        c2,
-        a,
-        b,
-        initial,
-        km,
-        share,
-        sheet,
-        circuits,
-        flow,
-        rate,
-        before,
-        order,
-        mw,
-        angle,
-        level,
-        ground,
-        added,
-        figures,
-        counts,
-    );
-    put_answer(
-        out,
-        mode,
-        planned,
-        added,
-        ground,
-        level,
-        angle,
-        mw,
-        circuits,
-        flow,
-        rate,
-    )
 }

@@ -9,7 +9,7 @@ mod text;
 use case::put_file;
 
 // One byte more than the largest file, so that a larger one shows.
-const MOST_FILE: usize = casefile::MOST_BYTES + 1;
+const MOST_FILE: usize = casefile_defs::MOST_BYTES + 1;
 
 // PL and 902 other lines at their longest.
 const MOST_TEXT: usize = 213 + 79 * 902;

@@ -1,40 +1,21 @@
--- What `plan_corridors` leaves: an answer holds the defined plan, which has demand 3; every lent slice keeps its length; the refusals' numbers.
--- Each list of the plan has its length, stage by stage, and a list is filled up with zeros to its slice's.
-use Prim.Native.Nat.{ℕ, _-_, _≤_}
+-- What `plan_corridors` leaves: an answer holds the defined plan, which has demand 3; a slice of the wrong length is left as it was. And the lengths that
+-- refusal 1 asks for, as a record.
+use Prim.Native.Nat.{ℕ}
 use mathlib.Core.Bool.{Bool, true, false}
-use mathlib.Core.List.{List}
-use mathlib.Core.Option.{Option, none, some}
-use mathlib.Core.Path.{_≡_, refl, sym, ap, _∙_, subst}
+use mathlib.Core.Path.{_≡_, refl, sym, ap}
 use native.Mathlib.Omega.{arith}
 use borrow.Author.Tests.{eqb-true, eq-eqb}
 use lib.Dec.{eqb}
-use lib.ListN.{length, replicate, length-replicate, length-append, length-map, length-take, length-drop, take}
+use lib.ListN.{length, length-replicate}
 use Rattle.loops.specs.Figures.{nought}
 use Rattle.loops.proofs.Bools.{both, and-of}
-use Rattle.angles_defs.specs.Network.{zeros}
-use Rattle.leaders.proofs.Laws.{led}
 use Rattle.refusal.specs.Reply.{answered, refused}
-use Rattle.refusal.specs.declared.Refusal.{Refusal}
-use Rattle.plan_defs.specs.Stage.{Stage, stopped, going}
-use Rattle.plan_defs.specs.Case.{Case, promote}
-use Rattle.plan_defs.specs.Accept.{caseFault}
-use Rattle.plan_defs.specs.Components.{component, groundsOf, groundOf, leads, roots}
-use Rattle.plan_defs.specs.Solve.{Peak, planningState}
-use Rattle.plan_defs.specs.Fill.{fill}
-use Rattle.plan_defs.specs.Closing.{leastOf, tiersOf, addedOf}
-use Rattle.plan_defs.specs.Plan.{Plan, Ready, readyOf, closing, planFor, Ending, unaccepted, unanswered, planned, endingOn, endingBy, endingOf}
-use Rattle.plan_defs.specs.Outcome.{Slices, slicesOk, cleared, upTo, keptIf, keptOf, held, summary, outcomeBy, outcomeIf, planCorridors, workPlaces}
+use Rattle.plan_defs.specs.Case.{Case}
+use Rattle.plan_defs.specs.Plan.{Ending, unaccepted, unanswered, planned, endingOf}
+use Rattle.plan_defs.specs.Outcome.{Slices, slicesOk, cleared, summary, outcomeBy, outcomeIf, planCorridors, workPlaces}
 use Rattle.plan_defs.specs.Demand.{AnswerTo}
 use Rattle.plan_defs.specs.declared.CorridorPlan.{CorridorPlan}
-use Rattle.plan_defs.proofs.Lists.{pass-length}
-use Rattle.plan_defs.proofs.Stages.{On, on-onward}
-use Rattle.plan_defs.proofs.Accepted.{Accepted, accepted, ends}
-use Rattle.plan_defs.proofs.Drawn.{drawn-size}
-use Rattle.plan_defs.proofs.Solved.{Solved, solved}
-use Rattle.plan_defs.proofs.Opened.{Done, done}
-use Rattle.plan_theorems.proofs.Dispatched.{Binary, dispatched-size}
-use Rattle.plan_theorems.proofs.Cursor.{order-length}
-use Rattle.plan_theorems.proofs.Demand.{fill-grown, demand-3, tallies}
+use Rattle.plan_theorems.proofs.Demand.{demand-3, tallies}
 
 -- ---- an answer is a defined plan, with demand 3
 never : {A : Type 0} (x : A) (k i : ℕ) → refused k i ≡ answered x → ⊥
@@ -117,7 +98,7 @@ lengths-ok c s l =
     (and-of (eq-eqb _ _ (l .tier))
     (and-of (eq-eqb _ _ (l .ground)) (and-of (eq-eqb _ _ (l .added)) (and-of (eq-eqb _ _ (l .figures)) (eq-eqb _ _ (l .counts)))))))))))))
 
-cleared-lengths : (c : Case) → Lengths c (cleared c)
+pub cleared-lengths : (c : Case) → Lengths c (cleared c)
 cleared-lengths c =
     record {
       circuits = length-replicate (c .corridors) 0;
@@ -134,80 +115,6 @@ cleared-lengths c =
       figures = length-replicate (workPlaces c) nought;
       counts = length-replicate (workPlaces c) 0;
     }
-
-length-up : {A : Type 0} (n : ℕ) (v : A) (l : List A) → length l ≤ n → length (upTo n v l) ≡ n
-length-up n v l h = length-append l (replicate (n - length l) v) ∙ (let z = length-replicate (n - length l) v in omega arith)
-
-length-kept : (c : Case) (l : List ℕ) → length l ≡ c .corridors → length (keptOf c l) ≡ c .corridors
-length-kept c l e = go (promote (c .mode))
-  where
-    go : (b : Bool) → length (keptIf b (c .corridors) l) ≡ c .corridors
-    go true = e
-    go false = length-replicate (c .corridors) 0
-
-module _ (c : Case) (target : ℕ) (ok : Accepted c target) where
-  -- a ground for each leader, and at most all levels above
-  grounds-few : length (groundsOf c (component c)) ≤ c .buses
-  unfolding groundsOf
-  grounds-few =
-      let e = length-map (roots (component c)) (groundOf c (component c)) in
-      let n = led (c .buses) (c .a) (c .b) (ends c target ok) .size in
-      omega (arith, pass-length (leads (component c)) (length (component c)) 0)
-
-  added-few : (level : List ℕ) → length (addedOf c level) ≤ c .above
-  unfolding addedOf
-  added-few level =
-      let u = leastOf (c .above) level in
-      let e = length-drop u (take (c .above) (c .ladder)) in
-      let f = length-take (c .above) (c .ladder) in
-      omega arith
-
-  closed-lengths : (r : Ready) → Done c r → On (λ p. Lengths c (held c p)) (closing c target r)
-  unfolding closing held tiersOf
-  closed-lengths r d =
-      let f = fill c target (r .order) (r .draft .build .circuits) in
-      let ds = r .draft .build .designs in
-      let sound = d .ran .sound in
-      let m = drawn-size c (r .draft .level) ds (sound .kept .drawn) in
-      let n : r .peak .n ≡ c .buses = ap (λ (p : Peak). p .n) (d .peak) in
-      let gs : r .peak .grounds ≡ groundsOf c (component c) = ap (λ (p : Peak). p .grounds) (d .peak) ∙ ap (groundsOf c) (d .led) in
-      let mw = subst (On (λ l. length l ≡ c .generators)) (d .dispatched) (dispatched-size c (component c)) in
-      on-onward (Solved (r .peak .n) (length ds)) (λ p. Lengths c (held c p)) (planningState (r .peak) ds (f .counts) (zeros (c .buses))) _
-      (solved (r .peak) ds (f .counts) (zeros (c .buses)))
-      (λ v h.
-      record {
-        circuits = fill-grown c target (r .order) (r .draft .build .circuits) .size ∙ sound .built .size;
-        flow = h .flows ∙ m;
-        rate = length-map ds (λ d. d .«rate_a») ∙ m;
-        before = length-kept c (r .draft .build .circuits) (sound .built .size);
-        order = length-kept c (r .order) (ap length (d .order) ∙ order-length ds (r .draft .build .circuits) (d .flows) (c .corridors));
-        cap = ok .columns .cap;
-        mw = mw;
-        angle = h .angles ∙ n;
-        tier = length-map (r .draft .level) _ ∙ sound .risen .size;
-        ground = length-up (c .buses) 0 (r .peak .grounds) (subst (λ (l : List ℕ). length l ≤ c .buses) (sym gs) grounds-few);
-        added = length-up (c .above) nought (addedOf c (r .draft .level)) (added-few (r .draft .level));
-        figures = length-replicate (workPlaces c) nought;
-        counts = length-replicate (workPlaces c) 0;
-      })
-
-  planned-lengths : On (λ p. Lengths c (held c p)) (planFor c target)
-  unfolding planFor
-  planned-lengths = on-onward (Done c) (λ p. Lengths c (held c p)) (readyOf c) (closing c target) (done c) closed-lengths
-
--- refused or not, every slice has the length it had
-pub lengths-kept : (c : Case) (target : ℕ) (s : Slices) → slicesOk c s ≡ true → Lengths c (planCorridors c target s .lent)
-unfolding planCorridors endingOf outcomeBy
-lengths-kept c target s h =
-    subst (λ (b : Bool). Lengths c (outcomeIf b c target s .lent)) (sym h) (go (caseFault c target) refl)
-  where
-    on : (o : Stage Plan) → On (λ p. Lengths c (held c p)) o → Lengths c (outcomeBy (endingOn o) c s .lent)
-    on (stopped f) q = cleared-lengths c
-    on (going p) q = q
-
-    go : (o : Option Refusal) → caseFault c target ≡ o → Lengths c (outcomeBy (endingBy o c target) c s .lent)
-    go (some f) e = lengths-of c s h
-    go none e = on (planFor c target) (planned-lengths c target (accepted c target e))
 
 pub untouched : (c : Case) (target : ℕ) (s : Slices) → slicesOk c s ≡ false → planCorridors c target s .lent ≡ s
 unfolding planCorridors

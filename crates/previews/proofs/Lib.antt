@@ -1,3 +1,2 @@
 -- The laws of a draft and its previews.
 pub mod Planned
-pub mod Files

@@ -1,16 +1,16 @@
 // Reads a case file and targets on standard input: the file's length, the file, then each target; a number is four bytes, the
 // lowest first. Plans the file once, and prints for each target the circuits that each corridor would have, or the refusal. What
-// the plan keeps and what a target gives is proved (plan_file, preview_draft); that the input is cut rightly and the words
+// the plan keeps and what a target gives is proved (draft_file, preview_draft); that the input is cut rightly and the words
 // printed are these is tested.
 mod draft;
 mod print;
 
 ghost use Prim.Native.Nat.{_≤_};
-ghost use Rattle.previews.specs.Files.{mostCorridors};
-use casefile::MOST_BYTES;
-use casefile::MOST_CORRIDORS;
+ghost use Rattle.casefile_defs.specs.Bounds.{mostCorridors};
+use casefile_defs::MOST_BYTES;
+use casefile_defs::MOST_CORRIDORS;
 use draft::Draft;
-use draft::plan_file;
+use draft::draft_file;
 use draft::preview_draft;
 use libc::STDIN_FILENO;
 use print::end_line;
@@ -60,7 +60,7 @@ fn read_draft() -> Draft
     let mut file = [0u8; MOST_FILE];
     let most = least(size.value as usize, MOST_FILE);
     let n = io::read_full(STDIN_FILENO, &mut file[0..most]);
-    plan_file(&file[0..n])
+    draft_file(&file[0..n])
 }
 
 // ---- printing

@@ -1,3 +1,2 @@
 -- The laws of feeding a file.
 pub mod Planned
-pub mod Files

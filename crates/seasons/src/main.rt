@@ -4,7 +4,7 @@
 mod file;
 mod print;
 
-use casefile::MOST_BYTES;
+use casefile_defs::MOST_BYTES;
 use file::feed_file;
 use libc::STDIN_FILENO;
 use print::end_line;

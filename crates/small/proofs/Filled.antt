@@ -16,7 +16,7 @@ use Rattle.loops.specs.Loops.{tab, first}
 use Rattle.loops.proofs.Bools.{both}
 use Rattle.loops.proofs.Scan.{all-pass}
 use Rattle.loops.proofs.Tab.{tab-same, get-tab, length-tab}
-use Rattle.casefile.specs.Bounds.{rowFigures}
+use Rattle.casefile_defs.specs.Bounds.{rowFigures}
 use Rattle.small.specs.Networks.{bits, numbered, allPlaces, busesAt, numberAt, networkAt}
 use Rattle.small.specs.Tables.{chosen, corridorsOf, loadOf, sheetRow, padded}
 use Rattle.small.specs.Columns.{among, rowFigure, sheetAt, shapeAt, corridorCount, lastPair, firstPair, secondPair, lowerEnd, upperEnd, lowestLoad}

@@ -6,7 +6,7 @@ use lib.Dec.{eqb, ltb}
 use lib.Ieee.{Float}
 use Rattle.loops.specs.Figures.{nought, half, hundred}
 use Rattle.loops.specs.Loops.{tab}
-use Rattle.casefile.specs.Bounds.{rowFigures}
+use Rattle.casefile_defs.specs.Bounds.{rowFigures}
 use Rattle.small.specs.Columns.{among, sheetAt, lastPair, firstPair}
 
 pub among-nested : {A : Type 0} (zero : A) (n i : ℕ) (x y z : A) {third second first r : A} → third ≡ cond (eqb i 2) z zero → second ≡ cond (eqb i 1) y third

@@ -10,10 +10,10 @@ use lib.ListN.{length, take, replicate}
 use Rattle.loops.specs.Figures.{nought, one, hundred}
 use Rattle.loops.specs.Loops.{tab}
 use Rattle.refusal.specs.declared.Refusal.the-variants.{Length, Place}
-use Rattle.casefile.specs.Bounds.{mostLevels, mostBuses, mostGenerators, mostCorridors, mostSheet, rowFigures}
-use Rattle.casefile.specs.Tables.{Places, placesOf, sizesOk}
-use Rattle.casefile.specs.declared.Header.{Header}
-use Rattle.casefile.specs.declared.Reading.the-variants.{Refused, Read}
+use Rattle.casefile_defs.specs.Bounds.{mostLevels, mostBuses, mostGenerators, mostCorridors, mostSheet, rowFigures}
+use Rattle.casefile_defs.specs.Tables.{Places, placesOf, sizesOk}
+use Rattle.casefile_defs.specs.declared.Header.{Header}
+use Rattle.casefile_defs.specs.declared.Reading.the-variants.{Refused, Read}
 use Rattle.small.specs.declared.order.Shape.{Shape}
 use Rattle.small.specs.Networks.{numbered, allPlaces, busesAt, numberAt, networkAt}
 use Rattle.small.specs.Tables.{kv, ten, twenty, quarter, corridorsOf, headerOf, columnsOf, laidOut, headerAt, tablesAt, made, smallNetwork}

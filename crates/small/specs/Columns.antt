@@ -6,9 +6,9 @@ use lib.Dec.{eqb, ltb}
 use lib.Ieee.{Float}
 use Rattle.loops.specs.Figures.{nought, half, hundred}
 use Rattle.loops.specs.Loops.{tab}
-use Rattle.casefile.specs.Bounds.{rowFigures}
+use Rattle.casefile_defs.specs.Bounds.{rowFigures}
 use Rattle.mode.specs.declared.PlanMode.the-variants.{Observe}
-use Rattle.casefile.specs.declared.Header.{Header}
+use Rattle.casefile_defs.specs.declared.Header.{Header}
 use Rattle.small.specs.declared.order.Shape.{Shape}
 use Rattle.small.specs.Networks.{busesAt, numberAt}
 use Rattle.small.specs.Tables.{loadOf}

@@ -11,11 +11,11 @@ use Rattle.loops.specs.Loops.{tab}
 use Rattle.refusal.specs.Reply.{Reply}
 use Rattle.refusal.specs.declared.Refusal.the-variants.{Length, Place}
 use Rattle.mode.specs.declared.PlanMode.the-variants.{Observe}
-use Rattle.casefile.specs.Bounds.{mostLevels, mostBuses, mostGenerators, mostCorridors, mostSheet, rowFigures}
-use Rattle.casefile.specs.Tables.{Places, placesOf, sizesOk, replyOf}
-use Rattle.casefile.specs.declared.Header.{Header}
-use Rattle.casefile.specs.declared.Reading.{Reading}
-use Rattle.casefile.specs.declared.Reading.the-variants.{Refused, Read}
+use Rattle.casefile_defs.specs.Bounds.{mostLevels, mostBuses, mostGenerators, mostCorridors, mostSheet, rowFigures}
+use Rattle.casefile_defs.specs.Tables.{Places, placesOf, sizesOk, replyOf}
+use Rattle.casefile_defs.specs.declared.Header.{Header}
+use Rattle.casefile_defs.specs.declared.Reading.{Reading}
+use Rattle.casefile_defs.specs.declared.Reading.the-variants.{Refused, Read}
 use Rattle.small.specs.Networks.{Network, pairs, networkAt, allPlaces}
 
 -- ---- figures: the level's kV; a corridor's km, and a load in MW; the generator's costs

@@ -6,7 +6,7 @@ ghost use Rattle.loops.specs.Loops.{tab};
 ghost use Rattle.small.specs.Columns.{among, counts, figures, sheetAt};
 use crate::pick::pick_count;
 use crate::pick::pick_figure;
-use casefile::ROW_FIGURES;
+use casefile_defs::ROW_FIGURES;
 
 // Place i of a column of the first n of three numbers.
 fn count_at(n: usize, x: u32, y: u32, z: u32, i: usize) -> u32

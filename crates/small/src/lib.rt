@@ -1,13 +1,13 @@
 // The small networks in order (document 02, K9): the case of a place, in tables lent as for case reading.
 ghost use mathlib.Core.Path.{_≡_};
-ghost use Rattle.casefile.specs.Tables.{placesOf};
+ghost use Rattle.casefile_defs.specs.Tables.{placesOf};
 ghost use Rattle.small.specs.Tables.{made, smallNetwork};
-use casefile::MOST_BUSES;
-use casefile::MOST_CORRIDORS;
-use casefile::MOST_GENERATORS;
-use casefile::MOST_LEVELS;
-use casefile::MOST_SHEET;
-use casefile::Reading;
+use casefile_defs::MOST_BUSES;
+use casefile_defs::MOST_CORRIDORS;
+use casefile_defs::MOST_GENERATORS;
+use casefile_defs::MOST_LEVELS;
+use casefile_defs::MOST_SHEET;
+use casefile_defs::Reading;
 use refusal::Refusal;
 
 mod columns;

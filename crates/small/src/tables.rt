@@ -3,7 +3,7 @@ ghost use mathlib.Core.Path.{_≡_};
 ghost use lib.ListN.{length};
 ghost use Rattle.loops.specs.Figures.{nought, one, hundred};
 ghost use Rattle.loops.specs.Loops.{tab};
-ghost use Rattle.casefile.specs.Bounds.{rowFigures};
+ghost use Rattle.casefile_defs.specs.Bounds.{rowFigures};
 ghost use Prim.Native.Nat.{_*_, _/_, _≤_};
 ghost use Rattle.small.specs.Tables.{kv, ten, twenty, quarter};
 ghost use Rattle.small.specs.Columns.{counts, figures, sheetAt, corridorCount, lastPair, firstPair, secondPair, lowerEnd, upperEnd, lowestLoad, headerFor};
@@ -14,8 +14,8 @@ use crate::order::Shape;
 use crate::pick::pick_count;
 use crate::pick::pick_figure;
 use crate::pick::pick_index;
-use casefile::Header;
-use casefile::ROW_FIGURES;
+use casefile_defs::Header;
+use casefile_defs::ROW_FIGURES;
 use mode::PlanMode;
 
 // The level's kV.

@@ -11,7 +11,7 @@ use Rattle.loops.specs.Loops.{first, tab}
 use Rattle.loops.proofs.Bools.{both}
 use Rattle.loops.proofs.Scan.{all-pass}
 use Rattle.refusal.specs.declared.Refusal.{Refusal}
-use Rattle.casefile.specs.Reading.{countsOk}
+use Rattle.casefile_defs.specs.Reading.{countsOk}
 use Rattle.plan_defs.specs.Accept.{caseFault}
 use Rattle.small.specs.Networks.{bits, numbered, allPlaces, busesAt, numberAt, networkAt}
 use Rattle.small.specs.Tables.{chosen, headerOf, columnsOf, headerAt}

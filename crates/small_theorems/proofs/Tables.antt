@@ -15,9 +15,9 @@ use Rattle.loops.specs.Loops.{tab}
 use Rattle.loops.proofs.Bools.{both}
 use Rattle.loops.proofs.Fronts.{front-tab}
 use Rattle.loops.proofs.Tab.{length-tab, get-tab, tab-same, tab-of}
-use Rattle.casefile.specs.Bounds.{mostSheet, rowFigures}
-use Rattle.casefile.specs.Layout.{Field, widthOf, allowed}
-use Rattle.casefile.specs.Tables.{basisOf, basisField}
+use Rattle.casefile_defs.specs.Bounds.{mostSheet, rowFigures}
+use Rattle.casefile_defs.specs.Layout.{Field, widthOf, allowed}
+use Rattle.casefile_defs.specs.Tables.{basisOf, basisField}
 use Rattle.casefile_theorems.specs.Writer.{basisAt, rowPlace}
 use Rattle.casefile_theorems.specs.Cases.{Numbers, Figures, Sheet}
 use Rattle.small.specs.Tables.{loadOf, sheetRow, padded}

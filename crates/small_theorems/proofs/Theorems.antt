@@ -10,10 +10,10 @@ use lib.Dec.{lit<}
 use lib.ListN.{getD}
 use Rattle.loops.specs.Figures.{nought}
 use Rattle.refusal.specs.Reply.{answered}
-use Rattle.casefile.specs.Bounds.{mostLevels, mostBuses, mostGenerators, mostCorridors, mostSheet, rowFigures}
-use Rattle.casefile.specs.Layout.{upTo, u8, u16, allowed}
-use Rattle.casefile.specs.Tables.{Places, Outcome, sizesOk, readCase}
-use Rattle.casefile.specs.declared.Header.{Header}
+use Rattle.casefile_defs.specs.Bounds.{mostLevels, mostBuses, mostGenerators, mostCorridors, mostSheet, rowFigures}
+use Rattle.casefile_defs.specs.Layout.{upTo, u8, u16, allowed}
+use Rattle.casefile_defs.specs.Tables.{Places, Outcome, sizesOk, readCase}
+use Rattle.casefile_defs.specs.declared.Header.{Header}
 use Rattle.casefile_theorems.specs.Writer.{fileOf}
 use Rattle.casefile_theorems.specs.Cases.{Sheet, Case}
 use Rattle.casefile_theorems.proofs.Theorems.{case-back}

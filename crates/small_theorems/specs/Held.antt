@@ -6,10 +6,10 @@ use lib.Dec.{eqb}
 use lib.Ieee.{lt}
 use lib.ListN.{take}
 use Rattle.loops.specs.Figures.{nought}
-use Rattle.casefile.specs.Bounds.{rowFigures}
-use Rattle.casefile.specs.Reading.{levels, lines}
-use Rattle.casefile.specs.Tables.{Places, placesOf}
-use Rattle.casefile.specs.declared.Header.{Header}
+use Rattle.casefile_defs.specs.Bounds.{rowFigures}
+use Rattle.casefile_defs.specs.Reading.{levels, lines}
+use Rattle.casefile_defs.specs.Tables.{Places, placesOf}
+use Rattle.casefile_defs.specs.declared.Header.{Header}
 use Rattle.plan_defs.specs.Case.{Case, caseOf}
 use Rattle.small.specs.Networks.{Network, pairs, pairsOf}
 

@@ -4,7 +4,7 @@ use libc::STDOUT_FILENO;
 use refusal::Refusal;
 
 // The places of every lent array, one more than the longest slice has.
-pub const ROOM: usize = casefile::MOST_SHEET + 1;
+pub const ROOM: usize = casefile_defs::MOST_SHEET + 1;
 
 // What a lent place holds before a call.
 pub const MARK: u32 = 7;

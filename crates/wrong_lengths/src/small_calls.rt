@@ -11,12 +11,12 @@ use crate::report::say_answered;
 use crate::report::say_call;
 use crate::report::say_kept;
 use crate::report::say_refusal;
-use casefile::MOST_BUSES;
-use casefile::MOST_CORRIDORS;
-use casefile::MOST_GENERATORS;
-use casefile::MOST_LEVELS;
-use casefile::MOST_SHEET;
-use casefile::Reading;
+use casefile_defs::MOST_BUSES;
+use casefile_defs::MOST_CORRIDORS;
+use casefile_defs::MOST_GENERATORS;
+use casefile_defs::MOST_LEVELS;
+use casefile_defs::MOST_SHEET;
+use casefile_defs::Reading;
 
 // The tables.
 const SLICES: usize = 15;

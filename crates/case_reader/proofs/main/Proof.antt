@@ -2,8 +2,8 @@
 -- An answered header's counts are within their bounds (answered-small), so the lines printed are places of the tables.
 use borrow.Author.Needs.{needs}
 use native.Mathlib.Omega.{arith}
-use Rattle.casefile.specs.Reading.{Small}
-use Rattle.casefile.proofs.Callers.{answered-small}
+use Rattle.casefile_defs.specs.Reading.{Small}
+use Rattle.casefile_defs.proofs.Callers.{answered-small}
 use Rattle.case_reader.proofs.main.Statement.{statement}
 use Rattle.case_reader.proofs.main.Tie as tie
 

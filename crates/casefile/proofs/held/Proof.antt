@@ -1,7 +1,7 @@
 -- `casefile::held` meets its contract.
 -- Each arm is the definition's clause.
 use borrow.Author.Needs.{needs}
-use Rattle.casefile.specs.Tables.{held}
+use Rattle.casefile_defs.specs.Tables.{held}
 use Rattle.casefile.proofs.held.Statement.{statement}
 use Rattle.casefile.proofs.held.Tie as tie
 

@@ -8,16 +8,18 @@ use borrow.Author.Needs.{needs}
 use borrow.Author.Tests.{not-true, not-false}
 use denote.Ref.{now}
 use native.Mathlib.Omega.{arith}
-use Rattle.casefile.specs.Layout.{spot}
-use Rattle.casefile.specs.Reading.{levels, lines}
-use Rattle.casefile.specs.Tables.{Places, placesOf, outcome, sizesOk, Room, following, figures, levelsAt, busesAt, generatorsAt, corridorsAt, linesAt}
-use Rattle.casefile.specs.declared.Kind.{Kind}
-use Rattle.casefile.specs.declared.Kind.the-variants.{Level, Bus, Generator, Corridor, Line}
-use Rattle.casefile.specs.declared.CaseRead.{CaseRead}
+use Rattle.casefile_defs.specs.Layout.{spot}
+use Rattle.casefile_defs.specs.Reading.{levels, lines}
+use Rattle.casefile_defs.specs.Tables.{Places, placesOf, outcome, sizesOk, figures, levelsAt, busesAt, generatorsAt, corridorsAt, linesAt}
+use Rattle.casefile.specs.Spans.{Room, following}
+use Rattle.casefile_defs.specs.declared.Kind.{Kind}
+use Rattle.casefile_defs.specs.declared.Kind.the-variants.{Level, Bus, Generator, Corridor, Line}
+use Rattle.casefile_defs.specs.declared.CaseRead.{CaseRead}
 use Rattle.casefile.specs.declared.columns.Span.{Span}
-use Rattle.casefile.proofs.Counts.{lines-small}
+use Rattle.casefile_defs.proofs.Counts.{lines-small}
 use Rattle.casefile.proofs.Rooms.{Roomy, roomy, buses-low, generators-low, corridors-low, lines-low}
-use Rattle.casefile.proofs.Whole.{sizes, column-numbers, column-figures, sheet-rows, tables-same, refused-lengths, read-whole}
+use Rattle.casefile_defs.proofs.Whole.{sizes, tables-same, refused-lengths, read-whole}
+use Rattle.casefile.proofs.Spans.{column-numbers, column-figures, sheet-rows}
 use Rattle.casefile.proofs.read_case.Statement.{statement}
 use Rattle.casefile.proofs.read_case.Tie as tie
 

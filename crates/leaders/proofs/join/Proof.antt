@@ -1,32 +1,24 @@
--- `leaders::join` meets its contract: the leaders of the two ends are read before the first is renamed.
+-- `leaders::join` meets its contract: the roots are joined, and with them their sets.
+use native.Mathlib.Omega.{arith}
 use borrow.Author.Needs.{needs}
-use Rattle.leaders.specs.Leaders.{join}
+use Rattle.leaders.proofs.Forests.{joined-by}
 use Rattle.leaders.proofs.join.Statement.{statement}
 use Rattle.leaders.proofs.join.Tie as tie
 
-mul-old : tie.Need-mul-old
-mul-old c = search needs
+find-requires : tie.Need-find-requires
+find-requires c κs = search needs
 
-slice-read-old : tie.Need-slice-read-old
-slice-read-old c = search needs
+find-requires-2 : tie.Need-find-requires-2
+find-requires-2 c κs = search needs
 
-mul-new : tie.Need-mul-new
-mul-new c = search needs
-
-slice-read-new : tie.Need-slice-read-new
-slice-read-new c = search needs
-
-rename-requires : tie.Need-rename-requires
-rename-requires c κs = search needs
-
-same-length : tie.Need-same-length
-same-length c = search needs
+link-requires : tie.Need-link-requires
+link-requires c κs =
+    let f = c .before .before .before .before .find .ensures in
+    let g = c .before .before .find2 .ensures in
+    ((omega (arith, f .lower), omega (arith, g .lower), g .down), (g .roots _ (f .root), g .root))
 
 returns : tie.Need-returns
-unfolding join
-returns c = c .before .before .rename .ensures
+returns c = joined-by _ _ _ _ _ _ _ _ _ _ (c .before .before .before .before .before .find .ensures) (c .before .before .before .find2 .ensures) (c .link .ensures)
 
 pub join-spec : {M : Type 1} → statement M
-join-spec =
-    tie.close
-    (tie.spec mul-old slice-read-old mul-new slice-read-new rename-requires same-length returns)
+join-spec = tie.close (tie.spec find-requires find-requires-2 link-requires returns)

@@ -1,25 +1,23 @@
 -- `leaders::join_all` meets its contract.
--- The invariant: joining what is left of the corridors gives what joining all of them does.
+-- The invariant: the corridors passed are joined.
 use Prim.Native.Nat.{_-_, _≤_}
-use mathlib.Core.Path.{_≡_, refl, sym, _∙_}
+use mathlib.Core.Path.{_≡_}
 use native.Mathlib.Omega.{arith}
 use lib.ListN.{length}
 use borrow.Author.Needs.{needs}
-use Rattle.loops.specs.Loops.{iter}
-use Rattle.loops.proofs.Loops.{iter-all, iter-more, iter-end}
-use Rattle.leaders.specs.Leaders.{joinAt, joinAll}
+use Rattle.leaders.specs.Forest.{AllJoined}
+use Rattle.leaders.proofs.Forests.{none-joined, next-joined}
 use Rattle.leaders.proofs.join_all.Statement.{statement}
 use Rattle.leaders.proofs.join_all.Tie as tie
 
 abbrev Inv-loop : tie.InvT-loop
-Inv-loop a b leader₀ k₀ leader k = (k ≤ length a) × (length leader ≡ length leader₀) × (iter (joinAt a b) (length a - k) k leader ≡ joinAll a b leader₀)
+Inv-loop a b parent₀ name₀ k₀ parent name k = (k ≤ length a) × AllJoined a b k parent₀ name₀ parent name
 
 abbrev μ-loop : tie.MeasureT-loop
-μ-loop a b leader₀ k₀ leader k = length a - k
+μ-loop a b parent₀ name₀ k₀ parent name k = length a - k
 
 loop-holds : tie.Need-loop-holds Inv-loop μ-loop
-unfolding joinAll
-loop-holds c = (search needs, refl, iter-all _ _ _)
+loop-holds c = (search needs, none-joined _ _ _ _ (c .before .before .pre .1))
 
 mul-wide : tie.Need-mul-wide Inv-loop μ-loop
 mul-wide c = search needs
@@ -41,9 +39,10 @@ wide-requires-2 c κs = search needs
 
 join-requires : tie.Need-join-requires Inv-loop μ-loop
 join-requires c κs =
-    let l = c .before .before .before .before .before .before in
-    let e = l .before .before .before .before .pre in
-    (omega (arith, e .from (l .loop .k) (c .before .before .before .before .before .loop-test .taken), c .before .before .before .wide .ensures), omega (arith, e .to (l .loop .k) (c .before .before .before .before .before .loop-test .taken), c .before .wide2 .ensures))
+    let l = c .before .before .before .before .before .before .before .loop in
+    let e = c .before .before .before .before .before .before .before .before .before .before .pre .0 in
+    let t = c .before .before .before .before .before .before .loop-test .taken in
+    (omega (arith, e .from (l .k) t, c .before .before .before .before .wide .ensures), omega (arith, e .to (l .k) t, c .before .before .wide2 .ensures), l .inv .1 .down)
 
 add-k : tie.Need-add-k Inv-loop μ-loop
 add-k c = search needs
@@ -53,17 +52,13 @@ loop-less c = search needs
 
 loop-again : tie.Need-loop-again Inv-loop μ-loop
 loop-again c =
-    let l = c .before .before .before .before .before .before .before .before .before in (
-      omega arith,
-      c .before .before .join .kept .1 .1 .0 ∙ l .loop .inv .1,
-      sym (iter-more _ (omega arith) (rw (c .before .before .before .before .before .before .wide .ensures, c .before .before .before .before .wide2 .ensures) at (c .before .before .join .ensures))) ∙ l .loop .inv .2,
-    )
-
-same-length : tie.Need-same-length Inv-loop μ-loop
-same-length c = search needs
+    let l = c .before .before .before .before .before .before .before .before .loop in
+    (omega arith, next-joined _ _ _ _ (l .k) _ _ _ _ (c .before .before .before .before .before .before .before .loop-test .taken) (l .inv .1) (rw (c .before .before .before .before .before .wide .ensures, c .before .before .before .wide2 .ensures) at (c .join .ensures)))
 
 returns : tie.Need-returns Inv-loop μ-loop
-returns c = sym (iter-end _ (omega arith)) ∙ c .before .loop .inv .2
+returns c =
+    let e : length (c .before .before .before .before .args .a .now) ≡ c .before .loop .k = omega arith in
+    rw e (c .before .loop .inv .1)
 
 pub join-all-spec : {M : Type 1} → statement M
 join-all-spec =
@@ -82,5 +77,4 @@ join-all-spec =
     add-k
     loop-less
     loop-again
-    same-length
     returns)

@@ -27,22 +27,22 @@ part-file-end c = search needs
 read-full-requires : tie.Need-read-full-requires
 read-full-requires c κs = search needs
 
-sub-plan-file : tie.Need-sub-plan-file
-sub-plan-file c = search needs
+sub-draft-file : tie.Need-sub-draft-file
+sub-draft-file c = search needs
 
-part-plan-file-start : tie.Need-part-plan-file-start
-part-plan-file-start c = search needs
+part-draft-file-start : tie.Need-part-draft-file-start
+part-draft-file-start c = search needs
 
-part-plan-file-end : tie.Need-part-plan-file-end
-part-plan-file-end c =
+part-draft-file-end : tie.Need-part-draft-file-end
+part-draft-file-end c =
     let p = c .before .before in
     back-room (p .read-full .result) (p .before .before .least .result - 0) (p .read-full .last .1 .0) (replicate 65537 0) (p .read-full .ensures .0)
 
-plan-file-requires : tie.Need-plan-file-requires
-plan-file-requires c κs = search needs
+draft-file-requires : tie.Need-draft-file-requires
+draft-file-requires c κs = search needs
 
 returns : tie.Need-returns
-returns c = c .plan-file .ensures .1
+returns c = c .draft-file .ensures .1
 
 pub read-draft-spec : {M : Type 1} → statement M
 read-draft-spec =
@@ -55,8 +55,8 @@ read-draft-spec =
     part-file-start
     part-file-end
     read-full-requires
-    sub-plan-file
-    part-plan-file-start
-    part-plan-file-end
-    plan-file-requires
+    sub-draft-file
+    part-draft-file-start
+    part-draft-file-end
+    draft-file-requires
     returns)

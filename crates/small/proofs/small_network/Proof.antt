@@ -8,9 +8,9 @@ use borrow.Author.Tests.{not-true, not-false}
 use denote.Ref.{now}
 use Rattle.loops.specs.Figures.{nought, one, hundred}
 use Rattle.loops.specs.Loops.{tab}
-use Rattle.casefile.specs.Bounds.{rowFigures}
-use Rattle.casefile.specs.Tables.{Places, placesOf, sizesOk}
-use Rattle.casefile.proofs.Whole.{sizes}
+use Rattle.casefile_defs.specs.Bounds.{rowFigures}
+use Rattle.casefile_defs.specs.Tables.{Places, placesOf, sizesOk}
+use Rattle.casefile_defs.proofs.Whole.{sizes}
 use Rattle.small.specs.declared.order.Shape.{Shape}
 use Rattle.small.specs.Tables.{kv, ten, twenty, quarter}
 use Rattle.small.specs.Columns.{counts, figures, sheetAt, corridorCount, lastPair, firstPair, secondPair, lowerEnd, upperEnd, lowestLoad}

@@ -27,8 +27,8 @@ returns : tie.Need-returns
 unfolding rows
 returns c = step-none _ _ _ _ _ _ _ _ _ _ _ _ _ _ (apply-rows _ _ _ (c .before .before .before .before .before .before .before .before .before .pre .1 .0) _ 6 7 _ (lit< tt) (lit< tt) (c .before .before .before .apply .ensures)) (c .if1 .taken)
 
-advance-requires : tie.Need-advance-requires
-advance-requires c κs = search needs
+residual-step-requires : tie.Need-residual-step-requires
+residual-step-requires c κs = search needs
 
 judge-requires : tie.Need-judge-requires
 judge-requires c κs = search needs
@@ -36,8 +36,11 @@ judge-requires c κs = search needs
 enum-known-norm : tie.Need-enum-known-norm
 enum-known-norm c = search needs
 
-add-t27 : tie.Need-add-t27
-add-t27 c = search needs
+angle-step-requires : tie.Need-angle-step-requires
+angle-step-requires c κs = search needs
+
+add-t31 : tie.Need-add-t31
+add-t31 c = search needs
 
 same-length-2 : tie.Need-same-length-2
 same-length-2 c = search needs
@@ -45,20 +48,17 @@ same-length-2 c = search needs
 returns-2 : tie.Need-returns-2
 unfolding rows
 returns-2 c =
-    step-settled _ _ _ _ _ _ _ _ _ _ _ _ _ _ (apply-rows _ _ _ (c .before .before .before .before .before .before .before .before .before .before .before .before .before .before .before .before .before .pre .1 .0) _ 6 7 _ (lit< tt) (lit< tt) (c .before .before .before .before .before .before .before .before .before .before .before .apply .ensures)) _ _ (c .before .before .before .before .before .before .before .before .if1 .left)
-    (c .before .before .before .before .before .before .advance .ensures) _ (sym (c .before .norm .given .1) ∙ c .before .before .before .judge .ensures)
+    step-settled _ _ _ _ _ _ _ _ _ _ _ _ _ _ (apply-rows _ _ _ (c .before .before .before .before .before .before .before .before .before .before .before .before .before .before .before .before .before .before .before .before .before .pre .1 .0) _ 6 7 _ (lit< tt) (lit< tt) (c .before .before .before .before .before .before .before .before .before .before .before .before .before .before .before .apply .ensures)) _ _ (c .before .before .before .before .before .before .before .before .before .before .before .before .if1 .left)
+    (c .before .before .before .before .before .before .before .before .before .before .residual-step .ensures) _ _ (sym (c .before .before .before .before .before .norm .given .1) ∙ c .before .before .before .before .before .before .before .judge .ensures) (c .before .before .angle-step .ensures)
 
 enum-told : tie.Need-enum-told
 enum-told c = search needs
 
-precondition-requires : tie.Need-precondition-requires
-precondition-requires c κs = search needs
+direction-step-requires : tie.Need-direction-step-requires
+direction-step-requires c κs = search needs
 
-redirect-requires : tie.Need-redirect-requires
-redirect-requires c κs = search needs
-
-add-t17 : tie.Need-add-t17
-add-t17 c = search needs
+add-t19 : tie.Need-add-t19
+add-t19 c = search needs
 
 same-length-3 : tie.Need-same-length-3
 same-length-3 c = search needs
@@ -66,8 +66,8 @@ same-length-3 c = search needs
 returns-3 : tie.Need-returns-3
 unfolding rows
 returns-3 c =
-    step-more _ _ _ _ _ _ _ _ _ _ _ _ _ _ (apply-rows _ _ _ (c .before .before .before .before .before .before .before .before .before .before .before .before .before .before .before .before .before .before .before .before .before .before .before .before .pre .1 .0) _ 6 7 _ (lit< tt) (lit< tt) (c .before .before .before .before .before .before .before .before .before .before .before .before .before .before .before .before .before .before .apply .ensures)) _ _ (c .before .before .before .before .before .before .before .before .before .before .before .before .before .before .before .if1 .left)
-    (c .before .before .before .before .before .before .before .before .before .before .before .before .before .advance .ensures) _ _ _ (sym (c .before .before .before .before .before .before .before .before .enum-told .given .1) ∙ c .before .before .before .before .before .before .before .before .before .before .judge .ensures) (c .before .before .before .before .before .before .precondition .ensures) (c .before .before .redirect .ensures)
+    step-more _ _ _ _ _ _ _ _ _ _ _ _ _ _ (apply-rows _ _ _ (c .before .before .before .before .before .before .before .before .before .before .before .before .before .before .before .before .before .before .before .before .pre .1 .0) _ 6 7 _ (lit< tt) (lit< tt) (c .before .before .before .before .before .before .before .before .before .before .before .before .before .before .apply .ensures)) _ _ (c .before .before .before .before .before .before .before .before .before .before .before .if1 .left)
+    (c .before .before .before .before .before .before .before .before .before .residual-step .ensures) _ (sym (c .before .before .before .before .enum-told .given .1) ∙ c .before .before .before .before .before .before .judge .ensures) (c .before .before .direction-step .ensures)
 
 pub step-spec : {M : Type 1} → statement M
 step-spec =
@@ -79,15 +79,15 @@ step-spec =
     apply-requires
     same-length
     returns
-    advance-requires
+    residual-step-requires
     judge-requires
     enum-known-norm
-    add-t27
+    angle-step-requires
+    add-t31
     same-length-2
     returns-2
     enum-told
-    precondition-requires
-    redirect-requires
-    add-t17
+    direction-step-requires
+    add-t19
     same-length-3
     returns-3)

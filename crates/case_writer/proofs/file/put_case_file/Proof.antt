@@ -3,11 +3,11 @@ use Prim.Native.Nat.{_*_, _≤_}
 use native.Mathlib.Omega.{arith}
 use denote.Ref.{now}
 use lib.ListN.{length}
-use Rattle.casefile.specs.Bounds.{mostLevels, mostCorridors}
-use Rattle.casefile.specs.Reading.{lines, Small}
-use Rattle.casefile.specs.Tables.{Places, placesOf}
-use Rattle.casefile.proofs.Counts.{lines-small}
-use Rattle.casefile.proofs.Whole.{Sizes, sizes}
+use Rattle.casefile_defs.specs.Bounds.{mostLevels, mostCorridors}
+use Rattle.casefile_defs.specs.Reading.{lines, Small}
+use Rattle.casefile_defs.specs.Tables.{Places, placesOf}
+use Rattle.casefile_defs.proofs.Counts.{lines-small}
+use Rattle.casefile_defs.proofs.Whole.{Sizes, sizes}
 use Rattle.casefile_theorems.specs.Cases.{longest}
 use Rattle.casefile_theorems.specs.Writer.{fileWith}
 use Rattle.case_writer.specs.Words.{wordsIn}

@@ -4,7 +4,7 @@ use mathlib.Core.Bool.{true}
 use borrow.Author.Needs.{needs}
 use lib.ListN.{replicate}
 use Rattle.loops.specs.Figures.{nought}
-use Rattle.casefile.specs.Tables.{Places, placesOf, sizesOk}
+use Rattle.casefile_defs.specs.Tables.{Places, placesOf, sizesOk}
 use Rattle.case_writer.specs.Files.{Wrote}
 use Rattle.case_writer.proofs.Networks.{network-read, network-refused, small, sized, wrote-file}
 use Rattle.case_writer.proofs.file.put_small_network.Statement.{statement}

@@ -3,8 +3,8 @@ use Prim.Native.Nat.{_+_, _-_, _*_, _≤_}
 use mathlib.Core.Path.{_≡_, refl}
 use native.Mathlib.Omega.{arith}
 use lib.ListN.{length}
-use Rattle.casefile.specs.Layout.{sizeOf}
-use Rattle.casefile.specs.declared.Kind.the-variants.{Corridor}
+use Rattle.casefile_defs.specs.Layout.{sizeOf}
+use Rattle.casefile_defs.specs.declared.Kind.the-variants.{Corridor}
 use Rattle.casefile_theorems.specs.Writer.{tableBytes}
 use Rattle.case_writer.specs.Put.{Put}
 use Rattle.case_writer.specs.Words.{corridorWords}

@@ -6,7 +6,7 @@ use native.Mathlib.Omega.{arith}
 use denote.Ref.{now}
 use lib.ListN.{getD}
 use lib.Dec.{lit<}
-use Rattle.casefile.specs.Layout.{word}
+use Rattle.casefile_defs.specs.Layout.{word}
 use Rattle.casefile.proofs.Words.{word-start, word-turn, word-end, small-turn, small-end, within}
 use Rattle.casefile.proofs.bytes.word.Statement.{statement}
 use Rattle.casefile.proofs.bytes.word.Tie as tie

@@ -5,8 +5,8 @@ use native.Mathlib.Omega.{arith}
 use denote.Ref.{now}
 use lib.ListN.{length}
 use borrow.Author.Needs.{needs}
-use Rattle.casefile.specs.Layout.{spot, sizeOf}
-use Rattle.casefile.proofs.Spots.{figure-there, figure-past}
+use Rattle.casefile_defs.specs.Layout.{spot, sizeOf}
+use Rattle.casefile_defs.proofs.Spots.{figure-there, figure-past}
 use Rattle.casefile.proofs.columns.figure_in.Statement.{statement}
 use Rattle.casefile.proofs.columns.figure_in.Tie as tie
 

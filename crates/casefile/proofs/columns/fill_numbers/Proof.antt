@@ -7,7 +7,7 @@ use denote.Ref.{now}
 use lib.ListN.{length}
 use Rattle.loops.specs.Loops.{filled}
 use Rattle.loops.proofs.Tab.{fill-start, fill-turn, fill-end, fill-length}
-use Rattle.casefile.specs.Tables.{numberIn}
+use Rattle.casefile_defs.specs.Tables.{numberIn}
 use Rattle.casefile.proofs.columns.fill_numbers.Statement.{statement}
 use Rattle.casefile.proofs.columns.fill_numbers.Tie as tie
 

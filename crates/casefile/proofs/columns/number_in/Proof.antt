@@ -4,9 +4,9 @@ use Prim.Native.Nat.{_+_, _≤_}
 use native.Mathlib.Omega.{arith}
 use denote.Ref.{now}
 use lib.ListN.{length}
-use Rattle.casefile.specs.Layout.{spot, sizeOf}
+use Rattle.casefile_defs.specs.Layout.{spot, sizeOf}
 use Rattle.casefile.proofs.Words.{within}
-use Rattle.casefile.proofs.Spots.{number-there, number-past}
+use Rattle.casefile_defs.proofs.Spots.{number-there, number-past}
 use Rattle.casefile.proofs.columns.number_in.Statement.{statement}
 use Rattle.casefile.proofs.columns.number_in.Tie as tie
 

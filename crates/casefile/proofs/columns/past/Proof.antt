@@ -4,8 +4,8 @@ use Prim.Native.Nat.{ℕ, _*_}
 use mathlib.Core.Path.{_≡_, ap}
 use native.Mathlib.Omega.{arith}
 use borrow.Author.Needs.{needs}
-use Rattle.casefile.specs.Layout.{sizeOf}
-use Rattle.casefile.proofs.Spots.{spot-mul}
+use Rattle.casefile_defs.specs.Layout.{sizeOf}
+use Rattle.casefile_defs.proofs.Spots.{spot-mul}
 use Rattle.casefile.proofs.columns.past.Statement.{statement}
 use Rattle.casefile.proofs.columns.past.Tie as tie
 

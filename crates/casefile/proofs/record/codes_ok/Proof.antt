@@ -3,8 +3,8 @@
 use mathlib.Core.Path.{refl}
 use native.Mathlib.Omega.{arith}
 use borrow.Author.Needs.{needs}
-use Rattle.casefile.proofs.Records.{bounded, size-at}
-use Rattle.casefile.specs.declared.Kind.the-variants.{Head, Generator, Line}
+use Rattle.casefile_defs.proofs.Records.{bounded, size-at}
+use Rattle.casefile_defs.specs.declared.Kind.the-variants.{Head, Generator, Line}
 use Rattle.casefile.proofs.record.codes_ok.Statement.{statement}
 use Rattle.casefile.proofs.record.codes_ok.Tie as tie
 

@@ -5,8 +5,8 @@ use mathlib.Core.Path.{sym, ap, _∙_}
 use borrow.Author.Tests.{not-true, not-false}
 use native.Mathlib.Omega.{arith}
 use borrow.Author.Needs.{needs}
-use Rattle.casefile.proofs.Records.{cut-at, mark-at, code-at, good-at}
-use Rattle.casefile.specs.declared.Walk.the-variants.{At}
+use Rattle.casefile_defs.proofs.Records.{cut-at, mark-at, code-at, good-at}
+use Rattle.casefile_defs.specs.declared.Walk.the-variants.{At}
 use Rattle.casefile.proofs.record.record_at.Statement.{statement}
 use Rattle.casefile.proofs.record.record_at.Tie as tie
 

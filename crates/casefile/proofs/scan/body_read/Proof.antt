@@ -3,8 +3,8 @@
 use mathlib.Core.Path.{sym, _∙_}
 use borrow.Author.Tests.{not-true, not-false}
 use borrow.Author.Needs.{needs}
-use Rattle.casefile.proofs.Counts.{small-of}
-use Rattle.casefile.proofs.Walks.{body-counts, body-end}
+use Rattle.casefile_defs.proofs.Counts.{small-of}
+use Rattle.casefile_defs.proofs.Walks.{body-counts, body-end}
 use Rattle.casefile.proofs.scan.body_read.Statement.{statement}
 use Rattle.casefile.proofs.scan.body_read.Tie as tie
 

@@ -2,7 +2,7 @@
 -- Each return is one way through the definition.
 use mathlib.Core.Path.{_∙_}
 use borrow.Author.Needs.{needs}
-use Rattle.casefile.proofs.Walks.{end-trailing, end-fault, end-good}
+use Rattle.casefile_defs.proofs.Walks.{end-trailing, end-fault, end-good}
 use Rattle.casefile.proofs.scan.end_read.Statement.{statement}
 use Rattle.casefile.proofs.scan.end_read.Tie as tie
 

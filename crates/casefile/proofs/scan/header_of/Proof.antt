@@ -1,7 +1,7 @@
 -- `casefile::scan::header_of` meets its contract.
 -- Each field is its word (header-same).
 use borrow.Author.Needs.{needs}
-use Rattle.casefile.proofs.Counts.{header-same}
+use Rattle.casefile_defs.proofs.Counts.{header-same}
 use Rattle.casefile.proofs.scan.header_of.Statement.{statement}
 use Rattle.casefile.proofs.scan.header_of.Tie as tie
 

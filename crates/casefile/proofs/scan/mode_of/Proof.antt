@@ -2,7 +2,7 @@
 -- Each return is one way through the definition.
 use borrow.Author.Tests.{eq-eqb, ne-eqb}
 use Rattle.mode.specs.Number.{modeNumber}
-use Rattle.casefile.specs.Reading.{modeOf}
+use Rattle.casefile_defs.specs.Reading.{modeOf}
 use Rattle.casefile.proofs.scan.mode_of.Statement.{statement}
 use Rattle.casefile.proofs.scan.mode_of.Tie as tie
 

@@ -8,9 +8,9 @@ use denote.Ref.{now}
 use lib.ListN.{length}
 use Rattle.loops.specs.Loops.{first}
 use Rattle.loops.proofs.Scan.{first-pass, first-stop, first-end}
-use Rattle.casefile.specs.Looks.{lookedAs}
-use Rattle.casefile.specs.Reading.{zeroAt, trailing}
-use Rattle.casefile.proofs.Trailing.{bytes-stop, bytes-end}
+use Rattle.casefile_defs.specs.Looks.{lookedAs}
+use Rattle.casefile_defs.specs.Reading.{zeroAt, trailing}
+use Rattle.casefile.proofs.Looks.{bytes-stop, bytes-end}
 use Rattle.casefile.proofs.scan.past_bytes.Statement.{statement}
 use Rattle.casefile.proofs.scan.past_bytes.Tie as tie
 

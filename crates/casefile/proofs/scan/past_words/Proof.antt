@@ -4,7 +4,7 @@ use Prim.Native.Nat.{_-_, _/_, _≤_}
 use mathlib.Core.Path.{_≡_, _∙_}
 use native.Mathlib.Omega.{arith}
 use lib.ListN.{length}
-use Rattle.casefile.proofs.Trailing.{ZeroWords, words-start, words-turn, words-stop, words-end}
+use Rattle.casefile.proofs.Looks.{ZeroWords, words-start, words-turn, words-stop, words-end}
 use Rattle.casefile.proofs.scan.past_words.Statement.{statement}
 use Rattle.casefile.proofs.scan.past_words.Tie as tie
 

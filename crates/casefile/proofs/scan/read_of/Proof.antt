@@ -2,8 +2,8 @@
 -- Each return is one way through the definition; a header that is passed lies inside the file.
 use mathlib.Core.Path.{sym, _∙_}
 use borrow.Author.Needs.{needs}
-use Rattle.casefile.proofs.Records.{passed}
-use Rattle.casefile.proofs.Walks.{whole-long, whole-fault, whole-body}
+use Rattle.casefile_defs.proofs.Records.{passed}
+use Rattle.casefile_defs.proofs.Walks.{whole-long, whole-fault, whole-body}
 use Rattle.casefile.proofs.scan.read_of.Statement.{statement}
 use Rattle.casefile.proofs.scan.read_of.Tie as tie
 

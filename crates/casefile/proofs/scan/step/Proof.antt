@@ -1,7 +1,7 @@
 -- `casefile::scan::step` meets its contract.
 -- Each arm is the definition's clause.
 use borrow.Author.Needs.{needs}
-use Rattle.casefile.specs.Reading.{stepped}
+use Rattle.casefile_defs.specs.Reading.{stepped}
 use Rattle.casefile.proofs.scan.step.Statement.{statement}
 use Rattle.casefile.proofs.scan.step.Tie as tie
 

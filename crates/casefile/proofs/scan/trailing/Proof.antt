@@ -4,7 +4,7 @@ use mathlib.Core.Path.{_∙_}
 use native.Mathlib.Omega.{arith}
 use borrow.Author.Needs.{needs}
 use denote.Ref.{now}
-use Rattle.casefile.proofs.Trailing.{both-looked, few}
+use Rattle.casefile.proofs.Looks.{both-looked, few}
 use Rattle.casefile.proofs.scan.trailing.Statement.{statement}
 use Rattle.casefile.proofs.scan.trailing.Tie as tie
 

@@ -5,7 +5,7 @@ use mathlib.Core.Path.{_≡_, refl, sym, _∙_}
 use native.Mathlib.Omega.{arith}
 use Rattle.loops.specs.Loops.{iter}
 use Rattle.loops.proofs.Loops.{iter-more, iter-end}
-use Rattle.casefile.specs.Reading.{stepped, walked}
+use Rattle.casefile_defs.specs.Reading.{stepped, walked}
 use Rattle.casefile.proofs.scan.walk_kind.Statement.{statement}
 use Rattle.casefile.proofs.scan.walk_kind.Tie as tie
 

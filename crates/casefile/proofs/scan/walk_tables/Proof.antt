@@ -2,8 +2,8 @@
 -- Five walks, one after the other (tables-walked); the counts are small, so no sum wraps.
 use native.Mathlib.Omega.{arith}
 use borrow.Author.Needs.{needs}
-use Rattle.casefile.proofs.Counts.{lines-small}
-use Rattle.casefile.proofs.Walks.{tables-walked}
+use Rattle.casefile_defs.proofs.Counts.{lines-small}
+use Rattle.casefile_defs.proofs.Walks.{tables-walked}
 use Rattle.casefile.proofs.scan.walk_tables.Statement.{statement}
 use Rattle.casefile.proofs.scan.walk_tables.Tie as tie
 

@@ -1,7 +1,7 @@
 -- `casefile::tables::line_figure` meets its contract.
 -- The first four fields are figures of eight bytes each (line-there).
 use borrow.Author.Needs.{needs}
-use Rattle.casefile.proofs.Spots.{line-there, line-basis}
+use Rattle.casefile_defs.proofs.Spots.{line-there, line-basis}
 use Rattle.casefile.proofs.tables.line_figure.Statement.{statement}
 use Rattle.casefile.proofs.tables.line_figure.Tie as tie
 

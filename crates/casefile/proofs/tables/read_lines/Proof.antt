@@ -6,7 +6,7 @@ use native.Mathlib.Omega.{arith}
 use lib.ListN.{length}
 use Rattle.loops.specs.Loops.{filled}
 use Rattle.loops.proofs.Tab.{fill-start, fill-turn, fill-end, fill-length}
-use Rattle.casefile.specs.Tables.{sheetIn}
+use Rattle.casefile_defs.specs.Tables.{sheetIn}
 use Rattle.casefile.proofs.tables.read_lines.Statement.{statement}
 use Rattle.casefile.proofs.tables.read_lines.Tie as tie
 

@@ -2,7 +2,7 @@
 -- A row among the lines lies inside the file.
 use Prim.Native.Nat.{_/_}
 use native.Mathlib.Omega.{arith}
-use Rattle.casefile.proofs.Spots.{sheet-there, sheet-past}
+use Rattle.casefile_defs.proofs.Spots.{sheet-there, sheet-past}
 use Rattle.casefile.proofs.tables.sheet_in.Statement.{statement}
 use Rattle.casefile.proofs.tables.sheet_in.Tie as tie
 

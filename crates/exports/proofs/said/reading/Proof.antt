@@ -1,8 +1,8 @@
 -- `exports::said::reading` meets its contract, a variant at a time.
 use borrow.Author.Needs.{needs}
 use mathlib.Core.Path.{sym, ap, _∙_}
-use Rattle.casefile.specs.Tables.{replyOf}
-use Rattle.casefile.specs.declared.Reading.{Reading}
+use Rattle.casefile_defs.specs.Tables.{replyOf}
+use Rattle.casefile_defs.specs.declared.Reading.{Reading}
 use Rattle.exports.specs.Said.{readingSaid}
 use Rattle.exports.proofs.said.reading.Statement.{statement}
 use Rattle.exports.proofs.said.reading.Tie as tie

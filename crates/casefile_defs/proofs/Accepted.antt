@@ -1,0 +1,196 @@
+-- What an answered file holds: each record passed, in its place, and nothing but zeros after the last.
+-- A fault stays, so a walk that ends at a place passed every record (walked-all); the tests on the way are taken apart one by one.
+use Prim.Native.Nat.{ℕ, zero, suc, _+_, _-_, _<_, _≤_}
+use mathlib.Core.Path.{_≡_, refl, sym, ap, _∙_, subst}
+use mathlib.Core.Bool.{Bool, true, false, cond}
+use mathlib.Core.List.{List}
+use native.Mathlib.Nat.{not-suc-le-zero, le-of-suc-le-suc}
+use native.Mathlib.Omega.{arith}
+use borrow.Author.Tests.{ltb-false}
+use lib.Dec.{ltb}
+use lib.ListN.{length}
+use Rattle.loops.specs.Loops.{iter}
+use Rattle.loops.proofs.Loops.{iter-still}
+use Rattle.refusal.specs.declared.Refusal.{Refusal}
+use Rattle.casefile_defs.specs.Bounds.{mostBytes}
+use Rattle.casefile_defs.specs.Layout.{sizeOf, spot}
+use Rattle.casefile_defs.specs.Reading.{recordAt, stepped, walked, countsOk, headerOf, levels, lines, tablesWalked, trailing, unread, endRead, bodyRead, readOf, readingOf, beforeBuses, beforeGenerators, beforeCorridors, beforeLines, recordsOf}
+use Rattle.casefile_defs.specs.Tables.{levelsAt, busesAt, generatorsAt, corridorsAt, linesAt}
+use Rattle.casefile_defs.specs.declared.Kind.{Kind}
+use Rattle.casefile_defs.specs.declared.Kind.the-variants.{Head, Level, Bus, Generator, Corridor, Line}
+use Rattle.casefile_defs.specs.declared.Header.{Header}
+use Rattle.casefile_defs.specs.declared.Walk.{Walk}
+use Rattle.casefile_defs.specs.declared.Walk.the-variants.{At, Fault}
+use Rattle.casefile_defs.specs.declared.CaseRead.{CaseRead}
+use Rattle.casefile_defs.specs.declared.Reading.the-variants.{Refused, Read}
+use Rattle.casefile_defs.proofs.Records.{Passed, passed, fault-not-at}
+use Rattle.casefile_defs.proofs.Spots.{spot-next}
+
+-- n records of kind k from a place on, each of them passed
+abbrev pub Table : Kind → List ℕ → ℕ → ℕ → Type 0
+Table k s at n = (i : ℕ) → i < n → Passed k s (spot k at i) (spot k at (suc i))
+
+module _ (k : Kind) (s : List ℕ) where
+  no-fault : (d r : ℕ) (f : Refusal) (next : ℕ) → iter (stepped k s) d r (Fault f) ≡ At next → ⊥
+  unfolding stepped
+  no-fault d r f next e = fault-not-at (sym (iter-still (stepped k s) (Fault f) (λ i. refl) d r) ∙ e)
+
+  put-first : (at d : ℕ) → Passed k s at (at + sizeOf k) → Table k s (at + sizeOf k) d → Table k s at (suc d)
+  unfolding spot
+  put-first at d p t zero h = p
+  put-first at d p t (suc i) h =
+      subst (λ (n : ℕ). Passed k s n (n + sizeOf k)) (spot-next k at i) (t i (le-of-suc-le-suc h))
+
+  Went : ℕ → Walk → ℕ → Type 0
+  Went d (At at) next = Table k s at d × (next ≡ spot k at d)
+  Went d (Fault f) next = ⊥
+
+  first-on : (d r at next : ℕ) (w : Walk) → recordAt k s r at ≡ w → Went d w next → Went (suc d) (At at) next
+  unfolding Went
+  first-on d r at next (Fault f) q g = absurd g
+  first-on d r at next (At m) q g =
+      let p = passed k s r at m q in
+      let p′ : Passed k s at (at + sizeOf k) = subst (λ (n : ℕ). Passed k s at n) (p .past) p in
+      let t : Table k s (at + sizeOf k) d = subst (λ (n : ℕ). Table k s n d) (p .past) (g .0) in
+      (put-first at d p′ t, g .1 ∙ ap (λ (n : ℕ). spot k n d) (p .past) ∙ spot-next k at d)
+
+  went : (d r : ℕ) (w : Walk) (next : ℕ) → iter (stepped k s) d r w ≡ At next → Went d w next
+  unfolding iter stepped spot Went
+  went zero r (At at) next e = ((λ i h. absurd (not-suc-le-zero h)), cc)
+  went zero r (Fault f) next e = no-fault 0 r f next e
+  went (suc d) r (At at) next e = first-on d r at next (recordAt k s r at) refl (went d (suc r) (recordAt k s r at) next e)
+  went (suc d) r (Fault f) next e = no-fault (suc d) r f next e
+
+  -- a walk that was not refused began at a place and passed every record
+  pub record Walked (n : ℕ) (w : Walk) (next : ℕ) : Type 0 where
+    pub at : ℕ
+    pub from : w ≡ At at
+    pub table : Table k s at n
+    pub end : next ≡ spot k at n
+
+  pub walked-all : (start end n : ℕ) (w : Walk) (next : ℕ) → end - start ≡ n → walked k start end s w ≡ At next → Walked n w next
+  unfolding walked Went
+  walked-all start end n (At at) next q e =
+      let g = went (end - start) start (At at) next e in
+      record {
+        at = at;
+        from = refl;
+        table = subst (λ (m : ℕ). Table k s at m) q (g .0);
+        end = g .1 ∙ ap (λ (m : ℕ). spot k at m) q;
+      }
+  walked-all start end n (Fault f) next q e = absurd (no-fault (end - start) start f next e)
+
+-- where the last record ends
+abbrev pub endAt : Header → ℕ
+endAt h = spot Line (linesAt h) (lines h)
+
+pub record Accepted (s : List ℕ) (h : Header) : Type 0 where
+  pub short : length s ≤ mostBytes
+  pub header : h ≡ headerOf s
+  pub head : Passed Head s 0 levelsAt
+  pub counts : countsOk h ≡ true
+  pub levels : Table Level s levelsAt (levels h)
+  pub buses : Table Bus s (busesAt h) (h .buses)
+  pub generators : Table Generator s (generatorsAt h) (h .generators)
+  pub corridors : Table Corridor s (corridorsAt h) (h .corridors)
+  pub rows : Table Line s (linesAt h) (lines h)
+  pub zeros : length s ≤ trailing s (endAt h)
+
+-- the tables of a walk over all of them
+pub record Tables (s : List ℕ) (h : Header) (next : ℕ) : Type 0 where
+  pub levels : Table Level s levelsAt (levels h)
+  pub buses : Table Bus s (busesAt h) (h .buses)
+  pub generators : Table Generator s (generatorsAt h) (h .generators)
+  pub corridors : Table Corridor s (corridorsAt h) (h .corridors)
+  pub rows : Table Line s (linesAt h) (lines h)
+  pub end : next ≡ endAt h
+
+-- a table from where the walk before it ended
+moved : {k : Kind} {s : List ℕ} {n at place : ℕ} → at ≡ place → Table k s at n → Table k s place n
+moved {k} {s} {n} p t = subst (λ (m : ℕ). Table k s m n) p t
+
+at-same : {m n : ℕ} → At m ≡ At n → m ≡ n
+at-same e = cc
+
+tables-of : (s : List ℕ) (h : Header) (next : ℕ) → tablesWalked h s (At levelsAt) ≡ At next → Tables s h next
+unfolding tablesWalked
+tables-of s h next e =
+    let w₅ = walked-all Line s (beforeLines h) (recordsOf h) (lines h) _ next (omega arith) e in
+    let w₄ = walked-all Corridor s (beforeCorridors h) (beforeLines h) (h .corridors) _ (w₅ .at) (omega arith) (w₅ .from) in
+    let w₃ = walked-all Generator s (beforeGenerators h) (beforeCorridors h) (h .generators) _ (w₄ .at) (omega arith) (w₄ .from) in
+    let w₂ = walked-all Bus s (beforeBuses h) (beforeGenerators h) (h .buses) _ (w₃ .at) (omega arith) (w₃ .from) in
+    let w₁ = walked-all Level s 1 (beforeBuses h) (levels h) _ (w₂ .at) (omega arith) (w₂ .from) in
+    let p₁ : w₁ .at ≡ levelsAt = at-same (sym (w₁ .from)) in
+    let p₂ : w₂ .at ≡ busesAt h = w₁ .end ∙ ap (λ (m : ℕ). spot Level m (levels h)) p₁ in
+    let p₃ : w₃ .at ≡ generatorsAt h = w₂ .end ∙ ap (λ (m : ℕ). spot Bus m (h .buses)) p₂ in
+    let p₄ : w₄ .at ≡ corridorsAt h = w₃ .end ∙ ap (λ (m : ℕ). spot Generator m (h .generators)) p₃ in
+    let p₅ : w₅ .at ≡ linesAt h = w₄ .end ∙ ap (λ (m : ℕ). spot Corridor m (h .corridors)) p₄ in
+    record {
+      levels = moved p₁ (w₁ .table);
+      buses = moved p₂ (w₂ .table);
+      generators = moved p₃ (w₃ .table);
+      corridors = moved p₄ (w₄ .table);
+      rows = moved p₅ (w₅ .table);
+      end = w₅ .end ∙ ap (λ (m : ℕ). spot Line m (lines h)) p₅;
+    }
+
+-- ---- the tests on the way to an answer
+refused-not-read : {f : Refusal} {h : Header} → Refused f ≡ Read h → ⊥
+refused-not-read e = let v : _≡_ {A = ℕ} 0 1 = cc in omega arith
+
+-- the end of an answered reading, from its test and its walk
+end-by : (s : List ℕ) (h h₀ : Header) (next : ℕ) (z : Bool) (i : ℕ) (f : Refusal) → ltb i (length s) ≡ z → cond z (Refused f) (Read h₀) ≡ Read h
+    → (h ≡ h₀) × (length s ≤ i)
+end-by s h h₀ next true i f q e = absurd (refused-not-read e)
+end-by s h h₀ next false i f q e = (cc, ltb-false i (length s) q)
+
+pub record Ended (s : List ℕ) (h h₀ : Header) (w : Walk) : Type 0 where
+  pub next : ℕ
+  pub walk : w ≡ At next
+  pub same : h ≡ h₀
+  pub zeros : length s ≤ trailing s next
+
+ended : (s : List ℕ) (h h₀ : Header) (w : Walk) → endRead h₀ s w .reading ≡ Read h → Ended s h h₀ w
+unfolding endRead
+ended s h h₀ (Fault f) e = absurd (refused-not-read e)
+ended s h h₀ (At next) e =
+    let g = end-by s h h₀ next _ (trailing s next) _ refl e in
+    record { next = next; walk = refl; same = g .0; zeros = g .1 }
+
+counted : (s : List ℕ) (h : Header) (y : Bool) (r : CaseRead) (f : Refusal) → cond y r (unread f) .reading ≡ Read h → (y ≡ true) × (r .reading ≡ Read h)
+counted s h true r f e = (refl, e)
+counted s h false r f e = absurd (refused-not-read e)
+
+body-accepted : (s : List ℕ) (h : Header) (w : Walk) → length s ≤ mostBytes → recordAt Head s 0 0 ≡ w → bodyRead s w .reading ≡ Read h → Accepted s h
+unfolding bodyRead
+body-accepted s h (Fault f) l q e = absurd (refused-not-read e)
+body-accepted s h (At at) l q e =
+    let c = counted s h _ _ _ e in
+    let n = ended s h (headerOf s) _ (c .1) in
+    let p = passed Head s 0 0 at q in
+    let a : at ≡ levelsAt = p .past in
+    let w : tablesWalked (headerOf s) s (At levelsAt) ≡ At (n .next) = ap (λ (m : ℕ). tablesWalked (headerOf s) s (At m)) (sym a) ∙ n .walk in
+    let t = tables-of s h (n .next) (ap (λ (g : Header). tablesWalked g s (At levelsAt)) (n .same) ∙ w) in
+    record {
+      short = l;
+      header = n .same;
+      head = subst (λ (m : ℕ). Passed Head s 0 m) a p;
+      counts = ap (λ (g : Header). countsOk g) (n .same) ∙ c .0;
+      levels = t .levels;
+      buses = t .buses;
+      generators = t .generators;
+      corridors = t .corridors;
+      rows = t .rows;
+      zeros = subst (λ (m : ℕ). length s ≤ trailing s m) (t .end) (n .zeros);
+    }
+
+whole-by : (s : List ℕ) (h : Header) (x : Bool) (r : CaseRead) (f : Refusal) → ltb mostBytes (length s) ≡ x → cond x (unread f) r .reading ≡ Read h
+    → (length s ≤ mostBytes) × (r .reading ≡ Read h)
+whole-by s h true r f q e = absurd (refused-not-read e)
+whole-by s h false r f q e = (ltb-false mostBytes (length s) q, e)
+
+pub accepted : (s : List ℕ) (h : Header) → readingOf s ≡ Read h → Accepted s h
+unfolding readOf
+accepted s h e =
+    let g = whole-by s h _ _ _ refl e in
+    body-accepted s h (recordAt Head s 0 0) (g .0) refl (g .1)

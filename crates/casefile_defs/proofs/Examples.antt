@@ -1,0 +1,135 @@
+-- Worked examples, by computation: case L (document 01, "Case file") as a file, what is read of it and what is left in the tables; the refusals of files that
+-- differ from it in a byte or two; the bounds of counts and length; and the words and bytes looked at, both bounds of whose count are met.
+use Prim.Native.Nat.{ℕ, _+_, _*_}
+use mathlib.Core.Bool.{Bool, true, false}
+use mathlib.Core.List.{List, [], _∷_, _++_, map}
+use mathlib.Core.Path.{_≡_, refl}
+use lib.ListN.{length, replicate, set, take}
+use lib.Ieee.{Float, binary64, ofBits}
+use Rattle.loops.specs.Figures.{nought, half, one, fifty, hundred}
+use Rattle.loops.specs.Loops.{iter, first, tab}
+use Rattle.refusal.specs.declared.Refusal.the-variants.{Count, FileLength, Cut, Mark, Code, Trailing}
+use Rattle.mode.specs.Number.{modeNumber}
+use Rattle.mode.specs.declared.PlanMode.the-variants.{Observe}
+use Rattle.casefile_defs.specs.Layout.{little, word, spot}
+use Rattle.casefile_defs.specs.Looks.{lookedAs, lookedAt}
+use Rattle.casefile_defs.specs.Reading.{lines, recordAt, stepped, walked, modeOf, headerOf, countsOk, tablesWalked, trailing, looksFor, caseRead, unread, endRead, bodyRead, readOf}
+use Rattle.casefile_defs.specs.Tables.{Places, numberIn, figureIn, sheetIn, linesAt, tablesOf}
+use Rattle.casefile_defs.specs.declared.Header.{Header}
+use Rattle.casefile_defs.specs.declared.Kind.the-variants.{Head}
+use Rattle.casefile_defs.specs.declared.Reading.the-variants.{Refused, Read}
+
+-- ---- case L, byte by byte: HD 2 0 2 1 1 0 1; LV 138; BU 0 0; BU 0 50; GE 0 1 0 100 20 0.25; CO 0 1 1 10 1; LN 0 0.5 0 100 0
+-- a figure whose first five bytes are zero
+abbrev bits : ℕ → ℕ → ℕ → List ℕ
+bits x y z = 0 ∷ 0 ∷ 0 ∷ 0 ∷ 0 ∷ x ∷ y ∷ z ∷ []
+
+abbrev pub fileL : List ℕ
+fileL =
+    (0x48 ∷ 0x44 ∷ 2 ∷ 0 ∷ 0 ∷ 0 ∷ 0 ∷ 2 ∷ 0 ∷ 1 ∷ 0 ∷ 1 ∷ 0 ∷ 0 ∷ 1 ∷ [])
+    ++ (0x4c ∷ 0x56 ∷ bits 0x40 0x61 0x40)
+    ++ (0x42 ∷ 0x55 ∷ 0 ∷ bits 0 0 0)
+    ++ (0x42 ∷ 0x55 ∷ 0 ∷ bits 0 0x49 0x40)
+    ++ (0x47 ∷ 0x45 ∷ 0 ∷ 0 ∷ 1 ∷ bits 0 0 0) ++ bits 0 0x59 0x40 ++ bits 0 0x34 0x40 ++ bits 0 0xd0 0x3f
+    ++ (0x43 ∷ 0x4f ∷ 0 ∷ 0 ∷ 1 ∷ 0 ∷ 1 ∷ bits 0 0x24 0x40) ++ bits 0 0xf0 0x3f
+    ++ (0x4c ∷ 0x4e ∷ bits 0 0 0) ++ bits 0 0xe0 0x3f ++ bits 0 0 0 ++ bits 0 0x59 0x40 ++ (0 ∷ [])
+
+abbrev headerL : Header
+headerL = record { mode = Observe; target = 0; buses = 2; corridors = 1; generators = 1; above = 0; requested = 1 }
+
+pub case-l : readOf fileL ≡ caseRead (Read headerL) 0
+unfolding readOf bodyRead endRead tablesWalked walked stepped recordAt headerOf modeOf modeNumber trailing looksFor iter first word little
+case-l = refl
+
+-- ---- its tables: zeros past the counts
+abbrev tablesL : Places
+tablesL = tablesOf fileL headerL
+
+abbrev counts : List ℕ → ℕ → List ℕ
+counts l past = l ++ replicate past 0
+
+abbrev figures : List Float → ℕ → List Float
+figures l past = l ++ replicate past nought
+
+pub counts-l :
+    tablesL .tier ∷ tablesL .bus ∷ tablesL .slack ∷ tablesL .a ∷ tablesL .b ∷ tablesL .circuits ∷ []
+    ≡ counts (0 ∷ 0 ∷ []) 254 ∷ counts (0 ∷ []) 127 ∷ counts (1 ∷ []) 127 ∷ counts (0 ∷ []) 255 ∷ counts (1 ∷ []) 255 ∷ counts (1 ∷ []) 255 ∷ []
+unfolding tablesOf numberIn spot tab word little
+counts-l = refl
+
+pub figures-l :
+    tablesL .ladder ∷ tablesL .load ∷ tablesL .pmin ∷ tablesL .pmax ∷ tablesL .c1 ∷ tablesL .c2 ∷ tablesL .lengthKm ∷ tablesL .share ∷ []
+    ≡ figures (ofBits binary64 0x4061_4000_0000_0000 ∷ []) 4
+    ∷ figures (nought ∷ fifty ∷ []) 254
+    ∷ figures (nought ∷ []) 127
+    ∷ figures (hundred ∷ []) 127
+    ∷ figures (ofBits binary64 0x4034_0000_0000_0000 ∷ []) 127
+    ∷ figures (ofBits binary64 0x3fd0_0000_0000_0000 ∷ []) 127
+    ∷ figures (ofBits binary64 0x4024_0000_0000_0000 ∷ []) 255
+    ∷ figures (one ∷ []) 255
+    ∷ []
+unfolding tablesOf figureIn spot tab word little
+figures-l = refl
+
+-- the first places of the sheet, past its one row too
+pub sheet-l : tab 8 (sheetIn fileL (linesAt headerL) (lines headerL)) ≡ nought ∷ half ∷ nought ∷ hundred ∷ nought ∷ nought ∷ nought ∷ nought ∷ []
+unfolding sheetIn spot tab word little
+sheet-l = refl
+
+-- ---- refusals: no byte, and a header cut; mode 6; 129 generators; a bus cut, its mark wrong too; the level's mark; the second bus's mark, and a basis of 2
+-- behind it; slack 2; basis 2
+pub refusals :
+    map readOf
+    ([] ∷ take 14 fileL ∷ set fileL 2 6 ∷ set fileL 11 129 ∷ take 35 fileL ∷ set (take 35 fileL) 25 0 ∷ set fileL 15 0 ∷ set (set fileL 36 0) 141 2 ∷ set fileL 51 2
+    ∷ set fileL 141 2 ∷ [])
+    ≡ map unread (Cut 0 ∷ Cut 0 ∷ Code 0 ∷ Count ∷ Cut 2 ∷ Cut 2 ∷ Mark 1 ∷ Mark 3 ∷ Code 4 ∷ Code 6 ∷ [])
+unfolding readOf bodyRead endRead tablesWalked walked stepped recordAt headerOf modeOf modeNumber trailing looksFor iter first word little
+refusals = refl
+
+-- zeros behind the last record; a byte that is not zero in the third place, as the first of a word, as the last of the second
+pub after-the-last :
+    map (λ l. readOf (fileL ++ l)) (replicate 9 0 ∷ (0 ∷ 0 ∷ 7 ∷ []) ∷ (7 ∷ replicate 7 0) ∷ (replicate 15 0 ++ (7 ∷ [])) ∷ [])
+    ≡ caseRead (Read headerL) 2 ∷ caseRead (Refused (Trailing 144)) 3 ∷ caseRead (Refused (Trailing 142)) 2 ∷ caseRead (Refused (Trailing 157)) 10 ∷ []
+unfolding readOf bodyRead endRead tablesWalked walked stepped recordAt headerOf modeOf modeNumber trailing looksFor iter first word little
+after-the-last = refl
+
+-- ---- document 01's bounds: each count and the target at its largest, and then each outside its bound
+abbrev within : ℕ → ℕ → ℕ → ℕ → ℕ → ℕ → Bool
+within buses corridors generators above requested target =
+    countsOk (record { mode = Observe; target = target; buses = buses; corridors = corridors; generators = generators; above = above; requested = requested })
+
+pub bounds :
+    within 256 256 128 4 1 65536 ∷ within 0 0 0 0 5 0 ∷ within 257 0 0 0 1 0 ∷ within 0 257 0 0 1 0 ∷ within 0 0 129 0 1 0 ∷ within 0 0 0 5 1 0
+    ∷ within 0 0 0 1 0 0 ∷ within 0 0 0 0 1 65537 ∷ []
+    ≡ true ∷ true ∷ false ∷ false ∷ false ∷ false ∷ false ∷ false ∷ []
+bounds = refl
+
+-- a file of 65,536 bytes is read; one of a byte more is not, whatever it holds
+pub longest : (s : List ℕ) → length s ≡ 65536 → readOf s ≡ bodyRead s (recordAt Head s 0 0)
+unfolding readOf
+longest s e = simp e
+
+pub too-long : (s : List ℕ) → length s ≡ 65537 → readOf s ≡ unread FileLength
+unfolding readOf
+too-long s e = simp e
+
+-- ---- the words and bytes looked at
+-- no byte, seven zeros, a word of zeros; a byte first in a word, last in it, right behind it, last of seven behind it; case L padded to 65,536 bytes
+pub by-hand : looksFor 0 0 ∷ looksFor 7 7 ∷ looksFor 8 8 ∷ looksFor 8 0 ∷ looksFor 8 7 ∷ looksFor 9 8 ∷ looksFor 15 14 ∷ looksFor 65394 65394 ∷ []
+    ≡ 0 ∷ 7 ∷ 1 ∷ 2 ∷ 9 ∷ 2 ∷ 8 ∷ 8176 ∷ []
+unfolding looksFor
+by-hand = refl
+
+-- a byte in the last place of the last whole word; zeros that make whole words
+pub most-met : (8 * looksFor 8 7) ∷ (8 * looksFor 65392 65391) ∷ [] ≡ (8 + 64) ∷ (65392 + 64) ∷ []
+unfolding looksFor
+most-met = refl
+
+pub least-met : (8 * looksFor 8 8) ∷ (8 * looksFor 65392 65392) ∷ [] ≡ 8 ∷ 65392 ∷ []
+unfolding looksFor
+least-met = refl
+
+-- from the second byte on: the ninth is not zero, the eighth byte of the first word
+pub place-and-count : lookedAt (9 ∷ 0 ∷ 0 ∷ 0 ∷ 0 ∷ 0 ∷ 0 ∷ 0 ∷ 5 ∷ 7 ∷ []) 1 ≡ lookedAs 8 9
+unfolding trailing first looksFor
+place-and-count = refl

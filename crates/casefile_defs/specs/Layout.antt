@@ -1,0 +1,102 @@
+-- Document 01's "Case file": each record is a mark of two letters, then its fields. Lengths and places follow from the one table `layoutOf`.
+use Prim.Native.Nat.{ℕ, zero, suc, _+_, _*_}
+use mathlib.Core.Bool.{Bool, true, _&&_}
+use mathlib.Core.List.{List, [], _∷_}
+use lib.Dec.{leb}
+use lib.ListN.{getD, take, drop}
+use Rattle.casefile_defs.specs.declared.Kind.{Kind}
+use Rattle.casefile_defs.specs.declared.Kind.the-variants.{Head, Level, Bus, Generator, Corridor, Line}
+
+-- the number that bytes stand for, the least significant first
+unfoldable pub little : List ℕ → ℕ
+little [] = 0
+little (b ∷ bs) = b + 256 * little bs
+
+-- the number of w bytes at a place of the file
+unfoldable pub word : ℕ → ℕ → List ℕ → ℕ
+word w at s = little (take w (drop at s))
+
+-- a whole number of so many bytes; a byte that is refused above a bound; the 64 bits of a figure
+pub data Field : Type 0 where
+  number : ℕ → Field
+  upTo : ℕ → Field
+  figure : Field
+
+abbrev pub u8 : Field
+u8 = number 1
+
+abbrev pub u16 : Field
+u16 = number 2
+
+abbrev pub u32 : Field
+u32 = number 4
+
+-- a field's bytes
+abbrev pub widthOf : Field → ℕ
+widthOf (number w) = w
+widthOf (upTo m) = 1
+widthOf figure = 8
+
+-- whether a field's number is within its bound
+abbrev pub allowed : Field → ℕ → Bool
+allowed (number w) v = true
+allowed (upTo m) v = leb v m
+allowed figure v = true
+
+-- a record: its mark's two letters, and its fields
+pub record Layout : Type 0 where
+  pub first : ℕ
+  pub second : ℕ
+  pub fields : List Field
+
+abbrev pub laid : ℕ → ℕ → List Field → Layout
+laid m n fs = record { first = m; second = n; fields = fs }
+
+-- HD mode target buses corridors generators above requested; LV kV; BU tier load;
+-- GE bus slack pmin pmax c1 c2; CO a b circuits length share; LN r x b rate basis
+abbrev pub layoutOf : Kind → Layout
+layoutOf Head = laid 0x48 0x44 (upTo 5 ∷ u32 ∷ u16 ∷ u16 ∷ u16 ∷ u8 ∷ u8 ∷ [])
+layoutOf Level = laid 0x4c 0x56 (figure ∷ [])
+layoutOf Bus = laid 0x42 0x55 (u8 ∷ figure ∷ [])
+layoutOf Generator = laid 0x47 0x45 (u16 ∷ upTo 1 ∷ figure ∷ figure ∷ figure ∷ figure ∷ [])
+layoutOf Corridor = laid 0x43 0x4f (u16 ∷ u16 ∷ u8 ∷ figure ∷ figure ∷ [])
+layoutOf Line = laid 0x4c 0x4e (figure ∷ figure ∷ figure ∷ figure ∷ upTo 1 ∷ [])
+
+abbrev pub widthsOf : List Field → ℕ
+widthsOf [] = 0
+widthsOf (f ∷ fs) = widthOf f + widthsOf fs
+
+-- a record's length, its mark counted
+abbrev pub sizeOf : Kind → ℕ
+sizeOf k = 2 + widthsOf (layoutOf k .fields)
+
+-- field j's distance from the first field
+abbrev pub offsetOf : List Field → ℕ → ℕ
+offsetOf fs zero = 0
+offsetOf [] (suc j) = 0
+offsetOf (f ∷ fs) (suc j) = widthOf f + offsetOf fs j
+
+-- field j's place in a record, and its width
+abbrev pub placeOf : Kind → ℕ → ℕ
+placeOf k j = 2 + offsetOf (layoutOf k .fields) j
+
+abbrev pub spanOf : Kind → ℕ → ℕ
+spanOf k j = widthOf (getD (layoutOf k .fields) j figure)
+
+-- what stands in field j of the record of kind k at a place of the file
+abbrev pub field : Kind → ℕ → ℕ → List ℕ → ℕ
+field k j at s = word (spanOf k j) (at + placeOf k j) s
+
+-- whether the fields from distance o on are within their bounds, in the record at a place
+abbrev pub allowedFrom : List Field → ℕ → ℕ → List ℕ → Bool
+allowedFrom [] o at s = true
+allowedFrom (f ∷ fs) o at s = allowed f (word (widthOf f) (at + o) s) && allowedFrom fs (o + widthOf f) at s
+
+-- whether every field of the record at a place is within its bound
+abbrev pub codesOk : Kind → List ℕ → ℕ → Bool
+codesOk k s at = allowedFrom (layoutOf k .fields) 2 at s
+
+-- where record i of a table of records of kind k starts, the first of which is at a place
+unfoldable pub spot : Kind → ℕ → ℕ → ℕ
+spot k at zero = at
+spot k at (suc i) = spot k at i + sizeOf k

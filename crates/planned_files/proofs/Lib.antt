@@ -1,0 +1,3 @@
+-- The laws of reading and planning a file.
+pub mod Planned
+pub mod Files

@@ -15,6 +15,7 @@ use Rattle.plan_defs.specs.Plan.{Ending, unaccepted, unanswered, planned, endin
 use Rattle.plan_defs.specs.Outcome.{Slices, slicesOk, cleared, summary, outcomeBy, outcomeIf, planCorridors, workPlaces}
 use Rattle.plan_defs.specs.Demand.{AnswerTo}
 use Rattle.plan_defs.specs.declared.CorridorPlan.{CorridorPlan}
+use Rattle.plan_theorems.proofs.Dispatched.{Binary}
 use Rattle.plan_theorems.proofs.Demand.{demand-3, tallies}
 
 -- ---- an answer is a defined plan, with demand 3

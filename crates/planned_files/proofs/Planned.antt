@@ -49,7 +49,7 @@ lent c =
     let n = c .buses in
     let m = c .corridors in
     slices (part m mostCorridors 0) (part m mostCorridors nought) (part m mostCorridors nought) (part m mostCorridors 0) (part m mostCorridors 0)
-    (part (c .generators) mostGenerators nought) (part n mostBuses nought) (part n mostBuses 0) (part n mostBuses 0) (part (c .above) mostLevels nought)
+    (part m mostCorridors 0) (part (c .generators) mostGenerators nought) (part n mostBuses nought) (part n mostBuses 0) (part n mostBuses 0) (part (c .above) mostLevels nought)
     (part (workPlaces c) mostWork nought) (part (workPlaces c) mostWork 0)
 
 pub lent-cleared : (c : Case) → Fits c → lent c ≡ cleared c
@@ -74,7 +74,7 @@ as-planned c target l r f e =
     ∙ ap (λ (b : Bool). outcomeIf b c target (cleared c)) (lengths-ok c (cleared c) (cleared-lengths c)))
 
 -- ---- the arrays, by what came back in the first places of each
-pub same-results : {a₀ a : List ℕ} {b₀ b c₀ c : List Float} {d₀ d e₀ e : List ℕ} {f₀ f g₀ g : List Float} {h₀ h i₀ i : List ℕ} {j₀ j : List Float} (r : Planned)
-    → a₀ ≡ a → b₀ ≡ b → c₀ ≡ c → d₀ ≡ d → e₀ ≡ e → f₀ ≡ f → g₀ ≡ g → h₀ ≡ h → i₀ ≡ i → j₀ ≡ j
-    → outcome r (results a₀ b₀ c₀ d₀ e₀ f₀ g₀ h₀ i₀ j₀) ≡ outcome r (results a b c d e f g h i j)
-same-results r p1 p2 p3 p4 p5 p6 p7 p8 p9 p10 = cc
+pub same-results : {a₀ a : List ℕ} {b₀ b c₀ c : List Float} {d₀ d e₀ e f₀ f : List ℕ} {g₀ g h₀ h : List Float} {i₀ i j₀ j : List ℕ} {k₀ k : List Float} (r : Planned)
+    → a₀ ≡ a → b₀ ≡ b → c₀ ≡ c → d₀ ≡ d → e₀ ≡ e → f₀ ≡ f → g₀ ≡ g → h₀ ≡ h → i₀ ≡ i → j₀ ≡ j → k₀ ≡ k
+    → outcome r (results a₀ b₀ c₀ d₀ e₀ f₀ g₀ h₀ i₀ j₀ k₀) ≡ outcome r (results a b c d e f g h i j k)
+same-results r p1 p2 p3 p4 p5 p6 p7 p8 p9 p10 p11 = cc

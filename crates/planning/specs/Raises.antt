@@ -1,6 +1,6 @@
 -- What the contracts of module raises cite: the columns that the marks read, as a case; the state that the slices stand for; and what a pass, and all of them, ask and do.
 use Prim.Native.Nat.{ℕ, zero, suc, _+_, _*_, _≤_}
-use mathlib.Core.List.{List}
+use mathlib.Core.List.{List, []}
 use mathlib.Core.Path.{_≡_}
 use lib.ListN.{length}
 use lib.Ieee.{Float}

@@ -87,7 +87,7 @@ returns c =
     l .inv .1 ∙ ap (counting (cappedIn ((s .args) .mode) (now ((s .args) .ladder)) (now ((s .args) .level)) (now ((s .args) .a)) (now ((s .args) .b)) (now ((s .args) .km)) (now ((s .args) .share)) (now ((s .args) .cap)) (now ((s .args) .sheet)) (now ((s .args) .banks)) (now ((s .args) .circuits)) (now ((s .args) .flow)))) e
 
 mul-cap-at : tie.Need-mul-cap-at Inv-loop μ-loop
-mul-cap-at c = search needs
+mul-cap-at c = record { fits = omega (arith, c .before .before .loop-test .taken, c .before .before .before .before .before .before .before .before .before .before .before .before .before .before .before .pre .1 .0 .drawable .few) }
 
 shared-slice-read-cap-at : tie.Need-shared-slice-read-cap-at Inv-loop μ-loop
 shared-slice-read-cap-at c = search needs

@@ -52,7 +52,7 @@ add-circuits c =
     let x = getD (l .circuits) (c .before .before .before .before .wide .result) 0 in
     let t : s .args .target < 2 ^ 32 = s .fits .target .fits in
     let f : x < 2 ^ 32 = c .before .before .before .slice-known2 .given (c .before .before .before .before .wide .result) .fits in
-    let m : c .before .full-at .result < 2 ^ 32 = c .before .full-at .fits .fits in
+    let m : c .before .full-at .result < 2 ^ 32 = c .before .full-at .ok in
     record { fits = omega (arith, c .gain .ensures, count-fits (l .total) (s .args .target) (c .before .full-at .result) x (l .inv .3) t m f) }
 
 mul-circuits : tie.Need-mul-circuits Inv-loop μ-loop
@@ -68,7 +68,7 @@ add-total c =
     let x = getD (l .circuits) (c .before .before .before .before .wide .result) 0 in
     let t : s .args .target < 2 ^ 32 = s .fits .target .fits in
     let f : x < 2 ^ 32 = c .before .before .before .slice-known2 .given (c .before .before .before .before .wide .result) .fits in
-    let m : c .before .full-at .result < 2 ^ 32 = c .before .full-at .fits .fits in
+    let m : c .before .full-at .result < 2 ^ 32 = c .before .full-at .ok in
     record { fits = omega (arith, c .gain .ensures, total-fits (l .total) (s .args .target) (c .before .full-at .result) x (l .inv .3) t m f) }
 
 add-filler : tie.Need-add-filler Inv-loop μ-loop
@@ -78,7 +78,7 @@ add-filler c =
     let x = getD (l .circuits) (c .before .before .before .before .wide .result) 0 in
     let t : s .args .target < 2 ^ 32 = s .fits .target .fits in
     let f : x < 2 ^ 32 = c .before .before .before .slice-known2 .given (c .before .before .before .before .wide .result) .fits in
-    let m : c .before .full-at .result < 2 ^ 32 = c .before .full-at .fits .fits in
+    let m : c .before .full-at .result < 2 ^ 32 = c .before .full-at .ok in
     record { fits = omega (arith, c .gain .ensures, total-fits (l .total) (s .args .target) (c .before .full-at .result) x (l .inv .3) t m f, l .inv .4) }
 
 add-j : tie.Need-add-j Inv-loop μ-loop
@@ -94,7 +94,7 @@ loop-again c =
     let x = getD (l .circuits) (c .before .before .before .before .wide .result) 0 in
     let t : s .args .target < 2 ^ 32 = s .fits .target .fits in
     let f : x < 2 ^ 32 = c .before .before .before .slice-known2 .given (c .before .before .before .before .wide .result) .fits in
-    let m : c .before .full-at .result < 2 ^ 32 = c .before .full-at .fits .fits in
+    let m : c .before .full-at .result < 2 ^ 32 = c .before .full-at .ok in
     let k = c .before .before .before .before .wide .result in
     let h : l .j < length (now (s .args .circuits)) = omega (arith, l .inv .1) in
     let w : k < length (l .circuits) = omega (arith, c .before .before .before .before .wide .ensures, c .before .before .before .before .before .before .before .before .before .before .pre .0 .0 .below (c .before .before .before .before .before .before .before .loop .j) (omega arith), c .before .before .before .before .before .before .before .before .before .before .pre .0 .0 .few) in (
@@ -114,10 +114,10 @@ returns c =
     (sym (iter-end _ (omega arith)) ∙ l .inv .2, record { fits = l .inv .3; filler = l .inv .4 })
 
 mul-full-at : tie.Need-mul-full-at Inv-loop μ-loop
-mul-full-at c = search needs
+mul-full-at c = record { fits = omega (arith, c .before .wide .ensures, c .before .before .before .before .before .before .before .pre .0 .0 .below (c .before .before .before .before .loop .j) (omega arith), c .before .before .before .before .before .before .before .pre .0 .0 .few) }
 
 shared-slice-read-full-at : tie.Need-shared-slice-read-full-at Inv-loop μ-loop
-shared-slice-read-full-at c = search needs
+shared-slice-read-full-at c = omega (arith, c .before .before .wide .ensures, c .before .before .before .before .before .before .before .before .pre .0 .0 .below (c .before .before .before .before .before .loop .j) (omega arith), c .before .before .before .before .before .before .before .before .pre .0 .1)
 
 full-at-requires : tie.Need-full-at-requires Inv-loop μ-loop
 full-at-requires c κs = search needs

@@ -25,6 +25,7 @@ unfolding lengthsOk
 returns-3 c = let z = c .before .before .before .before .before .before .before .args in let p = keptAs (z .mode) (z .m) (now (z .before)) (now (z .order)) (now (z .cap)) in refused-mode p (z .target) (z .places) (not-false _ (c .before .before .before .if1 .left)) (not-false _ (c .before .before .if2 .left)) (sym (c .before .promotes .ensures) ∙ not-true _ (c .if3 .taken))
 
 faulty-count-requires : tie.Need-faulty-count-requires
+unfolding lengthsOk
 faulty-count-requires c κs = let z = c .before .before .before .before .before .before .before .args in caps-sized (z .mode) (z .m) (z .places) (now (z .before)) (now (z .order)) (now (z .cap)) (not-false _ (c .before .before .before .if1 .left))
 
 returns-4 : tie.Need-returns-4

@@ -83,10 +83,10 @@ returns-2 c =
     (s .pre .1 .0) (s .pre .0 .count-size) (s .pre .0 .bank-size) _ (c .before .before .before .before .before .before .before .before .before .before .circuit .ensures) _ (c .before .before .before .before .before .before .before .before .before .bank-below .ensures) (c .before .before .before .before .before .before .before .before .if1 .left) (s .pre .0 .banked) _ _ _ (c .before .before .before .before .raise-or-add .ensures)
 
 mul-raise-or-add : tie.Need-mul-raise-or-add
-mul-raise-or-add c = search needs
+mul-raise-or-add c = let s = c .before .before .before .before .before .before .before .before .before .before .before .before .before .before .before .before .before in record { fits = omega (arith, s .pre .1 .0, s .pre .0 .capped .size, s .good) }
 
 shared-slice-read-raise-or-add : tie.Need-shared-slice-read-raise-or-add
-shared-slice-read-raise-or-add c = search needs
+shared-slice-read-raise-or-add c = let s = c .before .before .before .before .before .before .before .before .before .before .before .before .before .before .before .before .before .before in omega (arith, s .pre .1 .0, s .pre .0 .capped .size)
 
 pub stiffen-one-spec : {M : Type 1} → statement M
 stiffen-one-spec =

@@ -31,7 +31,7 @@ fn sum(mw: &[f64]) -> f64
     sum
 }
 
-// The units alike in the first two keys are ordered by c1.
+// By c1 rising, then index: in the first two keys the units are alike.
 fn order_costs(c1: &[f64], order: &mut [u32; 256])
     requires { ⌜ (length (now c1) ≤ mostGenerators) × Whole (now order) ⌝ }
     ensures { λ _. ⌜ Whole (now (order .exit)) × (take (length (now (c1 .entry))) (now (order .exit)) ≡ byCost (now (c1 .entry))) ⌝ }

@@ -1,5 +1,5 @@
 -- `planning::top_up::give` meets its contract: the dispatch keeps its rules, and what it answers is what the units give, or where the pass begins.
-use mathlib.Core.Path.{sym, ap, _∙_}
+use mathlib.Core.Path.{sym, _∙_}
 use native.Mathlib.Omega.{arith}
 use borrow.Author.Needs.{needs}
 use borrow.Author.Tests.{not-true, not-false}

@@ -1,5 +1,5 @@
 -- `planning::top_up::top_up` meets its contract. The invariant: the pass over what is left of the order, from here, ends as all of it does.
-use Prim.Native.Nat.{ℕ, _-_, _<_, _≤_}
+use Prim.Native.Nat.{_-_, _<_, _≤_}
 use mathlib.Core.Path.{_≡_, sym, ap, _∙_}
 use native.Mathlib.Omega.{arith}
 use borrow.Author.Needs.{needs}

@@ -7,12 +7,12 @@ use mathlib.Core.Bool.{Bool, true, false, _&&_}
 use mathlib.Core.List.{List, [], _∷_}
 use mathlib.Core.Path.{_≡_, refl, sym, ap, _∙_, subst}
 use mathlib.Core.Logic.{⊎-elim}
-use native.Mathlib.Nat.{le-refl, div-add-mod', mod-lt, mod-eq-of-lt, mul-add-mod-self-right, suc-mul, eq-or-lt-of-le}
+use native.Mathlib.Nat.{div-add-mod', mod-lt, mod-eq-of-lt, mul-add-mod-self-right, suc-mul, eq-or-lt-of-le}
 use native.Mathlib.Omega.{arith}
 use borrow.Author.Tests.{ltb-true, ltb-false, le-ltb}
 use lib.Dec.{ltb}
 use lib.Ieee.{Float}
-use lib.ListN.{length, getD, List·getD-eq-default}
+use lib.ListN.{length, getD}
 use Rattle.loops.specs.Sorting.{occ}
 use Rattle.loops.specs.Loops.{iter}
 use Rattle.loops.proofs.Bools.{both}
@@ -23,7 +23,6 @@ use Rattle.plan_defs.specs.Fill.{Filled, unfilled, fillIf, fillAt, belowFull, r
 use Rattle.plan_defs.specs.declared.CircuitDesign.{CircuitDesign}
 use Rattle.plan_defs.proofs.Lists.{each-places}
 use Rattle.plan_defs.proofs.Accepted.{own-few}
-use Rattle.plan_defs.proofs.Counts.{any-default}
 use Rattle.plan_theorems.proofs.Filling.{rounds-grown, Ends, reached, unreached, fills, all-full}
 use Rattle.plan_theorems.proofs.Ranking.{order-once}
 

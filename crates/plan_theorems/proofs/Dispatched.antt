@@ -15,7 +15,7 @@ use lib.ListN.{length, getD, set, length-set, length-map, replicate, length-repl
 use lib.Seq.{getD-set-same, getD-set-other, set-out}
 use Rattle.loops.specs.Figures.{at, plus, nought, million, inside}
 use Rattle.loops.proofs.Bools.{both, and-of}
-use Rattle.loops.proofs.Loops.{iter-carries, iter-keeps}
+use Rattle.loops.proofs.Loops.{iter-carries}
 use Rattle.loops.proofs.Order.{real, bounded, inside-bounded}
 use Rattle.loops.proofs.Signs.{real-add}
 use Rattle.leaders.specs.Chain.{Led}
@@ -32,7 +32,7 @@ use Rattle.plan_defs.specs.Accept.{busOk}
 use Rattle.plan_defs.specs.Components.{component, leads, roots, within, members, unitWithin, unitsIn}
 use Rattle.plan_defs.specs.Dispatch.{unitsAt, demandOf, scatterAt, scatter, servedIf, serve, dispatchOf}
 use Rattle.plan_defs.proofs.Lists.{each-below, pass-below, pass-has, Has, get-map}
-use Rattle.plan_defs.proofs.Stages.{On, on-onward, stages-keep}
+use Rattle.plan_defs.proofs.Stages.{On, on-onward}
 use Rattle.plan_defs.proofs.Accepted.{Accepted, ends, bus-below, unit-ok}
 use Rattle.plan_theorems.proofs.ToppedUp.{given-within}
 
@@ -222,30 +222,3 @@ module _ (c : Case) (target : ℕ) (ok : Accepted c target) where
   dispatched binary =
       all-dispatched (eachStage (serve c (component c)) (roots (component c)) (replicate (c .generators) nought))
       (all-served binary (roots (component c)) (replicate (c .generators) nought))
-
--- ---- a place for each generator, whatever the figures
-module _ (c : Case) (led : List ℕ) where
-  abbrev Sized : List Float → Type 0
-  Sized mw = length mw ≡ c .generators
-
-  scatter-size : (ks : List ℕ) (out mw : List Float) → length (scatter ks out mw) ≡ length mw
-  unfolding scatter
-  scatter-size ks out mw = iter-keeps (scatterAt ks out) (λ l. length l ≡ length mw) (λ j l e. length-set l (getD ks j 0) (at out j) ∙ e) (length ks) 0 mw refl
-
-  one-sized : (root : ℕ) (mw : List Float) → Sized mw → On Sized (serve c led root mw)
-  unfolding serve servedIf
-  one-sized root mw e = go (ltb (faultyCost (unitsAt c ks) demand) (length ks))
-    where
-      ks : List ℕ
-      ks = unitsIn c led root
-
-      demand : Float
-      demand = demandOf c led root
-
-      go : (b : Bool) → On Sized (servedIf b (topsUp (c .mode)) ks (unitsAt c ks) demand (faultyCost (unitsAt c ks) demand) mw)
-      go true = tt
-      go false = scatter-size ks (givenBy (topsUp (c .mode)) (unitsAt c ks) demand) mw ∙ e
-
-  pub dispatched-size : On Sized (dispatchOf c led)
-  unfolding dispatchOf
-  dispatched-size = stages-keep (serve c led) Sized (roots led) one-sized (replicate (c .generators) nought) (length-replicate (c .generators) nought)

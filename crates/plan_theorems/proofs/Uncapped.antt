@@ -1,11 +1,10 @@
 -- Where no corridor has a cap of its own (document 02, K5) plans are what they were: every place that reads a cap finds 4 or 6, and filling is four turns
 -- round the order with 4 for each corridor. No other definition of the plan reads the column.
-use Prim.Native.Nat.{ℕ, _+_, _≤_, _<_}
+use Prim.Native.Nat.{ℕ, _<_}
 use mathlib.Core.Bool.{Bool, true, false}
 use mathlib.Core.List.{List}
 use mathlib.Core.Path.{_≡_, refl, ap, _∙_, fun-ext}
 use native.Mathlib.Nat.{le-refl}
-use native.Mathlib.Omega.{arith}
 use lib.Ieee.{Float}
 use lib.ListN.{length}
 use Rattle.loops.specs.Sorting.{occ}

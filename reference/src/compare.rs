@@ -8,7 +8,7 @@ use std::thread;
 use std::time::{Duration, Instant};
 
 use crate::generate::cases::padding::padded_files;
-use crate::generate::cases::{case_file, CaseFile};
+use crate::generate::cases::CaseFile;
 use crate::generate::random::Random;
 use crate::generate::requests::{as_input, batch, Request, MOST_REQUESTS};
 use crate::generate::seasons::{as_blocks, season, Season};
@@ -261,19 +261,20 @@ fn input_of_seed(requests: &[Request], seed: u64) -> Vec<u8> {
     input
 }
 
-/// What the reference answers to a case file, and the word for it.
-pub type Answerer = (&'static str, fn(&[u8]) -> String);
+/// Case files that are compared: the word for it, how a seed's file is made,
+/// and what the reference answers to it.
+pub type Asking = (&'static str, fn(u64) -> CaseFile, fn(&[u8]) -> String);
 
 /// Compares the answers to `count` case files.
 pub fn compare_cases(
     program: &Program,
-    (what, answer): Answerer,
+    (what, make, answer): Asking,
     first_seed: u64,
     count: u64,
 ) -> io::Result<Outcome> {
     let mut outcome = Outcome::default();
     for seed in first_seed..first_seed + count {
-        let (file, _) = watch::apart(|| case_file(seed));
+        let (file, _) = watch::apart(|| make(seed));
         let (ours, taken) = watch::apart(|| answer(&file.bytes));
         outcome.tally.branches(&taken);
         outcome.tally.case(what, &file, &ours);

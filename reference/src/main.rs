@@ -4,11 +4,11 @@ use std::io::{self, Read, Write};
 use std::process::ExitCode;
 
 use reference::compare::{
-    compare_answers, compare_cases, compare_padded, compare_seasons, wrong_answers, Outcome,
-    Program, LIMIT,
+    compare_answers, compare_cases, compare_padded, compare_seasons, wrong_answers, Asking,
+    Outcome, Program, LIMIT,
 };
 use reference::differences::sheet_differences;
-use reference::generate::cases::case_file;
+use reference::generate::cases::{case_file, serving_file};
 use reference::generate::requests::{as_input, batch, KINDS};
 use reference::generate::seasons::{as_blocks, season};
 use reference::harness::answers::answer_all;
@@ -29,8 +29,9 @@ const USAGE: &str = "usage:
   reference read                                             a case on standard input
   reference requests KIND SEED COUNT
   reference case SEED
+  reference serving SEED                                     a case in modes 3 to 5
   reference compare-answers PROGRAM KIND FIRST_SEED BATCHES COUNTS
-  reference compare-cases PROGRAM list|read FIRST_SEED COUNT COUNTS
+  reference compare-cases PROGRAM list|read|serve FIRST_SEED COUNT COUNTS
   reference compare-padded PROGRAM                           padded files made by hand, read by both
   reference compare-targets PROGRAM FIRST_SEED COUNT          each Expand case under several targets
   reference season                                           case files on standard input, 65,536 bytes each
@@ -105,14 +106,16 @@ fn run(words: &[&str]) -> Result<(), Failure> {
             write(text.as_bytes())
         }
         ["case", seed] => write(&case_file(number(seed)?).bytes),
+        ["serving", seed] => write(&serving_file(number(seed)?).bytes),
         ["compare-cases", path, what, first, count, counts] => {
             let program = Program { path, limit: LIMIT };
-            let answerer = match what {
-                "list" => ("list", answer_list as fn(&[u8]) -> String),
-                "read" => ("read", answer_read as fn(&[u8]) -> String),
+            let asking: Asking = match what {
+                "list" => ("list", case_file, answer_list),
+                "read" => ("read", case_file, answer_read),
+                "serve" => ("serve", serving_file, answer_list),
                 _ => return Err(Failure::Usage),
             };
-            let outcome = compare_cases(&program, answerer, number(first)?, number(count)?)?;
+            let outcome = compare_cases(&program, asking, number(first)?, number(count)?)?;
             report_counted(what, "cases", &outcome, counts)
         }
         ["compare-padded", path] => {
@@ -140,7 +143,9 @@ fn run(words: &[&str]) -> Result<(), Failure> {
         }
         ["small", place] => {
             let place = usize::try_from(number(place)?).map_err(|_| Failure::Usage)?;
-            write(&write_case(small_networks().get(place).ok_or(Failure::Found)?))
+            write(&write_case(
+                small_networks().get(place).ok_or(Failure::Found)?,
+            ))
         }
         ["branches", ref files @ ..] if !files.is_empty() => branches(files),
         ["write"] => {

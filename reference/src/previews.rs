@@ -4,9 +4,9 @@
 use std::io;
 
 use crate::compare::{judge, lines, Outcome, Program};
-use crate::generate::cases::case_file;
+use crate::generate::cases::{case_file, serving_file};
 use crate::harness::case_file::read_case;
-use crate::harness::preview::{answer_preview, as_input, Kept, EXPAND, FULL};
+use crate::harness::preview::{answer_preview, as_input, fills, Kept, FULL};
 use crate::harness::tables::{Case, MOST_TARGET};
 
 /// The targets of an answered Expand case, by what they are: each place where
@@ -30,7 +30,7 @@ type Asked = Vec<(&'static str, usize)>;
 fn asked(file: &[u8]) -> Asked {
     let read = read_case(file).and_then(|case| Ok((Kept::of(&case)?, case)));
     match read {
-        Ok((kept, case)) if kept.mode == EXPAND => filled(&kept, &case),
+        Ok((kept, case)) if fills(kept.mode) => filled(&kept, &case),
         _ => [0, 7, MOST_TARGET + 1]
             .map(|target| (OTHER, target))
             .to_vec(),
@@ -58,7 +58,7 @@ fn input_of(file: &[u8], asked: &Asked) -> Vec<u8> {
 
 /// The input of a seed, as the preview program reads it.
 pub fn preview_input(seed: u64) -> Vec<u8> {
-    let file = case_file(seed).bytes;
+    let file = file_of(seed);
     input_of(&file, &asked(&file))
 }
 
@@ -76,11 +76,19 @@ fn answers(printed: &[u8]) -> Vec<String> {
     answers
 }
 
+/// The file of a seed: of each fifth one in modes 3 to 5.
+fn file_of(seed: u64) -> Vec<u8> {
+    match seed % 5 {
+        4 => serving_file(seed).bytes,
+        _ => case_file(seed).bytes,
+    }
+}
+
 /// Compares the previews of `count` case files, target by target.
 pub fn compare_previews(program: &Program, first_seed: u64, count: u64) -> io::Result<Outcome> {
     let mut outcome = Outcome::default();
     for seed in first_seed..first_seed + count {
-        let file = case_file(seed).bytes;
+        let file = file_of(seed);
         let asked = asked(&file);
         let input = input_of(&file, &asked);
         let printed = answer_preview(&input).into_bytes();

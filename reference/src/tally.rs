@@ -9,7 +9,9 @@ use crate::generate::cases::{self, CaseFile};
 use crate::generate::requests::{family_names, largest, Request, KINDS};
 use crate::harness::case_file::{read_case, MOST_BYTES};
 use crate::harness::operations::leaders;
-use crate::harness::tables::{Case, MOST_BUSES, MOST_CORRIDORS, MOST_GENERATORS, MOST_LEVELS};
+use crate::harness::tables::{
+    Case, MOST_BUSES, MOST_CORRIDORS, MOST_GENERATORS, MOST_LEVELS, MOST_MODE, SERVING,
+};
 use crate::previews::{OTHER, TARGETS};
 use crate::watch::BRANCHES;
 
@@ -18,6 +20,9 @@ const LARGEST: u64 = 100;
 
 /// How many Expand cases must be previewed under each target.
 const PREVIEWED: u64 = 2_000;
+
+/// How many plans of each of modes 3 to 5 must be compared.
+const SERVED: u64 = 1_000;
 
 /// What is compared of case files.
 const CASES: [&str; 2] = ["list", "read"];
@@ -33,6 +38,10 @@ const ANSWERS: &[(&str, &[&str])] = &[
     (
         "list",
         &["RF 9", "RF 13", "RF 14", "RF 15", "RF 16", "RF 17"],
+    ),
+    (
+        "serve",
+        &["RF 3", "RF 4", "RF 5", "RF 6", "RF 7", "RF 8", "RF 9"],
     ),
     (
         "read",
@@ -247,17 +256,26 @@ fn expected() -> BTreeMap<String, u64> {
         let files = files.map(move |name| format!("file: {what}, {name}"));
         families.chain(shapes).chain(files)
     });
+    let serving = cases::serving_names().into_iter();
+    let serving = serving.map(|name| format!("case: serve, {name}"));
     let of_requests = KINDS.iter().flat_map(|kind| {
         family_names(kind)
             .into_iter()
             .map(move |name| format!("request: {kind}, {name}"))
     });
-    let names = branches.chain(answers).chain(of_cases).chain(of_requests);
+    let names = branches
+        .chain(answers)
+        .chain(of_cases)
+        .chain(serving)
+        .chain(of_requests);
     let mut expected: BTreeMap<String, u64> = names.map(|name| (name, 1)).collect();
     for kind in KINDS {
         if let Some((family, _)) = largest(kind) {
             expected.insert(format!("request: {kind}, {family}"), LARGEST);
         }
+    }
+    for mode in SERVING..=MOST_MODE {
+        expected.insert(format!("answer: serve PL {mode}"), SERVED);
     }
     for target in TARGETS {
         expected.insert(format!("preview: {target}"), PREVIEWED);

@@ -8,7 +8,7 @@ use crate::compare::{judge, Outcome, Program};
 use crate::generate::cases::case_file;
 use crate::harness::case_file::{read_case, write_case};
 use crate::harness::listing::answer_list;
-use crate::harness::preview::{EXPAND, FULL};
+use crate::harness::preview::{fills, FULL};
 use crate::harness::tables::{Case, MOST_TARGET};
 
 /// What K13 speaks of, read off a listing; none where it is a refusal.
@@ -90,7 +90,9 @@ impl Drafts {
             for (larger, many) in &self.answered[place + 1..] {
                 outcome.count(few.kept_by(many, larger - target), || {
                     let (seed, side) = (self.seed, self.side);
-                    format!("seed {seed}, {side}, targets {target} and {larger}\n  {few:?}\n  {many:?}")
+                    format!(
+                        "seed {seed}, {side}, targets {target} and {larger}\n  {few:?}\n  {many:?}"
+                    )
                 });
             }
         }
@@ -104,7 +106,7 @@ pub fn compare_targets(program: &Program, first_seed: u64, count: u64) -> io::Re
         let Ok(case) = read_case(&case_file(seed).bytes) else {
             continue;
         };
-        if case.mode == EXPAND && !compare_case(program, seed, &case, &mut outcome)? {
+        if fills(case.mode) && !compare_case(program, seed, &case, &mut outcome)? {
             break;
         }
     }
@@ -145,7 +147,8 @@ fn compare_case(
             outcome.count(listing.as_bytes() == printed, || {
                 format!("seed {seed}, target {target}: the listings differ")
             });
-            ours.answered.extend(figures(&String::from_utf8_lossy(printed)));
+            ours.answered
+                .extend(figures(&String::from_utf8_lossy(printed)));
         })?;
         if !goes_on {
             return Ok(false);

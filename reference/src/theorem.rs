@@ -11,7 +11,14 @@ use crate::harness::tables::Case;
 use crate::tally::shapes;
 use crate::watch::{apart, BRANCHES};
 
-const MODES: [&str; 3] = ["Expand", "Reinforce", "Observe"];
+const MODES: [&str; 6] = [
+    "Expand",
+    "Reinforce",
+    "Observe",
+    "ExpandServing",
+    "ReinforceServing",
+    "ObserveServing",
+];
 
 /// The file of the theorem about the case in `file`; None where the file is
 /// refused before there is a case.

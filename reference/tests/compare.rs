@@ -8,6 +8,7 @@ use std::sync::{Mutex, PoisonError};
 use std::time::Duration;
 
 use reference::compare::{compare_answers, compare_cases, Outcome, Program};
+use reference::generate::cases::case_file;
 use reference::harness::listing::answer_list;
 
 /// One script at a time: none is run while another test starts a process that
@@ -42,7 +43,7 @@ fn listings(name: &str, commands: &str) -> Outcome {
         path: path.to_str().expect("a path of text"),
         limit: Duration::from_secs(60),
     };
-    compare_cases(&program, ("list", answer_list), 0, 3).expect("the program starts")
+    compare_cases(&program, ("list", case_file, answer_list), 0, 3).expect("the program starts")
 }
 
 #[test]

@@ -6,7 +6,7 @@ use reference::harness::answers::answer;
 use reference::harness::case_file::{read_case, write_case};
 use reference::harness::case_text::parse_text;
 use reference::harness::plan::plan_case;
-use reference::harness::preview::{answer_preview, as_input, Kept, EXPAND, FULL};
+use reference::harness::preview::{answer_preview, as_input, fills, Kept, EXPAND, FULL};
 use reference::harness::tables::{Case, MOST_TARGET};
 use reference::previews::preview_input;
 
@@ -54,7 +54,7 @@ fn refusals_in_order() {
     let many = format!("PREV 1 0 257{}", " 0".repeat(514));
     assert_eq!(asked(&many), "RF 2 0");
     for line in [
-        "PREV 3 0 0",
+        "PREV 6 0 0",
         "PREV 0 0 1 1",
         "PREV 0 0 1 1 0 0",
         "PREV 0 0 401",
@@ -115,7 +115,7 @@ fn kept_counts_give_the_plan_anew() {
             continue;
         };
         let Ok(kept) = Kept::of(&case) else { continue };
-        if case.mode != EXPAND {
+        if !fills(case.mode) {
             assert!(kept.before.iter().chain(&kept.order).all(|&n| n == 0));
             continue;
         }

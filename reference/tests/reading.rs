@@ -56,7 +56,7 @@ fn lengths() {
 fn within_a_record_the_end_comes_first_then_the_mark() {
     let (_, mut file) = good();
     file[0] = b'X';
-    file[2] = 3;
+    file[2] = 6;
     assert_eq!(refused(&file[..14]), (14, 0));
     assert_eq!(refused(&file), (15, 0));
     file[0] = b'H';
@@ -123,7 +123,7 @@ fn nothing_is_looked_at_where_the_records_are_refused() {
     let (_, mut file) = good();
     file.resize(MOST_BYTES, 0);
     assert_ne!(looks(&file), 0);
-    for (place, byte) in [(0, b'X'), (2, 3), (14, 0)] {
+    for (place, byte) in [(0, b'X'), (2, 6), (14, 0)] {
         let mut damaged = file.clone();
         damaged[place] = byte;
         assert_eq!(looks(&damaged), 0);

@@ -13,7 +13,10 @@ MOST_CORRIDORS = 256
 MOST_GENERATORS = 128
 MOST_LEVELS = 5
 MOST_TARGET = 65536
-MODES = ("Expand", "Reinforce", "Observe")
+MODES = ("Expand", "Reinforce", "Observe", "ExpandServing", "ReinforceServing", "ObserveServing")
+EXPAND, REINFORCE, OBSERVE = range(3)
+# Modes from here on plan as those this much lower, and idle units serve what the dispatch leaves of the load.
+SERVING = 3
 BASES = ("thermal", "loadability")
 
 # A record: its mark, its fields in the file's order with their kinds (struct's letters; Q is a figure by its bits).
@@ -27,7 +30,7 @@ FIELDS = {
 }
 WIDEST = {"B": 0xFF, "H": 0xFFFF, "I": 0xFFFFFFFF}
 # The fields of which reading refuses a number above a bound (16).
-SMALL = {"HD": ("mode", 2), "GE": ("slack", 1), "LN": ("basis", 1)}
+SMALL = {"HD": ("mode", 5), "GE": ("slack", 1), "LN": ("basis", 1)}
 NAMES = {"HD": "header", "LV": "level", "BU": "bus", "GE": "generator", "CO": "corridor", "LN": "line sheet row"}
 
 

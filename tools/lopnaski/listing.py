@@ -2,7 +2,7 @@
 
 import re
 
-from lopnaski.casefile import Refusal
+from lopnaski.casefile import OBSERVE, REINFORCE, SERVING, Refusal
 from lopnaski.figures import of_bits
 
 TALLIES = ("mode", "rounds", "converged", "capacity", "stiffening", "filler", "promoted", "upsized", "overloaded", "capped")
@@ -41,11 +41,11 @@ class Plan:
 
     def is_capped(self, case, corridor):
         """Whether a corridor has as many circuits as it may, and its flow needs more."""
-        mode = case.head("mode")
+        mode = case.head("mode") % SERVING
         kv = self.kv(case, self.ends(case, corridor)[0])
-        cap = 6 if mode == 1 and kv < 100.0 else 4
+        cap = 6 if mode == REINFORCE and kv < 100.0 else 4
         need = abs(self.flows[corridor]) / UTILISATION / self.rates[corridor]
-        return mode != 2 and self.circuits[corridor] >= cap and need > self.circuits[corridor] + EPSILON
+        return mode != OBSERVE and self.circuits[corridor] >= cap and need > self.circuits[corridor] + EPSILON
 
 
 def figure(word):

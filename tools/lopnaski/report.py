@@ -9,7 +9,7 @@ from html import escape
 
 from lopnaski import casefile, drawing, layout, listing, tables, words
 from lopnaski.case import Failure, bytes_of, write_out
-from lopnaski.casefile import MODES
+from lopnaski.casefile import EXPAND, MODES, OBSERVE, SERVING
 from lopnaski.figures import rounded, shortest
 
 USAGE = """usage: ./report [--text | --svg] [--exact] [--listing LISTING] [--names FOLDER] FILE
@@ -40,6 +40,7 @@ DONE = (
     "a plan that adds circuits and transformers and keeps every voltage",
     "the network as it is, only measured",
 )
+SERVES = ", where idle units serve what the dispatch leaves of the load"
 # A difference of load and output below this share of the load is rounding.
 NOTHING = 1e-6
 
@@ -80,10 +81,11 @@ class Report:
     def what(self):
         case = self.case
         mode = case.head("mode")
-        target = ", with a target of %s" % count(case.head("target"), "circuit") if mode == 0 and case.head("target") else ""
+        fills = mode % SERVING == EXPAND and case.head("target")
+        target = ", with a target of %s" % count(case.head("target"), "circuit") if fills else ""
         return "%s: %s, for %s, %s and %s%s." % (
             MODES[mode],
-            DONE[mode],
+            DONE[mode % SERVING] + (SERVES if mode >= SERVING else ""),
             count(case.count("BU"), "bus", "buses"),
             count(case.count("CO"), "corridor"),
             count(case.count("GE"), "generator"),
@@ -128,12 +130,12 @@ class Report:
 
     def rounds(self):
         tallies = self.plan.tallies
-        if self.case.head("mode") == 2:
+        if self.case.head("mode") % SERVING == OBSERVE:
             return "No round was run."
         if not self.case.count("CO"):
             return "There is no corridor, so no round was run."
         ran = count(tallies["rounds"], "round")
-        angles = self.case.head("mode") == 0
+        angles = self.case.head("mode") % SERVING == EXPAND
         if tallies["converged"]:
             within = "every corridor was within 90 % of its rating" + (" and every island's angles within their limit" if angles else "")
             return "After %s the plan settled: %s%s." % (ran, within, ", before the filling" if tallies["filler"] else "")

@@ -14,9 +14,9 @@ use mode::PlanMode;
 use refusal::Answer;
 
 // The largest number of a mode.
-const MOST_MODE: u64 = 2;
+const MOST_MODE: u64 = 5;
 
-// The mode of a number up to 2.
+// The mode of a number up to 5.
 fn mode_of(x: u64) -> PlanMode {
     if x == 0 {
         return PlanMode::Expand;
@@ -24,7 +24,16 @@ fn mode_of(x: u64) -> PlanMode {
     if x == 1 {
         return PlanMode::Reinforce;
     }
-    PlanMode::Observe
+    if x == 2 {
+        return PlanMode::Observe;
+    }
+    if x == 3 {
+        return PlanMode::ExpandServing;
+    }
+    if x == 4 {
+        return PlanMode::ReinforceServing;
+    }
+    PlanMode::ObserveServing
 }
 
 // Previews, and puts the answer.

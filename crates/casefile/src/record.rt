@@ -86,7 +86,7 @@ pub const LINE_BASIS: usize = LINE_RATE + FIGURE;
 const LINE_END: usize = LINE_BASIS + U8;
 
 // The highest mode, slack and basis.
-const LAST_MODE: u64 = 2;
+const LAST_MODE: u64 = 5;
 
 const LAST_SLACK: u64 = 1;
 

@@ -46,7 +46,7 @@ fn walk_kind(file: &[u8], from: Walk, kind: Kind, start: usize, end: usize) -> W
     at
 }
 
-// The mode of a number of at most 2.
+// The mode of a number of at most 5.
 fn mode_of(n: u64) -> PlanMode
     ensures { λ r. ⌜ r ≡ modeOf n ⌝ }
 {
@@ -56,7 +56,16 @@ fn mode_of(n: u64) -> PlanMode
     if n == 1 {
         return PlanMode::Reinforce;
     }
-    PlanMode::Observe
+    if n == 2 {
+        return PlanMode::Observe;
+    }
+    if n == 3 {
+        return PlanMode::ExpandServing;
+    }
+    if n == 4 {
+        return PlanMode::ReinforceServing;
+    }
+    PlanMode::ObserveServing
 }
 
 // The header of a file that is long enough for one.

@@ -76,11 +76,11 @@ pub sheet-l : tab 8 (sheetIn fileL (linesAt headerL) (lines headerL)) ≡ nought
 unfolding sheetIn spot tab word little
 sheet-l = refl
 
--- ---- refusals: no byte, and a header cut; mode 3; 129 generators; a bus cut, its mark wrong too; the level's mark; the second bus's mark, and a basis of 2
+-- ---- refusals: no byte, and a header cut; mode 6; 129 generators; a bus cut, its mark wrong too; the level's mark; the second bus's mark, and a basis of 2
 -- behind it; slack 2; basis 2
 pub refusals :
     map readOf
-    ([] ∷ take 14 fileL ∷ set fileL 2 3 ∷ set fileL 11 129 ∷ take 35 fileL ∷ set (take 35 fileL) 25 0 ∷ set fileL 15 0 ∷ set (set fileL 36 0) 141 2 ∷ set fileL 51 2
+    ([] ∷ take 14 fileL ∷ set fileL 2 6 ∷ set fileL 11 129 ∷ take 35 fileL ∷ set (take 35 fileL) 25 0 ∷ set fileL 15 0 ∷ set (set fileL 36 0) 141 2 ∷ set fileL 51 2
     ∷ set fileL 141 2 ∷ [])
     ≡ map unread (Cut 0 ∷ Cut 0 ∷ Code 0 ∷ Count ∷ Cut 2 ∷ Cut 2 ∷ Mark 1 ∷ Mark 3 ∷ Code 4 ∷ Code 6 ∷ [])
 unfolding readOf bodyRead endRead tablesWalked walked stepped recordAt headerOf modeOf modeNumber trailing looksFor iter first word little

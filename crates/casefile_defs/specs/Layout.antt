@@ -55,7 +55,7 @@ laid m n fs = record { first = m; second = n; fields = fs }
 -- HD mode target buses corridors generators above requested; LV kV; BU tier load;
 -- GE bus slack pmin pmax c1 c2; CO a b circuits length share; LN r x b rate basis
 abbrev pub layoutOf : Kind → Layout
-layoutOf Head = laid 0x48 0x44 (upTo 2 ∷ u32 ∷ u16 ∷ u16 ∷ u16 ∷ u8 ∷ u8 ∷ [])
+layoutOf Head = laid 0x48 0x44 (upTo 5 ∷ u32 ∷ u16 ∷ u16 ∷ u16 ∷ u8 ∷ u8 ∷ [])
 layoutOf Level = laid 0x4c 0x56 (figure ∷ [])
 layoutOf Bus = laid 0x42 0x55 (u8 ∷ figure ∷ [])
 layoutOf Generator = laid 0x47 0x45 (u16 ∷ upTo 1 ∷ figure ∷ figure ∷ figure ∷ figure ∷ [])

@@ -9,7 +9,7 @@ use Rattle.refusal.specs.declared.Refusal.{Refusal}
 use Rattle.refusal.specs.declared.Refusal.the-variants.{Count, FileLength, Cut, Mark, Code, Trailing}
 use Rattle.mode.specs.Number.{modeNumber}
 use Rattle.mode.specs.declared.PlanMode.{PlanMode}
-use Rattle.mode.specs.declared.PlanMode.the-variants.{Expand, Reinforce, Observe}
+use Rattle.mode.specs.declared.PlanMode.the-variants.{Expand, Reinforce, Observe, ExpandServing, ReinforceServing, ObserveServing}
 use Rattle.casefile_defs.specs.Bounds.{mostLevels, mostBuses, mostGenerators, mostCorridors, mostTarget, mostBytes}
 use Rattle.casefile_defs.specs.Layout.{layoutOf, sizeOf, codesOk, field}
 use Rattle.casefile_defs.specs.declared.Kind.{Kind}
@@ -41,9 +41,14 @@ stepped k s r (At at) = recordAt k s r at
 unfoldable pub walked : Kind → ℕ → ℕ → List ℕ → Walk → Walk
 walked k start end s w = iter (stepped k s) (end - start) start w
 
--- the mode of a number of at most 2
+-- the mode of a number of at most 5
 unfoldable pub modeOf : ℕ → PlanMode
-modeOf n = cond (eqb n (modeNumber Expand)) Expand (cond (eqb n (modeNumber Reinforce)) Reinforce Observe)
+modeOf n =
+    cond (eqb n (modeNumber Expand)) Expand
+    (cond (eqb n (modeNumber Reinforce)) Reinforce
+    (cond (eqb n (modeNumber Observe)) Observe
+    (cond (eqb n (modeNumber ExpandServing)) ExpandServing
+    (cond (eqb n (modeNumber ReinforceServing)) ReinforceServing ObserveServing))))
 
 -- the header of a file that has one
 unfoldable pub headerOf : List ℕ → Header

@@ -11,7 +11,7 @@ use lib.ListN.{length, getD, replicate, length-append, length-replicate}
 use Rattle.loops.proofs.Scan.{passed}
 use Rattle.mode.specs.Number.{modeNumber}
 use Rattle.mode.specs.declared.PlanMode.{PlanMode}
-use Rattle.mode.specs.declared.PlanMode.the-variants.{Expand, Reinforce, Observe}
+use Rattle.mode.specs.declared.PlanMode.the-variants.{Expand, Reinforce, Observe, ExpandServing, ReinforceServing, ObserveServing}
 use Rattle.casefile_defs.specs.Bounds.{mostBytes}
 use Rattle.casefile_defs.specs.Layout.{layoutOf, field, spot}
 use Rattle.casefile_defs.specs.Reading.{headerOf, modeOf, countsOk, levels, lines, tablesWalked, trailing, zeroAt, zerosPassed, looksFor, looks, caseRead, readOf, beforeBuses, beforeGenerators, beforeCorridors, beforeLines, recordsOf}
@@ -66,6 +66,9 @@ unfolding modeOf modeNumber
 mode-back Expand = refl
 mode-back Reinforce = refl
 mode-back Observe = refl
+mode-back ExpandServing = refl
+mode-back ReinforceServing = refl
+mode-back ObserveServing = refl
 
 module _ (h : Header) (v : Kind → ℕ → ℕ → ℕ) (n : ℕ) (g : Whole h v) where
   -- the file, padded

@@ -16,7 +16,7 @@ use Rattle.loops.specs.Loops.{tab}
 use Rattle.loops.proofs.Tab.{length-tab, get-tab}
 use Rattle.mode.specs.Number.{modeNumber}
 use Rattle.mode.specs.declared.PlanMode.{PlanMode}
-use Rattle.mode.specs.declared.PlanMode.the-variants.{Expand, Reinforce, Observe}
+use Rattle.mode.specs.declared.PlanMode.the-variants.{Expand, Reinforce, Observe, ExpandServing, ReinforceServing, ObserveServing}
 use Rattle.casefile_defs.specs.Bounds.{mostLevels, mostBuses, mostGenerators, mostCorridors, mostSheet, mostBytes, rowFigures}
 use Rattle.casefile_defs.specs.Layout.{Field, layoutOf, placeOf, spanOf, spot, word}
 use Rattle.casefile_defs.specs.Reading.{countsOk, levels, lines, looksFor, caseRead}
@@ -96,11 +96,14 @@ module _ (s : List ℕ) (at count : ℕ) (p : Places) (c : Sheet count (p .sheet
 bits-small : (x : Float) → T (fits binary64 x) → toBits binary64 x < 256 ^ 8
 bits-small x f = toBits-lt binary64 x f
 
-mode-small : (m : PlanMode) → (modeNumber m < 256) × (leb (modeNumber m) 2 ≡ true)
+mode-small : (m : PlanMode) → (modeNumber m < 256) × (leb (modeNumber m) 5 ≡ true)
 unfolding modeNumber
 mode-small Expand = (lit< tt, refl)
 mode-small Reinforce = (lit< tt, refl)
 mode-small Observe = (lit< tt, refl)
+mode-small ExpandServing = (lit< tt, refl)
+mode-small ReinforceServing = (lit< tt, refl)
+mode-small ObserveServing = (lit< tt, refl)
 
 head-fine : (h : Header) → countsOk h ≡ true → Fine (layoutOf Head .fields) (headRow h)
 unfolding Fine

@@ -83,16 +83,19 @@ zeros-end s at l h =
     ∙ sym (getD-replicate (length s - at) i 0 0 b′))
 
 -- ---- the header
-mode-forth : (n : ℕ) → n ≤ 2 → modeNumber (modeOf n) ≡ n
+mode-forth : (n : ℕ) → n ≤ 5 → modeNumber (modeOf n) ≡ n
 unfolding modeOf modeNumber
 mode-forth zero h = refl
 mode-forth (suc zero) h = refl
 mode-forth (suc (suc zero)) h = refl
-mode-forth (suc (suc (suc n))) h = absurd (omega arith)
+mode-forth (suc (suc (suc zero))) h = refl
+mode-forth (suc (suc (suc (suc zero)))) h = refl
+mode-forth (suc (suc (suc (suc (suc zero))))) h = refl
+mode-forth (suc (suc (suc (suc (suc (suc n)))))) h = absurd (omega arith)
 
 head-row : (s : List ℕ) → Passed Head s 0 levelsAt → (j : ℕ) → j < 7 → field Head j 0 s ≡ headRow (headerOf s) j
 unfolding headerOf
-head-row s p zero l = sym (mode-forth (field Head 0 0 s) (leb-true _ 2 (both _ true (p .bounds) .0)))
+head-row s p zero l = sym (mode-forth (field Head 0 0 s) (leb-true _ 5 (both _ true (p .bounds) .0)))
 head-row s p (suc zero) l = refl
 head-row s p (suc (suc zero)) l = refl
 head-row s p (suc (suc (suc zero))) l = refl

@@ -9,6 +9,10 @@ pub enum PlanMode {
     Reinforce,
     // Keep the corridors as given and only measure.
     Observe,
+    // The same three, where idle units serve what the dispatch leaves of the demand.
+    ExpandServing,
+    ReinforceServing,
+    ObserveServing,
 }
 
 impl PlanMode {
@@ -19,6 +23,9 @@ impl PlanMode {
             PlanMode::Expand => 0,
             PlanMode::Reinforce => 1,
             PlanMode::Observe => 2,
+            PlanMode::ExpandServing => 3,
+            PlanMode::ReinforceServing => 4,
+            PlanMode::ObserveServing => 5,
         }
     }
 }

@@ -29,6 +29,11 @@ pub mod FillingPassesOver
 pub mod FiveLevels
 pub mod FlowOfTwoLines
 pub mod GapCut
+pub mod IdleUnitLeftByRounding
+pub mod IdleUnitServed
+pub mod IdleUnitServedReinforced
+pub mod IdleUnitsByCost
+pub mod IdleUnitsOfIslands
 pub mod InitialAboveSix
 pub mod InitialNine
 pub mod InitialNought

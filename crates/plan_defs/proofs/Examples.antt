@@ -1,18 +1,20 @@
 -- Worked examples of the corners that document 01 names ("Ports that come out wrong"), of the order in which stiffening takes corridors, of whole cases, of
--- the listing's places, and of what a plan keeps of filling, with its preview.
+-- the listing's places, of what a plan keeps of filling, with its preview, and of the pass after a component's dispatch.
 -- By evaluation.
 use Prim.Native.Nat.{ℕ}
 use mathlib.Core.Bool.{true}
 use mathlib.Core.List.{List, [], _∷_, _++_, map}
 use mathlib.Core.Path.{_≡_, refl}
-use lib.ListN.{replicate}
+use lib.ListN.{length, replicate}
 use lib.Ieee.{Float, binary64, ofBits}
 use Rattle.loops.specs.Figures.{nought, half, one, hundred, decimal}
 use Rattle.mode.specs.declared.PlanMode.{PlanMode}
-use Rattle.mode.specs.declared.PlanMode.the-variants.{Expand, Reinforce, Observe}
+use Rattle.mode.specs.declared.PlanMode.the-variants.{Expand, Reinforce, Observe, ExpandServing, ReinforceServing, ObserveServing}
 use Rattle.refusal.specs.Reply.{Reply, answered, refused}
+use Rattle.dispatch.specs.Units.{Units, unitsOf}
 use Rattle.plan_defs.specs.Lists.{each}
-use Rattle.plan_defs.specs.Case.{Case, caseOf, rowOf}
+use Rattle.plan_defs.specs.TopUp.{givenBy}
+use Rattle.plan_defs.specs.Case.{Case, caseOf, rowOf, topsUp}
 use Rattle.plan_defs.specs.Design.{lineOf, setTransformerMva, keptBank}
 use Rattle.plan_defs.specs.Raise.{noMarks, markEnds, raisedLevels, movedBuses}
 use Rattle.plan_defs.specs.Build.{built}
@@ -238,3 +240,75 @@ pub preview-refusals :
     ∷ (30 ∷ 1 ∷ 7 ∷ 7 ∷ 7 ∷ []) ∷ (30 ∷ 2 ∷ 7 ∷ 7 ∷ 7 ∷ []) ∷ []
 unfolding listingOf preview previewFault keptFault lengthsOk refilled
 preview-refusals = refl
+
+-- ---- K4: the pass after a component's dispatch, MW by their bits; every unit from 0, at a cost of c1
+abbrev units : List Float → List Float → Units
+units pmax c1 = unitsOf (replicate (length pmax) nought) pmax c1 (replicate (length pmax) nought)
+
+abbrev given : PlanMode → Units → ℕ → List ℕ
+given mode u demand = map bitsOf (givenBy (topsUp mode) u (whole demand))
+
+abbrev inMode3 : List ℕ → List ℕ → ℕ → List ℕ
+inMode3 pmax c1 demand = given ExpandServing (units (map whole pmax) (map whole c1)) demand
+
+-- Document 01's second example in modes 0 to 2, then in 3 to 5.
+pub second-served :
+    map (λ mode. given mode (units (hundred ∷ []) (whole 10 ∷ [])) 50) (Expand ∷ Reinforce ∷ Observe ∷ ExpandServing ∷ ReinforceServing ∷ ObserveServing ∷ [])
+    ≡ (0 ∷ []) ∷ (0 ∷ []) ∷ (0 ∷ []) ∷ map bitsOf (whole 50 ∷ []) ∷ map bitsOf (whole 50 ∷ []) ∷ map bitsOf (whole 50 ∷ []) ∷ []
+unfolding listingOf
+second-served = refl
+
+-- Two units of equal c1: the lower index first, and then the other, with the difference that is left. A unit at pmax between them in price is passed over.
+-- A demand above all of them leaves each at pmax. None above zero: a demand of 0, and one that the dispatch meets.
+pub topped :
+    inMode3 (50 ∷ 100 ∷ []) (20 ∷ 20 ∷ []) 30 ∷ inMode3 (50 ∷ 100 ∷ []) (20 ∷ 20 ∷ []) 90
+    ∷ inMode3 (50 ∷ 60 ∷ 100 ∷ []) (20 ∷ 10 ∷ 20 ∷ []) 100 ∷ inMode3 (50 ∷ 60 ∷ 100 ∷ []) (20 ∷ 10 ∷ 20 ∷ []) 150
+    ∷ inMode3 (30 ∷ 100 ∷ []) (20 ∷ 10 ∷ []) 200 ∷ inMode3 (30 ∷ 100 ∷ []) (20 ∷ 10 ∷ []) 0 ∷ inMode3 (30 ∷ 100 ∷ []) (20 ∷ 10 ∷ []) 100 ∷ []
+    ≡ map bitsOf (whole 30 ∷ nought ∷ []) ∷ map bitsOf (whole 50 ∷ whole 40 ∷ [])
+    ∷ map bitsOf (whole 40 ∷ whole 60 ∷ nought ∷ []) ∷ map bitsOf (whole 50 ∷ whole 60 ∷ whole 40 ∷ [])
+    ∷ map bitsOf (whole 30 ∷ hundred ∷ []) ∷ (0 ∷ 0 ∷ []) ∷ map bitsOf (nought ∷ hundred ∷ []) ∷ []
+unfolding listingOf
+topped = refl
+
+-- By c1 before index: at the highest price the first unit, the dearest, gives nothing, and the other two stand between their limits. The second takes the gap
+-- up to pmax; the pass then fills the third, which is cheaper than the first, and the first takes the rest.
+abbrev near : Units
+near = units (replicate 3 hundred) (whole 20 ∷ decimal 199_999_999_999 10_000_000_000 ∷ decimal 1_999_999_999_995 100_000_000_000 ∷ [])
+
+pub cheapest-first : given ExpandServing near 210 ≡ map bitsOf (whole 10 ∷ hundred ∷ hundred ∷ [])
+unfolding listingOf
+cheapest-first = refl
+
+-- The first unit left below pmax ends the pass, also where rounding leaves a difference above zero: two units of three eighths of the last place of 50 are at
+-- pmax, the first gets what they leave of 50, rounded, and the sum by index loses them. The last unit, as cheap as the first, stays at nought.
+abbrev lost : Float
+lost = ofBits binary64 0x3CE8_0000_0000_0000
+
+pub ends-below : given ExpandServing (units (hundred ∷ lost ∷ lost ∷ hundred ∷ []) (whole 20 ∷ whole 10 ∷ whole 10 ∷ whole 20 ∷ [])) 50
+    ≡ 0x4048_FFFF_FFFF_FFFF ∷ 0x3CE8_0000_0000_0000 ∷ 0x3CE8_0000_0000_0000 ∷ 0 ∷ []
+unfolding listingOf
+ends-below = refl
+
+-- Case L with c2 = 0, a target of 4 and another mode: mode 3 serves the load, fills as Expand and is listed as 3; mode 0 leaves the unit idle, and the ground
+-- feeds the load; modes 4 and 5 serve it and fill nothing.
+-- HD mode 4 2 1 1 0 1; LV 138; BU 0 0, 0 50; GE 0 1 0 100 20 0; CO 0 1 1 10 1; LN 0 0.5 0 100 0
+abbrev flatCost : PlanMode → Case
+flatCost mode =
+    caseOf mode 2 1 1 0 1 (whole 138 ∷ []) (0 ∷ 0 ∷ []) (nought ∷ whole 50 ∷ []) (0 ∷ []) (1 ∷ []) (nought ∷ []) (hundred ∷ []) (whole 20 ∷ []) (nought ∷ [])
+    (0 ∷ []) (1 ∷ []) (1 ∷ []) (whole 10 ∷ []) (one ∷ []) (nought ∷ half ∷ nought ∷ hundred ∷ nought ∷ [])
+
+-- what is listed of its plan, the MW of the unit and the circuits among it
+abbrev flatListed : ℕ → ℕ → ℕ → Float → ℕ → ℕ → ℕ → ℕ → List (List ℕ)
+flatListed mode rounds filler mw circuits angle loading spread =
+    (mode ∷ rounds ∷ 1 ∷ 0 ∷ 0 ∷ filler ∷ 0 ∷ 0 ∷ 0 ∷ 0 ∷ []) ∷ [] ∷ (0 ∷ []) ∷ (0 ∷ 0 ∷ []) ∷ (0 ∷ angle ∷ []) ∷ (bitsOf mw ∷ []) ∷ (circuits ∷ [])
+    ∷ (bitsOf (whole 50) ∷ []) ∷ (bitsOf hundred ∷ []) ∷ (loading ∷ spread ∷ []) ∷ []
+
+pub modes-listed :
+    map (λ mode. listingOf (flatCost mode) 4) (Expand ∷ ExpandServing ∷ ReinforceServing ∷ ObserveServing ∷ [])
+    ≡ flatListed 0 1 3 nought 4 0xBFB0_0000_0000_0000 0x3FC0_0000_0000_0000 0x3FB0_0000_0000_0000
+    ∷ flatListed 3 1 3 (whole 50) 4 0xBFB0_0000_0000_0000 0x3FC0_0000_0000_0000 0x3FB0_0000_0000_0000
+    ∷ flatListed 4 1 0 (whole 50) 1 0xBFD0_0000_0000_0000 0x3FE0_0000_0000_0000 0x3FD0_0000_0000_0000
+    ∷ flatListed 5 0 0 (whole 50) 1 0xBFD0_0000_0000_0000 0x3FE0_0000_0000_0000 0x3FD0_0000_0000_0000
+    ∷ []
+unfolding listingOf
+modes-listed = refl

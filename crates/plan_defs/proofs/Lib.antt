@@ -1,5 +1,6 @@
 -- Laws of the defined plan, and a worked example.
 pub mod Lists
+pub mod Inserted
 pub mod Stages
 pub mod Accepted
 pub mod Drawn

@@ -90,7 +90,7 @@ none-pass p (suc d) i e j a b = go (ℕ-discrete i j) (none-pass p d (suc i) (ke
 abbrev pub All : (ℕ → Type 0) → List ℕ → Type 0
 All P l = (j : ℕ) → j < length l → P (getD l j 0)
 
-all-cons : (P : ℕ → Type 0) (i : ℕ) (l : List ℕ) → P i → All P l → All P (i ∷ l)
+pub all-cons : (P : ℕ → Type 0) (i : ℕ) (l : List ℕ) → P i → All P l → All P (i ∷ l)
 all-cons P i l p a zero h = p
 all-cons P i l p a (suc j) h = a j (le-of-suc-le-suc h)
 

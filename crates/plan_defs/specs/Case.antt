@@ -8,7 +8,7 @@ use lib.Ieee.{Float, lt, le}
 use Rattle.loops.specs.Figures.{at}
 use Rattle.loops.specs.Loops.{tab}
 use Rattle.mode.specs.declared.PlanMode.{PlanMode}
-use Rattle.mode.specs.declared.PlanMode.the-variants.{Expand, Reinforce, Observe}
+use Rattle.mode.specs.declared.PlanMode.the-variants.{Expand, Reinforce, Observe, ExpandServing, ReinforceServing, ObserveServing}
 use Rattle.plan_defs.specs.Constants.{subtransmissionKv, subtransmissionMaxCircuits, maxCircuitsPerCorridor, rowFigures}
 
 pub record Case : Type 0 where
@@ -67,16 +67,31 @@ caseOf mode buses corridors generators above requested ladder tier load bus slac
       sheet = sheet;
     }
 
--- ---- seam: what a mode does. `expand`: it may add circuits and banks. `promote`: it may also raise buses, stiffen and fill
+-- ---- seam: what a mode does. `expand`: it may add circuits and banks. `promote`: it counts as Expand, and may also raise buses, stiffen and fill.
+-- `topsUp`: idle units serve what the dispatch leaves of the demand (document 02, K4)
 abbrev pub expand : PlanMode → Bool
 expand Expand = true
 expand Reinforce = true
 expand Observe = false
+expand ExpandServing = true
+expand ReinforceServing = true
+expand ObserveServing = false
 
 abbrev pub promote : PlanMode → Bool
 promote Expand = true
 promote Reinforce = false
 promote Observe = false
+promote ExpandServing = true
+promote ReinforceServing = false
+promote ObserveServing = false
+
+abbrev pub topsUp : PlanMode → Bool
+topsUp Expand = false
+topsUp Reinforce = false
+topsUp Observe = false
+topsUp ExpandServing = true
+topsUp ReinforceServing = true
+topsUp ObserveServing = true
 
 -- ---- levels, by their place in the ladder, the highest being 0. A bus's level is its tier past the levels above, in every mode
 abbrev pub levels : Case → ℕ

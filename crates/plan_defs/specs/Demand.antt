@@ -2,15 +2,14 @@
 -- plan_theorems proves it of the defined plan.
 use Prim.Native.Nat.{ℕ, _+_, _-_, _≤_, _<_, max}
 use mathlib.Core.Path.{_≡_}
-use mathlib.Core.Bool.{true}
+use mathlib.Core.Bool.{true, false}
 use lib.ListN.{length, getD}
 use lib.Ieee.{Float, le}
 use Rattle.loops.specs.Figures.{at, inside}
 use Rattle.loops.specs.Loops.{tab}
-use Rattle.mode.specs.declared.PlanMode.the-variants.{Expand, Observe}
 use Rattle.plan_defs.specs.Constants.{planningMaxRounds, maxCircuitsPerCorridor}
 use Rattle.plan_defs.specs.Lists.{sum}
-use Rattle.plan_defs.specs.Case.{Case, kvOf, firstLevels, lowerBound, kvHigh, capAt}
+use Rattle.plan_defs.specs.Case.{Case, expand, promote, kvOf, firstLevels, lowerBound, kvHigh, capAt}
 use Rattle.plan_defs.specs.Plan.{Plan, planned, endingOf}
 use Rattle.plan_defs.specs.Outcome.{held, summary, Outcome}
 use Rattle.plan_defs.specs.declared.CorridorPlan.{CorridorPlan}
@@ -40,12 +39,12 @@ additions c p = sum (tab (c .corridors) (λ k. circuitsAt p k - lowerBound c k))
 pub record Bounded (c : Case) (p : Plan) (k : ℕ) : Type 0 where
   pub at-least : lowerBound c k ≤ circuitsAt p k
   pub at-most : circuitsAt p k ≤ max (lowerBound c k) (capOf c k)
-  pub observed : c .mode ≡ Observe → circuitsAt p k ≡ lowerBound c k
+  pub observed : expand (c .mode) ≡ false → circuitsAt p k ≡ lowerBound c k
 
 pub record Demand3 (c : Case) (target : ℕ) (p : Plan) : Type 0 where
   -- 1. It took at most 64 rounds.
   pub rounds : p .rounds ≤ planningMaxRounds
-  -- 2. Each corridor has at least its lower bound and at most the larger of that and its cap; when observing it has exactly its lower bound.
+  -- 2. Each corridor has at least its lower bound and at most the larger of that and its cap; when observing (modes 2 and 5) it has exactly its lower bound.
   pub circuits : (k : ℕ) → k < c .corridors → Bounded c p k
   -- 3. Each unit's dispatch lies between its pmin and its pmax.
   pub dispatch : (k : ℕ) → k < c .generators → inside (at (c .pmin) k) (at (c .pmax) k) (at (p .mw) k) ≡ true
@@ -53,10 +52,10 @@ pub record Demand3 (c : Case) (target : ℕ) (p : Plan) : Type 0 where
   pub voltage : (i : ℕ) → i < c .buses → le (kvGiven c i) (kvPlanned c p i) ≡ true
   -- 5. Capacity + stiffening + filler = the sum, over all corridors, of circuits less lower bound.
   pub conserved : p .capacity + p .stiffening + p .filler ≡ additions c p
-  -- 6. When expanding, all circuits together fall short of the target only when every corridor has 4 or more.
-  pub short : c .mode ≡ Expand → sum (p .circuits) < target → (k : ℕ) → k < c .corridors → maxCircuitsPerCorridor ≤ circuitsAt p k
+  -- 6. When expanding (modes 0 and 3), all circuits together fall short of the target only when every corridor has 4 or more.
+  pub short : promote (c .mode) ≡ true → sum (p .circuits) < target → (k : ℕ) → k < c .corridors → maxCircuitsPerCorridor ≤ circuitsAt p k
   -- 7. When expanding, the fillers of any two corridors still below 4 differ by at most one.
-  pub even : c .mode ≡ Expand → (j k : ℕ) → j < c .corridors → k < c .corridors → circuitsAt p j < maxCircuitsPerCorridor
+  pub even : promote (c .mode) ≡ true → (j k : ℕ) → j < c .corridors → k < c .corridors → circuitsAt p j < maxCircuitsPerCorridor
       → circuitsAt p k < maxCircuitsPerCorridor → fillerAt p j ≤ fillerAt p k + 1
 
 -- What the tallies are, besides: the counts before filling exceed the lower bounds by capacity and stiffening, the plan's by filler as well,

@@ -9,11 +9,12 @@ use Rattle.loops.specs.Figures.{at, plus, over, nought}
 use Rattle.loops.specs.Loops.{iter, tab}
 use Rattle.refusal.specs.declared.Refusal.the-variants.{Cost}
 use Rattle.dispatch.specs.Units.{Units, unitsOf}
-use Rattle.dispatch.specs.Dispatch.{economicDispatch, faultyCost}
+use Rattle.dispatch.specs.Dispatch.{faultyCost}
 use Rattle.plan_defs.specs.Constants.{baseMva}
 use Rattle.plan_defs.specs.Lists.{sumOver}
 use Rattle.plan_defs.specs.Stage.{Stage, stopped, going, eachStage}
-use Rattle.plan_defs.specs.Case.{Case, loadOf}
+use Rattle.plan_defs.specs.Case.{Case, topsUp, loadOf}
+use Rattle.plan_defs.specs.TopUp.{givenBy}
 use Rattle.plan_defs.specs.Components.{roots, members, unitsIn}
 
 -- ---- a component: its units in order, and its load
@@ -30,19 +31,19 @@ scatterAt ks out j mw = set mw (getD ks j 0) (at out j)
 unfoldable pub scatter : List ℕ → List Float → List Float → List Float
 scatter ks out mw = iter (scatterAt ks out) (length ks) 0 mw
 
--- seam: what a component's units give. Refusal 8 names the unit, by its index among all generators
-unfoldable pub servedIf : Bool → List ℕ → Units → Float → ℕ → List Float → Stage (List Float)
-servedIf true ks u demand i mw = stopped (Cost (getD ks i 0))
-servedIf false ks u demand i mw = going (scatter ks (economicDispatch u demand) mw)
+-- what a component's units give, with the pass of K4 where the mode has it. Refusal 8 names the unit, by its index among all generators
+unfoldable pub servedIf : Bool → Bool → List ℕ → Units → Float → ℕ → List Float → Stage (List Float)
+servedIf true tops ks u demand i mw = stopped (Cost (getD ks i 0))
+servedIf false tops ks u demand i mw = going (scatter ks (givenBy tops u demand) mw)
 
-abbrev pub servedAt : List ℕ → Units → Float → ℕ → List Float → Stage (List Float)
-servedAt ks u demand i mw = servedIf (ltb i (length ks)) ks u demand i mw
+abbrev pub servedAt : Bool → List ℕ → Units → Float → ℕ → List Float → Stage (List Float)
+servedAt tops ks u demand i mw = servedIf (ltb i (length ks)) tops ks u demand i mw
 
-abbrev pub servedBy : List ℕ → Units → Float → List Float → Stage (List Float)
-servedBy ks u demand mw = servedAt ks u demand (faultyCost u demand) mw
+abbrev pub servedBy : Bool → List ℕ → Units → Float → List Float → Stage (List Float)
+servedBy tops ks u demand mw = servedAt tops ks u demand (faultyCost u demand) mw
 
 abbrev pub served : Case → List ℕ → Float → List Float → Stage (List Float)
-served c ks demand mw = servedBy ks (unitsAt c ks) demand mw
+served c ks demand mw = servedBy (topsUp (c .mode)) ks (unitsAt c ks) demand mw
 
 unfoldable pub serve : Case → List ℕ → ℕ → List Float → Stage (List Float)
 serve c led root mw = served c (unitsIn c led root) (demandOf c led root) mw

@@ -5,6 +5,7 @@ pub mod Stage
 pub mod Case
 pub mod Accept
 pub mod Components
+pub mod TopUp
 pub mod Dispatch
 pub mod Design
 pub mod Solve

@@ -15,7 +15,8 @@ use Rattle.loops.specs.Loops.{tab}
 use Rattle.loops.specs.Sorting.{occ}
 use Rattle.loops.proofs.Tab.{get-tab, tab-of}
 use Rattle.angles_defs.specs.Network.{zeros}
-use Rattle.mode.specs.declared.PlanMode.the-variants.{Observe}
+use Rattle.mode.specs.declared.PlanMode.{PlanMode}
+use Rattle.mode.specs.declared.PlanMode.the-variants.{Expand, Reinforce, Observe, ExpandServing, ReinforceServing, ObserveServing}
 use Rattle.refusal.specs.declared.Refusal.{Refusal}
 use Rattle.plan_defs.specs.Constants.{maxCircuitsPerCorridor}
 use Rattle.plan_defs.specs.Lists.{sum}
@@ -38,7 +39,7 @@ use Rattle.plan_defs.proofs.Counts.{Built, full-cap}
 use Rattle.plan_defs.proofs.Opened.{Done, done}
 use Rattle.plan_theorems.proofs.Filling.{Grown, grown-same, rounds-grown, Ends, reached, unreached, fills}
 use Rattle.plan_theorems.proofs.Ranking.{order-once}
-use Rattle.plan_theorems.proofs.Dispatched.{Dispatched, dispatched}
+use Rattle.plan_theorems.proofs.Dispatched.{Binary, Dispatched, dispatched}
 use Rattle.plan_theorems.proofs.Ladder.{raised-kv}
 
 -- ---- the tiers count from the first level in use
@@ -82,8 +83,17 @@ module _ (c : Case) (target : ℕ) where
   unfolding fill
   fill-all order counts e = ap (λ (b : Bool). filledIf b (fullAt c) target order (unfilled counts)) e
 
+-- a mode that does not expand does not fill
+still : (mode : PlanMode) → expand mode ≡ false → promote mode ≡ false
+still Expand e = e
+still Reinforce e = refl
+still Observe e = refl
+still ExpandServing e = e
+still ReinforceServing e = refl
+still ObserveServing e = refl
+
 -- ---- the plan of what the rounds leave
-module _ (c : Case) (target : ℕ) (ok : Accepted c target) (r : Ready) (d : Done c r) where
+module _ (c : Case) (target : ℕ) (ok : Accepted c target) (binary : Binary c) (r : Ready) (d : Done c r) where
   abbrev s : Draft
   s = r .draft
 
@@ -114,11 +124,11 @@ module _ (c : Case) (target : ℕ) (ok : Accepted c target) (r : Ready) (d : Don
       let x : end k ≡ getD counts k 0 = ap (λ (f : Filled). getD (f .counts) k 0) (fill-none c target (r .order) counts e) in
       omega (arith, built .high k h)
 
-  observed-end : c .mode ≡ Observe → (k : ℕ) → k < c .corridors → end k ≡ lowerBound c k
+  observed-end : expand (c .mode) ≡ false → (k : ℕ) → k < c .corridors → end k ≡ lowerBound c k
   unfolding lowerBounds
   observed-end e k h =
-      ap (λ (f : Filled). getD (f .counts) k 0) (fill-none c target (r .order) counts (ap promote e))
-      ∙ ap (λ (l : List ℕ). getD l k 0) (d .observed (ap expand e))
+      ap (λ (f : Filled). getD (f .counts) k 0) (fill-none c target (r .order) counts (still (c .mode) e))
+      ∙ ap (λ (l : List ℕ). getD l k 0) (d .observed e)
       ∙ get-tab (c .corridors) (lowerBound c) k 0 h
 
   -- ---- the tallies
@@ -181,20 +191,20 @@ module _ (c : Case) (target : ℕ) (ok : Accepted c target) (r : Ready) (d : Don
       record {
         rounds = d .ran .rounds;
         circuits = λ k h. record { at-least = lower-end k h; at-most = upper-end k h (promote (c .mode)) refl; observed = λ e. observed-end e k h };
-        dispatch = mw-fine (dispatched c target ok) .limits;
+        dispatch = mw-fine (dispatched c target ok binary) .limits;
         voltage = λ i h.
             let e = counted-from c level i (omega (arith, d .ran .sound .risen .size)) (ok .columns .ladder) in
             subst (λ (l : ℕ). le (kvGiven c i) (kvOf c l) ≡ true) (sym e) (raised-kv c target ok i (getD level i 0) h (d .ran .sound .risen .risen i h));
         conserved = all-additions;
-        short = λ e. short-by (ends (ap promote e));
-        even = λ e. even-by (ends (ap promote e));
+        short = λ e. short-by (ends e);
+        even = λ e. even-by (ends e);
       }
 
   tallies-of : (v : PlanningCase) → Tallies c (planOf c r filled v)
   tallies-of v = record { places = size; sized-up = built .low; filled-up = grown .low; rounds = round-additions; filler = fillers }
 
 -- ---- along the plan: a refusal owes nothing
-module _ (c : Case) (target : ℕ) (ok : Accepted c target) where
+module _ (c : Case) (target : ℕ) (ok : Accepted c target) (binary : Binary c) where
   abbrev Both : Plan → Type 0
   Both p = Demand3 c target p × Tallies c p
 
@@ -204,7 +214,7 @@ module _ (c : Case) (target : ℕ) (ok : Accepted c target) where
       let f = fill c target (r .order) (r .draft .build .circuits) in
       on-onward (Solved (r .peak .n) (length (r .draft .build .designs))) Both (planningState (r .peak) (r .draft .build .designs) (f .counts) (zeros (c .buses))) _
       (solved (r .peak) (r .draft .build .designs) (f .counts) (zeros (c .buses)))
-      (λ v h. (demand-of c target ok r d v, tallies-of c target ok r d v))
+      (λ v h. (demand-of c target ok binary r d v, tallies-of c target ok binary r d v))
 
   pub planned-both : On Both (planFor c target)
   unfolding planFor
@@ -214,20 +224,20 @@ module _ (c : Case) (target : ℕ) (ok : Accepted c target) where
 never : (p : Plan) (f : Refusal) → unaccepted f ≡ planned p → ⊥
 never p f e = let z : _≡_ {A = ℕ} 0 1 = cc in omega arith
 
-ending-both : (c : Case) (target : ℕ) (p : Plan) → endingOf c target ≡ planned p → Demand3 c target p × Tallies c p
+ending-both : (c : Case) (target : ℕ) → Binary c → (p : Plan) → endingOf c target ≡ planned p → Demand3 c target p × Tallies c p
 unfolding endingOf
-ending-both c target p h = go (caseFault c target) refl h
+ending-both c target binary p h = go (caseFault c target) refl h
   where
-    on : (ok : Accepted c target) (o : Stage Plan) → On (Both c target ok) o → endingOn o ≡ planned p → Demand3 c target p × Tallies c p
+    on : (ok : Accepted c target) (o : Stage Plan) → On (Both c target ok binary) o → endingOn o ≡ planned p → Demand3 c target p × Tallies c p
     on ok (stopped f) q e = let z : _≡_ {A = ℕ} 0 1 = cc in absurd (omega arith)
     on ok (going t) q e = subst (λ (x : Plan). Demand3 c target x × Tallies c x) (let z : t ≡ p = cc in z) q
 
     go : (o : Option Refusal) → caseFault c target ≡ o → endingBy o c target ≡ planned p → Demand3 c target p × Tallies c p
     go (some f) e q = absurd (never p f q)
-    go none e q = let ok = accepted c target e in on ok (planFor c target) (planned-both c target ok) q
+    go none e q = let ok = accepted c target e in on ok (planFor c target) (planned-both c target ok binary) q
 
-pub demand-3 : (c : Case) (target : ℕ) (p : Plan) → endingOf c target ≡ planned p → Demand3 c target p
-demand-3 c target p h = ending-both c target p h .0
+pub demand-3 : (c : Case) (target : ℕ) → Binary c → (p : Plan) → endingOf c target ≡ planned p → Demand3 c target p
+demand-3 c target binary p h = ending-both c target binary p h .0
 
-pub tallies : (c : Case) (target : ℕ) (p : Plan) → endingOf c target ≡ planned p → Tallies c p
-tallies c target p h = ending-both c target p h .1
+pub tallies : (c : Case) (target : ℕ) → Binary c → (p : Plan) → endingOf c target ≡ planned p → Tallies c p
+tallies c target binary p h = ending-both c target binary p h .1

@@ -1,5 +1,5 @@
--- Each unit's dispatch lies between its limits.
--- The dispatch crate's theorem says so of one component's units; each output goes to its unit's place, and every generator's component is served.
+-- Each unit's dispatch lies between its limits, with the pass of K4 and without it.
+-- The dispatch crate's theorem and `given-within` say so of one component's units; each output goes to its unit's place, and every generator's component is served.
 use Prim.Native.Nat.{ℕ, zero, suc, _<_, zero-le, suc-le-suc}
 use mathlib.Core.Bool.{Bool, true, false}
 use mathlib.Core.List.{List, [], _∷_}
@@ -10,7 +10,7 @@ use native.Mathlib.Omega.{arith}
 use native.Mathlib.Decide.{ℕ-discrete}
 use borrow.Author.Tests.{ltb-true, ltb-false, eq-eqb}
 use lib.Dec.{T, ltb}
-use lib.Ieee.{Float, nan, binary64, ofBits}
+use lib.Ieee.{Float, nan, binary64, fits, ofBits}
 use lib.ListN.{length, getD, set, length-set, length-map, replicate, length-replicate}
 use lib.Seq.{getD-set-same, getD-set-other, set-out}
 use Rattle.loops.specs.Figures.{at, plus, nought, million, inside}
@@ -21,18 +21,20 @@ use Rattle.loops.proofs.Signs.{real-add}
 use Rattle.leaders.specs.Chain.{Led}
 use Rattle.leaders.proofs.Laws.{led}
 use Rattle.dispatch.specs.Units.{Units, count, unitOk}
-use Rattle.dispatch.specs.Dispatch.{economicDispatch, faultyCost}
+use Rattle.dispatch.specs.Dispatch.{faultyCost}
 use Rattle.dispatch.specs.Limits.{Within, SoundUnits}
 use Rattle.dispatch.proofs.Limits.{dispatch-within}
 use Rattle.plan_defs.specs.Lists.{each}
 use Rattle.plan_defs.specs.Stage.{Stage, stopped, going, eachStage}
-use Rattle.plan_defs.specs.Case.{Case, loadOf}
+use Rattle.plan_defs.specs.Case.{Case, topsUp, loadOf}
+use Rattle.plan_defs.specs.TopUp.{givenBy}
 use Rattle.plan_defs.specs.Accept.{busOk}
 use Rattle.plan_defs.specs.Components.{component, leads, roots, within, members, unitWithin, unitsIn}
 use Rattle.plan_defs.specs.Dispatch.{unitsAt, demandOf, scatterAt, scatter, servedIf, serve, dispatchOf}
 use Rattle.plan_defs.proofs.Lists.{each-below, pass-below, pass-has, Has, get-map}
 use Rattle.plan_defs.proofs.Stages.{On, on-onward}
 use Rattle.plan_defs.proofs.Accepted.{Accepted, ends, bus-below, unit-ok}
+use Rattle.plan_theorems.proofs.ToppedUp.{given-within}
 
 -- ---- each output to its unit's place, where P says what a unit's output may be
 module _ (P : ℕ → Float → Type 0) where
@@ -71,6 +73,10 @@ module _ (P : ℕ → Float → Type 0) where
         iter-carries (scatterAt ks out) (Scattered ks l) (length ks) scatter-one (length ks) 0 l (omega arith)
         (record { size = refl; keeps = λ k p. p; hits = λ j q b. absurd (not-suc-le-zero q) })
 
+-- where the mode tops up, the lower limits are figures that binary64 holds, as those of a slice of f64 are
+abbrev pub Binary : Case → Type 0
+Binary c = topsUp (c .mode) ≡ true → (k : ℕ) → k < c .generators → T (fits binary64 (at (c .pmin) k))
+
 module _ (c : Case) (target : ℕ) (ok : Accepted c target) where
   abbrev Fine : ℕ → Float → Type 0
   Fine k x = inside (at (c .pmin) k) (at (c .pmax) k) x ≡ true
@@ -105,6 +111,11 @@ module _ (c : Case) (target : ℕ) (ok : Accepted c target) where
               ∙ unit-ok c target ok (getD ks i 0) (below i a);
         }
 
+    us-held : Binary c → topsUp (c .mode) ≡ true → (i : ℕ) → i < count us → T (fits binary64 (at (us .pmin) i))
+    us-held binary e i h =
+        let a : i < length ks = omega (arith, us-count) in
+        subst (λ (x : Float). T (fits binary64 x)) (sym (get-map (at (c .pmin)) ks i 0 nan a)) (binary e (getD ks i 0) (below i a))
+
     out-good : (out : List Float) → Within us out → (j : ℕ) → j < length ks → Fine (getD ks j 0) (at out j)
     out-good out w j h =
         let a : j < count us = omega (arith, us-count) in
@@ -125,6 +136,9 @@ module _ (c : Case) (target : ℕ) (ok : Accepted c target) where
       each-below (λ k s. plus s (loadOf c k)) (λ s. T (real s)) (c .buses) (λ k b s r. real-add binary64 s (loadOf c k) r (load-bounded k b)) ks h nought tt
 
   -- ---- one component, then all
+  abbrev given : List ℕ → Float → List Float
+  given ks demand = givenBy (topsUp (c .mode)) (unitsAt c ks) demand
+
   abbrev leaderAt : ℕ → ℕ
   leaderAt k = getD (component c) (getD (c .bus) k 0) 0
 
@@ -136,9 +150,9 @@ module _ (c : Case) (target : ℕ) (ok : Accepted c target) where
     keeps : (k : ℕ) → Fine k (at l k) → Fine k (at t k)
     hits : (k : ℕ) → k < length l → k < c .generators → Has (leaderAt k) rs → Fine k (at t k)
 
-  one-served : (root : ℕ) (l : List Float) → On (Served (root ∷ []) l) (serve c (component c) root l)
+  one-served : Binary c → (root : ℕ) (l : List Float) → On (Served (root ∷ []) l) (serve c (component c) root l)
   unfolding serve servedIf
-  one-served root l = go (ltb (faultyCost (unitsAt c ks) demand) (length ks)) refl
+  one-served binary root l = go (ltb (faultyCost (unitsAt c ks) demand) (length ks)) refl
     where
       ks : List ℕ
       ks = unitsIn c (component c) root
@@ -150,31 +164,32 @@ module _ (c : Case) (target : ℕ) (ok : Accepted c target) where
       below = pass-below (unitWithin c (component c) root) (c .generators)
 
       go : (b : Bool) → ltb (faultyCost (unitsAt c ks) demand) (length ks) ≡ b
-          → On (Served (root ∷ []) l) (servedIf b ks (unitsAt c ks) demand (faultyCost (unitsAt c ks) demand) l)
+          → On (Served (root ∷ []) l) (servedIf b (topsUp (c .mode)) ks (unitsAt c ks) demand (faultyCost (unitsAt c ks) demand) l)
       go true e = tt
       go false e =
           let f = ltb-false (faultyCost (unitsAt c ks) demand) (length ks) e in
           let w =
-          dispatch-within (unitsAt c ks) demand (us-sound ks below)
+          given-within (topsUp (c .mode)) (unitsAt c ks) demand (us-sound ks below) (us-held ks below binary)
+          (dispatch-within (unitsAt c ks) demand (us-sound ks below)
           (demand-real (members (component c) root)
-          (λ j h. (let z = pass-below (within (component c) root) (length (component c)) j h in omega (arith, is-led .size)))) (omega (arith, us-count ks below)) in
-          let s = scattered Fine ks (economicDispatch (unitsAt c ks) demand) l (out-good ks below (economicDispatch (unitsAt c ks) demand) w) in
+          (λ j h. (let z = pass-below (within (component c) root) (length (component c)) j h in omega (arith, is-led .size)))) (omega (arith, us-count ks below))) in
+          let s = scattered Fine ks (given ks demand) l (out-good ks below (given ks demand) w) in
           record { size = s .size; keeps = s .keeps; hits = λ k b g h. here s k b g h }
         where
-          here : Scattered Fine ks l (length ks) (scatter ks (economicDispatch (unitsAt c ks) demand) l) → (k : ℕ) → k < length l → k < c .generators → Has (leaderAt k) (root ∷ [])
-              → Fine k (at (scatter ks (economicDispatch (unitsAt c ks) demand) l) k)
+          here : Scattered Fine ks l (length ks) (scatter ks (given ks demand) l) → (k : ℕ) → k < length l → k < c .generators → Has (leaderAt k) (root ∷ [])
+              → Fine k (at (scatter ks (given ks demand) l) k)
           here s k b g (suc j, h, e) = absurd (omega arith)
           here s k b g (zero, h, e) =
               let has = pass-has (unitWithin c (component c) root) k (c .generators) 0 (eq-eqb (leaderAt k) root (sym e)) zero-le (omega arith) in
-              subst (λ (m : ℕ). Fine m (at (scatter ks (economicDispatch (unitsAt c ks) demand) l) m)) (has .2)
+              subst (λ (m : ℕ). Fine m (at (scatter ks (given ks demand) l) m)) (has .2)
               (s .hits (has .0) (has .1) (subst (λ (m : ℕ). m < length l) (sym (has .2)) b))
 
-  all-served : (rs : List ℕ) (l : List Float) → On (Served rs l) (eachStage (serve c (component c)) rs l)
+  all-served : Binary c → (rs : List ℕ) (l : List Float) → On (Served rs l) (eachStage (serve c (component c)) rs l)
   unfolding eachStage
-  all-served [] l = record { size = refl; keeps = λ k p. p; hits = λ k b g h. absurd (not-suc-le-zero (h .1)) }
-  all-served (r ∷ rs) l =
-      on-onward (Served (r ∷ []) l) (Served (r ∷ rs) l) (serve c (component c) r l) (eachStage (serve c (component c)) rs) (one-served r l)
-      (λ t p. then t p (eachStage (serve c (component c)) rs t) (all-served rs t))
+  all-served binary [] l = record { size = refl; keeps = λ k p. p; hits = λ k b g h. absurd (not-suc-le-zero (h .1)) }
+  all-served binary (r ∷ rs) l =
+      on-onward (Served (r ∷ []) l) (Served (r ∷ rs) l) (serve c (component c) r l) (eachStage (serve c (component c)) rs) (one-served binary r l)
+      (λ t p. then t p (eachStage (serve c (component c)) rs t) (all-served binary rs t))
     where
       then : (t : List Float) → Served (r ∷ []) l t → (o : Stage (List Float)) → On (Served rs t) o → On (Served (r ∷ rs) l) o
       then t p (stopped f) q = tt
@@ -202,8 +217,8 @@ module _ (c : Case) (target : ℕ) (ok : Accepted c target) where
       let n = length-replicate (c .generators) nought in
       record { size = h .size ∙ n; limits = λ k b. h .hits k (omega arith) b (leader-listed k b) }
 
-  pub dispatched : On Dispatched (dispatchOf c (component c))
+  pub dispatched : Binary c → On Dispatched (dispatchOf c (component c))
   unfolding dispatchOf
-  dispatched =
+  dispatched binary =
       all-dispatched (eachStage (serve c (component c)) (roots (component c)) (replicate (c .generators) nought))
-      (all-served (roots (component c)) (replicate (c .generators) nought))
+      (all-served binary (roots (component c)) (replicate (c .generators) nought))

@@ -2,6 +2,8 @@
 pub mod Ranking
 pub mod Filling
 pub mod Cursor
+pub mod ToppedUp
+pub mod Alone
 pub mod Dispatched
 pub mod Ladder
 pub mod Loadings

@@ -21,13 +21,13 @@ use Rattle.plan_theorems.proofs.Demand.{demand-3, tallies}
 never : {A : Type 0} (x : A) (k i : ℕ) → refused k i ≡ answered x → ⊥
 never x k i e = let z : _≡_ {A = ℕ} 0 1 = cc in omega arith
 
-module _ (c : Case) (target : ℕ) (s : Slices) (x : CorridorPlan) where
+module _ (c : Case) (target : ℕ) (binary : Binary c) (s : Slices) (x : CorridorPlan) where
   answer-by : (e : Ending) → endingOf c target ≡ e → outcomeBy e c s .reply ≡ answered x → AnswerTo c target (outcomeBy e c s) x
   unfolding outcomeBy
   answer-by (unaccepted f) h q = absurd (never x _ _ q)
   answer-by (unanswered f) h q = absurd (never x _ _ q)
   answer-by (planned p) h q =
-      record { plan = p; ending = h; said = (let z : summary p ≡ x = cc in sym z); lent = refl; demand = demand-3 c target p h; tally = tallies c target p h }
+      record { plan = p; ending = h; said = (let z : summary p ≡ x = cc in sym z); lent = refl; demand = demand-3 c target binary p h; tally = tallies c target binary p h }
 
   pub answer-to : planCorridors c target s .reply ≡ answered x → AnswerTo c target (planCorridors c target s) x
   unfolding planCorridors

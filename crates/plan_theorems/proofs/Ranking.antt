@@ -101,7 +101,7 @@ module _ (Fine : ℕ → Type 0) (ahead comes : ℕ → ℕ → Bool) (S : Stric
   ranked-only ks s = only Fine ahead S (once p m) ks (insertAll comes (passing p m) []) named-fine s ranked
 
 -- what a tie leaves to the index is nothing where the index is higher
-last-out : (e f g : Bool) → g ≡ false → e ≡ (e || (f && g))
+pub last-out : (e f g : Bool) → g ≡ false → e ≡ (e || (f && g))
 last-out true f g h = refl
 last-out false true g h = sym h
 last-out false false g h = refl

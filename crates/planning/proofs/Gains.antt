@@ -12,6 +12,7 @@ use lib.Seq.{append-snoc, length-take-le, take-suc, drop-cons, getD-take}
 use lib.Ieee.{Float, lt, ofBits}
 use Rattle.loops.specs.Figures.{at, plus, nought}
 use Rattle.loops.specs.Loops.{iter}
+use Rattle.loops.specs.Sorting.{putBefore, insertBy}
 use Rattle.loops.proofs.Loops.{gap, none}
 use Rattle.plan_defs.specs.Constants.{mostCorridors}
 use Rattle.plan_defs.specs.Lists.{keep, passFrom, passing}
@@ -19,11 +20,11 @@ use Rattle.plan_defs.specs.Design.{design}
 use Rattle.plan_defs.specs.Stiffen.{Gain, gainOf, placed, insert, insertIf, insertGain, gains, batchIf, batch}
 use Rattle.plan_defs.specs.declared.CircuitDesign.{CircuitDesign}
 use Rattle.plan_defs.proofs.Lists.{All}
-use Rattle.planning.specs.Fill.{putBefore, insertBy, Ranked}
+use Rattle.plan_defs.proofs.Inserted.{insert-all}
+use Rattle.planning.specs.Fill.{Ranked}
 use Rattle.planning.specs.Stiffen.{roomFor, candidateAt, gainIf, gainsMore, insertWhere, gainNext, gainOrder, gainFor}
 use Rattle.planning.specs.declared.stiffen.Limits.{Limits}
 use Rattle.planning.specs.declared.stiffen.Stiffness.{Stiffness}
-use Rattle.planning.proofs.Insertion.{insert-all}
 
 module _ (gain : List Float) where
   abbrev gainers : List ℕ → List Gain

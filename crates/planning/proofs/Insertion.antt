@@ -12,10 +12,12 @@ use lib.Dec.{ltb, eqb}
 use lib.ListN.{length, getD, take, drop, length-append, length-drop, take-append-drop, List·getD-append}
 use lib.Seq.{length-take-le, take-at, getD-at, getD-append-add, getD-take, getD-drop, ext-getD}
 use Rattle.loops.specs.Loops.{iter, first, tab, filled}
+use Rattle.loops.specs.Sorting.{putBefore, insertBy}
 use Rattle.loops.proofs.Tab.{length-tab, get-tab, tab-same, tab-of}
 use Rattle.plan_defs.specs.Constants.{mostCorridors}
 use Rattle.plan_defs.proofs.Lists.{All}
-use Rattle.planning.specs.Fill.{putBefore, insertBy, orderBy, placeOf, shifted, Whole, Ranked}
+use Rattle.plan_defs.proofs.Inserted.{insert-all, inserted-below, inserted-length}
+use Rattle.planning.specs.Fill.{orderBy, placeOf, shifted, Whole, Ranked}
 
 -- ---- the place
 first-shift : (ok : ℕ → Bool) (n i : ℕ) → first ok n (suc i) ≡ suc (first (λ j. ok (suc j)) n i)
@@ -128,31 +130,7 @@ module _ (p k : ℕ) (l : List ℕ) where
       (sym (tab-of p (take p l) 0 (length-take-le p l h))
       ∙ tab-same p (λ i. getD (take p l) i 0) (shifted p k l) (λ i w. getD-take p l i 0 w ∙ sym (shifted-front i w)))
 
--- ---- what holds of all that were inserted
-all-cons : (P : ℕ → Type 0) (x : ℕ) (l : List ℕ) → P x → All P l → All P (x ∷ l)
-all-cons P x l p a zero h = p
-all-cons P x l p a (suc j) h = a j (le-of-suc-le-suc h)
-
-module _ (comes : ℕ → ℕ → Bool) (P : ℕ → Type 0) (k : ℕ) (new : P k) where
-  pub insert-all : (l : List ℕ) → All P l → All P (insertBy comes k l)
-  unfolding insertBy
-  insert-all [] a = all-cons P k [] new a
-  insert-all (j ∷ l) a = go (comes k j) (insert-all l (λ i h. a (suc i) (suc-le-suc h)))
-    where
-      go : (b : Bool) → All P (insertBy comes k l) → All P (putBefore b k j l (insertBy comes k l))
-      go true r = all-cons P k (j ∷ l) new a
-      go false r = all-cons P j (insertBy comes k l) (a 0 (suc-le-suc zero-le)) r
-
-  insert-length : (l : List ℕ) → length (insertBy comes k l) ≡ suc (length l)
-  unfolding insertBy
-  insert-length [] = refl
-  insert-length (j ∷ l) = go (comes k j) (insert-length l)
-    where
-      go : (b : Bool) → length (insertBy comes k l) ≡ suc (length l) → length (putBefore b k j l (insertBy comes k l)) ≡ suc (suc (length l))
-      go true r = refl
-      go false r = ap suc r
-
--- two rules that agree on the indices below m insert alike
+-- ---- two rules that agree on the indices below m insert alike
 module _ (m : ℕ) (comes goes : ℕ → ℕ → Bool) (alike : (k j : ℕ) → k < m → j < m → comes k j ≡ goes k j) where
   insert-same : (k : ℕ) → k < m → (l : List ℕ) → All (λ j. j < m) l → insertBy comes k l ≡ insertBy goes k l
   unfolding insertBy
@@ -176,26 +154,13 @@ module _ (m : ℕ) (comes goes : ℕ → ℕ → Bool) (alike : (k j : ℕ) → 
 
 -- an order of m names corridors, as many as there are
 module _ (comes : ℕ → ℕ → Bool) (m : ℕ) where
-  below-from : (d i : ℕ) (l : List ℕ) → i + d ≡ m → All (λ j. j < m) l → All (λ j. j < m) (iter (insertBy comes) d i l)
-  unfolding iter
-  below-from zero i l e a = a
-  below-from (suc d) i l e a =
-      let w : i < m = omega arith in
-      let v : suc i + d ≡ m = omega arith in
-      below-from d (suc i) (insertBy comes i l) v (insert-all comes (λ j. j < m) i w l a)
-
-  length-from : (d i : ℕ) (l : List ℕ) → length (iter (insertBy comes) d i l) ≡ length l + d
-  unfolding iter
-  length-from zero i l = omega arith
-  length-from (suc d) i l = length-from d (suc i) (insertBy comes i l) ∙ omega (arith, insert-length comes (λ j. ℕ) i i l)
-
   pub order-below : All (λ j. j < m) (orderBy comes m)
   unfolding orderBy
-  order-below = below-from m 0 [] (omega arith) (λ j h. absurd (not-suc-le-zero h))
+  order-below = inserted-below comes m
 
   pub order-length : length (orderBy comes m) ≡ m
   unfolding orderBy
-  order-length = length-from m 0 [] ∙ omega arith
+  order-length = inserted-length comes m
 
 -- ---- the loop that makes an order: `count` are in their places
 module _ (comes : ℕ → ℕ → Bool) (m : ℕ) where

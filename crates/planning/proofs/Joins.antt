@@ -263,7 +263,7 @@ module _ (mode : PlanMode) (target above : ℕ) (ladder : List Float) (tier : Li
     lent-size : {A : Type 0} (x : A) → length (fresh (length tier) x) ≡ h .whole .buses
     lent-size x = room (length tier) x (tier-fits (h .sound)) ∙ h .sound .tier-size
 
-    pub openable-of : Openable above tier load bus slack pmin pmax c1 c2 a b initial (fresh (length tier) 0) (fresh (length tier) nought) ground mw level circuits
+    pub openable-of : Openable mode above tier load bus slack pmin pmax c1 c2 a b initial (fresh (length tier) 0) (fresh (length tier) nought) ground mw level circuits
     openable-of =
         record {
           whole = C (h .whole);
@@ -279,7 +279,7 @@ module _ (mode : PlanMode) (target above : ℕ) (ladder : List Float) (tier : Li
 
     -- after the opening
     module _ (leader′ : List ℕ) (injection′ : List Float) (ground′ : List ℕ) (mw′ : List Float) (level′ circuits′ : List ℕ) (r : Opening)
-        (w : OpeningDone above tier load bus slack pmin pmax c1 c2 a b initial leader′ injection′ ground′ mw′ level′ circuits′ r) where
+        (w : OpeningDone mode above tier load bus slack pmin pmax c1 c2 a b initial leader′ injection′ ground′ mw′ level′ circuits′ r) where
       pub stages-refused : (f : Refusal) → r ≡ Unopened f → (circuits″ : List ℕ) (flow″ rate″ mw″ angle″ : List Float) (level″ ground″ : List ℕ) (added″ : List Float) (x : PlanRun) → x .said ≡ Refused f
           → Done-with circuits″ flow″ rate″ mw″ angle″ level″ ground″ added″ x
       stages-refused f q circuits″ flow″ rate″ mw″ angle″ level″ ground″ added″ x j =

@@ -23,6 +23,7 @@ pub mod Lifting
 pub mod Openings
 pub mod Checks
 pub mod Insertion
+pub mod ToppingUp
 pub mod Orders
 pub mod Fillings
 pub mod Closings

@@ -36,7 +36,7 @@ module _ (c : Case) where
         (λ root. bus-or (slackCase (c .bus) (c .slack)) (with (c .buses) (length (c .bus))) refl root (passing (slackWithin (slackCase (c .bus) (c .slack)) led root) (length (c .bus)))) (roots led)
         ∙ ap (λ (g : ℕ). groundsOf (with (c .buses) g) led) e
 
-    pub dispatch-lift : (led : List ℕ) → dispatchOf (dispatchCase (c .load) (c .bus) (c .pmin) (c .pmax) (c .c1) (c .c2)) led ≡ dispatchOf c led
+    pub dispatch-lift : (led : List ℕ) → dispatchOf (dispatchCase (c .mode) (c .load) (c .bus) (c .pmin) (c .pmax) (c .c1) (c .c2)) led ≡ dispatchOf c led
     unfolding dispatchOf serve
     dispatch-lift led = ap (λ (g : ℕ). dispatchOf (with (c .buses) g) led) e
 

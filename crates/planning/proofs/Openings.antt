@@ -72,7 +72,7 @@ module _ (c : Case) (target : ℕ) (s : Sound c target) where
     leads : leader ≡ component c
     leads = led ∙ ap (λ (n : ℕ). leadersOf n (c .a) (c .b)) (s .tier-size)
 
-    module _ (r : Answer) (mw : List Float) (e : stageOf r mw ≡ dispatchOf (dispatchCase (c .load) (c .bus) (c .pmin) (c .pmax) (c .c1) (c .c2)) leader) where
+    module _ (r : Answer) (mw : List Float) (e : stageOf r mw ≡ dispatchOf (dispatchCase (c .mode) (c .load) (c .bus) (c .pmin) (c .pmax) (c .c1) (c .c2)) leader) where
       dispatches : dispatchOf c (component c) ≡ stageOf r mw
       dispatches = ap (dispatchOf c) (sym leads) ∙ sym (dispatch-lift c (s .bus-size) leader) ∙ sym e
 

@@ -18,6 +18,7 @@ use Rattle.plan_defs.specs.Demand.{AnswerTo}
 use Rattle.plan_defs.specs.declared.CorridorPlan.{CorridorPlan}
 use Rattle.plan_defs.specs.declared.Planned.{Planned}
 use Rattle.plan_defs.specs.declared.Planned.the-variants.{Answered, Refused}
+use Rattle.plan_theorems.proofs.Dispatched.{Binary}
 use Rattle.plan_theorems.proofs.Outcomes.{answer-to}
 use Rattle.planning.specs.Check.{checkOf}
 use Rattle.planning.specs.Close.{isRefused, lentTo, withKept, finished}
@@ -32,15 +33,15 @@ module _ (c : Case) (target : ℕ) (s : Slices) where
   abbrev Ends : Planned → Slices → Type 0
   Ends r out = (outcome r out ≡ planCorridors c target s) × ((x : CorridorPlan) → r ≡ Answered x → AnswerTo c target (outcome r out) x)
 
-  ends-by : (r : Planned) (out : Slices) → outcome r out ≡ planCorridors c target s → Ends r out
-  ends-by r out e = (
+  ends-by : Binary c → (r : Planned) (out : Slices) → outcome r out ≡ planCorridors c target s → Ends r out
+  ends-by binary r out e = (
     e,
-    λ x q. subst (λ (y : Outcome). AnswerTo c target y x) (sym e) (answer-to c target s x (ap (λ (y : Outcome). y .reply) (sym e) ∙ ap replyOf q)),
+    λ x q. subst (λ (y : Outcome). AnswerTo c target y x) (sym e) (answer-to c target binary s x (ap (λ (y : Outcome). y .reply) (sym e) ∙ ap replyOf q)),
   )
 
   -- 1 to 7
-  pub ends-unaccepted : (f : Refusal) → Unaccepted f ≡ checkOf (tablesOf c) target (placesOf s) → Ends (Refused f) s
-  ends-unaccepted f e = ends-by (Refused f) s (refused-outcome c target s f e)
+  pub ends-unaccepted : Binary c → (f : Refusal) → Unaccepted f ≡ checkOf (tablesOf c) target (placesOf s) → Ends (Refused f) s
+  ends-unaccepted binary f e = ends-by binary (Refused f) s (refused-outcome c target s f e)
 
   module _ (ok : Accepted ≡ checkOf (tablesOf c) target (placesOf s)) where
     is-sound : Sound c target
@@ -102,10 +103,10 @@ module _ (c : Case) (target : ℕ) (s : Slices) where
           ap (λ (x : Slices). outcome (Refused f) x) (finished-refused c lent size) ∙ ap (λ (x : Planned). outcome x (cleared c)) z
       refused-by f q (going p) h = let y : Refused f ≡ Answered (summary p) = sym q ∙ h .holds .said in let z : _≡_ {A = ℕ} 0 1 = cc in absurd (omega arith)
 
-      ends-refused : (f : Refusal) → r .said ≡ Refused f → out ≡ finished true lent → before ≡ replicate (c .corridors) 0 → order ≡ replicate (c .corridors) 0
+      ends-refused : Binary c → (f : Refusal) → r .said ≡ Refused f → out ≡ finished true lent → before ≡ replicate (c .corridors) 0 → order ≡ replicate (c .corridors) 0
           → Ends (Refused f) (withKept before order out)
-      ends-refused f q e u v =
-          ends-by (Refused f) (withKept before order out)
+      ends-refused binary f q e u v =
+          ends-by binary (Refused f) (withKept before order out)
           (ap (λ (x : Slices). outcome (Refused f) (withKept before order x)) e
           ∙ ap (λ (l : List ℕ). outcome (Refused f) (withKept l order (finished true lent))) u
           ∙ ap (λ (l : List ℕ). outcome (Refused f) (withKept (replicate (c .corridors) 0) l (finished true lent))) v
@@ -128,10 +129,10 @@ module _ (c : Case) (target : ℕ) (s : Slices) where
           (h .holds .tiers-are) (h .grounds-are) (h .holds .added-are))
           ∙ ap (λ (u : Planned). outcome u (held c p)) y
 
-      ends-answered : (x : CorridorPlan) → r .said ≡ Answered x → out ≡ finished false lent → before ≡ keptFront (r .kept .before) → order ≡ keptFront (r .kept .order)
+      ends-answered : Binary c → (x : CorridorPlan) → r .said ≡ Answered x → out ≡ finished false lent → before ≡ keptFront (r .kept .before) → order ≡ keptFront (r .kept .order)
           → Ends (Answered x) (withKept before order out)
-      ends-answered x q e u v =
-          ends-by (Answered x) (withKept before order out)
+      ends-answered binary x q e u v =
+          ends-by binary (Answered x) (withKept before order out)
           (ap (λ (o : Slices). outcome (Answered x) (withKept before order o)) e
           ∙ ap (λ (l : List ℕ). outcome (Answered x) (withKept l order (finished false lent))) u
           ∙ ap (λ (l : List ℕ). outcome (Answered x) (withKept (keptFront (r .kept .before)) l (finished false lent))) v
@@ -149,16 +150,16 @@ module _ (c : Case) (target : ℕ) (s : Slices) where
       and-true true = refl
       and-true false = refl
 
-      ends-as : (y : Planned) → r .said ≡ y → out ≡ finished (isRefused y) lent → before ≡ keptAs y (r .kept .before) → order ≡ keptAs y (r .kept .order)
+      ends-as : Binary c → (y : Planned) → r .said ≡ y → out ≡ finished (isRefused y) lent → before ≡ keptAs y (r .kept .before) → order ≡ keptAs y (r .kept .order)
           → Ends y (withKept before order out)
-      ends-as (Refused f) q e u v =
+      ends-as binary (Refused f) q e u v =
           let none : (l : List ℕ) → keptIf (promote (c .mode) && false) (c .corridors) l ≡ replicate (c .corridors) 0 =
           λ l. ap (λ (b : Bool). keptIf b (c .corridors) l) (and-false (promote (c .mode))) in
-          ends-refused f q e (u ∙ none (front (r .kept .before))) (v ∙ none (front (r .kept .order)))
-      ends-as (Answered x) q e u v =
+          ends-refused binary f q e (u ∙ none (front (r .kept .before))) (v ∙ none (front (r .kept .order)))
+      ends-as binary (Answered x) q e u v =
           let all : (l : List ℕ) → keptIf (promote (c .mode) && true) (c .corridors) l ≡ keptOf c l =
           λ l. ap (λ (b : Bool). keptIf b (c .corridors) l) (and-true (promote (c .mode))) in
-          ends-answered x q e (u ∙ all (front (r .kept .before))) (v ∙ all (front (r .kept .order)))
+          ends-answered binary x q e (u ∙ all (front (r .kept .before))) (v ∙ all (front (r .kept .order)))
 
   -- the same by what the check answers, and by what the stages leave, each slice as long as it was, what is cleared, and what is kept
   module _ (x : Answer) (k : x ≡ checkOf (tablesOf c) target (placesOf s)) (q : x ≡ Accepted) where
@@ -169,7 +170,7 @@ module _ (c : Case) (target : ℕ) (s : Slices) where
         let w = kept-lengths c s (passed c target s ok .0) in
         (omega (arith, w .0, is-sound ok .few-corridors), omega (arith, w .1, is-sound ok .few-corridors))
 
-    pub ends-when : (r : PlanRun) (lent : Slices)
+    pub ends-when : Binary c → (r : PlanRun) (lent : Slices)
         → length (lent .circuits) ≡ length (s .circuits) → length (lent .flow) ≡ length (s .flow) → length (lent .rate) ≡ length (s .rate)
         → length (lent .mw) ≡ length (s .mw) → length (lent .angle) ≡ length (s .angle) → length (lent .tier) ≡ length (s .tier) → length (lent .ground) ≡ length (s .ground)
         → length (lent .added) ≡ length (s .added) → length (lent .figures) ≡ length (s .figures) → length (lent .counts) ≡ length (s .counts)
@@ -180,7 +181,7 @@ module _ (c : Case) (target : ℕ) (s : Slices) where
         → before ≡ keptIf keeps (length (s .before)) (take (length (s .before)) (r .kept .before))
         → order ≡ keptIf keeps (length (s .order)) (take (length (s .order)) (r .kept .order))
         → Ends (r .said) (withKept before order out)
-    ends-when r lent e₁ e₂ e₃ e₄ e₅ e₆ e₇ e₈ e₉ e₀ done out refused u v keeps w before order f g =
+    ends-when binary r lent e₁ e₂ e₃ e₄ e₅ e₆ e₇ e₈ e₉ e₀ done out refused u v keeps w before order f g =
         let ok = sym q ∙ k in
         let z = sizes ok in
         let m = kept-lengths c s (passed c target s ok .0) in
@@ -204,5 +205,5 @@ module _ (c : Case) (target : ℕ) (s : Slices) where
           figures = e₉ ∙ z .figures;
           counts = e₀ ∙ z .counts;
         })
-        done out before order (r .said) refl (v ∙ ap (λ (b : Bool). finished b lent) u) (f ∙ all (length (s .before)) (r .kept .before) (m .0))
+        done out before order binary (r .said) refl (v ∙ ap (λ (b : Bool). finished b lent) u) (f ∙ all (length (s .before)) (r .kept .before) (m .0))
         (g ∙ all (length (s .order)) (r .kept .order) (m .1))

@@ -10,6 +10,7 @@ use lib.Seq.{getD-take}
 use lib.Ieee.{Float, nan}
 use Rattle.loops.specs.Figures.{at}
 use Rattle.loops.specs.Loops.{iter, tab, filled}
+use Rattle.loops.specs.Sorting.{putBefore, insertBy}
 use Rattle.loops.proofs.Tab.{length-tab, get-tab}
 use Rattle.plan_defs.specs.Constants.{mostCorridors}
 use Rattle.plan_defs.specs.Case.{Case}
@@ -18,7 +19,7 @@ use Rattle.plan_defs.proofs.Drawn.{drawn-at}
 use Rattle.planning.specs.Design.{linesFor}
 use Rattle.plan_defs.specs.Fill.{Rank, rankAt, before, placedRank, insertRank, rankNext, corridorsIn, loadingAt, orderOf}
 use Rattle.plan_defs.specs.declared.CircuitDesign.{CircuitDesign}
-use Rattle.planning.specs.Fill.{designsFor, rankBefore, putBefore, insertBy, orderBy, Whole, Ranked}
+use Rattle.planning.specs.Fill.{designsFor, rankBefore, orderBy, Whole, Ranked}
 use Rattle.planning.proofs.Insertion.{order-same, order-below, order-length}
 
 module _ (ds : List CircuitDesign) (counts : List ℕ) (flows : List Float) where

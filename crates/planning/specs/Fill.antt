@@ -1,13 +1,14 @@
 -- What the contracts of module fill cite: the order by columns, an insertion as code shifts a list, and the filling of slices.
 use Prim.Native.Nat.{ℕ, _-_, _^_, _<_, _≤_}
-use mathlib.Core.Bool.{Bool, true, false, not, cond, _&&_, _||_}
-use mathlib.Core.List.{List, [], _∷_}
+use mathlib.Core.Bool.{Bool, not, cond, _&&_, _||_}
+use mathlib.Core.List.{List, []}
 use mathlib.Core.Path.{_≡_}
 use lib.Dec.{ltb, eqb}
 use lib.ListN.{length, getD}
 use lib.Ieee.{Float, lt, eq}
 use Rattle.loops.specs.Figures.{at}
 use Rattle.loops.specs.Loops.{iter, first}
+use Rattle.loops.specs.Sorting.{insertBy}
 use Rattle.mode.specs.declared.PlanMode.{PlanMode}
 use Rattle.plan_defs.specs.Constants.{maxCircuitsPerCorridor, mostCorridors, mostInitial}
 use Rattle.plan_defs.specs.Case.{Case, caseOf}
@@ -33,20 +34,12 @@ pub record Loaded (a : List ℕ) (banks : List Float) (circuits : List ℕ) (flo
   pub circuits-size : length circuits ≡ length a
   pub flow-size : length flow ≡ length a
 
--- ---- the order: k comes before j, by their loadings, kV and lengths
+-- ---- the order: k comes before j, which has a lower index, by a first and a second key, falling, and a third, rising. Of corridors these are their loadings,
+-- kV and lengths
 abbrev pub rankBefore : List Float → List Float → List Float → ℕ → ℕ → Bool
-rankBefore loading kv km k j =
-    lt (at loading j) (at loading k)
-    || (eq (at loading j) (at loading k) && (lt (at kv j) (at kv k) || (eq (at kv j) (at kv k) && lt (at km k) (at km j))))
-
--- k put before the first that it comes before
-abbrev pub putBefore : Bool → ℕ → ℕ → List ℕ → List ℕ → List ℕ
-putBefore true k j l rest = k ∷ j ∷ l
-putBefore false k j l rest = j ∷ rest
-
-unfoldable pub insertBy : (ℕ → ℕ → Bool) → ℕ → List ℕ → List ℕ
-insertBy comes k [] = k ∷ []
-insertBy comes k (j ∷ l) = putBefore (comes k j) k j l (insertBy comes k l)
+rankBefore first second third k j =
+    lt (at first j) (at first k)
+    || (eq (at first j) (at first k) && (lt (at second j) (at second k) || (eq (at second j) (at second k) && lt (at third k) (at third j))))
 
 unfoldable pub orderBy : (ℕ → ℕ → Bool) → ℕ → List ℕ
 orderBy comes m = iter (insertBy comes) m 0 []

@@ -35,17 +35,17 @@ use Rattle.planning.specs.declared.plan.PlanRun.{PlanRun}
 use Rattle.planning.specs.declared.plan.Opening.{Opening}
 use Rattle.planning.specs.declared.plan.Opening.the-variants.{Refused as Unopened, Opened as Begun}
 
--- ---- the opening: any case with the columns that it reads
-abbrev pub openCase : Case → ℕ → List ℕ → List Float → List ℕ → List ℕ → List Float → List Float → List Float → List Float → List ℕ → List ℕ → List ℕ → Case
-openCase o above tier load bus slack pmin pmax c1 c2 a b initial =
-    caseOf (o .mode) (o .buses) (o .corridors) (o .generators) above (o .requested) (o .ladder) tier load bus slack pmin pmax c1 c2 a b initial (o .km) (o .share) (o .sheet)
+-- ---- the opening: any case with the mode and the columns that it reads
+abbrev pub openCase : Case → PlanMode → ℕ → List ℕ → List Float → List ℕ → List ℕ → List Float → List Float → List Float → List Float → List ℕ → List ℕ → List ℕ → Case
+openCase o mode above tier load bus slack pmin pmax c1 c2 a b initial =
+    caseOf mode (o .buses) (o .corridors) (o .generators) above (o .requested) (o .ladder) tier load bus slack pmin pmax c1 c2 a b initial (o .km) (o .share) (o .sheet)
 
 -- a sound one, and places for what it leaves
-pub record Openable (above : ℕ) (tier : List ℕ) (load : List Float) (bus slack : List ℕ) (pmin pmax c1 c2 : List Float) (a b initial leader : List ℕ) (injection : List Float)
+pub record Openable (mode : PlanMode) (above : ℕ) (tier : List ℕ) (load : List Float) (bus slack : List ℕ) (pmin pmax c1 c2 : List Float) (a b initial leader : List ℕ) (injection : List Float)
     (ground : List ℕ) (mw : List Float) (level circuits : List ℕ) : Type 0 where
   pub whole : Case
   pub target : ℕ
-  pub sound : Sound (openCase whole above tier load bus slack pmin pmax c1 c2 a b initial) target
+  pub sound : Sound (openCase whole mode above tier load bus slack pmin pmax c1 c2 a b initial) target
   pub leader-size : length leader ≡ whole .buses
   pub injection-size : length injection ≡ whole .buses
   pub ground-size : length ground ≡ whole .buses
@@ -66,10 +66,10 @@ abbrev pub OpenedAs : Opening → Case → List ℕ → List Float → List ℕ 
 OpenedAs (Unopened f) c leader injection ground mw level circuits = dispatchOf c (component c) ≡ stopped f
 OpenedAs (Begun count) c leader injection ground mw level circuits = Opens c leader injection count ground mw level circuits
 
-pub record OpeningDone (above : ℕ) (tier : List ℕ) (load : List Float) (bus slack : List ℕ) (pmin pmax c1 c2 : List Float) (a b initial : List ℕ)
+pub record OpeningDone (mode : PlanMode) (above : ℕ) (tier : List ℕ) (load : List Float) (bus slack : List ℕ) (pmin pmax c1 c2 : List Float) (a b initial : List ℕ)
     (leader : List ℕ) (injection : List Float) (ground : List ℕ) (mw : List Float) (level circuits : List ℕ) (r : Opening) : Type 0 where
-  pub opens : (o : Case) (target : ℕ) → Sound (openCase o above tier load bus slack pmin pmax c1 c2 a b initial) target
-      → OpenedAs r (openCase o above tier load bus slack pmin pmax c1 c2 a b initial) leader injection ground mw level circuits
+  pub opens : (o : Case) (target : ℕ) → Sound (openCase o mode above tier load bus slack pmin pmax c1 c2 a b initial) target
+      → OpenedAs r (openCase o mode above tier load bus slack pmin pmax c1 c2 a b initial) leader injection ground mw level circuits
 
 -- ---- the rounds: how many at most, and how far they are before the first
 abbrev pub roundsFor : PlanMode → ℕ → ℕ

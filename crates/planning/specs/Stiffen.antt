@@ -8,6 +8,7 @@ use lib.ListN.{length, getD, take}
 use lib.Ieee.{Float, lt}
 use Rattle.loops.specs.Figures.{at, nought}
 use Rattle.loops.specs.Loops.{iter}
+use Rattle.loops.specs.Sorting.{insertBy}
 use Rattle.angles_defs.specs.Network.{edgesOf}
 use Rattle.angles_defs.specs.Operation.{most}
 use Rattle.plan_defs.specs.Constants.{maxCircuitsPerCorridor}
@@ -24,7 +25,7 @@ use Rattle.plan_defs.specs.declared.CircuitDesign.{CircuitDesign}
 use Rattle.planning.specs.Design.{Lines, Banks}
 use Rattle.planning.specs.Raise.{largestCount, pairsFor}
 use Rattle.planning.specs.Size.{Few}
-use Rattle.planning.specs.Fill.{designsFor, insertBy, Ranked}
+use Rattle.planning.specs.Fill.{designsFor, Ranked}
 use Rattle.planning.specs.Opening.{stageIf}
 use Rattle.planning.specs.Solve.{peakFor, Peaked}
 use Rattle.planning.specs.Sound.{Sound}

@@ -77,32 +77,33 @@ fn rank_kvs(
     }
 }
 
-// ---- the order: loading falling, kV falling, length rising, then index
-fn rank_before(loading: &[f64; 256], kv: &[f64; 256], km: &[f64], k: usize, j: usize) -> bool
-    requires { ⌜ (k < length (now km)) × (j < length (now km)) × (length (now km) ≤ mostCorridors) ⌝ }
-    ensures { λ r. ⌜ r ≡ rankBefore (now (loading .entry)) (now (kv .entry)) (now (km .entry)) k j ⌝ }
+// ---- the order by three keys: the first falling, the second falling, the third rising, then index. Of corridors these are loading,
+// kV and length
+fn rank_before(first: &[f64; 256], second: &[f64; 256], third: &[f64], k: usize, j: usize) -> bool
+    requires { ⌜ (k < length (now third)) × (j < length (now third)) × (length (now third) ≤ mostCorridors) ⌝ }
+    ensures { λ r. ⌜ r ≡ rankBefore (now (first .entry)) (now (second .entry)) (now (third .entry)) k j ⌝ }
 {
-    let heavier = loading[j] < loading[k];
-    let as_heavy = loading[j] == loading[k];
-    let higher = kv[j] < kv[k];
-    let as_high = kv[j] == kv[k];
-    heavier | (as_heavy & (higher | (as_high & (km[k] < km[j]))))
+    let by_first = first[j] < first[k];
+    let first_ties = first[j] == first[k];
+    let by_second = second[j] < second[k];
+    let second_ties = second[j] == second[k];
+    by_first | (first_ties & (by_second | (second_ties & (third[k] < third[j]))))
 }
 
-// The place of corridor k among the k corridors before it.
+// The place of k among the k indices before it.
 fn place_of(
-    loading: &[f64; 256],
-    kv: &[f64; 256],
-    km: &[f64],
+    first: &[f64; 256],
+    second: &[f64; 256],
+    third: &[f64],
     order: &[u32; 256],
     k: usize,
 ) -> usize
-    requires { ⌜ (k < length (now km)) × Ranked (length (now km)) (now order) k ⌝ }
-    ensures { λ r. ⌜ r ≡ placeOf (rankBefore (now (loading .entry)) (now (kv .entry)) (now (km .entry))) (now (order .entry)) k k ⌝ }
+    requires { ⌜ (k < length (now third)) × Ranked (length (now third)) (now order) k ⌝ }
+    ensures { λ r. ⌜ r ≡ placeOf (rankBefore (now (first .entry)) (now (second .entry)) (now (third .entry))) (now (order .entry)) k k ⌝ }
 {
     let mut j = 0;
     while j < k {
-        if rank_before(loading, kv, km, k, wide(order[j])) {
+        if rank_before(first, second, third, k, wide(order[j])) {
             return j;
         }
         j += 1;
@@ -110,7 +111,7 @@ fn place_of(
     j
 }
 
-// Puts corridor k into place p of the first `count`, and moves those that follow up by one.
+// Puts k into place p of the first `count`, and moves those that follow up by one.
 pub fn insert(order: &mut [u32; 256], p: usize, count: usize, k: usize)
     requires { ⌜ (p ≤ count) × (count < mostCorridors) × (k < mostCorridors) × Whole (now order) ⌝ }
     ensures { λ _. ⌜ now (order .exit) ≡ filled (now (order .entry)) (shifted p k (now (order .entry))) (count + 1) ⌝ }
@@ -125,14 +126,14 @@ pub fn insert(order: &mut [u32; 256], p: usize, count: usize, k: usize)
     }
 }
 
-fn order_by(loading: &[f64; 256], kv: &[f64; 256], km: &[f64], order: &mut [u32; 256])
-    requires { ⌜ (length (now km) ≤ mostCorridors) × Whole (now order) ⌝ }
+pub fn order_by(first: &[f64; 256], second: &[f64; 256], third: &[f64], order: &mut [u32; 256])
+    requires { ⌜ (length (now third) ≤ mostCorridors) × Whole (now order) ⌝ }
     ensures size { λ _. ⌜ Whole (now (order .exit)) ⌝ }
-    ensures order { λ _. ⌜ take (length (now (km .entry))) (now (order .exit)) ≡ orderBy (rankBefore (now (loading .entry)) (now (kv .entry)) (now (km .entry))) (length (now (km .entry))) ⌝ }
+    ensures order { λ _. ⌜ take (length (now (third .entry))) (now (order .exit)) ≡ orderBy (rankBefore (now (first .entry)) (now (second .entry)) (now (third .entry))) (length (now (third .entry))) ⌝ }
 {
     let mut k = 0;
-    while k < km.len() {
-        let p = place_of(loading, kv, km, order, k);
+    while k < third.len() {
+        let p = place_of(first, second, third, order, k);
         insert(order, p, k, k);
         k += 1;
     }

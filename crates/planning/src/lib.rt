@@ -29,6 +29,7 @@ mod settle;
 mod size;
 mod solve;
 mod stiffen;
+mod top_up;
 
 // The circuits of each corridor, with their flows and ratings, the dispatch, the angles, the tiers, the grounds and the levels added,
 // for a case of n buses, m corridors and g generators. `before` and `order` are what a plan keeps of filling, also where nothing is

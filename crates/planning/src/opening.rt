@@ -19,6 +19,8 @@ use crate::figures::clear_figures;
 use crate::figures::more;
 use crate::figures::wide;
 use crate::solve::BASE_MVA;
+use crate::top_up::give;
+use mode::PlanMode;
 use refusal::Answer;
 use refusal::Refusal;
 
@@ -131,6 +133,7 @@ fn hand_out(units: &[u32; 128], count: usize, out: &[f64; 128], mw: &mut [f64])
 
 // What the units of a component give, MW; or refusal 8, which names a unit by its index among all generators.
 fn serve(
+    mode: PlanMode,
     root: u32,
     leader: &[u32],
     load: &[f64],
@@ -143,7 +146,7 @@ fn serve(
 ) -> Answer
     requires { ⌜ Fleet (length (now leader)) (now bus) × Costs (now bus) (now pmin) (now pmax) (now c1) (now c2) × Loads (now leader) (now load) × (length (now mw) ≡ length (now bus)) ⌝ }
     ensures { λ r. ⌜ stageOf r (now (mw .exit))
-        ≡ serve (dispatchCase (now (load .entry)) (now (bus .entry)) (now (pmin .entry)) (now (pmax .entry)) (now (c1 .entry)) (now (c2 .entry)))
+        ≡ serve (dispatchCase mode (now (load .entry)) (now (bus .entry)) (now (pmin .entry)) (now (pmax .entry)) (now (c1 .entry)) (now (c2 .entry)))
         (now (leader .entry)) root (now (mw .entry)) ⌝ }
 {
     let mut units = [0u32; 128];
@@ -158,13 +161,13 @@ fn serve(
     figures_of(c1, &units, count, &mut linear);
     figures_of(c2, &units, count, &mut quadratic);
     let demand = demand_of(root, leader, load);
-    match dispatch::economic_dispatch(
-        count,
+    match give(
+        mode,
+        demand,
         &least[0..count],
         &most[0..count],
         &linear[0..count],
         &quadratic[0..count],
-        demand,
         &mut out[0..count],
     ) {
         Answer::Refused(f) => {
@@ -178,6 +181,7 @@ fn serve(
 
 // The component that bus i leads, where it leads one.
 fn serve_led(
+    mode: PlanMode,
     i: usize,
     leader: &[u32],
     load: &[f64],
@@ -192,18 +196,19 @@ fn serve_led(
         × Loads (now leader) (now load) × (length (now mw) ≡ length (now bus)) ⌝ }
     ensures { λ r. ⌜ stageOf r (now (mw .exit))
         ≡ stageIf (leads (now (leader .entry)) i)
-        (serve (dispatchCase (now (load .entry)) (now (bus .entry)) (now (pmin .entry)) (now (pmax .entry)) (now (c1 .entry)) (now (c2 .entry)))
+        (serve (dispatchCase mode (now (load .entry)) (now (bus .entry)) (now (pmin .entry)) (now (pmax .entry)) (now (c1 .entry)) (now (c2 .entry)))
         (now (leader .entry)) i (now (mw .entry)))
         (now (mw .entry)) ⌝ }
 {
     if wide(leader[i]) == i {
-        return serve(leader[i], leader, load, bus, pmin, pmax, c1, c2, mw);
+        return serve(mode, leader[i], leader, load, bus, pmin, pmax, c1, c2, mw);
     }
     Answer::Answered
 }
 
 // What each generator gives, MW, component by component with ascending leader; or the first refusal 8.
 pub fn dispatch_components(
+    mode: PlanMode,
     leader: &[u32],
     load: &[f64],
     bus: &[u32],
@@ -215,13 +220,13 @@ pub fn dispatch_components(
 ) -> Answer
     requires { ⌜ Fleet (length (now leader)) (now bus) × Costs (now bus) (now pmin) (now pmax) (now c1) (now c2) × Loads (now leader) (now load) × (length (now mw) ≡ length (now bus)) ⌝ }
     ensures { λ r. ⌜ stageOf r (now (mw .exit))
-        ≡ dispatchOf (dispatchCase (now (load .entry)) (now (bus .entry)) (now (pmin .entry)) (now (pmax .entry)) (now (c1 .entry)) (now (c2 .entry)))
+        ≡ dispatchOf (dispatchCase mode (now (load .entry)) (now (bus .entry)) (now (pmin .entry)) (now (pmax .entry)) (now (c1 .entry)) (now (c2 .entry)))
         (now (leader .entry)) ⌝ }
 {
     clear_figures(mw);
     let mut i = 0;
     while i < leader.len() {
-        match serve_led(i, leader, load, bus, pmin, pmax, c1, c2, mw) {
+        match serve_led(mode, i, leader, load, bus, pmin, pmax, c1, c2, mw) {
             Answer::Refused(f) => return Answer::Refused(f),
             Answer::Answered => i += 1,
         }

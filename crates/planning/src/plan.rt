@@ -39,6 +39,7 @@ pub enum Opening {
 
 // Each bus's leader and injection, the grounds, the dispatch, and the levels and the circuits that planning starts from.
 fn open(
+    mode: PlanMode,
     above: usize,
     tier: &[u32],
     load: &[f64],
@@ -58,13 +59,13 @@ fn open(
     level: &mut [u32],
     circuits: &mut [u32],
 ) -> Opening
-    requires { ⌜ Openable above (now tier) (now load) (now bus) (now slack) (now pmin) (now pmax) (now c1) (now c2) (now a) (now b) (now initial) (now leader) (now injection) (now ground) (now mw) (now level) (now circuits) ⌝ }
-    ensures { λ r. ⌜ OpeningDone above (now (tier .entry)) (now (load .entry)) (now (bus .entry)) (now (slack .entry)) (now (pmin .entry)) (now (pmax .entry)) (now (c1 .entry)) (now (c2 .entry)) (now (a .entry)) (now (b .entry)) (now (initial .entry))
+    requires { ⌜ Openable mode above (now tier) (now load) (now bus) (now slack) (now pmin) (now pmax) (now c1) (now c2) (now a) (now b) (now initial) (now leader) (now injection) (now ground) (now mw) (now level) (now circuits) ⌝ }
+    ensures { λ r. ⌜ OpeningDone mode above (now (tier .entry)) (now (load .entry)) (now (bus .entry)) (now (slack .entry)) (now (pmin .entry)) (now (pmax .entry)) (now (c1 .entry)) (now (c2 .entry)) (now (a .entry)) (now (b .entry)) (now (initial .entry))
         (now (leader .exit)) (now (injection .exit)) (now (ground .exit)) (now (mw .exit)) (now (level .exit)) (now (circuits .exit)) r ⌝ }
 {
     component_leaders(tier.len(), a.len(), a, b, leader);
     let count = ground_components(leader, bus, slack, ground);
-    match dispatch_components(leader, load, bus, pmin, pmax, c1, c2, mw) {
+    match dispatch_components(mode, leader, load, bus, pmin, pmax, c1, c2, mw) {
         Answer::Refused(f) => return Opening::Refused(f),
         Answer::Answered => {}
     }
@@ -387,6 +388,7 @@ pub fn run(
     let mut marks = [0u32; 256];
     clear_counts(counts);
     match open(
+        mode,
         above,
         tier,
         load,

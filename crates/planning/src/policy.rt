@@ -2,7 +2,7 @@
 ghost use mathlib.Core.Path.{_≡_};
 ghost use Prim.Native.Nat.{_≤_};
 ghost use Rattle.plan_defs.specs.Constants.{subtransmissionMaxCircuits};
-ghost use Rattle.plan_defs.specs.Case.{expand, promote, circuitCap};
+ghost use Rattle.plan_defs.specs.Case.{expand, promote, topsUp, circuitCap};
 use mode::PlanMode;
 
 // Below this kV a corridor that cannot be raised may have more circuits.
@@ -20,6 +20,9 @@ pub fn expands(mode: PlanMode) -> bool
         PlanMode::Expand => true,
         PlanMode::Reinforce => true,
         PlanMode::Observe => false,
+        PlanMode::ExpandServing => true,
+        PlanMode::ReinforceServing => true,
+        PlanMode::ObserveServing => false,
     }
 }
 
@@ -31,6 +34,23 @@ pub fn promotes(mode: PlanMode) -> bool
         PlanMode::Expand => true,
         PlanMode::Reinforce => false,
         PlanMode::Observe => false,
+        PlanMode::ExpandServing => true,
+        PlanMode::ReinforceServing => false,
+        PlanMode::ObserveServing => false,
+    }
+}
+
+// Whether idle units serve what the dispatch leaves of the demand.
+pub fn tops_up(mode: PlanMode) -> bool
+    ensures { λ r. ⌜ r ≡ topsUp mode ⌝ }
+{
+    match mode {
+        PlanMode::Expand => false,
+        PlanMode::Reinforce => false,
+        PlanMode::Observe => false,
+        PlanMode::ExpandServing => true,
+        PlanMode::ReinforceServing => true,
+        PlanMode::ObserveServing => true,
     }
 }
 

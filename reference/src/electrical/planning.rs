@@ -32,6 +32,7 @@ use crate::electrical::params::{
     TRANSFORMER_SIZE_STEP_MVA, UPGRADE_CIRCUITS,
 };
 use crate::geom::delaunay::UnionFind;
+use crate::harness::serving::serve_unmet; // reference edit
 use crate::site::DraftBus;
 use crate::topology::Corridor;
 use crate::watch::{finite, seen, seen_if, Branch}; // reference edit
@@ -560,6 +561,7 @@ pub fn plan_corridors(
     generators: &[DraftGenerator],
     branch_target: usize,
     mode: PlanMode,
+    serving: bool, // reference edit
 ) -> (Vec<CircuitDesign>, CorridorPlan) {
     let expand = mode != PlanMode::Observe;
     let promote = mode == PlanMode::Expand;
@@ -590,7 +592,11 @@ pub fn plan_corridors(
                 (g.pmin_mw, g.pmax_mw, g.c1, g.c2)
             })
             .collect();
-        for (&k, pg) in members.iter().zip(economic_dispatch(&units, demand)) {
+        let mut outputs = economic_dispatch(&units, demand); // reference edit
+        if serving {
+            serve_unmet(&units, demand, &mut outputs); // reference edit
+        }
+        for (&k, pg) in members.iter().zip(outputs) {
             dispatch[k] = pg;
         }
         // Ground on the component's reference generator when it has one.

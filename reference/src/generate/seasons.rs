@@ -4,7 +4,7 @@
 use crate::generate::cases::case_file;
 use crate::generate::random::Random;
 use crate::harness::case_file::{read_case, write_case, MOST_BYTES};
-use crate::harness::tables::Case;
+use crate::harness::tables::{Case, MOST_MODE};
 
 /// The case files of a season, none longer than may be handed over.
 pub struct Season {
@@ -56,7 +56,7 @@ fn network(random: &mut Random) -> Case {
 /// The network as another draft has it: the corridors stay as many.
 fn draft_of(random: &mut Random, network: &Case) -> Case {
     let mut case = network.clone();
-    case.mode = random.below(3) as u8;
+    case.mode = random.below(usize::from(MOST_MODE) + 1) as u8;
     case.target = random.below(1 + 5 * case.corridors.len()) as u32;
     let scale = random.between(0.2, 3.0);
     for bus in &mut case.buses {

@@ -12,6 +12,7 @@ pub mod plan;
 pub mod preview;
 pub mod refusal;
 pub mod season;
+pub mod serving;
 pub mod sheet;
 pub mod small;
 pub mod tables;

@@ -5,7 +5,7 @@ use crate::electrical::generators::DraftGenerator;
 use crate::electrical::planning::{plan_corridors, CorridorPlan, PlanMode};
 use crate::harness::checks::{accept_case, case_costs_are_finite};
 use crate::harness::refusal::{Refusal, NOT_FINITE};
-use crate::harness::tables::Case;
+use crate::harness::tables::{Case, SERVING};
 use crate::site::DraftBus;
 use crate::topology::Corridor;
 use crate::watch::unless_not_finite;
@@ -17,8 +17,9 @@ pub struct Planned {
     pub designs: Vec<CircuitDesign>,
 }
 
+/// What a mode does, whether or not idle units serve.
 fn mode(number: u8) -> PlanMode {
-    match number {
+    match number % SERVING {
         0 => PlanMode::Expand,
         1 => PlanMode::Reinforce,
         _ => PlanMode::Observe,
@@ -112,6 +113,7 @@ pub fn plan_case(case: &Case) -> Result<Planned, Refusal> {
             &generators,
             case.target as usize,
             mode(case.mode),
+            case.mode >= SERVING,
         )
     });
     let (designs, plan) = planned.ok_or(Refusal::new(NOT_FINITE, 0))?;

@@ -8,14 +8,19 @@ use crate::electrical::params::MAX_CIRCUITS_PER_CORRIDOR;
 use crate::harness::case_file::read_case;
 use crate::harness::plan::plan_case;
 use crate::harness::refusal::{count_at_most, first_fault, Refusal, CORRIDOR, COUNT, MODE, ORDER};
-use crate::harness::tables::{Case, MOST_CORRIDORS, MOST_TARGET};
+use crate::harness::tables::{Case, MOST_CORRIDORS, MOST_TARGET, SERVING};
 
-/// The mode that fills.
+/// The mode that fills, whether or not idle units serve.
 pub const EXPAND: u8 = 0;
 /// Filling gives no corridor more.
 pub const FULL: usize = MAX_CIRCUITS_PER_CORRIDOR as usize;
 /// The most circuits of a corridor before filling.
 pub const MOST_CIRCUITS: usize = 64;
+
+/// Whether a mode counts as Expand.
+pub fn fills(mode: u8) -> bool {
+    mode % SERVING == EXPAND
+}
 
 /// What a plan keeps of filling; a place for each corridor in both lists.
 #[derive(Clone, Debug, PartialEq)]
@@ -39,7 +44,7 @@ impl Kept {
     fn check(&self, target: usize) -> Result<(), Refusal> {
         count_at_most(self.before.len(), MOST_CORRIDORS)?;
         count_at_most(target, MOST_TARGET)?;
-        if self.mode != EXPAND {
+        if !fills(self.mode) {
             return Err(Refusal::new(MODE, 0));
         }
         first_fault(CORRIDOR, &self.before, |count| {

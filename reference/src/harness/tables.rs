@@ -5,7 +5,10 @@ pub const MOST_CORRIDORS: usize = 256;
 pub const MOST_GENERATORS: usize = 128;
 pub const MOST_LEVELS: usize = 5;
 pub const MOST_TARGET: usize = 65_536;
-pub const MOST_MODE: u8 = 2;
+pub const MOST_MODE: u8 = 5;
+/// Modes from here on plan as those this much lower, and idle units serve what
+/// the dispatch leaves of the demand (document 02, K4).
+pub const SERVING: u8 = 3;
 
 /// Everything a case file says, any value of which may still be out of range.
 #[derive(Clone, Debug, Default, PartialEq)]

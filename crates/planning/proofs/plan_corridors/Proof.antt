@@ -20,7 +20,7 @@ enum-known-f c = search needs
 returns : tie.Need-returns
 returns c =
     let z = c .before .before .before .before .before .before .before .before .before .before .before .before .before .before .before .before .before .before .before .before .before .before .before .before .before .before .before .before .before .before .before .args in
-    ends-unaccepted (caseOf (z .mode) (z .n) (z .m) (z .g) (z .above) (z .requested) (now (z .ladder)) (now (z .tier)) (now (z .load)) (now (z .bus)) (now (z .slack)) (now (z .pmin)) (now (z .pmax)) (now (z .c1)) (now (z .c2)) (now (z .a)) (now (z .b)) (now (z .initial)) (now (z .km)) (now (z .share)) (now (z .sheet))) (z .target) (slices (now (z .circuits)) (now (z .flow)) (now (z .rate)) (now (z .before)) (now (z .order)) (now (z .mw)) (now (z .angle)) (now (z .level)) (now (z .ground)) (now (z .added)) (now (z .figures)) (now (z .counts))) _ (sym (c .before .f .given .1) ∙ c .before .before .before .check-case .ensures)
+    ends-unaccepted (caseOf (z .mode) (z .n) (z .m) (z .g) (z .above) (z .requested) (now (z .ladder)) (now (z .tier)) (now (z .load)) (now (z .bus)) (now (z .slack)) (now (z .pmin)) (now (z .pmax)) (now (z .c1)) (now (z .c2)) (now (z .a)) (now (z .b)) (now (z .initial)) (now (z .km)) (now (z .share)) (now (z .sheet))) (z .target) (slices (now (z .circuits)) (now (z .flow)) (now (z .rate)) (now (z .before)) (now (z .order)) (now (z .mw)) (now (z .angle)) (now (z .level)) (now (z .ground)) (now (z .added)) (now (z .figures)) (now (z .counts))) (λ e k h. c .before .before .before .before .before .before .before .before .before .before .before .before .before .before .before .before .before .before .before .before .before .before .before .before .before .shared-slice-known6 .given k) _ (sym (c .before .f .given .1) ∙ c .before .before .before .check-case .ensures)
 
 enum-told : tie.Need-enum-told
 enum-told c = search needs
@@ -95,7 +95,7 @@ returns-2 c =
     let q = c .before .before .before .before .before .before .before .before .before .before .before .before .before .before .before .before .before .before .before .before .before .before .before .before .before .before .before .before .before .before .before .before .before .before .before .before .before .before .before .before .before .before .is-refused in
     let h = c .before .before .before .before .before .before .before .before .before .before .before .before .before .before .before .before .before .before .before .before .before .before .before .before .before .before .before .before .before .before .before .finish in
     ends-when (caseOf (z .mode) (z .n) (z .m) (z .g) (z .above) (z .requested) (now (z .ladder)) (now (z .tier)) (now (z .load)) (now (z .bus)) (now (z .slack)) (now (z .pmin)) (now (z .pmax)) (now (z .c1)) (now (z .c2)) (now (z .a)) (now (z .b)) (now (z .initial)) (now (z .km)) (now (z .share)) (now (z .sheet))) (z .target) (slices (now (z .circuits)) (now (z .flow)) (now (z .rate)) (now (z .before)) (now (z .order)) (now (z .mw)) (now (z .angle)) (now (z .level)) (now (z .ground)) (now (z .added)) (now (z .figures)) (now (z .counts)))
-    (k .result) (k .ensures) (c .before .before .before .before .before .before .before .before .before .before .before .before .before .before .before .before .before .before .before .before .before .before .before .before .before .before .before .before .before .before .before .before .before .before .before .before .before .before .before .before .before .before .before .before .before .before .before .before .before .before .before .before .before .before .before .before .before .before .before .before .before .before .before .before .before .before .before .before .before .before .before .before .before .before .before .enum-told .given .1) (v .result)
+    (k .result) (k .ensures) (c .before .before .before .before .before .before .before .before .before .before .before .before .before .before .before .before .before .before .before .before .before .before .before .before .before .before .before .before .before .before .before .before .before .before .before .before .before .before .before .before .before .before .before .before .before .before .before .before .before .before .before .before .before .before .before .before .before .before .before .before .before .before .before .before .before .before .before .before .before .before .before .before .before .before .before .enum-told .given .1) (λ e k h. c .before .before .before .before .before .before .before .before .before .before .before .before .before .before .before .before .before .before .before .before .before .before .before .before .before .before .before .before .before .before .before .before .before .before .before .before .before .before .before .before .before .before .before .before .before .before .before .before .before .before .before .before .before .before .before .before .before .before .before .before .before .before .before .before .before .before .before .before .before .before .before .before .before .before .before .before .before .before .before .before .before .before .before .before .before .before .before .before .before .before .before .before .before .before .before .before .before .before .before .shared-slice-known6 .given k) (v .result)
     (lentTo (v .last .1 .1 .1 .1 .1 .1 .1 .1 .1 .1 .1 .1 .1 .1 .1 .1 .1 .1 .0) (v .last .1 .1 .1 .1 .1 .1 .1 .1 .1 .1 .1 .1 .1 .1 .1 .1 .1 .1 .1 .0) (v .last .1 .1 .1 .1 .1 .1 .1 .1 .1 .1 .1 .1 .1 .1 .1 .1 .1 .1 .1 .1 .0) (v .last .1 .1 .1 .1 .1 .1 .1 .1 .1 .1 .1 .1 .1 .1 .1 .1 .1 .1 .1 .1 .1 .0) (v .last .1 .1 .1 .1 .1 .1 .1 .1 .1 .1 .1 .1 .1 .1 .1 .1 .1 .1 .1 .1 .1 .1 .0) (v .last .1 .1 .1 .1 .1 .1 .1 .1 .1 .1 .1 .1 .1 .1 .1 .1 .1 .1 .1 .1 .1 .1 .1 .0) (v .last .1 .1 .1 .1 .1 .1 .1 .1 .1 .1 .1 .1 .1 .1 .1 .1 .1 .1 .1 .1 .1 .1 .1 .1 .0) (v .last .1 .1 .1 .1 .1 .1 .1 .1 .1 .1 .1 .1 .1 .1 .1 .1 .1 .1 .1 .1 .1 .1 .1 .1 .1 .0) (v .last .1 .1 .1 .1 .1 .1 .1 .1 .1 .1 .1 .1 .1 .1 .1 .1 .1 .1 .1 .1 .1 .1 .1 .1 .1 .1 .0) (v .last .1 .1 .1 .1 .1 .1 .1 .1 .1 .1 .1 .1 .1 .1 .1 .1 .1 .1 .1 .1 .1 .1 .1 .1 .1 .1 .1 .0))
     (v .kept .1 .1 .1 .1 .1 .1 .1 .1 .1 .1 .1 .1 .1 .1 .1 .1 .1 .1 .0) (v .kept .1 .1 .1 .1 .1 .1 .1 .1 .1 .1 .1 .1 .1 .1 .1 .1 .1 .1 .1 .0) (v .kept .1 .1 .1 .1 .1 .1 .1 .1 .1 .1 .1 .1 .1 .1 .1 .1 .1 .1 .1 .1 .0) (v .kept .1 .1 .1 .1 .1 .1 .1 .1 .1 .1 .1 .1 .1 .1 .1 .1 .1 .1 .1 .1 .1 .0) (v .kept .1 .1 .1 .1 .1 .1 .1 .1 .1 .1 .1 .1 .1 .1 .1 .1 .1 .1 .1 .1 .1 .1 .0) (v .kept .1 .1 .1 .1 .1 .1 .1 .1 .1 .1 .1 .1 .1 .1 .1 .1 .1 .1 .1 .1 .1 .1 .1 .0) (v .kept .1 .1 .1 .1 .1 .1 .1 .1 .1 .1 .1 .1 .1 .1 .1 .1 .1 .1 .1 .1 .1 .1 .1 .1 .0) (v .kept .1 .1 .1 .1 .1 .1 .1 .1 .1 .1 .1 .1 .1 .1 .1 .1 .1 .1 .1 .1 .1 .1 .1 .1 .1 .0) (v .kept .1 .1 .1 .1 .1 .1 .1 .1 .1 .1 .1 .1 .1 .1 .1 .1 .1 .1 .1 .1 .1 .1 .1 .1 .1 .1 .0) (v .kept .1 .1 .1 .1 .1 .1 .1 .1 .1 .1 .1 .1 .1 .1 .1 .1 .1 .1 .1 .1 .1 .1 .1 .1 .1 .1 .1 .0)
     (v .ensures)

@@ -5,6 +5,7 @@ use super::networks::{middling_observe, small_expand, small_observe, small_reinf
 use super::sketch::{plain_line, OBSERVE};
 use crate::generate::random::Random;
 use crate::harness::case_file::{write_case, MOST_BYTES};
+use crate::harness::tables::MOST_MODE;
 
 /// Where the header's fields lie in the file.
 const MODE: usize = 2;
@@ -60,7 +61,7 @@ pub fn counts(random: &mut Random, turn: usize) -> Vec<u8> {
         }
     }
     if random.once_in(8) {
-        file[MODE] = 3;
+        file[MODE] = MOST_MODE + 1;
     }
     file
 }
@@ -79,6 +80,10 @@ pub fn small_fields(random: &mut Random, turn: usize) -> Vec<u8> {
     let (mark, offset) = [(b"HD", MODE), (b"GE", 4), (b"LN", 34)][turn % 3];
     let places = records(&file, mark);
     if !places.is_empty() {
+        let past = match (mark, past) {
+            (b"HD", 3) => MOST_MODE + 1,
+            _ => past,
+        };
         file[random.pick(&places) + offset] = past;
     }
     if random.once_in(3) {

@@ -6,12 +6,13 @@ mod edges;
 mod faults;
 mod networks;
 pub mod padding;
+mod serving;
 mod sketch;
 mod stiffening;
 
 use crate::generate::random::Random;
 use crate::harness::case_file::write_case;
-use crate::harness::tables::Case;
+use crate::harness::tables::{Case, SERVING};
 
 /// How a file of a family is made.
 enum Make {
@@ -172,6 +173,37 @@ pub fn case_file(seed: u64) -> CaseFile {
         Make::Case(case) => write_case(&case(&mut random)),
         Make::File(file) => file(&mut random, turn(place, (seed / count) as usize)),
     };
+    CaseFile { family, bytes }
+}
+
+/// The cases among the families, for modes 3 to 5.
+fn plain_families() -> impl Iterator<Item = serving::Family> {
+    FAMILIES.iter().filter_map(|(family, make)| match make {
+        Make::Case(case) => Some((*family, *case)),
+        Make::File(_) => None,
+    })
+}
+
+/// Names of all families in modes 3 to 5.
+pub fn serving_names() -> Vec<&'static str> {
+    let own = serving::FAMILIES.iter().copied();
+    own.chain(plain_families()).map(|(name, _)| name).collect()
+}
+
+/// The case file of a seed in modes 3 to 5: of odd seeds a family with idle
+/// units, of even ones a case as in modes 0 to 2 with its mode raised.
+pub fn serving_file(seed: u64) -> CaseFile {
+    let families: Vec<serving::Family> = match seed % 2 {
+        1 => serving::FAMILIES.to_vec(),
+        _ => plain_families().collect(),
+    };
+    let (family, make) = families[(seed / 2) as usize % families.len()];
+    let mut random = Random::new(family, seed);
+    let mut case = make(&mut random);
+    if case.mode < SERVING {
+        case.mode += SERVING;
+    }
+    let bytes = write_case(&case);
     CaseFile { family, bytes }
 }
 

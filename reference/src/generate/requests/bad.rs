@@ -30,7 +30,7 @@ pub const FAMILIES: &[(&str, Damage)] = &[
     ("a guess that is neither 0 nor 1", |random, _| {
         random.pick(GUESSES).to_vec()
     }),
-    ("a mode above 2", |random, _| random.pick(MODES).to_vec()),
+    ("a mode above 5", |random, _| random.pick(MODES).to_vec()),
     ("any bytes", any_bytes),
 ];
 
@@ -87,8 +87,8 @@ const GUESSES: &[&[u8]] = &[
 ];
 
 const MODES: &[&[u8]] = &[
-    b"PREV 3 0 0",
-    b"PREV 3 0 1 1 0",
+    b"PREV 6 0 0",
+    b"PREV 6 0 1 1 0",
     b"PREV 256 0 1 1 0",
     b"PREV 999999999 2 1 1 0",
 ];

@@ -6,7 +6,7 @@ use crate::generate::random::Random;
 use crate::harness::answers::MOST_COUNT;
 use crate::harness::case_file::read_case;
 use crate::harness::preview::{Kept, EXPAND, FULL, MOST_CIRCUITS};
-use crate::harness::tables::{MOST_CORRIDORS, MOST_MODE, MOST_TARGET};
+use crate::harness::tables::{MOST_CORRIDORS, MOST_MODE, MOST_TARGET, SERVING};
 
 pub const FAMILIES: &[Family] = &[
     ("filled to the target", to_target),
@@ -42,10 +42,11 @@ fn ask(kept: &Kept, target: usize) -> Words {
 }
 
 /// A record that is answered: some counts, most of them low, in some order.
+/// Both modes that fill have their turn.
 fn record(random: &mut Random, corridors: usize) -> Kept {
     let most = random.pick(&[1, 2, 4, 6]);
     Kept {
-        mode: EXPAND,
+        mode: [EXPAND, SERVING][corridors % 2],
         before: (0..corridors).map(|_| random.from_to(1, most)).collect(),
         order: random.shuffled(corridors),
     }
@@ -169,14 +170,14 @@ fn past_corridors(random: &mut Random) -> Words {
 
 fn past_target(random: &mut Random) -> Words {
     let mut kept = some_record(random);
-    kept.mode = random.pick(&[EXPAND, EXPAND, 1, 2]);
+    kept.mode = random.pick(&[EXPAND, SERVING, 1, 5]);
     ask(&kept, random.pick(&[MOST_TARGET + 1, 100_000, 999_999_999]))
 }
 
 /// The zeros of such a plan, or figures that no plan of ours leaves.
 fn another_mode(random: &mut Random) -> Words {
     let mut kept = some_record(random);
-    kept.mode = random.pick(&[1, 2]);
+    kept.mode = random.pick(&[1, 2, 4, 5]);
     if random.once_in(2) {
         kept.before.fill(0);
         kept.order.fill(0);

@@ -45,7 +45,7 @@ word-requires-3 : tie.Need-word-requires-3
 word-requires-3 c κs = omega (arith, size-at Line (c .enum-told6 .given .1))
 
 returns : tie.Need-returns
-returns c = bounded Head 2 2 _ _ (λ at s. refl) (c .before .enum-told .given .1) (c .word .ensures .0)
+returns c = bounded Head 2 5 _ _ (λ at s. refl) (c .before .enum-told .given .1) (c .word .ensures .0)
 
 returns-2 : tie.Need-returns-2
 returns-2 c = search needs

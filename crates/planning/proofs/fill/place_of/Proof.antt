@@ -13,10 +13,10 @@ use Rattle.planning.proofs.fill.place_of.Statement.{statement}
 use Rattle.planning.proofs.fill.place_of.Tie as tie
 
 abbrev Inv-loop : tie.InvT-loop
-Inv-loop loading kv km order k j₀ j = (j ≤ k) × (first (λ (i : ℕ). not (rankBefore loading kv km k (getD order i 0))) (k - j) j ≡ placeOf (rankBefore loading kv km) order k k)
+Inv-loop one two three order k j₀ j = (j ≤ k) × (first (λ (i : ℕ). not (rankBefore one two three k (getD order i 0))) (k - j) j ≡ placeOf (rankBefore one two three) order k k)
 
 abbrev μ-loop : tie.MeasureT-loop
-μ-loop loading kv km order k j₀ j = k - j
+μ-loop one two three order k j₀ j = k - j
 
 loop-holds : tie.Need-loop-holds Inv-loop μ-loop
 loop-holds c = (omega arith, first-start _ _)

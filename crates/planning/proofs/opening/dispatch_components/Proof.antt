@@ -15,11 +15,11 @@ use Rattle.planning.proofs.opening.dispatch_components.Statement.{state
 use Rattle.planning.proofs.opening.dispatch_components.Tie as tie
 
 abbrev Inv-loop : tie.InvT-loop
-Inv-loop leader load bus pmin pmax c1 c2 mw₀ i₀ mw i = (i ≤ length leader) × (length mw ≡ length bus)
-    × (eachStage (serve (dispatchCase load bus pmin pmax c1 c2) leader) (passFrom (leads leader) (length leader - i) i) mw ≡ dispatchOf (dispatchCase load bus pmin pmax c1 c2) leader)
+Inv-loop mode leader load bus pmin pmax c1 c2 mw₀ i₀ mw i = (i ≤ length leader) × (length mw ≡ length bus)
+    × (eachStage (serve (dispatchCase mode load bus pmin pmax c1 c2) leader) (passFrom (leads leader) (length leader - i) i) mw ≡ dispatchOf (dispatchCase mode load bus pmin pmax c1 c2) leader)
 
 abbrev μ-loop : tie.MeasureT-loop
-μ-loop leader load bus pmin pmax c1 c2 mw₀ i₀ mw i = length leader - i
+μ-loop mode leader load bus pmin pmax c1 c2 mw₀ i₀ mw i = length leader - i
 
 clear-figures-requires : tie.Need-clear-figures-requires Inv-loop μ-loop
 clear-figures-requires c κs = search needs
@@ -30,7 +30,7 @@ loop-holds c =
     let s = c .before .before .before .before .before .before .before .before .before .before .before .before in (
       omega arith,
       c .before .before .clear-figures .kept .0 ∙ s .pre .3,
-      stage-start (serve (dispatchCase (c .before .before .before .before .before .before .before .before .before .before .before .before .args .load .now) (c .before .before .before .before .before .before .before .before .before .before .before .before .args .bus .now) (c .before .before .before .before .before .before .before .before .before .before .before .before .args .pmin .now) (c .before .before .before .before .before .before .before .before .before .before .before .before .args .pmax .now) (c .before .before .before .before .before .before .before .before .before .before .before .before .args .c1 .now) (c .before .before .before .before .before .before .before .before .before .before .before .before .args .c2 .now)) (c .before .before .before .before .before .before .before .before .before .before .before .before .args .leader .now)) (leads (c .before .before .before .before .before .before .before .before .before .before .before .before .args .leader .now)) _ _ _ (c .before .before .clear-figures .ensures ∙ ap (λ (n : ℕ). replicate n nought) (s .pre .3)),
+      stage-start (serve (dispatchCase (c .before .before .before .before .before .before .before .before .before .before .before .before .args .mode) (c .before .before .before .before .before .before .before .before .before .before .before .before .args .load .now) (c .before .before .before .before .before .before .before .before .before .before .before .before .args .bus .now) (c .before .before .before .before .before .before .before .before .before .before .before .before .args .pmin .now) (c .before .before .before .before .before .before .before .before .before .before .before .before .args .pmax .now) (c .before .before .before .before .before .before .before .before .before .before .before .before .args .c1 .now) (c .before .before .before .before .before .before .before .before .before .before .before .before .args .c2 .now)) (c .before .before .before .before .before .before .before .before .before .before .before .before .args .leader .now)) (leads (c .before .before .before .before .before .before .before .before .before .before .before .before .args .leader .now)) _ _ _ (c .before .before .clear-figures .ensures ∙ ap (λ (n : ℕ). replicate n nought) (s .pre .3)),
     )
 
 serve-led-requires : tie.Need-serve-led-requires Inv-loop μ-loop
@@ -48,7 +48,7 @@ returns : tie.Need-returns Inv-loop μ-loop
 returns c =
     let s = c .before .before .before .before .before .before .before .before .before .before .before .before .before .before .before .before .before .before .before .before .before in
     let l = c .before .before .before .before .before .before .before .before .loop in
-    stage-stopped (serve (dispatchCase (s .args .load .now) (s .args .bus .now) (s .args .pmin .now) (s .args .pmax .now) (s .args .c1 .now) (s .args .c2 .now)) (s .args .leader .now)) (leads (s .args .leader .now)) _ (l .i) (omega arith) (l .mw) _ (c .before .before .before .before .before .serve-led .result) (c .before .before .before .before .before .serve-led .ensures) _ (c .before .f .given .1) ∙ l .inv .2
+    stage-stopped (serve (dispatchCase (s .args .mode) (s .args .load .now) (s .args .bus .now) (s .args .pmin .now) (s .args .pmax .now) (s .args .c1 .now) (s .args .c2 .now)) (s .args .leader .now)) (leads (s .args .leader .now)) _ (l .i) (omega arith) (l .mw) _ (c .before .before .before .before .before .serve-led .result) (c .before .before .before .before .before .serve-led .ensures) _ (c .before .f .given .1) ∙ l .inv .2
 
 enum-told : tie.Need-enum-told Inv-loop μ-loop
 enum-told c = search needs
@@ -64,8 +64,8 @@ loop-again c =
     let s = c .before .before .before .before .before .before .before .before .before .before .before .before .before .before .before .before .before .before .before .before in
     let l = c .before .before .before .before .before .before .before .loop in (
       omega arith,
-      c .before .before .before .before .serve-led .kept .1 .1 .1 .1 .1 .1 .1 .1 .0 ∙ l .inv .1,
-      stage-going (serve (dispatchCase (s .args .load .now) (s .args .bus .now) (s .args .pmin .now) (s .args .pmax .now) (s .args .c1 .now) (s .args .c2 .now)) (s .args .leader .now)) (leads (s .args .leader .now)) _ (l .i) (omega arith) (l .mw) _ (c .before .before .before .before .serve-led .result) (c .before .before .before .before .serve-led .ensures) (c .enum-told .given .1) ∙ l .inv .2,
+      c .before .before .before .before .serve-led .kept .1 .1 .1 .1 .1 .1 .1 .1 .1 .0 ∙ l .inv .1,
+      stage-going (serve (dispatchCase (s .args .mode) (s .args .load .now) (s .args .bus .now) (s .args .pmin .now) (s .args .pmax .now) (s .args .c1 .now) (s .args .c2 .now)) (s .args .leader .now)) (leads (s .args .leader .now)) _ (l .i) (omega arith) (l .mw) _ (c .before .before .before .before .serve-led .result) (c .before .before .before .before .serve-led .ensures) (c .enum-told .given .1) ∙ l .inv .2,
     )
 
 same-length-2 : tie.Need-same-length-2 Inv-loop μ-loop
@@ -74,7 +74,7 @@ same-length-2 c = c .before .loop .inv .1 ∙ sym (c .before .before .before .be
 returns-2 : tie.Need-returns-2 Inv-loop μ-loop
 returns-2 c =
     let s = c .before .before .before .before .before .before .before .before .before .before .before .before .before .before in
-    sym (stage-end (serve (dispatchCase (s .args .load .now) (s .args .bus .now) (s .args .pmin .now) (s .args .pmax .now) (s .args .c1 .now) (s .args .c2 .now)) (s .args .leader .now)) (leads (s .args .leader .now)) _ (c .before .loop .i) (omega arith) _) ∙ c .before .loop .inv .2
+    sym (stage-end (serve (dispatchCase (s .args .mode) (s .args .load .now) (s .args .bus .now) (s .args .pmin .now) (s .args .pmax .now) (s .args .c1 .now) (s .args .c2 .now)) (s .args .leader .now)) (leads (s .args .leader .now)) _ (c .before .loop .i) (omega arith) _) ∙ c .before .loop .inv .2
 
 pub dispatch-components-spec : {M : Type 1} → statement M
 dispatch-components-spec =

@@ -1,11 +1,11 @@
--- `planning::opening::serve` meets its contract: the units picked and the demand are a request that dispatch refuses by 8 alone.
+-- `planning::opening::serve` meets its contract: the units picked and the demand keep the rules of dispatch, so that 8 alone is left.
 use mathlib.Core.Path.{ap, _∙_}
 use native.Mathlib.Omega.{arith}
 use lib.ListN.{length, replicate, length-replicate}
 use lib.Seq.{take-at}
 use Rattle.loops.specs.Figures.{at, nought}
 use Rattle.loops.proofs.Fronts.{front-replicate}
-use Rattle.planning.proofs.Serving.{units-few, picked, column-room, refused-index, refused-stage, answered-stage}
+use Rattle.planning.proofs.Serving.{units-few, picked, column-room, asked, refused-index, refused-stage, answered-stage}
 use borrow.Author.Needs.{needs}
 use Rattle.planning.proofs.opening.serve.Statement.{statement}
 use Rattle.planning.proofs.opening.serve.Tie as tie
@@ -40,56 +40,56 @@ figures-of-requires-4 c κs =
 demand-of-requires : tie.Need-demand-of-requires
 demand-of-requires c κs = c .before .before .before .before .before .before .before .before .before .before .before .before .before .before .before .before .before .before .before .before .before .before .pre .2 .size
 
-sub-economic-dispatch : tie.Need-sub-economic-dispatch
-sub-economic-dispatch c = search needs
+sub-give : tie.Need-sub-give
+sub-give c = search needs
 
-part-economic-dispatch-start : tie.Need-part-economic-dispatch-start
-part-economic-dispatch-start c = search needs
+part-give-start : tie.Need-part-give-start
+part-give-start c = search needs
 
-part-economic-dispatch-end : tie.Need-part-economic-dispatch-end
-part-economic-dispatch-end c =
+part-give-end : tie.Need-part-give-end
+part-give-end c =
     let s = c .before .before .before .before .before .before .before .before .before .before .before .before .before .before .before .before .before .before .before .before .before .before .before .before in
     let u = c .before .before .before .before .before .before .before .before .before .before .before .before .before .before .units-in .ensures in
-    column-room (s .args .leader .now) (s .args .load .now) (s .args .bus .now) (s .args .pmin .now) (s .args .pmax .now) (s .args .c1 .now) (s .args .c2 .now) (s .args .root) (s .pre .0) (s .pre .1) (s .pre .2) _ _ (u .0) (u .1) (at (s .args .pmin .now)) _ (c .before .before .before .before .before .before .before .before .before .before .before .figures-of .ensures)
+    column-room (s .args .mode) (s .args .leader .now) (s .args .load .now) (s .args .bus .now) (s .args .pmin .now) (s .args .pmax .now) (s .args .c1 .now) (s .args .c2 .now) (s .args .root) (s .pre .0) (s .pre .1) (s .pre .2) _ _ (u .0) (u .1) (at (s .args .pmin .now)) _ (c .before .before .before .before .before .before .before .before .before .before .before .figures-of .ensures)
 
-sub-economic-dispatch-2 : tie.Need-sub-economic-dispatch-2
-sub-economic-dispatch-2 c = search needs
+sub-give-2 : tie.Need-sub-give-2
+sub-give-2 c = search needs
 
-part-economic-dispatch-start-2 : tie.Need-part-economic-dispatch-start-2
-part-economic-dispatch-start-2 c = search needs
+part-give-start-2 : tie.Need-part-give-start-2
+part-give-start-2 c = search needs
 
-part-economic-dispatch-end-2 : tie.Need-part-economic-dispatch-end-2
-part-economic-dispatch-end-2 c =
+part-give-end-2 : tie.Need-part-give-end-2
+part-give-end-2 c =
     let s = c .before .before .before .before .before .before .before .before .before .before .before .before .before .before .before .before .before .before .before .before .before .before .before .before .before .before in
     let u = c .before .before .before .before .before .before .before .before .before .before .before .before .before .before .before .before .units-in .ensures in
-    column-room (s .args .leader .now) (s .args .load .now) (s .args .bus .now) (s .args .pmin .now) (s .args .pmax .now) (s .args .c1 .now) (s .args .c2 .now) (s .args .root) (s .pre .0) (s .pre .1) (s .pre .2) _ _ (u .0) (u .1) (at (s .args .pmax .now)) _ (c .before .before .before .before .before .before .before .before .before .before .figures-of2 .ensures)
+    column-room (s .args .mode) (s .args .leader .now) (s .args .load .now) (s .args .bus .now) (s .args .pmin .now) (s .args .pmax .now) (s .args .c1 .now) (s .args .c2 .now) (s .args .root) (s .pre .0) (s .pre .1) (s .pre .2) _ _ (u .0) (u .1) (at (s .args .pmax .now)) _ (c .before .before .before .before .before .before .before .before .before .before .figures-of2 .ensures)
 
-sub-economic-dispatch-3 : tie.Need-sub-economic-dispatch-3
-sub-economic-dispatch-3 c = search needs
+sub-give-3 : tie.Need-sub-give-3
+sub-give-3 c = search needs
 
-part-economic-dispatch-start-3 : tie.Need-part-economic-dispatch-start-3
-part-economic-dispatch-start-3 c = search needs
+part-give-start-3 : tie.Need-part-give-start-3
+part-give-start-3 c = search needs
 
-part-economic-dispatch-end-3 : tie.Need-part-economic-dispatch-end-3
-part-economic-dispatch-end-3 c =
+part-give-end-3 : tie.Need-part-give-end-3
+part-give-end-3 c =
     let s = c .before .before .before .before .before .before .before .before .before .before .before .before .before .before .before .before .before .before .before .before .before .before .before .before .before .before .before .before in
     let u = c .before .before .before .before .before .before .before .before .before .before .before .before .before .before .before .before .before .before .units-in .ensures in
-    column-room (s .args .leader .now) (s .args .load .now) (s .args .bus .now) (s .args .pmin .now) (s .args .pmax .now) (s .args .c1 .now) (s .args .c2 .now) (s .args .root) (s .pre .0) (s .pre .1) (s .pre .2) _ _ (u .0) (u .1) (at (s .args .c1 .now)) _ (c .before .before .before .before .before .before .before .before .before .figures-of3 .ensures)
+    column-room (s .args .mode) (s .args .leader .now) (s .args .load .now) (s .args .bus .now) (s .args .pmin .now) (s .args .pmax .now) (s .args .c1 .now) (s .args .c2 .now) (s .args .root) (s .pre .0) (s .pre .1) (s .pre .2) _ _ (u .0) (u .1) (at (s .args .c1 .now)) _ (c .before .before .before .before .before .before .before .before .before .figures-of3 .ensures)
 
-sub-economic-dispatch-4 : tie.Need-sub-economic-dispatch-4
-sub-economic-dispatch-4 c = search needs
+sub-give-4 : tie.Need-sub-give-4
+sub-give-4 c = search needs
 
-part-economic-dispatch-start-4 : tie.Need-part-economic-dispatch-start-4
-part-economic-dispatch-start-4 c = search needs
+part-give-start-4 : tie.Need-part-give-start-4
+part-give-start-4 c = search needs
 
-part-economic-dispatch-end-4 : tie.Need-part-economic-dispatch-end-4
-part-economic-dispatch-end-4 c =
+part-give-end-4 : tie.Need-part-give-end-4
+part-give-end-4 c =
     let s = c .before .before .before .before .before .before .before .before .before .before .before .before .before .before .before .before .before .before .before .before .before .before .before .before .before .before .before .before .before .before in
     let u = c .before .before .before .before .before .before .before .before .before .before .before .before .before .before .before .before .before .before .before .before .units-in .ensures in
-    column-room (s .args .leader .now) (s .args .load .now) (s .args .bus .now) (s .args .pmin .now) (s .args .pmax .now) (s .args .c1 .now) (s .args .c2 .now) (s .args .root) (s .pre .0) (s .pre .1) (s .pre .2) _ _ (u .0) (u .1) (at (s .args .c2 .now)) _ (c .before .before .before .before .before .before .before .before .figures-of4 .ensures)
+    column-room (s .args .mode) (s .args .leader .now) (s .args .load .now) (s .args .bus .now) (s .args .pmin .now) (s .args .pmax .now) (s .args .c1 .now) (s .args .c2 .now) (s .args .root) (s .pre .0) (s .pre .1) (s .pre .2) _ _ (u .0) (u .1) (at (s .args .c2 .now)) _ (c .before .before .before .before .before .before .before .before .figures-of4 .ensures)
 
-sub-economic-dispatch-5 : tie.Need-sub-economic-dispatch-5
-sub-economic-dispatch-5 c = search needs
+sub-give-5 : tie.Need-sub-give-5
+sub-give-5 c = search needs
 
 part-out-start : tie.Need-part-out-start
 part-out-start c = search needs
@@ -99,8 +99,14 @@ part-out-end c =
     let s = c .before .before .before .before .before .before .before .before .before .before .before .before .before .before .before .before .before .before .before .before .before .before .before .before .before .before .before .before .before .before .before in
     omega (arith, c .before .before .before .before .before .before .before .before .before .before .before .before .before .before .before .before .before .before .before .before .before .units-in .ensures .0, units-few (s .args .leader .now) (s .args .bus .now) (s .args .root), s .pre .0 .few)
 
-economic-dispatch-requires : tie.Need-economic-dispatch-requires
-economic-dispatch-requires c κs = search needs
+give-requires : tie.Need-give-requires
+give-requires c κs =
+    let s = c .before .before .before .before .before .before .before .before .before .before .before .before .before .before .before .before .before .before .before .before .before .before .before .before .before .before .before .before .before .before .before .before in
+    let u = c .before .before .before .before .before .before .before .before .before .before .before .before .before .before .before .before .before .before .before .before .before .before .units-in .ensures in
+    asked (s .args .mode) (s .args .leader .now) (s .args .load .now) (s .args .bus .now) (s .args .pmin .now) (s .args .pmax .now) (s .args .c1 .now) (s .args .c2 .now) (s .args .root) (s .pre .0) (s .pre .1) (s .pre .2)
+    _ _ (u .0) (u .1) _ _ _ _
+    (c .before .before .before .before .before .before .before .before .before .before .before .before .before .before .before .before .before .before .before .figures-of .ensures) (c .before .before .before .before .before .before .before .before .before .before .before .before .before .before .before .before .figures-of2 .ensures) (c .before .before .before .before .before .before .before .before .before .before .before .before .before .figures-of3 .ensures) (c .before .before .before .before .before .before .before .before .before .before .figures-of4 .ensures)
+    _ (c .before .before .before .before .before .before .before .before .before .demand-of .ensures) (replicate 128 nought) (omega (arith, u .0, units-few (s .args .leader .now) (s .args .bus .now) (s .args .root), s .pre .0 .few))
 
 enum-known-f : tie.Need-enum-known-f
 enum-known-f c = c .match .keys1
@@ -114,22 +120,22 @@ mul-wide c =
     let u = c .before .before .before .before .before .before .before .before .before .before .before .before .before .before .before .before .before .before .before .before .before .before .before .before .before .before .before .before .units-in .ensures in
     omega (
       arith,
-      refused-index (s .args .leader .now) (s .args .load .now) (s .args .bus .now) (s .args .pmin .now) (s .args .pmax .now) (s .args .c1 .now) (s .args .c2 .now) (s .args .root) (s .pre .0) (s .pre .1) (s .pre .2)
+      refused-index (s .args .mode) (s .args .leader .now) (s .args .load .now) (s .args .bus .now) (s .args .pmin .now) (s .args .pmax .now) (s .args .c1 .now) (s .args .c2 .now) (s .args .root) (s .pre .0) (s .pre .1) (s .pre .2)
           _ _ (u .0) (u .1) _ _ _ _
           (c .before .before .before .before .before .before .before .before .before .before .before .before .before .before .before .before .before .before .before .before .before .before .before .before .before .figures-of .ensures) (c .before .before .before .before .before .before .before .before .before .before .before .before .before .before .before .before .before .before .before .before .before .before .figures-of2 .ensures) (c .before .before .before .before .before .before .before .before .before .before .before .before .before .before .before .before .before .before .before .figures-of3 .ensures) (c .before .before .before .before .before .before .before .before .before .before .before .before .before .before .before .before .figures-of4 .ensures)
-          _ (c .before .before .before .before .before .before .before .before .before .before .before .before .before .before .before .demand-of .ensures) (replicate 128 nought) (omega (arith, u .0, units-few (s .args .leader .now) (s .args .bus .now) (s .args .root), s .pre .0 .few))
-          (c .before .before .before .before .before .economic-dispatch .result) _ (c .before .before .before .before .before .economic-dispatch .ensures) _ (c .before .before .f .given .1) (c .index .result) (c .index .ensures),
+          _ (c .before .before .before .before .before .before .before .before .before .before .before .before .before .before .before .demand-of .ensures)
+          (c .before .before .before .before .before .give .result) _ (c .before .before .before .before .before .give .ensures) _ (c .before .before .f .given .1) (c .index .result) (c .index .ensures),
     )
 
 array-read-wide : tie.Need-array-read-wide
 array-read-wide c =
     let s = c .before .before .before .before .before .before .before .before .before .before .before .before .before .before .before .before .before .before .before .before .before .before .before .before .before .before .before .before .before .before .before .before .before .before .before .before .before .before in
     let u = c .before .before .before .before .before .before .before .before .before .before .before .before .before .before .before .before .before .before .before .before .before .before .before .before .before .before .before .before .units-in .ensures in
-    refused-index (s .args .leader .now) (s .args .load .now) (s .args .bus .now) (s .args .pmin .now) (s .args .pmax .now) (s .args .c1 .now) (s .args .c2 .now) (s .args .root) (s .pre .0) (s .pre .1) (s .pre .2)
+    refused-index (s .args .mode) (s .args .leader .now) (s .args .load .now) (s .args .bus .now) (s .args .pmin .now) (s .args .pmax .now) (s .args .c1 .now) (s .args .c2 .now) (s .args .root) (s .pre .0) (s .pre .1) (s .pre .2)
     _ _ (u .0) (u .1) _ _ _ _
     (c .before .before .before .before .before .before .before .before .before .before .before .before .before .before .before .before .before .before .before .before .before .before .before .before .before .figures-of .ensures) (c .before .before .before .before .before .before .before .before .before .before .before .before .before .before .before .before .before .before .before .before .before .before .figures-of2 .ensures) (c .before .before .before .before .before .before .before .before .before .before .before .before .before .before .before .before .before .before .before .figures-of3 .ensures) (c .before .before .before .before .before .before .before .before .before .before .before .before .before .before .before .before .figures-of4 .ensures)
-    _ (c .before .before .before .before .before .before .before .before .before .before .before .before .before .before .before .demand-of .ensures) (replicate 128 nought) (omega (arith, u .0, units-few (s .args .leader .now) (s .args .bus .now) (s .args .root), s .pre .0 .few))
-    (c .before .before .before .before .before .economic-dispatch .result) _ (c .before .before .before .before .before .economic-dispatch .ensures) _ (c .before .before .f .given .1) (c .index .result) (c .index .ensures)
+    _ (c .before .before .before .before .before .before .before .before .before .before .before .before .before .before .before .demand-of .ensures)
+    (c .before .before .before .before .before .give .result) _ (c .before .before .before .before .before .give .ensures) _ (c .before .before .f .given .1) (c .index .result) (c .index .ensures)
 
 wide-requires : tie.Need-wide-requires
 wide-requires c κs = search needs
@@ -138,11 +144,11 @@ returns : tie.Need-returns
 returns c =
     let s = c .before .before .before .before .before .before .before .before .before .before .before .before .before .before .before .before .before .before .before .before .before .before .before .before .before .before .before .before .before .before .before .before .before .before .before .before .before .before .before in
     let u = c .before .before .before .before .before .before .before .before .before .before .before .before .before .before .before .before .before .before .before .before .before .before .before .before .before .before .before .before .before .units-in .ensures in
-    refused-stage (s .args .leader .now) (s .args .load .now) (s .args .bus .now) (s .args .pmin .now) (s .args .pmax .now) (s .args .c1 .now) (s .args .c2 .now) (s .args .root) (s .pre .0) (s .pre .1) (s .pre .2)
+    refused-stage (s .args .mode) (s .args .leader .now) (s .args .load .now) (s .args .bus .now) (s .args .pmin .now) (s .args .pmax .now) (s .args .c1 .now) (s .args .c2 .now) (s .args .root) (s .pre .0) (s .pre .1) (s .pre .2)
     _ _ (u .0) (u .1) _ _ _ _
     (c .before .before .before .before .before .before .before .before .before .before .before .before .before .before .before .before .before .before .before .before .before .before .before .before .before .before .figures-of .ensures) (c .before .before .before .before .before .before .before .before .before .before .before .before .before .before .before .before .before .before .before .before .before .before .before .figures-of2 .ensures) (c .before .before .before .before .before .before .before .before .before .before .before .before .before .before .before .before .before .before .before .before .figures-of3 .ensures) (c .before .before .before .before .before .before .before .before .before .before .before .before .before .before .before .before .before .figures-of4 .ensures)
-    _ (c .before .before .before .before .before .before .before .before .before .before .before .before .before .before .before .before .demand-of .ensures) (replicate 128 nought) (omega (arith, u .0, units-few (s .args .leader .now) (s .args .bus .now) (s .args .root), s .pre .0 .few))
-    (c .before .before .before .before .before .before .economic-dispatch .result) _ (c .before .before .before .before .before .before .economic-dispatch .ensures) _ (c .before .before .before .f .given .1) (c .before .index .result) (c .wide .result) (c .before .index .ensures) (c .wide .ensures) _
+    _ (c .before .before .before .before .before .before .before .before .before .before .before .before .before .before .before .before .demand-of .ensures)
+    (c .before .before .before .before .before .before .give .result) _ (c .before .before .before .before .before .before .give .ensures) _ (c .before .before .before .f .given .1) (c .before .index .result) (c .wide .result) (c .before .index .ensures) (c .wide .ensures) _
 
 enum-told : tie.Need-enum-told
 enum-told c = c .match .keys2
@@ -160,12 +166,12 @@ returns-2 : tie.Need-returns-2
 returns-2 c =
     let s = c .before .before .before .before .before .before .before .before .before .before .before .before .before .before .before .before .before .before .before .before .before .before .before .before .before .before .before .before .before .before .before .before .before .before .before .before .before .before .before .before .before .before in
     let u = c .before .before .before .before .before .before .before .before .before .before .before .before .before .before .before .before .before .before .before .before .before .before .before .before .before .before .before .before .before .before .before .before .units-in .ensures in
-    answered-stage (s .args .leader .now) (s .args .load .now) (s .args .bus .now) (s .args .pmin .now) (s .args .pmax .now) (s .args .c1 .now) (s .args .c2 .now) (s .args .root) (s .pre .0) (s .pre .1) (s .pre .2)
+    answered-stage (s .args .mode) (s .args .leader .now) (s .args .load .now) (s .args .bus .now) (s .args .pmin .now) (s .args .pmax .now) (s .args .c1 .now) (s .args .c2 .now) (s .args .root) (s .pre .0) (s .pre .1) (s .pre .2)
     _ _ (u .0) (u .1) _ _ _ _
     (c .before .before .before .before .before .before .before .before .before .before .before .before .before .before .before .before .before .before .before .before .before .before .before .before .before .before .before .before .before .figures-of .ensures) (c .before .before .before .before .before .before .before .before .before .before .before .before .before .before .before .before .before .before .before .before .before .before .before .before .before .before .figures-of2 .ensures) (c .before .before .before .before .before .before .before .before .before .before .before .before .before .before .before .before .before .before .before .before .before .before .before .figures-of3 .ensures) (c .before .before .before .before .before .before .before .before .before .before .before .before .before .before .before .before .before .before .before .before .figures-of4 .ensures)
-    _ (c .before .before .before .before .before .before .before .before .before .before .before .before .before .before .before .before .before .before .before .demand-of .ensures) (replicate 128 nought) (omega (arith, u .0, units-few (s .args .leader .now) (s .args .bus .now) (s .args .root), s .pre .0 .few))
-    (c .before .before .before .before .before .before .before .before .before .economic-dispatch .result) _ (c .before .before .before .before .before .before .before .before .before .economic-dispatch .ensures) (c .before .before .before .before .before .before .enum-told .given .1) _ _ _
-    (take-at _ _ _ (c .before .before .before .before .before .before .before .before .before .economic-dispatch .kept .1 .1 .1 .1 .1 .1 .0 ∙ ap length (front-replicate 128 (c .before .before .before .before .before .before .before .before .before .before .before .before .before .before .before .before .before .before .before .before .before .before .before .before .before .before .before .before .before .before .before .before .units-in .result) nought (omega (arith, u .0, units-few (s .args .leader .now) (s .args .bus .now) (s .args .root), s .pre .0 .few))) ∙ length-replicate (c .before .before .before .before .before .before .before .before .before .before .before .before .before .before .before .before .before .before .before .before .before .before .before .before .before .before .before .before .before .before .before .before .units-in .result) nought))
+    _ (c .before .before .before .before .before .before .before .before .before .before .before .before .before .before .before .before .before .before .before .demand-of .ensures)
+    (c .before .before .before .before .before .before .before .before .before .give .result) _ (c .before .before .before .before .before .before .before .before .before .give .ensures) (c .before .before .before .before .before .before .enum-told .given .1) _ _ _
+    (take-at _ _ _ (c .before .before .before .before .before .before .before .before .before .give .kept .1 .1 .1 .1 .1 .1 .0 ∙ ap length (front-replicate 128 (c .before .before .before .before .before .before .before .before .before .before .before .before .before .before .before .before .before .before .before .before .before .before .before .before .before .before .before .before .before .before .before .before .units-in .result) nought (omega (arith, u .0, units-few (s .args .leader .now) (s .args .bus .now) (s .args .root), s .pre .0 .few))) ∙ length-replicate (c .before .before .before .before .before .before .before .before .before .before .before .before .before .before .before .before .before .before .before .before .before .before .before .before .before .before .before .before .before .before .before .before .units-in .result) nought))
     (c .before .before .hand-out .ensures)
 
 pub serve-spec : {M : Type 1} → statement M
@@ -178,22 +184,22 @@ serve-spec =
     figures-of-requires-3
     figures-of-requires-4
     demand-of-requires
-    sub-economic-dispatch
-    part-economic-dispatch-start
-    part-economic-dispatch-end
-    sub-economic-dispatch-2
-    part-economic-dispatch-start-2
-    part-economic-dispatch-end-2
-    sub-economic-dispatch-3
-    part-economic-dispatch-start-3
-    part-economic-dispatch-end-3
-    sub-economic-dispatch-4
-    part-economic-dispatch-start-4
-    part-economic-dispatch-end-4
-    sub-economic-dispatch-5
+    sub-give
+    part-give-start
+    part-give-end
+    sub-give-2
+    part-give-start-2
+    part-give-end-2
+    sub-give-3
+    part-give-start-3
+    part-give-end-3
+    sub-give-4
+    part-give-start-4
+    part-give-end-4
+    sub-give-5
     part-out-start
     part-out-end
-    economic-dispatch-requires
+    give-requires
     enum-known-f
     index-requires
     mul-wide

@@ -30,7 +30,7 @@ returns : tie.Need-returns
 returns c = led-yes _ _ _ _ _ (c .before .before .before .before .before .before .wide .ensures) _ (c .before .before .before .before .before .if1 .taken) (c .before .before .serve .ensures)
 
 returns-2 : tie.Need-returns-2
-returns-2 c = led-no (dispatchCase (c .before .before .before .before .before .before .before .before .before .before .before .args .load .now) (c .before .before .before .before .before .before .before .before .before .before .before .args .bus .now) (c .before .before .before .before .before .before .before .before .before .before .before .args .pmin .now) (c .before .before .before .before .before .before .before .before .before .before .before .args .pmax .now) (c .before .before .before .before .before .before .before .before .before .before .before .args .c1 .now) (c .before .before .before .before .before .before .before .before .before .before .before .args .c2 .now)) (c .before .before .before .before .before .before .before .before .before .before .before .args .leader .now) (c .before .before .before .before .before .before .before .before .before .before .before .args .i) _ _ (c .before .wide .ensures) (c .if1 .left)
+returns-2 c = led-no (dispatchCase (c .before .before .before .before .before .before .before .before .before .before .before .args .mode) (c .before .before .before .before .before .before .before .before .before .before .before .args .load .now) (c .before .before .before .before .before .before .before .before .before .before .before .args .bus .now) (c .before .before .before .before .before .before .before .before .before .before .before .args .pmin .now) (c .before .before .before .before .before .before .before .before .before .before .before .args .pmax .now) (c .before .before .before .before .before .before .before .before .before .before .before .args .c1 .now) (c .before .before .before .before .before .before .before .before .before .before .before .args .c2 .now)) (c .before .before .before .before .before .before .before .before .before .before .before .args .leader .now) (c .before .before .before .before .before .before .before .before .before .before .before .args .i) _ _ (c .before .wide .ensures) (c .if1 .left)
 
 pub serve-led-spec : {M : Type 1} → statement M
 serve-led-spec =

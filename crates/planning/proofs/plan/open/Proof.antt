@@ -31,7 +31,7 @@ same-length-2 : tie.Need-same-length-2
 same-length-2 c = c .before .before .before .before .before .before .before .before .before .before .ground-components .kept .1 .1 .1 .0
 
 same-length-3 : tie.Need-same-length-3
-same-length-3 c = c .before .before .before .before .before .dispatch-components .kept .1 .1 .1 .1 .1 .1 .1 .0
+same-length-3 c = c .before .before .before .before .before .dispatch-components .kept .1 .1 .1 .1 .1 .1 .1 .1 .0
 
 returns : tie.Need-returns
 returns c =
@@ -43,7 +43,7 @@ enum-told c = c .match .keys2
 injections-requires : tie.Need-injections-requires
 injections-requires c κs =
     let h = c .before .before .before .before .before .before .before .before .before .before .before .before .before .before .before .before .before .before .before .before .before .before .before .before .before .before .before .before .before .before .before .before .before .before .before .pre in
-    (fleet-by _ (h .target) (h .sound) _ (h .injection-size), c .before .before .before .before .before .before .dispatch-components .kept .1 .1 .1 .1 .1 .1 .1 .0 ∙ h .mw-size ∙ sym (h .sound .bus-size), h .injection-size ∙ sym (h .sound .load-size))
+    (fleet-by _ (h .target) (h .sound) _ (h .injection-size), c .before .before .before .before .before .before .dispatch-components .kept .1 .1 .1 .1 .1 .1 .1 .1 .0 ∙ h .mw-size ∙ sym (h .sound .bus-size), h .injection-size ∙ sym (h .sound .load-size))
 
 first-levels-requires : tie.Need-first-levels-requires
 first-levels-requires c κs =
@@ -65,7 +65,7 @@ same-length-6 : tie.Need-same-length-6
 same-length-6 c = c .before .before .before .before .before .before .before .before .before .before .before .before .before .before .before .before .before .before .before .before .before .before .ground-components .kept .1 .1 .1 .0
 
 same-length-7 : tie.Need-same-length-7
-same-length-7 c = c .before .before .before .before .before .before .before .before .before .before .before .before .before .before .before .before .before .dispatch-components .kept .1 .1 .1 .1 .1 .1 .1 .0
+same-length-7 c = c .before .before .before .before .before .before .before .before .before .before .before .before .before .before .before .before .before .dispatch-components .kept .1 .1 .1 .1 .1 .1 .1 .1 .0
 
 same-length-8 : tie.Need-same-length-8
 same-length-8 c = c .before .before .before .before .before .before .first-levels .kept .1 .1 .0

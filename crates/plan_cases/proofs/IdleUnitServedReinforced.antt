@@ -1,0 +1,62 @@
+-- ReinforceServing, one island: the defined plan's listing is the reference build's. The branches that are taken:
+-- dispatch: bisection narrowed the price; no unit between its limits
+-- serving: a unit is left below its most
+-- angles: settled after steps
+-- rounds: circuits added
+-- end: converged
+-- By evaluation.
+use mathlib.Core.List.{[], _∷_}
+use mathlib.Core.Path.{_≡_, refl}
+use Rattle.mode.specs.declared.PlanMode.the-variants.{ReinforceServing}
+use Rattle.plan_defs.specs.Case.{Case}
+use Rattle.plan_defs.specs.Listing.{listingOf}
+use Rattle.plan_cases.proofs.Figures.{figures}
+
+-- HD 4 0 2 1 1 0 1
+-- LV 138
+-- BU 0 0
+-- BU 0 95
+-- GE 0 1 0 100 20 0
+-- CO 0 1 1 10 1
+-- LN 0 0.125 0 100 0
+abbrev pub given : Case
+given =
+    record {
+      mode = ReinforceServing;
+      buses = 2;
+      corridors = 1;
+      generators = 1;
+      above = 0;
+      requested = 1;
+      ladder = figures (0x4061_4000_0000_0000 ∷ []);
+      tier = 0 ∷ 0 ∷ [];
+      load = figures (0 ∷ 0x4057_C000_0000_0000 ∷ []);
+      bus = 0 ∷ [];
+      slack = 1 ∷ [];
+      pmin = figures (0 ∷ []);
+      pmax = figures (0x4059_0000_0000_0000 ∷ []);
+      c1 = figures (0x4034_0000_0000_0000 ∷ []);
+      c2 = figures (0 ∷ []);
+      a = 0 ∷ [];
+      b = 1 ∷ [];
+      circuits = 1 ∷ [];
+      km = figures (0x4024_0000_0000_0000 ∷ []);
+      share = figures (0x3FF0_0000_0000_0000 ∷ []);
+      sheet = figures (0 ∷ 0x3FC0_0000_0000_0000 ∷ 0 ∷ 0x4059_0000_0000_0000 ∷ 0 ∷ []);
+    }
+
+pub listed :
+    listingOf given 0
+    ≡ (4 ∷ 2 ∷ 1 ∷ 1 ∷ 0 ∷ 0 ∷ 0 ∷ 0 ∷ 0 ∷ 0 ∷ [])
+    ∷ []
+    ∷ (0 ∷ [])
+    ∷ (0 ∷ 0 ∷ [])
+    ∷ (0 ∷ 0xBFAE_6666_6666_6666 ∷ [])
+    ∷ (0x4057_C000_0000_0000 ∷ [])
+    ∷ (2 ∷ [])
+    ∷ (0x4057_C000_0000_0000 ∷ [])
+    ∷ (0x4059_0000_0000_0000 ∷ [])
+    ∷ (0x3FDE_6666_6666_6666 ∷ 0x3FAE_6666_6666_6666 ∷ [])
+    ∷ []
+unfolding listingOf
+listed = refl

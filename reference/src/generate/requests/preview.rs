@@ -47,11 +47,11 @@ fn ask(kept: &Kept, target: usize) -> Words {
 }
 
 /// A record that is answered: some counts, most of them low, in some order;
-/// every other one with some caps.
+/// every other one with some caps. Both modes that fill have their turn.
 fn record(random: &mut Random, corridors: usize) -> Kept {
     let most = random.pick(&[1, 2, 4, 6]);
     let kept = Kept {
-        mode: EXPAND,
+        mode: [EXPAND, SERVING][corridors % 2],
         before: (0..corridors).map(|_| random.from_to(1, most)).collect(),
         cap: vec![0; corridors],
         order: random.shuffled(corridors),

@@ -1,13 +1,28 @@
 -- `planning::stiffen::reinforce` meets its contract.
+use mathlib.Core.Path.{refl}
 use native.Mathlib.Omega.{arith}
 use denote.Ref.{now}
-use borrow.Author.Needs.{needs}
 use Rattle.planning.proofs.Reinforcing.{reinforced}
 use Rattle.planning.proofs.stiffen.reinforce.Statement.{statement}
 use Rattle.planning.proofs.stiffen.reinforce.Tie as tie
 
 choose-batch-requires : tie.Need-choose-batch-requires
-choose-batch-requires c κs = search needs
+choose-batch-requires c κs =
+    let s = c .before .before .before .before .before .before .before .before .before .before .before .before .before .before .before .before .before .before .before in
+    let p = s .pre .0 in
+    let q = s .pre .1 in (
+      record {
+        lines = p .lines;
+        leader-size = q .0;
+        angle-size = q .1;
+        phi-size = q .2;
+        cap-size = p .capped .size;
+        count-size = p .count-size;
+        bank-size = p .bank-size;
+        banked = p .banked;
+      },
+      (q .3, refl),
+    )
 
 stiffen-batch-requires : tie.Need-stiffen-batch-requires
 stiffen-batch-requires c κs =

@@ -1,14 +1,11 @@
 -- The records' starts, stored one after the other, and the columns read by them: the definition's, since a start is where its record is.
 use Prim.Native.Nat.{ℕ, _+_, _<_, _≤_}
-use mathlib.Core.Bool.{Bool, true, false, cond}
 use mathlib.Core.List.{List}
 use mathlib.Core.Path.{_≡_, refl, sym, ap, _∙_, subst}
 use native.Mathlib.Decide.{decLt}
 use native.Mathlib.Nat.{not-suc-le-zero}
 use native.Mathlib.Numerals.{add-one}
 use native.Mathlib.Omega.{arith}
-use borrow.Author.Tests.{ltb-true}
-use lib.Dec.{ltb}
 use lib.ListN.{length, getD, set}
 use lib.Seq.{getD-set-same, getD-set-other}
 use Rattle.loops.specs.Figures.{nought}
@@ -17,16 +14,8 @@ use Rattle.loops.proofs.Tab.{tab-same}
 use Rattle.casefile_defs.specs.Layout.{sizeOf, endOf, spot}
 use Rattle.casefile_defs.specs.Tables.{numberAt, figureAt, numberIn, figureIn}
 use Rattle.casefile_defs.specs.declared.Kind.{Kind}
-use Rattle.casefile_defs.proofs.Spots.{standing-least}
+use Rattle.casefile_defs.proofs.Spots.{standing-least, by-test}
 use Rattle.casefile.specs.Starts.{Room, Starts, Whole, Within, numberBy, figureBy}
-
--- two ways that agree where a test passes
-by-test {ℓ} : {A : Type ℓ} (i count : ℕ) (x y z : A) → (i < count → x ≡ y) → cond (ltb i count) x z ≡ cond (ltb i count) y z
-by-test {A = A} i count x y z g = go (ltb i count) refl
-  where
-    go : (b : Bool) → ltb i count ≡ b → cond b x z ≡ cond b y z
-    go true e = g (ltb-true _ _ e)
-    go false e = refl
 
 module _ (k : Kind) (s : List ℕ) (at : ℕ) where
   -- ---- the loop that stores them: its start, and a turn

@@ -6,7 +6,8 @@ use mathlib.Core.Bool.{Bool, true, false, cond}
 use mathlib.Core.Path.{_≡_, refl, ap, _∙_}
 use mathlib.Core.List.{List}
 use native.Mathlib.Omega.{arith}
-use borrow.Author.Tests.{lt-ltb, le-ltb, le-leb, lt-leb}
+use borrow.Author.Tests.{lt-ltb, le-ltb, ltb-true, le-leb, lt-leb}
+use lib.Dec.{ltb}
 use lib.Ieee.{Float, binary64, ofBits}
 use Rattle.loops.specs.Figures.{nought}
 use Rattle.casefile_defs.specs.Bounds.{rowFigures}
@@ -40,6 +41,14 @@ pub line-spot : (s : List ℕ) (at i : ℕ) → spot Line s at i ≡ at + i * si
 unfolding spot
 line-spot s at zero = omega arith
 line-spot s at (suc i) = omega (arith, line-spot s at i)
+
+-- two ways that agree where a test passes
+pub by-test {ℓ} : {A : Type ℓ} (i count : ℕ) (x y z : A) → (i < count → x ≡ y) → cond (ltb i count) x z ≡ cond (ltb i count) y z
+by-test {A = A} i count x y z g = go (ltb i count) refl
+  where
+    go : (b : Bool) → ltb i count ≡ b → cond b x z ≡ cond b y z
+    go true e = g (ltb-true _ _ e)
+    go false e = refl
 
 -- ---- a number of a record, by whether the record has it
 module _ (k : Kind) (s : List ℕ) (at o w : ℕ) where

@@ -11,7 +11,7 @@ use lib.ListN.{length, take, set, length-append}
 use Rattle.loops.proofs.Bools.{is}
 use Rattle.casefile_defs.specs.Layout.{layoutOf}
 use Rattle.casefile_defs.specs.declared.Kind.{Kind}
-use Rattle.casefile_defs.specs.declared.Kind.the-variants.{Head, Level, Bus, Generator, Corridor, Line}
+use Rattle.casefile_defs.specs.declared.Kind.the-variants.{Head, Level, Bus, Generator, Corridor, Line, CappedCorridor}
 use Rattle.casefile_theorems.specs.Writer.{bytes, recordBytes, tableBytes}
 use Rattle.case_writer.specs.Put.{Put}
 use Rattle.case_writer.specs.Words.{markOf}
@@ -86,16 +86,21 @@ mark-bytes Bus = refl
 mark-bytes Generator = refl
 mark-bytes Corridor = refl
 mark-bytes Line = refl
+mark-bytes CappedCorridor = refl
+
+-- ---- a field behind a corridor's others
+pub field-behind : (a b c d e f : List ℕ) → (a ++ (b ++ (c ++ (d ++ (e ++ []))))) ++ f ≡ a ++ (b ++ (c ++ (d ++ (e ++ (f ++ [])))))
+field-behind a b c d e f = simp (append-assoc, append-nil)
 
 -- ---- a table's records
-pub no-record : (b : List ℕ) (k : Kind) (v : ℕ → ℕ → ℕ) (len : ℕ) → Put b len (tableBytes k 0 v) b len
+pub no-record : (b : List ℕ) (ks : ℕ → Kind) (v : ℕ → ℕ → ℕ) (len : ℕ) → Put b len (tableBytes ks 0 v) b len
 unfolding tableBytes
-no-record b k v len = record { used = omega arith; bytes = sym (append-nil (take len b)) }
+no-record b ks v len = record { used = omega arith; bytes = sym (append-nil (take len b)) }
 
-pub one-more : {b a z : List ℕ} {len r s : ℕ} (k : Kind) (v : ℕ → ℕ → ℕ) (i : ℕ) → Put b len (tableBytes k i v) a r → Put a r (recordBytes k (v i)) z s
-    → Put b len (tableBytes k (i + 1) v) z s
+pub one-more : {b a z : List ℕ} {len r s : ℕ} (ks : ℕ → Kind) (v : ℕ → ℕ → ℕ) (i : ℕ) → Put b len (tableBytes ks i v) a r → Put a r (recordBytes (ks i) (v i)) z s
+    → Put b len (tableBytes ks (i + 1) v) z s
 unfolding tableBytes
-one-more {b} {a} {z} {len} {r} {s} k v i p q = subst (λ n. Put b len (tableBytes k n v) z s) (sym (add-one i)) (puts p q)
+one-more {b} {a} {z} {len} {r} {s} ks v i p q = subst (λ n. Put b len (tableBytes ks n v) z s) (sym (add-one i)) (puts p q)
 
-pub all-put : {b a : List ℕ} {len r : ℕ} (k : Kind) (v : ℕ → ℕ → ℕ) (i n : ℕ) → i ≡ n → Put b len (tableBytes k i v) a r → Put b len (tableBytes k n v) a r
-all-put {b} {a} {len} {r} k v i n e p = subst (λ m. Put b len (tableBytes k m v) a r) e p
+pub all-put : {b a : List ℕ} {len r : ℕ} (ks : ℕ → Kind) (v : ℕ → ℕ → ℕ) (i n : ℕ) → i ≡ n → Put b len (tableBytes ks i v) a r → Put b len (tableBytes ks n v) a r
+all-put {b} {a} {len} {r} ks v i n e p = subst (λ m. Put b len (tableBytes ks m v) a r) e p

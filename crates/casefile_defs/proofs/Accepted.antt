@@ -1,6 +1,6 @@
 -- What an answered file holds: each record passed, in its place, and nothing but zeros after the last.
 -- A fault stays, so a walk that ends at a place passed every record (walked-all); the tests on the way are taken apart one by one.
-use Prim.Native.Nat.{ℕ, zero, suc, _+_, _-_, _<_, _≤_}
+use Prim.Native.Nat.{ℕ, zero, suc, _-_, _<_, _≤_}
 use mathlib.Core.Path.{_≡_, refl, sym, ap, _∙_, subst}
 use mathlib.Core.Bool.{Bool, true, false, cond}
 use mathlib.Core.List.{List}

@@ -101,10 +101,11 @@ pub capped :
 unfolding readOf bodyRead endRead tablesWalked walked stepped recordAt headerOf modeOf modeNumber trailing looksFor iter first word little
 capped = refl
 
--- a CO has cap 0, and what stands behind a CP is found
+-- a CO has cap 0; what stands behind a CP is found; past the corridors there are zeros, whatever stands there
 pub caps :
-    tablesOf (cappedL 2) headerL .cap ∷ tablesOf (cappedL 7) headerL .cap ∷ tablesOf twoL headerTwo .cap ∷ tablesOf twoL headerTwo .circuits ∷ []
-    ≡ counts (2 ∷ []) 255 ∷ counts (7 ∷ []) 255 ∷ counts (2 ∷ 0 ∷ []) 254 ∷ counts (1 ∷ 1 ∷ []) 254 ∷ []
+    tablesOf (cappedL 2) headerL .cap ∷ tablesOf (cappedL 7) headerL .cap ∷ tablesOf twoL headerTwo .cap ∷ tablesOf twoL headerTwo .circuits
+    ∷ tablesOf (frontL ++ corridorL 0x4f ++ corridorL 0x50 ++ (3 ∷ [])) headerL .cap ∷ []
+    ≡ counts (2 ∷ []) 255 ∷ counts (7 ∷ []) 255 ∷ counts (2 ∷ 0 ∷ []) 254 ∷ counts (1 ∷ 1 ∷ []) 254 ∷ counts (0 ∷ []) 255 ∷ []
 unfolding tablesOf numberIn numberAt spot tab word little
 caps = refl
 

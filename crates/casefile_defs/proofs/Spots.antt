@@ -1,4 +1,4 @@
--- The places of a table's records, and a place of a column by whether it is among the records.
+-- The places of a table's records, and the places of a column.
 -- A record's length is that of the one that stands there, so a table's records lie one after the other (spot-next); the rest is one way through each
 -- definition.
 use Prim.Native.Nat.{ℕ, zero, suc, _+_, _*_, _/_, _%_, _<_, _≤_}
@@ -60,19 +60,11 @@ module _ (k : Kind) (s : List ℕ) (at o w : ℕ) where
   unfolding numberAt
   number-not h = simp (lt-leb _ _ h)
 
--- a place of a column, by whether it is among the records
+-- a place of a column past the records
 module _ (k : Kind) (s : List ℕ) (at count o : ℕ) where
-  pub number-there : (w i p x : ℕ) → i < count → p ≡ spot k s at i → x ≡ numberAt k s p o w → x ≡ numberIn k s at count o w i
-  unfolding numberIn
-  number-there w i p x h e q = simp (lt-ltb _ _ h, q, e)
-
   pub number-past : (w i : ℕ) → count ≤ i → 0 ≡ numberIn k s at count o w i
   unfolding numberIn
   number-past w i h = simp (le-ltb _ _ h)
-
-  pub figure-there : (i p : ℕ) (y : Float) → i < count → p ≡ spot k s at i → y ≡ figureAt s p o → y ≡ figureIn k s at count o i
-  unfolding figureIn
-  figure-there i p y h e q = simp (lt-ltb _ _ h, q, e)
 
   pub figure-past : (i : ℕ) → count ≤ i → nought ≡ figureIn k s at count o i
   unfolding figureIn

@@ -1,7 +1,7 @@
 -- The tables of numbers that a file can hold: they are a case, which can be written in the file's form, and its file has the same numbers, with one pattern for
 -- each NaN.
 -- Each place among the records is its field's number, and the bits of a figure from bits are those bits, but for a NaN (bits-tidy).
-use Prim.Native.Nat.{ℕ, zero, suc, _+_, _*_, _/_, _%_, _^_, _<_, _≤_}
+use Prim.Native.Nat.{ℕ, zero, suc, _*_, _/_, _%_, _^_, _<_, _≤_}
 use mathlib.Core.Path.{_≡_, refl, sym, ap, _∙_, subst}
 use mathlib.Core.Bool.{Bool, true, false, not, cond}
 use mathlib.Core.List.{List, _∷_, _++_}

@@ -1,10 +1,9 @@
--- `end_of` meets its contract.
+-- `casefile::columns::end_of` meets its contract.
 use Prim.Native.Nat.{ℕ, _+_}
 use mathlib.Core.Path.{_≡_, ap, _∙_}
 use native.Mathlib.Omega.{arith}
 use Rattle.casefile_defs.specs.declared.Kind.{Kind}
 use denote.Ref.{now}
-use lib.ListN.{length}
 use Rattle.casefile_defs.specs.Layout.{sizeOf, standing}
 use borrow.Author.Needs.{needs}
 use Rattle.casefile.proofs.columns.end_of.Statement.{statement}

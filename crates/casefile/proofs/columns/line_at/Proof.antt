@@ -1,9 +1,8 @@
--- `line_at` meets its contract.
+-- `casefile::columns::line_at` meets its contract.
 use Prim.Native.Nat.{ℕ, _*_}
 use mathlib.Core.Path.{_≡_, ap}
 use native.Mathlib.Omega.{arith}
 use Rattle.casefile_defs.specs.declared.Kind.the-variants.{Line}
-use lib.ListN.{length}
 use Rattle.casefile_defs.specs.Layout.{sizeOf}
 use borrow.Author.Needs.{needs}
 use Rattle.casefile.proofs.columns.line_at.Statement.{statement}

@@ -1,4 +1,4 @@
--- `corridor_at` meets its contract.
+-- `casefile::record::corridor_at` meets its contract.
 use mathlib.Core.Path.{sym, _∙_}
 use borrow.Author.Needs.{needs}
 use Rattle.casefile.proofs.record.corridor_at.Statement.{statement}

@@ -1,4 +1,4 @@
--- `standing` meets its contract.
+-- `casefile::record::standing` meets its contract.
 use borrow.Author.Needs.{needs}
 use Rattle.casefile.proofs.record.standing.Statement.{statement}
 use Rattle.casefile.proofs.record.standing.Tie as tie

@@ -1,4 +1,4 @@
--- `sheet_in` meets its contract.
+-- `casefile::tables::sheet_in` meets its contract.
 use Prim.Native.Nat.{_/_}
 use mathlib.Core.Path.{sym, _∙_}
 use native.Mathlib.Omega.{arith}

@@ -1,10 +1,10 @@
--- `case_writer::record::put_corridor` meets its contract. Its fields behind one another.
+-- `case_writer::record::put_shared` meets its contract. Its fields behind one another.
 use native.Mathlib.Omega.{arith}
 use borrow.Author.Needs.{needs}
-use Rattle.casefile_theorems.specs.Writer.{fieldBytes, recordBytes}
+use Rattle.casefile_theorems.specs.Writer.{fieldBytes}
 use Rattle.case_writer.proofs.Puts.{last, puts}
-use Rattle.case_writer.proofs.record.put_corridor.Statement.{statement}
-use Rattle.case_writer.proofs.record.put_corridor.Tie as tie
+use Rattle.case_writer.proofs.record.put_shared.Statement.{statement}
+use Rattle.case_writer.proofs.record.put_shared.Tie as tie
 
 put-mark-requires : tie.Need-put-mark-requires
 put-mark-requires c κs = search needs
@@ -28,14 +28,14 @@ same-length : tie.Need-same-length
 same-length c = search needs
 
 returns : tie.Need-returns
-unfolding recordBytes fieldBytes
+unfolding fieldBytes
 returns c = (
   puts (c .before .before .before .before .before .before .before .before .before .before .before .before .before .before .before .before .before .before .before .before .before .before .put-mark .ensures .0) (puts (c .before .before .before .before .before .before .before .before .before .before .before .before .before .before .before .before .before .before .put-bytes .ensures .0) (puts (c .before .before .before .before .before .before .before .before .before .before .before .before .before .before .put-bytes2 .ensures .0) (puts (c .before .before .before .before .before .before .before .before .before .before .put-bytes3 .ensures .0) (puts (c .before .before .before .before .before .before .put-figure .ensures .0) (last (c .before .before .put-figure2 .ensures .0)))))),
   omega (arith, c .before .before .before .before .before .before .before .before .before .before .before .before .before .before .before .before .before .before .before .before .before .before .put-mark .ensures .1, c .before .before .before .before .before .before .before .before .before .before .before .before .before .before .before .before .before .before .put-bytes .ensures .1, c .before .before .before .before .before .before .before .before .before .before .before .before .before .before .put-bytes2 .ensures .1, c .before .before .before .before .before .before .before .before .before .before .put-bytes3 .ensures .1, c .before .before .before .before .before .before .put-figure .ensures .1, c .before .before .put-figure2 .ensures .1),
 )
 
-pub put-corridor-spec : {M : Type 1} → statement M
-put-corridor-spec =
+pub put-shared-spec : {M : Type 1} → statement M
+put-shared-spec =
     tie.close
     (tie.spec
     put-mark-requires

@@ -12,7 +12,7 @@ use lib.Ieee.{Float, binary64, ofBits}
 use Rattle.loops.specs.Figures.{nought}
 use Rattle.casefile_defs.specs.Bounds.{rowFigures}
 use Rattle.casefile_defs.specs.Layout.{sizeOf, marked, standing, endOf, spot, word, field}
-use Rattle.casefile_defs.specs.Tables.{numberAt, figureAt, numberIn, figureIn, sheetIn, lineFigure, basisOf, basisField}
+use Rattle.casefile_defs.specs.Tables.{numberAt, numberIn, figureIn, sheetIn, lineFigure, basisOf, basisField}
 use Rattle.casefile_defs.specs.declared.Kind.{Kind}
 use Rattle.casefile_defs.specs.declared.Kind.the-variants.{Head, Level, Bus, Generator, Corridor, Line, CappedCorridor}
 

@@ -144,6 +144,7 @@ fn tables_of(answer: &Result<Case, Refusal>) -> Tables {
         5,
         case.corridors.iter().map(|c| c.circuits.into()).collect(),
     );
+    wholes(6, case.corridors.iter().map(|c| c.cap.into()).collect());
     tables
 }
 

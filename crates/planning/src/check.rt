@@ -265,7 +265,8 @@ fn corridor_ok(n: usize, a: u32, b: u32, initial: u32, km: f64, share: f64, cap:
 {
     let length = (0.0 <= km) & (km <= MOST_KM);
     let spread = (LEAST_SHARE <= share) & (share <= 1.0);
-    ends_ok(n, wide(a), wide(b)) & ((initial <= MOST_INITIAL) & (length & (spread & (cap <= MOST_CAP))))
+    ends_ok(n, wide(a), wide(b))
+        & ((initial <= MOST_INITIAL) & (length & (spread & (cap <= MOST_CAP))))
 }
 
 fn faulty_corridor(

@@ -184,33 +184,35 @@ returns c =
     let f = fits o in
     let k = p .plan-corridors .kept .1 .1 .1 .1 .1 .1 .1 .1 .1 .1 .1 .1 .1 .1 .1 .1 .1 .1 .1 .1 .1 .1 .1 in (
       ap (filed (o .args .h))
-      (same-results (p .plan-corridors .result)
-      (back _ mostCorridors 0 _ (f .corridors) (k .0))
-      (back _ mostCorridors nought _ (f .corridors) (k .1 .0))
-      (back _ mostCorridors nought _ (f .corridors) (k .1 .1 .0))
-      (back _ mostCorridors 0 _ (f .corridors) (k .1 .1 .1 .0))
-      (back _ mostCorridors 0 _ (f .corridors) (k .1 .1 .1 .1 .0))
-      (back _ mostCorridors 0 _ (f .corridors) (k .1 .1 .1 .1 .1 .0))
-      (back _ mostGenerators nought _ (f .generators) (k .1 .1 .1 .1 .1 .1 .0))
-      (back _ mostBuses nought _ (f .buses) (k .1 .1 .1 .1 .1 .1 .1 .0))
-      (back _ mostBuses 0 _ (f .buses) (k .1 .1 .1 .1 .1 .1 .1 .1 .0))
-      (back _ mostBuses 0 _ (f .buses) (k .1 .1 .1 .1 .1 .1 .1 .1 .1 .0))
-      (back _ mostLevels nought _ (f .above) (k .1 .1 .1 .1 .1 .1 .1 .1 .1 .1 .0))
-      ∙ as-planned (the-case o) (o .args .h .target) (left p) (p .plan-corridors .result) f (p .plan-corridors .ensures .0)),
-      (small o,
-      record {
-        circuits = back-length _ mostCorridors 0 (left p .circuits) (f .corridors) (k .0);
-        flow = back-length _ mostCorridors nought (left p .flow) (f .corridors) (k .1 .0);
-        rate = back-length _ mostCorridors nought (left p .rate) (f .corridors) (k .1 .1 .0);
-        before = back-length _ mostCorridors 0 (left p .before) (f .corridors) (k .1 .1 .1 .0);
-        order = back-length _ mostCorridors 0 (left p .order) (f .corridors) (k .1 .1 .1 .1 .0);
-        cap = back-length _ mostCorridors 0 (left p .cap) (f .corridors) (k .1 .1 .1 .1 .1 .0);
-        mw = back-length _ mostGenerators nought (left p .mw) (f .generators) (k .1 .1 .1 .1 .1 .1 .0);
-        angle = back-length _ mostBuses nought (left p .angle) (f .buses) (k .1 .1 .1 .1 .1 .1 .1 .0);
-        tier = back-length _ mostBuses 0 (left p .tier) (f .buses) (k .1 .1 .1 .1 .1 .1 .1 .1 .0);
-        ground = back-length _ mostBuses 0 (left p .ground) (f .buses) (k .1 .1 .1 .1 .1 .1 .1 .1 .1 .0);
-        added = back-length _ mostLevels nought (left p .added) (f .above) (k .1 .1 .1 .1 .1 .1 .1 .1 .1 .1 .0);
-      }),
+          (same-results (p .plan-corridors .result)
+          (back _ mostCorridors 0 _ (f .corridors) (k .0))
+          (back _ mostCorridors nought _ (f .corridors) (k .1 .0))
+          (back _ mostCorridors nought _ (f .corridors) (k .1 .1 .0))
+          (back _ mostCorridors 0 _ (f .corridors) (k .1 .1 .1 .0))
+          (back _ mostCorridors 0 _ (f .corridors) (k .1 .1 .1 .1 .0))
+          (back _ mostCorridors 0 _ (f .corridors) (k .1 .1 .1 .1 .1 .0))
+          (back _ mostGenerators nought _ (f .generators) (k .1 .1 .1 .1 .1 .1 .0))
+          (back _ mostBuses nought _ (f .buses) (k .1 .1 .1 .1 .1 .1 .1 .0))
+          (back _ mostBuses 0 _ (f .buses) (k .1 .1 .1 .1 .1 .1 .1 .1 .0))
+          (back _ mostBuses 0 _ (f .buses) (k .1 .1 .1 .1 .1 .1 .1 .1 .1 .0))
+          (back _ mostLevels nought _ (f .above) (k .1 .1 .1 .1 .1 .1 .1 .1 .1 .1 .0))
+          ∙ as-planned (the-case o) (o .args .h .target) (left p) (p .plan-corridors .result) f (p .plan-corridors .ensures .0)),
+      (
+        small o,
+        record {
+          circuits = back-length _ mostCorridors 0 (left p .circuits) (f .corridors) (k .0);
+          flow = back-length _ mostCorridors nought (left p .flow) (f .corridors) (k .1 .0);
+          rate = back-length _ mostCorridors nought (left p .rate) (f .corridors) (k .1 .1 .0);
+          before = back-length _ mostCorridors 0 (left p .before) (f .corridors) (k .1 .1 .1 .0);
+          order = back-length _ mostCorridors 0 (left p .order) (f .corridors) (k .1 .1 .1 .1 .0);
+          cap = back-length _ mostCorridors 0 (left p .cap) (f .corridors) (k .1 .1 .1 .1 .1 .0);
+          mw = back-length _ mostGenerators nought (left p .mw) (f .generators) (k .1 .1 .1 .1 .1 .1 .0);
+          angle = back-length _ mostBuses nought (left p .angle) (f .buses) (k .1 .1 .1 .1 .1 .1 .1 .0);
+          tier = back-length _ mostBuses 0 (left p .tier) (f .buses) (k .1 .1 .1 .1 .1 .1 .1 .1 .0);
+          ground = back-length _ mostBuses 0 (left p .ground) (f .buses) (k .1 .1 .1 .1 .1 .1 .1 .1 .1 .0);
+          added = back-length _ mostLevels nought (left p .added) (f .above) (k .1 .1 .1 .1 .1 .1 .1 .1 .1 .1 .0);
+        },
+      ),
     )
 
 pub plan-case-spec : {M : Type 1} → statement M

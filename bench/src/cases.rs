@@ -86,6 +86,8 @@ fn join(case: &mut Case, shape: Shape, a: usize, b: usize, turn: f64) {
         circuits: 1,
         length: km,
         share: 1.0,
+        cap: 0,
+        marked: false,
     });
     for kv in shape.ladder {
         let ohms = kv * kv / 100.0;

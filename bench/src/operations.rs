@@ -246,6 +246,7 @@ fn draft(q: &Support) -> (Vec<DraftBus>, Vec<Corridor>, Vec<DraftGenerator>) {
         kv: 0.0,
         length_km,
         circuits: 1,
+        cap: 0,
     };
     let generator = |&bus: &usize| DraftGenerator {
         bus,

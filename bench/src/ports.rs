@@ -100,6 +100,8 @@ extern "C" {
         length_km_len: usize,
         share: *mut f64,
         share_len: usize,
+        cap: *mut u32,
+        cap_len: usize,
         sheet: *mut f64,
         sheet_len: usize,
     ) -> ReadingSaid;
@@ -201,14 +203,14 @@ pub fn dc_angles(q: &Request, result: &mut [f64], work: &mut [f64]) -> AnglesSai
 pub struct Tables {
     /// Ladder, loads, pmin, pmax, c1, c2, lengths, shares, the sheet.
     pub figures: Vec<Vec<f64>>,
-    /// Tiers, the generators' buses, slack, the corridors' two ends, circuits.
+    /// Tiers, the generators' buses, slack, the corridors' two ends, circuits, caps.
     pub wholes: Vec<Vec<u32>>,
 }
 
 impl Tables {
     pub fn new() -> Self {
         let figures = [5, 256, 128, 128, 128, 128, 256, 256, 6400];
-        let wholes = [256, 128, 128, 256, 256, 256];
+        let wholes = [256, 128, 128, 256, 256, 256, 256];
         Self {
             figures: figures.iter().map(|&n| vec![0.0; n]).collect(),
             wholes: wholes.iter().map(|&n| vec![0; n]).collect(),
@@ -259,6 +261,8 @@ pub fn read_case(file: &[u8], t: &mut Tables) -> ReadingSaid {
             f[6].1,
             f[7].0,
             f[7].1,
+            w[6].0,
+            w[6].1,
             f[8].0,
             f[8].1,
         )

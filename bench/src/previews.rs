@@ -20,11 +20,11 @@ const REQUESTS: u32 = 100;
 fn requests(kept: &Kept) -> Vec<u8> {
     let numbers = |list: &[usize]| list.iter().fold(String::new(), |text, n| text + &format!(" {n}"));
     let corridors = kept.before.len();
-    let (before, order) = (numbers(&kept.before), numbers(&kept.order));
+    let (before, cap, order) = (numbers(&kept.before), numbers(&kept.cap), numbers(&kept.order));
     let mut text = String::new();
     for k in 0..REQUESTS as usize {
         let target = k * (FULL * corridors) / (REQUESTS as usize - 1);
-        writeln!(text, "PREV {} {target} {corridors}{before}{order}", kept.mode).expect("text grows");
+        writeln!(text, "PREV {} {target} {corridors}{before}{cap}{order}", kept.mode).expect("text grows");
     }
     text.into_bytes()
 }

@@ -54,13 +54,14 @@ fn case(buses: u16, corridors: u16, generators: u16, levels: u8) -> Vec<u8> {
         let b = (k + 1) % buses.max(2);
         record(
             &mut file,
-            b"CO",
+            b"CP",
             &[
                 &(k % buses).to_le_bytes(),
                 &b.to_le_bytes(),
                 &[1],
                 &figure(10.0),
                 &figure(1.0),
+                &[(k % 7) as u8],
             ],
         );
     }
@@ -144,6 +145,7 @@ fn tables_of(answer: &Result<Case, Refusal>) -> Tables {
         5,
         case.corridors.iter().map(|c| c.circuits.into()).collect(),
     );
+    wholes(6, case.corridors.iter().map(|c| c.cap.into()).collect());
     tables
 }
 

@@ -280,7 +280,7 @@ pub fn compare_cases(
         outcome.tally.case(what, &file, &ours);
         let CaseFile { family, bytes } = file;
         let goes_on = judge(program, bytes, seed, &mut outcome, |theirs, outcome| {
-            compare_listings(family, seed, ours.as_bytes(), theirs, outcome)
+            compare_listings(&family, seed, ours.as_bytes(), theirs, outcome)
         })?;
         if !goes_on {
             break;

@@ -6,7 +6,7 @@ use std::io;
 use crate::compare::{judge, lines, Outcome, Program};
 use crate::generate::cases::{case_file, serving_file};
 use crate::harness::case_file::read_case;
-use crate::harness::preview::{answer_preview, as_input, fills, Kept, FULL};
+use crate::harness::preview::{answer_preview, as_input, fills, Kept};
 use crate::harness::tables::{Case, MOST_TARGET};
 
 /// The targets of an answered Expand case, by what they are: each place where
@@ -44,7 +44,7 @@ fn filled(kept: &Kept, case: &Case) -> Asked {
         case.target as usize,
         before,
         before + 1,
-        kept.before.iter().map(|&count| count.max(FULL)).sum(),
+        kept.when_full(),
         MOST_TARGET,
         MOST_TARGET + 1,
     ];

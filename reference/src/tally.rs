@@ -4,13 +4,15 @@
 
 use std::collections::BTreeMap;
 use std::fmt;
+use std::ops::RangeInclusive;
 
 use crate::generate::cases::{self, CaseFile};
 use crate::generate::requests::{family_names, largest, Request, KINDS};
 use crate::harness::case_file::{read_case, MOST_BYTES};
 use crate::harness::operations::leaders;
 use crate::harness::tables::{
-    Case, MOST_BUSES, MOST_CORRIDORS, MOST_GENERATORS, MOST_LEVELS, MOST_MODE, SERVING,
+    Case, CorridorRecord, MOST_BUSES, MOST_CORRIDORS, MOST_GENERATORS, MOST_LEVELS, MOST_MODE,
+    SERVING,
 };
 use crate::previews::{OTHER, TARGETS};
 use crate::watch::BRANCHES;
@@ -91,7 +93,30 @@ const SHAPES: &[(&str, TestOf<Case>)] = &[
     ("an initial count above six", |case| {
         case.corridors.iter().any(|c| c.circuits > 6)
     }),
+    ("CO and CP mixed", |case| {
+        let is_capped = |capped| case.corridors.iter().any(|c| c.is_capped() == capped);
+        is_capped(false) && is_capped(true)
+    }),
+    ("every corridor a CP", |case| {
+        !case.corridors.is_empty() && case.corridors.iter().all(CorridorRecord::is_capped)
+    }),
+    ("an own cap below the initial count", |case| {
+        let below = |c: &CorridorRecord| 0 < c.cap && c.cap < c.circuits;
+        case.corridors.iter().any(below)
+    }),
+    ("an own cap above the initial count", |case| {
+        let above = |c: &CorridorRecord| c.cap > c.circuits;
+        case.corridors.iter().any(above)
+    }),
 ];
+
+/// Cap bytes that must be met under each mode.
+const CAPS: [u8; 10] = [0, 1, 2, 3, 4, 5, 6, 7, 128, 255];
+
+/// A corridor written as CP, by its cap and the mode of its case.
+fn capped(what: &str, mode: u8, cap: u8) -> String {
+    format!("cap: {what}, mode {mode}, cap {cap}")
+}
 
 /// What a file may be like, whether it is read or not.
 const FILES: &[(&str, TestOf<[u8]>)] = &[
@@ -172,6 +197,9 @@ impl Tally {
             for name in shapes(&case) {
                 self.count(format!("tables: {what}, {name}"));
             }
+            for c in case.corridors.iter().filter(|c| c.is_capped()) {
+                self.count(capped(what, case.mode, c.cap));
+            }
         }
         self.answer(what, answer);
     }
@@ -239,6 +267,12 @@ impl fmt::Display for Tally {
     }
 }
 
+/// The caps that must be met under each of these modes.
+fn caps(what: &str, modes: RangeInclusive<u8>) -> impl Iterator<Item = String> + '_ {
+    let both = modes.flat_map(|mode| CAPS.map(|cap| (mode, cap)));
+    both.map(move |(mode, cap)| capped(what, mode, cap))
+}
+
 /// What must be met in all comparisons together, and how often at least.
 fn expected() -> BTreeMap<String, u64> {
     let branches = BRANCHES.iter().map(|name| format!("branch: {name}"));
@@ -254,10 +288,14 @@ fn expected() -> BTreeMap<String, u64> {
         let families = families.map(move |name| format!("case: {what}, {name}"));
         let shapes = shapes.map(move |name| format!("tables: {what}, {name}"));
         let files = files.map(move |name| format!("file: {what}, {name}"));
-        families.chain(shapes).chain(files)
+        families
+            .chain(shapes)
+            .chain(files)
+            .chain(caps(what, 0..=SERVING - 1))
     });
     let serving = cases::serving_names().into_iter();
     let serving = serving.map(|name| format!("case: serve, {name}"));
+    let serving = serving.chain(caps("serve", SERVING..=MOST_MODE));
     let of_requests = KINDS.iter().flat_map(|kind| {
         family_names(kind)
             .into_iter()

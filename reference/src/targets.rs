@@ -8,7 +8,7 @@ use crate::compare::{judge, Outcome, Program};
 use crate::generate::cases::case_file;
 use crate::harness::case_file::{read_case, write_case};
 use crate::harness::listing::answer_list;
-use crate::harness::preview::{fills, FULL};
+use crate::harness::preview::{fills, full_at};
 use crate::harness::tables::{Case, MOST_TARGET};
 
 /// What K13 speaks of, read off a listing; none where it is a refusal.
@@ -60,7 +60,7 @@ fn numbers(line: &str, mark: &str) -> Option<Vec<usize>> {
 /// Targets around every place where filling changes: nothing, the case's own,
 /// the total before filling and one more, every corridor full, the most.
 fn targets(case: &Case, before: usize) -> Vec<usize> {
-    let full = FULL * case.corridors.len();
+    let full = case.corridors.iter().map(|c| full_at(c.cap.into())).sum();
     let mut targets = vec![
         0,
         case.target as usize,

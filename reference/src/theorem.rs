@@ -127,6 +127,7 @@ fn given(case: &Case, mode: &str) -> String {
         ("circuits", whole(ways.iter().map(|c| c.circuits))),
         ("km", figures(ways.iter().map(|c| c.length))),
         ("share", figures(ways.iter().map(|c| c.share))),
+        ("cap", whole(ways.iter().map(|c| c.cap))),
     ];
     let rows = case.sheet.iter();
     let sheet = rows.flat_map(|row| [row.r, row.x, row.b, row.rate, f64::from(row.basis)]);

@@ -11,4 +11,7 @@ pub struct Corridor {
     pub kv: f64,
     pub length_km: f64,
     pub circuits: u32,
+    // reference edit
+    /// Its own cap (document 02, K5); 0 for none.
+    pub cap: u32,
 }

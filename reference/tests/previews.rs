@@ -1,12 +1,12 @@
 //! Previews: by hand, the order of the refusals, and that what a plan keeps
 //! gives the circuits of planning anew.
 
-use reference::generate::cases::case_file;
+use reference::generate::cases::{case_file, CAPPED};
 use reference::harness::answers::answer;
 use reference::harness::case_file::{read_case, write_case};
 use reference::harness::case_text::parse_text;
 use reference::harness::plan::plan_case;
-use reference::harness::preview::{answer_preview, as_input, fills, Kept, EXPAND, FULL};
+use reference::harness::preview::{answer_preview, as_input, fills, Kept, EXPAND};
 use reference::harness::tables::{Case, MOST_TARGET};
 use reference::previews::preview_input;
 
@@ -31,32 +31,49 @@ fn filled_in_order() {
         (14, "4 5 4"),
         (65_536, "4 5 4"),
     ] {
-        let line = format!("PREV 0 {target} 3 1 5 2 2 0 1");
+        let line = format!("PREV 0 {target} 3 1 5 2 0 0 0 2 0 1");
         assert_eq!(asked(&line), format!("OK {circuits}"));
     }
     assert_eq!(asked("PREV 0 7 0"), "OK");
 }
 
+/// The first stops at 2, the second is past its cap and stays, the last goes
+/// on to 6.
+#[test]
+fn filled_to_own_caps() {
+    for (target, circuits) in [
+        (8, "2 3 3"),
+        (9, "2 3 4"),
+        (10, "2 3 5"),
+        (11, "2 3 6"),
+        (65_536, "2 3 6"),
+    ] {
+        let line = format!("PREV 0 {target} 3 1 3 1 2 1 6 0 1 2");
+        assert_eq!(asked(&line), format!("OK {circuits}"));
+    }
+}
+
 #[test]
 fn refusals_in_order() {
     for (line, refusal) in [
-        ("PREV 1 65537 1 0 9", "RF 2 0"),
-        ("PREV 1 65536 2 0 9 0 0", "RF 18 0"),
+        ("PREV 1 65537 1 0 7 9", "RF 2 0"),
+        ("PREV 1 65536 2 0 9 0 7 0 0", "RF 18 0"),
         ("PREV 2 0 0", "RF 18 0"),
-        ("PREV 0 0 3 64 0 65 0 0 9", "RF 6 1"),
-        ("PREV 0 0 3 1 1 65 0 0 9", "RF 6 2"),
-        ("PREV 0 0 3 1 64 1 0 2 2", "RF 30 2"),
-        ("PREV 0 0 3 1 64 1 0 3 0", "RF 30 1"),
-        ("PREV 0 0 2 1 1 4294967 0", "RF 30 0"),
+        ("PREV 0 0 3 64 0 65 6 0 7 0 0 9", "RF 6 1"),
+        ("PREV 0 0 3 1 1 65 0 0 0 0 0 9", "RF 6 2"),
+        ("PREV 0 0 3 1 1 0 0 7 0 0 0 9", "RF 6 1"),
+        ("PREV 0 0 3 1 64 1 0 6 0 0 2 2", "RF 30 2"),
+        ("PREV 0 0 3 1 64 1 0 0 0 0 3 0", "RF 30 1"),
+        ("PREV 0 0 2 1 1 0 0 4294967 0", "RF 30 0"),
     ] {
         assert_eq!(asked(line), refusal, "{line}");
     }
-    let many = format!("PREV 1 0 257{}", " 0".repeat(514));
+    let many = format!("PREV 1 0 257{}", " 0".repeat(771));
     assert_eq!(asked(&many), "RF 2 0");
     for line in [
         "PREV 6 0 0",
-        "PREV 0 0 1 1",
-        "PREV 0 0 1 1 0 0",
+        "PREV 0 0 1 1 0",
+        "PREV 0 0 1 1 0 0 0",
         "PREV 0 0 401",
     ] {
         assert_eq!(asked(line), "??", "{line}");
@@ -110,7 +127,7 @@ fn files_that_have_no_plan() {
 #[test]
 fn kept_counts_give_the_plan_anew() {
     let (mut answered, mut filled) = (0, 0);
-    for seed in 0..400 {
+    for seed in (0..400).chain(CAPPED..CAPPED + 400) {
         let Ok(case) = read_case(&case_file(seed).bytes) else {
             continue;
         };
@@ -120,7 +137,7 @@ fn kept_counts_give_the_plan_anew() {
             continue;
         }
         let before: usize = kept.before.iter().sum();
-        let full = FULL * kept.before.len();
+        let full = kept.when_full();
         for target in [
             0,
             before,
@@ -144,7 +161,7 @@ fn kept_counts_give_the_plan_anew() {
             filled += usize::from(planned.plan.filler_circuits > 0);
         }
     }
-    assert!(answered > 800 && filled > 400, "{answered} {filled}");
+    assert!(answered > 1_600 && filled > 800, "{answered} {filled}");
 }
 
 #[test]

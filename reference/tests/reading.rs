@@ -1,8 +1,9 @@
 //! Case reading: the refusals and their indices.
 
-use reference::generate::cases::case_file;
 use reference::generate::cases::padding::padded_files;
+use reference::generate::cases::{case_file, CAPPED};
 use reference::harness::case_file::{answer_read, looks, read_case, write_case, MOST_BYTES};
+use reference::harness::case_text::parse_text;
 use reference::harness::listing::answer_list;
 use reference::harness::refusal::Refusal;
 use reference::harness::tables::Case;
@@ -20,7 +21,7 @@ fn refused(file: &[u8]) -> (u32, usize) {
 
 #[test]
 fn a_case_and_its_file() {
-    for seed in 0..300 {
+    for seed in (0..300).chain(CAPPED..CAPPED + 300) {
         let file = case_file(seed).bytes;
         if let Ok(case) = read_case(&file) {
             let written = write_case(&case);
@@ -64,6 +65,55 @@ fn within_a_record_the_end_comes_first_then_the_mark() {
     file[2] = 0;
     file[14] = 0;
     assert_eq!(refused(&file), (2, 0));
+}
+
+/// A case of two corridors and no line rows behind the cut: the first as `mark`
+/// says, so many bytes of it.
+fn cut_corridor(mark: &[u8; 2], bytes: usize) -> Vec<u8> {
+    let text = "HD 2 0 2 2 0 0 1  LV 138  BU 0 0  BU 0 0  CP 0 1 1 10 1 3  CO 0 1 1 10 1
+        LN 0 1 0 1 0  LN 0 1 0 1 0";
+    let mut file = write_case(&parse_text(text).expect("a case"));
+    let place = 15 + 10 + 2 * 11;
+    assert_eq!(&file[place..place + 2], b"CP");
+    file[place..place + 2].copy_from_slice(mark);
+    file.truncate(place + bytes);
+    file
+}
+
+#[test]
+fn a_corridor_is_as_long_as_its_mark_says() {
+    for (mark, bytes, refusal) in [
+        (b"CP", 23, (14, 4)),
+        (b"CP", 24, (14, 5)),
+        (b"CO", 22, (14, 4)),
+        (b"CO", 23, (14, 5)),
+        (b"BU", 22, (14, 4)),
+        (b"BU", 23, (15, 4)),
+        (b"Cp", 23, (15, 4)),
+        // The cap byte is taken for the next mark.
+        (b"CO", 46, (15, 5)),
+    ] {
+        let file = cut_corridor(mark, bytes);
+        assert_eq!(refused(&file), refusal, "{mark:?}, {bytes} bytes");
+    }
+}
+
+#[test]
+fn a_cap_is_read_as_it_stands() {
+    for cap in [0, 1, 6, 7, 255] {
+        let mut file = cut_corridor(b"CP", usize::MAX / 2);
+        file[15 + 10 + 2 * 11 + 23] = cap;
+        let caps: Vec<(u8, bool)> = read_case(&file)
+            .expect("the file is good")
+            .corridors
+            .iter()
+            .map(|c| (c.cap, c.marked))
+            .collect();
+        assert_eq!(caps, [(cap, true), (0, false)]);
+        let text = answer_read(&file);
+        assert!(text.contains(&format!("3FF0000000000000 {cap}\nCO 0 1 1 ")));
+        assert_eq!(answer_list(&file).starts_with("RF 6 0"), cap > 6);
+    }
 }
 
 #[test]

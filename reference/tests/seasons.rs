@@ -31,10 +31,7 @@ fn lowest_terms() {
 #[test]
 fn none_and_one() {
     assert_eq!(figures(&[]), "SE 0\nRO 0 1\nCV 0 1\n");
-    assert_eq!(
-        figures(&["CaseL"]),
-        "SE 1\nCO 0 1 1 1 1\nRO 0 1\nCV 1 1\n"
-    );
+    assert_eq!(figures(&["CaseL"]), "SE 1\nCO 0 1 1 1 1\nRO 0 1\nCV 1 1\n");
 }
 
 #[test]
@@ -90,6 +87,9 @@ fn what_the_seeds_reach() {
         all_alike += usize::from(answer.ends_with("CV 1 1\n"));
     }
     for met in [uneven, unread, unplanned, whole, 60 - all_alike] {
-        assert!(met >= 5, "{uneven} {unread} {unplanned} {whole} {all_alike}");
+        assert!(
+            met >= 5,
+            "{uneven} {unread} {unplanned} {whole} {all_alike}"
+        );
     }
 }

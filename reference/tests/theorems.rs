@@ -1,6 +1,6 @@
 //! A case as text, and its theorem.
 
-use reference::generate::cases::case_file;
+use reference::generate::cases::{case_file, CAPPED};
 use reference::harness::case_file::{read_case, write_case};
 use reference::harness::case_text::{parse_text, print_text};
 use reference::theorem::theorem;
@@ -16,7 +16,7 @@ fn without_nan(text: &str) -> bool {
 #[test]
 fn text_is_read_back_as_the_same_case() {
     let mut read = 0;
-    for seed in 0..400 {
+    for seed in (0..400).chain(CAPPED..CAPPED + 400) {
         let Ok(case) = read_case(&case_file(seed).bytes) else {
             continue;
         };
@@ -27,7 +27,7 @@ fn text_is_read_back_as_the_same_case() {
             read += 1;
         }
     }
-    assert!(read > 200);
+    assert!(read > 400);
 }
 
 #[test]
@@ -36,6 +36,8 @@ fn other_text_is_no_case() {
         CASE_L.replace("LV 138\n", ""),
         CASE_L.replace("BU 0 50", "BU 0"),
         CASE_L.replace("BU 0 50", "GE 0 50"),
+        CASE_L.replace("CO 0 1 1 10 1", "CP 0 1 1 10 1"),
+        CASE_L.replace("CO 0 1 1 10 1", "CO 0 1 1 10 1 3"),
         CASE_L.replace("0.25", "a quarter"),
         format!("{CASE_L}LN 0 0.5 0 100 0\n"),
         String::new(),

@@ -40,6 +40,7 @@ fn case_l() -> Case {
             circuits: 1,
             length: 10.0,
             share: 1.0,
+            ..CorridorRecord::default()
         }],
         sheet: vec![Line {
             r: 0.0,
@@ -157,7 +158,7 @@ fn example_7_caps() {
 
 #[test]
 fn example_8_filling() {
-    let filled = |target| {
+    let filled = |target, caps: [u8; 3]| {
         let mut case = case_l();
         case.mode = EXPAND;
         case.target = target;
@@ -166,19 +167,58 @@ fn example_8_filling() {
             .iter()
             .enumerate()
             .map(|(i, &(circuits, length))| CorridorRecord {
+                cap: caps[i],
                 a: i as u16,
                 b: i as u16 + 1,
                 circuits,
                 length,
                 share: 1.0,
+                ..CorridorRecord::default()
             })
             .collect();
         case.sheet = vec![case.sheet[0]; 3];
         let plan = planned(&case).plan;
         (plan.circuits, plan.filler_circuits)
     };
-    assert_eq!(filled(10), (vec![3, 4, 3], 3));
-    assert_eq!(filled(20), (vec![4, 4, 4], 5));
+    assert_eq!(filled(10, [0, 0, 0]), (vec![3, 4, 3], 3));
+    assert_eq!(filled(20, [0, 0, 0]), (vec![4, 4, 4], 5));
+    // Own caps (document 02, K5): the first stops at 2, the last goes on to 6.
+    assert_eq!(filled(20, [2, 0, 6]), (vec![2, 4, 6], 5));
+    assert_eq!(filled(20, [1, 2, 3]), (vec![1, 4, 3], 1));
+}
+
+/// One corridor that needs eight circuits at 138 kV, three where a level above
+/// is left.
+#[test]
+fn own_caps_in_sizing() {
+    let sized = |mode, cap, above: usize| {
+        let mut case = case_l();
+        case.mode = mode;
+        case.buses[1].load = 700.0;
+        case.generators[0].pmax = 1_000.0;
+        case.corridors[0].cap = cap;
+        case.sheet[0].x = 1e-3;
+        case.sheet.resize(1 + above, case.sheet[0]);
+        case.ladder = [345.0, 138.0][1 - above..].to_vec();
+        case.above = above;
+        let plan = planned(&case).plan;
+        let raised = plan.promoted_buses;
+        (
+            plan.circuits[0],
+            plan.capped_corridors,
+            plan.converged,
+            raised,
+        )
+    };
+    for mode in [EXPAND, REINFORCE] {
+        assert_eq!(sized(mode, 0, 0), (4, 1, false, 0));
+        assert_eq!(sized(mode, 2, 0), (2, 1, false, 0));
+        assert_eq!(sized(mode, 6, 0), (6, 1, false, 0));
+    }
+    // The raise asks for more than two circuits, whatever the cap is.
+    assert_eq!(sized(EXPAND, 1, 1), (1, 1, false, 2));
+    // Observing changes no count and counts none as capped.
+    assert_eq!(sized(2, 1, 0), (1, 0, true, 0));
 }
 
 #[test]

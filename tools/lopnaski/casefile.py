@@ -19,13 +19,17 @@ EXPAND, REINFORCE, OBSERVE = range(3)
 SERVING = 3
 BASES = ("thermal", "loadability")
 
+# A corridor's fields, as FIELDS has them.
+CORRIDOR = (("a", "H"), ("b", "H"), ("circuits", "B"), ("length", "Q"), ("share", "Q"))
 # A record: its mark, its fields in the file's order with their kinds (struct's letters; Q is a figure by its bits).
 FIELDS = {
     "HD": (("mode", "B"), ("target", "I"), ("buses", "H"), ("corridors", "H"), ("generators", "H"), ("above", "B"), ("requested", "B")),
     "LV": (("kv", "Q"),),
     "BU": (("tier", "B"), ("load", "Q")),
     "GE": (("bus", "H"), ("slack", "B"), ("pmin", "Q"), ("pmax", "Q"), ("c1", "Q"), ("c2", "Q")),
-    "CO": (("a", "H"), ("b", "H"), ("circuits", "B"), ("length", "Q"), ("share", "Q")),
+    "CO": CORRIDOR,
+    # A corridor with a cap of its own (document 02, K5), which may stand for any CO.
+    "CP": CORRIDOR + (("cap", "B"),),
     "LN": (("r", "Q"), ("x", "Q"), ("b", "Q"), ("rate", "Q"), ("basis", "B")),
 }
 WIDEST = {"B": 0xFF, "H": 0xFFFF, "I": 0xFFFFFFFF}
@@ -44,11 +48,11 @@ class Refusal(Exception):
 
 
 class Case:
-    """What a case file holds. A record is the list of its fields, in the file's order."""
+    """What a case file holds. A record is the list of its fields, in the file's order; a corridor has the fields of CO or of CP."""
 
     def __init__(self, header):
         self.header = header
-        self.records = {mark: [] for mark in FIELDS if mark != "HD"}
+        self.records = {mark: [] for mark, _ in tables_of(header)}
         self.padding = 0
 
     def head(self, field):
@@ -72,6 +76,15 @@ class Case:
         return self.records[mark][place][place_of(mark, field)]
 
 
+    def cap(self, corridor):
+        """A corridor's own cap, 0 where it has none."""
+        return self.records["CO"][corridor][-1] if self.is_capped(corridor) else 0
+
+    def is_capped(self, corridor):
+        """Whether a corridor is a CP."""
+        return len(self.records["CO"][corridor]) > len(FIELDS["CO"])
+
+
 def place_of(mark, field):
     """The place of a field in its record."""
     return [name for name, _ in FIELDS[mark]].index(field)
@@ -85,6 +98,16 @@ def layout(mark):
 def size(mark):
     """A record's length with its mark, bytes."""
     return 2 + struct.calcsize(layout(mark))
+
+
+def mark_of(mark, fields):
+    """The mark that a record of a table is written with: a corridor's by its fields."""
+    return "CP" if mark == "CO" and len(fields) == len(FIELDS["CP"]) else mark
+
+
+def marks_of(mark):
+    """The marks that may stand where one is due."""
+    return ("CO", "CP") if mark == "CO" else (mark,)
 
 
 def tables_of(header):
@@ -139,7 +162,8 @@ def read(data):
     record = 1
     for mark, count in tables_of(header):
         for _ in range(count):
-            fields, at = read_record(data, at, mark, record)
+            stands = "CP" if mark == "CO" and data[at : at + 2] == b"CP" else mark
+            fields, at = read_record(data, at, stands, record)
             case.records[mark].append(fields)
             record += 1
     for place in range(at, len(data)):
@@ -154,7 +178,8 @@ def written(case):
     parts = [b"HD", struct.pack(layout("HD"), *case.header)]
     for mark, _ in tables_of(case.header):
         for fields in case.records[mark]:
-            parts += [mark.encode(), struct.pack(layout(mark), *fields)]
+            stands = mark_of(mark, fields)
+            parts += [stands.encode(), struct.pack(layout(stands), *fields)]
     parts.append(bytes(case.padding))
     return b"".join(parts)
 

@@ -61,10 +61,10 @@ def shown(case):
     """The text of a case. `case_of` reads it back to the same bytes."""
     lines = [heading("HD"), line_of("HD", case.header)]
     for mark, _ in casefile.tables_of(case.header):
-        if case.records[mark]:
-            lines.append(heading(mark))
+        marks = [casefile.mark_of(mark, fields) for fields in case.records[mark]]
+        lines += [heading(stands) for stands in casefile.marks_of(mark) if stands in marks]
         for place, fields in enumerate(case.records[mark]):
-            lines.append("%s  # %s" % (line_of(mark, fields), remark(case, mark, place)))
+            lines.append("%s  # %s" % (line_of(marks[place], fields), remark(case, mark, place)))
     if case.padding:
         lines += ["# zero bytes after the last record", "PAD %d" % case.padding]
     return "\n".join(lines) + "\n"
@@ -129,10 +129,11 @@ def table_of(lines, mark, count, where):
         number, words = next(lines, (0, None))
         if words is None:
             raise Wrong(0, "the text ends after %d of %d %s records, as HD counts them" % (place, count, mark))
-        if words[0] != mark:
-            raise Wrong(number, "here is %s, and %s record %d of %d is due, as HD counts them" % (words[0], mark, place + 1, count))
+        if words[0] not in casefile.marks_of(mark):
+            due = " or ".join(casefile.marks_of(mark))
+            raise Wrong(number, "here is %s, and %s record %d of %d is due, as HD counts them" % (words[0], due, place + 1, count))
         where[mark, place] = number
-        yield record_of(number, words, mark)
+        yield record_of(number, words, words[0])
 
 
 def padding_of(lines, room):

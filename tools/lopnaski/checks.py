@@ -93,6 +93,8 @@ def corridor_faults(case, place):
     why = outside(case, "CO", place, "share", 0.5, 1.0, "0.5 to 1")
     if why:
         yield "share", why
+    if case.cap(place) > 6:
+        yield "cap", "cap is %d, and 6 is the most" % case.cap(place)
 
 
 def line_faults(case, place):

@@ -43,7 +43,7 @@ class Plan:
         """Whether a corridor has as many circuits as it may, and its flow needs more."""
         mode = case.head("mode") % SERVING
         kv = self.kv(case, self.ends(case, corridor)[0])
-        cap = 6 if mode == REINFORCE and kv < 100.0 else 4
+        cap = case.cap(corridor) or (6 if mode == REINFORCE and kv < 100.0 else 4)
         need = abs(self.flows[corridor]) / UTILISATION / self.rates[corridor]
         return mode != OBSERVE and self.circuits[corridor] >= cap and need > self.circuits[corridor] + EPSILON
 

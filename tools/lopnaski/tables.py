@@ -19,7 +19,7 @@ COLUMNS = {
     "levels": ("[level]", "kv", "requested"),
     "buses": ("[bus]", "level", "load"),
     "generators": ("[generator]", "bus", "slack", "pmin", "pmax", "c1", "c2"),
-    "corridors": ("[corridor]", "a", "b", "circuits", "length", "share", "[spread]"),
+    "corridors": ("[corridor]", "a", "b", "circuits", "length", "share", "[cap]", "[spread]"),
     "lines": ("corridor", "level", "r", "x", "b", "rate", "basis"),
 }
 # lines.csv has a row for each corridor and level, which is looked for row by row.
@@ -417,6 +417,9 @@ def case_of(path, as_is=False):
     case.records["BU"] = records_of(folder, "buses", (("level", tier_of(levels, above)),) + plain("BU", "tier"))
     case.records["GE"] = records_of(folder, "generators", (("bus", buses),) + plain("GE", "bus"))
     case.records["CO"] = records_of(folder, "corridors", (("a", buses), ("b", buses)) + plain("CO", "a", "b"))
+    for row, record in zip(folder.rows["corridors"], case.records["CO"]):
+        if row.cells.get("cap"):
+            record.append(folder.cell("corridors", row, "cap", field_meaning("CP", "cap")))
     folder.end_if_faulty()
     levels.numbers = levels.count
     sheet, sheet_rows = sheet_of(folder, corridors, levels)
@@ -442,7 +445,7 @@ def rows_of(case, mark):
     """The rows of a table but lines.csv, without its header."""
     names = level_names(case)
     for place, fields in enumerate(case.records[mark]):
-        cells = [text_of(value, kind) for value, (_, kind) in zip(fields, FIELDS[mark])]
+        cells = [text_of(value, kind) for value, (_, kind) in zip(fields, FIELDS[casefile.mark_of(mark, fields)])]
         if mark == "LV":
             cells += ["yes" if place >= case.head("above") else "no"]
         if mark == "BU":
@@ -462,16 +465,23 @@ def line_rows(case):
         yield [str(corridor), names[level]] + cells[:-1] + [BASES[fields[-1]]]
 
 
+def written_columns(case, table):
+    """The columns of a table that are written: caps where some corridor has one, and nothing that a case file does not hold."""
+    caps = any(case.is_capped(k) for k in range(case.count("CO")))
+    return [bare(column) for column in COLUMNS[table] if column not in ONLY_READ and (caps or column != "[cap]")]
+
+
 def texts(case):
     """The text of each table of a case, by its name."""
     content = {table: rows_of(case, mark) for mark, table in TABLE_OF.items() if mark != "LN"}
     content["case"] = [[MODES[case.head("mode")], str(case.head("target"))]]
     content["lines"] = line_rows(case)
     made = {}
-    for table, columns in COLUMNS.items():
+    for table in COLUMNS:
+        columns = written_columns(case, table)
         out = io.StringIO(newline="")
         writer = csv.writer(out, lineterminator="\n")
-        writer.writerow([bare(column) for column in columns if column not in ONLY_READ])
-        writer.writerows(content[table])
+        writer.writerow(columns)
+        writer.writerows(row + [""] * (len(columns) - len(row)) for row in content[table])
         made[table] = out.getvalue()
     return made

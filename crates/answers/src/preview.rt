@@ -44,8 +44,9 @@ fn refill(
     m: usize,
     before: &[u32],
     order: &[u32],
+    cap: &[u32],
 ) -> usize
-    requires { ⌜ (m ≤ 400) × (m ≤ length (now before)) × (m ≤ length (now order)) ⌝ }
+    requires { ⌜ (m ≤ 400) × (m ≤ length (now before)) × (m ≤ length (now order)) × (m ≤ length (now cap)) ⌝ }
     ensures { λ r. ⌜ r ≤ length (now (out .entry)) ⌝ }
 {
     let mut circuits = [0u32; 400];
@@ -55,6 +56,7 @@ fn refill(
         m,
         &before[0..m],
         &order[0..m],
+        &cap[0..m],
         &mut circuits[0..m],
     ) {
         Answer::Answered => put_wholes(out, &circuits, m),
@@ -62,7 +64,7 @@ fn refill(
     }
 }
 
-// PREV mode target m before×m order×m
+// PREV mode target m before×m cap×m order×m
 pub fn answer_preview(line: &[u8], out: &mut [u8]) -> usize
     ensures { λ r. ⌜ r ≤ length (now (out .entry)) ⌝ }
 {
@@ -74,9 +76,11 @@ pub fn answer_preview(line: &[u8], out: &mut [u8]) -> usize
     let corridors = count(line, target);
     let m = corridors.value as usize;
     let mut before = [0u32; 400];
+    let mut cap = [0u32; 400];
     let mut order = [0u32; 400];
     let counts = read_wholes(line, corridors, m, &mut before);
-    let last = read_wholes(line, counts, m, &mut order);
+    let caps = read_wholes(line, counts, m, &mut cap);
+    let last = read_wholes(line, caps, m, &mut order);
     if !complete(line, last) {
         return put_no_request(out);
     }
@@ -87,5 +91,6 @@ pub fn answer_preview(line: &[u8], out: &mut [u8]) -> usize
         m,
         &before,
         &order,
+        &cap,
     )
 }

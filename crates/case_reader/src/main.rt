@@ -119,6 +119,7 @@ fn print_generators(
     }
 }
 
+// A CO or a CP: both are printed with their cap.
 fn print_corridor(
     i: usize,
     a: &[u32; MOST_CORRIDORS],
@@ -126,6 +127,7 @@ fn print_corridor(
     circuits: &[u32; MOST_CORRIDORS],
     length_km: &[f64; MOST_CORRIDORS],
     share: &[f64; MOST_CORRIDORS],
+    cap: &[u32; MOST_CORRIDORS],
 )
     requires { ⌜ i < mostCorridors ⌝ }
 {
@@ -135,6 +137,7 @@ fn print_corridor(
     whole(circuits[i]);
     figure(length_km[i]);
     figure(share[i]);
+    whole(cap[i]);
     end_line();
 }
 
@@ -145,11 +148,12 @@ fn print_corridors(
     circuits: &[u32; MOST_CORRIDORS],
     length_km: &[f64; MOST_CORRIDORS],
     share: &[f64; MOST_CORRIDORS],
+    cap: &[u32; MOST_CORRIDORS],
 )
     requires { ⌜ count ≤ mostCorridors ⌝ }
 {
     for i in 0..count {
-        print_corridor(i, a, b, circuits, length_km, share);
+        print_corridor(i, a, b, circuits, length_km, share, cap);
     }
 }
 
@@ -207,6 +211,7 @@ fn main() {
     let mut circuits = [0u32; MOST_CORRIDORS];
     let mut length_km = [0.0; MOST_CORRIDORS];
     let mut share = [0.0; MOST_CORRIDORS];
+    let mut cap = [0u32; MOST_CORRIDORS];
     let mut sheet = [0.0; MOST_SHEET];
     let read = casefile::read_case(
         &buffer[0..n],
@@ -224,6 +229,7 @@ fn main() {
         &mut circuits,
         &mut length_km,
         &mut share,
+        &mut cap,
         &mut sheet,
     );
     let reading = read.reading;
@@ -235,7 +241,7 @@ fn main() {
             print_levels(levels, &ladder);
             print_buses(h.buses, &tier, &load);
             print_generators(h.generators, &bus, &slack, &pmin, &pmax, &c1, &c2);
-            print_corridors(h.corridors, &a, &b, &circuits, &length_km, &share);
+            print_corridors(h.corridors, &a, &b, &circuits, &length_km, &share, &cap);
             print_lines(lines(h.corridors, levels), &sheet);
         }
     }

@@ -18,13 +18,12 @@ use Rattle.casefile_defs.specs.declared.Reading.{Reading}
 use Rattle.casefile_defs.specs.declared.Reading.the-variants.{Refused, Read}
 use Rattle.casefile_defs.proofs.Counts.{small-of}
 use Rattle.casefile_theorems.specs.Cases.{longest}
-use Rattle.casefile_theorems.specs.Writer.{fileOf}
 use Rattle.small.specs.Networks.{allPlaces}
 use Rattle.small.specs.Tables.{padded, laidOut, headerAt, tablesAt, Made, made, smallNetwork}
 use Rattle.small_theorems.proofs.Accepted.{sound-at}
 use Rattle.case_writer.specs.declared.Written.{Written}
 use Rattle.case_writer.specs.declared.Written.the-variants.{Bytes}
-use Rattle.case_writer.specs.Files.{Wrote}
+use Rattle.case_writer.specs.Files.{fileIn, Wrote}
 use Rattle.case_writer.specs.Put.{Put}
 use Rattle.case_writer.proofs.Puts.{same-bytes}
 
@@ -96,10 +95,10 @@ pub small : (i : ℕ) {h : Header} {p : Places} → Answer i h p → Small h
 small i a = subst Small (sym (a .header)) (small-of (headerAt i) (sound-at i (a .below) .counts))
 
 -- ---- and what it says
-pub wrote-file : (i : ℕ) {h : Header} {p : Places} {before after : List ℕ} {n : ℕ} → Answer i h p → n ≤ longest → Put before 0 (fileOf h p) after n → Wrote i before after (Bytes n)
+pub wrote-file : (i : ℕ) {h : Header} {p : Places} {before after : List ℕ} {n : ℕ} → Answer i h p → n ≤ longest → Put before 0 (fileIn h p) after n → Wrote i before after (Bytes n)
 unfolding Wrote
 wrote-file i {h} {p} a l q =
-    (a .below, l, same-bytes (ap (λ (g : Header). fileOf g p) (a .header) ∙ ap (λ (t : Places). fileOf (headerAt i) t) (a .tables)) q)
+    (a .below, l, same-bytes (ap (λ (g : Header). fileIn g p) (a .header) ∙ ap (λ (t : Places). fileIn (headerAt i) t) (a .tables)) q)
 
 -- a file that was written is not too long
 pub wrote-size : (i : ℕ) (before after : List ℕ) {w : Written} {n : ℕ} → Wrote i before after w → w ≡ Bytes n → n ≤ longest

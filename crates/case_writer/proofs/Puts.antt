@@ -1,20 +1,21 @@
 -- Bytes put one behind another are put as one list: a number's bytes, a record's fields, a table's records.
-use Prim.Native.Nat.{ℕ, zero, suc, _+_, _/_, _%_, _<_}
-use mathlib.Core.Bool.{true}
+use Prim.Native.Nat.{ℕ, zero, suc, _+_, _/_, _%_, _<_, _≤_}
+use mathlib.Core.Bool.{Bool, true, cond}
 use mathlib.Core.List.{List, [], _∷_, _++_, append-assoc, append-nil}
 use mathlib.Core.Path.{_≡_, refl, sym, ap, subst, _∙_}
 use native.Mathlib.Numerals.{add-one}
 use native.Mathlib.Omega.{arith}
+use borrow.Author.Tests.{lt-ltb, le-ltb}
 use lib.Ieee.{Float, binary64, toBits, ne}
 use lib.Ieee.Compare.{differs-from-itself}
 use lib.ListN.{length, take, set, length-append}
 use Rattle.loops.proofs.Bools.{is}
 use Rattle.casefile_defs.specs.Layout.{layoutOf}
 use Rattle.casefile_defs.specs.declared.Kind.{Kind}
-use Rattle.casefile_defs.specs.declared.Kind.the-variants.{Head, Level, Bus, Generator, Corridor, Line}
-use Rattle.casefile_theorems.specs.Writer.{bytes, recordBytes, tableBytes}
+use Rattle.casefile_defs.specs.declared.Kind.the-variants.{Head, Level, Bus, Generator, Corridor, Line, CappedCorridor}
+use Rattle.casefile_theorems.specs.Writer.{bytes, fieldBytes, recordBytes, tableBytes}
 use Rattle.case_writer.specs.Put.{Put}
-use Rattle.case_writer.specs.Words.{markOf}
+use Rattle.case_writer.specs.Words.{markOf, sharedRow, corridorRow, corridorKind}
 
 pub puts : {b a z : List ℕ} {len r s : ℕ} {t u : List ℕ} → Put b len t a r → Put a r u z s → Put b len (t ++ u) z s
 puts {b} {a} {z} {len} {r} {s} {t} {u} p q = record {
@@ -86,16 +87,38 @@ mark-bytes Bus = refl
 mark-bytes Generator = refl
 mark-bytes Corridor = refl
 mark-bytes Line = refl
+mark-bytes CappedCorridor = refl
+
+-- ---- a corridor's record: a field behind the others
+field-behind : (a b c d e f : List ℕ) → (a ++ (b ++ (c ++ (d ++ (e ++ []))))) ++ f ≡ a ++ (b ++ (c ++ (d ++ (e ++ (f ++ [])))))
+field-behind a b c d e f = simp (append-assoc, append-nil)
+
+module _ (a b circuits : ℕ) (km share : Float) (cap : ℕ) where
+  -- as CP, with its cap
+  pub capped-record : 0 < cap
+      → (layoutOf CappedCorridor .first ∷ layoutOf CappedCorridor .second ∷ fieldBytes (layoutOf Corridor .fields) (sharedRow a b circuits km share)) ++ bytes 1 cap
+      ≡ recordBytes (corridorKind cap) (corridorRow a b circuits km share cap)
+  unfolding recordBytes fieldBytes
+  capped-record h =
+      ap (λ (l : List ℕ). 0x43 ∷ 0x50 ∷ l) (field-behind (bytes 2 a) (bytes 2 b) (bytes 1 circuits) (bytes 8 (toBits binary64 km)) (bytes 8 (toBits binary64 share)) (bytes 1 cap))
+      ∙ ap (λ (t : Bool). recordBytes (cond t CappedCorridor Corridor) (corridorRow a b circuits km share cap)) (sym (lt-ltb 0 cap h))
+
+  -- as CO, without one
+  pub plain-record : cap ≤ 0
+      → layoutOf Corridor .first ∷ layoutOf Corridor .second ∷ fieldBytes (layoutOf Corridor .fields) (sharedRow a b circuits km share)
+      ≡ recordBytes (corridorKind cap) (corridorRow a b circuits km share cap)
+  unfolding recordBytes fieldBytes
+  plain-record h = ap (λ (t : Bool). recordBytes (cond t CappedCorridor Corridor) (corridorRow a b circuits km share cap)) (sym (le-ltb 0 cap h))
 
 -- ---- a table's records
-pub no-record : (b : List ℕ) (k : Kind) (v : ℕ → ℕ → ℕ) (len : ℕ) → Put b len (tableBytes k 0 v) b len
+pub no-record : (b : List ℕ) (ks : ℕ → Kind) (v : ℕ → ℕ → ℕ) (len : ℕ) → Put b len (tableBytes ks 0 v) b len
 unfolding tableBytes
-no-record b k v len = record { used = omega arith; bytes = sym (append-nil (take len b)) }
+no-record b ks v len = record { used = omega arith; bytes = sym (append-nil (take len b)) }
 
-pub one-more : {b a z : List ℕ} {len r s : ℕ} (k : Kind) (v : ℕ → ℕ → ℕ) (i : ℕ) → Put b len (tableBytes k i v) a r → Put a r (recordBytes k (v i)) z s
-    → Put b len (tableBytes k (i + 1) v) z s
+pub one-more : {b a z : List ℕ} {len r s : ℕ} (ks : ℕ → Kind) (v : ℕ → ℕ → ℕ) (i : ℕ) → Put b len (tableBytes ks i v) a r → Put a r (recordBytes (ks i) (v i)) z s
+    → Put b len (tableBytes ks (i + 1) v) z s
 unfolding tableBytes
-one-more {b} {a} {z} {len} {r} {s} k v i p q = subst (λ n. Put b len (tableBytes k n v) z s) (sym (add-one i)) (puts p q)
+one-more {b} {a} {z} {len} {r} {s} ks v i p q = subst (λ n. Put b len (tableBytes ks n v) z s) (sym (add-one i)) (puts p q)
 
-pub all-put : {b a : List ℕ} {len r : ℕ} (k : Kind) (v : ℕ → ℕ → ℕ) (i n : ℕ) → i ≡ n → Put b len (tableBytes k i v) a r → Put b len (tableBytes k n v) a r
-all-put {b} {a} {len} {r} k v i n e p = subst (λ m. Put b len (tableBytes k m v) a r) e p
+pub all-put : {b a : List ℕ} {len r : ℕ} (ks : ℕ → Kind) (v : ℕ → ℕ → ℕ) (i n : ℕ) → i ≡ n → Put b len (tableBytes ks i v) a r → Put b len (tableBytes ks n v) a r
+all-put {b} {a} {len} {r} ks v i n e p = subst (λ m. Put b len (tableBytes ks m v) a r) e p

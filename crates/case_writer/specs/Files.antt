@@ -3,15 +3,21 @@ use Prim.Native.Nat.{ℕ, _≤_, _<_}
 use mathlib.Core.List.{List}
 use mathlib.Core.Path.{_≡_}
 use Rattle.refusal.specs.Number.{numberOf, indexOf}
+use Rattle.casefile_defs.specs.Tables.{Places}
+use Rattle.casefile_defs.specs.declared.Header.{Header}
 use Rattle.casefile_theorems.specs.Cases.{longest}
-use Rattle.casefile_theorems.specs.Writer.{fileOf}
+use Rattle.casefile_theorems.specs.Writer.{fileOf, capsOnly}
 use Rattle.small.specs.Networks.{allPlaces}
 use Rattle.small.specs.Tables.{headerAt, tablesAt}
 use Rattle.case_writer.specs.declared.Written.{Written}
 use Rattle.case_writer.specs.declared.Written.the-variants.{Bytes, Refused}
 use Rattle.case_writer.specs.Put.{Put}
 
+-- the file of a case, with CP for the corridors that have a cap
+abbrev pub fileIn : Header → Places → List ℕ
+fileIn h p = fileOf (capsOnly p) h p
+
 -- the bytes of a place, put at the front of a buffer
 unfoldable pub Wrote : ℕ → List ℕ → List ℕ → Written → Type 0
-Wrote i before after (Bytes n) = (i < allPlaces) × (n ≤ longest) × Put before 0 (fileOf (headerAt i) (tablesAt i)) after n
+Wrote i before after (Bytes n) = (i < allPlaces) × (n ≤ longest) × Put before 0 (fileIn (headerAt i) (tablesAt i)) after n
 Wrote i before after (Refused f) = (allPlaces ≤ i) × (numberOf f ≡ 23) × (indexOf f ≡ 0)

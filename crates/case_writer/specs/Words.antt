@@ -2,6 +2,7 @@
 use Prim.Native.Nat.{ℕ, _+_, _*_}
 use mathlib.Core.Bool.{cond}
 use mathlib.Core.List.{List, [], _∷_}
+use lib.Dec.{ltb}
 use lib.Ieee.{Float, binary64, toBits, eq}
 use lib.ListN.{getD}
 use Rattle.loops.specs.Figures.{at, nought}
@@ -9,7 +10,7 @@ use Rattle.casefile_defs.specs.Bounds.{rowFigures}
 use Rattle.casefile_defs.specs.Layout.{layoutOf}
 use Rattle.casefile_defs.specs.Tables.{Places, basisField}
 use Rattle.casefile_defs.specs.declared.Kind.{Kind}
-use Rattle.casefile_defs.specs.declared.Kind.the-variants.{Head, Level, Bus, Generator, Corridor, Line}
+use Rattle.casefile_defs.specs.declared.Kind.the-variants.{Head, Level, Bus, Generator, Corridor, Line, CappedCorridor}
 use Rattle.casefile_theorems.specs.Writer.{row}
 
 abbrev pub markOf : Kind → ℕ
@@ -28,13 +29,27 @@ busRow tier load = row (tier ∷ toBits binary64 load ∷ [])
 abbrev pub generatorRow : ℕ → ℕ → Float → Float → Float → Float → ℕ → ℕ
 generatorRow bus slack pmin pmax c1 c2 = row (bus ∷ slack ∷ toBits binary64 pmin ∷ toBits binary64 pmax ∷ toBits binary64 c1 ∷ toBits binary64 c2 ∷ [])
 
-abbrev pub corridorRow : ℕ → ℕ → ℕ → Float → Float → ℕ → ℕ
-corridorRow a b circuits km share = row (a ∷ b ∷ circuits ∷ toBits binary64 km ∷ toBits binary64 share ∷ [])
+-- of a corridor those that CO and CP have, and all of them; it is written as CP where it has a cap
+abbrev pub sharedRow : ℕ → ℕ → ℕ → Float → Float → ℕ → ℕ
+sharedRow a b circuits km share = row (a ∷ b ∷ circuits ∷ toBits binary64 km ∷ toBits binary64 share ∷ [])
+
+abbrev pub corridorRow : ℕ → ℕ → ℕ → Float → Float → ℕ → ℕ → ℕ
+corridorRow a b circuits km share cap = row (a ∷ b ∷ circuits ∷ toBits binary64 km ∷ toBits binary64 share ∷ cap ∷ [])
+
+abbrev pub corridorKind : ℕ → Kind
+corridorKind cap = cond (ltb 0 cap) CappedCorridor Corridor
 
 abbrev pub lineRow : Float → Float → Float → Float → Float → ℕ → ℕ
 lineRow r x b rate basis = row (toBits binary64 r ∷ toBits binary64 x ∷ toBits binary64 b ∷ toBits binary64 rate ∷ basisNumber basis ∷ [])
 
 -- ---- of record i of a table, as its places are read
+-- its kind, where all have one, and a corridor's
+abbrev pub only : Kind → ℕ → Kind
+only k i = k
+
+abbrev pub corridorKinds : List ℕ → ℕ → Kind
+corridorKinds cap i = corridorKind (getD cap i 0)
+
 abbrev pub levelWords : List Float → ℕ → ℕ → ℕ
 levelWords ladder i = levelRow (at ladder i)
 
@@ -44,8 +59,8 @@ busWords tier load i = busRow (getD tier i 0) (at load i)
 abbrev pub generatorWords : List ℕ → List ℕ → List Float → List Float → List Float → List Float → ℕ → ℕ → ℕ
 generatorWords bus slack pmin pmax c1 c2 i = generatorRow (getD bus i 0) (getD slack i 0) (at pmin i) (at pmax i) (at c1 i) (at c2 i)
 
-abbrev pub corridorWords : List ℕ → List ℕ → List ℕ → List Float → List Float → ℕ → ℕ → ℕ
-corridorWords a b circuits km share i = corridorRow (getD a i 0) (getD b i 0) (getD circuits i 0) (at km i) (at share i)
+abbrev pub corridorWords : List ℕ → List ℕ → List ℕ → List Float → List Float → List ℕ → ℕ → ℕ → ℕ
+corridorWords a b circuits km share cap i = corridorRow (getD a i 0) (getD b i 0) (getD circuits i 0) (at km i) (at share i) (getD cap i 0)
 
 abbrev pub lineWords : List Float → ℕ → ℕ → ℕ
 lineWords sheet i =
@@ -57,5 +72,6 @@ wordsIn p Head i = row []
 wordsIn p Level i = levelWords (p .ladder) i
 wordsIn p Bus i = busWords (p .tier) (p .load) i
 wordsIn p Generator i = generatorWords (p .bus) (p .slack) (p .pmin) (p .pmax) (p .c1) (p .c2) i
-wordsIn p Corridor i = corridorWords (p .a) (p .b) (p .circuits) (p .lengthKm) (p .share) i
+wordsIn p Corridor i = corridorWords (p .a) (p .b) (p .circuits) (p .lengthKm) (p .share) (p .cap) i
 wordsIn p Line i = lineWords (p .sheet) i
+wordsIn p CappedCorridor i = row []

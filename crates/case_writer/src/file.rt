@@ -6,8 +6,7 @@ ghost use lib.ListN.{length};
 ghost use Rattle.casefile_defs.specs.Reading.{Small};
 ghost use Rattle.casefile_defs.specs.Tables.{placesOf, sizesOk};
 ghost use Rattle.casefile_theorems.specs.Cases.{longest};
-ghost use Rattle.casefile_theorems.specs.Writer.{fileOf};
-ghost use Rattle.case_writer.specs.Files.{Wrote};
+ghost use Rattle.case_writer.specs.Files.{fileIn, Wrote};
 ghost use Rattle.case_writer.specs.Put.{Put};
 use crate::Written;
 use crate::record::put_head;
@@ -24,7 +23,7 @@ use casefile_defs::MOST_LEVELS;
 use casefile_defs::MOST_SHEET;
 use casefile_defs::Reading;
 
-// The file of a case in tables of their largest size.
+// The file of a case in tables of their largest size, with CP for the corridors that have a cap.
 fn put_case_file(
     out: &mut [u8],
     h: Header,
@@ -42,12 +41,13 @@ fn put_case_file(
     circuits: &[u32],
     length_km: &[f64],
     share: &[f64],
+    cap: &[u32],
     sheet: &[f64],
 ) -> usize
     requires { ⌜ longest ≤ length (now out) ⌝ }
     requires { ⌜ Small h ⌝ }
-    requires { ⌜ sizesOk (placesOf (now ladder) (now tier) (now load) (now bus) (now slack) (now pmin) (now pmax) (now c1) (now c2) (now a) (now b) (now circuits) (now «length_km») (now share) (now sheet)) ≡ true ⌝ }
-    ensures put { λ r. ⌜ Put (now (out .entry)) 0 (fileOf h (placesOf (now (ladder .entry)) (now (tier .entry)) (now (load .entry)) (now (bus .entry)) (now (slack .entry)) (now (pmin .entry)) (now (pmax .entry)) (now (c1 .entry)) (now (c2 .entry)) (now (a .entry)) (now (b .entry)) (now (circuits .entry)) (now («length_km» .entry)) (now (share .entry)) (now (sheet .entry)))) (now (out .exit)) r ⌝ }
+    requires { ⌜ sizesOk (placesOf (now ladder) (now tier) (now load) (now bus) (now slack) (now pmin) (now pmax) (now c1) (now c2) (now a) (now b) (now circuits) (now «length_km») (now share) (now cap) (now sheet)) ≡ true ⌝ }
+    ensures put { λ r. ⌜ Put (now (out .entry)) 0 (fileIn h (placesOf (now (ladder .entry)) (now (tier .entry)) (now (load .entry)) (now (bus .entry)) (now (slack .entry)) (now (pmin .entry)) (now (pmax .entry)) (now (c1 .entry)) (now (c2 .entry)) (now (a .entry)) (now (b .entry)) (now (circuits .entry)) (now («length_km» .entry)) (now (share .entry)) (now (cap .entry)) (now (sheet .entry)))) (now (out .exit)) r ⌝ }
     ensures size { λ r. ⌜ r ≤ longest ⌝ }
 {
     let levels = h.above + h.requested;
@@ -56,7 +56,17 @@ fn put_case_file(
     let used = put_levels(out, used, levels, ladder);
     let used = put_buses(out, used, h.buses, tier, load);
     let used = put_generators(out, used, h.generators, bus, slack, pmin, pmax, c1, c2);
-    let used = put_corridors(out, used, h.corridors, a, b, circuits, length_km, share);
+    let used = put_corridors(
+        out,
+        used,
+        h.corridors,
+        a,
+        b,
+        circuits,
+        length_km,
+        share,
+        cap,
+    );
     put_lines(out, used, lines, sheet)
 }
 
@@ -79,6 +89,7 @@ pub fn put_small_network(out: &mut [u8], place: usize) -> Written
     let mut circuits = [0u32; MOST_CORRIDORS];
     let mut length_km = [0.0; MOST_CORRIDORS];
     let mut share = [0.0; MOST_CORRIDORS];
+    let mut cap = [0u32; MOST_CORRIDORS];
     let mut sheet = [0.0; MOST_SHEET];
     let reading = small::small_network(
         place,
@@ -96,6 +107,7 @@ pub fn put_small_network(out: &mut [u8], place: usize) -> Written
         &mut circuits,
         &mut length_km,
         &mut share,
+        &mut cap,
         &mut sheet,
     );
     match reading {
@@ -117,6 +129,7 @@ pub fn put_small_network(out: &mut [u8], place: usize) -> Written
             &circuits,
             &length_km,
             &share,
+            &cap,
             &sheet,
         )),
     }

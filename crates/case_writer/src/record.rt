@@ -3,10 +3,10 @@ ghost use mathlib.Core.Path.{_≡_};
 ghost use mathlib.Core.List.{[], _∷_};
 ghost use Prim.Native.Nat.{_+_, _≤_};
 ghost use lib.ListN.{length};
-ghost use Rattle.casefile_defs.specs.Layout.{sizeOf, u8, u16};
+ghost use Rattle.casefile_defs.specs.Layout.{sizeOf, layoutOf, u8, u16};
 ghost use Rattle.casefile_theorems.specs.Writer.{recordBytes, fieldBytes, headRow, row};
 ghost use Rattle.case_writer.specs.Put.{Put};
-ghost use Rattle.case_writer.specs.Words.{levelRow, busRow, generatorRow, corridorRow, lineRow};
+ghost use Rattle.case_writer.specs.Words.{levelRow, busRow, generatorRow, sharedRow, corridorRow, corridorKind, lineRow};
 use crate::bytes::put_basis;
 use crate::bytes::put_bytes;
 use crate::bytes::put_figure;
@@ -108,7 +108,30 @@ pub fn put_generator(
     put_figure(out, used, c2)
 }
 
-// CO a b circuits length share
+// A corridor's mark, and the fields that CO and CP have: a b circuits length share
+fn put_shared(
+    out: &mut [u8],
+    len: usize,
+    kind: Kind,
+    a: u32,
+    b: u32,
+    circuits: u32,
+    length_km: f64,
+    share: f64,
+) -> usize
+    requires { ⌜ len + sizeOf Kind.Corridor ≤ length (now out) ⌝ }
+    ensures put { λ r. ⌜ Put (now (out .entry)) len (layoutOf kind .first ∷ layoutOf kind .second ∷ fieldBytes (layoutOf Kind.Corridor .fields) (sharedRow a b circuits «length_km» share)) (now (out .exit)) r ⌝ }
+    ensures size { λ r. ⌜ r ≡ len + sizeOf Kind.Corridor ⌝ }
+{
+    let used = put_mark(out, len, kind);
+    let used = put_bytes(out, used, U16, a as u64);
+    let used = put_bytes(out, used, U16, b as u64);
+    let used = put_bytes(out, used, U8, circuits as u64);
+    let used = put_figure(out, used, length_km);
+    put_figure(out, used, share)
+}
+
+// CO, or where the corridor has a cap CP with the cap behind
 pub fn put_corridor(
     out: &mut [u8],
     len: usize,
@@ -117,17 +140,26 @@ pub fn put_corridor(
     circuits: u32,
     length_km: f64,
     share: f64,
+    cap: u32,
 ) -> usize
-    requires { ⌜ len + sizeOf Kind.Corridor ≤ length (now out) ⌝ }
-    ensures put { λ r. ⌜ Put (now (out .entry)) len (recordBytes Kind.Corridor (corridorRow a b circuits «length_km» share)) (now (out .exit)) r ⌝ }
-    ensures size { λ r. ⌜ r ≡ len + sizeOf Kind.Corridor ⌝ }
+    requires { ⌜ len + sizeOf Kind.CappedCorridor ≤ length (now out) ⌝ }
+    ensures put { λ r. ⌜ Put (now (out .entry)) len (recordBytes (corridorKind cap) (corridorRow a b circuits «length_km» share cap)) (now (out .exit)) r ⌝ }
+    ensures size { λ r. ⌜ r ≤ len + sizeOf Kind.CappedCorridor ⌝ }
 {
-    let used = put_mark(out, len, Kind::Corridor);
-    let used = put_bytes(out, used, U16, a as u64);
-    let used = put_bytes(out, used, U16, b as u64);
-    let used = put_bytes(out, used, U8, circuits as u64);
-    let used = put_figure(out, used, length_km);
-    put_figure(out, used, share)
+    if 0 < cap {
+        let used = put_shared(
+            out,
+            len,
+            Kind::CappedCorridor,
+            a,
+            b,
+            circuits,
+            length_km,
+            share,
+        );
+        return put_bytes(out, used, U8, cap as u64);
+    }
+    put_shared(out, len, Kind::Corridor, a, b, circuits, length_km, share)
 }
 
 // LN r x b rate basis

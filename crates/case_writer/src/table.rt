@@ -6,7 +6,7 @@ ghost use Rattle.casefile_defs.specs.Bounds.{rowFigures};
 ghost use Rattle.casefile_defs.specs.Layout.{sizeOf};
 ghost use Rattle.casefile_theorems.specs.Writer.{tableBytes};
 ghost use Rattle.case_writer.specs.Put.{Put};
-ghost use Rattle.case_writer.specs.Words.{levelWords, busWords, generatorWords, corridorWords, lineWords};
+ghost use Rattle.case_writer.specs.Words.{only, corridorKinds, levelWords, busWords, generatorWords, corridorWords, lineWords};
 use crate::record::put_bus;
 use crate::record::put_corridor;
 use crate::record::put_generator;
@@ -18,7 +18,7 @@ use casefile_defs::ROW_FIGURES;
 pub fn put_levels(out: &mut [u8], len: usize, count: usize, ladder: &[f64]) -> usize
     requires { ⌜ len + count * sizeOf Kind.Level ≤ length (now out) ⌝ }
     requires { ⌜ count ≤ length (now ladder) ⌝ }
-    ensures put { λ r. ⌜ Put (now (out .entry)) len (tableBytes Kind.Level count (levelWords (now (ladder .entry)))) (now (out .exit)) r ⌝ }
+    ensures put { λ r. ⌜ Put (now (out .entry)) len (tableBytes (only Kind.Level) count (levelWords (now (ladder .entry)))) (now (out .exit)) r ⌝ }
     ensures size { λ r. ⌜ r ≡ len + count * sizeOf Kind.Level ⌝ }
 {
     let mut used = len;
@@ -34,7 +34,7 @@ pub fn put_buses(out: &mut [u8], len: usize, count: usize, tier: &[u32], load: &
     requires { ⌜ len + count * sizeOf Kind.Bus ≤ length (now out) ⌝ }
     requires { ⌜ count ≤ length (now tier) ⌝ }
     requires { ⌜ count ≤ length (now load) ⌝ }
-    ensures put { λ r. ⌜ Put (now (out .entry)) len (tableBytes Kind.Bus count (busWords (now (tier .entry)) (now (load .entry)))) (now (out .exit)) r ⌝ }
+    ensures put { λ r. ⌜ Put (now (out .entry)) len (tableBytes (only Kind.Bus) count (busWords (now (tier .entry)) (now (load .entry)))) (now (out .exit)) r ⌝ }
     ensures size { λ r. ⌜ r ≡ len + count * sizeOf Kind.Bus ⌝ }
 {
     let mut used = len;
@@ -64,7 +64,7 @@ pub fn put_generators(
     requires { ⌜ count ≤ length (now pmax) ⌝ }
     requires { ⌜ count ≤ length (now c1) ⌝ }
     requires { ⌜ count ≤ length (now c2) ⌝ }
-    ensures put { λ r. ⌜ Put (now (out .entry)) len (tableBytes Kind.Generator count (generatorWords (now (bus .entry)) (now (slack .entry)) (now (pmin .entry)) (now (pmax .entry)) (now (c1 .entry)) (now (c2 .entry)))) (now (out .exit)) r ⌝ }
+    ensures put { λ r. ⌜ Put (now (out .entry)) len (tableBytes (only Kind.Generator) count (generatorWords (now (bus .entry)) (now (slack .entry)) (now (pmin .entry)) (now (pmax .entry)) (now (c1 .entry)) (now (c2 .entry)))) (now (out .exit)) r ⌝ }
     ensures size { λ r. ⌜ r ≡ len + count * sizeOf Kind.Generator ⌝ }
 {
     let mut used = len;
@@ -85,20 +85,31 @@ pub fn put_corridors(
     circuits: &[u32],
     length_km: &[f64],
     share: &[f64],
+    cap: &[u32],
 ) -> usize
-    requires { ⌜ len + count * sizeOf Kind.Corridor ≤ length (now out) ⌝ }
+    requires { ⌜ len + count * sizeOf Kind.CappedCorridor ≤ length (now out) ⌝ }
     requires { ⌜ count ≤ length (now a) ⌝ }
     requires { ⌜ count ≤ length (now b) ⌝ }
     requires { ⌜ count ≤ length (now circuits) ⌝ }
     requires { ⌜ count ≤ length (now «length_km») ⌝ }
     requires { ⌜ count ≤ length (now share) ⌝ }
-    ensures put { λ r. ⌜ Put (now (out .entry)) len (tableBytes Kind.Corridor count (corridorWords (now (a .entry)) (now (b .entry)) (now (circuits .entry)) (now («length_km» .entry)) (now (share .entry)))) (now (out .exit)) r ⌝ }
-    ensures size { λ r. ⌜ r ≡ len + count * sizeOf Kind.Corridor ⌝ }
+    requires { ⌜ count ≤ length (now cap) ⌝ }
+    ensures put { λ r. ⌜ Put (now (out .entry)) len (tableBytes (corridorKinds (now (cap .entry))) count (corridorWords (now (a .entry)) (now (b .entry)) (now (circuits .entry)) (now («length_km» .entry)) (now (share .entry)) (now (cap .entry)))) (now (out .exit)) r ⌝ }
+    ensures size { λ r. ⌜ r ≤ len + count * sizeOf Kind.CappedCorridor ⌝ }
 {
     let mut used = len;
     let mut i = 0;
     while i < count {
-        used = put_corridor(out, used, a[i], b[i], circuits[i], length_km[i], share[i]);
+        used = put_corridor(
+            out,
+            used,
+            a[i],
+            b[i],
+            circuits[i],
+            length_km[i],
+            share[i],
+            cap[i],
+        );
         i += 1;
     }
     used
@@ -107,7 +118,7 @@ pub fn put_corridors(
 pub fn put_lines(out: &mut [u8], len: usize, count: usize, sheet: &[f64]) -> usize
     requires { ⌜ len + count * sizeOf Kind.Line ≤ length (now out) ⌝ }
     requires { ⌜ count * rowFigures ≤ length (now sheet) ⌝ }
-    ensures put { λ r. ⌜ Put (now (out .entry)) len (tableBytes Kind.Line count (lineWords (now (sheet .entry)))) (now (out .exit)) r ⌝ }
+    ensures put { λ r. ⌜ Put (now (out .entry)) len (tableBytes (only Kind.Line) count (lineWords (now (sheet .entry)))) (now (out .exit)) r ⌝ }
     ensures size { λ r. ⌜ r ≡ len + count * sizeOf Kind.Line ⌝ }
 {
     let mut used = len;

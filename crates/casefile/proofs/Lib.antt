@@ -2,4 +2,4 @@
 pub mod Words
 pub mod Looks
 pub mod Rooms
-pub mod Spans
+pub mod Stored

@@ -1,13 +1,13 @@
--- What filling the tables asks: the counts fit the tables, every record lies inside the file, and the tables' starts are small numbers.
+-- What filling the tables asks: the counts fit the tables, and every record lies inside the file.
 -- An answered file has it by its records' tests; a refused one leaves no records.
-use Prim.Native.Nat.{ℕ, _≤_}
+use Prim.Native.Nat.{ℕ}
 use mathlib.Core.Path.{_≡_, sym, subst}
 use mathlib.Core.List.{List}
 use native.Mathlib.Nat.{not-suc-le-zero}
 use native.Mathlib.Omega.{arith}
 use Rattle.casefile_defs.specs.Reading.{Small, levels, lines, readingOf}
 use Rattle.casefile_defs.specs.Tables.{levelsAt, busesAt, generatorsAt, corridorsAt, linesAt, held}
-use Rattle.casefile.specs.Spans.{Room}
+use Rattle.casefile.specs.Starts.{Room}
 use Rattle.casefile_defs.specs.declared.Kind.{Kind}
 use Rattle.casefile_defs.specs.declared.Kind.the-variants.{Level, Bus, Generator, Corridor, Line}
 use Rattle.casefile_defs.specs.declared.Header.{Header}
@@ -15,15 +15,14 @@ use Rattle.casefile_defs.specs.declared.Reading.{Reading}
 use Rattle.casefile_defs.specs.declared.Reading.the-variants.{Refused, Read}
 use Rattle.casefile_defs.proofs.Accepted.{Accepted, accepted}
 use Rattle.casefile_defs.proofs.Counts.{small-of}
-use Rattle.casefile_defs.proofs.Spots.{spot-mul}
 
 pub record Roomy (s : List ℕ) (h : Header) : Type 0 where
   pub small : Small h
   pub levels : Room Level s levelsAt (levels h)
-  pub buses : Room Bus s (busesAt h) (h .buses)
-  pub generators : Room Generator s (generatorsAt h) (h .generators)
-  pub corridors : Room Corridor s (corridorsAt h) (h .corridors)
-  pub rows : Room Line s (linesAt h) (lines h)
+  pub buses : Room Bus s (busesAt s h) (h .buses)
+  pub generators : Room Generator s (generatorsAt s h) (h .generators)
+  pub corridors : Room Corridor s (corridorsAt s h) (h .corridors)
+  pub rows : Room Line s (linesAt s h) (lines h)
 
 none : (k : Kind) (s : List ℕ) (at : ℕ) → Room k s at 0
 none k s at i h = absurd (not-suc-le-zero h)
@@ -52,17 +51,3 @@ roomy-of s (Refused f) e = record {
 
 pub roomy : (s : List ℕ) (r : Reading) (h : Header) → r ≡ readingOf s → h ≡ held r → Roomy s h
 roomy s r h e q = subst (λ (g : Header). Roomy s g) (sym q) (roomy-of s r (sym e))
-
--- the tables' starts are small numbers
-module _ (h : Header) (b : Small h) where
-  pub buses-low : busesAt h ≤ 65
-  buses-low = omega (arith, spot-mul Level 15 (levels h), b .levels)
-
-  pub generators-low : generatorsAt h ≤ 2881
-  generators-low = omega (arith, buses-low, spot-mul Bus (busesAt h) (h .buses), b .buses)
-
-  pub corridors-low : corridorsAt h ≤ 7617
-  corridors-low = omega (arith, generators-low, spot-mul Generator (generatorsAt h) (h .generators), b .generators)
-
-  pub lines-low : linesAt h ≤ 13505
-  lines-low = omega (arith, corridors-low, spot-mul Corridor (corridorsAt h) (h .corridors), b .corridors)

@@ -1,2 +1,2 @@
 -- What the columns' functions ask and promise of a table's records.
-pub mod Spans
+pub mod Starts

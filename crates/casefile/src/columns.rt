@@ -1,68 +1,120 @@
 // Filling a column of a table: a place for each record, and zeros past them. A column is named by its field's place in the record, a number's by its width too.
 ghost use mathlib.Core.Path.{_≡_};
-ghost use Prim.Native.Nat.{_+_, _^_, _<_, _≤_};
+ghost use Prim.Native.Nat.{_+_, _*_, _^_, _<_, _≤_};
+ghost use lib.Dec.{leb};
 ghost use lib.ListN.{length};
 ghost use Rattle.loops.specs.Loops.{tab};
-ghost use Rattle.casefile_defs.specs.Layout.{sizeOf, spot};
-ghost use Rattle.casefile_defs.specs.Tables.{numberIn, figureIn};
-ghost use Rattle.casefile.specs.Spans.{Room, following};
+ghost use Rattle.casefile_defs.specs.Layout.{sizeOf, standing, endOf, spot};
+ghost use Rattle.casefile_defs.specs.Tables.{numberAt};
+ghost use Rattle.casefile.specs.Starts.{Room, Starts, Whole, Within, numberBy, figureBy};
 use crate::bytes::figure;
 use crate::bytes::word;
 use crate::record;
 use crate::record::size;
+use crate::record::standing;
 use casefile_defs::Kind;
+use casefile_defs::MOST_CORRIDORS;
 
-// The records of a table: where the first starts, and how many there are.
-pub struct Span {
-    pub at: usize,
-    pub count: usize,
+// The most records of a table that is read by their starts: there are as many buses as corridors at most, and fewer levels and generators.
+pub const MOST_RECORDS: usize = MOST_CORRIDORS;
+
+// Where the record ends that stands at a place where one of a kind is due.
+fn end_of(file: &[u8], kind: Kind, at: usize) -> usize
+    requires { ⌜ endOf kind (now file) at ≤ length (now file) ⌝ }
+    ensures { λ r. ⌜ r ≡ endOf kind (now (file .entry)) at ⌝ }
+{
+    at + size(standing(file, kind, at))
 }
 
-// Where record `count` of a table starts, the first of which is at a place.
-pub fn past(kind: Kind, at: usize, count: usize) -> usize
-    requires { ⌜ spot kind at count < 2 ^ 64 ⌝ }
-    ensures { λ r. ⌜ r ≡ spot kind at count ⌝ }
+// Stores where each record of a table starts, the first of which is at a place; answers where the last one ends. So a record's mark is looked at once, and
+// not again for each column.
+pub fn store_starts(
+    file: &[u8],
+    kind: Kind,
+    at: usize,
+    count: usize,
+    starts: &mut [usize; MOST_RECORDS],
+) -> usize
+    requires room { ⌜ Room kind (now file) at count ⌝ }
+    requires few { ⌜ (count ≤ 256) × (length (now starts) ≡ 256) ⌝ }
+    ensures stored { λ _. ⌜ Starts kind (now (file .entry)) at count (now (starts .exit)) ⌝ }
+    ensures end { λ r. ⌜ r ≡ spot kind (now (file .entry)) at count ⌝ }
 {
-    at + count * size(kind)
+    let mut here = at;
+    let mut i = 0;
+    while i < count {
+        starts[i] = here;
+        here = end_of(file, kind, here);
+        i += 1;
+    }
+    here
 }
 
-// The table of `count` records that follows another, of records of one kind.
-pub fn after(kind: Kind, span: Span, count: usize) -> Span
-    requires { ⌜ spot kind (span .at) (span .count) < 2 ^ 64 ⌝ }
-    ensures { λ r. ⌜ r ≡ following kind span count ⌝ }
+// Where a line's record starts: they are all of one length.
+pub fn line_at(at: usize, row: usize) -> usize
+    requires { ⌜ at + row * sizeOf Kind.Line < 2 ^ 64 ⌝ }
+    ensures { λ r. ⌜ r ≡ at + row * sizeOf Kind.Line ⌝ }
 {
-    let at = past(kind, span.at, span.count);
-    Span { at, count }
+    at + row * size(Kind::Line)
+}
+
+// Whether the record that stands at a place where one of a kind is due has its bytes up to a distance. Its mark is looked at only where the older record ends
+// before that.
+fn reaches(file: &[u8], kind: Kind, at: usize, end: usize) -> bool
+    ensures { λ r. ⌜ r ≡ leb end (sizeOf (standing kind (now (file .entry)) at)) ⌝ }
+{
+    if end <= size(kind) {
+        return true;
+    }
+    end <= size(standing(file, kind, at))
+}
+
+// A whole number of the record at a place, 0 where the record has none.
+fn number_at(file: &[u8], kind: Kind, at: usize, offset: usize, width: usize) -> u32
+    requires room { ⌜ endOf kind (now file) at ≤ length (now file) ⌝ }
+    requires narrow { ⌜ (offset < 256) × (width ≤ 4) ⌝ }
+    ensures { λ r. ⌜ r ≡ numberAt kind (now (file .entry)) at offset width ⌝ }
+{
+    if reaches(file, kind, at, offset + width) {
+        return word(file, at + offset, width) as u32;
+    }
+    0
 }
 
 // Place i of a column of whole numbers.
 fn number_in(
     file: &[u8],
     kind: Kind,
-    at: usize,
+    starts: &[usize; MOST_RECORDS],
     count: usize,
     offset: usize,
     width: usize,
     i: usize,
 ) -> u32
-    requires room { ⌜ Room kind (now file) at count ⌝ }
-    requires inside { ⌜ (offset + width ≤ sizeOf kind) × (width ≤ 4) ⌝ }
-    ensures { λ r. ⌜ r ≡ numberIn kind (now (file .entry)) at count offset width i ⌝ }
+    requires whole { ⌜ Whole kind (now file) (now starts) count ⌝ }
+    requires narrow { ⌜ (count ≤ 256) × ((offset < 256) × (width ≤ 4)) ⌝ }
+    ensures { λ r. ⌜ r ≡ numberBy kind (now (file .entry)) (now (starts .entry)) count offset width i ⌝ }
 {
     if i < count {
-        return word(file, past(kind, at, i) + offset, width) as u32;
+        return number_at(file, kind, starts[i], offset, width);
     }
     0
 }
 
 // Place i of a column of figures.
-fn figure_in(file: &[u8], kind: Kind, at: usize, count: usize, offset: usize, i: usize) -> f64
-    requires room { ⌜ Room kind (now file) at count ⌝ }
-    requires inside { ⌜ offset + 8 ≤ sizeOf kind ⌝ }
-    ensures { λ r. ⌜ r ≡ figureIn kind (now (file .entry)) at count offset i ⌝ }
+fn figure_in(
+    file: &[u8],
+    starts: &[usize; MOST_RECORDS],
+    count: usize,
+    offset: usize,
+    i: usize,
+) -> f64
+    requires within { ⌜ Within (now file) (now starts) count (offset + 8) ⌝ }
+    requires few { ⌜ count ≤ 256 ⌝ }
+    ensures { λ r. ⌜ r ≡ figureBy (now (file .entry)) (now (starts .entry)) count offset i ⌝ }
 {
     if i < count {
-        return figure(word(file, past(kind, at, i) + offset, record::FIGURE));
+        return figure(word(file, starts[i] + offset, record::FIGURE));
     }
     0.0
 }
@@ -71,19 +123,19 @@ fn figure_in(file: &[u8], kind: Kind, at: usize, count: usize, offset: usize, i:
 pub fn fill_numbers(
     file: &[u8],
     kind: Kind,
-    at: usize,
+    starts: &[usize; MOST_RECORDS],
     count: usize,
     offset: usize,
     width: usize,
     out: &mut [u32],
 )
-    requires room { ⌜ Room kind (now file) at count ⌝ }
-    requires inside { ⌜ (offset + width ≤ sizeOf kind) × (width ≤ 4) ⌝ }
-    ensures { λ _. ⌜ now (out .exit) ≡ tab (length (now (out .entry))) (numberIn kind (now (file .entry)) at count offset width) ⌝ }
+    requires whole { ⌜ Whole kind (now file) (now starts) count ⌝ }
+    requires narrow { ⌜ (count ≤ 256) × ((offset < 256) × (width ≤ 4)) ⌝ }
+    ensures { λ _. ⌜ now (out .exit) ≡ tab (length (now (out .entry))) (numberBy kind (now (file .entry)) (now (starts .entry)) count offset width) ⌝ }
 {
     let mut i = 0;
     while i < out.len() {
-        out[i] = number_in(file, kind, at, count, offset, width, i);
+        out[i] = number_in(file, kind, starts, count, offset, width, i);
         i += 1;
     }
 }
@@ -91,19 +143,18 @@ pub fn fill_numbers(
 // Fills a column of figures, with zeros past the records.
 pub fn fill_figures(
     file: &[u8],
-    kind: Kind,
-    at: usize,
+    starts: &[usize; MOST_RECORDS],
     count: usize,
     offset: usize,
     out: &mut [f64],
 )
-    requires room { ⌜ Room kind (now file) at count ⌝ }
-    requires inside { ⌜ offset + 8 ≤ sizeOf kind ⌝ }
-    ensures { λ _. ⌜ now (out .exit) ≡ tab (length (now (out .entry))) (figureIn kind (now (file .entry)) at count offset) ⌝ }
+    requires within { ⌜ Within (now file) (now starts) count (offset + 8) ⌝ }
+    requires few { ⌜ count ≤ 256 ⌝ }
+    ensures { λ _. ⌜ now (out .exit) ≡ tab (length (now (out .entry))) (figureBy (now (file .entry)) (now (starts .entry)) count offset) ⌝ }
 {
     let mut i = 0;
     while i < out.len() {
-        out[i] = figure_in(file, kind, at, count, offset, i);
+        out[i] = figure_in(file, starts, count, offset, i);
         i += 1;
     }
 }

@@ -3,7 +3,6 @@ ghost use mathlib.Core.Path.{_≡_};
 ghost use Rattle.casefile_defs.specs.Tables.{held, outcome, placesOf, readCase};
 use casefile_defs::CaseRead;
 use casefile_defs::Header;
-use casefile_defs::Kind;
 use casefile_defs::MOST_BUSES;
 use casefile_defs::MOST_CORRIDORS;
 use casefile_defs::MOST_GENERATORS;
@@ -54,9 +53,10 @@ pub fn read_case(
     circuits: &mut [u32],
     length_km: &mut [f64],
     share: &mut [f64],
+    cap: &mut [u32],
     sheet: &mut [f64],
 ) -> CaseRead
-    ensures { λ r. ⌜ outcome r (placesOf (now (ladder .exit)) (now (tier .exit)) (now (load .exit)) (now («generator_bus» .exit)) (now (slack .exit)) (now (pmin .exit)) (now (pmax .exit)) (now (c1 .exit)) (now (c2 .exit)) (now (a .exit)) (now (b .exit)) (now (circuits .exit)) (now («length_km» .exit)) (now (share .exit)) (now (sheet .exit))) ≡ readCase (now (file .entry)) (placesOf (now (ladder .entry)) (now (tier .entry)) (now (load .entry)) (now («generator_bus» .entry)) (now (slack .entry)) (now (pmin .entry)) (now (pmax .entry)) (now (c1 .entry)) (now (c2 .entry)) (now (a .entry)) (now (b .entry)) (now (circuits .entry)) (now («length_km» .entry)) (now (share .entry)) (now (sheet .entry))) ⌝ }
+    ensures { λ r. ⌜ outcome r (placesOf (now (ladder .exit)) (now (tier .exit)) (now (load .exit)) (now («generator_bus» .exit)) (now (slack .exit)) (now (pmin .exit)) (now (pmax .exit)) (now (c1 .exit)) (now (c2 .exit)) (now (a .exit)) (now (b .exit)) (now (circuits .exit)) (now («length_km» .exit)) (now (share .exit)) (now (cap .exit)) (now (sheet .exit))) ≡ readCase (now (file .entry)) (placesOf (now (ladder .entry)) (now (tier .entry)) (now (load .entry)) (now («generator_bus» .entry)) (now (slack .entry)) (now (pmin .entry)) (now (pmax .entry)) (now (c1 .entry)) (now (c2 .entry)) (now (a .entry)) (now (b .entry)) (now (circuits .entry)) (now («length_km» .entry)) (now (share .entry)) (now (cap .entry)) (now (sheet .entry))) ⌝ }
 {
     let sized = (ladder.len() == MOST_LEVELS)
         & (tier.len() == MOST_BUSES)
@@ -72,6 +72,7 @@ pub fn read_case(
         & (circuits.len() == MOST_CORRIDORS)
         & (length_km.len() == MOST_CORRIDORS)
         & (share.len() == MOST_CORRIDORS)
+        & (cap.len() == MOST_CORRIDORS)
         & (sheet.len() == MOST_SHEET);
     if !sized {
         return scan::said(Reading::Refused(Refusal::Length), 0);
@@ -79,18 +80,31 @@ pub fn read_case(
     let read = scan::read_of(file);
     let reading = read.reading;
     let h = held(reading);
-    let levels = columns::Span {
-        at: record::HEAD_END,
-        count: h.above + h.requested,
-    };
-    let buses = columns::after(Kind::Level, levels, h.buses);
-    let generators = columns::after(Kind::Bus, buses, h.generators);
-    let corridors = columns::after(Kind::Generator, generators, h.corridors);
-    let lines = columns::after(Kind::Corridor, corridors, h.corridors * levels.count);
-    tables::read_levels(file, levels, ladder);
-    tables::read_buses(file, buses, tier, load);
-    tables::read_generators(file, generators, generator_bus, slack, pmin, pmax, c1, c2);
-    tables::read_corridors(file, corridors, a, b, circuits, length_km, share);
-    tables::read_lines(file, lines, sheet);
+    let levels = h.above + h.requested;
+    let buses = tables::read_levels(file, record::HEAD_END, levels, ladder);
+    let generators = tables::read_buses(file, buses, h.buses, tier, load);
+    let corridors = tables::read_generators(
+        file,
+        generators,
+        h.generators,
+        generator_bus,
+        slack,
+        pmin,
+        pmax,
+        c1,
+        c2,
+    );
+    let lines = tables::read_corridors(
+        file,
+        corridors,
+        h.corridors,
+        a,
+        b,
+        circuits,
+        length_km,
+        share,
+        cap,
+    );
+    tables::read_lines(file, lines, h.corridors * levels, sheet);
     read
 }

@@ -2,8 +2,8 @@
 ghost use mathlib.Core.Path.{_≡_};
 ghost use Prim.Native.Nat.{_+_, _≤_};
 ghost use lib.ListN.{length};
-ghost use Rattle.casefile_defs.specs.Layout.{sizeOf, layoutOf, codesOk};
-ghost use Rattle.casefile_defs.specs.Reading.{marked, recordAt};
+ghost use Rattle.casefile_defs.specs.Layout.{sizeOf, layoutOf, codesOk, marked, standing};
+ghost use Rattle.casefile_defs.specs.Reading.{recordAt};
 use crate::bytes::word;
 use casefile_defs::Kind;
 use casefile_defs::Walk;
@@ -73,6 +73,10 @@ pub const CORRIDOR_SHARE: usize = CORRIDOR_LENGTH + FIGURE;
 
 const CORRIDOR_END: usize = CORRIDOR_SHARE + FIGURE;
 
+pub const CORRIDOR_CAP: usize = CORRIDOR_END;
+
+const CAPPED_END: usize = CORRIDOR_CAP + U8;
+
 pub const LINE_R: usize = MARK;
 
 const LINE_X: usize = LINE_R + FIGURE;
@@ -103,6 +107,7 @@ pub fn size(kind: Kind) -> usize
         Kind::Generator => GENERATOR_END,
         Kind::Corridor => CORRIDOR_END,
         Kind::Line => LINE_END,
+        Kind::CappedCorridor => CAPPED_END,
     }
 }
 
@@ -117,6 +122,7 @@ fn first_letter(kind: Kind) -> u8
         Kind::Generator => b'G',
         Kind::Corridor => b'C',
         Kind::Line => b'L',
+        Kind::CappedCorridor => b'C',
     }
 }
 
@@ -130,6 +136,7 @@ fn second_letter(kind: Kind) -> u8
         Kind::Generator => b'E',
         Kind::Corridor => b'O',
         Kind::Line => b'N',
+        Kind::CappedCorridor => b'P',
     }
 }
 
@@ -153,6 +160,45 @@ fn codes_ok(file: &[u8], kind: Kind, at: usize) -> bool
         Kind::Generator => word(file, at + GENERATOR_SLACK, U8) <= LAST_SLACK,
         Kind::Corridor => true,
         Kind::Line => word(file, at + LINE_BASIS, U8) <= LAST_BASIS,
+        Kind::CappedCorridor => true,
+    }
+}
+
+// Whether a record's mark stands at a place, wherever that is: a mark that is cut is none.
+fn bears(file: &[u8], kind: Kind, at: usize) -> bool
+    ensures { λ r. ⌜ r ≡ marked kind (now (file .entry)) at ⌝ }
+{
+    if file.len() < MARK {
+        return false;
+    }
+    if file.len() - MARK < at {
+        return false;
+    }
+    mark_ok(file, kind, at)
+}
+
+// A CO, or the CP that stands for it.
+fn corridor_at(file: &[u8], at: usize) -> Kind
+    ensures { λ r. ⌜ r ≡ standing Kind.Corridor (now (file .entry)) at ⌝ }
+{
+    if bears(file, Kind::CappedCorridor, at) {
+        return Kind::CappedCorridor;
+    }
+    Kind::Corridor
+}
+
+// The record that stands at a place where one of a kind is due, by its mark.
+pub fn standing(file: &[u8], kind: Kind, at: usize) -> Kind
+    ensures { λ r. ⌜ r ≡ standing kind (now (file .entry)) at ⌝ }
+{
+    match kind {
+        Kind::Head => Kind::Head,
+        Kind::Level => Kind::Level,
+        Kind::Bus => Kind::Bus,
+        Kind::Generator => Kind::Generator,
+        Kind::Corridor => corridor_at(file, at),
+        Kind::Line => Kind::Line,
+        Kind::CappedCorridor => Kind::CappedCorridor,
     }
 }
 

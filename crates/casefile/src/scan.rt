@@ -9,6 +9,7 @@ use crate::bytes::eight;
 use crate::bytes::word;
 use crate::record;
 use crate::record::record_at;
+use crate::record::standing;
 use casefile_defs::CaseRead;
 use casefile_defs::Header;
 use casefile_defs::Kind;
@@ -23,17 +24,17 @@ const MOST_TARGET: u32 = 65536;
 // The bytes of a word.
 const WORD: usize = 8;
 
-// A fault is passed on.
+// A fault is passed on; where a record of a kind is due, the one that stands there is read.
 fn step(file: &[u8], from: Walk, kind: Kind, r: usize) -> Walk
     ensures { λ w. ⌜ w ≡ stepped kind (now (file .entry)) r from ⌝ }
 {
     match from {
         Walk::Fault(_) => from,
-        Walk::At(at) => record_at(file, kind, r, at),
+        Walk::At(at) => record_at(file, standing(file, kind, at), r, at),
     }
 }
 
-// Records start to end - 1, all of one kind.
+// Records start to end - 1, of one kind each.
 fn walk_kind(file: &[u8], from: Walk, kind: Kind, start: usize, end: usize) -> Walk
     ensures { λ w. ⌜ w ≡ walked kind start end (now (file .entry)) from ⌝ }
 {

@@ -1,6 +1,6 @@
 -- What an answered file holds: each record passed, in its place, and nothing but zeros after the last.
 -- A fault stays, so a walk that ends at a place passed every record (walked-all); the tests on the way are taken apart one by one.
-use Prim.Native.Nat.{ℕ, zero, suc, _+_, _-_, _<_, _≤_}
+use Prim.Native.Nat.{ℕ, zero, suc, _-_, _<_, _≤_}
 use mathlib.Core.Path.{_≡_, refl, sym, ap, _∙_, subst}
 use mathlib.Core.Bool.{Bool, true, false, cond}
 use mathlib.Core.List.{List}
@@ -13,7 +13,7 @@ use Rattle.loops.specs.Loops.{iter}
 use Rattle.loops.proofs.Loops.{iter-still}
 use Rattle.refusal.specs.declared.Refusal.{Refusal}
 use Rattle.casefile_defs.specs.Bounds.{mostBytes}
-use Rattle.casefile_defs.specs.Layout.{sizeOf, spot}
+use Rattle.casefile_defs.specs.Layout.{standing, endOf, spot}
 use Rattle.casefile_defs.specs.Reading.{recordAt, stepped, walked, countsOk, headerOf, levels, lines, tablesWalked, trailing, unread, endRead, bodyRead, readOf, readingOf, beforeBuses, beforeGenerators, beforeCorridors, beforeLines, recordsOf}
 use Rattle.casefile_defs.specs.Tables.{levelsAt, busesAt, generatorsAt, corridorsAt, linesAt}
 use Rattle.casefile_defs.specs.declared.Kind.{Kind}
@@ -26,39 +26,39 @@ use Rattle.casefile_defs.specs.declared.Reading.the-variants.{Refused, R
 use Rattle.casefile_defs.proofs.Records.{Passed, passed, fault-not-at}
 use Rattle.casefile_defs.proofs.Spots.{spot-next}
 
--- n records of kind k from a place on, each of them passed
+-- n records from a place on where one of kind k is due, each of them passed
 abbrev pub Table : Kind → List ℕ → ℕ → ℕ → Type 0
-Table k s at n = (i : ℕ) → i < n → Passed k s (spot k at i) (spot k at (suc i))
+Table k s at n = (i : ℕ) → i < n → Passed (standing k s (spot k s at i)) s (spot k s at i) (spot k s at (suc i))
 
 module _ (k : Kind) (s : List ℕ) where
   no-fault : (d r : ℕ) (f : Refusal) (next : ℕ) → iter (stepped k s) d r (Fault f) ≡ At next → ⊥
   unfolding stepped
   no-fault d r f next e = fault-not-at (sym (iter-still (stepped k s) (Fault f) (λ i. refl) d r) ∙ e)
 
-  put-first : (at d : ℕ) → Passed k s at (at + sizeOf k) → Table k s (at + sizeOf k) d → Table k s at (suc d)
+  put-first : (at d : ℕ) → Passed (standing k s at) s at (endOf k s at) → Table k s (endOf k s at) d → Table k s at (suc d)
   unfolding spot
   put-first at d p t zero h = p
   put-first at d p t (suc i) h =
-      subst (λ (n : ℕ). Passed k s n (n + sizeOf k)) (spot-next k at i) (t i (le-of-suc-le-suc h))
+      subst (λ (n : ℕ). Passed (standing k s n) s n (endOf k s n)) (spot-next k s at i) (t i (le-of-suc-le-suc h))
 
   Went : ℕ → Walk → ℕ → Type 0
-  Went d (At at) next = Table k s at d × (next ≡ spot k at d)
+  Went d (At at) next = Table k s at d × (next ≡ spot k s at d)
   Went d (Fault f) next = ⊥
 
-  first-on : (d r at next : ℕ) (w : Walk) → recordAt k s r at ≡ w → Went d w next → Went (suc d) (At at) next
+  first-on : (d r at next : ℕ) (w : Walk) → recordAt (standing k s at) s r at ≡ w → Went d w next → Went (suc d) (At at) next
   unfolding Went
   first-on d r at next (Fault f) q g = absurd g
   first-on d r at next (At m) q g =
-      let p = passed k s r at m q in
-      let p′ : Passed k s at (at + sizeOf k) = subst (λ (n : ℕ). Passed k s at n) (p .past) p in
-      let t : Table k s (at + sizeOf k) d = subst (λ (n : ℕ). Table k s n d) (p .past) (g .0) in
-      (put-first at d p′ t, g .1 ∙ ap (λ (n : ℕ). spot k n d) (p .past) ∙ spot-next k at d)
+      let p = passed (standing k s at) s r at m q in
+      let p′ : Passed (standing k s at) s at (endOf k s at) = subst (λ (n : ℕ). Passed (standing k s at) s at n) (p .past) p in
+      let t : Table k s (endOf k s at) d = subst (λ (n : ℕ). Table k s n d) (p .past) (g .0) in
+      (put-first at d p′ t, g .1 ∙ ap (λ (n : ℕ). spot k s n d) (p .past) ∙ spot-next k s at d)
 
   went : (d r : ℕ) (w : Walk) (next : ℕ) → iter (stepped k s) d r w ≡ At next → Went d w next
   unfolding iter stepped spot Went
   went zero r (At at) next e = ((λ i h. absurd (not-suc-le-zero h)), cc)
   went zero r (Fault f) next e = no-fault 0 r f next e
-  went (suc d) r (At at) next e = first-on d r at next (recordAt k s r at) refl (went d (suc r) (recordAt k s r at) next e)
+  went (suc d) r (At at) next e = first-on d r at next (recordAt (standing k s at) s r at) refl (went d (suc r) (recordAt (standing k s at) s r at) next e)
   went (suc d) r (Fault f) next e = no-fault (suc d) r f next e
 
   -- a walk that was not refused began at a place and passed every record
@@ -66,7 +66,7 @@ module _ (k : Kind) (s : List ℕ) where
     pub at : ℕ
     pub from : w ≡ At at
     pub table : Table k s at n
-    pub end : next ≡ spot k at n
+    pub end : next ≡ spot k s at n
 
   pub walked-all : (start end n : ℕ) (w : Walk) (next : ℕ) → end - start ≡ n → walked k start end s w ≡ At next → Walked n w next
   unfolding walked Went
@@ -76,13 +76,13 @@ module _ (k : Kind) (s : List ℕ) where
         at = at;
         from = refl;
         table = subst (λ (m : ℕ). Table k s at m) q (g .0);
-        end = g .1 ∙ ap (λ (m : ℕ). spot k at m) q;
+        end = g .1 ∙ ap (λ (m : ℕ). spot k s at m) q;
       }
   walked-all start end n (Fault f) next q e = absurd (no-fault (end - start) start f next e)
 
 -- where the last record ends
-abbrev pub endAt : Header → ℕ
-endAt h = spot Line (linesAt h) (lines h)
+abbrev pub endAt : List ℕ → Header → ℕ
+endAt s h = spot Line s (linesAt s h) (lines h)
 
 pub record Accepted (s : List ℕ) (h : Header) : Type 0 where
   pub short : length s ≤ mostBytes
@@ -90,24 +90,24 @@ pub record Accepted (s : List ℕ) (h : Header) : Type 0 where
   pub head : Passed Head s 0 levelsAt
   pub counts : countsOk h ≡ true
   pub levels : Table Level s levelsAt (levels h)
-  pub buses : Table Bus s (busesAt h) (h .buses)
-  pub generators : Table Generator s (generatorsAt h) (h .generators)
-  pub corridors : Table Corridor s (corridorsAt h) (h .corridors)
-  pub rows : Table Line s (linesAt h) (lines h)
-  pub zeros : length s ≤ trailing s (endAt h)
+  pub buses : Table Bus s (busesAt s h) (h .buses)
+  pub generators : Table Generator s (generatorsAt s h) (h .generators)
+  pub corridors : Table Corridor s (corridorsAt s h) (h .corridors)
+  pub rows : Table Line s (linesAt s h) (lines h)
+  pub zeros : length s ≤ trailing s (endAt s h)
 
 -- the tables of a walk over all of them
 pub record Tables (s : List ℕ) (h : Header) (next : ℕ) : Type 0 where
   pub levels : Table Level s levelsAt (levels h)
-  pub buses : Table Bus s (busesAt h) (h .buses)
-  pub generators : Table Generator s (generatorsAt h) (h .generators)
-  pub corridors : Table Corridor s (corridorsAt h) (h .corridors)
-  pub rows : Table Line s (linesAt h) (lines h)
-  pub end : next ≡ endAt h
+  pub buses : Table Bus s (busesAt s h) (h .buses)
+  pub generators : Table Generator s (generatorsAt s h) (h .generators)
+  pub corridors : Table Corridor s (corridorsAt s h) (h .corridors)
+  pub rows : Table Line s (linesAt s h) (lines h)
+  pub end : next ≡ endAt s h
 
 -- a table from where the walk before it ended
-moved : {k : Kind} {s : List ℕ} {n at place : ℕ} → at ≡ place → Table k s at n → Table k s place n
-moved {k} {s} {n} p t = subst (λ (m : ℕ). Table k s m n) p t
+moved : (k : Kind) (s : List ℕ) (n : ℕ) {at place : ℕ} → at ≡ place → Table k s at n → Table k s place n
+moved k s n p t = subst (λ (m : ℕ). Table k s m n) p t
 
 at-same : {m n : ℕ} → At m ≡ At n → m ≡ n
 at-same e = cc
@@ -121,17 +121,17 @@ tables-of s h next e =
     let w₂ = walked-all Bus s (beforeBuses h) (beforeGenerators h) (h .buses) _ (w₃ .at) (omega arith) (w₃ .from) in
     let w₁ = walked-all Level s 1 (beforeBuses h) (levels h) _ (w₂ .at) (omega arith) (w₂ .from) in
     let p₁ : w₁ .at ≡ levelsAt = at-same (sym (w₁ .from)) in
-    let p₂ : w₂ .at ≡ busesAt h = w₁ .end ∙ ap (λ (m : ℕ). spot Level m (levels h)) p₁ in
-    let p₃ : w₃ .at ≡ generatorsAt h = w₂ .end ∙ ap (λ (m : ℕ). spot Bus m (h .buses)) p₂ in
-    let p₄ : w₄ .at ≡ corridorsAt h = w₃ .end ∙ ap (λ (m : ℕ). spot Generator m (h .generators)) p₃ in
-    let p₅ : w₅ .at ≡ linesAt h = w₄ .end ∙ ap (λ (m : ℕ). spot Corridor m (h .corridors)) p₄ in
+    let p₂ : w₂ .at ≡ busesAt s h = w₁ .end ∙ ap (λ (m : ℕ). spot Level s m (levels h)) p₁ in
+    let p₃ : w₃ .at ≡ generatorsAt s h = w₂ .end ∙ ap (λ (m : ℕ). spot Bus s m (h .buses)) p₂ in
+    let p₄ : w₄ .at ≡ corridorsAt s h = w₃ .end ∙ ap (λ (m : ℕ). spot Generator s m (h .generators)) p₃ in
+    let p₅ : w₅ .at ≡ linesAt s h = w₄ .end ∙ ap (λ (m : ℕ). spot Corridor s m (h .corridors)) p₄ in
     record {
-      levels = moved p₁ (w₁ .table);
-      buses = moved p₂ (w₂ .table);
-      generators = moved p₃ (w₃ .table);
-      corridors = moved p₄ (w₄ .table);
-      rows = moved p₅ (w₅ .table);
-      end = w₅ .end ∙ ap (λ (m : ℕ). spot Line m (lines h)) p₅;
+      levels = moved Level s (levels h) p₁ (w₁ .table);
+      buses = moved Bus s (h .buses) p₂ (w₂ .table);
+      generators = moved Generator s (h .generators) p₃ (w₃ .table);
+      corridors = moved Corridor s (h .corridors) p₄ (w₄ .table);
+      rows = moved Line s (lines h) p₅ (w₅ .table);
+      end = w₅ .end ∙ ap (λ (m : ℕ). spot Line s m (lines h)) p₅;
     }
 
 -- ---- the tests on the way to an answer

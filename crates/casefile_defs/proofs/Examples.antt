@@ -1,5 +1,5 @@
--- Worked examples, by computation: case L (document 01, "Case file") as a file, what is read of it and what is left in the tables; the refusals of files that
--- differ from it in a byte or two; the bounds of counts and length; and the words and bytes looked at, both bounds of whose count are met.
+-- Worked examples, by computation: case L (document 01, "Case file") as a file, what is read of it and what is left in the tables; its corridor with a cap; the refusals of
+-- files that differ from it in a byte or two; the bounds of counts and length; and the words and bytes looked at, both bounds of whose count are met.
 use Prim.Native.Nat.{ℕ, _+_, _*_}
 use mathlib.Core.Bool.{Bool, true, false}
 use mathlib.Core.List.{List, [], _∷_, _++_, map}
@@ -14,7 +14,7 @@ use Rattle.mode.specs.declared.PlanMode.the-variants.{Observe}
 use Rattle.casefile_defs.specs.Layout.{little, word, spot}
 use Rattle.casefile_defs.specs.Looks.{lookedAs, lookedAt}
 use Rattle.casefile_defs.specs.Reading.{lines, recordAt, stepped, walked, modeOf, headerOf, countsOk, tablesWalked, trailing, looksFor, caseRead, unread, endRead, bodyRead, readOf}
-use Rattle.casefile_defs.specs.Tables.{Places, numberIn, figureIn, sheetIn, linesAt, tablesOf}
+use Rattle.casefile_defs.specs.Tables.{Places, numberAt, figureAt, numberIn, figureIn, sheetIn, linesAt, tablesOf}
 use Rattle.casefile_defs.specs.declared.Header.{Header}
 use Rattle.casefile_defs.specs.declared.Kind.the-variants.{Head}
 use Rattle.casefile_defs.specs.declared.Reading.the-variants.{Refused, Read}
@@ -24,15 +24,23 @@ use Rattle.casefile_defs.specs.declared.Reading.the-variants.{Refused, R
 abbrev bits : ℕ → ℕ → ℕ → List ℕ
 bits x y z = 0 ∷ 0 ∷ 0 ∷ 0 ∷ 0 ∷ x ∷ y ∷ z ∷ []
 
-abbrev pub fileL : List ℕ
-fileL =
+-- the records before the corridor's; the corridor's, by the second letter of its mark; the line's
+abbrev frontL : List ℕ
+frontL =
     (0x48 ∷ 0x44 ∷ 2 ∷ 0 ∷ 0 ∷ 0 ∷ 0 ∷ 2 ∷ 0 ∷ 1 ∷ 0 ∷ 1 ∷ 0 ∷ 0 ∷ 1 ∷ [])
     ++ (0x4c ∷ 0x56 ∷ bits 0x40 0x61 0x40)
     ++ (0x42 ∷ 0x55 ∷ 0 ∷ bits 0 0 0)
     ++ (0x42 ∷ 0x55 ∷ 0 ∷ bits 0 0x49 0x40)
     ++ (0x47 ∷ 0x45 ∷ 0 ∷ 0 ∷ 1 ∷ bits 0 0 0) ++ bits 0 0x59 0x40 ++ bits 0 0x34 0x40 ++ bits 0 0xd0 0x3f
-    ++ (0x43 ∷ 0x4f ∷ 0 ∷ 0 ∷ 1 ∷ 0 ∷ 1 ∷ bits 0 0x24 0x40) ++ bits 0 0xf0 0x3f
-    ++ (0x4c ∷ 0x4e ∷ bits 0 0 0) ++ bits 0 0xe0 0x3f ++ bits 0 0 0 ++ bits 0 0x59 0x40 ++ (0 ∷ [])
+
+abbrev corridorL : ℕ → List ℕ
+corridorL letter = (0x43 ∷ letter ∷ 0 ∷ 0 ∷ 1 ∷ 0 ∷ 1 ∷ bits 0 0x24 0x40) ++ bits 0 0xf0 0x3f
+
+abbrev lineL : List ℕ
+lineL = (0x4c ∷ 0x4e ∷ bits 0 0 0) ++ bits 0 0xe0 0x3f ++ bits 0 0 0 ++ bits 0 0x59 0x40 ++ (0 ∷ [])
+
+abbrev pub fileL : List ℕ
+fileL = frontL ++ corridorL 0x4f ++ lineL
 
 abbrev headerL : Header
 headerL = record { mode = Observe; target = 0; buses = 2; corridors = 1; generators = 1; above = 0; requested = 1 }
@@ -52,9 +60,9 @@ abbrev figures : List Float → ℕ → List Float
 figures l past = l ++ replicate past nought
 
 pub counts-l :
-    tablesL .tier ∷ tablesL .bus ∷ tablesL .slack ∷ tablesL .a ∷ tablesL .b ∷ tablesL .circuits ∷ []
-    ≡ counts (0 ∷ 0 ∷ []) 254 ∷ counts (0 ∷ []) 127 ∷ counts (1 ∷ []) 127 ∷ counts (0 ∷ []) 255 ∷ counts (1 ∷ []) 255 ∷ counts (1 ∷ []) 255 ∷ []
-unfolding tablesOf numberIn spot tab word little
+    tablesL .tier ∷ tablesL .bus ∷ tablesL .slack ∷ tablesL .a ∷ tablesL .b ∷ tablesL .circuits ∷ tablesL .cap ∷ []
+    ≡ counts (0 ∷ 0 ∷ []) 254 ∷ counts (0 ∷ []) 127 ∷ counts (1 ∷ []) 127 ∷ counts (0 ∷ []) 255 ∷ counts (1 ∷ []) 255 ∷ counts (1 ∷ []) 255 ∷ counts (0 ∷ []) 255 ∷ []
+unfolding tablesOf numberIn numberAt spot tab word little
 counts-l = refl
 
 pub figures-l :
@@ -68,13 +76,42 @@ pub figures-l :
     ∷ figures (ofBits binary64 0x4024_0000_0000_0000 ∷ []) 255
     ∷ figures (one ∷ []) 255
     ∷ []
-unfolding tablesOf figureIn spot tab word little
+unfolding tablesOf figureIn figureAt spot tab word little
 figures-l = refl
 
 -- the first places of the sheet, past its one row too
-pub sheet-l : tab 8 (sheetIn fileL (linesAt headerL) (lines headerL)) ≡ nought ∷ half ∷ nought ∷ hundred ∷ nought ∷ nought ∷ nought ∷ nought ∷ []
+pub sheet-l : tab 8 (sheetIn fileL (linesAt fileL headerL) (lines headerL)) ≡ nought ∷ half ∷ nought ∷ hundred ∷ nought ∷ nought ∷ nought ∷ nought ∷ []
 unfolding sheetIn spot tab word little
 sheet-l = refl
+
+-- ---- document 02's CP: the corridor's record with a cap after its fields; and two corridors, the first with a cap of 2
+abbrev cappedL : ℕ → List ℕ
+cappedL cap = frontL ++ corridorL 0x50 ++ (cap ∷ lineL)
+
+abbrev twoL : List ℕ
+twoL = set frontL 9 2 ++ corridorL 0x50 ++ (2 ∷ corridorL 0x4f) ++ lineL ++ lineL
+
+abbrev headerTwo : Header
+headerTwo = record { mode = Observe; target = 0; buses = 2; corridors = 2; generators = 1; above = 0; requested = 1 }
+
+-- any cap is read; a CP without its last byte is cut, where a CO of the same length is whole and another mark is wrong; a CP in a bus's place is a wrong mark
+pub capped :
+    map readOf (cappedL 2 ∷ cappedL 7 ∷ twoL ∷ take 107 (cappedL 2) ∷ take 107 fileL ∷ set (take 107 fileL) 85 0x51 ∷ set (set fileL 25 0x43) 26 0x50 ∷ [])
+    ≡ caseRead (Read headerL) 0 ∷ caseRead (Read headerL) 0 ∷ caseRead (Read headerTwo) 0 ∷ map unread (Cut 5 ∷ Cut 6 ∷ Mark 5 ∷ Mark 2 ∷ [])
+unfolding readOf bodyRead endRead tablesWalked walked stepped recordAt headerOf modeOf modeNumber trailing looksFor iter first word little
+capped = refl
+
+-- a CO has cap 0; what stands behind a CP is found; past the corridors there are zeros, whatever stands there
+pub caps :
+    tablesOf (cappedL 2) headerL .cap ∷ tablesOf (cappedL 7) headerL .cap ∷ tablesOf twoL headerTwo .cap ∷ tablesOf twoL headerTwo .circuits
+    ∷ tablesOf (frontL ++ corridorL 0x4f ++ corridorL 0x50 ++ (3 ∷ [])) headerL .cap ∷ []
+    ≡ counts (2 ∷ []) 255 ∷ counts (7 ∷ []) 255 ∷ counts (2 ∷ 0 ∷ []) 254 ∷ counts (1 ∷ 1 ∷ []) 254 ∷ counts (0 ∷ []) 255 ∷ []
+unfolding tablesOf numberIn numberAt spot tab word little
+caps = refl
+
+pub sheet-two : tab 12 (sheetIn twoL (linesAt twoL headerTwo) (lines headerTwo)) ≡ nought ∷ half ∷ nought ∷ hundred ∷ nought ∷ nought ∷ half ∷ nought ∷ hundred ∷ nought ∷ nought ∷ nought ∷ []
+unfolding sheetIn spot tab word little
+sheet-two = refl
 
 -- ---- refusals: no byte, and a header cut; mode 6; 129 generators; a bus cut, its mark wrong too; the level's mark; the second bus's mark, and a basis of 2
 -- behind it; slack 2; basis 2

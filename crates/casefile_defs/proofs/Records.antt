@@ -6,13 +6,14 @@ use mathlib.Core.Bool.{Bool, true, false, _&&_, cond}
 use mathlib.Core.List.{List}
 use native.Mathlib.Omega.{arith}
 use borrow.Author.Tests.{lt-ltb, le-ltb, ltb-false}
-use lib.Dec.{leb, ltb}
-use lib.ListN.{length}
+use lib.Dec.{leb, ltb, eqb}
+use lib.ListN.{length, getD, List·getD-eq-default}
 use Rattle.refusal.specs.declared.Refusal.{Refusal}
 use Rattle.refusal.specs.declared.Refusal.the-variants.{Cut, Mark, Code}
-use Rattle.casefile_defs.specs.Layout.{sizeOf, codesOk, word}
-use Rattle.casefile_defs.specs.Reading.{recordAt, marked}
+use Rattle.casefile_defs.specs.Layout.{layoutOf, sizeOf, codesOk, word, marked}
+use Rattle.casefile_defs.specs.Reading.{recordAt}
 use Rattle.casefile_defs.specs.declared.Kind.{Kind}
+use Rattle.casefile_defs.specs.declared.Kind.the-variants.{Head, Level, Bus, Generator, Corridor, Line, CappedCorridor}
 use Rattle.casefile_defs.specs.declared.Walk.the-variants.{At, Fault}
 
 and-true : (b : Bool) → b ≡ (b && true)
@@ -28,6 +29,27 @@ bounded j o m {k} {v} at s f p q =
 
 pub size-at : (j : Kind) {k : Kind} → k ≡ j → sizeOf k ≡ sizeOf j
 size-at j p = ap (λ (i : Kind). sizeOf i) p
+
+-- a mark that is cut is none
+no-and : (b : Bool) → (b && false) ≡ false
+no-and true = refl
+no-and false = refl
+
+unmarked-by : (b : Bool) (x y : ℕ) → x ≡ 0 → eqb 0 y ≡ false → (b && eqb x y) ≡ false
+unmarked-by b x y e n = ap (λ (z : ℕ). b && eqb z y) e ∙ ap (λ (z : Bool). b && z) n ∙ no-and b
+
+second-letter : (k : Kind) → eqb 0 (layoutOf k .second) ≡ false
+second-letter Head = refl
+second-letter Level = refl
+second-letter Bus = refl
+second-letter Generator = refl
+second-letter Corridor = refl
+second-letter Line = refl
+second-letter CappedCorridor = refl
+
+pub unmarked : (k : Kind) (s : List ℕ) (at : ℕ) → length s < at + 2 → false ≡ marked k s at
+unmarked k s at h =
+    sym (unmarked-by (eqb (getD s at 0) (layoutOf k .first)) (getD s (at + 1) 0) (layoutOf k .second) (List·getD-eq-default s 0 (omega arith)) (second-letter k))
 
 -- ---- the four ways
 module _ (k : Kind) (s : List ℕ) (r at : ℕ) where

@@ -12,8 +12,8 @@ use Rattle.loops.proofs.Bools.{both}
 use Rattle.refusal.specs.declared.Refusal.the-variants.{Length}
 use Rattle.casefile_defs.specs.Bounds.{mostLevels, mostBuses, mostGenerators, mostCorridors, mostSheet}
 use Rattle.casefile_defs.specs.Reading.{levels, lines, readOf, unread}
-use Rattle.casefile_defs.specs.Tables.{Places, placesOf, numbers, figures, sheetIn, levelsAt, busesAt, generatorsAt, corridorsAt, linesAt, tablesOf, held, sizesOk, outcome, readCase}
-use Rattle.casefile_defs.specs.declared.Kind.the-variants.{Level, Bus, Generator, Corridor}
+use Rattle.casefile_defs.specs.Tables.{Places, placesOf, numbersOf, numbers, figures, capField, sheetIn, levelsAt, busesAt, generatorsAt, corridorsAt, linesAt, tablesOf, held, sizesOk, outcome, readCase}
+use Rattle.casefile_defs.specs.declared.Kind.the-variants.{Level, Bus, Generator, Corridor, CappedCorridor}
 use Rattle.casefile_defs.specs.declared.Header.{Header}
 use Rattle.casefile_defs.specs.declared.CaseRead.{CaseRead}
 
@@ -33,12 +33,14 @@ pub record Sizes (p : Places) : Type 0 where
   pub circuits : length (p .circuits) ≡ mostCorridors
   pub lengthKm : length (p .lengthKm) ≡ mostCorridors
   pub share : length (p .share) ≡ mostCorridors
+  pub cap : length (p .cap) ≡ mostCorridors
   pub sheet : length (p .sheet) ≡ mostSheet
 
 pub sizes : (p : Places) → sizesOk p ≡ true → Sizes p
 unfolding sizesOk
 sizes p e =
-    let t14 = both _ _ e in
+    let t15 = both _ _ e in
+    let t14 = both _ _ (t15 .0) in
     let t13 = both _ _ (t14 .0) in
     let t12 = both _ _ (t13 .0) in
     let t11 = both _ _ (t12 .0) in
@@ -67,29 +69,31 @@ sizes p e =
       circuits = eqb-true (length (p .circuits)) mostCorridors (t11 .1);
       lengthKm = eqb-true (length (p .lengthKm)) mostCorridors (t12 .1);
       share = eqb-true (length (p .share)) mostCorridors (t13 .1);
-      sheet = eqb-true (length (p .sheet)) mostSheet (t14 .1);
+      cap = eqb-true (length (p .cap)) mostCorridors (t14 .1);
+      sheet = eqb-true (length (p .sheet)) mostSheet (t15 .1);
     }
 
 -- the tables, column by column
-pub tables-same : (s : List ℕ) (h : Header) (ladder : List Float) (tier : List ℕ) (load : List Float) (bus : List ℕ) (slack : List ℕ) (pmin : List Float) (pmax : List Float) (c1 : List Float) (c2 : List Float) (a : List ℕ) (b : List ℕ) (circuits : List ℕ) (lengthKm : List Float) (share : List Float) (sheet : List Float)
+pub tables-same : (s : List ℕ) (h : Header) (ladder : List Float) (tier : List ℕ) (load : List Float) (bus : List ℕ) (slack : List ℕ) (pmin : List Float) (pmax : List Float) (c1 : List Float) (c2 : List Float) (a : List ℕ) (b : List ℕ) (circuits : List ℕ) (lengthKm : List Float) (share : List Float) (cap : List ℕ) (sheet : List Float)
     → ladder ≡ figures Level 0 s levelsAt (levels h) mostLevels
-    → tier ≡ numbers Bus 0 s (busesAt h) (h .buses) mostBuses
-    → load ≡ figures Bus 1 s (busesAt h) (h .buses) mostBuses
-    → bus ≡ numbers Generator 0 s (generatorsAt h) (h .generators) mostGenerators
-    → slack ≡ numbers Generator 1 s (generatorsAt h) (h .generators) mostGenerators
-    → pmin ≡ figures Generator 2 s (generatorsAt h) (h .generators) mostGenerators
-    → pmax ≡ figures Generator 3 s (generatorsAt h) (h .generators) mostGenerators
-    → c1 ≡ figures Generator 4 s (generatorsAt h) (h .generators) mostGenerators
-    → c2 ≡ figures Generator 5 s (generatorsAt h) (h .generators) mostGenerators
-    → a ≡ numbers Corridor 0 s (corridorsAt h) (h .corridors) mostCorridors
-    → b ≡ numbers Corridor 1 s (corridorsAt h) (h .corridors) mostCorridors
-    → circuits ≡ numbers Corridor 2 s (corridorsAt h) (h .corridors) mostCorridors
-    → lengthKm ≡ figures Corridor 3 s (corridorsAt h) (h .corridors) mostCorridors
-    → share ≡ figures Corridor 4 s (corridorsAt h) (h .corridors) mostCorridors
-    → sheet ≡ tab mostSheet (sheetIn s (linesAt h) (lines h))
-    → placesOf ladder tier load bus slack pmin pmax c1 c2 a b circuits lengthKm share sheet ≡ tablesOf s h
+    → tier ≡ numbers Bus 0 s (busesAt s h) (h .buses) mostBuses
+    → load ≡ figures Bus 1 s (busesAt s h) (h .buses) mostBuses
+    → bus ≡ numbers Generator 0 s (generatorsAt s h) (h .generators) mostGenerators
+    → slack ≡ numbers Generator 1 s (generatorsAt s h) (h .generators) mostGenerators
+    → pmin ≡ figures Generator 2 s (generatorsAt s h) (h .generators) mostGenerators
+    → pmax ≡ figures Generator 3 s (generatorsAt s h) (h .generators) mostGenerators
+    → c1 ≡ figures Generator 4 s (generatorsAt s h) (h .generators) mostGenerators
+    → c2 ≡ figures Generator 5 s (generatorsAt s h) (h .generators) mostGenerators
+    → a ≡ numbers Corridor 0 s (corridorsAt s h) (h .corridors) mostCorridors
+    → b ≡ numbers Corridor 1 s (corridorsAt s h) (h .corridors) mostCorridors
+    → circuits ≡ numbers Corridor 2 s (corridorsAt s h) (h .corridors) mostCorridors
+    → lengthKm ≡ figures Corridor 3 s (corridorsAt s h) (h .corridors) mostCorridors
+    → share ≡ figures Corridor 4 s (corridorsAt s h) (h .corridors) mostCorridors
+    → cap ≡ numbersOf Corridor CappedCorridor capField s (corridorsAt s h) (h .corridors) mostCorridors
+    → sheet ≡ tab mostSheet (sheetIn s (linesAt s h) (lines h))
+    → placesOf ladder tier load bus slack pmin pmax c1 c2 a b circuits lengthKm share cap sheet ≡ tablesOf s h
 unfolding tablesOf
-tables-same s h ladder tier load bus slack pmin pmax c1 c2 a b circuits lengthKm share sheet e0 e1 e2 e3 e4 e5 e6 e7 e8 e9 e10 e11 e12 e13 e14 = cc
+tables-same s h ladder tier load bus slack pmin pmax c1 c2 a b circuits lengthKm share cap sheet e0 e1 e2 e3 e4 e5 e6 e7 e8 e9 e10 e11 e12 e13 e14 e15 = cc
 
 pub refused-lengths : (s : List ℕ) (p : Places) → sizesOk p ≡ false → outcome (unread Length) p ≡ readCase s p
 unfolding readCase

@@ -11,7 +11,7 @@ use Rattle.mode.specs.Number.{modeNumber}
 use Rattle.mode.specs.declared.PlanMode.{PlanMode}
 use Rattle.mode.specs.declared.PlanMode.the-variants.{Expand, Reinforce, Observe, ExpandServing, ReinforceServing, ObserveServing}
 use Rattle.casefile_defs.specs.Bounds.{mostLevels, mostBuses, mostGenerators, mostCorridors, mostTarget, mostBytes}
-use Rattle.casefile_defs.specs.Layout.{layoutOf, sizeOf, codesOk, field}
+use Rattle.casefile_defs.specs.Layout.{sizeOf, codesOk, field, marked, standing}
 use Rattle.casefile_defs.specs.declared.Kind.{Kind}
 use Rattle.casefile_defs.specs.declared.Kind.the-variants.{Head, Level, Bus, Generator, Corridor, Line}
 use Rattle.casefile_defs.specs.declared.Header.{Header}
@@ -21,10 +21,6 @@ use Rattle.casefile_defs.specs.declared.CaseRead.{CaseRead}
 use Rattle.casefile_defs.specs.declared.Reading.{Reading}
 use Rattle.casefile_defs.specs.declared.Reading.the-variants.{Refused, Read}
 
--- whether a record's mark stands at a place
-abbrev pub marked : Kind → List ℕ → ℕ → Bool
-marked k s at = eqb (getD s at 0) (layoutOf k .first) && eqb (getD s (at + 1) 0) (layoutOf k .second)
-
 -- record r of the file, of kind k, at a place: past it, or what is wrong with it (14, then 15, then 16)
 unfoldable pub recordAt : Kind → List ℕ → ℕ → ℕ → Walk
 recordAt k s r at =
@@ -32,12 +28,12 @@ recordAt k s r at =
     (Fault (Cut r))
     (cond (marked k s at) (cond (codesOk k s at) (At (at + sizeOf k)) (Fault (Code r))) (Fault (Mark r)))
 
--- a fault is passed on
+-- a fault is passed on; where a record of kind k is due, the one that stands there is read
 unfoldable pub stepped : Kind → List ℕ → ℕ → Walk → Walk
 stepped k s r (Fault f) = Fault f
-stepped k s r (At at) = recordAt k s r at
+stepped k s r (At at) = recordAt (standing k s at) s r at
 
--- records start to end - 1, all of kind k
+-- records start to end - 1, of kind k each
 unfoldable pub walked : Kind → ℕ → ℕ → List ℕ → Walk → Walk
 walked k start end s w = iter (stepped k s) (end - start) start w
 

@@ -2,7 +2,7 @@
 use Prim.Native.Nat.{ℕ, _/_, _%_, _+_}
 use mathlib.Core.Bool.{Bool, _&&_, cond}
 use mathlib.Core.List.{List}
-use lib.Dec.{ltb, eqb}
+use lib.Dec.{leb, ltb, eqb}
 use lib.ListN.{length}
 use lib.Ieee.{Float, binary64, ofBits}
 use Rattle.loops.specs.Figures.{nought, one}
@@ -11,26 +11,36 @@ use Rattle.refusal.specs.Reply.{Reply, answered, refusedBy}
 use Rattle.refusal.specs.declared.Refusal.the-variants.{Length}
 use Rattle.mode.specs.declared.PlanMode.the-variants.{Expand}
 use Rattle.casefile_defs.specs.Bounds.{mostLevels, mostBuses, mostGenerators, mostCorridors, rowFigures, mostSheet}
-use Rattle.casefile_defs.specs.Layout.{sizeOf, placeOf, spanOf, spot, word, field}
+use Rattle.casefile_defs.specs.Layout.{sizeOf, placeOf, spanOf, standing, spot, word, field}
 use Rattle.casefile_defs.specs.Reading.{levels, lines, readOf, unread}
 use Rattle.casefile_defs.specs.declared.Kind.{Kind}
-use Rattle.casefile_defs.specs.declared.Kind.the-variants.{Head, Level, Bus, Generator, Corridor, Line}
+use Rattle.casefile_defs.specs.declared.Kind.the-variants.{Head, Level, Bus, Generator, Corridor, Line, CappedCorridor}
 use Rattle.casefile_defs.specs.declared.Header.{Header}
 use Rattle.casefile_defs.specs.declared.CaseRead.{CaseRead}
 use Rattle.casefile_defs.specs.declared.Reading.{Reading}
 use Rattle.casefile_defs.specs.declared.Reading.the-variants.{Refused, Read}
 
--- place i of a column: the w bytes at distance o in record i, and zero past the records
+-- the w bytes at distance o in the record at a place where one of kind k is due; 0 where the record that stands there has no such field, as a CO has no cap
+unfoldable pub numberAt : Kind → List ℕ → ℕ → ℕ → ℕ → ℕ
+numberAt k s at o w = cond (leb (o + w) (sizeOf (standing k s at))) (word w (at + o) s) 0
+
+-- a figure: any 64 bits, and every NaN pattern is the one NaN
+unfoldable pub figureAt : List ℕ → ℕ → ℕ → Float
+figureAt s at o = ofBits binary64 (word 8 (at + o) s)
+
+-- place i of a column: the field of record i, and zero past the records
 unfoldable pub numberIn : Kind → List ℕ → ℕ → ℕ → ℕ → ℕ → ℕ → ℕ
-numberIn k s at count o w i = cond (ltb i count) (word w (spot k at i + o) s) 0
+numberIn k s at count o w i = cond (ltb i count) (numberAt k s (spot k s at i) o w) 0
 
--- the same of a figure: any 64 bits, and every NaN pattern is the one NaN
 unfoldable pub figureIn : Kind → List ℕ → ℕ → ℕ → ℕ → ℕ → Float
-figureIn k s at count o i = cond (ltb i count) (ofBits binary64 (word 8 (spot k at i + o) s)) nought
+figureIn k s at count o i = cond (ltb i count) (figureAt s (spot k s at i) o) nought
 
--- a whole column of n places, by the field's index in the record
+-- a whole column of n places, where records of kind k are due, by the field's index in a record of kind l
+abbrev pub numbersOf : Kind → Kind → ℕ → List ℕ → ℕ → ℕ → ℕ → List ℕ
+numbersOf k l j s at count n = tab n (numberIn k s at count (placeOf l j) (spanOf l j))
+
 abbrev pub numbers : Kind → ℕ → List ℕ → ℕ → ℕ → ℕ → List ℕ
-numbers k j s at count n = tab n (numberIn k s at count (placeOf k j) (spanOf k j))
+numbers k j s at count n = numbersOf k k j s at count n
 
 abbrev pub figures : Kind → ℕ → List ℕ → ℕ → ℕ → ℕ → List Float
 figures k j s at count n = tab n (figureIn k s at count (placeOf k j))
@@ -47,9 +57,9 @@ lineFigure s at j = cond (ltb j basisField) (ofBits binary64 (field Line j at s)
 
 -- place p of the sheet: a row for each line, in the file's order
 unfoldable pub sheetIn : List ℕ → ℕ → ℕ → ℕ → Float
-sheetIn s at count p = cond (ltb (p / rowFigures) count) (lineFigure s (spot Line at (p / rowFigures)) (p % rowFigures)) nought
+sheetIn s at count p = cond (ltb (p / rowFigures) count) (lineFigure s (spot Line s at (p / rowFigures)) (p % rowFigures)) nought
 
--- the fifteen lent tables
+-- the sixteen lent tables
 pub record Places : Type 0 where
   pub ladder : List Float
   pub tier : List ℕ
@@ -65,10 +75,11 @@ pub record Places : Type 0 where
   pub circuits : List ℕ
   pub lengthKm : List Float
   pub share : List Float
+  pub cap : List ℕ
   pub sheet : List Float
 
-abbrev pub placesOf : List Float → List ℕ → List Float → List ℕ → List ℕ → List Float → List Float → List Float → List Float → List ℕ → List ℕ → List ℕ → List Float → List Float → List Float → Places
-placesOf ladder tier load bus slack pmin pmax c1 c2 a b circuits lengthKm share sheet = record {
+abbrev pub placesOf : List Float → List ℕ → List Float → List ℕ → List ℕ → List Float → List Float → List Float → List Float → List ℕ → List ℕ → List ℕ → List Float → List Float → List ℕ → List Float → Places
+placesOf ladder tier load bus slack pmin pmax c1 c2 a b circuits lengthKm share cap sheet = record {
   ladder = ladder;
   tier = tier;
   load = load;
@@ -83,6 +94,7 @@ placesOf ladder tier load bus slack pmin pmax c1 c2 a b circuits lengthKm share 
   circuits = circuits;
   lengthKm = lengthKm;
   share = share;
+  cap = cap;
   sheet = sheet;
 }
 
@@ -90,36 +102,41 @@ placesOf ladder tier load bus slack pmin pmax c1 c2 a b circuits lengthKm share 
 abbrev pub levelsAt : ℕ
 levelsAt = sizeOf Head
 
-abbrev pub busesAt : Header → ℕ
-busesAt h = spot Level levelsAt (levels h)
+abbrev pub busesAt : List ℕ → Header → ℕ
+busesAt s h = spot Level s levelsAt (levels h)
 
-abbrev pub generatorsAt : Header → ℕ
-generatorsAt h = spot Bus (busesAt h) (h .buses)
+abbrev pub generatorsAt : List ℕ → Header → ℕ
+generatorsAt s h = spot Bus s (busesAt s h) (h .buses)
 
-abbrev pub corridorsAt : Header → ℕ
-corridorsAt h = spot Generator (generatorsAt h) (h .generators)
+abbrev pub corridorsAt : List ℕ → Header → ℕ
+corridorsAt s h = spot Generator s (generatorsAt s h) (h .generators)
 
-abbrev pub linesAt : Header → ℕ
-linesAt h = spot Corridor (corridorsAt h) (h .corridors)
+abbrev pub linesAt : List ℕ → Header → ℕ
+linesAt s h = spot Corridor s (corridorsAt s h) (h .corridors)
+
+-- a corridor's cap is the last field of a CP
+abbrev pub capField : ℕ
+capField = 5
 
 -- the tables of a header's counts: the records' fields, and zero past the counts
 unfoldable pub tablesOf : List ℕ → Header → Places
 tablesOf s h = placesOf
     (figures Level 0 s levelsAt (levels h) mostLevels)
-    (numbers Bus 0 s (busesAt h) (h .buses) mostBuses)
-    (figures Bus 1 s (busesAt h) (h .buses) mostBuses)
-    (numbers Generator 0 s (generatorsAt h) (h .generators) mostGenerators)
-    (numbers Generator 1 s (generatorsAt h) (h .generators) mostGenerators)
-    (figures Generator 2 s (generatorsAt h) (h .generators) mostGenerators)
-    (figures Generator 3 s (generatorsAt h) (h .generators) mostGenerators)
-    (figures Generator 4 s (generatorsAt h) (h .generators) mostGenerators)
-    (figures Generator 5 s (generatorsAt h) (h .generators) mostGenerators)
-    (numbers Corridor 0 s (corridorsAt h) (h .corridors) mostCorridors)
-    (numbers Corridor 1 s (corridorsAt h) (h .corridors) mostCorridors)
-    (numbers Corridor 2 s (corridorsAt h) (h .corridors) mostCorridors)
-    (figures Corridor 3 s (corridorsAt h) (h .corridors) mostCorridors)
-    (figures Corridor 4 s (corridorsAt h) (h .corridors) mostCorridors)
-    (tab mostSheet (sheetIn s (linesAt h) (lines h)))
+    (numbers Bus 0 s (busesAt s h) (h .buses) mostBuses)
+    (figures Bus 1 s (busesAt s h) (h .buses) mostBuses)
+    (numbers Generator 0 s (generatorsAt s h) (h .generators) mostGenerators)
+    (numbers Generator 1 s (generatorsAt s h) (h .generators) mostGenerators)
+    (figures Generator 2 s (generatorsAt s h) (h .generators) mostGenerators)
+    (figures Generator 3 s (generatorsAt s h) (h .generators) mostGenerators)
+    (figures Generator 4 s (generatorsAt s h) (h .generators) mostGenerators)
+    (figures Generator 5 s (generatorsAt s h) (h .generators) mostGenerators)
+    (numbers Corridor 0 s (corridorsAt s h) (h .corridors) mostCorridors)
+    (numbers Corridor 1 s (corridorsAt s h) (h .corridors) mostCorridors)
+    (numbers Corridor 2 s (corridorsAt s h) (h .corridors) mostCorridors)
+    (figures Corridor 3 s (corridorsAt s h) (h .corridors) mostCorridors)
+    (figures Corridor 4 s (corridorsAt s h) (h .corridors) mostCorridors)
+    (numbersOf Corridor CappedCorridor capField s (corridorsAt s h) (h .corridors) mostCorridors)
+    (tab mostSheet (sheetIn s (linesAt s h) (lines h)))
 
 -- the counts that a reading leaves in the tables: none where it is refused
 unfoldable pub held : Reading → Header
@@ -129,11 +146,11 @@ held (Read h) = h
 -- each table is lent at its largest size
 unfoldable pub sizesOk : Places → Bool
 sizesOk p =
-    (((((((((((((eqb (length (p .ladder)) mostLevels && eqb (length (p .tier)) mostBuses) && eqb (length (p .load)) mostBuses)
+    ((((((((((((((eqb (length (p .ladder)) mostLevels && eqb (length (p .tier)) mostBuses) && eqb (length (p .load)) mostBuses)
     && eqb (length (p .bus)) mostGenerators) && eqb (length (p .slack)) mostGenerators) && eqb (length (p .pmin)) mostGenerators)
     && eqb (length (p .pmax)) mostGenerators) && eqb (length (p .c1)) mostGenerators) && eqb (length (p .c2)) mostGenerators)
     && eqb (length (p .a)) mostCorridors) && eqb (length (p .b)) mostCorridors) && eqb (length (p .circuits)) mostCorridors)
-    && eqb (length (p .lengthKm)) mostCorridors) && eqb (length (p .share)) mostCorridors) && eqb (length (p .sheet)) mostSheet
+    && eqb (length (p .lengthKm)) mostCorridors) && eqb (length (p .share)) mostCorridors) && eqb (length (p .cap)) mostCorridors) && eqb (length (p .sheet)) mostSheet
 
 -- what the operation says, how much of what follows the records it looked at, and every place of every table
 pub record Outcome : Type 0 where

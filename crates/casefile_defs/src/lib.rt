@@ -41,7 +41,7 @@ pub struct CaseRead {
     pub looks: usize,
 }
 
-// The kinds of record, in the file's order.
+// The kinds of record, in the file's order; the last may stand for a corridor.
 pub enum Kind {
     Head,
     Level,
@@ -49,6 +49,7 @@ pub enum Kind {
     Generator,
     Corridor,
     Line,
+    CappedCorridor,
 }
 
 // A walk over the records: the next record's place, or the first fault.

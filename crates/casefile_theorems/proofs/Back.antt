@@ -2,7 +2,7 @@
 -- Every record stands in its place, since the parts before it have their lengths; and nothing but zeros follows.
 use Prim.Native.Nat.{ℕ, zero, suc, _+_, _-_, _<_, _≤_}
 use mathlib.Core.Path.{_≡_, refl, sym, ap, _∙_, subst}
-use mathlib.Core.Bool.{true}
+use mathlib.Core.Bool.{Bool, true, false, cond}
 use mathlib.Core.List.{List, [], _∷_, _++_, append-assoc}
 use native.Mathlib.Omega.{arith}
 use borrow.Author.Tests.{eq-eqb}
@@ -18,31 +18,22 @@ use Rattle.casefile_defs.specs.Reading.{headerOf, modeOf, countsOk, levels, lin
 use Rattle.casefile_defs.specs.Looks.{lookedAt}
 use Rattle.casefile_defs.specs.Tables.{levelsAt, busesAt, generatorsAt, corridorsAt, linesAt}
 use Rattle.casefile_defs.specs.declared.Kind.{Kind}
-use Rattle.casefile_defs.specs.declared.Kind.the-variants.{Head, Level, Bus, Generator, Corridor, Line}
+use Rattle.casefile_defs.specs.declared.Kind.the-variants.{Head, Level, Bus, Generator, Corridor, Line, CappedCorridor}
 use Rattle.casefile_defs.specs.declared.Header.{Header}
 use Rattle.casefile_defs.specs.declared.Walk.the-variants.{At}
 use Rattle.casefile_defs.specs.declared.Reading.the-variants.{Read}
 use Rattle.casefile_defs.proofs.Accepted.{endAt}
 use Rattle.casefile_defs.proofs.Trailing.{zeros-among}
 use Rattle.casefile_defs.proofs.Walks.{tables-walked, end-good, body-end, whole-body}
-use Rattle.casefile_theorems.specs.Writer.{recordBytes, tableBytes, headRow, fileWith, countOf}
+use Rattle.casefile_theorems.specs.Writer.{recordBytes, tableBytes, headRow, countOf, Form, formIn, kindsOf, fileWith}
 use Rattle.casefile_theorems.proofs.Bytes.{Fine}
-use Rattle.casefile_theorems.proofs.Written.{Stands, stands, length-record, table-stands, length-table, walk-stands}
+use Rattle.casefile_theorems.proofs.Written.{Stands, stands, length-record, Found, table-spot, table-found, walk-stands, suits-level, suits-bus, suits-generator, suits-corridor, suits-line}
 
--- where a kind's records start
-abbrev pub startOf : Kind → Header → ℕ
-startOf Head h = 0
-startOf Level h = levelsAt
-startOf Bus h = busesAt h
-startOf Generator h = generatorsAt h
-startOf Corridor h = corridorsAt h
-startOf Line h = linesAt h
-
--- a header and numbers that a file can hold
-pub record Whole (h : Header) (v : Kind → ℕ → ℕ → ℕ) : Type 0 where
+-- a header and numbers that a file of a form can hold
+pub record Whole (f : Form) (h : Header) (v : Kind → ℕ → ℕ → ℕ) : Type 0 where
   pub counts : countsOk h ≡ true
   pub head : Fine (layoutOf Head .fields) (headRow h)
-  pub rows : (k : Kind) (i : ℕ) → i < countOf k h → Fine (layoutOf k .fields) (v k i)
+  pub rows : (k : Kind) (i : ℕ) → i < countOf k h → Fine (layoutOf (kindsOf f k i) .fields) (v k i)
 
 -- ---- zeros to the end
 length-zeros : (n : ℕ) → length (replicate {A = ℕ} n 0) ≡ n
@@ -70,14 +61,22 @@ mode-back ExpandServing = refl
 mode-back ReinforceServing = refl
 mode-back ObserveServing = refl
 
-module _ (h : Header) (v : Kind → ℕ → ℕ → ℕ) (n : ℕ) (g : Whole h v) where
+-- a CO is no CP
+same-kind : (b c : Bool) → _≡_ {A = Kind} (cond b CappedCorridor Corridor) (cond c CappedCorridor Corridor) → b ≡ c
+same-kind true true e = refl
+same-kind false false e = refl
+same-kind true false e = absurd (let z : _≡_ {A = ℕ} 0 1 = cc in omega arith)
+same-kind false true e = absurd (let z : _≡_ {A = ℕ} 0 1 = cc in omega arith)
+
+module _ (f : Form) (h : Header) (v : Kind → ℕ → ℕ → ℕ) (n : ℕ) (g : Whole f h v) where
   -- the file, padded
   abbrev pub padded : List ℕ
-  padded = fileWith h v ++ replicate n 0
+  padded = fileWith f h v ++ replicate n 0
 
   abbrev part : Kind → List ℕ
-  part k = tableBytes k (countOf k h) (v k)
+  part k = tableBytes (kindsOf f k) (countOf k h) (v k)
 
+  -- what stands before each table
   abbrev p₁ : List ℕ
   p₁ = recordBytes Head (headRow h)
 
@@ -93,93 +92,114 @@ module _ (h : Header) (v : Kind → ℕ → ℕ → ℕ) (n : ℕ) (g : Whole h 
   abbrev p₅ : List ℕ
   p₅ = p₄ ++ part Corridor
 
-  l₁ : length p₁ ≡ levelsAt
-  l₁ = length-record Head (headRow h)
-
-  l₂ : length p₂ ≡ busesAt h
-  l₂ = length-table Level (v Level) p₁ levelsAt (levels h) l₁
-
-  l₃ : length p₃ ≡ generatorsAt h
-  l₃ = length-table Bus (v Bus) p₂ (busesAt h) (h .buses) l₂
-
-  l₄ : length p₄ ≡ corridorsAt h
-  l₄ = length-table Generator (v Generator) p₃ (generatorsAt h) (h .generators) l₃
-
-  l₅ : length p₅ ≡ linesAt h
-  l₅ = length-table Corridor (v Corridor) p₄ (corridorsAt h) (h .corridors) l₄
-
-  -- the file's length without the zeros
-  pub length-file : length (fileWith h v) ≡ endAt h
-  unfolding fileWith
-  length-file =
-      ap length (let z : fileWith h v ≡ p₅ ++ part Line = simp append-assoc in z)
-      ∙ length-table Line (v Line) p₅ (linesAt h) (lines h) l₅
-
   head-stands : Stands Head padded 0 (headRow h)
   unfolding fileWith
   head-stands = stands Head padded [] _ (headRow h) 0 (append-assoc p₁ _ (replicate n 0)) refl (g .head)
 
-  -- every record stands in its place
-  pub level-stands : (i : ℕ) → i < (levels h) → Stands Level padded (spot Level levelsAt i) (v Level i)
+  -- the file, split at each table
+  e₁ : padded ≡ p₁ ++ (part Level ++ ((part Bus ++ (part Generator ++ (part Corridor ++ part Line))) ++ replicate n 0))
   unfolding fileWith
-  level-stands = table-stands Level (v Level) padded p₁ ((part Bus ++ (part Generator ++ (part Corridor ++ part Line))) ++ replicate n 0) levelsAt (levels h) (simp append-assoc) l₁ (g .rows Level)
+  e₁ = simp append-assoc
 
-  pub bus-stands : (i : ℕ) → i < (h .buses) → Stands Bus padded (spot Bus (busesAt h) i) (v Bus i)
+  e₂ : padded ≡ p₂ ++ (part Bus ++ ((part Generator ++ (part Corridor ++ part Line)) ++ replicate n 0))
   unfolding fileWith
-  bus-stands = table-stands Bus (v Bus) padded p₂ ((part Generator ++ (part Corridor ++ part Line)) ++ replicate n 0) (busesAt h) (h .buses) (simp append-assoc) l₂ (g .rows Bus)
+  e₂ = simp append-assoc
 
-  pub generator-stands : (i : ℕ) → i < (h .generators) → Stands Generator padded (spot Generator (generatorsAt h) i) (v Generator i)
+  e₃ : padded ≡ p₃ ++ (part Generator ++ ((part Corridor ++ part Line) ++ replicate n 0))
   unfolding fileWith
-  generator-stands = table-stands Generator (v Generator) padded p₃ ((part Corridor ++ part Line) ++ replicate n 0) (generatorsAt h) (h .generators) (simp append-assoc) l₃ (g .rows Generator)
+  e₃ = simp append-assoc
 
-  pub corridor-stands : (i : ℕ) → i < (h .corridors) → Stands Corridor padded (spot Corridor (corridorsAt h) i) (v Corridor i)
+  e₄ : padded ≡ p₄ ++ (part Corridor ++ (part Line ++ replicate n 0))
   unfolding fileWith
-  corridor-stands = table-stands Corridor (v Corridor) padded p₄ (part Line ++ replicate n 0) (corridorsAt h) (h .corridors) (simp append-assoc) l₄ (g .rows Corridor)
+  e₄ = simp append-assoc
 
-  pub line-stands : (i : ℕ) → i < (lines h) → Stands Line padded (spot Line (linesAt h) i) (v Line i)
+  e₅ : padded ≡ p₅ ++ (part Line ++ replicate n 0)
   unfolding fileWith
-  line-stands = table-stands Line (v Line) padded p₅ (replicate n 0) (linesAt h) (lines h) (simp append-assoc) l₅ (g .rows Line)
+  e₅ = simp append-assoc
 
-  tables-pass : At (endAt h) ≡ tablesWalked h padded (At levelsAt)
+  -- each table begins where the one before it ends
+  l₁ : length p₁ ≡ levelsAt
+  l₁ = length-record Head (headRow h)
+
+  l₂ : length p₂ ≡ busesAt padded h
+  l₂ = table-spot Level (kindsOf f Level) (v Level) padded p₁ _ levelsAt (levels h) (λ i b. suits-level) e₁ l₁ (g .rows Level) (levels h) (omega arith)
+
+  l₃ : length p₃ ≡ generatorsAt padded h
+  l₃ = table-spot Bus (kindsOf f Bus) (v Bus) padded p₂ _ (busesAt padded h) (h .buses) (λ i b. suits-bus) e₂ l₂ (g .rows Bus) (h .buses) (omega arith)
+
+  l₄ : length p₄ ≡ corridorsAt padded h
+  l₄ = table-spot Generator (kindsOf f Generator) (v Generator) padded p₃ _ (generatorsAt padded h) (h .generators) (λ i b. suits-generator) e₃ l₃ (g .rows Generator) (h .generators) (omega arith)
+
+  l₅ : length p₅ ≡ linesAt padded h
+  l₅ = table-spot Corridor (kindsOf f Corridor) (v Corridor) padded p₄ _ (corridorsAt padded h) (h .corridors) (λ i b. suits-corridor (f i)) e₄ l₄ (g .rows Corridor) (h .corridors) (omega arith)
+
+  -- the file's length without the zeros
+  pub length-file : length (fileWith f h v) ≡ endAt padded h
+  unfolding fileWith
+  length-file =
+      ap length (let z : fileWith f h v ≡ p₅ ++ part Line = simp append-assoc in z)
+      ∙ table-spot Line (kindsOf f Line) (v Line) padded p₅ _ (linesAt padded h) (lines h) (λ i b. suits-line) e₅ l₅ (g .rows Line) (lines h) (omega arith)
+
+  -- every record is found in its place
+  pub level-found : (i : ℕ) → i < levels h → Found Level (kindsOf f Level i) padded (spot Level padded levelsAt i) (v Level i)
+  level-found = table-found Level (kindsOf f Level) (v Level) padded p₁ _ levelsAt (levels h) (λ i b. suits-level) e₁ l₁ (g .rows Level)
+
+  pub bus-found : (i : ℕ) → i < h .buses → Found Bus (kindsOf f Bus i) padded (spot Bus padded (busesAt padded h) i) (v Bus i)
+  bus-found = table-found Bus (kindsOf f Bus) (v Bus) padded p₂ _ (busesAt padded h) (h .buses) (λ i b. suits-bus) e₂ l₂ (g .rows Bus)
+
+  pub generator-found : (i : ℕ) → i < h .generators → Found Generator (kindsOf f Generator i) padded (spot Generator padded (generatorsAt padded h) i) (v Generator i)
+  generator-found = table-found Generator (kindsOf f Generator) (v Generator) padded p₃ _ (generatorsAt padded h) (h .generators) (λ i b. suits-generator) e₃ l₃ (g .rows Generator)
+
+  pub corridor-found : (i : ℕ) → i < h .corridors → Found Corridor (kindsOf f Corridor i) padded (spot Corridor padded (corridorsAt padded h) i) (v Corridor i)
+  corridor-found = table-found Corridor (kindsOf f Corridor) (v Corridor) padded p₄ _ (corridorsAt padded h) (h .corridors) (λ i b. suits-corridor (f i)) e₄ l₄ (g .rows Corridor)
+
+  pub line-found : (i : ℕ) → i < lines h → Found Line (kindsOf f Line i) padded (spot Line padded (linesAt padded h) i) (v Line i)
+  line-found = table-found Line (kindsOf f Line) (v Line) padded p₅ _ (linesAt padded h) (lines h) (λ i b. suits-line) e₅ l₅ (g .rows Line)
+
+  -- the marks show the form
+  pub form-back : (i : ℕ) → i < h .corridors → formIn padded h i ≡ f i
+  form-back i b = same-kind (formIn padded h i) (f i) (corridor-found i b .kind)
+
+  tables-pass : At (endAt padded h) ≡ tablesWalked h padded (At levelsAt)
   tables-pass =
-      tables-walked h padded (At levelsAt) (At (busesAt h)) (At (generatorsAt h)) (At (corridorsAt h)) (At (linesAt h)) (At (endAt h))
-      (sym (walk-stands Level padded levelsAt (levels h) 1 (beforeBuses h) (v Level) (omega arith) level-stands))
-      (sym (walk-stands Bus padded (busesAt h) (h .buses) (beforeBuses h) (beforeGenerators h) (v Bus) (omega arith) bus-stands))
-      (sym (walk-stands Generator padded (generatorsAt h) (h .generators) (beforeGenerators h) (beforeCorridors h) (v Generator) (omega arith) generator-stands))
-      (sym (walk-stands Corridor padded (corridorsAt h) (h .corridors) (beforeCorridors h) (beforeLines h) (v Corridor) (omega arith) corridor-stands))
-      (sym (walk-stands Line padded (linesAt h) (lines h) (beforeLines h) (recordsOf h) (v Line) (omega arith) line-stands))
+      tables-walked h padded (At levelsAt) (At (busesAt padded h)) (At (generatorsAt padded h)) (At (corridorsAt padded h)) (At (linesAt padded h)) (At (endAt padded h))
+      (sym (walk-stands Level (kindsOf f Level) (v Level) padded p₁ _ levelsAt (levels h) (λ i b. suits-level) e₁ l₁ (g .rows Level) 1 (beforeBuses h) (omega arith)))
+      (sym (walk-stands Bus (kindsOf f Bus) (v Bus) padded p₂ _ (busesAt padded h) (h .buses) (λ i b. suits-bus) e₂ l₂ (g .rows Bus) (beforeBuses h) (beforeGenerators h) (omega arith)))
+      (sym (walk-stands Generator (kindsOf f Generator) (v Generator) padded p₃ _ (generatorsAt padded h) (h .generators) (λ i b. suits-generator) e₃ l₃ (g .rows Generator) (beforeGenerators h) (beforeCorridors h) (omega arith)))
+      (sym (walk-stands Corridor (kindsOf f Corridor) (v Corridor) padded p₄ _ (corridorsAt padded h) (h .corridors) (λ i b. suits-corridor (f i)) e₄ l₄ (g .rows Corridor) (beforeCorridors h) (beforeLines h) (omega arith)))
+      (sym (walk-stands Line (kindsOf f Line) (v Line) padded p₅ _ (linesAt padded h) (lines h) (λ i b. suits-line) e₅ l₅ (g .rows Line) (beforeLines h) (recordsOf h) (omega arith)))
 
   -- the header is read back
   header-back : h ≡ headerOf padded
   unfolding headerOf
   header-back =
-      let f = head-stands .holds in
-      let e₀ : field Head 0 0 padded ≡ modeNumber (h .mode) = f 0 (lit< tt) in
-      let e₁ : field Head 1 0 padded ≡ h .target = f 1 (lit< tt) in
-      let e₂ : field Head 2 0 padded ≡ h .buses = f 2 (lit< tt) in
-      let e₃ : field Head 3 0 padded ≡ h .corridors = f 3 (lit< tt) in
-      let e₄ : field Head 4 0 padded ≡ h .generators = f 4 (lit< tt) in
-      let e₅ : field Head 5 0 padded ≡ h .above = f 5 (lit< tt) in
-      let e₆ : field Head 6 0 padded ≡ h .requested = f 6 (lit< tt) in
+      let r = head-stands .holds in
+      let e₀ : field Head 0 0 padded ≡ modeNumber (h .mode) = r 0 (lit< tt) in
+      let e₁ : field Head 1 0 padded ≡ h .target = r 1 (lit< tt) in
+      let e₂ : field Head 2 0 padded ≡ h .buses = r 2 (lit< tt) in
+      let e₃ : field Head 3 0 padded ≡ h .corridors = r 3 (lit< tt) in
+      let e₄ : field Head 4 0 padded ≡ h .generators = r 4 (lit< tt) in
+      let e₅ : field Head 5 0 padded ≡ h .above = r 5 (lit< tt) in
+      let e₆ : field Head 6 0 padded ≡ h .requested = r 6 (lit< tt) in
       let m : modeOf (field Head 0 0 padded) ≡ h .mode = ap (λ (x : ℕ). modeOf x) e₀ ∙ mode-back (h .mode) in
       simp (m, e₁, e₂, e₃, e₄, e₅, e₆)
 
   -- nothing but the zeros follows the records, and each word or byte of them is looked at
-  nothing : length padded ≤ trailing padded (endAt h)
-  nothing = no-trailing padded (endAt h) (λ m b. past-zeros (fileWith h v) n m (subst (λ (x : ℕ). x ≤ m) (sym length-file) b))
+  nothing : length padded ≤ trailing padded (endAt padded h)
+  nothing = no-trailing padded (endAt padded h) (λ m b. past-zeros (fileWith f h v) n m (subst (λ (x : ℕ). x ≤ m) (sym length-file) b))
 
-  looks-back : looks padded (endAt h) ≡ looksFor n n
+  looks-back : looks padded (endAt padded h) ≡ looksFor n n
   looks-back =
-      let l : length padded ≡ endAt h + n = length-append (fileWith h v) (replicate {A = ℕ} n 0) ∙ ap (λ (m : ℕ). m + length (replicate {A = ℕ} n 0)) length-file ∙ ap (λ (m : ℕ). endAt h + m) (length-zeros n) in
-      let a : length padded - endAt h ≡ n = omega arith in
-      let b : zerosPassed padded (endAt h) ≡ n = omega (arith, nothing, zeros-among padded (endAt h)) in
-      ap (λ (m : ℕ). looksFor m (zerosPassed padded (endAt h))) a ∙ ap (λ (m : ℕ). looksFor n m) b
+      let l : length padded ≡ endAt padded h + n = length-append (fileWith f h v) (replicate {A = ℕ} n 0) ∙ ap (λ (m : ℕ). m + length (replicate {A = ℕ} n 0)) length-file ∙ ap (λ (m : ℕ). endAt padded h + m) (length-zeros n) in
+      let a : length padded - endAt padded h ≡ n = omega arith in
+      let b : zerosPassed padded (endAt padded h) ≡ n = omega (arith, nothing, zeros-among padded (endAt padded h)) in
+      ap (λ (m : ℕ). looksFor m (zerosPassed padded (endAt padded h))) a ∙ ap (λ (m : ℕ). looksFor n m) b
 
   -- the first direction: the padded file of a case is answered, with its header
   pub reading-back : length padded ≤ mostBytes → readOf padded ≡ caseRead (Read h) (looksFor n n)
   reading-back short =
       sym
-      (whole-body padded (At levelsAt) levelsAt (caseRead (Read h) (looks padded (endAt h))) short (sym (head-stands .goes 0)) refl
-      (body-end padded levelsAt h header-back (At (endAt h)) (caseRead (Read h) (looks padded (endAt h))) (g .counts) tables-pass
-      (end-good h padded (At (endAt h)) (endAt h) (lookedAt padded (endAt h)) refl refl nothing)))
+      (whole-body padded (At levelsAt) levelsAt (caseRead (Read h) (looks padded (endAt padded h))) short (sym (head-stands .goes 0)) refl
+      (body-end padded levelsAt h header-back (At (endAt padded h)) (caseRead (Read h) (looks padded (endAt padded h))) (g .counts) tables-pass
+      (end-good h padded (At (endAt padded h)) (endAt padded h) (lookedAt padded (endAt padded h)) refl refl nothing)))
       ∙ ap (λ (m : ℕ). caseRead (Read h) m) looks-back

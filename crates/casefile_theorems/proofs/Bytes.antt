@@ -9,6 +9,7 @@ use native.Mathlib.Omega.{arith}
 use lib.Dec.{lit<}
 use lib.ListN.{length, getD, take, drop, length-append, length-take, length-drop}
 use lib.Seq.{take-at, drop-at, drop-drop, take-add, getD-drop, length-take-le}
+use Rattle.loops.proofs.Bools.{both}
 use Rattle.casefile_defs.specs.Layout.{little, word, Field, figure, widthOf, widthsOf, offsetOf, allowed, allowedFrom}
 use Rattle.casefile_theorems.specs.Writer.{bytes, fieldBytes}
 
@@ -165,3 +166,14 @@ fields-written (f ∷ fs) l b h =
     (fields-same fs _ _ (λ j k. field-next f fs l j)
     ∙ fields-written fs (drop (widthOf f) l) (drop-bytes (widthOf f) l b) (rw length-drop (omega arith)))
     ∙ sym (take-add (widthOf f) (widthsOf fs) l)
+
+-- fields that are read and allowed are in their ranges
+pub fields-fine : (fs : List Field) (l : List ℕ) (v : ℕ → ℕ) → Bytes l → ((j : ℕ) → v j ≡ fieldIn fs l j) → allowedIn fs l ≡ true → Fine fs v
+unfolding Fine fieldIn allowedIn word
+fields-fine [] l v b e a = tt
+fields-fine (f ∷ fs) l v b e a =
+    let g = both _ _ a in (
+      rw (e 0) (word-small (widthOf f) 0 l b),
+      ap (λ (n : ℕ). allowed f n) (e 0) ∙ g .0,
+      fields-fine fs (drop (widthOf f) l) (λ j. v (suc j)) (drop-bytes (widthOf f) l b) (λ j. e (suc j) ∙ field-next f fs l j) (g .1),
+    )

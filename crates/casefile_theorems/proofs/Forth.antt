@@ -1,4 +1,5 @@
--- Every answered file is the file of its header and of the numbers in its records, followed by zeros: nothing else in it is ignored.
+-- Every answered file is the file of its form, its header and the numbers in its records, followed by zeros: nothing else in it is ignored. The numbers are in
+-- their ranges, and its tables are theirs.
 -- A record that is passed is its mark and its fields' bytes (record-written); so are the tables, one after the other.
 use Prim.Native.Nat.{ℕ, zero, suc, _+_, _-_, _<_, _≤_}
 use mathlib.Core.Path.{_≡_, refl, sym, ap, _∙_}
@@ -11,27 +12,38 @@ use lib.Seq.{drop-cons, drop-drop, getD-drop, ext-getD}
 use Rattle.loops.proofs.Bools.{both}
 use Rattle.loops.proofs.Scan.{first-all}
 use Rattle.mode.specs.Number.{modeNumber}
-use Rattle.casefile_defs.specs.Layout.{layoutOf, sizeOf, widthsOf, field, spot}
-use Rattle.casefile_defs.specs.Reading.{headerOf, modeOf, levels, lines, trailing, zeroAt, readingOf}
-use Rattle.casefile_defs.specs.Tables.{levelsAt, busesAt, generatorsAt, corridorsAt, linesAt}
+use Rattle.casefile_defs.specs.Layout.{layoutOf, sizeOf, widthsOf, field, standing, spot}
+use Rattle.casefile_defs.specs.Reading.{headerOf, modeOf, levels, lines, trailing, zeroAt}
+use Rattle.casefile_defs.specs.Tables.{levelsAt, busesAt, generatorsAt, corridorsAt, linesAt, tablesOf}
 use Rattle.casefile_defs.specs.declared.Kind.{Kind}
-use Rattle.casefile_defs.specs.declared.Kind.the-variants.{Head, Level, Bus, Generator, Corridor, Line}
+use Rattle.casefile_defs.specs.declared.Kind.the-variants.{Head, Level, Bus, Generator, Corridor, Line, CappedCorridor}
 use Rattle.casefile_defs.specs.declared.Header.{Header}
-use Rattle.casefile_defs.specs.declared.Reading.the-variants.{Read}
 use Rattle.casefile_defs.proofs.Records.{Passed}
-use Rattle.casefile_defs.proofs.Accepted.{Table, Accepted, accepted, endAt}
-use Rattle.casefile_theorems.specs.Writer.{fieldBytes, recordBytes, tableBytes, headRow, fileWith}
-use Rattle.casefile_theorems.proofs.Bytes.{Bytes, drop-bytes, fields-same, fields-written}
-use Rattle.casefile_theorems.proofs.Back.{startOf}
+use Rattle.casefile_defs.proofs.Accepted.{Table, Accepted, endAt}
+use Rattle.casefile_theorems.specs.Writer.{fieldBytes, recordBytes, tableBytes, headRow, countOf, formIn, kindsOf, fileWith}
+use Rattle.casefile_theorems.proofs.Bytes.{Bytes, Fine, allowed-in, drop-bytes, fields-same, fields-written, fields-fine}
+use Rattle.casefile_theorems.proofs.Back.{Whole}
+use Rattle.casefile_theorems.proofs.CaseBack.{head-fine}
+use Rattle.casefile_theorems.proofs.Places.{placesFrom, tables-from}
 use Rattle.casefile_theorems.proofs.Written.{field-in}
+
+-- where a table's records start
+abbrev startOf : Kind → List ℕ → Header → ℕ
+startOf Head s h = 0
+startOf Level s h = levelsAt
+startOf Bus s h = busesAt s h
+startOf Generator s h = generatorsAt s h
+startOf Corridor s h = corridorsAt s h
+startOf Line s h = linesAt s h
+startOf CappedCorridor s h = 0
 
 -- the numbers in the records of an answered file
 abbrev pub wordsIn : List ℕ → Header → Kind → ℕ → ℕ → ℕ
-wordsIn s h k i j = field k j (spot k (startOf k h) i) s
+wordsIn s h k i j = field (kindsOf (formIn s h) k i) j (spot k s (startOf k s h) i) s
 
 -- the bytes past the last record
 abbrev pub restOf : List ℕ → Header → ℕ
-restOf s h = length s - endAt h
+restOf s h = length s - endAt s h
 
 -- a record that is passed was written
 record-written : (k : Kind) (s : List ℕ) (at next : ℕ) → Bytes s → Passed k s at next → drop at s ≡ recordBytes k (λ j. field k j at s) ++ drop (at + sizeOf k) s
@@ -62,13 +74,15 @@ record-written k s at next b p =
 
 -- a table of records that are passed was written
 table-written : (k : Kind) (s : List ℕ) (at n : ℕ) → Bytes s → Table k s at n
-    → drop at s ≡ tableBytes k n (λ i j. field k j (spot k at i) s) ++ drop (spot k at n) s
+    → drop at s ≡ tableBytes (λ i. standing k s (spot k s at i)) n (λ i j. field (standing k s (spot k s at i)) j (spot k s at i) s) ++ drop (spot k s at n) s
 unfolding tableBytes spot
 table-written k s at zero b t = refl
 table-written k s at (suc n) b t =
+    let a : List ℕ = tableBytes (λ i. standing k s (spot k s at i)) n (λ i j. field (standing k s (spot k s at i)) j (spot k s at i) s) in
+    let l : Kind = standing k s (spot k s at n) in
     table-written k s at n b (λ i h. t i (omega arith))
-    ∙ ap (λ (x : List ℕ). tableBytes k n (λ i j. field k j (spot k at i) s) ++ x) (record-written k s (spot k at n) _ b (t n (omega arith)))
-    ∙ sym (append-assoc (tableBytes k n (λ i j. field k j (spot k at i) s)) (recordBytes k (λ j. field k j (spot k at n) s)) (drop (spot k at (suc n)) s))
+    ∙ ap (λ (x : List ℕ). a ++ x) (record-written l s (spot k s at n) _ b (t n (omega arith)))
+    ∙ sym (append-assoc a (recordBytes l (λ j. field l j (spot k s at n) s)) (drop (spot k s at (suc n)) s))
 
 -- ---- the zeros
 zeros-end : (s : List ℕ) (at : ℕ) → at ≤ length s → length s ≤ trailing s at → drop at s ≡ replicate (length s - at) 0
@@ -112,17 +126,17 @@ head-written s h b e p =
     (fields-same (layoutOf Head .fields) (λ j. field Head j 0 s) (headRow h) (λ j l. head-row s p j l ∙ ap (λ (g : Header). headRow g j) (sym e)))
 
 -- a table that begins inside the file ends there
-ends-inside : (k : Kind) (s : List ℕ) (at n : ℕ) → at ≤ length s → Table k s at n → spot k at n ≤ length s
+ends-inside : (k : Kind) (s : List ℕ) (at n : ℕ) → at ≤ length s → Table k s at n → spot k s at n ≤ length s
 unfolding spot
 ends-inside k s at zero h t = h
 ends-inside k s at (suc n) h t = t n (omega arith) .room
 
-inside : (s : List ℕ) (h : Header) → Accepted s h → endAt h ≤ length s
+inside : (s : List ℕ) (h : Header) → Accepted s h → endAt s h ≤ length s
 inside s h a =
-    ends-inside Line s (linesAt h) (lines h)
-    (ends-inside Corridor s (corridorsAt h) (h .corridors)
-    (ends-inside Generator s (generatorsAt h) (h .generators)
-    (ends-inside Bus s (busesAt h) (h .buses) (ends-inside Level s levelsAt (levels h) (a .head .room) (a .levels)) (a .buses))
+    ends-inside Line s (linesAt s h) (lines h)
+    (ends-inside Corridor s (corridorsAt s h) (h .corridors)
+    (ends-inside Generator s (generatorsAt s h) (h .generators)
+    (ends-inside Bus s (busesAt s h) (h .buses) (ends-inside Level s levelsAt (levels h) (a .head .room) (a .levels)) (a .buses))
     (a .generators))
     (a .corridors))
     (a .rows)
@@ -133,20 +147,47 @@ after x e = ap (λ (l : List ℕ). x ++ l) e
 regroup : (a b c d e f z : List ℕ) → a ++ (b ++ (c ++ (d ++ (e ++ (f ++ z))))) ≡ (a ++ (b ++ (c ++ (d ++ (e ++ f))))) ++ z
 regroup a b c d e f z = simp append-assoc
 
-pub written : (s : List ℕ) (h : Header) → Bytes s → readingOf s ≡ Read h → s ≡ fileWith h (wordsIn s h) ++ replicate (restOf s h) 0
+pub written : (s : List ℕ) (h : Header) → Bytes s → Accepted s h → s ≡ fileWith (formIn s h) h (wordsIn s h) ++ replicate (restOf s h) 0
 unfolding fileWith
-written s h b e =
-    let a = accepted s h e in
+written s h b a =
+    let f = formIn s h in
     let t₀ = recordBytes Head (headRow h) in
-    let t₁ = tableBytes Level (levels h) (wordsIn s h Level) in
-    let t₂ = tableBytes Bus (h .buses) (wordsIn s h Bus) in
-    let t₃ = tableBytes Generator (h .generators) (wordsIn s h Generator) in
-    let t₄ = tableBytes Corridor (h .corridors) (wordsIn s h Corridor) in
-    let t₅ = tableBytes Line (lines h) (wordsIn s h Line) in
+    let t₁ = tableBytes (kindsOf f Level) (levels h) (wordsIn s h Level) in
+    let t₂ = tableBytes (kindsOf f Bus) (h .buses) (wordsIn s h Bus) in
+    let t₃ = tableBytes (kindsOf f Generator) (h .generators) (wordsIn s h Generator) in
+    let t₄ = tableBytes (kindsOf f Corridor) (h .corridors) (wordsIn s h Corridor) in
+    let t₅ = tableBytes (kindsOf f Line) (lines h) (wordsIn s h Line) in
     head-written s h b (a .header) (a .head)
     ∙ after t₀ (table-written Level s levelsAt (levels h) b (a .levels)
-    ∙ after t₁ (table-written Bus s (busesAt h) (h .buses) b (a .buses)
-    ∙ after t₂ (table-written Generator s (generatorsAt h) (h .generators) b (a .generators)
-    ∙ after t₃ (table-written Corridor s (corridorsAt h) (h .corridors) b (a .corridors)
-    ∙ after t₄ (table-written Line s (linesAt h) (lines h) b (a .rows) ∙ after t₅ (zeros-end s (endAt h) (inside s h a) (a .zeros)))))))
+    ∙ after t₁ (table-written Bus s (busesAt s h) (h .buses) b (a .buses)
+    ∙ after t₂ (table-written Generator s (generatorsAt s h) (h .generators) b (a .generators)
+    ∙ after t₃ (table-written Corridor s (corridorsAt s h) (h .corridors) b (a .corridors)
+    ∙ after t₄ (table-written Line s (linesAt s h) (lines h) b (a .rows) ∙ after t₅ (zeros-end s (endAt s h) (inside s h a) (a .zeros)))))))
     ∙ regroup t₀ t₁ t₂ t₃ t₄ t₅ (replicate (restOf s h) 0)
+
+-- ---- the numbers are in their ranges
+-- a record that is passed has fields in their ranges
+record-fine : (k : Kind) (s : List ℕ) (at next : ℕ) → Bytes s → Passed k s at next → Fine (layoutOf k .fields) (λ j. field k j at s)
+record-fine k s at next b p =
+    fields-fine (layoutOf k .fields) (drop (at + 2) s) (λ j. field k j at s) (drop-bytes (at + 2) s b) (λ j. field-in k j at s)
+    (sym (allowed-in (layoutOf k .fields) 2 at s) ∙ p .bounds)
+
+rows-fine : (s : List ℕ) (h : Header) → Bytes s → Accepted s h → (k : Kind) (i : ℕ) → i < countOf k h → Fine (layoutOf (kindsOf (formIn s h) k i) .fields) (wordsIn s h k i)
+unfolding spot
+rows-fine s h b a Head zero l = record-fine Head s 0 _ b (a .head)
+rows-fine s h b a Head (suc i) l = absurd (omega arith)
+rows-fine s h b a Level i l = record-fine Level s _ _ b (a .levels i l)
+rows-fine s h b a Bus i l = record-fine Bus s _ _ b (a .buses i l)
+rows-fine s h b a Generator i l = record-fine Generator s _ _ b (a .generators i l)
+rows-fine s h b a Corridor i l = record-fine (kindsOf (formIn s h) Corridor i) s _ _ b (a .corridors i l)
+rows-fine s h b a Line i l = record-fine Line s _ _ b (a .rows i l)
+rows-fine s h b a CappedCorridor i l = absurd (omega arith)
+
+pub whole-in : (s : List ℕ) (h : Header) → Bytes s → Accepted s h → Whole (formIn s h) h (wordsIn s h)
+whole-in s h b a = record { counts = a .counts; head = head-fine h (a .counts); rows = rows-fine s h b a }
+
+-- ---- so its tables are those of its numbers
+pub tables-in : (s : List ℕ) (h : Header) → Bytes s → Accepted s h → tablesOf s h ≡ placesFrom (formIn s h) h (wordsIn s h)
+tables-in s h b a =
+    let w = whole-in s h b a in
+    ap (λ (x : List ℕ). tablesOf x h) (written s h b a) ∙ tables-from (formIn s h) h (wordsIn s h) (restOf s h) w

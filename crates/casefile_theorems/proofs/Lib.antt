@@ -1,10 +1,11 @@
--- The theorems about a case and its file, and the laws that lead to them, by subject.
+-- The theorems about a case and its files, and the laws that lead to them, by subject.
 pub mod Bytes
 pub mod Written
 pub mod Back
-pub mod Forth
+pub mod Places
 pub mod CaseBack
+pub mod Forth
 pub mod CaseForth
-pub mod Answers
+pub mod Refused
 pub mod Theorems
 pub mod Padding

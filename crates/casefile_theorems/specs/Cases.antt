@@ -1,6 +1,6 @@
 -- The cases that a file can hold: the counts in their bounds, each number in its field's range, any figure, and zeros past the counts.
 use Prim.Native.Nat.{ℕ, _^_, _<_, _≤_}
-use mathlib.Core.Bool.{true}
+use mathlib.Core.Bool.{true, false}
 use mathlib.Core.List.{List}
 use mathlib.Core.Path.{_≡_}
 use lib.Dec.{T}
@@ -12,7 +12,7 @@ use Rattle.casefile_defs.specs.Layout.{Field, upTo, u8, u16, widthOf, allowed}
 use Rattle.casefile_defs.specs.Reading.{levels, lines, countsOk}
 use Rattle.casefile_defs.specs.Tables.{Places, placesOf, basisOf, basisField}
 use Rattle.casefile_defs.specs.declared.Header.{Header}
-use Rattle.casefile_theorems.specs.Writer.{basisAt, rowPlace}
+use Rattle.casefile_theorems.specs.Writer.{Form, basisAt, rowPlace}
 
 -- a column of n places: a number in its field's range for each record, and zero past them
 pub record Numbers (f : Field) (n count : ℕ) (l : List ℕ) : Type 0 where
@@ -49,12 +49,17 @@ pub record Case (h : Header) (p : Places) : Type 0 where
   pub circuits : Numbers u8 mostCorridors (h .corridors) (p .circuits)
   pub lengthKm : Figures mostCorridors (h .corridors) (p .lengthKm)
   pub share : Figures mostCorridors (h .corridors) (p .share)
+  pub cap : Numbers u8 mostCorridors (h .corridors) (p .cap)
   pub sheet : Sheet (lines h) (p .sheet)
 
--- the longest file of a case, without zeros after it: 15 bytes of header, 5 levels of 10, 256 buses of 11, 128 generators of 37, 256 corridors of 23 and
+-- a form in which a case can be written: a corridor that is written as CO has cap 0
+abbrev pub Legal : Form → Header → Places → Type 0
+Legal f h p = (i : ℕ) → i < h .corridors → f i ≡ false → getD (p .cap) i 0 ≡ 0
+
+-- the longest file of a case, without zeros after it: 15 bytes of header, 5 levels of 10, 256 buses of 11, 128 generators of 37, 256 corridors of 24 and
 -- 1,280 sheet rows of 35
 abbrev pub longest : ℕ
-longest = 58305
+longest = 58561
 
 -- tables of zeros
 unfoldable pub blank : Places
@@ -73,4 +78,5 @@ blank = placesOf
     (replicate mostCorridors 0)
     (replicate mostCorridors nought)
     (replicate mostCorridors nought)
+    (replicate mostCorridors 0)
     (replicate mostSheet nought)

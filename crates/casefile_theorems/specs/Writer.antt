@@ -1,17 +1,18 @@
--- The file of a case: a writer after document 01's "Case file", as a definition only.
+-- The file of a case: a writer after document 01's "Case file", with document 02's CP, as a definition only.
 use Prim.Native.Nat.{ℕ, zero, suc, _+_, _*_, _/_, _%_}
-use mathlib.Core.Bool.{cond}
+use mathlib.Core.Bool.{Bool, cond}
 use mathlib.Core.List.{List, [], _∷_, _++_}
+use lib.Dec.{ltb}
 use lib.Ieee.{Float, binary64, toBits, eq, nanBits}
 use lib.ListN.{getD}
 use Rattle.loops.specs.Figures.{nought}
 use Rattle.mode.specs.Number.{modeNumber}
 use Rattle.casefile_defs.specs.Bounds.{rowFigures}
-use Rattle.casefile_defs.specs.Layout.{Field, number, upTo, figure, widthOf, layoutOf}
+use Rattle.casefile_defs.specs.Layout.{Field, number, upTo, figure, widthOf, layoutOf, marked, spot}
 use Rattle.casefile_defs.specs.Reading.{levels, lines}
-use Rattle.casefile_defs.specs.Tables.{Places, basisField}
+use Rattle.casefile_defs.specs.Tables.{Places, basisField, corridorsAt}
 use Rattle.casefile_defs.specs.declared.Kind.{Kind}
-use Rattle.casefile_defs.specs.declared.Kind.the-variants.{Head, Level, Bus, Generator, Corridor, Line}
+use Rattle.casefile_defs.specs.declared.Kind.the-variants.{Head, Level, Bus, Generator, Corridor, Line, CappedCorridor}
 use Rattle.casefile_defs.specs.declared.Header.{Header}
 
 -- w bytes of a number, the least significant first
@@ -27,10 +28,10 @@ fieldBytes (f ∷ fs) v = bytes (widthOf f) (v 0) ++ fieldBytes fs (λ j. v (suc
 unfoldable pub recordBytes : Kind → (ℕ → ℕ) → List ℕ
 recordBytes k v = layoutOf k .first ∷ layoutOf k .second ∷ fieldBytes (layoutOf k .fields) v
 
--- n records, field j of record i being v i j
-unfoldable pub tableBytes : Kind → ℕ → (ℕ → ℕ → ℕ) → List ℕ
-tableBytes k zero v = []
-tableBytes k (suc n) v = tableBytes k n v ++ recordBytes k (v n)
+-- n records, record i of kind ks i and its field j being v i j
+unfoldable pub tableBytes : (ℕ → Kind) → ℕ → (ℕ → ℕ → ℕ) → List ℕ
+tableBytes ks zero v = []
+tableBytes ks (suc n) v = tableBytes ks n v ++ recordBytes (ks n) (v n)
 
 -- a row of numbers
 abbrev pub row : List ℕ → ℕ → ℕ
@@ -47,15 +48,34 @@ countOf Bus h = h .buses
 countOf Generator h = h .generators
 countOf Corridor h = h .corridors
 countOf Line h = lines h
+countOf CappedCorridor h = 0
 
--- the file of a header and of the numbers in the tables' records: field j of record i of kind k is v k i j
-unfoldable pub fileWith : Header → (Kind → ℕ → ℕ → ℕ) → List ℕ
-fileWith h v =
+-- the form of a file: which corridors are written as CP
+abbrev pub Form : Type 0
+Form = ℕ → Bool
+
+-- the form of a file that is read with a header: by the marks that stand where reading finds the corridors
+abbrev pub formIn : List ℕ → Header → Form
+formIn s h i = marked CappedCorridor s (spot Corridor s (corridorsAt s h) i)
+
+-- the kind of record i of a table
+abbrev pub kindsOf : Form → Kind → ℕ → Kind
+kindsOf f Head i = Head
+kindsOf f Level i = Level
+kindsOf f Bus i = Bus
+kindsOf f Generator i = Generator
+kindsOf f Corridor i = cond (f i) CappedCorridor Corridor
+kindsOf f Line i = Line
+kindsOf f CappedCorridor i = CappedCorridor
+
+-- the file of a form, a header and the numbers in the tables' records: field j of record i of table k is v k i j
+unfoldable pub fileWith : Form → Header → (Kind → ℕ → ℕ → ℕ) → List ℕ
+fileWith f h v =
     recordBytes Head (headRow h)
-    ++ (tableBytes Level (countOf Level h) (v Level)
-    ++ (tableBytes Bus (countOf Bus h) (v Bus)
-    ++ (tableBytes Generator (countOf Generator h) (v Generator)
-    ++ (tableBytes Corridor (countOf Corridor h) (v Corridor) ++ tableBytes Line (countOf Line h) (v Line)))))
+    ++ (tableBytes (kindsOf f Level) (countOf Level h) (v Level)
+    ++ (tableBytes (kindsOf f Bus) (countOf Bus h) (v Bus)
+    ++ (tableBytes (kindsOf f Generator) (countOf Generator h) (v Generator)
+    ++ (tableBytes (kindsOf f Corridor) (countOf Corridor h) (v Corridor) ++ tableBytes (kindsOf f Line) (countOf Line h) (v Line)))))
 
 -- a figure's 64 bits; the one NaN is written as one pattern
 abbrev pub bitsAt : List Float → ℕ → ℕ
@@ -74,14 +94,19 @@ wordsOf p Head i = row []
 wordsOf p Level i = row (bitsAt (p .ladder) i ∷ [])
 wordsOf p Bus i = row (getD (p .tier) i 0 ∷ bitsAt (p .load) i ∷ [])
 wordsOf p Generator i = row (getD (p .bus) i 0 ∷ getD (p .slack) i 0 ∷ bitsAt (p .pmin) i ∷ bitsAt (p .pmax) i ∷ bitsAt (p .c1) i ∷ bitsAt (p .c2) i ∷ [])
-wordsOf p Corridor i = row (getD (p .a) i 0 ∷ getD (p .b) i 0 ∷ getD (p .circuits) i 0 ∷ bitsAt (p .lengthKm) i ∷ bitsAt (p .share) i ∷ [])
+wordsOf p Corridor i = row (getD (p .a) i 0 ∷ getD (p .b) i 0 ∷ getD (p .circuits) i 0 ∷ bitsAt (p .lengthKm) i ∷ bitsAt (p .share) i ∷ getD (p .cap) i 0 ∷ [])
 wordsOf p Line i =
     row (bitsAt (p .sheet) (rowPlace i 0) ∷ bitsAt (p .sheet) (rowPlace i 1) ∷ bitsAt (p .sheet) (rowPlace i 2) ∷ bitsAt (p .sheet) (rowPlace i 3)
     ∷ basisAt (p .sheet) (rowPlace i basisField) ∷ [])
+wordsOf p CappedCorridor i = row []
 
--- the file of a case
-unfoldable pub fileOf : Header → Places → List ℕ
-fileOf h p = fileWith h (wordsOf p)
+-- the file of a case in a form
+unfoldable pub fileOf : Form → Header → Places → List ℕ
+fileOf f h p = fileWith f h (wordsOf p)
+
+-- the form in which only corridors with a cap are written as CP
+unfoldable pub capsOnly : Places → Form
+capsOnly p i = ltb 0 (getD (p .cap) i 0)
 
 -- the pattern under which the NaN is written
 abbrev pub nanPattern : ℕ
@@ -94,5 +119,5 @@ tidy (upTo m) n = n
 tidy figure n = cond (nanBits binary64 n) nanPattern n
 
 -- all numbers of a file's records so
-unfoldable pub tidied : (Kind → ℕ → ℕ → ℕ) → Kind → ℕ → ℕ → ℕ
-tidied v k i j = tidy (getD (layoutOf k .fields) j figure) (v k i j)
+unfoldable pub tidied : Form → (Kind → ℕ → ℕ → ℕ) → Kind → ℕ → ℕ → ℕ
+tidied f v k i j = tidy (getD (layoutOf (kindsOf f k i) .fields) j figure) (v k i j)

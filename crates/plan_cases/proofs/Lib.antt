@@ -62,6 +62,11 @@ pub mod NoUnitInterior
 pub mod NormUnderflows
 pub mod Observed
 pub mod Overloaded
+pub mod OwnCapBelowInitial
+pub mod OwnCapFilled
+pub mod OwnCapRaised
+pub mod OwnCapReinforced
+pub mod OwnCapStiffened
 pub mod RaiseAndAddInRound
 pub mod RaiseBeforeRounds
 pub mod RaiseBySeveralTiers
@@ -70,6 +75,7 @@ pub mod Refusal3
 pub mod Refusal4
 pub mod Refusal5
 pub mod Refusal6
+pub mod Refusal6OwnCap
 pub mod Refusal7
 pub mod Refusal8
 pub mod Refusal8Observed

@@ -40,6 +40,7 @@ given =
       circuits = 5 ∷ [];
       km = figures (0x4024_0000_0000_0000 ∷ []);
       share = figures (0x3FEE_4877_3378_9796 ∷ []);
+      cap = 0 ∷ [];
       sheet = figures (0 ∷ 0x3F45_5D05_A2AE_B6F2 ∷ 0 ∷ 0x4077_6B31_1868_54F6 ∷ 0 ∷ []);
     }
 

@@ -42,6 +42,7 @@ given =
       circuits = 6 ∷ [];
       km = figures (0x4024_0000_0000_0000 ∷ []);
       share = figures (0x3FF0_0000_0000_0000 ∷ []);
+      cap = 0 ∷ [];
       sheet = figures (0 ∷ 0x3F4C_DFC3_BF9E_92E0 ∷ 0 ∷ 0x4058_D381_72BB_C832 ∷ 0 ∷ []);
     }
 

@@ -42,6 +42,7 @@ given =
       circuits = 7 ∷ [];
       km = figures (0x4024_0000_0000_0000 ∷ []);
       share = figures (0x3FF0_0000_0000_0000 ∷ []);
+      cap = 0 ∷ [];
       sheet = figures (0 ∷ 0x3F4E_269C_820A_95F3 ∷ 0 ∷ 0x4069_E820_9C9D_3E69 ∷ 0 ∷ []);
     }
 

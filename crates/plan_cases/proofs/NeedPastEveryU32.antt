@@ -47,6 +47,7 @@ given =
       circuits = 1 ∷ 1 ∷ [];
       km = figures (0x4024_0000_0000_0000 ∷ 0x4034_0000_0000_0000 ∷ []);
       share = figures (0x3FE0_0000_0000_0000 ∷ 0x3FF0_0000_0000_0000 ∷ []);
+      cap = 0 ∷ 0 ∷ [];
       sheet = figures (0 ∷ 0x3E7A_D7F2_9ABC_AF48 ∷ 0 ∷ 0x3F50_624D_D2F1_A9FC ∷ 0 ∷ 0 ∷ 0x3E7A_D7F2_9ABC_AF48 ∷ 0 ∷ 0x412E_8480_0000_0000 ∷ 0 ∷ []);
     }
 

@@ -36,6 +36,7 @@ given =
       circuits = [];
       km = figures ([]);
       share = figures ([]);
+      cap = [];
       sheet = figures ([]);
     }
 

@@ -39,6 +39,7 @@ given =
       circuits = [];
       km = figures ([]);
       share = figures ([]);
+      cap = [];
       sheet = figures ([]);
     }
 

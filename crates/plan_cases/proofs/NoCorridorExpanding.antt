@@ -42,6 +42,7 @@ given =
       circuits = [];
       km = figures ([]);
       share = figures ([]);
+      cap = [];
       sheet = figures ([]);
     }
 

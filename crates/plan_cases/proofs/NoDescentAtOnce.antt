@@ -41,6 +41,7 @@ given =
       circuits = 1 ∷ [];
       km = figures (0x4024_0000_0000_0000 ∷ []);
       share = figures (0x3FF0_0000_0000_0000 ∷ []);
+      cap = 0 ∷ [];
       sheet = figures (0x3FF0_0000_0000_0000 ∷ 0x7FE1_CCF3_85EB_C8A0 ∷ 0 ∷ 0x4059_0000_0000_0000 ∷ 0 ∷ []);
     }
 

@@ -44,6 +44,7 @@ given =
       circuits = 0 ∷ [];
       km = figures (0x404B_8000_0000_0000 ∷ []);
       share = figures (0x3FF0_0000_0000_0000 ∷ []);
+      cap = 0 ∷ [];
       sheet = figures (0x3F50_624D_D2F1_A9FC ∷ 0x3F84_7AE1_47AE_147B ∷ 0 ∷ 0x407F_4000_0000_0000 ∷ 0 ∷ 0 ∷ 0x3F94_7AE1_47AE_147B ∷ 0 ∷ 0x4039_0000_0000_0000 ∷ 0 ∷ []);
     }
 

@@ -40,6 +40,7 @@ given =
       circuits = 1 ∷ [];
       km = figures (0x4024_0000_0000_0000 ∷ []);
       share = figures (0x3FF0_0000_0000_0000 ∷ []);
+      cap = 0 ∷ [];
       sheet = figures (0x5FE7_DDDF_6B09_5FF1 ∷ 0x3EE4_F8B5_88E3_68F1 ∷ 0 ∷ 0x4059_0000_0000_0000 ∷ 0 ∷ []);
     }
 

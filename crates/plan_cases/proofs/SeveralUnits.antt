@@ -44,6 +44,7 @@ given =
       circuits = 1 ∷ [];
       km = figures (0x404B_8000_0000_0000 ∷ []);
       share = figures (0x3FEC_CCCC_CCCC_CCCD ∷ []);
+      cap = 0 ∷ [];
       sheet = figures (0 ∷ 0x3F74_7AE1_47AE_147B ∷ 0 ∷ 0x4059_0000_0000_0000 ∷ 0x3FF0_0000_0000_0000 ∷ 0 ∷ 0x3F84_7AE1_47AE_147B ∷ 0x3FE0_0000_0000_0000 ∷ 0x4049_0000_0000_0000 ∷ 0x3FF0_0000_0000_0000 ∷ []);
     }
 

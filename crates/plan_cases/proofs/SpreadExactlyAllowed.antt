@@ -41,6 +41,7 @@ given =
       circuits = 1 ∷ [];
       km = figures (0x4024_0000_0000_0000 ∷ []);
       share = figures (0x3FF0_0000_0000_0000 ∷ []);
+      cap = 0 ∷ [];
       sheet = figures (0 ∷ 0x3FF6_CCC9_0EB0_0B77 ∷ 0 ∷ 0x40C3_8800_0000_0000 ∷ 0 ∷ []);
     }
 

@@ -41,6 +41,7 @@ given =
       circuits = 4 ∷ [];
       km = figures (0x4024_0000_0000_0000 ∷ []);
       share = figures (0x3FF0_0000_0000_0000 ∷ []);
+      cap = 0 ∷ [];
       sheet = figures (0 ∷ 0x3F1A_36E2_EB1C_432D ∷ 0 ∷ 0x4112_4F80_0000_0000 ∷ 0 ∷ []);
     }
 

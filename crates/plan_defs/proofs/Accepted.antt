@@ -1,6 +1,6 @@
 -- What acceptance gives: every length, every count within its bounds, every row of every table sound; and that of the ends, the levels and the sheet's rows.
 -- Each test of `caseFault` is taken apart; a refusal is no `none`.
-use Prim.Native.Nat.{ℕ, suc, _+_, _*_, _/_, _%_, _≤_, _<_}
+use Prim.Native.Nat.{ℕ, zero, suc, _+_, _*_, _/_, _%_, _≤_, _<_}
 use mathlib.Core.Bool.{Bool, true, false, cond, _&&_}
 use mathlib.Core.List.{List}
 use mathlib.Core.Option.{Option, none, some}
@@ -10,8 +10,8 @@ use native.Mathlib.Numerals.{add-one}
 use native.Mathlib.Omega.{arith}
 use borrow.Author.Tests.{ltb-true, ltb-false, leb-true, eqb-true}
 use lib.Dec.{ltb, leb, eqb}
-use lib.ListN.{length, getD}
-use Rattle.loops.specs.Figures.{at}
+use lib.ListN.{length, getD, List·getD-eq-default}
+use Rattle.loops.specs.Figures.{at, nought, one, half, tenThousand, inside}
 use Rattle.loops.specs.Loops.{first}
 use Rattle.loops.proofs.Bools.{both}
 use Rattle.loops.proofs.Scan.{all-pass}
@@ -20,9 +20,14 @@ use Rattle.refusal.specs.declared.Refusal.{Refusal}
 use Rattle.refusal.specs.declared.Refusal.the-variants.{Length, Count, Level, Bus, Generator, Corridor, Row}
 use Rattle.leaders.specs.Operation.{Ends, corridorOk}
 use Rattle.dispatch.specs.Units.{unitOk}
-use Rattle.plan_defs.specs.Constants.{mostBuses, mostCorridors, mostGenerators, mostLevels, mostTarget, mostInitial, rowFigures}
-use Rattle.plan_defs.specs.Case.{Case, levels, endA, endB, higherA, fromOf, toOf, firstLevels, rowPlace, rowAt}
+use Rattle.plan_defs.specs.Constants.{mostBuses, mostCorridors, mostGenerators, mostLevels, mostTarget, mostInitial, mostCap, rowFigures}
+use Rattle.plan_defs.specs.Case.{Case, levels, endA, endB, ownOr, ownCap, higherA, fromOf, toOf, firstLevels, rowPlace, rowAt}
 use Rattle.plan_defs.specs.Accept.{lengthsOk, countsOk, levelOk, busOk, generatorOk, corridorSound, rowOk, rowSound, firstFault, tablesFault, caseFault}
+
+-- where an own cap and the usual one are at most 6, so is the one that is taken
+pub own-few : (own usual : ℕ) → own ≤ mostCap → usual ≤ mostCap → ownOr own usual ≤ mostCap
+own-few zero usual h u = u
+own-few (suc own) usual h u = h
 
 pub record Columns (c : Case) : Type 0 where
   pub ladder : length (c .ladder) ≡ levels c
@@ -39,6 +44,7 @@ pub record Columns (c : Case) : Type 0 where
   pub circuits : length (c .circuits) ≡ c .corridors
   pub km : length (c .km) ≡ c .corridors
   pub share : length (c .share) ≡ c .corridors
+  pub cap : length (c .cap) ≡ c .corridors
   pub sheet : length (c .sheet) ≡ rowFigures * (c .corridors * levels c)
 
 pub record Counts (c : Case) (target : ℕ) : Type 0 where
@@ -88,6 +94,7 @@ module _ (c : Case) where
       let g₃ = both (eqb (length (c .circuits)) (c .corridors)) _ (g₂ .1) in
       let g₄ = both (eqb (length (c .km)) (c .corridors)) _ (g₃ .1) in
       let g₅ = both (eqb (length (c .share)) (c .corridors)) _ (g₄ .1) in
+      let g₆ = both (eqb (length (c .cap)) (c .corridors)) _ (g₅ .1) in
       record {
         ladder = eqb-true _ _ (h₁ .0);
         tier = eqb-true _ _ (h₂ .0);
@@ -103,7 +110,8 @@ module _ (c : Case) where
         circuits = eqb-true _ _ (g₃ .0);
         km = eqb-true _ _ (g₄ .0);
         share = eqb-true _ _ (g₅ .0);
-        sheet = eqb-true _ _ (g₅ .1);
+        cap = eqb-true _ _ (g₆ .0);
+        sheet = eqb-true _ _ (g₆ .1);
       }
 
   pub counts-of : (target : ℕ) → countsOk c target ≡ true → Counts c target
@@ -199,6 +207,21 @@ module _ (c : Case) (target : ℕ) (ok : Accepted c target) where
   unfolding corridorSound
   initial-few k h =
       leb-true _ _ (both (leb (getD (c .circuits) k 0) mostInitial) _ (both (corridorOk (c .buses) (endA c k) (endB c k)) _ (ok .corridor-ok k h) .1) .0)
+
+  -- an own cap is at most 6, and past the corridors there is none
+  pub cap-few : (k : ℕ) → ownCap c k ≤ mostCap
+  unfolding corridorSound
+  cap-few k = go (ltb k (c .corridors)) refl
+    where
+      go : (b : Bool) → ltb k (c .corridors) ≡ b → ownCap c k ≤ mostCap
+      go true e =
+          let h = ltb-true _ _ e in
+          leb-true _ _ (both (inside half one (at (c .share) k)) _
+          (both (inside nought tenThousand (at (c .km) k)) _
+          (both (leb (getD (c .circuits) k 0) mostInitial) _ (both (corridorOk (c .buses) (endA c k) (endB c k)) _ (ok .corridor-ok k h) .1) .1) .1) .1)
+      go false e =
+          let z : length (c .cap) ≤ k = (let y : c .corridors ≤ k = ltb-false k (c .corridors) e in omega (arith, ok .columns .cap)) in
+          omega (arith, List·getD-eq-default (c .cap) 0 z)
 
   -- a bus begins on the ladder
   pub first-below : (i : ℕ) → i < c .buses → getD (firstLevels c) i 0 < levels c

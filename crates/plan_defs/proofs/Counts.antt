@@ -20,7 +20,7 @@ use Rattle.angles_defs.specs.Network.{zeros}
 use Rattle.angles_defs.specs.Solve.{solve}
 use Rattle.plan_defs.specs.Constants.{stiffeningRounds, maxAngleSpreadRad}
 use Rattle.plan_defs.specs.Lists.{each, sum}
-use Rattle.plan_defs.specs.Case.{Case, promote, lowerBound, lowerBounds, circuitCap, capAt, fullAt, kvHigh, firstLevels, endA, endB}
+use Rattle.plan_defs.specs.Case.{Case, promote, lowerBound, lowerBounds, ownOr, ownCap, circuitCap, capAt, fullAt, kvHigh, firstLevels, endA, endB}
 use Rattle.plan_defs.specs.Demand.{capOf}
 use Rattle.plan_defs.specs.Components.{members}
 use Rattle.plan_defs.specs.Design.{design, noDesign, lineOf}
@@ -62,13 +62,13 @@ module _ (c : Case) where
   -- where the mode promotes, the cap is what stiffening and filling give
   pub full-cap : promote (c .mode) ≡ true → (k : ℕ) → fullAt c k ≡ capOf c k
   unfolding fullAt capOf capAt circuitCap
-  full-cap e k = sym (ap (λ (b : Bool). circuitCap b (kvHigh c (firstLevels c) k)) e)
+  full-cap e k = sym (ap (λ (b : Bool). ownOr (ownCap c k) (circuitCap b (kvHigh c (firstLevels c) k))) e)
 
   -- a design's cap is the one by the kV before any raise
   pub cap-is : (level : List ℕ) (ds : List CircuitDesign) → Drawn c level ds → (promote (c .mode) ≡ false → level ≡ firstLevels c) → (k : ℕ) → k < c .corridors
       → capAt c k (design ds k .kv) ≡ capOf c k
   unfolding capOf capAt circuitCap
-  cap-is level ds D u k h = go (promote (c .mode)) refl
+  cap-is level ds D u k h = ap (ownOr (ownCap c k)) (go (promote (c .mode)) refl)
     where
       go : (b : Bool) → promote (c .mode) ≡ b → circuitCap b (design ds k .kv) ≡ circuitCap b (kvHigh c (firstLevels c) k)
       go true e = refl

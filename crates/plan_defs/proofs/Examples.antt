@@ -31,7 +31,7 @@ whole n = decimal n 1
 
 -- three buses in a row, at these tiers of four
 abbrev row : List ℕ → Case
-row tiers = caseOf Expand 3 2 0 0 4 [] tiers [] [] [] [] [] [] [] (0 ∷ 1 ∷ []) (1 ∷ 2 ∷ []) (1 ∷ 1 ∷ []) [] [] []
+row tiers = caseOf Expand 3 2 0 0 4 [] tiers [] [] [] [] [] [] [] (0 ∷ 1 ∷ []) (1 ∷ 2 ∷ []) (1 ∷ 1 ∷ []) [] [] [] []
 
 -- Both ends go to the level above the higher one, not each up by one; of two marks the higher level wins.
 abbrev bothMarked : List ℕ → List ℕ
@@ -104,7 +104,7 @@ figures bits = map (ofBits binary64) bits
 abbrev expanded : Case
 expanded =
     caseOf Expand 2 1 1 0 1 (whole 138 ∷ []) (0 ∷ 0 ∷ []) (nought ∷ whole 200 ∷ []) (0 ∷ []) (1 ∷ []) (nought ∷ []) (whole 300 ∷ []) (whole 20 ∷ []) (decimal 1 4 ∷ [])
-    (0 ∷ []) (1 ∷ []) (1 ∷ []) (whole 10 ∷ []) (one ∷ []) (nought ∷ decimal 1 16 ∷ nought ∷ hundred ∷ nought ∷ [])
+    (0 ∷ []) (1 ∷ []) (1 ∷ []) (whole 10 ∷ []) (one ∷ []) (0 ∷ []) (nought ∷ decimal 1 16 ∷ nought ∷ hundred ∷ nought ∷ [])
 
 pub circuits-added :
     listingOf expanded 4
@@ -121,6 +121,7 @@ reinforced =
     caseOf Reinforce 3 2 1 0 2 (figures (0x4075_9000_0000_0000 ∷ 0x4061_4000_0000_0000 ∷ [])) (0 ∷ 1 ∷ 1 ∷ []) (figures (0 ∷ 0 ∷ 0x40B0_744D_DF81_18FA ∷ []))
     (0 ∷ []) (0 ∷ []) (nought ∷ []) (figures (0x412E_8480_0000_0000 ∷ [])) (figures (0x4034_0000_0000_0000 ∷ [])) (figures (0x3F84_7AE1_47AE_147B ∷ []))
     (0 ∷ 1 ∷ []) (1 ∷ 2 ∷ []) (7 ∷ 1 ∷ []) (whole 10 ∷ whole 10 ∷ []) (figures (0x3FE2_9AE5_E2AD_5233 ∷ 0x3FF0_0000_0000_0000 ∷ []))
+    (0 ∷ 0 ∷ [])
     (figures
     (0 ∷ 0x3F3C_B164_40EE_45BD ∷ 0 ∷ 0x40D3_8800_0000_0000 ∷ 0 ∷ 0 ∷ 0x3F3C_B164_40EE_45BD ∷ 0 ∷ 0x40D3_8800_0000_0000 ∷ 0 ∷ 0 ∷ 0x3F3C_B164_40EE_45BD ∷ 0
     ∷ 0x40D3_8800_0000_0000 ∷ 0 ∷ 0 ∷ 0x3F3C_B164_40EE_45BD ∷ 0 ∷ 0x40D3_8800_0000_0000 ∷ 0 ∷ []))
@@ -140,7 +141,7 @@ ones n = replicate n one
 
 abbrev lentWithOnes : Slices
 lentWithOnes =
-    slices (replicate 2 1) (ones 2) (ones 2) (replicate 2 1) (replicate 2 1) (ones 1) (ones 3) (replicate 3 1) (replicate 3 1) [] (ones 72) (replicate 72 1)
+    slices (replicate 2 1) (ones 2) (ones 2) (replicate 2 1) (replicate 2 1) (replicate 2 1) (ones 1) (ones 3) (replicate 3 1) (replicate 3 1) [] (ones 72) (replicate 72 1)
 
 abbrev leftBy : Outcome → List (List ℕ)
 leftBy o = map bitsOf (o .lent .figures) ∷ o .lent .counts ∷ o .lent .before ∷ o .lent .order ∷ o .lent .circuits ∷ o .lent .tier ∷ o .lent .ground ∷ []
@@ -191,11 +192,11 @@ sample-listed = refl
 abbrev beside : Case
 beside =
     caseOf Expand 2 2 1 0 1 (whole 138 ∷ []) (0 ∷ 0 ∷ []) (nought ∷ whole 200 ∷ []) (0 ∷ []) (1 ∷ []) (nought ∷ []) (whole 300 ∷ []) (whole 20 ∷ []) (decimal 1 4 ∷ [])
-    (0 ∷ 0 ∷ []) (1 ∷ 1 ∷ []) (1 ∷ 1 ∷ []) (whole 10 ∷ whole 10 ∷ []) (one ∷ one ∷ [])
+    (0 ∷ 0 ∷ []) (1 ∷ 1 ∷ []) (1 ∷ 1 ∷ []) (whole 10 ∷ whole 10 ∷ []) (one ∷ one ∷ []) (0 ∷ 0 ∷ [])
     (nought ∷ decimal 1 8 ∷ nought ∷ hundred ∷ nought ∷ nought ∷ decimal 1 16 ∷ nought ∷ hundred ∷ nought ∷ [])
 
 abbrev lentBeside : Slices
-lentBeside = slices (replicate 2 7) (ones 2) (ones 2) (replicate 2 7) (replicate 2 7) (ones 1) (ones 2) (replicate 2 7) (replicate 2 7) [] (ones 60) (replicate 60 7)
+lentBeside = slices (replicate 2 7) (ones 2) (ones 2) (replicate 2 7) (replicate 2 7) (replicate 2 7) (ones 1) (ones 2) (replicate 2 7) (replicate 2 7) [] (ones 60) (replicate 60 7)
 
 abbrev keptBeside : ℕ → List (List ℕ)
 keptBeside target = let s : Slices = planCorridors beside target lentBeside .lent in s .before ∷ s .order ∷ s .circuits ∷ []
@@ -211,10 +212,13 @@ abbrev sayings : Reply (Unit {0}) → List ℕ
 sayings (answered u) = []
 sayings (refused number index) = number ∷ index ∷ []
 
-abbrev previewed : PlanMode → List ℕ → List ℕ → ℕ → ℕ → List ℕ
-previewed mode before order places target =
-    let o : Previewed = preview (keptAs mode 3 before order) target (replicate places 7) in
+abbrev previewedWith : PlanMode → List ℕ → List ℕ → List ℕ → ℕ → ℕ → List ℕ
+previewedWith mode before order cap places target =
+    let o : Previewed = preview (keptAs mode 3 before order cap) target (replicate places 7) in
     sayings (o .reply) ++ o .circuits
+
+abbrev previewed : PlanMode → List ℕ → List ℕ → ℕ → ℕ → List ℕ
+previewed mode before order places target = previewedWith mode before order (0 ∷ 0 ∷ 0 ∷ []) places target
 
 -- The counts before filling of document 01's eighth example, with its target and others, and in two orders; a count at its bound stays as it is.
 pub previews :
@@ -240,6 +244,13 @@ pub preview-refusals :
     ∷ (30 ∷ 1 ∷ 7 ∷ 7 ∷ 7 ∷ []) ∷ (30 ∷ 2 ∷ 7 ∷ 7 ∷ 7 ∷ []) ∷ []
 unfolding listingOf preview previewFault keptFault lengthsOk refilled
 preview-refusals = refl
+
+-- With own caps of 2 and 6 the first stops at 2 and the last goes to 6; a cap above 6 is a fault of its corridor, beside the count's.
+pub previews-capped :
+    previewedWith Expand (1 ∷ 4 ∷ 1 ∷ []) (0 ∷ 1 ∷ 2 ∷ []) (2 ∷ 0 ∷ 6 ∷ []) 3 20 ∷ previewedWith Expand (1 ∷ 4 ∷ 0 ∷ []) (0 ∷ 1 ∷ 2 ∷ []) (0 ∷ 7 ∷ 0 ∷ []) 3 20 ∷ []
+    ≡ (2 ∷ 4 ∷ 6 ∷ []) ∷ (6 ∷ 1 ∷ 7 ∷ 7 ∷ 7 ∷ []) ∷ []
+unfolding listingOf preview previewFault keptFault lengthsOk refilled
+previews-capped = refl
 
 -- ---- K4: the pass after a component's dispatch, MW by their bits; every unit from 0, at a cost of c1
 abbrev units : List Float → List Float → Units
@@ -295,7 +306,7 @@ ends-below = refl
 abbrev flatCost : PlanMode → Case
 flatCost mode =
     caseOf mode 2 1 1 0 1 (whole 138 ∷ []) (0 ∷ 0 ∷ []) (nought ∷ whole 50 ∷ []) (0 ∷ []) (1 ∷ []) (nought ∷ []) (hundred ∷ []) (whole 20 ∷ []) (nought ∷ [])
-    (0 ∷ []) (1 ∷ []) (1 ∷ []) (whole 10 ∷ []) (one ∷ []) (nought ∷ half ∷ nought ∷ hundred ∷ nought ∷ [])
+    (0 ∷ []) (1 ∷ []) (1 ∷ []) (whole 10 ∷ []) (one ∷ []) (0 ∷ []) (nought ∷ half ∷ nought ∷ hundred ∷ nought ∷ [])
 
 -- what is listed of its plan, the MW of the unit and the circuits among it
 abbrev flatListed : ℕ → ℕ → ℕ → Float → ℕ → ℕ → ℕ → ℕ → List (List ℕ)

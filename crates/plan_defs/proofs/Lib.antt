@@ -1,4 +1,4 @@
--- Laws of the defined plan, and a worked example.
+-- Laws of the defined plan, and worked examples.
 pub mod Lists
 pub mod Inserted
 pub mod Stages
@@ -11,3 +11,4 @@ pub mod Turns
 pub mod Rounds
 pub mod Opened
 pub mod Examples
+pub mod OwnCaps

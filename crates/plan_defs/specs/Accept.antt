@@ -12,8 +12,8 @@ use Rattle.refusal.specs.declared.Refusal.{Refusal}
 use Rattle.refusal.specs.declared.Refusal.the-variants.{Length, Count, Level, Bus, Generator, Corridor, Row as SheetRow}
 use Rattle.leaders.specs.Operation.{corridorOk}
 use Rattle.dispatch.specs.Units.{unitOk}
-use Rattle.plan_defs.specs.Constants.{kvTolerance, mostBuses, mostCorridors, mostGenerators, mostLevels, mostTarget, mostInitial, rowFigures}
-use Rattle.plan_defs.specs.Case.{Case, Row, levels, loadOf, endA, endB, rowAt}
+use Rattle.plan_defs.specs.Constants.{kvTolerance, mostBuses, mostCorridors, mostGenerators, mostLevels, mostTarget, mostInitial, mostCap, rowFigures}
+use Rattle.plan_defs.specs.Case.{Case, Row, levels, loadOf, endA, endB, ownCap, rowAt}
 
 -- ---- 1: every column of the case has its length
 unfoldable pub lengthsOk : Case → Bool
@@ -32,7 +32,8 @@ lengthsOk c =
     && (eqb (length (c .circuits)) (c .corridors)
     && (eqb (length (c .km)) (c .corridors)
     && (eqb (length (c .share)) (c .corridors)
-    && eqb (length (c .sheet)) (rowFigures * (c .corridors * levels c)))))))))))))))
+    && (eqb (length (c .cap)) (c .corridors)
+    && eqb (length (c .sheet)) (rowFigures * (c .corridors * levels c))))))))))))))))
 
 -- ---- 2
 unfoldable pub countsOk : Case → ℕ → Bool
@@ -60,11 +61,11 @@ generatorOk c k =
     (ltb (getD (c .bus) k 0) (c .buses) && leb (getD (c .slack) k 0) 1)
     && unitOk (at (c .pmin) k) (at (c .pmax) k) (at (c .c1) k) (at (c .c2) k)
 
--- ---- 6: two different buses, circuits 0 to 64, length 0 to 10,000 km, rate share 0.5 to 1
+-- ---- 6: two different buses, circuits 0 to 64, length 0 to 10,000 km, rate share 0.5 to 1, own cap 0 to 6
 unfoldable pub corridorSound : Case → ℕ → Bool
 corridorSound c k =
     corridorOk (c .buses) (endA c k) (endB c k)
-    && (leb (getD (c .circuits) k 0) mostInitial && (inside nought tenThousand (at (c .km) k) && inside half one (at (c .share) k)))
+    && (leb (getD (c .circuits) k 0) mostInitial && (inside nought tenThousand (at (c .km) k) && (inside half one (at (c .share) k) && leb (ownCap c k) mostCap)))
 
 -- ---- 7: r ≥ 0, x > 0, b ≥ 0, all finite; rate 0.001 to 1e6; basis 0 or 1
 abbrev pub rowSound : Row → Bool

@@ -1,6 +1,6 @@
 -- A case (document 01, "Tables and their bounds"), but for the target, which filling alone reads: the counts as given, and a list for each column of the tables.
 -- Then what its mode does, and what the tables say of a level, a bus and a corridor. The definitions marked as seams are the only ones that say it.
-use Prim.Native.Nat.{ℕ, _+_, _*_, max}
+use Prim.Native.Nat.{ℕ, zero, suc, _+_, _*_, max}
 use mathlib.Core.Bool.{Bool, true, false, not, cond, _&&_}
 use mathlib.Core.List.{List}
 use lib.ListN.{getD}
@@ -37,12 +37,14 @@ pub record Case : Type 0 where
   pub circuits : List ℕ
   pub km : List Float
   pub share : List Float
+  -- its own cap, 0 where it has none
+  pub cap : List ℕ
   -- the line sheet, five figures to a row
   pub sheet : List Float
 
 abbrev pub caseOf : PlanMode → ℕ → ℕ → ℕ → ℕ → ℕ → List Float → List ℕ → List Float → List ℕ → List ℕ → List Float → List Float → List Float → List Float
-    → List ℕ → List ℕ → List ℕ → List Float → List Float → List Float → Case
-caseOf mode buses corridors generators above requested ladder tier load bus slack pmin pmax c1 c2 a b circuits km share sheet =
+    → List ℕ → List ℕ → List ℕ → List Float → List Float → List ℕ → List Float → Case
+caseOf mode buses corridors generators above requested ladder tier load bus slack pmin pmax c1 c2 a b circuits km share cap sheet =
     record {
       mode = mode;
       buses = buses;
@@ -64,6 +66,7 @@ caseOf mode buses corridors generators above requested ladder tier load bus slac
       circuits = circuits;
       km = km;
       share = share;
+      cap = cap;
       sheet = sheet;
     }
 
@@ -125,12 +128,24 @@ lowerBounds c = tab (c .corridors) (lowerBound c)
 unfoldable pub circuitCap : Bool → Float → ℕ
 circuitCap promotes kv = cond (not promotes && lt kv subtransmissionKv) subtransmissionMaxCircuits maxCircuitsPerCorridor
 
+-- a corridor's own cap takes the place of the usual one (document 02, K5); 0 is none
+abbrev pub ownOr : ℕ → ℕ → ℕ
+ownOr zero usual = usual
+ownOr (suc own) usual = suc own
+
+abbrev pub ownCap : Case → ℕ → ℕ
+ownCap c k = getD (c .cap) k 0
+
+-- by the corridors' own caps, the most that stiffening and filling give corridor k
+abbrev pub fullOf : List ℕ → ℕ → ℕ
+fullOf cap k = ownOr (getD cap k 0) maxCircuitsPerCorridor
+
 -- seam: the cap of corridor k at a kV, for sizing and the closing count; and the most that stiffening and filling give it
 unfoldable pub capAt : Case → ℕ → Float → ℕ
-capAt c k kv = circuitCap (promote (c .mode)) kv
+capAt c k kv = ownOr (ownCap c k) (circuitCap (promote (c .mode)) kv)
 
 unfoldable pub fullAt : Case → ℕ → ℕ
-fullAt c k = maxCircuitsPerCorridor
+fullAt c k = fullOf (c .cap) k
 
 -- its ends at the buses' levels: the one with the higher kV first, a on a tie
 abbrev pub higherA : Case → List ℕ → ℕ → Bool

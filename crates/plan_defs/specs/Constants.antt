@@ -94,6 +94,10 @@ mostTarget = 65_536
 abbrev pub mostInitial : ℕ
 mostInitial = 64
 
+-- a corridor's own cap (document 02, K5)
+abbrev pub mostCap : ℕ
+mostCap = 6
+
 -- figures of a row of the line sheet: r, x, b, rate, basis
 abbrev pub rowFigures : ℕ
 rowFigures = 5

@@ -7,14 +7,14 @@ use lib.ListN.{length, getD}
 use lib.Ieee.{Float, le}
 use Rattle.loops.specs.Figures.{at, inside}
 use Rattle.loops.specs.Loops.{tab}
-use Rattle.plan_defs.specs.Constants.{planningMaxRounds, maxCircuitsPerCorridor}
+use Rattle.plan_defs.specs.Constants.{planningMaxRounds}
 use Rattle.plan_defs.specs.Lists.{sum}
-use Rattle.plan_defs.specs.Case.{Case, expand, promote, kvOf, firstLevels, lowerBound, kvHigh, capAt}
+use Rattle.plan_defs.specs.Case.{Case, expand, promote, kvOf, firstLevels, lowerBound, kvHigh, capAt, fullAt}
 use Rattle.plan_defs.specs.Plan.{Plan, planned, endingOf}
 use Rattle.plan_defs.specs.Outcome.{held, summary, Outcome}
 use Rattle.plan_defs.specs.declared.CorridorPlan.{CorridorPlan}
 
--- a corridor's cap, by the kV of its higher end before any raise: 4 when expanding; when reinforcing 6 below 100 kV, else 4
+-- a corridor's cap: its own, else by the kV of its higher end before any raise: 4 when expanding; when reinforcing 6 below 100 kV, else 4
 unfoldable pub capOf : Case → ℕ → ℕ
 capOf c k = capAt c k (kvHigh c (firstLevels c) k)
 
@@ -41,6 +41,10 @@ pub record Bounded (c : Case) (p : Plan) (k : ℕ) : Type 0 where
   pub at-most : circuitsAt p k ≤ max (lowerBound c k) (capOf c k)
   pub observed : expand (c .mode) ≡ false → circuitsAt p k ≡ lowerBound c k
 
+-- Clause 7: the fillers of two corridors that still have room differ by at most one.
+abbrev pub Even : Case → Plan → Type 0
+Even c p = (j k : ℕ) → j < c .corridors → k < c .corridors → circuitsAt p j < fullAt c j → circuitsAt p k < fullAt c k → fillerAt p j ≤ fillerAt p k + 1
+
 pub record Demand3 (c : Case) (target : ℕ) (p : Plan) : Type 0 where
   -- 1. It took at most 64 rounds.
   pub rounds : p .rounds ≤ planningMaxRounds
@@ -52,11 +56,10 @@ pub record Demand3 (c : Case) (target : ℕ) (p : Plan) : Type 0 where
   pub voltage : (i : ℕ) → i < c .buses → le (kvGiven c i) (kvPlanned c p i) ≡ true
   -- 5. Capacity + stiffening + filler = the sum, over all corridors, of circuits less lower bound.
   pub conserved : p .capacity + p .stiffening + p .filler ≡ additions c p
-  -- 6. When expanding (modes 0 and 3), all circuits together fall short of the target only when every corridor has 4 or more.
-  pub short : promote (c .mode) ≡ true → sum (p .circuits) < target → (k : ℕ) → k < c .corridors → maxCircuitsPerCorridor ≤ circuitsAt p k
-  -- 7. When expanding, the fillers of any two corridors still below 4 differ by at most one.
-  pub even : promote (c .mode) ≡ true → (j k : ℕ) → j < c .corridors → k < c .corridors → circuitsAt p j < maxCircuitsPerCorridor
-      → circuitsAt p k < maxCircuitsPerCorridor → fillerAt p j ≤ fillerAt p k + 1
+  -- 6. When expanding (modes 0 and 3), all circuits together fall short of the target only when every corridor has its own cap, or 4 where it has none, or more.
+  pub short : promote (c .mode) ≡ true → sum (p .circuits) < target → (k : ℕ) → k < c .corridors → fullAt c k ≤ circuitsAt p k
+  -- 7. When expanding, the fillers of any two corridors still below that differ by at most one.
+  pub even : promote (c .mode) ≡ true → Even c p
 
 -- What the tallies are, besides: the counts before filling exceed the lower bounds by capacity and stiffening, the plan's by filler as well,
 -- and PL's filler is the sum of the corridors' fillers. No count is lower than the one before it, so that no difference is cut at 0.

@@ -1,5 +1,5 @@
 -- Filling ("3. Fill to the requested branch count" of `plan_corridors`): the order, by the loading before filling, and then round and round it,
--- a circuit to each corridor that has fewer than 4, up to the target.
+-- a circuit to each corridor that has fewer than its own cap, or than 4 where it has none, up to the target.
 use Prim.Native.Nat.{ℕ, zero, suc, _+_, _%_}
 use mathlib.Core.Bool.{Bool, true, false, _&&_, _||_}
 use mathlib.Core.List.{List, [], _∷_}
@@ -8,7 +8,7 @@ use lib.ListN.{length, getD, set}
 use lib.Ieee.{Float, lt, eq}
 use Rattle.loops.specs.Figures.{at, float, times, over, magnitude}
 use Rattle.loops.specs.Loops.{iter}
-use Rattle.plan_defs.specs.Constants.{maxCircuitsPerCorridor}
+use Rattle.plan_defs.specs.Constants.{mostCap}
 use Rattle.plan_defs.specs.Lists.{each, sum}
 use Rattle.plan_defs.specs.Case.{Case, promote, fullAt}
 use Rattle.plan_defs.specs.Design.{design}
@@ -87,9 +87,9 @@ unfoldable pub fillRounds : ℕ → (ℕ → ℕ) → ℕ → List ℕ → Fille
 fillRounds zero full target order s = s
 fillRounds (suc d) full target order s = fillRounds d full target order (fillOnce full target order s)
 
--- four times round bring every corridor to 4, or the total to the target
+-- six times round, the most that a cap may be, bring every corridor to its cap, or the total to the target
 abbrev pub fillTurns : ℕ
-fillTurns = maxCircuitsPerCorridor
+fillTurns = mostCap
 
 -- only a mode that promotes fills
 abbrev pub filledIf : Bool → (ℕ → ℕ) → ℕ → List ℕ → Filled → Filled

@@ -18,12 +18,14 @@ use Rattle.plan_defs.specs.declared.Planned.the-variants.{Answered, Refu
 
 -- ---- the slices that planning is lent
 pub record Slices : Type 0 where
-  -- a place for each corridor; flow in MW, rate in MVA of one circuit; the circuits before filling and the filling order, zero where the mode does not fill
+  -- a place for each corridor; flow in MW, rate in MVA of one circuit; the circuits before filling and the filling order, zero where the mode does not fill;
+  -- the corridors' own caps
   pub circuits : List ℕ
   pub flow : List Float
   pub rate : List Float
   pub before : List ℕ
   pub order : List ℕ
+  pub cap : List ℕ
   -- for each generator, MW
   pub mw : List Float
   -- for each bus; the grounds by ascending leader, zero past their count
@@ -36,14 +38,15 @@ pub record Slices : Type 0 where
   pub figures : List Float
   pub counts : List ℕ
 
-abbrev pub slices : List ℕ → List Float → List Float → List ℕ → List ℕ → List Float → List Float → List ℕ → List ℕ → List Float → List Float → List ℕ → Slices
-slices circuits flow rate before order mw angle tier ground added figures counts =
+abbrev pub slices : List ℕ → List Float → List Float → List ℕ → List ℕ → List ℕ → List Float → List Float → List ℕ → List ℕ → List Float → List Float → List ℕ → Slices
+slices circuits flow rate before order cap mw angle tier ground added figures counts =
     record {
       circuits = circuits;
       flow = flow;
       rate = rate;
       before = before;
       order = order;
+      cap = cap;
       mw = mw;
       angle = angle;
       tier = tier;
@@ -64,18 +67,19 @@ slicesOk c s =
     && (eqb (length (s .rate)) (c .corridors)
     && (eqb (length (s .before)) (c .corridors)
     && (eqb (length (s .order)) (c .corridors)
+    && (eqb (length (s .cap)) (c .corridors)
     && (eqb (length (s .mw)) (c .generators)
     && (eqb (length (s .angle)) (c .buses)
     && (eqb (length (s .tier)) (c .buses)
     && (eqb (length (s .ground)) (c .buses)
     && (eqb (length (s .added)) (c .above)
     && (eqb (length (s .figures)) (workPlaces c)
-    && eqb (length (s .counts)) (workPlaces c)))))))))))
+    && eqb (length (s .counts)) (workPlaces c))))))))))))
 
 -- ---- what they hold
 abbrev pub cleared : Case → Slices
 cleared c =
-    slices (replicate (c .corridors) 0) (replicate (c .corridors) nought) (replicate (c .corridors) nought) (replicate (c .corridors) 0) (replicate (c .corridors) 0)
+    slices (replicate (c .corridors) 0) (replicate (c .corridors) nought) (replicate (c .corridors) nought) (replicate (c .corridors) 0) (replicate (c .corridors) 0) (replicate (c .corridors) 0)
     (replicate (c .generators) nought) (replicate (c .buses) nought) (replicate (c .buses) 0) (replicate (c .buses) 0) (replicate (c .above) nought)
     (replicate (workPlaces c) nought) (replicate (workPlaces c) 0)
 
@@ -93,7 +97,7 @@ keptOf c l = keptIf (promote (c .mode)) (c .corridors) l
 
 unfoldable pub held : Case → Plan → Slices
 held c p =
-    slices (p .circuits) (p .flow) (map (λ d. d .«rate_a») (p .designs)) (keptOf c (p .before)) (keptOf c (p .order)) (p .mw) (p .angle) (p .tier) (upTo (c .buses) 0 (p .grounds))
+    slices (p .circuits) (p .flow) (map (λ d. d .«rate_a») (p .designs)) (keptOf c (p .before)) (keptOf c (p .order)) (c .cap) (p .mw) (p .angle) (p .tier) (upTo (c .buses) 0 (p .grounds))
     (upTo (c .above) nought (p .added)) (replicate (workPlaces c) nought) (replicate (workPlaces c) 0)
 
 unfoldable pub summary : Plan → CorridorPlan

@@ -1,5 +1,5 @@
 -- Filling as the Rust goes, with a cursor that runs round the order and a count of corridors in a row without room, fills as `fillRounds` does, and has
--- ended after five times round.
+-- ended after seven times round.
 -- What the loop knows (`Window`): the last `idle` corridors that it passed are full. So where it stops before the target, all are, and each further
 -- step of a pass would change nothing.
 use Prim.Native.Nat.{ℕ, zero, suc, _+_, _*_, _/_, _%_, _≤_, _<_, zero-le}
@@ -7,22 +7,23 @@ use mathlib.Core.Bool.{Bool, true, false, _&&_}
 use mathlib.Core.List.{List, [], _∷_}
 use mathlib.Core.Path.{_≡_, refl, sym, ap, _∙_, subst}
 use mathlib.Core.Logic.{⊎-elim}
-use native.Mathlib.Nat.{le-refl, div-add-mod', mod-lt, mod-eq-of-lt, mul-add-mod-self-right, suc-mul, eq-or-lt-of-le}
+use native.Mathlib.Nat.{div-add-mod', mod-lt, mod-eq-of-lt, mul-add-mod-self-right, suc-mul, eq-or-lt-of-le}
 use native.Mathlib.Omega.{arith}
 use borrow.Author.Tests.{ltb-true, ltb-false, le-ltb}
 use lib.Dec.{ltb}
 use lib.Ieee.{Float}
-use lib.ListN.{length, getD, List·getD-eq-default}
+use lib.ListN.{length, getD}
 use Rattle.loops.specs.Sorting.{occ}
 use Rattle.loops.specs.Loops.{iter}
 use Rattle.loops.proofs.Bools.{both}
 use Rattle.plan_defs.specs.Lists.{each}
-use Rattle.plan_defs.specs.Case.{Case, promote, fullAt}
+use Rattle.plan_defs.specs.Constants.{maxCircuitsPerCorridor, mostCap}
+use Rattle.plan_defs.specs.Case.{Case, promote, ownCap, fullAt}
 use Rattle.plan_defs.specs.Fill.{Filled, unfilled, fillIf, fillAt, belowFull, room, fillOnce, fillRounds, fillTurns, Cursor, cursorAt, runs, advanceIf, advance, cursorIf, cursorStep, cursorRun, filledIf, fill, Rank, rankAt, rankNext, before, placedRank, insertRank, corridorsIn, orderOf}
 use Rattle.plan_defs.specs.declared.CircuitDesign.{CircuitDesign}
 use Rattle.plan_defs.proofs.Lists.{each-places}
-use Rattle.plan_defs.proofs.Counts.{any-default}
-use Rattle.plan_theorems.proofs.Filling.{rounds-grown, Ends, reached, unreached, fills}
+use Rattle.plan_defs.proofs.Accepted.{own-few}
+use Rattle.plan_theorems.proofs.Filling.{rounds-grown, Ends, reached, unreached, fills, all-full}
 use Rattle.plan_theorems.proofs.Ranking.{order-once}
 
 and-false : (a b : Bool) → b ≡ false → (a && b) ≡ false
@@ -223,7 +224,7 @@ module _ (full : ℕ → ℕ) (target : ℕ) (order : List ℕ) where
             subst (λ (u : Cursor). Idled s u) (sym (ended-still d s e)) (record { ended = e; same = refl })
 
 -- ---- the theorem
--- five times round: the loop has ended, and has filled what four passes fill
+-- seven times round: the loop has ended, and has filled what six passes fill
 abbrev pub cursorTurns : ℕ
 cursorTurns = suc fillTurns
 
@@ -233,63 +234,46 @@ pub record CursorFills (full : ℕ → ℕ) (target : ℕ) (order counts : List 
 
 module _ (full : ℕ → ℕ) (few : (k : ℕ) → full k ≤ fillTurns) (target m : ℕ) (counts : List ℕ) (size : length counts ≡ m) where
   module _ (order : List ℕ) (named : (j : ℕ) → j < m → occ j order ≡ 1) (some : 0 < length order) where
-    filled₄ : Filled
-    filled₄ = fillRounds fillTurns full target order (unfilled counts)
+    filled-all : Filled
+    filled-all = fillRounds fillTurns full target order (unfilled counts)
 
-    cursor₄ : Cursor
-    cursor₄ = cursorRun (fillTurns * length order) full target order (cursorAt (unfilled counts) 0 0)
+    cursor-all : Cursor
+    cursor-all = cursorRun (fillTurns * length order) full target order (cursorAt (unfilled counts) 0 0)
 
-    four-is : cursor₄ .filled ≡ filled₄
-    unfolding cursor₄ filled₄
-    four-is =
+    all-is : cursor-all .filled ≡ filled-all
+    unfolding cursor-all filled-all
+    all-is =
         rounds-filled full target order some fillTurns 0 (cursorAt (unfilled counts) 0 0)
         (subst (λ (i : ℕ). Inv full target order i (cursorAt (unfilled counts) 0 0)) (let z : 0 ≡ 0 * length order = omega arith in z) (start full target order (unfilled counts)))
 
     -- not reached: every corridor is full
-    all-full : ((j : ℕ) → j < m → getD (filled₄ .counts) j 0 < full j → getD (filled₄ .counts) j 0 ≡ getD counts j 0 + fillTurns)
-        → (k : ℕ) → belowFull full k filled₄ ≡ false
-    unfolding filled₄
-    all-full f k = go (ltb k m) refl
-      where
-        len : length (filled₄ .counts) ≡ m
-        len = rounds-grown full target fillTurns order (unfilled counts) .size ∙ size
+    full-now : ((j : ℕ) → j < m → getD (filled-all .counts) j 0 < full j → getD (filled-all .counts) j 0 ≡ getD counts j 0 + fillTurns)
+        → (k : ℕ) → belowFull full k filled-all ≡ false
+    unfolding filled-all
+    full-now f k = all-full full target m fillTurns few counts filled-all (rounds-grown full target fillTurns order (unfilled counts) .size ∙ size) f k
 
-        here : k < m → (b : Bool) → belowFull full k filled₄ ≡ b → b ≡ false
-        here h true e =
-            let l : k < length (filled₄ .counts) = omega (arith, len) in
-            let d = any-default (full k) (filled₄ .counts) k l in
-            let q : getD (filled₄ .counts) k (full k) < full k = ltb-true _ _ e in
-            absurd (omega (arith, f k h (omega arith), few k))
-        here h false e = refl
-
-        go : (t : Bool) → ltb k m ≡ t → belowFull full k filled₄ ≡ false
-        go true e = here (ltb-true k m e) (belowFull full k filled₄) refl
-        go false e =
-            let l : length (filled₄ .counts) ≤ k = (let z = ltb-false k m e in omega (arith, len)) in
-            ap (λ (x : ℕ). ltb x (full k)) (List·getD-eq-default (filled₄ .counts) (full k) l) ∙ le-ltb (full k) (full k) (let z : full k ≤ full k = omega arith in z)
-
-    last : Ends full target m counts fillTurns filled₄ → Idled full target order some cursor₄ (cursorRun (length order) full target order cursor₄)
+    last : Ends full target m counts fillTurns filled-all → Idled full target order some cursor-all (cursorRun (length order) full target order cursor-all)
     last (reached p h f) =
-        let t : ltb (cursor₄ .filled .total) target ≡ false =
-        ap (λ (x : Filled). ltb (x .total) target) four-is ∙ le-ltb (filled₄ .total) target h in
-        let e : runs target (length order) cursor₄ ≡ false = ap (λ (b : Bool). b && ltb (cursor₄ .idle) (length order)) t in
-        subst (λ (u : Cursor). Idled full target order some cursor₄ u) (sym (ended-still full target order some (length order) cursor₄ e)) (record { ended = e; same = refl })
+        let t : ltb (cursor-all .filled .total) target ≡ false =
+        ap (λ (x : Filled). ltb (x .total) target) all-is ∙ le-ltb (filled-all .total) target h in
+        let e : runs target (length order) cursor-all ≡ false = ap (λ (b : Bool). b && ltb (cursor-all .idle) (length order)) t in
+        subst (λ (u : Cursor). Idled full target order some cursor-all u) (sym (ended-still full target order some (length order) cursor-all e)) (record { ended = e; same = refl })
     last (unreached h f) =
-        idles full target order some (length order) cursor₄ (λ q. ap (λ (x : Filled). belowFull full (nth full target order q) x) four-is ∙ all-full f (nth full target order q)) (omega arith)
+        idles full target order some (length order) cursor-all (λ q. ap (λ (x : Filled). belowFull full (nth full target order q) x) all-is ∙ full-now f (nth full target order q)) (omega arith)
 
-    five : cursorRun (cursorTurns * length order) full target order (cursorAt (unfilled counts) 0 0) ≡ cursorRun (length order) full target order cursor₄
-    unfolding cursor₄
-    five =
+    once-more : cursorRun (cursorTurns * length order) full target order (cursorAt (unfilled counts) 0 0) ≡ cursorRun (length order) full target order cursor-all
+    unfolding cursor-all
+    once-more =
         ap (λ (i : ℕ). cursorRun i full target order (cursorAt (unfilled counts) 0 0)) (suc-mul fillTurns (length order))
         ∙ run-more full target order some (fillTurns * length order) (length order) (cursorAt (unfilled counts) 0 0)
 
-    fills-five : CursorFills full target order counts
-    unfolding filled₄
-    fills-five =
-        let i = last (fills full target m counts order named (unfilled counts) size refl) in
+    fills-all : CursorFills full target order counts
+    unfolding filled-all
+    fills-all =
+        let i = last (fills full target m counts order named fillTurns (unfilled counts) size refl) in
         record {
-          ended = ap (runs target (length order)) five ∙ i .ended;
-          same = ap (λ (s : Cursor). s .filled) five ∙ i .same ∙ four-is;
+          ended = ap (runs target (length order)) once-more ∙ i .ended;
+          same = ap (λ (s : Cursor). s .filled) once-more ∙ i .same ∙ all-is;
         }
 
   pub cursor-fills : (order : List ℕ) → ((j : ℕ) → j < m → occ j order ≡ 1) → CursorFills full target order counts
@@ -299,7 +283,7 @@ module _ (full : ℕ → ℕ) (few : (k : ℕ) → full k ≤ fillTurns) (target
         ended = and-false (ltb (unfilled counts .total) target) false refl;
         same = refl;
       }
-  cursor-fills (k ∷ ks) named = fills-five (k ∷ ks) named (omega arith)
+  cursor-fills (k ∷ ks) named = fills-all (k ∷ ks) named (omega arith)
 
 -- ---- of the defined filling: the order has a place for each corridor, and the Rust's loop over it fills what the definition fills
 length-in : (l : List Rank) → length (corridorsIn l) ≡ length l
@@ -331,14 +315,19 @@ pub record FilledByCursor (c : Case) (target : ℕ) (order counts : List ℕ) : 
   pub ended : runs target (c .corridors) (cursorRun (cursorTurns * c .corridors) (fullAt c) target order (cursorAt (unfilled counts) 0 0)) ≡ false
   pub same : fill c target order counts ≡ cursorRun (cursorTurns * c .corridors) (fullAt c) target order (cursorAt (unfilled counts) 0 0) .filled
 
-pub fill-cursor : (c : Case) (target : ℕ) (ds : List CircuitDesign) (counts : List ℕ) (flows : List Float) → promote (c .mode) ≡ true → length counts ≡ c .corridors
+-- what filling gives a corridor is at most 6, where its own cap is
+pub full-few : (c : Case) → ((k : ℕ) → ownCap c k ≤ mostCap) → (k : ℕ) → fullAt c k ≤ fillTurns
+unfolding fullAt
+full-few c few k = own-few (ownCap c k) maxCircuitsPerCorridor (few k) (omega arith)
+
+pub fill-cursor : (c : Case) (target : ℕ) (ds : List CircuitDesign) (counts : List ℕ) (flows : List Float) → ((k : ℕ) → ownCap c k ≤ mostCap) → promote (c .mode) ≡ true → length counts ≡ c .corridors
     → FilledByCursor c target (orderOf (c .corridors) ds counts flows) counts
-unfolding fill fullAt
-fill-cursor c target ds counts flows e n =
+unfolding fill
+fill-cursor c target ds counts flows few e n =
     let m = c .corridors in
     let order = orderOf m ds counts flows in
     let l = order-length ds counts flows m in
-    let f = cursor-fills (fullAt c) (λ k. le-refl fillTurns) target m counts n order (order-once ds counts flows m) in
+    let f = cursor-fills (fullAt c) (full-few c few) target m counts n order (order-once ds counts flows m) in
     record {
       ended = ap (λ (k : ℕ). runs target k (cursorRun (cursorTurns * k) (fullAt c) target order (cursorAt (unfilled counts) 0 0))) (sym l) ∙ f .ended;
       same =

@@ -18,7 +18,6 @@ use Rattle.angles_defs.specs.Network.{zeros}
 use Rattle.mode.specs.declared.PlanMode.{PlanMode}
 use Rattle.mode.specs.declared.PlanMode.the-variants.{Expand, Reinforce, Observe, ExpandServing, ReinforceServing, ObserveServing}
 use Rattle.refusal.specs.declared.Refusal.{Refusal}
-use Rattle.plan_defs.specs.Constants.{maxCircuitsPerCorridor}
 use Rattle.plan_defs.specs.Lists.{sum}
 use Rattle.plan_defs.specs.Stage.{Stage, stopped, going}
 use Rattle.plan_defs.specs.Case.{Case, levels, expand, promote, lowerBound, lowerBounds, fullAt, kvOf}
@@ -33,12 +32,13 @@ use Rattle.plan_defs.specs.Plan.{Plan, Ready, readyOf, planOf, closing, planFor
 use Rattle.plan_defs.specs.Demand.{capOf, kvGiven, Demand3, Tallies}
 use Rattle.plan_defs.proofs.Lists.{sum-parts, get-map}
 use Rattle.plan_defs.proofs.Stages.{On, on-onward}
-use Rattle.plan_defs.proofs.Accepted.{Accepted, accepted}
+use Rattle.plan_defs.proofs.Accepted.{Accepted, accepted, cap-few}
 use Rattle.plan_defs.proofs.Solved.{Solved, solved}
 use Rattle.plan_defs.proofs.Counts.{Built, full-cap}
 use Rattle.plan_defs.proofs.Opened.{Done, done}
 use Rattle.plan_theorems.proofs.Filling.{Grown, grown-same, rounds-grown, Ends, reached, unreached, fills}
 use Rattle.plan_theorems.proofs.Ranking.{order-once}
+use Rattle.plan_theorems.proofs.Cursor.{full-few}
 use Rattle.plan_theorems.proofs.Dispatched.{Binary, Dispatched, dispatched}
 use Rattle.plan_theorems.proofs.Ladder.{raised-kv}
 
@@ -155,29 +155,28 @@ module _ (c : Case) (target : ℕ) (ok : Accepted c target) (binary : Binary c) 
       subst (Ends (fullAt c) target (c .corridors) counts fillTurns) (sym (fill-all c target (r .order) counts e))
       (fills (fullAt c) target (c .corridors) counts (r .order)
       (subst (λ (o : List ℕ). (j : ℕ) → j < c .corridors → occ j o ≡ 1) (sym (d .order))
-      (order-once (s .build .designs) counts (d .flows) (c .corridors))) (unfilled counts) (built .size) refl)
+      (order-once (s .build .designs) counts (d .flows) (c .corridors))) fillTurns (unfilled counts) (built .size) refl)
 
   total-is : filled .total ≡ sum (filled .counts)
   total-is = omega (arith, grown .total, grown .tally)
 
-  full-is : (k : ℕ) → fullAt c k ≡ maxCircuitsPerCorridor
-  unfolding fullAt
-  full-is k = refl
+  few : (k : ℕ) → fullAt c k ≤ fillTurns
+  few = full-few c (cap-few c target ok)
 
-  short-by : Ends (fullAt c) target (c .corridors) counts fillTurns filled → sum (filled .counts) < target → (k : ℕ) → k < c .corridors → maxCircuitsPerCorridor ≤ end k
+  short-by : Ends (fullAt c) target (c .corridors) counts fillTurns filled → sum (filled .counts) < target → (k : ℕ) → k < c .corridors → fullAt c k ≤ end k
   short-by (reached p h f) q k a = absurd (omega (arith, total-is))
-  short-by (unreached h f) q k a = go (ltb (end k) maxCircuitsPerCorridor) refl
+  short-by (unreached h f) q k a = go (ltb (end k) (fullAt c k)) refl
     where
-      go : (b : Bool) → ltb (end k) maxCircuitsPerCorridor ≡ b → maxCircuitsPerCorridor ≤ end k
+      go : (b : Bool) → ltb (end k) (fullAt c k) ≡ b → fullAt c k ≤ end k
       go true e =
-          let z : end k < maxCircuitsPerCorridor = ltb-true (end k) maxCircuitsPerCorridor e in
-          absurd (omega (arith, f k a (omega (arith, full-is k))))
-      go false e = ltb-false (end k) maxCircuitsPerCorridor e
+          let z : end k < fullAt c k = ltb-true (end k) (fullAt c k) e in
+          absurd (omega (arith, f k a z, few k))
+      go false e = ltb-false (end k) (fullAt c k) e
 
-  even-by : Ends (fullAt c) target (c .corridors) counts fillTurns filled → (j k : ℕ) → j < c .corridors → k < c .corridors → end j < maxCircuitsPerCorridor
-      → end k < maxCircuitsPerCorridor → end j - getD counts j 0 ≤ end k - getD counts k 0 + 1
-  even-by (reached p h f) j k a b u w = omega (arith, f j a (omega (arith, full-is j)) .1, f k b (omega (arith, full-is k)) .0)
-  even-by (unreached h f) j k a b u w = absurd (omega (arith, f j a (omega (arith, full-is j))))
+  even-by : Ends (fullAt c) target (c .corridors) counts fillTurns filled → (j k : ℕ) → j < c .corridors → k < c .corridors → end j < fullAt c j → end k < fullAt c k
+      → end j - getD counts j 0 ≤ end k - getD counts k 0 + 1
+  even-by (reached p h f) j k a b u w = omega (arith, f j a u .1, f k b w .0)
+  even-by (unreached h f) j k a b u w = absurd (omega (arith, f j a u, few j))
 
   -- ---- the records
   mw-fine : On (Dispatched c target ok) (dispatchOf c (component c)) → Dispatched c target ok (r .mw)

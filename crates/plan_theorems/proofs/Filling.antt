@@ -7,9 +7,9 @@ use mathlib.Core.Path.{_≡_, refl, ap, _∙_, subst}
 use native.Mathlib.Nat.{le-refl}
 use native.Mathlib.Omega.{arith}
 use native.Mathlib.Decide.{ℕ-discrete}
-use borrow.Author.Tests.{ltb-true, ltb-false, lt-ltb}
+use borrow.Author.Tests.{ltb-true, ltb-false, lt-ltb, le-ltb}
 use lib.Dec.{ltb}
-use lib.ListN.{length, getD, set, length-set}
+use lib.ListN.{length, getD, set, length-set, List·getD-eq-default}
 use lib.Seq.{getD-set-other}
 use Rattle.loops.specs.Sorting.{occ}
 use Rattle.loops.proofs.Bools.{both}
@@ -198,14 +198,70 @@ module _ (full : ℕ → ℕ) (target m : ℕ) (b : List ℕ) where
         (pass p ks s (λ j a. omega (arith, named j a)) w h (λ j a c. omega (arith, e j a c, named j a)))
         (λ t w′ h′ e′. turns d (suc p) t w′ h′ e′)
 
-    pub fills : (s : Filled) → length (s .counts) ≡ m → s .counts ≡ b → Ends 4 (fillRounds 4 full target ks s)
-    fills s w e = go (ltb (s .total) target) refl
+    pub fills : (n : ℕ) (s : Filled) → length (s .counts) ≡ m → s .counts ≡ b → Ends n (fillRounds n full target ks s)
+    fills n s w e = go (ltb (s .total) target) refl
       where
         start : (j : ℕ) → getD (s .counts) j 0 ≡ getD b j 0 + 0
         start j = let z : getD (s .counts) j 0 ≡ getD b j 0 = ap (λ (l : List ℕ). getD l j 0) e in omega arith
 
-        go : (f : Bool) → ltb (s .total) target ≡ f → Ends 4 (fillRounds 4 full target ks s)
-        go true f = turns 4 0 s w (ltb-true _ _ f) (λ j a c. start j)
+        go : (f : Bool) → ltb (s .total) target ≡ f → Ends n (fillRounds n full target ks s)
+        go true f =
+            subst (λ (q : ℕ). Ends q (fillRounds n full target ks s)) (let z : 0 + n ≡ n = omega arith in z) (turns n 0 s w (ltb-true _ _ f) (λ j a c. start j))
         go false f =
             let h : target ≤ s .total = ltb-false _ _ f in
-            rw (full-rounds full target 4 ks s h) (reached 0 h (λ j a c. (omega (arith, start j), omega (arith, start j))))
+            rw (full-rounds full target n ks s h) (reached 0 h (λ j a c. (omega (arith, start j), omega (arith, start j))))
+
+-- ---- where no corridor is given more than n, n turns are enough
+module _ (full : ℕ → ℕ) (target m n : ℕ) (few : (k : ℕ) → full k ≤ n) (b : List ℕ) where
+  -- not reached after n turns: every corridor is full
+  pub all-full : (t : Filled) → length (t .counts) ≡ m → ((j : ℕ) → j < m → getD (t .counts) j 0 < full j → getD (t .counts) j 0 ≡ getD b j 0 + n)
+      → (k : ℕ) → belowFull full k t ≡ false
+  all-full t len f k = go (ltb k m) refl
+    where
+      here : k < m → (x : Bool) → belowFull full k t ≡ x → x ≡ false
+      here h true e =
+          let l : k < length (t .counts) = omega (arith, len) in
+          let d = any-default (full k) (t .counts) k l in
+          let q : getD (t .counts) k (full k) < full k = ltb-true _ _ e in
+          absurd (omega (arith, f k h (omega arith), few k))
+      here h false e = refl
+
+      go : (x : Bool) → ltb k m ≡ x → belowFull full k t ≡ false
+      go true e = here (ltb-true k m e) (belowFull full k t) refl
+      go false e =
+          let l : length (t .counts) ≤ k = (let z = ltb-false k m e in omega (arith, len)) in
+          ap (λ (x : ℕ). ltb x (full k)) (List·getD-eq-default (t .counts) (full k) l) ∙ le-ltb (full k) (full k) (let z : full k ≤ full k = omega arith in z)
+
+  shut-once : (ks : List ℕ) (t : Filled) → ((k : ℕ) → belowFull full k t ≡ false) → fillOnce full target ks t ≡ t
+  unfolding fillOnce each
+  shut-once [] t h = refl
+  shut-once (k ∷ ks) t h =
+      ap (λ (x : Bool). each (fillAt full target) ks (fillIf (ltb (t .total) target && x) k t)) (h k)
+      ∙ ap (λ (x : Bool). each (fillAt full target) ks (fillIf x k t)) (none (ltb (t .total) target))
+      ∙ shut-once ks t h
+    where
+      none : (x : Bool) → (x && false) ≡ false
+      none true = refl
+      none false = refl
+
+  shut-rounds : (d : ℕ) (ks : List ℕ) (t : Filled) → ((k : ℕ) → belowFull full k t ≡ false) → fillRounds d full target ks t ≡ t
+  unfolding fillRounds
+  shut-rounds zero ks t h = refl
+  shut-rounds (suc d) ks t h = ap (fillRounds d full target ks) (shut-once ks t h) ∙ shut-rounds d ks t h
+
+  rounds-more : (e d : ℕ) (ks : List ℕ) (s : Filled) → fillRounds (e + d) full target ks s ≡ fillRounds d full target ks (fillRounds e full target ks s)
+  unfolding fillRounds
+  rounds-more zero d ks s = ap (λ (i : ℕ). fillRounds i full target ks s) (let z : 0 + d ≡ d = omega arith in z)
+  rounds-more (suc e) d ks s =
+      ap (λ (i : ℕ). fillRounds i full target ks s) (let z : suc e + d ≡ suc (e + d) = omega arith in z) ∙ rounds-more e d ks (fillOnce full target ks s)
+
+  pub turns-enough : (d : ℕ) (ks : List ℕ) → ((j : ℕ) → j < m → occ j ks ≡ 1) → (s : Filled) → length (s .counts) ≡ m → s .counts ≡ b
+      → fillRounds (n + d) full target ks s ≡ fillRounds n full target ks s
+  turns-enough d ks named s w e = rounds-more n d ks s ∙ go (fills full target m b ks named n s w e)
+    where
+      t : Filled
+      t = fillRounds n full target ks s
+
+      go : Ends full target m b n t → fillRounds d full target ks t ≡ t
+      go (reached p h f) = full-rounds full target d ks t h
+      go (unreached h f) = shut-rounds d ks t (all-full t (rounds-grown full target n ks s .size ∙ w) f)

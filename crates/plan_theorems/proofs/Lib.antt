@@ -12,6 +12,7 @@ pub mod Tally
 pub mod Larger
 pub mod Naming
 pub mod Preview
+pub mod Uncapped
 pub mod Outcomes
 pub mod Joined
 pub mod Demanded

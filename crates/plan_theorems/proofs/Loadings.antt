@@ -18,15 +18,15 @@ use Rattle.loops.proofs.Order.{real, bounded-real, finite-bounded, le-of-lt, le
 use Rattle.loops.proofs.Scan.{all-pass}
 use Rattle.loops.proofs.Signs.{div-real}
 use Rattle.leaders.specs.Operation.{corridorOk}
-use Rattle.plan_defs.specs.Constants.{transformerMinMva, mostInitial, subtransmissionKv}
-use Rattle.plan_defs.specs.Case.{Case, levels, levelOf, rowAt, kvHigh, lowerBound, circuitCap, capAt, firstLevels, endA, endB, promote}
+use Rattle.plan_defs.specs.Constants.{transformerMinMva, mostInitial, mostCap, subtransmissionKv}
+use Rattle.plan_defs.specs.Case.{Case, levels, levelOf, rowAt, kvHigh, lowerBound, ownCap, circuitCap, capAt, firstLevels, endA, endB, promote}
 use Rattle.plan_defs.specs.Accept.{levelOk, corridorSound}
 use Rattle.plan_defs.specs.Demand.{capOf}
 use Rattle.plan_defs.specs.Design.{lineOf, lineAt, bankRate, withBank, setTransformerMva, bankedBy, stepsDown, drawn, design}
 use Rattle.plan_defs.specs.Plan.{Ready, readyOf}
 use Rattle.plan_defs.specs.declared.CircuitDesign.{CircuitDesign}
 use Rattle.plan_defs.proofs.Stages.{On, on-map}
-use Rattle.plan_defs.proofs.Accepted.{Accepted, from-below, initial-few, row-sound}
+use Rattle.plan_defs.proofs.Accepted.{Accepted, from-below, initial-few, own-few, cap-few, row-sound}
 use Rattle.plan_defs.proofs.Drawn.{drawn-size, drawn-here, design-kv}
 use Rattle.plan_defs.proofs.Rising.{Risen, risen-below}
 use Rattle.plan_defs.proofs.Opened.{Done, done}
@@ -128,7 +128,8 @@ module _ (c : Case) (target : ℕ) (ok : Accepted c target) (level : List ℕ) (
   spans =
       let p = both (corridorOk (c .buses) (endA c k) (endB c k)) _ (ok .corridor-ok k h) in
       let q = both (leb (getD (c .circuits) k 0) mostInitial) _ (p .1) in
-      both (inside nought tenThousand (at (c .km) k)) (inside half one (at (c .share) k)) (q .1)
+      let u = both (inside nought tenThousand (at (c .km) k)) _ (q .1) in
+      (u .0, both (inside half one (at (c .share) k)) _ (u .1) .0)
 
   rate-by : (b : Bool) (a : Float) → lt a transformerMinMva ≡ false → inside lowRate highRate (bankedBy b (lineAt c level k) a .«rate_a») ≡ true
   unfolding setTransformerMva withBank lineAt lineOf
@@ -163,9 +164,9 @@ module _ (c : Case) (target : ℕ) (ok : Accepted c target) (level : List ℕ) (
   km-real : T (real (at (c .km) k))
   km-real = right-real nought (at (c .km) k) (both (le nought (at (c .km) k)) _ (spans .0) .0)
 
-cap-few : (c : Case) (k : ℕ) → capOf c k ≤ 6
+most-few : (c : Case) (k : ℕ) → ownCap c k ≤ mostCap → capOf c k ≤ 6
 unfolding capOf capAt circuitCap
-cap-few c k = go (not (promote (c .mode)) && lt (kvHigh c (firstLevels c) k) subtransmissionKv)
+most-few c k h = own-few (ownCap c k) _ h (go (not (promote (c .mode)) && lt (kvHigh c (firstLevels c) k) subtransmissionKv))
   where
     go : (b : Bool) → cond b 6 4 ≤ 6
     go true = omega arith
@@ -183,7 +184,7 @@ module _ (c : Case) (target : ℕ) (ok : Accepted c target) (r : Ready) (d : Don
   unfolding lowerBound
   few k h =
       let b = d .ran .sound .built in
-      (omega (arith, b .low k h), omega (arith, b .high k h, cap-few c k, initial-few c target ok k h))
+      (omega (arith, b .low k h), omega (arith, b .high k h, most-few c k (cap-few c target ok k), initial-few c target ok k h))
 
   real-at : (k : ℕ) → k < c .corridors → Real ds counts (d .flows) k
   real-at k h =

@@ -45,6 +45,7 @@ pub record Lengths (c : Case) (s : Slices) : Type 0 where
   pub rate : length (s .rate) ≡ c .corridors
   pub before : length (s .before) ≡ c .corridors
   pub order : length (s .order) ≡ c .corridors
+  pub cap : length (s .cap) ≡ c .corridors
   pub mw : length (s .mw) ≡ c .generators
   pub angle : length (s .angle) ≡ c .buses
   pub tier : length (s .tier) ≡ c .buses
@@ -61,11 +62,12 @@ lengths-of c s h =
     let h₃ = both (eqb (length (s .rate)) (c .corridors)) _ (h₂ .1) in
     let h₄ = both (eqb (length (s .before)) (c .corridors)) _ (h₃ .1) in
     let h₅ = both (eqb (length (s .order)) (c .corridors)) _ (h₄ .1) in
-    let h₆ = both (eqb (length (s .mw)) (c .generators)) _ (h₅ .1) in
-    let h₇ = both (eqb (length (s .angle)) (c .buses)) _ (h₆ .1) in
-    let h₈ = both (eqb (length (s .tier)) (c .buses)) _ (h₇ .1) in
-    let h₉ = both (eqb (length (s .ground)) (c .buses)) _ (h₈ .1) in
-    let g₁ = both (eqb (length (s .added)) (c .above)) _ (h₉ .1) in
+    let h₆ = both (eqb (length (s .cap)) (c .corridors)) _ (h₅ .1) in
+    let h₇ = both (eqb (length (s .mw)) (c .generators)) _ (h₆ .1) in
+    let h₈ = both (eqb (length (s .angle)) (c .buses)) _ (h₇ .1) in
+    let h₉ = both (eqb (length (s .tier)) (c .buses)) _ (h₈ .1) in
+    let g₀ = both (eqb (length (s .ground)) (c .buses)) _ (h₉ .1) in
+    let g₁ = both (eqb (length (s .added)) (c .above)) _ (g₀ .1) in
     let g₂ = both (eqb (length (s .figures)) (workPlaces c)) _ (g₁ .1) in
     record {
       circuits = eqb-true _ _ (h₁ .0);
@@ -73,10 +75,11 @@ lengths-of c s h =
       rate = eqb-true _ _ (h₃ .0);
       before = eqb-true _ _ (h₄ .0);
       order = eqb-true _ _ (h₅ .0);
-      mw = eqb-true _ _ (h₆ .0);
-      angle = eqb-true _ _ (h₇ .0);
-      tier = eqb-true _ _ (h₈ .0);
-      ground = eqb-true _ _ (h₉ .0);
+      cap = eqb-true _ _ (h₆ .0);
+      mw = eqb-true _ _ (h₇ .0);
+      angle = eqb-true _ _ (h₈ .0);
+      tier = eqb-true _ _ (h₉ .0);
+      ground = eqb-true _ _ (g₀ .0);
       added = eqb-true _ _ (g₁ .0);
       figures = eqb-true _ _ (g₂ .0);
       counts = eqb-true _ _ (g₂ .1);
@@ -90,10 +93,11 @@ lengths-ok c s l =
     (and-of (eq-eqb _ _ (l .rate))
     (and-of (eq-eqb _ _ (l .before))
     (and-of (eq-eqb _ _ (l .order))
+    (and-of (eq-eqb _ _ (l .cap))
     (and-of (eq-eqb _ _ (l .mw))
     (and-of (eq-eqb _ _ (l .angle))
     (and-of (eq-eqb _ _ (l .tier))
-    (and-of (eq-eqb _ _ (l .ground)) (and-of (eq-eqb _ _ (l .added)) (and-of (eq-eqb _ _ (l .figures)) (eq-eqb _ _ (l .counts))))))))))))
+    (and-of (eq-eqb _ _ (l .ground)) (and-of (eq-eqb _ _ (l .added)) (and-of (eq-eqb _ _ (l .figures)) (eq-eqb _ _ (l .counts)))))))))))))
 
 pub cleared-lengths : (c : Case) → Lengths c (cleared c)
 cleared-lengths c =
@@ -103,6 +107,7 @@ cleared-lengths c =
       rate = length-replicate (c .corridors) nought;
       before = length-replicate (c .corridors) 0;
       order = length-replicate (c .corridors) 0;
+      cap = length-replicate (c .corridors) 0;
       mw = length-replicate (c .generators) nought;
       angle = length-replicate (c .buses) nought;
       tier = length-replicate (c .buses) 0;

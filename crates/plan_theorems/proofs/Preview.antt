@@ -17,7 +17,7 @@ use Rattle.loops.proofs.Scan.{all-pass, pass-all}
 use Rattle.refusal.specs.declared.Refusal.{Refusal}
 use Rattle.refusal.specs.declared.Refusal.the-variants.{Length, Count, Corridor, Mode, Order}
 use Rattle.refusal.specs.declared.Answer.the-variants.{Answered}
-use Rattle.plan_defs.specs.Constants.{mostCorridors, mostTarget, mostInitial}
+use Rattle.plan_defs.specs.Constants.{mostCorridors, mostTarget, mostInitial, mostCap}
 use Rattle.plan_defs.specs.Case.{Case, promote, lowerBound, fullAt}
 use Rattle.plan_defs.specs.Accept.{firstFault}
 use Rattle.plan_defs.specs.Demand.{AnswerTo}
@@ -27,11 +27,11 @@ use Rattle.plan_defs.specs.Plan.{Plan, Ready, planned, endingOf}
 use Rattle.plan_defs.specs.Preview.{Kept, keptAs, lengthsOk, countsOk, countOk, differsAt, firstNamed, placeOk, keptFault, previewFault, refilled, outcome, previewBy, preview}
 use Rattle.plan_defs.specs.declared.CorridorPlan.{CorridorPlan}
 use Rattle.plan_defs.proofs.Stages.{On}
-use Rattle.plan_defs.proofs.Accepted.{Accepted, accepted, initial-few, passes}
+use Rattle.plan_defs.proofs.Accepted.{Accepted, accepted, initial-few, cap-few, passes}
 use Rattle.plan_defs.proofs.Counts.{full-cap}
 use Rattle.plan_defs.proofs.Opened.{Done, done}
 use Rattle.plan_theorems.proofs.Ranking.{order-once, order-past}
-use Rattle.plan_theorems.proofs.Cursor.{order-length}
+use Rattle.plan_theorems.proofs.Cursor.{full-few, order-length}
 use Rattle.plan_theorems.proofs.Naming.{Apart, Below, once-below, once-apart, names-each}
 use Rattle.plan_theorems.proofs.Larger.{Origin, answer-of, origin, refill}
 
@@ -39,11 +39,12 @@ use Rattle.plan_theorems.proofs.Larger.{Origin, answer-of, origin, refi
 pub record Sound (p : Kept) (target places : ℕ) : Type 0 where
   pub before : length (p .before) ≡ p .corridors
   pub order : length (p .order) ≡ p .corridors
+  pub cap : length (p .cap) ≡ p .corridors
   pub places-are : places ≡ p .corridors
   pub few-corridors : p .corridors ≤ mostCorridors
   pub low-target : target ≤ mostTarget
   pub fills : promote (p .mode) ≡ true
-  pub counts : (k : ℕ) → k < p .corridors → (1 ≤ getD (p .before) k 0) × (getD (p .before) k 0 ≤ mostInitial)
+  pub counts : (k : ℕ) → k < p .corridors → (1 ≤ getD (p .before) k 0) × (getD (p .before) k 0 ≤ mostInitial) × (getD (p .cap) k 0 ≤ mostCap)
   pub named : Below (p .corridors) (p .order)
   pub apart : Apart (p .order)
 
@@ -80,6 +81,7 @@ module _ (p : Kept) (target places : ℕ) where
   kept-of true true x y true z e =
       let l = both (eqb (length (p .before)) (p .corridors)) _ x in
       let m = both (eqb (length (p .order)) (p .corridors)) _ (l .1) in
+      let q = both (eqb (length (p .cap)) (p .corridors)) _ (m .1) in
       let n = both (leb (p .corridors) mostCorridors) _ y in
       let k = passes (countOk p) Corridor (p .corridors) _ e in
       let o = passes (placeOk p) Order (p .corridors) _ (k .1) in
@@ -87,11 +89,15 @@ module _ (p : Kept) (target places : ℕ) where
       record {
         before = eqb-true _ _ (l .0);
         order = w;
-        places-are = eqb-true _ _ (m .1);
+        cap = eqb-true _ _ (q .0);
+        places-are = eqb-true _ _ (q .1);
         few-corridors = leb-true (p .corridors) mostCorridors (n .0);
         low-target = leb-true target mostTarget (n .1);
         fills = z;
-        counts = λ j h. (let q = both (leb 1 (getD (p .before) j 0)) _ (k .0 j h) in (leb-true _ _ (q .0), leb-true _ _ (q .1)));
+        counts = λ j h.
+            (let u = both (leb 1 (getD (p .before) j 0)) _ (k .0 j h) in
+            let v = both (leb (getD (p .before) j 0) mostInitial) _ (u .1) in
+            (leb-true _ _ (u .0), leb-true _ _ (v .0), leb-true _ _ (v .1)));
         named = λ j h. ltb-true _ _ (both (ltb (getD (p .order) j 0) (p .corridors)) _ (o .0 j (omega arith)) .0);
         apart = λ i j h q. names-first (p .order) j (both (ltb (getD (p .order) j 0) (p .corridors)) _ (o .0 j (omega arith)) .1) i h;
       }
@@ -108,14 +114,14 @@ module _ (p : Kept) (target places : ℕ) where
   pub passes-all : Sound p target places → previewFault p target places ≡ none
   unfolding previewFault lengthsOk keptFault
   passes-all s =
-      let l : (eqb (length (p .before)) (p .corridors) && (eqb (length (p .order)) (p .corridors) && eqb places (p .corridors))) ≡ true =
-      and-of (eq-eqb _ _ (s .before)) (and-of (eq-eqb _ _ (s .order)) (eq-eqb _ _ (s .places-are))) in
+      let l : (eqb (length (p .before)) (p .corridors) && (eqb (length (p .order)) (p .corridors) && (eqb (length (p .cap)) (p .corridors) && eqb places (p .corridors)))) ≡ true =
+      and-of (eq-eqb _ _ (s .before)) (and-of (eq-eqb _ _ (s .order)) (and-of (eq-eqb _ _ (s .cap)) (eq-eqb _ _ (s .places-are)))) in
       let n : countsOk p target ≡ true = and-of (le-leb _ _ (s .few-corridors)) (le-leb _ _ (s .low-target)) in
       ap (λ (b : Bool). cond b (cond (countsOk p target) (cond (promote (p .mode)) (keptFault p) (some Mode)) (some Count)) (some Length)) l
       ∙ ap (λ (b : Bool). cond b (cond (promote (p .mode)) (keptFault p) (some Mode)) (some Count)) n
       ∙ ap (λ (b : Bool). cond b (keptFault p) (some Mode)) (s .fills)
       ∙ none-faulty (countOk p) Corridor (p .corridors) (firstFault (placeOk p) Order (p .corridors) none)
-      (λ k h. and-of (le-leb _ _ (s .counts k h .0)) (le-leb _ _ (s .counts k h .1)))
+      (λ k h. and-of (le-leb _ _ (s .counts k h .0)) (and-of (le-leb _ _ (s .counts k h .1)) (le-leb _ _ (s .counts k h .2))))
       ∙ none-faulty (placeOk p) Order (p .corridors) none
       (λ j h. and-of (lt-ltb _ _ (s .named j (omega (arith, s .order)))) (first-names (p .order) j (λ i q. s .apart i j q (omega (arith, s .order)))))
 
@@ -128,10 +134,10 @@ named-once p target places e =
 -- ---- what a plan keeps passes
 module _ (c : Case) (fills : promote (c .mode) ≡ true) where
   abbrev keptBy : Plan → Kept
-  keptBy p = keptAs (c .mode) (c .corridors) (p .before) (p .order)
+  keptBy p = keptAs (c .mode) (c .corridors) (p .before) (p .order) (c .cap)
 
   plan-sound : (t u : ℕ) (p : Plan) → Accepted c u → (r : Ready) → Done c r → Origin c t p r → Sound (keptBy p) u (c .corridors)
-  unfolding lowerBound fullAt
+  unfolding lowerBound
   plan-sound t u p ok r d o =
       let b = d .ran .sound .built in
       let counts = r .draft .build .circuits in
@@ -141,13 +147,14 @@ module _ (c : Case) (fills : promote (c .mode) ≡ true) where
       record {
         before = ap length (o .before) ∙ b .size;
         order = ap length order-is ∙ order-length (r .draft .build .designs) counts (d .flows) (c .corridors);
+        cap = ok .columns .cap;
         places-are = refl;
         few-corridors = ok .counts .few-corridors;
         low-target = ok .counts .low-target;
         fills = fills;
         counts = λ k h.
             let e : getD (p .before) k 0 ≡ getD counts k 0 = ap (λ (l : List ℕ). getD l k 0) (o .before) in
-            (omega (arith, b .low k h), omega (arith, b .high k h, full-cap c fills k, initial-few c u ok k h));
+            (omega (arith, b .low k h), omega (arith, b .high k h, full-cap c fills k, full-few c (cap-few c u ok) k, initial-few c u ok k h), cap-few c u ok k);
         named = below;
         apart = subst Apart (sym order-is)
             (once-apart (c .corridors) _ (subst (Below (c .corridors)) order-is below) (order-once (r .draft .build .designs) counts (d .flows) (c .corridors)));
@@ -173,7 +180,7 @@ module _ (c : Case) (fills : promote (c .mode) ≡ true) where
 -- the same of what two calls of planning answer and leave: in the terms of their promise
 pub preview-answers : (c : Case) (t u : ℕ) (o v : Outcome) (x y : CorridorPlan) → promote (c .mode) ≡ true → AnswerTo c t o x → AnswerTo c u v y
     → (lent : List ℕ) → length lent ≡ c .corridors
-    → preview (keptAs (c .mode) (c .corridors) (o .lent .before) (o .lent .order)) u lent ≡ outcome Answered (v .lent .circuits)
+    → preview (keptAs (c .mode) (c .corridors) (o .lent .before) (o .lent .order) (o .lent .cap)) u lent ≡ outcome Answered (v .lent .circuits)
 unfolding held
 preview-answers c t u o v x y fills a b lent n =
     let p = a .plan in
@@ -181,8 +188,10 @@ preview-answers c t u o v x y fills a b lent n =
     let k : (l : List ℕ) → keptIf (promote (c .mode)) (c .corridors) l ≡ l = λ l. ap (λ (z : Bool). keptIf z (c .corridors) l) fills in
     let e : o .lent .before ≡ p .before = ap (λ (s : Slices). s .before) (a .lent) ∙ k (p .before) in
     let f : o .lent .order ≡ p .order = ap (λ (s : Slices). s .order) (a .lent) ∙ k (p .order) in
+    let w : o .lent .cap ≡ c .cap = ap (λ (s : Slices). s .cap) (a .lent) in
     let g : v .lent .circuits ≡ q .circuits = ap (λ (s : Slices). s .circuits) (b .lent) in
-    ap (λ (l : List ℕ). preview (keptAs (c .mode) (c .corridors) l (o .lent .order)) u lent) e
-    ∙ ap (λ (l : List ℕ). preview (keptAs (c .mode) (c .corridors) (p .before) l) u lent) f
+    ap (λ (l : List ℕ). preview (keptAs (c .mode) (c .corridors) l (o .lent .order) (o .lent .cap)) u lent) e
+    ∙ ap (λ (l : List ℕ). preview (keptAs (c .mode) (c .corridors) (p .before) l (o .lent .cap)) u lent) f
+    ∙ ap (λ (l : List ℕ). preview (keptAs (c .mode) (c .corridors) (p .before) (p .order) l) u lent) w
     ∙ previews c fills t u p q (a .ending) (b .ending) lent n
     ∙ ap (outcome Answered) (sym g)

@@ -41,7 +41,7 @@ class mva = bits (zOf mva ∷ xOverR mva ∷ [])
 
 -- ★6: two buses at tiers 1 and 3 and a corridor between them
 abbrev pair : Case
-pair = caseOf Expand 2 1 0 0 4 [] (1 ∷ 3 ∷ []) [] [] [] [] [] [] [] (0 ∷ []) (1 ∷ []) (1 ∷ []) [] [] []
+pair = caseOf Expand 2 1 0 0 4 [] (1 ∷ 3 ∷ []) [] [] [] [] [] [] [] (0 ∷ []) (1 ∷ []) (1 ∷ []) [] [] [] []
 
 -- ★7
 abbrev cap : PlanMode → Float → ℕ
@@ -54,7 +54,7 @@ line = nought ∷ decimal 1 10 ∷ nought ∷ hundred ∷ nought ∷ []
 abbrev row : Case
 row =
     caseOf Expand 4 3 0 0 1 (whole 138 ∷ []) (0 ∷ 0 ∷ 0 ∷ 0 ∷ []) (replicate 4 nought) [] [] [] [] [] [] (0 ∷ 1 ∷ 2 ∷ []) (1 ∷ 2 ∷ 3 ∷ []) (1 ∷ 4 ∷ 2 ∷ [])
-    (whole 10 ∷ whole 20 ∷ whole 30 ∷ []) (replicate 3 one) (line ++ line ++ line)
+    (whole 10 ∷ whole 20 ∷ whole 30 ∷ []) (replicate 3 one) (replicate 3 0) (line ++ line ++ line)
 
 -- filler, then circuits
 abbrev filledIn : Ending → List ℕ

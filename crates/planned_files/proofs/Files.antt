@@ -36,7 +36,7 @@ in-table a e = omega arith
 abbrev pub parts : Places → ℕ → ℕ → ℕ → ℕ → ℕ → Places
 parts p l n g m s =
     placesOf (take l (p .ladder)) (take n (p .tier)) (take n (p .load)) (take g (p .bus)) (take g (p .slack)) (take g (p .pmin)) (take g (p .pmax)) (take g (p .c1))
-    (take g (p .c2)) (take m (p .a)) (take m (p .b)) (take m (p .circuits)) (take m (p .lengthKm)) (take m (p .share)) (take s (p .sheet))
+    (take g (p .c2)) (take m (p .a)) (take m (p .b)) (take m (p .circuits)) (take m (p .lengthKm)) (take m (p .share)) (take m (p .cap)) (take s (p .sheet))
 
 same-parts : (p : Places) {l n g m s l₀ n₀ g₀ m₀ s₀ : ℕ} → l ≡ l₀ → n ≡ n₀ → g ≡ g₀ → m ≡ m₀ → s ≡ s₀ → parts p l n g m s ≡ parts p l₀ n₀ g₀ m₀ s₀
 same-parts p a b c d e = cc
@@ -50,7 +50,7 @@ module _ (s : List ℕ) where
   -- by what is said, in numbers
   abbrev filedReply : Reply Header → Places → Filed
   filedReply (answered h) p = filed h (planOf (caseIn h p) (h .target))
-  filedReply (refused n i) p = filed none (record { reply = refused n i; lent = results [] [] [] [] [] [] [] [] [] [] })
+  filedReply (refused n i) p = filed none (record { reply = refused n i; lent = results [] [] [] [] [] [] [] [] [] [] [] })
 
   abbrev filedOut : ReadOutcome → Filed
   filedOut o = filedReply (o .reply) (o .places)

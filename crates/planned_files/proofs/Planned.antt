@@ -9,12 +9,14 @@ use lib.ListN.{length, take, drop, replicate, length-append, length-drop, length
 use lib.Seq.{take-at}
 use Rattle.loops.specs.Figures.{nought}
 use Rattle.loops.proofs.Fronts.{front-replicate}
+use Rattle.casefile_defs.specs.Tables.{Places}
+use Rattle.casefile_defs.specs.declared.Header.{Header}
 use Rattle.casefile_defs.specs.Bounds.{mostBuses, mostCorridors, mostGenerators, mostLevels}
 use Rattle.plan_defs.specs.Case.{Case}
 use Rattle.plan_defs.specs.Outcome.{Slices, slices, workPlaces, cleared, outcome, outcomeIf, planCorridors}
 use Rattle.plan_defs.specs.declared.Planned.{Planned}
 use Rattle.plan_theorems.proofs.Outcomes.{lengths-ok, cleared-lengths}
-use Rattle.planned_files.specs.Files.{results, resultsOf, planOf}
+use Rattle.planned_files.specs.Files.{caseAs, results, resultsOf, planOf, filed}
 
 -- ---- parts of arrays
 -- the first n places of an array that is zero, as a part is lent
@@ -49,7 +51,7 @@ lent c =
     let n = c .buses in
     let m = c .corridors in
     slices (part m mostCorridors 0) (part m mostCorridors nought) (part m mostCorridors nought) (part m mostCorridors 0) (part m mostCorridors 0)
-    (part (c .generators) mostGenerators nought) (part n mostBuses nought) (part n mostBuses 0) (part n mostBuses 0) (part (c .above) mostLevels nought)
+    (part m mostCorridors 0) (part (c .generators) mostGenerators nought) (part n mostBuses nought) (part n mostBuses 0) (part n mostBuses 0) (part (c .above) mostLevels nought)
     (part (workPlaces c) mostWork nought) (part (workPlaces c) mostWork 0)
 
 pub lent-cleared : (c : Case) → Fits c → lent c ≡ cleared c
@@ -65,7 +67,7 @@ lent-cleared c f =
       front-replicate {A = ℕ} mostWork (workPlaces c) 0 (f .work),
     )
 
-pub as-planned : (c : Case) (target : ℕ) (l : Slices) (r : Planned) → Fits c → outcome r l ≡ planCorridors c target (lent c) → resultsOf (outcome r l) ≡ planOf c target
+as-planned : (c : Case) (target : ℕ) (l : Slices) (r : Planned) → Fits c → outcome r l ≡ planCorridors c target (lent c) → resultsOf (outcome r l) ≡ planOf c target
 unfolding planCorridors
 as-planned c target l r f e =
     ap resultsOf
@@ -74,7 +76,15 @@ as-planned c target l r f e =
     ∙ ap (λ (b : Bool). outcomeIf b c target (cleared c)) (lengths-ok c (cleared c) (cleared-lengths c)))
 
 -- ---- the arrays, by what came back in the first places of each
-pub same-results : {a₀ a : List ℕ} {b₀ b c₀ c : List Float} {d₀ d e₀ e : List ℕ} {f₀ f g₀ g : List Float} {h₀ h i₀ i : List ℕ} {j₀ j : List Float} (r : Planned)
-    → a₀ ≡ a → b₀ ≡ b → c₀ ≡ c → d₀ ≡ d → e₀ ≡ e → f₀ ≡ f → g₀ ≡ g → h₀ ≡ h → i₀ ≡ i → j₀ ≡ j
-    → outcome r (results a₀ b₀ c₀ d₀ e₀ f₀ g₀ h₀ i₀ j₀) ≡ outcome r (results a b c d e f g h i j)
-same-results r p1 p2 p3 p4 p5 p6 p7 p8 p9 p10 = cc
+same-results : {a₀ a : List ℕ} {b₀ b c₀ c : List Float} {d₀ d e₀ e f₀ f : List ℕ} {g₀ g h₀ h : List Float} {i₀ i j₀ j : List ℕ} {k₀ k : List Float} (r : Planned)
+    → a₀ ≡ a → b₀ ≡ b → c₀ ≡ c → d₀ ≡ d → e₀ ≡ e → f₀ ≡ f → g₀ ≡ g → h₀ ≡ h → i₀ ≡ i → j₀ ≡ j → k₀ ≡ k
+    → outcome r (results a₀ b₀ c₀ d₀ e₀ f₀ g₀ h₀ i₀ j₀ k₀) ≡ outcome r (results a b c d e f g h i j k)
+same-results r p1 p2 p3 p4 p5 p6 p7 p8 p9 p10 p11 = cc
+
+pub filed-planned : {a₀ : List ℕ} {b₀ c₀ : List Float} {d₀ e₀ f₀ : List ℕ} {g₀ h₀ : List Float} {i₀ j₀ : List ℕ} {k₀ : List Float} (h : Header) (p : Places) (r : Planned) (l : Slices)
+    → a₀ ≡ l .circuits → b₀ ≡ l .flow → c₀ ≡ l .rate → d₀ ≡ l .before → e₀ ≡ l .order → f₀ ≡ l .cap → g₀ ≡ l .mw → h₀ ≡ l .angle → i₀ ≡ l .tier → j₀ ≡ l .ground → k₀ ≡ l .added
+    → Fits (caseAs h p) → outcome r l ≡ planCorridors (caseAs h p) (h .target) (lent (caseAs h p))
+    → filed h (outcome r (results a₀ b₀ c₀ d₀ e₀ f₀ g₀ h₀ i₀ j₀ k₀)) ≡ filed h (planOf (caseAs h p) (h .target))
+filed-planned h p r l e1 e2 e3 e4 e5 e6 e7 e8 e9 e10 e11 f e =
+    ap (filed h)
+    (same-results r e1 e2 e3 e4 e5 e6 e7 e8 e9 e10 e11 ∙ as-planned (caseAs h p) (h .target) l r f e)

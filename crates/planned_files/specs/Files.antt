@@ -24,7 +24,7 @@ use Rattle.planned_files.specs.declared.PlannedFile.{PlannedFile}
 abbrev pub caseAs : Header → Places → Case
 caseAs h p =
     caseOf (h .mode) (h .buses) (h .corridors) (h .generators) (h .above) (h .requested) (p .ladder) (p .tier) (p .load) (p .bus) (p .slack) (p .pmin) (p .pmax)
-    (p .c1) (p .c2) (p .a) (p .b) (p .circuits) (p .lengthKm) (p .share) (p .sheet)
+    (p .c1) (p .c2) (p .a) (p .b) (p .circuits) (p .lengthKm) (p .share) (p .cap) (p .sheet)
 
 -- in tables of any size: of each the places of the header's records
 abbrev pub caseIn : Header → Places → Case
@@ -34,18 +34,18 @@ caseIn h p =
     let m = h .corridors in
     caseOf (h .mode) n m g (h .above) (h .requested) (take (levels h) (p .ladder)) (take n (p .tier)) (take n (p .load)) (take g (p .bus)) (take g (p .slack))
     (take g (p .pmin)) (take g (p .pmax)) (take g (p .c1)) (take g (p .c2)) (take m (p .a)) (take m (p .b)) (take m (p .circuits)) (take m (p .lengthKm)) (take m (p .share))
-    (take (lines h * rowFigures) (p .sheet))
+    (take m (p .cap)) (take (lines h * rowFigures) (p .sheet))
 
 -- ---- what is said, and the results; work is none
-abbrev pub results : List ℕ → List Float → List Float → List ℕ → List ℕ → List Float → List Float → List ℕ → List ℕ → List Float → Slices
-results circuits flow rate before order mw angle tier ground added = slices circuits flow rate before order mw angle tier ground added [] []
+abbrev pub results : List ℕ → List Float → List Float → List ℕ → List ℕ → List ℕ → List Float → List Float → List ℕ → List ℕ → List Float → Slices
+results circuits flow rate before order cap mw angle tier ground added = slices circuits flow rate before order cap mw angle tier ground added [] []
 
 abbrev pub resultsOf : Outcome → Outcome
 resultsOf o =
     let l = o .lent in
     record {
       reply = o .reply;
-      lent = results (l .circuits) (l .flow) (l .rate) (l .before) (l .order) (l .mw) (l .angle) (l .tier) (l .ground) (l .added);
+      lent = results (l .circuits) (l .flow) (l .rate) (l .before) (l .order) (l .cap) (l .mw) (l .angle) (l .tier) (l .ground) (l .added);
     }
 
 -- a case, planned in slices that are zero
@@ -61,7 +61,7 @@ abbrev pub filed : Header → Outcome → Filed
 filed h o = record { header = h; plan = o }
 
 abbrev pub planRead : List ℕ → Reading → Outcome
-planRead s (Unread f) = outcome (Refused f) (results [] [] [] [] [] [] [] [] [] [])
+planRead s (Unread f) = outcome (Refused f) (results [] [] [] [] [] [] [] [] [] [] [])
 planRead s (Read h) = planOf (caseIn h (tablesOf s h)) (h .target)
 
 unfoldable pub planFile : List ℕ → Filed
@@ -74,8 +74,8 @@ filedOf r =
     let m = r .header .corridors in
     filed (r .header)
     (outcome (r .planned)
-    (results (take m (r .circuits)) (take m (r .flow)) (take m (r .rate)) (take m (r .before)) (take m (r .order)) (take (r .header .generators) (r .mw))
-    (take n (r .angle)) (take n (r .tier)) (take n (r .ground)) (take (r .header .above) (r .added))))
+    (results (take m (r .circuits)) (take m (r .flow)) (take m (r .rate)) (take m (r .before)) (take m (r .order)) (take m (r .cap))
+    (take (r .header .generators) (r .mw)) (take n (r .angle)) (take n (r .tier)) (take n (r .ground)) (take (r .header .above) (r .added))))
 
 -- each array has its largest size, as its type says
 pub record Sized (r : PlannedFile) : Type 0 where
@@ -84,6 +84,7 @@ pub record Sized (r : PlannedFile) : Type 0 where
   pub rate : length (r .rate) ≡ mostCorridors
   pub before : length (r .before) ≡ mostCorridors
   pub order : length (r .order) ≡ mostCorridors
+  pub cap : length (r .cap) ≡ mostCorridors
   pub mw : length (r .mw) ≡ mostGenerators
   pub angle : length (r .angle) ≡ mostBuses
   pub tier : length (r .tier) ≡ mostBuses

@@ -33,6 +33,7 @@ pub struct PlannedFile {
     pub rate: [f64; MOST_CORRIDORS],
     pub before: [u32; MOST_CORRIDORS],
     pub order: [u32; MOST_CORRIDORS],
+    pub cap: [u32; MOST_CORRIDORS],
     pub mw: [f64; MOST_GENERATORS],
     pub angle: [f64; MOST_BUSES],
     pub tier: [u32; MOST_BUSES],
@@ -62,6 +63,7 @@ fn unread(f: Refusal) -> PlannedFile
         rate: [0.0; MOST_CORRIDORS],
         before: [0u32; MOST_CORRIDORS],
         order: [0u32; MOST_CORRIDORS],
+        cap: [0u32; MOST_CORRIDORS],
         mw: [0.0; MOST_GENERATORS],
         angle: [0.0; MOST_BUSES],
         tier: [0u32; MOST_BUSES],
@@ -87,10 +89,11 @@ fn plan_case(
     initial: &[u32],
     km: &[f64],
     share: &[f64],
+    cap: &[u32],
     sheet: &[f64],
 ) -> PlannedFile
     requires { ⌜ Small h ⌝ }
-    ensures planned { λ r. ⌜ filedOf r ≡ filed h (planOf (caseAs h (placesOf (now (ladder .entry)) (now (tier .entry)) (now (load .entry)) (now (bus .entry)) (now (slack .entry)) (now (pmin .entry)) (now (pmax .entry)) (now (c1 .entry)) (now (c2 .entry)) (now (a .entry)) (now (b .entry)) (now (initial .entry)) (now (km .entry)) (now (share .entry)) (now (sheet .entry)))) (h .target)) ⌝ }
+    ensures planned { λ r. ⌜ filedOf r ≡ filed h (planOf (caseAs h (placesOf (now (ladder .entry)) (now (tier .entry)) (now (load .entry)) (now (bus .entry)) (now (slack .entry)) (now (pmin .entry)) (now (pmax .entry)) (now (c1 .entry)) (now (c2 .entry)) (now (a .entry)) (now (b .entry)) (now (initial .entry)) (now (km .entry)) (now (share .entry)) (now (cap .entry)) (now (sheet .entry)))) (h .target)) ⌝ }
     ensures small { λ r. ⌜ Small (r .header) ⌝ }
     ensures sized { λ r. ⌜ Sized r ⌝ }
 {
@@ -105,6 +108,7 @@ fn plan_case(
     let mut rate = [0.0; MOST_CORRIDORS];
     let mut before = [0u32; MOST_CORRIDORS];
     let mut order = [0u32; MOST_CORRIDORS];
+    let mut kept_cap = [0u32; MOST_CORRIDORS];
     let mut mw = [0.0; MOST_GENERATORS];
     let mut angle = [0.0; MOST_BUSES];
     let mut tiers = [0u32; MOST_BUSES];
@@ -134,12 +138,14 @@ fn plan_case(
         initial,
         km,
         share,
+        cap,
         sheet,
         &mut circuits[0..m],
         &mut flow[0..m],
         &mut rate[0..m],
         &mut before[0..m],
         &mut order[0..m],
+        &mut kept_cap[0..m],
         &mut mw[0..g],
         &mut angle[0..n],
         &mut tiers[0..n],
@@ -156,6 +162,7 @@ fn plan_case(
         rate,
         before,
         order,
+        cap: kept_cap,
         mw,
         angle,
         tier: tiers,
@@ -184,6 +191,7 @@ pub fn plan_file(file: &[u8]) -> PlannedFile
     let mut initial = [0u32; MOST_CORRIDORS];
     let mut km = [0.0; MOST_CORRIDORS];
     let mut share = [0.0; MOST_CORRIDORS];
+    let mut cap = [0u32; MOST_CORRIDORS];
     let mut sheet = [0.0; MOST_SHEET];
     let read = casefile::read_case(
         file,
@@ -201,6 +209,7 @@ pub fn plan_file(file: &[u8]) -> PlannedFile
         &mut initial,
         &mut km,
         &mut share,
+        &mut cap,
         &mut sheet,
     );
     let reading = read.reading;
@@ -228,6 +237,7 @@ pub fn plan_file(file: &[u8]) -> PlannedFile
                 &initial[0..m],
                 &km[0..m],
                 &share[0..m],
+                &cap[0..m],
                 &sheet[0..lines],
             )
         }

@@ -119,15 +119,15 @@ module _ (c : Case) where
 
 -- ---- all lengths, and the first refusal
 module _ (n m g above requested : ℕ) (ladder : List Float) (tier : List ℕ) (load : List Float) (bus slack : List ℕ) (pmin pmax c1 c2 : List Float)
-    (a b initial : List ℕ) (km share sheet : List Float) where
+    (a b initial : List ℕ) (km share : List Float) (cap : List ℕ) (sheet : List Float) where
   abbrev given : Case
-  given = tablesFor n m g above requested ladder tier load bus slack pmin pmax c1 c2 a b initial km share sheet
+  given = tablesFor n m g above requested ladder tier load bus slack pmin pmax c1 c2 a b initial km share cap sheet
 
   abbrev busSizes : Bool
   busSizes = eqb (length tier) n && eqb (length load) n
 
   pub lengths-are : (l u k s : Bool) → l ≡ eqb (length ladder) (above + requested) → u ≡ generatorSizes g bus slack pmin pmax c1 c2
-      → k ≡ corridorSizes m a b initial km share → s ≡ eqb (length sheet) (rowFigures * (m * length ladder))
+      → k ≡ corridorSizes m a b initial km share cap → s ≡ eqb (length sheet) (rowFigures * (m * length ladder))
       → (l && busSizes && u && k && s) ≡ lengthsOk given
   unfolding lengthsOk
   lengths-are false u k s el eu ek es = rw (← el)
@@ -154,10 +154,10 @@ module _ (n m g above requested : ℕ) (ladder : List Float) (tier : List ℕ) (
           c2-size = sizes .c2 ∙ e;
         }
 
-    pub corridor-columns : Corridors a b initial km share
+    pub corridor-columns : Corridors a b initial km share cap
     corridor-columns =
         let e = sym (sizes .a) in
-        record { b-size = sizes .b ∙ e; initial-size = sizes .circuits ∙ e; km-size = sizes .km ∙ e; share-size = sizes .share ∙ e }
+        record { b-size = sizes .b ∙ e; initial-size = sizes .circuits ∙ e; km-size = sizes .km ∙ e; share-size = sizes .share ∙ e; cap-size = sizes .cap ∙ e }
 
     pub sheet-fits : Sheet m (above + requested) sheet
     sheet-fits =
@@ -186,7 +186,7 @@ module _ (n m g above requested : ℕ) (ladder : List Float) (tier : List ℕ) (
     unfolding generatorOk
     generator-at u e = e ∙ ap (λ (x : ℕ). first (generatorOk given) x 0) (sizes .bus)
 
-    corridor-at : (k : ℕ) → k ≡ first (corridorSound (corridorsFor n a b initial km share)) (length a) 0 → k ≡ first (corridorSound given) m 0
+    corridor-at : (k : ℕ) → k ≡ first (corridorSound (corridorsFor n a b initial km share cap)) (length a) 0 → k ≡ first (corridorSound given) m 0
     unfolding corridorSound
     corridor-at k e = e ∙ ap (λ (x : ℕ). first (corridorSound given) x 0) (sizes .a)
 
@@ -217,7 +217,7 @@ module _ (n m g above requested : ℕ) (ladder : List Float) (tier : List ℕ) (
           pub generator-refused : u < g → Refused (Generator u) ≡ answerOf (tablesFault given)
           generator-refused h = sym (ap answerOf (past-buses ∙ stop-at (generatorOk given) Generator g (afterGenerators given) u (generator-at u eu) h))
 
-          module _ (hu : g ≤ u) (k : ℕ) (ek : k ≡ first (corridorSound (corridorsFor n a b initial km share)) (length a) 0) where
+          module _ (hu : g ≤ u) (k : ℕ) (ek : k ≡ first (corridorSound (corridorsFor n a b initial km share cap)) (length a) 0) where
             past-generators : tablesFault given ≡ afterGenerators given
             past-generators = past-buses ∙ go-on (generatorOk given) Generator g (afterGenerators given) u (generator-at u eu) hu
 

@@ -18,7 +18,7 @@ use Rattle.loops.proofs.Tab.{length-tab, get-tab, tab-of}
 use Rattle.mode.specs.declared.PlanMode.{PlanMode}
 use Rattle.plan_defs.specs.Constants.{loadingTolerance, mostCorridors}
 use Rattle.plan_defs.specs.Lists.{keep, passFrom, counting, each}
-use Rattle.plan_defs.specs.Case.{capAt, circuitCap, promote}
+use Rattle.plan_defs.specs.Case.{capAt, ownOr, circuitCap, promote}
 use Rattle.plan_defs.specs.Components.{within, leads, members}
 use Rattle.plan_defs.specs.Design.{drawn}
 use Rattle.plan_defs.specs.Build.{drawnAll}
@@ -124,19 +124,19 @@ module _ (circuits : List ℕ) (flow rate : List Float) where
   overloaded-is = ap (counting heavy) (sym (length-tab (length rate) loadingOf))
 
 -- ---- corridors at their cap
-module _ (mode : PlanMode) (ladder : List Float) (level a b : List ℕ) (km share sheet banks : List Float) (circuits : List ℕ) (flow : List Float) where
+module _ (mode : PlanMode) (ladder : List Float) (level a b : List ℕ) (km share : List Float) (cap : List ℕ) (sheet banks : List Float) (circuits : List ℕ) (flow : List Float) where
   abbrev ds : List CircuitDesign
   ds = designsFor ladder level a b km share sheet banks
 
   abbrev pub cappedIn : ℕ → Bool
-  cappedIn = cappedAt (corridorsOf mode (length a)) ds circuits flow
+  cappedIn = cappedAt (corridorsOf mode (length a) cap) ds circuits flow
 
-  pub capped-is : (k cap : ℕ) (d : CircuitDesign) → k < length a → d ≡ drawn (linesFor ladder a b km share sheet) level k (at banks k)
-      → cap ≡ circuitCap (promote mode) (d .kv) → capFull mode cap (getD circuits k 0) (at flow k) (d .«rate_a») ≡ cappedIn k
+  pub capped-is : (k full : ℕ) (d : CircuitDesign) → k < length a → d ≡ drawn (linesFor ladder a b km share sheet) level k (at banks k)
+      → full ≡ ownOr (getD cap k 0) (circuitCap (promote mode) (d .kv)) → capFull mode full (getD circuits k 0) (at flow k) (d .«rate_a») ≡ cappedIn k
   unfolding capAt
-  capped-is k cap d h e g =
+  capped-is k full d h e g =
       ap (λ (n : ℕ). capFull mode n (getD circuits k 0) (at flow k) (d .«rate_a»)) g
-      ∙ ap (λ (x : CircuitDesign). capFull mode (circuitCap (promote mode) (x .kv)) (getD circuits k 0) (at flow k) (x .«rate_a»))
+      ∙ ap (λ (x : CircuitDesign). capFull mode (ownOr (getD cap k 0) (circuitCap (promote mode) (x .kv))) (getD circuits k 0) (at flow k) (x .«rate_a»))
       (drawn-here ladder level a b km share sheet banks k d h e)
 
 -- ---- levels
@@ -191,7 +191,7 @@ module _ (ladder : List Float) (above u : ℕ) (within-ladder : above ≤ length
       (λ j b. let h : j < above = omega (arith, length-tab above (addedAt ladder above u)) in get-tab above (addedAt ladder above u) j nan h ∙ here j h (ltb (u + j) above) refl)
 
 -- ---- all of it: ratings first, then the figures from them
-module _ (mode : PlanMode) (above : ℕ) (ladder : List Float) (led level a b : List ℕ) (km share sheet banks : List Float) (circuits upsized : List ℕ)
+module _ (mode : PlanMode) (above : ℕ) (ladder : List Float) (led level a b : List ℕ) (km share : List Float) (cap : List ℕ) (sheet banks : List Float) (circuits upsized : List ℕ)
     (flow theta rate : List Float) (rated : rate ≡ map (λ (d : CircuitDesign). d .«rate_a») (designsFor ladder level a b km share sheet banks)) where
   abbrev designs : List CircuitDesign
   designs = designsFor ladder level a b km share sheet banks
@@ -205,14 +205,14 @@ module _ (mode : PlanMode) (above : ℕ) (ladder : List Float) (led level a b : 
       record { few = omega (arith, h .drawable .few); circuits-size = h .circuits-size ∙ sym e; flow-size = h .flow-size ∙ sym e }
 
   pub closing-is : (enlarged heavy full dropped : ℕ) (high wide : Float) → enlarged ≡ upsizedOf upsized → heavy ≡ overloadedOf (loadingsBy circuits flow rate)
-      → full ≡ cappedOf (corridorsOf mode (length a)) designs circuits flow → high ≡ maxLoading (loadingsBy circuits flow rate) → wide ≡ spreadOf led theta
+      → full ≡ cappedOf (corridorsOf mode (length a) cap) designs circuits flow → high ≡ maxLoading (loadingsBy circuits flow rate) → wide ≡ spreadOf led theta
       → dropped ≡ leastOf above level
       → record { upsized = enlarged; overloaded = heavy; capped = full; loading = high; spread = wide; added = above - dropped }
-      ≡ closingOf mode above led level designs circuits upsized flow theta
+      ≡ closingOf mode cap above led level designs circuits upsized flow theta
   closing-is enlarged heavy full dropped high wide e f g h i j =
       let x = f ∙ ap (λ (r : List Float). overloadedOf (loadingsBy circuits flow r)) rated in
       let y = h ∙ ap (λ (r : List Float). maxLoading (loadingsBy circuits flow r)) rated in
-      let z = g ∙ ap (λ (n : ℕ). cappedOf (corridorsOf mode n) designs circuits flow) (sym designs-size) in
+      let z = g ∙ ap (λ (n : ℕ). cappedOf (corridorsOf mode n cap) designs circuits flow) (sym designs-size) in
       rw (e, x, y, z, i, j)
 
 -- the tiers, and the levels added

@@ -92,7 +92,7 @@ banks-set banks k mva false h e b j q = b j q
 -- ---- what growing reads of a case
 module _ (c : Case) (level : List ℕ) (k : ℕ) (s : Sizing) where
   abbrev G : Case
-  G = growFor (c .mode) (c .a) (c .b)
+  G = growFor (c .mode) (c .a) (c .b) (c .cap)
 
   raise-lifts : (raised : Bool) (need : ℕ) → raiseOrAdd raised G level need k s ≡ raiseOrAdd raised c level need k s
   unfolding capAt
@@ -110,9 +110,9 @@ module _ (c : Case) (level : List ℕ) (k : ℕ) (s : Sizing) where
   grow-lifts required = grow-by (enough required (countAt (s .build) k) (circuitAt (s .build) k)) required
 
 -- ---- one corridor
-module _ (mode : PlanMode) (buses : ℕ) (ladder : List Float) (level a b : List ℕ) (km share sheet flow : List Float) where
+module _ (mode : PlanMode) (buses : ℕ) (ladder : List Float) (level a b : List ℕ) (km share : List Float) (cap : List ℕ) (sheet flow : List Float) where
   abbrev C : Case
-  C = sizeFor mode buses ladder a b km share sheet
+  C = sizeFor mode buses ladder a b km share cap sheet
 
   module _ (k : ℕ) (circuits : List ℕ) (banks floors : List Float) (upsized marks : List ℕ) (t : Tally) (h : k < length a) (n : length banks ≡ length a) where
     pub size-is : (required : Float) (first : CircuitDesign) (next : Float) (larger : Bool) (banks′ floors′ : List Float) (upsized′ : List ℕ) (d : CircuitDesign) (s : Tally)
@@ -124,7 +124,7 @@ module _ (mode : PlanMode) (buses : ℕ) (ladder : List Float) (level a b : List
         → d ≡ bankedBy larger first next
         → banks′ ≡ setIf larger banks k (d .«transformer_mva») → floors′ ≡ setIf larger floors k (d .«transformer_mva») → upsized′ ≡ setIf larger upsized k 1
         → s ≡ record { capacity = t .capacity; added = t .added || larger; capped = t .capped }
-        → Grows (growFor mode a b) level required k d circuits marks s circuits′ marks′ t′
+        → Grows (growFor mode a b cap) level required k d circuits marks s circuits′ marks′ t′
         → sizingOf C level circuits′ banks′ floors′ upsized′ marks′ t′ ≡ sizeOne C level flow k (sizingOf C level circuits banks floors upsized marks t)
     unfolding sizeOne
     size-is required first next larger banks′ floors′ upsized′ d s circuits′ marks′ t′ pr pf pn pl pd qb qc pu ps g =
@@ -171,7 +171,7 @@ module _ (mode : PlanMode) (buses : ℕ) (ladder : List Float) (level a b : List
 -- ---- what sizing reads of a case
 module _ (c : Case) (level : List ℕ) (flow : List Float) where
   abbrev N : Case
-  N = sizeFor (c .mode) (length level) (c .ladder) (c .a) (c .b) (c .km) (c .share) (c .sheet)
+  N = sizeFor (c .mode) (length level) (c .ladder) (c .a) (c .b) (c .km) (c .share) (c .cap) (c .sheet)
 
   one-lifts : (k : ℕ) (s : Sizing) → sizeOne N level flow k s ≡ sizeOne c level flow k s
   unfolding sizeOne

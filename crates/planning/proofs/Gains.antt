@@ -168,7 +168,7 @@ ranked-all m count order r =
     }
 
 -- ---- a candidate
-pub candidate-is : (g : Limits) (leader level a b circuits : List ℕ) (t : Stiffness) (root k i j tier : ℕ) (room : Bool) (led hv : ℕ)
-    → i ≡ getD a k 0 → j ≡ getD b k 0 → tier ≡ min (getD level i 0) (getD level j 0) → room ≡ roomFor g (getD circuits k 0) (t .total) → led ≡ getD leader i 0 → hv ≡ t .hv
-    → (eqb led root && (room || (ltb (g .top) tier && ltb hv (g .hv)))) ≡ candidateAt g leader level a b circuits t root k
-candidate-is g leader level a b circuits t root k i j tier room led hv p q r s u v = rw (u, r, s, v, p, q)
+pub candidate-is : (g : Limits) (leader level a b cap circuits : List ℕ) (t : Stiffness) (root k i j tier : ℕ) (room : Bool) (led hv : ℕ)
+    → i ≡ getD a k 0 → j ≡ getD b k 0 → tier ≡ min (getD level i 0) (getD level j 0) → room ≡ roomFor g (getD cap k 0) (getD circuits k 0) (t .total) → led ≡ getD leader i 0 → hv ≡ t .hv
+    → (eqb led root && (room || (ltb (g .top) tier && ltb hv (g .hv)))) ≡ candidateAt g leader level a b cap circuits t root k
+candidate-is g leader level a b cap circuits t root k i j tier room led hv p q r s u v = rw (u, r, s, v, p, q)

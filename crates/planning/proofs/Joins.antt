@@ -138,7 +138,7 @@ module _ (c : Case) (target : ℕ) (s : Sound c target) where
     pub plannable-by : (banks floors : List Float) (upsized marks : List ℕ) (angle flow : List Float) → length leader ≡ c .buses → length injection ≡ c .buses
         → length circuits ≡ c .corridors → length banks ≡ c .corridors → floors ≡ zeros (length (c .a)) → upsized ≡ replicate (length (c .a)) 0 → length marks ≡ c .buses
         → length angle ≡ c .buses → length flow ≡ c .corridors
-        → Plannable (c .ladder) level (c .a) (c .b) (c .km) (c .share) (c .sheet) (c .load) (c .bus) (c .pmax) leader (take (count - 0) ground) injection circuits banks floors upsized marks angle flow
+        → Plannable (c .ladder) level (c .a) (c .b) (c .km) (c .share) (c .cap) (c .sheet) (c .load) (c .bus) (c .pmax) leader (take (count - 0) ground) injection circuits banks floors upsized marks angle flow
     plannable-by banks floors upsized marks angle flow e₁ e₂ e₃ e₄ e₅ e₆ e₇ e₈ e₉ =
         let n = level-size level (h .levels-are) in
         let k : length leader ≡ length (component c) = ap length (h .led) in
@@ -162,6 +162,7 @@ module _ (c : Case) (target : ℕ) (s : Sound c target) where
               };
           few-levels = omega (arith, s .ladder-size, s .few-levels);
           unset = e₅;
+          capped = record { size = s .cap-size ∙ sym (s .a-size); few = s .cap-few };
           few = few-by circuits (h .circuits-are);
         }
 
@@ -250,16 +251,16 @@ again-fits n x l h e = subst (λ (k : ℕ). n ≤ k) (sym (length-front (replica
 
 -- ---- the stages over slices
 module _ (mode : PlanMode) (target above : ℕ) (ladder : List Float) (tier : List ℕ) (load : List Float) (bus slack : List ℕ) (pmin pmax c1 c2 : List Float) (a b initial : List ℕ)
-    (km share sheet : List Float) where
+    (km share : List Float) (cap : List ℕ) (sheet : List Float) where
   abbrev C : Case → Case
-  C o = wholeCase o mode above ladder tier load bus slack pmin pmax c1 c2 a b initial km share sheet
+  C o = wholeCase o mode above ladder tier load bus slack pmin pmax c1 c2 a b initial km share cap sheet
 
   abbrev Done-with : List ℕ → List Float → List Float → List Float → List Float → List ℕ → List ℕ → List Float → PlanRun → Type 0
   Done-with circuits flow rate mw angle level ground added r =
-      PlanDone mode target above ladder tier load bus slack pmin pmax c1 c2 a b initial km share sheet circuits flow rate mw angle level ground added r
+      PlanDone mode target above ladder tier load bus slack pmin pmax c1 c2 a b initial km share cap sheet circuits flow rate mw angle level ground added r
 
   module _ (circuits : List ℕ) (flow rate mw angle : List Float) (level ground : List ℕ) (added figures : List Float) (counts : List ℕ)
-      (h : Lendable mode target above ladder tier load bus slack pmin pmax c1 c2 a b initial km share sheet (lentTo circuits flow rate mw angle level ground added figures counts)) where
+      (h : Lendable mode target above ladder tier load bus slack pmin pmax c1 c2 a b initial km share cap sheet (lentTo circuits flow rate mw angle level ground added figures counts)) where
     lent-size : {A : Type 0} (x : A) → length (fresh (length tier) x) ≡ h .whole .buses
     lent-size x = room (length tier) x (tier-fits (h .sound)) ∙ h .sound .tier-size
 
@@ -327,7 +328,7 @@ module _ (mode : PlanMode) (target above : ℕ) (ladder : List Float) (tier : Li
 
           -- what the later stages ask
           pub opened-asks : length circuits′ ≡ length circuits
-              → Plannable ladder level′ a b km share sheet load bus pmax (again (length tier) 0 leader′) (take (count - 0) ground′) (again (length tier) nought injection′) circuits′
+              → Plannable ladder level′ a b km share cap sheet load bus pmax (again (length tier) 0 leader′) (take (count - 0) ground′) (again (length tier) nought injection′) circuits′
               (take (length a - 0) figures) (fresh (length a) nought) (take (length a - 0) zeroed) (fresh (length tier) 0) angle flow
               × Closable above ladder a (again (length tier) 0 leader′) (take (length a - 0) zeroed) angle rate added
           opened-asks g =
@@ -342,7 +343,7 @@ module _ (mode : PlanMode) (target above : ℕ) (ladder : List Float) (tier : Li
               )
 
           pub stages-plan : (circuits″ : List ℕ) (flow″ rate″ angle″ : List Float) (level″ : List ℕ) (added″ : List Float) (x : PlanRun)
-              → OpenedPlan mode target above ladder level′ a b km share sheet load bus pmax (again (length tier) 0 leader′) (take (count - 0) ground′) (again (length tier) nought injection′) circuits′
+              → OpenedPlan mode target above ladder level′ a b km share cap sheet load bus pmax (again (length tier) 0 leader′) (take (count - 0) ground′) (again (length tier) nought injection′) circuits′
               (take (length a - 0) zeroed) circuits″ level″ flow″ rate″ angle″ added″ x
               → Done-with circuits″ flow″ rate″ mw′ angle″ level″ ground′ added″ x
           stages-plan circuits″ flow″ rate″ angle″ level″ added″ x v =
@@ -352,5 +353,5 @@ module _ (mode : PlanMode) (target above : ℕ) (ladder : List Float) (tier : Li
                     whole-by (C o) target s (x .said) (take (length a) (x .kept .before)) (take (length a) (x .kept .order)) circuits″ flow″ rate″ mw′ angle″ level″ ground′ added″ (planFor (C o) target) (opening-kept (C o) target s mw′ (k .dispatched)) (k .grounded)
                     (subst (PlannedAs (x .said) (take (length a) (x .kept .before)) (take (length a) (x .kept .order)) circuits″ level″ flow″ rate″ angle″ added″ (C o))
                     (sym (planned-from (C o) target s (again (length tier) 0 leader′) (again (length tier) nought injection′) count ground′ mw′ level′ circuits′ k))
-                    (v .plan (C o) mw′ s (k .levels-are) (k .circuits-are) (not-upsized ∙ ap (λ (m : ℕ). replicate m 0) (s .a-size))));
+                    (v .plan (C o) mw′ s (k .levels-are) (k .circuits-are) (not-upsized ∙ ap (λ (m : ℕ). replicate m 0) (s .a-size)) refl));
               }

@@ -1,5 +1,6 @@
 -- Laws that no one function owns.
 pub mod Casts
+pub mod Caps
 pub mod Lists
 pub mod Draws
 pub mod Ratings

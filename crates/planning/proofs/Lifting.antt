@@ -26,7 +26,7 @@ module _ (c : Case) where
   -- the case with n buses and g generators
   abbrev with : ℕ → ℕ → Case
   with n g = caseOf (c .mode) n (c .corridors) g (c .above) (c .requested) (c .ladder) (c .tier) (c .load) (c .bus) (c .slack) (c .pmin) (c .pmax) (c .c1) (c .c2)
-      (c .a) (c .b) (c .circuits) (c .km) (c .share) (c .sheet)
+      (c .a) (c .b) (c .circuits) (c .km) (c .share) (c .cap) (c .sheet)
 
   module _ (e : length (c .bus) ≡ c .generators) where
     pub grounds-lift : (led : List ℕ) → groundsOf (slackCase (c .bus) (c .slack)) led ≡ groundsOf c led

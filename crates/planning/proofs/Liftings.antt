@@ -19,7 +19,7 @@ use Rattle.plan_defs.specs.Plan.{Plan}
 use Rattle.plan_defs.specs.Outcome.{Slices, upTo, workPlaces, cleared, keptOf, held}
 use Rattle.plan_defs.specs.declared.CircuitDesign.{CircuitDesign}
 use Rattle.plan_defs.proofs.Lists.{get-map}
-use Rattle.planning.specs.Fill.{designsFor, modeFor}
+use Rattle.planning.specs.Fill.{designsFor, capsFor}
 use Rattle.planning.specs.Close.{corridorsOf, levelsFor, loadingsBy, closingOf, withKept, finished}
 use Rattle.planning.specs.Sound.{Sound, Lengths}
 use Rattle.planning.specs.declared.close.Closing.{Closing}
@@ -32,7 +32,7 @@ module _ (c : Case) (target : ℕ) (s : Sound c target) (level : List ℕ) (bank
   designs-lift = drawn-all-lifts c level banks (s .a-size) (s .ladder-size)
 
 -- ---- the filling
-pub fill-lifts : (c : Case) (target : ℕ) (order counts : List ℕ) → fill (modeFor (c .mode)) target order counts ≡ fill c target order counts
+pub fill-lifts : (c : Case) (target : ℕ) (order counts : List ℕ) → fill (capsFor (c .mode) (c .cap)) target order counts ≡ fill c target order counts
 unfolding fill fullAt
 fill-lifts c target order counts = refl
 
@@ -51,9 +51,9 @@ module _ (c : Case) (ds : List CircuitDesign) (size : length ds ≡ c .corridors
       ∙ tab-same (c .corridors) (λ (k : ℕ). loading (at flow k) (getD circuits k 0) (at ratings k)) (loadingAt ds circuits flow)
       (λ k h. ap (loading (at flow k) (getD circuits k 0)) (get-map (λ (d : CircuitDesign). d .«rate_a») ds k noDesign nan (let w : k < length ds = omega arith in w)))
 
-  pub capped-lifts : (circuits : List ℕ) (flow : List Float) → cappedOf (corridorsOf (c .mode) (length ds)) ds circuits flow ≡ cappedOf c ds circuits flow
+  pub capped-lifts : (circuits : List ℕ) (flow : List Float) → cappedOf (corridorsOf (c .mode) (length ds) (c .cap)) ds circuits flow ≡ cappedOf c ds circuits flow
   unfolding cappedOf capAt
-  capped-lifts circuits flow = ap (λ (n : ℕ). cappedOf (corridorsOf (c .mode) n) ds circuits flow) size
+  capped-lifts circuits flow = ap (λ (n : ℕ). cappedOf (corridorsOf (c .mode) n (c .cap)) ds circuits flow) size
 
   pub added-count : (level : List ℕ) → c .above ≤ length (c .ladder) → c .above - leastOf (c .above) level ≡ length (addedOf c level)
   unfolding addedOf
@@ -72,7 +72,7 @@ module _ (c : Case) (ds : List CircuitDesign) (size : length ds ≡ c .corridors
       }
 
   pub closing-lifts : (led level circuits upsized : List ℕ) (flow theta : List Float) → c .above ≤ length (c .ladder)
-      → closingOf (c .mode) (c .above) led level ds circuits upsized flow theta ≡ definedClosing led level circuits upsized flow theta
+      → closingOf (c .mode) (c .cap) (c .above) led level ds circuits upsized flow theta ≡ definedClosing led level circuits upsized flow theta
   closing-lifts led level circuits upsized flow theta h = rw (loadings-lift circuits flow, capped-lifts circuits flow, added-count level h)
 
 pub tiers-lift : (c : Case) (level : List ℕ) → tiersOf (levelsFor (c .above) (c .ladder)) level ≡ tiersOf c level
@@ -84,12 +84,12 @@ unfolding addedOf
 added-lifts c level = refl
 
 -- ---- the slices at the end
-pub finished-refused : (c : Case) (s : Slices) → Lengths c s → withKept (replicate (c .corridors) 0) (replicate (c .corridors) 0) (finished true s) ≡ cleared c
+pub finished-refused : (c : Case) (s : Slices) → Lengths c s → withKept (replicate (c .corridors) 0) (replicate (c .corridors) 0) (replicate (c .corridors) 0) (finished true s) ≡ cleared c
 finished-refused c s e = rw (e .circuits, e .flow, e .rate, e .mw, e .angle, e .tier, e .ground, e .added, e .figures, e .counts)
 
 pub finished-answered : (c : Case) (s : Slices) (p : Plan) → length (s .figures) ≡ workPlaces c → length (s .counts) ≡ workPlaces c
     → s .circuits ≡ p .circuits → s .flow ≡ p .flow → s .rate ≡ map (λ (d : CircuitDesign). d .«rate_a») (p .designs) → s .mw ≡ p .mw → s .angle ≡ p .angle
     → s .tier ≡ p .tier → s .ground ≡ upTo (c .buses) 0 (p .grounds) → s .added ≡ upTo (c .above) nought (p .added)
-    → withKept (keptOf c (p .before)) (keptOf c (p .order)) (finished false s) ≡ held c p
+    → withKept (keptOf c (p .before)) (keptOf c (p .order)) (c .cap) (finished false s) ≡ held c p
 unfolding held
 finished-answered c s p e f g h i j k l m n = rw (e, f, g, h, i, j, k, l, m, n)

@@ -32,7 +32,7 @@ use Rattle.planning.specs.declared.stiffen.Stiffened.{Stiffened}
 use Rattle.planning.specs.declared.stiffen.Stiffened.the-variants.{Refused, Going}
 
 -- ---- the component, by what the solve answers
-module _ (root lead lag : ℕ) (excess : Float) (g : Limits) (ladder : List Float) (level a b : List ℕ) (km share sheet : List Float) (leader grounds from to : List ℕ) (weight angle : List Float)
+module _ (root lead lag : ℕ) (excess : Float) (g : Limits) (ladder : List Float) (level a b : List ℕ) (km share : List Float) (cap : List ℕ) (sheet : List Float) (leader grounds from to : List ℕ) (weight angle : List Float)
     (circuits : List ℕ) (banks floors : List Float) (upsized marks : List ℕ) (t : Stiffness) (n : ℕ) (phi : List Float) (r : Answer) (pn : n ≡ length level)
     (pa : stageOf r phi
     ≡ finiteAngles (solve n (edgesOf (take (length a - 0) from) (take (length a - 0) to) (take (length a - 0) weight)) grounds (unitAt n lead lag) (zeros n) .x)) where
@@ -56,7 +56,7 @@ module _ (root lead lag : ℕ) (excess : Float) (g : Limits) (ladder : List Floa
         ∙ by-angles (allFinite (X (length a) (c .buses))) (X (length a) (c .buses))
 
   pub narrowed-refused : (f : Refusal) → r ≡ Declined f → Banks banks
-      → Stepped step ladder level a b km share sheet circuits banks floors upsized marks t circuits banks floors upsized marks (Refused f)
+      → Stepped step ladder level a b km share cap sheet circuits banks floors upsized marks t circuits banks floors upsized marks (Refused f)
   narrowed-refused f h banked =
       record {
         stiffened = λ o injection flows w e.
@@ -69,8 +69,8 @@ module _ (root lead lag : ℕ) (excess : Float) (g : Limits) (ladder : List Floa
       }
 
   pub narrowed-answered : (circuits′ : List ℕ) (banks′ floors′ : List Float) (upsized′ marks′ : List ℕ) (t′ : Stiffness) → r ≡ Answered
-      → Stepped (reinforceStep root excess g level leader angle phi) ladder level a b km share sheet circuits banks floors upsized marks t circuits′ banks′ floors′ upsized′ marks′ (Going t′)
-      → Stepped step ladder level a b km share sheet circuits banks floors upsized marks t circuits′ banks′ floors′ upsized′ marks′ (Going t′)
+      → Stepped (reinforceStep root excess g level leader angle phi) ladder level a b km share cap sheet circuits banks floors upsized marks t circuits′ banks′ floors′ upsized′ marks′ (Going t′)
+      → Stepped step ladder level a b km share cap sheet circuits banks floors upsized marks t circuits′ banks′ floors′ upsized′ marks′ (Going t′)
   narrowed-answered circuits′ banks′ floors′ upsized′ marks′ t′ h q =
       record {
         stiffened = λ o injection flows w e.
@@ -88,7 +88,7 @@ module _ (root lead lag : ℕ) (excess : Float) (g : Limits) (ladder : List Floa
 abbrev widenedTo : Stiffness → Stiffness
 widenedTo t = record { total = t .total; hv = t .hv; stiffening = t .stiffening; wide = true; stiffened = t .stiffened }
 
-module _ (root round : ℕ) (g : Limits) (ladder : List Float) (level a b : List ℕ) (km share sheet : List Float) (leader grounds from to : List ℕ) (weight angle : List Float)
+module _ (root round : ℕ) (g : Limits) (ladder : List Float) (level a b : List ℕ) (km share : List Float) (cap : List ℕ) (sheet : List Float) (leader grounds from to : List ℕ) (weight angle : List Float)
     (circuits : List ℕ) (banks floors : List Float) (upsized marks : List ℕ) (t : Stiffness) where
   abbrev whole : Case → List Float → List Float → Stiffening → Stage Stiffening
   whole = componentStep root round g level leader grounds (length a) from to weight angle
@@ -108,7 +108,7 @@ module _ (root round : ℕ) (g : Limits) (ladder : List Float) (level a b : List
         ∙ ap (λ (i : ℕ). betweenBuses c P leader level round (budgetFor g) v root (leadOf leader angle root) i s) pg
 
     pub component-narrow : le excess nought ≡ true → Banks banks
-        → Stepped whole ladder level a b km share sheet circuits banks floors upsized marks t circuits banks floors upsized marks (Going t)
+        → Stepped whole ladder level a b km share cap sheet circuits banks floors upsized marks t circuits banks floors upsized marks (Going t)
     component-narrow h banked =
         record {
           stiffened = λ o injection flows w e.
@@ -135,7 +135,7 @@ module _ (root round : ℕ) (g : Limits) (ladder : List Float) (level a b : List
           ∙ component-is c injection flows s
 
       pub component-late : stiffeningRounds < round → Banks banks
-          → Stepped whole ladder level a b km share sheet circuits banks floors upsized marks t circuits banks floors upsized marks (Going u)
+          → Stepped whole ladder level a b km share cap sheet circuits banks floors upsized marks t circuits banks floors upsized marks (Going u)
       component-late q banked =
           let d = ap (λ (x : Stiffness). x .total) pu in
           let e = ap (λ (x : Stiffness). x .hv) pu in
@@ -154,8 +154,8 @@ module _ (root round : ℕ) (g : Limits) (ladder : List Float) (level a b : List
       within-as m (Going x) w = w
 
       pub component-narrowed : round ≤ stiffeningRounds → (circuits′ : List ℕ) (banks′ floors′ : List Float) (upsized′ marks′ : List ℕ) (r : Stiffened)
-          → Stepped (narrowStep root lead lag excess g level leader grounds (length a) from to weight angle) ladder level a b km share sheet circuits banks floors upsized marks u circuits′ banks′ floors′ upsized′ marks′ r
-          → Stepped whole ladder level a b km share sheet circuits banks floors upsized marks t circuits′ banks′ floors′ upsized′ marks′ r
+          → Stepped (narrowStep root lead lag excess g level leader grounds (length a) from to weight angle) ladder level a b km share cap sheet circuits banks floors upsized marks u circuits′ banks′ floors′ upsized′ marks′ r
+          → Stepped whole ladder level a b km share cap sheet circuits banks floors upsized marks t circuits′ banks′ floors′ upsized′ marks′ r
       component-narrowed q circuits′ banks′ floors′ upsized′ marks′ r z =
           record {
             stiffened = λ o injection flows w n.
@@ -170,14 +170,14 @@ module _ (root round : ℕ) (g : Limits) (ladder : List Float) (level a b : List
 
   -- ---- the component that a bus leads, where it leads one
   pub led-leads : (circuits′ : List ℕ) (banks′ floors′ : List Float) (upsized′ marks′ : List ℕ) (r : Stiffened) → getD leader root 0 ≡ root
-      → Stepped whole ladder level a b km share sheet circuits banks floors upsized marks t circuits′ banks′ floors′ upsized′ marks′ r
-      → LedStiffened root round g ladder level a b km share sheet leader grounds from to weight angle circuits banks floors upsized marks t circuits′ banks′ floors′ upsized′ marks′ r
+      → Stepped whole ladder level a b km share cap sheet circuits banks floors upsized marks t circuits′ banks′ floors′ upsized′ marks′ r
+      → LedStiffened root round g ladder level a b km share cap sheet leader grounds from to weight angle circuits banks floors upsized marks t circuits′ banks′ floors′ upsized′ marks′ r
   led-leads circuits′ banks′ floors′ upsized′ marks′ r h z =
       record {
-        stiffened = λ o target injection flows sound n.
+        stiffened = λ o target injection flows sound n caps.
             let c = withLines o ladder a b km share sheet in
             let s = stiffOf c level circuits banks floors upsized marks t in
-            z .stiffened o injection flows (sound .a-size, sound .ladder-size) n
+            z .stiffened o injection flows (sound .a-size, sound .ladder-size, caps) n
             ∙ ap (λ (x : Bool). stageIf x (whole c injection flows s) s) (sym (eq-eqb (getD leader root 0) root h));
         banked = z .banked;
         few = z .few;
@@ -185,10 +185,10 @@ module _ (root round : ℕ) (g : Limits) (ladder : List Float) (level a b : List
       }
 
   pub led-not : (getD leader root 0 ≡ root → ⊥) → Banks banks
-      → LedStiffened root round g ladder level a b km share sheet leader grounds from to weight angle circuits banks floors upsized marks t circuits banks floors upsized marks (Going t)
+      → LedStiffened root round g ladder level a b km share cap sheet leader grounds from to weight angle circuits banks floors upsized marks t circuits banks floors upsized marks (Going t)
   led-not h banked =
       record {
-        stiffened = λ o target injection flows sound n.
+        stiffened = λ o target injection flows sound n caps.
             let c = withLines o ladder a b km share sheet in
             let s = stiffOf c level circuits banks floors upsized marks t in
             ap (λ (x : Bool). stageIf x (whole c injection flows s) s) (sym (ne-eqb (getD leader root 0) root h));

@@ -69,7 +69,7 @@ module _ (c : Case) (target : ℕ) (s : Slices) where
         }
 
     pub lendable-by : Lendable (c .mode) target (c .above) (c .ladder) (c .tier) (c .load) (c .bus) (c .slack) (c .pmin) (c .pmax) (c .c1) (c .c2) (c .a) (c .b) (c .circuits)
-        (c .km) (c .share) (c .sheet) (lentOf s)
+        (c .km) (c .share) (c .cap) (c .sheet) (lentOf s)
     lendable-by = record { whole = c; sound = is-sound; lengths = lent-sizes }
 
     ends : outcomeBy (endingOn (planFor c target)) c s ≡ planCorridors c target s
@@ -81,8 +81,8 @@ module _ (c : Case) (target : ℕ) (s : Slices) where
 
     module _ (r : PlanRun) (lent : Slices) (size : Lengths c lent)
         (done : PlanDone (c .mode) target (c .above) (c .ladder) (c .tier) (c .load) (c .bus) (c .slack) (c .pmin) (c .pmax) (c .c1) (c .c2) (c .a) (c .b) (c .circuits)
-        (c .km) (c .share) (c .sheet) (lent .circuits) (lent .flow) (lent .rate) (lent .mw) (lent .angle) (lent .tier) (lent .ground) (lent .added) r)
-        (out : Slices) (before order : List ℕ) where
+        (c .km) (c .share) (c .cap) (c .sheet) (lent .circuits) (lent .flow) (lent .rate) (lent .mw) (lent .angle) (lent .tier) (lent .ground) (lent .added) r)
+        (out : Slices) (before order caps : List ℕ) where
       abbrev front : List ℕ → List ℕ
       front l = take (length (c .a)) l
 
@@ -94,22 +94,26 @@ module _ (c : Case) (target : ℕ) (s : Slices) where
       whole : Whole (planFor c target)
       whole = done .plan c is-sound
 
+      abbrev none : List ℕ
+      none = replicate (c .corridors) 0
+
       -- 8 and 9
       refused-by : (f : Refusal) → r .said ≡ Refused f → (t : Stage Plan) → Whole t
-          → outcome (Refused f) (withKept (replicate (c .corridors) 0) (replicate (c .corridors) 0) (finished true lent)) ≡ outcomeBy (endingOn t) c s
+          → outcome (Refused f) (withKept none none none (finished true lent)) ≡ outcomeBy (endingOn t) c s
       unfolding outcomeBy
       refused-by f q (stopped g) h =
           let z : Refused f ≡ Refused g = sym q ∙ h in
           ap (λ (x : Slices). outcome (Refused f) x) (finished-refused c lent size) ∙ ap (λ (x : Planned). outcome x (cleared c)) z
       refused-by f q (going p) h = let y : Refused f ≡ Answered (summary p) = sym q ∙ h .holds .said in let z : _≡_ {A = ℕ} 0 1 = cc in absurd (omega arith)
 
-      ends-refused : Binary c → (f : Refusal) → r .said ≡ Refused f → out ≡ finished true lent → before ≡ replicate (c .corridors) 0 → order ≡ replicate (c .corridors) 0
-          → Ends (Refused f) (withKept before order out)
-      ends-refused binary f q e u v =
-          ends-by binary (Refused f) (withKept before order out)
-          (ap (λ (x : Slices). outcome (Refused f) (withKept before order x)) e
-          ∙ ap (λ (l : List ℕ). outcome (Refused f) (withKept l order (finished true lent))) u
-          ∙ ap (λ (l : List ℕ). outcome (Refused f) (withKept (replicate (c .corridors) 0) l (finished true lent))) v
+      ends-refused : Binary c → (f : Refusal) → r .said ≡ Refused f → out ≡ finished true lent → before ≡ none → order ≡ none → caps ≡ none
+          → Ends (Refused f) (withKept before order caps out)
+      ends-refused binary f q e u v w =
+          ends-by binary (Refused f) (withKept before order caps out)
+          (ap (λ (x : Slices). outcome (Refused f) (withKept before order caps x)) e
+          ∙ ap (λ (l : List ℕ). outcome (Refused f) (withKept l order caps (finished true lent))) u
+          ∙ ap (λ (l : List ℕ). outcome (Refused f) (withKept none l caps (finished true lent))) v
+          ∙ ap (λ (l : List ℕ). outcome (Refused f) (withKept none none l (finished true lent))) w
           ∙ refused-by f q (planFor c target) whole ∙ ends)
 
       -- an answer
@@ -117,25 +121,26 @@ module _ (c : Case) (target : ℕ) (s : Slices) where
       keptFront l = keptOf c (front l)
 
       answered-by : (x : CorridorPlan) → r .said ≡ Answered x → (t : Stage Plan) → Whole t
-          → outcome (Answered x) (withKept (keptFront (r .kept .before)) (keptFront (r .kept .order)) (finished false lent)) ≡ outcomeBy (endingOn t) c s
+          → outcome (Answered x) (withKept (keptFront (r .kept .before)) (keptFront (r .kept .order)) (c .cap) (finished false lent)) ≡ outcomeBy (endingOn t) c s
       unfolding outcomeBy
       answered-by x q (stopped g) h = let y : Answered x ≡ Refused g = sym q ∙ h in let z : _≡_ {A = ℕ} 0 1 = cc in absurd (omega arith)
       answered-by x q (going p) h =
           let y : Answered x ≡ Answered (summary p) = sym q ∙ h .holds .said in
-          ap (λ (l : List ℕ). outcome (Answered x) (withKept (keptOf c l) (keptFront (r .kept .order)) (finished false lent))) (h .holds .before-are)
-          ∙ ap (λ (l : List ℕ). outcome (Answered x) (withKept (keptOf c (p .before)) (keptOf c l) (finished false lent))) (h .holds .order-is)
+          ap (λ (l : List ℕ). outcome (Answered x) (withKept (keptOf c l) (keptFront (r .kept .order)) (c .cap) (finished false lent))) (h .holds .before-are)
+          ∙ ap (λ (l : List ℕ). outcome (Answered x) (withKept (keptOf c (p .before)) (keptOf c l) (c .cap) (finished false lent))) (h .holds .order-is)
           ∙ ap (λ (u : Slices). outcome (Answered x) u)
           (finished-answered c lent p (size .figures) (size .counts) (h .holds .circuits-are) (h .holds .flows-are) (h .holds .rates-are) (h .mw-is) (h .holds .angles-are)
           (h .holds .tiers-are) (h .grounds-are) (h .holds .added-are))
           ∙ ap (λ (u : Planned). outcome u (held c p)) y
 
-      ends-answered : Binary c → (x : CorridorPlan) → r .said ≡ Answered x → out ≡ finished false lent → before ≡ keptFront (r .kept .before) → order ≡ keptFront (r .kept .order)
-          → Ends (Answered x) (withKept before order out)
-      ends-answered binary x q e u v =
-          ends-by binary (Answered x) (withKept before order out)
-          (ap (λ (o : Slices). outcome (Answered x) (withKept before order o)) e
-          ∙ ap (λ (l : List ℕ). outcome (Answered x) (withKept l order (finished false lent))) u
-          ∙ ap (λ (l : List ℕ). outcome (Answered x) (withKept (keptFront (r .kept .before)) l (finished false lent))) v
+      ends-answered : Binary c → (x : CorridorPlan) → r .said ≡ Answered x → out ≡ finished false lent → before ≡ keptFront (r .kept .before) → order ≡ keptFront (r .kept .order) → caps ≡ c .cap
+          → Ends (Answered x) (withKept before order caps out)
+      ends-answered binary x q e u v w =
+          ends-by binary (Answered x) (withKept before order caps out)
+          (ap (λ (o : Slices). outcome (Answered x) (withKept before order caps o)) e
+          ∙ ap (λ (l : List ℕ). outcome (Answered x) (withKept l order caps (finished false lent))) u
+          ∙ ap (λ (l : List ℕ). outcome (Answered x) (withKept (keptFront (r .kept .before)) l caps (finished false lent))) v
+          ∙ ap (λ (l : List ℕ). outcome (Answered x) (withKept (keptFront (r .kept .before)) (keptFront (r .kept .order)) l (finished false lent))) w
           ∙ answered-by x q (planFor c target) whole ∙ ends)
 
       -- by what planning says
@@ -151,37 +156,41 @@ module _ (c : Case) (target : ℕ) (s : Slices) where
       and-true false = refl
 
       ends-as : Binary c → (y : Planned) → r .said ≡ y → out ≡ finished (isRefused y) lent → before ≡ keptAs y (r .kept .before) → order ≡ keptAs y (r .kept .order)
-          → Ends y (withKept before order out)
-      ends-as binary (Refused f) q e u v =
-          let none : (l : List ℕ) → keptIf (promote (c .mode) && false) (c .corridors) l ≡ replicate (c .corridors) 0 =
+          → caps ≡ keptIf (not (isRefused y)) (c .corridors) (c .cap) → Ends y (withKept before order caps out)
+      ends-as binary (Refused f) q e u v w =
+          let zeroed : (l : List ℕ) → keptIf (promote (c .mode) && false) (c .corridors) l ≡ none =
           λ l. ap (λ (b : Bool). keptIf b (c .corridors) l) (and-false (promote (c .mode))) in
-          ends-refused binary f q e (u ∙ none (front (r .kept .before))) (v ∙ none (front (r .kept .order)))
-      ends-as binary (Answered x) q e u v =
+          ends-refused binary f q e (u ∙ zeroed (front (r .kept .before))) (v ∙ zeroed (front (r .kept .order))) w
+      ends-as binary (Answered x) q e u v w =
           let all : (l : List ℕ) → keptIf (promote (c .mode) && true) (c .corridors) l ≡ keptOf c l =
           λ l. ap (λ (b : Bool). keptIf b (c .corridors) l) (and-true (promote (c .mode))) in
-          ends-answered binary x q e (u ∙ all (front (r .kept .before))) (v ∙ all (front (r .kept .order)))
+          ends-answered binary x q e (u ∙ all (front (r .kept .before))) (v ∙ all (front (r .kept .order))) w
 
   -- the same by what the check answers, and by what the stages leave, each slice as long as it was, what is cleared, and what is kept
   module _ (x : Answer) (k : x ≡ checkOf (tablesOf c) target (placesOf s)) (q : x ≡ Accepted) where
     -- the places lent for what is kept are those of the corridors, which the arrays have
-    pub kept-fits : (length (s .before) ≤ mostCorridors) × (length (s .order) ≤ mostCorridors)
+    pub kept-fits : (length (s .before) ≤ mostCorridors) × (length (s .order) ≤ mostCorridors) × (length (s .cap) ≤ mostCorridors)
     kept-fits =
         let ok = sym q ∙ k in
         let w = kept-lengths c s (passed c target s ok .0) in
-        (omega (arith, w .0, is-sound ok .few-corridors), omega (arith, w .1, is-sound ok .few-corridors))
+        (omega (arith, w .0, is-sound ok .few-corridors), omega (arith, w .1, is-sound ok .few-corridors), omega (arith, w .2, is-sound ok .few-corridors))
+
+    pub caps-fit : length (c .cap) ≤ mostCorridors
+    caps-fit = let ok = sym q ∙ k in omega (arith, is-sound ok .cap-size, is-sound ok .few-corridors)
 
     pub ends-when : Binary c → (r : PlanRun) (lent : Slices)
         → length (lent .circuits) ≡ length (s .circuits) → length (lent .flow) ≡ length (s .flow) → length (lent .rate) ≡ length (s .rate)
         → length (lent .mw) ≡ length (s .mw) → length (lent .angle) ≡ length (s .angle) → length (lent .tier) ≡ length (s .tier) → length (lent .ground) ≡ length (s .ground)
         → length (lent .added) ≡ length (s .added) → length (lent .figures) ≡ length (s .figures) → length (lent .counts) ≡ length (s .counts)
         → PlanDone (c .mode) target (c .above) (c .ladder) (c .tier) (c .load) (c .bus) (c .slack) (c .pmin) (c .pmax) (c .c1) (c .c2) (c .a) (c .b) (c .circuits)
-        (c .km) (c .share) (c .sheet) (lent .circuits) (lent .flow) (lent .rate) (lent .mw) (lent .angle) (lent .tier) (lent .ground) (lent .added) r
+        (c .km) (c .share) (c .cap) (c .sheet) (lent .circuits) (lent .flow) (lent .rate) (lent .mw) (lent .angle) (lent .tier) (lent .ground) (lent .added) r
         → (out : Slices) (refused : Bool) → refused ≡ isRefused (r .said) → out ≡ finished refused lent
         → (keeps : Bool) → keeps ≡ (promote (c .mode) && not refused) → (before order : List ℕ)
         → before ≡ keptIf keeps (length (s .before)) (take (length (s .before)) (r .kept .before))
         → order ≡ keptIf keeps (length (s .order)) (take (length (s .order)) (r .kept .order))
-        → Ends (r .said) (withKept before order out)
-    ends-when binary r lent e₁ e₂ e₃ e₄ e₅ e₆ e₇ e₈ e₉ e₀ done out refused u v keeps w before order f g =
+        → (copy caps : List ℕ) → take (length (c .cap)) copy ≡ c .cap → caps ≡ keptIf (not refused) (length (s .cap)) (take (length (s .cap)) copy)
+        → Ends (r .said) (withKept before order caps out)
+    ends-when binary r lent e₁ e₂ e₃ e₄ e₅ e₆ e₇ e₈ e₉ e₀ done out refused u v keeps w before order f g copy caps x y =
         let ok = sym q ∙ k in
         let z = sizes ok in
         let m = kept-lengths c s (passed c target s ok .0) in
@@ -192,6 +201,12 @@ module _ (c : Case) (target : ℕ) (s : Slices) where
         ap (λ (n : ℕ). keptIf keeps n (take n l)) h
         ∙ ap (λ (n : ℕ). keptIf keeps (c .corridors) (take n l)) (sym a)
         ∙ ap (λ (b : Bool). keptIf b (c .corridors) (take (length (c .a)) l)) keeps-is in
+        let kept-caps : caps ≡ keptIf (not (isRefused (r .said))) (c .corridors) (c .cap) =
+        y
+        ∙ ap (λ (b : Bool). keptIf (not b) (length (s .cap)) (take (length (s .cap)) copy)) u
+        ∙ ap (λ (n : ℕ). keptIf (not (isRefused (r .said))) n (take n copy)) (m .2)
+        ∙ ap (λ (n : ℕ). keptIf (not (isRefused (r .said))) (c .corridors) (take n copy)) (sym (is-sound ok .cap-size))
+        ∙ ap (keptIf (not (isRefused (r .said))) (c .corridors)) x in
         ends-as ok r lent
         (record {
           circuits = e₁ ∙ z .circuits;
@@ -205,5 +220,5 @@ module _ (c : Case) (target : ℕ) (s : Slices) where
           figures = e₉ ∙ z .figures;
           counts = e₀ ∙ z .counts;
         })
-        done out before order binary (r .said) refl (v ∙ ap (λ (b : Bool). finished b lent) u) (f ∙ all (length (s .before)) (r .kept .before) (m .0))
-        (g ∙ all (length (s .order)) (r .kept .order) (m .1))
+        done out before order caps binary (r .said) refl (v ∙ ap (λ (b : Bool). finished b lent) u) (f ∙ all (length (s .before)) (r .kept .before) (m .0))
+        (g ∙ all (length (s .order)) (r .kept .order) (m .1)) kept-caps

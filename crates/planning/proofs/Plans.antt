@@ -76,13 +76,13 @@ unfolding rounds
 no-rounds c P led budget s e = ap (λ (d : ℕ). rounds c P led d s) (sym e)
 
 -- ---- the rounds over slices
-module _ (mode : PlanMode) (above promoted : ℕ) (ladder : List Float) (level a b : List ℕ) (km share sheet load : List Float) (bus : List ℕ) (pmax : List Float) (leader grounds : List ℕ)
+module _ (mode : PlanMode) (above promoted : ℕ) (ladder : List Float) (level a b : List ℕ) (km share : List Float) (cap : List ℕ) (sheet load : List Float) (bus : List ℕ) (pmax : List Float) (leader grounds : List ℕ)
     (injection : List Float) (circuits : List ℕ) (banks floors : List Float) (upsized marks : List ℕ) (angle flow : List Float)
-    (h : Runnable above promoted ladder level a b km share sheet load bus pmax leader grounds injection circuits banks floors upsized marks angle flow)
+    (h : Runnable above promoted ladder level a b km share cap sheet load bus pmax leader grounds injection circuits banks floors upsized marks angle flow)
     (cold : List Float) (e : cold ≡ replicate (length angle) nought) (start : Progress) (f : start ≡ startOf mode (length a) promoted)
     (budget : ℕ) (g : budget ≡ roundsFor mode (length a)) where
   pub rounds-fit : length cold ≡ length angle → (budget ≡ 0 → ⊥)
-      → RoundsFit above budget start ladder level a b km share sheet load bus pmax leader grounds injection circuits banks floors upsized marks cold flow
+      → RoundsFit above budget start ladder level a b km share cap sheet load bus pmax leader grounds injection circuits banks floors upsized marks cold flow
   rounds-fit size some =
       record {
         columns = h .columns;
@@ -108,6 +108,7 @@ module _ (mode : PlanMode) (above promoted : ℕ) (ladder : List Float) (level a
               capacity = omega (arith, ap (λ (p : Progress). p .capacity) f);
               stiffening = omega (arith, ap (λ (p : Progress). p .stiffening) f);
             };
+        capped = h .capped;
         some = budget-some (expand mode) (length a) (λ z. some (g ∙ z));
         banked = h .banked;
         few = h .few;
@@ -130,20 +131,20 @@ module _ (mode : PlanMode) (above promoted : ℕ) (ladder : List Float) (level a
     all-of = ap (rounds C P leader budget) starts ∙ all-rounds C P leader budget _ (g ∙ ap (roundsFor mode) (s .a-size))
 
   pub ran-none : budget ≡ 0
-      → RanAll mode above promoted ladder level a b km share sheet load bus pmax leader grounds injection circuits banks floors upsized level circuits banks floors upsized cold (Ran start)
+      → RanAll mode above promoted ladder level a b km share cap sheet load bus pmax leader grounds injection circuits banks floors upsized level circuits banks floors upsized cold (Ran start)
   ran-none z =
       record {
-        ran = λ o target s n. no-rounds (C o target s n) (P o target s n) leader budget (draftOf (C o target s n) level circuits banks floors upsized cold start) z ∙ all-of o target s n;
+        ran = λ o target s n caps. no-rounds (C o target s n) (P o target s n) leader budget (draftOf (C o target s n) level circuits banks floors upsized cold start) z ∙ all-of o target s n;
         lines = h .columns .lines;
         banked = h .banked;
         few = h .few;
       }
 
   pub ran-some : (level′ circuits′ : List ℕ) (banks′ floors′ : List Float) (upsized′ : List ℕ) (angle′ : List Float) (r : Rounds)
-      → RoundsRun mode above budget start ladder level a b km share sheet load bus pmax leader grounds injection circuits banks floors upsized cold level′ circuits′ banks′ floors′ upsized′ angle′ r
-      → RanAll mode above promoted ladder level a b km share sheet load bus pmax leader grounds injection circuits banks floors upsized level′ circuits′ banks′ floors′ upsized′ angle′ r
+      → RoundsRun mode above budget start ladder level a b km share cap sheet load bus pmax leader grounds injection circuits banks floors upsized cold level′ circuits′ banks′ floors′ upsized′ angle′ r
+      → RanAll mode above promoted ladder level a b km share cap sheet load bus pmax leader grounds injection circuits banks floors upsized level′ circuits′ banks′ floors′ upsized′ angle′ r
   ran-some level′ circuits′ banks′ floors′ upsized′ angle′ r w =
-      record { ran = λ o target s n. w .ran o target s n ∙ all-of o target s n; lines = w .lines; banked = w .banked; few = w .few }
+      record { ran = λ o target s n caps. w .ran o target s n caps ∙ all-of o target s n; lines = w .lines; banked = w .banked; few = w .few }
 
 -- ---- what is said of a settled plan: its tallies are the draft's, and so are its grounds
 module _ (c : Case) (target : ℕ) (o : Opened) (level circuits : List ℕ) (banks floors : List Float) (upsized : List ℕ) (angle : List Float) (p : Progress) where
@@ -189,9 +190,9 @@ module _ (p : Progress) (gs : ℕ) (before order circuits tier : List ℕ) (flow
 abbrev openedFor : Case → List ℕ → List Float → Peak → Raised → Opened
 openedFor c led mw P s = record { led = led; mw = mw; peak = P; draft = firstDraft c s }
 
-module _ (mode : PlanMode) (target above : ℕ) (ladder : List Float) (level a b : List ℕ) (km share sheet load : List Float) (bus : List ℕ) (pmax : List Float) (leader grounds : List ℕ)
+module _ (mode : PlanMode) (target above : ℕ) (ladder : List Float) (level a b : List ℕ) (km share : List Float) (cap : List ℕ) (sheet load : List Float) (bus : List ℕ) (pmax : List Float) (leader grounds : List ℕ)
     (injection : List Float) (circuits : List ℕ) (banks floors : List Float) (upsized marks : List ℕ) (angle flow : List Float)
-    (h : Plannable ladder level a b km share sheet load bus pmax leader grounds injection circuits banks floors upsized marks angle flow) where
+    (h : Plannable ladder level a b km share cap sheet load bus pmax leader grounds injection circuits banks floors upsized marks angle flow) where
   pub redesign-fit : RedesignFits ladder level a b km share sheet load bus pmax floors banks
   redesign-fit =
       record {
@@ -242,7 +243,7 @@ module _ (mode : PlanMode) (target above : ℕ) (ladder : List Float) (level a b
   pub settleable-of : (rate added : List Float) → Closable above ladder a leader upsized angle rate added → (level″ circuits″ : List ℕ) (banks″ : List Float) (upsized″ : List ℕ)
       (angle″ flow″ : List Float) → Lines ladder level″ a b km share sheet → Banks banks″ → length circuits″ ≡ length circuits → length banks″ ≡ length banks
       → length upsized″ ≡ length upsized → length level″ ≡ length level → length angle″ ≡ length angle → length flow″ ≡ length flow
-      → Settleable above ladder level″ a b km share sheet leader grounds injection banks″ upsized″ circuits″ flow″ rate angle″ added
+      → Settleable above ladder level″ a b km share cap sheet leader grounds injection banks″ upsized″ circuits″ flow″ rate angle″ added
   settleable-of rate added k level″ circuits″ banks″ upsized″ angle″ flow″ lines banked e₁ e₂ e₃ e₄ e₅ e₆ =
       record {
         drawing =
@@ -271,6 +272,7 @@ module _ (mode : PlanMode) (target above : ℕ) (ladder : List Float) (level a b
               rate-size = k .rate-size;
               added-size = k .added-size;
             };
+        cap-size = h .capped .size;
       }
 
   -- after the raises
@@ -278,7 +280,7 @@ module _ (mode : PlanMode) (target above : ℕ) (ladder : List Float) (level a b
       (w : RaisesDone mode ladder level a b km share sheet load bus pmax grounds injection circuits banks₁ level′ banks′ r) (size : length level′ ≡ length level) where
     pub runnable-of : (promoted : ℕ) → r ≡ Promoted promoted → above ≤ mostLevels → (marks′ : List ℕ) (angle′ flow′ : List Float) → length banks′ ≡ length banks
         → length marks′ ≡ length marks → length angle′ ≡ length angle → length flow′ ≡ length flow
-        → Runnable above promoted ladder level′ a b km share sheet load bus pmax leader grounds injection circuits banks′ floors upsized marks′ angle′ flow′
+        → Runnable above promoted ladder level′ a b km share cap sheet load bus pmax leader grounds injection circuits banks′ floors upsized marks′ angle′ flow′
     runnable-of promoted q low marks′ angle′ flow′ e₁ e₂ e₃ e₄ =
         record {
           columns =
@@ -304,6 +306,7 @@ module _ (mode : PlanMode) (target above : ℕ) (ladder : List Float) (level a b
               };
           few-levels = low;
           few-moves = subst (Within (mostBuses * mostLevels)) q (w .bound);
+          capped = h .capped;
           banked = w .banked;
           few = h .few;
         }
@@ -345,10 +348,10 @@ module _ (mode : PlanMode) (target above : ℕ) (ladder : List Float) (level a b
             go (going t) = refl
 
       pub opened-refused : (f : Refusal) → r ≡ Unraised f → (circuits″ level″ : List ℕ) (flow″ rate″ angle″ added″ : List Float) (i : PlanRun) → i .said ≡ Refused f
-          → OpenedPlan mode target above ladder level a b km share sheet load bus pmax leader grounds injection circuits upsized circuits″ level″ flow″ rate″ angle″ added″ i
+          → OpenedPlan mode target above ladder level a b km share cap sheet load bus pmax leader grounds injection circuits upsized circuits″ level″ flow″ rate″ angle″ added″ i
       opened-refused f q circuits″ level″ flow″ rate″ angle″ added″ i j =
           record {
-            plan = λ o mw s l e g.
+            plan = λ o mw s l e g caps.
                 let c = E o mw s l e in
                 let P = Q o mw s l e in
                 let z : onward (openedWith c leader mw P) (settled c) ≡ stopped f = opened-is o mw s l e
@@ -359,11 +362,11 @@ module _ (mode : PlanMode) (target above : ℕ) (ladder : List Float) (level a b
 
       -- after the rounds
       module _ (promoted : ℕ) (q : r ≡ Promoted promoted) (level″ circuits″ : List ℕ) (banks″ floors″ : List Float) (upsized″ : List ℕ) (angle″ : List Float) (x : Rounds)
-          (v : RanAll mode above promoted ladder level′ a b km share sheet load bus pmax leader grounds injection circuits banks′ floors upsized
+          (v : RanAll mode above promoted ladder level′ a b km share cap sheet load bus pmax leader grounds injection circuits banks′ floors upsized
           level″ circuits″ banks″ floors″ upsized″ angle″ x) where
         module _ (o : Case) (mw : List Float) (s : Sound (roundsCase o mode above ladder a b km share sheet load bus pmax) target)
             (l : level ≡ firstLevels (roundsCase o mode above ladder a b km share sheet load bus pmax))
-            (e : circuits ≡ lowerBounds (roundsCase o mode above ladder a b km share sheet load bus pmax)) (g : upsized ≡ replicate (o .corridors) 0) where
+            (e : circuits ≡ lowerBounds (roundsCase o mode above ladder a b km share sheet load bus pmax)) (g : upsized ≡ replicate (o .corridors) 0) (caps : o .cap ≡ cap) where
           abbrev D : Case
           D = E o mw s l e
 
@@ -374,7 +377,7 @@ module _ (mode : PlanMode) (target above : ℕ) (ladder : List Float) (level a b
           ran-is =
               let f : floors ≡ zeros (o .corridors) = h .unset ∙ ap (λ (m : ℕ). zeros m) (s .a-size) in
               let z : draftOf D level′ circuits banks′ floors upsized (zeros (o .buses)) (startOf mode (o .corridors) promoted) ≡ O .draft = rw (e, f, g) in
-              v .ran o target s (size ∙ buses-are o mw s l e) ∙ ap (allRounds D (O .peak) leader) z
+              v .ran o target s (size ∙ buses-are o mw s l e) caps ∙ ap (allRounds D (O .peak) leader) z
 
           settled-is : onward (openedWith D leader mw (Q o mw s l e)) (settled D) ≡ onward (ranAs x D level″ circuits″ banks″ floors″ upsized″ angle″) (settledTo D O)
           unfolding settled
@@ -384,33 +387,33 @@ module _ (mode : PlanMode) (target above : ℕ) (ladder : List Float) (level a b
               ∙ ap (λ (t : Stage Draft). onward t (settledTo D O)) (sym ran-is)
 
         pub opened-unrun : (f : Refusal) → x ≡ Unrun f → (circuits‴ level‴ : List ℕ) (flow‴ rate‴ angle‴ added‴ : List Float) (i : PlanRun) → i .said ≡ Refused f
-            → OpenedPlan mode target above ladder level a b km share sheet load bus pmax leader grounds injection circuits upsized circuits‴ level‴ flow‴ rate‴ angle‴ added‴ i
+            → OpenedPlan mode target above ladder level a b km share cap sheet load bus pmax leader grounds injection circuits upsized circuits‴ level‴ flow‴ rate‴ angle‴ added‴ i
         opened-unrun f u circuits‴ level‴ flow‴ rate‴ angle‴ added‴ i j =
             record {
-              plan = λ o mw s l e g.
-                  let c = D o mw s l e g in
-                  let z : onward (openedWith c leader mw (Q o mw s l e)) (settled c) ≡ stopped f = settled-is o mw s l e g
-                  ∙ ap (λ (y : Rounds). onward (ranAs y c level″ circuits″ banks″ floors″ upsized″ angle″) (settledTo c (O o mw s l e g))) u in
+              plan = λ o mw s l e g caps.
+                  let c = D o mw s l e g caps in
+                  let z : onward (openedWith c leader mw (Q o mw s l e)) (settled c) ≡ stopped f = settled-is o mw s l e g caps
+                  ∙ ap (λ (y : Rounds). onward (ranAs y c level″ circuits″ banks″ floors″ upsized″ angle″) (settledTo c (O o mw s l e g caps))) u in
                   subst (PlannedAs (i .said) (take (length a) (i .kept .before)) (take (length a) (i .kept .order)) circuits‴ level‴ flow‴ rate‴ angle‴ added‴ c)
                   (sym (ap (λ (t : Stage Ready). onward t (closing c target)) z)) j;
             }
 
         pub opened-plan : (p : Progress) → x ≡ Ran p → (circuits‴ level‴ : List ℕ) (flow‴ rate‴ angle‴ added‴ : List Float) (y : Settling)
-            → Settles mode target above ladder a b km share sheet leader grounds injection banks″ upsized″ circuits″ level″ circuits‴ level‴ flow‴ rate‴ angle‴ added‴ y
+            → Settles mode target above ladder a b km share cap sheet leader grounds injection banks″ upsized″ circuits″ level″ circuits‴ level‴ flow‴ rate‴ angle‴ added‴ y
             → length level″ ≡ length level′ → (i : PlanRun) → i .said ≡ plannedBy p (length grounds) (y .settled) → i .kept ≡ y .kept
-            → OpenedPlan mode target above ladder level a b km share sheet load bus pmax leader grounds injection circuits upsized circuits‴ level‴ flow‴ rate‴ angle‴ added‴ i
+            → OpenedPlan mode target above ladder level a b km share cap sheet load bus pmax leader grounds injection circuits upsized circuits‴ level‴ flow‴ rate‴ angle‴ added‴ i
         opened-plan p u circuits‴ level‴ flow‴ rate‴ angle‴ added‴ y d k i j w =
             record {
-              plan = λ o mw s l e g.
-                  let c = D o mw s l e g in
-                  let O′ = O o mw s l e g in
+              plan = λ o mw s l e g caps.
+                  let c = D o mw s l e g caps in
+                  let O′ = O o mw s l e g caps in
                   let S′ = draftOf c level″ circuits″ banks″ floors″ upsized″ angle″ p in
-                  let z : onward (openedWith c leader mw (Q o mw s l e)) (settled c) ≡ settledTo c O′ S′ = settled-is o mw s l e g
+                  let z : onward (openedWith c leader mw (Q o mw s l e)) (settled c) ≡ settledTo c O′ S′ = settled-is o mw s l e g caps
                   ∙ ap (λ (t : Rounds). onward (ranAs t c level″ circuits″ banks″ floors″ upsized″ angle″) (settledTo c O′)) u in
                   let t = onward (settledTo c O′ S′) (closing c target) in
                   subst (PlannedAs (i .said) (take (length a) (i .kept .before)) (take (length a) (i .kept .order)) circuits‴ level‴ flow‴ rate‴ angle‴ added‴ c)
                   (sym (ap (λ (t : Stage Ready). onward t (closing c target)) z))
                   (subst (λ (n : Kept). PlannedAs (i .said) (take (length a) (n .before)) (take (length a) (n .order)) circuits‴ level‴ flow‴ rate‴ angle‴ added‴ c t) (sym w)
                   (planned-as p (length grounds) (take (length a) (y .kept .before)) (take (length a) (y .kept .order)) circuits‴ level‴ flow‴ rate‴ angle‴ added‴ c (y .settled) (i .said) (onward (settledTo c O′ S′) (closing c target))
-                  (said-of c target O′ level″ circuits″ banks″ floors″ upsized″ angle″ p) (d .plan c O′ S′ floors″ s (k ∙ size ∙ buses-are o mw s l e) refl refl refl refl) j));
+                  (said-of c target O′ level″ circuits″ banks″ floors″ upsized″ angle″ p) (d .plan c O′ S′ floors″ s (k ∙ size ∙ buses-are o mw s l e) caps refl refl refl refl) j));
             }

@@ -17,12 +17,12 @@ use Rattle.refusal.specs.declared.Refusal.{Refusal}
 use Rattle.refusal.specs.declared.Refusal.the-variants.{Length, Count, Corridor, Mode, Order}
 use Rattle.refusal.specs.declared.Answer.{Answer}
 use Rattle.refusal.specs.declared.Answer.the-variants.{Answered, Refused}
-use Rattle.plan_defs.specs.Case.{promote, fullAt}
+use Rattle.plan_defs.specs.Case.{promote, fullOf, fullAt}
 use Rattle.plan_defs.specs.Fill.{unfilled, filledIf, fill}
 use Rattle.plan_defs.specs.Preview.{Kept, keptAs, lengthsOk, countsOk, countOk, placeOk, keptFault, previewFault, refilled, outcome, previewBy, preview}
 use Rattle.plan_theorems.proofs.Preview.{sound-of}
 use Rattle.planning.specs.Check.{answerOf}
-use Rattle.planning.specs.Fill.{modeFor, fullFor, Whole, Ranked, Counted}
+use Rattle.planning.specs.Fill.{capsFor, Whole, Ranked, Counted}
 use Rattle.planning.specs.Preview.{countsFor, orderFor, Refillable}
 
 -- ---- the refusals
@@ -74,18 +74,22 @@ module _ (p : Kept) (target places : ℕ) where
       passed-all q = ap (λ (b : Bool). answerOf (cond b (some (Order j)) none)) (sym (le-ltb j (p .corridors) q)) ∙ passed-counts
 
 -- ---- the scans, over as many places as there are corridors
-module _ (mode : PlanMode) (m places : ℕ) (before order : List ℕ) (x : lengthsOk (keptAs mode m before order) places ≡ true) where
-  sizes : (length before ≡ m) × (length order ≡ m)
+module _ (mode : PlanMode) (m places : ℕ) (before order cap : List ℕ) (x : lengthsOk (keptAs mode m before order cap) places ≡ true) where
+  sizes : (length before ≡ m) × (length order ≡ m) × (length cap ≡ m)
   unfolding lengthsOk
   sizes =
       let l = both (eqb (length before) m) _ x in
-      (eqb-true _ _ (l .0), eqb-true _ _ (both (eqb (length order) m) _ (l .1) .0))
+      let r = both (eqb (length order) m) _ (l .1) in
+      (eqb-true _ _ (l .0), eqb-true _ _ (r .0), eqb-true _ _ (both (eqb (length cap) m) _ (r .1) .0))
 
-  pub counts-scan : (k : ℕ) → k ≡ first (countOk (countsFor before)) (length before) 0 → k ≡ first (countOk (keptAs mode m before order)) m 0
-  counts-scan k e = e ∙ ap (λ (n : ℕ). first (countOk (keptAs mode m before order)) n 0) (sizes .0)
+  pub caps-sized : length cap ≡ length before
+  caps-sized = sizes .2 ∙ sym (sizes .0)
 
-  pub places-scan : (j : ℕ) → j ≡ first (placeOk (orderFor order)) (length order) 0 → j ≡ first (placeOk (keptAs mode m before order)) m 0
-  places-scan j e = e ∙ ap (λ (n : ℕ). first (placeOk (keptAs mode n before order)) n 0) (sizes .1)
+  pub counts-scan : (k : ℕ) → k ≡ first (countOk (countsFor before cap)) (length before) 0 → k ≡ first (countOk (keptAs mode m before order cap)) m 0
+  counts-scan k e = e ∙ ap (λ (n : ℕ). first (countOk (keptAs mode m before order cap)) n 0) (sizes .0)
+
+  pub places-scan : (j : ℕ) → j ≡ first (placeOk (orderFor order)) (length order) 0 → j ≡ first (placeOk (keptAs mode m before order cap)) m 0
+  places-scan j e = e ∙ ap (λ (n : ℕ). first (placeOk (keptAs mode n before order cap)) n 0) (sizes .1)
 
 -- ---- what is said of the check
 module _ (p : Kept) (target : ℕ) (lent : List ℕ) where
@@ -105,13 +109,14 @@ module _ (p : Kept) (target : ℕ) (lent : List ℕ) where
     passes : previewFault p target (length lent) ≡ none
     passes = none-of (previewFault p target (length lent)) (sym q ∙ e)
 
-    pub refillable : (promote (p .mode) ≡ true) × Refillable (p .before) (p .order) lent
+    pub refillable : (promote (p .mode) ≡ true) × Refillable (p .before) (p .order) (p .cap) lent
     refillable =
         let s = sound-of p target (length lent) passes in (
           s .fills,
           record {
             few = omega (arith, s .before, s .few-corridors);
             order-size = s .order ∙ sym (s .before);
+            cap-size = s .cap ∙ sym (s .before);
             circuits-size = s .places-are ∙ sym (s .before);
             counts = λ k h. s .counts k (omega (arith, s .before)) .1;
             named = λ j h. subst (λ (n : ℕ). getD (p .order) j 0 < n) (sym (s .before)) (s .named j h);
@@ -123,7 +128,7 @@ module _ (p : Kept) (target : ℕ) (lent : List ℕ) where
     preview-answered circuits h = ap (outcome Answered) h ∙ sym (ap (λ (o : Option Refusal). previewBy o p target lent) passes)
 
 -- ---- filling anew
-module _ (mode : PlanMode) (target : ℕ) (before order lent all ahead circuits : List ℕ) (fills : promote mode ≡ true) (h : Refillable before order lent)
+module _ (mode : PlanMode) (target : ℕ) (before order cap lent all ahead circuits : List ℕ) (fills : promote mode ≡ true) (h : Refillable before order cap lent)
     (a : take (length order) all ≡ order) (w : Whole all) (b : take (length before) ahead ≡ before) (c : circuits ≡ take (length lent) ahead) where
   is-before : circuits ≡ before
   is-before = c ∙ ap (λ (n : ℕ). take n ahead) (h .circuits-size) ∙ b
@@ -131,30 +136,33 @@ module _ (mode : PlanMode) (target : ℕ) (before order lent all ahead circuits 
   is-order : take (length circuits) all ≡ order
   is-order = ap (λ (l : List ℕ). take (length l) all) is-before ∙ ap (λ (n : ℕ). take n all) (sym (h .order-size)) ∙ a
 
-  pub fills-anew : Ranked (length circuits) all (length circuits) × Counted circuits
+  pub fills-anew : (Ranked (length circuits) all (length circuits) × (length cap ≡ length circuits)) × Counted circuits
   fills-anew =
-      subst (λ (l : List ℕ). Ranked (length l) all (length l) × Counted l) (sym is-before) (
-        record {
-          few = h .few;
-          size = w;
-          below = λ j q.
-              let e : getD (take (length order) all) j 0 ≡ getD all j 0 = getD-take (length order) all j 0 (omega (arith, h .order-size)) in
-              let f : getD (take (length order) all) j 0 ≡ getD order j 0 = ap (λ (l : List ℕ). getD l j 0) a in
-              omega (arith, h .named j (omega (arith, h .order-size)));
-        },
+      subst (λ (l : List ℕ). (Ranked (length l) all (length l) × (length cap ≡ length l)) × Counted l) (sym is-before) (
+        (
+          record {
+            few = h .few;
+            size = w;
+            below = λ j q.
+                let e : getD (take (length order) all) j 0 ≡ getD all j 0 = getD-take (length order) all j 0 (omega (arith, h .order-size)) in
+                let f : getD (take (length order) all) j 0 ≡ getD order j 0 = ap (λ (l : List ℕ). getD l j 0) a in
+                omega (arith, h .named j (omega (arith, h .order-size)));
+          },
+          h .cap-size,
+        ),
         record { few = h .few; each = h .counts },
       )
 
-  pub filled-anew : (circuits′ : List ℕ) → circuits′ ≡ fill (modeFor mode) target (take (length circuits) all) circuits .counts
-      → circuits′ ≡ refilled (keptAs mode (length before) before order) target
+  pub filled-anew : (circuits′ : List ℕ) → circuits′ ≡ fill (capsFor mode cap) target (take (length circuits) all) circuits .counts
+      → circuits′ ≡ refilled (keptAs mode (length before) before order cap) target
   unfolding fill fullAt refilled
   filled-anew circuits′ e =
       e
-      ∙ ap (λ (l : List ℕ). fill (modeFor mode) target l circuits .counts) is-order
-      ∙ ap (λ (l : List ℕ). fill (modeFor mode) target order l .counts) is-before
-      ∙ ap (λ (t : Bool). filledIf t fullFor target order (unfilled before) .counts) fills
+      ∙ ap (λ (l : List ℕ). fill (capsFor mode cap) target l circuits .counts) is-order
+      ∙ ap (λ (l : List ℕ). fill (capsFor mode cap) target order l .counts) is-before
+      ∙ ap (λ (t : Bool). filledIf t (fullOf cap) target order (unfilled before) .counts) fills
 
 -- the number of corridors is no part of the filling
-pub refilled-as : (mode : PlanMode) (m n target : ℕ) (before order : List ℕ) → refilled (keptAs mode m before order) target ≡ refilled (keptAs mode n before order) target
+pub refilled-as : (mode : PlanMode) (m n target : ℕ) (before order cap : List ℕ) → refilled (keptAs mode m before order cap) target ≡ refilled (keptAs mode n before order cap) target
 unfolding refilled
-refilled-as mode m n target before order = refl
+refilled-as mode m n target before order cap = refl

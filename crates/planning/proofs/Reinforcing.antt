@@ -33,12 +33,12 @@ use Rattle.planning.proofs.Orders.{filled-at}
 use Rattle.planning.proofs.Stiffenings.{room-lifts}
 use Rattle.planning.proofs.Gains.{gains-are}
 
-module _ (root : ℕ) (excess : Float) (g : Limits) (ladder : List Float) (level a b : List ℕ) (km share sheet : List Float) (leader : List ℕ) (angle phi : List Float)
+module _ (root : ℕ) (excess : Float) (g : Limits) (ladder : List Float) (level a b : List ℕ) (km share : List Float) (cap : List ℕ) (sheet : List Float) (leader : List ℕ) (angle phi : List Float)
     (circuits : List ℕ) (banks : List Float) (t : Stiffness) (pc : length circuits ≡ length a) (none gain : List Float) (order : List ℕ) (count most taken : ℕ)
-    (pg : gain ≡ filled none (gainAt g ladder level a b km share sheet leader angle phi circuits banks t root) (length a))
+    (pg : gain ≡ filled none (gainAt g ladder level a b km share cap sheet leader angle phi circuits banks t root) (length a))
     (po : take count order ≡ gainOrder gain (length a)) (pm : most ≡ batchCap (pairsFor a []) leader root)
     (pt : take taken order ≡ batch most nought excess (map (gainFor gain) (take count order))) where
-  module _ (o : Case) (floors : List Float) (upsized marks : List ℕ) (p : length a ≡ o .corridors) (q : length ladder ≡ levels o) where
+  module _ (o : Case) (floors : List Float) (upsized marks : List ℕ) (p : length a ≡ o .corridors) (q : length ladder ≡ levels o) (caps : o .cap ≡ cap) where
     abbrev C : Case
     C = withLines o ladder a b km share sheet
 
@@ -48,13 +48,14 @@ module _ (root : ℕ) (excess : Float) (g : Limits) (ladder : List Float) (level
     abbrev test : ℕ → Bool
     test = candidate C leader level (budgetFor g) root S
 
-    candidate-lifts : (k : ℕ) → k < length a → candidateAt g leader level a b circuits t root k ≡ test k
+    candidate-lifts : (k : ℕ) → k < length a → candidateAt g leader level a b cap circuits t root k ≡ test k
     candidate-lifts k h =
-        ap (λ (x : Bool). within leader root (getD a k 0) && (x || (canRaise (pairsFor a b) level (g .top) k && ltb (t .hv) (g .hv)))) (room-lifts C g k S (omega arith))
+        ap (λ (l : List ℕ). candidateAt g leader level a b l circuits t root k) (sym caps)
+        ∙ ap (λ (x : Bool). within leader root (getD a k 0) && (x || (canRaise (pairsFor a b) level (g .top) k && ltb (t .hv) (g .hv)))) (room-lifts C g k S (omega arith))
 
     gain-is : (k : ℕ) → k < length a → at gain k ≡ gainIf (test k) (gainOf angle phi (design (drawnAll C level banks) k))
     gain-is k h =
-        filled-at gain none (gainAt g ladder level a b km share sheet leader angle phi circuits banks t root) (length a) k nan pg h
+        filled-at gain none (gainAt g ladder level a b km share cap sheet leader angle phi circuits banks t root) (length a) k nan pg h
         ∙ ap (λ (x : Bool). gainIf x (gainOf angle phi (design (designsFor ladder level a b km share sheet banks) k))) (candidate-lifts k h)
         ∙ ap (λ (ds : List CircuitDesign). gainIf (test k) (gainOf angle phi (design ds k))) (drawn-all-lifts C level banks p q)
 
@@ -70,21 +71,21 @@ module _ (root : ℕ) (excess : Float) (g : Limits) (ladder : List Float) (level
         ∙ ap (λ (n : ℕ). batch most nought excess (gains (drawnAll C level banks) angle phi (passing test n) [])) p
         ∙ ap (λ (n : ℕ). batch n nought excess (gains (drawnAll C level banks) angle phi (passing test (o .corridors)) [])) (pm ∙ cap-lifts)
 
-  pub batch-chosen : taken ≤ count → count ≤ length a → Ranked (length a) order count → Chosen root excess g ladder level a b km share sheet leader angle phi circuits banks t order taken
+  pub batch-chosen : taken ≤ count → count ≤ length a → Ranked (length a) order count → Chosen root excess g ladder level a b km share cap sheet leader angle phi circuits banks t order taken
   batch-chosen h k r =
       record {
         few = omega arith;
         ranked = record { few = r .few; size = r .size; below = λ j w. r .below j (omega arith) };
-        chosen = λ o floors upsized marks f. chosen-is o floors upsized marks (f .0) (f .1);
+        chosen = λ o floors upsized marks f. chosen-is o floors upsized marks (f .0) (f .1) (f .2);
       }
 
-pub reinforced : (root : ℕ) (excess : Float) (g : Limits) (ladder : List Float) (level a b : List ℕ) (km share sheet : List Float) (leader : List ℕ) (angle phi : List Float)
+pub reinforced : (root : ℕ) (excess : Float) (g : Limits) (ladder : List Float) (level a b : List ℕ) (km share : List Float) (cap : List ℕ) (sheet : List Float) (leader : List ℕ) (angle phi : List Float)
     (circuits : List ℕ) (banks floors : List Float) (upsized marks : List ℕ) (t : Stiffness) (order : List ℕ) (taken : ℕ)
     (circuits′ : List ℕ) (banks′ floors′ : List Float) (upsized′ marks′ : List ℕ) (t′ : Stiffness)
-    → Chosen root excess g ladder level a b km share sheet leader angle phi circuits banks t order taken
-    → BatchStiffened (take taken order) g ladder level a b km share sheet circuits banks floors upsized marks t circuits′ banks′ floors′ upsized′ marks′ t′
-    → Stepped (reinforceStep root excess g level leader angle phi) ladder level a b km share sheet circuits banks floors upsized marks t circuits′ banks′ floors′ upsized′ marks′ (Going t′)
-reinforced root excess g ladder level a b km share sheet leader angle phi circuits banks floors upsized marks t order taken circuits′ banks′ floors′ upsized′ marks′ t′ k r =
+    → Chosen root excess g ladder level a b km share cap sheet leader angle phi circuits banks t order taken
+    → BatchStiffened (take taken order) g ladder level a b km share cap sheet circuits banks floors upsized marks t circuits′ banks′ floors′ upsized′ marks′ t′
+    → Stepped (reinforceStep root excess g level leader angle phi) ladder level a b km share cap sheet circuits banks floors upsized marks t circuits′ banks′ floors′ upsized′ marks′ (Going t′)
+reinforced root excess g ladder level a b km share cap sheet leader angle phi circuits banks floors upsized marks t order taken circuits′ banks′ floors′ upsized′ marks′ t′ k r =
     let h = k .few in
     let w : taken ≤ length order = omega (arith, k .few, k .ranked .few, k .ranked .size) in
     let n = length-take-le taken order w in

@@ -69,15 +69,15 @@ pub few-high : (level : List ℕ) (top : ℕ) → atOrAbove level top ≤ length
 few-high level top = count-most (λ i. leb (getD level i 0) top) (length level) 0
 
 -- what is left to size, where levels and banks are as before
-pub still-sized : (mode : PlanMode) (ladder : List Float) (a b : List ℕ) (km share sheet flow : List Float) (k : ℕ) (circuits : List ℕ) (floors : List Float) (upsized marks : List ℕ) (t : Tally)
+pub still-sized : (mode : PlanMode) (ladder : List Float) (a b : List ℕ) (km share : List Float) (cap : List ℕ) (sheet flow : List Float) (k : ℕ) (circuits : List ℕ) (floors : List Float) (upsized marks : List ℕ) (t : Tally)
     (circuits₀ : List ℕ) (banks₀ floors₀ : List Float) (upsized₀ : List ℕ) (capacity : ℕ) (level level′ : List ℕ) (banks banks′ : List Float) → level′ ≡ level → banks′ ≡ banks
-    → left mode (length level) ladder level a b km share sheet flow k circuits banks floors upsized marks t
-    ≡ sizeAll (sizeFor mode (length level) ladder a b km share sheet) level flow (buildOf (sizeFor mode (length level) ladder a b km share sheet) level circuits₀ banks₀ floors₀ upsized₀) capacity
-    → left mode (length level′) ladder level′ a b km share sheet flow k circuits banks′ floors upsized marks t
-    ≡ sizeAll (sizeFor mode (length level′) ladder a b km share sheet) level′ flow (buildOf (sizeFor mode (length level′) ladder a b km share sheet) level′ circuits₀ banks₀ floors₀ upsized₀) capacity
-still-sized mode ladder a b km share sheet flow k circuits floors upsized marks t circuits₀ banks₀ floors₀ upsized₀ capacity level level′ banks banks′ e f q = rw (e, f) q
+    → left mode (length level) ladder level a b km share cap sheet flow k circuits banks floors upsized marks t
+    ≡ sizeAll (sizeFor mode (length level) ladder a b km share cap sheet) level flow (buildOf (sizeFor mode (length level) ladder a b km share cap sheet) level circuits₀ banks₀ floors₀ upsized₀) capacity
+    → left mode (length level′) ladder level′ a b km share cap sheet flow k circuits banks′ floors upsized marks t
+    ≡ sizeAll (sizeFor mode (length level′) ladder a b km share cap sheet) level′ flow (buildOf (sizeFor mode (length level′) ladder a b km share cap sheet) level′ circuits₀ banks₀ floors₀ upsized₀) capacity
+still-sized mode ladder a b km share cap sheet flow k circuits floors upsized marks t circuits₀ banks₀ floors₀ upsized₀ capacity level level′ banks banks′ e f q = rw (e, f) q
 
-module _ (mode : PlanMode) (above : ℕ) (ladder : List Float) (a b : List ℕ) (km share sheet load : List Float) (bus : List ℕ) (pmax : List Float) (leader grounds : List ℕ)
+module _ (mode : PlanMode) (above : ℕ) (ladder : List Float) (a b : List ℕ) (km share : List Float) (cap : List ℕ) (sheet load : List Float) (bus : List ℕ) (pmax : List Float) (leader grounds : List ℕ)
     (injection : List Float) (n : ℕ) where
   abbrev C : Case → Case
   C o = roundsCase o mode above ladder a b km share sheet load bus pmax
@@ -85,9 +85,12 @@ module _ (mode : PlanMode) (above : ℕ) (ladder : List Float) (a b : List ℕ) 
   abbrev P : Case → Peak
   P o = peakFor (o .buses) grounds injection
 
-  -- ---- two ways to go on that come to the same, of every such case of n buses
+  -- ---- two ways to go on that come to the same, of every such case of n buses with these caps
+  abbrev pub Fits : Case → Type 0
+  Fits o = (n ≡ o .buses) × (o .cap ≡ cap)
+
   abbrev pub Alike : (Case → Stage Draft) → (Case → Stage Draft) → Type 0
-  Alike X W = (o : Case) (target : ℕ) → Sound (C o) target → n ≡ o .buses → X o ≡ W o
+  Alike X W = (o : Case) (target : ℕ) → Sound (C o) target → Fits o → X o ≡ W o
 
   pub alike-trans : (X Y W : Case → Stage Draft) → Alike X Y → Alike Y W → Alike X W
   alike-trans X Y W f g o target s e = f o target s e ∙ g o target s e
@@ -175,14 +178,14 @@ module _ (mode : PlanMode) (above : ℕ) (ladder : List Float) (a b : List ℕ) 
     abbrev Solved : Case → PlanningCase
     Solved o = record { edges = edgesFor (drawnAll (C o) level banks) circuits; theta = theta; flows = flow }
 
-    lifted : (o : Case) (target : ℕ) → Sound (C o) target → n ≡ o .buses → solvedOf r (Solved o .edges) theta flow ≡ planningState (P o) (drawnAll (C o) level banks) circuits angle
+    lifted : (o : Case) (target : ℕ) → Sound (C o) target → Fits o → solvedOf r (Solved o .edges) theta flow ≡ planningState (P o) (drawnAll (C o) level banks) circuits angle
     lifted o target s e =
         let l = draws-lift (C o) (s .ladder-size) (s .a-size) level banks in
         ap (λ (ds : List CircuitDesign). solvedOf r (edgesFor ds circuits) theta flow) (sym l) ∙ solved
         ∙ ap (λ (ds : List CircuitDesign). planningState (peakFor (length level) grounds injection) ds circuits angle) l
-        ∙ ap (λ (m : ℕ). planningState (peakFor m grounds injection) (drawnAll (C o) level banks) circuits angle) (size ∙ e)
+        ∙ ap (λ (m : ℕ). planningState (peakFor m grounds injection) (drawnAll (C o) level banks) circuits angle) (size ∙ e .0)
 
-    begun : (o : Case) (target : ℕ) → Sound (C o) target → n ≡ o .buses → then d o (oneRound (C o) (P o) leader (S o)) ≡ W o
+    begun : (o : Case) (target : ℕ) → Sound (C o) target → Fits o → then d o (oneRound (C o) (P o) leader (S o)) ≡ W o
     unfolding rounds
     begun o target s e = ap (λ (m : ℕ). rounds (C o) (P o) leader m (S o)) (sym some) ∙ whole o target s e
 
@@ -202,15 +205,18 @@ module _ (mode : PlanMode) (above : ℕ) (ladder : List Float) (a b : List ℕ) 
 
     -- ---- every corridor is sized
     module _ (q : r ≡ Answered) (circuits′ : List ℕ) (banks′ floors′ : List Float) (upsized′ marks′ : List ℕ) (t : Tally) (k : ℕ) (all : length a ≤ k)
-        (sized : left mode (length level) ladder level a b km share sheet flow k circuits′ banks′ floors′ upsized′ marks′ t
-        ≡ sizeAll (sizeFor mode (length level) ladder a b km share sheet) level flow (buildOf (sizeFor mode (length level) ladder a b km share sheet) level circuits banks floors upsized) (p .capacity)) where
+        (sized : left mode (length level) ladder level a b km share cap sheet flow k circuits′ banks′ floors′ upsized′ marks′ t
+        ≡ sizeAll (sizeFor mode (length level) ladder a b km share cap sheet) level flow (buildOf (sizeFor mode (length level) ladder a b km share cap sheet) level circuits banks floors upsized) (p .capacity)) where
       abbrev Z : Case → Sizing
       Z o = sizingOf (C o) level circuits′ banks′ floors′ upsized′ marks′ t
 
-      sized-is : (o : Case) (target : ℕ) → Sound (C o) target → n ≡ o .buses → Z o ≡ sizeAll (C o) level flow (S o .build) (p .capacity)
+      sized-is : (o : Case) (target : ℕ) → Sound (C o) target → Fits o → Z o ≡ sizeAll (C o) level flow (S o .build) (p .capacity)
       sized-is o target s e =
-          size-lifts (C o) level flow (p .capacity) circuits banks floors upsized circuits′ banks′ floors′ upsized′ marks′ t (size ∙ e) (s .a-size) (s .ladder-size)
-          (sym (left-end mode (length level) ladder level a b km share sheet flow k circuits′ banks′ floors′ upsized′ marks′ t all) ∙ sized)
+          size-lifts (C o) level flow (p .capacity) circuits banks floors upsized circuits′ banks′ floors′ upsized′ marks′ t (size ∙ e .0) (s .a-size) (s .ladder-size)
+          (subst (λ (l : List ℕ).
+          sizingOf (sizeFor mode (length level) ladder a b km share l sheet) level circuits′ banks′ floors′ upsized′ marks′ t
+          ≡ sizeAll (sizeFor mode (length level) ladder a b km share l sheet) level flow (buildOf (sizeFor mode (length level) ladder a b km share l sheet) level circuits banks floors upsized) (p .capacity)) (sym (e .1))
+          (sym (left-end mode (length level) ladder level a b km share cap sheet flow k circuits′ banks′ floors′ upsized′ marks′ t all) ∙ sized))
 
       sized-on : Alike (λ o. then d o (sizedTo (C o) (P o) leader (S o) (Solved o) (Z o))) W
       sized-on o target s e = ap (λ (z : Sizing). then d o (sizedTo (C o) (P o) leader (S o) (Solved o) z)) (sized-is o target s e) ∙ round-solved q o target s e
@@ -275,7 +281,7 @@ module _ (mode : PlanMode) (above : ℕ) (ladder : List Float) (a b : List ℕ) 
         budget-is o e =
             limits ∙ ap budgetAt (size ∙ e)
 
-        round-is : (o : Case) (target : ℕ) → Sound (C o) target → n ≡ o .buses → roundOf (length a) from to weight theta flow ≡ Solved o
+        round-is : (o : Case) (target : ℕ) → Sound (C o) target → Fits o → roundOf (length a) from to weight theta flow ≡ Solved o
         round-is o target s e =
             ap (λ (E : Edges). the-case E)
             (edges
@@ -310,8 +316,8 @@ module _ (mode : PlanMode) (above : ℕ) (ladder : List Float) (a b : List ℕ) 
             let ends = closes level theta running t o in
             ap (λ (ks : List ℕ). then d o (onward (eachStage (component level (p .rounds + 1) g from to weight theta flow o) ks (stiffOf (C o) level circuits′ banks′ floors′ upsized′ marks″ u)) ends))
             (pass-start (leads leader) (length leader))
-            ∙ ap (λ (x : Stiffening). then d o (onward (eachStage (component level (p .rounds + 1) g from to weight theta flow o) (roots leader) x) ends)) (start-is o e)
-            ∙ ap (λ (B : Budget). then d o (onward (eachStage (stiffenComponent (C o) (P o) leader level (p .rounds + 1) B (roundOf (length a) from to weight theta flow)) (roots leader) start) ends)) (budget-is o e)
+            ∙ ap (λ (x : Stiffening). then d o (onward (eachStage (component level (p .rounds + 1) g from to weight theta flow o) (roots leader) x) ends)) (start-is o (e .0))
+            ∙ ap (λ (B : Budget). then d o (onward (eachStage (stiffenComponent (C o) (P o) leader level (p .rounds + 1) B (roundOf (length a) from to weight theta flow)) (roots leader) start) ends)) (budget-is o (e .0))
             ∙ ap (λ (v : PlanningCase). then d o (onward (eachStage (stiffenComponent (C o) (P o) leader level (p .rounds + 1) G v) (roots leader) start) ends)) (round-is o target s e)
             ∙ ap (λ (i : ℕ). then d o (onward (eachStage (stiffenComponent (C o) (P o) leader level i G (Solved o)) (roots leader) start) ends)) (add-one (p .rounds))
             ∙ ap (then d o) (onward-same (eachStage (stiffenComponent (C o) (P o) leader level (suc (p .rounds)) G (Solved o)) (roots leader) start) ends (stiffenedTo (C o) (P o) leader (S o) (Solved o) (Z o)) (closes-is o))
@@ -329,15 +335,15 @@ module _ (mode : PlanMode) (above : ℕ) (ladder : List Float) (a b : List ℕ) 
       (i : ℕ) (circuits : List ℕ) (banks floors : List Float) (upsized marks : List ℕ) (s : Stiffness)
       (whole : Alike (stiffensOn d level g from to weight theta flow p t i circuits banks floors upsized marks s) W) where
     module _ (more : i < length leader) (circuits′ : List ℕ) (banks′ floors′ : List Float) (upsized′ marks′ : List ℕ) (r : Stiffened)
-        (led : LedStiffened i (p .rounds) g ladder level a b km share sheet leader grounds from to weight theta circuits banks floors upsized marks s circuits′ banks′ floors′ upsized′ marks′ r) where
-      stepped : (o : Case) (target : ℕ) → Sound (C o) target → n ≡ o .buses
+        (led : LedStiffened i (p .rounds) g ladder level a b km share cap sheet leader grounds from to weight theta circuits banks floors upsized marks s circuits′ banks′ floors′ upsized′ marks′ r) where
+      stepped : (o : Case) (target : ℕ) → Sound (C o) target → Fits o
           → then d o (onward (onward (stiffenedAs r (C o) level circuits′ banks′ floors′ upsized′ marks′) (eachStage (component level (p .rounds) g from to weight theta flow o) (passFrom (leads leader) (length leader - (i + 1)) (i + 1)))) (closes level theta p t o))
           ≡ W o
       unfolding stiffensOn
       stepped o target sound e =
           ap (λ (st : Stage Stiffening). then d o (onward st (closes level theta p t o)))
           (stage-step (component level (p .rounds) g from to weight theta flow o) (leads leader) (length leader) i more (stiffOf (C o) level circuits banks floors upsized marks s)
-          (stiffenedAs r (C o) level circuits′ banks′ floors′ upsized′ marks′) (led .stiffened (withUnits o mode above load bus pmax) target injection flow sound (size ∙ e)))
+          (stiffenedAs r (C o) level circuits′ banks′ floors′ upsized′ marks′) (led .stiffened (withUnits o mode above load bus pmax) target injection flow sound (size ∙ e .0) (e .1)))
           ∙ whole o target sound e
 
       pub stiffen-refused : (f : Refusal) → r ≡ Unstiffened f → Alike (λ o. stopped f) W

@@ -78,14 +78,14 @@ module _ (c : Case) (r : Ready) (few : c .above ≤ length (c .ladder)) (size : 
   level = r .draft .level
 
   abbrev by : ℕ → List ℕ → PlanningCase → Ended
-  by filler circuits v = endedBy (c .mode) (c .above) (r .led) (c .ladder) level ds (r .draft .build .upsized) (r .peak) filler (r .draft .build .circuits) (r .order) circuits v
+  by filler circuits v = endedBy (c .mode) (c .cap) (c .above) (r .led) (c .ladder) level ds (r .draft .build .upsized) (r .peak) filler (r .draft .build .circuits) (r .order) circuits v
 
   ended-is : (f : Filled) (v : PlanningCase) → endedFor (c .above) (planOf c r f v) ≡ by (f .filler) (f .counts) v
   ended-is f v =
       rw (closing-lifts c ds size (r .led) level (f .counts) (r .draft .build .upsized) (v .flows) (v .theta) few, tiers-lift c level, added-lifts c level)
 
   abbrev closedBy : Filled → Stage Ended
-  closedBy f = closedAfter (c .mode) (c .above) (r .led) (c .ladder) level ds (r .draft .build .upsized) (r .peak) (r .draft .build .circuits) (r .order) f
+  closedBy f = closedAfter (c .mode) (c .cap) (c .above) (r .led) (c .ladder) level ds (r .draft .build .upsized) (r .peak) (r .draft .build .circuits) (r .order) f
 
   closed-is : (f : Filled) → endedOn (c .above) (closedWith c r f) ≡ closedBy f
   closed-is f =
@@ -102,18 +102,18 @@ module _ (c : Case) (r : Ready) (few : c .above ≤ length (c .ladder)) (size : 
 
 module _ (c : Case) (target : ℕ) (p : Opened) (s : Draft) (few : c .above ≤ length (c .ladder)) (size : length (s .build .designs) ≡ c .corridors) (n : p .peak .n ≡ c .buses) where
   abbrev filledBy : List Float → Stage Ended
-  filledBy = filledFrom (c .mode) (c .above) (p .led) (c .ladder) (s .level) (s .build .designs) (s .build .upsized) (p .peak) target (c .corridors) (s .build .circuits)
+  filledBy = filledFrom (c .mode) (c .cap) (c .above) (p .led) (c .ladder) (s .level) (s .build .designs) (s .build .upsized) (p .peak) target (c .corridors) (s .build .circuits)
 
   next-is : (v : PlanningCase) → endedOn (c .above) (closing c target (readyWith c p s v)) ≡ filledBy (v .flows)
   next-is v =
       filled-is c (readyWith c p s v) few size n target
       ∙ ap
-      (closedAfter (c .mode) (c .above) (p .led) (c .ladder) (s .level) (s .build .designs) (s .build .upsized) (p .peak) (s .build .circuits)
+      (closedAfter (c .mode) (c .cap) (c .above) (p .led) (c .ladder) (s .level) (s .build .designs) (s .build .upsized) (p .peak) (s .build .circuits)
       (orderOf (c .corridors) (s .build .designs) (s .build .circuits) (v .flows)))
       (sym (fill-lifts c target (orderOf (c .corridors) (s .build .designs) (s .build .circuits) (v .flows)) (s .build .circuits)))
 
   pub settled-is : endedOn (c .above) (onward (settledTo c p s) (closing c target))
-      ≡ settledFrom (c .mode) (c .above) (p .led) (c .ladder) (s .level) (s .build .designs) (s .build .upsized) (p .peak) target (c .corridors) (s .build .circuits)
+      ≡ settledFrom (c .mode) (c .cap) (c .above) (p .led) (c .ladder) (s .level) (s .build .designs) (s .build .upsized) (p .peak) target (c .corridors) (s .build .circuits)
   settled-is =
       go (planningState (p .peak) (s .build .designs) (s .build .circuits) (zeros (c .buses)))
       ∙ ap (λ (k : ℕ). onward (planningState (p .peak) (s .build .designs) (s .build .circuits) (zeros k)) (λ v. filledBy (v .flows))) (sym n)
@@ -126,12 +126,12 @@ module _ (c : Case) (target : ℕ) (p : Opened) (s : Draft) (few : c .above ≤ 
 module _ (c : Case) (target : ℕ) (S : Sound c target) (leader grounds : List ℕ) (injection banks floors : List Float) (upsized circuits level : List ℕ) (p : Opened) (s : Draft)
     (size : length level ≡ c .buses) (led : p .led ≡ leader) (peak : p .peak ≡ peakFor (c .buses) grounds injection) (on : s .level ≡ level)
     (build : s .build ≡ buildOf c level circuits banks floors upsized) where
-  columns-settle : settledFrom (c .mode) (c .above) leader (c .ladder) level (designsFor (c .ladder) level (c .a) (c .b) (c .km) (c .share) (c .sheet) banks) upsized
+  columns-settle : settledFrom (c .mode) (c .cap) (c .above) leader (c .ladder) level (designsFor (c .ladder) level (c .a) (c .b) (c .km) (c .share) (c .sheet) banks) upsized
       (peakFor (length level) grounds injection) target (length (c .a)) circuits
       ≡ endedOn (c .above) (onward (settledTo c p s) (closing c target))
   columns-settle =
       let from : List ℕ → List ℕ → Build → Peak → ℕ → Stage Ended =
-      λ l v b P m. settledFrom (c .mode) (c .above) l (c .ladder) v (b .designs) (b .upsized) P target m (b .circuits) in
+      λ l v b P m. settledFrom (c .mode) (c .cap) (c .above) l (c .ladder) v (b .designs) (b .upsized) P target m (b .circuits) in
       ap (λ (ds : List CircuitDesign). from leader level (built circuits ds floors upsized) (peakFor (length level) grounds injection) (length (c .a))) (designs-lift c target S level banks)
       ∙ ap (λ (k : ℕ). from leader level (buildOf c level circuits banks floors upsized) (peakFor k grounds injection) (length (c .a))) size
       ∙ ap (from leader level (buildOf c level circuits banks floors upsized) (peakFor (c .buses) grounds injection)) (S .a-size)
@@ -144,24 +144,26 @@ module _ (c : Case) (target : ℕ) (S : Sound c target) (leader grounds : List �
       (ap (λ (P : Peak). P .n) peak))
 
 -- ---- as the contract says it
-pub settles : (mode : PlanMode) (target above : ℕ) (ladder : List Float) (a b : List ℕ) (km share sheet : List Float) (leader grounds : List ℕ) (injection banks : List Float)
+pub settles : (mode : PlanMode) (target above : ℕ) (ladder : List Float) (a b : List ℕ) (km share : List Float) (cap : List ℕ) (sheet : List Float) (leader grounds : List ℕ) (injection banks : List Float)
     (upsized circuits level circuits′ level′ : List ℕ) (flow′ rate′ angle′ added′ : List Float) (r : Settling)
     → endedOf (r .settled) (take (length a) (r .kept .before)) (take (length a) (r .kept .order)) circuits′ level′ flow′ rate′ angle′ added′
-    ≡ settledFrom mode above leader ladder level (designsFor ladder level a b km share sheet banks) upsized (peakFor (length level) grounds injection) target (length a) circuits
-    → Settles mode target above ladder a b km share sheet leader grounds injection banks upsized circuits level circuits′ level′ flow′ rate′ angle′ added′ r
-settles mode target above ladder a b km share sheet leader grounds injection banks upsized circuits level circuits′ level′ flow′ rate′ angle′ added′ r e =
+    ≡ settledFrom mode cap above leader ladder level (designsFor ladder level a b km share sheet banks) upsized (peakFor (length level) grounds injection) target (length a) circuits
+    → Settles mode target above ladder a b km share cap sheet leader grounds injection banks upsized circuits level circuits′ level′ flow′ rate′ angle′ added′ r
+settles mode target above ladder a b km share cap sheet leader grounds injection banks upsized circuits level circuits′ level′ flow′ rate′ angle′ added′ r e =
     record {
-      plan = λ o p s floors S size led peak on build.
+      plan = λ o p s floors S size caps led peak on build.
           let c = withLines (withUnits o mode above (o .load) (o .bus) (o .pmax)) ladder a b km share sheet in
           settled-as (take (length a) (r .kept .before)) (take (length a) (r .kept .order)) circuits′ level′ flow′ rate′ angle′ added′ c (r .settled) (onward (settledTo c p s) (closing c target))
-          (e ∙ columns-settle c target S leader grounds injection banks floors upsized circuits level p s size led peak on build);
+          (e
+          ∙ ap (λ (l : List ℕ). settledFrom mode l above leader ladder level (designsFor ladder level a b km share sheet banks) upsized (peakFor (length level) grounds injection) target (length a) circuits) (sym caps)
+          ∙ columns-settle c target S leader grounds injection banks floors upsized circuits level p s size led peak on build);
     }
 
-pub settles-refused : (mode : PlanMode) (target above : ℕ) (ladder : List Float) (a b : List ℕ) (km share sheet : List Float) (leader grounds : List ℕ) (injection banks : List Float)
+pub settles-refused : (mode : PlanMode) (target above : ℕ) (ladder : List Float) (a b : List ℕ) (km share : List Float) (cap : List ℕ) (sheet : List Float) (leader grounds : List ℕ) (injection banks : List Float)
     (upsized circuits level circuits′ level′ : List ℕ) (flow′ rate′ angle′ added′ : List Float) (r : Settling) (f : Refusal) → r .settled ≡ Refused f
     → stopped f
-    ≡ settledFrom mode above leader ladder level (designsFor ladder level a b km share sheet banks) upsized (peakFor (length level) grounds injection) target (length a) circuits
-    → Settles mode target above ladder a b km share sheet leader grounds injection banks upsized circuits level circuits′ level′ flow′ rate′ angle′ added′ r
-settles-refused mode target above ladder a b km share sheet leader grounds injection banks upsized circuits level circuits′ level′ flow′ rate′ angle′ added′ r f q e =
-    settles mode target above ladder a b km share sheet leader grounds injection banks upsized circuits level circuits′ level′ flow′ rate′ angle′ added′ r
+    ≡ settledFrom mode cap above leader ladder level (designsFor ladder level a b km share sheet banks) upsized (peakFor (length level) grounds injection) target (length a) circuits
+    → Settles mode target above ladder a b km share cap sheet leader grounds injection banks upsized circuits level circuits′ level′ flow′ rate′ angle′ added′ r
+settles-refused mode target above ladder a b km share cap sheet leader grounds injection banks upsized circuits level circuits′ level′ flow′ rate′ angle′ added′ r f q e =
+    settles mode target above ladder a b km share cap sheet leader grounds injection banks upsized circuits level circuits′ level′ flow′ rate′ angle′ added′ r
     (ap (λ (x : Settled). endedOf x (take (length a) (r .kept .before)) (take (length a) (r .kept .order)) circuits′ level′ flow′ rate′ angle′ added′) q ∙ e)

@@ -19,7 +19,7 @@ use Rattle.plan_defs.specs.Closing.{tiersOf, addedOf}
 use Rattle.plan_defs.specs.Outcome.{upTo}
 use Rattle.plan_defs.specs.declared.CircuitDesign.{CircuitDesign}
 use Rattle.planning.specs.Solve.{solvedOf, Lent}
-use Rattle.planning.specs.Fill.{modeFor, Loaded, Whole, Ranked, Counted}
+use Rattle.planning.specs.Fill.{capsFor, Loaded, Whole, Ranked, Counted}
 use Rattle.planning.specs.Size.{Few}
 use Rattle.planning.specs.Close.{levelsFor, closingOf}
 use Rattle.planning.specs.Settle.{Settleable, endedBy, closedFrom, closedAfter, filledIn, filledFrom}
@@ -48,11 +48,11 @@ module _ (n m : ℕ) (injection : List Float) (grounds : List ℕ) (angle flow a
         flow-size = q ∙ h .flow-size;
       }
 
-module _ (above : ℕ) (ladder : List Float) (level a b : List ℕ) (km share sheet : List Float) (leader grounds : List ℕ) (injection banks : List Float)
+module _ (above : ℕ) (ladder : List Float) (level a b : List ℕ) (km share : List Float) (cap : List ℕ) (sheet : List Float) (leader grounds : List ℕ) (injection banks : List Float)
     (upsized circuits : List ℕ) (flow rate angle added : List Float)
-    (h : Settleable above ladder level a b km share sheet leader grounds injection banks upsized circuits flow rate angle added) where
+    (h : Settleable above ladder level a b km share cap sheet leader grounds injection banks upsized circuits flow rate angle added) where
   pub settleable-again : (circuits′ : List ℕ) (flow′ angle′ : List Float) → length circuits′ ≡ length circuits → length flow′ ≡ length flow → length angle′ ≡ length angle
-      → Settleable above ladder level a b km share sheet leader grounds injection banks upsized circuits′ flow′ rate angle′ added
+      → Settleable above ladder level a b km share cap sheet leader grounds injection banks upsized circuits′ flow′ rate angle′ added
   settleable-again circuits′ flow′ angle′ p q w =
       record {
         drawing =
@@ -74,6 +74,7 @@ module _ (above : ℕ) (ladder : List Float) (level a b : List ℕ) (km share sh
               rate-size = h .closable .rate-size;
               added-size = h .closable .added-size;
             };
+        cap-size = h .cap-size;
       }
 
   -- what closing and filling ask of them
@@ -85,6 +86,9 @@ module _ (above : ℕ) (ladder : List Float) (level a b : List ℕ) (km share sh
         flow-size = h .lent .flow-size;
       }
 
+  pub caps-fit : length cap ≡ length circuits
+  caps-fit = h .cap-size ∙ sym (h .drawing .count-size)
+
   pub counted : Few circuits → Counted circuits
   counted few = record { few = omega (arith, h .drawing .count-size, h .drawing .few-corridors); each = λ k w. few k }
 
@@ -94,24 +98,24 @@ module _ (above : ℕ) (ladder : List Float) (level a b : List ℕ) (km share sh
       subst (λ (m : ℕ). Ranked m order m) (sym (h .drawing .count-size)) (order-ranked ds circuits flow (length a) order (h .drawing .few-corridors) w e)
 
 -- ---- the stages by columns, as calls say them
-module _ (mode : PlanMode) (above : ℕ) (led : List ℕ) (ladder : List Float) (level : List ℕ) (ds : List CircuitDesign) (upsized : List ℕ) (P : Peak) where
+module _ (mode : PlanMode) (cap : List ℕ) (above : ℕ) (led : List ℕ) (ladder : List Float) (level : List ℕ) (ds : List CircuitDesign) (upsized : List ℕ) (P : Peak) where
   pub closed-answered : (filler : ℕ) (before order circuits tier : List ℕ) (flow rate angle added : List Float) (c : Closing) (r : Answer) (E : Edges)
       → solvedOf r E angle flow ≡ planningState P ds circuits (zeros (P .n)) → r ≡ Answered
-      → c ≡ closingOf mode above led level ds circuits upsized flow angle → rate ≡ map (λ (d : CircuitDesign). d .«rate_a») ds → tier ≡ tiersOf (levelsFor above ladder) level
+      → c ≡ closingOf mode cap above led level ds circuits upsized flow angle → rate ≡ map (λ (d : CircuitDesign). d .«rate_a») ds → tier ≡ tiersOf (levelsFor above ladder) level
       → added ≡ upTo above nought (addedOf (levelsFor above ladder) level)
       → going (record { settlement = record { filler = filler; closing = c }; before = before; order = order; circuits = circuits; tier = tier; flow = flow; rate = rate; angle = angle; added = added })
-      ≡ closedFrom mode above led ladder level ds upsized P filler before order circuits
+      ≡ closedFrom mode cap above led ladder level ds upsized P filler before order circuits
   closed-answered filler before order circuits tier flow rate angle added c r E e q f g h i =
-      rw (f, g, h, i) (solved-answered (λ v. going (endedBy mode above led ladder level ds upsized P filler before order circuits v)) _ r E angle flow e q)
+      rw (f, g, h, i) (solved-answered (λ v. going (endedBy mode cap above led ladder level ds upsized P filler before order circuits v)) _ r E angle flow e q)
 
   pub filled-are : (target m filler : ℕ) (circuits order before′ order′ circuits′ : List ℕ) (flow : List Float) → length circuits ≡ m
       → take m order ≡ orderOf m ds circuits flow → before′ ≡ circuits → order′ ≡ take m order
-      → circuits′ ≡ fill (modeFor mode) target (take (length circuits) order) circuits .counts → filler ≡ fill (modeFor mode) target (take (length circuits) order) circuits .filler
-      → closedFrom mode above led ladder level ds upsized P filler before′ order′ circuits′ ≡ filledFrom mode above led ladder level ds upsized P target m circuits flow
+      → circuits′ ≡ fill (capsFor mode cap) target (take (length circuits) order) circuits .counts → filler ≡ fill (capsFor mode cap) target (take (length circuits) order) circuits .filler
+      → closedFrom mode cap above led ladder level ds upsized P filler before′ order′ circuits′ ≡ filledFrom mode cap above led ladder level ds upsized P target m circuits flow
   filled-are target m filler circuits order before′ order′ circuits′ flow e o u v p q =
-      ap (λ (n : ℕ). closedFrom mode above led ladder level ds upsized P n before′ order′ circuits′) q
-      ∙ ap (closedFrom mode above led ladder level ds upsized P (fill (modeFor mode) target (take (length circuits) order) circuits .filler) before′ order′) p
-      ∙ ap (λ (l : List ℕ). closedAfter mode above led ladder level ds upsized P l order′ (fill (modeFor mode) target (take (length circuits) order) circuits)) u
-      ∙ ap (λ (l : List ℕ). closedAfter mode above led ladder level ds upsized P circuits l (fill (modeFor mode) target (take (length circuits) order) circuits)) v
-      ∙ ap (λ (n : ℕ). closedAfter mode above led ladder level ds upsized P circuits (take m order) (fill (modeFor mode) target (take n order) circuits)) e
-      ∙ ap (filledIn mode above led ladder level ds upsized P target circuits) o
+      ap (λ (n : ℕ). closedFrom mode cap above led ladder level ds upsized P n before′ order′ circuits′) q
+      ∙ ap (closedFrom mode cap above led ladder level ds upsized P (fill (capsFor mode cap) target (take (length circuits) order) circuits .filler) before′ order′) p
+      ∙ ap (λ (l : List ℕ). closedAfter mode cap above led ladder level ds upsized P l order′ (fill (capsFor mode cap) target (take (length circuits) order) circuits)) u
+      ∙ ap (λ (l : List ℕ). closedAfter mode cap above led ladder level ds upsized P circuits l (fill (capsFor mode cap) target (take (length circuits) order) circuits)) v
+      ∙ ap (λ (n : ℕ). closedAfter mode cap above led ladder level ds upsized P circuits (take m order) (fill (capsFor mode cap) target (take n order) circuits)) e
+      ∙ ap (filledIn mode cap above led ladder level ds upsized P target circuits) o

@@ -14,7 +14,7 @@ use lib.Ieee.{Float, lt}
 use Rattle.loops.proofs.Bools.{both, no as never}
 use Rattle.impedance.specs.Impedance.{ratingOk}
 use Rattle.mode.specs.declared.PlanMode.{PlanMode}
-use Rattle.plan_defs.specs.Case.{Case, promote, circuitCap, capAt}
+use Rattle.plan_defs.specs.Case.{Case, promote, ownOr, circuitCap, capAt}
 use Rattle.plan_defs.specs.Design.{design}
 use Rattle.plan_defs.specs.Build.{bankBelow, setCount}
 use Rattle.plan_defs.specs.Raise.{topOf, canRaise, markIf}
@@ -106,9 +106,9 @@ module _ (mode : PlanMode) (need : ℕ) (level a b : List ℕ) (k : ℕ) (marks 
     raises-keeps e = ap (λ (z : Bool). markIf z (pairsFor a b) level k marks) (raises-none e)
 
 -- ---- growing
-module _ (mode : PlanMode) (level a b : List ℕ) (k : ℕ) (required : Float) (d : CircuitDesign) (circuits marks : List ℕ) (t : Tally) (has : Bool) (ph : has ≡ enough required (getD circuits k 0) d) where
+module _ (mode : PlanMode) (level a b cap : List ℕ) (k : ℕ) (required : Float) (d : CircuitDesign) (circuits marks : List ℕ) (t : Tally) (has : Bool) (ph : has ≡ enough required (getD circuits k 0) d) where
   abbrev C : Case
-  C = growFor mode a b
+  C = growFor mode a b cap
 
   grow-by : (designs : List CircuitDesign) (floors : List Float) (upsized : List ℕ) → design designs k ≡ d
       → growIf has C level required k (sizedOf designs floors upsized circuits marks t) ≡ grow C level required k (sizedOf designs floors upsized circuits marks t)
@@ -146,16 +146,17 @@ module _ (mode : PlanMode) (level a b : List ℕ) (k : ℕ) (required : Float) (
           few = λ f. f;
         }
 
-    pub grown-added : (cap : ℕ) (circuits′ : List ℕ) (t′ : Tally) → raised ≡ false → cap ≡ circuitCap (promote mode) (d .kv) → cap ≤ 6 → Adds cap need k circuits t circuits′ t′
+    pub grown-added : (most : ℕ) (circuits′ : List ℕ) (t′ : Tally) → raised ≡ false → most ≡ ownOr (getD cap k 0) (circuitCap (promote mode) (d .kv)) → most ≤ 6
+        → Adds most need k circuits t circuits′ t′
         → Grows C level required k d circuits marks t circuits′ marks′ t′
     unfolding capAt
-    grown-added cap circuits′ t′ r pc l q =
+    grown-added most circuits′ t′ r pc l q =
         record {
           sized = λ designs floors upsized e.
               let s = sizedOf designs floors upsized circuits marks t in
               ap (λ (m : List ℕ). sizedOf designs floors upsized circuits′ m t′) (pm ∙ ap (λ (x : Bool). markIf x (pairsFor a b) level k marks) (sym pr ∙ r))
               ∙ q .sized designs floors upsized marks
-              ∙ ap (λ (n : ℕ). addTo n need k s) (pc ∙ ap (λ (x : CircuitDesign). circuitCap (promote mode) (x .kv)) (sym e))
+              ∙ ap (λ (n : ℕ). addTo n need k s) (pc ∙ ap (λ (x : CircuitDesign). ownOr (getD cap k 0) (circuitCap (promote mode) (x .kv))) (sym e))
               ∙ ap (λ (x : Bool). raiseOrAdd x C level need k s) (sym r)
               ∙ raise-or-add designs floors upsized e;
           bound = omega (arith, q .bound);

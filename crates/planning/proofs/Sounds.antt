@@ -18,13 +18,13 @@ use Rattle.refusal.specs.declared.Answer.{Answer}
 use Rattle.refusal.specs.declared.Answer.the-variants.{Answered, Refused}
 use Rattle.impedance.specs.Impedance.{ratingOk}
 use Rattle.leaders.specs.Operation.{corridorOk}
-use Rattle.plan_defs.specs.Constants.{kvTolerance, mostInitial, rowFigures}
-use Rattle.plan_defs.specs.Case.{Case, levels, kvOf, loadOf, endA, endB, rowPlace, rowAt}
+use Rattle.plan_defs.specs.Constants.{kvTolerance, mostInitial, mostCap, rowFigures}
+use Rattle.plan_defs.specs.Case.{Case, levels, kvOf, loadOf, endA, endB, ownCap, rowPlace, rowAt}
 use Rattle.plan_defs.specs.Accept.{lengthsOk, countsOk, levelOk, busOk, generatorOk, corridorSound, rowOk, tablesFault, caseFault}
 use Rattle.plan_defs.specs.Plan.{endingOf}
 use Rattle.plan_defs.specs.Outcome.{Slices, slicesOk, outcome, outcomeIf, outcomeBy, planCorridors}
 use Rattle.plan_defs.specs.declared.Planned.the-variants.{Refused as Unplanned}
-use Rattle.plan_defs.proofs.Accepted.{Accepted, accepted, end-a, end-b, bus-below, unit-ok, tier-below, initial-few, row-inside, row-sound}
+use Rattle.plan_defs.proofs.Accepted.{Accepted, accepted, end-a, end-b, bus-below, unit-ok, tier-below, initial-few, cap-few, row-inside, row-sound}
 use Rattle.plan_theorems.proofs.Outcomes.{lengths-of as all-lengths}
 use Rattle.planning.specs.Design.{Lines, rateAt}
 use Rattle.planning.specs.Check.{tablesFor, placesIn, answerOf, checkOf}
@@ -65,7 +65,7 @@ module _ (c : Case) (target : ℕ) (ok : Accepted c target) where
         not-true-of true e = sym e
         not-true-of false e = refl
 
-    figures-ok : (inside nought tenThousand (at (c .km) k) && inside half one (at (c .share) k)) ≡ true
+    figures-ok : (inside nought tenThousand (at (c .km) k) && (inside half one (at (c .share) k) && leb (ownCap c k) mostCap)) ≡ true
     unfolding corridorSound
     figures-ok = both (leb (getD (c .circuits) k 0) mostInitial) _ (both (corridorOk (c .buses) (endA c k) (endB c k)) _ (ok .corridor-ok k h) .1) .1
 
@@ -94,6 +94,7 @@ module _ (c : Case) (target : ℕ) (ok : Accepted c target) where
         circuits-size = ok .columns .circuits;
         km-size = ok .columns .km;
         share-size = ok .columns .share;
+        cap-size = ok .columns .cap;
         sheet-size = ok .columns .sheet;
         few-buses = ok .counts .few-buses;
         few-corridors = ok .counts .few-corridors;
@@ -114,7 +115,8 @@ module _ (c : Case) (target : ℕ) (ok : Accepted c target) where
         ends-apart = ends-apart;
         initial-few = initial-few c target ok;
         km-inside = λ k h. both (inside nought tenThousand (at (c .km) k)) _ (figures-ok k h) .0;
-        share-inside = λ k h. both (inside nought tenThousand (at (c .km) k)) _ (figures-ok k h) .1;
+        share-inside = λ k h. both (inside half one (at (c .share) k)) _ (both (inside nought tenThousand (at (c .km) k)) _ (figures-ok k h) .1) .0;
+        cap-few = cap-few c target ok;
         row-inside = row-inside c target ok;
         row-sound = row-sound c target ok;
         row-rating = row-rating;
@@ -124,7 +126,7 @@ module _ (c : Case) (target : ℕ) (ok : Accepted c target) where
 pub sound : (c : Case) (target : ℕ) → caseFault c target ≡ none → Sound c target
 sound c target e = sound-of c target (accepted c target e)
 
--- ---- the lent slices: those of the stages, and those for what is kept of filling
+-- ---- the lent slices: those of the stages, and those for what is kept
 pub lengths-of : (c : Case) (s : Slices) → slicesOk c s ≡ true → Lengths c s
 lengths-of c s h =
     let l = all-lengths c s h in
@@ -141,8 +143,8 @@ lengths-of c s h =
       counts = l .counts;
     }
 
-pub kept-lengths : (c : Case) (s : Slices) → slicesOk c s ≡ true → (length (s .before) ≡ c .corridors) × (length (s .order) ≡ c .corridors)
-kept-lengths c s h = let l = all-lengths c s h in (l .before, l .order)
+pub kept-lengths : (c : Case) (s : Slices) → slicesOk c s ≡ true → (length (s .before) ≡ c .corridors) × (length (s .order) ≡ c .corridors) × (length (s .cap) ≡ c .corridors)
+kept-lengths c s h = let l = all-lengths c s h in (l .before, l .order, l .cap)
 
 -- how many places they have, as `check_case` is told
 abbrev pub placesOf : Slices → Places
@@ -153,6 +155,7 @@ placesOf s =
       rate = length (s .rate);
       before = length (s .before);
       order = length (s .order);
+      cap = length (s .cap);
       mw = length (s .mw);
       angle = length (s .angle);
       tier = length (s .tier);
@@ -166,7 +169,7 @@ placesOf s =
 abbrev pub tablesOf : Case → Case
 tablesOf c =
     tablesFor (c .buses) (c .corridors) (c .generators) (c .above) (c .requested) (c .ladder) (c .tier) (c .load) (c .bus) (c .slack) (c .pmin) (c .pmax) (c .c1) (c .c2)
-    (c .a) (c .b) (c .circuits) (c .km) (c .share) (c .sheet)
+    (c .a) (c .b) (c .circuits) (c .km) (c .share) (c .cap) (c .sheet)
 
 module _ (c : Case) (target : ℕ) (s : Slices) where
   places-are : placesIn (tablesOf c) (placesOf s) ≡ slicesOk c s

@@ -16,7 +16,8 @@ use Rattle.loops.specs.Figures.{at}
 use Rattle.loops.proofs.Bools.{both}
 use Rattle.impedance.specs.Impedance.{ratingOk}
 use Rattle.plan_defs.specs.Lists.{each}
-use Rattle.plan_defs.specs.Case.{Case, levels, fullAt}
+use Rattle.plan_defs.specs.Constants.{maxCircuitsPerCorridor, mostCap}
+use Rattle.plan_defs.specs.Case.{Case, levels, ownOr, ownCap, fullAt}
 use Rattle.plan_defs.specs.Design.{setTransformerMva, drawn, design}
 use Rattle.plan_defs.specs.Build.{Build, built, buildOf, setBank, setCount, bankBelow, drawnAll}
 use Rattle.plan_defs.specs.Raise.{raiseOf, canRaise, markEnds, markIf}
@@ -25,6 +26,7 @@ use Rattle.plan_defs.specs.declared.Raise.{Raise}
 use Rattle.plan_defs.specs.declared.Raise.the-variants.{Stay, To}
 use Rattle.plan_defs.specs.declared.CircuitDesign.{CircuitDesign}
 use Rattle.plan_defs.proofs.Lists.{each-append}
+use Rattle.plan_defs.proofs.Accepted.{own-few}
 use Rattle.planning.specs.Raise.{pairsFor}
 use Rattle.planning.specs.Stiffen.{budgetFor, stiffOf, stiffOver, raisable, roomFor, reckoned, Strengthened, BatchStiffened}
 use Rattle.planning.specs.declared.stiffen.Limits.{Limits}
@@ -74,7 +76,14 @@ stiff-same build marks total total′ hv hv′ stiffening stiffening′ wide sti
     ∙ ap (λ (n : ℕ). stiff build marks total′ n stiffening wide stiffened) q
     ∙ ap (λ (n : ℕ). stiff build marks total′ hv′ n wide stiffened) r
 
-module _ (g : Limits) (level a b : List ℕ) (k : ℕ) (circuits marks : List ℕ) (t : Stiffness) (raised : Bool) (marks′ : List ℕ)
+-- a corridor with room has fewer than six
+pub room-below : (g : Limits) (own count total : ℕ) (r : Bool) → own ≤ mostCap → r ≡ roomFor g own count total → r ≡ true → count < 6
+room-below g own count total r h p e =
+    let full = ownOr own maxCircuitsPerCorridor in
+    let w : count < full = ltb-true count full (both (ltb count full) (ltb total (g .branches)) (sym p ∙ e) .0) in
+    omega (arith, own-few own maxCircuitsPerCorridor h (omega arith))
+
+module _ (g : Limits) (own : ℕ) (level a b : List ℕ) (k : ℕ) (circuits marks : List ℕ) (t : Stiffness) (raised : Bool) (marks′ : List ℕ)
     (pr : raised ≡ raisable g (t .hv) level a b k) (pm : marks′ ≡ markIf (raisable g (t .hv) level a b k) (pairsFor a b) level k marks) where
   abbrev P : Case
   P = pairsFor a b
@@ -83,16 +92,16 @@ module _ (g : Limits) (level a b : List ℕ) (k : ℕ) (circuits marks : List �
   marks-are x e = pm ∙ ap (λ (z : Bool). markIf z P level k marks) (sym pr ∙ e)
 
   -- the tests decided
-  decided : (x y : Bool) (s : Stiffening) → raised ≡ x → roomFor g (getD circuits k 0) (t .total) ≡ y
+  decided : (x y : Bool) (s : Stiffening) → raised ≡ x → roomFor g own (getD circuits k 0) (t .total) ≡ y
       → stiffenBy false x y P level (budgetFor g) k s
-      ≡ stiffenBy false (raisable g (t .hv) level a b k) (roomFor g (getD circuits k 0) (t .total)) P level (budgetFor g) k s
+      ≡ stiffenBy false (raisable g (t .hv) level a b k) (roomFor g own (getD circuits k 0) (t .total)) P level (budgetFor g) k s
   decided x y s e f =
       ap (λ (z : Bool). stiffenBy false z y P level (budgetFor g) k s) (sym e ∙ pr)
       ∙ ap (λ (z : Bool). stiffenBy false (raisable g (t .hv) level a b k) z P level (budgetFor g) k s) (sym f)
 
   pub strengthened-raised : (arrived : ℕ) (t′ : Stiffness) → raised ≡ true
       → arrived ≡ arrival (g .top) level marks′ (getD a k 0) + arrival (g .top) level marks′ (getD b k 0) → arrived ≤ 2 → t′ ≡ reckoned 0 arrived t
-      → Strengthened g level a b k circuits marks t circuits marks′ t′
+      → Strengthened g own level a b k circuits marks t circuits marks′ t′
   strengthened-raised arrived t′ e pa h pt =
       let z : t .total + 0 ≡ t .total = omega arith in
       let w : t .stiffening + 0 ≡ t .stiffening = omega arith in
@@ -108,17 +117,17 @@ module _ (g : Limits) (level a b : List ℕ) (k : ℕ) (circuits marks : List �
             (t .hv + (arrival (g .top) level marks′ (getD a k 0) + arrival (g .top) level marks′ (getD b k 0)))
             (t .stiffening + 0) (t .stiffening) (t .wide) true z (ap (λ (n : ℕ). t .hv + n) pa) w
             ∙ ap (λ (l : List ℕ). stiff B l (t .total) (t .hv + (arrival (g .top) level l (getD a k 0) + arrival (g .top) level l (getD b k 0))) (t .stiffening) (t .wide) true) m
-            ∙ decided true (roomFor g (getD circuits k 0) (t .total)) (stiffOver designs floors upsized circuits marks t) e refl;
+            ∙ decided true (roomFor g own (getD circuits k 0) (t .total)) (stiffOver designs floors upsized circuits marks t) e refl;
         few = λ f. f;
         bound = (omega arith, omega arith, omega arith);
       }
 
-  pub strengthened-added : (t′ : Stiffness) → raised ≡ false → roomFor g (getD circuits k 0) (t .total) ≡ true → k < length circuits → t′ ≡ reckoned 1 0 t
-      → Strengthened g level a b k circuits marks t (set circuits k (getD circuits k 0 + 1)) marks′ t′
+  pub strengthened-added : (t′ : Stiffness) → own ≤ mostCap → raised ≡ false → roomFor g own (getD circuits k 0) (t .total) ≡ true → k < length circuits → t′ ≡ reckoned 1 0 t
+      → Strengthened g own level a b k circuits marks t (set circuits k (getD circuits k 0 + 1)) marks′ t′
   unfolding setCount
-  strengthened-added t′ e f h pt =
+  strengthened-added t′ w e f h pt =
       let n = getD circuits k 0 in
-      let c : n < 4 = ltb-true n 4 (both (ltb n 4) (ltb (t .total) (g .branches)) f .0) in
+      let c = room-below g own n (t .total) true w (sym f) refl in
       let z : t .hv + 0 ≡ t .hv = omega arith in
       let u = ap (λ (x : Stiffness). x .total) pt in
       let v = ap (λ (x : Stiffness). x .hv) pt in
@@ -134,7 +143,7 @@ module _ (g : Limits) (level a b : List ℕ) (k : ℕ) (circuits marks : List �
         bound = (omega arith, omega arith, omega arith);
       }
 
-  pub strengthened-none : raised ≡ false → roomFor g (getD circuits k 0) (t .total) ≡ false → Strengthened g level a b k circuits marks t circuits marks′ t
+  pub strengthened-none : raised ≡ false → roomFor g own (getD circuits k 0) (t .total) ≡ false → Strengthened g own level a b k circuits marks t circuits marks′ t
   strengthened-none e f =
       record {
         stiffened = λ designs floors upsized.
@@ -144,10 +153,6 @@ module _ (g : Limits) (level a b : List ℕ) (k : ℕ) (circuits marks : List �
         bound = (omega arith, omega arith, omega arith);
       }
 
--- a corridor with room has fewer than four
-pub room-below : (g : Limits) (count total : ℕ) (r : Bool) → r ≡ roomFor g count total → r ≡ true → count < 4
-room-below g count total r p e = ltb-true count 4 (both (ltb count 4) (ltb total (g .branches)) (sym p ∙ e) .0)
-
 -- ---- one corridor
 -- what is read at a place that is there does not hang on the default
 default-free : {A : Type 0} (l : List A) (i : ℕ) (d e : A) → i < length l → getD l i d ≡ getD l i e
@@ -155,9 +160,9 @@ default-free [] i d e h = absurd (not-suc-le-zero h)
 default-free (x ∷ l) zero d e h = refl
 default-free (x ∷ l) (suc i) d e h = default-free l i d e (le-of-suc-le-suc h)
 
-pub room-lifts : (c : Case) (g : Limits) (k : ℕ) (s : Stiffening) → k < length (s .build .circuits) → roomFor g (getD (s .build .circuits) k 0) (s .total) ≡ hasRoom c (budgetFor g) k s
+pub room-lifts : (c : Case) (g : Limits) (k : ℕ) (s : Stiffening) → k < length (s .build .circuits) → roomFor g (ownCap c k) (getD (s .build .circuits) k 0) (s .total) ≡ hasRoom c (budgetFor g) k s
 unfolding fullAt
-room-lifts c g k s h = ap (λ (n : ℕ). ltb n 4 && ltb (s .total) (g .branches)) (default-free (s .build .circuits) k 0 4 h)
+room-lifts c g k s h = ap (λ (n : ℕ). ltb n (fullAt c k) && ltb (s .total) (g .branches)) (default-free (s .build .circuits) k 0 (fullAt c k) h)
 
 -- the rest of the step reads the corridors' ends of a case
 strengthen-lifts : (x y : Bool) (o : Case) (ladder : List Float) (level a b : List ℕ) (km share sheet : List Float) (g : Limits) (k : ℕ) (s : Stiffening)
@@ -166,7 +171,7 @@ strengthen-lifts true y o ladder level a b km share sheet g k s = refl
 strengthen-lifts false true o ladder level a b km share sheet g k s = refl
 strengthen-lifts false false o ladder level a b km share sheet g k s = refl
 
-module _ (g : Limits) (ladder : List Float) (level a b : List ℕ) (km share sheet : List Float) (k : ℕ) (circuits : List ℕ) (banks floors : List Float) (upsized marks : List ℕ) (t : Stiffness)
+module _ (g : Limits) (ladder : List Float) (level a b : List ℕ) (km share : List Float) (cap : List ℕ) (sheet : List Float) (k : ℕ) (circuits : List ℕ) (banks floors : List Float) (upsized marks : List ℕ) (t : Stiffness)
     (h : k < length a) (pc : length circuits ≡ length a) (pb : length banks ≡ length a) (d : CircuitDesign) (pd : d ≡ drawn (linesFor ladder a b km share sheet) level k (at banks k))
     (below : Bool) (pw : below ≡ bankBelow d) where
   module _ (o : Case) (p : length a ≡ o .corridors) (q : length ladder ≡ levels o) where
@@ -201,17 +206,18 @@ module _ (g : Limits) (ladder : List Float) (level a b : List ℕ) (km share she
         ∙ ap (λ (x : CircuitDesign). stiff (setBank k (x .«line_rate») B) marks (t .total) (t .hv) (t .stiffening) (t .wide) true) design-is
         ∙ one-by true e
 
-    rest-is : below ≡ false → (circuits′ marks′ : List ℕ) (t′ : Stiffness) → Strengthened g level a b k circuits marks t circuits′ marks′ t′
+    rest-is : o .cap ≡ cap → below ≡ false → (circuits′ marks′ : List ℕ) (t′ : Stiffness) → Strengthened g (getD cap k 0) level a b k circuits marks t circuits′ marks′ t′
         → stiffOf C level circuits′ banks floors upsized marks′ t′ ≡ each (stiffenOne C level (budgetFor g)) (k ∷ []) S
-    rest-is e circuits′ marks′ t′ r =
+    rest-is caps e circuits′ marks′ t′ r =
         r .stiffened (drawnAll C level banks) floors upsized
-        ∙ strengthen-lifts (raisable g (t .hv) level a b k) (roomFor g (getD circuits k 0) (t .total)) o ladder level a b km share sheet g k S
+        ∙ strengthen-lifts (raisable g (t .hv) level a b k) (roomFor g (getD cap k 0) (getD circuits k 0) (t .total)) o ladder level a b km share sheet g k S
+        ∙ ap (λ (l : List ℕ). stiffenBy false (raisable g (t .hv) level a b k) (roomFor g (getD l k 0) (getD circuits k 0) (t .total)) C level (budgetFor g) k S) (sym caps)
         ∙ ap (λ (x : Bool). stiffenBy false (raisable g (t .hv) level a b k) x C level (budgetFor g) k S) (room-lifts C g k S (omega arith))
         ∙ one-by false e
 
   pub one-full : below ≡ true → Lines ladder level a b km share sheet → Banks banks → (full : CircuitDesign) (banks′ floors′ : List Float) (upsized′ : List ℕ) (t′ : Stiffness)
       → full ≡ setTransformerMva d (d .«line_rate») → banks′ ≡ set banks k (full .«transformer_mva») → floors′ ≡ set floors k (full .«transformer_mva») → upsized′ ≡ set upsized k 1 → t′ ≡ reckoned 0 0 t
-      → BatchStiffened (k ∷ []) g ladder level a b km share sheet circuits banks floors upsized marks t circuits banks′ floors′ upsized′ marks t′
+      → BatchStiffened (k ∷ []) g ladder level a b km share cap sheet circuits banks floors upsized marks t circuits banks′ floors′ upsized′ marks t′
   one-full e lines banked full banks′ floors′ upsized′ t′ pf rb rf qu pt =
       let mva = d .«line_rate» in
       let qb = rb ∙ kept-next true d full mva banks k pf in
@@ -234,20 +240,20 @@ module _ (g : Limits) (ladder : List Float) (level a b : List ℕ) (km share she
         bound = (omega arith, omega arith, omega arith);
       }
 
-  pub one-rest : below ≡ false → Banks banks → (circuits′ marks′ : List ℕ) (t′ : Stiffness) → Strengthened g level a b k circuits marks t circuits′ marks′ t′
-      → BatchStiffened (k ∷ []) g ladder level a b km share sheet circuits banks floors upsized marks t circuits′ banks floors upsized marks′ t′
+  pub one-rest : below ≡ false → Banks banks → (circuits′ marks′ : List ℕ) (t′ : Stiffness) → Strengthened g (getD cap k 0) level a b k circuits marks t circuits′ marks′ t′
+      → BatchStiffened (k ∷ []) g ladder level a b km share cap sheet circuits banks floors upsized marks t circuits′ banks floors upsized marks′ t′
   one-rest e banked circuits′ marks′ t′ r =
       record {
-        stiffened = λ o f. rest-is o (f .0) (f .1) e circuits′ marks′ t′ r;
+        stiffened = λ o f. rest-is o (f .0) (f .1) (f .2) e circuits′ marks′ t′ r;
         banked = banked;
         few = r .few;
         bound = r .bound;
       }
 
 -- ---- one after another
-module _ (g : Limits) (ladder : List Float) (level a b : List ℕ) (km share sheet : List Float) (circuits : List ℕ) (banks floors : List Float) (upsized marks : List ℕ) (t : Stiffness) where
+module _ (g : Limits) (ladder : List Float) (level a b : List ℕ) (km share : List Float) (cap : List ℕ) (sheet : List Float) (circuits : List ℕ) (banks floors : List Float) (upsized marks : List ℕ) (t : Stiffness) where
   abbrev Onto : List ℕ → List ℕ → List Float → List Float → List ℕ → List ℕ → Stiffness → Type 0
-  Onto ks circuits′ banks′ floors′ upsized′ marks′ t′ = BatchStiffened ks g ladder level a b km share sheet circuits banks floors upsized marks t circuits′ banks′ floors′ upsized′ marks′ t′
+  Onto ks circuits′ banks′ floors′ upsized′ marks′ t′ = BatchStiffened ks g ladder level a b km share cap sheet circuits banks floors upsized marks t circuits′ banks′ floors′ upsized′ marks′ t′
 
   pub batch-start : Banks banks → Onto [] circuits banks floors upsized marks t
   unfolding each
@@ -261,7 +267,7 @@ module _ (g : Limits) (ladder : List Float) (level a b : List ℕ) (km share she
 
   module _ (circuits₁ : List ℕ) (banks₁ floors₁ : List Float) (upsized₁ marks₁ : List ℕ) (t₁ : Stiffness) (circuits₂ : List ℕ) (banks₂ floors₂ : List Float) (upsized₂ marks₂ : List ℕ) (t₂ : Stiffness) where
     batch-more : (ks : List ℕ) (k : ℕ) → Onto ks circuits₁ banks₁ floors₁ upsized₁ marks₁ t₁
-        → BatchStiffened (k ∷ []) g ladder level a b km share sheet circuits₁ banks₁ floors₁ upsized₁ marks₁ t₁ circuits₂ banks₂ floors₂ upsized₂ marks₂ t₂
+        → BatchStiffened (k ∷ []) g ladder level a b km share cap sheet circuits₁ banks₁ floors₁ upsized₁ marks₁ t₁ circuits₂ banks₂ floors₂ upsized₂ marks₂ t₂
         → Onto (ks ++ (k ∷ [])) circuits₂ banks₂ floors₂ upsized₂ marks₂ t₂
     batch-more ks k p q =
         let n = length-append ks (k ∷ []) in
@@ -276,7 +282,7 @@ module _ (g : Limits) (ladder : List Float) (level a b : List ℕ) (km share she
         }
 
     pub batch-turn : (order : List ℕ) (j k : ℕ) → j < length order → k ≡ getD order j 0 → Onto (take j order) circuits₁ banks₁ floors₁ upsized₁ marks₁ t₁
-        → BatchStiffened (k ∷ []) g ladder level a b km share sheet circuits₁ banks₁ floors₁ upsized₁ marks₁ t₁ circuits₂ banks₂ floors₂ upsized₂ marks₂ t₂
+        → BatchStiffened (k ∷ []) g ladder level a b km share cap sheet circuits₁ banks₁ floors₁ upsized₁ marks₁ t₁ circuits₂ banks₂ floors₂ upsized₂ marks₂ t₂
         → Onto (take (j + 1) order) circuits₂ banks₂ floors₂ upsized₂ marks₂ t₂
     batch-turn order j k h e p q =
         let r : take j order ++ (k ∷ []) ≡ take (j + 1) order =

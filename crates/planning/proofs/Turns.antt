@@ -47,14 +47,14 @@ pub ends-more : (s₀ s q m i : ℕ) → q ≤ s + 2 * m → s ≤ s₀ + 512 * 
 ends-more s₀ s q m i f g h = omega arith
 
 -- ---- what the rounds ask
-pub fit-again : {above left : ℕ} {p q : Progress} {ladder : List Float} {level level′ a b : List ℕ} {km share sheet load : List Float} {bus : List ℕ} {pmax : List Float} {leader grounds : List ℕ} {injection : List Float}
+pub fit-again : {above left : ℕ} {p q : Progress} {ladder : List Float} {level level′ a b : List ℕ} {km share : List Float} {cap : List ℕ} {sheet load : List Float} {bus : List ℕ} {pmax : List Float} {leader grounds : List ℕ} {injection : List Float}
     {circuits circuits′ : List ℕ} {banks banks′ floors floors′ : List Float} {upsized upsized′ marks marks′ : List ℕ} {angle angle′ flow flow′ : List Float}
-    → RoundsFit above left p ladder level a b km share sheet load bus pmax leader grounds injection circuits banks floors upsized marks angle flow
+    → RoundsFit above left p ladder level a b km share cap sheet load bus pmax leader grounds injection circuits banks floors upsized marks angle flow
     → length level′ ≡ length level → Lines ladder level′ a b km share sheet
     → length circuits′ ≡ length a → length banks′ ≡ length a → length floors′ ≡ length a → length upsized′ ≡ length a → length marks′ ≡ length level
     → length angle′ ≡ length level → length flow′ ≡ length a
     → Tallies above (left - 1) q → Banks banks′ → Few circuits′
-    → RoundsFit above (left - 1) q ladder level′ a b km share sheet load bus pmax leader grounds injection circuits′ banks′ floors′ upsized′ marks′ angle′ flow′
+    → RoundsFit above (left - 1) q ladder level′ a b km share cap sheet load bus pmax leader grounds injection circuits′ banks′ floors′ upsized′ marks′ angle′ flow′
 fit-again {grounds = grounds} f n lines count bank floor upsize mark angles flows tallies banked few =
     record {
       columns =
@@ -79,14 +79,15 @@ fit-again {grounds = grounds} f n lines count bank floor upsize mark angles flow
             flow-size = flows;
           };
       tallies = tallies;
+      capped = f .capped;
       some = f .some;
       banked = banked;
       few = few;
     }
 
-module _ {above left : ℕ} {p : Progress} {ladder : List Float} {level a b : List ℕ} {km share sheet load : List Float} {bus : List ℕ} {pmax : List Float} {leader grounds : List ℕ} {injection : List Float}
+module _ {above left : ℕ} {p : Progress} {ladder : List Float} {level a b : List ℕ} {km share : List Float} {cap : List ℕ} {sheet load : List Float} {bus : List ℕ} {pmax : List Float} {leader grounds : List ℕ} {injection : List Float}
     {circuits : List ℕ} {banks floors : List Float} {upsized marks : List ℕ} {angle flow : List Float}
-    (f : RoundsFit above left p ladder level a b km share sheet load bus pmax leader grounds injection circuits banks floors upsized marks angle flow) where
+    (f : RoundsFit above left p ladder level a b km share cap sheet load bus pmax leader grounds injection circuits banks floors upsized marks angle flow) where
   pub drawing-of : Drawing ladder level a b km share sheet circuits banks
   drawing-of =
       record {

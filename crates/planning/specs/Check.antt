@@ -19,24 +19,24 @@ use Rattle.planning.specs.declared.check.Places.{Places}
 
 -- ---- a case of all tables, which the tests read in any mode; and of one table
 abbrev pub tablesFor : ℕ → ℕ → ℕ → ℕ → ℕ → List Float → List ℕ → List Float → List ℕ → List ℕ → List Float → List Float → List Float → List Float
-    → List ℕ → List ℕ → List ℕ → List Float → List Float → List Float → Case
-tablesFor n m g above requested ladder tier load bus slack pmin pmax c1 c2 a b initial km share sheet =
-    caseOf Observe n m g above requested ladder tier load bus slack pmin pmax c1 c2 a b initial km share sheet
+    → List ℕ → List ℕ → List ℕ → List Float → List Float → List ℕ → List Float → Case
+tablesFor n m g above requested ladder tier load bus slack pmin pmax c1 c2 a b initial km share cap sheet =
+    caseOf Observe n m g above requested ladder tier load bus slack pmin pmax c1 c2 a b initial km share cap sheet
 
 abbrev pub ladderFor : List Float → Case
-ladderFor ladder = tablesFor 0 0 0 0 (length ladder) ladder [] [] [] [] [] [] [] [] [] [] [] [] [] []
+ladderFor ladder = tablesFor 0 0 0 0 (length ladder) ladder [] [] [] [] [] [] [] [] [] [] [] [] [] [] []
 
 abbrev pub busesFor : ℕ → List ℕ → List Float → Case
-busesFor requested tier load = tablesFor 0 0 0 0 requested [] tier load [] [] [] [] [] [] [] [] [] [] [] []
+busesFor requested tier load = tablesFor 0 0 0 0 requested [] tier load [] [] [] [] [] [] [] [] [] [] [] [] []
 
 abbrev pub generatorsFor : ℕ → List ℕ → List ℕ → List Float → List Float → List Float → List Float → Case
-generatorsFor n bus slack pmin pmax c1 c2 = tablesFor n 0 0 0 0 [] [] [] bus slack pmin pmax c1 c2 [] [] [] [] [] []
+generatorsFor n bus slack pmin pmax c1 c2 = tablesFor n 0 0 0 0 [] [] [] bus slack pmin pmax c1 c2 [] [] [] [] [] [] []
 
-abbrev pub corridorsFor : ℕ → List ℕ → List ℕ → List ℕ → List Float → List Float → Case
-corridorsFor n a b initial km share = tablesFor n 0 0 0 0 [] [] [] [] [] [] [] [] [] a b initial km share []
+abbrev pub corridorsFor : ℕ → List ℕ → List ℕ → List ℕ → List Float → List Float → List ℕ → Case
+corridorsFor n a b initial km share cap = tablesFor n 0 0 0 0 [] [] [] [] [] [] [] [] [] a b initial km share cap []
 
 abbrev pub sheetFor : ℕ → List Float → Case
-sheetFor levels sheet = tablesFor 0 0 0 0 levels [] [] [] [] [] [] [] [] [] [] [] [] [] [] sheet
+sheetFor levels sheet = tablesFor 0 0 0 0 levels [] [] [] [] [] [] [] [] [] [] [] [] [] [] [] sheet
 
 -- ---- what a scan asks of its columns
 pub record Generators (bus slack : List ℕ) (pmin pmax c1 c2 : List Float) : Type 0 where
@@ -46,11 +46,12 @@ pub record Generators (bus slack : List ℕ) (pmin pmax c1 c2 : List Float) : Ty
   pub c1-size : length c1 ≡ length bus
   pub c2-size : length c2 ≡ length bus
 
-pub record Corridors (a b initial : List ℕ) (km share : List Float) : Type 0 where
+pub record Corridors (a b initial : List ℕ) (km share : List Float) (cap : List ℕ) : Type 0 where
   pub b-size : length b ≡ length a
   pub initial-size : length initial ≡ length a
   pub km-size : length km ≡ length a
   pub share-size : length share ≡ length a
+  pub cap-size : length cap ≡ length a
 
 pub record Sheet (m levels : ℕ) (sheet : List Float) : Type 0 where
   pub few-corridors : m ≤ mostCorridors
@@ -63,8 +64,9 @@ abbrev pub generatorSizes : ℕ → List ℕ → List ℕ → List Float → Lis
 generatorSizes g bus slack pmin pmax c1 c2 =
     eqb (length bus) g && eqb (length slack) g && eqb (length pmin) g && eqb (length pmax) g && eqb (length c1) g && eqb (length c2) g
 
-abbrev pub corridorSizes : ℕ → List ℕ → List ℕ → List ℕ → List Float → List Float → Bool
-corridorSizes m a b initial km share = eqb (length a) m && eqb (length b) m && eqb (length initial) m && eqb (length km) m && eqb (length share) m
+abbrev pub corridorSizes : ℕ → List ℕ → List ℕ → List ℕ → List Float → List Float → List ℕ → Bool
+corridorSizes m a b initial km share cap =
+    eqb (length a) m && eqb (length b) m && eqb (length initial) m && eqb (length km) m && eqb (length share) m && eqb (length cap) m
 
 -- of the lent slices
 abbrev pub workIn : ℕ → ℕ → ℕ → ℕ → Bool
@@ -77,13 +79,14 @@ placesOk n m g above p =
     && (eqb (p .rate) m
     && (eqb (p .before) m
     && (eqb (p .order) m
+    && (eqb (p .cap) m
     && (eqb (p .mw) g
     && (eqb (p .angle) n
     && (eqb (p .tier) n
     && (eqb (p .ground) n
     && (eqb (p .added) above
     && (workIn n m g (p .figures)
-    && workIn n m g (p .counts)))))))))))
+    && workIn n m g (p .counts))))))))))))
 
 -- ---- 2
 abbrev pub countsIn : ℕ → ℕ → ℕ → ℕ → ℕ → ℕ → Bool

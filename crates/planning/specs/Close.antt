@@ -21,12 +21,12 @@ use Rattle.plan_defs.specs.declared.Planned.{Planned}
 use Rattle.plan_defs.specs.declared.Planned.the-variants.{Answered, Refused}
 use Rattle.planning.specs.declared.close.Closing.{Closing}
 
--- ---- a case that has a mode and a number of corridors alone, and one that has the levels alone
-abbrev pub corridorsOf : PlanMode → ℕ → Case
-corridorsOf mode m = caseOf mode 0 m 0 0 0 [] [] [] [] [] [] [] [] [] [] [] [] [] [] []
+-- ---- a case that has a mode, a number of corridors and their own caps alone, and one that has the levels alone
+abbrev pub corridorsOf : PlanMode → ℕ → List ℕ → Case
+corridorsOf mode m cap = caseOf mode 0 m 0 0 0 [] [] [] [] [] [] [] [] [] [] [] [] [] [] cap []
 
 abbrev pub levelsFor : ℕ → List Float → Case
-levelsFor above ladder = caseOf Observe 0 0 0 above (length ladder - above) ladder [] [] [] [] [] [] [] [] [] [] [] [] [] []
+levelsFor above ladder = caseOf Observe 0 0 0 above (length ladder - above) ladder [] [] [] [] [] [] [] [] [] [] [] [] [] [] []
 
 -- ---- the spread, one bus more
 abbrev pub widerBy : List ℕ → List Float → ℕ → Float → Float
@@ -59,25 +59,25 @@ pub record Closable (above : ℕ) (ladder : List Float) (a leader upsized : List
   pub rate-size : length rate ≡ length a
   pub added-size : length added ≡ above
 
-abbrev pub closingOf : PlanMode → ℕ → List ℕ → List ℕ → List CircuitDesign → List ℕ → List ℕ → List Float → List Float → Closing
-closingOf mode above led level ds circuits upsized flow theta =
+abbrev pub closingOf : PlanMode → List ℕ → ℕ → List ℕ → List ℕ → List CircuitDesign → List ℕ → List ℕ → List Float → List Float → Closing
+closingOf mode cap above led level ds circuits upsized flow theta =
     record {
       upsized = upsizedOf upsized;
       overloaded = overloadedOf (loadingsBy circuits flow (map (λ d. d .«rate_a») ds));
-      capped = cappedOf (corridorsOf mode (length ds)) ds circuits flow;
+      capped = cappedOf (corridorsOf mode (length ds) cap) ds circuits flow;
       loading = maxLoading (loadingsBy circuits flow (map (λ d. d .«rate_a») ds));
       spread = spreadOf led theta;
       added = above - leastOf above level;
     }
 
--- ---- the slices that the stages are lent: all but those for what is kept of filling
+-- ---- the slices that the stages are lent: all but those for what is kept of filling and for the own caps
 abbrev pub lentTo : List ℕ → List Float → List Float → List Float → List Float → List ℕ → List ℕ → List Float → List Float → List ℕ → Slices
-lentTo circuits flow rate mw angle tier ground added figures counts = slices circuits flow rate [] [] mw angle tier ground added figures counts
+lentTo circuits flow rate mw angle tier ground added figures counts = slices circuits flow rate [] [] [] mw angle tier ground added figures counts
 
 -- with those
-abbrev pub withKept : List ℕ → List ℕ → Slices → Slices
-withKept before order s =
-    slices (s .circuits) (s .flow) (s .rate) before order (s .mw) (s .angle) (s .tier) (s .ground) (s .added) (s .figures) (s .counts)
+abbrev pub withKept : List ℕ → List ℕ → List ℕ → Slices → Slices
+withKept before order cap s =
+    slices (s .circuits) (s .flow) (s .rate) before order cap (s .mw) (s .angle) (s .tier) (s .ground) (s .added) (s .figures) (s .counts)
 
 -- ---- the lent slices at the end: after 8 or 9 zero, after an answer work is zero
 abbrev pub figuresIf : Bool → List Float → List Float

@@ -10,7 +10,7 @@ use Rattle.loops.specs.Figures.{at}
 use Rattle.loops.specs.Loops.{iter, first}
 use Rattle.loops.specs.Sorting.{insertBy}
 use Rattle.mode.specs.declared.PlanMode.{PlanMode}
-use Rattle.plan_defs.specs.Constants.{maxCircuitsPerCorridor, mostCorridors, mostInitial}
+use Rattle.plan_defs.specs.Constants.{mostCorridors, mostInitial}
 use Rattle.plan_defs.specs.Case.{Case, caseOf}
 use Rattle.plan_defs.specs.Build.{drawnAll}
 use Rattle.plan_defs.specs.Fill.{Filled}
@@ -61,14 +61,11 @@ pub record Ranked (m : ℕ) (order : List ℕ) (count : ℕ) : Type 0 where
   pub below : (j : ℕ) → j < count → getD order j 0 < m
 
 -- ---- filling
-abbrev pub fullFor : ℕ → ℕ
-fullFor k = maxCircuitsPerCorridor
-
 abbrev pub filledAs : List ℕ → Filling → Filled
 filledAs counts t = record { counts = counts; total = t .total; filler = t .filler }
 
-abbrev pub gainOf : ℕ → ℕ → ℕ → ℕ
-gainOf total target count = cond (ltb total target && ltb count maxCircuitsPerCorridor) 1 0
+abbrev pub gainOf : ℕ → ℕ → ℕ → ℕ → ℕ
+gainOf total target full count = cond (ltb total target && ltb count full) 1 0
 
 -- a tally that stays a u32
 pub record Tallied (t : Filling) : Type 0 where
@@ -80,6 +77,6 @@ pub record Counted (circuits : List ℕ) : Type 0 where
   pub few : length circuits ≤ mostCorridors
   pub each : (k : ℕ) → k < length circuits → getD circuits k 0 ≤ mostInitial
 
--- a case that has a mode alone
-abbrev pub modeFor : PlanMode → Case
-modeFor mode = caseOf mode 0 0 0 0 0 [] [] [] [] [] [] [] [] [] [] [] [] [] [] []
+-- a case that has a mode and own caps alone
+abbrev pub capsFor : PlanMode → List ℕ → Case
+capsFor mode cap = caseOf mode 0 0 0 0 0 [] [] [] [] [] [] [] [] [] [] [] [] [] [] cap []

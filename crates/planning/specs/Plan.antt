@@ -22,7 +22,7 @@ use Rattle.plan_defs.specs.declared.CorridorPlan.{CorridorPlan}
 use Rattle.plan_defs.specs.declared.Planned.{Planned}
 use Rattle.plan_defs.specs.declared.Planned.the-variants.{Answered, Refused}
 use Rattle.planning.specs.Design.{Lines, Banks}
-use Rattle.planning.specs.Size.{Few}
+use Rattle.planning.specs.Size.{Few, Capped}
 use Rattle.planning.specs.Solve.{peakFor}
 use Rattle.planning.specs.Rounds.{roundsCase, draftOf, ranAs, Columns, Places}
 use Rattle.planning.specs.Sound.{Sound, Lengths}
@@ -38,7 +38,7 @@ use Rattle.planning.specs.declared.plan.Opening.the-variants.{Refused as
 -- ---- the opening: any case with the mode and the columns that it reads
 abbrev pub openCase : Case → PlanMode → ℕ → List ℕ → List Float → List ℕ → List ℕ → List Float → List Float → List Float → List Float → List ℕ → List ℕ → List ℕ → Case
 openCase o mode above tier load bus slack pmin pmax c1 c2 a b initial =
-    caseOf mode (o .buses) (o .corridors) (o .generators) above (o .requested) (o .ladder) tier load bus slack pmin pmax c1 c2 a b initial (o .km) (o .share) (o .sheet)
+    caseOf mode (o .buses) (o .corridors) (o .generators) above (o .requested) (o .ladder) tier load bus slack pmin pmax c1 c2 a b initial (o .km) (o .share) (o .cap) (o .sheet)
 
 -- a sound one, and places for what it leaves
 pub record Openable (mode : PlanMode) (above : ℕ) (tier : List ℕ) (load : List Float) (bus slack : List ℕ) (pmin pmax c1 c2 : List Float) (a b initial leader : List ℕ) (injection : List Float)
@@ -78,19 +78,20 @@ roundsFor mode m = cond (expand mode && not (eqb m 0)) planningMaxRounds 0
 abbrev pub startOf : PlanMode → ℕ → ℕ → Progress
 startOf mode m promoted = record { rounds = 0; promoted = promoted; capacity = 0; stiffening = 0; converged = not (expand mode) || eqb m 0; settled = not (expand mode) || eqb m 0 }
 
-pub record Runnable (above promoted : ℕ) (ladder : List Float) (level a b : List ℕ) (km share sheet load : List Float) (bus : List ℕ) (pmax : List Float) (leader grounds : List ℕ)
+pub record Runnable (above promoted : ℕ) (ladder : List Float) (level a b : List ℕ) (km share : List Float) (cap : List ℕ) (sheet load : List Float) (bus : List ℕ) (pmax : List Float) (leader grounds : List ℕ)
     (injection : List Float) (circuits : List ℕ) (banks floors : List Float) (upsized marks : List ℕ) (angle flow : List Float) : Type 0 where
   pub columns : Columns ladder level a b km share sheet load bus pmax
   pub places : Places (length level) (length a) leader grounds injection circuits banks floors upsized marks angle flow
   pub few-levels : above ≤ mostLevels
   pub few-moves : promoted ≤ mostBuses * mostLevels
+  pub capped : Capped (length a) cap
   pub banked : Banks banks
   pub few : Few circuits
 
-pub record RanAll (mode : PlanMode) (above promoted : ℕ) (ladder : List Float) (level a b : List ℕ) (km share sheet load : List Float) (bus : List ℕ) (pmax : List Float)
+pub record RanAll (mode : PlanMode) (above promoted : ℕ) (ladder : List Float) (level a b : List ℕ) (km share : List Float) (cap : List ℕ) (sheet load : List Float) (bus : List ℕ) (pmax : List Float)
     (leader grounds : List ℕ) (injection : List Float) (circuits : List ℕ) (banks floors : List Float) (upsized : List ℕ)
     (level′ circuits′ : List ℕ) (banks′ floors′ : List Float) (upsized′ : List ℕ) (angle′ : List Float) (r : Rounds) : Type 0 where
-  pub ran : (o : Case) (target : ℕ) → Sound (roundsCase o mode above ladder a b km share sheet load bus pmax) target → length level ≡ o .buses
+  pub ran : (o : Case) (target : ℕ) → Sound (roundsCase o mode above ladder a b km share sheet load bus pmax) target → length level ≡ o .buses → o .cap ≡ cap
       → ranAs r (roundsCase o mode above ladder a b km share sheet load bus pmax) level′ circuits′ banks′ floors′ upsized′ angle′
       ≡ allRounds (roundsCase o mode above ladder a b km share sheet load bus pmax) (peakFor (o .buses) grounds injection) leader
       (draftOf (roundsCase o mode above ladder a b km share sheet load bus pmax) level circuits banks floors upsized (zeros (o .buses)) (startOf mode (o .corridors) promoted))
@@ -138,27 +139,28 @@ PlannedAs r before order circuits tier flow rate angle added c (stopped f) = r �
 PlannedAs r before order circuits tier flow rate angle added c (going q) = Holds r before order circuits tier flow rate angle added (c .above) q
 
 -- ---- from the opening on
-pub record Plannable (ladder : List Float) (level a b : List ℕ) (km share sheet load : List Float) (bus : List ℕ) (pmax : List Float) (leader grounds : List ℕ)
+pub record Plannable (ladder : List Float) (level a b : List ℕ) (km share : List Float) (cap : List ℕ) (sheet load : List Float) (bus : List ℕ) (pmax : List Float) (leader grounds : List ℕ)
     (injection : List Float) (circuits : List ℕ) (banks floors : List Float) (upsized marks : List ℕ) (angle flow : List Float) : Type 0 where
   pub columns : Columns ladder level a b km share sheet load bus pmax
   pub places : Places (length level) (length a) leader grounds injection circuits banks floors upsized marks angle flow
   pub few-levels : length ladder ≤ mostLevels
   pub unset : floors ≡ zeros (length a)
+  pub capped : Capped (length a) cap
   pub few : Few circuits
 
-pub record OpenedPlan (mode : PlanMode) (target above : ℕ) (ladder : List Float) (level a b : List ℕ) (km share sheet load : List Float) (bus : List ℕ) (pmax : List Float)
+pub record OpenedPlan (mode : PlanMode) (target above : ℕ) (ladder : List Float) (level a b : List ℕ) (km share : List Float) (cap : List ℕ) (sheet load : List Float) (bus : List ℕ) (pmax : List Float)
     (leader grounds : List ℕ) (injection : List Float) (circuits upsized : List ℕ) (circuits′ level′ : List ℕ) (flow′ rate′ angle′ added′ : List Float) (r : PlanRun) : Type 0 where
   pub plan : (o : Case) (mw : List Float)
       → (let c = roundsCase o mode above ladder a b km share sheet load bus pmax in
-      Sound c target → level ≡ firstLevels c → circuits ≡ lowerBounds c → upsized ≡ replicate (o .corridors) 0
+      Sound c target → level ≡ firstLevels c → circuits ≡ lowerBounds c → upsized ≡ replicate (o .corridors) 0 → o .cap ≡ cap
       → PlannedAs (r .said) (take (length a) (r .kept .before)) (take (length a) (r .kept .order)) circuits′ level′ flow′ rate′ angle′ added′ c
       (onward (onward (openedWith c leader mw (peakFor (o .buses) grounds injection)) (settled c)) (closing c target)))
 
 -- ---- all stages, of a case that has all these columns
 abbrev pub wholeCase : Case → PlanMode → ℕ → List Float → List ℕ → List Float → List ℕ → List ℕ → List Float → List Float → List Float → List Float → List ℕ → List ℕ → List ℕ
-    → List Float → List Float → List Float → Case
-wholeCase o mode above ladder tier load bus slack pmin pmax c1 c2 a b initial km share sheet =
-    caseOf mode (o .buses) (o .corridors) (o .generators) above (o .requested) ladder tier load bus slack pmin pmax c1 c2 a b initial km share sheet
+    → List Float → List Float → List ℕ → List Float → Case
+wholeCase o mode above ladder tier load bus slack pmin pmax c1 c2 a b initial km share cap sheet =
+    caseOf mode (o .buses) (o .corridors) (o .generators) above (o .requested) ladder tier load bus slack pmin pmax c1 c2 a b initial km share cap sheet
 
 -- the slices of a plan, with those that the opening fills
 pub record HoldsAll (r : Planned) (before order circuits : List ℕ) (flow rate mw angle : List Float) (tier ground : List ℕ) (added : List Float) (c : Case) (q : Plan) : Type 0 where
@@ -171,14 +173,14 @@ WholeAs r before order circuits flow rate mw angle tier ground added c (stopped 
 WholeAs r before order circuits flow rate mw angle tier ground added c (going q) = HoldsAll r before order circuits flow rate mw angle tier ground added c q
 
 pub record PlanDone (mode : PlanMode) (target above : ℕ) (ladder : List Float) (tier : List ℕ) (load : List Float) (bus slack : List ℕ) (pmin pmax c1 c2 : List Float) (a b initial : List ℕ)
-    (km share sheet : List Float) (circuits : List ℕ) (flow rate mw angle : List Float) (level ground : List ℕ) (added : List Float) (r : PlanRun) : Type 0 where
+    (km share : List Float) (cap : List ℕ) (sheet : List Float) (circuits : List ℕ) (flow rate mw angle : List Float) (level ground : List ℕ) (added : List Float) (r : PlanRun) : Type 0 where
   pub plan : (o : Case)
-      → (let c = wholeCase o mode above ladder tier load bus slack pmin pmax c1 c2 a b initial km share sheet in
+      → (let c = wholeCase o mode above ladder tier load bus slack pmin pmax c1 c2 a b initial km share cap sheet in
       Sound c target → WholeAs (r .said) (take (length a) (r .kept .before)) (take (length a) (r .kept .order)) circuits flow rate mw angle level ground added c (planFor c target))
 
 -- ---- and over the slices that planning is lent
 pub record Lendable (mode : PlanMode) (target above : ℕ) (ladder : List Float) (tier : List ℕ) (load : List Float) (bus slack : List ℕ) (pmin pmax c1 c2 : List Float) (a b initial : List ℕ)
-    (km share sheet : List Float) (lent : Slices) : Type 0 where
+    (km share : List Float) (cap : List ℕ) (sheet : List Float) (lent : Slices) : Type 0 where
   pub whole : Case
-  pub sound : Sound (wholeCase whole mode above ladder tier load bus slack pmin pmax c1 c2 a b initial km share sheet) target
-  pub lengths : Lengths (wholeCase whole mode above ladder tier load bus slack pmin pmax c1 c2 a b initial km share sheet) lent
+  pub sound : Sound (wholeCase whole mode above ladder tier load bus slack pmin pmax c1 c2 a b initial km share cap sheet) target
+  pub lengths : Lengths (wholeCase whole mode above ladder tier load bus slack pmin pmax c1 c2 a b initial km share cap sheet) lent

@@ -1,6 +1,6 @@
 -- What the contracts of module raises cite: the columns that the marks read, as a case; the state that the slices stand for; and what a pass, and all of them, ask and do.
 use Prim.Native.Nat.{ℕ, zero, suc, _+_, _*_, _≤_}
-use mathlib.Core.List.{List}
+use mathlib.Core.List.{List, []}
 use mathlib.Core.Path.{_≡_}
 use lib.ListN.{length}
 use lib.Ieee.{Float}
@@ -24,7 +24,7 @@ use Rattle.planning.specs.declared.raises.Raised.the-variants.{Refused, 
 
 -- ---- cases: of which the marks read these columns only, with a place for each of n buses; and a whole one with the columns that a pass reads
 abbrev pub heavyFor : ℕ → List Float → List ℕ → List ℕ → List Float → List Float → List Float → Case
-heavyFor n ladder a b km share sheet = sizeFor Observe n ladder a b km share sheet
+heavyFor n ladder a b km share sheet = sizeFor Observe n ladder a b km share [] sheet
 
 abbrev pub passFor : Case → PlanMode → List Float → List ℕ → List ℕ → List Float → List Float → List Float → List Float → List ℕ → List Float → Case
 passFor o mode ladder a b km share sheet load bus pmax = withLines (withUnits o mode (o .above) load bus pmax) ladder a b km share sheet

@@ -13,7 +13,7 @@ use Rattle.plan_defs.specs.Raise.{raisedLevels, movedBuses}
 use Rattle.plan_defs.specs.Rounds.{Draft, draft, rounds}
 use Rattle.planning.specs.Design.{Lines, Banks}
 use Rattle.planning.specs.Redesign.{Loads, Units, redesignFor, banksAnew}
-use Rattle.planning.specs.Size.{Few}
+use Rattle.planning.specs.Size.{Few, Capped}
 use Rattle.planning.specs.Solve.{peakFor}
 use Rattle.planning.specs.Sound.{Sound}
 use Rattle.planning.specs.Whole.{withLines, withUnits}
@@ -73,20 +73,21 @@ pub record Tallies (above budget : ℕ) (p : Progress) : Type 0 where
   pub capacity : p .capacity ≤ 1_536 * p .rounds
   pub stiffening : p .stiffening ≤ 65_536 * p .rounds
 
-pub record RoundsFit (above budget : ℕ) (start : Progress) (ladder : List Float) (level a b : List ℕ) (km share sheet load : List Float) (bus : List ℕ) (pmax : List Float)
+pub record RoundsFit (above budget : ℕ) (start : Progress) (ladder : List Float) (level a b : List ℕ) (km share : List Float) (cap : List ℕ) (sheet load : List Float) (bus : List ℕ) (pmax : List Float)
     (leader grounds : List ℕ) (injection : List Float) (circuits : List ℕ) (banks floors : List Float) (upsized marks : List ℕ) (angle flow : List Float) : Type 0 where
   pub columns : Columns ladder level a b km share sheet load bus pmax
   pub places : Places (length level) (length a) leader grounds injection circuits banks floors upsized marks angle flow
   pub tallies : Tallies above budget start
+  pub capped : Capped (length a) cap
   pub some : 1 ≤ length a
   pub banked : Banks banks
   pub few : Few circuits
 
 -- ---- what they leave
-pub record RoundsRun (mode : PlanMode) (above budget : ℕ) (start : Progress) (ladder : List Float) (level a b : List ℕ) (km share sheet load : List Float) (bus : List ℕ) (pmax : List Float)
+pub record RoundsRun (mode : PlanMode) (above budget : ℕ) (start : Progress) (ladder : List Float) (level a b : List ℕ) (km share : List Float) (cap : List ℕ) (sheet load : List Float) (bus : List ℕ) (pmax : List Float)
     (leader grounds : List ℕ) (injection : List Float) (circuits : List ℕ) (banks floors : List Float) (upsized : List ℕ) (angle : List Float)
     (level′ circuits′ : List ℕ) (banks′ floors′ : List Float) (upsized′ : List ℕ) (angle′ : List Float) (r : Rounds) : Type 0 where
-  pub ran : (o : Case) (target : ℕ) → Sound (roundsCase o mode above ladder a b km share sheet load bus pmax) target → length level ≡ o .buses
+  pub ran : (o : Case) (target : ℕ) → Sound (roundsCase o mode above ladder a b km share sheet load bus pmax) target → length level ≡ o .buses → o .cap ≡ cap
       → ranAs r (roundsCase o mode above ladder a b km share sheet load bus pmax) level′ circuits′ banks′ floors′ upsized′ angle′
       ≡ rounds (roundsCase o mode above ladder a b km share sheet load bus pmax) (peakFor (o .buses) grounds injection) leader budget
       (draftOf (roundsCase o mode above ladder a b km share sheet load bus pmax) level circuits banks floors upsized angle start)

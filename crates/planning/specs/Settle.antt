@@ -19,7 +19,7 @@ use Rattle.plan_defs.specs.Plan.{Plan, Opened, settledTo, closing}
 use Rattle.plan_defs.specs.Outcome.{upTo}
 use Rattle.plan_defs.specs.declared.CircuitDesign.{CircuitDesign}
 use Rattle.planning.specs.Solve.{peakFor, Drawing, Lent}
-use Rattle.planning.specs.Fill.{modeFor}
+use Rattle.planning.specs.Fill.{capsFor}
 use Rattle.planning.specs.Close.{levelsFor, Closable, closingOf}
 use Rattle.planning.specs.Sound.{Sound}
 use Rattle.planning.specs.Whole.{withLines, withUnits}
@@ -29,11 +29,12 @@ use Rattle.planning.specs.declared.settle.Settling.{Settling}
 use Rattle.planning.specs.declared.settle.Settled.the-variants.{Refused, Closed}
 
 -- ---- what it asks of the columns
-pub record Settleable (above : ℕ) (ladder : List Float) (level a b : List ℕ) (km share sheet : List Float) (leader grounds : List ℕ) (injection banks : List Float)
+pub record Settleable (above : ℕ) (ladder : List Float) (level a b : List ℕ) (km share : List Float) (cap : List ℕ) (sheet : List Float) (leader grounds : List ℕ) (injection banks : List Float)
     (upsized circuits : List ℕ) (flow rate angle added : List Float) : Type 0 where
   pub drawing : Drawing ladder level a b km share sheet circuits banks
   pub lent : Lent (length level) (length a) injection grounds angle flow
   pub closable : Closable above ladder a leader upsized angle rate added
+  pub cap-size : length cap ≡ length a
 
 -- ---- what is said, with the slices that it is said of
 pub record Ended : Type 0 where
@@ -53,11 +54,11 @@ endedOf (Closed s) before order circuits tier flow rate angle added =
     going (record { settlement = s; before = before; order = order; circuits = circuits; tier = tier; flow = flow; rate = rate; angle = angle; added = added })
 
 -- ---- the stages, by columns: after filling, and from the order on
-module _ (mode : PlanMode) (above : ℕ) (led : List ℕ) (ladder : List Float) (level : List ℕ) (ds : List CircuitDesign) (upsized : List ℕ) (P : Peak) where
+module _ (mode : PlanMode) (cap : List ℕ) (above : ℕ) (led : List ℕ) (ladder : List Float) (level : List ℕ) (ds : List CircuitDesign) (upsized : List ℕ) (P : Peak) where
   abbrev pub endedBy : ℕ → List ℕ → List ℕ → List ℕ → PlanningCase → Ended
   endedBy filler before order circuits v =
       record {
-        settlement = record { filler = filler; closing = closingOf mode above led level ds circuits upsized (v .flows) (v .theta) };
+        settlement = record { filler = filler; closing = closingOf mode cap above led level ds circuits upsized (v .flows) (v .theta) };
         before = before;
         order = order;
         circuits = circuits;
@@ -75,7 +76,7 @@ module _ (mode : PlanMode) (above : ℕ) (led : List ℕ) (ladder : List Float) 
   closedAfter before order f = closedFrom (f .filler) before order (f .counts)
 
   abbrev pub filledIn : ℕ → List ℕ → List ℕ → Stage Ended
-  filledIn target circuits order = closedAfter circuits order (fill (modeFor mode) target order circuits)
+  filledIn target circuits order = closedAfter circuits order (fill (capsFor mode cap) target order circuits)
 
   abbrev pub filledFrom : ℕ → ℕ → List ℕ → List Float → Stage Ended
   filledFrom target m circuits flow = filledIn target circuits (orderOf m ds circuits flow)
@@ -116,10 +117,10 @@ SettledAs r before order circuits tier flow rate angle added c (stopped f) = r �
 SettledAs r before order circuits tier flow rate angle added c (going q) = Held r before order circuits tier flow rate angle added (c .above) q
 
 -- of any case with these columns, whose draft the slices stand for
-pub record Settles (mode : PlanMode) (target above : ℕ) (ladder : List Float) (a b : List ℕ) (km share sheet : List Float) (leader grounds : List ℕ) (injection banks : List Float)
+pub record Settles (mode : PlanMode) (target above : ℕ) (ladder : List Float) (a b : List ℕ) (km share : List Float) (cap : List ℕ) (sheet : List Float) (leader grounds : List ℕ) (injection banks : List Float)
     (upsized circuits level : List ℕ) (circuits′ level′ : List ℕ) (flow′ rate′ angle′ added′ : List Float) (r : Settling) : Type 0 where
   pub plan : (o : Case) (p : Opened) (s : Draft) (floors : List Float)
       → (let c = withLines (withUnits o mode above (o .load) (o .bus) (o .pmax)) ladder a b km share sheet in
-      Sound c target → length level ≡ o .buses → p .led ≡ leader → p .peak ≡ peakFor (o .buses) grounds injection → s .level ≡ level
+      Sound c target → length level ≡ o .buses → o .cap ≡ cap → p .led ≡ leader → p .peak ≡ peakFor (o .buses) grounds injection → s .level ≡ level
       → s .build ≡ buildOf c level circuits banks floors upsized
       → SettledAs (r .settled) (take (length a) (r .kept .before)) (take (length a) (r .kept .order)) circuits′ level′ flow′ rate′ angle′ added′ c (onward (settledTo c p s) (closing c target)))

@@ -6,7 +6,7 @@ use mathlib.Core.Path.{_≡_}
 use lib.ListN.{length, getD, set}
 use lib.Ieee.{Float}
 use Rattle.mode.specs.declared.PlanMode.{PlanMode}
-use Rattle.plan_defs.specs.Constants.{mostInitial, subtransmissionMaxCircuits}
+use Rattle.plan_defs.specs.Constants.{mostInitial, mostCap, subtransmissionMaxCircuits}
 use Rattle.plan_defs.specs.Case.{Case, caseOf}
 use Rattle.plan_defs.specs.Design.{design}
 use Rattle.plan_defs.specs.Build.{built, drawnAll}
@@ -17,12 +17,12 @@ use Rattle.planning.specs.Raise.{largestCount}
 use Rattle.planning.specs.declared.size.Tally.{Tally}
 
 -- ---- a case of which sizing reads these columns only
-abbrev pub sizeFor : PlanMode → ℕ → List Float → List ℕ → List ℕ → List Float → List Float → List Float → Case
-sizeFor mode buses ladder a b km share sheet = caseOf mode buses (length a) 0 0 (length ladder) ladder [] [] [] [] [] [] [] [] a b [] km share sheet
+abbrev pub sizeFor : PlanMode → ℕ → List Float → List ℕ → List ℕ → List Float → List Float → List ℕ → List Float → Case
+sizeFor mode buses ladder a b km share cap sheet = caseOf mode buses (length a) 0 0 (length ladder) ladder [] [] [] [] [] [] [] [] a b [] km share cap sheet
 
 -- growing reads these
-abbrev pub growFor : PlanMode → List ℕ → List ℕ → Case
-growFor mode a b = sizeFor mode 0 [] a b [] [] []
+abbrev pub growFor : PlanMode → List ℕ → List ℕ → List ℕ → Case
+growFor mode a b cap = sizeFor mode 0 [] a b [] [] cap []
 
 -- ---- the state that slices stand for, over any designs
 abbrev pub sizedOf : List CircuitDesign → List Float → List ℕ → List ℕ → List ℕ → Tally → Sizing
@@ -36,6 +36,11 @@ sizingOf c level circuits banks floors upsized marks t = sizedOf (drawnAll c lev
 abbrev pub setIf : {A : Type 0} → Bool → List A → ℕ → A → List A
 setIf true l k x = set l k x
 setIf false l k x = l
+
+-- ---- an own cap for each of m corridors, or 0
+pub record Capped (m : ℕ) (cap : List ℕ) : Type 0 where
+  pub size : length cap ≡ m
+  pub few : (k : ℕ) → getD cap k 0 ≤ mostCap
 
 -- ---- no corridor has more circuits than a case may begin with
 abbrev pub Few : List ℕ → Type 0
@@ -64,10 +69,11 @@ pub record Held (corridors buses : ℕ) (flow : List Float) (circuits : List ℕ
   pub upsized-size : length upsized ≡ corridors
   pub mark-size : length marks ≡ buses
 
-pub record CorridorFits (ladder : List Float) (level a b : List ℕ) (km share sheet flow : List Float) (k : ℕ) (circuits : List ℕ) (banks floors : List Float) (upsized marks : List ℕ) (t : Tally) : Type 0 where
+pub record CorridorFits (ladder : List Float) (level a b : List ℕ) (km share : List Float) (cap : List ℕ) (sheet flow : List Float) (k : ℕ) (circuits : List ℕ) (banks floors : List Float) (upsized marks : List ℕ) (t : Tally) : Type 0 where
   pub lines : Lines ladder level a b km share sheet
   pub held : Held (length a) (length level) flow circuits banks floors upsized marks
   pub banked : Banks banks
+  pub capped : Capped (length a) cap
   pub corridor : k < length a
   pub room : t .capacity + subtransmissionMaxCircuits ≤ largestCount
 

@@ -9,8 +9,8 @@ use Rattle.loops.specs.Figures.{at, plus, nought, one, half, tenThousand, milli
 use Rattle.impedance.specs.Impedance.{ratingOk}
 use Rattle.leaders.specs.Operation.{corridorOk}
 use Rattle.dispatch.specs.Units.{unitOk}
-use Rattle.plan_defs.specs.Constants.{kvTolerance, mostBuses, mostCorridors, mostGenerators, mostLevels, mostTarget, mostInitial, rowFigures}
-use Rattle.plan_defs.specs.Case.{Case, levels, kvOf, loadOf, endA, endB, rowPlace, rowAt}
+use Rattle.plan_defs.specs.Constants.{kvTolerance, mostBuses, mostCorridors, mostGenerators, mostLevels, mostTarget, mostInitial, mostCap, rowFigures}
+use Rattle.plan_defs.specs.Case.{Case, levels, kvOf, loadOf, endA, endB, ownCap, rowPlace, rowAt}
 use Rattle.plan_defs.specs.Accept.{rowSound}
 use Rattle.plan_defs.specs.Outcome.{Slices, workPlaces}
 
@@ -30,6 +30,7 @@ pub record Sound (c : Case) (target : ℕ) : Type 0 where
   pub circuits-size : length (c .circuits) ≡ c .corridors
   pub km-size : length (c .km) ≡ c .corridors
   pub share-size : length (c .share) ≡ c .corridors
+  pub cap-size : length (c .cap) ≡ c .corridors
   pub sheet-size : length (c .sheet) ≡ rowFigures * (c .corridors * levels c)
   -- counts
   pub few-buses : c .buses ≤ mostBuses
@@ -56,6 +57,7 @@ pub record Sound (c : Case) (target : ℕ) : Type 0 where
   pub initial-few : (k : ℕ) → k < c .corridors → getD (c .circuits) k 0 ≤ mostInitial
   pub km-inside : (k : ℕ) → k < c .corridors → inside nought tenThousand (at (c .km) k) ≡ true
   pub share-inside : (k : ℕ) → k < c .corridors → inside half one (at (c .share) k) ≡ true
+  pub cap-few : (k : ℕ) → ownCap c k ≤ mostCap
   -- rows of the line sheet; a line's rating is one that a bank may have
   pub row-inside : (k l : ℕ) → k < c .corridors → l < levels c → rowPlace c k l + rowFigures ≤ length (c .sheet)
   pub row-sound : (k l : ℕ) → k < c .corridors → l < levels c → rowSound (rowAt c k l) ≡ true

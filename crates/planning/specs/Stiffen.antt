@@ -13,7 +13,7 @@ use Rattle.angles_defs.specs.Network.{edgesOf}
 use Rattle.angles_defs.specs.Operation.{most}
 use Rattle.plan_defs.specs.Constants.{maxCircuitsPerCorridor}
 use Rattle.plan_defs.specs.Lists.{each}
-use Rattle.plan_defs.specs.Case.{Case, levels}
+use Rattle.plan_defs.specs.Case.{Case, levels, ownOr}
 use Rattle.plan_defs.specs.Raise.{canRaise}
 use Rattle.plan_defs.specs.Stage.{Stage, stopped, going}
 use Rattle.plan_defs.specs.Components.{leads, within, members}
@@ -24,7 +24,7 @@ use Rattle.plan_defs.specs.Stiffen.{Budget, Stiffening, Gain, stiff, stiffenBy,
 use Rattle.plan_defs.specs.declared.CircuitDesign.{CircuitDesign}
 use Rattle.planning.specs.Design.{Lines, Banks}
 use Rattle.planning.specs.Raise.{largestCount, pairsFor}
-use Rattle.planning.specs.Size.{Few}
+use Rattle.planning.specs.Size.{Few, Capped}
 use Rattle.planning.specs.Fill.{designsFor, Ranked}
 use Rattle.planning.specs.Opening.{stageIf}
 use Rattle.planning.specs.Solve.{peakFor, Peaked}
@@ -52,7 +52,7 @@ abbrev pub roundOf : ℕ → List ℕ → List ℕ → List Float → List Float
 roundOf m from to weight theta flows = record { edges = edgesOf (take m from) (take m to) (take m weight); theta = theta; flows = flows }
 
 -- ---- what a component asks of the slices: a place for each corridor, or for each bus
-pub record Stiffenable (ladder : List Float) (level a b : List ℕ) (km share sheet : List Float) (leader grounds from to : List ℕ) (weight angle : List Float)
+pub record Stiffenable (ladder : List Float) (level a b : List ℕ) (km share : List Float) (cap : List ℕ) (sheet : List Float) (leader grounds from to : List ℕ) (weight angle : List Float)
     (circuits : List ℕ) (banks floors : List Float) (upsized marks : List ℕ) : Type 0 where
   pub lines : Lines ladder level a b km share sheet
   pub edges : Peaked (length level) (length a) from to weight
@@ -60,6 +60,7 @@ pub record Stiffenable (ladder : List Float) (level a b : List ℕ) (km share sh
   pub ground-below : (g : ℕ) → g < length grounds → getD grounds g 0 < length level
   pub leader-size : length leader ≡ length level
   pub angle-size : length angle ≡ length level
+  pub capped : Capped (length a) cap
   pub count-size : length circuits ≡ length a
   pub bank-size : length banks ≡ length a
   pub floor-size : length floors ≡ length a
@@ -78,10 +79,10 @@ abbrev pub Within : ℕ → Stiffness → Stiffened → Type 0
 Within m t (Refused f) = Unit
 Within m t (Going u) = (u .total ≤ t .total + m) × (u .hv ≤ t .hv + 2 * m) × (u .stiffening ≤ t .stiffening + m)
 
-pub record LedStiffened (i round : ℕ) (g : Limits) (ladder : List Float) (level a b : List ℕ) (km share sheet : List Float) (leader grounds from to : List ℕ) (weight angle : List Float)
+pub record LedStiffened (i round : ℕ) (g : Limits) (ladder : List Float) (level a b : List ℕ) (km share : List Float) (cap : List ℕ) (sheet : List Float) (leader grounds from to : List ℕ) (weight angle : List Float)
     (circuits : List ℕ) (banks floors : List Float) (upsized marks : List ℕ) (t : Stiffness)
     (circuits′ : List ℕ) (banks′ floors′ : List Float) (upsized′ marks′ : List ℕ) (r : Stiffened) : Type 0 where
-  pub stiffened : (o : Case) (target : ℕ) (injection flows : List Float) → Sound (withLines o ladder a b km share sheet) target → length level ≡ o .buses
+  pub stiffened : (o : Case) (target : ℕ) (injection flows : List Float) → Sound (withLines o ladder a b km share sheet) target → length level ≡ o .buses → o .cap ≡ cap
       → stiffenedAs r (withLines o ladder a b km share sheet) level circuits′ banks′ floors′ upsized′ marks′
       ≡ stageIf (leads leader i)
       (stiffenComponent (withLines o ladder a b km share sheet) (peakFor (o .buses) grounds injection) leader level round (budgetFor g) (roundOf (length a) from to weight angle flows) i
@@ -97,33 +98,34 @@ abbrev pub stiffOver : List CircuitDesign → List Float → List ℕ → List �
 stiffOver designs floors upsized circuits marks t =
     stiff (built circuits designs floors upsized) marks (t .total) (t .hv) (t .stiffening) (t .wide) (t .stiffened)
 
--- a raise that is within the budget, and a circuit that is
+-- a raise that is within the budget, and a circuit that is within it and within the corridor's own cap
 abbrev pub raisable : Limits → ℕ → List ℕ → List ℕ → List ℕ → ℕ → Bool
 raisable g hv level a b k = ltb hv (g .hv) && canRaise (pairsFor a b) level (g .top) k
 
-abbrev pub roomFor : Limits → ℕ → ℕ → Bool
-roomFor g count total = ltb count maxCircuitsPerCorridor && ltb total (g .branches)
+abbrev pub roomFor : Limits → ℕ → ℕ → ℕ → Bool
+roomFor g own count total = ltb count (ownOr own maxCircuitsPerCorridor) && ltb total (g .branches)
 
 -- so many circuits added, and so many buses that came to the top
 abbrev pub reckoned : ℕ → ℕ → Stiffness → Stiffness
 reckoned added arrived t = record { total = t .total + added; hv = t .hv + arrived; stiffening = t .stiffening + added; wide = t .wide; stiffened = true }
 
 -- what a raise, or else a circuit, does to corridor k, whatever its designs are
-pub record Strengthened (g : Limits) (level a b : List ℕ) (k : ℕ) (circuits marks : List ℕ) (t : Stiffness) (circuits′ marks′ : List ℕ) (t′ : Stiffness) : Type 0 where
+pub record Strengthened (g : Limits) (own : ℕ) (level a b : List ℕ) (k : ℕ) (circuits marks : List ℕ) (t : Stiffness) (circuits′ marks′ : List ℕ) (t′ : Stiffness) : Type 0 where
   pub stiffened : (designs : List CircuitDesign) (floors : List Float) (upsized : List ℕ)
       → stiffOver designs floors upsized circuits′ marks′ t′
-      ≡ stiffenBy false (raisable g (t .hv) level a b k) (roomFor g (getD circuits k 0) (t .total)) (pairsFor a b) level (budgetFor g) k
+      ≡ stiffenBy false (raisable g (t .hv) level a b k) (roomFor g own (getD circuits k 0) (t .total)) (pairsFor a b) level (budgetFor g) k
       (stiffOver designs floors upsized circuits marks t)
   pub few : Few circuits → Few circuits′
   pub bound : Within 1 t (Going t′)
 
--- a case of these columns has as many corridors and levels as they
-abbrev pub Fitting : Case → List Float → List ℕ → Type 0
-Fitting o ladder a = (length a ≡ o .corridors) × (length ladder ≡ levels o)
+-- a case of these columns has as many corridors and levels as they, and these caps
+abbrev pub Fitting : Case → List Float → List ℕ → List ℕ → Type 0
+Fitting o ladder a cap = (length a ≡ o .corridors) × (length ladder ≡ levels o) × (o .cap ≡ cap)
 
 -- what the lent slices must be
-pub record StiffenFits (ladder : List Float) (level a b : List ℕ) (km share sheet : List Float) (circuits : List ℕ) (banks floors : List Float) (upsized marks : List ℕ) : Type 0 where
+pub record StiffenFits (ladder : List Float) (level a b : List ℕ) (km share : List Float) (cap : List ℕ) (sheet : List Float) (circuits : List ℕ) (banks floors : List Float) (upsized marks : List ℕ) : Type 0 where
   pub lines : Lines ladder level a b km share sheet
+  pub capped : Capped (length a) cap
   pub count-size : length circuits ≡ length a
   pub bank-size : length banks ≡ length a
   pub floor-size : length floors ≡ length a
@@ -132,10 +134,10 @@ pub record StiffenFits (ladder : List Float) (level a b : List ℕ) (km share sh
   pub banked : Banks banks
 
 -- what stiffening the corridors of a list does to them
-pub record BatchStiffened (ks : List ℕ) (g : Limits) (ladder : List Float) (level a b : List ℕ) (km share sheet : List Float)
+pub record BatchStiffened (ks : List ℕ) (g : Limits) (ladder : List Float) (level a b : List ℕ) (km share : List Float) (cap : List ℕ) (sheet : List Float)
     (circuits : List ℕ) (banks floors : List Float) (upsized marks : List ℕ) (t : Stiffness)
     (circuits′ : List ℕ) (banks′ floors′ : List Float) (upsized′ marks′ : List ℕ) (t′ : Stiffness) : Type 0 where
-  pub stiffened : (o : Case) → Fitting o ladder a
+  pub stiffened : (o : Case) → Fitting o ladder a cap
       → stiffOf (withLines o ladder a b km share sheet) level circuits′ banks′ floors′ upsized′ marks′ t′
       ≡ each (stiffenOne (withLines o ladder a b km share sheet) level (budgetFor g)) ks
       (stiffOf (withLines o ladder a b km share sheet) level circuits banks floors upsized marks t)
@@ -144,27 +146,28 @@ pub record BatchStiffened (ks : List ℕ) (g : Limits) (ladder : List Float) (le
   pub bound : Within (length ks) t (Going t′)
 
 -- ---- gains: of a candidate what one more circuit gives, of any other 0
-pub record Gainful (ladder : List Float) (level a b : List ℕ) (km share sheet : List Float) (leader : List ℕ) (angle phi : List Float) (circuits : List ℕ) (banks : List Float) : Type 0 where
+pub record Gainful (ladder : List Float) (level a b : List ℕ) (km share : List Float) (cap : List ℕ) (sheet : List Float) (leader : List ℕ) (angle phi : List Float) (circuits : List ℕ) (banks : List Float) : Type 0 where
   pub lines : Lines ladder level a b km share sheet
   pub leader-size : length leader ≡ length level
   pub angle-size : length angle ≡ length level
   pub phi-size : length phi ≡ length level
+  pub cap-size : length cap ≡ length a
   pub count-size : length circuits ≡ length a
   pub bank-size : length banks ≡ length a
   pub banked : Banks banks
 
-abbrev pub candidateAt : Limits → List ℕ → List ℕ → List ℕ → List ℕ → List ℕ → Stiffness → ℕ → ℕ → Bool
-candidateAt g leader level a b circuits t root k =
+abbrev pub candidateAt : Limits → List ℕ → List ℕ → List ℕ → List ℕ → List ℕ → List ℕ → Stiffness → ℕ → ℕ → Bool
+candidateAt g leader level a b cap circuits t root k =
     within leader root (getD a k 0)
-    && (roomFor g (getD circuits k 0) (t .total) || (canRaise (pairsFor a b) level (g .top) k && ltb (t .hv) (g .hv)))
+    && (roomFor g (getD cap k 0) (getD circuits k 0) (t .total) || (canRaise (pairsFor a b) level (g .top) k && ltb (t .hv) (g .hv)))
 
 abbrev pub gainIf : Bool → Float → Float
 gainIf true gain = gain
 gainIf false gain = nought
 
-abbrev pub gainAt : Limits → List Float → List ℕ → List ℕ → List ℕ → List Float → List Float → List Float → List ℕ → List Float → List Float → List ℕ → List Float → Stiffness → ℕ → ℕ → Float
-gainAt g ladder level a b km share sheet leader angle phi circuits banks t root k =
-    gainIf (candidateAt g leader level a b circuits t root k) (gainOf angle phi (design (designsFor ladder level a b km share sheet banks) k))
+abbrev pub gainAt : Limits → List Float → List ℕ → List ℕ → List ℕ → List Float → List Float → List ℕ → List Float → List ℕ → List Float → List Float → List ℕ → List Float → Stiffness → ℕ → ℕ → Float
+gainAt g ladder level a b km share cap sheet leader angle phi circuits banks t root k =
+    gainIf (candidateAt g leader level a b cap circuits t root k) (gainOf angle phi (design (designsFor ladder level a b km share sheet banks) k))
 
 -- the order by a list of gains: k comes before j where it gains more; of those that gain
 abbrev pub gainsMore : List Float → ℕ → ℕ → Bool
@@ -184,19 +187,19 @@ abbrev pub gainFor : List Float → ℕ → Gain
 gainFor gain k = record { gain = at gain k; corridor = k }
 
 -- the corridors that are taken of an order are the chosen ones
-pub record Chosen (root : ℕ) (excess : Float) (g : Limits) (ladder : List Float) (level a b : List ℕ) (km share sheet : List Float) (leader : List ℕ) (angle phi : List Float)
+pub record Chosen (root : ℕ) (excess : Float) (g : Limits) (ladder : List Float) (level a b : List ℕ) (km share : List Float) (cap : List ℕ) (sheet : List Float) (leader : List ℕ) (angle phi : List Float)
     (circuits : List ℕ) (banks : List Float) (t : Stiffness) (order : List ℕ) (taken : ℕ) : Type 0 where
   pub few : taken ≤ length a
   pub ranked : Ranked (length a) order taken
-  pub chosen : (o : Case) (floors : List Float) (upsized marks : List ℕ) → Fitting o ladder a
+  pub chosen : (o : Case) (floors : List Float) (upsized marks : List ℕ) → Fitting o ladder a cap
       → take taken order
       ≡ chosen (withLines o ladder a b km share sheet) leader level (budgetFor g) root (stiffOf (withLines o ladder a b km share sheet) level circuits banks floors upsized marks t) angle excess phi
 
 -- ---- what a step of a stiffening does to the slices, of any case with these columns, whatever the injections and the flows are
-pub record Stepped (step : Case → List Float → List Float → Stiffening → Stage Stiffening) (ladder : List Float) (level a b : List ℕ) (km share sheet : List Float)
+pub record Stepped (step : Case → List Float → List Float → Stiffening → Stage Stiffening) (ladder : List Float) (level a b : List ℕ) (km share : List Float) (cap : List ℕ) (sheet : List Float)
     (circuits : List ℕ) (banks floors : List Float) (upsized marks : List ℕ) (t : Stiffness)
     (circuits′ : List ℕ) (banks′ floors′ : List Float) (upsized′ marks′ : List ℕ) (r : Stiffened) : Type 0 where
-  pub stiffened : (o : Case) (injection flows : List Float) → Fitting o ladder a → length level ≡ o .buses
+  pub stiffened : (o : Case) (injection flows : List Float) → Fitting o ladder a cap → length level ≡ o .buses
       → stiffenedAs r (withLines o ladder a b km share sheet) level circuits′ banks′ floors′ upsized′ marks′
       ≡ step (withLines o ladder a b km share sheet) injection flows (stiffOf (withLines o ladder a b km share sheet) level circuits banks floors upsized marks t)
   pub banked : Banks banks′

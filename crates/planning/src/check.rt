@@ -8,7 +8,7 @@ ghost use Rattle.loops.specs.Figures.{nought, one, half, tenThousand, million, 
 ghost use Rattle.loops.specs.Loops.{first};
 ghost use Rattle.leaders.specs.Operation.{corridorOk};
 ghost use Rattle.dispatch.specs.Units.{unitOk};
-ghost use Rattle.plan_defs.specs.Constants.{mostInitial, rowFigures};
+ghost use Rattle.plan_defs.specs.Constants.{mostInitial, mostCap, rowFigures};
 ghost use Rattle.plan_defs.specs.Case.{rowOf, rowFrom};
 ghost use Rattle.plan_defs.specs.Accept.{levelOk, busOk, generatorOk, corridorSound, rowSound, rowOk, tablesFault};
 ghost use Rattle.planning.specs.Check.{tablesFor, ladderFor, busesFor, generatorsFor, corridorsFor, sheetFor, generatorSizes, corridorSizes, workIn, placesOk, countsIn, Generators, Corridors, Sheet, Tables, answerOf, checkOf};
@@ -34,6 +34,8 @@ pub const MOST_TARGET: u32 = 65536;
 
 pub const MOST_INITIAL: u32 = 64;
 
+pub const MOST_CAP: u32 = 6;
+
 const MOST_KV: f64 = 10000.0;
 
 const MOST_KM: f64 = 10000.0;
@@ -58,6 +60,7 @@ pub struct Places {
     pub rate: usize,
     pub before: usize,
     pub order: usize,
+    pub cap: usize,
     pub mw: usize,
     pub angle: usize,
     pub tier: usize,
@@ -113,7 +116,7 @@ fn places_ok(n: usize, m: usize, g: usize, above: usize, p: Places) -> bool
     ensures { λ r. ⌜ r ≡ placesOk n m g above p ⌝ }
 {
     let corridors = (p.circuits == m) & (p.flow == m) & (p.rate == m);
-    let kept = (p.before == m) & (p.order == m);
+    let kept = (p.before == m) & (p.order == m) & (p.cap == m);
     let buses = (p.angle == n) & (p.tier == n) & (p.ground == n);
     let work = work_ok(p.figures, n, m, g) & work_ok(p.counts, n, m, g);
     corridors & kept & (p.mw == g) & buses & (p.added == above) & work
@@ -145,10 +148,16 @@ fn corridor_lengths_ok(
     initial: &[u32],
     km: &[f64],
     share: &[f64],
+    cap: &[u32],
 ) -> bool
-    ensures { λ r. ⌜ r ≡ corridorSizes m (now (a .entry)) (now (b .entry)) (now (initial .entry)) (now (km .entry)) (now (share .entry)) ⌝ }
+    ensures { λ r. ⌜ r ≡ corridorSizes m (now (a .entry)) (now (b .entry)) (now (initial .entry)) (now (km .entry)) (now (share .entry)) (now (cap .entry)) ⌝ }
 {
-    (a.len() == m) & (b.len() == m) & (initial.len() == m) & (km.len() == m) & (share.len() == m)
+    (a.len() == m)
+        & (b.len() == m)
+        & (initial.len() == m)
+        & (km.len() == m)
+        & (share.len() == m)
+        & (cap.len() == m)
 }
 
 // ---- 2
@@ -251,12 +260,13 @@ fn ends_ok(n: usize, a: usize, b: usize) -> bool
     (a < n) & (b < n) & !(a == b)
 }
 
-fn corridor_ok(n: usize, a: u32, b: u32, initial: u32, km: f64, share: f64) -> bool
-    ensures { λ r. ⌜ r ≡ (corridorOk n a b && (leb initial mostInitial && (inside nought tenThousand km && inside half one share))) ⌝ }
+fn corridor_ok(n: usize, a: u32, b: u32, initial: u32, km: f64, share: f64, cap: u32) -> bool
+    ensures { λ r. ⌜ r ≡ (corridorOk n a b && (leb initial mostInitial && (inside nought tenThousand km && (inside half one share && leb cap mostCap)))) ⌝ }
 {
     let length = (0.0 <= km) & (km <= MOST_KM);
     let spread = (LEAST_SHARE <= share) & (share <= 1.0);
-    ends_ok(n, wide(a), wide(b)) & ((initial <= MOST_INITIAL) & (length & spread))
+    ends_ok(n, wide(a), wide(b))
+        & ((initial <= MOST_INITIAL) & (length & (spread & (cap <= MOST_CAP))))
 }
 
 fn faulty_corridor(
@@ -266,13 +276,14 @@ fn faulty_corridor(
     initial: &[u32],
     km: &[f64],
     share: &[f64],
+    cap: &[u32],
 ) -> usize
-    requires { ⌜ Corridors (now a) (now b) (now initial) (now km) (now share) ⌝ }
-    ensures { λ r. ⌜ r ≡ first (corridorSound (corridorsFor n (now (a .entry)) (now (b .entry)) (now (initial .entry)) (now (km .entry)) (now (share .entry)))) (length (now (a .entry))) 0 ⌝ }
+    requires { ⌜ Corridors (now a) (now b) (now initial) (now km) (now share) (now cap) ⌝ }
+    ensures { λ r. ⌜ r ≡ first (corridorSound (corridorsFor n (now (a .entry)) (now (b .entry)) (now (initial .entry)) (now (km .entry)) (now (share .entry)) (now (cap .entry)))) (length (now (a .entry))) 0 ⌝ }
 {
     let mut k = 0;
     while k < a.len() {
-        if !corridor_ok(n, a[k], b[k], initial[k], km[k], share[k]) {
+        if !corridor_ok(n, a[k], b[k], initial[k], km[k], share[k], cap[k]) {
             return k;
         }
         k += 1;
@@ -348,10 +359,11 @@ fn check_tables(
     initial: &[u32],
     km: &[f64],
     share: &[f64],
+    cap: &[u32],
     sheet: &[f64],
 ) -> Answer
-    requires { ⌜ Tables (tablesFor n m g above requested (now ladder) (now tier) (now load) (now bus) (now slack) (now pmin) (now pmax) (now c1) (now c2) (now a) (now b) (now initial) (now km) (now share) (now sheet)) ⌝ }
-    ensures { λ r. ⌜ r ≡ answerOf (tablesFault (tablesFor n m g above requested (now (ladder .entry)) (now (tier .entry)) (now (load .entry)) (now (bus .entry)) (now (slack .entry)) (now (pmin .entry)) (now (pmax .entry)) (now (c1 .entry)) (now (c2 .entry)) (now (a .entry)) (now (b .entry)) (now (initial .entry)) (now (km .entry)) (now (share .entry)) (now (sheet .entry)))) ⌝ }
+    requires { ⌜ Tables (tablesFor n m g above requested (now ladder) (now tier) (now load) (now bus) (now slack) (now pmin) (now pmax) (now c1) (now c2) (now a) (now b) (now initial) (now km) (now share) (now cap) (now sheet)) ⌝ }
+    ensures { λ r. ⌜ r ≡ answerOf (tablesFault (tablesFor n m g above requested (now (ladder .entry)) (now (tier .entry)) (now (load .entry)) (now (bus .entry)) (now (slack .entry)) (now (pmin .entry)) (now (pmax .entry)) (now (c1 .entry)) (now (c2 .entry)) (now (a .entry)) (now (b .entry)) (now (initial .entry)) (now (km .entry)) (now (share .entry)) (now (cap .entry)) (now (sheet .entry)))) ⌝ }
 {
     let levels = above + requested;
     let l = faulty_level(ladder);
@@ -366,7 +378,7 @@ fn check_tables(
     if u < g {
         return Answer::Refused(Refusal::Generator(u));
     }
-    let k = faulty_corridor(n, a, b, initial, km, share);
+    let k = faulty_corridor(n, a, b, initial, km, share, cap);
     if k < m {
         return Answer::Refused(Refusal::Corridor(k));
     }
@@ -399,15 +411,16 @@ pub fn check_case(
     initial: &[u32],
     km: &[f64],
     share: &[f64],
+    cap: &[u32],
     sheet: &[f64],
     places: Places,
 ) -> Answer
-    ensures { λ r. ⌜ r ≡ checkOf (tablesFor n m g above requested (now (ladder .entry)) (now (tier .entry)) (now (load .entry)) (now (bus .entry)) (now (slack .entry)) (now (pmin .entry)) (now (pmax .entry)) (now (c1 .entry)) (now (c2 .entry)) (now (a .entry)) (now (b .entry)) (now (initial .entry)) (now (km .entry)) (now (share .entry)) (now (sheet .entry))) target places ⌝ }
+    ensures { λ r. ⌜ r ≡ checkOf (tablesFor n m g above requested (now (ladder .entry)) (now (tier .entry)) (now (load .entry)) (now (bus .entry)) (now (slack .entry)) (now (pmin .entry)) (now (pmax .entry)) (now (c1 .entry)) (now (c2 .entry)) (now (a .entry)) (now (b .entry)) (now (initial .entry)) (now (km .entry)) (now (share .entry)) (now (cap .entry)) (now (sheet .entry))) target places ⌝ }
 {
     let levels = is_sum(ladder.len(), above, requested);
     let buses = (tier.len() == n) & (load.len() == n);
     let generators = generator_lengths_ok(g, bus, slack, pmin, pmax, c1, c2);
-    let corridors = corridor_lengths_ok(m, a, b, initial, km, share);
+    let corridors = corridor_lengths_ok(m, a, b, initial, km, share, cap);
     let rows = sheet_ok(sheet.len(), m, ladder.len());
     let lengths = levels & buses & generators & corridors & rows;
     if !(lengths & places_ok(n, m, g, above, places)) {
@@ -436,6 +449,7 @@ pub fn check_case(
         initial,
         km,
         share,
+        cap,
         sheet,
     )
 }

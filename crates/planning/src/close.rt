@@ -168,20 +168,22 @@ fn capped(
     b: &[u32],
     km: &[f64],
     share: &[f64],
+    cap: &[u32],
     sheet: &[f64],
     banks: &[f64],
     circuits: &[u32],
     flow: &[f64],
 ) -> u32
     requires { ⌜ Lines (now ladder) (now level) (now a) (now b) (now km) (now share) (now sheet) ⌝ }
-    requires { ⌜ Loaded (now a) (now banks) (now circuits) (now flow) ⌝ }
-    ensures { λ r. ⌜ r ≡ cappedOf (corridorsOf mode (length (now (a .entry)))) (designsFor (now (ladder .entry)) (now (level .entry)) (now (a .entry)) (now (b .entry)) (now (km .entry)) (now (share .entry)) (now (sheet .entry)) (now (banks .entry))) (now (circuits .entry)) (now (flow .entry)) ⌝ }
+    requires { ⌜ Loaded (now a) (now banks) (now circuits) (now flow) × (length (now cap) ≡ length (now a)) ⌝ }
+    ensures { λ r. ⌜ r ≡ cappedOf (corridorsOf mode (length (now (a .entry))) (now (cap .entry))) (designsFor (now (ladder .entry)) (now (level .entry)) (now (a .entry)) (now (b .entry)) (now (km .entry)) (now (share .entry)) (now (sheet .entry)) (now (banks .entry))) (now (circuits .entry)) (now (flow .entry)) ⌝ }
 {
     let mut count = 0;
     let mut k = 0;
     while k < a.len() {
         let d = circuit(ladder, level, a, b, km, share, sheet, k, banks[k]);
-        count += one_if(cap_full(mode, cap_at(mode, d.kv), circuits[k], flow[k], d.rate_a));
+        let most = cap_at(mode, cap[k], d.kv);
+        count += one_if(cap_full(mode, most, circuits[k], flow[k], d.rate_a));
         k += 1;
     }
     count
@@ -258,6 +260,7 @@ pub fn close(
     b: &[u32],
     km: &[f64],
     share: &[f64],
+    cap: &[u32],
     sheet: &[f64],
     leader: &[u32],
     banks: &[f64],
@@ -270,9 +273,9 @@ pub fn close(
     added: &mut [f64],
 ) -> Closing
     requires { ⌜ Lines (now ladder) (now level) (now a) (now b) (now km) (now share) (now sheet) ⌝ }
-    requires { ⌜ Loaded (now a) (now banks) (now circuits) (now flow) ⌝ }
+    requires { ⌜ Loaded (now a) (now banks) (now circuits) (now flow) × (length (now cap) ≡ length (now a)) ⌝ }
     requires { ⌜ Closable above (now ladder) (now a) (now leader) (now upsized) (now angle) (now rate) (now added) ⌝ }
-    ensures closing { λ r. ⌜ r ≡ closingOf mode above (now (leader .entry)) (now (level .entry)) (designsFor (now (ladder .entry)) (now (level .entry)) (now (a .entry)) (now (b .entry)) (now (km .entry)) (now (share .entry)) (now (sheet .entry)) (now (banks .entry))) (now (circuits .entry)) (now (upsized .entry)) (now (flow .entry)) (now (angle .entry)) ⌝ }
+    ensures closing { λ r. ⌜ r ≡ closingOf mode (now (cap .entry)) above (now (leader .entry)) (now (level .entry)) (designsFor (now (ladder .entry)) (now (level .entry)) (now (a .entry)) (now (b .entry)) (now (km .entry)) (now (share .entry)) (now (sheet .entry)) (now (banks .entry))) (now (circuits .entry)) (now (upsized .entry)) (now (flow .entry)) (now (angle .entry)) ⌝ }
     ensures rate { λ _. ⌜ now (rate .exit) ≡ map (λ (d : CircuitDesign). d .«rate_a») (designsFor (now (ladder .entry)) (now (level .entry)) (now (a .entry)) (now (b .entry)) (now (km .entry)) (now (share .entry)) (now (sheet .entry)) (now (banks .entry))) ⌝ }
     ensures tier { λ _. ⌜ now (level .exit) ≡ tiersOf (levelsFor above (now (ladder .entry))) (now (level .entry)) ⌝ }
     ensures added { λ _. ⌜ now (added .exit) ≡ upTo above nought (addedOf (levelsFor above (now (ladder .entry))) (now (level .entry))) ⌝ }
@@ -288,6 +291,7 @@ pub fn close(
         b,
         km,
         share,
+        cap,
         sheet,
         banks,
         circuits,

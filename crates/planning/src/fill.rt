@@ -1,25 +1,26 @@
 // Filling, after "3. Fill to the requested branch count" of `plan_corridors`: the order, heaviest planned loading first, and then
-// round and round it, a circuit to each corridor that has fewer than four, up to the target.
+// round and round it, a circuit to each corridor that has fewer than its own cap, or than four where it has none, up to the target.
 ghost use mathlib.Core.Path.{_≡_};
 ghost use Prim.Native.Nat.{ℕ, _+_, _<_, _≤_};
 ghost use lib.ListN.{length, take};
 ghost use Rattle.loops.specs.Loops.{filled};
 ghost use Rattle.plan_defs.specs.Constants.{mostCorridors};
 ghost use Rattle.plan_defs.specs.Lists.{sum};
+ghost use Rattle.plan_defs.specs.Case.{fullOf};
 ghost use Rattle.plan_defs.specs.Design.{design};
 ghost use Rattle.plan_defs.specs.Fill.{loading, loadingAt, orderOf, fillOnce, fillRounds, fillTurns, fill};
 ghost use Rattle.planning.specs.Design.{Lines};
-ghost use Rattle.planning.specs.Fill.{designsFor, Drawable, Loaded, rankBefore, orderBy, placeOf, shifted, Whole, Ranked, fullFor, filledAs, gainOf, Tallied, Counted, modeFor};
+ghost use Rattle.planning.specs.Fill.{designsFor, Drawable, Loaded, rankBefore, orderBy, placeOf, shifted, Whole, Ranked, filledAs, gainOf, Tallied, Counted, capsFor};
 use crate::design::circuit;
 use crate::figures::float;
 use crate::figures::magnitude;
 use crate::figures::wide;
-use crate::policy::MAX_CIRCUITS_PER_CORRIDOR;
+use crate::policy::full_at;
 use crate::policy::promotes;
 use mode::PlanMode;
 
-// As many turns as filling gives a corridor circuits fill them all, or reach the target.
-const FILL_TURNS: u32 = 4;
+// As many turns as a cap may be fill every corridor, or reach the target.
+const FILL_TURNS: u32 = 6;
 
 // ---- what the order goes by
 pub fn loading(flow: f64, count: u32, rate: f64) -> f64
@@ -237,21 +238,27 @@ pub struct Filling {
     pub filler: u32,
 }
 
-// The circuits that a corridor gets in one turn.
-fn gain(total: u32, target: u32, count: u32) -> u32
-    ensures { λ r. ⌜ r ≡ gainOf total target count ⌝ }
+// The circuits that a corridor gets in one turn, of which it may have so many.
+fn gain(total: u32, target: u32, full: u32, count: u32) -> u32
+    ensures { λ r. ⌜ r ≡ gainOf total target full count ⌝ }
 {
-    if (total < target) & (count < MAX_CIRCUITS_PER_CORRIDOR) {
+    if (total < target) & (count < full) {
         1
     } else {
         0
     }
 }
 
-fn fill_once(target: u32, order: &[u32; 256], circuits: &mut [u32], t: Filling) -> Filling
-    requires { ⌜ Ranked (length (now circuits)) (now order) (length (now circuits)) ⌝ }
+fn fill_once(
+    target: u32,
+    cap: &[u32],
+    order: &[u32; 256],
+    circuits: &mut [u32],
+    t: Filling,
+) -> Filling
+    requires { ⌜ Ranked (length (now circuits)) (now order) (length (now circuits)) × (length (now cap) ≡ length (now circuits)) ⌝ }
     requires { ⌜ Tallied t ⌝ }
-    ensures filled { λ r. ⌜ filledAs (now (circuits .exit)) r ≡ fillOnce fullFor target (take (length (now (circuits .entry))) (now (order .entry))) (filledAs (now (circuits .entry)) t) ⌝ }
+    ensures filled { λ r. ⌜ filledAs (now (circuits .exit)) r ≡ fillOnce (fullOf (now (cap .entry))) target (take (length (now (circuits .entry))) (now (order .entry))) (filledAs (now (circuits .entry)) t) ⌝ }
     ensures tally { λ r. ⌜ Tallied r ⌝ }
 {
     let mut total = t.total;
@@ -260,7 +267,7 @@ fn fill_once(target: u32, order: &[u32; 256], circuits: &mut [u32], t: Filling) 
     while j < circuits.len() {
         let k = wide(order[j]);
         let count = circuits[k];
-        let more = gain(total, target, count);
+        let more = gain(total, target, full_at(cap[k]), count);
         circuits[k] = count + more;
         total += more;
         filler += more;
@@ -269,26 +276,38 @@ fn fill_once(target: u32, order: &[u32; 256], circuits: &mut [u32], t: Filling) 
     Filling { total, filler }
 }
 
-fn fill_rounds(target: u32, order: &[u32; 256], circuits: &mut [u32], start: Filling) -> Filling
-    requires { ⌜ Ranked (length (now circuits)) (now order) (length (now circuits)) ⌝ }
+fn fill_rounds(
+    target: u32,
+    cap: &[u32],
+    order: &[u32; 256],
+    circuits: &mut [u32],
+    start: Filling,
+) -> Filling
+    requires { ⌜ Ranked (length (now circuits)) (now order) (length (now circuits)) × (length (now cap) ≡ length (now circuits)) ⌝ }
     requires { ⌜ Tallied start ⌝ }
-    ensures { λ r. ⌜ filledAs (now (circuits .exit)) r ≡ fillRounds fillTurns fullFor target (take (length (now (circuits .entry))) (now (order .entry))) (filledAs (now (circuits .entry)) start) ⌝ }
+    ensures { λ r. ⌜ filledAs (now (circuits .exit)) r ≡ fillRounds fillTurns (fullOf (now (cap .entry))) target (take (length (now (circuits .entry))) (now (order .entry))) (filledAs (now (circuits .entry)) start) ⌝ }
 {
     let mut t = start;
     let mut turn = 0;
     while turn < FILL_TURNS {
-        t = fill_once(target, order, circuits, t);
+        t = fill_once(target, cap, order, circuits, t);
         turn += 1;
     }
     t
 }
 
 // Fills in an order of the corridors, and answers how many circuits that added.
-pub fn fill(mode: PlanMode, target: u32, order: &[u32; 256], circuits: &mut [u32]) -> u32
-    requires { ⌜ Ranked (length (now circuits)) (now order) (length (now circuits)) ⌝ }
+pub fn fill(
+    mode: PlanMode,
+    target: u32,
+    cap: &[u32],
+    order: &[u32; 256],
+    circuits: &mut [u32],
+) -> u32
+    requires { ⌜ Ranked (length (now circuits)) (now order) (length (now circuits)) × (length (now cap) ≡ length (now circuits)) ⌝ }
     requires { ⌜ Counted (now circuits) ⌝ }
-    ensures circuits { λ _. ⌜ now (circuits .exit) ≡ fill (modeFor mode) target (take (length (now (circuits .entry))) (now (order .entry))) (now (circuits .entry)) .counts ⌝ }
-    ensures filler { λ r. ⌜ r ≡ fill (modeFor mode) target (take (length (now (circuits .entry))) (now (order .entry))) (now (circuits .entry)) .filler ⌝ }
+    ensures circuits { λ _. ⌜ now (circuits .exit) ≡ fill (capsFor mode (now (cap .entry))) target (take (length (now (circuits .entry))) (now (order .entry))) (now (circuits .entry)) .counts ⌝ }
+    ensures filler { λ r. ⌜ r ≡ fill (capsFor mode (now (cap .entry))) target (take (length (now (circuits .entry))) (now (order .entry))) (now (circuits .entry)) .filler ⌝ }
 {
     if !promotes(mode) {
         return 0;
@@ -297,6 +316,6 @@ pub fn fill(mode: PlanMode, target: u32, order: &[u32; 256], circuits: &mut [u32
         total: total(circuits),
         filler: 0,
     };
-    let t = fill_rounds(target, order, circuits, before);
+    let t = fill_rounds(target, cap, order, circuits, before);
     t.filler
 }

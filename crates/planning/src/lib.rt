@@ -32,9 +32,10 @@ mod stiffen;
 mod top_up;
 
 // The circuits of each corridor, with their flows and ratings, the dispatch, the angles, the tiers, the grounds and the levels added,
-// for a case of n buses, m corridors and g generators. `before` and `order` are what a plan keeps of filling, also where nothing is
-// filled: the circuits with which it begins and the order of the corridors; zero in a mode that does not fill. Refusals 1 to 7 touch
-// nothing; after 8 and 9 every place is zero; after an answer the work, `figures` and `counts`, is zero.
+// for a case of n buses, m corridors and g generators; `cap` has the corridors' own caps, 0 for none. `before` and `order` are what a
+// plan keeps of filling, also where nothing is filled: the circuits with which it begins and the order of the corridors; zero in a
+// mode that does not fill. `kept_cap` keeps the own caps, in every mode. Refusals 1 to 7 touch nothing; after 8 and 9 every place is
+// zero; after an answer the work, `figures` and `counts`, is zero.
 pub fn plan_corridors(
     mode: PlanMode,
     target: u32,
@@ -57,12 +58,14 @@ pub fn plan_corridors(
     initial: &[u32],
     km: &[f64],
     share: &[f64],
+    cap: &[u32],
     sheet: &[f64],
     circuits: &mut [u32],
     flow: &mut [f64],
     rate: &mut [f64],
     before: &mut [u32],
     order: &mut [u32],
+    kept_cap: &mut [u32],
     mw: &mut [f64],
     angle: &mut [f64],
     level: &mut [u32],
@@ -71,11 +74,11 @@ pub fn plan_corridors(
     figures: &mut [f64],
     counts: &mut [u32],
 ) -> Planned
-    ensures plan { λ r. ⌜ outcome r (slices (now (circuits .exit)) (now (flow .exit)) (now (rate .exit)) (now (before .exit)) (now (order .exit)) (now (mw .exit)) (now (angle .exit)) (now (level .exit)) (now (ground .exit)) (now (added .exit)) (now (figures .exit)) (now (counts .exit)))
-        ≡ planCorridors (caseOf mode n m g above requested (now (ladder .entry)) (now (tier .entry)) (now (load .entry)) (now (bus .entry)) (now (slack .entry)) (now (pmin .entry)) (now (pmax .entry)) (now (c1 .entry)) (now (c2 .entry)) (now (a .entry)) (now (b .entry)) (now (initial .entry)) (now (km .entry)) (now (share .entry)) (now (sheet .entry))) target
-        (slices (now (circuits .entry)) (now (flow .entry)) (now (rate .entry)) (now (before .entry)) (now (order .entry)) (now (mw .entry)) (now (angle .entry)) (now (level .entry)) (now (ground .entry)) (now (added .entry)) (now (figures .entry)) (now (counts .entry))) ⌝ }
-    ensures demand { λ r. ⌜ ((x : CorridorPlan) → r ≡ Answered x → AnswerTo (caseOf mode n m g above requested (now (ladder .entry)) (now (tier .entry)) (now (load .entry)) (now (bus .entry)) (now (slack .entry)) (now (pmin .entry)) (now (pmax .entry)) (now (c1 .entry)) (now (c2 .entry)) (now (a .entry)) (now (b .entry)) (now (initial .entry)) (now (km .entry)) (now (share .entry)) (now (sheet .entry))) target
-        (outcome r (slices (now (circuits .exit)) (now (flow .exit)) (now (rate .exit)) (now (before .exit)) (now (order .exit)) (now (mw .exit)) (now (angle .exit)) (now (level .exit)) (now (ground .exit)) (now (added .exit)) (now (figures .exit)) (now (counts .exit)))) x) ⌝ }
+    ensures plan { λ r. ⌜ outcome r (slices (now (circuits .exit)) (now (flow .exit)) (now (rate .exit)) (now (before .exit)) (now (order .exit)) (now («kept_cap» .exit)) (now (mw .exit)) (now (angle .exit)) (now (level .exit)) (now (ground .exit)) (now (added .exit)) (now (figures .exit)) (now (counts .exit)))
+        ≡ planCorridors (caseOf mode n m g above requested (now (ladder .entry)) (now (tier .entry)) (now (load .entry)) (now (bus .entry)) (now (slack .entry)) (now (pmin .entry)) (now (pmax .entry)) (now (c1 .entry)) (now (c2 .entry)) (now (a .entry)) (now (b .entry)) (now (initial .entry)) (now (km .entry)) (now (share .entry)) (now (cap .entry)) (now (sheet .entry))) target
+        (slices (now (circuits .entry)) (now (flow .entry)) (now (rate .entry)) (now (before .entry)) (now (order .entry)) (now («kept_cap» .entry)) (now (mw .entry)) (now (angle .entry)) (now (level .entry)) (now (ground .entry)) (now (added .entry)) (now (figures .entry)) (now (counts .entry))) ⌝ }
+    ensures demand { λ r. ⌜ ((x : CorridorPlan) → r ≡ Answered x → AnswerTo (caseOf mode n m g above requested (now (ladder .entry)) (now (tier .entry)) (now (load .entry)) (now (bus .entry)) (now (slack .entry)) (now (pmin .entry)) (now (pmax .entry)) (now (c1 .entry)) (now (c2 .entry)) (now (a .entry)) (now (b .entry)) (now (initial .entry)) (now (km .entry)) (now (share .entry)) (now (cap .entry)) (now (sheet .entry))) target
+        (outcome r (slices (now (circuits .exit)) (now (flow .exit)) (now (rate .exit)) (now (before .exit)) (now (order .exit)) (now («kept_cap» .exit)) (now (mw .exit)) (now (angle .exit)) (now (level .exit)) (now (ground .exit)) (now (added .exit)) (now (figures .exit)) (now (counts .exit)))) x) ⌝ }
 {
     let places = Places {
         circuits: circuits.len(),
@@ -83,6 +86,7 @@ pub fn plan_corridors(
         rate: rate.len(),
         before: before.len(),
         order: order.len(),
+        cap: kept_cap.len(),
         mw: mw.len(),
         angle: angle.len(),
         tier: level.len(),
@@ -112,6 +116,7 @@ pub fn plan_corridors(
         initial,
         km,
         share,
+        cap,
         sheet,
         places,
     ) {
@@ -136,6 +141,7 @@ pub fn plan_corridors(
         initial,
         km,
         share,
+        cap,
         sheet,
         circuits,
         flow,
@@ -169,25 +175,28 @@ pub fn plan_corridors(
     let ranks = kept.order;
     close::keep_if(keeps, first, before);
     close::keep_if(keeps, ranks, order);
+    let caps = fill::copied(cap);
+    close::keep_if(!refused, caps, kept_cap);
     said
 }
 
-// The circuits that each of m corridors of a plan would have with another target, from what the plan keeps of filling (`before` and
-// `order` of `plan_corridors`). A refusal touches nothing.
+// The circuits that each of m corridors of a plan would have with another target, from what the plan keeps (`before`, `order` and
+// `kept_cap` of `plan_corridors`). A refusal touches nothing.
 pub fn preview_filling(
     mode: PlanMode,
     target: u32,
     m: usize,
     before: &[u32],
     order: &[u32],
+    cap: &[u32],
     circuits: &mut [u32],
 ) -> Answer
-    ensures { λ r. ⌜ outcomeOf r (now (circuits .exit)) ≡ previewOf (keptAs mode m (now (before .entry)) (now (order .entry))) target (now (circuits .entry)) ⌝ }
+    ensures { λ r. ⌜ outcomeOf r (now (circuits .exit)) ≡ previewOf (keptAs mode m (now (before .entry)) (now (order .entry)) (now (cap .entry))) target (now (circuits .entry)) ⌝ }
 {
-    match preview::check(mode, target, m, before, order, circuits.len()) {
+    match preview::check(mode, target, m, before, order, cap, circuits.len()) {
         Answer::Refused(f) => return Answer::Refused(f),
         Answer::Answered => {}
     }
-    preview::refill(mode, target, before, order, circuits);
+    preview::refill(mode, target, before, order, cap, circuits);
     Answer::Answered
 }

@@ -111,6 +111,7 @@ fn run_rounds(
     b: &[u32],
     km: &[f64],
     share: &[f64],
+    cap: &[u32],
     sheet: &[f64],
     load: &[f64],
     bus: &[u32],
@@ -127,8 +128,8 @@ fn run_rounds(
     angle: &mut [f64],
     flow: &mut [f64],
 ) -> Rounds
-    requires { ⌜ Runnable above promoted (now ladder) (now level) (now a) (now b) (now km) (now share) (now sheet) (now load) (now bus) (now pmax) (now leader) (now grounds) (now injection) (now circuits) (now banks) (now floors) (now upsized) (now marks) (now angle) (now flow) ⌝ }
-    ensures { λ r. ⌜ RanAll mode above promoted (now (ladder .entry)) (now (level .entry)) (now (a .entry)) (now (b .entry)) (now (km .entry)) (now (share .entry)) (now (sheet .entry)) (now (load .entry)) (now (bus .entry)) (now (pmax .entry)) (now (leader .entry)) (now (grounds .entry)) (now (injection .entry))
+    requires { ⌜ Runnable above promoted (now ladder) (now level) (now a) (now b) (now km) (now share) (now cap) (now sheet) (now load) (now bus) (now pmax) (now leader) (now grounds) (now injection) (now circuits) (now banks) (now floors) (now upsized) (now marks) (now angle) (now flow) ⌝ }
+    ensures { λ r. ⌜ RanAll mode above promoted (now (ladder .entry)) (now (level .entry)) (now (a .entry)) (now (b .entry)) (now (km .entry)) (now (share .entry)) (now (cap .entry)) (now (sheet .entry)) (now (load .entry)) (now (bus .entry)) (now (pmax .entry)) (now (leader .entry)) (now (grounds .entry)) (now (injection .entry))
         (now (circuits .entry)) (now (banks .entry)) (now (floors .entry)) (now (upsized .entry))
         (now (level .exit)) (now (circuits .exit)) (now (banks .exit)) (now (floors .exit)) (now (upsized .exit)) (now (angle .exit)) r ⌝ }
 {
@@ -148,6 +149,7 @@ fn run_rounds(
         b,
         km,
         share,
+        cap,
         sheet,
         load,
         bus,
@@ -228,6 +230,7 @@ fn plan_opened(
     b: &[u32],
     km: &[f64],
     share: &[f64],
+    cap: &[u32],
     sheet: &[f64],
     load: &[f64],
     bus: &[u32],
@@ -246,9 +249,9 @@ fn plan_opened(
     angle: &mut [f64],
     added: &mut [f64],
 ) -> PlanRun
-    requires { ⌜ Plannable (now ladder) (now level) (now a) (now b) (now km) (now share) (now sheet) (now load) (now bus) (now pmax) (now leader) (now grounds) (now injection) (now circuits) (now banks) (now floors) (now upsized) (now marks) (now angle) (now flow) ⌝ }
+    requires { ⌜ Plannable (now ladder) (now level) (now a) (now b) (now km) (now share) (now cap) (now sheet) (now load) (now bus) (now pmax) (now leader) (now grounds) (now injection) (now circuits) (now banks) (now floors) (now upsized) (now marks) (now angle) (now flow) ⌝ }
     requires { ⌜ Closable above (now ladder) (now a) (now leader) (now upsized) (now angle) (now rate) (now added) ⌝ }
-    ensures { λ r. ⌜ OpenedPlan mode target above (now (ladder .entry)) (now (level .entry)) (now (a .entry)) (now (b .entry)) (now (km .entry)) (now (share .entry)) (now (sheet .entry)) (now (load .entry)) (now (bus .entry)) (now (pmax .entry)) (now (leader .entry)) (now (grounds .entry)) (now (injection .entry))
+    ensures { λ r. ⌜ OpenedPlan mode target above (now (ladder .entry)) (now (level .entry)) (now (a .entry)) (now (b .entry)) (now (km .entry)) (now (share .entry)) (now (cap .entry)) (now (sheet .entry)) (now (load .entry)) (now (bus .entry)) (now (pmax .entry)) (now (leader .entry)) (now (grounds .entry)) (now (injection .entry))
         (now (circuits .entry)) (now (upsized .entry))
         (now (circuits .exit)) (now (level .exit)) (now (flow .exit)) (now (rate .exit)) (now (angle .exit)) (now (added .exit)) r ⌝ }
 {
@@ -297,6 +300,7 @@ fn plan_opened(
             b,
             km,
             share,
+            cap,
             sheet,
             load,
             bus,
@@ -324,6 +328,7 @@ fn plan_opened(
                     b,
                     km,
                     share,
+                    cap,
                     sheet,
                     leader,
                     grounds,
@@ -363,6 +368,7 @@ pub fn run(
     initial: &[u32],
     km: &[f64],
     share: &[f64],
+    cap: &[u32],
     sheet: &[f64],
     circuits: &mut [u32],
     flow: &mut [f64],
@@ -375,9 +381,9 @@ pub fn run(
     figures: &mut [f64],
     counts: &mut [u32],
 ) -> PlanRun
-    requires { ⌜ Lendable mode target above (now ladder) (now tier) (now load) (now bus) (now slack) (now pmin) (now pmax) (now c1) (now c2) (now a) (now b) (now initial) (now km) (now share) (now sheet)
+    requires { ⌜ Lendable mode target above (now ladder) (now tier) (now load) (now bus) (now slack) (now pmin) (now pmax) (now c1) (now c2) (now a) (now b) (now initial) (now km) (now share) (now cap) (now sheet)
         (lentTo (now circuits) (now flow) (now rate) (now mw) (now angle) (now level) (now ground) (now added) (now figures) (now counts)) ⌝ }
-    ensures { λ r. ⌜ PlanDone mode target above (now (ladder .entry)) (now (tier .entry)) (now (load .entry)) (now (bus .entry)) (now (slack .entry)) (now (pmin .entry)) (now (pmax .entry)) (now (c1 .entry)) (now (c2 .entry)) (now (a .entry)) (now (b .entry)) (now (initial .entry)) (now (km .entry)) (now (share .entry)) (now (sheet .entry))
+    ensures { λ r. ⌜ PlanDone mode target above (now (ladder .entry)) (now (tier .entry)) (now (load .entry)) (now (bus .entry)) (now (slack .entry)) (now (pmin .entry)) (now (pmax .entry)) (now (c1 .entry)) (now (c2 .entry)) (now (a .entry)) (now (b .entry)) (now (initial .entry)) (now (km .entry)) (now (share .entry)) (now (cap .entry)) (now (sheet .entry))
         (now (circuits .exit)) (now (flow .exit)) (now (rate .exit)) (now (mw .exit)) (now (angle .exit)) (now (level .exit)) (now (ground .exit)) (now (added .exit)) r ⌝ }
 {
     let n = tier.len();
@@ -418,6 +424,7 @@ pub fn run(
             b,
             km,
             share,
+            cap,
             sheet,
             load,
             bus,

@@ -1,8 +1,8 @@
-// What a mode does, and how many circuits a corridor may hold (`circuit_cap` of planning.rs).
+// What a mode does, and how many circuits a corridor may hold (`circuit_cap` of planning.rs; document 02, K5).
 ghost use mathlib.Core.Path.{_≡_};
 ghost use Prim.Native.Nat.{_≤_};
-ghost use Rattle.plan_defs.specs.Constants.{subtransmissionMaxCircuits};
-ghost use Rattle.plan_defs.specs.Case.{expand, promote, topsUp, circuitCap};
+ghost use Rattle.plan_defs.specs.Constants.{mostCap, maxCircuitsPerCorridor, subtransmissionMaxCircuits};
+ghost use Rattle.plan_defs.specs.Case.{expand, promote, topsUp, ownOr, circuitCap};
 use mode::PlanMode;
 
 // Below this kV a corridor that cannot be raised may have more circuits.
@@ -10,7 +10,7 @@ const SUBTRANSMISSION_KV: f64 = 100.0;
 
 const SUBTRANSMISSION_MAX_CIRCUITS: u32 = 6;
 
-pub const MAX_CIRCUITS_PER_CORRIDOR: u32 = 4;
+const MAX_CIRCUITS_PER_CORRIDOR: u32 = 4;
 
 // Whether it may add circuits and banks.
 pub fn expands(mode: PlanMode) -> bool
@@ -65,9 +65,24 @@ fn circuit_cap(promote: bool, kv: f64) -> u32
     }
 }
 
-// The cap of a corridor at a kV.
-pub fn cap_at(mode: PlanMode, kv: f64) -> u32
-    ensures { λ r. ⌜ (r ≡ circuitCap (promote mode) kv) × (r ≤ subtransmissionMaxCircuits) ⌝ }
+// A corridor's own cap takes the place of the usual one; 0 is none.
+fn own_or(own: u32, usual: u32) -> u32
+    ensures { λ r. ⌜ r ≡ ownOr own usual ⌝ }
 {
-    circuit_cap(promotes(mode), kv)
+    if own > 0 { own } else { usual }
+}
+
+// The cap of a corridor at a kV, for sizing and the capped count.
+pub fn cap_at(mode: PlanMode, own: u32, kv: f64) -> u32
+    ensures cap { λ r. ⌜ r ≡ ownOr own (circuitCap (promote mode) kv) ⌝ }
+    ensures few { λ r. ⌜ (own ≤ mostCap → r ≤ subtransmissionMaxCircuits) ⌝ }
+{
+    own_or(own, circuit_cap(promotes(mode), kv))
+}
+
+// The most circuits that stiffening and filling give a corridor.
+pub fn full_at(own: u32) -> u32
+    ensures { λ r. ⌜ r ≡ ownOr own maxCircuitsPerCorridor ⌝ }
+{
+    own_or(own, MAX_CIRCUITS_PER_CORRIDOR)
 }

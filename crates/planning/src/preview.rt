@@ -6,10 +6,11 @@ ghost use lib.Dec.{leb};
 ghost use lib.ListN.{length};
 ghost use Rattle.loops.specs.Loops.{first};
 ghost use Rattle.plan_defs.specs.Case.{promote};
-ghost use Rattle.plan_defs.specs.Constants.{mostInitial};
+ghost use Rattle.plan_defs.specs.Constants.{mostInitial, mostCap};
 ghost use Rattle.plan_defs.specs.Preview.{keptAs, countOk, differsAt, placeOk, previewFault, refilled};
 ghost use Rattle.planning.specs.Check.{answerOf};
 ghost use Rattle.planning.specs.Preview.{countsFor, orderFor, Refillable};
+use crate::check::MOST_CAP;
 use crate::check::MOST_CORRIDORS;
 use crate::check::MOST_INITIAL;
 use crate::check::MOST_TARGET;
@@ -22,19 +23,20 @@ use mode::PlanMode;
 use refusal::Answer;
 use refusal::Refusal;
 
-// ---- 6: the first corridor whose kept count is outside 1 to 64
-fn count_ok(count: u32) -> bool
-    ensures { λ r. ⌜ r ≡ (leb 1 count && leb count mostInitial) ⌝ }
+// ---- 6: the first corridor whose kept count is outside 1 to 64, or whose cap is above 6
+fn count_ok(count: u32, cap: u32) -> bool
+    ensures { λ r. ⌜ r ≡ (leb 1 count && (leb count mostInitial && leb cap mostCap)) ⌝ }
 {
-    (1 <= count) & (count <= MOST_INITIAL)
+    (1 <= count) & ((count <= MOST_INITIAL) & (cap <= MOST_CAP))
 }
 
-fn faulty_count(before: &[u32]) -> usize
-    ensures { λ r. ⌜ r ≡ first (countOk (countsFor (now (before .entry)))) (length (now (before .entry))) 0 ⌝ }
+fn faulty_count(before: &[u32], cap: &[u32]) -> usize
+    requires { ⌜ length (now cap) ≡ length (now before) ⌝ }
+    ensures { λ r. ⌜ r ≡ first (countOk (countsFor (now (before .entry)) (now (cap .entry)))) (length (now (before .entry))) 0 ⌝ }
 {
     let mut k = 0;
     while k < before.len() {
-        if !count_ok(before[k]) {
+        if !count_ok(before[k], cap[k]) {
             return k;
         }
         k += 1;
@@ -87,11 +89,12 @@ pub fn check(
     m: usize,
     before: &[u32],
     order: &[u32],
+    cap: &[u32],
     places: usize,
 ) -> Answer
-    ensures { λ r. ⌜ r ≡ answerOf (previewFault (keptAs mode m (now (before .entry)) (now (order .entry))) target places) ⌝ }
+    ensures { λ r. ⌜ r ≡ answerOf (previewFault (keptAs mode m (now (before .entry)) (now (order .entry)) (now (cap .entry))) target places) ⌝ }
 {
-    if !((before.len() == m) & ((order.len() == m) & (places == m))) {
+    if !((before.len() == m) & ((order.len() == m) & ((cap.len() == m) & (places == m)))) {
         return Answer::Refused(Refusal::Length);
     }
     if !((m <= MOST_CORRIDORS) & (target <= MOST_TARGET)) {
@@ -100,7 +103,7 @@ pub fn check(
     if !promotes(mode) {
         return Answer::Refused(Refusal::Mode);
     }
-    let k = faulty_count(before);
+    let k = faulty_count(before, cap);
     if k < m {
         return Answer::Refused(Refusal::Corridor(k));
     }
@@ -112,12 +115,19 @@ pub fn check(
 }
 
 // ---- the circuits for a target
-pub fn refill(mode: PlanMode, target: u32, before: &[u32], order: &[u32], circuits: &mut [u32])
-    requires { ⌜ (promote mode ≡ true) × Refillable (now before) (now order) (now circuits) ⌝ }
-    ensures { λ _. ⌜ now (circuits .exit) ≡ refilled (keptAs mode (length (now (before .entry))) (now (before .entry)) (now (order .entry))) target ⌝ }
+pub fn refill(
+    mode: PlanMode,
+    target: u32,
+    before: &[u32],
+    order: &[u32],
+    cap: &[u32],
+    circuits: &mut [u32],
+)
+    requires { ⌜ (promote mode ≡ true) × Refillable (now before) (now order) (now cap) (now circuits) ⌝ }
+    ensures { λ _. ⌜ now (circuits .exit) ≡ refilled (keptAs mode (length (now (before .entry))) (now (before .entry)) (now (order .entry)) (now (cap .entry))) target ⌝ }
 {
     let all = copied(order);
     let first = copied(before);
     copy_front(first, circuits);
-    fill(mode, target, &all, circuits);
+    fill(mode, target, cap, &all, circuits);
 }

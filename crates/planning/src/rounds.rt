@@ -93,6 +93,7 @@ pub fn size_rounds(
     b: &[u32],
     km: &[f64],
     share: &[f64],
+    cap: &[u32],
     sheet: &[f64],
     load: &[f64],
     bus: &[u32],
@@ -109,8 +110,8 @@ pub fn size_rounds(
     angle: &mut [f64],
     flow: &mut [f64],
 ) -> Rounds
-    requires { ⌜ RoundsFit above budget start (now ladder) (now level) (now a) (now b) (now km) (now share) (now sheet) (now load) (now bus) (now pmax) (now leader) (now grounds) (now injection) (now circuits) (now banks) (now floors) (now upsized) (now marks) (now angle) (now flow) ⌝ }
-    ensures { λ r. ⌜ RoundsRun mode above budget start (now (ladder .entry)) (now (level .entry)) (now (a .entry)) (now (b .entry)) (now (km .entry)) (now (share .entry)) (now (sheet .entry)) (now (load .entry)) (now (bus .entry)) (now (pmax .entry)) (now (leader .entry)) (now (grounds .entry)) (now (injection .entry))
+    requires { ⌜ RoundsFit above budget start (now ladder) (now level) (now a) (now b) (now km) (now share) (now cap) (now sheet) (now load) (now bus) (now pmax) (now leader) (now grounds) (now injection) (now circuits) (now banks) (now floors) (now upsized) (now marks) (now angle) (now flow) ⌝ }
+    ensures { λ r. ⌜ RoundsRun mode above budget start (now (ladder .entry)) (now (level .entry)) (now (a .entry)) (now (b .entry)) (now (km .entry)) (now (share .entry)) (now (cap .entry)) (now (sheet .entry)) (now (load .entry)) (now (bus .entry)) (now (pmax .entry)) (now (leader .entry)) (now (grounds .entry)) (now (injection .entry))
         (now (circuits .entry)) (now (banks .entry)) (now (floors .entry)) (now (upsized .entry)) (now (angle .entry))
         (now (level .exit)) (now (circuits .exit)) (now (banks .exit)) (now (floors .exit)) (now (upsized .exit)) (now (angle .exit)) r ⌝ }
 {
@@ -145,6 +146,7 @@ pub fn size_rounds(
                 b,
                 km,
                 share,
+                cap,
                 sheet,
                 flow,
                 k,
@@ -200,6 +202,7 @@ pub fn size_rounds(
                 b,
                 km,
                 share,
+                cap,
                 sheet,
                 leader,
                 grounds,

@@ -93,6 +93,7 @@ fn close_up(
     b: &[u32],
     km: &[f64],
     share: &[f64],
+    cap: &[u32],
     sheet: &[f64],
     leader: &[u32],
     grounds: &[u32],
@@ -106,9 +107,9 @@ fn close_up(
     angle: &mut [f64],
     added: &mut [f64],
 ) -> Settled
-    requires { ⌜ Settleable above (now ladder) (now level) (now a) (now b) (now km) (now share) (now sheet) (now leader) (now grounds) (now injection) (now banks) (now upsized) (now circuits) (now flow) (now rate) (now angle) (now added) ⌝ }
+    requires { ⌜ Settleable above (now ladder) (now level) (now a) (now b) (now km) (now share) (now cap) (now sheet) (now leader) (now grounds) (now injection) (now banks) (now upsized) (now circuits) (now flow) (now rate) (now angle) (now added) ⌝ }
     ensures { λ r. ⌜ ((before order : List ℕ) → endedOf r before order (now (circuits .entry)) (now (level .exit)) (now (flow .exit)) (now (rate .exit)) (now (angle .exit)) (now (added .exit))
-        ≡ closedFrom mode above (now (leader .entry)) (now (ladder .entry)) (now (level .entry))
+        ≡ closedFrom mode (now (cap .entry)) above (now (leader .entry)) (now (ladder .entry)) (now (level .entry))
         (designsFor (now (ladder .entry)) (now (level .entry)) (now (a .entry)) (now (b .entry)) (now (km .entry)) (now (share .entry)) (now (sheet .entry)) (now (banks .entry)))
         (now (upsized .entry)) (peakFor (length (now (level .entry))) (now (grounds .entry)) (now (injection .entry))) filler before order (now (circuits .entry))) ⌝ }
 {
@@ -138,6 +139,7 @@ fn close_up(
         b,
         km,
         share,
+        cap,
         sheet,
         leader,
         banks,
@@ -162,6 +164,7 @@ fn fill_up(
     b: &[u32],
     km: &[f64],
     share: &[f64],
+    cap: &[u32],
     sheet: &[f64],
     leader: &[u32],
     grounds: &[u32],
@@ -175,10 +178,10 @@ fn fill_up(
     angle: &mut [f64],
     added: &mut [f64],
 ) -> Settling
-    requires { ⌜ Settleable above (now ladder) (now level) (now a) (now b) (now km) (now share) (now sheet) (now leader) (now grounds) (now injection) (now banks) (now upsized) (now circuits) (now flow) (now rate) (now angle) (now added) ⌝ }
+    requires { ⌜ Settleable above (now ladder) (now level) (now a) (now b) (now km) (now share) (now cap) (now sheet) (now leader) (now grounds) (now injection) (now banks) (now upsized) (now circuits) (now flow) (now rate) (now angle) (now added) ⌝ }
     requires { ⌜ Few (now circuits) ⌝ }
     ensures { λ r. ⌜ endedOf (r .settled) (take (length (now (a .entry))) (r .kept .before)) (take (length (now (a .entry))) (r .kept .order)) (now (circuits .exit)) (now (level .exit)) (now (flow .exit)) (now (rate .exit)) (now (angle .exit)) (now (added .exit))
-        ≡ filledFrom mode above (now (leader .entry)) (now (ladder .entry)) (now (level .entry))
+        ≡ filledFrom mode (now (cap .entry)) above (now (leader .entry)) (now (ladder .entry)) (now (level .entry))
         (designsFor (now (ladder .entry)) (now (level .entry)) (now (a .entry)) (now (b .entry)) (now (km .entry)) (now (share .entry)) (now (sheet .entry)) (now (banks .entry)))
         (now (upsized .entry)) (peakFor (length (now (level .entry))) (now (grounds .entry)) (now (injection .entry))) target (length (now (a .entry))) (now (circuits .entry)) (now (flow .entry)) ⌝ }
 {
@@ -197,7 +200,7 @@ fn fill_up(
         &mut order,
     );
     let kept = keep(circuits, order);
-    let filler = fill(mode, target, &order, circuits);
+    let filler = fill(mode, target, cap, &order, circuits);
     let settled = close_up(
         mode,
         above,
@@ -207,6 +210,7 @@ fn fill_up(
         b,
         km,
         share,
+        cap,
         sheet,
         leader,
         grounds,
@@ -244,6 +248,7 @@ pub fn settle(
     b: &[u32],
     km: &[f64],
     share: &[f64],
+    cap: &[u32],
     sheet: &[f64],
     leader: &[u32],
     grounds: &[u32],
@@ -257,9 +262,9 @@ pub fn settle(
     angle: &mut [f64],
     added: &mut [f64],
 ) -> Settling
-    requires { ⌜ Settleable above (now ladder) (now level) (now a) (now b) (now km) (now share) (now sheet) (now leader) (now grounds) (now injection) (now banks) (now upsized) (now circuits) (now flow) (now rate) (now angle) (now added) ⌝ }
+    requires { ⌜ Settleable above (now ladder) (now level) (now a) (now b) (now km) (now share) (now cap) (now sheet) (now leader) (now grounds) (now injection) (now banks) (now upsized) (now circuits) (now flow) (now rate) (now angle) (now added) ⌝ }
     requires { ⌜ Few (now circuits) ⌝ }
-    ensures { λ r. ⌜ Settles mode target above (now (ladder .entry)) (now (a .entry)) (now (b .entry)) (now (km .entry)) (now (share .entry)) (now (sheet .entry)) (now (leader .entry)) (now (grounds .entry)) (now (injection .entry)) (now (banks .entry)) (now (upsized .entry)) (now (circuits .entry)) (now (level .entry))
+    ensures { λ r. ⌜ Settles mode target above (now (ladder .entry)) (now (a .entry)) (now (b .entry)) (now (km .entry)) (now (share .entry)) (now (cap .entry)) (now (sheet .entry)) (now (leader .entry)) (now (grounds .entry)) (now (injection .entry)) (now (banks .entry)) (now (upsized .entry)) (now (circuits .entry)) (now (level .entry))
         (now (circuits .exit)) (now (level .exit)) (now (flow .exit)) (now (rate .exit)) (now (angle .exit)) (now (added .exit)) r ⌝ }
 {
     match solve_from_zero(
@@ -287,6 +292,7 @@ pub fn settle(
             b,
             km,
             share,
+            cap,
             sheet,
             leader,
             grounds,

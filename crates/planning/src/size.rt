@@ -2,8 +2,8 @@
 ghost use mathlib.Core.Path.{_≡_};
 ghost use mathlib.Core.Bool.{_||_};
 ghost use Prim.Native.Nat.{_+_, _<_, _≤_};
-ghost use lib.ListN.{length};
-ghost use Rattle.plan_defs.specs.Constants.{subtransmissionMaxCircuits};
+ghost use lib.ListN.{length, getD};
+ghost use Rattle.plan_defs.specs.Constants.{mostCap, subtransmissionMaxCircuits};
 ghost use Rattle.plan_defs.specs.Build.{bankBelow};
 ghost use Rattle.plan_defs.specs.Raise.{topOf, markIf};
 ghost use Rattle.plan_defs.specs.Size.{requiredFor, enough, nextBank, enlarges, raisesFor};
@@ -157,6 +157,7 @@ fn grow(
     level: &[u32],
     a: &[u32],
     b: &[u32],
+    cap: &[u32],
     k: usize,
     required: f64,
     d: CircuitDesign,
@@ -165,8 +166,8 @@ fn grow(
     t: Tally,
 ) -> Tally
     requires { ⌜ PairFits (now level) (now a) (now b) (now marks) k ⌝ }
-    requires { ⌜ (k < length (now circuits)) × (t .capacity + subtransmissionMaxCircuits ≤ largestCount) ⌝ }
-    ensures { λ r. ⌜ Grows (growFor mode (now (a .entry)) (now (b .entry))) (now (level .entry)) required k d (now (circuits .entry)) (now (marks .entry)) t (now (circuits .exit)) (now (marks .exit)) r ⌝ }
+    requires { ⌜ (k < length (now circuits)) × (k < length (now cap)) × (getD (now cap) k 0 ≤ mostCap) × (t .capacity + subtransmissionMaxCircuits ≤ largestCount) ⌝ }
+    ensures { λ r. ⌜ Grows (growFor mode (now (a .entry)) (now (b .entry)) (now (cap .entry))) (now (level .entry)) required k d (now (circuits .entry)) (now (marks .entry)) t (now (circuits .exit)) (now (marks .exit)) r ⌝ }
 {
     if enough(required, circuits[k], d) {
         return t;
@@ -175,8 +176,8 @@ fn grow(
     if raises_for(mode, need, level, a, b, k, marks) {
         return t;
     }
-    let cap = cap_at(mode, d.kv);
-    add(cap, need, k, circuits, t)
+    let most = cap_at(mode, cap[k], d.kv);
+    add(most, need, k, circuits, t)
 }
 
 // ---- one corridor: a larger bank counts at once
@@ -188,6 +189,7 @@ pub fn size_corridor(
     b: &[u32],
     km: &[f64],
     share: &[f64],
+    cap: &[u32],
     sheet: &[f64],
     flow: &[f64],
     k: usize,
@@ -198,8 +200,8 @@ pub fn size_corridor(
     marks: &mut [u32],
     t: Tally,
 ) -> Tally
-    requires { ⌜ CorridorFits (now ladder) (now level) (now a) (now b) (now km) (now share) (now sheet) (now flow) k (now circuits) (now banks) (now floors) (now upsized) (now marks) t ⌝ }
-    ensures { λ r. ⌜ CorridorSized (sizeFor mode (length (now (level .entry))) (now (ladder .entry)) (now (a .entry)) (now (b .entry)) (now (km .entry)) (now (share .entry)) (now (sheet .entry)))
+    requires { ⌜ CorridorFits (now ladder) (now level) (now a) (now b) (now km) (now share) (now cap) (now sheet) (now flow) k (now circuits) (now banks) (now floors) (now upsized) (now marks) t ⌝ }
+    ensures { λ r. ⌜ CorridorSized (sizeFor mode (length (now (level .entry))) (now (ladder .entry)) (now (a .entry)) (now (b .entry)) (now (km .entry)) (now (share .entry)) (now (cap .entry)) (now (sheet .entry)))
         (now (level .entry)) (now (flow .entry)) k
         (now (circuits .entry)) (now (banks .entry)) (now (floors .entry)) (now (upsized .entry)) (now (marks .entry)) t
         (now (circuits .exit)) (now (banks .exit)) (now (floors .exit)) (now (upsized .exit)) (now (marks .exit)) r ⌝ }
@@ -212,5 +214,5 @@ pub fn size_corridor(
     let d = banked_if(larger, first, next);
     keep_bank(larger, k, d, banks, floors, upsized);
     let s = with_bank_added(t, larger);
-    grow(mode, level, a, b, k, required, d, circuits, marks, s)
+    grow(mode, level, a, b, cap, k, required, d, circuits, marks, s)
 }

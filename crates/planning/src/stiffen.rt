@@ -6,7 +6,7 @@ ghost use Prim.Native.Nat.{ℕ, _+_, _<_, _≤_};
 ghost use lib.ListN.{length, getD, take};
 ghost use Rattle.loops.specs.Figures.{nought};
 ghost use Rattle.loops.specs.Loops.{first, filled};
-ghost use Rattle.plan_defs.specs.Constants.{mostBuses, mostCorridors, mostLevels, stiffeningBranchBudget};
+ghost use Rattle.plan_defs.specs.Constants.{mostBuses, mostCorridors, mostLevels, mostCap, stiffeningBranchBudget};
 ghost use Rattle.plan_defs.specs.Components.{within};
 ghost use Rattle.plan_defs.specs.Lists.{counting, sum};
 ghost use Rattle.plan_defs.specs.Raise.{noMarks, markIf};
@@ -27,7 +27,7 @@ use crate::figures::to_usize;
 use crate::figures::wide;
 use crate::fill::insert;
 use crate::fill::total;
-use crate::policy::MAX_CIRCUITS_PER_CORRIDOR;
+use crate::policy::full_at;
 use crate::raise::mark_raise_to;
 use crate::raise::raise_of;
 use crate::size::bank_below;
@@ -186,10 +186,10 @@ fn raises(
     false
 }
 
-fn has_room(g: Limits, count: u32, total: u32) -> bool
-    ensures { λ r. ⌜ r ≡ roomFor g count total ⌝ }
+fn has_room(g: Limits, own: u32, count: u32, total: u32) -> bool
+    ensures { λ r. ⌜ r ≡ roomFor g own count total ⌝ }
 {
-    (count < MAX_CIRCUITS_PER_CORRIDOR) & (wide(total) < g.branches)
+    (count < full_at(own)) & (wide(total) < g.branches)
 }
 
 fn reckoned(added: u32, arrived: u32, t: Stiffness) -> Stiffness
@@ -208,6 +208,7 @@ fn reckoned(added: u32, arrived: u32, t: Stiffness) -> Stiffness
 // A raise of corridor k, else a circuit, else nothing.
 fn raise_or_add(
     g: Limits,
+    own: u32,
     level: &[u32],
     a: &[u32],
     b: &[u32],
@@ -217,15 +218,15 @@ fn raise_or_add(
     t: Stiffness,
 ) -> Stiffness
     requires { ⌜ PairFits (now level) (now a) (now b) (now marks) k ⌝ }
-    requires { ⌜ (k < length (now circuits)) × Room 1 t ⌝ }
-    ensures { λ r. ⌜ Strengthened g (now (level .entry)) (now (a .entry)) (now (b .entry)) k (now (circuits .entry)) (now (marks .entry)) t (now (circuits .exit)) (now (marks .exit)) r ⌝ }
+    requires { ⌜ (k < length (now circuits)) × (own ≤ mostCap) × Room 1 t ⌝ }
+    ensures { λ r. ⌜ Strengthened g own (now (level .entry)) (now (a .entry)) (now (b .entry)) k (now (circuits .entry)) (now (marks .entry)) t (now (circuits .exit)) (now (marks .exit)) r ⌝ }
 {
     if raises(g, t.hv, level, a, b, k, marks) {
         let arrived = arrivals(g.top, level, a, b, k, marks);
         return reckoned(0, arrived, t);
     }
     let count = circuits[k];
-    if has_room(g, count, t.total) {
+    if has_room(g, own, count, t.total) {
         circuits[k] = count + 1;
         return reckoned(1, 0, t);
     }
@@ -241,6 +242,7 @@ fn stiffen_one(
     b: &[u32],
     km: &[f64],
     share: &[f64],
+    cap: &[u32],
     sheet: &[f64],
     k: usize,
     circuits: &mut [u32],
@@ -250,9 +252,9 @@ fn stiffen_one(
     marks: &mut [u32],
     t: Stiffness,
 ) -> Stiffness
-    requires { ⌜ StiffenFits (now ladder) (now level) (now a) (now b) (now km) (now share) (now sheet) (now circuits) (now banks) (now floors) (now upsized) (now marks) ⌝ }
+    requires { ⌜ StiffenFits (now ladder) (now level) (now a) (now b) (now km) (now share) (now cap) (now sheet) (now circuits) (now banks) (now floors) (now upsized) (now marks) ⌝ }
     requires { ⌜ (k < length (now a)) × Room 1 t ⌝ }
-    ensures { λ r. ⌜ BatchStiffened (k ∷ []) g (now (ladder .entry)) (now (level .entry)) (now (a .entry)) (now (b .entry)) (now (km .entry)) (now (share .entry)) (now (sheet .entry))
+    ensures { λ r. ⌜ BatchStiffened (k ∷ []) g (now (ladder .entry)) (now (level .entry)) (now (a .entry)) (now (b .entry)) (now (km .entry)) (now (share .entry)) (now (cap .entry)) (now (sheet .entry))
         (now (circuits .entry)) (now (banks .entry)) (now (floors .entry)) (now (upsized .entry)) (now (marks .entry)) t
         (now (circuits .exit)) (now (banks .exit)) (now (floors .exit)) (now (upsized .exit)) (now (marks .exit)) r ⌝ }
 {
@@ -262,7 +264,7 @@ fn stiffen_one(
         keep_bank(true, k, full, banks, floors, upsized);
         return reckoned(0, 0, t);
     }
-    raise_or_add(g, level, a, b, k, circuits, marks, t)
+    raise_or_add(g, cap[k], level, a, b, k, circuits, marks, t)
 }
 
 // The first `taken` corridors of an order.
@@ -274,6 +276,7 @@ fn stiffen_batch(
     b: &[u32],
     km: &[f64],
     share: &[f64],
+    cap: &[u32],
     sheet: &[f64],
     order: &[u32; 256],
     taken: usize,
@@ -284,9 +287,9 @@ fn stiffen_batch(
     marks: &mut [u32],
     start: Stiffness,
 ) -> Stiffness
-    requires { ⌜ StiffenFits (now ladder) (now level) (now a) (now b) (now km) (now share) (now sheet) (now circuits) (now banks) (now floors) (now upsized) (now marks) ⌝ }
+    requires { ⌜ StiffenFits (now ladder) (now level) (now a) (now b) (now km) (now share) (now cap) (now sheet) (now circuits) (now banks) (now floors) (now upsized) (now marks) ⌝ }
     requires { ⌜ Ranked (length (now a)) (now order) taken × Room taken start × (taken ≤ length (now a)) ⌝ }
-    ensures { λ r. ⌜ BatchStiffened (take taken (now (order .entry))) g (now (ladder .entry)) (now (level .entry)) (now (a .entry)) (now (b .entry)) (now (km .entry)) (now (share .entry)) (now (sheet .entry))
+    ensures { λ r. ⌜ BatchStiffened (take taken (now (order .entry))) g (now (ladder .entry)) (now (level .entry)) (now (a .entry)) (now (b .entry)) (now (km .entry)) (now (share .entry)) (now (cap .entry)) (now (sheet .entry))
         (now (circuits .entry)) (now (banks .entry)) (now (floors .entry)) (now (upsized .entry)) (now (marks .entry)) start
         (now (circuits .exit)) (now (banks .exit)) (now (floors .exit)) (now (upsized .exit)) (now (marks .exit)) r ⌝ }
 {
@@ -302,6 +305,7 @@ fn stiffen_batch(
             b,
             km,
             share,
+            cap,
             sheet,
             k,
             circuits,
@@ -324,18 +328,19 @@ fn is_candidate(
     level: &[u32],
     a: &[u32],
     b: &[u32],
+    cap: &[u32],
     circuits: &[u32],
     t: Stiffness,
     root: usize,
     k: usize,
 ) -> bool
-    requires { ⌜ PairFits (now level) (now a) (now b) (now leader) k × (k < length (now circuits)) ⌝ }
-    ensures { λ r. ⌜ r ≡ candidateAt g (now (leader .entry)) (now (level .entry)) (now (a .entry)) (now (b .entry)) (now (circuits .entry)) t root k ⌝ }
+    requires { ⌜ PairFits (now level) (now a) (now b) (now leader) k × (k < length (now cap)) × (k < length (now circuits)) ⌝ }
+    ensures { λ r. ⌜ r ≡ candidateAt g (now (leader .entry)) (now (level .entry)) (now (a .entry)) (now (b .entry)) (now (cap .entry)) (now (circuits .entry)) t root k ⌝ }
 {
     let i = wide(a[k]);
     let j = wide(b[k]);
     let tier = fewer(level[i], level[j]);
-    let room = has_room(g, circuits[k], t.total);
+    let room = has_room(g, cap[k], circuits[k], t.total);
     (wide(leader[i]) == root) & (room | ((g.top < tier) & (wide(t.hv) < g.hv)))
 }
 
@@ -357,6 +362,7 @@ fn gain_at(
     b: &[u32],
     km: &[f64],
     share: &[f64],
+    cap: &[u32],
     sheet: &[f64],
     leader: &[u32],
     angle: &[f64],
@@ -367,11 +373,11 @@ fn gain_at(
     root: usize,
     k: usize,
 ) -> f64
-    requires { ⌜ Gainful (now ladder) (now level) (now a) (now b) (now km) (now share) (now sheet) (now leader) (now angle) (now phi) (now circuits) (now banks) × (k < length (now a)) ⌝ }
-    ensures { λ r. ⌜ r ≡ gainAt g (now (ladder .entry)) (now (level .entry)) (now (a .entry)) (now (b .entry)) (now (km .entry)) (now (share .entry)) (now (sheet .entry))
+    requires { ⌜ Gainful (now ladder) (now level) (now a) (now b) (now km) (now share) (now cap) (now sheet) (now leader) (now angle) (now phi) (now circuits) (now banks) × (k < length (now a)) ⌝ }
+    ensures { λ r. ⌜ r ≡ gainAt g (now (ladder .entry)) (now (level .entry)) (now (a .entry)) (now (b .entry)) (now (km .entry)) (now (share .entry)) (now (cap .entry)) (now (sheet .entry))
         (now (leader .entry)) (now (angle .entry)) (now (phi .entry)) (now (circuits .entry)) (now (banks .entry)) t root k ⌝ }
 {
-    if !is_candidate(g, leader, level, a, b, circuits, t, root, k) {
+    if !is_candidate(g, leader, level, a, b, cap, circuits, t, root, k) {
         return 0.0;
     }
     let d = circuit(ladder, level, a, b, km, share, sheet, k, banks[k]);
@@ -386,6 +392,7 @@ fn gains(
     b: &[u32],
     km: &[f64],
     share: &[f64],
+    cap: &[u32],
     sheet: &[f64],
     leader: &[u32],
     angle: &[f64],
@@ -396,9 +403,9 @@ fn gains(
     root: usize,
     gain: &mut [f64; 256],
 )
-    requires { ⌜ Gainful (now ladder) (now level) (now a) (now b) (now km) (now share) (now sheet) (now leader) (now angle) (now phi) (now circuits) (now banks) ⌝ }
+    requires { ⌜ Gainful (now ladder) (now level) (now a) (now b) (now km) (now share) (now cap) (now sheet) (now leader) (now angle) (now phi) (now circuits) (now banks) ⌝ }
     requires { ⌜ (length (now a) ≤ mostCorridors) × Whole (now gain) ⌝ }
-    ensures { λ _. ⌜ now (gain .exit) ≡ filled (now (gain .entry)) (gainAt g (now (ladder .entry)) (now (level .entry)) (now (a .entry)) (now (b .entry)) (now (km .entry)) (now (share .entry)) (now (sheet .entry))
+    ensures { λ _. ⌜ now (gain .exit) ≡ filled (now (gain .entry)) (gainAt g (now (ladder .entry)) (now (level .entry)) (now (a .entry)) (now (b .entry)) (now (km .entry)) (now (share .entry)) (now (cap .entry)) (now (sheet .entry))
         (now (leader .entry)) (now (angle .entry)) (now (phi .entry)) (now (circuits .entry)) (now (banks .entry)) t root) (length (now (a .entry))) ⌝ }
 {
     let mut k = 0;
@@ -411,6 +418,7 @@ fn gains(
             b,
             km,
             share,
+            cap,
             sheet,
             leader,
             angle,
@@ -532,6 +540,7 @@ fn choose_batch(
     b: &[u32],
     km: &[f64],
     share: &[f64],
+    cap: &[u32],
     sheet: &[f64],
     leader: &[u32],
     angle: &[f64],
@@ -541,9 +550,9 @@ fn choose_batch(
     t: Stiffness,
     order: &mut [u32; 256],
 ) -> usize
-    requires { ⌜ Gainful (now ladder) (now level) (now a) (now b) (now km) (now share) (now sheet) (now leader) (now angle) (now phi) (now circuits) (now banks) ⌝ }
+    requires { ⌜ Gainful (now ladder) (now level) (now a) (now b) (now km) (now share) (now cap) (now sheet) (now leader) (now angle) (now phi) (now circuits) (now banks) ⌝ }
     requires { ⌜ (length (now a) ≤ mostCorridors) × Whole (now order) ⌝ }
-    ensures { λ r. ⌜ Chosen root excess g (now (ladder .entry)) (now (level .entry)) (now (a .entry)) (now (b .entry)) (now (km .entry)) (now (share .entry)) (now (sheet .entry))
+    ensures { λ r. ⌜ Chosen root excess g (now (ladder .entry)) (now (level .entry)) (now (a .entry)) (now (b .entry)) (now (km .entry)) (now (share .entry)) (now (cap .entry)) (now (sheet .entry))
         (now (leader .entry)) (now (angle .entry)) (now (phi .entry)) (now (circuits .entry)) (now (banks .entry)) t (now (order .exit)) r ⌝ }
 {
     let mut gain = [0.0; 256];
@@ -555,6 +564,7 @@ fn choose_batch(
         b,
         km,
         share,
+        cap,
         sheet,
         leader,
         angle,
@@ -581,6 +591,7 @@ fn reinforce(
     b: &[u32],
     km: &[f64],
     share: &[f64],
+    cap: &[u32],
     sheet: &[f64],
     leader: &[u32],
     angle: &[f64],
@@ -592,10 +603,10 @@ fn reinforce(
     marks: &mut [u32],
     t: Stiffness,
 ) -> Stiffness
-    requires { ⌜ StiffenFits (now ladder) (now level) (now a) (now b) (now km) (now share) (now sheet) (now circuits) (now banks) (now floors) (now upsized) (now marks) ⌝ }
+    requires { ⌜ StiffenFits (now ladder) (now level) (now a) (now b) (now km) (now share) (now cap) (now sheet) (now circuits) (now banks) (now floors) (now upsized) (now marks) ⌝ }
     requires { ⌜ (length (now leader) ≡ length (now level)) × (length (now angle) ≡ length (now level)) × (length (now phi) ≡ length (now level)) × (length (now a) ≤ mostCorridors) × Room (length (now a)) t ⌝ }
     ensures { λ r. ⌜ Stepped (reinforceStep root excess g (now (level .entry)) (now (leader .entry)) (now (angle .entry)) (now (phi .entry)))
-        (now (ladder .entry)) (now (level .entry)) (now (a .entry)) (now (b .entry)) (now (km .entry)) (now (share .entry)) (now (sheet .entry))
+        (now (ladder .entry)) (now (level .entry)) (now (a .entry)) (now (b .entry)) (now (km .entry)) (now (share .entry)) (now (cap .entry)) (now (sheet .entry))
         (now (circuits .entry)) (now (banks .entry)) (now (floors .entry)) (now (upsized .entry)) (now (marks .entry)) t
         (now (circuits .exit)) (now (banks .exit)) (now (floors .exit)) (now (upsized .exit)) (now (marks .exit)) (Going r) ⌝ }
 {
@@ -610,6 +621,7 @@ fn reinforce(
         b,
         km,
         share,
+        cap,
         sheet,
         leader,
         angle,
@@ -627,6 +639,7 @@ fn reinforce(
         b,
         km,
         share,
+        cap,
         sheet,
         &order,
         taken,
@@ -703,6 +716,7 @@ fn narrow(
     b: &[u32],
     km: &[f64],
     share: &[f64],
+    cap: &[u32],
     sheet: &[f64],
     leader: &[u32],
     grounds: &[u32],
@@ -716,10 +730,10 @@ fn narrow(
     marks: &mut [u32],
     t: Stiffness,
 ) -> Stiffened
-    requires { ⌜ Stiffenable (now ladder) (now level) (now a) (now b) (now km) (now share) (now sheet) (now leader) (now grounds) (e .from) (e .to) (e .weight) (now angle) (now circuits) (now banks) (now floors) (now upsized) (now marks) ⌝ }
+    requires { ⌜ Stiffenable (now ladder) (now level) (now a) (now b) (now km) (now share) (now cap) (now sheet) (now leader) (now grounds) (e .from) (e .to) (e .weight) (now angle) (now circuits) (now banks) (now floors) (now upsized) (now marks) ⌝ }
     requires { ⌜ (length (now phi) ≡ length (now level)) × (lead < length (now level)) × (lag < length (now level)) × Room (length (now a)) t ⌝ }
     ensures { λ r. ⌜ Stepped (narrowStep root lead lag excess g (now (level .entry)) (now (leader .entry)) (now (grounds .entry)) (length (now (a .entry))) (e .from) (e .to) (e .weight) (now (angle .entry)))
-        (now (ladder .entry)) (now (level .entry)) (now (a .entry)) (now (b .entry)) (now (km .entry)) (now (share .entry)) (now (sheet .entry))
+        (now (ladder .entry)) (now (level .entry)) (now (a .entry)) (now (b .entry)) (now (km .entry)) (now (share .entry)) (now (cap .entry)) (now (sheet .entry))
         (now (circuits .entry)) (now (banks .entry)) (now (floors .entry)) (now (upsized .entry)) (now (marks .entry)) t
         (now (circuits .exit)) (now (banks .exit)) (now (floors .exit)) (now (upsized .exit)) (now (marks .exit)) r ⌝ }
 {
@@ -747,6 +761,7 @@ fn narrow(
             b,
             km,
             share,
+            cap,
             sheet,
             leader,
             angle,
@@ -784,6 +799,7 @@ fn stiffen_component(
     b: &[u32],
     km: &[f64],
     share: &[f64],
+    cap: &[u32],
     sheet: &[f64],
     leader: &[u32],
     grounds: &[u32],
@@ -796,10 +812,10 @@ fn stiffen_component(
     marks: &mut [u32],
     t: Stiffness,
 ) -> Stiffened
-    requires { ⌜ Stiffenable (now ladder) (now level) (now a) (now b) (now km) (now share) (now sheet) (now leader) (now grounds) (e .from) (e .to) (e .weight) (now angle) (now circuits) (now banks) (now floors) (now upsized) (now marks) ⌝ }
+    requires { ⌜ Stiffenable (now ladder) (now level) (now a) (now b) (now km) (now share) (now cap) (now sheet) (now leader) (now grounds) (e .from) (e .to) (e .weight) (now angle) (now circuits) (now banks) (now floors) (now upsized) (now marks) ⌝ }
     requires { ⌜ Led root (now leader) (now angle) × Room (length (now a)) t ⌝ }
     ensures { λ r. ⌜ Stepped (componentStep root round g (now (level .entry)) (now (leader .entry)) (now (grounds .entry)) (length (now (a .entry))) (e .from) (e .to) (e .weight) (now (angle .entry)))
-        (now (ladder .entry)) (now (level .entry)) (now (a .entry)) (now (b .entry)) (now (km .entry)) (now (share .entry)) (now (sheet .entry))
+        (now (ladder .entry)) (now (level .entry)) (now (a .entry)) (now (b .entry)) (now (km .entry)) (now (share .entry)) (now (cap .entry)) (now (sheet .entry))
         (now (circuits .entry)) (now (banks .entry)) (now (floors .entry)) (now (upsized .entry)) (now (marks .entry)) t
         (now (circuits .exit)) (now (banks .exit)) (now (floors .exit)) (now (upsized .exit)) (now (marks .exit)) r ⌝ }
 {
@@ -826,6 +842,7 @@ fn stiffen_component(
         b,
         km,
         share,
+        cap,
         sheet,
         leader,
         grounds,
@@ -852,6 +869,7 @@ pub fn stiffen_led(
     b: &[u32],
     km: &[f64],
     share: &[f64],
+    cap: &[u32],
     sheet: &[f64],
     leader: &[u32],
     grounds: &[u32],
@@ -864,9 +882,9 @@ pub fn stiffen_led(
     marks: &mut [u32],
     t: Stiffness,
 ) -> Stiffened
-    requires { ⌜ Stiffenable (now ladder) (now level) (now a) (now b) (now km) (now share) (now sheet) (now leader) (now grounds) (e .from) (e .to) (e .weight) (now angle) (now circuits) (now banks) (now floors) (now upsized) (now marks) ⌝ }
+    requires { ⌜ Stiffenable (now ladder) (now level) (now a) (now b) (now km) (now share) (now cap) (now sheet) (now leader) (now grounds) (e .from) (e .to) (e .weight) (now angle) (now circuits) (now banks) (now floors) (now upsized) (now marks) ⌝ }
     requires { ⌜ (i < length (now leader)) × Room (length (now a)) t ⌝ }
-    ensures { λ r. ⌜ LedStiffened i round g (now (ladder .entry)) (now (level .entry)) (now (a .entry)) (now (b .entry)) (now (km .entry)) (now (share .entry)) (now (sheet .entry)) (now (leader .entry)) (now (grounds .entry)) (e .from) (e .to) (e .weight) (now (angle .entry))
+    ensures { λ r. ⌜ LedStiffened i round g (now (ladder .entry)) (now (level .entry)) (now (a .entry)) (now (b .entry)) (now (km .entry)) (now (share .entry)) (now (cap .entry)) (now (sheet .entry)) (now (leader .entry)) (now (grounds .entry)) (e .from) (e .to) (e .weight) (now (angle .entry))
         (now (circuits .entry)) (now (banks .entry)) (now (floors .entry)) (now (upsized .entry)) (now (marks .entry)) t
         (now (circuits .exit)) (now (banks .exit)) (now (floors .exit)) (now (upsized .exit)) (now (marks .exit)) r ⌝ }
 {
@@ -881,6 +899,7 @@ pub fn stiffen_led(
             b,
             km,
             share,
+            cap,
             sheet,
             leader,
             grounds,

@@ -40,14 +40,14 @@ pub drafted-said : {s : Answer} (r : Planned) (k : Kept) → s ≡ saidOf r → 
 drafted-said r k e = ap (λ (x : Answer). drafted x k) e
 
 -- by what is said, in numbers
-abbrev keptReply : PlanMode → ℕ → Reply CorridorPlan → List ℕ → List ℕ → Reply Kept
-keptReply mode m (answered p) before order = answered (keptAs mode m before order)
-keptReply mode m (refused n i) before order = refused n i
+abbrev keptReply : PlanMode → ℕ → Reply CorridorPlan → List ℕ → List ℕ → List ℕ → Reply Kept
+keptReply mode m (answered p) before order cap = answered (keptAs mode m before order cap)
+keptReply mode m (refused n i) before order cap = refused n i
 
 abbrev keptFrom : PlanMode → ℕ → PlanOutcome → Reply Kept
-keptFrom mode m o = keptReply mode m (o .reply) (o .lent .before) (o .lent .order)
+keptFrom mode m o = keptReply mode m (o .reply) (o .lent .before) (o .lent .order) (o .lent .cap)
 
-said : (mode : PlanMode) (m : ℕ) (r : Planned) (l : Slices) → drafted (saidOf r) (keptAs mode m (l .before) (l .order)) ≡ keptFrom mode m (plan-outcome r l)
+said : (mode : PlanMode) (m : ℕ) (r : Planned) (l : Slices) → drafted (saidOf r) (keptAs mode m (l .before) (l .order) (l .cap)) ≡ keptFrom mode m (plan-outcome r l)
 said mode m (Planned-with p) l = refl
 said mode m (Unplanned f) l = refl
 
@@ -74,15 +74,15 @@ module _ (file : List ℕ) where
   file-kept = read-kept (readingOf file)
 
   pub planned-kept : (r : PlannedFile) → filedOf r ≡ planFile file
-      → drafted (saidOf (r .planned)) (keptAs (r .header .mode) (r .header .corridors) (take (r .header .corridors) (r .before)) (take (r .header .corridors) (r .order))) ≡ keptFile file
+      → drafted (saidOf (r .planned)) (keptAs (r .header .mode) (r .header .corridors) (take (r .header .corridors) (r .before)) (take (r .header .corridors) (r .order)) (take (r .header .corridors) (r .cap))) ≡ keptFile file
   planned-kept r e = said (r .header .mode) (r .header .corridors) (r .planned) (filedOf r .plan .lent) ∙ ap keptFiled e ∙ file-kept
 
 -- ---- a preview: the parts of the draft's arrays that are lent, and the part of the answer's that comes back
-pub previewed : (r : Answer) (mode : PlanMode) (m target : ℕ) (before order ys : List ℕ) → m ≤ mostCorridors → length ys ≡ length {A = ℕ} (take (m - 0) (replicate mostCorridors 0))
-    → outcome r ys ≡ preview (keptAs mode m (take (m - 0) before) (take (m - 0) order)) target (take (m - 0) (replicate mostCorridors 0))
-    → outcome r (take m (ys ++ drop (m - 0) (replicate mostCorridors 0))) ≡ preview (keptAs mode m (take m before) (take m order)) target (replicate m 0)
-previewed r mode m target before order ys h n e =
+pub previewed : (r : Answer) (mode : PlanMode) (m target : ℕ) (before order cap ys : List ℕ) → m ≤ mostCorridors → length ys ≡ length {A = ℕ} (take (m - 0) (replicate mostCorridors 0))
+    → outcome r ys ≡ preview (keptAs mode m (take (m - 0) before) (take (m - 0) order) (take (m - 0) cap)) target (take (m - 0) (replicate mostCorridors 0))
+    → outcome r (take m (ys ++ drop (m - 0) (replicate mostCorridors 0))) ≡ preview (keptAs mode m (take m before) (take m order) (take m cap)) target (replicate m 0)
+previewed r mode m target before order cap ys h n e =
     ap (outcome r) (back-front m (m - 0) ys (replicate mostCorridors 0) (n ∙ part-length m mostCorridors 0 h))
     ∙ e
-    ∙ ap (λ (k : ℕ). preview (keptAs mode m (take k before) (take k order)) target (take (m - 0) (replicate mostCorridors 0))) (sub-zero m)
-    ∙ ap (preview (keptAs mode m (take m before) (take m order)) target) (front-replicate mostCorridors m 0 h)
+    ∙ ap (λ (k : ℕ). preview (keptAs mode m (take k before) (take k order) (take k cap)) target (take (m - 0) (replicate mostCorridors 0))) (sub-zero m)
+    ∙ ap (preview (keptAs mode m (take m before) (take m order) (take m cap)) target) (front-replicate mostCorridors m 0 h)

@@ -28,7 +28,7 @@ saidOf (Planned-with p) = Answered
 
 -- ---- what a draft holds: of each array the places of its corridors
 abbrev pub keptIn : Draft → Kept
-keptIn d = keptAs (d .mode) (d .corridors) (take (d .corridors) (d .before)) (take (d .corridors) (d .order))
+keptIn d = keptAs (d .mode) (d .corridors) (take (d .corridors) (d .before)) (take (d .corridors) (d .order)) (take (d .corridors) (d .cap))
 
 abbrev pub drafted : Answer → Kept → Reply Kept
 drafted Answered k = answered k
@@ -41,7 +41,7 @@ draftOf d = drafted (d .said) (keptIn d)
 abbrev pub keptBy : Case → Ending → Reply Kept
 keptBy c (unaccepted f) = refusedBy f
 keptBy c (unanswered f) = refusedBy f
-keptBy c (planned p) = answered (keptAs (c .mode) (c .corridors) (keptOf c (p .before)) (keptOf c (p .order)))
+keptBy c (planned p) = answered (keptAs (c .mode) (c .corridors) (keptOf c (p .before)) (keptOf c (p .order)) (c .cap))
 
 -- ---- of the file
 abbrev pub keptRead : List ℕ → Reading → Reply Kept

@@ -19,6 +19,7 @@ pub struct Draft {
     pub corridors: usize,
     pub before: [u32; MOST_CORRIDORS],
     pub order: [u32; MOST_CORRIDORS],
+    pub cap: [u32; MOST_CORRIDORS],
 }
 
 fn said_of(planned: Planned) -> Answer
@@ -42,12 +43,14 @@ pub fn draft_file(file: &[u8]) -> Draft
     let mode = h.mode;
     let before = plan.before;
     let order = plan.order;
+    let cap = plan.cap;
     Draft {
         said,
         mode,
         corridors: h.corridors,
         before,
         order,
+        cap,
     }
 }
 
@@ -63,9 +66,10 @@ fn preview_kept(
     m: usize,
     before: [u32; MOST_CORRIDORS],
     order: [u32; MOST_CORRIDORS],
+    cap: [u32; MOST_CORRIDORS],
 ) -> Filling
     requires { ⌜ m ≤ mostCorridors ⌝ }
-    ensures { λ r. ⌜ outcome (r .said) (take m (r .circuits)) ≡ preview (keptAs mode m (take m before) (take m order)) target (replicate m 0) ⌝ }
+    ensures { λ r. ⌜ outcome (r .said) (take m (r .circuits)) ≡ preview (keptAs mode m (take m before) (take m order) (take m cap)) target (replicate m 0) ⌝ }
 {
     let mut circuits = [0u32; MOST_CORRIDORS];
     let said = preview_filling(
@@ -74,6 +78,7 @@ fn preview_kept(
         m,
         &before[0..m],
         &order[0..m],
+        &cap[0..m],
         &mut circuits[0..m],
     );
     Filling { said, circuits }
@@ -87,5 +92,6 @@ pub fn preview_draft(draft: Draft, target: u32) -> Filling
     let mode = draft.mode;
     let before = draft.before;
     let order = draft.order;
-    preview_kept(mode, target, draft.corridors, before, order)
+    let cap = draft.cap;
+    preview_kept(mode, target, draft.corridors, before, order, cap)
 }

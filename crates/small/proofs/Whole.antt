@@ -25,11 +25,11 @@ pub sized : {A : Type 0} (f : ℕ → Shape → List A) {n n′ : ℕ} {s s′ :
 sized {A} f {n} {n′} {s} {s′} p q e = e ∙ ap (λ (m : ℕ). f m s) p ∙ ap (λ (t : Shape). f n′ t) q
 
 pub places-same : {ladder ladder′ : List Float} {tier tier′ : List ℕ} {load load′ : List Float} {bus bus′ slack slack′ : List ℕ} {pmin pmin′ pmax pmax′ c1 c1′ c2 c2′ : List Float}
-    {a a′ b b′ circuits circuits′ : List ℕ} {km km′ share share′ sheet sheet′ : List Float}
+    {a a′ b b′ circuits circuits′ : List ℕ} {km km′ share share′ : List Float} {cap cap′ : List ℕ} {sheet sheet′ : List Float}
     → ladder ≡ ladder′ → tier ≡ tier′ → load ≡ load′ → bus ≡ bus′ → slack ≡ slack′ → pmin ≡ pmin′ → pmax ≡ pmax′ → c1 ≡ c1′ → c2 ≡ c2′
-    → a ≡ a′ → b ≡ b′ → circuits ≡ circuits′ → km ≡ km′ → share ≡ share′ → sheet ≡ sheet′
-    → placesOf ladder tier load bus slack pmin pmax c1 c2 a b circuits km share sheet ≡ placesOf ladder′ tier′ load′ bus′ slack′ pmin′ pmax′ c1′ c2′ a′ b′ circuits′ km′ share′ sheet′
-places-same e0 e1 e2 e3 e4 e5 e6 e7 e8 e9 e10 e11 e12 e13 e14 = cc
+    → a ≡ a′ → b ≡ b′ → circuits ≡ circuits′ → km ≡ km′ → share ≡ share′ → cap ≡ cap′ → sheet ≡ sheet′
+    → placesOf ladder tier load bus slack pmin pmax c1 c2 a b circuits km share cap sheet ≡ placesOf ladder′ tier′ load′ bus′ slack′ pmin′ pmax′ c1′ c2′ a′ b′ circuits′ km′ share′ cap′ sheet′
+places-same e0 e1 e2 e3 e4 e5 e6 e7 e8 e9 e10 e11 e12 e13 e14 e15 = cc
 
 module _ (i : ℕ) (h : i < allPlaces) where
   abbrev c : ℕ
@@ -43,7 +43,7 @@ module _ (i : ℕ) (h : i < allPlaces) where
   alike {A} x = equal-three (corridorCount c) x few ∙ ap (λ (n : ℕ). replicate n x) (ends i h .count)
 
   -- the tables, column by column
-  pub tables-made : {ladder : List Float} {tier : List ℕ} {load : List Float} {bus slack : List ℕ} {pmin pmax c1 c2 : List Float} {a b circuits : List ℕ} {km share sheet : List Float}
+  pub tables-made : {ladder : List Float} {tier : List ℕ} {load : List Float} {bus slack : List ℕ} {pmin pmax c1 c2 : List Float} {a b circuits : List ℕ} {km share : List Float} {cap : List ℕ} {sheet : List Float}
       → ladder ≡ figures mostLevels 1 kv kv kv
       → tier ≡ counts mostBuses (shapeAt i .buses) 0 0 0
       → load ≡ figures mostBuses (shapeAt i .buses) (lowestLoad (shapeAt i .loads)) (lowestLoad (shapeAt i .loads / 2)) (lowestLoad (shapeAt i .loads / 2 / 2))
@@ -58,10 +58,11 @@ module _ (i : ℕ) (h : i < allPlaces) where
       → circuits ≡ counts mostCorridors (corridorCount c) 1 1 1
       → km ≡ figures mostCorridors (corridorCount c) ten ten ten
       → share ≡ figures mostCorridors (corridorCount c) one one one
+      → cap ≡ counts mostCorridors (corridorCount c) 0 0 0
       → sheet ≡ tab mostSheet (sheetAt (corridorCount c * rowFigures))
-      → placesOf ladder tier load bus slack pmin pmax c1 c2 a b circuits km share sheet ≡ tablesAt i
+      → placesOf ladder tier load bus slack pmin pmax c1 c2 a b circuits km share cap sheet ≡ tablesAt i
   unfolding laidOut columnsOf networkAt numbered shapeAt
-  tables-made e0 e1 e2 e3 e4 e5 e6 e7 e8 e9 e10 e11 e12 e13 e14 =
+  tables-made e0 e1 e2 e3 e4 e5 e6 e7 e8 e9 e10 e11 e12 e13 e14 e15 =
       let b = busesAt i in
       places-same (e0 ∙ column-of nought kv kv kv mostLevels 1 refl) (e1 ∙ column-of 0 0 0 0 mostBuses b (equal-three b 0 (buses-few i)))
       (e2 ∙ column-of nought _ _ _ mostBuses b (loads-front b (numberAt i % 2 ^ b) (buses-few i))) (e3 ∙ column-of 0 0 0 0 mostGenerators 1 refl)
@@ -70,7 +71,7 @@ module _ (i : ℕ) (h : i < allPlaces) where
       (e8 ∙ column-of nought quarter quarter quarter mostGenerators 1 refl) (e9 ∙ column-of 0 _ _ _ mostCorridors (corridorCount c) (ends i h .lower))
       (e10 ∙ column-of 0 _ _ _ mostCorridors (corridorCount c) (ends i h .upper)) (e11 ∙ column-of 0 1 1 1 mostCorridors (corridorCount c) (alike 1))
       (e12 ∙ column-of nought ten ten ten mostCorridors (corridorCount c) (alike ten)) (e13 ∙ column-of nought one one one mostCorridors (corridorCount c) (alike one))
-      (e14 ∙ sheet-column mostSheet (ends i h .count))
+      (e14 ∙ column-of 0 0 0 0 mostCorridors (corridorCount c) (alike 0)) (e15 ∙ sheet-column mostSheet (ends i h .count))
 
   header-made : headerFor (shapeAt i) ≡ headerAt i
   unfolding headerOf networkAt numbered shapeAt

@@ -63,6 +63,7 @@ columnsOf s =
     placesOf (kv ∷ []) (replicate (s .buses) 0) (map loadOf (s .loaded))
     (0 ∷ []) (1 ∷ []) (nought ∷ []) (hundred ∷ []) (twenty ∷ []) (quarter ∷ [])
     (map (λ p. p .0) (corridorsOf s)) (map (λ p. p .1) (corridorsOf s)) (replicate m 1) (replicate m ten) (replicate m one)
+    (replicate m 0)
     (tab (m * rowFigures) (λ q. getD sheetRow (q % rowFigures) nought))
 
 -- ---- the tables: each column, and zero past it
@@ -75,7 +76,8 @@ laidOut c =
     (padded 0 mostGenerators (c .bus)) (padded 0 mostGenerators (c .slack)) (padded nought mostGenerators (c .pmin))
     (padded nought mostGenerators (c .pmax)) (padded nought mostGenerators (c .c1)) (padded nought mostGenerators (c .c2))
     (padded 0 mostCorridors (c .a)) (padded 0 mostCorridors (c .b)) (padded 0 mostCorridors (c .circuits))
-    (padded nought mostCorridors (c .lengthKm)) (padded nought mostCorridors (c .share)) (padded nought mostSheet (c .sheet))
+    (padded nought mostCorridors (c .lengthKm)) (padded nought mostCorridors (c .share)) (padded 0 mostCorridors (c .cap))
+    (padded nought mostSheet (c .sheet))
 
 -- ---- the case at a place
 abbrev pub headerAt : ℕ → Header

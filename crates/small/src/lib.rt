@@ -35,9 +35,10 @@ pub fn small_network(
     circuits: &mut [u32],
     length_km: &mut [f64],
     share: &mut [f64],
+    cap: &mut [u32],
     sheet: &mut [f64],
 ) -> Reading
-    ensures { λ r. ⌜ made r (placesOf (now (ladder .exit)) (now (tier .exit)) (now (load .exit)) (now («generator_bus» .exit)) (now (slack .exit)) (now (pmin .exit)) (now (pmax .exit)) (now (c1 .exit)) (now (c2 .exit)) (now (a .exit)) (now (b .exit)) (now (circuits .exit)) (now («length_km» .exit)) (now (share .exit)) (now (sheet .exit))) ≡ smallNetwork place (placesOf (now (ladder .entry)) (now (tier .entry)) (now (load .entry)) (now («generator_bus» .entry)) (now (slack .entry)) (now (pmin .entry)) (now (pmax .entry)) (now (c1 .entry)) (now (c2 .entry)) (now (a .entry)) (now (b .entry)) (now (circuits .entry)) (now («length_km» .entry)) (now (share .entry)) (now (sheet .entry))) ⌝ }
+    ensures { λ r. ⌜ made r (placesOf (now (ladder .exit)) (now (tier .exit)) (now (load .exit)) (now («generator_bus» .exit)) (now (slack .exit)) (now (pmin .exit)) (now (pmax .exit)) (now (c1 .exit)) (now (c2 .exit)) (now (a .exit)) (now (b .exit)) (now (circuits .exit)) (now («length_km» .exit)) (now (share .exit)) (now (cap .exit)) (now (sheet .exit))) ≡ smallNetwork place (placesOf (now (ladder .entry)) (now (tier .entry)) (now (load .entry)) (now («generator_bus» .entry)) (now (slack .entry)) (now (pmin .entry)) (now (pmax .entry)) (now (c1 .entry)) (now (c2 .entry)) (now (a .entry)) (now (b .entry)) (now (circuits .entry)) (now («length_km» .entry)) (now (share .entry)) (now (cap .entry)) (now (sheet .entry))) ⌝ }
 {
     let sized = (ladder.len() == MOST_LEVELS)
         & (tier.len() == MOST_BUSES)
@@ -53,6 +54,7 @@ pub fn small_network(
         & (circuits.len() == MOST_CORRIDORS)
         & (length_km.len() == MOST_CORRIDORS)
         & (share.len() == MOST_CORRIDORS)
+        & (cap.len() == MOST_CORRIDORS)
         & (sheet.len() == MOST_SHEET);
     if !sized {
         return Reading::Refused(Refusal::Length);
@@ -63,6 +65,6 @@ pub fn small_network(
     let s = order::network_at(place);
     tables::put_buses(s, ladder, tier, load);
     tables::put_generator(generator_bus, slack, pmin, pmax, c1, c2);
-    tables::put_corridors(s, a, b, circuits, length_km, share, sheet);
+    tables::put_corridors(s, a, b, circuits, length_km, share, cap, sheet);
     Reading::Read(tables::header_of(s))
 }

@@ -155,7 +155,7 @@ fn put_ends(corridors: usize, m: usize, a: &mut [u32], b: &mut [u32])
     );
 }
 
-// The corridors, and a row of the sheet for each.
+// The corridors, which have no caps, and a row of the sheet for each.
 pub fn put_corridors(
     s: Shape,
     a: &mut [u32],
@@ -163,6 +163,7 @@ pub fn put_corridors(
     circuits: &mut [u32],
     length_km: &mut [f64],
     share: &mut [f64],
+    cap: &mut [u32],
     sheet: &mut [f64],
 )
     ensures a { λ _. ⌜ now (a .exit) ≡ counts (length (now (a .entry))) (corridorCount (s .corridors)) (lowerEnd (firstPair (s .corridors))) (lowerEnd (secondPair (s .corridors))) (lowerEnd lastPair) ⌝ }
@@ -170,6 +171,7 @@ pub fn put_corridors(
     ensures circuits { λ _. ⌜ now (circuits .exit) ≡ counts (length (now (circuits .entry))) (corridorCount (s .corridors)) 1 1 1 ⌝ }
     ensures length_km { λ _. ⌜ now («length_km» .exit) ≡ figures (length (now («length_km» .entry))) (corridorCount (s .corridors)) ten ten ten ⌝ }
     ensures share { λ _. ⌜ now (share .exit) ≡ figures (length (now (share .entry))) (corridorCount (s .corridors)) one one one ⌝ }
+    ensures cap { λ _. ⌜ now (cap .exit) ≡ counts (length (now (cap .entry))) (corridorCount (s .corridors)) 0 0 0 ⌝ }
     ensures sheet { λ _. ⌜ now (sheet .exit) ≡ tab (length (now (sheet .entry))) (sheetAt (corridorCount (s .corridors) * rowFigures)) ⌝ }
 {
     let corridors = s.corridors;
@@ -178,5 +180,6 @@ pub fn put_corridors(
     fill_counts(circuits, m, 1, 1, 1);
     fill_figures(length_km, m, LENGTH, LENGTH, LENGTH);
     fill_figures(share, m, 1.0, 1.0, 1.0);
+    fill_counts(cap, m, 0, 0, 0);
     fill_rows(sheet, m * ROW_FIGURES);
 }

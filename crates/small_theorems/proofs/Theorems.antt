@@ -7,23 +7,23 @@ use mathlib.Core.Option.{none}
 use mathlib.Core.Path.{_≡_, refl, sym, ap, _∙_, subst}
 use native.Mathlib.Omega.{arith}
 use lib.Dec.{lit<}
-use lib.ListN.{getD}
+use lib.ListN.{getD, length-replicate}
 use Rattle.loops.specs.Figures.{nought}
 use Rattle.refusal.specs.Reply.{answered}
 use Rattle.casefile_defs.specs.Bounds.{mostLevels, mostBuses, mostGenerators, mostCorridors, mostSheet, rowFigures}
 use Rattle.casefile_defs.specs.Layout.{upTo, u8, u16, allowed}
 use Rattle.casefile_defs.specs.Tables.{Places, Outcome, sizesOk, readCase}
 use Rattle.casefile_defs.specs.declared.Header.{Header}
-use Rattle.casefile_theorems.specs.Writer.{fileOf}
+use Rattle.casefile_theorems.specs.Writer.{capsOnly}
 use Rattle.casefile_theorems.specs.Cases.{Sheet, Case}
-use Rattle.casefile_theorems.proofs.Theorems.{case-back}
+use Rattle.casefile_theorems.proofs.Theorems.{case-back, caps-legal}
 use Rattle.plan_defs.specs.Accept.{caseFault}
 use Rattle.plan_defs.proofs.Accepted.{Accepted, accepted}
 use Rattle.small.specs.Networks.{allPlaces, networkAt}
 use Rattle.small.specs.Tables.{headerOf, columnsOf, laidOut, headerAt, tablesAt}
 use Rattle.small.proofs.Whole.{places-same}
 use Rattle.small_theorems.specs.Inverse.{placeFor}
-use Rattle.small_theorems.specs.Held.{fronts, caseWith, caseIn, networkWith, networkIn}
+use Rattle.small_theorems.specs.Held.{fronts, caseWith, caseIn, networkWith, networkIn, fileAt}
 use Rattle.small_theorems.proofs.Accepted.{sound-at}
 use Rattle.small_theorems.proofs.Tables.{padded-front, low-get, low-same, numbers-held, one-fits, same-fit, loads-fit, figures-held, sheet-held}
 
@@ -62,6 +62,7 @@ module _ (i : ℕ) (below : i < allPlaces) where
       (padded-front 0 mostCorridors (columns .circuits) (omega (arith, k .circuits)) m (k .circuits))
       (padded-front nought mostCorridors (columns .lengthKm) (omega (arith, k .km)) m (k .km))
       (padded-front nought mostCorridors (columns .share) (omega (arith, k .share)) m (k .share))
+      (padded-front 0 mostCorridors (columns .cap) (omega (arith, length-replicate {A = ℕ} m 0)) m (length-replicate {A = ℕ} m 0))
       (padded-front nought mostSheet (columns .sheet) (omega (arith, k .sheet)) (m * 1 * rowFigures) (k .sheet ∙ (let e : rowFigures * (m * 1) ≡ m * 1 * rowFigures = omega arith in e)))
 
   -- each is an accepted case
@@ -98,13 +99,14 @@ module _ (i : ℕ) (below : i < allPlaces) where
         circuits = numbers-held u8 mostCorridors m (columns .circuits) (k .circuits) some (lit< tt) (low-same m 1 (omega arith)) (λ j. refl);
         lengthKm = figures-held mostCorridors m (columns .lengthKm) (k .km) some (same-fit m 0x4024_0000_0000_0000);
         share = figures-held mostCorridors m (columns .share) (k .share) some (same-fit m 0x3ff0_0000_0000_0000);
+        cap = numbers-held u8 mostCorridors m (columns .cap) (length-replicate {A = ℕ} m 0) some (lit< tt) (low-same m 0 (omega arith)) (λ j. refl);
         sheet = subst (λ (n : ℕ). Sheet n (tablesAt i .sheet)) (let e : m ≡ m * 1 = omega arith in e) (sheet-held m (omega arith));
       }
 
   -- and reads back as it
-  pub read-back : (q : Places) → sizesOk q ≡ true → (readCase (fileOf (headerAt i) (tablesAt i)) q .reply ≡ answered (headerAt i)) × (readCase (fileOf (headerAt i) (tablesAt i)) q .places ≡ tablesAt i)
+  pub read-back : (q : Places) → sizesOk q ≡ true → (readCase (fileAt i) q .reply ≡ answered (headerAt i)) × (readCase (fileAt i) q .places ≡ tablesAt i)
   read-back q z =
-      let e = case-back (headerAt i) (tablesAt i) q file-case z in
+      let e = case-back (capsOnly (tablesAt i)) (headerAt i) (tablesAt i) q (caps-legal (headerAt i) (tablesAt i)) file-case z in
       (ap (λ (o : Outcome). o .reply) e, ap (λ (o : Outcome). o .places) e)
 
 -- no two places give the same case

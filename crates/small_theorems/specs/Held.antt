@@ -1,4 +1,4 @@
--- What the tables of a header hold: the case as planning takes it, and the network that can be read off them.
+-- What the tables of a header hold: the case as planning takes it, and the network that can be read off them. The file of a place.
 use Prim.Native.Nat.{ℕ, _*_}
 use mathlib.Core.Bool.{Bool, false, _&&_, _||_}
 use mathlib.Core.List.{List, [], _∷_, map}
@@ -10,8 +10,10 @@ use Rattle.casefile_defs.specs.Bounds.{rowFigures}
 use Rattle.casefile_defs.specs.Reading.{levels, lines}
 use Rattle.casefile_defs.specs.Tables.{Places, placesOf}
 use Rattle.casefile_defs.specs.declared.Header.{Header}
+use Rattle.casefile_theorems.specs.Writer.{fileOf, capsOnly}
 use Rattle.plan_defs.specs.Case.{Case, caseOf}
 use Rattle.small.specs.Networks.{Network, pairs, pairsOf}
+use Rattle.small.specs.Tables.{headerAt, tablesAt}
 
 -- of each table the places of the header's records
 abbrev pub fronts : Header → Places → Places
@@ -20,14 +22,14 @@ fronts h p =
     let g = h .generators in
     let m = h .corridors in
     placesOf (take (levels h) (p .ladder)) (take n (p .tier)) (take n (p .load)) (take g (p .bus)) (take g (p .slack)) (take g (p .pmin)) (take g (p .pmax))
-    (take g (p .c1)) (take g (p .c2)) (take m (p .a)) (take m (p .b)) (take m (p .circuits)) (take m (p .lengthKm)) (take m (p .share))
+    (take g (p .c1)) (take g (p .c2)) (take m (p .a)) (take m (p .b)) (take m (p .circuits)) (take m (p .lengthKm)) (take m (p .share)) (take m (p .cap))
     (take (lines h * rowFigures) (p .sheet))
 
 -- the case of a header and of columns of its records
 abbrev pub caseWith : Header → Places → Case
 caseWith h p =
     caseOf (h .mode) (h .buses) (h .corridors) (h .generators) (h .above) (h .requested) (p .ladder) (p .tier) (p .load) (p .bus) (p .slack) (p .pmin) (p .pmax)
-    (p .c1) (p .c2) (p .a) (p .b) (p .circuits) (p .lengthKm) (p .share) (p .sheet)
+    (p .c1) (p .c2) (p .a) (p .b) (p .circuits) (p .lengthKm) (p .share) (p .cap) (p .sheet)
 
 abbrev pub caseIn : Header → Places → Case
 caseIn h p = caseWith h (fronts h p)
@@ -48,3 +50,7 @@ networkWith h p = record {
 
 abbrev pub networkIn : Header → Places → Network
 networkIn h p = networkWith h (fronts h p)
+
+-- the file of a place: CP for the corridors that have a cap, and none has
+abbrev pub fileAt : ℕ → List ℕ
+fileAt i = fileOf (capsOnly (tablesAt i)) (headerAt i) (tablesAt i)

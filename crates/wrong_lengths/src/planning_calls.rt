@@ -15,7 +15,7 @@ use crate::report::say_refusal;
 use mode::PlanMode;
 use plan_defs::Planned;
 
-const SLICES: usize = 27;
+const SLICES: usize = 29;
 
 // The places of a work slice.
 const WORK: usize = 48;
@@ -43,12 +43,14 @@ fn call(what: &[u8], buses: usize, wrong: Wrong) {
     let initial = [1u32, 1];
     let km = [10.0f64, 10.0];
     let share = [1.0f64, 1.0];
+    let cap = [0u32, 0];
     let sheet = [0.0f64, 0.5, 0.0, 100.0, 0.0, 0.0, 0.5, 0.0, 100.0, 0.0, 0.0];
     let mut circuits = [MARK; ROOM];
     let mut flow = [FIGURE; ROOM];
     let mut rate = [FIGURE; ROOM];
     let mut before = [MARK; ROOM];
     let mut order = [MARK; ROOM];
+    let mut kept_cap = [MARK; ROOM];
     let mut mw = [FIGURE; ROOM];
     let mut angle = [FIGURE; ROOM];
     let mut level = [MARK; ROOM];
@@ -78,19 +80,21 @@ fn call(what: &[u8], buses: usize, wrong: Wrong) {
         &initial[0..made(1, 11, wrong)],
         &km[0..made(1, 12, wrong)],
         &share[0..made(1, 13, wrong)],
-        &sheet[0..made(10, 14, wrong)],
-        &mut circuits[0..lent(1, 15, wrong)],
-        &mut flow[0..lent(1, 16, wrong)],
-        &mut rate[0..lent(1, 17, wrong)],
-        &mut before[0..lent(1, 18, wrong)],
-        &mut order[0..lent(1, 19, wrong)],
-        &mut mw[0..lent(1, 20, wrong)],
-        &mut angle[0..lent(2, 21, wrong)],
-        &mut level[0..lent(2, 22, wrong)],
-        &mut ground[0..lent(2, 23, wrong)],
-        &mut added[0..lent(1, 24, wrong)],
-        &mut figures[0..lent(WORK, 25, wrong)],
-        &mut counts[0..lent(WORK, 26, wrong)],
+        &cap[0..made(1, 14, wrong)],
+        &sheet[0..made(10, 15, wrong)],
+        &mut circuits[0..lent(1, 16, wrong)],
+        &mut flow[0..lent(1, 17, wrong)],
+        &mut rate[0..lent(1, 18, wrong)],
+        &mut before[0..lent(1, 19, wrong)],
+        &mut order[0..lent(1, 20, wrong)],
+        &mut kept_cap[0..lent(1, 21, wrong)],
+        &mut mw[0..lent(1, 22, wrong)],
+        &mut angle[0..lent(2, 23, wrong)],
+        &mut level[0..lent(2, 24, wrong)],
+        &mut ground[0..lent(2, 25, wrong)],
+        &mut added[0..lent(1, 26, wrong)],
+        &mut figures[0..lent(WORK, 27, wrong)],
+        &mut counts[0..lent(WORK, 28, wrong)],
     );
     say_call(what, wrong);
     match r {
@@ -101,7 +105,7 @@ fn call(what: &[u8], buses: usize, wrong: Wrong) {
         & figures_kept(&flow)
         & figures_kept(&rate)
         & figures_kept(&mw);
-    let filling = marks_kept(&before) & marks_kept(&order);
+    let filling = marks_kept(&before) & marks_kept(&order) & marks_kept(&kept_cap);
     let buses_kept = figures_kept(&angle) & marks_kept(&level) & marks_kept(&ground);
     let work = figures_kept(&figures) & marks_kept(&counts);
     say_kept(plan & filling & buses_kept & figures_kept(&added) & work);

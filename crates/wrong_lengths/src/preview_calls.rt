@@ -12,11 +12,12 @@ use crate::report::say_refusal;
 use mode::PlanMode;
 use refusal::Answer;
 
-const SLICES: usize = 3;
+const SLICES: usize = 4;
 
 fn call(what: &[u8], corridors: usize, wrong: Wrong) {
     let before = [1u32, 2, 1];
     let order = [1u32, 0, 2];
+    let cap = [0u32, 3, 0];
     let mut circuits = [MARK; ROOM];
     let r = planning::preview_filling(
         PlanMode::Expand,
@@ -24,7 +25,8 @@ fn call(what: &[u8], corridors: usize, wrong: Wrong) {
         corridors,
         &before[0..made(2, 0, wrong)],
         &order[0..made(2, 1, wrong)],
-        &mut circuits[0..made(2, 2, wrong)],
+        &cap[0..made(2, 2, wrong)],
+        &mut circuits[0..made(2, 3, wrong)],
     );
     say_call(what, wrong);
     match r {

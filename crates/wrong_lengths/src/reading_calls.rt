@@ -19,7 +19,7 @@ use casefile_defs::MOST_SHEET;
 use casefile_defs::Reading;
 
 // The tables.
-const SLICES: usize = 15;
+const SLICES: usize = 16;
 
 fn call(what: &[u8], file: &[u8], wrong: Wrong) {
     let mut ladder = [FIGURE; ROOM];
@@ -36,6 +36,7 @@ fn call(what: &[u8], file: &[u8], wrong: Wrong) {
     let mut circuits = [MARK; ROOM];
     let mut km = [FIGURE; ROOM];
     let mut share = [FIGURE; ROOM];
+    let mut cap = [MARK; ROOM];
     let mut sheet = [FIGURE; ROOM];
     let read = casefile::read_case(
         file,
@@ -53,7 +54,8 @@ fn call(what: &[u8], file: &[u8], wrong: Wrong) {
         &mut circuits[0..made(MOST_CORRIDORS, 11, wrong)],
         &mut km[0..made(MOST_CORRIDORS, 12, wrong)],
         &mut share[0..made(MOST_CORRIDORS, 13, wrong)],
-        &mut sheet[0..made(MOST_SHEET, 14, wrong)],
+        &mut cap[0..made(MOST_CORRIDORS, 14, wrong)],
+        &mut sheet[0..made(MOST_SHEET, 15, wrong)],
     );
     say_call(what, wrong);
     let reading = read.reading;
@@ -65,7 +67,13 @@ fn call(what: &[u8], file: &[u8], wrong: Wrong) {
     let units = figures_kept(&pmin) & figures_kept(&pmax) & figures_kept(&c1) & figures_kept(&c2);
     let ends = marks_kept(&a) & marks_kept(&b) & marks_kept(&circuits) & figures_kept(&km);
     say_kept(
-        figures_kept(&ladder) & buses & units & ends & figures_kept(&share) & figures_kept(&sheet),
+        figures_kept(&ladder)
+            & buses
+            & units
+            & ends
+            & figures_kept(&share)
+            & marks_kept(&cap)
+            & figures_kept(&sheet),
     );
 }
 

@@ -19,7 +19,7 @@ use casefile_defs::MOST_SHEET;
 use casefile_defs::Reading;
 
 // The tables.
-const SLICES: usize = 15;
+const SLICES: usize = 16;
 
 // The last place.
 const LAST: usize = 73;
@@ -39,6 +39,7 @@ fn call(what: &[u8], place: usize, wrong: Wrong) {
     let mut circuits = [MARK; ROOM];
     let mut km = [FIGURE; ROOM];
     let mut share = [FIGURE; ROOM];
+    let mut cap = [MARK; ROOM];
     let mut sheet = [FIGURE; ROOM];
     let reading = small::small_network(
         place,
@@ -56,7 +57,8 @@ fn call(what: &[u8], place: usize, wrong: Wrong) {
         &mut circuits[0..made(MOST_CORRIDORS, 11, wrong)],
         &mut km[0..made(MOST_CORRIDORS, 12, wrong)],
         &mut share[0..made(MOST_CORRIDORS, 13, wrong)],
-        &mut sheet[0..made(MOST_SHEET, 14, wrong)],
+        &mut cap[0..made(MOST_CORRIDORS, 14, wrong)],
+        &mut sheet[0..made(MOST_SHEET, 15, wrong)],
     );
     say_call(what, wrong);
     match reading {
@@ -67,7 +69,13 @@ fn call(what: &[u8], place: usize, wrong: Wrong) {
     let units = figures_kept(&pmin) & figures_kept(&pmax) & figures_kept(&c1) & figures_kept(&c2);
     let ends = marks_kept(&a) & marks_kept(&b) & marks_kept(&circuits) & figures_kept(&km);
     say_kept(
-        figures_kept(&ladder) & buses & units & ends & figures_kept(&share) & figures_kept(&sheet),
+        figures_kept(&ladder)
+            & buses
+            & units
+            & ends
+            & figures_kept(&share)
+            & marks_kept(&cap)
+            & figures_kept(&sheet),
     );
 }
 

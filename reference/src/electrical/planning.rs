@@ -537,6 +537,16 @@ fn circuit_cap(promote: bool, kv: f64) -> u32 {
     }
 }
 
+/// A corridor's own cap in place of the usual one; 0 is none.
+// reference edit: document 02, K5
+fn own_or(own: u32, usual: u32) -> u32 {
+    if own > 0 {
+        own
+    } else {
+        usual
+    }
+}
+
 /// [`circuit_cap`] below 100 kV in a hierarchical plan.
 const SUBTRANSMISSION_MAX_CIRCUITS: u32 = 6;
 
@@ -729,7 +739,9 @@ pub fn plan_corridors(
                 seen(Branch::MarkedInRound); // reference edit
                 continue;
             }
-            let most = circuit_cap(promote, d.kv);
+            let own = corridors[c].cap; // reference edit
+            let most = own_or(own, circuit_cap(promote, d.kv)); // reference edit: its own cap
+            seen_if(need > most && own > 0, Branch::AboveOwnCap); // reference edit
             seen_if(need > most && most == 4, Branch::AboveCapOfFour); // reference edit
             seen_if(need > most && most == 6, Branch::AboveCapOfSix); // reference edit
             seen_if(need == u32::MAX, Branch::NeedSaturated); // reference edit
@@ -825,7 +837,9 @@ pub fn plan_corridors(
                 .enumerate()
                 .filter(|(k, c)| {
                     component[c.a] == root
-                        && ((circuits[*k] < MAX_CIRCUITS_PER_CORRIDOR && total < budget)
+                        // reference edit: its own cap
+                        && ((circuits[*k] < own_or(c.cap, MAX_CIRCUITS_PER_CORRIDOR)
+                            && total < budget)
                             || (promote
                                 && buses[c.a].tier.min(buses[c.b].tier) > stiffen_top
                                 && hv < hv_budget))
@@ -889,8 +903,13 @@ pub fn plan_corridors(
                     // A higher requested level narrows the angle more than
                     // another circuit at this one (230 to 500 kV about
                     // sevenfold per circuit) and adds no branch.
-                } else if circuits[k] < MAX_CIRCUITS_PER_CORRIDOR && total < budget {
+                    // reference edit: its own cap
+                } else if circuits[k] < own_or(corridors[k].cap, MAX_CIRCUITS_PER_CORRIDOR)
+                    && total < budget
+                {
                     seen(Branch::StiffenedByCircuit); // reference edit
+                    let past = circuits[k] >= MAX_CIRCUITS_PER_CORRIDOR; // reference edit
+                    seen_if(past, Branch::StiffenedAboveFour); // reference edit
                     circuits[k] += 1;
                     stiffening += 1;
                     total += 1;
@@ -951,11 +970,16 @@ pub fn plan_corridors(
         while total < branch_target && idle < order.len() {
             let c = order[cursor % order.len()];
             cursor += 1;
-            if circuits[c] >= MAX_CIRCUITS_PER_CORRIDOR {
+            // reference edit: its own cap
+            if circuits[c] >= own_or(corridors[c].cap, MAX_CIRCUITS_PER_CORRIDOR) {
                 seen(Branch::FillingPassesOver); // reference edit
+                let few = circuits[c] < MAX_CIRCUITS_PER_CORRIDOR; // reference edit
+                seen_if(few, Branch::FillingPassesOwnCap); // reference edit
                 idle += 1;
                 continue;
             }
+            let past = circuits[c] >= MAX_CIRCUITS_PER_CORRIDOR; // reference edit
+            seen_if(past, Branch::FilledAboveFour); // reference edit
             idle = 0;
             circuits[c] += 1;
             total += 1;
@@ -998,10 +1022,12 @@ pub fn plan_corridors(
         seen_if(need == most, Branch::NeedAtTheLimit); // reference edit
         seen_if((once > most) != (need > most), Branch::CapByOneDivision); // reference edit
         if expand
-            && circuits[c] >= circuit_cap(promote, designs[c].kv)
+            // reference edit: its own cap
+            && circuits[c] >= own_or(corridors[c].cap, circuit_cap(promote, designs[c].kv))
             && need > circuits[c] as f64 + 1e-9
         {
             seen(Branch::CappedCorridor); // reference edit
+            seen_if(corridors[c].cap > 0, Branch::CappedByOwnCap); // reference edit
             capped_corridors += 1;
         }
     }

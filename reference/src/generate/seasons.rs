@@ -1,7 +1,7 @@
 //! Seeded seasons: case files that are handed to the season program one after
 //! another.
 
-use crate::generate::cases::case_file;
+use crate::generate::cases::{case_file, some_seed};
 use crate::generate::random::Random;
 use crate::harness::case_file::{read_case, write_case, MOST_BYTES};
 use crate::harness::tables::{Case, MOST_MODE};
@@ -45,7 +45,7 @@ pub fn as_blocks(files: &[Vec<u8>], short_last: bool) -> Vec<u8> {
 /// Some case that can be read and is not large.
 fn network(random: &mut Random) -> Case {
     loop {
-        if let Ok(case) = read_case(&case_file(random.bits() >> 16).bytes) {
+        if let Ok(case) = read_case(&case_file(some_seed(random)).bytes) {
             if case.corridors.len() < 60 {
                 return case;
             }
@@ -101,6 +101,6 @@ fn mixed(random: &mut Random) -> Vec<Vec<u8>> {
 fn any_files(random: &mut Random) -> Vec<Vec<u8>> {
     let count = random.from_to(0, 8);
     (0..count)
-        .map(|_| case_file(random.bits() >> 16).bytes)
+        .map(|_| case_file(some_seed(random)).bytes)
         .collect()
 }

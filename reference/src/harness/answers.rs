@@ -236,6 +236,7 @@ fn ask_preview<'a>(mut fields: Fields<impl Iterator<Item = &'a [u8]>>) -> Answer
     let kept = Kept {
         mode: mode as u8,
         before: fields.many(corridors, Fields::whole)?,
+        cap: fields.many(corridors, Fields::whole)?,
         order: fields.many(corridors, Fields::whole)?,
     };
     fields.end()?;

@@ -41,6 +41,11 @@ const CO: Kind = Kind {
     mark: b"CO",
     length: 2 + 2 * 2 + 1 + 2 * 8,
 };
+/// A corridor with a cap byte (document 02, K5).
+const CP: Kind = Kind {
+    mark: b"CP",
+    length: CO.length + 1,
+};
 const LN: Kind = Kind {
     mark: b"LN",
     length: 2 + 4 * 8 + 1,
@@ -133,14 +138,18 @@ impl<'a> Reader<'a> {
         })
     }
 
+    /// A CP where its mark stands, otherwise a CO: a wrong mark has its length.
     fn corridor(&mut self) -> Result<CorridorRecord, Refusal> {
-        let mut fields = self.record(&CO)?;
+        let marked = self.rest.starts_with(CP.mark);
+        let mut fields = self.record(if marked { &CP } else { &CO })?;
         Ok(CorridorRecord {
             a: fields.u16(),
             b: fields.u16(),
             circuits: fields.u8(),
             length: fields.f64(),
             share: fields.f64(),
+            cap: if marked { fields.u8() } else { 0 },
+            marked,
         })
     }
 
@@ -265,12 +274,15 @@ pub fn write_case(case: &Case) -> Vec<u8> {
         }
     }
     for c in &case.corridors {
-        put(CO.mark);
+        put(if c.is_capped() { CP.mark } else { CO.mark });
         put(&c.a.to_le_bytes());
         put(&c.b.to_le_bytes());
         put(&[c.circuits]);
         put(&c.length.to_le_bytes());
         put(&c.share.to_le_bytes());
+        if c.is_capped() {
+            put(&[c.cap]);
+        }
     }
     for line in &case.sheet {
         put(LN.mark);
@@ -314,12 +326,13 @@ pub fn print_case(case: &Case) -> String {
     }
     for c in &case.corridors {
         line(format_args!(
-            "CO {} {} {} {} {}",
+            "CO {} {} {} {} {} {}",
             c.a,
             c.b,
             c.circuits,
             as_read(c.length),
-            as_read(c.share)
+            as_read(c.share),
+            c.cap
         ));
     }
     for row in &case.sheet {

@@ -52,7 +52,11 @@ pub fn print_text(case: &Case) -> String {
     }
     for c in &case.corridors {
         let whole = [c.a.into(), c.b.into(), c.circuits.into()];
-        line("CO", &whole, &[c.length, c.share], &[]);
+        let figures = [c.length, c.share];
+        match c.is_capped() {
+            true => line("CP", &whole, &figures, &[c.cap]),
+            false => line("CO", &whole, &figures, &[]),
+        }
     }
     for row in &case.sheet {
         let figures = [row.r, row.x, row.b, row.rate];
@@ -83,6 +87,24 @@ impl Words<'_> {
         (0..count)
             .map(|_| self.mark(mark).and_then(|()| one(self)))
             .collect()
+    }
+
+    /// A corridor after its mark, CO or CP.
+    fn corridor(&mut self) -> Option<CorridorRecord> {
+        let marked = match self.0.next()? {
+            "CO" => false,
+            "CP" => true,
+            _ => return None,
+        };
+        Some(CorridorRecord {
+            a: self.field()?,
+            b: self.field()?,
+            circuits: self.field()?,
+            length: self.field()?,
+            share: self.field()?,
+            cap: if marked { self.field()? } else { 0 },
+            marked,
+        })
     }
 }
 
@@ -123,15 +145,9 @@ pub fn parse_text(text: &str) -> Option<Case> {
                 c2: words.field()?,
             })
         })?,
-        corridors: words.table(corridors, "CO", |words| {
-            Some(CorridorRecord {
-                a: words.field()?,
-                b: words.field()?,
-                circuits: words.field()?,
-                length: words.field()?,
-                share: words.field()?,
-            })
-        })?,
+        corridors: (0..corridors)
+            .map(|_| words.corridor())
+            .collect::<Option<_>>()?,
         sheet: words.table(corridors * levels, "LN", |words| {
             Some(Line {
                 r: words.field()?,

@@ -18,6 +18,8 @@ const MOST_MW: f64 = 1e6;
 const MOST_LINEAR_COST: f64 = 1e6;
 const MOST_DEMAND: f64 = 1e9;
 const MOST_CIRCUITS: u8 = 64;
+/// A corridor's own cap (document 02, K5).
+pub const MOST_CAP: u8 = 6;
 const MOST_LENGTH_KM: f64 = 10_000.0;
 const LEAST_SHARE: f64 = 0.5;
 const LEAST_SPREAD: f64 = 0.25;
@@ -90,6 +92,7 @@ fn corridor_is_good(c: &CorridorRecord, buses: usize) -> bool {
         && c.circuits <= MOST_CIRCUITS
         && length_is_good(c.length)
         && within(c.share, LEAST_SHARE, 1.0)
+        && c.cap <= MOST_CAP
 }
 
 fn line_is_good(line: &Line) -> bool {

@@ -146,6 +146,7 @@ fn corridor_of(&(a, b, length_km): &(usize, usize, f64)) -> Corridor {
         kv: 0.0,
         length_km,
         circuits: 1,
+        cap: 0,
     }
 }
 

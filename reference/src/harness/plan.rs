@@ -65,6 +65,7 @@ fn draft_corridors(case: &Case, buses: &[DraftBus]) -> Vec<Corridor> {
                 kv: buses[a].base_kv.max(buses[b].base_kv),
                 length_km: c.length,
                 circuits: c.circuits.into(),
+                cap: c.cap.into(),
             }
         })
         .collect()

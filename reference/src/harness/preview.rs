@@ -6,27 +6,38 @@ use std::fmt::Write;
 
 use crate::electrical::params::MAX_CIRCUITS_PER_CORRIDOR;
 use crate::harness::case_file::read_case;
+use crate::harness::checks::MOST_CAP;
 use crate::harness::plan::plan_case;
 use crate::harness::refusal::{count_at_most, first_fault, Refusal, CORRIDOR, COUNT, MODE, ORDER};
 use crate::harness::tables::{Case, MOST_CORRIDORS, MOST_TARGET, SERVING};
 
 /// The mode that fills, whether or not idle units serve.
 pub const EXPAND: u8 = 0;
-/// Filling gives no corridor more.
+/// Filling gives no corridor more that has no cap of its own.
 pub const FULL: usize = MAX_CIRCUITS_PER_CORRIDOR as usize;
 /// The most circuits of a corridor before filling.
 pub const MOST_CIRCUITS: usize = 64;
+
+/// What filling gives at most to a corridor of this cap.
+pub fn full_at(cap: usize) -> usize {
+    match cap {
+        0 => FULL,
+        own => own,
+    }
+}
 
 /// Whether a mode counts as Expand.
 pub fn fills(mode: u8) -> bool {
     mode % SERVING == EXPAND
 }
 
-/// What a plan keeps of filling; a place for each corridor in both lists.
+/// What a plan keeps of filling; a place for each corridor in each list.
 #[derive(Clone, Debug, PartialEq)]
 pub struct Kept {
     pub mode: u8,
     pub before: Vec<usize>,
+    /// Own caps (document 02, K5), kept in every mode.
+    pub cap: Vec<usize>,
     pub order: Vec<usize>,
 }
 
@@ -37,6 +48,7 @@ impl Kept {
         Ok(Kept {
             mode: case.mode,
             before: plan.before.iter().map(|&n| n as usize).collect(),
+            cap: case.corridors.iter().map(|c| c.cap.into()).collect(),
             order: plan.order,
         })
     }
@@ -47,13 +59,26 @@ impl Kept {
         if !fills(self.mode) {
             return Err(Refusal::new(MODE, 0));
         }
-        first_fault(CORRIDOR, &self.before, |count| {
-            !(1..=MOST_CIRCUITS).contains(count)
-        })?;
+        first_fault(
+            CORRIDOR,
+            self.before.iter().zip(&self.cap),
+            |(count, cap)| !(1..=MOST_CIRCUITS).contains(count) || *cap > MOST_CAP.into(),
+        )?;
         let mut named = HashSet::new();
         first_fault(ORDER, &self.order, |&corridor| {
             corridor >= self.before.len() || !named.insert(corridor)
         })
+    }
+
+    /// What filling gives a corridor at most.
+    pub fn full(&self, corridor: usize) -> usize {
+        full_at(self.cap[corridor])
+    }
+
+    /// The total where every corridor is full.
+    pub fn when_full(&self) -> usize {
+        let each = self.before.iter().enumerate();
+        each.map(|(k, &count)| count.max(self.full(k))).sum()
     }
 
     /// The circuits with this target: the corridors take one each in their
@@ -62,9 +87,10 @@ impl Kept {
         self.check(target)?;
         let mut circuits = self.before.clone();
         let mut missing = target.saturating_sub(circuits.iter().sum());
-        while missing > 0 && circuits.iter().any(|&count| count < FULL) {
+        let room = |circuits: &[usize], k: usize| circuits[k] < self.full(k);
+        while missing > 0 && (0..circuits.len()).any(|k| room(&circuits, k)) {
             for &corridor in &self.order {
-                if missing > 0 && circuits[corridor] < FULL {
+                if missing > 0 && room(&circuits, corridor) {
                     circuits[corridor] += 1;
                     missing -= 1;
                 }

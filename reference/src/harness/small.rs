@@ -26,6 +26,7 @@ fn network(buses: usize, corridors: usize, loads: usize) -> Case {
             circuits: 1,
             length: 10.0,
             share: 1.0,
+            ..CorridorRecord::default()
         })
         .collect();
     let row = Line {

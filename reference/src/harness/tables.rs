@@ -56,6 +56,17 @@ pub struct CorridorRecord {
     pub circuits: u8,
     pub length: f64,
     pub share: f64,
+    /// Its own cap (document 02, K5); 0 for none.
+    pub cap: u8,
+    /// Whether it was read from a CP, which may have cap 0.
+    pub marked: bool,
+}
+
+impl CorridorRecord {
+    /// Whether it is written as CP.
+    pub fn is_capped(&self) -> bool {
+        self.marked || self.cap > 0
+    }
 }
 
 #[derive(Clone, Copy, Debug, Default, PartialEq)]

@@ -9,11 +9,11 @@ use Rattle.case_reader.proofs.main.Tie as tie
 
 -- the header's counts
 small : (c : tie.After-reading2) → Small (c .reading2 .given .0 .0)
-small c = answered-small _ _ _ (c .before .before .before .before .before .before .before .before .before .before .before .before .before .before .before .before .before .read-case .ensures) (c .reading2 .given .1)
+small c = answered-small _ _ _ (c .before .before .before .before .before .before .before .before .before .before .before .before .before .before .before .before .before .before .read-case .ensures) (c .reading2 .given .1)
 
 -- ---- the places of the code, each from the one after it
 abbrev corridors-printed : tie.After-print-corridors → tie.After-print-generators
-corridors-printed c = c .before .before .before .before .before .before
+corridors-printed c = c .before .before .before .before .before .before .before
 
 abbrev generators-printed : tie.After-print-generators → tie.After-print-buses
 generators-printed c = c .before .before .before .before .before .before .before
@@ -84,6 +84,9 @@ slice-aggregate-read-case-14 c = search needs
 slice-aggregate-read-case-15 : tie.Need-slice-aggregate-read-case-15
 slice-aggregate-read-case-15 c = search needs
 
+slice-aggregate-read-case-16 : tie.Need-slice-aggregate-read-case-16
+slice-aggregate-read-case-16 c = search needs
+
 read-case-requires : tie.Need-read-case-requires
 read-case-requires c κs = search needs
 
@@ -112,7 +115,7 @@ print-generators-requires : tie.Need-print-generators-requires
 print-generators-requires c κs = small (levels-printed (buses-printed (c .before .before .before .before .before .before))) .generators
 
 print-corridors-requires : tie.Need-print-corridors-requires
-print-corridors-requires c κs = small (levels-printed (buses-printed (generators-printed (c .before .before .before .before .before)))) .corridors
+print-corridors-requires c κs = small (levels-printed (buses-printed (generators-printed (c .before .before .before .before .before .before)))) .corridors
 
 lines-requires : tie.Need-lines-requires
 lines-requires c κs = let s = small (levels-printed (buses-printed (generators-printed (corridors-printed c)))) in (s .corridors, s .levels)
@@ -150,6 +153,7 @@ main-spec =
     slice-aggregate-read-case-13
     slice-aggregate-read-case-14
     slice-aggregate-read-case-15
+    slice-aggregate-read-case-16
     read-case-requires
     enum-known-reading
     print-refusal-requires

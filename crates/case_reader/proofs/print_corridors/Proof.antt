@@ -7,10 +7,10 @@ use Rattle.case_reader.proofs.print_corridors.Statement.{statement}
 use Rattle.case_reader.proofs.print_corridors.Tie as tie
 
 abbrev Inv-loop : tie.InvT-loop
-Inv-loop count a b circuits length-km share i₀ i = i ≤ count
+Inv-loop count a b circuits length-km share cap i₀ i = i ≤ count
 
 abbrev μ-loop : tie.MeasureT-loop
-μ-loop count a b circuits length-km share i₀ i = count - i
+μ-loop count a b circuits length-km share cap i₀ i = count - i
 
 loop-holds : tie.Need-loop-holds Inv-loop μ-loop
 loop-holds c = omega arith

@@ -15,7 +15,7 @@ use Rattle.planned_files.proofs.plan_file.Tie as tie
 -- the tables as they are lent, and as reading leaves them
 abbrev empty : Places
 empty =
-    placesOf (replicate 5 nought) (replicate 256 0) (replicate 256 nought) (replicate 128 0) (replicate 128 0) (replicate 128 nought) (replicate 128 nought) (replicate 128 nought) (replicate 128 nought) (replicate 256 0) (replicate 256 0) (replicate 256 0) (replicate 256 nought) (replicate 256 nought) (replicate 6400 nought)
+    placesOf (replicate 5 nought) (replicate 256 0) (replicate 256 nought) (replicate 128 0) (replicate 128 0) (replicate 128 nought) (replicate 128 nought) (replicate 128 nought) (replicate 128 nought) (replicate 256 0) (replicate 256 0) (replicate 256 0) (replicate 256 nought) (replicate 256 nought) (replicate 256 0) (replicate 6400 nought)
 
 empty-sized : sizesOk empty ≡ true
 unfolding sizesOk
@@ -24,14 +24,14 @@ empty-sized = refl
 abbrev left : tie.After-read-case → Places
 left c =
     let r = c .read-case .last in
-    placesOf (r .1 .0) (r .1 .1 .0) (r .1 .1 .1 .0) (r .1 .1 .1 .1 .0) (r .1 .1 .1 .1 .1 .0) (r .1 .1 .1 .1 .1 .1 .0) (r .1 .1 .1 .1 .1 .1 .1 .0) (r .1 .1 .1 .1 .1 .1 .1 .1 .0) (r .1 .1 .1 .1 .1 .1 .1 .1 .1 .0) (r .1 .1 .1 .1 .1 .1 .1 .1 .1 .1 .0) (r .1 .1 .1 .1 .1 .1 .1 .1 .1 .1 .1 .0) (r .1 .1 .1 .1 .1 .1 .1 .1 .1 .1 .1 .1 .0) (r .1 .1 .1 .1 .1 .1 .1 .1 .1 .1 .1 .1 .1 .0) (r .1 .1 .1 .1 .1 .1 .1 .1 .1 .1 .1 .1 .1 .1 .0) (r .1 .1 .1 .1 .1 .1 .1 .1 .1 .1 .1 .1 .1 .1 .1 .0)
+    placesOf (r .1 .0) (r .1 .1 .0) (r .1 .1 .1 .0) (r .1 .1 .1 .1 .0) (r .1 .1 .1 .1 .1 .0) (r .1 .1 .1 .1 .1 .1 .0) (r .1 .1 .1 .1 .1 .1 .1 .0) (r .1 .1 .1 .1 .1 .1 .1 .1 .0) (r .1 .1 .1 .1 .1 .1 .1 .1 .1 .0) (r .1 .1 .1 .1 .1 .1 .1 .1 .1 .1 .0) (r .1 .1 .1 .1 .1 .1 .1 .1 .1 .1 .1 .0) (r .1 .1 .1 .1 .1 .1 .1 .1 .1 .1 .1 .1 .0) (r .1 .1 .1 .1 .1 .1 .1 .1 .1 .1 .1 .1 .1 .0) (r .1 .1 .1 .1 .1 .1 .1 .1 .1 .1 .1 .1 .1 .1 .0) (r .1 .1 .1 .1 .1 .1 .1 .1 .1 .1 .1 .1 .1 .1 .1 .0) (r .1 .1 .1 .1 .1 .1 .1 .1 .1 .1 .1 .1 .1 .1 .1 .1 .0)
 
 -- ---- the places of the code, each from the one after it
 abbrev from-refused : tie.After-reading → tie.After-read-case
-from-refused c = c .before .before .before .before .before .before .before .before .before .before .before .before .before .before .before .before .before
+from-refused c = c .before .before .before .before .before .before .before .before .before .before .before .before .before .before .before .before .before .before
 
 abbrev from-answered : tie.After-reading2 → tie.After-read-case
-from-answered c = c .before .before .before .before .before .before .before .before .before .before .before .before .before .before .before .before .before
+from-answered c = c .before .before .before .before .before .before .before .before .before .before .before .before .before .before .before .before .before .before
 
 abbrev header-known : tie.After-struct-known → tie.After-reading2
 header-known c = c .before .before
@@ -81,6 +81,9 @@ lent-14 c = lent-13 (c .before .before)
 abbrev lent-15 : tie.After-plan-case-arg15 → tie.After-reading2
 lent-15 c = lent-14 (c .before .before)
 
+abbrev lent-16 : tie.After-plan-case-arg16 → tie.After-reading2
+lent-16 c = lent-15 (c .before .before)
+
 small : (c : tie.After-reading2) → Small (c .reading2 .given .0 .0)
 small c = answered-small _ empty (left (from-answered c)) (from-answered c .read-case .ensures) (c .reading2 .given .1)
 
@@ -128,6 +131,9 @@ slice-aggregate-read-case-14 c = search needs
 
 slice-aggregate-read-case-15 : tie.Need-slice-aggregate-read-case-15
 slice-aggregate-read-case-15 c = search needs
+
+slice-aggregate-read-case-16 : tie.Need-slice-aggregate-read-case-16
+slice-aggregate-read-case-16 c = search needs
 
 read-case-requires : tie.Need-read-case-requires
 read-case-requires c κs = search needs
@@ -283,10 +289,19 @@ part-plan-case-start-15 : tie.Need-part-plan-case-start-15
 part-plan-case-start-15 c = search needs
 
 part-plan-case-end-15 : tie.Need-part-plan-case-end-15
-part-plan-case-end-15 c = in-table (rows-fit _ (small (lent-14 (c .before)))) (from-answered (lent-14 (c .before)) .read-case .kept .1 .1 .1 .1 .1 .1 .1 .1 .1 .1 .1 .1 .1 .1 .1 .0)
+part-plan-case-end-15 c = in-table (small (lent-14 (c .before)) .corridors) (from-answered (lent-14 (c .before)) .read-case .kept .1 .1 .1 .1 .1 .1 .1 .1 .1 .1 .1 .1 .1 .1 .1 .0)
+
+sub-plan-case-16 : tie.Need-sub-plan-case-16
+sub-plan-case-16 c = search needs
+
+part-plan-case-start-16 : tie.Need-part-plan-case-start-16
+part-plan-case-start-16 c = search needs
+
+part-plan-case-end-16 : tie.Need-part-plan-case-end-16
+part-plan-case-end-16 c = in-table (rows-fit _ (small (lent-15 (c .before)))) (from-answered (lent-15 (c .before)) .read-case .kept .1 .1 .1 .1 .1 .1 .1 .1 .1 .1 .1 .1 .1 .1 .1 .1 .0)
 
 plan-case-requires : tie.Need-plan-case-requires
-plan-case-requires c κs = small (lent-15 c)
+plan-case-requires c κs = small (lent-16 c)
 
 returns : tie.Need-returns
 returns c = (
@@ -298,7 +313,7 @@ returns c = (
 returns-2 : tie.Need-returns-2
 returns-2 c = (
   c .plan-case .ensures .0
-      ∙ read _ empty (left (from-answered (lent-15 (c .before)))) empty-sized (from-answered (lent-15 (c .before)) .read-case .ensures) (lent-15 (c .before) .reading2 .given .1),
+      ∙ read _ empty (left (from-answered (lent-16 (c .before)))) empty-sized (from-answered (lent-16 (c .before)) .read-case .ensures) (lent-16 (c .before) .reading2 .given .1),
   c .plan-case .ensures .1,
 )
 
@@ -321,6 +336,7 @@ plan-file-spec =
     slice-aggregate-read-case-13
     slice-aggregate-read-case-14
     slice-aggregate-read-case-15
+    slice-aggregate-read-case-16
     read-case-requires
     enum-known-reading
     unread-requires
@@ -373,6 +389,9 @@ plan-file-spec =
     sub-plan-case-15
     part-plan-case-start-15
     part-plan-case-end-15
+    sub-plan-case-16
+    part-plan-case-start-16
+    part-plan-case-end-16
     plan-case-requires
     returns
     returns-2)

@@ -11,7 +11,7 @@ returns c = (
   refl,
   (
     record { buses = omega arith; corridors = omega arith; generators = omega arith; levels = omega arith; target = omega arith },
-    record { circuits = refl; flow = refl; rate = refl; before = refl; order = refl; mw = refl; angle = refl; tier = refl; ground = refl; added = refl },
+    record { circuits = refl; flow = refl; rate = refl; before = refl; order = refl; cap = refl; mw = refl; angle = refl; tier = refl; ground = refl; added = refl },
   ),
 )
 

@@ -23,16 +23,16 @@ abbrev lent : tie.Start → Places
 lent c =
     placesOf (now (c .args .ladder)) (now (c .args .tier)) (now (c .args .load)) (now (c .args .generator-bus)) (now (c .args .slack)) (now (c .args .pmin))
     (now (c .args .pmax)) (now (c .args .c1)) (now (c .args .c2)) (now (c .args .a)) (now (c .args .b)) (now (c .args .circuits)) (now (c .args .length-km))
-    (now (c .args .share)) (now (c .args .sheet))
+    (now (c .args .share)) (now (c .args .cap)) (now (c .args .sheet))
 
 abbrev start : tie.After-network-at → tie.Start
-start c = c .before .before .before .before .before .before .before .before .before .before .before .before .before .before .before .before .before .before
+start c = c .before .before .before .before .before .before .before .before .before .before .before .before .before .before .before .before .before .before .before
 
-short : (c : tie.Then1) → sizesOk (lent (c .before .before .before .before .before .before .before .before .before .before .before .before .before .before .before .before)) ≡ false
+short : (c : tie.Then1) → sizesOk (lent (c .before .before .before .before .before .before .before .before .before .before .before .before .before .before .before .before .before)) ≡ false
 unfolding sizesOk
 short c = not-true _ (c .if1 .taken)
 
-right : (c : tie.Then2) → sizesOk (lent (c .before .before .before .before .before .before .before .before .before .before .before .before .before .before .before .before .before)) ≡ true
+right : (c : tie.Then2) → sizesOk (lent (c .before .before .before .before .before .before .before .before .before .before .before .before .before .before .before .before .before .before)) ≡ true
 unfolding sizesOk
 right c = not-false _ (c .before .if1 .left)
 
@@ -42,7 +42,7 @@ right-sizes c = not-false _ (c .before .before .if1 .left)
 
 -- ---- the places of the code, each from the one after it
 abbrev generator-put : tie.After-put-corridors → tie.After-put-generator
-generator-put c = c .before .before .before .before .before .before .before .before .before .before .before .before .before .before .before .before .before .before .before
+generator-put c = c .before .before .before .before .before .before .before .before .before .before .before .before .before .before .before .before .before .before .before .before
 
 abbrev buses-put : tie.After-put-generator → tie.After-put-buses
 buses-put c = c .before .before .before .before .before .before .before .before .before .before .before .before .before
@@ -73,55 +73,58 @@ header-of-requires : tie.Need-header-of-requires
 header-of-requires c κs = search needs
 
 same-length : tie.Need-same-length
-same-length c = buses-put (generator-put (c .before .before .before .before .before .before .before .before .before .before .before .before .before)) .put-buses .kept .1 .0
+same-length c = buses-put (generator-put (c .before .before .before .before .before .before .before .before .before .before .before .before .before .before .before)) .put-buses .kept .1 .0
 
 same-length-2 : tie.Need-same-length-2
-same-length-2 c = buses-put (generator-put (c .before .before .before .before .before .before .before .before .before .before .before .before .before)) .put-buses .kept .1 .1 .0
+same-length-2 c = buses-put (generator-put (c .before .before .before .before .before .before .before .before .before .before .before .before .before .before .before)) .put-buses .kept .1 .1 .0
 
 same-length-3 : tie.Need-same-length-3
-same-length-3 c = buses-put (generator-put (c .before .before .before .before .before .before .before .before .before .before .before .before .before)) .put-buses .kept .1 .1 .1 .0
+same-length-3 c = buses-put (generator-put (c .before .before .before .before .before .before .before .before .before .before .before .before .before .before .before)) .put-buses .kept .1 .1 .1 .0
 
 same-length-4 : tie.Need-same-length-4
-same-length-4 c = search needs
+same-length-4 c = generator-put (c .before .before .before .before .before .before .before .before .before .before .before .before .before .before .before) .put-generator .kept .0
 
 same-length-5 : tie.Need-same-length-5
-same-length-5 c = search needs
+same-length-5 c = generator-put (c .before .before .before .before .before .before .before .before .before .before .before .before .before .before .before) .put-generator .kept .1 .0
 
 same-length-6 : tie.Need-same-length-6
-same-length-6 c = search needs
+same-length-6 c = generator-put (c .before .before .before .before .before .before .before .before .before .before .before .before .before .before .before) .put-generator .kept .1 .1 .0
 
 same-length-7 : tie.Need-same-length-7
-same-length-7 c = search needs
+same-length-7 c = generator-put (c .before .before .before .before .before .before .before .before .before .before .before .before .before .before .before) .put-generator .kept .1 .1 .1 .0
 
 same-length-8 : tie.Need-same-length-8
-same-length-8 c = search needs
+same-length-8 c = generator-put (c .before .before .before .before .before .before .before .before .before .before .before .before .before .before .before) .put-generator .kept .1 .1 .1 .1 .0
 
 same-length-9 : tie.Need-same-length-9
-same-length-9 c = search needs
+same-length-9 c = generator-put (c .before .before .before .before .before .before .before .before .before .before .before .before .before .before .before) .put-generator .kept .1 .1 .1 .1 .1 .0
 
 same-length-10 : tie.Need-same-length-10
-same-length-10 c = search needs
+same-length-10 c = c .before .before .before .before .before .before .before .before .before .before .before .before .before .before .before .put-corridors .kept .1 .0
 
 same-length-11 : tie.Need-same-length-11
-same-length-11 c = search needs
+same-length-11 c = c .before .before .before .before .before .before .before .before .before .before .before .before .before .before .before .put-corridors .kept .1 .1 .0
 
 same-length-12 : tie.Need-same-length-12
-same-length-12 c = search needs
+same-length-12 c = c .before .before .before .before .before .before .before .before .before .before .before .before .before .before .before .put-corridors .kept .1 .1 .1 .0
 
 same-length-13 : tie.Need-same-length-13
-same-length-13 c = search needs
+same-length-13 c = c .before .before .before .before .before .before .before .before .before .before .before .before .before .before .before .put-corridors .kept .1 .1 .1 .1 .0
 
 same-length-14 : tie.Need-same-length-14
-same-length-14 c = search needs
+same-length-14 c = c .before .before .before .before .before .before .before .before .before .before .before .before .before .before .before .put-corridors .kept .1 .1 .1 .1 .1 .0
 
 same-length-15 : tie.Need-same-length-15
-same-length-15 c = search needs
+same-length-15 c = c .before .before .before .before .before .before .before .before .before .before .before .before .before .before .before .put-corridors .kept .1 .1 .1 .1 .1 .1 .0
+
+same-length-16 : tie.Need-same-length-16
+same-length-16 c = c .before .before .before .before .before .before .before .before .before .before .before .before .before .before .before .put-corridors .kept .1 .1 .1 .1 .1 .1 .1 .0
 
 returns-3 : tie.Need-returns-3
 returns-3 c =
-    let e = c .before .before .before .before .before .before .before .before .before .before .before .before .before .put-corridors .ensures in
-    let g = generator-put (c .before .before .before .before .before .before .before .before .before .before .before .before .before) .put-generator .ensures in
-    let b = buses-put (generator-put (c .before .before .before .before .before .before .before .before .before .before .before .before .before)) in
+    let e = c .before .before .before .before .before .before .before .before .before .before .before .before .before .before .before .put-corridors .ensures in
+    let g = generator-put (c .before .before .before .before .before .before .before .before .before .before .before .before .before .before .before) .put-generator .ensures in
+    let b = buses-put (generator-put (c .before .before .before .before .before .before .before .before .before .before .before .before .before .before .before)) in
     let t = taken-apart b in
     let q = t .network-at .ensures in
     let z = sizes (lent (start t)) (right-sizes t) in
@@ -142,7 +145,8 @@ returns-3 c =
     (sized (λ (n : ℕ) (s : Shape). counts n (corridorCount (s .corridors)) 1 1 1) (z .circuits) q (e .1 .1 .0))
     (sized (λ (n : ℕ) (s : Shape). figures n (corridorCount (s .corridors)) ten ten ten) (z .lengthKm) q (e .1 .1 .1 .0))
     (sized (λ (n : ℕ) (s : Shape). figures n (corridorCount (s .corridors)) one one one) (z .share) q (e .1 .1 .1 .1 .0))
-    (sized (λ (n : ℕ) (s : Shape). tab n (sheetAt (corridorCount (s .corridors) * rowFigures))) (z .sheet) q (e .1 .1 .1 .1 .1)))
+    (sized (λ (n : ℕ) (s : Shape). counts n (corridorCount (s .corridors)) 0 0 0) (z .cap) q (e .1 .1 .1 .1 .1 .0))
+    (sized (λ (n : ℕ) (s : Shape). tab n (sheetAt (corridorCount (s .corridors) * rowFigures))) (z .sheet) q (e .1 .1 .1 .1 .1 .1)))
 
 pub small-network-spec : {M : Type 1} → statement M
 small-network-spec =
@@ -170,4 +174,5 @@ small-network-spec =
     same-length-13
     same-length-14
     same-length-15
+    same-length-16
     returns-3)

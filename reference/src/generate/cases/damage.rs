@@ -1,11 +1,12 @@
 //! Families of files that are no good case file, or barely one: wrong counts,
 //! marks and small fields, padding, cuts, flips and noise.
 
+use super::caps::with_caps;
 use super::networks::{middling_observe, small_expand, small_observe, small_reinforce, two_buses};
-use super::sketch::{plain_line, OBSERVE};
+use super::sketch::{plain_line, uniform_sheet, OBSERVE};
 use crate::generate::random::Random;
 use crate::harness::case_file::{write_case, MOST_BYTES};
-use crate::harness::tables::MOST_MODE;
+use crate::harness::tables::{CorridorRecord, MOST_MODE};
 
 /// Where the header's fields lie in the file.
 const MODE: usize = 2;
@@ -16,16 +17,28 @@ const GENERATORS: usize = 11;
 const ABOVE: usize = 13;
 const REQUESTED: usize = 14;
 
-fn good_file(random: &mut Random) -> Vec<u8> {
+/// A file that is read, with own caps where `capped` says so.
+pub fn good_file(random: &mut Random, capped: bool) -> Vec<u8> {
     let make = random.pick(&[small_expand, small_reinforce, small_observe]);
-    write_case(&make(random))
+    let case = make(random);
+    write_case(&with_caps(random, case, capped))
 }
 
-/// A file with every kind of record, as small as can be: case L.
-pub fn smallest_file() -> Vec<u8> {
+/// A file with every kind of record, as small as can be: case L, and with a
+/// second corridor that is a CP where `capped` says so.
+pub fn smallest_file(capped: bool) -> Vec<u8> {
     let mut case = two_buses(OBSERVE, 138.0, 50.0, plain_line(0.5, 100.0));
     case.generators[0].pmax = 100.0;
     case.generators[0].c2 = 0.25;
+    if capped {
+        let second = CorridorRecord {
+            cap: 2,
+            marked: true,
+            ..case.corridors[0]
+        };
+        case.corridors.push(second);
+        uniform_sheet(&mut case, plain_line(0.5, 100.0));
+    }
     write_case(&case)
 }
 
@@ -34,8 +47,8 @@ fn put_u16(file: &mut [u8], place: usize, value: u16) {
 }
 
 /// A count or target past its bound, or a count that the records do not keep.
-pub fn counts(random: &mut Random, turn: usize) -> Vec<u8> {
-    let mut file = good_file(random);
+pub fn counts(random: &mut Random, turn: usize, capped: bool) -> Vec<u8> {
+    let mut file = good_file(random, capped);
     match turn % 8 {
         0 => put_u16(&mut file, BUSES, random.pick(&[257, 300, u16::MAX])),
         1 => put_u16(&mut file, CORRIDORS, random.pick(&[257, 512, u16::MAX])),
@@ -74,8 +87,8 @@ fn records(file: &[u8], mark: &[u8; 2]) -> Vec<usize> {
 }
 
 /// A mode, slack or basis past its bound.
-pub fn small_fields(random: &mut Random, turn: usize) -> Vec<u8> {
-    let mut file = good_file(random);
+pub fn small_fields(random: &mut Random, turn: usize, capped: bool) -> Vec<u8> {
+    let mut file = good_file(random, capped);
     let past = random.pick(&[2, 3, 128, 255]);
     let (mark, offset) = [(b"HD", MODE), (b"GE", 4), (b"LN", 34)][turn % 3];
     let places = records(&file, mark);
@@ -95,10 +108,11 @@ pub fn small_fields(random: &mut Random, turn: usize) -> Vec<u8> {
 }
 
 /// One record's mark made another.
-pub fn marks(random: &mut Random, turn: usize) -> Vec<u8> {
-    const MARKS: [&[u8; 2]; 6] = [b"HD", b"LV", b"BU", b"GE", b"CO", b"LN"];
-    let mut file = good_file(random);
-    let places = records(&file, MARKS[turn % 6]);
+pub fn marks(random: &mut Random, turn: usize, capped: bool) -> Vec<u8> {
+    const MARKS: [&[u8; 2]; 7] = [b"HD", b"LV", b"BU", b"GE", b"CO", b"LN", b"CP"];
+    let mut file = good_file(random, capped);
+    let kinds = if capped { 7 } else { 6 };
+    let places = records(&file, MARKS[turn % kinds]);
     if let Some(&place) = places.get(random.below(places.len().max(1))) {
         let other = random.pick(&[
             b"HD", b"LV", b"BU", b"GE", b"CO", b"LN", b"bu", b"BV", b"CP", b"\0\0",
@@ -113,8 +127,8 @@ pub fn marks(random: &mut Random, turn: usize) -> Vec<u8> {
 }
 
 /// Zeros after the end, up to the largest file there is.
-pub fn padded(random: &mut Random, _: usize) -> Vec<u8> {
-    let mut file = good_file(random);
+pub fn padded(random: &mut Random, _: usize, capped: bool) -> Vec<u8> {
+    let mut file = good_file(random, capped);
     let any = random.from_to(file.len(), MOST_BYTES);
     let length = random.pick(&[
         file.len() + 1,
@@ -129,10 +143,10 @@ pub fn padded(random: &mut Random, _: usize) -> Vec<u8> {
 }
 
 /// One byte too many, or more.
-pub fn padded_past(random: &mut Random, _: usize) -> Vec<u8> {
+pub fn padded_past(random: &mut Random, _: usize, capped: bool) -> Vec<u8> {
     let mut file = match random.once_in(3) {
         true => Vec::new(),
-        false => good_file(random),
+        false => good_file(random, capped),
     };
     let byte = random.pick(&[0, 0, 1]);
     file.resize(MOST_BYTES + random.pick(&[1, 1, 2, 100, 4_465]), byte);
@@ -140,8 +154,8 @@ pub fn padded_past(random: &mut Random, _: usize) -> Vec<u8> {
 }
 
 /// A byte that is not zero among the padding; sometimes several.
-pub fn after_the_end(random: &mut Random, _: usize) -> Vec<u8> {
-    let mut file = good_file(random);
+pub fn after_the_end(random: &mut Random, _: usize, capped: bool) -> Vec<u8> {
+    let mut file = good_file(random, capped);
     let end = file.len();
     let length = random.pick(&[1, 8, 9, 40, 5_000, MOST_BYTES - end]);
     file.resize((end + length).min(MOST_BYTES), 0);
@@ -153,10 +167,13 @@ pub fn after_the_end(random: &mut Random, _: usize) -> Vec<u8> {
     file
 }
 
-pub fn cut(random: &mut Random, _: usize) -> Vec<u8> {
+pub fn cut(random: &mut Random, _: usize, capped: bool) -> Vec<u8> {
     let mut file = match random.once_in(3) {
-        true => write_case(&middling_observe(random)),
-        false => good_file(random),
+        true => {
+            let case = middling_observe(random);
+            write_case(&with_caps(random, case, capped))
+        }
+        false => good_file(random, capped),
     };
     file.truncate(random.below(file.len()));
     file
@@ -167,8 +184,8 @@ fn flip(random: &mut Random, file: &mut [u8], place: usize) {
     file[place] ^= random.pick(&[bit, bit, 255]);
 }
 
-pub fn flipped(random: &mut Random, _: usize) -> Vec<u8> {
-    let mut file = good_file(random);
+pub fn flipped(random: &mut Random, _: usize, capped: bool) -> Vec<u8> {
+    let mut file = good_file(random, capped);
     for _ in 0..random.pick(&[1, 1, 1, 2, 5]) {
         let place = random.below(file.len());
         flip(random, &mut file, place);
@@ -177,23 +194,24 @@ pub fn flipped(random: &mut Random, _: usize) -> Vec<u8> {
 }
 
 /// The smallest file cut at each byte in turn, and whole.
-pub fn cut_in_turn(_: &mut Random, turn: usize) -> Vec<u8> {
-    let mut file = smallest_file();
+pub fn cut_in_turn(_: &mut Random, turn: usize, capped: bool) -> Vec<u8> {
+    let mut file = smallest_file(capped);
     file.truncate(turn % (file.len() + 1));
     file
 }
 
 /// The smallest file with each byte flipped in turn.
-pub fn flipped_in_turn(random: &mut Random, turn: usize) -> Vec<u8> {
-    let mut file = smallest_file();
+pub fn flipped_in_turn(random: &mut Random, turn: usize, capped: bool) -> Vec<u8> {
+    let mut file = smallest_file(capped);
     let place = turn % file.len();
     flip(random, &mut file, place);
     file
 }
 
 /// A file of the right shape with any bits for some of its figures.
-pub fn any_figures(random: &mut Random, _: usize) -> Vec<u8> {
-    let mut case = small_observe(random);
+pub fn any_figures(random: &mut Random, _: usize, capped: bool) -> Vec<u8> {
+    let case = small_observe(random);
+    let mut case = with_caps(random, case, capped);
     let figures = case
         .ladder
         .iter_mut()
@@ -225,7 +243,7 @@ pub fn any_figures(random: &mut Random, _: usize) -> Vec<u8> {
 }
 
 /// Noise, sometimes behind a good header.
-pub fn any_bytes(random: &mut Random, turn: usize) -> Vec<u8> {
+pub fn any_bytes(random: &mut Random, turn: usize, capped: bool) -> Vec<u8> {
     if turn.is_multiple_of(16) {
         return Vec::new();
     }
@@ -234,7 +252,7 @@ pub fn any_bytes(random: &mut Random, turn: usize) -> Vec<u8> {
         .map(|_| random.bits() as u8)
         .collect();
     if random.once_in(2) {
-        let mut headed = good_file(random);
+        let mut headed = good_file(random, capped);
         headed.truncate(15);
         headed.append(&mut file);
         return headed;

@@ -1,6 +1,8 @@
 //! Seeded case files. The seed chooses the family in turn, so that every run
-//! of [`FAMILIES`] seeds in a row holds one file of each.
+//! of [`FAMILIES`] seeds in a row holds one file of each. From [`CAPPED`] on
+//! the corridors have caps of their own, and there are [`CAP_FAMILIES`] too.
 
+mod caps;
 mod damage;
 mod edges;
 mod faults;
@@ -18,15 +20,19 @@ use crate::harness::tables::{Case, SERVING};
 enum Make {
     /// The unpadded file of a case.
     Case(fn(&mut Random) -> Case),
-    /// A file that is no such thing; its turn counts the family's files.
-    File(fn(&mut Random, usize) -> Vec<u8>),
+    /// A file that is no such thing; its turn counts the family's files, and
+    /// the flag says whether corridors have caps.
+    File(fn(&mut Random, usize, bool) -> Vec<u8>),
 }
 
 /// A case file and the family it comes from.
 pub struct CaseFile {
-    pub family: &'static str,
+    pub family: String,
     pub bytes: Vec<u8>,
 }
+
+/// Seeds from here on have own caps (document 02, K5).
+pub const CAPPED: u64 = 1_000_000;
 
 /// All families, the ones that deserve more files several times.
 const FAMILIES: &[(&str, Make)] = &[
@@ -158,21 +164,59 @@ const FAMILIES: &[(&str, Make)] = &[
     ("any bytes", Make::File(damage::any_bytes)),
 ];
 
+/// Families that only caps have.
+const CAP_FAMILIES: &[(&str, Make)] = &[
+    ("refused: cap", Make::File(caps::past_its_bound)),
+    ("CO made CP, or back", Make::File(caps::made_the_other)),
+    ("cut in a corridor", Make::File(caps::cut_in_a_corridor)),
+];
+
+type Families = Vec<&'static (&'static str, Make)>;
+
+fn families(capped: bool) -> Families {
+    let more = if capped { CAP_FAMILIES } else { &[] };
+    FAMILIES.iter().chain(more).collect()
+}
+
+fn family_name(name: &str, capped: bool) -> String {
+    let caps = if capped { ", own caps" } else { "" };
+    format!("{name}{caps}")
+}
+
 /// Names of all families.
-pub fn family_names() -> Vec<&'static str> {
-    FAMILIES.iter().map(|&(name, _)| name).collect()
+pub fn family_names() -> Vec<String> {
+    let of = |capped| {
+        let names = families(capped).into_iter().map(|&(name, _)| name);
+        names.map(move |name| family_name(name, capped))
+    };
+    of(false).chain(of(true)).collect()
+}
+
+/// The seed of some case, with caps or without.
+pub fn some_seed(random: &mut Random) -> u64 {
+    random.bits() % (2 * CAPPED)
 }
 
 /// The case file of a seed.
 pub fn case_file(seed: u64) -> CaseFile {
-    let count = FAMILIES.len() as u64;
-    let place = (seed % count) as usize;
-    let (family, make) = &FAMILIES[place];
+    let capped = seed >= CAPPED;
+    let families = families(capped);
+    let number = if capped { seed - CAPPED } else { seed };
+    let count = families.len() as u64;
+    let place = (number % count) as usize;
+    let (family, make) = families[place];
     let mut random = Random::new(family, seed);
     let bytes = match make {
-        Make::Case(case) => write_case(&case(&mut random)),
-        Make::File(file) => file(&mut random, turn(place, (seed / count) as usize)),
+        Make::Case(case) => {
+            let case = case(&mut random);
+            write_case(&caps::with_caps(&mut random, case, capped))
+        }
+        Make::File(file) => {
+            let turn = turn(&families, place, (number / count) as usize);
+            file(&mut random, turn, capped)
+        }
     };
+    let family = family_name(family, capped);
     CaseFile { family, bytes }
 }
 
@@ -185,32 +229,44 @@ fn plain_families() -> impl Iterator<Item = serving::Family> {
 }
 
 /// Names of all families in modes 3 to 5.
-pub fn serving_names() -> Vec<&'static str> {
-    let own = serving::FAMILIES.iter().copied();
-    own.chain(plain_families()).map(|(name, _)| name).collect()
+pub fn serving_names() -> Vec<String> {
+    let of = |capped| {
+        let own = serving::FAMILIES.iter().copied();
+        let names = own.chain(plain_families()).map(|(name, _)| name);
+        names.map(move |name| family_name(name, capped))
+    };
+    of(false).chain(of(true)).collect()
 }
 
 /// The case file of a seed in modes 3 to 5: of odd seeds a family with idle
-/// units, of even ones a case as in modes 0 to 2 with its mode raised.
+/// units, of even ones a case as in modes 0 to 2 with its mode raised. Of
+/// those with own caps one in twelve has a cap past its bound.
 pub fn serving_file(seed: u64) -> CaseFile {
-    let families: Vec<serving::Family> = match seed % 2 {
+    let capped = seed >= CAPPED;
+    let number = if capped { seed - CAPPED } else { seed };
+    let families: Vec<serving::Family> = match number % 2 {
         1 => serving::FAMILIES.to_vec(),
         _ => plain_families().collect(),
     };
-    let (family, make) = families[(seed / 2) as usize % families.len()];
+    let (family, make) = families[(number / 2) as usize % families.len()];
     let mut random = Random::new(family, seed);
     let mut case = make(&mut random);
     if case.mode < SERVING {
         case.mode += SERVING;
     }
+    let mut case = caps::with_caps(&mut random, case, capped);
+    if capped && random.once_in(12) {
+        caps::put_past(&mut random, &mut case);
+    }
+    let family = family_name(family, capped);
     let bytes = write_case(&case);
     CaseFile { family, bytes }
 }
 
 /// Which file of its family this is: a family that stands twice in the list
 /// takes its turns alternately.
-fn turn(place: usize, run: usize) -> usize {
-    let same = |&i: &usize| FAMILIES[i].0 == FAMILIES[place].0;
-    let places = (0..FAMILIES.len()).filter(same);
+fn turn(families: &Families, place: usize, run: usize) -> usize {
+    let same = |&i: &usize| families[i].0 == families[place].0;
+    let places = (0..families.len()).filter(same);
     run * places.clone().count() + places.take_while(|&i| i < place).count()
 }

@@ -25,7 +25,7 @@ fn places(padding: usize) -> Vec<usize> {
 
 /// The file with so many bytes behind it: zeros alone, then a byte in each place.
 fn padded(padding: usize) -> Vec<Vec<u8>> {
-    let mut zeros = smallest_file();
+    let mut zeros = smallest_file(false);
     let end = zeros.len();
     zeros.resize(end + padding, 0);
     let mut files = vec![zeros.clone()];
@@ -43,7 +43,7 @@ fn padded(padding: usize) -> Vec<Vec<u8>> {
 /// All these files: with each few bytes behind the records, and with as many as
 /// fill the file or leave up to seven free, so that every rest of a word is met.
 pub fn padded_files() -> Vec<Vec<u8>> {
-    let full = MOST_BYTES - smallest_file().len();
+    let full = MOST_BYTES - smallest_file(false).len();
     (0..=SHORT)
         .chain(full - 7..=full)
         .flat_map(padded)

@@ -70,6 +70,7 @@ pub fn corridor(a: usize, b: usize) -> CorridorRecord {
         circuits: 1,
         length: 10.0,
         share: 1.0,
+        ..CorridorRecord::default()
     }
 }
 

@@ -88,9 +88,9 @@ const GUESSES: &[&[u8]] = &[
 
 const MODES: &[&[u8]] = &[
     b"PREV 6 0 0",
-    b"PREV 6 0 1 1 0",
-    b"PREV 256 0 1 1 0",
-    b"PREV 999999999 2 1 1 0",
+    b"PREV 6 0 1 1 0 0",
+    b"PREV 256 0 1 1 0 0",
+    b"PREV 999999999 2 1 1 0 0",
 ];
 
 /// A family of long batches alone: a batch holds two.

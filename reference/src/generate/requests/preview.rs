@@ -1,10 +1,11 @@
 //! Requests for the preview of a filling.
 
 use super::{Family, Words};
-use crate::generate::cases::case_file;
+use crate::generate::cases::{case_file, some_seed};
 use crate::generate::random::Random;
 use crate::harness::answers::MOST_COUNT;
 use crate::harness::case_file::read_case;
+use crate::harness::checks::MOST_CAP;
 use crate::harness::preview::{Kept, EXPAND, FULL, MOST_CIRCUITS};
 use crate::harness::tables::{MOST_CORRIDORS, MOST_MODE, MOST_TARGET, SERVING};
 
@@ -15,6 +16,8 @@ pub const FAMILIES: &[Family] = &[
     ("nothing to fill", nothing_to_fill),
     ("about a whole turn", whole_turns),
     ("counts above four", above_four),
+    ("each with a cap of its own", all_capped),
+    ("counts about their caps", about_caps),
     ("of a seeded plan", of_a_plan),
     ("no corridor", no_corridor),
     ("large", large),
@@ -24,6 +27,7 @@ pub const FAMILIES: &[Family] = &[
     ("a target past its bound", past_target),
     ("another mode", another_mode),
     ("a count outside 1 to 64", bad_count),
+    ("a cap above six", bad_cap),
     ("a place that names none", names_none),
     ("a place that names one again", names_again),
     ("faults in several places", several_faults),
@@ -38,18 +42,32 @@ fn ask(kept: &Kept, target: usize) -> Words {
         .whole(target)
         .whole(kept.before.len())
         .each(kept.before.iter().copied(), Words::whole)
+        .each(kept.cap.iter().copied(), Words::whole)
         .each(kept.order.iter().copied(), Words::whole)
 }
 
-/// A record that is answered: some counts, most of them low, in some order.
-/// Both modes that fill have their turn.
+/// A record that is answered: some counts, most of them low, in some order;
+/// every other one with some caps. Both modes that fill have their turn.
 fn record(random: &mut Random, corridors: usize) -> Kept {
     let most = random.pick(&[1, 2, 4, 6]);
-    Kept {
+    let kept = Kept {
         mode: [EXPAND, SERVING][corridors % 2],
         before: (0..corridors).map(|_| random.from_to(1, most)).collect(),
+        cap: vec![0; corridors],
         order: random.shuffled(corridors),
+    };
+    match random.once_in(2) {
+        true => kept,
+        false => with_caps(random, kept, 0),
     }
+}
+
+/// The record with caps from `least` on.
+fn with_caps(random: &mut Random, mut kept: Kept, least: usize) -> Kept {
+    for cap in &mut kept.cap {
+        *cap = random.from_to(least, MOST_CAP.into());
+    }
+    kept
 }
 
 fn some_record(random: &mut Random) -> Kept {
@@ -61,21 +79,16 @@ fn total(kept: &Kept) -> usize {
     kept.before.iter().sum()
 }
 
-/// The total where every corridor is full.
-fn full(kept: &Kept) -> usize {
-    kept.before.iter().map(|&count| count.max(FULL)).sum()
-}
-
 /// From one more than there are to one less than there may be.
 fn to_target(random: &mut Random) -> Words {
     let kept = some_record(random);
-    let (least, most) = (total(&kept), full(&kept));
+    let (least, most) = (total(&kept), kept.when_full());
     ask(&kept, random.from_to(least, most))
 }
 
 fn to_caps(random: &mut Random) -> Words {
     let kept = some_record(random);
-    let most = full(&kept);
+    let most = kept.when_full();
     let target = random.pick(&[most, most + 1, 2 * most, MOST_TARGET]);
     ask(&kept, target)
 }
@@ -103,21 +116,40 @@ fn above_four(random: &mut Random) -> Words {
             *count = random.from_to(FULL, MOST_CIRCUITS);
         }
     }
-    let (least, most) = (total(&kept), full(&kept));
+    let (least, most) = (total(&kept), kept.when_full());
+    ask(&kept, random.from_to(least, most + 1))
+}
+
+fn all_capped(random: &mut Random) -> Words {
+    let kept = some_record(random);
+    let kept = with_caps(random, kept, 1);
+    let (least, most) = (total(&kept), kept.when_full());
+    ask(&kept, random.from_to(least, most + 1))
+}
+
+/// Each count at its corridor's cap, or one beside it.
+fn about_caps(random: &mut Random) -> Words {
+    let kept = some_record(random);
+    let mut kept = with_caps(random, kept, 0);
+    for corridor in 0..kept.before.len() {
+        let full = kept.full(corridor);
+        kept.before[corridor] = random.pick(&[full - 1, full, full + 1]).max(1);
+    }
+    let (least, most) = (total(&kept), kept.when_full());
     ask(&kept, random.from_to(least, most + 1))
 }
 
 /// What the plan of a seeded case keeps, not large.
 fn of_a_plan(random: &mut Random) -> Words {
     loop {
-        let Ok(case) = read_case(&case_file(random.bits() >> 16).bytes) else {
+        let Ok(case) = read_case(&case_file(some_seed(random)).bytes) else {
             continue;
         };
         if case.corridors.len() > 30 {
             continue;
         }
         if let Ok(kept) = Kept::of(&case) {
-            let target = random.below(full(&kept) + 2);
+            let target = random.below(kept.when_full() + 2);
             return ask(&kept, target);
         }
     }
@@ -131,7 +163,7 @@ fn no_corridor(random: &mut Random) -> Words {
 fn large(random: &mut Random) -> Words {
     let corridors = random.from_to(100, MOST_CORRIDORS);
     let kept = record(random, corridors);
-    let target = random.below(full(&kept) + 2);
+    let target = random.below(kept.when_full() + 2);
     ask(&kept, target)
 }
 
@@ -153,7 +185,7 @@ fn at_bounds(random: &mut Random) -> Words {
 
 fn largest(random: &mut Random) -> Words {
     let kept = record(random, MOST_CORRIDORS);
-    let (least, most) = (total(&kept), full(&kept));
+    let (least, most) = (total(&kept), kept.when_full());
     ask(&kept, random.from_to(least, most))
 }
 
@@ -192,6 +224,18 @@ fn bad_count(random: &mut Random) -> Words {
     ask(&kept, random.below(200))
 }
 
+/// Sometimes beside a faulty count; the lower corridor decides.
+fn bad_cap(random: &mut Random) -> Words {
+    let mut kept = some_record(random);
+    let corridors = kept.cap.len();
+    let corridor = random.below(corridors);
+    kept.cap[corridor] = random.pick(&[7, 8, 128, 255, 256, 999_999_999]);
+    if random.once_in(3) {
+        kept.before[random.below(corridors)] = 0;
+    }
+    ask(&kept, random.below(200))
+}
+
 fn names_none(random: &mut Random) -> Words {
     let mut kept = some_record(random);
     let corridors = kept.order.len();
@@ -216,6 +260,11 @@ fn several_faults(random: &mut Random) -> Words {
             *count = random.pick(&[0, MOST_CIRCUITS + 1]);
         }
     }
+    for cap in &mut kept.cap {
+        if random.once_in(8) {
+            *cap = 7;
+        }
+    }
     let corridors = kept.order.len();
     for place in &mut kept.order {
         if random.once_in(4) {
@@ -227,5 +276,7 @@ fn several_faults(random: &mut Random) -> Words {
 
 fn leading_zeros(random: &mut Random) -> Words {
     let (target, count) = (random.below(12), random.from_to(1, 6));
-    Words::new(&format!("PREV 00 {target:0>9} 02 {count:0>9} 001 1 00"))
+    Words::new(&format!(
+        "PREV 00 {target:0>9} 02 {count:0>9} 001 000000006 00 1 00"
+    ))
 }

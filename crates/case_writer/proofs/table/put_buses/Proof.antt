@@ -7,14 +7,14 @@ use Rattle.casefile_defs.specs.Layout.{sizeOf}
 use Rattle.casefile_defs.specs.declared.Kind.the-variants.{Bus}
 use Rattle.casefile_theorems.specs.Writer.{tableBytes}
 use Rattle.case_writer.specs.Put.{Put}
-use Rattle.case_writer.specs.Words.{busWords}
+use Rattle.case_writer.specs.Words.{only, busWords}
 use Rattle.case_writer.proofs.Puts.{no-record, one-more, all-put}
 use Rattle.case_writer.proofs.table.put_buses.Statement.{statement}
 use Rattle.case_writer.proofs.table.put_buses.Tie as tie
 
 abbrev Inv-loop : tie.InvT-loop
 Inv-loop out₀ len count tier load used₀ i₀ out used i =
-    (i ≤ count) × (length out ≡ length out₀) × (used ≡ len + i * sizeOf Bus) × Put out₀ len (tableBytes Bus i (busWords tier load)) out used
+    (i ≤ count) × (length out ≡ length out₀) × (used ≡ len + i * sizeOf Bus) × Put out₀ len (tableBytes (only Bus) i (busWords tier load)) out used
 
 abbrev μ-loop : tie.MeasureT-loop
 μ-loop out₀ len count tier load used₀ i₀ out used i = count - i
@@ -22,7 +22,7 @@ abbrev μ-loop : tie.MeasureT-loop
 loop-holds : tie.Need-loop-holds Inv-loop μ-loop
 loop-holds c =
     let a = c .before .before .before .args in
-    (omega arith, refl, omega arith, no-record (a .out .now) Bus (busWords (a .tier .now) (a .load .now)) (a .len))
+    (omega arith, refl, omega arith, no-record (a .out .now) (only Bus) (busWords (a .tier .now) (a .load .now)) (a .len))
 
 mul-put-bus : tie.Need-mul-put-bus Inv-loop μ-loop
 mul-put-bus c = omega arith
@@ -50,7 +50,7 @@ loop-again c =
     let l = c .before .before .before .before .before .before .before .loop in
     let a = c .before .before .before .before .before .before .before .before .before .before .before .args in
     let put = c .before .before .put-bus .ensures in
-    (omega arith, omega arith, omega (arith, put .1), one-more Bus (busWords (a .tier .now) (a .load .now)) (l .i) (l .inv .3) (put .0))
+    (omega arith, omega arith, omega (arith, put .1), one-more (only Bus) (busWords (a .tier .now) (a .load .now)) (l .i) (l .inv .3) (put .0))
 
 same-length : tie.Need-same-length Inv-loop μ-loop
 same-length c = omega arith
@@ -60,7 +60,7 @@ returns c =
     let l = c .before .loop in
     let a = c .before .before .before .before .before .args in
     let end : l .i ≡ a .count = omega arith in
-    (all-put Bus (busWords (a .tier .now) (a .load .now)) (l .i) (a .count) end (l .inv .3), omega arith)
+    (all-put (only Bus) (busWords (a .tier .now) (a .load .now)) (l .i) (a .count) end (l .inv .3), omega arith)
 
 pub put-buses-spec : {M : Type 1} → statement M
 put-buses-spec =

@@ -7,14 +7,14 @@ use Rattle.casefile_defs.specs.Layout.{sizeOf}
 use Rattle.casefile_defs.specs.declared.Kind.the-variants.{Generator}
 use Rattle.casefile_theorems.specs.Writer.{tableBytes}
 use Rattle.case_writer.specs.Put.{Put}
-use Rattle.case_writer.specs.Words.{generatorWords}
+use Rattle.case_writer.specs.Words.{only, generatorWords}
 use Rattle.case_writer.proofs.Puts.{no-record, one-more, all-put}
 use Rattle.case_writer.proofs.table.put_generators.Statement.{statement}
 use Rattle.case_writer.proofs.table.put_generators.Tie as tie
 
 abbrev Inv-loop : tie.InvT-loop
 Inv-loop out₀ len count bus slack pmin pmax c1 c2 used₀ i₀ out used i =
-    (i ≤ count) × (length out ≡ length out₀) × (used ≡ len + i * sizeOf Generator) × Put out₀ len (tableBytes Generator i (generatorWords bus slack pmin pmax c1 c2)) out used
+    (i ≤ count) × (length out ≡ length out₀) × (used ≡ len + i * sizeOf Generator) × Put out₀ len (tableBytes (only Generator) i (generatorWords bus slack pmin pmax c1 c2)) out used
 
 abbrev μ-loop : tie.MeasureT-loop
 μ-loop out₀ len count bus slack pmin pmax c1 c2 used₀ i₀ out used i = count - i
@@ -22,7 +22,7 @@ abbrev μ-loop : tie.MeasureT-loop
 loop-holds : tie.Need-loop-holds Inv-loop μ-loop
 loop-holds c =
     let a = c .before .before .before .before .before .before .before .args in
-    (omega arith, refl, omega arith, no-record (a .out .now) Generator (generatorWords (a .bus .now) (a .slack .now) (a .pmin .now) (a .pmax .now) (a .c1 .now) (a .c2 .now)) (a .len))
+    (omega arith, refl, omega arith, no-record (a .out .now) (only Generator) (generatorWords (a .bus .now) (a .slack .now) (a .pmin .now) (a .pmax .now) (a .c1 .now) (a .c2 .now)) (a .len))
 
 mul-put-generator : tie.Need-mul-put-generator Inv-loop μ-loop
 mul-put-generator c = omega arith
@@ -74,7 +74,7 @@ loop-again c =
     let l = c .before .before .before .before .before .before .before .before .before .before .before .loop in
     let a = c .before .before .before .before .before .before .before .before .before .before .before .before .before .before .before .before .before .before .before .args in
     let put = c .before .before .put-generator .ensures in
-    (omega arith, omega arith, omega (arith, put .1), one-more Generator (generatorWords (a .bus .now) (a .slack .now) (a .pmin .now) (a .pmax .now) (a .c1 .now) (a .c2 .now)) (l .i) (l .inv .3) (put .0))
+    (omega arith, omega arith, omega (arith, put .1), one-more (only Generator) (generatorWords (a .bus .now) (a .slack .now) (a .pmin .now) (a .pmax .now) (a .c1 .now) (a .c2 .now)) (l .i) (l .inv .3) (put .0))
 
 same-length : tie.Need-same-length Inv-loop μ-loop
 same-length c = omega arith
@@ -84,7 +84,7 @@ returns c =
     let l = c .before .loop in
     let a = c .before .before .before .before .before .before .before .before .before .args in
     let end : l .i ≡ a .count = omega arith in
-    (all-put Generator (generatorWords (a .bus .now) (a .slack .now) (a .pmin .now) (a .pmax .now) (a .c1 .now) (a .c2 .now)) (l .i) (a .count) end (l .inv .3), omega arith)
+    (all-put (only Generator) (generatorWords (a .bus .now) (a .slack .now) (a .pmin .now) (a .pmax .now) (a .c1 .now) (a .c2 .now)) (l .i) (a .count) end (l .inv .3), omega arith)
 
 pub put-generators-spec : {M : Type 1} → statement M
 put-generators-spec =

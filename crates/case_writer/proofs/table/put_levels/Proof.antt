@@ -7,14 +7,14 @@ use Rattle.casefile_defs.specs.Layout.{sizeOf}
 use Rattle.casefile_defs.specs.declared.Kind.the-variants.{Level}
 use Rattle.casefile_theorems.specs.Writer.{tableBytes}
 use Rattle.case_writer.specs.Put.{Put}
-use Rattle.case_writer.specs.Words.{levelWords}
+use Rattle.case_writer.specs.Words.{only, levelWords}
 use Rattle.case_writer.proofs.Puts.{no-record, one-more, all-put}
 use Rattle.case_writer.proofs.table.put_levels.Statement.{statement}
 use Rattle.case_writer.proofs.table.put_levels.Tie as tie
 
 abbrev Inv-loop : tie.InvT-loop
 Inv-loop out₀ len count ladder used₀ i₀ out used i =
-    (i ≤ count) × (length out ≡ length out₀) × (used ≡ len + i * sizeOf Level) × Put out₀ len (tableBytes Level i (levelWords ladder)) out used
+    (i ≤ count) × (length out ≡ length out₀) × (used ≡ len + i * sizeOf Level) × Put out₀ len (tableBytes (only Level) i (levelWords ladder)) out used
 
 abbrev μ-loop : tie.MeasureT-loop
 μ-loop out₀ len count ladder used₀ i₀ out used i = count - i
@@ -22,7 +22,7 @@ abbrev μ-loop : tie.MeasureT-loop
 loop-holds : tie.Need-loop-holds Inv-loop μ-loop
 loop-holds c =
     let a = c .before .before .args in
-    (omega arith, refl, omega arith, no-record (a .out .now) Level (levelWords (a .ladder .now)) (a .len))
+    (omega arith, refl, omega arith, no-record (a .out .now) (only Level) (levelWords (a .ladder .now)) (a .len))
 
 mul-put-level : tie.Need-mul-put-level Inv-loop μ-loop
 mul-put-level c = omega arith
@@ -44,7 +44,7 @@ loop-again c =
     let l = c .before .before .before .before .before .before .loop in
     let a = c .before .before .before .before .before .before .before .before .before .args in
     let put = c .before .before .put-level .ensures in
-    (omega arith, omega arith, omega (arith, put .1), one-more Level (levelWords (a .ladder .now)) (l .i) (l .inv .3) (put .0))
+    (omega arith, omega arith, omega (arith, put .1), one-more (only Level) (levelWords (a .ladder .now)) (l .i) (l .inv .3) (put .0))
 
 same-length : tie.Need-same-length Inv-loop μ-loop
 same-length c = omega arith
@@ -54,7 +54,7 @@ returns c =
     let l = c .before .loop in
     let a = c .before .before .before .before .args in
     let end : l .i ≡ a .count = omega arith in
-    (all-put Level (levelWords (a .ladder .now)) (l .i) (a .count) end (l .inv .3), omega arith)
+    (all-put (only Level) (levelWords (a .ladder .now)) (l .i) (a .count) end (l .inv .3), omega arith)
 
 pub put-levels-spec : {M : Type 1} → statement M
 put-levels-spec =

@@ -7,14 +7,14 @@ use Rattle.casefile_defs.specs.Layout.{sizeOf}
 use Rattle.casefile_defs.specs.declared.Kind.the-variants.{Line}
 use Rattle.casefile_theorems.specs.Writer.{tableBytes}
 use Rattle.case_writer.specs.Put.{Put}
-use Rattle.case_writer.specs.Words.{lineWords}
+use Rattle.case_writer.specs.Words.{only, lineWords}
 use Rattle.case_writer.proofs.Puts.{no-record, one-more, all-put}
 use Rattle.case_writer.proofs.table.put_lines.Statement.{statement}
 use Rattle.case_writer.proofs.table.put_lines.Tie as tie
 
 abbrev Inv-loop : tie.InvT-loop
 Inv-loop out₀ len count sheet used₀ i₀ out used i =
-    (i ≤ count) × (length out ≡ length out₀) × (used ≡ len + i * sizeOf Line) × Put out₀ len (tableBytes Line i (lineWords sheet)) out used
+    (i ≤ count) × (length out ≡ length out₀) × (used ≡ len + i * sizeOf Line) × Put out₀ len (tableBytes (only Line) i (lineWords sheet)) out used
 
 abbrev μ-loop : tie.MeasureT-loop
 μ-loop out₀ len count sheet used₀ i₀ out used i = count - i
@@ -22,7 +22,7 @@ abbrev μ-loop : tie.MeasureT-loop
 loop-holds : tie.Need-loop-holds Inv-loop μ-loop
 loop-holds c =
     let a = c .before .before .args in
-    (omega arith, refl, omega arith, no-record (a .out .now) Line (lineWords (a .sheet .now)) (a .len))
+    (omega arith, refl, omega arith, no-record (a .out .now) (only Line) (lineWords (a .sheet .now)) (a .len))
 
 mul-at : tie.Need-mul-at Inv-loop μ-loop
 mul-at c = omega arith
@@ -83,7 +83,7 @@ loop-again c =
     let l = c .before .before .before .before .before .before .before .before .before .before .loop in
     let a = c .before .before .before .before .before .before .before .before .before .before .before .before .before .args in
     let put = c .before .before .put-line .ensures in
-    (omega arith, omega arith, omega (arith, put .1), one-more Line (lineWords (a .sheet .now)) (l .i) (l .inv .3) (put .0))
+    (omega arith, omega arith, omega (arith, put .1), one-more (only Line) (lineWords (a .sheet .now)) (l .i) (l .inv .3) (put .0))
 
 same-length : tie.Need-same-length Inv-loop μ-loop
 same-length c = omega arith
@@ -93,7 +93,7 @@ returns c =
     let l = c .before .loop in
     let a = c .before .before .before .before .args in
     let end : l .i ≡ a .count = omega arith in
-    (all-put Line (lineWords (a .sheet .now)) (l .i) (a .count) end (l .inv .3), omega arith)
+    (all-put (only Line) (lineWords (a .sheet .now)) (l .i) (a .count) end (l .inv .3), omega arith)
 
 pub put-lines-spec : {M : Type 1} → statement M
 put-lines-spec =

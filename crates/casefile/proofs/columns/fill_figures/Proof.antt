@@ -7,16 +7,16 @@ use denote.Ref.{now}
 use lib.ListN.{length}
 use Rattle.loops.specs.Loops.{filled}
 use Rattle.loops.proofs.Tab.{fill-start, fill-turn, fill-end, fill-length}
-use Rattle.casefile_defs.specs.Tables.{figureIn}
+use Rattle.casefile.specs.Starts.{figureBy}
 use Rattle.casefile.proofs.columns.fill_figures.Statement.{statement}
 use Rattle.casefile.proofs.columns.fill_figures.Tie as tie
 
 abbrev Inv-loop : tie.InvT-loop
-Inv-loop file kind at count offset out₀ i₀ out i =
-    (i ≤ length out₀) × (out ≡ filled out₀ (figureIn kind file at count offset) i)
+Inv-loop file starts count offset out₀ i₀ out i =
+    (i ≤ length out₀) × (out ≡ filled out₀ (figureBy file starts count offset) i)
 
 abbrev μ-loop : tie.MeasureT-loop
-μ-loop file kind at count offset out₀ i₀ out i = length out₀ - i
+μ-loop file starts count offset out₀ i₀ out i = length out₀ - i
 
 -- the slice keeps its length
 same : (c : tie.At-loop Inv-loop μ-loop) → length (c .loop .out) ≡ length (c .before .before .before .args .out .now)

@@ -7,16 +7,16 @@ use denote.Ref.{now}
 use lib.ListN.{length}
 use Rattle.loops.specs.Loops.{filled}
 use Rattle.loops.proofs.Tab.{fill-start, fill-turn, fill-end, fill-length}
-use Rattle.casefile_defs.specs.Tables.{numberIn}
+use Rattle.casefile.specs.Starts.{numberBy}
 use Rattle.casefile.proofs.columns.fill_numbers.Statement.{statement}
 use Rattle.casefile.proofs.columns.fill_numbers.Tie as tie
 
 abbrev Inv-loop : tie.InvT-loop
-Inv-loop file kind at count offset width out₀ i₀ out i =
-    (i ≤ length out₀) × (out ≡ filled out₀ (numberIn kind file at count offset width) i)
+Inv-loop file kind starts count offset width out₀ i₀ out i =
+    (i ≤ length out₀) × (out ≡ filled out₀ (numberBy kind file starts count offset width) i)
 
 abbrev μ-loop : tie.MeasureT-loop
-μ-loop file kind at count offset width out₀ i₀ out i = length out₀ - i
+μ-loop file kind starts count offset width out₀ i₀ out i = length out₀ - i
 
 -- the slice keeps its length
 same : (c : tie.At-loop Inv-loop μ-loop) → length (c .loop .out) ≡ length (c .before .before .before .args .out .now)

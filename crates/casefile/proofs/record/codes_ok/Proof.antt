@@ -44,6 +44,9 @@ add-word-3 c = search needs
 word-requires-3 : tie.Need-word-requires-3
 word-requires-3 c κs = omega (arith, size-at Line (c .enum-told6 .given .1))
 
+enum-told-7 : tie.Need-enum-told-7
+enum-told-7 c = search needs
+
 returns : tie.Need-returns
 returns c = bounded Head 2 5 _ _ (λ at s. refl) (c .before .enum-told .given .1) (c .word .ensures .0)
 
@@ -62,6 +65,9 @@ returns-5 c = search needs
 returns-6 : tie.Need-returns-6
 returns-6 c = bounded Line 34 1 _ _ (λ at s. refl) (c .before .enum-told6 .given .1) (c .word3 .ensures .0)
 
+returns-7 : tie.Need-returns-7
+returns-7 c = search needs
+
 pub codes-ok-spec : {M : Type 1} → statement M
 codes-ok-spec =
     tie.close
@@ -78,9 +84,11 @@ codes-ok-spec =
     enum-told-6
     add-word-3
     word-requires-3
+    enum-told-7
     returns
     returns-2
     returns-3
     returns-4
     returns-5
-    returns-6)
+    returns-6
+    returns-7)

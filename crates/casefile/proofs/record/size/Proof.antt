@@ -22,6 +22,9 @@ enum-told-5 c = search needs
 enum-told-6 : tie.Need-enum-told-6
 enum-told-6 c = search needs
 
+enum-told-7 : tie.Need-enum-told-7
+enum-told-7 c = search needs
+
 returns : tie.Need-returns
 returns c = simp (c .enum-told .given .1)
 
@@ -40,6 +43,9 @@ returns-5 c = simp (c .enum-told5 .given .1)
 returns-6 : tie.Need-returns-6
 returns-6 c = simp (c .enum-told6 .given .1)
 
+returns-7 : tie.Need-returns-7
+returns-7 c = simp (c .enum-told7 .given .1)
+
 pub size-spec : {M : Type 1} → statement M
 size-spec =
     tie.close
@@ -50,9 +56,11 @@ size-spec =
     enum-told-4
     enum-told-5
     enum-told-6
+    enum-told-7
     returns
     returns-2
     returns-3
     returns-4
     returns-5
-    returns-6)
+    returns-6
+    returns-7)

@@ -11,6 +11,9 @@ enum-told c = search needs
 enum-known-from : tie.Need-enum-known-from
 enum-known-from c = search needs
 
+standing-requires : tie.Need-standing-requires
+standing-requires c κs = search needs
+
 record-at-requires : tie.Need-record-at-requires
 record-at-requires c κs = search needs
 
@@ -20,7 +23,7 @@ returns c = simp (c .enum-told .given .1)
 
 returns-2 : tie.Need-returns-2
 unfolding stepped
-returns-2 c = simp (c .before .before .from .given .1, c .record-at .ensures)
+returns-2 c = simp (c .before .before .before .from .given .1, c .record-at .ensures, c .before .standing .ensures)
 
 pub step-spec : {M : Type 1} → statement M
-step-spec = tie.close (tie.spec enum-told enum-known-from record-at-requires returns returns-2)
+step-spec = tie.close (tie.spec enum-told enum-known-from standing-requires record-at-requires returns returns-2)

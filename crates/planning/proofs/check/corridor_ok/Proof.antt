@@ -17,4 +17,8 @@ returns : tie.Need-returns
 returns c = rw (c .ends-ok .ensures, c .before .before .wide .ensures, c .before .wide2 .ensures)
 
 pub corridor-ok-spec : {M : Type 1} → statement M
-corridor-ok-spec = tie.close (tie.spec wide-requires wide-requires-2 ends-ok-requires returns)
+corridor-ok-spec = tie.close (tie.spec
+    wide-requires
+    wide-requires-2
+    ends-ok-requires
+    returns)

@@ -14,10 +14,10 @@ use Rattle.planning.proofs.check.faulty_corridor.Statement.{statement}
 use Rattle.planning.proofs.check.faulty_corridor.Tie as tie
 
 abbrev Inv-loop : tie.InvT-loop
-Inv-loop n a b initial km share k₀ k = (k ≤ length a) × (first (corridorSound (corridorsFor n a b initial km share)) (length a - k) k ≡ first (corridorSound (corridorsFor n a b initial km share)) (length a) 0)
+Inv-loop n a b initial km share cap k₀ k = (k ≤ length a) × (first (corridorSound (corridorsFor n a b initial km share cap)) (length a - k) k ≡ first (corridorSound (corridorsFor n a b initial km share cap)) (length a) 0)
 
 abbrev μ-loop : tie.MeasureT-loop
-μ-loop n a b initial km share k₀ k = length a - k
+μ-loop n a b initial km share cap k₀ k = length a - k
 
 loop-holds : tie.Need-loop-holds Inv-loop μ-loop
 loop-holds c = (omega arith, first-start _ _)
@@ -58,7 +58,7 @@ corridor-ok-requires c κs = search needs
 returns : tie.Need-returns Inv-loop μ-loop
 unfolding corridorSound
 returns c =
-    let l = c .before .before .before .before .before .before .before .before in
+    let l = c .before .before .before .before .before .before .before .before .before in
     sym (first-stop _ _ (l .loop .k) (omega arith) (sym (c .before .corridor-ok .ensures) ∙ not-true _ (c .if1 .taken))) ∙ l .loop .inv .1
 
 add-k : tie.Need-add-k Inv-loop μ-loop
@@ -70,11 +70,17 @@ loop-less c = search needs
 loop-again : tie.Need-loop-again Inv-loop μ-loop
 unfolding corridorSound
 loop-again c =
-    let l = c .before .before .before .before .before .before .before .before in
+    let l = c .before .before .before .before .before .before .before .before .before in
     (omega arith, sym (first-pass _ _ (l .loop .k) (omega arith) (sym (c .before .corridor-ok .ensures) ∙ not-false _ (c .if1 .left))) ∙ l .loop .inv .1)
 
 returns-2 : tie.Need-returns-2 Inv-loop μ-loop
 returns-2 c = sym (first-end _ _ (c .before .loop .k) (omega arith)) ∙ c .before .loop .inv .1
+
+mul-corridor-ok-6 : tie.Need-mul-corridor-ok-6 Inv-loop μ-loop
+mul-corridor-ok-6 c = search needs
+
+shared-slice-read-corridor-ok-6 : tie.Need-shared-slice-read-corridor-ok-6 Inv-loop μ-loop
+shared-slice-read-corridor-ok-6 c = search needs
 
 pub faulty-corridor-spec : {M : Type 1} → statement M
 faulty-corridor-spec =
@@ -93,6 +99,8 @@ faulty-corridor-spec =
     shared-slice-read-corridor-ok-4
     mul-corridor-ok-5
     shared-slice-read-corridor-ok-5
+    mul-corridor-ok-6
+    shared-slice-read-corridor-ok-6
     corridor-ok-requires
     returns
     add-k

@@ -15,4 +15,7 @@ returns : tie.Need-returns
 returns c = rw (c .before .before .before .work-ok .ensures, c .before .before .work-ok2 .ensures) (simp and-assoc)
 
 pub places-ok-spec : {M : Type 1} → statement M
-places-ok-spec = tie.close (tie.spec work-ok-requires work-ok-requires-2 returns)
+places-ok-spec = tie.close (tie.spec
+    work-ok-requires
+    work-ok-requires-2
+    returns)

@@ -12,4 +12,6 @@ returns-2 : tie.Need-returns-2
 returns-2 c = sym (ap (λ (b : Bool). cond b 1 0) (c .if1 .left))
 
 pub gain-spec : {M : Type 1} → statement M
-gain-spec = tie.close (tie.spec returns returns-2)
+gain-spec = tie.close (tie.spec
+    returns
+    returns-2)

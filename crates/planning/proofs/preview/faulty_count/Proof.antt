@@ -14,10 +14,10 @@ use Rattle.planning.proofs.preview.faulty_count.Statement.{statement}
 use Rattle.planning.proofs.preview.faulty_count.Tie as tie
 
 abbrev Inv-loop : tie.InvT-loop
-Inv-loop before k₀ k = (k ≤ length before) × (first (countOk (countsFor before)) (length before - k) k ≡ first (countOk (countsFor before)) (length before) 0)
+Inv-loop before cap k₀ k = (k ≤ length before) × (first (countOk (countsFor before cap)) (length before - k) k ≡ first (countOk (countsFor before cap)) (length before) 0)
 
 abbrev μ-loop : tie.MeasureT-loop
-μ-loop before k₀ k = length before - k
+μ-loop before cap k₀ k = length before - k
 
 loop-holds : tie.Need-loop-holds Inv-loop μ-loop
 loop-holds c = (omega arith, first-start _ _)
@@ -32,7 +32,7 @@ count-ok-requires : tie.Need-count-ok-requires Inv-loop μ-loop
 count-ok-requires c κs = search needs
 
 returns : tie.Need-returns Inv-loop μ-loop
-returns c = sym (first-stop _ _ (c .before .before .before .before .loop .k) (omega arith) (sym (c .before .count-ok .ensures) ∙ not-true _ (c .if1 .taken))) ∙ c .before .before .before .before .loop .inv .1
+returns c = sym (first-stop _ _ (c .before .before .before .before .before .loop .k) (omega arith) (sym (c .before .count-ok .ensures) ∙ not-true _ (c .if1 .taken))) ∙ c .before .before .before .before .before .loop .inv .1
 
 add-k : tie.Need-add-k Inv-loop μ-loop
 add-k c = search needs
@@ -41,10 +41,16 @@ loop-less : tie.Need-loop-less Inv-loop μ-loop
 loop-less c = search needs
 
 loop-again : tie.Need-loop-again Inv-loop μ-loop
-loop-again c = (omega arith, sym (first-pass _ _ (c .before .before .before .before .loop .k) (omega arith) (sym (c .before .count-ok .ensures) ∙ not-false _ (c .if1 .left))) ∙ c .before .before .before .before .loop .inv .1)
+loop-again c = (omega arith, sym (first-pass _ _ (c .before .before .before .before .before .loop .k) (omega arith) (sym (c .before .count-ok .ensures) ∙ not-false _ (c .if1 .left))) ∙ c .before .before .before .before .before .loop .inv .1)
 
 returns-2 : tie.Need-returns-2 Inv-loop μ-loop
 returns-2 c = sym (first-end _ _ (c .before .loop .k) (omega arith)) ∙ c .before .loop .inv .1
+
+mul-count-ok-2 : tie.Need-mul-count-ok-2 Inv-loop μ-loop
+mul-count-ok-2 c = search needs
+
+shared-slice-read-count-ok-2 : tie.Need-shared-slice-read-count-ok-2 Inv-loop μ-loop
+shared-slice-read-count-ok-2 c = search needs
 
 pub faulty-count-spec : {M : Type 1} → statement M
 faulty-count-spec =
@@ -55,6 +61,8 @@ faulty-count-spec =
     loop-holds
     mul-count-ok
     shared-slice-read-count-ok
+    mul-count-ok-2
+    shared-slice-read-count-ok-2
     count-ok-requires
     returns
     add-k

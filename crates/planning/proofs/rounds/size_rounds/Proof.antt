@@ -32,7 +32,7 @@ use Rattle.planning.proofs.rounds.size_rounds.Statement.{statement}
 use Rattle.planning.proofs.rounds.size_rounds.Tie as tie
 
 abbrev Inv-loop : tie.InvT-loop
-Inv-loop mode above budget ladder a b km share sheet load bus pmax leader grounds injection circuits₀ banks₀ floors₀ upsized₀ level₀ marks₀ angle flow p₀ left e t₀ k₀ circuits banks floors upsized level marks p t k =
+Inv-loop mode above budget ladder a b km share cap sheet load bus pmax leader grounds injection circuits₀ banks₀ floors₀ upsized₀ level₀ marks₀ angle flow p₀ left e t₀ k₀ circuits banks floors upsized level marks p t k =
     (k ≤ length a)
     × (level ≡ level₀)
     × (p ≡ p₀)
@@ -40,16 +40,16 @@ Inv-loop mode above budget ladder a b km share sheet load bus pmax leader ground
     × Banks banks
     × Few circuits
     × (t .capacity ≤ p₀ .capacity + 6 * k)
-    × (to-size mode (length level) ladder level a b km share sheet flow k circuits banks floors upsized marks t
-    ≡ sizeAll (sizeFor mode (length level) ladder a b km share sheet) level flow (buildOf (sizeFor mode (length level) ladder a b km share sheet) level circuits₀ banks₀ floors₀ upsized₀) (p₀ .capacity))
+    × (to-size mode (length level) ladder level a b km share cap sheet flow k circuits banks floors upsized marks t
+    ≡ sizeAll (sizeFor mode (length level) ladder a b km share cap sheet) level flow (buildOf (sizeFor mode (length level) ladder a b km share cap sheet) level circuits₀ banks₀ floors₀ upsized₀) (p₀ .capacity))
     × (k ≡ length a → (promote mode ≡ true) × (movedBuses level marks ≡ 0) × (t .added ≡ false))
 
 abbrev μ-loop : tie.MeasureT-loop
-μ-loop mode above budget ladder a b km share sheet load bus pmax leader grounds injection circuits₀ banks₀ floors₀ upsized₀ level₀ marks₀ angle flow p₀ left e t₀ k₀ circuits banks floors upsized level marks p t k =
+μ-loop mode above budget ladder a b km share cap sheet load bus pmax leader grounds injection circuits₀ banks₀ floors₀ upsized₀ level₀ marks₀ angle flow p₀ left e t₀ k₀ circuits banks floors upsized level marks p t k =
     length a - k
 
 abbrev Inv-loop2 : tie.InvT-loop2
-Inv-loop2 mode above budget ladder a b km share sheet load bus pmax leader grounds injection circuits₀ banks₀ floors₀ upsized₀ level₀ marks₀ angle flow p₀ left e t k g s₀ i₀ circuits banks floors upsized level marks p s i =
+Inv-loop2 mode above budget ladder a b km share cap sheet load bus pmax leader grounds injection circuits₀ banks₀ floors₀ upsized₀ level₀ marks₀ angle flow p₀ left e t k g s₀ i₀ circuits banks floors upsized level marks p s i =
     (i < length leader)
     × (level ≡ level₀)
     × (p ≡ p₀)
@@ -57,29 +57,29 @@ Inv-loop2 mode above budget ladder a b km share sheet load bus pmax leader groun
     × Banks banks
     × Few circuits
     × ((s .total ≤ s₀ .total + 256 * i) × (s .hv ≤ s₀ .hv + 512 * i) × (s .stiffening ≤ s₀ .stiffening + 256 * i))
-    × Alike mode above ladder a b km share sheet load bus pmax leader grounds injection (length leader)
-    (stiffensOn mode above ladder a b km share sheet load bus pmax leader grounds injection (length leader) left level g (e .from) (e .to) (e .weight) angle flow p t i circuits banks floors upsized marks s)
-    (stiffensOn mode above ladder a b km share sheet load bus pmax leader grounds injection (length leader) left level₀ g (e .from) (e .to) (e .weight) angle flow p₀ t 0 circuits₀ banks₀ floors₀ upsized₀ marks₀ s₀)
+    × Alike mode above ladder a b km share cap sheet load bus pmax leader grounds injection (length leader)
+    (stiffensOn mode above ladder a b km share cap sheet load bus pmax leader grounds injection (length leader) left level g (e .from) (e .to) (e .weight) angle flow p t i circuits banks floors upsized marks s)
+    (stiffensOn mode above ladder a b km share cap sheet load bus pmax leader grounds injection (length leader) left level₀ g (e .from) (e .to) (e .weight) angle flow p₀ t 0 circuits₀ banks₀ floors₀ upsized₀ marks₀ s₀)
 
 abbrev μ-loop2 : tie.MeasureT-loop2
-μ-loop2 mode above budget ladder a b km share sheet load bus pmax leader grounds injection circuits₀ banks₀ floors₀ upsized₀ level₀ marks₀ angle flow p₀ left e t k g s₀ i₀ circuits banks floors upsized level marks p s i =
+μ-loop2 mode above budget ladder a b km share cap sheet load bus pmax leader grounds injection circuits₀ banks₀ floors₀ upsized₀ level₀ marks₀ angle flow p₀ left e t k g s₀ i₀ circuits banks floors upsized level marks p s i =
     length leader - i
 
 abbrev Inv-rounds : tie.InvT-rounds
-Inv-rounds mode above budget ladder a b km share sheet load bus pmax leader grounds injection circuits₀ banks₀ floors₀ upsized₀ level₀ marks₀ angle₀ flow₀ p₀ left₀ circuits banks floors upsized level marks angle flow p left =
-    RoundsFit above left p ladder level a b km share sheet load bus pmax leader grounds injection circuits banks floors upsized marks angle flow
+Inv-rounds mode above budget ladder a b km share cap sheet load bus pmax leader grounds injection circuits₀ banks₀ floors₀ upsized₀ level₀ marks₀ angle₀ flow₀ p₀ left₀ circuits banks floors upsized level marks angle flow p left =
+    RoundsFit above left p ladder level a b km share cap sheet load bus pmax leader grounds injection circuits banks floors upsized marks angle flow
     × (length level ≡ length level₀)
-    × Alike mode above ladder a b km share sheet load bus pmax leader grounds injection (length leader)
-    (goesOn mode above ladder a b km share sheet load bus pmax leader grounds injection (length leader) left level circuits banks floors upsized angle p)
-    (goesOn mode above ladder a b km share sheet load bus pmax leader grounds injection (length leader) left₀ level₀ circuits₀ banks₀ floors₀ upsized₀ angle₀ p₀)
+    × Alike mode above ladder a b km share cap sheet load bus pmax leader grounds injection (length leader)
+    (goesOn mode above ladder a b km share cap sheet load bus pmax leader grounds injection (length leader) left level circuits banks floors upsized angle p)
+    (goesOn mode above ladder a b km share cap sheet load bus pmax leader grounds injection (length leader) left₀ level₀ circuits₀ banks₀ floors₀ upsized₀ angle₀ p₀)
 
 abbrev μ-rounds : tie.MeasureT-rounds
-μ-rounds mode above budget ladder a b km share sheet load bus pmax leader grounds injection circuits₀ banks₀ floors₀ upsized₀ level₀ marks₀ angle₀ flow₀ p₀ left₀ circuits banks floors upsized level marks angle flow p left =
+μ-rounds mode above budget ladder a b km share cap sheet load bus pmax leader grounds injection circuits₀ banks₀ floors₀ upsized₀ level₀ marks₀ angle₀ flow₀ p₀ left₀ circuits banks floors upsized level marks angle flow p left =
     left
 
 -- where the loops stand, each seen from the one inside it
 abbrev start-of : tie.At-rounds Inv-loop μ-loop Inv-loop2 μ-loop2 Inv-rounds μ-rounds → tie.Start Inv-loop μ-loop Inv-loop2 μ-loop2 Inv-rounds μ-rounds
-start-of x = x .before .before .before .before .before .before .before .before .before .before .before .before .before .before .before .before .before .before .before .before .before
+start-of x = x .before .before .before .before .before .before .before .before .before .before .before .before .before .before .before .before .before .before .before .before .before .before
 
 abbrev round-of : tie.At-loop Inv-loop μ-loop Inv-loop2 μ-loop2 Inv-rounds μ-rounds → tie.At-rounds Inv-loop μ-loop Inv-loop2 μ-loop2 Inv-rounds μ-rounds
 round-of x = x .before .before .before .before .before .before .before .before .before .before .before .before .before .before .before .before .before .before .before .before
@@ -89,7 +89,7 @@ sized-of x = x .before .before .before .before .before .before .before .before .
 
 rounds-holds :
     tie.Need-rounds-holds Inv-loop μ-loop Inv-loop2 μ-loop2 Inv-rounds μ-rounds
-rounds-holds c = (c .before .before .before .before .before .before .before .before .before .before .before .before .before .before .before .before .before .before .before .before .pre, refl, λ o target s e. refl)
+rounds-holds c = (c .before .before .before .before .before .before .before .before .before .before .before .before .before .before .before .before .before .before .before .before .before .pre, refl, λ o target s e. refl)
 
 sub-left :
     tie.Need-sub-left Inv-loop μ-loop Inv-loop2 μ-loop2 Inv-rounds μ-rounds
@@ -166,7 +166,7 @@ loop-holds c =
       r .inv .0 .banked,
       r .inv .0 .few,
       omega arith,
-      left-start (z .mode) (length (r .level)) (now (z .ladder)) (r .level) (now (z .a)) (now (z .b)) (now (z .km)) (now (z .share)) (now (z .sheet)) _ (r .circuits) (r .banks) (r .floors) (r .upsized) _ (r .p .capacity) _ (c .before .before .clear-counts .ensures) (r .inv .0 .places .mark-size),
+      left-start (z .mode) (length (r .level)) (now (z .ladder)) (r .level) (now (z .a)) (now (z .b)) (now (z .km)) (now (z .share)) (now (z .cap)) (now (z .sheet)) _ (r .circuits) (r .banks) (r .floors) (r .upsized) _ (r .p .capacity) _ (c .before .before .clear-counts .ensures) (r .inv .0 .places .mark-size),
       λ e. absurd (omega (arith, r .inv .0 .some)),
     )
 
@@ -186,6 +186,7 @@ size-corridor-requires c κs =
       lines = subst (λ (x : List ℕ). Lines (now (z .ladder)) x (now (z .a)) (now (z .b)) (now (z .km)) (now (z .share)) (now (z .sheet))) (sym (l .inv .1)) (r .inv .0 .columns .lines);
       held = l .inv .3;
       banked = l .inv .4;
+      capped = r .inv .0 .capped;
       corridor = c .before .before .before .before .before .before .before .loop-test .taken;
       room = omega (arith, l .inv .6, c .before .before .before .before .before .before .before .loop-test .taken, r .inv .0 .tallies .capacity, r .inv .0 .tallies .rounds, r .inv .0 .columns .few, some-left ((c .before .before .before .before .before .before .before .before) .before .before .before .before .before .before .before .before .before .before .before .before .before .before .before .before .before .before .before .if1 .left));
     }
@@ -211,10 +212,10 @@ raise-marked-requires c κs =
         loads = subst (λ (x : List ℕ). Loads x (now (z .load))) (sym (l .inv .1)) (r .inv .0 .columns .loads);
         units = r .inv .0 .columns .units;
         few = r .inv .0 .columns .few;
-        floor-size = c .before .before .before .before .before .before .before .before .before .before .before .before .before .before .before .size-corridor .kept .1 .1 .1 .1 .1 .1 .1 .1 .1 .1 .1 .1 .0 ∙ l .inv .3 .floor-size;
-        bank-size = c .before .before .before .before .before .before .before .before .before .before .before .before .before .before .before .size-corridor .kept .1 .1 .1 .1 .1 .1 .1 .1 .1 .1 .1 .0 ∙ l .inv .3 .bank-size;
+        floor-size = c .before .before .before .before .before .before .before .before .before .before .before .before .before .before .before .size-corridor .kept .1 .1 .1 .1 .1 .1 .1 .1 .1 .1 .1 .1 .1 .0 ∙ l .inv .3 .floor-size;
+        bank-size = c .before .before .before .before .before .before .before .before .before .before .before .before .before .before .before .size-corridor .kept .1 .1 .1 .1 .1 .1 .1 .1 .1 .1 .1 .1 .0 ∙ l .inv .3 .bank-size;
       },
-      (c .before .before .before .before .before .before .before .before .before .before .before .before .before .before .before .size-corridor .kept .1 .1 .1 .1 .1 .1 .1 .1 .1 .1 .1 .1 .1 .1 .0 ∙ l .inv .3 .mark-size, c .before .before .before .before .before .before .before .before .before .before .before .before .before .before .before .size-corridor .ensures .banked),
+      (c .before .before .before .before .before .before .before .before .before .before .before .before .before .before .before .size-corridor .kept .1 .1 .1 .1 .1 .1 .1 .1 .1 .1 .1 .1 .1 .1 .1 .0 ∙ l .inv .3 .mark-size, c .before .before .before .before .before .before .before .before .before .before .before .before .before .before .before .size-corridor .ensures .banked),
     )
 
 add-p-2 :
@@ -237,11 +238,11 @@ rounds-again c =
           (r .inv .0)
           n
           (c .before .before .before .before .before .before .before .raise-marked .ensures .lines)
-          (c .before .before .before .before .before .before .before .before .before .before .before .before .before .before .before .before .before .before .before .before .before .before .before .size-corridor .kept .1 .1 .1 .1 .1 .1 .1 .1 .1 .1 .0 ∙ l .inv .3 .count-size)
-          (c .before .before .before .before .before .before .before .raise-marked .kept .1 .1 .1 .1 .1 .1 .1 .1 .1 .1 .1 .1 .0 ∙ c .before .before .before .before .before .before .before .before .before .before .before .before .before .before .before .before .before .before .before .before .before .before .before .size-corridor .kept .1 .1 .1 .1 .1 .1 .1 .1 .1 .1 .1 .0 ∙ l .inv .3 .bank-size)
-          (c .before .before .before .before .before .before .before .before .before .before .before .before .before .before .before .before .before .before .before .before .before .before .before .size-corridor .kept .1 .1 .1 .1 .1 .1 .1 .1 .1 .1 .1 .1 .0 ∙ l .inv .3 .floor-size)
-          (c .before .before .before .before .before .before .before .before .before .before .before .before .before .before .before .before .before .before .before .before .before .before .before .size-corridor .kept .1 .1 .1 .1 .1 .1 .1 .1 .1 .1 .1 .1 .1 .0 ∙ l .inv .3 .upsized-size)
-          (c .before .before .before .before .before .before .before .before .before .before .before .before .before .before .before .before .before .before .before .before .before .before .before .size-corridor .kept .1 .1 .1 .1 .1 .1 .1 .1 .1 .1 .1 .1 .1 .1 .0 ∙ l .inv .3 .mark-size ∙ ln)
+          (c .before .before .before .before .before .before .before .before .before .before .before .before .before .before .before .before .before .before .before .before .before .before .before .size-corridor .kept .1 .1 .1 .1 .1 .1 .1 .1 .1 .1 .1 .0 ∙ l .inv .3 .count-size)
+          (c .before .before .before .before .before .before .before .raise-marked .kept .1 .1 .1 .1 .1 .1 .1 .1 .1 .1 .1 .1 .0 ∙ c .before .before .before .before .before .before .before .before .before .before .before .before .before .before .before .before .before .before .before .before .before .before .before .size-corridor .kept .1 .1 .1 .1 .1 .1 .1 .1 .1 .1 .1 .1 .0 ∙ l .inv .3 .bank-size)
+          (c .before .before .before .before .before .before .before .before .before .before .before .before .before .before .before .before .before .before .before .before .before .before .before .size-corridor .kept .1 .1 .1 .1 .1 .1 .1 .1 .1 .1 .1 .1 .1 .0 ∙ l .inv .3 .floor-size)
+          (c .before .before .before .before .before .before .before .before .before .before .before .before .before .before .before .before .before .before .before .before .before .before .before .size-corridor .kept .1 .1 .1 .1 .1 .1 .1 .1 .1 .1 .1 .1 .1 .1 .0 ∙ l .inv .3 .upsized-size)
+          (c .before .before .before .before .before .before .before .before .before .before .before .before .before .before .before .before .before .before .before .before .before .before .before .size-corridor .kept .1 .1 .1 .1 .1 .1 .1 .1 .1 .1 .1 .1 .1 .1 .1 .0 ∙ l .inv .3 .mark-size ∙ ln)
           ((c .before .before .before .before .before .before .before .before .before .before .before .before .before .before .before .before .before .before .before .before .before .before .before .before .before .before .before .before .before .before .before .before) .before .before .before .before .before .before .before .before .before .before .before .peak-state .kept .1 .1 .1 .0 ∙ r .inv .0 .places .angle-size)
           ((c .before .before .before .before .before .before .before .before .before .before .before .before .before .before .before .before .before .before .before .before .before .before .before .before .before .before .before .before .before .before .before .before) .before .before .before .before .before .before .before .before .before .before .before .peak-state .kept .1 .1 .1 .1 .0 ∙ r .inv .0 .places .flow-size)
           (
@@ -255,7 +256,7 @@ rounds-again c =
           (c .before .before .before .before .before .before .before .raise-marked .ensures .banked)
           (c .before .before .before .before .before .before .before .before .before .before .before .before .before .before .before .before .before .before .before .before .before .before .before .size-corridor .ensures .few (l .inv .5)),
       n ∙ r .inv .1,
-      sized-again (z .mode) (z .above) (now (z .ladder)) (now (z .a)) (now (z .b)) (now (z .km)) (now (z .share)) (now (z .sheet)) (now (z .load)) (now (z .bus)) (now (z .pmax)) (now (z .leader)) (now (z .grounds)) (now (z .injection)) (length (now (z .leader))) (l .level) (r .level) (r .circuits) (r .banks) (r .floors) (r .upsized) (r .angle) (r .p) (goesOn (z .mode) (z .above) (now (z .ladder)) (now (z .a)) (now (z .b)) (now (z .km)) (now (z .share)) (now (z .sheet)) (now (z .load)) (now (z .bus)) (now (z .pmax)) (now (z .leader)) (now (z .grounds)) (now (z .injection)) (length (now (z .leader))) (z .budget) (now (z .level)) (now (z .circuits)) (now (z .banks)) (now (z .floors)) (now (z .upsized)) (now (z .angle)) (z .start)) (r .left) (r .left - 1) (omega (arith, some-left ((c .before .before .before .before .before .before .before .before .before .before .before .before .before .before .before .before .before .before .before .before .before .before .before .before .before .before .before .before .before .before .before .before) .before .before .before .before .before .before .before .before .before .before .before .before .before .before .before .before .before .before .before .if1 .left))) (l .inv .1) (sym (r .inv .0 .places .leader-size)) (r .inv .2) _ _ _ ((c .before .before .before .before .before .before .before .before .before .before .before .before .before .before .before .before .before .before .before .before .before .before .before .before .before .before .before .before .before .before .before .before) .before .before .before .before .before .before .before .before .before .before .before .before .before .before .draw-edges .result .from) ((c .before .before .before .before .before .before .before .before .before .before .before .before .before .before .before .before .before .before .before .before .before .before .before .before .before .before .before .before .before .before .before .before) .before .before .before .before .before .before .before .before .before .before .before .before .before .before .draw-edges .result .to) ((c .before .before .before .before .before .before .before .before .before .before .before .before .before .before .before .before .before .before .before .before .before .before .before .before .before .before .before .before .before .before .before .before) .before .before .before .before .before .before .before .before .before .before .before .before .before .before .draw-edges .result .weight) ((c .before .before .before .before .before .before .before .before .before .before .before .before .before .before .before .before .before .before .before .before .before .before .before .before .before .before .before .before .before .before .before .before) .before .before .before .before .before .before .before .before .before .before .before .before .before .before .draw-edges .ensures .0) _ _ (r .inv .0 .places .angle-size) (r .inv .0 .places .flow-size) ((c .before .before .before .before .before .before .before .before .before .before .before .before .before .before .before .before .before .before .before .before .before .before .before .before .before .before .before .before .before .before .before .before) .before .before .before .before .before .before .before .before .before .before .before .peak-state .ensures) ((c .before .before .before .before .before .before .before .before .before .before .before .before .before .before .before .before .before .before .before .before .before .before .before .before .before .before .before .before .before .before .before .before) .before .before .before .before .before .enum-told .given .1) _ _ _ _ _ _ _ (omega (arith, c .before .before .before .before .before .before .before .before .before .before .before .before .if2 .taken)) (left-turn (z .mode) (length (l .level)) (now (z .ladder)) (l .level) (now (z .a)) (now (z .b)) (now (z .km)) (now (z .share)) (now (z .sheet)) _ (l .k) (l .circuits) (l .banks) (l .floors) (l .upsized) (l .marks) (l .t) _ _ _ _ _ _ (c .before .before .before .before .before .before .before .before .before .before .before .before .before .before .before .before .before .before .before .before .before .before .before .before .before .before .before .before .before .before .before .loop-test .taken) (c .before .before .before .before .before .before .before .before .before .before .before .before .before .before .before .before .before .before .before .before .before .before .before .size-corridor .ensures .sized) ∙ l .inv .7) _ (l .inv .2) _ _ _ (c .before .before .before .before .before .before .before .raise-marked .ensures) (c .before .if3 .taken),
+      sized-again (z .mode) (z .above) (now (z .ladder)) (now (z .a)) (now (z .b)) (now (z .km)) (now (z .share)) (now (z .cap)) (now (z .sheet)) (now (z .load)) (now (z .bus)) (now (z .pmax)) (now (z .leader)) (now (z .grounds)) (now (z .injection)) (length (now (z .leader))) (l .level) (r .level) (r .circuits) (r .banks) (r .floors) (r .upsized) (r .angle) (r .p) (goesOn (z .mode) (z .above) (now (z .ladder)) (now (z .a)) (now (z .b)) (now (z .km)) (now (z .share)) (now (z .cap)) (now (z .sheet)) (now (z .load)) (now (z .bus)) (now (z .pmax)) (now (z .leader)) (now (z .grounds)) (now (z .injection)) (length (now (z .leader))) (z .budget) (now (z .level)) (now (z .circuits)) (now (z .banks)) (now (z .floors)) (now (z .upsized)) (now (z .angle)) (z .start)) (r .left) (r .left - 1) (omega (arith, some-left ((c .before .before .before .before .before .before .before .before .before .before .before .before .before .before .before .before .before .before .before .before .before .before .before .before .before .before .before .before .before .before .before .before) .before .before .before .before .before .before .before .before .before .before .before .before .before .before .before .before .before .before .before .if1 .left))) (l .inv .1) (sym (r .inv .0 .places .leader-size)) (r .inv .2) _ _ _ ((c .before .before .before .before .before .before .before .before .before .before .before .before .before .before .before .before .before .before .before .before .before .before .before .before .before .before .before .before .before .before .before .before) .before .before .before .before .before .before .before .before .before .before .before .before .before .before .draw-edges .result .from) ((c .before .before .before .before .before .before .before .before .before .before .before .before .before .before .before .before .before .before .before .before .before .before .before .before .before .before .before .before .before .before .before .before) .before .before .before .before .before .before .before .before .before .before .before .before .before .before .draw-edges .result .to) ((c .before .before .before .before .before .before .before .before .before .before .before .before .before .before .before .before .before .before .before .before .before .before .before .before .before .before .before .before .before .before .before .before) .before .before .before .before .before .before .before .before .before .before .before .before .before .before .draw-edges .result .weight) ((c .before .before .before .before .before .before .before .before .before .before .before .before .before .before .before .before .before .before .before .before .before .before .before .before .before .before .before .before .before .before .before .before) .before .before .before .before .before .before .before .before .before .before .before .before .before .before .draw-edges .ensures .0) _ _ (r .inv .0 .places .angle-size) (r .inv .0 .places .flow-size) ((c .before .before .before .before .before .before .before .before .before .before .before .before .before .before .before .before .before .before .before .before .before .before .before .before .before .before .before .before .before .before .before .before) .before .before .before .before .before .before .before .before .before .before .before .peak-state .ensures) ((c .before .before .before .before .before .before .before .before .before .before .before .before .before .before .before .before .before .before .before .before .before .before .before .before .before .before .before .before .before .before .before .before) .before .before .before .before .before .enum-told .given .1) _ _ _ _ _ _ _ (omega (arith, c .before .before .before .before .before .before .before .before .before .before .before .before .if2 .taken)) (left-turn (z .mode) (length (l .level)) (now (z .ladder)) (l .level) (now (z .a)) (now (z .b)) (now (z .km)) (now (z .share)) (now (z .cap)) (now (z .sheet)) _ (l .k) (l .circuits) (l .banks) (l .floors) (l .upsized) (l .marks) (l .t) _ _ _ _ _ _ (c .before .before .before .before .before .before .before .before .before .before .before .before .before .before .before .before .before .before .before .before .before .before .before .before .before .before .before .before .before .before .before .loop-test .taken) (c .before .before .before .before .before .before .before .before .before .before .before .before .before .before .before .before .before .before .before .before .before .before .before .size-corridor .ensures .sized) ∙ l .inv .7) _ (l .inv .2) _ _ _ (c .before .before .before .before .before .before .before .raise-marked .ensures) (c .before .if3 .taken),
     )
 
 promotes-requires :
@@ -299,16 +300,16 @@ loop-again c =
       l .inv .2,
       record {
         flow-size = l .inv .3 .flow-size;
-        count-size = c .before .before .before .before .before .before .before .before .before .before .before .before .before .before .before .before .before .before .before .before .before .before .before .before .size-corridor .kept .1 .1 .1 .1 .1 .1 .1 .1 .1 .1 .0 ∙ l .inv .3 .count-size;
-        bank-size = c .before .before .before .before .before .before .before .before .raise-marked .kept .1 .1 .1 .1 .1 .1 .1 .1 .1 .1 .1 .1 .0 ∙ c .before .before .before .before .before .before .before .before .before .before .before .before .before .before .before .before .before .before .before .before .before .before .before .before .size-corridor .kept .1 .1 .1 .1 .1 .1 .1 .1 .1 .1 .1 .0 ∙ l .inv .3 .bank-size;
-        floor-size = c .before .before .before .before .before .before .before .before .before .before .before .before .before .before .before .before .before .before .before .before .before .before .before .before .size-corridor .kept .1 .1 .1 .1 .1 .1 .1 .1 .1 .1 .1 .1 .0 ∙ l .inv .3 .floor-size;
-        upsized-size = c .before .before .before .before .before .before .before .before .before .before .before .before .before .before .before .before .before .before .before .before .before .before .before .before .size-corridor .kept .1 .1 .1 .1 .1 .1 .1 .1 .1 .1 .1 .1 .1 .0 ∙ l .inv .3 .upsized-size;
-        mark-size = c .before .before .before .before .before .before .before .before .before .before .before .before .before .before .before .before .before .before .before .before .before .before .before .before .size-corridor .kept .1 .1 .1 .1 .1 .1 .1 .1 .1 .1 .1 .1 .1 .1 .0 ∙ l .inv .3 .mark-size ∙ sym n;
+        count-size = c .before .before .before .before .before .before .before .before .before .before .before .before .before .before .before .before .before .before .before .before .before .before .before .before .size-corridor .kept .1 .1 .1 .1 .1 .1 .1 .1 .1 .1 .1 .0 ∙ l .inv .3 .count-size;
+        bank-size = c .before .before .before .before .before .before .before .before .raise-marked .kept .1 .1 .1 .1 .1 .1 .1 .1 .1 .1 .1 .1 .0 ∙ c .before .before .before .before .before .before .before .before .before .before .before .before .before .before .before .before .before .before .before .before .before .before .before .before .size-corridor .kept .1 .1 .1 .1 .1 .1 .1 .1 .1 .1 .1 .1 .0 ∙ l .inv .3 .bank-size;
+        floor-size = c .before .before .before .before .before .before .before .before .before .before .before .before .before .before .before .before .before .before .before .before .before .before .before .before .size-corridor .kept .1 .1 .1 .1 .1 .1 .1 .1 .1 .1 .1 .1 .1 .0 ∙ l .inv .3 .floor-size;
+        upsized-size = c .before .before .before .before .before .before .before .before .before .before .before .before .before .before .before .before .before .before .before .before .before .before .before .before .size-corridor .kept .1 .1 .1 .1 .1 .1 .1 .1 .1 .1 .1 .1 .1 .1 .0 ∙ l .inv .3 .upsized-size;
+        mark-size = c .before .before .before .before .before .before .before .before .before .before .before .before .before .before .before .before .before .before .before .before .before .before .before .before .size-corridor .kept .1 .1 .1 .1 .1 .1 .1 .1 .1 .1 .1 .1 .1 .1 .1 .0 ∙ l .inv .3 .mark-size ∙ sym n;
       },
       c .before .before .before .before .before .before .before .before .raise-marked .ensures .banked,
       c .before .before .before .before .before .before .before .before .before .before .before .before .before .before .before .before .before .before .before .before .before .before .before .before .size-corridor .ensures .few (l .inv .5),
       omega (arith, c .before .before .before .before .before .before .before .before .before .before .before .before .before .before .before .before .before .before .before .before .before .before .before .before .size-corridor .ensures .bound, l .inv .6),
-      still-sized (z .mode) (now (z .ladder)) (now (z .a)) (now (z .b)) (now (z .km)) (now (z .share)) (now (z .sheet)) _ _ _ _ _ _ _ _ _ _ _ _ _ _ _ _ lv bk (left-turn (z .mode) (length (l .level)) (now (z .ladder)) (l .level) (now (z .a)) (now (z .b)) (now (z .km)) (now (z .share)) (now (z .sheet)) _ (l .k) (l .circuits) (l .banks) (l .floors) (l .upsized) (l .marks) (l .t) _ _ _ _ _ _ (c .before .before .before .before .before .before .before .before .before .before .before .before .before .before .before .before .before .before .before .before .before .before .before .before .before .before .before .before .before .before .before .before .loop-test .taken) (c .before .before .before .before .before .before .before .before .before .before .before .before .before .before .before .before .before .before .before .before .before .before .before .before .size-corridor .ensures .sized) ∙ l .inv .7),
+      still-sized (z .mode) (now (z .ladder)) (now (z .a)) (now (z .b)) (now (z .km)) (now (z .share)) (now (z .cap)) (now (z .sheet)) _ _ _ _ _ _ _ _ _ _ _ _ _ _ _ _ lv bk (left-turn (z .mode) (length (l .level)) (now (z .ladder)) (l .level) (now (z .a)) (now (z .b)) (now (z .km)) (now (z .share)) (now (z .cap)) (now (z .sheet)) _ (l .k) (l .circuits) (l .banks) (l .floors) (l .upsized) (l .marks) (l .t) _ _ _ _ _ _ (c .before .before .before .before .before .before .before .before .before .before .before .before .before .before .before .before .before .before .before .before .before .before .before .before .before .before .before .before .before .before .before .before .loop-test .taken) (c .before .before .before .before .before .before .before .before .before .before .before .before .before .before .before .before .before .before .before .before .before .before .before .before .size-corridor .ensures .sized) ∙ l .inv .7),
       λ e. (sym (c .before .promotes .ensures) ∙ not-false _ (c .if4 .left), still-none _ _ _ _ lv (c .before .before .before .before .before .before .before .before .raise-marked .ensures .count) (done .0), done .1),
     )
 
@@ -339,16 +340,16 @@ loop-again-2 c =
       l .inv .2,
       record {
         flow-size = l .inv .3 .flow-size;
-        count-size = c .before .before .before .before .before .before .before .before .before .before .before .size-corridor .kept .1 .1 .1 .1 .1 .1 .1 .1 .1 .1 .0 ∙ l .inv .3 .count-size;
-        bank-size = c .before .before .before .before .before .before .before .before .before .before .before .size-corridor .kept .1 .1 .1 .1 .1 .1 .1 .1 .1 .1 .1 .0 ∙ l .inv .3 .bank-size;
-        floor-size = c .before .before .before .before .before .before .before .before .before .before .before .size-corridor .kept .1 .1 .1 .1 .1 .1 .1 .1 .1 .1 .1 .1 .0 ∙ l .inv .3 .floor-size;
-        upsized-size = c .before .before .before .before .before .before .before .before .before .before .before .size-corridor .kept .1 .1 .1 .1 .1 .1 .1 .1 .1 .1 .1 .1 .1 .0 ∙ l .inv .3 .upsized-size;
-        mark-size = c .before .before .before .before .before .before .before .before .before .before .before .size-corridor .kept .1 .1 .1 .1 .1 .1 .1 .1 .1 .1 .1 .1 .1 .1 .0 ∙ l .inv .3 .mark-size;
+        count-size = c .before .before .before .before .before .before .before .before .before .before .before .size-corridor .kept .1 .1 .1 .1 .1 .1 .1 .1 .1 .1 .1 .0 ∙ l .inv .3 .count-size;
+        bank-size = c .before .before .before .before .before .before .before .before .before .before .before .size-corridor .kept .1 .1 .1 .1 .1 .1 .1 .1 .1 .1 .1 .1 .0 ∙ l .inv .3 .bank-size;
+        floor-size = c .before .before .before .before .before .before .before .before .before .before .before .size-corridor .kept .1 .1 .1 .1 .1 .1 .1 .1 .1 .1 .1 .1 .1 .0 ∙ l .inv .3 .floor-size;
+        upsized-size = c .before .before .before .before .before .before .before .before .before .before .before .size-corridor .kept .1 .1 .1 .1 .1 .1 .1 .1 .1 .1 .1 .1 .1 .1 .0 ∙ l .inv .3 .upsized-size;
+        mark-size = c .before .before .before .before .before .before .before .before .before .before .before .size-corridor .kept .1 .1 .1 .1 .1 .1 .1 .1 .1 .1 .1 .1 .1 .1 .1 .0 ∙ l .inv .3 .mark-size;
       },
       c .before .before .before .before .before .before .before .before .before .before .before .size-corridor .ensures .banked,
       c .before .before .before .before .before .before .before .before .before .before .before .size-corridor .ensures .few (l .inv .5),
       omega (arith, c .before .before .before .before .before .before .before .before .before .before .before .size-corridor .ensures .bound, l .inv .6),
-      left-turn (z .mode) (length (l .level)) (now (z .ladder)) (l .level) (now (z .a)) (now (z .b)) (now (z .km)) (now (z .share)) (now (z .sheet)) _ (l .k) (l .circuits) (l .banks) (l .floors) (l .upsized) (l .marks) (l .t) _ _ _ _ _ _ (c .before .before .before .before .before .before .before .before .before .before .before .before .before .before .before .before .before .before .before .loop-test .taken) (c .before .before .before .before .before .before .before .before .before .before .before .size-corridor .ensures .sized) ∙ l .inv .7,
+      left-turn (z .mode) (length (l .level)) (now (z .ladder)) (l .level) (now (z .a)) (now (z .b)) (now (z .km)) (now (z .share)) (now (z .cap)) (now (z .sheet)) _ (l .k) (l .circuits) (l .banks) (l .floors) (l .upsized) (l .marks) (l .t) _ _ _ _ _ _ (c .before .before .before .before .before .before .before .before .before .before .before .before .before .before .before .before .before .before .before .loop-test .taken) (c .before .before .before .before .before .before .before .before .before .before .before .size-corridor .ensures .sized) ∙ l .inv .7,
       λ e. absurd (c .if2 .left e),
     )
 
@@ -438,6 +439,7 @@ stiffen-led-requires c κs =
         ground-below = λ i h. omega (arith, n, f .places .ground-below i h);
         leader-size = f .places .leader-size ∙ sym n;
         angle-size = (sized-of (c .before .before .before .before .before .before .before .before)) .before .before .before .before .before .before .before .before .before .before .before .peak-state .kept .1 .1 .1 .0 ∙ f .places .angle-size ∙ sym n;
+        capped = f .capped;
         count-size = k .inv .3 .0 ∙ l .inv .3 .count-size;
         bank-size = k .inv .3 .1 ∙ l .inv .3 .bank-size;
         floor-size = k .inv .3 .2 ∙ l .inv .3 .floor-size;
@@ -461,17 +463,17 @@ Dom {A} f = A
 
 -- what is left of the stiffening comes to what all the rounds do
 whole : (c : Dom stiffen-led-requires)
-    → Alike ((start-of (round-of (sized-of (c .before .before .before .before .before .before .before .before)))) .args .mode) ((start-of (round-of (sized-of (c .before .before .before .before .before .before .before .before)))) .args .above) (now ((start-of (round-of (sized-of (c .before .before .before .before .before .before .before .before)))) .args .ladder)) (now ((start-of (round-of (sized-of (c .before .before .before .before .before .before .before .before)))) .args .a)) (now ((start-of (round-of (sized-of (c .before .before .before .before .before .before .before .before)))) .args .b)) (now ((start-of (round-of (sized-of (c .before .before .before .before .before .before .before .before)))) .args .km)) (now ((start-of (round-of (sized-of (c .before .before .before .before .before .before .before .before)))) .args .share)) (now ((start-of (round-of (sized-of (c .before .before .before .before .before .before .before .before)))) .args .sheet)) (now ((start-of (round-of (sized-of (c .before .before .before .before .before .before .before .before)))) .args .load)) (now ((start-of (round-of (sized-of (c .before .before .before .before .before .before .before .before)))) .args .bus)) (now ((start-of (round-of (sized-of (c .before .before .before .before .before .before .before .before)))) .args .pmax)) (now ((start-of (round-of (sized-of (c .before .before .before .before .before .before .before .before)))) .args .leader)) (now ((start-of (round-of (sized-of (c .before .before .before .before .before .before .before .before)))) .args .grounds)) (now ((start-of (round-of (sized-of (c .before .before .before .before .before .before .before .before)))) .args .injection)) (length (now ((start-of (round-of (sized-of (c .before .before .before .before .before .before .before .before)))) .args .leader)))
-    (stiffensOn ((start-of (round-of (sized-of (c .before .before .before .before .before .before .before .before)))) .args .mode) ((start-of (round-of (sized-of (c .before .before .before .before .before .before .before .before)))) .args .above) (now ((start-of (round-of (sized-of (c .before .before .before .before .before .before .before .before)))) .args .ladder)) (now ((start-of (round-of (sized-of (c .before .before .before .before .before .before .before .before)))) .args .a)) (now ((start-of (round-of (sized-of (c .before .before .before .before .before .before .before .before)))) .args .b)) (now ((start-of (round-of (sized-of (c .before .before .before .before .before .before .before .before)))) .args .km)) (now ((start-of (round-of (sized-of (c .before .before .before .before .before .before .before .before)))) .args .share)) (now ((start-of (round-of (sized-of (c .before .before .before .before .before .before .before .before)))) .args .sheet)) (now ((start-of (round-of (sized-of (c .before .before .before .before .before .before .before .before)))) .args .load)) (now ((start-of (round-of (sized-of (c .before .before .before .before .before .before .before .before)))) .args .bus)) (now ((start-of (round-of (sized-of (c .before .before .before .before .before .before .before .before)))) .args .pmax)) (now ((start-of (round-of (sized-of (c .before .before .before .before .before .before .before .before)))) .args .leader)) (now ((start-of (round-of (sized-of (c .before .before .before .before .before .before .before .before)))) .args .grounds)) (now ((start-of (round-of (sized-of (c .before .before .before .before .before .before .before .before)))) .args .injection)) (length (now ((start-of (round-of (sized-of (c .before .before .before .before .before .before .before .before)))) .args .leader))) ((round-of (sized-of (c .before .before .before .before .before .before .before .before))) .rounds .left - 1) (c .before .before .before .before .before .before .before .before .loop2 .level) ((c .before .before .before .before .before .before .before .before) .before .before .before .before .before .before .before .limits-of .result) ((sized-of (c .before .before .before .before .before .before .before .before)) .before .before .before .before .before .before .before .before .before .before .before .before .before .before .draw-edges .result .from) ((sized-of (c .before .before .before .before .before .before .before .before)) .before .before .before .before .before .before .before .before .before .before .before .before .before .before .draw-edges .result .to) ((sized-of (c .before .before .before .before .before .before .before .before)) .before .before .before .before .before .before .before .before .before .before .before .before .before .before .draw-edges .result .weight) ((sized-of (c .before .before .before .before .before .before .before .before)) .before .before .before .before .before .before .before .before .before .before .before .peak-state .last .1 .1 .1 .0) ((sized-of (c .before .before .before .before .before .before .before .before)) .before .before .before .before .before .before .before .before .before .before .before .peak-state .last .1 .1 .1 .1 .0) (c .before .before .before .before .before .before .before .before .loop2 .p) ((sized-of (c .before .before .before .before .before .before .before .before)) .loop .t) (c .before .before .before .before .before .before .before .before .loop2 .i) (c .before .before .before .before .before .before .before .before .loop2 .circuits) (c .before .before .before .before .before .before .before .before .loop2 .banks) (c .before .before .before .before .before .before .before .before .loop2 .floors) (c .before .before .before .before .before .before .before .before .loop2 .upsized) (c .before .before .before .before .before .before .before .before .loop2 .marks) (c .before .before .before .before .before .before .before .before .loop2 .s))
-    (goesOn ((start-of (round-of (sized-of (c .before .before .before .before .before .before .before .before)))) .args .mode) ((start-of (round-of (sized-of (c .before .before .before .before .before .before .before .before)))) .args .above) (now ((start-of (round-of (sized-of (c .before .before .before .before .before .before .before .before)))) .args .ladder)) (now ((start-of (round-of (sized-of (c .before .before .before .before .before .before .before .before)))) .args .a)) (now ((start-of (round-of (sized-of (c .before .before .before .before .before .before .before .before)))) .args .b)) (now ((start-of (round-of (sized-of (c .before .before .before .before .before .before .before .before)))) .args .km)) (now ((start-of (round-of (sized-of (c .before .before .before .before .before .before .before .before)))) .args .share)) (now ((start-of (round-of (sized-of (c .before .before .before .before .before .before .before .before)))) .args .sheet)) (now ((start-of (round-of (sized-of (c .before .before .before .before .before .before .before .before)))) .args .load)) (now ((start-of (round-of (sized-of (c .before .before .before .before .before .before .before .before)))) .args .bus)) (now ((start-of (round-of (sized-of (c .before .before .before .before .before .before .before .before)))) .args .pmax)) (now ((start-of (round-of (sized-of (c .before .before .before .before .before .before .before .before)))) .args .leader)) (now ((start-of (round-of (sized-of (c .before .before .before .before .before .before .before .before)))) .args .grounds)) (now ((start-of (round-of (sized-of (c .before .before .before .before .before .before .before .before)))) .args .injection)) (length (now ((start-of (round-of (sized-of (c .before .before .before .before .before .before .before .before)))) .args .leader))) ((start-of (round-of (sized-of (c .before .before .before .before .before .before .before .before)))) .args .budget) (now ((start-of (round-of (sized-of (c .before .before .before .before .before .before .before .before)))) .args .level)) (now ((start-of (round-of (sized-of (c .before .before .before .before .before .before .before .before)))) .args .circuits)) (now ((start-of (round-of (sized-of (c .before .before .before .before .before .before .before .before)))) .args .banks)) (now ((start-of (round-of (sized-of (c .before .before .before .before .before .before .before .before)))) .args .floors)) (now ((start-of (round-of (sized-of (c .before .before .before .before .before .before .before .before)))) .args .upsized)) (now ((start-of (round-of (sized-of (c .before .before .before .before .before .before .before .before)))) .args .angle)) ((start-of (round-of (sized-of (c .before .before .before .before .before .before .before .before)))) .args .start))
+    → Alike ((start-of (round-of (sized-of (c .before .before .before .before .before .before .before .before)))) .args .mode) ((start-of (round-of (sized-of (c .before .before .before .before .before .before .before .before)))) .args .above) (now ((start-of (round-of (sized-of (c .before .before .before .before .before .before .before .before)))) .args .ladder)) (now ((start-of (round-of (sized-of (c .before .before .before .before .before .before .before .before)))) .args .a)) (now ((start-of (round-of (sized-of (c .before .before .before .before .before .before .before .before)))) .args .b)) (now ((start-of (round-of (sized-of (c .before .before .before .before .before .before .before .before)))) .args .km)) (now ((start-of (round-of (sized-of (c .before .before .before .before .before .before .before .before)))) .args .share)) (now ((start-of (round-of (sized-of (c .before .before .before .before .before .before .before .before)))) .args .cap)) (now ((start-of (round-of (sized-of (c .before .before .before .before .before .before .before .before)))) .args .sheet)) (now ((start-of (round-of (sized-of (c .before .before .before .before .before .before .before .before)))) .args .load)) (now ((start-of (round-of (sized-of (c .before .before .before .before .before .before .before .before)))) .args .bus)) (now ((start-of (round-of (sized-of (c .before .before .before .before .before .before .before .before)))) .args .pmax)) (now ((start-of (round-of (sized-of (c .before .before .before .before .before .before .before .before)))) .args .leader)) (now ((start-of (round-of (sized-of (c .before .before .before .before .before .before .before .before)))) .args .grounds)) (now ((start-of (round-of (sized-of (c .before .before .before .before .before .before .before .before)))) .args .injection)) (length (now ((start-of (round-of (sized-of (c .before .before .before .before .before .before .before .before)))) .args .leader)))
+    (stiffensOn ((start-of (round-of (sized-of (c .before .before .before .before .before .before .before .before)))) .args .mode) ((start-of (round-of (sized-of (c .before .before .before .before .before .before .before .before)))) .args .above) (now ((start-of (round-of (sized-of (c .before .before .before .before .before .before .before .before)))) .args .ladder)) (now ((start-of (round-of (sized-of (c .before .before .before .before .before .before .before .before)))) .args .a)) (now ((start-of (round-of (sized-of (c .before .before .before .before .before .before .before .before)))) .args .b)) (now ((start-of (round-of (sized-of (c .before .before .before .before .before .before .before .before)))) .args .km)) (now ((start-of (round-of (sized-of (c .before .before .before .before .before .before .before .before)))) .args .share)) (now ((start-of (round-of (sized-of (c .before .before .before .before .before .before .before .before)))) .args .cap)) (now ((start-of (round-of (sized-of (c .before .before .before .before .before .before .before .before)))) .args .sheet)) (now ((start-of (round-of (sized-of (c .before .before .before .before .before .before .before .before)))) .args .load)) (now ((start-of (round-of (sized-of (c .before .before .before .before .before .before .before .before)))) .args .bus)) (now ((start-of (round-of (sized-of (c .before .before .before .before .before .before .before .before)))) .args .pmax)) (now ((start-of (round-of (sized-of (c .before .before .before .before .before .before .before .before)))) .args .leader)) (now ((start-of (round-of (sized-of (c .before .before .before .before .before .before .before .before)))) .args .grounds)) (now ((start-of (round-of (sized-of (c .before .before .before .before .before .before .before .before)))) .args .injection)) (length (now ((start-of (round-of (sized-of (c .before .before .before .before .before .before .before .before)))) .args .leader))) ((round-of (sized-of (c .before .before .before .before .before .before .before .before))) .rounds .left - 1) (c .before .before .before .before .before .before .before .before .loop2 .level) ((c .before .before .before .before .before .before .before .before) .before .before .before .before .before .before .before .limits-of .result) ((sized-of (c .before .before .before .before .before .before .before .before)) .before .before .before .before .before .before .before .before .before .before .before .before .before .before .draw-edges .result .from) ((sized-of (c .before .before .before .before .before .before .before .before)) .before .before .before .before .before .before .before .before .before .before .before .before .before .before .draw-edges .result .to) ((sized-of (c .before .before .before .before .before .before .before .before)) .before .before .before .before .before .before .before .before .before .before .before .before .before .before .draw-edges .result .weight) ((sized-of (c .before .before .before .before .before .before .before .before)) .before .before .before .before .before .before .before .before .before .before .before .peak-state .last .1 .1 .1 .0) ((sized-of (c .before .before .before .before .before .before .before .before)) .before .before .before .before .before .before .before .before .before .before .before .peak-state .last .1 .1 .1 .1 .0) (c .before .before .before .before .before .before .before .before .loop2 .p) ((sized-of (c .before .before .before .before .before .before .before .before)) .loop .t) (c .before .before .before .before .before .before .before .before .loop2 .i) (c .before .before .before .before .before .before .before .before .loop2 .circuits) (c .before .before .before .before .before .before .before .before .loop2 .banks) (c .before .before .before .before .before .before .before .before .loop2 .floors) (c .before .before .before .before .before .before .before .before .loop2 .upsized) (c .before .before .before .before .before .before .before .before .loop2 .marks) (c .before .before .before .before .before .before .before .before .loop2 .s))
+    (goesOn ((start-of (round-of (sized-of (c .before .before .before .before .before .before .before .before)))) .args .mode) ((start-of (round-of (sized-of (c .before .before .before .before .before .before .before .before)))) .args .above) (now ((start-of (round-of (sized-of (c .before .before .before .before .before .before .before .before)))) .args .ladder)) (now ((start-of (round-of (sized-of (c .before .before .before .before .before .before .before .before)))) .args .a)) (now ((start-of (round-of (sized-of (c .before .before .before .before .before .before .before .before)))) .args .b)) (now ((start-of (round-of (sized-of (c .before .before .before .before .before .before .before .before)))) .args .km)) (now ((start-of (round-of (sized-of (c .before .before .before .before .before .before .before .before)))) .args .share)) (now ((start-of (round-of (sized-of (c .before .before .before .before .before .before .before .before)))) .args .cap)) (now ((start-of (round-of (sized-of (c .before .before .before .before .before .before .before .before)))) .args .sheet)) (now ((start-of (round-of (sized-of (c .before .before .before .before .before .before .before .before)))) .args .load)) (now ((start-of (round-of (sized-of (c .before .before .before .before .before .before .before .before)))) .args .bus)) (now ((start-of (round-of (sized-of (c .before .before .before .before .before .before .before .before)))) .args .pmax)) (now ((start-of (round-of (sized-of (c .before .before .before .before .before .before .before .before)))) .args .leader)) (now ((start-of (round-of (sized-of (c .before .before .before .before .before .before .before .before)))) .args .grounds)) (now ((start-of (round-of (sized-of (c .before .before .before .before .before .before .before .before)))) .args .injection)) (length (now ((start-of (round-of (sized-of (c .before .before .before .before .before .before .before .before)))) .args .leader))) ((start-of (round-of (sized-of (c .before .before .before .before .before .before .before .before)))) .args .budget) (now ((start-of (round-of (sized-of (c .before .before .before .before .before .before .before .before)))) .args .level)) (now ((start-of (round-of (sized-of (c .before .before .before .before .before .before .before .before)))) .args .circuits)) (now ((start-of (round-of (sized-of (c .before .before .before .before .before .before .before .before)))) .args .banks)) (now ((start-of (round-of (sized-of (c .before .before .before .before .before .before .before .before)))) .args .floors)) (now ((start-of (round-of (sized-of (c .before .before .before .before .before .before .before .before)))) .args .upsized)) (now ((start-of (round-of (sized-of (c .before .before .before .before .before .before .before .before)))) .args .angle)) ((start-of (round-of (sized-of (c .before .before .before .before .before .before .before .before)))) .args .start))
 whole c =
-    alike-trans ((start-of (round-of (sized-of (c .before .before .before .before .before .before .before .before)))) .args .mode) ((start-of (round-of (sized-of (c .before .before .before .before .before .before .before .before)))) .args .above) (now ((start-of (round-of (sized-of (c .before .before .before .before .before .before .before .before)))) .args .ladder)) (now ((start-of (round-of (sized-of (c .before .before .before .before .before .before .before .before)))) .args .a)) (now ((start-of (round-of (sized-of (c .before .before .before .before .before .before .before .before)))) .args .b)) (now ((start-of (round-of (sized-of (c .before .before .before .before .before .before .before .before)))) .args .km)) (now ((start-of (round-of (sized-of (c .before .before .before .before .before .before .before .before)))) .args .share)) (now ((start-of (round-of (sized-of (c .before .before .before .before .before .before .before .before)))) .args .sheet)) (now ((start-of (round-of (sized-of (c .before .before .before .before .before .before .before .before)))) .args .load)) (now ((start-of (round-of (sized-of (c .before .before .before .before .before .before .before .before)))) .args .bus)) (now ((start-of (round-of (sized-of (c .before .before .before .before .before .before .before .before)))) .args .pmax)) (now ((start-of (round-of (sized-of (c .before .before .before .before .before .before .before .before)))) .args .leader)) (now ((start-of (round-of (sized-of (c .before .before .before .before .before .before .before .before)))) .args .grounds)) (now ((start-of (round-of (sized-of (c .before .before .before .before .before .before .before .before)))) .args .injection)) (length (now ((start-of (round-of (sized-of (c .before .before .before .before .before .before .before .before)))) .args .leader)))
-    (stiffensOn ((start-of (round-of (sized-of (c .before .before .before .before .before .before .before .before)))) .args .mode) ((start-of (round-of (sized-of (c .before .before .before .before .before .before .before .before)))) .args .above) (now ((start-of (round-of (sized-of (c .before .before .before .before .before .before .before .before)))) .args .ladder)) (now ((start-of (round-of (sized-of (c .before .before .before .before .before .before .before .before)))) .args .a)) (now ((start-of (round-of (sized-of (c .before .before .before .before .before .before .before .before)))) .args .b)) (now ((start-of (round-of (sized-of (c .before .before .before .before .before .before .before .before)))) .args .km)) (now ((start-of (round-of (sized-of (c .before .before .before .before .before .before .before .before)))) .args .share)) (now ((start-of (round-of (sized-of (c .before .before .before .before .before .before .before .before)))) .args .sheet)) (now ((start-of (round-of (sized-of (c .before .before .before .before .before .before .before .before)))) .args .load)) (now ((start-of (round-of (sized-of (c .before .before .before .before .before .before .before .before)))) .args .bus)) (now ((start-of (round-of (sized-of (c .before .before .before .before .before .before .before .before)))) .args .pmax)) (now ((start-of (round-of (sized-of (c .before .before .before .before .before .before .before .before)))) .args .leader)) (now ((start-of (round-of (sized-of (c .before .before .before .before .before .before .before .before)))) .args .grounds)) (now ((start-of (round-of (sized-of (c .before .before .before .before .before .before .before .before)))) .args .injection)) (length (now ((start-of (round-of (sized-of (c .before .before .before .before .before .before .before .before)))) .args .leader))) ((round-of (sized-of (c .before .before .before .before .before .before .before .before))) .rounds .left - 1) (c .before .before .before .before .before .before .before .before .loop2 .level) ((c .before .before .before .before .before .before .before .before) .before .before .before .before .before .before .before .limits-of .result) ((sized-of (c .before .before .before .before .before .before .before .before)) .before .before .before .before .before .before .before .before .before .before .before .before .before .before .draw-edges .result .from) ((sized-of (c .before .before .before .before .before .before .before .before)) .before .before .before .before .before .before .before .before .before .before .before .before .before .before .draw-edges .result .to) ((sized-of (c .before .before .before .before .before .before .before .before)) .before .before .before .before .before .before .before .before .before .before .before .before .before .before .draw-edges .result .weight) ((sized-of (c .before .before .before .before .before .before .before .before)) .before .before .before .before .before .before .before .before .before .before .before .peak-state .last .1 .1 .1 .0) ((sized-of (c .before .before .before .before .before .before .before .before)) .before .before .before .before .before .before .before .before .before .before .before .peak-state .last .1 .1 .1 .1 .0) (c .before .before .before .before .before .before .before .before .loop2 .p) ((sized-of (c .before .before .before .before .before .before .before .before)) .loop .t) (c .before .before .before .before .before .before .before .before .loop2 .i) (c .before .before .before .before .before .before .before .before .loop2 .circuits) (c .before .before .before .before .before .before .before .before .loop2 .banks) (c .before .before .before .before .before .before .before .before .loop2 .floors) (c .before .before .before .before .before .before .before .before .loop2 .upsized) (c .before .before .before .before .before .before .before .before .loop2 .marks) (c .before .before .before .before .before .before .before .before .loop2 .s))
-    (stiffensOn ((start-of (round-of (sized-of (c .before .before .before .before .before .before .before .before)))) .args .mode) ((start-of (round-of (sized-of (c .before .before .before .before .before .before .before .before)))) .args .above) (now ((start-of (round-of (sized-of (c .before .before .before .before .before .before .before .before)))) .args .ladder)) (now ((start-of (round-of (sized-of (c .before .before .before .before .before .before .before .before)))) .args .a)) (now ((start-of (round-of (sized-of (c .before .before .before .before .before .before .before .before)))) .args .b)) (now ((start-of (round-of (sized-of (c .before .before .before .before .before .before .before .before)))) .args .km)) (now ((start-of (round-of (sized-of (c .before .before .before .before .before .before .before .before)))) .args .share)) (now ((start-of (round-of (sized-of (c .before .before .before .before .before .before .before .before)))) .args .sheet)) (now ((start-of (round-of (sized-of (c .before .before .before .before .before .before .before .before)))) .args .load)) (now ((start-of (round-of (sized-of (c .before .before .before .before .before .before .before .before)))) .args .bus)) (now ((start-of (round-of (sized-of (c .before .before .before .before .before .before .before .before)))) .args .pmax)) (now ((start-of (round-of (sized-of (c .before .before .before .before .before .before .before .before)))) .args .leader)) (now ((start-of (round-of (sized-of (c .before .before .before .before .before .before .before .before)))) .args .grounds)) (now ((start-of (round-of (sized-of (c .before .before .before .before .before .before .before .before)))) .args .injection)) (length (now ((start-of (round-of (sized-of (c .before .before .before .before .before .before .before .before)))) .args .leader))) ((round-of (sized-of (c .before .before .before .before .before .before .before .before))) .rounds .left - 1) ((sized-of (c .before .before .before .before .before .before .before .before)) .loop .level) ((c .before .before .before .before .before .before .before .before) .before .before .before .before .before .before .before .limits-of .result) ((sized-of (c .before .before .before .before .before .before .before .before)) .before .before .before .before .before .before .before .before .before .before .before .before .before .before .draw-edges .result .from) ((sized-of (c .before .before .before .before .before .before .before .before)) .before .before .before .before .before .before .before .before .before .before .before .before .before .before .draw-edges .result .to) ((sized-of (c .before .before .before .before .before .before .before .before)) .before .before .before .before .before .before .before .before .before .before .before .before .before .before .draw-edges .result .weight) ((sized-of (c .before .before .before .before .before .before .before .before)) .before .before .before .before .before .before .before .before .before .before .before .peak-state .last .1 .1 .1 .0) ((sized-of (c .before .before .before .before .before .before .before .before)) .before .before .before .before .before .before .before .before .before .before .before .peak-state .last .1 .1 .1 .1 .0) ((sized-of (c .before .before .before .before .before .before .before .before)) .loop .p) ((sized-of (c .before .before .before .before .before .before .before .before)) .loop .t) 0 ((sized-of (c .before .before .before .before .before .before .before .before)) .loop .circuits) ((sized-of (c .before .before .before .before .before .before .before .before)) .loop .banks) ((sized-of (c .before .before .before .before .before .before .before .before)) .loop .floors) ((sized-of (c .before .before .before .before .before .before .before .before)) .loop .upsized) ((c .before .before .before .before .before .before .before .before) .before .before .before .stiffness-from .last .1 .1 .1 .1 .0) ((c .before .before .before .before .before .before .before .before) .before .before .before .stiffness-from .result))
-    (goesOn ((start-of (round-of (sized-of (c .before .before .before .before .before .before .before .before)))) .args .mode) ((start-of (round-of (sized-of (c .before .before .before .before .before .before .before .before)))) .args .above) (now ((start-of (round-of (sized-of (c .before .before .before .before .before .before .before .before)))) .args .ladder)) (now ((start-of (round-of (sized-of (c .before .before .before .before .before .before .before .before)))) .args .a)) (now ((start-of (round-of (sized-of (c .before .before .before .before .before .before .before .before)))) .args .b)) (now ((start-of (round-of (sized-of (c .before .before .before .before .before .before .before .before)))) .args .km)) (now ((start-of (round-of (sized-of (c .before .before .before .before .before .before .before .before)))) .args .share)) (now ((start-of (round-of (sized-of (c .before .before .before .before .before .before .before .before)))) .args .sheet)) (now ((start-of (round-of (sized-of (c .before .before .before .before .before .before .before .before)))) .args .load)) (now ((start-of (round-of (sized-of (c .before .before .before .before .before .before .before .before)))) .args .bus)) (now ((start-of (round-of (sized-of (c .before .before .before .before .before .before .before .before)))) .args .pmax)) (now ((start-of (round-of (sized-of (c .before .before .before .before .before .before .before .before)))) .args .leader)) (now ((start-of (round-of (sized-of (c .before .before .before .before .before .before .before .before)))) .args .grounds)) (now ((start-of (round-of (sized-of (c .before .before .before .before .before .before .before .before)))) .args .injection)) (length (now ((start-of (round-of (sized-of (c .before .before .before .before .before .before .before .before)))) .args .leader))) ((start-of (round-of (sized-of (c .before .before .before .before .before .before .before .before)))) .args .budget) (now ((start-of (round-of (sized-of (c .before .before .before .before .before .before .before .before)))) .args .level)) (now ((start-of (round-of (sized-of (c .before .before .before .before .before .before .before .before)))) .args .circuits)) (now ((start-of (round-of (sized-of (c .before .before .before .before .before .before .before .before)))) .args .banks)) (now ((start-of (round-of (sized-of (c .before .before .before .before .before .before .before .before)))) .args .floors)) (now ((start-of (round-of (sized-of (c .before .before .before .before .before .before .before .before)))) .args .upsized)) (now ((start-of (round-of (sized-of (c .before .before .before .before .before .before .before .before)))) .args .angle)) ((start-of (round-of (sized-of (c .before .before .before .before .before .before .before .before)))) .args .start))
+    alike-trans ((start-of (round-of (sized-of (c .before .before .before .before .before .before .before .before)))) .args .mode) ((start-of (round-of (sized-of (c .before .before .before .before .before .before .before .before)))) .args .above) (now ((start-of (round-of (sized-of (c .before .before .before .before .before .before .before .before)))) .args .ladder)) (now ((start-of (round-of (sized-of (c .before .before .before .before .before .before .before .before)))) .args .a)) (now ((start-of (round-of (sized-of (c .before .before .before .before .before .before .before .before)))) .args .b)) (now ((start-of (round-of (sized-of (c .before .before .before .before .before .before .before .before)))) .args .km)) (now ((start-of (round-of (sized-of (c .before .before .before .before .before .before .before .before)))) .args .share)) (now ((start-of (round-of (sized-of (c .before .before .before .before .before .before .before .before)))) .args .cap)) (now ((start-of (round-of (sized-of (c .before .before .before .before .before .before .before .before)))) .args .sheet)) (now ((start-of (round-of (sized-of (c .before .before .before .before .before .before .before .before)))) .args .load)) (now ((start-of (round-of (sized-of (c .before .before .before .before .before .before .before .before)))) .args .bus)) (now ((start-of (round-of (sized-of (c .before .before .before .before .before .before .before .before)))) .args .pmax)) (now ((start-of (round-of (sized-of (c .before .before .before .before .before .before .before .before)))) .args .leader)) (now ((start-of (round-of (sized-of (c .before .before .before .before .before .before .before .before)))) .args .grounds)) (now ((start-of (round-of (sized-of (c .before .before .before .before .before .before .before .before)))) .args .injection)) (length (now ((start-of (round-of (sized-of (c .before .before .before .before .before .before .before .before)))) .args .leader)))
+    (stiffensOn ((start-of (round-of (sized-of (c .before .before .before .before .before .before .before .before)))) .args .mode) ((start-of (round-of (sized-of (c .before .before .before .before .before .before .before .before)))) .args .above) (now ((start-of (round-of (sized-of (c .before .before .before .before .before .before .before .before)))) .args .ladder)) (now ((start-of (round-of (sized-of (c .before .before .before .before .before .before .before .before)))) .args .a)) (now ((start-of (round-of (sized-of (c .before .before .before .before .before .before .before .before)))) .args .b)) (now ((start-of (round-of (sized-of (c .before .before .before .before .before .before .before .before)))) .args .km)) (now ((start-of (round-of (sized-of (c .before .before .before .before .before .before .before .before)))) .args .share)) (now ((start-of (round-of (sized-of (c .before .before .before .before .before .before .before .before)))) .args .cap)) (now ((start-of (round-of (sized-of (c .before .before .before .before .before .before .before .before)))) .args .sheet)) (now ((start-of (round-of (sized-of (c .before .before .before .before .before .before .before .before)))) .args .load)) (now ((start-of (round-of (sized-of (c .before .before .before .before .before .before .before .before)))) .args .bus)) (now ((start-of (round-of (sized-of (c .before .before .before .before .before .before .before .before)))) .args .pmax)) (now ((start-of (round-of (sized-of (c .before .before .before .before .before .before .before .before)))) .args .leader)) (now ((start-of (round-of (sized-of (c .before .before .before .before .before .before .before .before)))) .args .grounds)) (now ((start-of (round-of (sized-of (c .before .before .before .before .before .before .before .before)))) .args .injection)) (length (now ((start-of (round-of (sized-of (c .before .before .before .before .before .before .before .before)))) .args .leader))) ((round-of (sized-of (c .before .before .before .before .before .before .before .before))) .rounds .left - 1) (c .before .before .before .before .before .before .before .before .loop2 .level) ((c .before .before .before .before .before .before .before .before) .before .before .before .before .before .before .before .limits-of .result) ((sized-of (c .before .before .before .before .before .before .before .before)) .before .before .before .before .before .before .before .before .before .before .before .before .before .before .draw-edges .result .from) ((sized-of (c .before .before .before .before .before .before .before .before)) .before .before .before .before .before .before .before .before .before .before .before .before .before .before .draw-edges .result .to) ((sized-of (c .before .before .before .before .before .before .before .before)) .before .before .before .before .before .before .before .before .before .before .before .before .before .before .draw-edges .result .weight) ((sized-of (c .before .before .before .before .before .before .before .before)) .before .before .before .before .before .before .before .before .before .before .before .peak-state .last .1 .1 .1 .0) ((sized-of (c .before .before .before .before .before .before .before .before)) .before .before .before .before .before .before .before .before .before .before .before .peak-state .last .1 .1 .1 .1 .0) (c .before .before .before .before .before .before .before .before .loop2 .p) ((sized-of (c .before .before .before .before .before .before .before .before)) .loop .t) (c .before .before .before .before .before .before .before .before .loop2 .i) (c .before .before .before .before .before .before .before .before .loop2 .circuits) (c .before .before .before .before .before .before .before .before .loop2 .banks) (c .before .before .before .before .before .before .before .before .loop2 .floors) (c .before .before .before .before .before .before .before .before .loop2 .upsized) (c .before .before .before .before .before .before .before .before .loop2 .marks) (c .before .before .before .before .before .before .before .before .loop2 .s))
+    (stiffensOn ((start-of (round-of (sized-of (c .before .before .before .before .before .before .before .before)))) .args .mode) ((start-of (round-of (sized-of (c .before .before .before .before .before .before .before .before)))) .args .above) (now ((start-of (round-of (sized-of (c .before .before .before .before .before .before .before .before)))) .args .ladder)) (now ((start-of (round-of (sized-of (c .before .before .before .before .before .before .before .before)))) .args .a)) (now ((start-of (round-of (sized-of (c .before .before .before .before .before .before .before .before)))) .args .b)) (now ((start-of (round-of (sized-of (c .before .before .before .before .before .before .before .before)))) .args .km)) (now ((start-of (round-of (sized-of (c .before .before .before .before .before .before .before .before)))) .args .share)) (now ((start-of (round-of (sized-of (c .before .before .before .before .before .before .before .before)))) .args .cap)) (now ((start-of (round-of (sized-of (c .before .before .before .before .before .before .before .before)))) .args .sheet)) (now ((start-of (round-of (sized-of (c .before .before .before .before .before .before .before .before)))) .args .load)) (now ((start-of (round-of (sized-of (c .before .before .before .before .before .before .before .before)))) .args .bus)) (now ((start-of (round-of (sized-of (c .before .before .before .before .before .before .before .before)))) .args .pmax)) (now ((start-of (round-of (sized-of (c .before .before .before .before .before .before .before .before)))) .args .leader)) (now ((start-of (round-of (sized-of (c .before .before .before .before .before .before .before .before)))) .args .grounds)) (now ((start-of (round-of (sized-of (c .before .before .before .before .before .before .before .before)))) .args .injection)) (length (now ((start-of (round-of (sized-of (c .before .before .before .before .before .before .before .before)))) .args .leader))) ((round-of (sized-of (c .before .before .before .before .before .before .before .before))) .rounds .left - 1) ((sized-of (c .before .before .before .before .before .before .before .before)) .loop .level) ((c .before .before .before .before .before .before .before .before) .before .before .before .before .before .before .before .limits-of .result) ((sized-of (c .before .before .before .before .before .before .before .before)) .before .before .before .before .before .before .before .before .before .before .before .before .before .before .draw-edges .result .from) ((sized-of (c .before .before .before .before .before .before .before .before)) .before .before .before .before .before .before .before .before .before .before .before .before .before .before .draw-edges .result .to) ((sized-of (c .before .before .before .before .before .before .before .before)) .before .before .before .before .before .before .before .before .before .before .before .before .before .before .draw-edges .result .weight) ((sized-of (c .before .before .before .before .before .before .before .before)) .before .before .before .before .before .before .before .before .before .before .before .peak-state .last .1 .1 .1 .0) ((sized-of (c .before .before .before .before .before .before .before .before)) .before .before .before .before .before .before .before .before .before .before .before .peak-state .last .1 .1 .1 .1 .0) ((sized-of (c .before .before .before .before .before .before .before .before)) .loop .p) ((sized-of (c .before .before .before .before .before .before .before .before)) .loop .t) 0 ((sized-of (c .before .before .before .before .before .before .before .before)) .loop .circuits) ((sized-of (c .before .before .before .before .before .before .before .before)) .loop .banks) ((sized-of (c .before .before .before .before .before .before .before .before)) .loop .floors) ((sized-of (c .before .before .before .before .before .before .before .before)) .loop .upsized) ((c .before .before .before .before .before .before .before .before) .before .before .before .stiffness-from .last .1 .1 .1 .1 .0) ((c .before .before .before .before .before .before .before .before) .before .before .before .stiffness-from .result))
+    (goesOn ((start-of (round-of (sized-of (c .before .before .before .before .before .before .before .before)))) .args .mode) ((start-of (round-of (sized-of (c .before .before .before .before .before .before .before .before)))) .args .above) (now ((start-of (round-of (sized-of (c .before .before .before .before .before .before .before .before)))) .args .ladder)) (now ((start-of (round-of (sized-of (c .before .before .before .before .before .before .before .before)))) .args .a)) (now ((start-of (round-of (sized-of (c .before .before .before .before .before .before .before .before)))) .args .b)) (now ((start-of (round-of (sized-of (c .before .before .before .before .before .before .before .before)))) .args .km)) (now ((start-of (round-of (sized-of (c .before .before .before .before .before .before .before .before)))) .args .share)) (now ((start-of (round-of (sized-of (c .before .before .before .before .before .before .before .before)))) .args .cap)) (now ((start-of (round-of (sized-of (c .before .before .before .before .before .before .before .before)))) .args .sheet)) (now ((start-of (round-of (sized-of (c .before .before .before .before .before .before .before .before)))) .args .load)) (now ((start-of (round-of (sized-of (c .before .before .before .before .before .before .before .before)))) .args .bus)) (now ((start-of (round-of (sized-of (c .before .before .before .before .before .before .before .before)))) .args .pmax)) (now ((start-of (round-of (sized-of (c .before .before .before .before .before .before .before .before)))) .args .leader)) (now ((start-of (round-of (sized-of (c .before .before .before .before .before .before .before .before)))) .args .grounds)) (now ((start-of (round-of (sized-of (c .before .before .before .before .before .before .before .before)))) .args .injection)) (length (now ((start-of (round-of (sized-of (c .before .before .before .before .before .before .before .before)))) .args .leader))) ((start-of (round-of (sized-of (c .before .before .before .before .before .before .before .before)))) .args .budget) (now ((start-of (round-of (sized-of (c .before .before .before .before .before .before .before .before)))) .args .level)) (now ((start-of (round-of (sized-of (c .before .before .before .before .before .before .before .before)))) .args .circuits)) (now ((start-of (round-of (sized-of (c .before .before .before .before .before .before .before .before)))) .args .banks)) (now ((start-of (round-of (sized-of (c .before .before .before .before .before .before .before .before)))) .args .floors)) (now ((start-of (round-of (sized-of (c .before .before .before .before .before .before .before .before)))) .args .upsized)) (now ((start-of (round-of (sized-of (c .before .before .before .before .before .before .before .before)))) .args .angle)) ((start-of (round-of (sized-of (c .before .before .before .before .before .before .before .before)))) .args .start))
     (c .before .before .before .before .before .before .before .before .loop2 .inv .7)
-    (stiffens ((start-of (round-of (sized-of (c .before .before .before .before .before .before .before .before)))) .args .mode) ((start-of (round-of (sized-of (c .before .before .before .before .before .before .before .before)))) .args .above) (now ((start-of (round-of (sized-of (c .before .before .before .before .before .before .before .before)))) .args .ladder)) (now ((start-of (round-of (sized-of (c .before .before .before .before .before .before .before .before)))) .args .a)) (now ((start-of (round-of (sized-of (c .before .before .before .before .before .before .before .before)))) .args .b)) (now ((start-of (round-of (sized-of (c .before .before .before .before .before .before .before .before)))) .args .km)) (now ((start-of (round-of (sized-of (c .before .before .before .before .before .before .before .before)))) .args .share)) (now ((start-of (round-of (sized-of (c .before .before .before .before .before .before .before .before)))) .args .sheet)) (now ((start-of (round-of (sized-of (c .before .before .before .before .before .before .before .before)))) .args .load)) (now ((start-of (round-of (sized-of (c .before .before .before .before .before .before .before .before)))) .args .bus)) (now ((start-of (round-of (sized-of (c .before .before .before .before .before .before .before .before)))) .args .pmax)) (now ((start-of (round-of (sized-of (c .before .before .before .before .before .before .before .before)))) .args .leader)) (now ((start-of (round-of (sized-of (c .before .before .before .before .before .before .before .before)))) .args .grounds)) (now ((start-of (round-of (sized-of (c .before .before .before .before .before .before .before .before)))) .args .injection)) (length (now ((start-of (round-of (sized-of (c .before .before .before .before .before .before .before .before)))) .args .leader))) ((sized-of (c .before .before .before .before .before .before .before .before)) .loop .level) ((round-of (sized-of (c .before .before .before .before .before .before .before .before))) .rounds .level) ((round-of (sized-of (c .before .before .before .before .before .before .before .before))) .rounds .circuits) ((round-of (sized-of (c .before .before .before .before .before .before .before .before))) .rounds .banks) ((round-of (sized-of (c .before .before .before .before .before .before .before .before))) .rounds .floors) ((round-of (sized-of (c .before .before .before .before .before .before .before .before))) .rounds .upsized) ((round-of (sized-of (c .before .before .before .before .before .before .before .before))) .rounds .angle) ((round-of (sized-of (c .before .before .before .before .before .before .before .before))) .rounds .p)
-    (goesOn ((start-of (round-of (sized-of (c .before .before .before .before .before .before .before .before)))) .args .mode) ((start-of (round-of (sized-of (c .before .before .before .before .before .before .before .before)))) .args .above) (now ((start-of (round-of (sized-of (c .before .before .before .before .before .before .before .before)))) .args .ladder)) (now ((start-of (round-of (sized-of (c .before .before .before .before .before .before .before .before)))) .args .a)) (now ((start-of (round-of (sized-of (c .before .before .before .before .before .before .before .before)))) .args .b)) (now ((start-of (round-of (sized-of (c .before .before .before .before .before .before .before .before)))) .args .km)) (now ((start-of (round-of (sized-of (c .before .before .before .before .before .before .before .before)))) .args .share)) (now ((start-of (round-of (sized-of (c .before .before .before .before .before .before .before .before)))) .args .sheet)) (now ((start-of (round-of (sized-of (c .before .before .before .before .before .before .before .before)))) .args .load)) (now ((start-of (round-of (sized-of (c .before .before .before .before .before .before .before .before)))) .args .bus)) (now ((start-of (round-of (sized-of (c .before .before .before .before .before .before .before .before)))) .args .pmax)) (now ((start-of (round-of (sized-of (c .before .before .before .before .before .before .before .before)))) .args .leader)) (now ((start-of (round-of (sized-of (c .before .before .before .before .before .before .before .before)))) .args .grounds)) (now ((start-of (round-of (sized-of (c .before .before .before .before .before .before .before .before)))) .args .injection)) (length (now ((start-of (round-of (sized-of (c .before .before .before .before .before .before .before .before)))) .args .leader))) ((start-of (round-of (sized-of (c .before .before .before .before .before .before .before .before)))) .args .budget) (now ((start-of (round-of (sized-of (c .before .before .before .before .before .before .before .before)))) .args .level)) (now ((start-of (round-of (sized-of (c .before .before .before .before .before .before .before .before)))) .args .circuits)) (now ((start-of (round-of (sized-of (c .before .before .before .before .before .before .before .before)))) .args .banks)) (now ((start-of (round-of (sized-of (c .before .before .before .before .before .before .before .before)))) .args .floors)) (now ((start-of (round-of (sized-of (c .before .before .before .before .before .before .before .before)))) .args .upsized)) (now ((start-of (round-of (sized-of (c .before .before .before .before .before .before .before .before)))) .args .angle)) ((start-of (round-of (sized-of (c .before .before .before .before .before .before .before .before)))) .args .start))
+    (stiffens ((start-of (round-of (sized-of (c .before .before .before .before .before .before .before .before)))) .args .mode) ((start-of (round-of (sized-of (c .before .before .before .before .before .before .before .before)))) .args .above) (now ((start-of (round-of (sized-of (c .before .before .before .before .before .before .before .before)))) .args .ladder)) (now ((start-of (round-of (sized-of (c .before .before .before .before .before .before .before .before)))) .args .a)) (now ((start-of (round-of (sized-of (c .before .before .before .before .before .before .before .before)))) .args .b)) (now ((start-of (round-of (sized-of (c .before .before .before .before .before .before .before .before)))) .args .km)) (now ((start-of (round-of (sized-of (c .before .before .before .before .before .before .before .before)))) .args .share)) (now ((start-of (round-of (sized-of (c .before .before .before .before .before .before .before .before)))) .args .cap)) (now ((start-of (round-of (sized-of (c .before .before .before .before .before .before .before .before)))) .args .sheet)) (now ((start-of (round-of (sized-of (c .before .before .before .before .before .before .before .before)))) .args .load)) (now ((start-of (round-of (sized-of (c .before .before .before .before .before .before .before .before)))) .args .bus)) (now ((start-of (round-of (sized-of (c .before .before .before .before .before .before .before .before)))) .args .pmax)) (now ((start-of (round-of (sized-of (c .before .before .before .before .before .before .before .before)))) .args .leader)) (now ((start-of (round-of (sized-of (c .before .before .before .before .before .before .before .before)))) .args .grounds)) (now ((start-of (round-of (sized-of (c .before .before .before .before .before .before .before .before)))) .args .injection)) (length (now ((start-of (round-of (sized-of (c .before .before .before .before .before .before .before .before)))) .args .leader))) ((sized-of (c .before .before .before .before .before .before .before .before)) .loop .level) ((round-of (sized-of (c .before .before .before .before .before .before .before .before))) .rounds .level) ((round-of (sized-of (c .before .before .before .before .before .before .before .before))) .rounds .circuits) ((round-of (sized-of (c .before .before .before .before .before .before .before .before))) .rounds .banks) ((round-of (sized-of (c .before .before .before .before .before .before .before .before))) .rounds .floors) ((round-of (sized-of (c .before .before .before .before .before .before .before .before))) .rounds .upsized) ((round-of (sized-of (c .before .before .before .before .before .before .before .before))) .rounds .angle) ((round-of (sized-of (c .before .before .before .before .before .before .before .before))) .rounds .p)
+    (goesOn ((start-of (round-of (sized-of (c .before .before .before .before .before .before .before .before)))) .args .mode) ((start-of (round-of (sized-of (c .before .before .before .before .before .before .before .before)))) .args .above) (now ((start-of (round-of (sized-of (c .before .before .before .before .before .before .before .before)))) .args .ladder)) (now ((start-of (round-of (sized-of (c .before .before .before .before .before .before .before .before)))) .args .a)) (now ((start-of (round-of (sized-of (c .before .before .before .before .before .before .before .before)))) .args .b)) (now ((start-of (round-of (sized-of (c .before .before .before .before .before .before .before .before)))) .args .km)) (now ((start-of (round-of (sized-of (c .before .before .before .before .before .before .before .before)))) .args .share)) (now ((start-of (round-of (sized-of (c .before .before .before .before .before .before .before .before)))) .args .cap)) (now ((start-of (round-of (sized-of (c .before .before .before .before .before .before .before .before)))) .args .sheet)) (now ((start-of (round-of (sized-of (c .before .before .before .before .before .before .before .before)))) .args .load)) (now ((start-of (round-of (sized-of (c .before .before .before .before .before .before .before .before)))) .args .bus)) (now ((start-of (round-of (sized-of (c .before .before .before .before .before .before .before .before)))) .args .pmax)) (now ((start-of (round-of (sized-of (c .before .before .before .before .before .before .before .before)))) .args .leader)) (now ((start-of (round-of (sized-of (c .before .before .before .before .before .before .before .before)))) .args .grounds)) (now ((start-of (round-of (sized-of (c .before .before .before .before .before .before .before .before)))) .args .injection)) (length (now ((start-of (round-of (sized-of (c .before .before .before .before .before .before .before .before)))) .args .leader))) ((start-of (round-of (sized-of (c .before .before .before .before .before .before .before .before)))) .args .budget) (now ((start-of (round-of (sized-of (c .before .before .before .before .before .before .before .before)))) .args .level)) (now ((start-of (round-of (sized-of (c .before .before .before .before .before .before .before .before)))) .args .circuits)) (now ((start-of (round-of (sized-of (c .before .before .before .before .before .before .before .before)))) .args .banks)) (now ((start-of (round-of (sized-of (c .before .before .before .before .before .before .before .before)))) .args .floors)) (now ((start-of (round-of (sized-of (c .before .before .before .before .before .before .before .before)))) .args .upsized)) (now ((start-of (round-of (sized-of (c .before .before .before .before .before .before .before .before)))) .args .angle)) ((start-of (round-of (sized-of (c .before .before .before .before .before .before .before .before)))) .args .start))
     ((round-of (sized-of (c .before .before .before .before .before .before .before .before))) .rounds .left) ((round-of (sized-of (c .before .before .before .before .before .before .before .before))) .rounds .left - 1) (omega (arith, some-left ((sized-of (c .before .before .before .before .before .before .before .before)) .before .before .before .before .before .before .before .before .before .before .before .before .before .before .before .before .before .before .before .if1 .left))) ((sized-of (c .before .before .before .before .before .before .before .before)) .loop .inv .1) (sym ((round-of (sized-of (c .before .before .before .before .before .before .before .before))) .rounds .inv .0 .places .leader-size)) ((round-of (sized-of (c .before .before .before .before .before .before .before .before))) .rounds .inv .2) _ _ _ ((sized-of (c .before .before .before .before .before .before .before .before)) .before .before .before .before .before .before .before .before .before .before .before .before .before .before .draw-edges .result .from) ((sized-of (c .before .before .before .before .before .before .before .before)) .before .before .before .before .before .before .before .before .before .before .before .before .before .before .draw-edges .result .to) ((sized-of (c .before .before .before .before .before .before .before .before)) .before .before .before .before .before .before .before .before .before .before .before .before .before .before .draw-edges .result .weight) ((sized-of (c .before .before .before .before .before .before .before .before)) .before .before .before .before .before .before .before .before .before .before .before .before .before .before .draw-edges .ensures .0) _ _ ((round-of (sized-of (c .before .before .before .before .before .before .before .before))) .rounds .inv .0 .places .angle-size) ((round-of (sized-of (c .before .before .before .before .before .before .before .before))) .rounds .inv .0 .places .flow-size) ((sized-of (c .before .before .before .before .before .before .before .before)) .before .before .before .before .before .before .before .before .before .before .before .peak-state .ensures) ((sized-of (c .before .before .before .before .before .before .before .before)) .before .before .before .before .before .enum-told .given .1) ((sized-of (c .before .before .before .before .before .before .before .before)) .loop .circuits) ((sized-of (c .before .before .before .before .before .before .before .before)) .loop .banks) ((sized-of (c .before .before .before .before .before .before .before .before)) .loop .floors) ((sized-of (c .before .before .before .before .before .before .before .before)) .loop .upsized) ((sized-of (c .before .before .before .before .before .before .before .before)) .loop .marks) ((sized-of (c .before .before .before .before .before .before .before .before)) .loop .t) ((sized-of (c .before .before .before .before .before .before .before .before)) .loop .k) ((c .before .before .before .before .before .before .before .before) .before .before .before .before .before .before .before .before .before .loop-test .left) ((sized-of (c .before .before .before .before .before .before .before .before)) .loop .inv .7)
     ((sized-of (c .before .before .before .before .before .before .before .before)) .loop .inv .8 (le-antisymm ((sized-of (c .before .before .before .before .before .before .before .before)) .loop .inv .0) ((c .before .before .before .before .before .before .before .before) .before .before .before .before .before .before .before .before .before .loop-test .left)) .1) ((sized-of (c .before .before .before .before .before .before .before .before)) .loop .inv .8 (le-antisymm ((sized-of (c .before .before .before .before .before .before .before .before)) .loop .inv .0) ((c .before .before .before .before .before .before .before .before) .before .before .before .before .before .before .before .before .before .loop-test .left)) .2) ((sized-of (c .before .before .before .before .before .before .before .before)) .loop .inv .8 (le-antisymm ((sized-of (c .before .before .before .before .before .before .before .before)) .loop .inv .0) ((c .before .before .before .before .before .before .before .before) .before .before .before .before .before .before .before .before .before .loop-test .left)) .0) ((sized-of (c .before .before .before .before .before .before .before .before)) .loop .p) ((sized-of (c .before .before .before .before .before .before .before .before)) .loop .inv .2) ((c .before .before .before .before .before .before .before .before) .before .before .before .before .before .before .before .limits-of .result) _ _ ((c .before .before .before .before .before .before .before .before) .before .before .before .before .before .before .before .limits-of .ensures) ((c .before .before .before .before .before .before .before .before) .before .before .before .stiffness-from .ensures .0) ((c .before .before .before .before .before .before .before .before) .before .before .before .stiffness-from .ensures .1))
 
@@ -494,13 +496,13 @@ add-i c = omega (arith, c .before .before .before .before .before .before .befor
 
 -- and so it does with this component done
 next : (c : Dom add-i)
-    → Alike ((start-of (round-of (sized-of (c .before .before .before .before .before .before .before .before .before .before .before .before .before .before .before .before .before .before .before .before .before .before)))) .args .mode) ((start-of (round-of (sized-of (c .before .before .before .before .before .before .before .before .before .before .before .before .before .before .before .before .before .before .before .before .before .before)))) .args .above) (now ((start-of (round-of (sized-of (c .before .before .before .before .before .before .before .before .before .before .before .before .before .before .before .before .before .before .before .before .before .before)))) .args .ladder)) (now ((start-of (round-of (sized-of (c .before .before .before .before .before .before .before .before .before .before .before .before .before .before .before .before .before .before .before .before .before .before)))) .args .a)) (now ((start-of (round-of (sized-of (c .before .before .before .before .before .before .before .before .before .before .before .before .before .before .before .before .before .before .before .before .before .before)))) .args .b)) (now ((start-of (round-of (sized-of (c .before .before .before .before .before .before .before .before .before .before .before .before .before .before .before .before .before .before .before .before .before .before)))) .args .km)) (now ((start-of (round-of (sized-of (c .before .before .before .before .before .before .before .before .before .before .before .before .before .before .before .before .before .before .before .before .before .before)))) .args .share)) (now ((start-of (round-of (sized-of (c .before .before .before .before .before .before .before .before .before .before .before .before .before .before .before .before .before .before .before .before .before .before)))) .args .sheet)) (now ((start-of (round-of (sized-of (c .before .before .before .before .before .before .before .before .before .before .before .before .before .before .before .before .before .before .before .before .before .before)))) .args .load)) (now ((start-of (round-of (sized-of (c .before .before .before .before .before .before .before .before .before .before .before .before .before .before .before .before .before .before .before .before .before .before)))) .args .bus)) (now ((start-of (round-of (sized-of (c .before .before .before .before .before .before .before .before .before .before .before .before .before .before .before .before .before .before .before .before .before .before)))) .args .pmax)) (now ((start-of (round-of (sized-of (c .before .before .before .before .before .before .before .before .before .before .before .before .before .before .before .before .before .before .before .before .before .before)))) .args .leader)) (now ((start-of (round-of (sized-of (c .before .before .before .before .before .before .before .before .before .before .before .before .before .before .before .before .before .before .before .before .before .before)))) .args .grounds)) (now ((start-of (round-of (sized-of (c .before .before .before .before .before .before .before .before .before .before .before .before .before .before .before .before .before .before .before .before .before .before)))) .args .injection)) (length (now ((start-of (round-of (sized-of (c .before .before .before .before .before .before .before .before .before .before .before .before .before .before .before .before .before .before .before .before .before .before)))) .args .leader)))
-    (stiffensOn ((start-of (round-of (sized-of (c .before .before .before .before .before .before .before .before .before .before .before .before .before .before .before .before .before .before .before .before .before .before)))) .args .mode) ((start-of (round-of (sized-of (c .before .before .before .before .before .before .before .before .before .before .before .before .before .before .before .before .before .before .before .before .before .before)))) .args .above) (now ((start-of (round-of (sized-of (c .before .before .before .before .before .before .before .before .before .before .before .before .before .before .before .before .before .before .before .before .before .before)))) .args .ladder)) (now ((start-of (round-of (sized-of (c .before .before .before .before .before .before .before .before .before .before .before .before .before .before .before .before .before .before .before .before .before .before)))) .args .a)) (now ((start-of (round-of (sized-of (c .before .before .before .before .before .before .before .before .before .before .before .before .before .before .before .before .before .before .before .before .before .before)))) .args .b)) (now ((start-of (round-of (sized-of (c .before .before .before .before .before .before .before .before .before .before .before .before .before .before .before .before .before .before .before .before .before .before)))) .args .km)) (now ((start-of (round-of (sized-of (c .before .before .before .before .before .before .before .before .before .before .before .before .before .before .before .before .before .before .before .before .before .before)))) .args .share)) (now ((start-of (round-of (sized-of (c .before .before .before .before .before .before .before .before .before .before .before .before .before .before .before .before .before .before .before .before .before .before)))) .args .sheet)) (now ((start-of (round-of (sized-of (c .before .before .before .before .before .before .before .before .before .before .before .before .before .before .before .before .before .before .before .before .before .before)))) .args .load)) (now ((start-of (round-of (sized-of (c .before .before .before .before .before .before .before .before .before .before .before .before .before .before .before .before .before .before .before .before .before .before)))) .args .bus)) (now ((start-of (round-of (sized-of (c .before .before .before .before .before .before .before .before .before .before .before .before .before .before .before .before .before .before .before .before .before .before)))) .args .pmax)) (now ((start-of (round-of (sized-of (c .before .before .before .before .before .before .before .before .before .before .before .before .before .before .before .before .before .before .before .before .before .before)))) .args .leader)) (now ((start-of (round-of (sized-of (c .before .before .before .before .before .before .before .before .before .before .before .before .before .before .before .before .before .before .before .before .before .before)))) .args .grounds)) (now ((start-of (round-of (sized-of (c .before .before .before .before .before .before .before .before .before .before .before .before .before .before .before .before .before .before .before .before .before .before)))) .args .injection)) (length (now ((start-of (round-of (sized-of (c .before .before .before .before .before .before .before .before .before .before .before .before .before .before .before .before .before .before .before .before .before .before)))) .args .leader))) ((round-of (sized-of (c .before .before .before .before .before .before .before .before .before .before .before .before .before .before .before .before .before .before .before .before .before .before))) .rounds .left - 1) (c .before .before .before .before .before .before .before .before .before .before .before .before .before .before .before .before .before .before .before .before .before .before .loop2 .level) ((c .before .before .before .before .before .before .before .before .before .before .before .before .before .before .before .before .before .before .before .before .before .before) .before .before .before .before .before .before .before .limits-of .result) ((sized-of (c .before .before .before .before .before .before .before .before .before .before .before .before .before .before .before .before .before .before .before .before .before .before)) .before .before .before .before .before .before .before .before .before .before .before .before .before .before .draw-edges .result .from) ((sized-of (c .before .before .before .before .before .before .before .before .before .before .before .before .before .before .before .before .before .before .before .before .before .before)) .before .before .before .before .before .before .before .before .before .before .before .before .before .before .draw-edges .result .to) ((sized-of (c .before .before .before .before .before .before .before .before .before .before .before .before .before .before .before .before .before .before .before .before .before .before)) .before .before .before .before .before .before .before .before .before .before .before .before .before .before .draw-edges .result .weight) ((sized-of (c .before .before .before .before .before .before .before .before .before .before .before .before .before .before .before .before .before .before .before .before .before .before)) .before .before .before .before .before .before .before .before .before .before .before .peak-state .last .1 .1 .1 .0) ((sized-of (c .before .before .before .before .before .before .before .before .before .before .before .before .before .before .before .before .before .before .before .before .before .before)) .before .before .before .before .before .before .before .before .before .before .before .peak-state .last .1 .1 .1 .1 .0) (c .before .before .before .before .before .before .before .before .before .before .before .before .before .before .before .before .before .before .before .before .before .before .loop2 .p) ((sized-of (c .before .before .before .before .before .before .before .before .before .before .before .before .before .before .before .before .before .before .before .before .before .before)) .loop .t) (c .before .before .before .before .before .before .before .before .before .before .before .before .before .before .before .before .before .before .before .before .before .before .loop2 .i + 1) (c .before .before .before .before .before .before .before .before .before .before .before .before .before .stiffen-led .last .1 .1 .1 .1 .1 .1 .1 .1 .1 .1 .1 .1 .1 .1 .0) (c .before .before .before .before .before .before .before .before .before .before .before .before .before .stiffen-led .last .1 .1 .1 .1 .1 .1 .1 .1 .1 .1 .1 .1 .1 .1 .1 .0) (c .before .before .before .before .before .before .before .before .before .before .before .before .before .stiffen-led .last .1 .1 .1 .1 .1 .1 .1 .1 .1 .1 .1 .1 .1 .1 .1 .1 .0) (c .before .before .before .before .before .before .before .before .before .before .before .before .before .stiffen-led .last .1 .1 .1 .1 .1 .1 .1 .1 .1 .1 .1 .1 .1 .1 .1 .1 .1 .0) (c .before .before .before .before .before .before .before .before .before .before .before .before .before .stiffen-led .last .1 .1 .1 .1 .1 .1 .1 .1 .1 .1 .1 .1 .1 .1 .1 .1 .1 .1 .0) (c .before .u .given .0 .0))
-    (goesOn ((start-of (round-of (sized-of (c .before .before .before .before .before .before .before .before .before .before .before .before .before .before .before .before .before .before .before .before .before .before)))) .args .mode) ((start-of (round-of (sized-of (c .before .before .before .before .before .before .before .before .before .before .before .before .before .before .before .before .before .before .before .before .before .before)))) .args .above) (now ((start-of (round-of (sized-of (c .before .before .before .before .before .before .before .before .before .before .before .before .before .before .before .before .before .before .before .before .before .before)))) .args .ladder)) (now ((start-of (round-of (sized-of (c .before .before .before .before .before .before .before .before .before .before .before .before .before .before .before .before .before .before .before .before .before .before)))) .args .a)) (now ((start-of (round-of (sized-of (c .before .before .before .before .before .before .before .before .before .before .before .before .before .before .before .before .before .before .before .before .before .before)))) .args .b)) (now ((start-of (round-of (sized-of (c .before .before .before .before .before .before .before .before .before .before .before .before .before .before .before .before .before .before .before .before .before .before)))) .args .km)) (now ((start-of (round-of (sized-of (c .before .before .before .before .before .before .before .before .before .before .before .before .before .before .before .before .before .before .before .before .before .before)))) .args .share)) (now ((start-of (round-of (sized-of (c .before .before .before .before .before .before .before .before .before .before .before .before .before .before .before .before .before .before .before .before .before .before)))) .args .sheet)) (now ((start-of (round-of (sized-of (c .before .before .before .before .before .before .before .before .before .before .before .before .before .before .before .before .before .before .before .before .before .before)))) .args .load)) (now ((start-of (round-of (sized-of (c .before .before .before .before .before .before .before .before .before .before .before .before .before .before .before .before .before .before .before .before .before .before)))) .args .bus)) (now ((start-of (round-of (sized-of (c .before .before .before .before .before .before .before .before .before .before .before .before .before .before .before .before .before .before .before .before .before .before)))) .args .pmax)) (now ((start-of (round-of (sized-of (c .before .before .before .before .before .before .before .before .before .before .before .before .before .before .before .before .before .before .before .before .before .before)))) .args .leader)) (now ((start-of (round-of (sized-of (c .before .before .before .before .before .before .before .before .before .before .before .before .before .before .before .before .before .before .before .before .before .before)))) .args .grounds)) (now ((start-of (round-of (sized-of (c .before .before .before .before .before .before .before .before .before .before .before .before .before .before .before .before .before .before .before .before .before .before)))) .args .injection)) (length (now ((start-of (round-of (sized-of (c .before .before .before .before .before .before .before .before .before .before .before .before .before .before .before .before .before .before .before .before .before .before)))) .args .leader))) ((start-of (round-of (sized-of (c .before .before .before .before .before .before .before .before .before .before .before .before .before .before .before .before .before .before .before .before .before .before)))) .args .budget) (now ((start-of (round-of (sized-of (c .before .before .before .before .before .before .before .before .before .before .before .before .before .before .before .before .before .before .before .before .before .before)))) .args .level)) (now ((start-of (round-of (sized-of (c .before .before .before .before .before .before .before .before .before .before .before .before .before .before .before .before .before .before .before .before .before .before)))) .args .circuits)) (now ((start-of (round-of (sized-of (c .before .before .before .before .before .before .before .before .before .before .before .before .before .before .before .before .before .before .before .before .before .before)))) .args .banks)) (now ((start-of (round-of (sized-of (c .before .before .before .before .before .before .before .before .before .before .before .before .before .before .before .before .before .before .before .before .before .before)))) .args .floors)) (now ((start-of (round-of (sized-of (c .before .before .before .before .before .before .before .before .before .before .before .before .before .before .before .before .before .before .before .before .before .before)))) .args .upsized)) (now ((start-of (round-of (sized-of (c .before .before .before .before .before .before .before .before .before .before .before .before .before .before .before .before .before .before .before .before .before .before)))) .args .angle)) ((start-of (round-of (sized-of (c .before .before .before .before .before .before .before .before .before .before .before .before .before .before .before .before .before .before .before .before .before .before)))) .args .start))
+    → Alike ((start-of (round-of (sized-of (c .before .before .before .before .before .before .before .before .before .before .before .before .before .before .before .before .before .before .before .before .before .before)))) .args .mode) ((start-of (round-of (sized-of (c .before .before .before .before .before .before .before .before .before .before .before .before .before .before .before .before .before .before .before .before .before .before)))) .args .above) (now ((start-of (round-of (sized-of (c .before .before .before .before .before .before .before .before .before .before .before .before .before .before .before .before .before .before .before .before .before .before)))) .args .ladder)) (now ((start-of (round-of (sized-of (c .before .before .before .before .before .before .before .before .before .before .before .before .before .before .before .before .before .before .before .before .before .before)))) .args .a)) (now ((start-of (round-of (sized-of (c .before .before .before .before .before .before .before .before .before .before .before .before .before .before .before .before .before .before .before .before .before .before)))) .args .b)) (now ((start-of (round-of (sized-of (c .before .before .before .before .before .before .before .before .before .before .before .before .before .before .before .before .before .before .before .before .before .before)))) .args .km)) (now ((start-of (round-of (sized-of (c .before .before .before .before .before .before .before .before .before .before .before .before .before .before .before .before .before .before .before .before .before .before)))) .args .share)) (now ((start-of (round-of (sized-of (c .before .before .before .before .before .before .before .before .before .before .before .before .before .before .before .before .before .before .before .before .before .before)))) .args .cap)) (now ((start-of (round-of (sized-of (c .before .before .before .before .before .before .before .before .before .before .before .before .before .before .before .before .before .before .before .before .before .before)))) .args .sheet)) (now ((start-of (round-of (sized-of (c .before .before .before .before .before .before .before .before .before .before .before .before .before .before .before .before .before .before .before .before .before .before)))) .args .load)) (now ((start-of (round-of (sized-of (c .before .before .before .before .before .before .before .before .before .before .before .before .before .before .before .before .before .before .before .before .before .before)))) .args .bus)) (now ((start-of (round-of (sized-of (c .before .before .before .before .before .before .before .before .before .before .before .before .before .before .before .before .before .before .before .before .before .before)))) .args .pmax)) (now ((start-of (round-of (sized-of (c .before .before .before .before .before .before .before .before .before .before .before .before .before .before .before .before .before .before .before .before .before .before)))) .args .leader)) (now ((start-of (round-of (sized-of (c .before .before .before .before .before .before .before .before .before .before .before .before .before .before .before .before .before .before .before .before .before .before)))) .args .grounds)) (now ((start-of (round-of (sized-of (c .before .before .before .before .before .before .before .before .before .before .before .before .before .before .before .before .before .before .before .before .before .before)))) .args .injection)) (length (now ((start-of (round-of (sized-of (c .before .before .before .before .before .before .before .before .before .before .before .before .before .before .before .before .before .before .before .before .before .before)))) .args .leader)))
+    (stiffensOn ((start-of (round-of (sized-of (c .before .before .before .before .before .before .before .before .before .before .before .before .before .before .before .before .before .before .before .before .before .before)))) .args .mode) ((start-of (round-of (sized-of (c .before .before .before .before .before .before .before .before .before .before .before .before .before .before .before .before .before .before .before .before .before .before)))) .args .above) (now ((start-of (round-of (sized-of (c .before .before .before .before .before .before .before .before .before .before .before .before .before .before .before .before .before .before .before .before .before .before)))) .args .ladder)) (now ((start-of (round-of (sized-of (c .before .before .before .before .before .before .before .before .before .before .before .before .before .before .before .before .before .before .before .before .before .before)))) .args .a)) (now ((start-of (round-of (sized-of (c .before .before .before .before .before .before .before .before .before .before .before .before .before .before .before .before .before .before .before .before .before .before)))) .args .b)) (now ((start-of (round-of (sized-of (c .before .before .before .before .before .before .before .before .before .before .before .before .before .before .before .before .before .before .before .before .before .before)))) .args .km)) (now ((start-of (round-of (sized-of (c .before .before .before .before .before .before .before .before .before .before .before .before .before .before .before .before .before .before .before .before .before .before)))) .args .share)) (now ((start-of (round-of (sized-of (c .before .before .before .before .before .before .before .before .before .before .before .before .before .before .before .before .before .before .before .before .before .before)))) .args .cap)) (now ((start-of (round-of (sized-of (c .before .before .before .before .before .before .before .before .before .before .before .before .before .before .before .before .before .before .before .before .before .before)))) .args .sheet)) (now ((start-of (round-of (sized-of (c .before .before .before .before .before .before .before .before .before .before .before .before .before .before .before .before .before .before .before .before .before .before)))) .args .load)) (now ((start-of (round-of (sized-of (c .before .before .before .before .before .before .before .before .before .before .before .before .before .before .before .before .before .before .before .before .before .before)))) .args .bus)) (now ((start-of (round-of (sized-of (c .before .before .before .before .before .before .before .before .before .before .before .before .before .before .before .before .before .before .before .before .before .before)))) .args .pmax)) (now ((start-of (round-of (sized-of (c .before .before .before .before .before .before .before .before .before .before .before .before .before .before .before .before .before .before .before .before .before .before)))) .args .leader)) (now ((start-of (round-of (sized-of (c .before .before .before .before .before .before .before .before .before .before .before .before .before .before .before .before .before .before .before .before .before .before)))) .args .grounds)) (now ((start-of (round-of (sized-of (c .before .before .before .before .before .before .before .before .before .before .before .before .before .before .before .before .before .before .before .before .before .before)))) .args .injection)) (length (now ((start-of (round-of (sized-of (c .before .before .before .before .before .before .before .before .before .before .before .before .before .before .before .before .before .before .before .before .before .before)))) .args .leader))) ((round-of (sized-of (c .before .before .before .before .before .before .before .before .before .before .before .before .before .before .before .before .before .before .before .before .before .before))) .rounds .left - 1) (c .before .before .before .before .before .before .before .before .before .before .before .before .before .before .before .before .before .before .before .before .before .before .loop2 .level) ((c .before .before .before .before .before .before .before .before .before .before .before .before .before .before .before .before .before .before .before .before .before .before) .before .before .before .before .before .before .before .limits-of .result) ((sized-of (c .before .before .before .before .before .before .before .before .before .before .before .before .before .before .before .before .before .before .before .before .before .before)) .before .before .before .before .before .before .before .before .before .before .before .before .before .before .draw-edges .result .from) ((sized-of (c .before .before .before .before .before .before .before .before .before .before .before .before .before .before .before .before .before .before .before .before .before .before)) .before .before .before .before .before .before .before .before .before .before .before .before .before .before .draw-edges .result .to) ((sized-of (c .before .before .before .before .before .before .before .before .before .before .before .before .before .before .before .before .before .before .before .before .before .before)) .before .before .before .before .before .before .before .before .before .before .before .before .before .before .draw-edges .result .weight) ((sized-of (c .before .before .before .before .before .before .before .before .before .before .before .before .before .before .before .before .before .before .before .before .before .before)) .before .before .before .before .before .before .before .before .before .before .before .peak-state .last .1 .1 .1 .0) ((sized-of (c .before .before .before .before .before .before .before .before .before .before .before .before .before .before .before .before .before .before .before .before .before .before)) .before .before .before .before .before .before .before .before .before .before .before .peak-state .last .1 .1 .1 .1 .0) (c .before .before .before .before .before .before .before .before .before .before .before .before .before .before .before .before .before .before .before .before .before .before .loop2 .p) ((sized-of (c .before .before .before .before .before .before .before .before .before .before .before .before .before .before .before .before .before .before .before .before .before .before)) .loop .t) (c .before .before .before .before .before .before .before .before .before .before .before .before .before .before .before .before .before .before .before .before .before .before .loop2 .i + 1) (c .before .before .before .before .before .before .before .before .before .before .before .before .before .stiffen-led .last .1 .1 .1 .1 .1 .1 .1 .1 .1 .1 .1 .1 .1 .1 .1 .0) (c .before .before .before .before .before .before .before .before .before .before .before .before .before .stiffen-led .last .1 .1 .1 .1 .1 .1 .1 .1 .1 .1 .1 .1 .1 .1 .1 .1 .0) (c .before .before .before .before .before .before .before .before .before .before .before .before .before .stiffen-led .last .1 .1 .1 .1 .1 .1 .1 .1 .1 .1 .1 .1 .1 .1 .1 .1 .1 .0) (c .before .before .before .before .before .before .before .before .before .before .before .before .before .stiffen-led .last .1 .1 .1 .1 .1 .1 .1 .1 .1 .1 .1 .1 .1 .1 .1 .1 .1 .1 .0) (c .before .before .before .before .before .before .before .before .before .before .before .before .before .stiffen-led .last .1 .1 .1 .1 .1 .1 .1 .1 .1 .1 .1 .1 .1 .1 .1 .1 .1 .1 .1 .0) (c .before .u .given .0 .0))
+    (goesOn ((start-of (round-of (sized-of (c .before .before .before .before .before .before .before .before .before .before .before .before .before .before .before .before .before .before .before .before .before .before)))) .args .mode) ((start-of (round-of (sized-of (c .before .before .before .before .before .before .before .before .before .before .before .before .before .before .before .before .before .before .before .before .before .before)))) .args .above) (now ((start-of (round-of (sized-of (c .before .before .before .before .before .before .before .before .before .before .before .before .before .before .before .before .before .before .before .before .before .before)))) .args .ladder)) (now ((start-of (round-of (sized-of (c .before .before .before .before .before .before .before .before .before .before .before .before .before .before .before .before .before .before .before .before .before .before)))) .args .a)) (now ((start-of (round-of (sized-of (c .before .before .before .before .before .before .before .before .before .before .before .before .before .before .before .before .before .before .before .before .before .before)))) .args .b)) (now ((start-of (round-of (sized-of (c .before .before .before .before .before .before .before .before .before .before .before .before .before .before .before .before .before .before .before .before .before .before)))) .args .km)) (now ((start-of (round-of (sized-of (c .before .before .before .before .before .before .before .before .before .before .before .before .before .before .before .before .before .before .before .before .before .before)))) .args .share)) (now ((start-of (round-of (sized-of (c .before .before .before .before .before .before .before .before .before .before .before .before .before .before .before .before .before .before .before .before .before .before)))) .args .cap)) (now ((start-of (round-of (sized-of (c .before .before .before .before .before .before .before .before .before .before .before .before .before .before .before .before .before .before .before .before .before .before)))) .args .sheet)) (now ((start-of (round-of (sized-of (c .before .before .before .before .before .before .before .before .before .before .before .before .before .before .before .before .before .before .before .before .before .before)))) .args .load)) (now ((start-of (round-of (sized-of (c .before .before .before .before .before .before .before .before .before .before .before .before .before .before .before .before .before .before .before .before .before .before)))) .args .bus)) (now ((start-of (round-of (sized-of (c .before .before .before .before .before .before .before .before .before .before .before .before .before .before .before .before .before .before .before .before .before .before)))) .args .pmax)) (now ((start-of (round-of (sized-of (c .before .before .before .before .before .before .before .before .before .before .before .before .before .before .before .before .before .before .before .before .before .before)))) .args .leader)) (now ((start-of (round-of (sized-of (c .before .before .before .before .before .before .before .before .before .before .before .before .before .before .before .before .before .before .before .before .before .before)))) .args .grounds)) (now ((start-of (round-of (sized-of (c .before .before .before .before .before .before .before .before .before .before .before .before .before .before .before .before .before .before .before .before .before .before)))) .args .injection)) (length (now ((start-of (round-of (sized-of (c .before .before .before .before .before .before .before .before .before .before .before .before .before .before .before .before .before .before .before .before .before .before)))) .args .leader))) ((start-of (round-of (sized-of (c .before .before .before .before .before .before .before .before .before .before .before .before .before .before .before .before .before .before .before .before .before .before)))) .args .budget) (now ((start-of (round-of (sized-of (c .before .before .before .before .before .before .before .before .before .before .before .before .before .before .before .before .before .before .before .before .before .before)))) .args .level)) (now ((start-of (round-of (sized-of (c .before .before .before .before .before .before .before .before .before .before .before .before .before .before .before .before .before .before .before .before .before .before)))) .args .circuits)) (now ((start-of (round-of (sized-of (c .before .before .before .before .before .before .before .before .before .before .before .before .before .before .before .before .before .before .before .before .before .before)))) .args .banks)) (now ((start-of (round-of (sized-of (c .before .before .before .before .before .before .before .before .before .before .before .before .before .before .before .before .before .before .before .before .before .before)))) .args .floors)) (now ((start-of (round-of (sized-of (c .before .before .before .before .before .before .before .before .before .before .before .before .before .before .before .before .before .before .before .before .before .before)))) .args .upsized)) (now ((start-of (round-of (sized-of (c .before .before .before .before .before .before .before .before .before .before .before .before .before .before .before .before .before .before .before .before .before .before)))) .args .angle)) ((start-of (round-of (sized-of (c .before .before .before .before .before .before .before .before .before .before .before .before .before .before .before .before .before .before .before .before .before .before)))) .args .start))
 next c =
-    stiffen-next ((start-of (round-of (sized-of (c .before .before .before .before .before .before .before .before .before .before .before .before .before .before .before .before .before .before .before .before .before .before)))) .args .mode) ((start-of (round-of (sized-of (c .before .before .before .before .before .before .before .before .before .before .before .before .before .before .before .before .before .before .before .before .before .before)))) .args .above) (now ((start-of (round-of (sized-of (c .before .before .before .before .before .before .before .before .before .before .before .before .before .before .before .before .before .before .before .before .before .before)))) .args .ladder)) (now ((start-of (round-of (sized-of (c .before .before .before .before .before .before .before .before .before .before .before .before .before .before .before .before .before .before .before .before .before .before)))) .args .a)) (now ((start-of (round-of (sized-of (c .before .before .before .before .before .before .before .before .before .before .before .before .before .before .before .before .before .before .before .before .before .before)))) .args .b)) (now ((start-of (round-of (sized-of (c .before .before .before .before .before .before .before .before .before .before .before .before .before .before .before .before .before .before .before .before .before .before)))) .args .km)) (now ((start-of (round-of (sized-of (c .before .before .before .before .before .before .before .before .before .before .before .before .before .before .before .before .before .before .before .before .before .before)))) .args .share)) (now ((start-of (round-of (sized-of (c .before .before .before .before .before .before .before .before .before .before .before .before .before .before .before .before .before .before .before .before .before .before)))) .args .sheet)) (now ((start-of (round-of (sized-of (c .before .before .before .before .before .before .before .before .before .before .before .before .before .before .before .before .before .before .before .before .before .before)))) .args .load)) (now ((start-of (round-of (sized-of (c .before .before .before .before .before .before .before .before .before .before .before .before .before .before .before .before .before .before .before .before .before .before)))) .args .bus)) (now ((start-of (round-of (sized-of (c .before .before .before .before .before .before .before .before .before .before .before .before .before .before .before .before .before .before .before .before .before .before)))) .args .pmax)) (now ((start-of (round-of (sized-of (c .before .before .before .before .before .before .before .before .before .before .before .before .before .before .before .before .before .before .before .before .before .before)))) .args .leader)) (now ((start-of (round-of (sized-of (c .before .before .before .before .before .before .before .before .before .before .before .before .before .before .before .before .before .before .before .before .before .before)))) .args .grounds)) (now ((start-of (round-of (sized-of (c .before .before .before .before .before .before .before .before .before .before .before .before .before .before .before .before .before .before .before .before .before .before)))) .args .injection)) (length (now ((start-of (round-of (sized-of (c .before .before .before .before .before .before .before .before .before .before .before .before .before .before .before .before .before .before .before .before .before .before)))) .args .leader)))
-    (goesOn ((start-of (round-of (sized-of (c .before .before .before .before .before .before .before .before .before .before .before .before .before .before .before .before .before .before .before .before .before .before)))) .args .mode) ((start-of (round-of (sized-of (c .before .before .before .before .before .before .before .before .before .before .before .before .before .before .before .before .before .before .before .before .before .before)))) .args .above) (now ((start-of (round-of (sized-of (c .before .before .before .before .before .before .before .before .before .before .before .before .before .before .before .before .before .before .before .before .before .before)))) .args .ladder)) (now ((start-of (round-of (sized-of (c .before .before .before .before .before .before .before .before .before .before .before .before .before .before .before .before .before .before .before .before .before .before)))) .args .a)) (now ((start-of (round-of (sized-of (c .before .before .before .before .before .before .before .before .before .before .before .before .before .before .before .before .before .before .before .before .before .before)))) .args .b)) (now ((start-of (round-of (sized-of (c .before .before .before .before .before .before .before .before .before .before .before .before .before .before .before .before .before .before .before .before .before .before)))) .args .km)) (now ((start-of (round-of (sized-of (c .before .before .before .before .before .before .before .before .before .before .before .before .before .before .before .before .before .before .before .before .before .before)))) .args .share)) (now ((start-of (round-of (sized-of (c .before .before .before .before .before .before .before .before .before .before .before .before .before .before .before .before .before .before .before .before .before .before)))) .args .sheet)) (now ((start-of (round-of (sized-of (c .before .before .before .before .before .before .before .before .before .before .before .before .before .before .before .before .before .before .before .before .before .before)))) .args .load)) (now ((start-of (round-of (sized-of (c .before .before .before .before .before .before .before .before .before .before .before .before .before .before .before .before .before .before .before .before .before .before)))) .args .bus)) (now ((start-of (round-of (sized-of (c .before .before .before .before .before .before .before .before .before .before .before .before .before .before .before .before .before .before .before .before .before .before)))) .args .pmax)) (now ((start-of (round-of (sized-of (c .before .before .before .before .before .before .before .before .before .before .before .before .before .before .before .before .before .before .before .before .before .before)))) .args .leader)) (now ((start-of (round-of (sized-of (c .before .before .before .before .before .before .before .before .before .before .before .before .before .before .before .before .before .before .before .before .before .before)))) .args .grounds)) (now ((start-of (round-of (sized-of (c .before .before .before .before .before .before .before .before .before .before .before .before .before .before .before .before .before .before .before .before .before .before)))) .args .injection)) (length (now ((start-of (round-of (sized-of (c .before .before .before .before .before .before .before .before .before .before .before .before .before .before .before .before .before .before .before .before .before .before)))) .args .leader))) ((start-of (round-of (sized-of (c .before .before .before .before .before .before .before .before .before .before .before .before .before .before .before .before .before .before .before .before .before .before)))) .args .budget) (now ((start-of (round-of (sized-of (c .before .before .before .before .before .before .before .before .before .before .before .before .before .before .before .before .before .before .before .before .before .before)))) .args .level)) (now ((start-of (round-of (sized-of (c .before .before .before .before .before .before .before .before .before .before .before .before .before .before .before .before .before .before .before .before .before .before)))) .args .circuits)) (now ((start-of (round-of (sized-of (c .before .before .before .before .before .before .before .before .before .before .before .before .before .before .before .before .before .before .before .before .before .before)))) .args .banks)) (now ((start-of (round-of (sized-of (c .before .before .before .before .before .before .before .before .before .before .before .before .before .before .before .before .before .before .before .before .before .before)))) .args .floors)) (now ((start-of (round-of (sized-of (c .before .before .before .before .before .before .before .before .before .before .before .before .before .before .before .before .before .before .before .before .before .before)))) .args .upsized)) (now ((start-of (round-of (sized-of (c .before .before .before .before .before .before .before .before .before .before .before .before .before .before .before .before .before .before .before .before .before .before)))) .args .angle)) ((start-of (round-of (sized-of (c .before .before .before .before .before .before .before .before .before .before .before .before .before .before .before .before .before .before .before .before .before .before)))) .args .start))
-    ((round-of (sized-of (c .before .before .before .before .before .before .before .before .before .before .before .before .before .before .before .before .before .before .before .before .before .before))) .rounds .left - 1) (c .before .before .before .before .before .before .before .before .before .before .before .before .before .before .before .before .before .before .before .before .before .before .loop2 .level) ((c .before .before .before .before .before .before .before .before .before .before .before .before .before .before .before .before .before .before .before .before .before .before) .before .before .before .before .before .before .before .limits-of .result) ((sized-of (c .before .before .before .before .before .before .before .before .before .before .before .before .before .before .before .before .before .before .before .before .before .before)) .before .before .before .before .before .before .before .before .before .before .before .before .before .before .draw-edges .result .from) ((sized-of (c .before .before .before .before .before .before .before .before .before .before .before .before .before .before .before .before .before .before .before .before .before .before)) .before .before .before .before .before .before .before .before .before .before .before .before .before .before .draw-edges .result .to) ((sized-of (c .before .before .before .before .before .before .before .before .before .before .before .before .before .before .before .before .before .before .before .before .before .before)) .before .before .before .before .before .before .before .before .before .before .before .before .before .before .draw-edges .result .weight) ((sized-of (c .before .before .before .before .before .before .before .before .before .before .before .before .before .before .before .before .before .before .before .before .before .before)) .before .before .before .before .before .before .before .before .before .before .before .peak-state .last .1 .1 .1 .0) ((sized-of (c .before .before .before .before .before .before .before .before .before .before .before .before .before .before .before .before .before .before .before .before .before .before)) .before .before .before .before .before .before .before .before .before .before .before .peak-state .last .1 .1 .1 .1 .0) (c .before .before .before .before .before .before .before .before .before .before .before .before .before .before .before .before .before .before .before .before .before .before .loop2 .p) ((sized-of (c .before .before .before .before .before .before .before .before .before .before .before .before .before .before .before .before .before .before .before .before .before .before)) .loop .t) (ap (λ (x : List ℕ). length x) (c .before .before .before .before .before .before .before .before .before .before .before .before .before .before .before .before .before .before .before .before .before .before .loop2 .inv .1 ∙ (sized-of (c .before .before .before .before .before .before .before .before .before .before .before .before .before .before .before .before .before .before .before .before .before .before)) .loop .inv .1) ∙ sym ((round-of (sized-of (c .before .before .before .before .before .before .before .before .before .before .before .before .before .before .before .before .before .before .before .before .before .before))) .rounds .inv .0 .places .leader-size)) (c .before .before .before .before .before .before .before .before .before .before .before .before .before .before .before .before .before .before .before .before .before .before .loop2 .i) (c .before .before .before .before .before .before .before .before .before .before .before .before .before .before .before .before .before .before .before .before .before .before .loop2 .circuits) (c .before .before .before .before .before .before .before .before .before .before .before .before .before .before .before .before .before .before .before .before .before .before .loop2 .banks) (c .before .before .before .before .before .before .before .before .before .before .before .before .before .before .before .before .before .before .before .before .before .before .loop2 .floors) (c .before .before .before .before .before .before .before .before .before .before .before .before .before .before .before .before .before .before .before .before .before .before .loop2 .upsized) (c .before .before .before .before .before .before .before .before .before .before .before .before .before .before .before .before .before .before .before .before .before .before .loop2 .marks) (c .before .before .before .before .before .before .before .before .before .before .before .before .before .before .before .before .before .before .before .before .before .before .loop2 .s) (whole (c .before .before .before .before .before .before .before .before .before .before .before .before .before .before)) (c .before .before .before .before .before .before .before .before .before .before .before .before .before .before .before .before .before .before .before .before .before .loop2-test .taken) (c .before .before .before .before .before .before .before .before .before .before .before .before .before .stiffen-led .last .1 .1 .1 .1 .1 .1 .1 .1 .1 .1 .1 .1 .1 .1 .0) (c .before .before .before .before .before .before .before .before .before .before .before .before .before .stiffen-led .last .1 .1 .1 .1 .1 .1 .1 .1 .1 .1 .1 .1 .1 .1 .1 .0) (c .before .before .before .before .before .before .before .before .before .before .before .before .before .stiffen-led .last .1 .1 .1 .1 .1 .1 .1 .1 .1 .1 .1 .1 .1 .1 .1 .1 .0) (c .before .before .before .before .before .before .before .before .before .before .before .before .before .stiffen-led .last .1 .1 .1 .1 .1 .1 .1 .1 .1 .1 .1 .1 .1 .1 .1 .1 .1 .0) (c .before .before .before .before .before .before .before .before .before .before .before .before .before .stiffen-led .last .1 .1 .1 .1 .1 .1 .1 .1 .1 .1 .1 .1 .1 .1 .1 .1 .1 .1 .0) (c .before .before .before .before .before .before .before .before .before .before .before .before .before .stiffen-led .result) (c .before .before .before .before .before .before .before .before .before .before .before .before .before .stiffen-led .ensures) (c .before .u .given .0 .0) (c .before .u .given .1)
+    stiffen-next ((start-of (round-of (sized-of (c .before .before .before .before .before .before .before .before .before .before .before .before .before .before .before .before .before .before .before .before .before .before)))) .args .mode) ((start-of (round-of (sized-of (c .before .before .before .before .before .before .before .before .before .before .before .before .before .before .before .before .before .before .before .before .before .before)))) .args .above) (now ((start-of (round-of (sized-of (c .before .before .before .before .before .before .before .before .before .before .before .before .before .before .before .before .before .before .before .before .before .before)))) .args .ladder)) (now ((start-of (round-of (sized-of (c .before .before .before .before .before .before .before .before .before .before .before .before .before .before .before .before .before .before .before .before .before .before)))) .args .a)) (now ((start-of (round-of (sized-of (c .before .before .before .before .before .before .before .before .before .before .before .before .before .before .before .before .before .before .before .before .before .before)))) .args .b)) (now ((start-of (round-of (sized-of (c .before .before .before .before .before .before .before .before .before .before .before .before .before .before .before .before .before .before .before .before .before .before)))) .args .km)) (now ((start-of (round-of (sized-of (c .before .before .before .before .before .before .before .before .before .before .before .before .before .before .before .before .before .before .before .before .before .before)))) .args .share)) (now ((start-of (round-of (sized-of (c .before .before .before .before .before .before .before .before .before .before .before .before .before .before .before .before .before .before .before .before .before .before)))) .args .cap)) (now ((start-of (round-of (sized-of (c .before .before .before .before .before .before .before .before .before .before .before .before .before .before .before .before .before .before .before .before .before .before)))) .args .sheet)) (now ((start-of (round-of (sized-of (c .before .before .before .before .before .before .before .before .before .before .before .before .before .before .before .before .before .before .before .before .before .before)))) .args .load)) (now ((start-of (round-of (sized-of (c .before .before .before .before .before .before .before .before .before .before .before .before .before .before .before .before .before .before .before .before .before .before)))) .args .bus)) (now ((start-of (round-of (sized-of (c .before .before .before .before .before .before .before .before .before .before .before .before .before .before .before .before .before .before .before .before .before .before)))) .args .pmax)) (now ((start-of (round-of (sized-of (c .before .before .before .before .before .before .before .before .before .before .before .before .before .before .before .before .before .before .before .before .before .before)))) .args .leader)) (now ((start-of (round-of (sized-of (c .before .before .before .before .before .before .before .before .before .before .before .before .before .before .before .before .before .before .before .before .before .before)))) .args .grounds)) (now ((start-of (round-of (sized-of (c .before .before .before .before .before .before .before .before .before .before .before .before .before .before .before .before .before .before .before .before .before .before)))) .args .injection)) (length (now ((start-of (round-of (sized-of (c .before .before .before .before .before .before .before .before .before .before .before .before .before .before .before .before .before .before .before .before .before .before)))) .args .leader)))
+    (goesOn ((start-of (round-of (sized-of (c .before .before .before .before .before .before .before .before .before .before .before .before .before .before .before .before .before .before .before .before .before .before)))) .args .mode) ((start-of (round-of (sized-of (c .before .before .before .before .before .before .before .before .before .before .before .before .before .before .before .before .before .before .before .before .before .before)))) .args .above) (now ((start-of (round-of (sized-of (c .before .before .before .before .before .before .before .before .before .before .before .before .before .before .before .before .before .before .before .before .before .before)))) .args .ladder)) (now ((start-of (round-of (sized-of (c .before .before .before .before .before .before .before .before .before .before .before .before .before .before .before .before .before .before .before .before .before .before)))) .args .a)) (now ((start-of (round-of (sized-of (c .before .before .before .before .before .before .before .before .before .before .before .before .before .before .before .before .before .before .before .before .before .before)))) .args .b)) (now ((start-of (round-of (sized-of (c .before .before .before .before .before .before .before .before .before .before .before .before .before .before .before .before .before .before .before .before .before .before)))) .args .km)) (now ((start-of (round-of (sized-of (c .before .before .before .before .before .before .before .before .before .before .before .before .before .before .before .before .before .before .before .before .before .before)))) .args .share)) (now ((start-of (round-of (sized-of (c .before .before .before .before .before .before .before .before .before .before .before .before .before .before .before .before .before .before .before .before .before .before)))) .args .cap)) (now ((start-of (round-of (sized-of (c .before .before .before .before .before .before .before .before .before .before .before .before .before .before .before .before .before .before .before .before .before .before)))) .args .sheet)) (now ((start-of (round-of (sized-of (c .before .before .before .before .before .before .before .before .before .before .before .before .before .before .before .before .before .before .before .before .before .before)))) .args .load)) (now ((start-of (round-of (sized-of (c .before .before .before .before .before .before .before .before .before .before .before .before .before .before .before .before .before .before .before .before .before .before)))) .args .bus)) (now ((start-of (round-of (sized-of (c .before .before .before .before .before .before .before .before .before .before .before .before .before .before .before .before .before .before .before .before .before .before)))) .args .pmax)) (now ((start-of (round-of (sized-of (c .before .before .before .before .before .before .before .before .before .before .before .before .before .before .before .before .before .before .before .before .before .before)))) .args .leader)) (now ((start-of (round-of (sized-of (c .before .before .before .before .before .before .before .before .before .before .before .before .before .before .before .before .before .before .before .before .before .before)))) .args .grounds)) (now ((start-of (round-of (sized-of (c .before .before .before .before .before .before .before .before .before .before .before .before .before .before .before .before .before .before .before .before .before .before)))) .args .injection)) (length (now ((start-of (round-of (sized-of (c .before .before .before .before .before .before .before .before .before .before .before .before .before .before .before .before .before .before .before .before .before .before)))) .args .leader))) ((start-of (round-of (sized-of (c .before .before .before .before .before .before .before .before .before .before .before .before .before .before .before .before .before .before .before .before .before .before)))) .args .budget) (now ((start-of (round-of (sized-of (c .before .before .before .before .before .before .before .before .before .before .before .before .before .before .before .before .before .before .before .before .before .before)))) .args .level)) (now ((start-of (round-of (sized-of (c .before .before .before .before .before .before .before .before .before .before .before .before .before .before .before .before .before .before .before .before .before .before)))) .args .circuits)) (now ((start-of (round-of (sized-of (c .before .before .before .before .before .before .before .before .before .before .before .before .before .before .before .before .before .before .before .before .before .before)))) .args .banks)) (now ((start-of (round-of (sized-of (c .before .before .before .before .before .before .before .before .before .before .before .before .before .before .before .before .before .before .before .before .before .before)))) .args .floors)) (now ((start-of (round-of (sized-of (c .before .before .before .before .before .before .before .before .before .before .before .before .before .before .before .before .before .before .before .before .before .before)))) .args .upsized)) (now ((start-of (round-of (sized-of (c .before .before .before .before .before .before .before .before .before .before .before .before .before .before .before .before .before .before .before .before .before .before)))) .args .angle)) ((start-of (round-of (sized-of (c .before .before .before .before .before .before .before .before .before .before .before .before .before .before .before .before .before .before .before .before .before .before)))) .args .start))
+    ((round-of (sized-of (c .before .before .before .before .before .before .before .before .before .before .before .before .before .before .before .before .before .before .before .before .before .before))) .rounds .left - 1) (c .before .before .before .before .before .before .before .before .before .before .before .before .before .before .before .before .before .before .before .before .before .before .loop2 .level) ((c .before .before .before .before .before .before .before .before .before .before .before .before .before .before .before .before .before .before .before .before .before .before) .before .before .before .before .before .before .before .limits-of .result) ((sized-of (c .before .before .before .before .before .before .before .before .before .before .before .before .before .before .before .before .before .before .before .before .before .before)) .before .before .before .before .before .before .before .before .before .before .before .before .before .before .draw-edges .result .from) ((sized-of (c .before .before .before .before .before .before .before .before .before .before .before .before .before .before .before .before .before .before .before .before .before .before)) .before .before .before .before .before .before .before .before .before .before .before .before .before .before .draw-edges .result .to) ((sized-of (c .before .before .before .before .before .before .before .before .before .before .before .before .before .before .before .before .before .before .before .before .before .before)) .before .before .before .before .before .before .before .before .before .before .before .before .before .before .draw-edges .result .weight) ((sized-of (c .before .before .before .before .before .before .before .before .before .before .before .before .before .before .before .before .before .before .before .before .before .before)) .before .before .before .before .before .before .before .before .before .before .before .peak-state .last .1 .1 .1 .0) ((sized-of (c .before .before .before .before .before .before .before .before .before .before .before .before .before .before .before .before .before .before .before .before .before .before)) .before .before .before .before .before .before .before .before .before .before .before .peak-state .last .1 .1 .1 .1 .0) (c .before .before .before .before .before .before .before .before .before .before .before .before .before .before .before .before .before .before .before .before .before .before .loop2 .p) ((sized-of (c .before .before .before .before .before .before .before .before .before .before .before .before .before .before .before .before .before .before .before .before .before .before)) .loop .t) (ap (λ (x : List ℕ). length x) (c .before .before .before .before .before .before .before .before .before .before .before .before .before .before .before .before .before .before .before .before .before .before .loop2 .inv .1 ∙ (sized-of (c .before .before .before .before .before .before .before .before .before .before .before .before .before .before .before .before .before .before .before .before .before .before)) .loop .inv .1) ∙ sym ((round-of (sized-of (c .before .before .before .before .before .before .before .before .before .before .before .before .before .before .before .before .before .before .before .before .before .before))) .rounds .inv .0 .places .leader-size)) (c .before .before .before .before .before .before .before .before .before .before .before .before .before .before .before .before .before .before .before .before .before .before .loop2 .i) (c .before .before .before .before .before .before .before .before .before .before .before .before .before .before .before .before .before .before .before .before .before .before .loop2 .circuits) (c .before .before .before .before .before .before .before .before .before .before .before .before .before .before .before .before .before .before .before .before .before .before .loop2 .banks) (c .before .before .before .before .before .before .before .before .before .before .before .before .before .before .before .before .before .before .before .before .before .before .loop2 .floors) (c .before .before .before .before .before .before .before .before .before .before .before .before .before .before .before .before .before .before .before .before .before .before .loop2 .upsized) (c .before .before .before .before .before .before .before .before .before .before .before .before .before .before .before .before .before .before .before .before .before .before .loop2 .marks) (c .before .before .before .before .before .before .before .before .before .before .before .before .before .before .before .before .before .before .before .before .before .before .loop2 .s) (whole (c .before .before .before .before .before .before .before .before .before .before .before .before .before .before)) (c .before .before .before .before .before .before .before .before .before .before .before .before .before .before .before .before .before .before .before .before .before .loop2-test .taken) (c .before .before .before .before .before .before .before .before .before .before .before .before .before .stiffen-led .last .1 .1 .1 .1 .1 .1 .1 .1 .1 .1 .1 .1 .1 .1 .1 .0) (c .before .before .before .before .before .before .before .before .before .before .before .before .before .stiffen-led .last .1 .1 .1 .1 .1 .1 .1 .1 .1 .1 .1 .1 .1 .1 .1 .1 .0) (c .before .before .before .before .before .before .before .before .before .before .before .before .before .stiffen-led .last .1 .1 .1 .1 .1 .1 .1 .1 .1 .1 .1 .1 .1 .1 .1 .1 .1 .0) (c .before .before .before .before .before .before .before .before .before .before .before .before .before .stiffen-led .last .1 .1 .1 .1 .1 .1 .1 .1 .1 .1 .1 .1 .1 .1 .1 .1 .1 .1 .0) (c .before .before .before .before .before .before .before .before .before .before .before .before .before .stiffen-led .last .1 .1 .1 .1 .1 .1 .1 .1 .1 .1 .1 .1 .1 .1 .1 .1 .1 .1 .1 .0) (c .before .before .before .before .before .before .before .before .before .before .before .before .before .stiffen-led .result) (c .before .before .before .before .before .before .before .before .before .before .before .before .before .stiffen-led .ensures) (c .before .u .given .0 .0) (c .before .u .given .1)
 
 raise-marked-requires-2 :
     tie.Need-raise-marked-requires-2
@@ -523,10 +525,10 @@ raise-marked-requires-2 c κs =
         loads = subst (λ (x : List ℕ). Loads x (now (z .load))) (sym lv) (f .columns .loads);
         units = f .columns .units;
         few = f .columns .few;
-        floor-size = c .before .before .before .before .before .before .before .before .before .before .before .before .before .before .before .before .before .before .stiffen-led .kept .1 .1 .1 .1 .1 .1 .1 .1 .1 .1 .1 .1 .1 .1 .1 .1 .0 ∙ k .inv .3 .2 ∙ l .inv .3 .floor-size;
-        bank-size = c .before .before .before .before .before .before .before .before .before .before .before .before .before .before .before .before .before .before .stiffen-led .kept .1 .1 .1 .1 .1 .1 .1 .1 .1 .1 .1 .1 .1 .1 .1 .0 ∙ k .inv .3 .1 ∙ l .inv .3 .bank-size;
+        floor-size = c .before .before .before .before .before .before .before .before .before .before .before .before .before .before .before .before .before .before .stiffen-led .kept .1 .1 .1 .1 .1 .1 .1 .1 .1 .1 .1 .1 .1 .1 .1 .1 .1 .0 ∙ k .inv .3 .2 ∙ l .inv .3 .floor-size;
+        bank-size = c .before .before .before .before .before .before .before .before .before .before .before .before .before .before .before .before .before .before .stiffen-led .kept .1 .1 .1 .1 .1 .1 .1 .1 .1 .1 .1 .1 .1 .1 .1 .1 .0 ∙ k .inv .3 .1 ∙ l .inv .3 .bank-size;
       },
-      (c .before .before .before .before .before .before .before .before .before .before .before .before .before .before .before .before .before .before .stiffen-led .kept .1 .1 .1 .1 .1 .1 .1 .1 .1 .1 .1 .1 .1 .1 .1 .1 .1 .1 .0 ∙ k .inv .3 .4 ∙ (c .before .before .before .before .before .before .before .before .before .before .before .before .before .before .before .before .before .before .before .before .before .before .before .before .before .before .before) .before .before .before .stiffness-from .kept .1 .1 .1 .1 .0 ∙ l .inv .3 .mark-size ∙ ap (λ (x : List ℕ). length x) (sym (k .inv .1)), c .before .before .before .before .before .before .before .before .before .before .before .before .before .before .before .before .before .before .stiffen-led .ensures .banked),
+      (c .before .before .before .before .before .before .before .before .before .before .before .before .before .before .before .before .before .before .stiffen-led .kept .1 .1 .1 .1 .1 .1 .1 .1 .1 .1 .1 .1 .1 .1 .1 .1 .1 .1 .1 .0 ∙ k .inv .3 .4 ∙ (c .before .before .before .before .before .before .before .before .before .before .before .before .before .before .before .before .before .before .before .before .before .before .before .before .before .before .before) .before .before .before .stiffness-from .kept .1 .1 .1 .1 .0 ∙ l .inv .3 .mark-size ∙ ap (λ (x : List ℕ). length x) (sym (k .inv .1)), c .before .before .before .before .before .before .before .before .before .before .before .before .before .before .before .before .before .before .stiffen-led .ensures .banked),
     )
 
 add-p-3 :
@@ -566,11 +568,11 @@ rounds-again-3 c =
           f
           n
           (c .before .before .before .before .before .before .before .raise-marked2 .ensures .lines)
-          (c .before .before .before .before .before .before .before .before .before .before .before .before .before .before .before .before .before .before .before .before .before .before .before .before .before .before .stiffen-led .kept .1 .1 .1 .1 .1 .1 .1 .1 .1 .1 .1 .1 .1 .1 .0 ∙ k .inv .3 .0 ∙ l .inv .3 .count-size)
-          (c .before .before .before .before .before .before .before .raise-marked2 .kept .1 .1 .1 .1 .1 .1 .1 .1 .1 .1 .1 .1 .0 ∙ c .before .before .before .before .before .before .before .before .before .before .before .before .before .before .before .before .before .before .before .before .before .before .before .before .before .before .stiffen-led .kept .1 .1 .1 .1 .1 .1 .1 .1 .1 .1 .1 .1 .1 .1 .1 .0 ∙ k .inv .3 .1 ∙ l .inv .3 .bank-size)
-          (c .before .before .before .before .before .before .before .before .before .before .before .before .before .before .before .before .before .before .before .before .before .before .before .before .before .before .stiffen-led .kept .1 .1 .1 .1 .1 .1 .1 .1 .1 .1 .1 .1 .1 .1 .1 .1 .0 ∙ k .inv .3 .2 ∙ l .inv .3 .floor-size)
-          (c .before .before .before .before .before .before .before .before .before .before .before .before .before .before .before .before .before .before .before .before .before .before .before .before .before .before .stiffen-led .kept .1 .1 .1 .1 .1 .1 .1 .1 .1 .1 .1 .1 .1 .1 .1 .1 .1 .0 ∙ k .inv .3 .3 ∙ l .inv .3 .upsized-size)
-          (c .before .before .before .before .before .before .before .before .before .before .before .before .before .before .before .before .before .before .before .before .before .before .before .before .before .before .stiffen-led .kept .1 .1 .1 .1 .1 .1 .1 .1 .1 .1 .1 .1 .1 .1 .1 .1 .1 .1 .0 ∙ k .inv .3 .4 ∙ (c .before .before .before .before .before .before .before .before .before .before .before .before .before .before .before .before .before .before .before .before .before .before .before .before .before .before .before .before .before .before .before .before .before .before .before) .before .before .before .stiffness-from .kept .1 .1 .1 .1 .0 ∙ l .inv .3 .mark-size ∙ ap (λ (x : List ℕ). length x) (l .inv .1))
+          (c .before .before .before .before .before .before .before .before .before .before .before .before .before .before .before .before .before .before .before .before .before .before .before .before .before .before .stiffen-led .kept .1 .1 .1 .1 .1 .1 .1 .1 .1 .1 .1 .1 .1 .1 .1 .0 ∙ k .inv .3 .0 ∙ l .inv .3 .count-size)
+          (c .before .before .before .before .before .before .before .raise-marked2 .kept .1 .1 .1 .1 .1 .1 .1 .1 .1 .1 .1 .1 .0 ∙ c .before .before .before .before .before .before .before .before .before .before .before .before .before .before .before .before .before .before .before .before .before .before .before .before .before .before .stiffen-led .kept .1 .1 .1 .1 .1 .1 .1 .1 .1 .1 .1 .1 .1 .1 .1 .1 .0 ∙ k .inv .3 .1 ∙ l .inv .3 .bank-size)
+          (c .before .before .before .before .before .before .before .before .before .before .before .before .before .before .before .before .before .before .before .before .before .before .before .before .before .before .stiffen-led .kept .1 .1 .1 .1 .1 .1 .1 .1 .1 .1 .1 .1 .1 .1 .1 .1 .1 .0 ∙ k .inv .3 .2 ∙ l .inv .3 .floor-size)
+          (c .before .before .before .before .before .before .before .before .before .before .before .before .before .before .before .before .before .before .before .before .before .before .before .before .before .before .stiffen-led .kept .1 .1 .1 .1 .1 .1 .1 .1 .1 .1 .1 .1 .1 .1 .1 .1 .1 .1 .0 ∙ k .inv .3 .3 ∙ l .inv .3 .upsized-size)
+          (c .before .before .before .before .before .before .before .before .before .before .before .before .before .before .before .before .before .before .before .before .before .before .before .before .before .before .stiffen-led .kept .1 .1 .1 .1 .1 .1 .1 .1 .1 .1 .1 .1 .1 .1 .1 .1 .1 .1 .1 .0 ∙ k .inv .3 .4 ∙ (c .before .before .before .before .before .before .before .before .before .before .before .before .before .before .before .before .before .before .before .before .before .before .before .before .before .before .before .before .before .before .before .before .before .before .before) .before .before .before .stiffness-from .kept .1 .1 .1 .1 .0 ∙ l .inv .3 .mark-size ∙ ap (λ (x : List ℕ). length x) (l .inv .1))
           ((sized-of (c .before .before .before .before .before .before .before .before .before .before .before .before .before .before .before .before .before .before .before .before .before .before .before .before .before .before .before .before .before .before .before .before .before .before .before)) .before .before .before .before .before .before .before .before .before .before .before .peak-state .kept .1 .1 .1 .0 ∙ r .inv .0 .places .angle-size)
           ((sized-of (c .before .before .before .before .before .before .before .before .before .before .before .before .before .before .before .before .before .before .before .before .before .before .before .before .before .before .before .before .before .before .before .before .before .before .before)) .before .before .before .before .before .before .before .before .before .before .before .peak-state .kept .1 .1 .1 .1 .0 ∙ r .inv .0 .places .flow-size)
           (
@@ -584,9 +586,9 @@ rounds-again-3 c =
           (c .before .before .before .before .before .before .before .raise-marked2 .ensures .banked)
           (c .before .before .before .before .before .before .before .before .before .before .before .before .before .before .before .before .before .before .before .before .before .before .before .before .before .before .stiffen-led .ensures .few (k .inv .5)),
       n ∙ r .inv .1,
-      stiffened-again (z .mode) (z .above) (now (z .ladder)) (now (z .a)) (now (z .b)) (now (z .km)) (now (z .share)) (now (z .sheet)) (now (z .load)) (now (z .bus)) (now (z .pmax)) (now (z .leader)) (now (z .grounds)) (now (z .injection)) (length (now (z .leader)))
-          (goesOn (z .mode) (z .above) (now (z .ladder)) (now (z .a)) (now (z .b)) (now (z .km)) (now (z .share)) (now (z .sheet)) (now (z .load)) (now (z .bus)) (now (z .pmax)) (now (z .leader)) (now (z .grounds)) (now (z .injection)) (length (now (z .leader))) (z .budget) (now (z .level)) (now (z .circuits)) (now (z .banks)) (now (z .floors)) (now (z .upsized)) (now (z .angle)) (z .start))
-          (r .left - 1) (k .level) ((c .before .before .before .before .before .before .before .before .before .before .before .before .before .before .before .before .before .before .before .before .before .before .before .before .before .before .before .before .before .before .before .before .before .before .before) .before .before .before .before .before .before .before .limits-of .result) ((sized-of (c .before .before .before .before .before .before .before .before .before .before .before .before .before .before .before .before .before .before .before .before .before .before .before .before .before .before .before .before .before .before .before .before .before .before .before)) .before .before .before .before .before .before .before .before .before .before .before .before .before .before .draw-edges .result .from) ((sized-of (c .before .before .before .before .before .before .before .before .before .before .before .before .before .before .before .before .before .before .before .before .before .before .before .before .before .before .before .before .before .before .before .before .before .before .before)) .before .before .before .before .before .before .before .before .before .before .before .before .before .before .draw-edges .result .to) ((sized-of (c .before .before .before .before .before .before .before .before .before .before .before .before .before .before .before .before .before .before .before .before .before .before .before .before .before .before .before .before .before .before .before .before .before .before .before)) .before .before .before .before .before .before .before .before .before .before .before .before .before .before .draw-edges .result .weight) ((sized-of (c .before .before .before .before .before .before .before .before .before .before .before .before .before .before .before .before .before .before .before .before .before .before .before .before .before .before .before .before .before .before .before .before .before .before .before)) .before .before .before .before .before .before .before .before .before .before .before .peak-state .last .1 .1 .1 .0) ((sized-of (c .before .before .before .before .before .before .before .before .before .before .before .before .before .before .before .before .before .before .before .before .before .before .before .before .before .before .before .before .before .before .before .before .before .before .before)) .before .before .before .before .before .before .before .before .before .before .before .peak-state .last .1 .1 .1 .1 .0) (k .p) (l .t) (ln ∙ sym (f .places .leader-size)) (k .i + 1) (c .before .before .before .before .before .before .before .before .before .before .before .before .before .before .before .before .before .before .before .before .before .before .before .before .before .before .stiffen-led .last .1 .1 .1 .1 .1 .1 .1 .1 .1 .1 .1 .1 .1 .1 .0) (c .before .before .before .before .before .before .before .before .before .before .before .before .before .before .before .before .before .before .before .before .before .before .before .before .before .before .stiffen-led .last .1 .1 .1 .1 .1 .1 .1 .1 .1 .1 .1 .1 .1 .1 .1 .0) (c .before .before .before .before .before .before .before .before .before .before .before .before .before .before .before .before .before .before .before .before .before .before .before .before .before .before .stiffen-led .last .1 .1 .1 .1 .1 .1 .1 .1 .1 .1 .1 .1 .1 .1 .1 .1 .0) (c .before .before .before .before .before .before .before .before .before .before .before .before .before .before .before .before .before .before .before .before .before .before .before .before .before .before .stiffen-led .last .1 .1 .1 .1 .1 .1 .1 .1 .1 .1 .1 .1 .1 .1 .1 .1 .1 .0) (c .before .before .before .before .before .before .before .before .before .before .before .before .before .before .before .before .before .before .before .before .before .before .before .before .before .before .stiffen-led .last .1 .1 .1 .1 .1 .1 .1 .1 .1 .1 .1 .1 .1 .1 .1 .1 .1 .1 .0) (c .before .before .before .before .before .before .before .before .before .before .before .before .before .before .u .given .0 .0) (next (c .before .before .before .before .before .before .before .before .before .before .before .before .before)) (omega (arith, c .before .before .before .before .before .before .before .before .before .before .before .before .if5 .taken)) (omega (arith, ap (λ (q : Progress). q .rounds) (k .inv .2 ∙ l .inv .2))) (ap (λ (q : Progress). q .converged) (k .inv .2 ∙ l .inv .2)) (ap (λ (q : Progress). q .settled) (k .inv .2 ∙ l .inv .2)) (c .before .before .before .before .before .before .before .raise-marked2 .last .1 .1 .1 .1 .1 .1 .1 .1 .1 .1 .1 .0) (c .before .before .before .before .before .before .before .raise-marked2 .last .1 .1 .1 .1 .1 .1 .1 .1 .1 .1 .1 .1 .0) (c .before .before .before .before .before .before .before .raise-marked2 .result) (c .before .before .before .before .before .before .before .raise-marked2 .ensures) (c .if6 .taken),
+      stiffened-again (z .mode) (z .above) (now (z .ladder)) (now (z .a)) (now (z .b)) (now (z .km)) (now (z .share)) (now (z .cap)) (now (z .sheet)) (now (z .load)) (now (z .bus)) (now (z .pmax)) (now (z .leader)) (now (z .grounds)) (now (z .injection)) (length (now (z .leader)))
+          (goesOn (z .mode) (z .above) (now (z .ladder)) (now (z .a)) (now (z .b)) (now (z .km)) (now (z .share)) (now (z .cap)) (now (z .sheet)) (now (z .load)) (now (z .bus)) (now (z .pmax)) (now (z .leader)) (now (z .grounds)) (now (z .injection)) (length (now (z .leader))) (z .budget) (now (z .level)) (now (z .circuits)) (now (z .banks)) (now (z .floors)) (now (z .upsized)) (now (z .angle)) (z .start))
+          (r .left - 1) (k .level) ((c .before .before .before .before .before .before .before .before .before .before .before .before .before .before .before .before .before .before .before .before .before .before .before .before .before .before .before .before .before .before .before .before .before .before .before) .before .before .before .before .before .before .before .limits-of .result) ((sized-of (c .before .before .before .before .before .before .before .before .before .before .before .before .before .before .before .before .before .before .before .before .before .before .before .before .before .before .before .before .before .before .before .before .before .before .before)) .before .before .before .before .before .before .before .before .before .before .before .before .before .before .draw-edges .result .from) ((sized-of (c .before .before .before .before .before .before .before .before .before .before .before .before .before .before .before .before .before .before .before .before .before .before .before .before .before .before .before .before .before .before .before .before .before .before .before)) .before .before .before .before .before .before .before .before .before .before .before .before .before .before .draw-edges .result .to) ((sized-of (c .before .before .before .before .before .before .before .before .before .before .before .before .before .before .before .before .before .before .before .before .before .before .before .before .before .before .before .before .before .before .before .before .before .before .before)) .before .before .before .before .before .before .before .before .before .before .before .before .before .before .draw-edges .result .weight) ((sized-of (c .before .before .before .before .before .before .before .before .before .before .before .before .before .before .before .before .before .before .before .before .before .before .before .before .before .before .before .before .before .before .before .before .before .before .before)) .before .before .before .before .before .before .before .before .before .before .before .peak-state .last .1 .1 .1 .0) ((sized-of (c .before .before .before .before .before .before .before .before .before .before .before .before .before .before .before .before .before .before .before .before .before .before .before .before .before .before .before .before .before .before .before .before .before .before .before)) .before .before .before .before .before .before .before .before .before .before .before .peak-state .last .1 .1 .1 .1 .0) (k .p) (l .t) (ln ∙ sym (f .places .leader-size)) (k .i + 1) (c .before .before .before .before .before .before .before .before .before .before .before .before .before .before .before .before .before .before .before .before .before .before .before .before .before .before .stiffen-led .last .1 .1 .1 .1 .1 .1 .1 .1 .1 .1 .1 .1 .1 .1 .1 .0) (c .before .before .before .before .before .before .before .before .before .before .before .before .before .before .before .before .before .before .before .before .before .before .before .before .before .before .stiffen-led .last .1 .1 .1 .1 .1 .1 .1 .1 .1 .1 .1 .1 .1 .1 .1 .1 .0) (c .before .before .before .before .before .before .before .before .before .before .before .before .before .before .before .before .before .before .before .before .before .before .before .before .before .before .stiffen-led .last .1 .1 .1 .1 .1 .1 .1 .1 .1 .1 .1 .1 .1 .1 .1 .1 .1 .0) (c .before .before .before .before .before .before .before .before .before .before .before .before .before .before .before .before .before .before .before .before .before .before .before .before .before .before .stiffen-led .last .1 .1 .1 .1 .1 .1 .1 .1 .1 .1 .1 .1 .1 .1 .1 .1 .1 .1 .0) (c .before .before .before .before .before .before .before .before .before .before .before .before .before .before .before .before .before .before .before .before .before .before .before .before .before .before .stiffen-led .last .1 .1 .1 .1 .1 .1 .1 .1 .1 .1 .1 .1 .1 .1 .1 .1 .1 .1 .1 .0) (c .before .before .before .before .before .before .before .before .before .before .before .before .before .before .u .given .0 .0) (next (c .before .before .before .before .before .before .before .before .before .before .before .before .before)) (omega (arith, c .before .before .before .before .before .before .before .before .before .before .before .before .if5 .taken)) (omega (arith, ap (λ (q : Progress). q .rounds) (k .inv .2 ∙ l .inv .2))) (ap (λ (q : Progress). q .converged) (k .inv .2 ∙ l .inv .2)) (ap (λ (q : Progress). q .settled) (k .inv .2 ∙ l .inv .2)) (c .before .before .before .before .before .before .before .raise-marked2 .last .1 .1 .1 .1 .1 .1 .1 .1 .1 .1 .1 .0) (c .before .before .before .before .before .before .before .raise-marked2 .last .1 .1 .1 .1 .1 .1 .1 .1 .1 .1 .1 .1 .0) (c .before .before .before .before .before .before .before .raise-marked2 .result) (c .before .before .before .before .before .before .before .raise-marked2 .ensures) (c .if6 .taken),
     )
 
 loop2-less :
@@ -619,13 +621,13 @@ loop2-again c =
       omega (arith, c .before .before .before .before .before .before .before .before .before .before .before .before .before .before .before .before .before .before .before .before .before .before .loop2-test .taken, c .if5 .left),
       k .inv .1,
       k .inv .2,
-      (c .before .before .before .before .before .before .before .before .before .before .before .before .before .before .stiffen-led .kept .1 .1 .1 .1 .1 .1 .1 .1 .1 .1 .1 .1 .1 .1 .0 ∙ k .inv .3 .0, c .before .before .before .before .before .before .before .before .before .before .before .before .before .before .stiffen-led .kept .1 .1 .1 .1 .1 .1 .1 .1 .1 .1 .1 .1 .1 .1 .1 .0 ∙ k .inv .3 .1, c .before .before .before .before .before .before .before .before .before .before .before .before .before .before .stiffen-led .kept .1 .1 .1 .1 .1 .1 .1 .1 .1 .1 .1 .1 .1 .1 .1 .1 .0 ∙ k .inv .3 .2, c .before .before .before .before .before .before .before .before .before .before .before .before .before .before .stiffen-led .kept .1 .1 .1 .1 .1 .1 .1 .1 .1 .1 .1 .1 .1 .1 .1 .1 .1 .0 ∙ k .inv .3 .3, c .before .before .before .before .before .before .before .before .before .before .before .before .before .before .stiffen-led .kept .1 .1 .1 .1 .1 .1 .1 .1 .1 .1 .1 .1 .1 .1 .1 .1 .1 .1 .0 ∙ k .inv .3 .4),
+      (c .before .before .before .before .before .before .before .before .before .before .before .before .before .before .stiffen-led .kept .1 .1 .1 .1 .1 .1 .1 .1 .1 .1 .1 .1 .1 .1 .1 .0 ∙ k .inv .3 .0, c .before .before .before .before .before .before .before .before .before .before .before .before .before .before .stiffen-led .kept .1 .1 .1 .1 .1 .1 .1 .1 .1 .1 .1 .1 .1 .1 .1 .1 .0 ∙ k .inv .3 .1, c .before .before .before .before .before .before .before .before .before .before .before .before .before .before .stiffen-led .kept .1 .1 .1 .1 .1 .1 .1 .1 .1 .1 .1 .1 .1 .1 .1 .1 .1 .0 ∙ k .inv .3 .2, c .before .before .before .before .before .before .before .before .before .before .before .before .before .before .stiffen-led .kept .1 .1 .1 .1 .1 .1 .1 .1 .1 .1 .1 .1 .1 .1 .1 .1 .1 .1 .0 ∙ k .inv .3 .3, c .before .before .before .before .before .before .before .before .before .before .before .before .before .before .stiffen-led .kept .1 .1 .1 .1 .1 .1 .1 .1 .1 .1 .1 .1 .1 .1 .1 .1 .1 .1 .1 .0 ∙ k .inv .3 .4),
       c .before .before .before .before .before .before .before .before .before .before .before .before .before .before .stiffen-led .ensures .banked,
       c .before .before .before .before .before .before .before .before .before .before .before .before .before .before .stiffen-led .ensures .few (k .inv .5),
       (circuits-more _ (k .s .total) _ (length (now (z .a))) (k .i) (w .0) (k .inv .6 .0) (f .columns .few), ends-more _ (k .s .hv) _ (length (now (z .a))) (k .i) (w .1) (k .inv .6 .1) (f .columns .few), circuits-more _ (k .s .stiffening) _ (length (now (z .a))) (k .i) (w .2) (k .inv .6 .2) (f .columns .few)),
-      stiffen-next (z .mode) (z .above) (now (z .ladder)) (now (z .a)) (now (z .b)) (now (z .km)) (now (z .share)) (now (z .sheet)) (now (z .load)) (now (z .bus)) (now (z .pmax)) (now (z .leader)) (now (z .grounds)) (now (z .injection)) (length (now (z .leader)))
-          (stiffensOn (z .mode) (z .above) (now (z .ladder)) (now (z .a)) (now (z .b)) (now (z .km)) (now (z .share)) (now (z .sheet)) (now (z .load)) (now (z .bus)) (now (z .pmax)) (now (z .leader)) (now (z .grounds)) (now (z .injection)) (length (now (z .leader))) (r .left - 1) (l .level) ((c .before .before .before .before .before .before .before .before .before .before .before .before .before .before .before .before .before .before .before .before .before .before .before) .before .before .before .before .before .before .before .limits-of .result) ((sized-of (c .before .before .before .before .before .before .before .before .before .before .before .before .before .before .before .before .before .before .before .before .before .before .before)) .before .before .before .before .before .before .before .before .before .before .before .before .before .before .draw-edges .result .from) ((sized-of (c .before .before .before .before .before .before .before .before .before .before .before .before .before .before .before .before .before .before .before .before .before .before .before)) .before .before .before .before .before .before .before .before .before .before .before .before .before .before .draw-edges .result .to) ((sized-of (c .before .before .before .before .before .before .before .before .before .before .before .before .before .before .before .before .before .before .before .before .before .before .before)) .before .before .before .before .before .before .before .before .before .before .before .before .before .before .draw-edges .result .weight) ((sized-of (c .before .before .before .before .before .before .before .before .before .before .before .before .before .before .before .before .before .before .before .before .before .before .before)) .before .before .before .before .before .before .before .before .before .before .before .peak-state .last .1 .1 .1 .0) ((sized-of (c .before .before .before .before .before .before .before .before .before .before .before .before .before .before .before .before .before .before .before .before .before .before .before)) .before .before .before .before .before .before .before .before .before .before .before .peak-state .last .1 .1 .1 .1 .0) (l .p) (l .t) 0 (l .circuits) (l .banks) (l .floors) (l .upsized) ((c .before .before .before .before .before .before .before .before .before .before .before .before .before .before .before .before .before .before .before .before .before .before .before) .before .before .before .stiffness-from .last .1 .1 .1 .1 .0) ((c .before .before .before .before .before .before .before .before .before .before .before .before .before .before .before .before .before .before .before .before .before .before .before) .before .before .before .stiffness-from .result))
-          (r .left - 1) (k .level) ((c .before .before .before .before .before .before .before .before .before .before .before .before .before .before .before .before .before .before .before .before .before .before .before) .before .before .before .before .before .before .before .limits-of .result) ((sized-of (c .before .before .before .before .before .before .before .before .before .before .before .before .before .before .before .before .before .before .before .before .before .before .before)) .before .before .before .before .before .before .before .before .before .before .before .before .before .before .draw-edges .result .from) ((sized-of (c .before .before .before .before .before .before .before .before .before .before .before .before .before .before .before .before .before .before .before .before .before .before .before)) .before .before .before .before .before .before .before .before .before .before .before .before .before .before .draw-edges .result .to) ((sized-of (c .before .before .before .before .before .before .before .before .before .before .before .before .before .before .before .before .before .before .before .before .before .before .before)) .before .before .before .before .before .before .before .before .before .before .before .before .before .before .draw-edges .result .weight) ((sized-of (c .before .before .before .before .before .before .before .before .before .before .before .before .before .before .before .before .before .before .before .before .before .before .before)) .before .before .before .before .before .before .before .before .before .before .before .peak-state .last .1 .1 .1 .0) ((sized-of (c .before .before .before .before .before .before .before .before .before .before .before .before .before .before .before .before .before .before .before .before .before .before .before)) .before .before .before .before .before .before .before .before .before .before .before .peak-state .last .1 .1 .1 .1 .0) (k .p) (l .t) (ln ∙ sym (f .places .leader-size)) (k .i) (k .circuits) (k .banks) (k .floors) (k .upsized) (k .marks) (k .s) (k .inv .7) (c .before .before .before .before .before .before .before .before .before .before .before .before .before .before .before .before .before .before .before .before .before .before .loop2-test .taken) (c .before .before .before .before .before .before .before .before .before .before .before .before .before .before .stiffen-led .last .1 .1 .1 .1 .1 .1 .1 .1 .1 .1 .1 .1 .1 .1 .0) (c .before .before .before .before .before .before .before .before .before .before .before .before .before .before .stiffen-led .last .1 .1 .1 .1 .1 .1 .1 .1 .1 .1 .1 .1 .1 .1 .1 .0) (c .before .before .before .before .before .before .before .before .before .before .before .before .before .before .stiffen-led .last .1 .1 .1 .1 .1 .1 .1 .1 .1 .1 .1 .1 .1 .1 .1 .1 .0) (c .before .before .before .before .before .before .before .before .before .before .before .before .before .before .stiffen-led .last .1 .1 .1 .1 .1 .1 .1 .1 .1 .1 .1 .1 .1 .1 .1 .1 .1 .0) (c .before .before .before .before .before .before .before .before .before .before .before .before .before .before .stiffen-led .last .1 .1 .1 .1 .1 .1 .1 .1 .1 .1 .1 .1 .1 .1 .1 .1 .1 .1 .0) (c .before .before .before .before .before .before .before .before .before .before .before .before .before .before .stiffen-led .result) (c .before .before .before .before .before .before .before .before .before .before .before .before .before .before .stiffen-led .ensures) (c .before .before .u .given .0 .0) (c .before .before .u .given .1),
+      stiffen-next (z .mode) (z .above) (now (z .ladder)) (now (z .a)) (now (z .b)) (now (z .km)) (now (z .share)) (now (z .cap)) (now (z .sheet)) (now (z .load)) (now (z .bus)) (now (z .pmax)) (now (z .leader)) (now (z .grounds)) (now (z .injection)) (length (now (z .leader)))
+          (stiffensOn (z .mode) (z .above) (now (z .ladder)) (now (z .a)) (now (z .b)) (now (z .km)) (now (z .share)) (now (z .cap)) (now (z .sheet)) (now (z .load)) (now (z .bus)) (now (z .pmax)) (now (z .leader)) (now (z .grounds)) (now (z .injection)) (length (now (z .leader))) (r .left - 1) (l .level) ((c .before .before .before .before .before .before .before .before .before .before .before .before .before .before .before .before .before .before .before .before .before .before .before) .before .before .before .before .before .before .before .limits-of .result) ((sized-of (c .before .before .before .before .before .before .before .before .before .before .before .before .before .before .before .before .before .before .before .before .before .before .before)) .before .before .before .before .before .before .before .before .before .before .before .before .before .before .draw-edges .result .from) ((sized-of (c .before .before .before .before .before .before .before .before .before .before .before .before .before .before .before .before .before .before .before .before .before .before .before)) .before .before .before .before .before .before .before .before .before .before .before .before .before .before .draw-edges .result .to) ((sized-of (c .before .before .before .before .before .before .before .before .before .before .before .before .before .before .before .before .before .before .before .before .before .before .before)) .before .before .before .before .before .before .before .before .before .before .before .before .before .before .draw-edges .result .weight) ((sized-of (c .before .before .before .before .before .before .before .before .before .before .before .before .before .before .before .before .before .before .before .before .before .before .before)) .before .before .before .before .before .before .before .before .before .before .before .peak-state .last .1 .1 .1 .0) ((sized-of (c .before .before .before .before .before .before .before .before .before .before .before .before .before .before .before .before .before .before .before .before .before .before .before)) .before .before .before .before .before .before .before .before .before .before .before .peak-state .last .1 .1 .1 .1 .0) (l .p) (l .t) 0 (l .circuits) (l .banks) (l .floors) (l .upsized) ((c .before .before .before .before .before .before .before .before .before .before .before .before .before .before .before .before .before .before .before .before .before .before .before) .before .before .before .stiffness-from .last .1 .1 .1 .1 .0) ((c .before .before .before .before .before .before .before .before .before .before .before .before .before .before .before .before .before .before .before .before .before .before .before) .before .before .before .stiffness-from .result))
+          (r .left - 1) (k .level) ((c .before .before .before .before .before .before .before .before .before .before .before .before .before .before .before .before .before .before .before .before .before .before .before) .before .before .before .before .before .before .before .limits-of .result) ((sized-of (c .before .before .before .before .before .before .before .before .before .before .before .before .before .before .before .before .before .before .before .before .before .before .before)) .before .before .before .before .before .before .before .before .before .before .before .before .before .before .draw-edges .result .from) ((sized-of (c .before .before .before .before .before .before .before .before .before .before .before .before .before .before .before .before .before .before .before .before .before .before .before)) .before .before .before .before .before .before .before .before .before .before .before .before .before .before .draw-edges .result .to) ((sized-of (c .before .before .before .before .before .before .before .before .before .before .before .before .before .before .before .before .before .before .before .before .before .before .before)) .before .before .before .before .before .before .before .before .before .before .before .before .before .before .draw-edges .result .weight) ((sized-of (c .before .before .before .before .before .before .before .before .before .before .before .before .before .before .before .before .before .before .before .before .before .before .before)) .before .before .before .before .before .before .before .before .before .before .before .peak-state .last .1 .1 .1 .0) ((sized-of (c .before .before .before .before .before .before .before .before .before .before .before .before .before .before .before .before .before .before .before .before .before .before .before)) .before .before .before .before .before .before .before .before .before .before .before .peak-state .last .1 .1 .1 .1 .0) (k .p) (l .t) (ln ∙ sym (f .places .leader-size)) (k .i) (k .circuits) (k .banks) (k .floors) (k .upsized) (k .marks) (k .s) (k .inv .7) (c .before .before .before .before .before .before .before .before .before .before .before .before .before .before .before .before .before .before .before .before .before .before .loop2-test .taken) (c .before .before .before .before .before .before .before .before .before .before .before .before .before .before .stiffen-led .last .1 .1 .1 .1 .1 .1 .1 .1 .1 .1 .1 .1 .1 .1 .1 .0) (c .before .before .before .before .before .before .before .before .before .before .before .before .before .before .stiffen-led .last .1 .1 .1 .1 .1 .1 .1 .1 .1 .1 .1 .1 .1 .1 .1 .1 .0) (c .before .before .before .before .before .before .before .before .before .before .before .before .before .before .stiffen-led .last .1 .1 .1 .1 .1 .1 .1 .1 .1 .1 .1 .1 .1 .1 .1 .1 .1 .0) (c .before .before .before .before .before .before .before .before .before .before .before .before .before .before .stiffen-led .last .1 .1 .1 .1 .1 .1 .1 .1 .1 .1 .1 .1 .1 .1 .1 .1 .1 .1 .0) (c .before .before .before .before .before .before .before .before .before .before .before .before .before .before .stiffen-led .last .1 .1 .1 .1 .1 .1 .1 .1 .1 .1 .1 .1 .1 .1 .1 .1 .1 .1 .1 .0) (c .before .before .before .before .before .before .before .before .before .before .before .before .before .before .stiffen-led .result) (c .before .before .before .before .before .before .before .before .before .before .before .before .before .before .stiffen-led .ensures) (c .before .before .u .given .0 .0) (c .before .before .u .given .1),
     )
 
 same-length :
@@ -714,7 +716,7 @@ returns c =
     let r = c .before .rounds in
     let z = (start-of (c .before)) .args in
     record {
-      ran = λ o target s e. ended (z .mode) (z .above) (now (z .ladder)) (now (z .a)) (now (z .b)) (now (z .km)) (now (z .share)) (now (z .sheet)) (now (z .load)) (now (z .bus)) (now (z .pmax)) (now (z .leader)) (now (z .grounds)) (now (z .injection)) (length (now (z .leader))) (r .level) (r .circuits) (r .banks) (r .floors) (r .upsized) (r .angle) (r .p) (goesOn (z .mode) (z .above) (now (z .ladder)) (now (z .a)) (now (z .b)) (now (z .km)) (now (z .share)) (now (z .sheet)) (now (z .load)) (now (z .bus)) (now (z .pmax)) (now (z .leader)) (now (z .grounds)) (now (z .injection)) (length (now (z .leader))) (z .budget) (now (z .level)) (now (z .circuits)) (now (z .banks)) (now (z .floors)) (now (z .upsized)) (now (z .angle)) (z .start)) (r .left) (omega (arith, c .if1 .taken)) (r .inv .2) o target s ((start-of (c .before)) .pre .places .leader-size ∙ e);
+      ran = λ o target s e caps. ended (z .mode) (z .above) (now (z .ladder)) (now (z .a)) (now (z .b)) (now (z .km)) (now (z .share)) (now (z .cap)) (now (z .sheet)) (now (z .load)) (now (z .bus)) (now (z .pmax)) (now (z .leader)) (now (z .grounds)) (now (z .injection)) (length (now (z .leader))) (r .level) (r .circuits) (r .banks) (r .floors) (r .upsized) (r .angle) (r .p) (goesOn (z .mode) (z .above) (now (z .ladder)) (now (z .a)) (now (z .b)) (now (z .km)) (now (z .share)) (now (z .cap)) (now (z .sheet)) (now (z .load)) (now (z .bus)) (now (z .pmax)) (now (z .leader)) (now (z .grounds)) (now (z .injection)) (length (now (z .leader))) (z .budget) (now (z .level)) (now (z .circuits)) (now (z .banks)) (now (z .floors)) (now (z .upsized)) (now (z .angle)) (z .start)) (r .left) (omega (arith, c .if1 .taken)) (r .inv .2) o target s ((start-of (c .before)) .pre .places .leader-size ∙ e, caps);
       lines = r .inv .0 .columns .lines;
       banked = r .inv .0 .banked;
       few = r .inv .0 .few;
@@ -800,7 +802,7 @@ returns-2 c =
     let z = (start-of (c .before .before .before .before .before .before .before .before .before .before .before .before .before .before .before .before)) .args in
     let r = c .before .before .before .before .before .before .before .before .before .before .before .before .before .before .before .before .rounds in
     record {
-      ran = λ o target s e. round-refused (z .mode) (z .above) (now (z .ladder)) (now (z .a)) (now (z .b)) (now (z .km)) (now (z .share)) (now (z .sheet)) (now (z .load)) (now (z .bus)) (now (z .pmax)) (now (z .leader)) (now (z .grounds)) (now (z .injection)) (length (now (z .leader))) (r .level) (r .level) (r .circuits) (r .banks) (r .floors) (r .upsized) (r .angle) (r .p) (goesOn (z .mode) (z .above) (now (z .ladder)) (now (z .a)) (now (z .b)) (now (z .km)) (now (z .share)) (now (z .sheet)) (now (z .load)) (now (z .bus)) (now (z .pmax)) (now (z .leader)) (now (z .grounds)) (now (z .injection)) (length (now (z .leader))) (z .budget) (now (z .level)) (now (z .circuits)) (now (z .banks)) (now (z .floors)) (now (z .upsized)) (now (z .angle)) (z .start)) (r .left) (r .left - 1) (omega (arith, some-left (c .before .before .before .before .before .before .before .before .before .before .before .before .before .before .before .if1 .left))) refl (sym (r .inv .0 .places .leader-size)) (r .inv .2) _ _ _ (c .before .before .before .before .before .before .before .before .before .before .draw-edges .result .from) (c .before .before .before .before .before .before .before .before .before .before .draw-edges .result .to) (c .before .before .before .before .before .before .before .before .before .before .draw-edges .result .weight) (c .before .before .before .before .before .before .before .before .before .before .draw-edges .ensures .0) _ _ (r .inv .0 .places .angle-size) (r .inv .0 .places .flow-size) (c .before .before .before .before .before .before .before .peak-state .ensures) _ (c .before .f .given .1) o target s ((start-of (c .before .before .before .before .before .before .before .before .before .before .before .before .before .before .before .before)) .pre .places .leader-size ∙ e);
+      ran = λ o target s e caps. round-refused (z .mode) (z .above) (now (z .ladder)) (now (z .a)) (now (z .b)) (now (z .km)) (now (z .share)) (now (z .cap)) (now (z .sheet)) (now (z .load)) (now (z .bus)) (now (z .pmax)) (now (z .leader)) (now (z .grounds)) (now (z .injection)) (length (now (z .leader))) (r .level) (r .level) (r .circuits) (r .banks) (r .floors) (r .upsized) (r .angle) (r .p) (goesOn (z .mode) (z .above) (now (z .ladder)) (now (z .a)) (now (z .b)) (now (z .km)) (now (z .share)) (now (z .cap)) (now (z .sheet)) (now (z .load)) (now (z .bus)) (now (z .pmax)) (now (z .leader)) (now (z .grounds)) (now (z .injection)) (length (now (z .leader))) (z .budget) (now (z .level)) (now (z .circuits)) (now (z .banks)) (now (z .floors)) (now (z .upsized)) (now (z .angle)) (z .start)) (r .left) (r .left - 1) (omega (arith, some-left (c .before .before .before .before .before .before .before .before .before .before .before .before .before .before .before .if1 .left))) refl (sym (r .inv .0 .places .leader-size)) (r .inv .2) _ _ _ (c .before .before .before .before .before .before .before .before .before .before .draw-edges .result .from) (c .before .before .before .before .before .before .before .before .before .before .draw-edges .result .to) (c .before .before .before .before .before .before .before .before .before .before .draw-edges .result .weight) (c .before .before .before .before .before .before .before .before .before .before .draw-edges .ensures .0) _ _ (r .inv .0 .places .angle-size) (r .inv .0 .places .flow-size) (c .before .before .before .before .before .before .before .peak-state .ensures) _ (c .before .f .given .1) o target s ((start-of (c .before .before .before .before .before .before .before .before .before .before .before .before .before .before .before .before)) .pre .places .leader-size ∙ e, caps);
       lines = r .inv .0 .columns .lines;
       banked = r .inv .0 .banked;
       few = r .inv .0 .few;
@@ -814,7 +816,7 @@ same-length-17 :
     μ-loop2
     Inv-rounds
     μ-rounds
-same-length-17 c = c .before .before .before .before .before .before .before .before .before .before .before .before .before .before .before .before .before .before .before .before .before .before .before .before .before .size-corridor .kept .1 .1 .1 .1 .1 .1 .1 .1 .1 .1 .0 ∙ c .before .before .before .before .before .before .before .before .before .before .before .before .before .before .before .before .before .before .before .before .before .before .before .before .before .before .before .before .before .before .before .before .before .before .loop .inv .3 .count-size ∙ sym ((start-of (round-of (c .before .before .before .before .before .before .before .before .before .before .before .before .before .before .before .before .before .before .before .before .before .before .before .before .before .before .before .before .before .before .before .before .before .before))) .pre .places .count-size)
+same-length-17 c = c .before .before .before .before .before .before .before .before .before .before .before .before .before .before .before .before .before .before .before .before .before .before .before .before .before .size-corridor .kept .1 .1 .1 .1 .1 .1 .1 .1 .1 .1 .1 .0 ∙ c .before .before .before .before .before .before .before .before .before .before .before .before .before .before .before .before .before .before .before .before .before .before .before .before .before .before .before .before .before .before .before .before .before .before .loop .inv .3 .count-size ∙ sym ((start-of (round-of (c .before .before .before .before .before .before .before .before .before .before .before .before .before .before .before .before .before .before .before .before .before .before .before .before .before .before .before .before .before .before .before .before .before .before))) .pre .places .count-size)
 
 same-length-18 :
     tie.Need-same-length-18
@@ -824,7 +826,7 @@ same-length-18 :
     μ-loop2
     Inv-rounds
     μ-rounds
-same-length-18 c = c .before .before .before .before .before .before .before .before .before .raise-marked .kept .1 .1 .1 .1 .1 .1 .1 .1 .1 .1 .1 .1 .0 ∙ c .before .before .before .before .before .before .before .before .before .before .before .before .before .before .before .before .before .before .before .before .before .before .before .before .before .size-corridor .kept .1 .1 .1 .1 .1 .1 .1 .1 .1 .1 .1 .0 ∙ c .before .before .before .before .before .before .before .before .before .before .before .before .before .before .before .before .before .before .before .before .before .before .before .before .before .before .before .before .before .before .before .before .before .before .loop .inv .3 .bank-size ∙ sym ((start-of (round-of (c .before .before .before .before .before .before .before .before .before .before .before .before .before .before .before .before .before .before .before .before .before .before .before .before .before .before .before .before .before .before .before .before .before .before))) .pre .places .bank-size)
+same-length-18 c = c .before .before .before .before .before .before .before .before .before .raise-marked .kept .1 .1 .1 .1 .1 .1 .1 .1 .1 .1 .1 .1 .0 ∙ c .before .before .before .before .before .before .before .before .before .before .before .before .before .before .before .before .before .before .before .before .before .before .before .before .before .size-corridor .kept .1 .1 .1 .1 .1 .1 .1 .1 .1 .1 .1 .1 .0 ∙ c .before .before .before .before .before .before .before .before .before .before .before .before .before .before .before .before .before .before .before .before .before .before .before .before .before .before .before .before .before .before .before .before .before .before .loop .inv .3 .bank-size ∙ sym ((start-of (round-of (c .before .before .before .before .before .before .before .before .before .before .before .before .before .before .before .before .before .before .before .before .before .before .before .before .before .before .before .before .before .before .before .before .before .before))) .pre .places .bank-size)
 
 same-length-19 :
     tie.Need-same-length-19
@@ -834,7 +836,7 @@ same-length-19 :
     μ-loop2
     Inv-rounds
     μ-rounds
-same-length-19 c = c .before .before .before .before .before .before .before .before .before .before .before .before .before .before .before .before .before .before .before .before .before .before .before .before .before .size-corridor .kept .1 .1 .1 .1 .1 .1 .1 .1 .1 .1 .1 .1 .0 ∙ c .before .before .before .before .before .before .before .before .before .before .before .before .before .before .before .before .before .before .before .before .before .before .before .before .before .before .before .before .before .before .before .before .before .before .loop .inv .3 .floor-size ∙ sym ((start-of (round-of (c .before .before .before .before .before .before .before .before .before .before .before .before .before .before .before .before .before .before .before .before .before .before .before .before .before .before .before .before .before .before .before .before .before .before))) .pre .places .floor-size)
+same-length-19 c = c .before .before .before .before .before .before .before .before .before .before .before .before .before .before .before .before .before .before .before .before .before .before .before .before .before .size-corridor .kept .1 .1 .1 .1 .1 .1 .1 .1 .1 .1 .1 .1 .1 .0 ∙ c .before .before .before .before .before .before .before .before .before .before .before .before .before .before .before .before .before .before .before .before .before .before .before .before .before .before .before .before .before .before .before .before .before .before .loop .inv .3 .floor-size ∙ sym ((start-of (round-of (c .before .before .before .before .before .before .before .before .before .before .before .before .before .before .before .before .before .before .before .before .before .before .before .before .before .before .before .before .before .before .before .before .before .before))) .pre .places .floor-size)
 
 same-length-20 :
     tie.Need-same-length-20
@@ -844,7 +846,7 @@ same-length-20 :
     μ-loop2
     Inv-rounds
     μ-rounds
-same-length-20 c = c .before .before .before .before .before .before .before .before .before .before .before .before .before .before .before .before .before .before .before .before .before .before .before .before .before .size-corridor .kept .1 .1 .1 .1 .1 .1 .1 .1 .1 .1 .1 .1 .1 .0 ∙ c .before .before .before .before .before .before .before .before .before .before .before .before .before .before .before .before .before .before .before .before .before .before .before .before .before .before .before .before .before .before .before .before .before .before .loop .inv .3 .upsized-size ∙ sym ((start-of (round-of (c .before .before .before .before .before .before .before .before .before .before .before .before .before .before .before .before .before .before .before .before .before .before .before .before .before .before .before .before .before .before .before .before .before .before))) .pre .places .upsized-size)
+same-length-20 c = c .before .before .before .before .before .before .before .before .before .before .before .before .before .before .before .before .before .before .before .before .before .before .before .before .before .size-corridor .kept .1 .1 .1 .1 .1 .1 .1 .1 .1 .1 .1 .1 .1 .1 .0 ∙ c .before .before .before .before .before .before .before .before .before .before .before .before .before .before .before .before .before .before .before .before .before .before .before .before .before .before .before .before .before .before .before .before .before .before .loop .inv .3 .upsized-size ∙ sym ((start-of (round-of (c .before .before .before .before .before .before .before .before .before .before .before .before .before .before .before .before .before .before .before .before .before .before .before .before .before .before .before .before .before .before .before .before .before .before))) .pre .places .upsized-size)
 
 same-length-21 :
     tie.Need-same-length-21
@@ -864,7 +866,7 @@ same-length-22 :
     μ-loop2
     Inv-rounds
     μ-rounds
-same-length-22 c = c .before .before .before .before .before .before .before .before .before .before .before .before .before .before .before .before .before .before .before .before .before .before .before .before .before .size-corridor .kept .1 .1 .1 .1 .1 .1 .1 .1 .1 .1 .1 .1 .1 .1 .0 ∙ c .before .before .before .before .before .before .before .before .before .before .before .before .before .before .before .before .before .before .before .before .before .before .before .before .before .before .before .before .before .before .before .before .before .before .loop .inv .3 .mark-size ∙ ap (λ (x : List ℕ). length x) (c .before .before .before .before .before .before .before .before .before .before .before .before .before .before .before .before .before .before .before .before .before .before .before .before .before .before .before .before .before .before .before .before .before .before .loop .inv .1) ∙ (round-of (c .before .before .before .before .before .before .before .before .before .before .before .before .before .before .before .before .before .before .before .before .before .before .before .before .before .before .before .before .before .before .before .before .before .before)) .rounds .inv .1 ∙ sym ((start-of (round-of (c .before .before .before .before .before .before .before .before .before .before .before .before .before .before .before .before .before .before .before .before .before .before .before .before .before .before .before .before .before .before .before .before .before .before))) .pre .places .mark-size)
+same-length-22 c = c .before .before .before .before .before .before .before .before .before .before .before .before .before .before .before .before .before .before .before .before .before .before .before .before .before .size-corridor .kept .1 .1 .1 .1 .1 .1 .1 .1 .1 .1 .1 .1 .1 .1 .1 .0 ∙ c .before .before .before .before .before .before .before .before .before .before .before .before .before .before .before .before .before .before .before .before .before .before .before .before .before .before .before .before .before .before .before .before .before .before .loop .inv .3 .mark-size ∙ ap (λ (x : List ℕ). length x) (c .before .before .before .before .before .before .before .before .before .before .before .before .before .before .before .before .before .before .before .before .before .before .before .before .before .before .before .before .before .before .before .before .before .before .loop .inv .1) ∙ (round-of (c .before .before .before .before .before .before .before .before .before .before .before .before .before .before .before .before .before .before .before .before .before .before .before .before .before .before .before .before .before .before .before .before .before .before)) .rounds .inv .1 ∙ sym ((start-of (round-of (c .before .before .before .before .before .before .before .before .before .before .before .before .before .before .before .before .before .before .before .before .before .before .before .before .before .before .before .before .before .before .before .before .before .before))) .pre .places .mark-size)
 
 same-length-23 :
     tie.Need-same-length-23
@@ -893,7 +895,7 @@ returns-3 c =
     let r = (round-of (c .before .before .before .before .before .before .before .before .before .before .before .before .before .before .before .before .before .before .before .before .before .before .before .before .before .before .before .before .before .before .before .before .before .before)) .rounds in
     let l = c .before .before .before .before .before .before .before .before .before .before .before .before .before .before .before .before .before .before .before .before .before .before .before .before .before .before .before .before .before .before .before .before .before .before .loop in
     record {
-      ran = λ o target s e. sized-settled (z .mode) (z .above) (now (z .ladder)) (now (z .a)) (now (z .b)) (now (z .km)) (now (z .share)) (now (z .sheet)) (now (z .load)) (now (z .bus)) (now (z .pmax)) (now (z .leader)) (now (z .grounds)) (now (z .injection)) (length (now (z .leader))) (l .level) (r .level) (r .circuits) (r .banks) (r .floors) (r .upsized) (r .angle) (r .p) (goesOn (z .mode) (z .above) (now (z .ladder)) (now (z .a)) (now (z .b)) (now (z .km)) (now (z .share)) (now (z .sheet)) (now (z .load)) (now (z .bus)) (now (z .pmax)) (now (z .leader)) (now (z .grounds)) (now (z .injection)) (length (now (z .leader))) (z .budget) (now (z .level)) (now (z .circuits)) (now (z .banks)) (now (z .floors)) (now (z .upsized)) (now (z .angle)) (z .start)) (r .left) (r .left - 1) (omega (arith, some-left ((c .before .before .before .before .before .before .before .before .before .before .before .before .before .before .before .before .before .before .before .before .before .before .before .before .before .before .before .before .before .before .before .before .before .before) .before .before .before .before .before .before .before .before .before .before .before .before .before .before .before .before .before .before .before .if1 .left))) (l .inv .1) (sym (r .inv .0 .places .leader-size)) (r .inv .2) _ _ _ ((c .before .before .before .before .before .before .before .before .before .before .before .before .before .before .before .before .before .before .before .before .before .before .before .before .before .before .before .before .before .before .before .before .before .before) .before .before .before .before .before .before .before .before .before .before .before .before .before .before .draw-edges .result .from) ((c .before .before .before .before .before .before .before .before .before .before .before .before .before .before .before .before .before .before .before .before .before .before .before .before .before .before .before .before .before .before .before .before .before .before) .before .before .before .before .before .before .before .before .before .before .before .before .before .before .draw-edges .result .to) ((c .before .before .before .before .before .before .before .before .before .before .before .before .before .before .before .before .before .before .before .before .before .before .before .before .before .before .before .before .before .before .before .before .before .before) .before .before .before .before .before .before .before .before .before .before .before .before .before .before .draw-edges .result .weight) ((c .before .before .before .before .before .before .before .before .before .before .before .before .before .before .before .before .before .before .before .before .before .before .before .before .before .before .before .before .before .before .before .before .before .before) .before .before .before .before .before .before .before .before .before .before .before .before .before .before .draw-edges .ensures .0) _ _ (r .inv .0 .places .angle-size) (r .inv .0 .places .flow-size) ((c .before .before .before .before .before .before .before .before .before .before .before .before .before .before .before .before .before .before .before .before .before .before .before .before .before .before .before .before .before .before .before .before .before .before) .before .before .before .before .before .before .before .before .before .before .before .peak-state .ensures) ((c .before .before .before .before .before .before .before .before .before .before .before .before .before .before .before .before .before .before .before .before .before .before .before .before .before .before .before .before .before .before .before .before .before .before) .before .before .before .before .before .enum-told .given .1) _ _ _ _ _ _ _ (omega (arith, c .before .before .before .before .before .before .before .before .before .before .before .before .before .before .if2 .taken)) (left-turn (z .mode) (length (l .level)) (now (z .ladder)) (l .level) (now (z .a)) (now (z .b)) (now (z .km)) (now (z .share)) (now (z .sheet)) _ (l .k) (l .circuits) (l .banks) (l .floors) (l .upsized) (l .marks) (l .t) _ _ _ _ _ _ (c .before .before .before .before .before .before .before .before .before .before .before .before .before .before .before .before .before .before .before .before .before .before .before .before .before .before .before .before .before .before .before .before .before .loop-test .taken) (c .before .before .before .before .before .before .before .before .before .before .before .before .before .before .before .before .before .before .before .before .before .before .before .before .before .size-corridor .ensures .sized) ∙ l .inv .7) _ (l .inv .2) _ _ _ (c .before .before .before .before .before .before .before .before .before .raise-marked .ensures) (c .before .before .before .if3 .left) (sym (c .before .before .promotes .ensures) ∙ not-true _ (c .before .if4 .taken)) o target s ((start-of (round-of (c .before .before .before .before .before .before .before .before .before .before .before .before .before .before .before .before .before .before .before .before .before .before .before .before .before .before .before .before .before .before .before .before .before .before))) .pre .places .leader-size ∙ e);
+      ran = λ o target s e caps. sized-settled (z .mode) (z .above) (now (z .ladder)) (now (z .a)) (now (z .b)) (now (z .km)) (now (z .share)) (now (z .cap)) (now (z .sheet)) (now (z .load)) (now (z .bus)) (now (z .pmax)) (now (z .leader)) (now (z .grounds)) (now (z .injection)) (length (now (z .leader))) (l .level) (r .level) (r .circuits) (r .banks) (r .floors) (r .upsized) (r .angle) (r .p) (goesOn (z .mode) (z .above) (now (z .ladder)) (now (z .a)) (now (z .b)) (now (z .km)) (now (z .share)) (now (z .cap)) (now (z .sheet)) (now (z .load)) (now (z .bus)) (now (z .pmax)) (now (z .leader)) (now (z .grounds)) (now (z .injection)) (length (now (z .leader))) (z .budget) (now (z .level)) (now (z .circuits)) (now (z .banks)) (now (z .floors)) (now (z .upsized)) (now (z .angle)) (z .start)) (r .left) (r .left - 1) (omega (arith, some-left ((c .before .before .before .before .before .before .before .before .before .before .before .before .before .before .before .before .before .before .before .before .before .before .before .before .before .before .before .before .before .before .before .before .before .before) .before .before .before .before .before .before .before .before .before .before .before .before .before .before .before .before .before .before .before .if1 .left))) (l .inv .1) (sym (r .inv .0 .places .leader-size)) (r .inv .2) _ _ _ ((c .before .before .before .before .before .before .before .before .before .before .before .before .before .before .before .before .before .before .before .before .before .before .before .before .before .before .before .before .before .before .before .before .before .before) .before .before .before .before .before .before .before .before .before .before .before .before .before .before .draw-edges .result .from) ((c .before .before .before .before .before .before .before .before .before .before .before .before .before .before .before .before .before .before .before .before .before .before .before .before .before .before .before .before .before .before .before .before .before .before) .before .before .before .before .before .before .before .before .before .before .before .before .before .before .draw-edges .result .to) ((c .before .before .before .before .before .before .before .before .before .before .before .before .before .before .before .before .before .before .before .before .before .before .before .before .before .before .before .before .before .before .before .before .before .before) .before .before .before .before .before .before .before .before .before .before .before .before .before .before .draw-edges .result .weight) ((c .before .before .before .before .before .before .before .before .before .before .before .before .before .before .before .before .before .before .before .before .before .before .before .before .before .before .before .before .before .before .before .before .before .before) .before .before .before .before .before .before .before .before .before .before .before .before .before .before .draw-edges .ensures .0) _ _ (r .inv .0 .places .angle-size) (r .inv .0 .places .flow-size) ((c .before .before .before .before .before .before .before .before .before .before .before .before .before .before .before .before .before .before .before .before .before .before .before .before .before .before .before .before .before .before .before .before .before .before) .before .before .before .before .before .before .before .before .before .before .before .peak-state .ensures) ((c .before .before .before .before .before .before .before .before .before .before .before .before .before .before .before .before .before .before .before .before .before .before .before .before .before .before .before .before .before .before .before .before .before .before) .before .before .before .before .before .enum-told .given .1) _ _ _ _ _ _ _ (omega (arith, c .before .before .before .before .before .before .before .before .before .before .before .before .before .before .if2 .taken)) (left-turn (z .mode) (length (l .level)) (now (z .ladder)) (l .level) (now (z .a)) (now (z .b)) (now (z .km)) (now (z .share)) (now (z .cap)) (now (z .sheet)) _ (l .k) (l .circuits) (l .banks) (l .floors) (l .upsized) (l .marks) (l .t) _ _ _ _ _ _ (c .before .before .before .before .before .before .before .before .before .before .before .before .before .before .before .before .before .before .before .before .before .before .before .before .before .before .before .before .before .before .before .before .before .loop-test .taken) (c .before .before .before .before .before .before .before .before .before .before .before .before .before .before .before .before .before .before .before .before .before .before .before .before .before .size-corridor .ensures .sized) ∙ l .inv .7) _ (l .inv .2) _ _ _ (c .before .before .before .before .before .before .before .before .before .raise-marked .ensures) (c .before .before .before .if3 .left) (sym (c .before .before .promotes .ensures) ∙ not-true _ (c .before .if4 .taken)) o target s ((start-of (round-of (c .before .before .before .before .before .before .before .before .before .before .before .before .before .before .before .before .before .before .before .before .before .before .before .before .before .before .before .before .before .before .before .before .before .before))) .pre .places .leader-size ∙ e, caps);
       lines = c .before .before .before .before .before .before .before .before .before .raise-marked .ensures .lines;
       banked = c .before .before .before .before .before .before .before .before .before .raise-marked .ensures .banked;
       few = c .before .before .before .before .before .before .before .before .before .before .before .before .before .before .before .before .before .before .before .before .before .before .before .before .before .size-corridor .ensures .few (l .inv .5);
@@ -907,7 +909,7 @@ same-length-25 :
     μ-loop2
     Inv-rounds
     μ-rounds
-same-length-25 c = c .before .before .before .before .before .before .before .before .before .before .before .before .before .stiffen-led .kept .1 .1 .1 .1 .1 .1 .1 .1 .1 .1 .1 .1 .1 .1 .0 ∙ c .before .before .before .before .before .before .before .before .before .before .before .before .before .before .before .before .before .before .before .before .before .before .loop2 .inv .3 .0 ∙ (sized-of (c .before .before .before .before .before .before .before .before .before .before .before .before .before .before .before .before .before .before .before .before .before .before)) .loop .inv .3 .count-size ∙ sym ((start-of (round-of (sized-of (c .before .before .before .before .before .before .before .before .before .before .before .before .before .before .before .before .before .before .before .before .before .before)))) .pre .places .count-size)
+same-length-25 c = c .before .before .before .before .before .before .before .before .before .before .before .before .before .stiffen-led .kept .1 .1 .1 .1 .1 .1 .1 .1 .1 .1 .1 .1 .1 .1 .1 .0 ∙ c .before .before .before .before .before .before .before .before .before .before .before .before .before .before .before .before .before .before .before .before .before .before .loop2 .inv .3 .0 ∙ (sized-of (c .before .before .before .before .before .before .before .before .before .before .before .before .before .before .before .before .before .before .before .before .before .before)) .loop .inv .3 .count-size ∙ sym ((start-of (round-of (sized-of (c .before .before .before .before .before .before .before .before .before .before .before .before .before .before .before .before .before .before .before .before .before .before)))) .pre .places .count-size)
 
 same-length-26 :
     tie.Need-same-length-26
@@ -917,7 +919,7 @@ same-length-26 :
     μ-loop2
     Inv-rounds
     μ-rounds
-same-length-26 c = c .before .before .before .before .before .before .before .before .before .before .before .before .before .stiffen-led .kept .1 .1 .1 .1 .1 .1 .1 .1 .1 .1 .1 .1 .1 .1 .1 .0 ∙ c .before .before .before .before .before .before .before .before .before .before .before .before .before .before .before .before .before .before .before .before .before .before .loop2 .inv .3 .1 ∙ (sized-of (c .before .before .before .before .before .before .before .before .before .before .before .before .before .before .before .before .before .before .before .before .before .before)) .loop .inv .3 .bank-size ∙ sym ((start-of (round-of (sized-of (c .before .before .before .before .before .before .before .before .before .before .before .before .before .before .before .before .before .before .before .before .before .before)))) .pre .places .bank-size)
+same-length-26 c = c .before .before .before .before .before .before .before .before .before .before .before .before .before .stiffen-led .kept .1 .1 .1 .1 .1 .1 .1 .1 .1 .1 .1 .1 .1 .1 .1 .1 .0 ∙ c .before .before .before .before .before .before .before .before .before .before .before .before .before .before .before .before .before .before .before .before .before .before .loop2 .inv .3 .1 ∙ (sized-of (c .before .before .before .before .before .before .before .before .before .before .before .before .before .before .before .before .before .before .before .before .before .before)) .loop .inv .3 .bank-size ∙ sym ((start-of (round-of (sized-of (c .before .before .before .before .before .before .before .before .before .before .before .before .before .before .before .before .before .before .before .before .before .before)))) .pre .places .bank-size)
 
 same-length-27 :
     tie.Need-same-length-27
@@ -927,7 +929,7 @@ same-length-27 :
     μ-loop2
     Inv-rounds
     μ-rounds
-same-length-27 c = c .before .before .before .before .before .before .before .before .before .before .before .before .before .stiffen-led .kept .1 .1 .1 .1 .1 .1 .1 .1 .1 .1 .1 .1 .1 .1 .1 .1 .0 ∙ c .before .before .before .before .before .before .before .before .before .before .before .before .before .before .before .before .before .before .before .before .before .before .loop2 .inv .3 .2 ∙ (sized-of (c .before .before .before .before .before .before .before .before .before .before .before .before .before .before .before .before .before .before .before .before .before .before)) .loop .inv .3 .floor-size ∙ sym ((start-of (round-of (sized-of (c .before .before .before .before .before .before .before .before .before .before .before .before .before .before .before .before .before .before .before .before .before .before)))) .pre .places .floor-size)
+same-length-27 c = c .before .before .before .before .before .before .before .before .before .before .before .before .before .stiffen-led .kept .1 .1 .1 .1 .1 .1 .1 .1 .1 .1 .1 .1 .1 .1 .1 .1 .1 .0 ∙ c .before .before .before .before .before .before .before .before .before .before .before .before .before .before .before .before .before .before .before .before .before .before .loop2 .inv .3 .2 ∙ (sized-of (c .before .before .before .before .before .before .before .before .before .before .before .before .before .before .before .before .before .before .before .before .before .before)) .loop .inv .3 .floor-size ∙ sym ((start-of (round-of (sized-of (c .before .before .before .before .before .before .before .before .before .before .before .before .before .before .before .before .before .before .before .before .before .before)))) .pre .places .floor-size)
 
 same-length-28 :
     tie.Need-same-length-28
@@ -937,7 +939,7 @@ same-length-28 :
     μ-loop2
     Inv-rounds
     μ-rounds
-same-length-28 c = c .before .before .before .before .before .before .before .before .before .before .before .before .before .stiffen-led .kept .1 .1 .1 .1 .1 .1 .1 .1 .1 .1 .1 .1 .1 .1 .1 .1 .1 .0 ∙ c .before .before .before .before .before .before .before .before .before .before .before .before .before .before .before .before .before .before .before .before .before .before .loop2 .inv .3 .3 ∙ (sized-of (c .before .before .before .before .before .before .before .before .before .before .before .before .before .before .before .before .before .before .before .before .before .before)) .loop .inv .3 .upsized-size ∙ sym ((start-of (round-of (sized-of (c .before .before .before .before .before .before .before .before .before .before .before .before .before .before .before .before .before .before .before .before .before .before)))) .pre .places .upsized-size)
+same-length-28 c = c .before .before .before .before .before .before .before .before .before .before .before .before .before .stiffen-led .kept .1 .1 .1 .1 .1 .1 .1 .1 .1 .1 .1 .1 .1 .1 .1 .1 .1 .1 .0 ∙ c .before .before .before .before .before .before .before .before .before .before .before .before .before .before .before .before .before .before .before .before .before .before .loop2 .inv .3 .3 ∙ (sized-of (c .before .before .before .before .before .before .before .before .before .before .before .before .before .before .before .before .before .before .before .before .before .before)) .loop .inv .3 .upsized-size ∙ sym ((start-of (round-of (sized-of (c .before .before .before .before .before .before .before .before .before .before .before .before .before .before .before .before .before .before .before .before .before .before)))) .pre .places .upsized-size)
 
 same-length-29 :
     tie.Need-same-length-29
@@ -957,7 +959,7 @@ same-length-30 :
     μ-loop2
     Inv-rounds
     μ-rounds
-same-length-30 c = c .before .before .before .before .before .before .before .before .before .before .before .before .before .stiffen-led .kept .1 .1 .1 .1 .1 .1 .1 .1 .1 .1 .1 .1 .1 .1 .1 .1 .1 .1 .0 ∙ c .before .before .before .before .before .before .before .before .before .before .before .before .before .before .before .before .before .before .before .before .before .before .loop2 .inv .3 .4 ∙ (c .before .before .before .before .before .before .before .before .before .before .before .before .before .before .before .before .before .before .before .before .before .before) .before .before .before .stiffness-from .kept .1 .1 .1 .1 .0 ∙ (sized-of (c .before .before .before .before .before .before .before .before .before .before .before .before .before .before .before .before .before .before .before .before .before .before)) .loop .inv .3 .mark-size ∙ ap (λ (x : List ℕ). length x) ((sized-of (c .before .before .before .before .before .before .before .before .before .before .before .before .before .before .before .before .before .before .before .before .before .before)) .loop .inv .1) ∙ (round-of (sized-of (c .before .before .before .before .before .before .before .before .before .before .before .before .before .before .before .before .before .before .before .before .before .before))) .rounds .inv .1 ∙ sym ((start-of (round-of (sized-of (c .before .before .before .before .before .before .before .before .before .before .before .before .before .before .before .before .before .before .before .before .before .before)))) .pre .places .mark-size)
+same-length-30 c = c .before .before .before .before .before .before .before .before .before .before .before .before .before .stiffen-led .kept .1 .1 .1 .1 .1 .1 .1 .1 .1 .1 .1 .1 .1 .1 .1 .1 .1 .1 .1 .0 ∙ c .before .before .before .before .before .before .before .before .before .before .before .before .before .before .before .before .before .before .before .before .before .before .loop2 .inv .3 .4 ∙ (c .before .before .before .before .before .before .before .before .before .before .before .before .before .before .before .before .before .before .before .before .before .before) .before .before .before .stiffness-from .kept .1 .1 .1 .1 .0 ∙ (sized-of (c .before .before .before .before .before .before .before .before .before .before .before .before .before .before .before .before .before .before .before .before .before .before)) .loop .inv .3 .mark-size ∙ ap (λ (x : List ℕ). length x) ((sized-of (c .before .before .before .before .before .before .before .before .before .before .before .before .before .before .before .before .before .before .before .before .before .before)) .loop .inv .1) ∙ (round-of (sized-of (c .before .before .before .before .before .before .before .before .before .before .before .before .before .before .before .before .before .before .before .before .before .before))) .rounds .inv .1 ∙ sym ((start-of (round-of (sized-of (c .before .before .before .before .before .before .before .before .before .before .before .before .before .before .before .before .before .before .before .before .before .before)))) .pre .places .mark-size)
 
 same-length-31 :
     tie.Need-same-length-31
@@ -990,9 +992,9 @@ returns-4 c =
     let lv = k .inv .1 ∙ l .inv .1 in
     let ln = ap (λ (x : List ℕ). length x) lv in
     record {
-      ran = λ o target s e. stiffen-refused (z .mode) (z .above) (now (z .ladder)) (now (z .a)) (now (z .b)) (now (z .km)) (now (z .share)) (now (z .sheet)) (now (z .load)) (now (z .bus)) (now (z .pmax)) (now (z .leader)) (now (z .grounds)) (now (z .injection)) (length (now (z .leader)))
-          (goesOn (z .mode) (z .above) (now (z .ladder)) (now (z .a)) (now (z .b)) (now (z .km)) (now (z .share)) (now (z .sheet)) (now (z .load)) (now (z .bus)) (now (z .pmax)) (now (z .leader)) (now (z .grounds)) (now (z .injection)) (length (now (z .leader))) (z .budget) (now (z .level)) (now (z .circuits)) (now (z .banks)) (now (z .floors)) (now (z .upsized)) (now (z .angle)) (z .start))
-          (r .left - 1) (k .level) ((c .before .before .before .before .before .before .before .before .before .before .before .before .before .before .before .before .before .before .before .before .before .before) .before .before .before .before .before .before .before .limits-of .result) ((sized-of (c .before .before .before .before .before .before .before .before .before .before .before .before .before .before .before .before .before .before .before .before .before .before)) .before .before .before .before .before .before .before .before .before .before .before .before .before .before .draw-edges .result .from) ((sized-of (c .before .before .before .before .before .before .before .before .before .before .before .before .before .before .before .before .before .before .before .before .before .before)) .before .before .before .before .before .before .before .before .before .before .before .before .before .before .draw-edges .result .to) ((sized-of (c .before .before .before .before .before .before .before .before .before .before .before .before .before .before .before .before .before .before .before .before .before .before)) .before .before .before .before .before .before .before .before .before .before .before .before .before .before .draw-edges .result .weight) ((sized-of (c .before .before .before .before .before .before .before .before .before .before .before .before .before .before .before .before .before .before .before .before .before .before)) .before .before .before .before .before .before .before .before .before .before .before .peak-state .last .1 .1 .1 .0) ((sized-of (c .before .before .before .before .before .before .before .before .before .before .before .before .before .before .before .before .before .before .before .before .before .before)) .before .before .before .before .before .before .before .before .before .before .before .peak-state .last .1 .1 .1 .1 .0) (k .p) (l .t) (ln ∙ sym (f .places .leader-size)) (k .i) (k .circuits) (k .banks) (k .floors) (k .upsized) (k .marks) (k .s) (whole (c .before .before .before .before .before .before .before .before .before .before .before .before .before .before)) (c .before .before .before .before .before .before .before .before .before .before .before .before .before .before .before .before .before .before .before .before .before .loop2-test .taken) (c .before .before .before .before .before .before .before .before .before .before .before .before .before .stiffen-led .last .1 .1 .1 .1 .1 .1 .1 .1 .1 .1 .1 .1 .1 .1 .0) (c .before .before .before .before .before .before .before .before .before .before .before .before .before .stiffen-led .last .1 .1 .1 .1 .1 .1 .1 .1 .1 .1 .1 .1 .1 .1 .1 .0) (c .before .before .before .before .before .before .before .before .before .before .before .before .before .stiffen-led .last .1 .1 .1 .1 .1 .1 .1 .1 .1 .1 .1 .1 .1 .1 .1 .1 .0) (c .before .before .before .before .before .before .before .before .before .before .before .before .before .stiffen-led .last .1 .1 .1 .1 .1 .1 .1 .1 .1 .1 .1 .1 .1 .1 .1 .1 .1 .0) (c .before .before .before .before .before .before .before .before .before .before .before .before .before .stiffen-led .last .1 .1 .1 .1 .1 .1 .1 .1 .1 .1 .1 .1 .1 .1 .1 .1 .1 .1 .0) (c .before .before .before .before .before .before .before .before .before .before .before .before .before .stiffen-led .result) (c .before .before .before .before .before .before .before .before .before .before .before .before .before .stiffen-led .ensures) _ (c .before .f2 .given .1) o target s ((start-of (round-of (sized-of (c .before .before .before .before .before .before .before .before .before .before .before .before .before .before .before .before .before .before .before .before .before .before)))) .pre .places .leader-size ∙ e);
+      ran = λ o target s e caps. stiffen-refused (z .mode) (z .above) (now (z .ladder)) (now (z .a)) (now (z .b)) (now (z .km)) (now (z .share)) (now (z .cap)) (now (z .sheet)) (now (z .load)) (now (z .bus)) (now (z .pmax)) (now (z .leader)) (now (z .grounds)) (now (z .injection)) (length (now (z .leader)))
+          (goesOn (z .mode) (z .above) (now (z .ladder)) (now (z .a)) (now (z .b)) (now (z .km)) (now (z .share)) (now (z .cap)) (now (z .sheet)) (now (z .load)) (now (z .bus)) (now (z .pmax)) (now (z .leader)) (now (z .grounds)) (now (z .injection)) (length (now (z .leader))) (z .budget) (now (z .level)) (now (z .circuits)) (now (z .banks)) (now (z .floors)) (now (z .upsized)) (now (z .angle)) (z .start))
+          (r .left - 1) (k .level) ((c .before .before .before .before .before .before .before .before .before .before .before .before .before .before .before .before .before .before .before .before .before .before) .before .before .before .before .before .before .before .limits-of .result) ((sized-of (c .before .before .before .before .before .before .before .before .before .before .before .before .before .before .before .before .before .before .before .before .before .before)) .before .before .before .before .before .before .before .before .before .before .before .before .before .before .draw-edges .result .from) ((sized-of (c .before .before .before .before .before .before .before .before .before .before .before .before .before .before .before .before .before .before .before .before .before .before)) .before .before .before .before .before .before .before .before .before .before .before .before .before .before .draw-edges .result .to) ((sized-of (c .before .before .before .before .before .before .before .before .before .before .before .before .before .before .before .before .before .before .before .before .before .before)) .before .before .before .before .before .before .before .before .before .before .before .before .before .before .draw-edges .result .weight) ((sized-of (c .before .before .before .before .before .before .before .before .before .before .before .before .before .before .before .before .before .before .before .before .before .before)) .before .before .before .before .before .before .before .before .before .before .before .peak-state .last .1 .1 .1 .0) ((sized-of (c .before .before .before .before .before .before .before .before .before .before .before .before .before .before .before .before .before .before .before .before .before .before)) .before .before .before .before .before .before .before .before .before .before .before .peak-state .last .1 .1 .1 .1 .0) (k .p) (l .t) (ln ∙ sym (f .places .leader-size)) (k .i) (k .circuits) (k .banks) (k .floors) (k .upsized) (k .marks) (k .s) (whole (c .before .before .before .before .before .before .before .before .before .before .before .before .before .before)) (c .before .before .before .before .before .before .before .before .before .before .before .before .before .before .before .before .before .before .before .before .before .loop2-test .taken) (c .before .before .before .before .before .before .before .before .before .before .before .before .before .stiffen-led .last .1 .1 .1 .1 .1 .1 .1 .1 .1 .1 .1 .1 .1 .1 .1 .0) (c .before .before .before .before .before .before .before .before .before .before .before .before .before .stiffen-led .last .1 .1 .1 .1 .1 .1 .1 .1 .1 .1 .1 .1 .1 .1 .1 .1 .0) (c .before .before .before .before .before .before .before .before .before .before .before .before .before .stiffen-led .last .1 .1 .1 .1 .1 .1 .1 .1 .1 .1 .1 .1 .1 .1 .1 .1 .1 .0) (c .before .before .before .before .before .before .before .before .before .before .before .before .before .stiffen-led .last .1 .1 .1 .1 .1 .1 .1 .1 .1 .1 .1 .1 .1 .1 .1 .1 .1 .1 .0) (c .before .before .before .before .before .before .before .before .before .before .before .before .before .stiffen-led .last .1 .1 .1 .1 .1 .1 .1 .1 .1 .1 .1 .1 .1 .1 .1 .1 .1 .1 .1 .0) (c .before .before .before .before .before .before .before .before .before .before .before .before .before .stiffen-led .result) (c .before .before .before .before .before .before .before .before .before .before .before .before .before .stiffen-led .ensures) _ (c .before .f2 .given .1) o target s ((start-of (round-of (sized-of (c .before .before .before .before .before .before .before .before .before .before .before .before .before .before .before .before .before .before .before .before .before .before)))) .pre .places .leader-size ∙ e, caps);
       lines = subst (λ (x : List ℕ). Lines (now (z .ladder)) x (now (z .a)) (now (z .b)) (now (z .km)) (now (z .share)) (now (z .sheet))) (sym lv) (f .columns .lines);
       banked = c .before .before .before .before .before .before .before .before .before .before .before .before .before .stiffen-led .ensures .banked;
       few = c .before .before .before .before .before .before .before .before .before .before .before .before .before .stiffen-led .ensures .few (k .inv .5);
@@ -1006,7 +1008,7 @@ same-length-33 :
     μ-loop2
     Inv-rounds
     μ-rounds
-same-length-33 c = c .before .before .before .before .before .before .before .before .before .before .before .before .before .before .before .before .before .before .before .before .before .before .before .before .before .before .before .before .stiffen-led .kept .1 .1 .1 .1 .1 .1 .1 .1 .1 .1 .1 .1 .1 .1 .0 ∙ c .before .before .before .before .before .before .before .before .before .before .before .before .before .before .before .before .before .before .before .before .before .before .before .before .before .before .before .before .before .before .before .before .before .before .before .before .before .loop2 .inv .3 .0 ∙ (sized-of (c .before .before .before .before .before .before .before .before .before .before .before .before .before .before .before .before .before .before .before .before .before .before .before .before .before .before .before .before .before .before .before .before .before .before .before .before .before)) .loop .inv .3 .count-size ∙ sym ((start-of (round-of (sized-of (c .before .before .before .before .before .before .before .before .before .before .before .before .before .before .before .before .before .before .before .before .before .before .before .before .before .before .before .before .before .before .before .before .before .before .before .before .before)))) .pre .places .count-size)
+same-length-33 c = c .before .before .before .before .before .before .before .before .before .before .before .before .before .before .before .before .before .before .before .before .before .before .before .before .before .before .before .before .stiffen-led .kept .1 .1 .1 .1 .1 .1 .1 .1 .1 .1 .1 .1 .1 .1 .1 .0 ∙ c .before .before .before .before .before .before .before .before .before .before .before .before .before .before .before .before .before .before .before .before .before .before .before .before .before .before .before .before .before .before .before .before .before .before .before .before .before .loop2 .inv .3 .0 ∙ (sized-of (c .before .before .before .before .before .before .before .before .before .before .before .before .before .before .before .before .before .before .before .before .before .before .before .before .before .before .before .before .before .before .before .before .before .before .before .before .before)) .loop .inv .3 .count-size ∙ sym ((start-of (round-of (sized-of (c .before .before .before .before .before .before .before .before .before .before .before .before .before .before .before .before .before .before .before .before .before .before .before .before .before .before .before .before .before .before .before .before .before .before .before .before .before)))) .pre .places .count-size)
 
 same-length-34 :
     tie.Need-same-length-34
@@ -1016,7 +1018,7 @@ same-length-34 :
     μ-loop2
     Inv-rounds
     μ-rounds
-same-length-34 c = c .before .before .before .before .before .before .before .before .before .raise-marked2 .kept .1 .1 .1 .1 .1 .1 .1 .1 .1 .1 .1 .1 .0 ∙ c .before .before .before .before .before .before .before .before .before .before .before .before .before .before .before .before .before .before .before .before .before .before .before .before .before .before .before .before .stiffen-led .kept .1 .1 .1 .1 .1 .1 .1 .1 .1 .1 .1 .1 .1 .1 .1 .0 ∙ c .before .before .before .before .before .before .before .before .before .before .before .before .before .before .before .before .before .before .before .before .before .before .before .before .before .before .before .before .before .before .before .before .before .before .before .before .before .loop2 .inv .3 .1 ∙ (sized-of (c .before .before .before .before .before .before .before .before .before .before .before .before .before .before .before .before .before .before .before .before .before .before .before .before .before .before .before .before .before .before .before .before .before .before .before .before .before)) .loop .inv .3 .bank-size ∙ sym ((start-of (round-of (sized-of (c .before .before .before .before .before .before .before .before .before .before .before .before .before .before .before .before .before .before .before .before .before .before .before .before .before .before .before .before .before .before .before .before .before .before .before .before .before)))) .pre .places .bank-size)
+same-length-34 c = c .before .before .before .before .before .before .before .before .before .raise-marked2 .kept .1 .1 .1 .1 .1 .1 .1 .1 .1 .1 .1 .1 .0 ∙ c .before .before .before .before .before .before .before .before .before .before .before .before .before .before .before .before .before .before .before .before .before .before .before .before .before .before .before .before .stiffen-led .kept .1 .1 .1 .1 .1 .1 .1 .1 .1 .1 .1 .1 .1 .1 .1 .1 .0 ∙ c .before .before .before .before .before .before .before .before .before .before .before .before .before .before .before .before .before .before .before .before .before .before .before .before .before .before .before .before .before .before .before .before .before .before .before .before .before .loop2 .inv .3 .1 ∙ (sized-of (c .before .before .before .before .before .before .before .before .before .before .before .before .before .before .before .before .before .before .before .before .before .before .before .before .before .before .before .before .before .before .before .before .before .before .before .before .before)) .loop .inv .3 .bank-size ∙ sym ((start-of (round-of (sized-of (c .before .before .before .before .before .before .before .before .before .before .before .before .before .before .before .before .before .before .before .before .before .before .before .before .before .before .before .before .before .before .before .before .before .before .before .before .before)))) .pre .places .bank-size)
 
 same-length-35 :
     tie.Need-same-length-35
@@ -1026,7 +1028,7 @@ same-length-35 :
     μ-loop2
     Inv-rounds
     μ-rounds
-same-length-35 c = c .before .before .before .before .before .before .before .before .before .before .before .before .before .before .before .before .before .before .before .before .before .before .before .before .before .before .before .before .stiffen-led .kept .1 .1 .1 .1 .1 .1 .1 .1 .1 .1 .1 .1 .1 .1 .1 .1 .0 ∙ c .before .before .before .before .before .before .before .before .before .before .before .before .before .before .before .before .before .before .before .before .before .before .before .before .before .before .before .before .before .before .before .before .before .before .before .before .before .loop2 .inv .3 .2 ∙ (sized-of (c .before .before .before .before .before .before .before .before .before .before .before .before .before .before .before .before .before .before .before .before .before .before .before .before .before .before .before .before .before .before .before .before .before .before .before .before .before)) .loop .inv .3 .floor-size ∙ sym ((start-of (round-of (sized-of (c .before .before .before .before .before .before .before .before .before .before .before .before .before .before .before .before .before .before .before .before .before .before .before .before .before .before .before .before .before .before .before .before .before .before .before .before .before)))) .pre .places .floor-size)
+same-length-35 c = c .before .before .before .before .before .before .before .before .before .before .before .before .before .before .before .before .before .before .before .before .before .before .before .before .before .before .before .before .stiffen-led .kept .1 .1 .1 .1 .1 .1 .1 .1 .1 .1 .1 .1 .1 .1 .1 .1 .1 .0 ∙ c .before .before .before .before .before .before .before .before .before .before .before .before .before .before .before .before .before .before .before .before .before .before .before .before .before .before .before .before .before .before .before .before .before .before .before .before .before .loop2 .inv .3 .2 ∙ (sized-of (c .before .before .before .before .before .before .before .before .before .before .before .before .before .before .before .before .before .before .before .before .before .before .before .before .before .before .before .before .before .before .before .before .before .before .before .before .before)) .loop .inv .3 .floor-size ∙ sym ((start-of (round-of (sized-of (c .before .before .before .before .before .before .before .before .before .before .before .before .before .before .before .before .before .before .before .before .before .before .before .before .before .before .before .before .before .before .before .before .before .before .before .before .before)))) .pre .places .floor-size)
 
 same-length-36 :
     tie.Need-same-length-36
@@ -1036,7 +1038,7 @@ same-length-36 :
     μ-loop2
     Inv-rounds
     μ-rounds
-same-length-36 c = c .before .before .before .before .before .before .before .before .before .before .before .before .before .before .before .before .before .before .before .before .before .before .before .before .before .before .before .before .stiffen-led .kept .1 .1 .1 .1 .1 .1 .1 .1 .1 .1 .1 .1 .1 .1 .1 .1 .1 .0 ∙ c .before .before .before .before .before .before .before .before .before .before .before .before .before .before .before .before .before .before .before .before .before .before .before .before .before .before .before .before .before .before .before .before .before .before .before .before .before .loop2 .inv .3 .3 ∙ (sized-of (c .before .before .before .before .before .before .before .before .before .before .before .before .before .before .before .before .before .before .before .before .before .before .before .before .before .before .before .before .before .before .before .before .before .before .before .before .before)) .loop .inv .3 .upsized-size ∙ sym ((start-of (round-of (sized-of (c .before .before .before .before .before .before .before .before .before .before .before .before .before .before .before .before .before .before .before .before .before .before .before .before .before .before .before .before .before .before .before .before .before .before .before .before .before)))) .pre .places .upsized-size)
+same-length-36 c = c .before .before .before .before .before .before .before .before .before .before .before .before .before .before .before .before .before .before .before .before .before .before .before .before .before .before .before .before .stiffen-led .kept .1 .1 .1 .1 .1 .1 .1 .1 .1 .1 .1 .1 .1 .1 .1 .1 .1 .1 .0 ∙ c .before .before .before .before .before .before .before .before .before .before .before .before .before .before .before .before .before .before .before .before .before .before .before .before .before .before .before .before .before .before .before .before .before .before .before .before .before .loop2 .inv .3 .3 ∙ (sized-of (c .before .before .before .before .before .before .before .before .before .before .before .before .before .before .before .before .before .before .before .before .before .before .before .before .before .before .before .before .before .before .before .before .before .before .before .before .before)) .loop .inv .3 .upsized-size ∙ sym ((start-of (round-of (sized-of (c .before .before .before .before .before .before .before .before .before .before .before .before .before .before .before .before .before .before .before .before .before .before .before .before .before .before .before .before .before .before .before .before .before .before .before .before .before)))) .pre .places .upsized-size)
 
 same-length-37 :
     tie.Need-same-length-37
@@ -1056,7 +1058,7 @@ same-length-38 :
     μ-loop2
     Inv-rounds
     μ-rounds
-same-length-38 c = c .before .before .before .before .before .before .before .before .before .before .before .before .before .before .before .before .before .before .before .before .before .before .before .before .before .before .before .before .stiffen-led .kept .1 .1 .1 .1 .1 .1 .1 .1 .1 .1 .1 .1 .1 .1 .1 .1 .1 .1 .0 ∙ c .before .before .before .before .before .before .before .before .before .before .before .before .before .before .before .before .before .before .before .before .before .before .before .before .before .before .before .before .before .before .before .before .before .before .before .before .before .loop2 .inv .3 .4 ∙ (c .before .before .before .before .before .before .before .before .before .before .before .before .before .before .before .before .before .before .before .before .before .before .before .before .before .before .before .before .before .before .before .before .before .before .before .before .before) .before .before .before .stiffness-from .kept .1 .1 .1 .1 .0 ∙ (sized-of (c .before .before .before .before .before .before .before .before .before .before .before .before .before .before .before .before .before .before .before .before .before .before .before .before .before .before .before .before .before .before .before .before .before .before .before .before .before)) .loop .inv .3 .mark-size ∙ ap (λ (x : List ℕ). length x) ((sized-of (c .before .before .before .before .before .before .before .before .before .before .before .before .before .before .before .before .before .before .before .before .before .before .before .before .before .before .before .before .before .before .before .before .before .before .before .before .before)) .loop .inv .1) ∙ (round-of (sized-of (c .before .before .before .before .before .before .before .before .before .before .before .before .before .before .before .before .before .before .before .before .before .before .before .before .before .before .before .before .before .before .before .before .before .before .before .before .before))) .rounds .inv .1 ∙ sym ((start-of (round-of (sized-of (c .before .before .before .before .before .before .before .before .before .before .before .before .before .before .before .before .before .before .before .before .before .before .before .before .before .before .before .before .before .before .before .before .before .before .before .before .before)))) .pre .places .mark-size)
+same-length-38 c = c .before .before .before .before .before .before .before .before .before .before .before .before .before .before .before .before .before .before .before .before .before .before .before .before .before .before .before .before .stiffen-led .kept .1 .1 .1 .1 .1 .1 .1 .1 .1 .1 .1 .1 .1 .1 .1 .1 .1 .1 .1 .0 ∙ c .before .before .before .before .before .before .before .before .before .before .before .before .before .before .before .before .before .before .before .before .before .before .before .before .before .before .before .before .before .before .before .before .before .before .before .before .before .loop2 .inv .3 .4 ∙ (c .before .before .before .before .before .before .before .before .before .before .before .before .before .before .before .before .before .before .before .before .before .before .before .before .before .before .before .before .before .before .before .before .before .before .before .before .before) .before .before .before .stiffness-from .kept .1 .1 .1 .1 .0 ∙ (sized-of (c .before .before .before .before .before .before .before .before .before .before .before .before .before .before .before .before .before .before .before .before .before .before .before .before .before .before .before .before .before .before .before .before .before .before .before .before .before)) .loop .inv .3 .mark-size ∙ ap (λ (x : List ℕ). length x) ((sized-of (c .before .before .before .before .before .before .before .before .before .before .before .before .before .before .before .before .before .before .before .before .before .before .before .before .before .before .before .before .before .before .before .before .before .before .before .before .before)) .loop .inv .1) ∙ (round-of (sized-of (c .before .before .before .before .before .before .before .before .before .before .before .before .before .before .before .before .before .before .before .before .before .before .before .before .before .before .before .before .before .before .before .before .before .before .before .before .before))) .rounds .inv .1 ∙ sym ((start-of (round-of (sized-of (c .before .before .before .before .before .before .before .before .before .before .before .before .before .before .before .before .before .before .before .before .before .before .before .before .before .before .before .before .before .before .before .before .before .before .before .before .before)))) .pre .places .mark-size)
 
 same-length-39 :
     tie.Need-same-length-39
@@ -1089,9 +1091,9 @@ returns-5 c =
     let lv = k .inv .1 ∙ l .inv .1 in
     let ln = ap (λ (x : List ℕ). length x) lv in
     record {
-      ran = λ o target s e. stiffened-settled (z .mode) (z .above) (now (z .ladder)) (now (z .a)) (now (z .b)) (now (z .km)) (now (z .share)) (now (z .sheet)) (now (z .load)) (now (z .bus)) (now (z .pmax)) (now (z .leader)) (now (z .grounds)) (now (z .injection)) (length (now (z .leader)))
-          (goesOn (z .mode) (z .above) (now (z .ladder)) (now (z .a)) (now (z .b)) (now (z .km)) (now (z .share)) (now (z .sheet)) (now (z .load)) (now (z .bus)) (now (z .pmax)) (now (z .leader)) (now (z .grounds)) (now (z .injection)) (length (now (z .leader))) (z .budget) (now (z .level)) (now (z .circuits)) (now (z .banks)) (now (z .floors)) (now (z .upsized)) (now (z .angle)) (z .start))
-          (r .left - 1) (k .level) ((c .before .before .before .before .before .before .before .before .before .before .before .before .before .before .before .before .before .before .before .before .before .before .before .before .before .before .before .before .before .before .before .before .before .before .before .before .before) .before .before .before .before .before .before .before .limits-of .result) ((sized-of (c .before .before .before .before .before .before .before .before .before .before .before .before .before .before .before .before .before .before .before .before .before .before .before .before .before .before .before .before .before .before .before .before .before .before .before .before .before)) .before .before .before .before .before .before .before .before .before .before .before .before .before .before .draw-edges .result .from) ((sized-of (c .before .before .before .before .before .before .before .before .before .before .before .before .before .before .before .before .before .before .before .before .before .before .before .before .before .before .before .before .before .before .before .before .before .before .before .before .before)) .before .before .before .before .before .before .before .before .before .before .before .before .before .before .draw-edges .result .to) ((sized-of (c .before .before .before .before .before .before .before .before .before .before .before .before .before .before .before .before .before .before .before .before .before .before .before .before .before .before .before .before .before .before .before .before .before .before .before .before .before)) .before .before .before .before .before .before .before .before .before .before .before .before .before .before .draw-edges .result .weight) ((sized-of (c .before .before .before .before .before .before .before .before .before .before .before .before .before .before .before .before .before .before .before .before .before .before .before .before .before .before .before .before .before .before .before .before .before .before .before .before .before)) .before .before .before .before .before .before .before .before .before .before .before .peak-state .last .1 .1 .1 .0) ((sized-of (c .before .before .before .before .before .before .before .before .before .before .before .before .before .before .before .before .before .before .before .before .before .before .before .before .before .before .before .before .before .before .before .before .before .before .before .before .before)) .before .before .before .before .before .before .before .before .before .before .before .peak-state .last .1 .1 .1 .1 .0) (k .p) (l .t) (ln ∙ sym (f .places .leader-size)) (k .i + 1) (c .before .before .before .before .before .before .before .before .before .before .before .before .before .before .before .before .before .before .before .before .before .before .before .before .before .before .before .before .stiffen-led .last .1 .1 .1 .1 .1 .1 .1 .1 .1 .1 .1 .1 .1 .1 .0) (c .before .before .before .before .before .before .before .before .before .before .before .before .before .before .before .before .before .before .before .before .before .before .before .before .before .before .before .before .stiffen-led .last .1 .1 .1 .1 .1 .1 .1 .1 .1 .1 .1 .1 .1 .1 .1 .0) (c .before .before .before .before .before .before .before .before .before .before .before .before .before .before .before .before .before .before .before .before .before .before .before .before .before .before .before .before .stiffen-led .last .1 .1 .1 .1 .1 .1 .1 .1 .1 .1 .1 .1 .1 .1 .1 .1 .0) (c .before .before .before .before .before .before .before .before .before .before .before .before .before .before .before .before .before .before .before .before .before .before .before .before .before .before .before .before .stiffen-led .last .1 .1 .1 .1 .1 .1 .1 .1 .1 .1 .1 .1 .1 .1 .1 .1 .1 .0) (c .before .before .before .before .before .before .before .before .before .before .before .before .before .before .before .before .before .before .before .before .before .before .before .before .before .before .before .before .stiffen-led .last .1 .1 .1 .1 .1 .1 .1 .1 .1 .1 .1 .1 .1 .1 .1 .1 .1 .1 .0) (c .before .before .before .before .before .before .before .before .before .before .before .before .before .before .before .before .u .given .0 .0) (next (c .before .before .before .before .before .before .before .before .before .before .before .before .before .before .before)) (omega (arith, c .before .before .before .before .before .before .before .before .before .before .before .before .before .before .if5 .taken)) (omega (arith, ap (λ (q : Progress). q .rounds) (k .inv .2 ∙ l .inv .2))) (ap (λ (q : Progress). q .converged) (k .inv .2 ∙ l .inv .2)) (ap (λ (q : Progress). q .settled) (k .inv .2 ∙ l .inv .2)) (c .before .before .before .before .before .before .before .before .before .raise-marked2 .last .1 .1 .1 .1 .1 .1 .1 .1 .1 .1 .1 .0) (c .before .before .before .before .before .before .before .before .before .raise-marked2 .last .1 .1 .1 .1 .1 .1 .1 .1 .1 .1 .1 .1 .0) (c .before .before .before .before .before .before .before .before .before .raise-marked2 .result) (c .before .before .before .before .before .before .before .before .before .raise-marked2 .ensures) (c .before .before .if6 .left) o target s ((start-of (round-of (sized-of (c .before .before .before .before .before .before .before .before .before .before .before .before .before .before .before .before .before .before .before .before .before .before .before .before .before .before .before .before .before .before .before .before .before .before .before .before .before)))) .pre .places .leader-size ∙ e);
+      ran = λ o target s e caps. stiffened-settled (z .mode) (z .above) (now (z .ladder)) (now (z .a)) (now (z .b)) (now (z .km)) (now (z .share)) (now (z .cap)) (now (z .sheet)) (now (z .load)) (now (z .bus)) (now (z .pmax)) (now (z .leader)) (now (z .grounds)) (now (z .injection)) (length (now (z .leader)))
+          (goesOn (z .mode) (z .above) (now (z .ladder)) (now (z .a)) (now (z .b)) (now (z .km)) (now (z .share)) (now (z .cap)) (now (z .sheet)) (now (z .load)) (now (z .bus)) (now (z .pmax)) (now (z .leader)) (now (z .grounds)) (now (z .injection)) (length (now (z .leader))) (z .budget) (now (z .level)) (now (z .circuits)) (now (z .banks)) (now (z .floors)) (now (z .upsized)) (now (z .angle)) (z .start))
+          (r .left - 1) (k .level) ((c .before .before .before .before .before .before .before .before .before .before .before .before .before .before .before .before .before .before .before .before .before .before .before .before .before .before .before .before .before .before .before .before .before .before .before .before .before) .before .before .before .before .before .before .before .limits-of .result) ((sized-of (c .before .before .before .before .before .before .before .before .before .before .before .before .before .before .before .before .before .before .before .before .before .before .before .before .before .before .before .before .before .before .before .before .before .before .before .before .before)) .before .before .before .before .before .before .before .before .before .before .before .before .before .before .draw-edges .result .from) ((sized-of (c .before .before .before .before .before .before .before .before .before .before .before .before .before .before .before .before .before .before .before .before .before .before .before .before .before .before .before .before .before .before .before .before .before .before .before .before .before)) .before .before .before .before .before .before .before .before .before .before .before .before .before .before .draw-edges .result .to) ((sized-of (c .before .before .before .before .before .before .before .before .before .before .before .before .before .before .before .before .before .before .before .before .before .before .before .before .before .before .before .before .before .before .before .before .before .before .before .before .before)) .before .before .before .before .before .before .before .before .before .before .before .before .before .before .draw-edges .result .weight) ((sized-of (c .before .before .before .before .before .before .before .before .before .before .before .before .before .before .before .before .before .before .before .before .before .before .before .before .before .before .before .before .before .before .before .before .before .before .before .before .before)) .before .before .before .before .before .before .before .before .before .before .before .peak-state .last .1 .1 .1 .0) ((sized-of (c .before .before .before .before .before .before .before .before .before .before .before .before .before .before .before .before .before .before .before .before .before .before .before .before .before .before .before .before .before .before .before .before .before .before .before .before .before)) .before .before .before .before .before .before .before .before .before .before .before .peak-state .last .1 .1 .1 .1 .0) (k .p) (l .t) (ln ∙ sym (f .places .leader-size)) (k .i + 1) (c .before .before .before .before .before .before .before .before .before .before .before .before .before .before .before .before .before .before .before .before .before .before .before .before .before .before .before .before .stiffen-led .last .1 .1 .1 .1 .1 .1 .1 .1 .1 .1 .1 .1 .1 .1 .1 .0) (c .before .before .before .before .before .before .before .before .before .before .before .before .before .before .before .before .before .before .before .before .before .before .before .before .before .before .before .before .stiffen-led .last .1 .1 .1 .1 .1 .1 .1 .1 .1 .1 .1 .1 .1 .1 .1 .1 .0) (c .before .before .before .before .before .before .before .before .before .before .before .before .before .before .before .before .before .before .before .before .before .before .before .before .before .before .before .before .stiffen-led .last .1 .1 .1 .1 .1 .1 .1 .1 .1 .1 .1 .1 .1 .1 .1 .1 .1 .0) (c .before .before .before .before .before .before .before .before .before .before .before .before .before .before .before .before .before .before .before .before .before .before .before .before .before .before .before .before .stiffen-led .last .1 .1 .1 .1 .1 .1 .1 .1 .1 .1 .1 .1 .1 .1 .1 .1 .1 .1 .0) (c .before .before .before .before .before .before .before .before .before .before .before .before .before .before .before .before .before .before .before .before .before .before .before .before .before .before .before .before .stiffen-led .last .1 .1 .1 .1 .1 .1 .1 .1 .1 .1 .1 .1 .1 .1 .1 .1 .1 .1 .1 .0) (c .before .before .before .before .before .before .before .before .before .before .before .before .before .before .before .before .u .given .0 .0) (next (c .before .before .before .before .before .before .before .before .before .before .before .before .before .before .before)) (omega (arith, c .before .before .before .before .before .before .before .before .before .before .before .before .before .before .if5 .taken)) (omega (arith, ap (λ (q : Progress). q .rounds) (k .inv .2 ∙ l .inv .2))) (ap (λ (q : Progress). q .converged) (k .inv .2 ∙ l .inv .2)) (ap (λ (q : Progress). q .settled) (k .inv .2 ∙ l .inv .2)) (c .before .before .before .before .before .before .before .before .before .raise-marked2 .last .1 .1 .1 .1 .1 .1 .1 .1 .1 .1 .1 .0) (c .before .before .before .before .before .before .before .before .before .raise-marked2 .last .1 .1 .1 .1 .1 .1 .1 .1 .1 .1 .1 .1 .0) (c .before .before .before .before .before .before .before .before .before .raise-marked2 .result) (c .before .before .before .before .before .before .before .before .before .raise-marked2 .ensures) (c .before .before .if6 .left) o target s ((start-of (round-of (sized-of (c .before .before .before .before .before .before .before .before .before .before .before .before .before .before .before .before .before .before .before .before .before .before .before .before .before .before .before .before .before .before .before .before .before .before .before .before .before)))) .pre .places .leader-size ∙ e, caps);
       lines = c .before .before .before .before .before .before .before .before .before .raise-marked2 .ensures .lines;
       banked = c .before .before .before .before .before .before .before .before .before .raise-marked2 .ensures .banked;
       few = c .before .before .before .before .before .before .before .before .before .before .before .before .before .before .before .before .before .before .before .before .before .before .before .before .before .before .before .before .stiffen-led .ensures .few (k .inv .5);

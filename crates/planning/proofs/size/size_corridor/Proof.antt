@@ -48,7 +48,7 @@ slice-read-circuit : tie.Need-slice-read-circuit
 slice-read-circuit c = search needs
 
 circuit-requires : tie.Need-circuit-requires
-circuit-requires c κs = let s = c .before .before .before .before .before .before .before .before .before .before .before .before .before .before .before .before .before in (s .pre .lines, (s .pre .corridor, s .pre .banked (s .args .k) (omega (arith, s .pre .corridor, s .pre .held .bank-size))))
+circuit-requires c κs = let s = c .before .before .before .before .before .before .before .before .before .before .before .before .before .before .before .before .before .before in (s .pre .lines, (s .pre .corridor, s .pre .banked (s .args .k) (omega (arith, s .pre .corridor, s .pre .held .bank-size))))
 
 next-bank-requires : tie.Need-next-bank-requires
 next-bank-requires c κs = search needs
@@ -57,17 +57,17 @@ enlarges-requires : tie.Need-enlarges-requires
 enlarges-requires c κs = search needs
 
 banked-if-requires : tie.Need-banked-if-requires
-banked-if-requires c κs = larger-ok _ _ _ _ _ (first-rated (c .before .before .before .before .before .before .before .before .before .before .before .before .before .before .before .before .before .before .before .before) _ (c .before .before .circuit .ensures)) (c .before .next-bank .ensures) (c .enlarges .ensures)
+banked-if-requires c κs = larger-ok _ _ _ _ _ (first-rated (c .before .before .before .before .before .before .before .before .before .before .before .before .before .before .before .before .before .before .before .before .before) _ (c .before .before .circuit .ensures)) (c .before .next-bank .ensures) (c .enlarges .ensures)
 
 keep-bank-requires : tie.Need-keep-bank-requires
-keep-bank-requires c κs = let s = c .before .before .before .before .before .before .before .before .before .before .before .before .before .before .before .before .before .before .before .before .before .before .before .before in (omega (arith, s .pre .corridor, s .pre .held .bank-size), omega (arith, s .pre .corridor, s .pre .held .floor-size), omega (arith, s .pre .corridor, s .pre .held .upsized-size))
+keep-bank-requires c κs = let s = c .before .before .before .before .before .before .before .before .before .before .before .before .before .before .before .before .before .before .before .before .before .before .before .before .before in (omega (arith, s .pre .corridor, s .pre .held .bank-size), omega (arith, s .pre .corridor, s .pre .held .floor-size), omega (arith, s .pre .corridor, s .pre .held .upsized-size))
 
 with-bank-added-requires : tie.Need-with-bank-added-requires
 with-bank-added-requires c κs = search needs
 
 grow-requires : tie.Need-grow-requires
 grow-requires c κs =
-    let s = c .before .before .before .before .before .before .before .before .before .before .before .before .before .before .before .before .before .before .before .before .before .before .before .before .before .before .before .before .before .before .before .before .before .before in
+    let s = c .before .before .before .before .before .before .before .before .before .before .before .before .before .before .before .before .before .before .before .before .before .before .before .before .before .before .before .before .before .before .before .before .before .before .before in
     let z = s .args in
     let h = s .pre .corridor in (
       record {
@@ -77,11 +77,11 @@ grow-requires c κs =
         b-below = s .pre .lines .b-below (z .k) h;
         mark-size = s .pre .held .mark-size;
       },
-      (omega (arith, h, s .pre .held .count-size), omega (arith, s .pre .room, ap (λ (t : Tally). t .capacity) (c .before .before .with-bank-added .ensures))),
+      (omega (arith, h, s .pre .held .count-size), omega (arith, h, s .pre .capped .size), s .pre .capped .few (z .k), omega (arith, s .pre .room, ap (λ (t : Tally). t .capacity) (c .before .before .with-bank-added .ensures))),
     )
 
 same-length : tie.Need-same-length
-same-length c = c .before .before .before .before .grow .kept .1 .1 .1 .1 .1 .1 .1 .0
+same-length c = c .before .before .before .before .grow .kept .1 .1 .1 .1 .1 .1 .1 .1 .0
 
 same-length-2 : tie.Need-same-length-2
 same-length-2 c = c .before .before .before .before .before .before .before .before .before .before .before .before .before .before .keep-bank .kept .1 .1 .1 .0
@@ -93,11 +93,11 @@ same-length-4 : tie.Need-same-length-4
 same-length-4 c = c .before .before .before .before .before .before .before .before .before .before .before .before .before .before .keep-bank .kept .1 .1 .1 .1 .1 .0
 
 same-length-5 : tie.Need-same-length-5
-same-length-5 c = c .before .before .before .before .grow .kept .1 .1 .1 .1 .1 .1 .1 .1 .0
+same-length-5 c = c .before .before .before .before .grow .kept .1 .1 .1 .1 .1 .1 .1 .1 .1 .0
 
 returns : tie.Need-returns
 returns c =
-    let s = c .before .before .before .before .before .before .before .before .before .before .before .before .before .before .before .before .before .before .before .before .before .before .before .before .before .before .before .before .before .before .before .before .before .before .before .before .before .before .before in
+    let s = c .before .before .before .before .before .before .before .before .before .before .before .before .before .before .before .before .before .before .before .before .before .before .before .before .before .before .before .before .before .before .before .before .before .before .before .before .before .before .before .before in
     let z = s .args in
     let first = c .before .before .before .before .before .before .before .before .before .before .before .before .before .before .before .before .before .before .before .before .before .circuit .ensures in
     let next = c .before .before .before .before .before .before .before .before .before .before .before .before .before .before .before .before .before .before .before .before .next-bank .ensures in
@@ -108,7 +108,7 @@ returns c =
     let g = c .before .before .before .before .grow .ensures in
     let h : z .k < length (now (z .banks)) = omega (arith, s .pre .corridor, s .pre .held .bank-size) in
     record {
-      sized = size-is (z .mode) (length (now (z .level))) (now (z .ladder)) (now (z .level)) (now (z .a)) (now (z .b)) (now (z .km)) (now (z .share)) (now (z .sheet)) (now (z .flow)) (z .k) (now (z .circuits)) (now (z .banks)) (now (z .floors)) (now (z .upsized)) (now (z .marks)) (z .t)
+      sized = size-is (z .mode) (length (now (z .level))) (now (z .ladder)) (now (z .level)) (now (z .a)) (now (z .b)) (now (z .km)) (now (z .share)) (now (z .cap)) (now (z .sheet)) (now (z .flow)) (z .k) (now (z .circuits)) (now (z .banks)) (now (z .floors)) (now (z .upsized)) (now (z .marks)) (z .t)
           (s .pre .corridor) (s .pre .held .bank-size) _ _ _ _ _ _ _ _ _ _ _ _ (c .before .before .before .before .before .before .before .before .before .before .before .before .before .before .before .before .before .before .before .before .before .before .before .before .required-for .ensures) first next larger d (kept .0) (kept .1 .0) (kept .1 .1) t g;
       banked = subst Banks (sym (kept .0 ∙ kept-next (c .before .before .before .before .before .before .before .before .before .before .before .before .before .before .before .before .before .before .before .enlarges .result) (c .before .before .before .before .before .before .before .before .before .before .before .before .before .before .before .before .before .before .before .before .before .circuit .result) (c .before .before .before .before .before .before .before .before .before .before .before .before .before .before .before .before .before .before .banked-if .result) (c .before .before .before .before .before .before .before .before .before .before .before .before .before .before .before .before .before .before .before .before .next-bank .result) (now (z .banks)) (z .k) d)) (banks-set (now (z .banks)) (z .k) _ _ h (larger-ok _ _ _ _ _ (first-rated s _ first) next larger) (s .pre .banked));
       bound = omega (arith, g .bound, ap (λ (x : Tally). x .capacity) t);

@@ -18,7 +18,7 @@ use Rattle.planning.proofs.stiffen.gain_at.Tie as tie
 
 is-candidate-requires : tie.Need-is-candidate-requires
 is-candidate-requires c κs =
-    let s = c .before .before .before .before .before .before .before .before .before .before .before .before in
+    let s = c .before .before .before .before .before .before .before .before .before .before .before .before .before in
     let p = s .pre .0 in
     let h = s .pre .1 in (
       record {
@@ -28,12 +28,13 @@ is-candidate-requires c κs =
         b-below = p .lines .b-below (s .args .k) h;
         mark-size = p .leader-size;
       },
+      omega (arith, h, p .cap-size),
       omega (arith, h, p .count-size),
     )
 
 returns : tie.Need-returns
 returns c =
-    let s = c .before .before .before .before .before .before .before .before .before .before .before .before .before .before .args in
+    let s = c .before .before .before .before .before .before .before .before .before .before .before .before .before .before .before .args in
     ap (λ (b : Bool). gainIf b (gainOf (now (s .angle)) (now (s .phi)) (design (designsFor (now (s .ladder)) (now (s .level)) (now (s .a)) (now (s .b)) (now (s .km)) (now (s .share)) (now (s .sheet)) (now (s .banks))) (s .k)))) (sym (not-true _ (c .if1 .taken)) ∙ c .before .is-candidate .ensures)
 
 mul-circuit : tie.Need-mul-circuit
@@ -44,12 +45,12 @@ shared-slice-read-circuit c = search needs
 
 circuit-requires : tie.Need-circuit-requires
 circuit-requires c κs =
-    let s = c .before .before .before .before .before .before .before .before .before .before .before .before .before .before .before in
+    let s = c .before .before .before .before .before .before .before .before .before .before .before .before .before .before .before .before in
     (s .pre .0 .lines, (s .pre .1, s .pre .0 .banked (s .args .k) (omega (arith, s .pre .1, s .pre .0 .bank-size))))
 
 gain-of-requires : tie.Need-gain-of-requires
 gain-of-requires c κs =
-    let s = c .before .before .before .before .before .before .before .before .before .before .before .before .before .before .before .before in
+    let s = c .before .before .before .before .before .before .before .before .before .before .before .before .before .before .before .before .before in
     let z = s .args in
     let p = s .pre .0 in
     let e = c .circuit .ensures in
@@ -59,7 +60,7 @@ gain-of-requires c κs =
 
 returns-2 : tie.Need-returns-2
 returns-2 c =
-    let s = c .before .before .before .before .before .before .before .before .before .before .before .before .before .before .before .before .before in
+    let s = c .before .before .before .before .before .before .before .before .before .before .before .before .before .before .before .before .before .before in
     let z = s .args in
     let D = design (designsFor (now (z .ladder)) (now (z .level)) (now (z .a)) (now (z .b)) (now (z .km)) (now (z .share)) (now (z .sheet)) (now (z .banks))) (z .k) in
     c .gain-of .ensures

@@ -61,8 +61,14 @@ wide-requires-4 c κs = search needs
 
 returns : tie.Need-returns
 returns c =
-    let s = c .before .before .before .before .before .before .before .before .before .before .before .before .before .before .before .before .before .before .before .args in
-    candidate-is (s .g) (now (s .leader)) (now (s .level)) (now (s .a)) (now (s .b)) (now (s .circuits)) (s .t) (s .root) (s .k) _ _ _ _ _ _ (c .before .before .before .before .before .before .before .before .before .before .before .before .wide .ensures) (c .before .before .before .before .before .before .before .before .before .before .wide2 .ensures) (c .before .before .before .before .before .before .before .fewer .ensures) (c .before .before .before .before .before .has-room .ensures) (c .before .before .before .wide3 .ensures) (c .before .wide4 .ensures)
+    let s = c .before .before .before .before .before .before .before .before .before .before .before .before .before .before .before .before .before .before .before .before .before .args in
+    candidate-is (s .g) (now (s .leader)) (now (s .level)) (now (s .a)) (now (s .b)) (now (s .cap)) (now (s .circuits)) (s .t) (s .root) (s .k) _ _ _ _ _ _ (c .before .before .before .before .before .before .before .before .before .before .before .before .before .wide .ensures) (c .before .before .before .before .before .before .before .before .before .before .before .wide2 .ensures) (c .before .before .before .before .before .before .before .before .fewer .ensures) (c .before .before .before .before .before .has-room .ensures) (c .before .before .before .wide3 .ensures) (c .before .wide4 .ensures)
+
+mul-has-room-2 : tie.Need-mul-has-room-2
+mul-has-room-2 c = search needs
+
+shared-slice-read-has-room-2 : tie.Need-shared-slice-read-has-room-2
+shared-slice-read-has-room-2 c = search needs
 
 pub is-candidate-spec : {M : Type 1} → statement M
 is-candidate-spec =
@@ -81,6 +87,8 @@ is-candidate-spec =
     fewer-requires
     mul-has-room
     shared-slice-read-has-room
+    mul-has-room-2
+    shared-slice-read-has-room-2
     has-room-requires
     mul-wide-3
     shared-slice-read-wide-3

@@ -25,7 +25,7 @@ returns c =
     let z = c .before .before .before .before .before .before .before .before .before .before .before .before .before .args in
     let r = c .before .before .before .before .before .before .raises .ensures in
     let m = c .before .arrivals .ensures in
-    strengthened-raised (z .g) (now (z .level)) (now (z .a)) (now (z .b)) (z .k) (now (z .circuits)) (now (z .marks)) (z .t) _ _ (r .1) (r .0) _ _ (c .before .before .before .if1 .taken) (m .0) (m .1) (c .reckoned .ensures)
+    strengthened-raised (z .g) (z .own) (now (z .level)) (now (z .a)) (now (z .b)) (z .k) (now (z .circuits)) (now (z .marks)) (z .t) _ _ (r .1) (r .0) _ _ (c .before .before .before .if1 .taken) (m .0) (m .1) (c .reckoned .ensures)
 
 mul-count : tie.Need-mul-count
 mul-count c = search needs
@@ -37,7 +37,7 @@ has-room-requires : tie.Need-has-room-requires
 has-room-requires c κs = search needs
 
 add-circuits : tie.Need-add-circuits
-add-circuits c = let z = c .before .before .before .before .before .before .before .before .before .before .before .before .before .args in record { fits = omega (arith, room-below (z .g) (getD (now (z .circuits)) (z .k) 0) (z .t .total) _ (c .before .has-room .ensures) (c .if2 .taken)) }
+add-circuits c = let z = c .before .before .before .before .before .before .before .before .before .before .before .before .before .args in record { fits = omega (arith, room-below (z .g) (z .own) (getD (now (z .circuits)) (z .k) 0) (z .t .total) _ (c .before .before .before .before .before .before .before .before .before .before .before .before .before .pre .1 .1) (c .before .has-room .ensures) (c .if2 .taken)) }
 
 mul-circuits : tie.Need-mul-circuits
 mul-circuits c = search needs
@@ -58,7 +58,7 @@ returns-2 : tie.Need-returns-2
 returns-2 c =
     let z = c .before .before .before .before .before .before .before .before .before .before .before .before .before .before .args in
     let r = c .before .before .before .before .before .before .before .raises .ensures in
-    strengthened-added (z .g) (now (z .level)) (now (z .a)) (now (z .b)) (z .k) (now (z .circuits)) (now (z .marks)) (z .t) _ _ (r .1) (r .0) _ (c .before .before .before .before .if1 .left) (sym (c .before .before .has-room .ensures) ∙ c .before .if2 .taken) (c .before .before .before .before .before .before .before .before .before .before .before .before .before .before .pre .1 .0) (c .reckoned2 .ensures)
+    strengthened-added (z .g) (z .own) (now (z .level)) (now (z .a)) (now (z .b)) (z .k) (now (z .circuits)) (now (z .marks)) (z .t) _ _ (r .1) (r .0) _ (c .before .before .before .before .before .before .before .before .before .before .before .before .before .before .pre .1 .1) (c .before .before .before .before .if1 .left) (sym (c .before .before .has-room .ensures) ∙ c .before .if2 .taken) (c .before .before .before .before .before .before .before .before .before .before .before .before .before .before .pre .1 .0) (c .reckoned2 .ensures)
 
 same-length-4 : tie.Need-same-length-4
 same-length-4 c = search needs
@@ -67,7 +67,7 @@ returns-3 : tie.Need-returns-3
 returns-3 c =
     let z = c .before .before .before .before .before .before .before .before .before .before .before .before .before .args in
     let r = c .before .before .before .before .before .before .raises .ensures in
-    strengthened-none (z .g) (now (z .level)) (now (z .a)) (now (z .b)) (z .k) (now (z .circuits)) (now (z .marks)) (z .t) _ _ (r .1) (r .0) (c .before .before .before .if1 .left) (sym (c .before .has-room .ensures) ∙ c .if2 .left)
+    strengthened-none (z .g) (z .own) (now (z .level)) (now (z .a)) (now (z .b)) (z .k) (now (z .circuits)) (now (z .marks)) (z .t) _ _ (r .1) (r .0) (c .before .before .before .if1 .left) (sym (c .before .has-room .ensures) ∙ c .if2 .left)
 
 pub raise-or-add-spec : {M : Type 1} → statement M
 raise-or-add-spec =

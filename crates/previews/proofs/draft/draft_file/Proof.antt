@@ -13,7 +13,7 @@ said-of-requires c κs = search needs
 
 returns : tie.Need-returns
 returns c =
-    let q = c .before .before .before in
+    let q = c .before .before .before .before in
     let p = q .before .plan-file in (
       drafted-said (p .result .planned) _ (q .said-of .ensures) ∙ planned-kept _ (p .result) (p .ensures .0),
       p .ensures .1 .0 .corridors,

@@ -25,6 +25,15 @@ part-preview-filling-end-2 c = search needs
 sub-preview-filling-3 : tie.Need-sub-preview-filling-3
 sub-preview-filling-3 c = search needs
 
+part-preview-filling-start-3 : tie.Need-part-preview-filling-start-3
+part-preview-filling-start-3 c = search needs
+
+part-preview-filling-end-3 : tie.Need-part-preview-filling-end-3
+part-preview-filling-end-3 c = search needs
+
+sub-preview-filling-4 : tie.Need-sub-preview-filling-4
+sub-preview-filling-4 c = search needs
+
 part-circuits-start : tie.Need-part-circuits-start
 part-circuits-start c = search needs
 
@@ -37,8 +46,8 @@ preview-filling-requires c κs = search needs
 returns : tie.Need-returns
 returns c =
     let p = c .before in
-    let o = p .before .before .before .before .before .before in
-    previewed (p .preview-filling .result) (o .args .mode) (o .args .m) (o .args .target) _ _ (p .preview-filling .last .1 .1 .1 .1 .1 .0) (o .pre) (p .preview-filling .kept .1 .1 .1 .1 .1 .0) (p .preview-filling .ensures)
+    let o = p .before .before .before .before .before .before .before .before in
+    previewed (p .preview-filling .result) (o .args .mode) (o .args .m) (o .args .target) _ _ _ (p .preview-filling .last .1 .1 .1 .1 .1 .1 .0) (o .pre) (p .preview-filling .kept .1 .1 .1 .1 .1 .1 .0) (p .preview-filling .ensures)
 
 pub preview-kept-spec : {M : Type 1} → statement M
 preview-kept-spec =
@@ -51,6 +60,9 @@ preview-kept-spec =
     part-preview-filling-start-2
     part-preview-filling-end-2
     sub-preview-filling-3
+    part-preview-filling-start-3
+    part-preview-filling-end-3
+    sub-preview-filling-4
     part-circuits-start
     part-circuits-end
     preview-filling-requires

@@ -21,6 +21,9 @@ fill-figures-requires c κs = search needs
 fill-figures-requires-2 : tie.Need-fill-figures-requires-2
 fill-figures-requires-2 c κs = search needs
 
+fill-counts-requires-2 : tie.Need-fill-counts-requires-2
+fill-counts-requires-2 c κs = search needs
+
 mul-fill-rows : tie.Need-mul-fill-rows
 mul-fill-rows c = search needs
 
@@ -45,18 +48,21 @@ same-length-5 c = search needs
 same-length-6 : tie.Need-same-length-6
 same-length-6 c = search needs
 
+same-length-7 : tie.Need-same-length-7
+same-length-7 c = search needs
+
 returns : tie.Need-returns
 returns c =
-    let m = c .before .before .before .before .before .before .before .before .before .before .before .before .before .before .before .before .before .before .before .before .before .before .before .corridor-count .ensures .0 in
-    let ends = c .before .before .before .before .before .before .before .before .before .before .before .before .before .before .before .before .before .before .before .before .put-ends .ensures in (
+    let m = c .before .before .before .before .before .before .before .before .before .before .before .before .before .before .before .before .before .before .before .before .before .before .before .before .before .before .before .corridor-count .ensures .0 in
+    let ends = c .before .before .before .before .before .before .before .before .before .before .before .before .before .before .before .before .before .before .before .before .before .before .before .before .put-ends .ensures in (
       ends .0 ∙ so-many 0 _ _ _ _ m,
       (
         ends .1 ∙ so-many 0 _ _ _ _ m,
         (
-          c .before .before .before .before .before .before .before .before .before .before .before .before .before .before .fill-counts .ensures ∙ so-many 0 _ _ _ _ m,
+          c .before .before .before .before .before .before .before .before .before .before .before .before .before .before .before .before .before .before .fill-counts .ensures ∙ so-many 0 _ _ _ _ m,
           (
-            c .before .before .before .before .before .before .before .before .before .before .fill-figures .ensures ∙ so-many nought _ _ _ _ m,
-            (c .before .before .before .before .before .before .fill-figures2 .ensures ∙ so-many nought _ _ _ _ m, c .before .before .fill-rows .ensures ∙ so-filled _ m),
+            c .before .before .before .before .before .before .before .before .before .before .before .before .before .before .fill-figures .ensures ∙ so-many nought _ _ _ _ m,
+            (c .before .before .before .before .before .before .before .before .before .before .fill-figures2 .ensures ∙ so-many nought _ _ _ _ m, (c .before .before .before .before .before .before .fill-counts2 .ensures ∙ so-many 0 _ _ _ _ m, c .before .before .fill-rows .ensures ∙ so-filled _ m)),
           ),
         ),
       ),
@@ -71,6 +77,7 @@ put-corridors-spec =
     fill-counts-requires
     fill-figures-requires
     fill-figures-requires-2
+    fill-counts-requires-2
     mul-fill-rows
     fill-rows-requires
     same-length
@@ -79,4 +86,5 @@ put-corridors-spec =
     same-length-4
     same-length-5
     same-length-6
+    same-length-7
     returns)

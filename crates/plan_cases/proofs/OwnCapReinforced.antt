@@ -1,0 +1,63 @@
+-- Reinforce, one island, every corridor a CP, an own cap above the initial count: the defined plan's listing is the reference build's. The branches that are taken:
+-- dispatch: bisection narrowed the price; the first interior unit takes the gap
+-- angles: settled after steps
+-- rounds: more than its own cap needed; circuits added
+-- end: capped
+-- closing: a capped corridor; a corridor capped at its own cap
+-- By evaluation.
+use mathlib.Core.List.{[], _∷_}
+use mathlib.Core.Path.{_≡_, refl}
+use Rattle.mode.specs.declared.PlanMode.the-variants.{Reinforce}
+use Rattle.plan_defs.specs.Case.{Case}
+use Rattle.plan_defs.specs.Listing.{listingOf}
+use Rattle.plan_cases.proofs.Figures.{figures}
+
+-- HD 1 0 2 1 1 0 1
+-- LV 138
+-- BU 0 0
+-- BU 0 200
+-- GE 0 1 0 300 20 0.25
+-- CP 0 1 1 10 1 2
+-- LN 0 0.0625 0 100 0
+abbrev pub given : Case
+given =
+    record {
+      mode = Reinforce;
+      buses = 2;
+      corridors = 1;
+      generators = 1;
+      above = 0;
+      requested = 1;
+      ladder = figures (0x4061_4000_0000_0000 ∷ []);
+      tier = 0 ∷ 0 ∷ [];
+      load = figures (0 ∷ 0x4069_0000_0000_0000 ∷ []);
+      bus = 0 ∷ [];
+      slack = 1 ∷ [];
+      pmin = figures (0 ∷ []);
+      pmax = figures (0x4072_C000_0000_0000 ∷ []);
+      c1 = figures (0x4034_0000_0000_0000 ∷ []);
+      c2 = figures (0x3FD0_0000_0000_0000 ∷ []);
+      a = 0 ∷ [];
+      b = 1 ∷ [];
+      circuits = 1 ∷ [];
+      km = figures (0x4024_0000_0000_0000 ∷ []);
+      share = figures (0x3FF0_0000_0000_0000 ∷ []);
+      cap = 2 ∷ [];
+      sheet = figures (0 ∷ 0x3FB0_0000_0000_0000 ∷ 0 ∷ 0x4059_0000_0000_0000 ∷ 0 ∷ []);
+    }
+
+pub listed :
+    listingOf given 0
+    ≡ (1 ∷ 2 ∷ 0 ∷ 1 ∷ 0 ∷ 0 ∷ 0 ∷ 0 ∷ 0 ∷ 1 ∷ [])
+    ∷ []
+    ∷ (0 ∷ [])
+    ∷ (0 ∷ 0 ∷ [])
+    ∷ (0 ∷ 0xBFB0_0000_0000_0000 ∷ [])
+    ∷ (0x4069_0000_0000_0000 ∷ [])
+    ∷ (2 ∷ [])
+    ∷ (0x4069_0000_0000_0000 ∷ [])
+    ∷ (0x4059_0000_0000_0000 ∷ [])
+    ∷ (0x3FF0_0000_0000_0000 ∷ 0x3FB0_0000_0000_0000 ∷ [])
+    ∷ []
+unfolding listingOf
+listed = refl

@@ -184,18 +184,18 @@ returns c =
     let f = fits o in
     let k = p .plan-corridors .kept .1 .1 .1 .1 .1 .1 .1 .1 .1 .1 .1 .1 .1 .1 .1 .1 .1 .1 .1 .1 .1 .1 .1 in (
       filed-planned (o .args .h) (the-places o) (p .plan-corridors .result) (left p)
-      (back _ mostCorridors 0 (left p .circuits) (f .corridors) (k .0))
-      (back _ mostCorridors nought (left p .flow) (f .corridors) (k .1 .0))
-      (back _ mostCorridors nought (left p .rate) (f .corridors) (k .1 .1 .0))
-      (back _ mostCorridors 0 (left p .before) (f .corridors) (k .1 .1 .1 .0))
-      (back _ mostCorridors 0 (left p .order) (f .corridors) (k .1 .1 .1 .1 .0))
-      (back _ mostCorridors 0 (left p .cap) (f .corridors) (k .1 .1 .1 .1 .1 .0))
-      (back _ mostGenerators nought (left p .mw) (f .generators) (k .1 .1 .1 .1 .1 .1 .0))
-      (back _ mostBuses nought (left p .angle) (f .buses) (k .1 .1 .1 .1 .1 .1 .1 .0))
-      (back _ mostBuses 0 (left p .tier) (f .buses) (k .1 .1 .1 .1 .1 .1 .1 .1 .0))
-      (back _ mostBuses 0 (left p .ground) (f .buses) (k .1 .1 .1 .1 .1 .1 .1 .1 .1 .0))
-      (back _ mostLevels nought (left p .added) (f .above) (k .1 .1 .1 .1 .1 .1 .1 .1 .1 .1 .0))
-      f (p .plan-corridors .ensures .0),
+          (back _ mostCorridors 0 (left p .circuits) (f .corridors) (k .0))
+          (back _ mostCorridors nought (left p .flow) (f .corridors) (k .1 .0))
+          (back _ mostCorridors nought (left p .rate) (f .corridors) (k .1 .1 .0))
+          (back _ mostCorridors 0 (left p .before) (f .corridors) (k .1 .1 .1 .0))
+          (back _ mostCorridors 0 (left p .order) (f .corridors) (k .1 .1 .1 .1 .0))
+          (back _ mostCorridors 0 (left p .cap) (f .corridors) (k .1 .1 .1 .1 .1 .0))
+          (back _ mostGenerators nought (left p .mw) (f .generators) (k .1 .1 .1 .1 .1 .1 .0))
+          (back _ mostBuses nought (left p .angle) (f .buses) (k .1 .1 .1 .1 .1 .1 .1 .0))
+          (back _ mostBuses 0 (left p .tier) (f .buses) (k .1 .1 .1 .1 .1 .1 .1 .1 .0))
+          (back _ mostBuses 0 (left p .ground) (f .buses) (k .1 .1 .1 .1 .1 .1 .1 .1 .1 .0))
+          (back _ mostLevels nought (left p .added) (f .above) (k .1 .1 .1 .1 .1 .1 .1 .1 .1 .1 .0))
+          f (p .plan-corridors .ensures .0),
       (
         small o,
         record {

@@ -7,6 +7,7 @@
 -- By evaluation.
 use mathlib.Core.List.{[], _∷_}
 use mathlib.Core.Path.{_≡_, refl}
+use Rattle.loads.specs.Load.{loadsOf}
 use Rattle.mode.specs.declared.PlanMode.the-variants.{Expand}
 use Rattle.plan_defs.specs.Case.{Case}
 use Rattle.plan_defs.specs.Listing.{listingOf}
@@ -36,6 +37,8 @@ given =
       requested = 2;
       ladder = figures (0x4075_9000_0000_0000 ∷ 0x4061_4000_0000_0000 ∷ []);
       tier = 0 ∷ 1 ∷ 1 ∷ [];
+      reading = figures (0 ∷ 0 ∷ 0x4097_C402_14EB_C876 ∷ []);
+      weight = figures (0x3FF0_0000_0000_0000 ∷ 0x3FF0_0000_0000_0000 ∷ 0x3FF0_0000_0000_0000 ∷ []);
       load = figures (0 ∷ 0 ∷ 0x4097_C402_14EB_C876 ∷ []);
       bus = 0 ∷ [];
       slack = 0 ∷ [];
@@ -51,6 +54,10 @@ given =
       cap = 0 ∷ 0 ∷ [];
       sheet = figures (0 ∷ 0x3F40_4ECD_2E36_192A ∷ 0 ∷ 0x40D3_8800_0000_0000 ∷ 0 ∷ 0 ∷ 0x3F40_4ECD_2E36_192A ∷ 0 ∷ 0x40D3_8800_0000_0000 ∷ 0 ∷ 0 ∷ 0x3F40_4ECD_2E36_192A ∷ 0 ∷ 0x40D3_8800_0000_0000 ∷ 0 ∷ 0 ∷ 0x3F40_4ECD_2E36_192A ∷ 0 ∷ 0x40D3_8800_0000_0000 ∷ 0 ∷ []);
     }
+
+pub weighed : given .load ≡ loadsOf (given .buses) (given .reading) (given .weight)
+unfolding listingOf
+weighed = refl
 
 pub listed :
     listingOf given 0

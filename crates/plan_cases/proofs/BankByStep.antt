@@ -10,6 +10,7 @@
 -- By evaluation.
 use mathlib.Core.List.{[], _∷_}
 use mathlib.Core.Path.{_≡_, refl}
+use Rattle.loads.specs.Load.{loadsOf}
 use Rattle.mode.specs.declared.PlanMode.the-variants.{Expand}
 use Rattle.plan_defs.specs.Case.{Case}
 use Rattle.plan_defs.specs.Listing.{listingOf}
@@ -49,6 +50,8 @@ given =
       requested = 3;
       ladder = figures (0x406C_C000_0000_0000 ∷ 0x4061_4000_0000_0000 ∷ 0x4051_4000_0000_0000 ∷ 0x4041_4000_0000_0000 ∷ []);
       tier = 1 ∷ 2 ∷ [];
+      reading = figures (0x407F_4000_0000_0000 ∷ 0x4059_0000_0000_0000 ∷ []);
+      weight = figures (0x3FF0_0000_0000_0000 ∷ 0x3FF0_0000_0000_0000 ∷ []);
       load = figures (0x407F_4000_0000_0000 ∷ 0x4059_0000_0000_0000 ∷ []);
       bus = 1 ∷ [];
       slack = 1 ∷ [];
@@ -64,6 +67,10 @@ given =
       cap = 0 ∷ 0 ∷ 0 ∷ [];
       sheet = figures (0 ∷ 0x3F54_7AE1_47AE_147B ∷ 0 ∷ 0x4092_C000_0000_0000 ∷ 0 ∷ 0x3F30_624D_D2F1_A9FC ∷ 0x3F64_7AE1_47AE_147B ∷ 0 ∷ 0x4082_C000_0000_0000 ∷ 0x3FF0_0000_0000_0000 ∷ 0 ∷ 0x3F74_7AE1_47AE_147B ∷ 0 ∷ 0x4072_C000_0000_0000 ∷ 0x3FF0_0000_0000_0000 ∷ 0x3F50_624D_D2F1_A9FC ∷ 0x3F84_7AE1_47AE_147B ∷ 0x3FE0_0000_0000_0000 ∷ 0x4062_C000_0000_0000 ∷ 0 ∷ 0 ∷ 0x3F54_7AE1_47AE_147B ∷ 0 ∷ 0x4092_C000_0000_0000 ∷ 0 ∷ 0x3F30_624D_D2F1_A9FC ∷ 0x3F64_7AE1_47AE_147B ∷ 0x3FE0_0000_0000_0000 ∷ 0x4082_C000_0000_0000 ∷ 0x3FF0_0000_0000_0000 ∷ 0x3F40_624D_D2F1_A9FC ∷ 0x3F74_7AE1_47AE_147B ∷ 0 ∷ 0x4072_C000_0000_0000 ∷ 0x3FF0_0000_0000_0000 ∷ 0x3F50_624D_D2F1_A9FC ∷ 0x3F84_7AE1_47AE_147B ∷ 0 ∷ 0x4062_C000_0000_0000 ∷ 0 ∷ 0 ∷ 0x3F54_7AE1_47AE_147B ∷ 0x3FE0_0000_0000_0000 ∷ 0x4092_C000_0000_0000 ∷ 0x3FF0_0000_0000_0000 ∷ 0x3F30_624D_D2F1_A9FC ∷ 0x3F64_7AE1_47AE_147B ∷ 0x3FE0_0000_0000_0000 ∷ 0x4082_C000_0000_0000 ∷ 0x3FF0_0000_0000_0000 ∷ 0x3F40_624D_D2F1_A9FC ∷ 0x3F74_7AE1_47AE_147B ∷ 0x3FE0_0000_0000_0000 ∷ 0x4072_C000_0000_0000 ∷ 0x3FF0_0000_0000_0000 ∷ 0 ∷ 0x3F84_7AE1_47AE_147B ∷ 0x3FE0_0000_0000_0000 ∷ 0x4062_C000_0000_0000 ∷ 0 ∷ []);
     }
+
+pub weighed : given .load ≡ loadsOf (given .buses) (given .reading) (given .weight)
+unfolding listingOf
+weighed = refl
 
 pub listed :
     listingOf given 6

@@ -6,6 +6,7 @@
 -- By evaluation.
 use mathlib.Core.List.{[], _∷_}
 use mathlib.Core.Path.{_≡_, refl}
+use Rattle.loads.specs.Load.{loadsOf}
 use Rattle.mode.specs.declared.PlanMode.the-variants.{Reinforce}
 use Rattle.plan_defs.specs.Case.{Case}
 use Rattle.plan_defs.specs.Listing.{listingOf}
@@ -35,6 +36,8 @@ given =
       requested = 2;
       ladder = figures (0x4061_4000_0000_0000 ∷ 0x4051_4000_0000_0000 ∷ []);
       tier = 0 ∷ 1 ∷ 0 ∷ [];
+      reading = figures (0x4079_0000_0000_0000 ∷ 0x4079_0000_0000_0000 ∷ 0x407F_4000_0000_0000 ∷ []);
+      weight = figures (0x3FF0_0000_0000_0000 ∷ 0x3FF0_0000_0000_0000 ∷ 0x3FF0_0000_0000_0000 ∷ []);
       load = figures (0x4079_0000_0000_0000 ∷ 0x4079_0000_0000_0000 ∷ 0x407F_4000_0000_0000 ∷ []);
       bus = 0 ∷ [];
       slack = 0 ∷ [];
@@ -50,6 +53,10 @@ given =
       cap = 0 ∷ 0 ∷ [];
       sheet = figures (0x3FA9_9999_9999_999A ∷ 0x3FE0_0000_0000_0000 ∷ 0x3FE0_0000_0000_0000 ∷ 0x406F_4000_0000_0000 ∷ 0x3FF0_0000_0000_0000 ∷ 0x3FB9_9999_9999_999A ∷ 0x3FF0_0000_0000_0000 ∷ 0x3FE0_0000_0000_0000 ∷ 0x405F_4000_0000_0000 ∷ 0x3FF0_0000_0000_0000 ∷ 0 ∷ 0x3FA9_9999_9999_999A ∷ 0 ∷ 0x408A_9000_0000_0000 ∷ 0x3FF0_0000_0000_0000 ∷ 0x3F84_7AE1_47AE_147C ∷ 0x3FB9_9999_9999_999A ∷ 0 ∷ 0x407A_9000_0000_0000 ∷ 0 ∷ []);
     }
+
+pub weighed : given .load ≡ loadsOf (given .buses) (given .reading) (given .weight)
+unfolding listingOf
+weighed = refl
 
 pub listed :
     listingOf given 3

@@ -5,6 +5,7 @@
 -- By evaluation.
 use mathlib.Core.List.{[], _∷_}
 use mathlib.Core.Path.{_≡_, refl}
+use Rattle.loads.specs.Load.{loadsOf}
 use Rattle.mode.specs.declared.PlanMode.the-variants.{Expand}
 use Rattle.plan_defs.specs.Case.{Case}
 use Rattle.plan_defs.specs.Listing.{listingOf}
@@ -24,6 +25,8 @@ given =
       requested = 1;
       ladder = figures (0x406C_C000_0000_0000 ∷ 0x4061_4000_0000_0000 ∷ []);
       tier = [];
+      reading = figures ([]);
+      weight = figures ([]);
       load = figures ([]);
       bus = [];
       slack = [];
@@ -39,6 +42,10 @@ given =
       cap = [];
       sheet = figures ([]);
     }
+
+pub weighed : given .load ≡ loadsOf (given .buses) (given .reading) (given .weight)
+unfolding listingOf
+weighed = refl
 
 pub listed :
     listingOf given 7

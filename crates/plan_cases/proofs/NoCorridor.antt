@@ -4,6 +4,7 @@
 -- By evaluation.
 use mathlib.Core.List.{[], _∷_}
 use mathlib.Core.Path.{_≡_, refl}
+use Rattle.loads.specs.Load.{loadsOf}
 use Rattle.mode.specs.declared.PlanMode.the-variants.{Reinforce}
 use Rattle.plan_defs.specs.Case.{Case}
 use Rattle.plan_defs.specs.Listing.{listingOf}
@@ -27,6 +28,8 @@ given =
       requested = 1;
       ladder = figures (0x4061_4000_0000_0000 ∷ []);
       tier = 0 ∷ 0 ∷ 0 ∷ [];
+      reading = figures (0x4034_0000_0000_0000 ∷ 0 ∷ 0x403E_0000_0000_0000 ∷ []);
+      weight = figures (0x3FF0_0000_0000_0000 ∷ 0x3FF0_0000_0000_0000 ∷ 0x3FF0_0000_0000_0000 ∷ []);
       load = figures (0x4034_0000_0000_0000 ∷ 0 ∷ 0x403E_0000_0000_0000 ∷ []);
       bus = 0 ∷ 2 ∷ [];
       slack = 0 ∷ 1 ∷ [];
@@ -42,6 +45,10 @@ given =
       cap = [];
       sheet = figures ([]);
     }
+
+pub weighed : given .load ≡ loadsOf (given .buses) (given .reading) (given .weight)
+unfolding listingOf
+weighed = refl
 
 pub listed :
     listingOf given 7

@@ -2,6 +2,7 @@
 -- By evaluation.
 use mathlib.Core.List.{[], _∷_}
 use mathlib.Core.Path.{_≡_, refl}
+use Rattle.loads.specs.Load.{loadsOf}
 use Rattle.mode.specs.declared.PlanMode.the-variants.{Reinforce}
 use Rattle.plan_defs.specs.Case.{Case}
 use Rattle.plan_defs.specs.Listing.{listingOf}
@@ -28,6 +29,8 @@ given =
       requested = 1;
       ladder = figures (0x4075_9000_0000_0000 ∷ 0x4061_4000_0000_0000 ∷ []);
       tier = 0 ∷ 0 ∷ 1 ∷ [];
+      reading = figures (0 ∷ 0x412E_8480_0000_0000 ∷ 0x4049_0000_0000_0000 ∷ []);
+      weight = figures (0x3FF0_0000_0000_0000 ∷ 0x3FF0_0000_0000_0000 ∷ 0x3FF0_0000_0000_0000 ∷ []);
       load = figures (0 ∷ 0x412E_8480_0000_0000 ∷ 0x4049_0000_0000_0000 ∷ []);
       bus = 9 ∷ [];
       slack = 1 ∷ [];
@@ -43,6 +46,10 @@ given =
       cap = 0 ∷ [];
       sheet = figures (0 ∷ 0x3FE0_0000_0000_0000 ∷ 0 ∷ 0x4059_0000_0000_0000 ∷ 0 ∷ 0 ∷ 0x3FE0_0000_0000_0000 ∷ 0 ∷ 0x4059_0000_0000_0000 ∷ 0 ∷ []);
     }
+
+pub weighed : given .load ≡ loadsOf (given .buses) (given .reading) (given .weight)
+unfolding listingOf
+weighed = refl
 
 pub listed :
     listingOf given 0

@@ -24,7 +24,7 @@ use refusal::Answer;
 use refusal::Refusal;
 
 // ---- bounds of the tables
-pub const MOST_BUSES: usize = 256;
+const MOST_BUSES: usize = 256;
 
 pub const MOST_CORRIDORS: usize = 256;
 

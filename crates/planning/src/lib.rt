@@ -126,8 +126,7 @@ pub fn plan_corridors(
         Answer::Refused(f) => return Planned::Refused(f),
         Answer::Answered => {}
     }
-    let mut load = [0.0; check::MOST_BUSES];
-    weigh(reading, weight, &mut load);
+    let load = weigh(reading, weight);
     let ran = plan::run(
         mode,
         target,

@@ -10,11 +10,10 @@
 -- By evaluation.
 use mathlib.Core.List.{[], _∷_}
 use mathlib.Core.Path.{_≡_, refl}
-use Rattle.loads.specs.Load.{loadsOf}
 use Rattle.mode.specs.declared.PlanMode.the-variants.{Expand}
 use Rattle.plan_defs.specs.Case.{Case}
 use Rattle.plan_defs.specs.Listing.{listingOf}
-use Rattle.plan_cases.proofs.Figures.{figures}
+use Rattle.plan_cases.proofs.Figures.{figures, loadBits}
 
 -- HD 0 6 2 3 1 1 3
 -- LV 230
@@ -68,7 +67,7 @@ given =
       sheet = figures (0 ∷ 0x3F54_7AE1_47AE_147B ∷ 0 ∷ 0x4092_C000_0000_0000 ∷ 0 ∷ 0x3F30_624D_D2F1_A9FC ∷ 0x3F64_7AE1_47AE_147B ∷ 0 ∷ 0x4082_C000_0000_0000 ∷ 0x3FF0_0000_0000_0000 ∷ 0 ∷ 0x3F74_7AE1_47AE_147B ∷ 0 ∷ 0x4072_C000_0000_0000 ∷ 0x3FF0_0000_0000_0000 ∷ 0x3F50_624D_D2F1_A9FC ∷ 0x3F84_7AE1_47AE_147B ∷ 0x3FE0_0000_0000_0000 ∷ 0x4062_C000_0000_0000 ∷ 0 ∷ 0 ∷ 0x3F54_7AE1_47AE_147B ∷ 0 ∷ 0x4092_C000_0000_0000 ∷ 0 ∷ 0x3F30_624D_D2F1_A9FC ∷ 0x3F64_7AE1_47AE_147B ∷ 0x3FE0_0000_0000_0000 ∷ 0x4082_C000_0000_0000 ∷ 0x3FF0_0000_0000_0000 ∷ 0x3F40_624D_D2F1_A9FC ∷ 0x3F74_7AE1_47AE_147B ∷ 0 ∷ 0x4072_C000_0000_0000 ∷ 0x3FF0_0000_0000_0000 ∷ 0x3F50_624D_D2F1_A9FC ∷ 0x3F84_7AE1_47AE_147B ∷ 0 ∷ 0x4062_C000_0000_0000 ∷ 0 ∷ 0 ∷ 0x3F54_7AE1_47AE_147B ∷ 0x3FE0_0000_0000_0000 ∷ 0x4092_C000_0000_0000 ∷ 0x3FF0_0000_0000_0000 ∷ 0x3F30_624D_D2F1_A9FC ∷ 0x3F64_7AE1_47AE_147B ∷ 0x3FE0_0000_0000_0000 ∷ 0x4082_C000_0000_0000 ∷ 0x3FF0_0000_0000_0000 ∷ 0x3F40_624D_D2F1_A9FC ∷ 0x3F74_7AE1_47AE_147B ∷ 0x3FE0_0000_0000_0000 ∷ 0x4072_C000_0000_0000 ∷ 0x3FF0_0000_0000_0000 ∷ 0 ∷ 0x3F84_7AE1_47AE_147B ∷ 0x3FE0_0000_0000_0000 ∷ 0x4062_C000_0000_0000 ∷ 0 ∷ []);
     }
 
-pub weighed : given .load ≡ loadsOf (given .buses) (given .reading) (given .weight)
+pub weighed : loadBits given ≡ 0x407F_4000_0000_0000 ∷ 0x4059_0000_0000_0000 ∷ []
 unfolding listingOf
 weighed = refl
 

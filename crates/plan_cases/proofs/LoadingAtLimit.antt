@@ -5,11 +5,10 @@
 -- By evaluation.
 use mathlib.Core.List.{[], _∷_}
 use mathlib.Core.Path.{_≡_, refl}
-use Rattle.loads.specs.Load.{loadsOf}
 use Rattle.mode.specs.declared.PlanMode.the-variants.{Observe}
 use Rattle.plan_defs.specs.Case.{Case}
 use Rattle.plan_defs.specs.Listing.{listingOf}
-use Rattle.plan_cases.proofs.Figures.{figures}
+use Rattle.plan_cases.proofs.Figures.{figures, loadBits}
 
 -- HD 2 0 2 1 1 0 1
 -- LV 138
@@ -47,7 +46,7 @@ given =
       sheet = figures (0 ∷ 0x3F45_5D05_A2AE_B6F2 ∷ 0 ∷ 0x4077_6B31_1868_54F6 ∷ 0 ∷ []);
     }
 
-pub weighed : given .load ≡ loadsOf (given .buses) (given .reading) (given .weight)
+pub weighed : loadBits given ≡ 0 ∷ 0x409B_B3E8_0E81_F8E7 ∷ []
 unfolding listingOf
 weighed = refl
 

@@ -7,11 +7,10 @@
 -- By evaluation.
 use mathlib.Core.List.{[], _∷_}
 use mathlib.Core.Path.{_≡_, refl}
-use Rattle.loads.specs.Load.{loadsOf}
 use Rattle.mode.specs.declared.PlanMode.the-variants.{Reinforce}
 use Rattle.plan_defs.specs.Case.{Case}
 use Rattle.plan_defs.specs.Listing.{listingOf}
-use Rattle.plan_cases.proofs.Figures.{figures}
+use Rattle.plan_cases.proofs.Figures.{figures, loadBits}
 
 -- HD 1 0 2 1 1 0 1
 -- LV 69
@@ -49,7 +48,7 @@ given =
       sheet = figures (0 ∷ 0x3F4C_DFC3_BF9E_92E0 ∷ 0 ∷ 0x4058_D381_72BB_C832 ∷ 0 ∷ []);
     }
 
-pub weighed : given .load ≡ loadsOf (given .buses) (given .reading) (given .weight)
+pub weighed : loadBits given ≡ 0 ∷ 0x4080_C1F7_60B1_2603 ∷ []
 unfolding listingOf
 weighed = refl
 

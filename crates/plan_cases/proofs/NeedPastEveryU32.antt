@@ -8,11 +8,10 @@
 -- By evaluation.
 use mathlib.Core.List.{[], _∷_}
 use mathlib.Core.Path.{_≡_, refl}
-use Rattle.loads.specs.Load.{loadsOf}
 use Rattle.mode.specs.declared.PlanMode.the-variants.{Expand}
 use Rattle.plan_defs.specs.Case.{Case}
 use Rattle.plan_defs.specs.Listing.{listingOf}
-use Rattle.plan_cases.proofs.Figures.{figures}
+use Rattle.plan_cases.proofs.Figures.{figures, loadBits}
 
 -- HD 0 0 3 2 2 0 1
 -- LV 500
@@ -54,7 +53,7 @@ given =
       sheet = figures (0 ∷ 0x3E7A_D7F2_9ABC_AF48 ∷ 0 ∷ 0x3F50_624D_D2F1_A9FC ∷ 0 ∷ 0 ∷ 0x3E7A_D7F2_9ABC_AF48 ∷ 0 ∷ 0x412E_8480_0000_0000 ∷ 0 ∷ []);
     }
 
-pub weighed : given .load ≡ loadsOf (given .buses) (given .reading) (given .weight)
+pub weighed : loadBits given ≡ 0 ∷ 0x412E_8480_0000_0000 ∷ 0x412E_8480_0000_0000 ∷ []
 unfolding listingOf
 weighed = refl
 

@@ -5,11 +5,10 @@
 -- By evaluation.
 use mathlib.Core.List.{[], _∷_}
 use mathlib.Core.Path.{_≡_, refl}
-use Rattle.loads.specs.Load.{loadsOf}
 use Rattle.mode.specs.declared.PlanMode.the-variants.{Expand}
 use Rattle.plan_defs.specs.Case.{Case}
 use Rattle.plan_defs.specs.Listing.{listingOf}
-use Rattle.plan_cases.proofs.Figures.{figures}
+use Rattle.plan_cases.proofs.Figures.{figures, loadBits}
 
 -- HD 0 0 2 2 2 0 1
 -- LV 69
@@ -50,7 +49,7 @@ given =
       sheet = figures (0x3FC5_2271_05D7_21DA ∷ 0x3FF0_BA4B_8F92_FC06 ∷ 0x3F95_FBC7_66EC_7DCC ∷ 0x4036_2C35_F81D_37FC ∷ 0x3FF0_0000_0000_0000 ∷ 0x3FA7_55BA_3879_8A39 ∷ 0x3FE5_00AC_21A7_6E52 ∷ 0x3F88_5AC6_6E7E_BD82 ∷ 0x4044_0398_3157_83CD ∷ 0x3FF0_0000_0000_0000 ∷ []);
     }
 
-pub weighed : given .load ≡ loadsOf (given .buses) (given .reading) (given .weight)
+pub weighed : loadBits given ≡ 0 ∷ 0x1EA5_DA82_1656_F25A ∷ []
 unfolding listingOf
 weighed = refl
 

@@ -5,11 +5,10 @@
 -- By evaluation.
 use mathlib.Core.List.{[], _∷_}
 use mathlib.Core.Path.{_≡_, refl}
-use Rattle.loads.specs.Load.{loadsOf}
 use Rattle.mode.specs.declared.PlanMode.the-variants.{Observe}
 use Rattle.plan_defs.specs.Case.{Case}
 use Rattle.plan_defs.specs.Listing.{listingOf}
-use Rattle.plan_cases.proofs.Figures.{figures}
+use Rattle.plan_cases.proofs.Figures.{figures, loadBits}
 
 -- HD 2 3 3 1 1 2 2
 -- LV 230
@@ -54,7 +53,7 @@ given =
       sheet = figures (0 ∷ 0x3F49_9999_9999_999A ∷ 0 ∷ 0x40A9_0000_0000_0000 ∷ 0x3FF0_0000_0000_0000 ∷ 0 ∷ 0x3F69_9999_9999_999A ∷ 0x3FE0_0000_0000_0000 ∷ 0x4089_0000_0000_0000 ∷ 0 ∷ 0x3F54_7AE1_47AE_147C ∷ 0x3F89_9999_9999_999A ∷ 0x3FE0_0000_0000_0000 ∷ 0x4069_0000_0000_0000 ∷ 0x3FF0_0000_0000_0000 ∷ 0 ∷ 0x3FA9_9999_9999_999A ∷ 0 ∷ 0x4049_0000_0000_0000 ∷ 0x3FF0_0000_0000_0000 ∷ []);
     }
 
-pub weighed : given .load ≡ loadsOf (given .buses) (given .reading) (given .weight)
+pub weighed : loadBits given ≡ 0 ∷ 0x408C_2000_0000_0000 ∷ 0 ∷ []
 unfolding listingOf
 weighed = refl
 

@@ -4,11 +4,10 @@
 -- By evaluation.
 use mathlib.Core.List.{[], _∷_}
 use mathlib.Core.Path.{_≡_, refl}
-use Rattle.loads.specs.Load.{loadsOf}
 use Rattle.mode.specs.declared.PlanMode.the-variants.{Observe}
 use Rattle.plan_defs.specs.Case.{Case}
 use Rattle.plan_defs.specs.Listing.{listingOf}
-use Rattle.plan_cases.proofs.Figures.{figures}
+use Rattle.plan_cases.proofs.Figures.{figures, loadBits}
 
 -- HD 2 0 2 1 1 0 1
 -- LV 138
@@ -46,7 +45,7 @@ given =
       sheet = figures (0 ∷ 0x1668_7E92_154E_F7AC ∷ 0 ∷ 0x4059_0000_0000_0000 ∷ 0 ∷ []);
     }
 
-pub weighed : given .load ≡ loadsOf (given .buses) (given .reading) (given .weight)
+pub weighed : loadBits given ≡ 0 ∷ 0x4049_0000_0000_0000 ∷ []
 unfolding listingOf
 weighed = refl
 

@@ -5,11 +5,10 @@
 -- By evaluation.
 use mathlib.Core.List.{[], _∷_}
 use mathlib.Core.Path.{_≡_, refl}
-use Rattle.loads.specs.Load.{loadsOf}
 use Rattle.mode.specs.declared.PlanMode.the-variants.{Expand}
 use Rattle.plan_defs.specs.Case.{Case}
 use Rattle.plan_defs.specs.Listing.{listingOf}
-use Rattle.plan_cases.proofs.Figures.{figures}
+use Rattle.plan_cases.proofs.Figures.{figures, loadBits}
 
 -- HD 0 0 2 1 1 0 1
 -- LV 138
@@ -47,7 +46,7 @@ given =
       sheet = figures (0x5FE7_DDDF_6B09_5FF1 ∷ 0x3EE4_F8B5_88E3_68F1 ∷ 0 ∷ 0x4059_0000_0000_0000 ∷ 0 ∷ []);
     }
 
-pub weighed : given .load ≡ loadsOf (given .buses) (given .reading) (given .weight)
+pub weighed : loadBits given ≡ 0 ∷ 0x219F_F779_FD32_9CB9 ∷ []
 unfolding listingOf
 weighed = refl
 

@@ -6,11 +6,10 @@
 -- By evaluation.
 use mathlib.Core.List.{[], _∷_}
 use mathlib.Core.Path.{_≡_, refl}
-use Rattle.loads.specs.Load.{loadsOf}
 use Rattle.mode.specs.declared.PlanMode.the-variants.{Reinforce}
 use Rattle.plan_defs.specs.Case.{Case}
 use Rattle.plan_defs.specs.Listing.{listingOf}
-use Rattle.plan_cases.proofs.Figures.{figures}
+use Rattle.plan_cases.proofs.Figures.{figures, loadBits}
 
 -- HD 1 10 2 2 2 0 3
 -- LV 230
@@ -57,7 +56,7 @@ given =
       sheet = figures (0 ∷ 0x3F44_7AE1_47AE_147B ∷ 0 ∷ 0x4089_0000_0000_0000 ∷ 0x3FF0_0000_0000_0000 ∷ 0 ∷ 0x3F64_7AE1_47AE_147B ∷ 0x3FE0_0000_0000_0000 ∷ 0x4069_0000_0000_0000 ∷ 0x3FF0_0000_0000_0000 ∷ 0 ∷ 0x3F84_7AE1_47AE_147B ∷ 0x3FE0_0000_0000_0000 ∷ 0x4049_0000_0000_0000 ∷ 0 ∷ 0x3F10_624D_D2F1_A9FC ∷ 0x3F44_7AE1_47AE_147B ∷ 0x3FE0_0000_0000_0000 ∷ 0x406C_2000_0000_0000 ∷ 0 ∷ 0 ∷ 0x3F64_7AE1_47AE_147B ∷ 0 ∷ 0x4069_0000_0000_0000 ∷ 0 ∷ 0 ∷ 0x3F84_7AE1_47AE_147B ∷ 0 ∷ 0x4049_0000_0000_0000 ∷ 0 ∷ []);
     }
 
-pub weighed : given .load ≡ loadsOf (given .buses) (given .reading) (given .weight)
+pub weighed : loadBits given ≡ 0 ∷ 0x4082_C000_0000_0000 ∷ []
 unfolding listingOf
 weighed = refl
 

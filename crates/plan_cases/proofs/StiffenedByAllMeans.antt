@@ -9,11 +9,10 @@
 -- By evaluation.
 use mathlib.Core.List.{[], _∷_}
 use mathlib.Core.Path.{_≡_, refl}
-use Rattle.loads.specs.Load.{loadsOf}
 use Rattle.mode.specs.declared.PlanMode.the-variants.{Expand}
 use Rattle.plan_defs.specs.Case.{Case}
 use Rattle.plan_defs.specs.Listing.{listingOf}
-use Rattle.plan_cases.proofs.Figures.{figures}
+use Rattle.plan_cases.proofs.Figures.{figures, loadBits}
 
 -- HD 0 3 3 1 1 1 3
 -- LV 230
@@ -58,7 +57,7 @@ given =
       sheet = figures (0x3F99_9999_9999_999A ∷ 0x3FD0_0000_0000_0000 ∷ 0 ∷ 0x40A7_7000_0000_0000 ∷ 0x3FF0_0000_0000_0000 ∷ 0 ∷ 0x3FE0_0000_0000_0000 ∷ 0x3FE0_0000_0000_0000 ∷ 0x4097_7000_0000_0000 ∷ 0x3FF0_0000_0000_0000 ∷ 0 ∷ 0x3FF0_0000_0000_0000 ∷ 0 ∷ 0x4087_7000_0000_0000 ∷ 0x3FF0_0000_0000_0000 ∷ 0x3FC9_9999_9999_999A ∷ 0x4000_0000_0000_0000 ∷ 0 ∷ 0x4077_7000_0000_0000 ∷ 0 ∷ []);
     }
 
-pub weighed : given .load ≡ loadsOf (given .buses) (given .reading) (given .weight)
+pub weighed : loadBits given ≡ 0x4085_E000_0000_0000 ∷ 0x408C_2000_0000_0000 ∷ 0 ∷ []
 unfolding listingOf
 weighed = refl
 

@@ -115,7 +115,7 @@ fn given(case: &Case, mode: &str) -> String {
         ("requested", case.requested().to_string()),
         ("ladder", figures(case.ladder.iter().copied())),
         ("tier", whole(buses.iter().map(|bus| bus.tier))),
-        ("load", figures(buses.iter().map(|bus| bus.load))),
+        ("load", figures(buses.iter().map(|bus| bus.load()))),
         ("bus", whole(units.iter().map(|g| g.bus))),
         ("slack", whole(units.iter().map(|g| g.slack))),
         ("pmin", figures(units.iter().map(|g| g.pmin))),

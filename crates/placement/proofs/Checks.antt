@@ -11,9 +11,9 @@ use Rattle.loops.specs.Figures.{at}
 use Rattle.loops.proofs.Bools.{both}
 use Rattle.loops.proofs.Scan.{all-pass}
 use Rattle.refusal.specs.declared.Refusal.the-variants.{Length, Count, Bus, Generator, Corridor}
-use Rattle.placement.specs.Request.{Request, Net, Units, lengthsOk, countsOk, loadOk, busOk, corridorAt, firstLoad, firstGenerator, firstCorridor, faultyRow, checkOf}
-use Rattle.placement.specs.declared.Verdict.{Verdict}
-use Rattle.placement.specs.declared.Verdict.the-variants.{Sound, Faulty}
+use Rattle.placement_defs.specs.Request.{Request, Net, Units, lengthsOk, countsOk, loadOk, busOk, corridorAt, firstLoad, firstGenerator, firstCorridor, faultyRow, checkOf}
+use Rattle.placement_defs.specs.declared.Verdict.{Verdict}
+use Rattle.placement_defs.specs.declared.Verdict.the-variants.{Sound, Faulty}
 
 -- ---- every slice has its length
 pub record Lengths (k : Request) (b₁ b₂ : ℕ) : Type 0 where

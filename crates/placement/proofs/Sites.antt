@@ -10,14 +10,14 @@ use Rattle.loops.specs.Loops.{iter}
 use Rattle.loops.proofs.Loops.{iter-keeps}
 use Rattle.loops.specs.Figures.{infinity, nought}
 use native.Mathlib.Omega.{arith}
-use Rattle.placement.specs.Request.{Request, requestOf, Units, checkOf}
-use Rattle.placement.specs.Distance.{Labels, labels, Network, network, rest, nobody, distances, distancesFrom}
-use Rattle.placement.specs.Support.{farthestTo, ifFar, nextBy, nextOf, Sites, sites, join, joinNext, joined, Joined, sizeAt, sized, flag, flagged, sitesOf, placed, Outcome, outcome, Placing, answerTo, placement}
+use Rattle.placement_defs.specs.Request.{Request, requestOf, Units, checkOf}
+use Rattle.placement_defs.specs.Distance.{Labels, labels, Network, network, rest, nobody, distances, distancesFrom}
+use Rattle.placement_defs.specs.Support.{farthestTo, ifFar, nextBy, nextOf, Sites, sites, join, joinNext, joined, Joined, sizeAt, sized, flag, flagged, sitesOf, placed, Outcome, outcome, Placing, answerTo, placement}
 use Rattle.placement.proofs.Turns.{blank-start}
-use Rattle.placement.specs.declared.Placement.the-variants.{Placed, Refused}
+use Rattle.placement_defs.specs.declared.Placement.the-variants.{Placed, Refused}
 use Rattle.refusal.specs.declared.Refusal.{Refusal}
-use Rattle.placement.specs.declared.Verdict.{Verdict}
-use Rattle.placement.specs.declared.Verdict.the-variants.{Sound, Faulty}
+use Rattle.placement_defs.specs.declared.Verdict.{Verdict}
+use Rattle.placement_defs.specs.declared.Verdict.the-variants.{Sound, Faulty}
 
 pub next-is : (n : ℕ) (loads dist : List Float) (i r : ℕ) → i ≡ farthestTo n loads dist n → r ≡ ifFar n dist i → r ≡ nextBy n loads dist
 unfolding nextBy

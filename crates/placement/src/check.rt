@@ -1,7 +1,7 @@
 // Placement's refusals 1, 2, 4, 5 and 6, in their order.
 ghost use mathlib.Core.Path.{_≡_};
 ghost use lib.ListN.{length};
-ghost use Rattle.placement.specs.Request.{requestOf, lengthsOk, countsOk, loadOk, corridorOk, firstLoad, firstGenerator, firstCorridor, checkOf};
+ghost use Rattle.placement_defs.specs.Request.{requestOf, lengthsOk, countsOk, loadOk, corridorOk, firstLoad, firstGenerator, firstCorridor, checkOf};
 use crate::MOST_BUSES;
 use crate::Verdict;
 use crate::wide;

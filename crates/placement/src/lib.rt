@@ -1,7 +1,7 @@
 // Synchronous condensers for remote load pockets (document 01, module 7; reactive.rs, `place_voltage_support`).
 ghost use mathlib.Core.Path.{_≡_};
-ghost use Rattle.placement.specs.Request.{requestOf};
-ghost use Rattle.placement.specs.Support.{outcome, placement};
+ghost use Rattle.placement_defs.specs.Request.{requestOf};
+ghost use Rattle.placement_defs.specs.Support.{outcome, placement};
 use refusal::Refusal;
 
 mod blocks;

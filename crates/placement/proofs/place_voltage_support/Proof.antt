@@ -1,7 +1,7 @@
 -- `placement::place_voltage_support` meets its contract: a refusal touches nothing, and a request that passes is placed.
 use Rattle.placement.proofs.Sites.{refused-is, done-is, same-units}
 use Rattle.placement.proofs.Checks.{passed}
-use Rattle.placement.specs.Request.{requestOf}
+use Rattle.placement_defs.specs.Request.{requestOf}
 use mathlib.Core.Path.{sym, _∙_}
 use borrow.Author.Needs.{needs}
 use Rattle.placement.proofs.place_voltage_support.Statement.{statement}

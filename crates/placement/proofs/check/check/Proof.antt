@@ -3,7 +3,7 @@
 use mathlib.Core.Path.{sym, _∙_}
 use borrow.Author.Needs.{needs}
 use borrow.Author.Tests.{lt-ltb, le-ltb, not-true, not-false}
-use Rattle.placement.specs.Request.{requestOf, checkOf}
+use Rattle.placement_defs.specs.Request.{requestOf, checkOf}
 use Rattle.placement.proofs.Checks.{lengths-of}
 use Rattle.placement.proofs.check.check.Statement.{statement}
 use Rattle.placement.proofs.check.check.Tie as tie

@@ -2,7 +2,7 @@
 -- The invariant: what is left of the loop gives what the whole does.
 use Rattle.loops.proofs.Scan.{first-pass, first-stop, first-end, first-start}
 use Rattle.loops.specs.Loops.{first}
-use Rattle.placement.specs.Request.{loadOk, firstLoad}
+use Rattle.placement_defs.specs.Request.{loadOk, firstLoad}
 use Rattle.loops.specs.Figures.{at}
 use Prim.Native.Nat.{_-_, _≤_}
 use mathlib.Core.Path.{_≡_, sym, _∙_}

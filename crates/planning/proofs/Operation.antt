@@ -8,7 +8,8 @@ use native.Mathlib.Nat.{sub-zero}
 use native.Mathlib.Omega.{arith}
 use lib.ListN.{length, take, replicate}
 use lib.Ieee.{Float}
-use Rattle.loads.specs.Load.{loadsOf}
+use Rattle.loops.proofs.Tab.{length-tab}
+use Rattle.loads.specs.Load.{weighed, loadsOf}
 use Rattle.loads.proofs.One.{loads-front}
 use Rattle.refusal.specs.declared.Refusal.{Refusal}
 use Rattle.refusal.specs.declared.Answer.{Answer}
@@ -32,10 +33,13 @@ use Rattle.planning.specs.declared.plan.PlanRun.{PlanRun}
 use Rattle.planning.proofs.Liftings.{finished-refused, finished-answered}
 use Rattle.planning.proofs.Sounds.{sound, lengths-of, kept-lengths, refused-outcome, passed, placesOf, tablesOf}
 
--- the loads are lent by their end less their start, which is 0
-pub loads-lent : (n : ℕ) (reading weight load : List Float) → load ≡ loadsOf mostBuses reading weight → n ≤ mostBuses → take (n - 0) load ≡ loadsOf n reading weight
-loads-lent n reading weight load e h =
-    ap (take (n - 0)) e ∙ ap (λ (k : ℕ). take k (loadsOf mostBuses reading weight)) (sub-zero n) ∙ loads-front mostBuses n reading weight h
+-- the loads of all buses that there may be; those of the case are lent by their end less their start, which is 0
+module _ (n : ℕ) (reading weight load : List Float) (e : load ≡ loadsOf mostBuses reading weight) (h : n ≤ mostBuses) where
+  pub loads-reach : n ≤ length load
+  loads-reach = omega (arith, ap length e, length-tab mostBuses (weighed reading weight))
+
+  pub loads-lent : take (n - 0) load ≡ loadsOf n reading weight
+  loads-lent = ap (take (n - 0)) e ∙ ap (λ (k : ℕ). take k (loadsOf mostBuses reading weight)) (sub-zero n) ∙ loads-front mostBuses n reading weight h
 
 module _ (c : Case) (target : ℕ) (s : Slices) where
   -- ---- what is promised: the defined outcome, and of an answer demand 3

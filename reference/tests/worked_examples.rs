@@ -271,3 +271,55 @@ fn the_angles_of_a_unit_solve_count() {
     case.mode = REINFORCE;
     assert!(plan_case(&case).is_ok());
 }
+
+/// Case L whose second bus has this reading and weight.
+fn weighed(reading: f64, weight: f64) -> Case {
+    let mut case = case_l();
+    case.buses[1] = Bus {
+        reading,
+        weight,
+        weighed: true,
+        ..case.buses[1]
+    };
+    case
+}
+
+#[test]
+fn a_load_is_the_reading_times_its_weight_rounded_once() {
+    for (reading, weight) in [(25.0, 2.0), (50.0, 1.0), (0.1, 500.0), (0.3, 0.1)] {
+        let dispatch = planned(&weighed(reading, weight)).plan.dispatch;
+        assert_eq!(dispatch, [reading * weight]);
+    }
+}
+
+#[test]
+fn readings_weights_and_products_that_are_refused() {
+    for (reading, weight) in [
+        (-0.0, 2.0),
+        (0.0, 1000.0),
+        (1e6, 1.0),
+        (1000.0, 1000.0),
+        (1e-200, 1e-200),
+        (1e6, 5e-324),
+    ] {
+        let refused = plan_case(&weighed(reading, weight)).err();
+        assert_ne!(refused.map(|r| r.number), Some(4), "{reading} {weight}");
+    }
+    for (reading, weight) in [
+        (50.0, 0.0),
+        (50.0, -0.0),
+        (0.0, 1000f64.next_up()),
+        (50.0, -1.0),
+        (50.0, f64::NAN),
+        (50.0, f64::INFINITY),
+        (1e6f64.next_up(), 0.5),
+        (-5e-324, 1.0),
+        (f64::NAN, 1.0),
+        (f64::INFINITY, 1e-3),
+        (1e6, 1f64.next_up()),
+        (1001.0, 1000.0),
+    ] {
+        let refused = plan_case(&weighed(reading, weight)).err();
+        assert_eq!(refused, Some(Refusal::new(4, 1)), "{reading} {weight}");
+    }
+}

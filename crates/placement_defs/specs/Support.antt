@@ -1,16 +1,15 @@
 -- Voltage support (reactive.rs, `place_voltage_support`): while a loaded bus lies more than 100 km from the nearest source, the farthest
 -- joins the sources with a condenser; then each condenser is sized by the loads that lie nearest to it.
-use mathlib.Core.Path.{_≡_}
 use mathlib.Core.List.{List}
 use mathlib.Core.Bool.{cond, _&&_, _||_}
-use Prim.Native.Nat.{ℕ, zero, suc, _+_, _≤_}
+use Prim.Native.Nat.{ℕ, zero, suc, _+_}
 use lib.Dec.{eqb, ltb}
 use lib.ListN.{length, getD, set, replicate}
 use lib.Ieee.{Float, lt}
 use Rattle.loops.specs.Figures.{at, plus, times, greater, nought, half, five, hundred, infinity}
 use Rattle.loops.specs.Loops.{iter}
 use Rattle.refusal.specs.Reply.{Reply, answered, refusedBy}
-use Rattle.placement_defs.specs.Request.{mostBuses, Request, requestOf, checkOf}
+use Rattle.placement_defs.specs.Request.{mostBuses, Request, checkOf}
 use Rattle.placement_defs.specs.Distance.{Network, network, distances}
 use Rattle.placement_defs.specs.declared.Verdict.{Verdict}
 use Rattle.placement_defs.specs.declared.Verdict.the-variants.{Sound, Faulty}

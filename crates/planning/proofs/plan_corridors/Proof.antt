@@ -3,10 +3,11 @@
 use mathlib.Core.Bool.{Bool, not, _&&_}
 use mathlib.Core.Path.{sym, ap, _∙_}
 use denote.Ref.{now}
+use Rattle.loads.proofs.One.{loads-lent, loads-room}
 use Rattle.plan_defs.specs.Case.{Case, surveyed}
 use Rattle.plan_defs.specs.Outcome.{Slices, slices}
 use Rattle.planning.specs.Close.{lentTo}
-use Rattle.planning.proofs.Operation.{loads-reach, loads-lent, ends-unaccepted, lendable-by, kept-fits, caps-fit, buses-fit, ends-when}
+use Rattle.planning.proofs.Operation.{ends-unaccepted, lendable-by, kept-fits, caps-fit, buses-fit, ends-when}
 use borrow.Author.Needs.{needs}
 use Rattle.planning.proofs.plan_corridors.Statement.{statement}
 use Rattle.planning.proofs.plan_corridors.Tie as tie
@@ -45,7 +46,7 @@ part-run-end : tie.Need-part-run-end
 part-run-end c =
     let o = c .before .before .before .before .before .before .before .before .before .before .before .before .before .before .before .before .before .before .before .before .before .before .before .before .before .before .before .before .before .before .before .before .before .before .before in
     let k = c .before .before .before .before .check-case in
-    loads-reach (o .args .n) (given o .reading) (given o .weight) _ (c .before .weigh .ensures) (buses-fit (given o) (o .args .target) (lent o) (k .result) (k .ensures) (c .before .before .enum-told .given .1))
+    loads-room (o .args .n) (given o .reading) (given o .weight) _ (c .before .weigh .ensures) (buses-fit (given o) (o .args .target) (lent o) (k .result) (k .ensures) (c .before .before .enum-told .given .1))
 
 run-requires : tie.Need-run-requires
 run-requires c κs =

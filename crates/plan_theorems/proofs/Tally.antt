@@ -20,7 +20,7 @@ use Rattle.refusal.specs.Reply.{Reply, answered, refused}
 use Rattle.placement_defs.specs.Request.{requestOf, firstLoad, firstGenerator, firstCorridor, checkOf}
 use Rattle.placement_defs.specs.Distance.{seeded, offered, considered, nearer, nearestTo, settle, spread, turn, searched, distancesFrom}
 use Rattle.placement_defs.specs.Support.{farther, farthestTo, ifFar, nextBy, nextOf, join, joinNext, joined, servedTo, mvarOf, sized, flagged, sitesBy, placed, answerTo, placement, Outcome}
-use Rattle.plan_defs.specs.Case.{Case, caseOf, promote, circuitCap}
+use Rattle.plan_defs.specs.Case.{Case, surveyed, promote, circuitCap}
 use Rattle.plan_defs.specs.Raise.{noMarks, markEnds, raisedLevels}
 use Rattle.plan_defs.specs.Plan.{Ending, unaccepted, unanswered, planned, endingOf}
 use Rattle.plan_defs.specs.Listing.{bitsOf, listingOf}
@@ -41,7 +41,7 @@ class mva = bits (zOf mva ∷ xOverR mva ∷ [])
 
 -- ★6: two buses at tiers 1 and 3 and a corridor between them
 abbrev pair : Case
-pair = caseOf Expand 2 1 0 0 4 [] (1 ∷ 3 ∷ []) [] [] [] [] [] [] [] (0 ∷ []) (1 ∷ []) (1 ∷ []) [] [] [] []
+pair = surveyed Expand 2 1 0 0 4 [] (1 ∷ 3 ∷ []) [] [] [] [] [] [] [] [] (0 ∷ []) (1 ∷ []) (1 ∷ []) [] [] [] []
 
 -- ★7
 abbrev cap : PlanMode → Float → ℕ
@@ -53,7 +53,7 @@ line = nought ∷ decimal 1 10 ∷ nought ∷ hundred ∷ nought ∷ []
 
 abbrev row : Case
 row =
-    caseOf Expand 4 3 0 0 1 (whole 138 ∷ []) (0 ∷ 0 ∷ 0 ∷ 0 ∷ []) (replicate 4 nought) [] [] [] [] [] [] (0 ∷ 1 ∷ 2 ∷ []) (1 ∷ 2 ∷ 3 ∷ []) (1 ∷ 4 ∷ 2 ∷ [])
+    surveyed Expand 4 3 0 0 1 (whole 138 ∷ []) (0 ∷ 0 ∷ 0 ∷ 0 ∷ []) (replicate 4 nought) (replicate 4 one) [] [] [] [] [] [] (0 ∷ 1 ∷ 2 ∷ []) (1 ∷ 2 ∷ 3 ∷ []) (1 ∷ 4 ∷ 2 ∷ [])
     (whole 10 ∷ whole 20 ∷ whole 30 ∷ []) (replicate 3 one) (replicate 3 0) (line ++ line ++ line)
 
 -- filler, then circuits

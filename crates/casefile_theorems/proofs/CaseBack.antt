@@ -13,7 +13,7 @@ use lib.Ieee.{Float, binary64, ofBits, toBits, fits, eq}
 use lib.Ieee.Bits.{ofBits-toBits, toBits-lt}
 use lib.ListN.{length, getD, replicate}
 use lib.Seq.{ext-getD}
-use Rattle.loops.specs.Figures.{nought, one}
+use Rattle.loops.specs.Figures.{nought}
 use Rattle.loops.proofs.Tab.{length-tab, get-tab}
 use Rattle.mode.specs.Number.{modeNumber}
 use Rattle.mode.specs.declared.PlanMode.{PlanMode}

@@ -1,6 +1,6 @@
 -- The words of the tables as they are read are those of the file's definition: a place within a table holds the same whatever stands for one past it.
 use Prim.Native.Nat.{ℕ, zero, suc, _+_, _*_, _<_}
-use mathlib.Core.Bool.{true}
+use mathlib.Core.Bool.{Bool, true}
 use mathlib.Core.List.{List, [], _∷_}
 use mathlib.Core.Path.{_≡_, refl, ap, _∙_}
 use native.Mathlib.Omega.{arith}
@@ -70,6 +70,9 @@ module _ (h : Header) (p : Places) (s : Small h) (e : sizesOk p ≡ true) where
       ∙ ap (λ (x : Float). lineRow (getD f (rowPlace i 0) nought) (getD f (rowPlace i 1) nought) (getD f (rowPlace i 2) nought) x (at f (q + basisField)) j) (cell i 3 b (omega arith))
       ∙ ap (λ (x : Float). lineRow (getD f (rowPlace i 0) nought) (getD f (rowPlace i 1) nought) (getD f (rowPlace i 2) nought) (getD f (rowPlace i 3) nought) x j) (cell i basisField b (omega arith))
 
-  pub file-lent : fileWith (capsOnly (weighs (p .weight) (h .buses)) p) h (wordsIn p) ≡ fileIn h p
+  -- with the form as the code has worked it out
+  pub file-lent : (w : Bool) → w ≡ weighs (p .weight) (h .buses) → fileWith (capsOnly w p) h (wordsIn p) ≡ fileIn h p
   unfolding fileOf
-  file-lent = files-alike (capsOnly (weighs (p .weight) (h .buses)) p) h (wordsIn p) (wordsOf p) level-alike bus-alike generator-alike corridor-alike line-alike
+  file-lent w q =
+      ap (λ (t : Bool). fileWith (capsOnly t p) h (wordsIn p)) q
+      ∙ files-alike (capsOnly (weighs (p .weight) (h .buses)) p) h (wordsIn p) (wordsOf p) level-alike bus-alike generator-alike corridor-alike line-alike

@@ -1,7 +1,7 @@
 -- The theorems of document 02's K9: each small network is an accepted case, no two places give the same case, and the place of each is worked out.
 -- Beside them: every network of the request has its place (Places), and the file of each case reads back as it.
 use Prim.Native.Nat.{ℕ, zero, suc, _*_, _<_}
-use mathlib.Core.Bool.{true}
+use mathlib.Core.Bool.{true, false}
 use mathlib.Core.List.{[], _∷_}
 use mathlib.Core.Option.{none}
 use mathlib.Core.Path.{_≡_, refl, sym, ap, _∙_, subst}

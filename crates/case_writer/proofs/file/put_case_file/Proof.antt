@@ -83,7 +83,7 @@ returns : tie.Need-returns
 unfolding fileWith wordsIn capsOnly
 returns c =
     let o = c .before .before .before .before .before .before .before .before .before .before .before .before .before .before .before .before .before .before .before .before .before .before .before .before .before .before .before .before .before .before .before .before .before .before .before .before .before .before .before .before .before .before .before .before .before in (
-      same-bytes (file-lent (o .args .h) (lent o) (counts o) (o .pre .1 .1)) (puts (c .before .before .before .before .before .before .before .before .before .before .before .before .before .before .before .before .before .before .before .before .before .before .before .put-head .ensures .0) (puts (c .before .before .before .before .before .before .before .before .before .before .before .before .before .before .before .before .before .before .before .put-levels .ensures .0) (puts (c .before .before .before .before .before .before .before .before .before .before .before .before .before .before .put-buses .ensures .0) (puts (c .before .before .before .before .before .before .before .before .before .before .put-generators .ensures .0) (puts (c .before .before .before .before .before .before .put-corridors .ensures .0) (c .before .before .put-lines .ensures .0)))))),
+      same-bytes (file-lent (o .args .h) (lent o) (counts o) (o .pre .1 .1) (c .before .before .before .before .before .before .before .before .before .before .before .before .before .before .before .before .some-weight .result) (c .before .before .before .before .before .before .before .before .before .before .before .before .before .before .before .before .some-weight .ensures)) (puts (c .before .before .before .before .before .before .before .before .before .before .before .before .before .before .before .before .before .before .before .before .before .before .before .put-head .ensures .0) (puts (c .before .before .before .before .before .before .before .before .before .before .before .before .before .before .before .before .before .before .before .put-levels .ensures .0) (puts (c .before .before .before .before .before .before .before .before .before .before .before .before .before .before .put-buses .ensures .0) (puts (c .before .before .before .before .before .before .before .before .before .before .put-generators .ensures .0) (puts (c .before .before .before .before .before .before .put-corridors .ensures .0) (c .before .before .put-lines .ensures .0)))))),
       omega (arith, counts o .levels, counts o .buses, counts o .generators, counts o .corridors, few-lines o, c .before .before .before .before .before .before .before .before .before .before .before .before .before .before .before .before .before .before .before .before .before .before .before .put-head .ensures .1, c .before .before .before .before .before .before .before .before .before .before .before .before .before .before .before .before .before .before .before .put-levels .ensures .1, c .before .before .before .before .before .before .before .before .before .before .before .before .before .before .put-buses .ensures .1, c .before .before .before .before .before .before .before .before .before .before .put-generators .ensures .1, c .before .before .before .before .before .before .put-corridors .ensures .1, c .before .before .put-lines .ensures .1),
     )
 

@@ -52,6 +52,9 @@ hundred = ofBits binary64 0x4059_0000_0000_0000
 abbrev pub fourHundred : Float
 fourHundred = ofBits binary64 0x4079_0000_0000_0000
 
+abbrev pub thousand : Float
+thousand = ofBits binary64 0x408f_4000_0000_0000
+
 abbrev pub tenThousand : Float
 tenThousand = ofBits binary64 0x40c3_8800_0000_0000
 
@@ -85,9 +88,9 @@ abbrev pub decimal : ℕ → ℕ → Float
 decimal n d = round binary64 false n d
 
 pub constants :
-    nought ∷ half ∷ one ∷ two ∷ five ∷ fifty ∷ hundred ∷ fourHundred ∷ tenThousand ∷ million ∷ billion ∷ thousandth ∷ millionth ∷ billionth ∷ trillionth ∷ infinity
+    nought ∷ half ∷ one ∷ two ∷ five ∷ fifty ∷ hundred ∷ fourHundred ∷ thousand ∷ tenThousand ∷ million ∷ billion ∷ thousandth ∷ millionth ∷ billionth ∷ trillionth ∷ infinity
     ∷ []
-    ≡ decimal 0 1 ∷ decimal 5 10 ∷ decimal 1 1 ∷ decimal 2 1 ∷ decimal 5 1 ∷ decimal 50 1 ∷ decimal 100 1 ∷ decimal 400 1 ∷ decimal 10_000 1
+    ≡ decimal 0 1 ∷ decimal 5 10 ∷ decimal 1 1 ∷ decimal 2 1 ∷ decimal 5 1 ∷ decimal 50 1 ∷ decimal 100 1 ∷ decimal 400 1 ∷ decimal 1_000 1 ∷ decimal 10_000 1
     ∷ decimal 1_000_000 1 ∷ decimal 1_000_000_000 1 ∷ decimal 1 1_000 ∷ decimal 1 1_000_000 ∷ decimal 1 1_000_000_000 ∷ decimal 1 1_000_000_000_000 ∷ inf false
     ∷ []
 unfolding ofBits round

@@ -1,18 +1,18 @@
 -- Worked examples of corridors with a cap of their own (document 02, K5): sizing, the capped count, filling, stiffening, the refusal, and the clause of demand 3
 -- about fillers. By evaluation.
 use Prim.Native.Nat.{ℕ, zero, suc, _+_, _≤_, _<_}
-use mathlib.Core.Bool.{true, false}
-use mathlib.Core.List.{List, [], _∷_}
+use mathlib.Core.Bool.{Bool, true, false}
+use mathlib.Core.List.{List, [], _∷_, map}
 use mathlib.Core.Path.{_≡_, refl, ap}
 use native.Mathlib.Omega.{arith}
 use lib.ListN.{getD, replicate}
 use lib.Ieee.{Float}
-use Rattle.loops.specs.Figures.{nought, one, two, hundred, million, decimal}
+use Rattle.loops.specs.Figures.{nought, one, hundred, decimal}
 use Rattle.mode.specs.declared.PlanMode.{PlanMode}
 use Rattle.mode.specs.declared.PlanMode.the-variants.{Expand, Reinforce, Observe}
-use Rattle.plan_defs.specs.Case.{Case, caseOf, fullAt}
+use Rattle.plan_defs.specs.Case.{Case, surveyed, fullAt}
 use Rattle.plan_defs.specs.Build.{built}
-use Rattle.plan_defs.specs.Stiffen.{Budget, stiff, stiffenOne}
+use Rattle.plan_defs.specs.Stiffen.{Budget, Stiffening, stiff, stiffenOne, candidate}
 use Rattle.plan_defs.specs.Demand.{circuitsAt, fillerAt, Even}
 use Rattle.plan_defs.specs.Plan.{Plan}
 use Rattle.plan_defs.specs.Outcome.{Slices, slices, planCorridors}
@@ -25,11 +25,11 @@ whole n = decimal n 1
 abbrev said : List (List ℕ) → List (List ℕ)
 said l = getD l 0 [] ∷ getD l 6 [] ∷ []
 
--- One corridor that needs three circuits.
--- HD mode target 2 1 1 0 1; LV 138; BU 0 0, 0 200; GE 0 1 0 300 20 0.25; CP 0 1 initial 10 1 cap; LN 0 0.0625 0 100 0
+-- One corridor that needs three circuits. (The unit gives its pmax, so that nothing is halved to find a price.)
+-- HD mode target 2 1 1 0 1; LV 138; BU 0 0, 0 200; GE 0 1 0 200 20 0.25; CP 0 1 initial 10 1 cap; LN 0 0.0625 0 100 0
 abbrev valley : PlanMode → ℕ → ℕ → Case
 valley mode initial cap =
-    caseOf mode 2 1 1 0 1 (whole 138 ∷ []) (0 ∷ 0 ∷ []) (nought ∷ whole 200 ∷ []) (0 ∷ []) (1 ∷ []) (nought ∷ []) (whole 300 ∷ []) (whole 20 ∷ []) (decimal 1 4 ∷ [])
+    surveyed mode 2 1 1 0 1 (whole 138 ∷ []) (0 ∷ 0 ∷ []) (nought ∷ whole 200 ∷ []) (replicate 2 one) (0 ∷ []) (1 ∷ []) (nought ∷ []) (whole 200 ∷ []) (whole 20 ∷ []) (decimal 1 4 ∷ [])
     (0 ∷ []) (1 ∷ []) (initial ∷ []) (whole 10 ∷ []) (one ∷ []) (cap ∷ []) (nought ∷ decimal 1 16 ∷ nought ∷ hundred ∷ nought ∷ [])
 
 -- Sizing stops at a cap of 2, the plan has not converged and the corridor counts as capped, and filling adds nothing; with a cap of 6 it is sized to 3 and filled
@@ -52,33 +52,33 @@ lent =
 abbrev keptBy : Case → List ℕ
 keptBy c = planCorridors c 4 lent .lent .cap
 
-pub caps-kept :
-    keptBy (valley Expand 1 2) ∷ keptBy (valley Reinforce 1 2) ∷ keptBy (valley Observe 1 2) ∷ keptBy (valley Expand 1 7) ∷ []
-    ≡ (2 ∷ []) ∷ (2 ∷ []) ∷ (2 ∷ []) ∷ (9 ∷ []) ∷ []
+pub caps-kept : keptBy (valley Expand 3 2) ∷ keptBy (valley Observe 1 2) ∷ keptBy (valley Expand 1 7) ∷ [] ≡ (2 ∷ []) ∷ (2 ∷ []) ∷ (9 ∷ []) ∷ []
 unfolding listingOf
 caps-kept = refl
 
--- Two corridors in a row whose angles are spread too wide, with a budget of four circuits. The first narrows the spread the most; at its cap of 1 it is no
--- candidate, and the second gets both circuits. With a cap of 2 it gets one.
--- HD 0 0 3 2 1 0 1; LV 138; BU 0 0, 0 0, 0 50; GE 0 1 0 100 20 0.25; CP 0 1 1 10 1 cap, CP 1 2 1 10 1 0; LN 0 2 0 1000000 0, 0 1 0 1000000 0
-abbrev stretched : ℕ → Case
-stretched cap =
-    caseOf Expand 3 2 1 0 1 (whole 138 ∷ []) (0 ∷ 0 ∷ 0 ∷ []) (nought ∷ nought ∷ whole 50 ∷ []) (0 ∷ []) (1 ∷ []) (nought ∷ []) (hundred ∷ []) (whole 20 ∷ [])
-    (decimal 1 4 ∷ []) (0 ∷ 1 ∷ []) (1 ∷ 2 ∷ []) (1 ∷ 1 ∷ []) (whole 10 ∷ whole 10 ∷ []) (one ∷ one ∷ []) (cap ∷ 0 ∷ [])
-    (nought ∷ two ∷ nought ∷ million ∷ nought ∷ nought ∷ one ∷ nought ∷ million ∷ nought ∷ [])
+-- Two corridors in a row, each with one circuit and a budget of four, where no raise is within the budget: at its cap of 1 the first is no candidate for
+-- stiffening and gets no circuit; with a cap of 2 it is one. The second has no cap of its own.
+abbrev inRow : ℕ → Case
+inRow cap = surveyed Expand 3 2 0 0 1 [] (0 ∷ 0 ∷ 0 ∷ []) [] [] [] [] [] [] [] [] (0 ∷ 1 ∷ []) (1 ∷ 2 ∷ []) (1 ∷ 1 ∷ []) [] [] (cap ∷ 0 ∷ []) []
 
-pub candidates-below :
-    said (listingOf (stretched 1) 0) ∷ said (listingOf (stretched 2) 0) ∷ []
-    ≡ ((0 ∷ 3 ∷ 0 ∷ 0 ∷ 2 ∷ 0 ∷ 0 ∷ 0 ∷ 0 ∷ 0 ∷ []) ∷ (1 ∷ 3 ∷ []) ∷ []) ∷ ((0 ∷ 3 ∷ 1 ∷ 0 ∷ 2 ∷ 0 ∷ 0 ∷ 0 ∷ 0 ∷ 0 ∷ []) ∷ (2 ∷ 2 ∷ []) ∷ []) ∷ []
-unfolding listingOf
-candidates-below = refl
+abbrev level : List ℕ
+level = 0 ∷ 0 ∷ 0 ∷ []
 
--- Of that case one corridor after the other stiffened, where no raise is within the budget: the first is at its cap.
 abbrev budget : Budget
 budget = record { hv = 0; branches = 4; top = 0 }
 
+abbrev begun : Stiffening
+begun = stiff (built (1 ∷ 1 ∷ []) [] [] []) level 2 3 0 true false
+
+abbrev candidates : ℕ → List Bool
+candidates cap = map (candidate (inRow cap) level level budget 0 begun) (0 ∷ 1 ∷ [])
+
+pub candidates-below : candidates 1 ∷ candidates 2 ∷ [] ≡ (false ∷ true ∷ []) ∷ (true ∷ true ∷ []) ∷ []
+unfolding listingOf
+candidates-below = refl
+
 abbrev stiffened : ℕ → List ℕ
-stiffened k = stiffenOne (stretched 1) (0 ∷ 0 ∷ 0 ∷ []) budget k (stiff (built (1 ∷ 1 ∷ []) [] [] []) (0 ∷ 0 ∷ 0 ∷ []) 2 3 0 true false) .build .circuits
+stiffened k = stiffenOne (inRow 1) level budget k begun .build .circuits
 
 pub stiffened-below : stiffened 0 ∷ stiffened 1 ∷ [] ≡ (1 ∷ 1 ∷ []) ∷ (1 ∷ 2 ∷ []) ∷ []
 unfolding listingOf
@@ -87,7 +87,7 @@ stiffened-below = refl
 -- Two corridors beside each other, filled to a total of 4: the first is at its cap of 1, the second has 3 of 6. Their fillers differ by two, which the clause
 -- allows, since the first has no room.
 abbrev beside : Case
-beside = caseOf Expand 2 2 0 0 1 (whole 138 ∷ []) (0 ∷ 0 ∷ []) [] [] [] [] [] [] [] (0 ∷ 0 ∷ []) (1 ∷ 1 ∷ []) (1 ∷ 1 ∷ []) [] [] (1 ∷ 6 ∷ []) []
+beside = surveyed Expand 2 2 0 0 1 (whole 138 ∷ []) (0 ∷ 0 ∷ []) [] [] [] [] [] [] [] [] (0 ∷ 0 ∷ []) (1 ∷ 1 ∷ []) (1 ∷ 1 ∷ []) [] [] (1 ∷ 6 ∷ []) []
 
 pub even-beside : (p : Plan) → p .circuits ≡ 1 ∷ 3 ∷ [] → Even beside p
 unfolding fullAt

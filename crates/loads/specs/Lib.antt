@@ -1,0 +1,2 @@
+-- The definitions that the promises of `loads` cite.
+pub mod Load

@@ -205,20 +205,22 @@ body-accepted wanted s h (At at) l q e =
     let p = passed Head s 0 0 at q in
     let a : at ≡ levelsAt = p .past in
     let w : tablesWalked wanted (headerOf s) s (At levelsAt) ≡ At (n .next) = ap (λ (m : ℕ). tablesWalked wanted (headerOf s) s (At m)) (sym a) ∙ n .walk in
-    let t = tables-of wanted s h (n .next) (ap (λ (g : Header). tablesWalked wanted g s (At levelsAt)) (n .same) ∙ w) in
-    (record {
-      short = l;
-      header = n .same;
-      head = subst (λ (m : ℕ). Passed Head s 0 m) a p;
-      counts = ap (λ (g : Header). countsOk g) (n .same) ∙ c .0;
-      levels = t .levels;
-      buses = t .buses;
-      form = one-form-of wanted s (busesAt s h) (h .buses) (t .form);
-      generators = t .generators;
-      corridors = t .corridors;
-      rows = t .rows;
-      zeros = subst (λ (m : ℕ). length s ≤ trailing s m) (t .end) (n .zeros);
-    }, t .form)
+    let t = tables-of wanted s h (n .next) (ap (λ (g : Header). tablesWalked wanted g s (At levelsAt)) (n .same) ∙ w) in (
+      record {
+        short = l;
+        header = n .same;
+        head = subst (λ (m : ℕ). Passed Head s 0 m) a p;
+        counts = ap (λ (g : Header). countsOk g) (n .same) ∙ c .0;
+        levels = t .levels;
+        buses = t .buses;
+        form = one-form-of wanted s (busesAt s h) (h .buses) (t .form);
+        generators = t .generators;
+        corridors = t .corridors;
+        rows = t .rows;
+        zeros = subst (λ (m : ℕ). length s ≤ trailing s m) (t .end) (n .zeros);
+      },
+      t .form,
+    )
 
 whole-by : (s : List ℕ) (h : Header) (x : Bool) (r : CaseRead) (f : Refusal) → ltb mostBytes (length s) ≡ x → cond x (unread f) r .reading ≡ Read h
     → (length s ≤ mostBytes) × (r .reading ≡ Read h)

@@ -2,10 +2,9 @@
 -- weights, and BU and BV in one file; case L moved into the other form and back; the refusals of files that differ from it in a byte or two; the bounds of counts and length; and the words and bytes looked at,
 -- both bounds of whose count are met.
 use Prim.Native.Nat.{ℕ, _+_, _*_}
-use mathlib.Core.Bool.{Bool, true, false, cond}
+use mathlib.Core.Bool.{Bool, true, false}
 use mathlib.Core.List.{List, [], _∷_, _++_, map}
-use mathlib.Core.Path.{_≡_, refl, ap}
-use lib.Dec.{eqb}
+use mathlib.Core.Path.{_≡_, refl}
 use lib.ListN.{length, replicate, set, take}
 use lib.Ieee.{Float, binary64, ofBits}
 use Rattle.loops.specs.Figures.{nought, half, one, fifty, hundred}
@@ -13,7 +12,7 @@ use Rattle.loops.specs.Loops.{iter, first, tab}
 use Rattle.loops.specs.Parts.{part}
 use Rattle.refusal.specs.declared.Answer.the-variants.{Answered}
 use Rattle.refusal.specs.declared.Answer.the-variants.{Refused as Unmoved}
-use Rattle.refusal.specs.declared.Refusal.the-variants.{Length, Count, FileLength, Cut, Mark, Code, Trailing, Weight}
+use Rattle.refusal.specs.declared.Refusal.the-variants.{Count, FileLength, Cut, Mark, Code, Trailing, Weight}
 use Rattle.mode.specs.Number.{modeNumber}
 use Rattle.mode.specs.declared.PlanMode.the-variants.{Observe}
 use Rattle.casefile_defs.specs.Layout.{little, word, spot}
@@ -204,7 +203,7 @@ other-weight = refl
 
 pub trailing-first : (out : List ℕ) → length out ≡ 65536 → moveBack (fileW ++ (7 ∷ [])) out ≡ movedAs (Unmoved (Trailing 158)) (replicate 65536 0)
 unfolding moveBack backBy readAs bodyRead endRead tablesWalked walked busForm stepped admitted recordAt headerOf modeOf modeNumber trailing looksFor iter first word little
-trailing-first out e = ap (λ (n : ℕ). cond (eqb n 65536) (backBy (fileW ++ (7 ∷ [])) (readAs Weighed (fileW ++ (7 ∷ [])) .reading)) (movedAs (Unmoved Length) out)) e
+trailing-first out e = rw e refl
 
 -- ---- refusals: no byte, and a header cut; mode 6; 129 generators; a bus cut, its mark wrong too; the level's mark; the second bus's mark, and a basis of 2
 -- behind it; slack 2; basis 2

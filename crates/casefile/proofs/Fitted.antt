@@ -8,7 +8,7 @@ use native.Mathlib.Omega.{arith}
 use lib.ListN.{length, take, drop, replicate, length-append, length-drop}
 use lib.Seq.{take-append-add, length-take-le}
 use Rattle.loops.specs.Parts.{part, put}
-use Rattle.loops.proofs.Parts.{length-part, length-put}
+use Rattle.loops.proofs.Parts.{length-put}
 use Rattle.casefile_defs.specs.Bounds.{mostBytes}
 use Rattle.casefile_defs.specs.Layout.{spot}
 use Rattle.casefile_defs.specs.Moving.{weightOf, busesAs, fileAs, fitted}

@@ -13,7 +13,7 @@ use crate::text::read_edges;
 use crate::text::read_figures;
 use crate::text::read_wholes;
 use crate::text::start;
-use placement::Placement;
+use placement_defs::Placement;
 
 // The condensers: the bus and the Mvar of each.
 fn put_condensers(out: &mut [u8], buses: &[u32; 400], mvars: &[f64; 400], n: usize) -> usize
@@ -46,13 +46,14 @@ fn place(
     n: usize,
     m: usize,
     g: usize,
-    load: &[f64],
+    reading: &[f64],
+    weight: &[f64],
     a: &[u32],
     b: &[u32],
     km: &[f64],
     bus: &[u32],
 ) -> usize
-    requires { ⌜ (n ≤ 400) × (n ≤ length (now load)) × (m ≤ length (now a)) × (m ≤ length (now b)) ⌝ }
+    requires { ⌜ (n ≤ 400) × (n ≤ length (now reading)) × (n ≤ length (now weight)) × (m ≤ length (now a)) × (m ≤ length (now b)) ⌝ }
     requires { ⌜ (m ≤ length (now km)) × (g ≤ length (now bus)) ⌝ }
     ensures { λ r. ⌜ r ≤ length (now (out .entry)) ⌝ }
 {
@@ -62,7 +63,8 @@ fn place(
         n,
         m,
         g,
-        &load[0..n],
+        &reading[0..n],
+        &weight[0..n],
         &a[0..m],
         &b[0..m],
         &km[0..m],
@@ -75,7 +77,7 @@ fn place(
     }
 }
 
-// PLACE n m g load×n (a b km)×m bus×g
+// PLACE n m g reading×n weight×n (a b km)×m bus×g
 pub fn answer_placement(line: &[u8], out: &mut [u8]) -> usize
     ensures { λ r. ⌜ r ≤ length (now (out .entry)) ⌝ }
 {
@@ -85,16 +87,18 @@ pub fn answer_placement(line: &[u8], out: &mut [u8]) -> usize
     let n = buses.value as usize;
     let m = corridors.value as usize;
     let g = generators.value as usize;
-    let mut load = [0.0f64; 400];
+    let mut reading = [0.0f64; 400];
+    let mut weight = [0.0f64; 400];
     let mut a = [0u32; 400];
     let mut b = [0u32; 400];
     let mut km = [0.0f64; 400];
     let mut bus = [0u32; 400];
-    let loads = read_figures(line, generators, n, &mut load);
-    let edges = read_edges(line, loads, m, &mut a, &mut b, &mut km);
+    let readings = read_figures(line, generators, n, &mut reading);
+    let weights = read_figures(line, readings, n, &mut weight);
+    let edges = read_edges(line, weights, m, &mut a, &mut b, &mut km);
     let last = read_wholes(line, edges, g, &mut bus);
     if !complete(line, last) {
         return put_no_request(out);
     }
-    place(out, n, m, g, &load, &a, &b, &km, &bus)
+    place(out, n, m, g, &reading, &weight, &a, &b, &km, &bus)
 }

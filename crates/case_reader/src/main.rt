@@ -65,20 +65,32 @@ fn print_levels(count: usize, ladder: &[f64; MOST_LEVELS])
     }
 }
 
-fn print_bus(i: usize, tier: &[u32; MOST_BUSES], load: &[f64; MOST_BUSES])
+// A BU or a BV: both are printed with their weight.
+fn print_bus(
+    i: usize,
+    tier: &[u32; MOST_BUSES],
+    reading: &[f64; MOST_BUSES],
+    weight: &[f64; MOST_BUSES],
+)
     requires { ⌜ i < mostBuses ⌝ }
 {
     mark(b"BU");
     whole(tier[i]);
-    figure(load[i]);
+    figure(reading[i]);
+    figure(weight[i]);
     end_line();
 }
 
-fn print_buses(count: usize, tier: &[u32; MOST_BUSES], load: &[f64; MOST_BUSES])
+fn print_buses(
+    count: usize,
+    tier: &[u32; MOST_BUSES],
+    reading: &[f64; MOST_BUSES],
+    weight: &[f64; MOST_BUSES],
+)
     requires { ⌜ count ≤ mostBuses ⌝ }
 {
     for i in 0..count {
-        print_bus(i, tier, load);
+        print_bus(i, tier, reading, weight);
     }
 }
 
@@ -199,7 +211,8 @@ fn main() {
     let n = io::read_full(libc::STDIN_FILENO, &mut buffer);
     let mut ladder = [0.0; MOST_LEVELS];
     let mut tier = [0u32; MOST_BUSES];
-    let mut load = [0.0; MOST_BUSES];
+    let mut reading = [0.0; MOST_BUSES];
+    let mut weight = [0.0; MOST_BUSES];
     let mut bus = [0u32; MOST_GENERATORS];
     let mut slack = [0u32; MOST_GENERATORS];
     let mut pmin = [0.0; MOST_GENERATORS];
@@ -217,7 +230,8 @@ fn main() {
         &buffer[0..n],
         &mut ladder,
         &mut tier,
-        &mut load,
+        &mut reading,
+        &mut weight,
         &mut bus,
         &mut slack,
         &mut pmin,
@@ -232,14 +246,14 @@ fn main() {
         &mut cap,
         &mut sheet,
     );
-    let reading = read.reading;
-    match reading {
+    let said = read.reading;
+    match said {
         Reading::Refused(f) => print_refusal(f),
         Reading::Read(h) => {
             let levels = h.above + h.requested;
             print_header(h);
             print_levels(levels, &ladder);
-            print_buses(h.buses, &tier, &load);
+            print_buses(h.buses, &tier, &reading, &weight);
             print_generators(h.generators, &bus, &slack, &pmin, &pmax, &c1, &c2);
             print_corridors(h.corridors, &a, &b, &circuits, &length_km, &share, &cap);
             print_lines(lines(h.corridors, levels), &sheet);

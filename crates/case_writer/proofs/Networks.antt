@@ -1,11 +1,16 @@
 -- What small_network says and leaves, for its caller: of the definition's three ways only one gives an answer, and one refuses a place.
 use Prim.Native.Nat.{ℕ, _≤_, _<_}
-use mathlib.Core.Bool.{true}
+use mathlib.Core.Bool.{Bool, true, false}
 use mathlib.Core.List.{List}
 use mathlib.Core.Path.{_≡_, sym, ap, _∙_, subst}
 use native.Mathlib.Decide.{decLt}
 use native.Mathlib.Omega.{arith}
 use borrow.Author.Tests.{lt-ltb, le-ltb}
+use lib.Dec.{ltb}
+use lib.Ieee.{Float, eq, ofBits}
+use lib.ListN.{length}
+use Rattle.loops.specs.Figures.{at, one}
+use Rattle.loops.proofs.Scan.{pass-all}
 use Rattle.loops.proofs.Tab.{length-tab}
 use Rattle.refusal.specs.Number.{numberOf, indexOf}
 use Rattle.refusal.specs.Reply.{Reply, answered, refused}
@@ -17,14 +22,20 @@ use Rattle.casefile_defs.specs.declared.Header.{Header}
 use Rattle.casefile_defs.specs.declared.Reading.{Reading}
 use Rattle.casefile_defs.specs.declared.Reading.the-variants.{Refused, Read}
 use Rattle.casefile_defs.proofs.Counts.{small-of}
+use Rattle.casefile_defs.proofs.Whole.{sizes}
 use Rattle.casefile_theorems.specs.Cases.{longest}
+use Rattle.casefile_theorems.specs.Writer.{fileOf, capsOnly}
 use Rattle.small.specs.Networks.{allPlaces}
 use Rattle.small.specs.Tables.{padded, laidOut, headerAt, tablesAt, Made, made, smallNetwork}
+use Rattle.small_theorems.specs.Held.{fileAt}
 use Rattle.small_theorems.proofs.Accepted.{sound-at}
+use Rattle.small_theorems.proofs.Theorems.{weights-one}
 use Rattle.case_writer.specs.declared.Written.{Written}
 use Rattle.case_writer.specs.declared.Written.the-variants.{Bytes}
 use Rattle.case_writer.specs.Files.{fileIn, Wrote}
 use Rattle.case_writer.specs.Put.{Put}
+use Rattle.case_writer.specs.Words.{weighs}
+use Rattle.case_writer.proofs.Lent.{within}
 use Rattle.case_writer.proofs.Puts.{same-bytes}
 
 -- the two ways of tables that are sized
@@ -95,10 +106,23 @@ pub small : (i : ℕ) {h : Header} {p : Places} → Answer i h p → Small h
 small i a = subst Small (sym (a .header)) (small-of (headerAt i) (sound-at i (a .below) .counts))
 
 -- ---- and what it says
+-- every weight of a small network is 1, so its buses are written as BU
+unweighed : (i : ℕ) → i < allPlaces → weighs (tablesAt i .weight) (headerAt i .buses) ≡ false
+unfolding weighs eq ofBits
+unweighed i b =
+    let w = tablesAt i .weight in
+    let n = headerAt i .buses in
+    let room : n ≤ length w = omega (arith, small-of (headerAt i) (sound-at i b .counts) .buses, sizes (tablesAt i) (tables-sized i) .weight) in
+    ap (λ (k : ℕ). ltb k n) (pass-all (λ j. eq (at w j) one) n (λ j h. ap (λ (x : Float). eq x one) (within w j (omega arith) ∙ weights-one i b j h)))
+    ∙ le-ltb n n (omega arith)
+
+unweighed-file : (i : ℕ) → i < allPlaces → fileIn (headerAt i) (tablesAt i) ≡ fileAt i
+unweighed-file i b = ap (λ (t : Bool). fileOf (capsOnly t (tablesAt i)) (headerAt i) (tablesAt i)) (unweighed i b)
+
 pub wrote-file : (i : ℕ) {h : Header} {p : Places} {before after : List ℕ} {n : ℕ} → Answer i h p → n ≤ longest → Put before 0 (fileIn h p) after n → Wrote i before after (Bytes n)
 unfolding Wrote
 wrote-file i {h} {p} a l q =
-    (a .below, l, same-bytes (ap (λ (g : Header). fileIn g p) (a .header) ∙ ap (λ (t : Places). fileIn (headerAt i) t) (a .tables)) q)
+    (a .below, l, same-bytes (ap (λ (g : Header). fileIn g p) (a .header) ∙ ap (λ (t : Places). fileIn (headerAt i) t) (a .tables) ∙ unweighed-file i (a .below)) q)
 
 -- a file that was written is not too long
 pub wrote-size : (i : ℕ) (before after : List ℕ) {w : Written} {n : ℕ} → Wrote i before after w → w ≡ Bytes n → n ≤ longest

@@ -1,6 +1,6 @@
 -- Bytes put one behind another are put as one list: a number's bytes, a record's fields, a table's records.
 use Prim.Native.Nat.{ℕ, zero, suc, _+_, _/_, _%_, _<_, _≤_}
-use mathlib.Core.Bool.{Bool, true, cond}
+use mathlib.Core.Bool.{Bool, true, false, cond}
 use mathlib.Core.List.{List, [], _∷_, _++_, append-assoc, append-nil}
 use mathlib.Core.Path.{_≡_, refl, sym, ap, subst, _∙_}
 use native.Mathlib.Numerals.{add-one}
@@ -12,10 +12,10 @@ use lib.ListN.{length, take, set, length-append}
 use Rattle.loops.proofs.Bools.{is}
 use Rattle.casefile_defs.specs.Layout.{layoutOf}
 use Rattle.casefile_defs.specs.declared.Kind.{Kind}
-use Rattle.casefile_defs.specs.declared.Kind.the-variants.{Head, Level, Bus, Generator, Corridor, Line, CappedCorridor}
+use Rattle.casefile_defs.specs.declared.Kind.the-variants.{Head, Level, Bus, Generator, Corridor, Line, CappedCorridor, WeighedBus}
 use Rattle.casefile_theorems.specs.Writer.{bytes, fieldBytes, recordBytes, tableBytes}
 use Rattle.case_writer.specs.Put.{Put}
-use Rattle.case_writer.specs.Words.{markOf, sharedRow, corridorRow, corridorKind}
+use Rattle.case_writer.specs.Words.{markOf, calledRow, busRow, busKind, sharedRow, corridorRow, corridorKind}
 
 pub puts : {b a z : List ℕ} {len r s : ℕ} {t u : List ℕ} → Put b len t a r → Put a r u z s → Put b len (t ++ u) z s
 puts {b} {a} {z} {len} {r} {s} {t} {u} p q = record {
@@ -88,6 +88,20 @@ mark-bytes Generator = refl
 mark-bytes Corridor = refl
 mark-bytes Line = refl
 mark-bytes CappedCorridor = refl
+mark-bytes WeighedBus = refl
+
+-- ---- a bus's record: as BV with its weight behind the other fields, as BU without
+module _ (tier : ℕ) (reading weight : Float) {weighed : Bool} where
+  pub weighed-record : weighed ≡ true
+      → (layoutOf WeighedBus .first ∷ layoutOf WeighedBus .second ∷ fieldBytes (layoutOf Bus .fields) (calledRow tier reading)) ++ bytes 8 (toBits binary64 weight)
+      ≡ recordBytes (busKind weighed) (busRow tier reading weight)
+  unfolding recordBytes fieldBytes
+  weighed-record e = rw e (simp (append-assoc, append-nil))
+
+  pub unweighed-record : weighed ≡ false
+      → layoutOf Bus .first ∷ layoutOf Bus .second ∷ fieldBytes (layoutOf Bus .fields) (calledRow tier reading) ≡ recordBytes (busKind weighed) (busRow tier reading weight)
+  unfolding recordBytes fieldBytes
+  unweighed-record e = rw e refl
 
 -- ---- a corridor's record: a field behind the others
 field-behind : (a b c d e f : List ℕ) → (a ++ (b ++ (c ++ (d ++ (e ++ []))))) ++ f ≡ a ++ (b ++ (c ++ (d ++ (e ++ (f ++ [])))))

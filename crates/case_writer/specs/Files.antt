@@ -8,16 +8,17 @@ use Rattle.casefile_defs.specs.declared.Header.{Header}
 use Rattle.casefile_theorems.specs.Cases.{longest}
 use Rattle.casefile_theorems.specs.Writer.{fileOf, capsOnly}
 use Rattle.small.specs.Networks.{allPlaces}
-use Rattle.small.specs.Tables.{headerAt, tablesAt}
+use Rattle.small_theorems.specs.Held.{fileAt}
 use Rattle.case_writer.specs.declared.Written.{Written}
 use Rattle.case_writer.specs.declared.Written.the-variants.{Bytes, Refused}
 use Rattle.case_writer.specs.Put.{Put}
+use Rattle.case_writer.specs.Words.{weighs}
 
--- the file of a case, with CP for the corridors that have a cap
+-- the file of a case, with BV where a weight is not 1, and CP for the corridors that have a cap
 abbrev pub fileIn : Header → Places → List ℕ
-fileIn h p = fileOf (capsOnly p) h p
+fileIn h p = fileOf (capsOnly (weighs (p .weight) (h .buses)) p) h p
 
 -- the bytes of a place, put at the front of a buffer
 unfoldable pub Wrote : ℕ → List ℕ → List ℕ → Written → Type 0
-Wrote i before after (Bytes n) = (i < allPlaces) × (n ≤ longest) × Put before 0 (fileIn (headerAt i) (tablesAt i)) after n
+Wrote i before after (Bytes n) = (i < allPlaces) × (n ≤ longest) × Put before 0 (fileAt i) after n
 Wrote i before after (Refused f) = (allPlaces ≤ i) × (numberOf f ≡ 23) × (indexOf f ≡ 0)

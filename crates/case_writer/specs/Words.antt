@@ -1,16 +1,17 @@
 -- The numbers of a record, by the tables that they stand in: those of casefile_theorems' `wordsOf`, one kind at a time. And a mark as a number of two bytes.
 use Prim.Native.Nat.{ℕ, _+_, _*_}
-use mathlib.Core.Bool.{cond}
+use mathlib.Core.Bool.{Bool, cond}
 use mathlib.Core.List.{List, [], _∷_}
 use lib.Dec.{ltb}
 use lib.Ieee.{Float, binary64, toBits, eq}
 use lib.ListN.{getD}
-use Rattle.loops.specs.Figures.{at, nought}
+use Rattle.loops.specs.Figures.{at, nought, one}
+use Rattle.loops.specs.Loops.{first}
 use Rattle.casefile_defs.specs.Bounds.{rowFigures}
 use Rattle.casefile_defs.specs.Layout.{layoutOf}
 use Rattle.casefile_defs.specs.Tables.{Places, basisField}
 use Rattle.casefile_defs.specs.declared.Kind.{Kind}
-use Rattle.casefile_defs.specs.declared.Kind.the-variants.{Head, Level, Bus, Generator, Corridor, Line, CappedCorridor}
+use Rattle.casefile_defs.specs.declared.Kind.the-variants.{Head, Level, Bus, Generator, Corridor, Line, CappedCorridor, WeighedBus}
 use Rattle.casefile_theorems.specs.Writer.{row}
 
 abbrev pub markOf : Kind → ℕ
@@ -23,8 +24,15 @@ basisNumber x = cond (eq x nought) 0 1
 abbrev pub levelRow : Float → ℕ → ℕ
 levelRow kv = row (toBits binary64 kv ∷ [])
 
-abbrev pub busRow : ℕ → Float → ℕ → ℕ
-busRow tier load = row (tier ∷ toBits binary64 load ∷ [])
+-- of a bus those that BU and BV have, and all of them
+abbrev pub calledRow : ℕ → Float → ℕ → ℕ
+calledRow tier reading = row (tier ∷ toBits binary64 reading ∷ [])
+
+abbrev pub busRow : ℕ → Float → Float → ℕ → ℕ
+busRow tier reading weight = row (tier ∷ toBits binary64 reading ∷ toBits binary64 weight ∷ [])
+
+abbrev pub busKind : Bool → Kind
+busKind weighed = cond weighed WeighedBus Bus
 
 abbrev pub generatorRow : ℕ → ℕ → Float → Float → Float → Float → ℕ → ℕ
 generatorRow bus slack pmin pmax c1 c2 = row (bus ∷ slack ∷ toBits binary64 pmin ∷ toBits binary64 pmax ∷ toBits binary64 c1 ∷ toBits binary64 c2 ∷ [])
@@ -53,8 +61,12 @@ corridorKinds cap i = corridorKind (getD cap i 0)
 abbrev pub levelWords : List Float → ℕ → ℕ → ℕ
 levelWords ladder i = levelRow (at ladder i)
 
-abbrev pub busWords : List ℕ → List Float → ℕ → ℕ → ℕ
-busWords tier load i = busRow (getD tier i 0) (at load i)
+-- whether one of the first n weights is not 1
+unfoldable pub weighs : List Float → ℕ → Bool
+weighs weight n = ltb (first (λ i. eq (at weight i) one) n 0) n
+
+abbrev pub busWords : List ℕ → List Float → List Float → ℕ → ℕ → ℕ
+busWords tier reading weight i = busRow (getD tier i 0) (at reading i) (at weight i)
 
 abbrev pub generatorWords : List ℕ → List ℕ → List Float → List Float → List Float → List Float → ℕ → ℕ → ℕ
 generatorWords bus slack pmin pmax c1 c2 i = generatorRow (getD bus i 0) (getD slack i 0) (at pmin i) (at pmax i) (at c1 i) (at c2 i)
@@ -70,8 +82,9 @@ lineWords sheet i =
 unfoldable pub wordsIn : Places → Kind → ℕ → ℕ → ℕ
 wordsIn p Head i = row []
 wordsIn p Level i = levelWords (p .ladder) i
-wordsIn p Bus i = busWords (p .tier) (p .load) i
+wordsIn p Bus i = busWords (p .tier) (p .reading) (p .weight) i
 wordsIn p Generator i = generatorWords (p .bus) (p .slack) (p .pmin) (p .pmax) (p .c1) (p .c2) i
 wordsIn p Corridor i = corridorWords (p .a) (p .b) (p .circuits) (p .lengthKm) (p .share) (p .cap) i
 wordsIn p Line i = lineWords (p .sheet) i
 wordsIn p CappedCorridor i = row []
+wordsIn p WeighedBus i = row []

@@ -81,6 +81,7 @@ fn mark_of(kind: Kind) -> u64
         Kind::Corridor => 0x4f43,
         Kind::Line => 0x4e4c,
         Kind::CappedCorridor => 0x5043,
+        Kind::WeighedBus => 0x5642,
     }
 }
 

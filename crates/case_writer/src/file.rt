@@ -15,6 +15,7 @@ use crate::table::put_corridors;
 use crate::table::put_generators;
 use crate::table::put_levels;
 use crate::table::put_lines;
+use crate::table::some_weight;
 use casefile_defs::Header;
 use casefile_defs::MOST_BUSES;
 use casefile_defs::MOST_CORRIDORS;
@@ -23,13 +24,14 @@ use casefile_defs::MOST_LEVELS;
 use casefile_defs::MOST_SHEET;
 use casefile_defs::Reading;
 
-// The file of a case in tables of their largest size, with CP for the corridors that have a cap.
+// The file of a case in tables of their largest size, with BV where a weight is not 1, and CP for the corridors that have a cap.
 fn put_case_file(
     out: &mut [u8],
     h: Header,
     ladder: &[f64],
     tier: &[u32],
-    load: &[f64],
+    reading: &[f64],
+    weight: &[f64],
     bus: &[u32],
     slack: &[u32],
     pmin: &[f64],
@@ -46,15 +48,16 @@ fn put_case_file(
 ) -> usize
     requires { ⌜ longest ≤ length (now out) ⌝ }
     requires { ⌜ Small h ⌝ }
-    requires { ⌜ sizesOk (placesOf (now ladder) (now tier) (now load) (now bus) (now slack) (now pmin) (now pmax) (now c1) (now c2) (now a) (now b) (now circuits) (now «length_km») (now share) (now cap) (now sheet)) ≡ true ⌝ }
-    ensures put { λ r. ⌜ Put (now (out .entry)) 0 (fileIn h (placesOf (now (ladder .entry)) (now (tier .entry)) (now (load .entry)) (now (bus .entry)) (now (slack .entry)) (now (pmin .entry)) (now (pmax .entry)) (now (c1 .entry)) (now (c2 .entry)) (now (a .entry)) (now (b .entry)) (now (circuits .entry)) (now («length_km» .entry)) (now (share .entry)) (now (cap .entry)) (now (sheet .entry)))) (now (out .exit)) r ⌝ }
+    requires { ⌜ sizesOk (placesOf (now ladder) (now tier) (now reading) (now weight) (now bus) (now slack) (now pmin) (now pmax) (now c1) (now c2) (now a) (now b) (now circuits) (now «length_km») (now share) (now cap) (now sheet)) ≡ true ⌝ }
+    ensures put { λ r. ⌜ Put (now (out .entry)) 0 (fileIn h (placesOf (now (ladder .entry)) (now (tier .entry)) (now (reading .entry)) (now (weight .entry)) (now (bus .entry)) (now (slack .entry)) (now (pmin .entry)) (now (pmax .entry)) (now (c1 .entry)) (now (c2 .entry)) (now (a .entry)) (now (b .entry)) (now (circuits .entry)) (now («length_km» .entry)) (now (share .entry)) (now (cap .entry)) (now (sheet .entry)))) (now (out .exit)) r ⌝ }
     ensures size { λ r. ⌜ r ≤ longest ⌝ }
 {
     let levels = h.above + h.requested;
     let lines = h.corridors * levels;
     let used = put_head(out, 0, h);
     let used = put_levels(out, used, levels, ladder);
-    let used = put_buses(out, used, h.buses, tier, load);
+    let weighed = some_weight(h.buses, weight);
+    let used = put_buses(out, used, h.buses, weighed, tier, reading, weight);
     let used = put_generators(out, used, h.generators, bus, slack, pmin, pmax, c1, c2);
     let used = put_corridors(
         out,
@@ -77,7 +80,8 @@ pub fn put_small_network(out: &mut [u8], place: usize) -> Written
 {
     let mut ladder = [0.0; MOST_LEVELS];
     let mut tier = [0u32; MOST_BUSES];
-    let mut load = [0.0; MOST_BUSES];
+    let mut reading = [0.0; MOST_BUSES];
+    let mut weight = [0.0; MOST_BUSES];
     let mut bus = [0u32; MOST_GENERATORS];
     let mut slack = [0u32; MOST_GENERATORS];
     let mut pmin = [0.0; MOST_GENERATORS];
@@ -91,11 +95,12 @@ pub fn put_small_network(out: &mut [u8], place: usize) -> Written
     let mut share = [0.0; MOST_CORRIDORS];
     let mut cap = [0u32; MOST_CORRIDORS];
     let mut sheet = [0.0; MOST_SHEET];
-    let reading = small::small_network(
+    let said = small::small_network(
         place,
         &mut ladder,
         &mut tier,
-        &mut load,
+        &mut reading,
+        &mut weight,
         &mut bus,
         &mut slack,
         &mut pmin,
@@ -110,14 +115,15 @@ pub fn put_small_network(out: &mut [u8], place: usize) -> Written
         &mut cap,
         &mut sheet,
     );
-    match reading {
+    match said {
         Reading::Refused(f) => Written::Refused(f),
         Reading::Read(h) => Written::Bytes(put_case_file(
             out,
             h,
             &ladder,
             &tier,
-            &load,
+            &reading,
+            &weight,
             &bus,
             &slack,
             &pmin,

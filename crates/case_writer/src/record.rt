@@ -6,7 +6,7 @@ ghost use lib.ListN.{length};
 ghost use Rattle.casefile_defs.specs.Layout.{sizeOf, layoutOf, u8, u16};
 ghost use Rattle.casefile_theorems.specs.Writer.{recordBytes, fieldBytes, headRow, row};
 ghost use Rattle.case_writer.specs.Put.{Put};
-ghost use Rattle.case_writer.specs.Words.{levelRow, busRow, generatorRow, sharedRow, corridorRow, corridorKind, lineRow};
+ghost use Rattle.case_writer.specs.Words.{levelRow, calledRow, busRow, busKind, generatorRow, sharedRow, corridorRow, corridorKind, lineRow};
 use crate::bytes::put_basis;
 use crate::bytes::put_bytes;
 use crate::bytes::put_figure;
@@ -73,15 +73,35 @@ pub fn put_level(out: &mut [u8], len: usize, kv: f64) -> usize
     put_figure(out, used, kv)
 }
 
-// BU tier load
-pub fn put_bus(out: &mut [u8], len: usize, tier: u32, load: f64) -> usize
+// A bus's mark, and the fields that BU and BV have: tier reading
+fn put_called(out: &mut [u8], len: usize, kind: Kind, tier: u32, reading: f64) -> usize
     requires { ⌜ len + sizeOf Kind.Bus ≤ length (now out) ⌝ }
-    ensures put { λ r. ⌜ Put (now (out .entry)) len (recordBytes Kind.Bus (busRow tier load)) (now (out .exit)) r ⌝ }
+    ensures put { λ r. ⌜ Put (now (out .entry)) len (layoutOf kind .first ∷ layoutOf kind .second ∷ fieldBytes (layoutOf Kind.Bus .fields) (calledRow tier reading)) (now (out .exit)) r ⌝ }
     ensures size { λ r. ⌜ r ≡ len + sizeOf Kind.Bus ⌝ }
 {
-    let used = put_mark(out, len, Kind::Bus);
+    let used = put_mark(out, len, kind);
     let used = put_bytes(out, used, U8, tier as u64);
-    put_figure(out, used, load)
+    put_figure(out, used, reading)
+}
+
+// BU, or where the buses are weighed BV with the weight behind
+pub fn put_bus(
+    out: &mut [u8],
+    len: usize,
+    weighed: bool,
+    tier: u32,
+    reading: f64,
+    weight: f64,
+) -> usize
+    requires { ⌜ len + sizeOf Kind.WeighedBus ≤ length (now out) ⌝ }
+    ensures put { λ r. ⌜ Put (now (out .entry)) len (recordBytes (busKind weighed) (busRow tier reading weight)) (now (out .exit)) r ⌝ }
+    ensures size { λ r. ⌜ r ≤ len + sizeOf Kind.WeighedBus ⌝ }
+{
+    if weighed {
+        let used = put_called(out, len, Kind::WeighedBus, tier, reading);
+        return put_figure(out, used, weight);
+    }
+    put_called(out, len, Kind::Bus, tier, reading)
 }
 
 // GE bus slack pmin pmax c1 c2

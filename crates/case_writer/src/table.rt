@@ -6,7 +6,7 @@ ghost use Rattle.casefile_defs.specs.Bounds.{rowFigures};
 ghost use Rattle.casefile_defs.specs.Layout.{sizeOf};
 ghost use Rattle.casefile_theorems.specs.Writer.{tableBytes};
 ghost use Rattle.case_writer.specs.Put.{Put};
-ghost use Rattle.case_writer.specs.Words.{only, corridorKinds, levelWords, busWords, generatorWords, corridorWords, lineWords};
+ghost use Rattle.case_writer.specs.Words.{only, weighs, busKind, corridorKinds, levelWords, busWords, generatorWords, corridorWords, lineWords};
 use crate::record::put_bus;
 use crate::record::put_corridor;
 use crate::record::put_generator;
@@ -30,17 +30,41 @@ pub fn put_levels(out: &mut [u8], len: usize, count: usize, ladder: &[f64]) -> u
     used
 }
 
-pub fn put_buses(out: &mut [u8], len: usize, count: usize, tier: &[u32], load: &[f64]) -> usize
-    requires { ⌜ len + count * sizeOf Kind.Bus ≤ length (now out) ⌝ }
+// Whether some weight is not 1, so that the buses are written as BV.
+pub fn some_weight(count: usize, weight: &[f64]) -> bool
+    requires { ⌜ count ≤ length (now weight) ⌝ }
+    ensures { λ r. ⌜ r ≡ weighs (now (weight .entry)) count ⌝ }
+{
+    let mut i = 0;
+    while i < count {
+        if !(weight[i] == 1.0) {
+            return true;
+        }
+        i += 1;
+    }
+    false
+}
+
+pub fn put_buses(
+    out: &mut [u8],
+    len: usize,
+    count: usize,
+    weighed: bool,
+    tier: &[u32],
+    reading: &[f64],
+    weight: &[f64],
+) -> usize
+    requires { ⌜ len + count * sizeOf Kind.WeighedBus ≤ length (now out) ⌝ }
     requires { ⌜ count ≤ length (now tier) ⌝ }
-    requires { ⌜ count ≤ length (now load) ⌝ }
-    ensures put { λ r. ⌜ Put (now (out .entry)) len (tableBytes (only Kind.Bus) count (busWords (now (tier .entry)) (now (load .entry)))) (now (out .exit)) r ⌝ }
-    ensures size { λ r. ⌜ r ≡ len + count * sizeOf Kind.Bus ⌝ }
+    requires { ⌜ count ≤ length (now reading) ⌝ }
+    requires { ⌜ count ≤ length (now weight) ⌝ }
+    ensures put { λ r. ⌜ Put (now (out .entry)) len (tableBytes (only (busKind weighed)) count (busWords (now (tier .entry)) (now (reading .entry)) (now (weight .entry)))) (now (out .exit)) r ⌝ }
+    ensures size { λ r. ⌜ r ≤ len + count * sizeOf Kind.WeighedBus ⌝ }
 {
     let mut used = len;
     let mut i = 0;
     while i < count {
-        used = put_bus(out, used, tier[i], load[i]);
+        used = put_bus(out, used, weighed, tier[i], reading[i], weight[i]);
         i += 1;
     }
     used

@@ -8,8 +8,8 @@ ghost use Rattle.dispatch.specs.Operation.{dispatched};
 ghost use Rattle.dispatch.specs.Units.{unitsOf};
 ghost use Rattle.leaders.specs.Operation.{ledOutcome};
 ghost use Rattle.line_defs.specs.Sheet.{lineSheet};
-ghost use Rattle.placement.specs.Request as asked;
-ghost use Rattle.placement.specs.Support.{placement};
+ghost use Rattle.placement_defs.specs.Request as asked;
+ghost use Rattle.placement_defs.specs.Support.{placement};
 ghost use Rattle.exports.specs.Said.{anglesSaid, caseSaid, answerSaid, placementSaid};
 
 // The answer of `dc_angles`. A field that has nothing to say is 0.
@@ -100,7 +100,8 @@ pub extern "C" fn lopnaski_read_case(
     file: &[u8],
     ladder: &mut [f64],
     tier: &mut [u32],
-    load: &mut [f64],
+    reading: &mut [f64],
+    weight: &mut [f64],
     generator_bus: &mut [u32],
     slack: &mut [u32],
     pmin: &mut [f64],
@@ -115,14 +116,15 @@ pub extern "C" fn lopnaski_read_case(
     cap: &mut [u32],
     sheet: &mut [f64],
 ) -> ReadingSaid
-    ensures said { λ r. ⌜ r ≡ caseSaid (readCase (now (file .entry)) (placesOf (now (ladder .entry)) (now (tier .entry)) (now (load .entry)) (now («generator_bus» .entry)) (now (slack .entry)) (now (pmin .entry)) (now (pmax .entry)) (now (c1 .entry)) (now (c2 .entry)) (now (a .entry)) (now (b .entry)) (now (circuits .entry)) (now («length_km» .entry)) (now (share .entry)) (now (cap .entry)) (now (sheet .entry)))) ⌝ }
-    ensures tables { λ r. ⌜ placesOf (now (ladder .exit)) (now (tier .exit)) (now (load .exit)) (now («generator_bus» .exit)) (now (slack .exit)) (now (pmin .exit)) (now (pmax .exit)) (now (c1 .exit)) (now (c2 .exit)) (now (a .exit)) (now (b .exit)) (now (circuits .exit)) (now («length_km» .exit)) (now (share .exit)) (now (cap .exit)) (now (sheet .exit)) ≡ readCase (now (file .entry)) (placesOf (now (ladder .entry)) (now (tier .entry)) (now (load .entry)) (now («generator_bus» .entry)) (now (slack .entry)) (now (pmin .entry)) (now (pmax .entry)) (now (c1 .entry)) (now (c2 .entry)) (now (a .entry)) (now (b .entry)) (now (circuits .entry)) (now («length_km» .entry)) (now (share .entry)) (now (cap .entry)) (now (sheet .entry))) .places ⌝ }
+    ensures said { λ r. ⌜ r ≡ caseSaid (readCase (now (file .entry)) (placesOf (now (ladder .entry)) (now (tier .entry)) (now (reading .entry)) (now (weight .entry)) (now («generator_bus» .entry)) (now (slack .entry)) (now (pmin .entry)) (now (pmax .entry)) (now (c1 .entry)) (now (c2 .entry)) (now (a .entry)) (now (b .entry)) (now (circuits .entry)) (now («length_km» .entry)) (now (share .entry)) (now (cap .entry)) (now (sheet .entry)))) ⌝ }
+    ensures tables { λ r. ⌜ placesOf (now (ladder .exit)) (now (tier .exit)) (now (reading .exit)) (now (weight .exit)) (now («generator_bus» .exit)) (now (slack .exit)) (now (pmin .exit)) (now (pmax .exit)) (now (c1 .exit)) (now (c2 .exit)) (now (a .exit)) (now (b .exit)) (now (circuits .exit)) (now («length_km» .exit)) (now (share .exit)) (now (cap .exit)) (now (sheet .exit)) ≡ readCase (now (file .entry)) (placesOf (now (ladder .entry)) (now (tier .entry)) (now (reading .entry)) (now (weight .entry)) (now («generator_bus» .entry)) (now (slack .entry)) (now (pmin .entry)) (now (pmax .entry)) (now (c1 .entry)) (now (c2 .entry)) (now (a .entry)) (now (b .entry)) (now (circuits .entry)) (now («length_km» .entry)) (now (share .entry)) (now (cap .entry)) (now (sheet .entry))) .places ⌝ }
 {
     said::reading(casefile::read_case(
         file,
         ladder,
         tier,
-        load,
+        reading,
+        weight,
         generator_bus,
         slack,
         pmin,
@@ -189,7 +191,8 @@ pub extern "C" fn lopnaski_place_voltage_support(
     n: usize,
     m: usize,
     g: usize,
-    loads: &[f64],
+    reading: &[f64],
+    weight: &[f64],
     a: &[u32],
     b: &[u32],
     km: &[f64],
@@ -197,15 +200,16 @@ pub extern "C" fn lopnaski_place_voltage_support(
     buses: &mut [u32],
     mvars: &mut [f64],
 ) -> PlacementSaid
-    ensures said { λ r. ⌜ r ≡ placementSaid (placement (asked.requestOf n m g (now (loads .entry)) (now (a .entry)) (now (b .entry)) (now (km .entry)) (now (generators .entry))) (now (buses .entry)) (now (mvars .entry)) .reply) ⌝ }
-    ensures stand { λ r. ⌜ now (buses .exit) ≡ placement (asked.requestOf n m g (now (loads .entry)) (now (a .entry)) (now (b .entry)) (now (km .entry)) (now (generators .entry))) (now (buses .entry)) (now (mvars .entry)) .buses ⌝ }
-    ensures sized { λ r. ⌜ now (mvars .exit) ≡ placement (asked.requestOf n m g (now (loads .entry)) (now (a .entry)) (now (b .entry)) (now (km .entry)) (now (generators .entry))) (now (buses .entry)) (now (mvars .entry)) .mvars ⌝ }
+    ensures said { λ r. ⌜ r ≡ placementSaid (placement (asked.requestOf n m g (now (reading .entry)) (now (weight .entry)) (now (a .entry)) (now (b .entry)) (now (km .entry)) (now (generators .entry))) (now (buses .entry)) (now (mvars .entry)) .reply) ⌝ }
+    ensures stand { λ r. ⌜ now (buses .exit) ≡ placement (asked.requestOf n m g (now (reading .entry)) (now (weight .entry)) (now (a .entry)) (now (b .entry)) (now (km .entry)) (now (generators .entry))) (now (buses .entry)) (now (mvars .entry)) .buses ⌝ }
+    ensures sized { λ r. ⌜ now (mvars .exit) ≡ placement (asked.requestOf n m g (now (reading .entry)) (now (weight .entry)) (now (a .entry)) (now (b .entry)) (now (km .entry)) (now (generators .entry))) (now (buses .entry)) (now (mvars .entry)) .mvars ⌝ }
 {
     said::placement(placement::place_voltage_support(
         n,
         m,
         g,
-        loads,
+        reading,
+        weight,
         a,
         b,
         km,

@@ -11,7 +11,8 @@ use native.Mathlib.Omega.{arith}
 use borrow.Author.Tests.{ltb-true, ltb-false, leb-true, eqb-true}
 use lib.Dec.{ltb, leb, eqb}
 use lib.ListN.{length, getD, List·getD-eq-default}
-use Rattle.loops.specs.Figures.{at, nought, one, half, tenThousand, inside}
+use lib.Ieee.{lt, le}
+use Rattle.loops.specs.Figures.{at, nought, one, half, thousand, tenThousand, million, inside}
 use Rattle.loops.specs.Loops.{first}
 use Rattle.loops.proofs.Bools.{both}
 use Rattle.loops.proofs.Scan.{all-pass}
@@ -21,7 +22,7 @@ use Rattle.refusal.specs.declared.Refusal.the-variants.{Length, Count, Level, B
 use Rattle.leaders.specs.Operation.{Ends, corridorOk}
 use Rattle.dispatch.specs.Units.{unitOk}
 use Rattle.plan_defs.specs.Constants.{mostBuses, mostCorridors, mostGenerators, mostLevels, mostTarget, mostInitial, mostCap, rowFigures}
-use Rattle.plan_defs.specs.Case.{Case, levels, endA, endB, ownOr, ownCap, higherA, fromOf, toOf, firstLevels, rowPlace, rowAt}
+use Rattle.plan_defs.specs.Case.{Case, levels, loadOf, endA, endB, ownOr, ownCap, higherA, fromOf, toOf, firstLevels, rowPlace, rowAt}
 use Rattle.plan_defs.specs.Accept.{lengthsOk, countsOk, levelOk, busOk, generatorOk, corridorSound, rowOk, rowSound, firstFault, tablesFault, caseFault}
 
 -- where an own cap and the usual one are at most 6, so is the one that is taken
@@ -32,6 +33,8 @@ own-few (suc own) usual h u = h
 pub record Columns (c : Case) : Type 0 where
   pub ladder : length (c .ladder) ≡ levels c
   pub tier : length (c .tier) ≡ c .buses
+  pub reading : length (c .reading) ≡ c .buses
+  pub weight : length (c .weight) ≡ c .buses
   pub load : length (c .load) ≡ c .buses
   pub bus : length (c .bus) ≡ c .generators
   pub slack : length (c .slack) ≡ c .generators
@@ -82,36 +85,40 @@ module _ (c : Case) where
   columns-of h =
       let h₁ = both (eqb (length (c .ladder)) (levels c)) _ h in
       let h₂ = both (eqb (length (c .tier)) (c .buses)) _ (h₁ .1) in
-      let h₃ = both (eqb (length (c .load)) (c .buses)) _ (h₂ .1) in
-      let h₄ = both (eqb (length (c .bus)) (c .generators)) _ (h₃ .1) in
-      let h₅ = both (eqb (length (c .slack)) (c .generators)) _ (h₄ .1) in
-      let h₆ = both (eqb (length (c .pmin)) (c .generators)) _ (h₅ .1) in
-      let h₇ = both (eqb (length (c .pmax)) (c .generators)) _ (h₆ .1) in
-      let h₈ = both (eqb (length (c .c1)) (c .generators)) _ (h₇ .1) in
-      let h₉ = both (eqb (length (c .c2)) (c .generators)) _ (h₈ .1) in
-      let g₁ = both (eqb (length (c .a)) (c .corridors)) _ (h₉ .1) in
-      let g₂ = both (eqb (length (c .b)) (c .corridors)) _ (g₁ .1) in
-      let g₃ = both (eqb (length (c .circuits)) (c .corridors)) _ (g₂ .1) in
-      let g₄ = both (eqb (length (c .km)) (c .corridors)) _ (g₃ .1) in
-      let g₅ = both (eqb (length (c .share)) (c .corridors)) _ (g₄ .1) in
-      let g₆ = both (eqb (length (c .cap)) (c .corridors)) _ (g₅ .1) in
+      let h₃ = both (eqb (length (c .reading)) (c .buses)) _ (h₂ .1) in
+      let h₄ = both (eqb (length (c .weight)) (c .buses)) _ (h₃ .1) in
+      let h₅ = both (eqb (length (c .load)) (c .buses)) _ (h₄ .1) in
+      let h₆ = both (eqb (length (c .bus)) (c .generators)) _ (h₅ .1) in
+      let h₇ = both (eqb (length (c .slack)) (c .generators)) _ (h₆ .1) in
+      let h₈ = both (eqb (length (c .pmin)) (c .generators)) _ (h₇ .1) in
+      let h₉ = both (eqb (length (c .pmax)) (c .generators)) _ (h₈ .1) in
+      let g₁ = both (eqb (length (c .c1)) (c .generators)) _ (h₉ .1) in
+      let g₂ = both (eqb (length (c .c2)) (c .generators)) _ (g₁ .1) in
+      let g₃ = both (eqb (length (c .a)) (c .corridors)) _ (g₂ .1) in
+      let g₄ = both (eqb (length (c .b)) (c .corridors)) _ (g₃ .1) in
+      let g₅ = both (eqb (length (c .circuits)) (c .corridors)) _ (g₄ .1) in
+      let g₆ = both (eqb (length (c .km)) (c .corridors)) _ (g₅ .1) in
+      let g₇ = both (eqb (length (c .share)) (c .corridors)) _ (g₆ .1) in
+      let g₈ = both (eqb (length (c .cap)) (c .corridors)) _ (g₇ .1) in
       record {
         ladder = eqb-true _ _ (h₁ .0);
         tier = eqb-true _ _ (h₂ .0);
-        load = eqb-true _ _ (h₃ .0);
-        bus = eqb-true _ _ (h₄ .0);
-        slack = eqb-true _ _ (h₅ .0);
-        pmin = eqb-true _ _ (h₆ .0);
-        pmax = eqb-true _ _ (h₇ .0);
-        c1 = eqb-true _ _ (h₈ .0);
-        c2 = eqb-true _ _ (h₉ .0);
-        a = eqb-true _ _ (g₁ .0);
-        b = eqb-true _ _ (g₂ .0);
-        circuits = eqb-true _ _ (g₃ .0);
-        km = eqb-true _ _ (g₄ .0);
-        share = eqb-true _ _ (g₅ .0);
-        cap = eqb-true _ _ (g₆ .0);
-        sheet = eqb-true _ _ (g₆ .1);
+        reading = eqb-true _ _ (h₃ .0);
+        weight = eqb-true _ _ (h₄ .0);
+        load = eqb-true _ _ (h₅ .0);
+        bus = eqb-true _ _ (h₆ .0);
+        slack = eqb-true _ _ (h₇ .0);
+        pmin = eqb-true _ _ (h₈ .0);
+        pmax = eqb-true _ _ (h₉ .0);
+        c1 = eqb-true _ _ (g₁ .0);
+        c2 = eqb-true _ _ (g₂ .0);
+        a = eqb-true _ _ (g₃ .0);
+        b = eqb-true _ _ (g₄ .0);
+        circuits = eqb-true _ _ (g₅ .0);
+        km = eqb-true _ _ (g₆ .0);
+        share = eqb-true _ _ (g₇ .0);
+        cap = eqb-true _ _ (g₈ .0);
+        sheet = eqb-true _ _ (g₈ .1);
       }
 
   pub counts-of : (target : ℕ) → countsOk c target ≡ true → Counts c target
@@ -202,6 +209,12 @@ module _ (c : Case) (target : ℕ) (ok : Accepted c target) where
   pub tier-below : (i : ℕ) → i < c .buses → getD (c .tier) i 0 < c .requested
   unfolding busOk
   tier-below i h = ltb-true _ _ (both (ltb (getD (c .tier) i 0) (c .requested)) _ (ok .bus-ok i h) .0)
+
+  pub load-inside : (i : ℕ) → i < c .buses → inside nought million (loadOf c i) ≡ true
+  unfolding busOk
+  load-inside i h =
+      let p = both (ltb (getD (c .tier) i 0) (c .requested)) _ (ok .bus-ok i h) .1 in
+      both (lt nought (at (c .weight) i) && le (at (c .weight) i) thousand) _ (both (inside nought million (at (c .reading) i)) _ p .1) .1
 
   pub initial-few : (k : ℕ) → k < c .corridors → getD (c .circuits) k 0 ≤ mostInitial
   unfolding corridorSound

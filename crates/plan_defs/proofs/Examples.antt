@@ -14,7 +14,7 @@ use Rattle.refusal.specs.Reply.{Reply, answered, refused}
 use Rattle.dispatch.specs.Units.{Units, unitsOf}
 use Rattle.plan_defs.specs.Lists.{each}
 use Rattle.plan_defs.specs.TopUp.{givenBy}
-use Rattle.plan_defs.specs.Case.{Case, caseOf, rowOf, topsUp}
+use Rattle.plan_defs.specs.Case.{Case, surveyed, rowOf, topsUp}
 use Rattle.plan_defs.specs.Design.{lineOf, setTransformerMva, keptBank}
 use Rattle.plan_defs.specs.Raise.{noMarks, markEnds, raisedLevels, movedBuses}
 use Rattle.plan_defs.specs.Build.{built}
@@ -29,9 +29,12 @@ use Rattle.plan_defs.specs.declared.CircuitDesign.{CircuitDesign}
 abbrev whole : ℕ → Float
 whole n = decimal n 1
 
+abbrev ones : ℕ → List Float
+ones n = replicate n one
+
 -- three buses in a row, at these tiers of four
 abbrev row : List ℕ → Case
-row tiers = caseOf Expand 3 2 0 0 4 [] tiers [] [] [] [] [] [] [] (0 ∷ 1 ∷ []) (1 ∷ 2 ∷ []) (1 ∷ 1 ∷ []) [] [] [] []
+row tiers = surveyed Expand 3 2 0 0 4 [] tiers [] [] [] [] [] [] [] [] (0 ∷ 1 ∷ []) (1 ∷ 2 ∷ []) (1 ∷ 1 ∷ []) [] [] [] []
 
 -- Both ends go to the level above the higher one, not each up by one; of two marks the higher level wins.
 abbrev bothMarked : List ℕ → List ℕ
@@ -103,7 +106,7 @@ figures bits = map (ofBits binary64) bits
 -- HD 0 4 2 1 1 0 1; LV 138; BU 0 0, 0 200; GE 0 1 0 300 20 0.25; CO 0 1 1 10 1; LN 0 0.0625 0 100 0
 abbrev expanded : Case
 expanded =
-    caseOf Expand 2 1 1 0 1 (whole 138 ∷ []) (0 ∷ 0 ∷ []) (nought ∷ whole 200 ∷ []) (0 ∷ []) (1 ∷ []) (nought ∷ []) (whole 300 ∷ []) (whole 20 ∷ []) (decimal 1 4 ∷ [])
+    surveyed Expand 2 1 1 0 1 (whole 138 ∷ []) (0 ∷ 0 ∷ []) (nought ∷ whole 200 ∷ []) (ones 2) (0 ∷ []) (1 ∷ []) (nought ∷ []) (whole 300 ∷ []) (whole 20 ∷ []) (decimal 1 4 ∷ [])
     (0 ∷ []) (1 ∷ []) (1 ∷ []) (whole 10 ∷ []) (one ∷ []) (0 ∷ []) (nought ∷ decimal 1 16 ∷ nought ∷ hundred ∷ nought ∷ [])
 
 pub circuits-added :
@@ -118,7 +121,7 @@ circuits-added = refl
 -- HD 1 0 3 2 1 0 2; LV 345, 138; BU 0 0, 1 0, 1 4212.304191654775; GE 0 0 0 1000000 20 0.01; CO 0 1 7 10 0.5814084460531092, 1 2 1 10 1; LN 0 0.0004378194579937841 0 20000 0, four times
 abbrev reinforced : Case
 reinforced =
-    caseOf Reinforce 3 2 1 0 2 (figures (0x4075_9000_0000_0000 ∷ 0x4061_4000_0000_0000 ∷ [])) (0 ∷ 1 ∷ 1 ∷ []) (figures (0 ∷ 0 ∷ 0x40B0_744D_DF81_18FA ∷ []))
+    surveyed Reinforce 3 2 1 0 2 (figures (0x4075_9000_0000_0000 ∷ 0x4061_4000_0000_0000 ∷ [])) (0 ∷ 1 ∷ 1 ∷ []) (figures (0 ∷ 0 ∷ 0x40B0_744D_DF81_18FA ∷ [])) (ones 3)
     (0 ∷ []) (0 ∷ []) (nought ∷ []) (figures (0x412E_8480_0000_0000 ∷ [])) (figures (0x4034_0000_0000_0000 ∷ [])) (figures (0x3F84_7AE1_47AE_147B ∷ []))
     (0 ∷ 1 ∷ []) (1 ∷ 2 ∷ []) (7 ∷ 1 ∷ []) (whole 10 ∷ whole 10 ∷ []) (figures (0x3FE2_9AE5_E2AD_5233 ∷ 0x3FF0_0000_0000_0000 ∷ []))
     (0 ∷ 0 ∷ [])
@@ -136,9 +139,6 @@ sized-again = refl
 
 -- What stood in the lent slices does not matter, work is zero after the answer, and so is what is kept of filling, since the mode does not fill: here every
 -- place is lent with a one.
-abbrev ones : ℕ → List Float
-ones n = replicate n one
-
 abbrev lentWithOnes : Slices
 lentWithOnes =
     slices (replicate 2 1) (ones 2) (ones 2) (replicate 2 1) (replicate 2 1) (replicate 2 1) (ones 1) (ones 3) (replicate 3 1) (replicate 3 1) [] (ones 72) (replicate 72 1)
@@ -191,7 +191,7 @@ sample-listed = refl
 -- HD 0 5 2 2 1 0 1; LV 138; BU 0 0, 0 200; GE 0 1 0 300 20 0.25; CO 0 1 1 10 1, twice; LN 0 0.125 0 100 0, 0 0.0625 0 100 0
 abbrev beside : Case
 beside =
-    caseOf Expand 2 2 1 0 1 (whole 138 ∷ []) (0 ∷ 0 ∷ []) (nought ∷ whole 200 ∷ []) (0 ∷ []) (1 ∷ []) (nought ∷ []) (whole 300 ∷ []) (whole 20 ∷ []) (decimal 1 4 ∷ [])
+    surveyed Expand 2 2 1 0 1 (whole 138 ∷ []) (0 ∷ 0 ∷ []) (nought ∷ whole 200 ∷ []) (ones 2) (0 ∷ []) (1 ∷ []) (nought ∷ []) (whole 300 ∷ []) (whole 20 ∷ []) (decimal 1 4 ∷ [])
     (0 ∷ 0 ∷ []) (1 ∷ 1 ∷ []) (1 ∷ 1 ∷ []) (whole 10 ∷ whole 10 ∷ []) (one ∷ one ∷ []) (0 ∷ 0 ∷ [])
     (nought ∷ decimal 1 8 ∷ nought ∷ hundred ∷ nought ∷ nought ∷ decimal 1 16 ∷ nought ∷ hundred ∷ nought ∷ [])
 
@@ -305,7 +305,7 @@ ends-below = refl
 -- HD mode 4 2 1 1 0 1; LV 138; BU 0 0, 0 50; GE 0 1 0 100 20 0; CO 0 1 1 10 1; LN 0 0.5 0 100 0
 abbrev flatCost : PlanMode → Case
 flatCost mode =
-    caseOf mode 2 1 1 0 1 (whole 138 ∷ []) (0 ∷ 0 ∷ []) (nought ∷ whole 50 ∷ []) (0 ∷ []) (1 ∷ []) (nought ∷ []) (hundred ∷ []) (whole 20 ∷ []) (nought ∷ [])
+    surveyed mode 2 1 1 0 1 (whole 138 ∷ []) (0 ∷ 0 ∷ []) (nought ∷ whole 50 ∷ []) (ones 2) (0 ∷ []) (1 ∷ []) (nought ∷ []) (hundred ∷ []) (whole 20 ∷ []) (nought ∷ [])
     (0 ∷ []) (1 ∷ []) (1 ∷ []) (whole 10 ∷ []) (one ∷ []) (0 ∷ []) (nought ∷ half ∷ nought ∷ hundred ∷ nought ∷ [])
 
 -- what is listed of its plan, the MW of the unit and the circuits among it

@@ -12,3 +12,4 @@ pub mod Rounds
 pub mod Opened
 pub mod Examples
 pub mod OwnCaps
+pub mod Weights

@@ -10,7 +10,7 @@ use lib.Ieee.{Float}
 use Rattle.loops.specs.Figures.{nought, one, two, hundred, million, decimal}
 use Rattle.mode.specs.declared.PlanMode.{PlanMode}
 use Rattle.mode.specs.declared.PlanMode.the-variants.{Expand, Reinforce, Observe}
-use Rattle.plan_defs.specs.Case.{Case, caseOf, fullAt}
+use Rattle.plan_defs.specs.Case.{Case, surveyed, fullAt}
 use Rattle.plan_defs.specs.Build.{built}
 use Rattle.plan_defs.specs.Stiffen.{Budget, stiff, stiffenOne}
 use Rattle.plan_defs.specs.Demand.{circuitsAt, fillerAt, Even}
@@ -29,7 +29,7 @@ said l = getD l 0 [] ∷ getD l 6 [] ∷ []
 -- HD mode target 2 1 1 0 1; LV 138; BU 0 0, 0 200; GE 0 1 0 300 20 0.25; CP 0 1 initial 10 1 cap; LN 0 0.0625 0 100 0
 abbrev valley : PlanMode → ℕ → ℕ → Case
 valley mode initial cap =
-    caseOf mode 2 1 1 0 1 (whole 138 ∷ []) (0 ∷ 0 ∷ []) (nought ∷ whole 200 ∷ []) (0 ∷ []) (1 ∷ []) (nought ∷ []) (whole 300 ∷ []) (whole 20 ∷ []) (decimal 1 4 ∷ [])
+    surveyed mode 2 1 1 0 1 (whole 138 ∷ []) (0 ∷ 0 ∷ []) (nought ∷ whole 200 ∷ []) (replicate 2 one) (0 ∷ []) (1 ∷ []) (nought ∷ []) (whole 300 ∷ []) (whole 20 ∷ []) (decimal 1 4 ∷ [])
     (0 ∷ []) (1 ∷ []) (initial ∷ []) (whole 10 ∷ []) (one ∷ []) (cap ∷ []) (nought ∷ decimal 1 16 ∷ nought ∷ hundred ∷ nought ∷ [])
 
 -- Sizing stops at a cap of 2, the plan has not converged and the corridor counts as capped, and filling adds nothing; with a cap of 6 it is sized to 3 and filled
@@ -63,7 +63,7 @@ caps-kept = refl
 -- HD 0 0 3 2 1 0 1; LV 138; BU 0 0, 0 0, 0 50; GE 0 1 0 100 20 0.25; CP 0 1 1 10 1 cap, CP 1 2 1 10 1 0; LN 0 2 0 1000000 0, 0 1 0 1000000 0
 abbrev stretched : ℕ → Case
 stretched cap =
-    caseOf Expand 3 2 1 0 1 (whole 138 ∷ []) (0 ∷ 0 ∷ 0 ∷ []) (nought ∷ nought ∷ whole 50 ∷ []) (0 ∷ []) (1 ∷ []) (nought ∷ []) (hundred ∷ []) (whole 20 ∷ [])
+    surveyed Expand 3 2 1 0 1 (whole 138 ∷ []) (0 ∷ 0 ∷ 0 ∷ []) (nought ∷ nought ∷ whole 50 ∷ []) (replicate 3 one) (0 ∷ []) (1 ∷ []) (nought ∷ []) (hundred ∷ []) (whole 20 ∷ [])
     (decimal 1 4 ∷ []) (0 ∷ 1 ∷ []) (1 ∷ 2 ∷ []) (1 ∷ 1 ∷ []) (whole 10 ∷ whole 10 ∷ []) (one ∷ one ∷ []) (cap ∷ 0 ∷ [])
     (nought ∷ two ∷ nought ∷ million ∷ nought ∷ nought ∷ one ∷ nought ∷ million ∷ nought ∷ [])
 
@@ -87,7 +87,7 @@ stiffened-below = refl
 -- Two corridors beside each other, filled to a total of 4: the first is at its cap of 1, the second has 3 of 6. Their fillers differ by two, which the clause
 -- allows, since the first has no room.
 abbrev beside : Case
-beside = caseOf Expand 2 2 0 0 1 (whole 138 ∷ []) (0 ∷ 0 ∷ []) [] [] [] [] [] [] [] (0 ∷ 0 ∷ []) (1 ∷ 1 ∷ []) (1 ∷ 1 ∷ []) [] [] (1 ∷ 6 ∷ []) []
+beside = surveyed Expand 2 2 0 0 1 (whole 138 ∷ []) (0 ∷ 0 ∷ []) [] [] [] [] [] [] [] [] (0 ∷ 0 ∷ []) (1 ∷ 1 ∷ []) (1 ∷ 1 ∷ []) [] [] (1 ∷ 6 ∷ []) []
 
 pub even-beside : (p : Plan) → p .circuits ≡ 1 ∷ 3 ∷ [] → Even beside p
 unfolding fullAt

@@ -8,6 +8,7 @@ use lib.ListN.{length, getD}
 use lib.Ieee.{eq, lt, le}
 use Rattle.loops.specs.Figures.{plus, at, nought, one, half, tenThousand, million, thousandth, finite, inside}
 use Rattle.loops.specs.Loops.{first}
+use Rattle.loads.specs.Load.{loadOk}
 use Rattle.refusal.specs.declared.Refusal.{Refusal}
 use Rattle.refusal.specs.declared.Refusal.the-variants.{Length, Count, Level, Bus, Generator, Corridor, Row as SheetRow}
 use Rattle.leaders.specs.Operation.{corridorOk}
@@ -20,6 +21,8 @@ unfoldable pub lengthsOk : Case → Bool
 lengthsOk c =
     eqb (length (c .ladder)) (levels c)
     && (eqb (length (c .tier)) (c .buses)
+    && (eqb (length (c .reading)) (c .buses)
+    && (eqb (length (c .weight)) (c .buses)
     && (eqb (length (c .load)) (c .buses)
     && (eqb (length (c .bus)) (c .generators)
     && (eqb (length (c .slack)) (c .generators)
@@ -33,7 +36,7 @@ lengthsOk c =
     && (eqb (length (c .km)) (c .corridors)
     && (eqb (length (c .share)) (c .corridors)
     && (eqb (length (c .cap)) (c .corridors)
-    && eqb (length (c .sheet)) (rowFigures * (c .corridors * levels c))))))))))))))))
+    && eqb (length (c .sheet)) (rowFigures * (c .corridors * levels c))))))))))))))))))
 
 -- ---- 2
 unfoldable pub countsOk : Case → ℕ → Bool
@@ -51,9 +54,9 @@ levelOk c i =
     (lt nought (at (c .ladder) i) && le (at (c .ladder) i) tenThousand)
     && (leb (levels c) (i + 1) || lt (plus (at (c .ladder) (i + 1)) kvTolerance) (at (c .ladder) i))
 
--- ---- 4: a tier among the requested levels; load 0 to 1e6
+-- ---- 4: a tier among the requested levels; reading, weight and load within their bounds
 unfoldable pub busOk : Case → ℕ → Bool
-busOk c i = ltb (getD (c .tier) i 0) (c .requested) && inside nought million (loadOf c i)
+busOk c i = ltb (getD (c .tier) i 0) (c .requested) && loadOk (at (c .reading) i) (at (c .weight) i) (loadOf c i)
 
 -- ---- 5: an existing bus, slack 0 or 1; limits and costs as dispatch has them
 unfoldable pub generatorOk : Case → ℕ → Bool

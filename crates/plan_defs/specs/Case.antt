@@ -7,6 +7,7 @@ use lib.ListN.{getD}
 use lib.Ieee.{Float, lt, le}
 use Rattle.loops.specs.Figures.{at}
 use Rattle.loops.specs.Loops.{tab}
+use Rattle.loads.specs.Load.{loadsOf}
 use Rattle.mode.specs.declared.PlanMode.{PlanMode}
 use Rattle.mode.specs.declared.PlanMode.the-variants.{Expand, Reinforce, Observe, ExpandServing, ReinforceServing, ObserveServing}
 use Rattle.plan_defs.specs.Constants.{subtransmissionKv, subtransmissionMaxCircuits, maxCircuitsPerCorridor, rowFigures}
@@ -21,8 +22,10 @@ pub record Case : Type 0 where
   pub requested : ℕ
   -- kV of the levels, those above first
   pub ladder : List Float
-  -- of a bus: its tier among the requested levels, and its load in MW
+  -- of a bus: its tier among the requested levels, the reading that was called, its weight, and its load in MW
   pub tier : List ℕ
+  pub reading : List Float
+  pub weight : List Float
   pub load : List Float
   -- of a generator
   pub bus : List ℕ
@@ -42,9 +45,9 @@ pub record Case : Type 0 where
   -- the line sheet, five figures to a row
   pub sheet : List Float
 
-abbrev pub caseOf : PlanMode → ℕ → ℕ → ℕ → ℕ → ℕ → List Float → List ℕ → List Float → List ℕ → List ℕ → List Float → List Float → List Float → List Float
-    → List ℕ → List ℕ → List ℕ → List Float → List Float → List ℕ → List Float → Case
-caseOf mode buses corridors generators above requested ladder tier load bus slack pmin pmax c1 c2 a b circuits km share cap sheet =
+abbrev pub caseOf : PlanMode → ℕ → ℕ → ℕ → ℕ → ℕ → List Float → List ℕ → List Float → List Float → List Float → List ℕ → List ℕ → List Float → List Float → List Float
+    → List Float → List ℕ → List ℕ → List ℕ → List Float → List Float → List ℕ → List Float → Case
+caseOf mode buses corridors generators above requested ladder tier reading weight load bus slack pmin pmax c1 c2 a b circuits km share cap sheet =
     record {
       mode = mode;
       buses = buses;
@@ -54,6 +57,8 @@ caseOf mode buses corridors generators above requested ladder tier load bus slac
       requested = requested;
       ladder = ladder;
       tier = tier;
+      reading = reading;
+      weight = weight;
       load = load;
       bus = bus;
       slack = slack;
@@ -69,6 +74,12 @@ caseOf mode buses corridors generators above requested ladder tier load bus slac
       cap = cap;
       sheet = sheet;
     }
+
+-- the case of tables as they are handed in: each load is the reading times the weight (document 02, K6)
+abbrev pub surveyed : PlanMode → ℕ → ℕ → ℕ → ℕ → ℕ → List Float → List ℕ → List Float → List Float → List ℕ → List ℕ → List Float → List Float → List Float → List Float
+    → List ℕ → List ℕ → List ℕ → List Float → List Float → List ℕ → List Float → Case
+surveyed mode buses corridors generators above requested ladder tier reading weight bus slack pmin pmax c1 c2 a b circuits km share cap sheet =
+    caseOf mode buses corridors generators above requested ladder tier reading weight (loadsOf buses reading weight) bus slack pmin pmax c1 c2 a b circuits km share cap sheet
 
 -- ---- seam: what a mode does. `expand`: it may add circuits and banks. `promote`: it counts as Expand, and may also raise buses, stiffen and fill.
 -- `topsUp`: idle units serve what the dispatch leaves of the demand (document 02, K4)

@@ -6,20 +6,19 @@ use mathlib.Core.List.{List, [], _∷_}
 use mathlib.Core.Path.{_≡_, refl, sym, ap, _∙_, subst}
 use native.Mathlib.Nat.{suc-mul, mul-le-mul-right, lt-of-le-of-lt, le-trans}
 use native.Mathlib.Omega.{arith}
-use lib.Dec.{T, ltb, lit<}
+use lib.Dec.{T, lit<}
 use lib.ListN.{length, getD}
 use lib.Ieee.{Float, le, ofBits, round}
 use lib.Ieee.Positive.{den}
-use Rattle.loops.specs.Figures.{plus, nought, million, billion, inside}
+use Rattle.loops.specs.Figures.{plus, nought, million, billion}
 use Rattle.loops.proofs.Bools.{is, both, and-of}
 use Rattle.loops.proofs.Signs.{sound-of}
 use Rattle.loops.proofs.Sums.{unsigned, Term, plus-unsigned, nought-least}
 use Rattle.loops.proofs.Wholes.{whole, Few, few-plus, few-within, of-few}
 use Rattle.dispatch.specs.Operation.{demandOk}
 use Rattle.plan_defs.specs.Lists.{each, sumOver}
-use Rattle.plan_defs.specs.Accept.{busOk}
 use Rattle.plan_defs.specs.Case.{Case, loadOf}
-use Rattle.plan_defs.proofs.Accepted.{Accepted}
+use Rattle.plan_defs.proofs.Accepted.{Accepted, load-inside}
 use Rattle.plan_theorems.proofs.Dispatched.{load-bounded}
 
 -- the tables' bounds as whole numbers
@@ -50,13 +49,9 @@ module _ (f : ℕ → Float) (b : ℕ) where
       (sum-few ks (λ j l. h (suc j) (suc-le-suc l)) (a + b) (plus s (f k)) q (omega arith))
 
 module _ (c : Case) (target : ℕ) (ok : Accepted c target) where
-  load-inside : (i : ℕ) → i < c .buses → inside nought million (loadOf c i) ≡ true
-  unfolding busOk
-  load-inside i h = both (ltb (getD (c .tier) i 0) (c .requested)) _ (ok .bus-ok i h) .1
-
   load-term : (i : ℕ) → i < c .buses → Term (loadOf c i) × Few 1_000_000 (loadOf c i)
   load-term i h =
-      let p = both (le nought (loadOf c i)) (le (loadOf c i) million) (load-inside i h) in
+      let p = both (le nought (loadOf c i)) (le (loadOf c i) million) (load-inside c target ok i h) in
       let s = sound-of (loadOf c i) (p .0) in
       ((s, load-bounded c target ok i h), few-within 1_000_000 (loadOf c i) s (lit< tt) (is (ap (le (loadOf c i)) (sym million-is) ∙ p .1)))
 

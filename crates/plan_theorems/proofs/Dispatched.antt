@@ -14,7 +14,7 @@ use lib.Ieee.{Float, nan, binary64, fits, ofBits}
 use lib.ListN.{length, getD, set, length-set, length-map, replicate, length-replicate}
 use lib.Seq.{getD-set-same, getD-set-other, set-out}
 use Rattle.loops.specs.Figures.{at, plus, nought, million, inside}
-use Rattle.loops.proofs.Bools.{both, and-of}
+use Rattle.loops.proofs.Bools.{and-of}
 use Rattle.loops.proofs.Loops.{iter-carries}
 use Rattle.loops.proofs.Order.{real, bounded, inside-bounded}
 use Rattle.loops.proofs.Signs.{real-add}
@@ -28,12 +28,11 @@ use Rattle.plan_defs.specs.Lists.{each}
 use Rattle.plan_defs.specs.Stage.{Stage, stopped, going, eachStage}
 use Rattle.plan_defs.specs.Case.{Case, topsUp, loadOf}
 use Rattle.plan_defs.specs.TopUp.{givenBy}
-use Rattle.plan_defs.specs.Accept.{busOk}
 use Rattle.plan_defs.specs.Components.{component, leads, roots, within, members, unitWithin, unitsIn}
 use Rattle.plan_defs.specs.Dispatch.{unitsAt, demandOf, scatterAt, scatter, servedIf, serve, dispatchOf}
 use Rattle.plan_defs.proofs.Lists.{each-below, pass-below, pass-has, Has, get-map}
 use Rattle.plan_defs.proofs.Stages.{On, on-onward}
-use Rattle.plan_defs.proofs.Accepted.{Accepted, ends, bus-below, unit-ok}
+use Rattle.plan_defs.proofs.Accepted.{Accepted, ends, bus-below, unit-ok, load-inside}
 use Rattle.plan_theorems.proofs.ToppedUp.{given-within}
 
 -- ---- each output to its unit's place, where P says what a unit's output may be
@@ -127,8 +126,8 @@ module _ (c : Case) (target : ℕ) (ok : Accepted c target) where
 
   -- ---- a component's load is no NaN
   pub load-bounded : (i : ℕ) → i < c .buses → T (bounded (loadOf c i))
-  unfolding busOk ofBits
-  load-bounded i h = inside-bounded nought million (loadOf c i) tt tt (both (ltb (getD (c .tier) i 0) (c .requested)) _ (ok .bus-ok i h) .1)
+  unfolding ofBits
+  load-bounded i h = inside-bounded nought million (loadOf c i) tt tt (load-inside c target ok i h)
 
   demand-real : (ks : List ℕ) → ((j : ℕ) → j < length ks → getD ks j 0 < c .buses) → T (real (each (λ k s. plus s (loadOf c k)) ks nought))
   unfolding ofBits

@@ -13,6 +13,7 @@ pub mod Larger
 pub mod Naming
 pub mod Preview
 pub mod Uncapped
+pub mod Unweighed
 pub mod Outcomes
 pub mod Joined
 pub mod Demanded

@@ -35,7 +35,7 @@ in-table a e = omega arith
 -- a part is lent by its end less its start, which is 0
 abbrev pub parts : Places → ℕ → ℕ → ℕ → ℕ → ℕ → Places
 parts p l n g m s =
-    placesOf (take l (p .ladder)) (take n (p .tier)) (take n (p .load)) (take g (p .bus)) (take g (p .slack)) (take g (p .pmin)) (take g (p .pmax)) (take g (p .c1))
+    placesOf (take l (p .ladder)) (take n (p .tier)) (take n (p .reading)) (take n (p .weight)) (take g (p .bus)) (take g (p .slack)) (take g (p .pmin)) (take g (p .pmax)) (take g (p .c1))
     (take g (p .c2)) (take m (p .a)) (take m (p .b)) (take m (p .circuits)) (take m (p .lengthKm)) (take m (p .share)) (take m (p .cap)) (take s (p .sheet))
 
 same-parts : (p : Places) {l n g m s l₀ n₀ g₀ m₀ s₀ : ℕ} → l ≡ l₀ → n ≡ n₀ → g ≡ g₀ → m ≡ m₀ → s ≡ s₀ → parts p l n g m s ≡ parts p l₀ n₀ g₀ m₀ s₀

@@ -13,7 +13,7 @@ use Rattle.casefile_defs.specs.declared.Header.{Header}
 use Rattle.casefile_defs.specs.declared.Reading.{Reading}
 use Rattle.casefile_defs.specs.declared.Reading.the-variants.{Read}
 use Rattle.casefile_defs.specs.declared.Reading.the-variants.{Refused as Unread}
-use Rattle.plan_defs.specs.Case.{Case, caseOf}
+use Rattle.plan_defs.specs.Case.{Case, surveyed}
 use Rattle.plan_defs.specs.Plan.{endingOf}
 use Rattle.plan_defs.specs.Outcome.{Slices, slices, cleared, Outcome, outcome, outcomeBy}
 use Rattle.plan_defs.specs.declared.Planned.the-variants.{Refused}
@@ -23,7 +23,7 @@ use Rattle.planned_files.specs.declared.PlannedFile.{PlannedFile}
 -- in tables of the header's counts
 abbrev pub caseAs : Header → Places → Case
 caseAs h p =
-    caseOf (h .mode) (h .buses) (h .corridors) (h .generators) (h .above) (h .requested) (p .ladder) (p .tier) (p .load) (p .bus) (p .slack) (p .pmin) (p .pmax)
+    surveyed (h .mode) (h .buses) (h .corridors) (h .generators) (h .above) (h .requested) (p .ladder) (p .tier) (p .reading) (p .weight) (p .bus) (p .slack) (p .pmin) (p .pmax)
     (p .c1) (p .c2) (p .a) (p .b) (p .circuits) (p .lengthKm) (p .share) (p .cap) (p .sheet)
 
 -- in tables of any size: of each the places of the header's records
@@ -32,7 +32,7 @@ caseIn h p =
     let n = h .buses in
     let g = h .generators in
     let m = h .corridors in
-    caseOf (h .mode) n m g (h .above) (h .requested) (take (levels h) (p .ladder)) (take n (p .tier)) (take n (p .load)) (take g (p .bus)) (take g (p .slack))
+    surveyed (h .mode) n m g (h .above) (h .requested) (take (levels h) (p .ladder)) (take n (p .tier)) (take n (p .reading)) (take n (p .weight)) (take g (p .bus)) (take g (p .slack))
     (take g (p .pmin)) (take g (p .pmax)) (take g (p .c1)) (take g (p .c2)) (take m (p .a)) (take m (p .b)) (take m (p .circuits)) (take m (p .lengthKm)) (take m (p .share))
     (take m (p .cap)) (take (lines h * rowFigures) (p .sheet))
 

@@ -77,7 +77,8 @@ fn plan_case(
     h: Header,
     ladder: &[f64],
     tier: &[u32],
-    load: &[f64],
+    reading: &[f64],
+    weight: &[f64],
     bus: &[u32],
     slack: &[u32],
     pmin: &[f64],
@@ -93,7 +94,7 @@ fn plan_case(
     sheet: &[f64],
 ) -> PlannedFile
     requires { ⌜ Small h ⌝ }
-    ensures planned { λ r. ⌜ filedOf r ≡ filed h (planOf (caseAs h (placesOf (now (ladder .entry)) (now (tier .entry)) (now (load .entry)) (now (bus .entry)) (now (slack .entry)) (now (pmin .entry)) (now (pmax .entry)) (now (c1 .entry)) (now (c2 .entry)) (now (a .entry)) (now (b .entry)) (now (initial .entry)) (now (km .entry)) (now (share .entry)) (now (cap .entry)) (now (sheet .entry)))) (h .target)) ⌝ }
+    ensures planned { λ r. ⌜ filedOf r ≡ filed h (planOf (caseAs h (placesOf (now (ladder .entry)) (now (tier .entry)) (now (reading .entry)) (now (weight .entry)) (now (bus .entry)) (now (slack .entry)) (now (pmin .entry)) (now (pmax .entry)) (now (c1 .entry)) (now (c2 .entry)) (now (a .entry)) (now (b .entry)) (now (initial .entry)) (now (km .entry)) (now (share .entry)) (now (cap .entry)) (now (sheet .entry)))) (h .target)) ⌝ }
     ensures small { λ r. ⌜ Small (r .header) ⌝ }
     ensures sized { λ r. ⌜ Sized r ⌝ }
 {
@@ -126,7 +127,8 @@ fn plan_case(
         h.requested,
         ladder,
         tier,
-        load,
+        reading,
+        weight,
         bus,
         slack,
         pmin,
@@ -179,7 +181,8 @@ pub fn plan_file(file: &[u8]) -> PlannedFile
 {
     let mut ladder = [0.0; MOST_LEVELS];
     let mut tier = [0u32; MOST_BUSES];
-    let mut load = [0.0; MOST_BUSES];
+    let mut reading = [0.0; MOST_BUSES];
+    let mut weight = [0.0; MOST_BUSES];
     let mut bus = [0u32; MOST_GENERATORS];
     let mut slack = [0u32; MOST_GENERATORS];
     let mut pmin = [0.0; MOST_GENERATORS];
@@ -197,7 +200,8 @@ pub fn plan_file(file: &[u8]) -> PlannedFile
         file,
         &mut ladder,
         &mut tier,
-        &mut load,
+        &mut reading,
+        &mut weight,
         &mut bus,
         &mut slack,
         &mut pmin,
@@ -212,8 +216,8 @@ pub fn plan_file(file: &[u8]) -> PlannedFile
         &mut cap,
         &mut sheet,
     );
-    let reading = read.reading;
-    match reading {
+    let said = read.reading;
+    match said {
         Reading::Refused(f) => unread(f),
         Reading::Read(h) => {
             let n = h.buses;
@@ -225,7 +229,8 @@ pub fn plan_file(file: &[u8]) -> PlannedFile
                 h,
                 &ladder[0..levels],
                 &tier[0..n],
-                &load[0..n],
+                &reading[0..n],
+                &weight[0..n],
                 &bus[0..g],
                 &slack[0..g],
                 &pmin[0..g],

@@ -8,13 +8,15 @@ use mathlib.Core.Path.{_≡_, refl, sym, ap, _∙_}
 use native.Mathlib.Nat.{le-trans, mul-le-mul-left, mul-le-mul-right, div-add-mod'}
 use native.Mathlib.Omega.{arith}
 use borrow.Author.Tests.{eqb-true, eqb-false, eq-eqb, ne-eqb, le-leb, lt-leb, lt-ltb, le-ltb}
-use lib.Dec.{eqb, leb}
-use lib.ListN.{length}
-use lib.Ieee.{Float, lt, le}
+use lib.Dec.{eqb, ltb, leb}
+use lib.ListN.{length, getD}
+use lib.Ieee.{Float, nan, lt, le}
 use Rattle.loops.specs.Figures.{at, plus, nought, tenThousand}
 use Rattle.loops.specs.Loops.{first}
 use Rattle.loops.proofs.Bools.{both, and-true, or-left}
 use Rattle.loops.proofs.Products.{rows-are}
+use Rattle.loops.proofs.Tab.{length-tab, get-tab}
+use Rattle.loads.specs.Load.{weighed, loadsOf, loadOk}
 use Rattle.refusal.specs.declared.Refusal.{Refusal}
 use Rattle.refusal.specs.declared.Refusal.the-variants.{Length, Count, Level, Bus, Generator, Corridor, Row}
 use Rattle.refusal.specs.declared.Answer.{Answer}
@@ -23,7 +25,7 @@ use Rattle.plan_defs.specs.Constants.{kvTolerance, mostCorridors, mostLevels, r
 use Rattle.plan_defs.specs.Case.{Case, levels, rowPlace, rowAt, rowFrom}
 use Rattle.plan_defs.specs.Accept.{lengthsOk, countsOk, levelOk, busOk, generatorOk, corridorSound, rowSound, rowOk, firstFault, tablesFault, caseFault}
 use Rattle.plan_defs.proofs.Accepted.{Columns, columns-of, counts-of}
-use Rattle.planning.specs.Check.{generatorSizes, corridorSizes, tablesFor, ladderFor, busesFor, generatorsFor, corridorsFor, sheetFor, Generators, Corridors, Sheet, Tables, workIn, placesIn, countsIn, answerOf, checkOf}
+use Rattle.planning.specs.Check.{generatorSizes, corridorSizes, tablesFor, ladderFor, busesFor, generatorsFor, corridorsFor, sheetFor, Buses, Generators, Corridors, Sheet, Tables, workIn, placesIn, countsIn, answerOf, checkOf}
 use Rattle.planning.specs.declared.check.Places.{Places}
 
 -- ---- tests that agree
@@ -75,6 +77,16 @@ module _ (ladder : List Float) (i : ℕ) where
       let z : i + 1 < 0 + length ladder = omega arith in
       ap (λ (t : Bool). kvIn && (t || aboveNext)) (sym (lt-leb (0 + length ladder) (i + 1) z))
 
+-- ---- a bus, by the product of its own figures
+abbrev busTest : ℕ → List ℕ → List Float → List Float → ℕ → Float → Bool
+busTest requested tier reading weight i load = ltb (getD tier i 0) requested && loadOk (at reading i) (at weight i) load
+
+pub bus-is : (requested : ℕ) (tier : List ℕ) (reading weight : List Float) (i : ℕ) (r : Bool) → i < length tier
+    → r ≡ busTest requested tier reading weight i (weighed reading weight i) → r ≡ busOk (busesFor requested tier reading weight) i
+unfolding busOk
+bus-is requested tier reading weight i r h e =
+    e ∙ ap (busTest requested tier reading weight i) (sym (get-tab (length tier) (weighed reading weight) i nan h))
+
 -- ---- the sheet's rows
 module _ (m levels : ℕ) (sheet : List Float) (fits : Sheet m levels sheet) where
   pub few-rows : m * levels ≤ mostCorridors * mostLevels
@@ -118,13 +130,16 @@ module _ (c : Case) where
   afterLevels = firstFault (busOk c) Bus (c .buses) afterBuses
 
 -- ---- all lengths, and the first refusal
-module _ (n m g above requested : ℕ) (ladder : List Float) (tier : List ℕ) (load : List Float) (bus slack : List ℕ) (pmin pmax c1 c2 : List Float)
+module _ (n m g above requested : ℕ) (ladder : List Float) (tier : List ℕ) (reading weight : List Float) (bus slack : List ℕ) (pmin pmax c1 c2 : List Float)
     (a b initial : List ℕ) (km share : List Float) (cap : List ℕ) (sheet : List Float) where
   abbrev given : Case
-  given = tablesFor n m g above requested ladder tier load bus slack pmin pmax c1 c2 a b initial km share cap sheet
+  given = tablesFor n m g above requested ladder tier reading weight bus slack pmin pmax c1 c2 a b initial km share cap sheet
 
   abbrev busSizes : Bool
-  busSizes = eqb (length tier) n && eqb (length load) n
+  busSizes = eqb (length tier) n && eqb (length reading) n && eqb (length weight) n
+
+  loads-sized : eqb (length (loadsOf n reading weight)) n ≡ true
+  loads-sized = eq-eqb _ _ (length-tab n (weighed reading weight))
 
   pub lengths-are : (l u k s : Bool) → l ≡ eqb (length ladder) (above + requested) → u ≡ generatorSizes g bus slack pmin pmax c1 c2
       → k ≡ corridorSizes m a b initial km share cap → s ≡ eqb (length sheet) (rowFigures * (m * length ladder))
@@ -133,15 +148,15 @@ module _ (n m g above requested : ℕ) (ladder : List Float) (tier : List ℕ) (
   lengths-are false u k s el eu ek es = rw (← el)
   lengths-are true u k s el eu ek es =
       let e : length ladder ≡ above + requested = eqb-true _ _ (sym el) in
-      rw (eu, ek, es, ← el, ← e) (simp and-assoc)
+      rw (eu, ek, es, loads-sized, ← el, ← e) (simp and-assoc)
 
   -- ---- what the scans ask
   module _ (t : Tables given) where
     sizes : Columns given
     sizes = columns-of given (t .lengths)
 
-    pub bus-columns : length load ≡ length tier
-    bus-columns = sizes .load ∙ sym (sizes .tier)
+    pub bus-columns : Buses tier reading weight
+    bus-columns = record { reading-size = sizes .reading ∙ sym (sizes .tier); weight-size = sizes .weight ∙ sym (sizes .tier) }
 
     pub generator-columns : Generators bus slack pmin pmax c1 c2
     generator-columns =
@@ -178,9 +193,12 @@ module _ (n m g above requested : ℕ) (ladder : List Float) (tier : List ℕ) (
         let q : 0 + length ladder ≡ above + requested = omega (arith, sizes .ladder) in
         e ∙ ap (λ (x : ℕ). first (levelIn x) (length ladder) 0) q ∙ ap (λ (x : ℕ). first (levelIn (above + requested)) x 0) (sizes .ladder)
 
-    bus-at : (i : ℕ) → i ≡ first (busOk (busesFor requested tier load)) (length tier) 0 → i ≡ first (busOk given) n 0
+    abbrev busIn : ℕ → ℕ → Bool
+    busIn count i = busTest requested tier reading weight i (at (loadsOf count reading weight) i)
+
+    bus-at : (i : ℕ) → i ≡ first (busOk (busesFor requested tier reading weight)) (length tier) 0 → i ≡ first (busOk given) n 0
     unfolding busOk
-    bus-at i e = e ∙ ap (λ (x : ℕ). first (busOk given) x 0) (sizes .tier)
+    bus-at i e = e ∙ ap (λ (x : ℕ). first (busIn x) x 0) (sizes .tier)
 
     generator-at : (u : ℕ) → u ≡ first (generatorOk (generatorsFor n bus slack pmin pmax c1 c2)) (length bus) 0 → u ≡ first (generatorOk given) g 0
     unfolding generatorOk
@@ -202,7 +220,7 @@ module _ (n m g above requested : ℕ) (ladder : List Float) (tier : List ℕ) (
       unfolding tablesFault
       level-refused h = sym (ap answerOf (stop-at (levelOk given) Level (above + requested) (afterLevels given) l (level-at l el) h))
 
-      module _ (hl : above + requested ≤ l) (i : ℕ) (ei : i ≡ first (busOk (busesFor requested tier load)) (length tier) 0) where
+      module _ (hl : above + requested ≤ l) (i : ℕ) (ei : i ≡ first (busOk (busesFor requested tier reading weight)) (length tier) 0) where
         past-levels : tablesFault given ≡ afterLevels given
         unfolding tablesFault
         past-levels = go-on (levelOk given) Level (above + requested) (afterLevels given) l (level-at l el) hl

@@ -25,7 +25,7 @@ bus-or c d e root (k ∷ ks) = ap (λ (l : List ℕ). getD l k 0) e
 module _ (c : Case) where
   -- the case with n buses and g generators
   abbrev with : ℕ → ℕ → Case
-  with n g = caseOf (c .mode) n (c .corridors) g (c .above) (c .requested) (c .ladder) (c .tier) (c .load) (c .bus) (c .slack) (c .pmin) (c .pmax) (c .c1) (c .c2)
+  with n g = caseOf (c .mode) n (c .corridors) g (c .above) (c .requested) (c .ladder) (c .tier) (c .reading) (c .weight) (c .load) (c .bus) (c .slack) (c .pmin) (c .pmax) (c .c1) (c .c2)
       (c .a) (c .b) (c .circuits) (c .km) (c .share) (c .cap) (c .sheet)
 
   module _ (e : length (c .bus) ≡ c .generators) where

@@ -6,11 +6,12 @@ use mathlib.Core.Path.{_≡_, refl, sym, ap, _∙_, subst}
 use Prim.Native.Nat.{ℕ, _≤_}
 use native.Mathlib.Omega.{arith}
 use lib.ListN.{length, take, replicate}
+use lib.Ieee.{Float}
 use Rattle.refusal.specs.declared.Refusal.{Refusal}
 use Rattle.refusal.specs.declared.Answer.{Answer}
 use Rattle.refusal.specs.declared.Answer.the-variants.{Answered as Accepted, Refused as Unaccepted}
 use Rattle.plan_defs.specs.Stage.{Stage, stopped, going}
-use Rattle.plan_defs.specs.Constants.{mostCorridors}
+use Rattle.plan_defs.specs.Constants.{mostBuses, mostCorridors}
 use Rattle.plan_defs.specs.Case.{Case, promote}
 use Rattle.plan_defs.specs.Plan.{Plan, endingOn, endingBy, endingOf, planFor}
 use Rattle.plan_defs.specs.Outcome.{Slices, cleared, keptIf, keptOf, held, summary, Outcome, replyOf, outcome, outcomeBy, outcomeIf, planCorridors}
@@ -68,9 +69,14 @@ module _ (c : Case) (target : ℕ) (s : Slices) where
           counts = sizes .counts;
         }
 
-    pub lendable-by : Lendable (c .mode) target (c .above) (c .ladder) (c .tier) (c .load) (c .bus) (c .slack) (c .pmin) (c .pmax) (c .c1) (c .c2) (c .a) (c .b) (c .circuits)
+    -- with the loads that are lent
+    abbrev LendableWith : List Float → Type 0
+    LendableWith load =
+        Lendable (c .mode) target (c .above) (c .ladder) (c .tier) load (c .bus) (c .slack) (c .pmin) (c .pmax) (c .c1) (c .c2) (c .a) (c .b) (c .circuits)
         (c .km) (c .share) (c .cap) (c .sheet) (lentOf s)
-    lendable-by = record { whole = c; sound = is-sound; lengths = lent-sizes }
+
+    pub lendable-by : (load : List Float) → load ≡ c .load → LendableWith load
+    lendable-by load e = subst LendableWith (sym e) (record { whole = c; sound = is-sound; lengths = lent-sizes })
 
     ends : outcomeBy (endingOn (planFor c target)) c s ≡ planCorridors c target s
     unfolding planCorridors endingOf
@@ -178,19 +184,26 @@ module _ (c : Case) (target : ℕ) (s : Slices) where
     pub caps-fit : length (c .cap) ≤ mostCorridors
     caps-fit = let ok = sym q ∙ k in omega (arith, is-sound ok .cap-size, is-sound ok .few-corridors)
 
+    pub buses-fit : c .buses ≤ mostBuses
+    buses-fit = is-sound (sym q ∙ k) .few-buses
+
+    -- with the loads that were lent
+    abbrev DoneWith : PlanRun → Slices → List Float → Type 0
+    DoneWith r lent load =
+        PlanDone (c .mode) target (c .above) (c .ladder) (c .tier) load (c .bus) (c .slack) (c .pmin) (c .pmax) (c .c1) (c .c2) (c .a) (c .b) (c .circuits)
+        (c .km) (c .share) (c .cap) (c .sheet) (lent .circuits) (lent .flow) (lent .rate) (lent .mw) (lent .angle) (lent .tier) (lent .ground) (lent .added) r
+
     pub ends-when : Binary c → (r : PlanRun) (lent : Slices)
         → length (lent .circuits) ≡ length (s .circuits) → length (lent .flow) ≡ length (s .flow) → length (lent .rate) ≡ length (s .rate)
         → length (lent .mw) ≡ length (s .mw) → length (lent .angle) ≡ length (s .angle) → length (lent .tier) ≡ length (s .tier) → length (lent .ground) ≡ length (s .ground)
         → length (lent .added) ≡ length (s .added) → length (lent .figures) ≡ length (s .figures) → length (lent .counts) ≡ length (s .counts)
-        → PlanDone (c .mode) target (c .above) (c .ladder) (c .tier) (c .load) (c .bus) (c .slack) (c .pmin) (c .pmax) (c .c1) (c .c2) (c .a) (c .b) (c .circuits)
-        (c .km) (c .share) (c .cap) (c .sheet) (lent .circuits) (lent .flow) (lent .rate) (lent .mw) (lent .angle) (lent .tier) (lent .ground) (lent .added) r
-        → (out : Slices) (refused : Bool) → refused ≡ isRefused (r .said) → out ≡ finished refused lent
+        → (load : List Float) → load ≡ c .load → DoneWith r lent load → (out : Slices) (refused : Bool) → refused ≡ isRefused (r .said) → out ≡ finished refused lent
         → (keeps : Bool) → keeps ≡ (promote (c .mode) && not refused) → (before order : List ℕ)
         → before ≡ keptIf keeps (length (s .before)) (take (length (s .before)) (r .kept .before))
         → order ≡ keptIf keeps (length (s .order)) (take (length (s .order)) (r .kept .order))
         → (copy caps : List ℕ) → take (length (c .cap)) copy ≡ c .cap → caps ≡ keptIf (not refused) (length (s .cap)) (take (length (s .cap)) copy)
         → Ends (r .said) (withKept before order caps out)
-    ends-when binary r lent e₁ e₂ e₃ e₄ e₅ e₆ e₇ e₈ e₉ e₀ done out refused u v keeps w before order f g copy caps x y =
+    ends-when binary r lent e₁ e₂ e₃ e₄ e₅ e₆ e₇ e₈ e₉ e₀ load p done out refused u v keeps w before order f g copy caps x y =
         let ok = sym q ∙ k in
         let z = sizes ok in
         let m = kept-lengths c s (passed c target s ok .0) in
@@ -220,5 +233,5 @@ module _ (c : Case) (target : ℕ) (s : Slices) where
           figures = e₉ ∙ z .figures;
           counts = e₀ ∙ z .counts;
         })
-        done out before order caps binary (r .said) refl (v ∙ ap (λ (b : Bool). finished b lent) u) (f ∙ all (length (s .before)) (r .kept .before) (m .0))
+        (subst (DoneWith r lent) p done) out before order caps binary (r .said) refl (v ∙ ap (λ (b : Bool). finished b lent) u) (f ∙ all (length (s .before)) (r .kept .before) (m .0))
         (g ∙ all (length (s .order)) (r .kept .order) (m .1)) kept-caps

@@ -16,18 +16,19 @@ use Rattle.refusal.specs.declared.Refusal.{Refusal}
 use Rattle.refusal.specs.declared.Refusal.the-variants.{Length}
 use Rattle.refusal.specs.declared.Answer.{Answer}
 use Rattle.refusal.specs.declared.Answer.the-variants.{Answered, Refused}
+use Rattle.mode.specs.declared.PlanMode.the-variants.{Observe}
 use Rattle.impedance.specs.Impedance.{ratingOk}
 use Rattle.leaders.specs.Operation.{corridorOk}
 use Rattle.plan_defs.specs.Constants.{kvTolerance, mostInitial, mostCap, rowFigures}
-use Rattle.plan_defs.specs.Case.{Case, levels, kvOf, loadOf, endA, endB, ownCap, rowPlace, rowAt}
+use Rattle.plan_defs.specs.Case.{Case, caseOf, levels, kvOf, endA, endB, ownCap, rowPlace, rowAt}
 use Rattle.plan_defs.specs.Accept.{lengthsOk, countsOk, levelOk, busOk, generatorOk, corridorSound, rowOk, tablesFault, caseFault}
 use Rattle.plan_defs.specs.Plan.{endingOf}
 use Rattle.plan_defs.specs.Outcome.{Slices, slicesOk, outcome, outcomeIf, outcomeBy, planCorridors}
 use Rattle.plan_defs.specs.declared.Planned.the-variants.{Refused as Unplanned}
-use Rattle.plan_defs.proofs.Accepted.{Accepted, accepted, end-a, end-b, bus-below, unit-ok, tier-below, initial-few, cap-few, row-inside, row-sound}
+use Rattle.plan_defs.proofs.Accepted.{Accepted, accepted, end-a, end-b, bus-below, unit-ok, tier-below, load-inside, initial-few, cap-few, row-inside, row-sound}
 use Rattle.plan_theorems.proofs.Outcomes.{lengths-of as all-lengths}
 use Rattle.planning.specs.Design.{Lines, rateAt}
-use Rattle.planning.specs.Check.{tablesFor, placesIn, answerOf, checkOf}
+use Rattle.planning.specs.Check.{placesIn, answerOf, checkOf}
 use Rattle.planning.specs.Sound.{Sound, Lengths}
 use Rattle.planning.specs.declared.check.Places.{Places}
 use Rattle.planning.proofs.Ratings.{sheet-rating}
@@ -43,10 +44,6 @@ module _ (c : Case) (target : ℕ) (ok : Accepted c target) where
   kv-falls i h =
       let p = both (lt nought (kvOf c i) && le (kvOf c i) tenThousand) _ (ok .level-ok i (omega arith)) .1 in
       ap (λ (b : Bool). b || lt (plus (kvOf c (i + 1)) kvTolerance) (kvOf c i)) (sym (lt-leb (levels c) (i + 1) h)) ∙ p
-
-  load-inside : (i : ℕ) → i < c .buses → inside nought million (loadOf c i) ≡ true
-  unfolding busOk
-  load-inside i h = both (ltb (getD (c .tier) i 0) (c .requested)) _ (ok .bus-ok i h) .1
 
   slack-bit : (k : ℕ) → k < c .generators → getD (c .slack) k 0 ≤ 1
   unfolding generatorOk
@@ -105,7 +102,7 @@ module _ (c : Case) (target : ℕ) (ok : Accepted c target) where
         kv-inside = kv-inside;
         kv-falls = kv-falls;
         tier-below = tier-below c target ok;
-        load-inside = load-inside;
+        load-inside = load-inside c target ok;
         bus-below = bus-below c target ok;
         slack-bit = slack-bit;
         unit-ok = unit-ok c target ok;
@@ -168,7 +165,7 @@ placesOf s =
 -- ---- the check: of the tables, in any mode
 abbrev pub tablesOf : Case → Case
 tablesOf c =
-    tablesFor (c .buses) (c .corridors) (c .generators) (c .above) (c .requested) (c .ladder) (c .tier) (c .load) (c .bus) (c .slack) (c .pmin) (c .pmax) (c .c1) (c .c2)
+    caseOf Observe (c .buses) (c .corridors) (c .generators) (c .above) (c .requested) (c .ladder) (c .tier) (c .reading) (c .weight) (c .load) (c .bus) (c .slack) (c .pmin) (c .pmax) (c .c1) (c .c2)
     (c .a) (c .b) (c .circuits) (c .km) (c .share) (c .cap) (c .sheet)
 
 module _ (c : Case) (target : ℕ) (s : Slices) where

@@ -13,32 +13,36 @@ use Rattle.refusal.specs.declared.Answer.{Answer}
 use Rattle.refusal.specs.declared.Answer.the-variants.{Answered, Refused}
 use Rattle.mode.specs.declared.PlanMode.the-variants.{Observe}
 use Rattle.plan_defs.specs.Constants.{mostBuses, mostCorridors, mostGenerators, mostLevels, mostTarget, rowFigures, workRows}
-use Rattle.plan_defs.specs.Case.{Case, caseOf, levels}
+use Rattle.plan_defs.specs.Case.{Case, surveyed, levels}
 use Rattle.plan_defs.specs.Accept.{lengthsOk, caseFault}
 use Rattle.planning.specs.declared.check.Places.{Places}
 
 -- ---- a case of all tables, which the tests read in any mode; and of one table
-abbrev pub tablesFor : ℕ → ℕ → ℕ → ℕ → ℕ → List Float → List ℕ → List Float → List ℕ → List ℕ → List Float → List Float → List Float → List Float
+abbrev pub tablesFor : ℕ → ℕ → ℕ → ℕ → ℕ → List Float → List ℕ → List Float → List Float → List ℕ → List ℕ → List Float → List Float → List Float → List Float
     → List ℕ → List ℕ → List ℕ → List Float → List Float → List ℕ → List Float → Case
-tablesFor n m g above requested ladder tier load bus slack pmin pmax c1 c2 a b initial km share cap sheet =
-    caseOf Observe n m g above requested ladder tier load bus slack pmin pmax c1 c2 a b initial km share cap sheet
+tablesFor n m g above requested ladder tier reading weight bus slack pmin pmax c1 c2 a b initial km share cap sheet =
+    surveyed Observe n m g above requested ladder tier reading weight bus slack pmin pmax c1 c2 a b initial km share cap sheet
 
 abbrev pub ladderFor : List Float → Case
-ladderFor ladder = tablesFor 0 0 0 0 (length ladder) ladder [] [] [] [] [] [] [] [] [] [] [] [] [] [] []
+ladderFor ladder = tablesFor 0 0 0 0 (length ladder) ladder [] [] [] [] [] [] [] [] [] [] [] [] [] [] [] []
 
-abbrev pub busesFor : ℕ → List ℕ → List Float → Case
-busesFor requested tier load = tablesFor 0 0 0 0 requested [] tier load [] [] [] [] [] [] [] [] [] [] [] [] []
+abbrev pub busesFor : ℕ → List ℕ → List Float → List Float → Case
+busesFor requested tier reading weight = tablesFor (length tier) 0 0 0 requested [] tier reading weight [] [] [] [] [] [] [] [] [] [] [] [] []
 
 abbrev pub generatorsFor : ℕ → List ℕ → List ℕ → List Float → List Float → List Float → List Float → Case
-generatorsFor n bus slack pmin pmax c1 c2 = tablesFor n 0 0 0 0 [] [] [] bus slack pmin pmax c1 c2 [] [] [] [] [] [] []
+generatorsFor n bus slack pmin pmax c1 c2 = tablesFor n 0 0 0 0 [] [] [] [] bus slack pmin pmax c1 c2 [] [] [] [] [] [] []
 
 abbrev pub corridorsFor : ℕ → List ℕ → List ℕ → List ℕ → List Float → List Float → List ℕ → Case
-corridorsFor n a b initial km share cap = tablesFor n 0 0 0 0 [] [] [] [] [] [] [] [] [] a b initial km share cap []
+corridorsFor n a b initial km share cap = tablesFor n 0 0 0 0 [] [] [] [] [] [] [] [] [] [] a b initial km share cap []
 
 abbrev pub sheetFor : ℕ → List Float → Case
-sheetFor levels sheet = tablesFor 0 0 0 0 levels [] [] [] [] [] [] [] [] [] [] [] [] [] [] [] sheet
+sheetFor levels sheet = tablesFor 0 0 0 0 levels [] [] [] [] [] [] [] [] [] [] [] [] [] [] [] [] sheet
 
 -- ---- what a scan asks of its columns
+pub record Buses (tier : List ℕ) (reading weight : List Float) : Type 0 where
+  pub reading-size : length reading ≡ length tier
+  pub weight-size : length weight ≡ length tier
+
 pub record Generators (bus slack : List ℕ) (pmin pmax c1 c2 : List Float) : Type 0 where
   pub slack-size : length slack ≡ length bus
   pub pmin-size : length pmin ≡ length bus

@@ -23,10 +23,10 @@ use Rattle.planning.specs.declared.close.Closing.{Closing}
 
 -- ---- a case that has a mode, a number of corridors and their own caps alone, and one that has the levels alone
 abbrev pub corridorsOf : PlanMode → ℕ → List ℕ → Case
-corridorsOf mode m cap = caseOf mode 0 m 0 0 0 [] [] [] [] [] [] [] [] [] [] [] [] [] [] cap []
+corridorsOf mode m cap = caseOf mode 0 m 0 0 0 [] [] [] [] [] [] [] [] [] [] [] [] [] [] [] [] cap []
 
 abbrev pub levelsFor : ℕ → List Float → Case
-levelsFor above ladder = caseOf Observe 0 0 0 above (length ladder - above) ladder [] [] [] [] [] [] [] [] [] [] [] [] [] [] []
+levelsFor above ladder = caseOf Observe 0 0 0 above (length ladder - above) ladder [] [] [] [] [] [] [] [] [] [] [] [] [] [] [] [] []
 
 -- ---- the spread, one bus more
 abbrev pub widerBy : List ℕ → List Float → ℕ → Float → Float

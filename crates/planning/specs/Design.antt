@@ -16,7 +16,7 @@ use Rattle.planning.specs.declared.design.Ends.{Ends}
 
 -- ---- a case of which a design reads these columns only
 abbrev pub linesFor : List Float → List ℕ → List ℕ → List Float → List Float → List Float → Case
-linesFor ladder a b km share sheet = caseOf Observe 0 (length a) 0 0 (length ladder) ladder [] [] [] [] [] [] [] [] a b [] km share [] sheet
+linesFor ladder a b km share sheet = caseOf Observe 0 (length a) 0 0 (length ladder) ladder [] [] [] [] [] [] [] [] [] [] a b [] km share [] sheet
 
 -- its ends read these alone
 abbrev pub endsFor : List Float → List ℕ → List ℕ → Case

@@ -79,4 +79,4 @@ pub record Counted (circuits : List ℕ) : Type 0 where
 
 -- a case that has a mode and own caps alone
 abbrev pub capsFor : PlanMode → List ℕ → Case
-capsFor mode cap = caseOf mode 0 0 0 0 0 [] [] [] [] [] [] [] [] [] [] [] [] [] [] cap []
+capsFor mode cap = caseOf mode 0 0 0 0 0 [] [] [] [] [] [] [] [] [] [] [] [] [] [] [] [] cap []

@@ -33,7 +33,7 @@ stageIf false t s = going s
 -- ---- a case of which the opening reads these columns only; n buses
 abbrev pub openingCase : PlanMode → ℕ → List Float → List ℕ → List ℕ → List Float → List Float → List Float → List Float → Case
 openingCase mode n load bus slack pmin pmax c1 c2 =
-    caseOf mode n 0 (length bus) 0 0 [] [] load bus slack pmin pmax c1 c2 [] [] [] [] [] [] []
+    caseOf mode n 0 (length bus) 0 0 [] [] [] [] load bus slack pmin pmax c1 c2 [] [] [] [] [] [] []
 
 -- the generators' places alone; with which of them are slack; with what they cost, the loads and the mode; with the loads
 abbrev pub busCase : List ℕ → Case

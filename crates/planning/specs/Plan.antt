@@ -38,7 +38,7 @@ use Rattle.planning.specs.declared.plan.Opening.the-variants.{Refused as
 -- ---- the opening: any case with the mode and the columns that it reads
 abbrev pub openCase : Case → PlanMode → ℕ → List ℕ → List Float → List ℕ → List ℕ → List Float → List Float → List Float → List Float → List ℕ → List ℕ → List ℕ → Case
 openCase o mode above tier load bus slack pmin pmax c1 c2 a b initial =
-    caseOf mode (o .buses) (o .corridors) (o .generators) above (o .requested) (o .ladder) tier load bus slack pmin pmax c1 c2 a b initial (o .km) (o .share) (o .cap) (o .sheet)
+    caseOf mode (o .buses) (o .corridors) (o .generators) above (o .requested) (o .ladder) tier (o .reading) (o .weight) load bus slack pmin pmax c1 c2 a b initial (o .km) (o .share) (o .cap) (o .sheet)
 
 -- a sound one, and places for what it leaves
 pub record Openable (mode : PlanMode) (above : ℕ) (tier : List ℕ) (load : List Float) (bus slack : List ℕ) (pmin pmax c1 c2 : List Float) (a b initial leader : List ℕ) (injection : List Float)
@@ -160,7 +160,7 @@ pub record OpenedPlan (mode : PlanMode) (target above : ℕ) (ladder : List Floa
 abbrev pub wholeCase : Case → PlanMode → ℕ → List Float → List ℕ → List Float → List ℕ → List ℕ → List Float → List Float → List Float → List Float → List ℕ → List ℕ → List ℕ
     → List Float → List Float → List ℕ → List Float → Case
 wholeCase o mode above ladder tier load bus slack pmin pmax c1 c2 a b initial km share cap sheet =
-    caseOf mode (o .buses) (o .corridors) (o .generators) above (o .requested) ladder tier load bus slack pmin pmax c1 c2 a b initial km share cap sheet
+    caseOf mode (o .buses) (o .corridors) (o .generators) above (o .requested) ladder tier (o .reading) (o .weight) load bus slack pmin pmax c1 c2 a b initial km share cap sheet
 
 -- the slices of a plan, with those that the opening fills
 pub record HoldsAll (r : Planned) (before order circuits : List ℕ) (flow rate mw angle : List Float) (tier ground : List ℕ) (added : List Float) (c : Case) (q : Plan) : Type 0 where

@@ -17,11 +17,11 @@ use Rattle.planning.specs.Design.{endsFor, Lines, EndsFit}
 
 -- ---- cases of these columns only
 abbrev pub unitsFor : List ℕ → List Float → Case
-unitsFor bus pmax = caseOf Observe 0 0 (length bus) 0 0 [] [] [] bus [] [] pmax [] [] [] [] [] [] [] [] []
+unitsFor bus pmax = caseOf Observe 0 0 (length bus) 0 0 [] [] [] [] [] bus [] [] pmax [] [] [] [] [] [] [] [] []
 
 abbrev pub redesignFor : List Float → List Float → List ℕ → List Float → List ℕ → List ℕ → List Float → List Float → List Float → Case
 redesignFor ladder load bus pmax a b km share sheet =
-    caseOf Observe 0 (length a) (length bus) 0 (length ladder) ladder [] load bus [] [] pmax [] [] a b [] km share [] sheet
+    caseOf Observe 0 (length a) (length bus) 0 (length ladder) ladder [] [] [] load bus [] [] pmax [] [] a b [] km share [] sheet
 
 -- ---- what acceptance gives of them
 pub record Units (bus : List ℕ) (pmax : List Float) : Type 0 where

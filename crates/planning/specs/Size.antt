@@ -18,7 +18,7 @@ use Rattle.planning.specs.declared.size.Tally.{Tally}
 
 -- ---- a case of which sizing reads these columns only
 abbrev pub sizeFor : PlanMode → ℕ → List Float → List ℕ → List ℕ → List Float → List Float → List ℕ → List Float → Case
-sizeFor mode buses ladder a b km share cap sheet = caseOf mode buses (length a) 0 0 (length ladder) ladder [] [] [] [] [] [] [] [] a b [] km share cap sheet
+sizeFor mode buses ladder a b km share cap sheet = caseOf mode buses (length a) 0 0 (length ladder) ladder [] [] [] [] [] [] [] [] [] [] a b [] km share cap sheet
 
 -- growing reads these
 abbrev pub growFor : PlanMode → List ℕ → List ℕ → List ℕ → Case

@@ -8,11 +8,11 @@ use Rattle.plan_defs.specs.Case.{Case, caseOf}
 -- with these columns of the ladder, the corridors and the sheet
 abbrev pub withLines : Case → List Float → List ℕ → List ℕ → List Float → List Float → List Float → Case
 withLines o ladder a b km share sheet =
-    caseOf (o .mode) (o .buses) (o .corridors) (o .generators) (o .above) (o .requested) ladder (o .tier) (o .load) (o .bus) (o .slack) (o .pmin) (o .pmax) (o .c1) (o .c2)
+    caseOf (o .mode) (o .buses) (o .corridors) (o .generators) (o .above) (o .requested) ladder (o .tier) (o .reading) (o .weight) (o .load) (o .bus) (o .slack) (o .pmin) (o .pmax) (o .c1) (o .c2)
     a b (o .circuits) km share (o .cap) sheet
 
 -- with this mode, these levels above the request, and these columns of loads and units
 abbrev pub withUnits : Case → PlanMode → ℕ → List Float → List ℕ → List Float → Case
 withUnits o mode above load bus pmax =
-    caseOf mode (o .buses) (o .corridors) (o .generators) above (o .requested) (o .ladder) (o .tier) load bus (o .slack) (o .pmin) pmax (o .c1) (o .c2)
+    caseOf mode (o .buses) (o .corridors) (o .generators) above (o .requested) (o .ladder) (o .tier) (o .reading) (o .weight) load bus (o .slack) (o .pmin) pmax (o .c1) (o .c2)
     (o .a) (o .b) (o .circuits) (o .km) (o .share) (o .cap) (o .sheet)

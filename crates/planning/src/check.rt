@@ -4,20 +4,22 @@ ghost use mathlib.Core.Path.{_≡_};
 ghost use Prim.Native.Nat.{_+_, _*_, _<_, _≤_};
 ghost use lib.Dec.{eqb, ltb, leb};
 ghost use lib.ListN.{length};
-ghost use Rattle.loops.specs.Figures.{nought, one, half, tenThousand, million, inside};
+ghost use Rattle.loops.specs.Figures.{nought, one, half, tenThousand, inside};
 ghost use Rattle.loops.specs.Loops.{first};
+ghost use Rattle.loads.specs.Load.{loadBy, loadOk};
 ghost use Rattle.leaders.specs.Operation.{corridorOk};
 ghost use Rattle.dispatch.specs.Units.{unitOk};
 ghost use Rattle.plan_defs.specs.Constants.{mostInitial, mostCap, rowFigures};
 ghost use Rattle.plan_defs.specs.Case.{rowOf, rowFrom};
 ghost use Rattle.plan_defs.specs.Accept.{levelOk, busOk, generatorOk, corridorSound, rowSound, rowOk, tablesFault};
-ghost use Rattle.planning.specs.Check.{tablesFor, ladderFor, busesFor, generatorsFor, corridorsFor, sheetFor, generatorSizes, corridorSizes, workIn, placesOk, countsIn, Generators, Corridors, Sheet, Tables, answerOf, checkOf};
+ghost use Rattle.planning.specs.Check.{tablesFor, ladderFor, busesFor, generatorsFor, corridorsFor, sheetFor, generatorSizes, corridorSizes, workIn, placesOk, countsIn, Buses, Generators, Corridors, Sheet, Tables, answerOf, checkOf};
 use crate::design::KV_TOLERANCE;
 use crate::design::ROW_FIGURES;
 use crate::design::row_place;
 use crate::figures::infinity;
 use crate::figures::is_finite;
 use crate::figures::wide;
+use loads::load_ok;
 use refusal::Answer;
 use refusal::Refusal;
 
@@ -194,19 +196,19 @@ fn faulty_level(ladder: &[f64]) -> usize
     i
 }
 
-fn bus_ok(requested: usize, tier: u32, load: f64) -> bool
-    ensures { λ r. ⌜ r ≡ (ltb tier requested && inside nought million load) ⌝ }
+fn bus_ok(requested: usize, tier: u32, reading: f64, weight: f64) -> bool
+    ensures { λ r. ⌜ r ≡ (ltb tier requested && loadOk reading weight (loadBy reading weight)) ⌝ }
 {
-    (wide(tier) < requested) & ((0.0 <= load) & (load <= MOST_MW))
+    (wide(tier) < requested) & load_ok(reading, weight)
 }
 
-fn faulty_bus(requested: usize, tier: &[u32], load: &[f64]) -> usize
-    requires { ⌜ length (now load) ≡ length (now tier) ⌝ }
-    ensures { λ r. ⌜ r ≡ first (busOk (busesFor requested (now (tier .entry)) (now (load .entry)))) (length (now (tier .entry))) 0 ⌝ }
+fn faulty_bus(requested: usize, tier: &[u32], reading: &[f64], weight: &[f64]) -> usize
+    requires { ⌜ Buses (now tier) (now reading) (now weight) ⌝ }
+    ensures { λ r. ⌜ r ≡ first (busOk (busesFor requested (now (tier .entry)) (now (reading .entry)) (now (weight .entry)))) (length (now (tier .entry))) 0 ⌝ }
 {
     let mut i = 0;
     while i < tier.len() {
-        if !bus_ok(requested, tier[i], load[i]) {
+        if !bus_ok(requested, tier[i], reading[i], weight[i]) {
             return i;
         }
         i += 1;
@@ -347,7 +349,8 @@ fn check_tables(
     requested: usize,
     ladder: &[f64],
     tier: &[u32],
-    load: &[f64],
+    reading: &[f64],
+    weight: &[f64],
     bus: &[u32],
     slack: &[u32],
     pmin: &[f64],
@@ -362,15 +365,15 @@ fn check_tables(
     cap: &[u32],
     sheet: &[f64],
 ) -> Answer
-    requires { ⌜ Tables (tablesFor n m g above requested (now ladder) (now tier) (now load) (now bus) (now slack) (now pmin) (now pmax) (now c1) (now c2) (now a) (now b) (now initial) (now km) (now share) (now cap) (now sheet)) ⌝ }
-    ensures { λ r. ⌜ r ≡ answerOf (tablesFault (tablesFor n m g above requested (now (ladder .entry)) (now (tier .entry)) (now (load .entry)) (now (bus .entry)) (now (slack .entry)) (now (pmin .entry)) (now (pmax .entry)) (now (c1 .entry)) (now (c2 .entry)) (now (a .entry)) (now (b .entry)) (now (initial .entry)) (now (km .entry)) (now (share .entry)) (now (cap .entry)) (now (sheet .entry)))) ⌝ }
+    requires { ⌜ Tables (tablesFor n m g above requested (now ladder) (now tier) (now reading) (now weight) (now bus) (now slack) (now pmin) (now pmax) (now c1) (now c2) (now a) (now b) (now initial) (now km) (now share) (now cap) (now sheet)) ⌝ }
+    ensures { λ r. ⌜ r ≡ answerOf (tablesFault (tablesFor n m g above requested (now (ladder .entry)) (now (tier .entry)) (now (reading .entry)) (now (weight .entry)) (now (bus .entry)) (now (slack .entry)) (now (pmin .entry)) (now (pmax .entry)) (now (c1 .entry)) (now (c2 .entry)) (now (a .entry)) (now (b .entry)) (now (initial .entry)) (now (km .entry)) (now (share .entry)) (now (cap .entry)) (now (sheet .entry)))) ⌝ }
 {
     let levels = above + requested;
     let l = faulty_level(ladder);
     if l < levels {
         return Answer::Refused(Refusal::Level(l));
     }
-    let i = faulty_bus(requested, tier, load);
+    let i = faulty_bus(requested, tier, reading, weight);
     if i < n {
         return Answer::Refused(Refusal::Bus(i));
     }
@@ -399,7 +402,8 @@ pub fn check_case(
     requested: usize,
     ladder: &[f64],
     tier: &[u32],
-    load: &[f64],
+    reading: &[f64],
+    weight: &[f64],
     bus: &[u32],
     slack: &[u32],
     pmin: &[f64],
@@ -415,10 +419,10 @@ pub fn check_case(
     sheet: &[f64],
     places: Places,
 ) -> Answer
-    ensures { λ r. ⌜ r ≡ checkOf (tablesFor n m g above requested (now (ladder .entry)) (now (tier .entry)) (now (load .entry)) (now (bus .entry)) (now (slack .entry)) (now (pmin .entry)) (now (pmax .entry)) (now (c1 .entry)) (now (c2 .entry)) (now (a .entry)) (now (b .entry)) (now (initial .entry)) (now (km .entry)) (now (share .entry)) (now (cap .entry)) (now (sheet .entry))) target places ⌝ }
+    ensures { λ r. ⌜ r ≡ checkOf (tablesFor n m g above requested (now (ladder .entry)) (now (tier .entry)) (now (reading .entry)) (now (weight .entry)) (now (bus .entry)) (now (slack .entry)) (now (pmin .entry)) (now (pmax .entry)) (now (c1 .entry)) (now (c2 .entry)) (now (a .entry)) (now (b .entry)) (now (initial .entry)) (now (km .entry)) (now (share .entry)) (now (cap .entry)) (now (sheet .entry))) target places ⌝ }
 {
     let levels = is_sum(ladder.len(), above, requested);
-    let buses = (tier.len() == n) & (load.len() == n);
+    let buses = (tier.len() == n) & (reading.len() == n) & (weight.len() == n);
     let generators = generator_lengths_ok(g, bus, slack, pmin, pmax, c1, c2);
     let corridors = corridor_lengths_ok(m, a, b, initial, km, share, cap);
     let rows = sheet_ok(sheet.len(), m, ladder.len());
@@ -437,7 +441,8 @@ pub fn check_case(
         requested,
         ladder,
         tier,
-        load,
+        reading,
+        weight,
         bus,
         slack,
         pmin,

@@ -1,12 +1,13 @@
 // Planning of a transmission network's corridors, after `plan_corridors` of planning.rs (document 01, *Planning*).
 ghost use mathlib.Core.Path.{_≡_};
-ghost use Rattle.plan_defs.specs.Case.{caseOf};
+ghost use Rattle.plan_defs.specs.Case.{surveyed};
 ghost use Rattle.plan_defs.specs.Outcome.{slices, outcome, planCorridors};
 ghost use Rattle.plan_defs.specs.Demand.{AnswerTo};
 ghost use Rattle.plan_defs.specs.Preview.{keptAs, outcome as outcomeOf, preview as previewOf};
 ghost use Rattle.plan_defs.specs.declared.CorridorPlan.{CorridorPlan};
 ghost use Rattle.plan_defs.specs.declared.Planned.the-variants.{Answered};
 use check::Places;
+use loads::weigh;
 use mode::PlanMode;
 use plan_defs::Planned;
 use policy::promotes;
@@ -32,10 +33,10 @@ mod stiffen;
 mod top_up;
 
 // The circuits of each corridor, with their flows and ratings, the dispatch, the angles, the tiers, the grounds and the levels added,
-// for a case of n buses, m corridors and g generators; `cap` has the corridors' own caps, 0 for none. `before` and `order` are what a
-// plan keeps of filling, also where nothing is filled: the circuits with which it begins and the order of the corridors; zero in a
-// mode that does not fill. `kept_cap` keeps the own caps, in every mode. Refusals 1 to 7 touch nothing; after 8 and 9 every place is
-// zero; after an answer the work, `figures` and `counts`, is zero.
+// for a case of n buses, m corridors and g generators. A bus's load is its reading times its weight, rounded once; `cap` has the
+// corridors' own caps, 0 for none. `before` and `order` are what a plan keeps of filling, also where nothing is filled: the circuits
+// with which it begins and the order of the corridors; zero in a mode that does not fill. `kept_cap` keeps the own caps, in every
+// mode. Refusals 1 to 7 touch nothing; after 8 and 9 every place is zero; after an answer the work, `figures` and `counts`, is zero.
 pub fn plan_corridors(
     mode: PlanMode,
     target: u32,
@@ -46,7 +47,8 @@ pub fn plan_corridors(
     requested: usize,
     ladder: &[f64],
     tier: &[u32],
-    load: &[f64],
+    reading: &[f64],
+    weight: &[f64],
     bus: &[u32],
     slack: &[u32],
     pmin: &[f64],
@@ -75,9 +77,9 @@ pub fn plan_corridors(
     counts: &mut [u32],
 ) -> Planned
     ensures plan { λ r. ⌜ outcome r (slices (now (circuits .exit)) (now (flow .exit)) (now (rate .exit)) (now (before .exit)) (now (order .exit)) (now («kept_cap» .exit)) (now (mw .exit)) (now (angle .exit)) (now (level .exit)) (now (ground .exit)) (now (added .exit)) (now (figures .exit)) (now (counts .exit)))
-        ≡ planCorridors (caseOf mode n m g above requested (now (ladder .entry)) (now (tier .entry)) (now (load .entry)) (now (bus .entry)) (now (slack .entry)) (now (pmin .entry)) (now (pmax .entry)) (now (c1 .entry)) (now (c2 .entry)) (now (a .entry)) (now (b .entry)) (now (initial .entry)) (now (km .entry)) (now (share .entry)) (now (cap .entry)) (now (sheet .entry))) target
+        ≡ planCorridors (surveyed mode n m g above requested (now (ladder .entry)) (now (tier .entry)) (now (reading .entry)) (now (weight .entry)) (now (bus .entry)) (now (slack .entry)) (now (pmin .entry)) (now (pmax .entry)) (now (c1 .entry)) (now (c2 .entry)) (now (a .entry)) (now (b .entry)) (now (initial .entry)) (now (km .entry)) (now (share .entry)) (now (cap .entry)) (now (sheet .entry))) target
         (slices (now (circuits .entry)) (now (flow .entry)) (now (rate .entry)) (now (before .entry)) (now (order .entry)) (now («kept_cap» .entry)) (now (mw .entry)) (now (angle .entry)) (now (level .entry)) (now (ground .entry)) (now (added .entry)) (now (figures .entry)) (now (counts .entry))) ⌝ }
-    ensures demand { λ r. ⌜ ((x : CorridorPlan) → r ≡ Answered x → AnswerTo (caseOf mode n m g above requested (now (ladder .entry)) (now (tier .entry)) (now (load .entry)) (now (bus .entry)) (now (slack .entry)) (now (pmin .entry)) (now (pmax .entry)) (now (c1 .entry)) (now (c2 .entry)) (now (a .entry)) (now (b .entry)) (now (initial .entry)) (now (km .entry)) (now (share .entry)) (now (cap .entry)) (now (sheet .entry))) target
+    ensures demand { λ r. ⌜ ((x : CorridorPlan) → r ≡ Answered x → AnswerTo (surveyed mode n m g above requested (now (ladder .entry)) (now (tier .entry)) (now (reading .entry)) (now (weight .entry)) (now (bus .entry)) (now (slack .entry)) (now (pmin .entry)) (now (pmax .entry)) (now (c1 .entry)) (now (c2 .entry)) (now (a .entry)) (now (b .entry)) (now (initial .entry)) (now (km .entry)) (now (share .entry)) (now (cap .entry)) (now (sheet .entry))) target
         (outcome r (slices (now (circuits .exit)) (now (flow .exit)) (now (rate .exit)) (now (before .exit)) (now (order .exit)) (now («kept_cap» .exit)) (now (mw .exit)) (now (angle .exit)) (now (level .exit)) (now (ground .exit)) (now (added .exit)) (now (figures .exit)) (now (counts .exit)))) x) ⌝ }
 {
     let places = Places {
@@ -104,7 +106,8 @@ pub fn plan_corridors(
         requested,
         ladder,
         tier,
-        load,
+        reading,
+        weight,
         bus,
         slack,
         pmin,
@@ -123,13 +126,14 @@ pub fn plan_corridors(
         Answer::Refused(f) => return Planned::Refused(f),
         Answer::Answered => {}
     }
+    let load = weigh(reading, weight);
     let ran = plan::run(
         mode,
         target,
         above,
         ladder,
         tier,
-        load,
+        &load[0..n],
         bus,
         slack,
         pmin,

@@ -24,12 +24,12 @@ use Rattle.small.proofs.Filled.{column-of, equal-three, sheet-column, b
 pub sized : {A : Type 0} (f : ℕ → Shape → List A) {n n′ : ℕ} {s s′ : Shape} {x : List A} → n ≡ n′ → s ≡ s′ → x ≡ f n s → x ≡ f n′ s′
 sized {A} f {n} {n′} {s} {s′} p q e = e ∙ ap (λ (m : ℕ). f m s) p ∙ ap (λ (t : Shape). f n′ t) q
 
-pub places-same : {ladder ladder′ : List Float} {tier tier′ : List ℕ} {load load′ : List Float} {bus bus′ slack slack′ : List ℕ} {pmin pmin′ pmax pmax′ c1 c1′ c2 c2′ : List Float}
+pub places-same : {ladder ladder′ : List Float} {tier tier′ : List ℕ} {reading reading′ weight weight′ : List Float} {bus bus′ slack slack′ : List ℕ} {pmin pmin′ pmax pmax′ c1 c1′ c2 c2′ : List Float}
     {a a′ b b′ circuits circuits′ : List ℕ} {km km′ share share′ : List Float} {cap cap′ : List ℕ} {sheet sheet′ : List Float}
-    → ladder ≡ ladder′ → tier ≡ tier′ → load ≡ load′ → bus ≡ bus′ → slack ≡ slack′ → pmin ≡ pmin′ → pmax ≡ pmax′ → c1 ≡ c1′ → c2 ≡ c2′
+    → ladder ≡ ladder′ → tier ≡ tier′ → reading ≡ reading′ → weight ≡ weight′ → bus ≡ bus′ → slack ≡ slack′ → pmin ≡ pmin′ → pmax ≡ pmax′ → c1 ≡ c1′ → c2 ≡ c2′
     → a ≡ a′ → b ≡ b′ → circuits ≡ circuits′ → km ≡ km′ → share ≡ share′ → cap ≡ cap′ → sheet ≡ sheet′
-    → placesOf ladder tier load bus slack pmin pmax c1 c2 a b circuits km share cap sheet ≡ placesOf ladder′ tier′ load′ bus′ slack′ pmin′ pmax′ c1′ c2′ a′ b′ circuits′ km′ share′ cap′ sheet′
-places-same e0 e1 e2 e3 e4 e5 e6 e7 e8 e9 e10 e11 e12 e13 e14 e15 = cc
+    → placesOf ladder tier reading weight bus slack pmin pmax c1 c2 a b circuits km share cap sheet ≡ placesOf ladder′ tier′ reading′ weight′ bus′ slack′ pmin′ pmax′ c1′ c2′ a′ b′ circuits′ km′ share′ cap′ sheet′
+places-same e0 e1 e2 e3 e4 e5 e6 e7 e8 e9 e10 e11 e12 e13 e14 e15 e16 = cc
 
 module _ (i : ℕ) (h : i < allPlaces) where
   abbrev c : ℕ
@@ -43,10 +43,11 @@ module _ (i : ℕ) (h : i < allPlaces) where
   alike {A} x = equal-three (corridorCount c) x few ∙ ap (λ (n : ℕ). replicate n x) (ends i h .count)
 
   -- the tables, column by column
-  pub tables-made : {ladder : List Float} {tier : List ℕ} {load : List Float} {bus slack : List ℕ} {pmin pmax c1 c2 : List Float} {a b circuits : List ℕ} {km share : List Float} {cap : List ℕ} {sheet : List Float}
+  pub tables-made : {ladder : List Float} {tier : List ℕ} {reading weight : List Float} {bus slack : List ℕ} {pmin pmax c1 c2 : List Float} {a b circuits : List ℕ} {km share : List Float} {cap : List ℕ} {sheet : List Float}
       → ladder ≡ figures mostLevels 1 kv kv kv
       → tier ≡ counts mostBuses (shapeAt i .buses) 0 0 0
-      → load ≡ figures mostBuses (shapeAt i .buses) (lowestLoad (shapeAt i .loads)) (lowestLoad (shapeAt i .loads / 2)) (lowestLoad (shapeAt i .loads / 2 / 2))
+      → reading ≡ figures mostBuses (shapeAt i .buses) (lowestLoad (shapeAt i .loads)) (lowestLoad (shapeAt i .loads / 2)) (lowestLoad (shapeAt i .loads / 2 / 2))
+      → weight ≡ figures mostBuses (shapeAt i .buses) one one one
       → bus ≡ counts mostGenerators 1 0 0 0
       → slack ≡ counts mostGenerators 1 1 1 1
       → pmin ≡ figures mostGenerators 1 nought nought nought
@@ -60,18 +61,19 @@ module _ (i : ℕ) (h : i < allPlaces) where
       → share ≡ figures mostCorridors (corridorCount c) one one one
       → cap ≡ counts mostCorridors (corridorCount c) 0 0 0
       → sheet ≡ tab mostSheet (sheetAt (corridorCount c * rowFigures))
-      → placesOf ladder tier load bus slack pmin pmax c1 c2 a b circuits km share cap sheet ≡ tablesAt i
+      → placesOf ladder tier reading weight bus slack pmin pmax c1 c2 a b circuits km share cap sheet ≡ tablesAt i
   unfolding laidOut columnsOf networkAt numbered shapeAt
-  tables-made e0 e1 e2 e3 e4 e5 e6 e7 e8 e9 e10 e11 e12 e13 e14 e15 =
+  tables-made e0 e1 e2 e3 e4 e5 e6 e7 e8 e9 e10 e11 e12 e13 e14 e15 e16 =
       let b = busesAt i in
       places-same (e0 ∙ column-of nought kv kv kv mostLevels 1 refl) (e1 ∙ column-of 0 0 0 0 mostBuses b (equal-three b 0 (buses-few i)))
-      (e2 ∙ column-of nought _ _ _ mostBuses b (loads-front b (numberAt i % 2 ^ b) (buses-few i))) (e3 ∙ column-of 0 0 0 0 mostGenerators 1 refl)
-      (e4 ∙ column-of 0 1 1 1 mostGenerators 1 refl) (e5 ∙ column-of nought nought nought nought mostGenerators 1 refl)
-      (e6 ∙ column-of nought hundred hundred hundred mostGenerators 1 refl) (e7 ∙ column-of nought twenty twenty twenty mostGenerators 1 refl)
-      (e8 ∙ column-of nought quarter quarter quarter mostGenerators 1 refl) (e9 ∙ column-of 0 _ _ _ mostCorridors (corridorCount c) (ends i h .lower))
-      (e10 ∙ column-of 0 _ _ _ mostCorridors (corridorCount c) (ends i h .upper)) (e11 ∙ column-of 0 1 1 1 mostCorridors (corridorCount c) (alike 1))
-      (e12 ∙ column-of nought ten ten ten mostCorridors (corridorCount c) (alike ten)) (e13 ∙ column-of nought one one one mostCorridors (corridorCount c) (alike one))
-      (e14 ∙ column-of 0 0 0 0 mostCorridors (corridorCount c) (alike 0)) (e15 ∙ sheet-column mostSheet (ends i h .count))
+      (e2 ∙ column-of nought _ _ _ mostBuses b (loads-front b (numberAt i % 2 ^ b) (buses-few i)))
+      (e3 ∙ column-of nought one one one mostBuses b (equal-three b one (buses-few i))) (e4 ∙ column-of 0 0 0 0 mostGenerators 1 refl)
+      (e5 ∙ column-of 0 1 1 1 mostGenerators 1 refl) (e6 ∙ column-of nought nought nought nought mostGenerators 1 refl)
+      (e7 ∙ column-of nought hundred hundred hundred mostGenerators 1 refl) (e8 ∙ column-of nought twenty twenty twenty mostGenerators 1 refl)
+      (e9 ∙ column-of nought quarter quarter quarter mostGenerators 1 refl) (e10 ∙ column-of 0 _ _ _ mostCorridors (corridorCount c) (ends i h .lower))
+      (e11 ∙ column-of 0 _ _ _ mostCorridors (corridorCount c) (ends i h .upper)) (e12 ∙ column-of 0 1 1 1 mostCorridors (corridorCount c) (alike 1))
+      (e13 ∙ column-of nought ten ten ten mostCorridors (corridorCount c) (alike ten)) (e14 ∙ column-of nought one one one mostCorridors (corridorCount c) (alike one))
+      (e15 ∙ column-of 0 0 0 0 mostCorridors (corridorCount c) (alike 0)) (e16 ∙ sheet-column mostSheet (ends i h .count))
 
   header-made : headerFor (shapeAt i) ≡ headerAt i
   unfolding headerOf networkAt numbered shapeAt

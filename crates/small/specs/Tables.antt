@@ -46,6 +46,7 @@ chosen (false ∷ ts) (p ∷ ps) = chosen ts ps
 abbrev pub corridorsOf : Network → List (ℕ × ℕ)
 corridorsOf s = chosen (s .joined) pairs
 
+-- the reading of a bus, whose weight is 1
 abbrev pub loadOf : Bool → Float
 loadOf t = cond t ten nought
 
@@ -60,7 +61,7 @@ headerOf s = record { mode = Observe; target = 0; buses = s .buses; corridors = 
 unfoldable pub columnsOf : Network → Places
 columnsOf s =
     let m = length (corridorsOf s) in
-    placesOf (kv ∷ []) (replicate (s .buses) 0) (map loadOf (s .loaded))
+    placesOf (kv ∷ []) (replicate (s .buses) 0) (map loadOf (s .loaded)) (replicate (s .buses) one)
     (0 ∷ []) (1 ∷ []) (nought ∷ []) (hundred ∷ []) (twenty ∷ []) (quarter ∷ [])
     (map (λ p. p .0) (corridorsOf s)) (map (λ p. p .1) (corridorsOf s)) (replicate m 1) (replicate m ten) (replicate m one)
     (replicate m 0)
@@ -72,7 +73,8 @@ padded zero n l = tab n (λ i. getD l i zero)
 
 unfoldable pub laidOut : Places → Places
 laidOut c =
-    placesOf (padded nought mostLevels (c .ladder)) (padded 0 mostBuses (c .tier)) (padded nought mostBuses (c .load))
+    placesOf (padded nought mostLevels (c .ladder)) (padded 0 mostBuses (c .tier)) (padded nought mostBuses (c .reading))
+    (padded nought mostBuses (c .weight))
     (padded 0 mostGenerators (c .bus)) (padded 0 mostGenerators (c .slack)) (padded nought mostGenerators (c .pmin))
     (padded nought mostGenerators (c .pmax)) (padded nought mostGenerators (c .c1)) (padded nought mostGenerators (c .c2))
     (padded 0 mostCorridors (c .a)) (padded 0 mostCorridors (c .b)) (padded 0 mostCorridors (c .circuits))

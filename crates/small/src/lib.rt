@@ -23,7 +23,8 @@ pub fn small_network(
     place: usize,
     ladder: &mut [f64],
     tier: &mut [u32],
-    load: &mut [f64],
+    reading: &mut [f64],
+    weight: &mut [f64],
     generator_bus: &mut [u32],
     slack: &mut [u32],
     pmin: &mut [f64],
@@ -38,11 +39,12 @@ pub fn small_network(
     cap: &mut [u32],
     sheet: &mut [f64],
 ) -> Reading
-    ensures { λ r. ⌜ made r (placesOf (now (ladder .exit)) (now (tier .exit)) (now (load .exit)) (now («generator_bus» .exit)) (now (slack .exit)) (now (pmin .exit)) (now (pmax .exit)) (now (c1 .exit)) (now (c2 .exit)) (now (a .exit)) (now (b .exit)) (now (circuits .exit)) (now («length_km» .exit)) (now (share .exit)) (now (cap .exit)) (now (sheet .exit))) ≡ smallNetwork place (placesOf (now (ladder .entry)) (now (tier .entry)) (now (load .entry)) (now («generator_bus» .entry)) (now (slack .entry)) (now (pmin .entry)) (now (pmax .entry)) (now (c1 .entry)) (now (c2 .entry)) (now (a .entry)) (now (b .entry)) (now (circuits .entry)) (now («length_km» .entry)) (now (share .entry)) (now (cap .entry)) (now (sheet .entry))) ⌝ }
+    ensures { λ r. ⌜ made r (placesOf (now (ladder .exit)) (now (tier .exit)) (now (reading .exit)) (now (weight .exit)) (now («generator_bus» .exit)) (now (slack .exit)) (now (pmin .exit)) (now (pmax .exit)) (now (c1 .exit)) (now (c2 .exit)) (now (a .exit)) (now (b .exit)) (now (circuits .exit)) (now («length_km» .exit)) (now (share .exit)) (now (cap .exit)) (now (sheet .exit))) ≡ smallNetwork place (placesOf (now (ladder .entry)) (now (tier .entry)) (now (reading .entry)) (now (weight .entry)) (now («generator_bus» .entry)) (now (slack .entry)) (now (pmin .entry)) (now (pmax .entry)) (now (c1 .entry)) (now (c2 .entry)) (now (a .entry)) (now (b .entry)) (now (circuits .entry)) (now («length_km» .entry)) (now (share .entry)) (now (cap .entry)) (now (sheet .entry))) ⌝ }
 {
     let sized = (ladder.len() == MOST_LEVELS)
         & (tier.len() == MOST_BUSES)
-        & (load.len() == MOST_BUSES)
+        & (reading.len() == MOST_BUSES)
+        & (weight.len() == MOST_BUSES)
         & (generator_bus.len() == MOST_GENERATORS)
         & (slack.len() == MOST_GENERATORS)
         & (pmin.len() == MOST_GENERATORS)
@@ -63,7 +65,7 @@ pub fn small_network(
         return Reading::Refused(Refusal::Place);
     }
     let s = order::network_at(place);
-    tables::put_buses(s, ladder, tier, load);
+    tables::put_buses(s, ladder, tier, reading, weight);
     tables::put_generator(generator_bus, slack, pmin, pmax, c1, c2);
     tables::put_corridors(s, a, b, circuits, length_km, share, cap, sheet);
     Reading::Read(tables::header_of(s))

@@ -92,11 +92,18 @@ pub fn header_of(s: Shape) -> Header
     }
 }
 
-// The ladder of one level, and the buses at it.
-pub fn put_buses(s: Shape, ladder: &mut [f64], tier: &mut [u32], load: &mut [f64])
+// The ladder of one level, and the buses at it. A load's weight is 1, so its reading is the load.
+pub fn put_buses(
+    s: Shape,
+    ladder: &mut [f64],
+    tier: &mut [u32],
+    reading: &mut [f64],
+    weight: &mut [f64],
+)
     ensures ladder { λ _. ⌜ now (ladder .exit) ≡ figures (length (now (ladder .entry))) 1 kv kv kv ⌝ }
     ensures tier { λ _. ⌜ now (tier .exit) ≡ counts (length (now (tier .entry))) (s .buses) 0 0 0 ⌝ }
-    ensures load { λ _. ⌜ now (load .exit) ≡ figures (length (now (load .entry))) (s .buses) (lowestLoad (s .loads)) (lowestLoad (s .loads / 2)) (lowestLoad (s .loads / 2 / 2)) ⌝ }
+    ensures reading { λ _. ⌜ now (reading .exit) ≡ figures (length (now (reading .entry))) (s .buses) (lowestLoad (s .loads)) (lowestLoad (s .loads / 2)) (lowestLoad (s .loads / 2 / 2)) ⌝ }
+    ensures weight { λ _. ⌜ now (weight .exit) ≡ figures (length (now (weight .entry))) (s .buses) one one one ⌝ }
 {
     let n = s.buses;
     let loads = s.loads;
@@ -105,7 +112,8 @@ pub fn put_buses(s: Shape, ladder: &mut [f64], tier: &mut [u32], load: &mut [f64
     let third = lowest_load(loads / 2 / 2);
     fill_figures(ladder, 1, KV, KV, KV);
     fill_counts(tier, n, 0, 0, 0);
-    fill_figures(load, n, first, second, third);
+    fill_figures(reading, n, first, second, third);
+    fill_figures(weight, n, 1.0, 1.0, 1.0);
 }
 
 // The slack generator at bus 0.

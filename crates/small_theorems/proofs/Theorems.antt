@@ -1,14 +1,14 @@
 -- The theorems of document 02's K9: each small network is an accepted case, no two places give the same case, and the place of each is worked out.
 -- Beside them: every network of the request has its place (Places), and the file of each case reads back as it.
 use Prim.Native.Nat.{ℕ, zero, suc, _*_, _<_}
-use mathlib.Core.Bool.{true}
+use mathlib.Core.Bool.{true, false}
 use mathlib.Core.List.{[], _∷_}
 use mathlib.Core.Option.{none}
 use mathlib.Core.Path.{_≡_, refl, sym, ap, _∙_, subst}
 use native.Mathlib.Omega.{arith}
 use lib.Dec.{lit<}
-use lib.ListN.{getD, length-replicate}
-use Rattle.loops.specs.Figures.{nought}
+use lib.ListN.{getD, length-replicate, getD-replicate}
+use Rattle.loops.specs.Figures.{nought, one}
 use Rattle.refusal.specs.Reply.{answered}
 use Rattle.casefile_defs.specs.Bounds.{mostLevels, mostBuses, mostGenerators, mostCorridors, mostSheet, rowFigures}
 use Rattle.casefile_defs.specs.Layout.{upTo, u8, u16, allowed}
@@ -25,7 +25,7 @@ use Rattle.small.proofs.Whole.{places-same}
 use Rattle.small_theorems.specs.Inverse.{placeFor}
 use Rattle.small_theorems.specs.Held.{fronts, caseWith, caseIn, networkWith, networkIn, fileAt}
 use Rattle.small_theorems.proofs.Accepted.{sound-at}
-use Rattle.small_theorems.proofs.Tables.{padded-front, low-get, low-same, numbers-held, one-fits, same-fit, loads-fit, figures-held, sheet-held}
+use Rattle.small_theorems.proofs.Tables.{padded-get, padded-front, low-get, low-same, numbers-held, one-fits, same-fit, loads-fit, figures-held, sheet-held}
 
 slack-bound : (j : ℕ) → allowed (upTo 1) (getD (1 ∷ []) j 0) ≡ true
 slack-bound zero = refl
@@ -50,7 +50,8 @@ module _ (i : ℕ) (below : i < allPlaces) where
       places-same
       (padded-front nought mostLevels (columns .ladder) (omega (arith, k .ladder)) 1 (k .ladder))
       (padded-front 0 mostBuses (columns .tier) (omega (arith, k .tier)) n (k .tier))
-      (padded-front nought mostBuses (columns .load) (omega (arith, k .load)) n (k .load))
+      (padded-front nought mostBuses (columns .reading) (omega (arith, k .reading)) n (k .reading))
+      (padded-front nought mostBuses (columns .weight) (omega (arith, k .weight)) n (k .weight))
       (padded-front 0 mostGenerators (columns .bus) (omega (arith, k .bus)) 1 (k .bus))
       (padded-front 0 mostGenerators (columns .slack) (omega (arith, k .slack)) 1 (k .slack))
       (padded-front nought mostGenerators (columns .pmin) (omega (arith, k .pmin)) 1 (k .pmin))
@@ -87,7 +88,8 @@ module _ (i : ℕ) (below : i < allPlaces) where
         counts = s .counts;
         ladder = figures-held mostLevels 1 (columns .ladder) refl (omega arith) (one-fits 0x4061_4000_0000_0000);
         tier = numbers-held u8 mostBuses n (columns .tier) (k .tier) few (lit< tt) (low-same n 0 (omega arith)) (λ j. refl);
-        load = figures-held mostBuses n (columns .load) (k .load) few (loads-fit (networkAt i .loaded));
+        reading = figures-held mostBuses n (columns .reading) (k .reading) few (loads-fit (networkAt i .loaded));
+        weight = figures-held mostBuses n (columns .weight) (k .weight) few (same-fit n 0x3ff0_0000_0000_0000);
         bus = numbers-held u16 mostGenerators 1 (columns .bus) refl (omega arith) (lit< tt) (low-get (columns .bus) refl) (λ j. refl);
         slack = numbers-held (upTo 1) mostGenerators 1 (columns .slack) refl (omega arith) (lit< tt) (low-get (columns .slack) refl) slack-bound;
         pmin = figures-held mostGenerators 1 (columns .pmin) refl (omega arith) (one-fits 0);
@@ -103,10 +105,18 @@ module _ (i : ℕ) (below : i < allPlaces) where
         sheet = subst (λ (n : ℕ). Sheet n (tablesAt i .sheet)) (let e : m ≡ m * 1 = omega arith in e) (sheet-held m (omega arith));
       }
 
+  -- every weight is 1
+  pub weights-one : (j : ℕ) → j < headerAt i .buses → getD (tablesAt i .weight) j nought ≡ one
+  unfolding laidOut headerOf columnsOf
+  weights-one j b =
+      let k = taken .columns .weight in
+      let few = taken .counts .few-buses in
+      padded-get nought mostBuses (columns .weight) (omega arith) j ∙ getD-replicate (headerAt i .buses) j one nought b
+
   -- and reads back as it
   pub read-back : (q : Places) → sizesOk q ≡ true → (readCase (fileAt i) q .reply ≡ answered (headerAt i)) × (readCase (fileAt i) q .places ≡ tablesAt i)
   read-back q z =
-      let e = case-back (capsOnly (tablesAt i)) (headerAt i) (tablesAt i) q (caps-legal (headerAt i) (tablesAt i)) file-case z in
+      let e = case-back (capsOnly false (tablesAt i)) (headerAt i) (tablesAt i) q (caps-legal false (headerAt i) (tablesAt i) (λ w. weights-one)) file-case z in
       (ap (λ (o : Outcome). o .reply) e, ap (λ (o : Outcome). o .places) e)
 
 -- no two places give the same case

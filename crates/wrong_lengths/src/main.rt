@@ -14,7 +14,7 @@ mod sheet_calls;
 mod small_calls;
 
 // Of planning, which has the most.
-const MOST_SLICES: usize = 29;
+const MOST_SLICES: usize = 30;
 
 fn first() {
     leaders_calls::first();

@@ -11,12 +11,13 @@ use crate::report::say_answered;
 use crate::report::say_call;
 use crate::report::say_kept;
 use crate::report::say_refusal;
-use placement::Placement;
+use placement_defs::Placement;
 
-const SLICES: usize = 7;
+const SLICES: usize = 8;
 
 fn call(what: &[u8], buses: usize, wrong: Wrong) {
-    let load = [0.0f64, 0.0, 40.0, 0.0];
+    let reading = [0.0f64, 0.0, 20.0, 0.0];
+    let weight = [1.0f64, 1.0, 2.0, 1.0];
     let a = [0u32, 1, 0];
     let b = [1u32, 2, 1];
     let km = [60.0f64, 60.0, 1.0];
@@ -27,13 +28,14 @@ fn call(what: &[u8], buses: usize, wrong: Wrong) {
         buses,
         2,
         1,
-        &load[0..made(3, 0, wrong)],
-        &a[0..made(2, 1, wrong)],
-        &b[0..made(2, 2, wrong)],
-        &km[0..made(2, 3, wrong)],
-        &bus[0..made(1, 4, wrong)],
-        &mut at[0..made(3, 5, wrong)],
-        &mut mvar[0..made(3, 6, wrong)],
+        &reading[0..made(3, 0, wrong)],
+        &weight[0..made(3, 1, wrong)],
+        &a[0..made(2, 2, wrong)],
+        &b[0..made(2, 3, wrong)],
+        &km[0..made(2, 4, wrong)],
+        &bus[0..made(1, 5, wrong)],
+        &mut at[0..made(3, 6, wrong)],
+        &mut mvar[0..made(3, 7, wrong)],
     );
     say_call(what, wrong);
     match r {

@@ -15,7 +15,7 @@ use crate::report::say_refusal;
 use mode::PlanMode;
 use plan_defs::Planned;
 
-const SLICES: usize = 29;
+const SLICES: usize = 30;
 
 // The places of a work slice.
 const WORK: usize = 48;
@@ -31,7 +31,8 @@ fn lent(right: usize, place: usize, wrong: Wrong) -> usize
 fn call(what: &[u8], buses: usize, wrong: Wrong) {
     let ladder = [230.0f64, 138.0, 69.0];
     let tier = [0u32, 0, 0];
-    let load = [0.0f64, 50.0, 0.0];
+    let reading = [0.0f64, 25.0, 0.0];
+    let weight = [1.0f64, 2.0, 1.0];
     let bus = [0u32, 0];
     let slack = [1u32, 0];
     let pmin = [0.0f64, 0.0];
@@ -68,33 +69,34 @@ fn call(what: &[u8], buses: usize, wrong: Wrong) {
         1,
         &ladder[0..made(2, 0, wrong)],
         &tier[0..made(2, 1, wrong)],
-        &load[0..made(2, 2, wrong)],
-        &bus[0..made(1, 3, wrong)],
-        &slack[0..made(1, 4, wrong)],
-        &pmin[0..made(1, 5, wrong)],
-        &pmax[0..made(1, 6, wrong)],
-        &c1[0..made(1, 7, wrong)],
-        &c2[0..made(1, 8, wrong)],
-        &a[0..made(1, 9, wrong)],
-        &b[0..made(1, 10, wrong)],
-        &initial[0..made(1, 11, wrong)],
-        &km[0..made(1, 12, wrong)],
-        &share[0..made(1, 13, wrong)],
-        &cap[0..made(1, 14, wrong)],
-        &sheet[0..made(10, 15, wrong)],
-        &mut circuits[0..lent(1, 16, wrong)],
-        &mut flow[0..lent(1, 17, wrong)],
-        &mut rate[0..lent(1, 18, wrong)],
-        &mut before[0..lent(1, 19, wrong)],
-        &mut order[0..lent(1, 20, wrong)],
-        &mut kept_cap[0..lent(1, 21, wrong)],
-        &mut mw[0..lent(1, 22, wrong)],
-        &mut angle[0..lent(2, 23, wrong)],
-        &mut level[0..lent(2, 24, wrong)],
-        &mut ground[0..lent(2, 25, wrong)],
-        &mut added[0..lent(1, 26, wrong)],
-        &mut figures[0..lent(WORK, 27, wrong)],
-        &mut counts[0..lent(WORK, 28, wrong)],
+        &reading[0..made(2, 2, wrong)],
+        &weight[0..made(2, 3, wrong)],
+        &bus[0..made(1, 4, wrong)],
+        &slack[0..made(1, 5, wrong)],
+        &pmin[0..made(1, 6, wrong)],
+        &pmax[0..made(1, 7, wrong)],
+        &c1[0..made(1, 8, wrong)],
+        &c2[0..made(1, 9, wrong)],
+        &a[0..made(1, 10, wrong)],
+        &b[0..made(1, 11, wrong)],
+        &initial[0..made(1, 12, wrong)],
+        &km[0..made(1, 13, wrong)],
+        &share[0..made(1, 14, wrong)],
+        &cap[0..made(1, 15, wrong)],
+        &sheet[0..made(10, 16, wrong)],
+        &mut circuits[0..lent(1, 17, wrong)],
+        &mut flow[0..lent(1, 18, wrong)],
+        &mut rate[0..lent(1, 19, wrong)],
+        &mut before[0..lent(1, 20, wrong)],
+        &mut order[0..lent(1, 21, wrong)],
+        &mut kept_cap[0..lent(1, 22, wrong)],
+        &mut mw[0..lent(1, 23, wrong)],
+        &mut angle[0..lent(2, 24, wrong)],
+        &mut level[0..lent(2, 25, wrong)],
+        &mut ground[0..lent(2, 26, wrong)],
+        &mut added[0..lent(1, 27, wrong)],
+        &mut figures[0..lent(WORK, 28, wrong)],
+        &mut counts[0..lent(WORK, 29, wrong)],
     );
     say_call(what, wrong);
     match r {

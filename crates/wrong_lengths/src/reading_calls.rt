@@ -19,12 +19,13 @@ use casefile_defs::MOST_SHEET;
 use casefile_defs::Reading;
 
 // The tables.
-const SLICES: usize = 16;
+const SLICES: usize = 17;
 
 fn call(what: &[u8], file: &[u8], wrong: Wrong) {
     let mut ladder = [FIGURE; ROOM];
     let mut tier = [MARK; ROOM];
-    let mut load = [FIGURE; ROOM];
+    let mut reading = [FIGURE; ROOM];
+    let mut weight = [FIGURE; ROOM];
     let mut bus = [MARK; ROOM];
     let mut slack = [MARK; ROOM];
     let mut pmin = [FIGURE; ROOM];
@@ -42,33 +43,36 @@ fn call(what: &[u8], file: &[u8], wrong: Wrong) {
         file,
         &mut ladder[0..made(MOST_LEVELS, 0, wrong)],
         &mut tier[0..made(MOST_BUSES, 1, wrong)],
-        &mut load[0..made(MOST_BUSES, 2, wrong)],
-        &mut bus[0..made(MOST_GENERATORS, 3, wrong)],
-        &mut slack[0..made(MOST_GENERATORS, 4, wrong)],
-        &mut pmin[0..made(MOST_GENERATORS, 5, wrong)],
-        &mut pmax[0..made(MOST_GENERATORS, 6, wrong)],
-        &mut c1[0..made(MOST_GENERATORS, 7, wrong)],
-        &mut c2[0..made(MOST_GENERATORS, 8, wrong)],
-        &mut a[0..made(MOST_CORRIDORS, 9, wrong)],
-        &mut b[0..made(MOST_CORRIDORS, 10, wrong)],
-        &mut circuits[0..made(MOST_CORRIDORS, 11, wrong)],
-        &mut km[0..made(MOST_CORRIDORS, 12, wrong)],
-        &mut share[0..made(MOST_CORRIDORS, 13, wrong)],
-        &mut cap[0..made(MOST_CORRIDORS, 14, wrong)],
-        &mut sheet[0..made(MOST_SHEET, 15, wrong)],
+        &mut reading[0..made(MOST_BUSES, 2, wrong)],
+        &mut weight[0..made(MOST_BUSES, 3, wrong)],
+        &mut bus[0..made(MOST_GENERATORS, 4, wrong)],
+        &mut slack[0..made(MOST_GENERATORS, 5, wrong)],
+        &mut pmin[0..made(MOST_GENERATORS, 6, wrong)],
+        &mut pmax[0..made(MOST_GENERATORS, 7, wrong)],
+        &mut c1[0..made(MOST_GENERATORS, 8, wrong)],
+        &mut c2[0..made(MOST_GENERATORS, 9, wrong)],
+        &mut a[0..made(MOST_CORRIDORS, 10, wrong)],
+        &mut b[0..made(MOST_CORRIDORS, 11, wrong)],
+        &mut circuits[0..made(MOST_CORRIDORS, 12, wrong)],
+        &mut km[0..made(MOST_CORRIDORS, 13, wrong)],
+        &mut share[0..made(MOST_CORRIDORS, 14, wrong)],
+        &mut cap[0..made(MOST_CORRIDORS, 15, wrong)],
+        &mut sheet[0..made(MOST_SHEET, 16, wrong)],
     );
     say_call(what, wrong);
-    let reading = read.reading;
-    match reading {
+    let said = read.reading;
+    match said {
         Reading::Read(_) => say_answered(),
         Reading::Refused(f) => say_refusal(f),
     }
-    let buses = marks_kept(&tier) & figures_kept(&load) & marks_kept(&bus) & marks_kept(&slack);
+    let buses = marks_kept(&tier) & figures_kept(&reading) & figures_kept(&weight);
+    let places = marks_kept(&bus) & marks_kept(&slack);
     let units = figures_kept(&pmin) & figures_kept(&pmax) & figures_kept(&c1) & figures_kept(&c2);
     let ends = marks_kept(&a) & marks_kept(&b) & marks_kept(&circuits) & figures_kept(&km);
     say_kept(
         figures_kept(&ladder)
             & buses
+            & places
             & units
             & ends
             & figures_kept(&share)

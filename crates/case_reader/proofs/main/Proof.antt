@@ -8,8 +8,8 @@ use Rattle.case_reader.proofs.main.Statement.{statement}
 use Rattle.case_reader.proofs.main.Tie as tie
 
 -- the header's counts
-small : (c : tie.After-reading2) → Small (c .reading2 .given .0 .0)
-small c = answered-small _ _ _ (c .before .before .before .before .before .before .before .before .before .before .before .before .before .before .before .before .before .before .read-case .ensures) (c .reading2 .given .1)
+small : (c : tie.After-said2) → Small (c .said2 .given .0 .0)
+small c = answered-small _ _ _ (c .before .before .before .before .before .before .before .before .before .before .before .before .before .before .before .before .before .before .before .read-case .ensures) (c .said2 .given .1)
 
 -- ---- the places of the code, each from the one after it
 abbrev corridors-printed : tie.After-print-corridors → tie.After-print-generators
@@ -19,9 +19,9 @@ abbrev generators-printed : tie.After-print-generators → tie.After-print-buses
 generators-printed c = c .before .before .before .before .before .before .before
 
 abbrev buses-printed : tie.After-print-buses → tie.After-print-levels
-buses-printed c = c .before .before .before
+buses-printed c = c .before .before .before .before
 
-abbrev levels-printed : tie.After-print-levels → tie.After-reading2
+abbrev levels-printed : tie.After-print-levels → tie.After-said2
 levels-printed c = c .before .before .before .before .before
 
 slice-aggregate-read-full : tie.Need-slice-aggregate-read-full
@@ -87,17 +87,20 @@ slice-aggregate-read-case-15 c = search needs
 slice-aggregate-read-case-16 : tie.Need-slice-aggregate-read-case-16
 slice-aggregate-read-case-16 c = search needs
 
+slice-aggregate-read-case-17 : tie.Need-slice-aggregate-read-case-17
+slice-aggregate-read-case-17 c = search needs
+
 read-case-requires : tie.Need-read-case-requires
 read-case-requires c κs = search needs
 
-enum-known-reading : tie.Need-enum-known-reading
-enum-known-reading c = search needs
+enum-known-said : tie.Need-enum-known-said
+enum-known-said c = search needs
 
 print-refusal-requires : tie.Need-print-refusal-requires
 print-refusal-requires c κs = search needs
 
-enum-known-reading-2 : tie.Need-enum-known-reading-2
-enum-known-reading-2 c = search needs
+enum-known-said-2 : tie.Need-enum-known-said-2
+enum-known-said-2 c = search needs
 
 add-levels : tie.Need-add-levels
 add-levels c = omega (arith, small (c .before .before) .levels)
@@ -109,7 +112,7 @@ print-levels-requires : tie.Need-print-levels-requires
 print-levels-requires c κs = small (c .before .before .before .before) .levels
 
 print-buses-requires : tie.Need-print-buses-requires
-print-buses-requires c κs = small (levels-printed (c .before .before)) .buses
+print-buses-requires c κs = small (levels-printed (c .before .before .before)) .buses
 
 print-generators-requires : tie.Need-print-generators-requires
 print-generators-requires c κs = small (levels-printed (buses-printed (c .before .before .before .before .before .before))) .generators
@@ -154,10 +157,11 @@ main-spec =
     slice-aggregate-read-case-14
     slice-aggregate-read-case-15
     slice-aggregate-read-case-16
+    slice-aggregate-read-case-17
     read-case-requires
-    enum-known-reading
+    enum-known-said
     print-refusal-requires
-    enum-known-reading-2
+    enum-known-said-2
     add-levels
     print-header-requires
     print-levels-requires

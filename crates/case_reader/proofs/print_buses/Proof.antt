@@ -7,10 +7,10 @@ use Rattle.case_reader.proofs.print_buses.Statement.{statement}
 use Rattle.case_reader.proofs.print_buses.Tie as tie
 
 abbrev Inv-loop : tie.InvT-loop
-Inv-loop count tier load i₀ i = i ≤ count
+Inv-loop count tier reading weight i₀ i = i ≤ count
 
 abbrev μ-loop : tie.MeasureT-loop
-μ-loop count tier load i₀ i = count - i
+μ-loop count tier reading weight i₀ i = count - i
 
 loop-holds : tie.Need-loop-holds Inv-loop μ-loop
 loop-holds c = omega arith

@@ -17,8 +17,8 @@ use Rattle.planned_files.proofs.plan_case.Statement.{statement}
 use Rattle.planned_files.proofs.plan_case.Tie as tie
 
 -- ---- the places of the code, each from the one after it
-abbrev from-tables : tie.After-shared-slice-known16 → tie.Start
-from-tables c = c .before .before .before .before .before .before .before .before .before .before .before .before .before .before .before .before
+abbrev from-tables : tie.After-shared-slice-known17 → tie.Start
+from-tables c = c .before .before .before .before .before .before .before .before .before .before .before .before .before .before .before .before .before
 
 abbrev from-slices : tie.After-counts → tie.Start
 from-slices c = from-tables (c .before .before .before .before .before .before .before .before .before .before .before .before .before)
@@ -34,11 +34,11 @@ work-small o = omega (arith, small o .buses, small o .corridors, small o .genera
 
 -- ---- the case, the slices as they are lent, and as planning leaves them
 abbrev the-places : tie.Start → Places
-the-places o = placesOf (o .args .ladder .now) (o .args .tier .now) (o .args .load .now) (o .args .bus .now) (o .args .slack .now) (o .args .pmin .now) (o .args .pmax .now) (o .args .c1 .now) (o .args .c2 .now) (o .args .a .now) (o .args .b .now) (o .args .initial .now) (o .args .km .now) (o .args .share .now) (o .args .cap .now) (o .args .sheet .now)
+the-places o = placesOf (o .args .ladder .now) (o .args .tier .now) (o .args .reading .now) (o .args .weight .now) (o .args .bus .now) (o .args .slack .now) (o .args .pmin .now) (o .args .pmax .now) (o .args .c1 .now) (o .args .c2 .now) (o .args .a .now) (o .args .b .now) (o .args .initial .now) (o .args .km .now) (o .args .share .now) (o .args .cap .now) (o .args .sheet .now)
 
 abbrev left : tie.After-plan-corridors → Slices
 left c =
-    let r = c .plan-corridors .last .1 .1 .1 .1 .1 .1 .1 .1 .1 .1 .1 .1 .1 .1 .1 .1 .1 .1 .1 .1 .1 .1 .1 in
+    let r = c .plan-corridors .last .1 .1 .1 .1 .1 .1 .1 .1 .1 .1 .1 .1 .1 .1 .1 .1 .1 .1 .1 .1 .1 .1 .1 .1 in
     slices (r .0) (r .1 .0) (r .1 .1 .0) (r .1 .1 .1 .0) (r .1 .1 .1 .1 .0) (r .1 .1 .1 .1 .1 .0) (r .1 .1 .1 .1 .1 .1 .0) (r .1 .1 .1 .1 .1 .1 .1 .0) (r .1 .1 .1 .1 .1 .1 .1 .1 .0) (r .1 .1 .1 .1 .1 .1 .1 .1 .1 .0) (r .1 .1 .1 .1 .1 .1 .1 .1 .1 .1 .0) (r .1 .1 .1 .1 .1 .1 .1 .1 .1 .1 .1 .0) (r .1 .1 .1 .1 .1 .1 .1 .1 .1 .1 .1 .1 .0)
 
 fits : (o : tie.Start) → Fits (caseAs (o .args .h) (the-places o))
@@ -182,7 +182,7 @@ returns c =
     let p = c .before .before .before .before .before .before .before .before .before .before .before .before .before in
     let o = from-slices (p .before) in
     let f = fits o in
-    let k = p .plan-corridors .kept .1 .1 .1 .1 .1 .1 .1 .1 .1 .1 .1 .1 .1 .1 .1 .1 .1 .1 .1 .1 .1 .1 .1 in (
+    let k = p .plan-corridors .kept .1 .1 .1 .1 .1 .1 .1 .1 .1 .1 .1 .1 .1 .1 .1 .1 .1 .1 .1 .1 .1 .1 .1 .1 in (
       filed-planned (o .args .h) (the-places o) (p .plan-corridors .result) (left p)
           (back _ mostCorridors 0 (left p .circuits) (f .corridors) (k .0))
           (back _ mostCorridors nought (left p .flow) (f .corridors) (k .1 .0))

@@ -15,7 +15,7 @@ use Rattle.planned_files.proofs.plan_file.Tie as tie
 -- the tables as they are lent, and as reading leaves them
 abbrev empty : Places
 empty =
-    placesOf (replicate 5 nought) (replicate 256 0) (replicate 256 nought) (replicate 128 0) (replicate 128 0) (replicate 128 nought) (replicate 128 nought) (replicate 128 nought) (replicate 128 nought) (replicate 256 0) (replicate 256 0) (replicate 256 0) (replicate 256 nought) (replicate 256 nought) (replicate 256 0) (replicate 6400 nought)
+    placesOf (replicate 5 nought) (replicate 256 0) (replicate 256 nought) (replicate 256 nought) (replicate 128 0) (replicate 128 0) (replicate 128 nought) (replicate 128 nought) (replicate 128 nought) (replicate 128 nought) (replicate 256 0) (replicate 256 0) (replicate 256 0) (replicate 256 nought) (replicate 256 nought) (replicate 256 0) (replicate 6400 nought)
 
 empty-sized : sizesOk empty ≡ true
 unfolding sizesOk
@@ -24,68 +24,71 @@ empty-sized = refl
 abbrev left : tie.After-read-case → Places
 left c =
     let r = c .read-case .last in
-    placesOf (r .1 .0) (r .1 .1 .0) (r .1 .1 .1 .0) (r .1 .1 .1 .1 .0) (r .1 .1 .1 .1 .1 .0) (r .1 .1 .1 .1 .1 .1 .0) (r .1 .1 .1 .1 .1 .1 .1 .0) (r .1 .1 .1 .1 .1 .1 .1 .1 .0) (r .1 .1 .1 .1 .1 .1 .1 .1 .1 .0) (r .1 .1 .1 .1 .1 .1 .1 .1 .1 .1 .0) (r .1 .1 .1 .1 .1 .1 .1 .1 .1 .1 .1 .0) (r .1 .1 .1 .1 .1 .1 .1 .1 .1 .1 .1 .1 .0) (r .1 .1 .1 .1 .1 .1 .1 .1 .1 .1 .1 .1 .1 .0) (r .1 .1 .1 .1 .1 .1 .1 .1 .1 .1 .1 .1 .1 .1 .0) (r .1 .1 .1 .1 .1 .1 .1 .1 .1 .1 .1 .1 .1 .1 .1 .0) (r .1 .1 .1 .1 .1 .1 .1 .1 .1 .1 .1 .1 .1 .1 .1 .1 .0)
+    placesOf (r .1 .0) (r .1 .1 .0) (r .1 .1 .1 .0) (r .1 .1 .1 .1 .0) (r .1 .1 .1 .1 .1 .0) (r .1 .1 .1 .1 .1 .1 .0) (r .1 .1 .1 .1 .1 .1 .1 .0) (r .1 .1 .1 .1 .1 .1 .1 .1 .0) (r .1 .1 .1 .1 .1 .1 .1 .1 .1 .0) (r .1 .1 .1 .1 .1 .1 .1 .1 .1 .1 .0) (r .1 .1 .1 .1 .1 .1 .1 .1 .1 .1 .1 .0) (r .1 .1 .1 .1 .1 .1 .1 .1 .1 .1 .1 .1 .0) (r .1 .1 .1 .1 .1 .1 .1 .1 .1 .1 .1 .1 .1 .0) (r .1 .1 .1 .1 .1 .1 .1 .1 .1 .1 .1 .1 .1 .1 .0) (r .1 .1 .1 .1 .1 .1 .1 .1 .1 .1 .1 .1 .1 .1 .1 .0) (r .1 .1 .1 .1 .1 .1 .1 .1 .1 .1 .1 .1 .1 .1 .1 .1 .0) (r .1 .1 .1 .1 .1 .1 .1 .1 .1 .1 .1 .1 .1 .1 .1 .1 .1 .0)
 
 -- ---- the places of the code, each from the one after it
-abbrev from-refused : tie.After-reading → tie.After-read-case
-from-refused c = c .before .before .before .before .before .before .before .before .before .before .before .before .before .before .before .before .before .before
+abbrev from-refused : tie.After-said → tie.After-read-case
+from-refused c = c .before .before .before .before .before .before .before .before .before .before .before .before .before .before .before .before .before .before .before
 
-abbrev from-answered : tie.After-reading2 → tie.After-read-case
-from-answered c = c .before .before .before .before .before .before .before .before .before .before .before .before .before .before .before .before .before .before
+abbrev from-answered : tie.After-said2 → tie.After-read-case
+from-answered c = c .before .before .before .before .before .before .before .before .before .before .before .before .before .before .before .before .before .before .before
 
-abbrev header-known : tie.After-struct-known → tie.After-reading2
+abbrev header-known : tie.After-struct-known → tie.After-said2
 header-known c = c .before .before
 
-abbrev lent-1 : tie.After-plan-case-arg → tie.After-reading2
+abbrev lent-1 : tie.After-plan-case-arg → tie.After-said2
 lent-1 c = header-known (c .before .before)
 
-abbrev lent-2 : tie.After-plan-case-arg2 → tie.After-reading2
+abbrev lent-2 : tie.After-plan-case-arg2 → tie.After-said2
 lent-2 c = lent-1 (c .before .before)
 
-abbrev lent-3 : tie.After-plan-case-arg3 → tie.After-reading2
+abbrev lent-3 : tie.After-plan-case-arg3 → tie.After-said2
 lent-3 c = lent-2 (c .before .before)
 
-abbrev lent-4 : tie.After-plan-case-arg4 → tie.After-reading2
+abbrev lent-4 : tie.After-plan-case-arg4 → tie.After-said2
 lent-4 c = lent-3 (c .before .before)
 
-abbrev lent-5 : tie.After-plan-case-arg5 → tie.After-reading2
+abbrev lent-5 : tie.After-plan-case-arg5 → tie.After-said2
 lent-5 c = lent-4 (c .before .before)
 
-abbrev lent-6 : tie.After-plan-case-arg6 → tie.After-reading2
+abbrev lent-6 : tie.After-plan-case-arg6 → tie.After-said2
 lent-6 c = lent-5 (c .before .before)
 
-abbrev lent-7 : tie.After-plan-case-arg7 → tie.After-reading2
+abbrev lent-7 : tie.After-plan-case-arg7 → tie.After-said2
 lent-7 c = lent-6 (c .before .before)
 
-abbrev lent-8 : tie.After-plan-case-arg8 → tie.After-reading2
+abbrev lent-8 : tie.After-plan-case-arg8 → tie.After-said2
 lent-8 c = lent-7 (c .before .before)
 
-abbrev lent-9 : tie.After-plan-case-arg9 → tie.After-reading2
+abbrev lent-9 : tie.After-plan-case-arg9 → tie.After-said2
 lent-9 c = lent-8 (c .before .before)
 
-abbrev lent-10 : tie.After-plan-case-arg10 → tie.After-reading2
+abbrev lent-10 : tie.After-plan-case-arg10 → tie.After-said2
 lent-10 c = lent-9 (c .before .before)
 
-abbrev lent-11 : tie.After-plan-case-arg11 → tie.After-reading2
+abbrev lent-11 : tie.After-plan-case-arg11 → tie.After-said2
 lent-11 c = lent-10 (c .before .before)
 
-abbrev lent-12 : tie.After-plan-case-arg12 → tie.After-reading2
+abbrev lent-12 : tie.After-plan-case-arg12 → tie.After-said2
 lent-12 c = lent-11 (c .before .before)
 
-abbrev lent-13 : tie.After-plan-case-arg13 → tie.After-reading2
+abbrev lent-13 : tie.After-plan-case-arg13 → tie.After-said2
 lent-13 c = lent-12 (c .before .before)
 
-abbrev lent-14 : tie.After-plan-case-arg14 → tie.After-reading2
+abbrev lent-14 : tie.After-plan-case-arg14 → tie.After-said2
 lent-14 c = lent-13 (c .before .before)
 
-abbrev lent-15 : tie.After-plan-case-arg15 → tie.After-reading2
+abbrev lent-15 : tie.After-plan-case-arg15 → tie.After-said2
 lent-15 c = lent-14 (c .before .before)
 
-abbrev lent-16 : tie.After-plan-case-arg16 → tie.After-reading2
+abbrev lent-16 : tie.After-plan-case-arg16 → tie.After-said2
 lent-16 c = lent-15 (c .before .before)
 
-small : (c : tie.After-reading2) → Small (c .reading2 .given .0 .0)
-small c = answered-small _ empty (left (from-answered c)) (from-answered c .read-case .ensures) (c .reading2 .given .1)
+abbrev lent-17 : tie.After-plan-case-arg17 → tie.After-said2
+lent-17 c = lent-16 (c .before .before)
+
+small : (c : tie.After-said2) → Small (c .said2 .given .0 .0)
+small c = answered-small _ empty (left (from-answered c)) (from-answered c .read-case .ensures) (c .said2 .given .1)
 
 slice-aggregate-read-case : tie.Need-slice-aggregate-read-case
 slice-aggregate-read-case c = search needs
@@ -135,17 +138,20 @@ slice-aggregate-read-case-15 c = search needs
 slice-aggregate-read-case-16 : tie.Need-slice-aggregate-read-case-16
 slice-aggregate-read-case-16 c = search needs
 
+slice-aggregate-read-case-17 : tie.Need-slice-aggregate-read-case-17
+slice-aggregate-read-case-17 c = search needs
+
 read-case-requires : tie.Need-read-case-requires
 read-case-requires c κs = search needs
 
-enum-known-reading : tie.Need-enum-known-reading
-enum-known-reading c = search needs
+enum-known-said : tie.Need-enum-known-said
+enum-known-said c = search needs
 
 unread-requires : tie.Need-unread-requires
 unread-requires c κs = search needs
 
-enum-known-reading-2 : tie.Need-enum-known-reading-2
-enum-known-reading-2 c = search needs
+enum-known-said-2 : tie.Need-enum-known-said-2
+enum-known-said-2 c = search needs
 
 add-levels : tie.Need-add-levels
 add-levels c = omega (arith, small (header-known c) .levels)
@@ -190,7 +196,7 @@ part-plan-case-start-4 : tie.Need-part-plan-case-start-4
 part-plan-case-start-4 c = search needs
 
 part-plan-case-end-4 : tie.Need-part-plan-case-end-4
-part-plan-case-end-4 c = in-table (small (lent-3 (c .before)) .generators) (from-answered (lent-3 (c .before)) .read-case .kept .1 .1 .1 .1 .0)
+part-plan-case-end-4 c = in-table (small (lent-3 (c .before)) .buses) (from-answered (lent-3 (c .before)) .read-case .kept .1 .1 .1 .1 .0)
 
 sub-plan-case-5 : tie.Need-sub-plan-case-5
 sub-plan-case-5 c = search needs
@@ -244,7 +250,7 @@ part-plan-case-start-10 : tie.Need-part-plan-case-start-10
 part-plan-case-start-10 c = search needs
 
 part-plan-case-end-10 : tie.Need-part-plan-case-end-10
-part-plan-case-end-10 c = in-table (small (lent-9 (c .before)) .corridors) (from-answered (lent-9 (c .before)) .read-case .kept .1 .1 .1 .1 .1 .1 .1 .1 .1 .1 .0)
+part-plan-case-end-10 c = in-table (small (lent-9 (c .before)) .generators) (from-answered (lent-9 (c .before)) .read-case .kept .1 .1 .1 .1 .1 .1 .1 .1 .1 .1 .0)
 
 sub-plan-case-11 : tie.Need-sub-plan-case-11
 sub-plan-case-11 c = search needs
@@ -298,22 +304,31 @@ part-plan-case-start-16 : tie.Need-part-plan-case-start-16
 part-plan-case-start-16 c = search needs
 
 part-plan-case-end-16 : tie.Need-part-plan-case-end-16
-part-plan-case-end-16 c = in-table (rows-fit _ (small (lent-15 (c .before)))) (from-answered (lent-15 (c .before)) .read-case .kept .1 .1 .1 .1 .1 .1 .1 .1 .1 .1 .1 .1 .1 .1 .1 .1 .0)
+part-plan-case-end-16 c = in-table (small (lent-15 (c .before)) .corridors) (from-answered (lent-15 (c .before)) .read-case .kept .1 .1 .1 .1 .1 .1 .1 .1 .1 .1 .1 .1 .1 .1 .1 .1 .0)
+
+sub-plan-case-17 : tie.Need-sub-plan-case-17
+sub-plan-case-17 c = search needs
+
+part-plan-case-start-17 : tie.Need-part-plan-case-start-17
+part-plan-case-start-17 c = search needs
+
+part-plan-case-end-17 : tie.Need-part-plan-case-end-17
+part-plan-case-end-17 c = in-table (rows-fit _ (small (lent-16 (c .before)))) (from-answered (lent-16 (c .before)) .read-case .kept .1 .1 .1 .1 .1 .1 .1 .1 .1 .1 .1 .1 .1 .1 .1 .1 .1 .0)
 
 plan-case-requires : tie.Need-plan-case-requires
-plan-case-requires c κs = small (lent-16 c)
+plan-case-requires c κs = small (lent-17 c)
 
 returns : tie.Need-returns
 returns c = (
   c .unread .ensures .0
-      ∙ unread _ empty (left (from-refused (c .before .before))) empty-sized (from-refused (c .before .before) .read-case .ensures) (c .before .before .reading .given .1),
+      ∙ unread _ empty (left (from-refused (c .before .before))) empty-sized (from-refused (c .before .before) .read-case .ensures) (c .before .before .said .given .1),
   c .unread .ensures .1,
 )
 
 returns-2 : tie.Need-returns-2
 returns-2 c = (
   c .plan-case .ensures .0
-      ∙ read _ empty (left (from-answered (lent-16 (c .before)))) empty-sized (from-answered (lent-16 (c .before)) .read-case .ensures) (lent-16 (c .before) .reading2 .given .1),
+      ∙ read _ empty (left (from-answered (lent-17 (c .before)))) empty-sized (from-answered (lent-17 (c .before)) .read-case .ensures) (lent-17 (c .before) .said2 .given .1),
   c .plan-case .ensures .1,
 )
 
@@ -337,10 +352,11 @@ plan-file-spec =
     slice-aggregate-read-case-14
     slice-aggregate-read-case-15
     slice-aggregate-read-case-16
+    slice-aggregate-read-case-17
     read-case-requires
-    enum-known-reading
+    enum-known-said
     unread-requires
-    enum-known-reading-2
+    enum-known-said-2
     add-levels
     mul-lines
     mul-lines-2
@@ -392,6 +408,9 @@ plan-file-spec =
     sub-plan-case-16
     part-plan-case-start-16
     part-plan-case-end-16
+    sub-plan-case-17
+    part-plan-case-start-17
+    part-plan-case-end-17
     plan-case-requires
     returns
     returns-2)

@@ -21,18 +21,18 @@ use Rattle.small.proofs.small_network.Tie as tie
 -- ---- the slices as they were lent, and their lengths
 abbrev lent : tie.Start → Places
 lent c =
-    placesOf (now (c .args .ladder)) (now (c .args .tier)) (now (c .args .load)) (now (c .args .generator-bus)) (now (c .args .slack)) (now (c .args .pmin))
+    placesOf (now (c .args .ladder)) (now (c .args .tier)) (now (c .args .reading)) (now (c .args .weight)) (now (c .args .generator-bus)) (now (c .args .slack)) (now (c .args .pmin))
     (now (c .args .pmax)) (now (c .args .c1)) (now (c .args .c2)) (now (c .args .a)) (now (c .args .b)) (now (c .args .circuits)) (now (c .args .length-km))
     (now (c .args .share)) (now (c .args .cap)) (now (c .args .sheet))
 
 abbrev start : tie.After-network-at → tie.Start
-start c = c .before .before .before .before .before .before .before .before .before .before .before .before .before .before .before .before .before .before .before
+start c = c .before .before .before .before .before .before .before .before .before .before .before .before .before .before .before .before .before .before .before .before
 
-short : (c : tie.Then1) → sizesOk (lent (c .before .before .before .before .before .before .before .before .before .before .before .before .before .before .before .before .before)) ≡ false
+short : (c : tie.Then1) → sizesOk (lent (c .before .before .before .before .before .before .before .before .before .before .before .before .before .before .before .before .before .before)) ≡ false
 unfolding sizesOk
 short c = not-true _ (c .if1 .taken)
 
-right : (c : tie.Then2) → sizesOk (lent (c .before .before .before .before .before .before .before .before .before .before .before .before .before .before .before .before .before .before)) ≡ true
+right : (c : tie.Then2) → sizesOk (lent (c .before .before .before .before .before .before .before .before .before .before .before .before .before .before .before .before .before .before .before)) ≡ true
 unfolding sizesOk
 right c = not-false _ (c .before .if1 .left)
 
@@ -45,10 +45,10 @@ abbrev generator-put : tie.After-put-corridors → tie.After-put-generator
 generator-put c = c .before .before .before .before .before .before .before .before .before .before .before .before .before .before .before .before .before .before .before .before
 
 abbrev buses-put : tie.After-put-generator → tie.After-put-buses
-buses-put c = c .before .before .before .before .before .before .before .before .before .before .before .before .before
+buses-put c = c .before .before .before .before .before .before .before .before .before .before .before .before .before .before .before
 
 abbrev taken-apart : tie.After-put-buses → tie.After-network-at
-taken-apart c = c .before .before .before .before
+taken-apart c = c .before .before .before .before .before
 
 -- ---- the needs
 returns : tie.Need-returns
@@ -82,43 +82,46 @@ same-length-3 : tie.Need-same-length-3
 same-length-3 c = buses-put (generator-put (c .before .before .before .before .before .before .before .before .before .before .before .before .before .before .before)) .put-buses .kept .1 .1 .1 .0
 
 same-length-4 : tie.Need-same-length-4
-same-length-4 c = generator-put (c .before .before .before .before .before .before .before .before .before .before .before .before .before .before .before) .put-generator .kept .0
+same-length-4 c = buses-put (generator-put (c .before .before .before .before .before .before .before .before .before .before .before .before .before .before .before)) .put-buses .kept .1 .1 .1 .1 .0
 
 same-length-5 : tie.Need-same-length-5
-same-length-5 c = generator-put (c .before .before .before .before .before .before .before .before .before .before .before .before .before .before .before) .put-generator .kept .1 .0
+same-length-5 c = generator-put (c .before .before .before .before .before .before .before .before .before .before .before .before .before .before .before) .put-generator .kept .0
 
 same-length-6 : tie.Need-same-length-6
-same-length-6 c = generator-put (c .before .before .before .before .before .before .before .before .before .before .before .before .before .before .before) .put-generator .kept .1 .1 .0
+same-length-6 c = generator-put (c .before .before .before .before .before .before .before .before .before .before .before .before .before .before .before) .put-generator .kept .1 .0
 
 same-length-7 : tie.Need-same-length-7
-same-length-7 c = generator-put (c .before .before .before .before .before .before .before .before .before .before .before .before .before .before .before) .put-generator .kept .1 .1 .1 .0
+same-length-7 c = generator-put (c .before .before .before .before .before .before .before .before .before .before .before .before .before .before .before) .put-generator .kept .1 .1 .0
 
 same-length-8 : tie.Need-same-length-8
-same-length-8 c = generator-put (c .before .before .before .before .before .before .before .before .before .before .before .before .before .before .before) .put-generator .kept .1 .1 .1 .1 .0
+same-length-8 c = generator-put (c .before .before .before .before .before .before .before .before .before .before .before .before .before .before .before) .put-generator .kept .1 .1 .1 .0
 
 same-length-9 : tie.Need-same-length-9
-same-length-9 c = generator-put (c .before .before .before .before .before .before .before .before .before .before .before .before .before .before .before) .put-generator .kept .1 .1 .1 .1 .1 .0
+same-length-9 c = generator-put (c .before .before .before .before .before .before .before .before .before .before .before .before .before .before .before) .put-generator .kept .1 .1 .1 .1 .0
 
 same-length-10 : tie.Need-same-length-10
-same-length-10 c = c .before .before .before .before .before .before .before .before .before .before .before .before .before .before .before .put-corridors .kept .1 .0
+same-length-10 c = generator-put (c .before .before .before .before .before .before .before .before .before .before .before .before .before .before .before) .put-generator .kept .1 .1 .1 .1 .1 .0
 
 same-length-11 : tie.Need-same-length-11
-same-length-11 c = c .before .before .before .before .before .before .before .before .before .before .before .before .before .before .before .put-corridors .kept .1 .1 .0
+same-length-11 c = c .before .before .before .before .before .before .before .before .before .before .before .before .before .before .before .put-corridors .kept .1 .0
 
 same-length-12 : tie.Need-same-length-12
-same-length-12 c = c .before .before .before .before .before .before .before .before .before .before .before .before .before .before .before .put-corridors .kept .1 .1 .1 .0
+same-length-12 c = c .before .before .before .before .before .before .before .before .before .before .before .before .before .before .before .put-corridors .kept .1 .1 .0
 
 same-length-13 : tie.Need-same-length-13
-same-length-13 c = c .before .before .before .before .before .before .before .before .before .before .before .before .before .before .before .put-corridors .kept .1 .1 .1 .1 .0
+same-length-13 c = c .before .before .before .before .before .before .before .before .before .before .before .before .before .before .before .put-corridors .kept .1 .1 .1 .0
 
 same-length-14 : tie.Need-same-length-14
-same-length-14 c = c .before .before .before .before .before .before .before .before .before .before .before .before .before .before .before .put-corridors .kept .1 .1 .1 .1 .1 .0
+same-length-14 c = c .before .before .before .before .before .before .before .before .before .before .before .before .before .before .before .put-corridors .kept .1 .1 .1 .1 .0
 
 same-length-15 : tie.Need-same-length-15
-same-length-15 c = c .before .before .before .before .before .before .before .before .before .before .before .before .before .before .before .put-corridors .kept .1 .1 .1 .1 .1 .1 .0
+same-length-15 c = c .before .before .before .before .before .before .before .before .before .before .before .before .before .before .before .put-corridors .kept .1 .1 .1 .1 .1 .0
 
 same-length-16 : tie.Need-same-length-16
-same-length-16 c = c .before .before .before .before .before .before .before .before .before .before .before .before .before .before .before .put-corridors .kept .1 .1 .1 .1 .1 .1 .1 .0
+same-length-16 c = c .before .before .before .before .before .before .before .before .before .before .before .before .before .before .before .put-corridors .kept .1 .1 .1 .1 .1 .1 .0
+
+same-length-17 : tie.Need-same-length-17
+same-length-17 c = c .before .before .before .before .before .before .before .before .before .before .before .before .before .before .before .put-corridors .kept .1 .1 .1 .1 .1 .1 .1 .0
 
 returns-3 : tie.Need-returns-3
 returns-3 c =
@@ -133,7 +136,8 @@ returns-3 c =
     (tables-made i (omega (arith, t .before .if2 .left))
     (sized (λ (n : ℕ) (s : Shape). figures n 1 kv kv kv) (z .ladder) q (b .put-buses .ensures .0))
     (sized (λ (n : ℕ) (s : Shape). counts n (s .buses) 0 0 0) (z .tier) q (b .put-buses .ensures .1 .0))
-    (sized (λ (n : ℕ) (s : Shape). figures n (s .buses) (lowestLoad (s .loads)) (lowestLoad (s .loads / 2)) (lowestLoad (s .loads / 2 / 2))) (z .load) q (b .put-buses .ensures .1 .1))
+    (sized (λ (n : ℕ) (s : Shape). figures n (s .buses) (lowestLoad (s .loads)) (lowestLoad (s .loads / 2)) (lowestLoad (s .loads / 2 / 2))) (z .reading) q (b .put-buses .ensures .1 .1 .0))
+    (sized (λ (n : ℕ) (s : Shape). figures n (s .buses) one one one) (z .weight) q (b .put-buses .ensures .1 .1 .1))
     (sized (λ (n : ℕ) (s : Shape). counts n 1 0 0 0) (z .bus) q (g .0))
     (sized (λ (n : ℕ) (s : Shape). counts n 1 1 1 1) (z .slack) q (g .1 .0))
     (sized (λ (n : ℕ) (s : Shape). figures n 1 nought nought nought) (z .pmin) q (g .1 .1 .0))
@@ -175,4 +179,5 @@ small-network-spec =
     same-length-14
     same-length-15
     same-length-16
+    same-length-17
     returns-3)

@@ -22,6 +22,12 @@ slice-aggregate-read-figures c = search needs
 read-figures-requires : tie.Need-read-figures-requires
 read-figures-requires c κs = search needs
 
+slice-aggregate-read-figures-2 : tie.Need-slice-aggregate-read-figures-2
+slice-aggregate-read-figures-2 c = search needs
+
+read-figures-requires-2 : tie.Need-read-figures-requires-2
+read-figures-requires-2 c κs = search needs
+
 slice-aggregate-read-edges : tie.Need-slice-aggregate-read-edges
 slice-aggregate-read-edges c = search needs
 
@@ -67,14 +73,17 @@ slice-aggregate-place-4 c = search needs
 slice-aggregate-place-5 : tie.Need-slice-aggregate-place-5
 slice-aggregate-place-5 c = search needs
 
+slice-aggregate-place-6 : tie.Need-slice-aggregate-place-6
+slice-aggregate-place-6 c = search needs
+
 place-requires : tie.Need-place-requires
 place-requires c κs =
-    let n = c .before .before .before .before .before .before .before .before .before .before .before .before .before .before .before .before .before .before .before .before .before .before .before .count .ensures .1 in
-    let m = c .before .before .before .before .before .before .before .before .before .before .before .before .before .before .before .before .before .before .before .before .before .before .count2 .ensures .1 in
-    let g = c .before .before .before .before .before .before .before .before .before .before .before .before .before .before .before .before .before .before .before .before .before .count3 .ensures .1 in
-    let e = c .before .before .before .before .before .before .before .before .before .before .before .before .before .before .read-edges .kept .1 .1 .1 in (
-      (omega arith, omega (arith, c .before .before .before .before .before .before .before .before .before .before .before .before .before .before .before .before .before .before .before .read-figures .kept .1 .1 .1 .0), omega (arith, e .0), omega (arith, e .1 .0)),
-      (omega (arith, e .1 .1 .0), omega (arith, c .before .before .before .before .before .before .before .before .before .read-wholes .kept .1 .1 .1 .0)),
+    let n = c .before .before .before .before .before .before .before .before .before .before .before .before .before .before .before .before .before .before .before .before .before .before .before .before .before .before .before .count .ensures .1 in
+    let m = c .before .before .before .before .before .before .before .before .before .before .before .before .before .before .before .before .before .before .before .before .before .before .before .before .before .before .count2 .ensures .1 in
+    let g = c .before .before .before .before .before .before .before .before .before .before .before .before .before .before .before .before .before .before .before .before .before .before .before .before .before .count3 .ensures .1 in
+    let e = c .before .before .before .before .before .before .before .before .before .before .before .before .before .before .before .read-edges .kept .1 .1 .1 in (
+      (omega arith, omega (arith, c .before .before .before .before .before .before .before .before .before .before .before .before .before .before .before .before .before .before .before .before .before .before .before .read-figures .kept .1 .1 .1 .0), omega (arith, c .before .before .before .before .before .before .before .before .before .before .before .before .before .before .before .before .before .before .before .before .read-figures2 .kept .1 .1 .1 .0), omega (arith, e .0), omega (arith, e .1 .0)),
+      (omega (arith, e .1 .1 .0), omega (arith, c .before .before .before .before .before .before .before .before .before .before .read-wholes .kept .1 .1 .1 .0)),
     )
 
 same-length-2 : tie.Need-same-length-2
@@ -93,6 +102,8 @@ answer-placement-spec =
     count-requires-3
     slice-aggregate-read-figures
     read-figures-requires
+    slice-aggregate-read-figures-2
+    read-figures-requires-2
     slice-aggregate-read-edges
     slice-aggregate-read-edges-2
     slice-aggregate-read-edges-3
@@ -108,6 +119,7 @@ answer-placement-spec =
     slice-aggregate-place-3
     slice-aggregate-place-4
     slice-aggregate-place-5
+    slice-aggregate-place-6
     place-requires
     same-length-2
     returns-2)

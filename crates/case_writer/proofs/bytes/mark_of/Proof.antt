@@ -26,6 +26,9 @@ enum-told-6 c = search needs
 enum-told-7 : tie.Need-enum-told-7
 enum-told-7 c = search needs
 
+enum-told-8 : tie.Need-enum-told-8
+enum-told-8 c = search needs
+
 returns : tie.Need-returns
 returns c = sym (ap markOf (c .enum-told .given .1))
 
@@ -47,6 +50,9 @@ returns-6 c = sym (ap markOf (c .enum-told6 .given .1))
 returns-7 : tie.Need-returns-7
 returns-7 c = sym (ap markOf (c .enum-told7 .given .1))
 
+returns-8 : tie.Need-returns-8
+returns-8 c = sym (ap markOf (c .enum-told8 .given .1))
+
 pub mark-of-spec : {M : Type 1} → statement M
 mark-of-spec =
     tie.close
@@ -58,10 +64,12 @@ mark-of-spec =
     enum-told-5
     enum-told-6
     enum-told-7
+    enum-told-8
     returns
     returns-2
     returns-3
     returns-4
     returns-5
     returns-6
-    returns-7)
+    returns-7
+    returns-8)

@@ -13,7 +13,7 @@ use Rattle.case_writer.proofs.file.put_small_network.Tie as tie
 -- the tables as they are lent
 abbrev empty : Places
 empty =
-    placesOf (replicate 5 nought) (replicate 256 0) (replicate 256 nought) (replicate 128 0) (replicate 128 0) (replicate 128 nought) (replicate 128 nought) (replicate 128 nought) (replicate 128 nought) (replicate 256 0) (replicate 256 0) (replicate 256 0) (replicate 256 nought) (replicate 256 nought) (replicate 256 0) (replicate 6400 nought)
+    placesOf (replicate 5 nought) (replicate 256 0) (replicate 256 nought) (replicate 256 nought) (replicate 128 0) (replicate 128 0) (replicate 128 nought) (replicate 128 nought) (replicate 128 nought) (replicate 128 nought) (replicate 256 0) (replicate 256 0) (replicate 256 0) (replicate 256 nought) (replicate 256 nought) (replicate 256 0) (replicate 6400 nought)
 
 empty-sized : sizesOk empty ≡ true
 unfolding sizesOk
@@ -67,14 +67,17 @@ slice-aggregate-small-network-15 c = search needs
 slice-aggregate-small-network-16 : tie.Need-slice-aggregate-small-network-16
 slice-aggregate-small-network-16 c = search needs
 
+slice-aggregate-small-network-17 : tie.Need-slice-aggregate-small-network-17
+slice-aggregate-small-network-17 c = search needs
+
 small-network-requires : tie.Need-small-network-requires
 small-network-requires c κs = search needs
 
-enum-known-reading : tie.Need-enum-known-reading
-enum-known-reading c = search needs
+enum-known-said : tie.Need-enum-known-said
+enum-known-said c = search needs
 
-enum-known-reading-2 : tie.Need-enum-known-reading-2
-enum-known-reading-2 c = search needs
+enum-known-said-2 : tie.Need-enum-known-said-2
+enum-known-said-2 c = search needs
 
 slice-aggregate-put-case-file : tie.Need-slice-aggregate-put-case-file
 slice-aggregate-put-case-file c = search needs
@@ -124,31 +127,34 @@ slice-aggregate-put-case-file-15 c = search needs
 slice-aggregate-put-case-file-16 : tie.Need-slice-aggregate-put-case-file-16
 slice-aggregate-put-case-file-16 c = search needs
 
+slice-aggregate-put-case-file-17 : tie.Need-slice-aggregate-put-case-file-17
+slice-aggregate-put-case-file-17 c = search needs
+
 put-case-file-requires : tie.Need-put-case-file-requires
 put-case-file-requires c κs =
-    let r = c .before .before .before .before .before .before .before .before .before .before .before .before .before .before .before .before .before .before .before .before .before .before .before .before .before .before .before .before .before .before .before .before .before .before .before .before .small-network in
-    let o = c .before .before .before .before .before .before .before .before .before .before .before .before .before .before .before .before .before .before .before .before .before .before .before .before .before .before .before .before .before .before .before .before .before .before .before .before .before .before .before .before .before .before .before .before .before .before .before .before .before .before .before .before .before .before in
-    let p = placesOf (r .last .1 .0) (r .last .1 .1 .0) (r .last .1 .1 .1 .0) (r .last .1 .1 .1 .1 .0) (r .last .1 .1 .1 .1 .1 .0) (r .last .1 .1 .1 .1 .1 .1 .0) (r .last .1 .1 .1 .1 .1 .1 .1 .0) (r .last .1 .1 .1 .1 .1 .1 .1 .1 .0) (r .last .1 .1 .1 .1 .1 .1 .1 .1 .1 .0) (r .last .1 .1 .1 .1 .1 .1 .1 .1 .1 .1 .0) (r .last .1 .1 .1 .1 .1 .1 .1 .1 .1 .1 .1 .0) (r .last .1 .1 .1 .1 .1 .1 .1 .1 .1 .1 .1 .1 .0) (r .last .1 .1 .1 .1 .1 .1 .1 .1 .1 .1 .1 .1 .1 .0) (r .last .1 .1 .1 .1 .1 .1 .1 .1 .1 .1 .1 .1 .1 .1 .0) (r .last .1 .1 .1 .1 .1 .1 .1 .1 .1 .1 .1 .1 .1 .1 .1 .0) (r .last .1 .1 .1 .1 .1 .1 .1 .1 .1 .1 .1 .1 .1 .1 .1 .1 .0) in
-    let a = network-read (o .args .place) empty p empty-sized (r .ensures) (c .before .before .before .before .before .before .before .before .before .before .before .before .before .before .before .before .before .before .reading2 .given .1) in
+    let r = c .before .before .before .before .before .before .before .before .before .before .before .before .before .before .before .before .before .before .before .before .before .before .before .before .before .before .before .before .before .before .before .before .before .before .before .before .before .before .small-network in
+    let o = c .before .before .before .before .before .before .before .before .before .before .before .before .before .before .before .before .before .before .before .before .before .before .before .before .before .before .before .before .before .before .before .before .before .before .before .before .before .before .before .before .before .before .before .before .before .before .before .before .before .before .before .before .before .before .before .before .before in
+    let p = placesOf (r .last .1 .0) (r .last .1 .1 .0) (r .last .1 .1 .1 .0) (r .last .1 .1 .1 .1 .0) (r .last .1 .1 .1 .1 .1 .0) (r .last .1 .1 .1 .1 .1 .1 .0) (r .last .1 .1 .1 .1 .1 .1 .1 .0) (r .last .1 .1 .1 .1 .1 .1 .1 .1 .0) (r .last .1 .1 .1 .1 .1 .1 .1 .1 .1 .0) (r .last .1 .1 .1 .1 .1 .1 .1 .1 .1 .1 .0) (r .last .1 .1 .1 .1 .1 .1 .1 .1 .1 .1 .1 .0) (r .last .1 .1 .1 .1 .1 .1 .1 .1 .1 .1 .1 .1 .0) (r .last .1 .1 .1 .1 .1 .1 .1 .1 .1 .1 .1 .1 .1 .0) (r .last .1 .1 .1 .1 .1 .1 .1 .1 .1 .1 .1 .1 .1 .1 .0) (r .last .1 .1 .1 .1 .1 .1 .1 .1 .1 .1 .1 .1 .1 .1 .1 .0) (r .last .1 .1 .1 .1 .1 .1 .1 .1 .1 .1 .1 .1 .1 .1 .1 .1 .0) (r .last .1 .1 .1 .1 .1 .1 .1 .1 .1 .1 .1 .1 .1 .1 .1 .1 .1 .0) in
+    let a = network-read (o .args .place) empty p empty-sized (r .ensures) (c .before .before .before .before .before .before .before .before .before .before .before .before .before .before .before .before .before .before .before .said2 .given .1) in
     (o .pre, (small (o .args .place) a, sized (o .args .place) a))
 
 returns : tie.Need-returns
 unfolding Wrote
 returns c =
-    let r = c .before .before .before .before .before .before .before .before .before .before .before .before .before .before .before .before .before .before .before .small-network in
-    let o = c .before .before .before .before .before .before .before .before .before .before .before .before .before .before .before .before .before .before .before .before .before .before .before .before .before .before .before .before .before .before .before .before .before .before .before .before .before in
-    let p = placesOf (r .last .1 .0) (r .last .1 .1 .0) (r .last .1 .1 .1 .0) (r .last .1 .1 .1 .1 .0) (r .last .1 .1 .1 .1 .1 .0) (r .last .1 .1 .1 .1 .1 .1 .0) (r .last .1 .1 .1 .1 .1 .1 .1 .0) (r .last .1 .1 .1 .1 .1 .1 .1 .1 .0) (r .last .1 .1 .1 .1 .1 .1 .1 .1 .1 .0) (r .last .1 .1 .1 .1 .1 .1 .1 .1 .1 .1 .0) (r .last .1 .1 .1 .1 .1 .1 .1 .1 .1 .1 .1 .0) (r .last .1 .1 .1 .1 .1 .1 .1 .1 .1 .1 .1 .1 .0) (r .last .1 .1 .1 .1 .1 .1 .1 .1 .1 .1 .1 .1 .1 .0) (r .last .1 .1 .1 .1 .1 .1 .1 .1 .1 .1 .1 .1 .1 .1 .0) (r .last .1 .1 .1 .1 .1 .1 .1 .1 .1 .1 .1 .1 .1 .1 .1 .0) (r .last .1 .1 .1 .1 .1 .1 .1 .1 .1 .1 .1 .1 .1 .1 .1 .1 .0) in
-    network-refused (o .args .place) empty p empty-sized (r .ensures) (c .before .reading .given .1)
+    let r = c .before .before .before .before .before .before .before .before .before .before .before .before .before .before .before .before .before .before .before .before .small-network in
+    let o = c .before .before .before .before .before .before .before .before .before .before .before .before .before .before .before .before .before .before .before .before .before .before .before .before .before .before .before .before .before .before .before .before .before .before .before .before .before .before .before in
+    let p = placesOf (r .last .1 .0) (r .last .1 .1 .0) (r .last .1 .1 .1 .0) (r .last .1 .1 .1 .1 .0) (r .last .1 .1 .1 .1 .1 .0) (r .last .1 .1 .1 .1 .1 .1 .0) (r .last .1 .1 .1 .1 .1 .1 .1 .0) (r .last .1 .1 .1 .1 .1 .1 .1 .1 .0) (r .last .1 .1 .1 .1 .1 .1 .1 .1 .1 .0) (r .last .1 .1 .1 .1 .1 .1 .1 .1 .1 .1 .0) (r .last .1 .1 .1 .1 .1 .1 .1 .1 .1 .1 .1 .0) (r .last .1 .1 .1 .1 .1 .1 .1 .1 .1 .1 .1 .1 .0) (r .last .1 .1 .1 .1 .1 .1 .1 .1 .1 .1 .1 .1 .1 .0) (r .last .1 .1 .1 .1 .1 .1 .1 .1 .1 .1 .1 .1 .1 .1 .0) (r .last .1 .1 .1 .1 .1 .1 .1 .1 .1 .1 .1 .1 .1 .1 .1 .0) (r .last .1 .1 .1 .1 .1 .1 .1 .1 .1 .1 .1 .1 .1 .1 .1 .1 .0) (r .last .1 .1 .1 .1 .1 .1 .1 .1 .1 .1 .1 .1 .1 .1 .1 .1 .1 .0) in
+    network-refused (o .args .place) empty p empty-sized (r .ensures) (c .before .said .given .1)
 
 same-length : tie.Need-same-length
 same-length c = search needs
 
 returns-2 : tie.Need-returns-2
 returns-2 c =
-    let r = c .before .before .before .before .before .before .before .before .before .before .before .before .before .before .before .before .before .before .before .before .before .before .before .before .before .before .before .before .before .before .before .before .before .before .before .before .before .before .before .small-network in
-    let o = c .before .before .before .before .before .before .before .before .before .before .before .before .before .before .before .before .before .before .before .before .before .before .before .before .before .before .before .before .before .before .before .before .before .before .before .before .before .before .before .before .before .before .before .before .before .before .before .before .before .before .before .before .before .before .before .before .before in
-    let p = placesOf (r .last .1 .0) (r .last .1 .1 .0) (r .last .1 .1 .1 .0) (r .last .1 .1 .1 .1 .0) (r .last .1 .1 .1 .1 .1 .0) (r .last .1 .1 .1 .1 .1 .1 .0) (r .last .1 .1 .1 .1 .1 .1 .1 .0) (r .last .1 .1 .1 .1 .1 .1 .1 .1 .0) (r .last .1 .1 .1 .1 .1 .1 .1 .1 .1 .0) (r .last .1 .1 .1 .1 .1 .1 .1 .1 .1 .1 .0) (r .last .1 .1 .1 .1 .1 .1 .1 .1 .1 .1 .1 .0) (r .last .1 .1 .1 .1 .1 .1 .1 .1 .1 .1 .1 .1 .0) (r .last .1 .1 .1 .1 .1 .1 .1 .1 .1 .1 .1 .1 .1 .0) (r .last .1 .1 .1 .1 .1 .1 .1 .1 .1 .1 .1 .1 .1 .1 .0) (r .last .1 .1 .1 .1 .1 .1 .1 .1 .1 .1 .1 .1 .1 .1 .1 .0) (r .last .1 .1 .1 .1 .1 .1 .1 .1 .1 .1 .1 .1 .1 .1 .1 .1 .0) in
-    let a = network-read (o .args .place) empty p empty-sized (r .ensures) (c .before .before .before .before .before .before .before .before .before .before .before .before .before .before .before .before .before .before .before .before .before .reading2 .given .1) in
+    let r = c .before .before .before .before .before .before .before .before .before .before .before .before .before .before .before .before .before .before .before .before .before .before .before .before .before .before .before .before .before .before .before .before .before .before .before .before .before .before .before .before .before .small-network in
+    let o = c .before .before .before .before .before .before .before .before .before .before .before .before .before .before .before .before .before .before .before .before .before .before .before .before .before .before .before .before .before .before .before .before .before .before .before .before .before .before .before .before .before .before .before .before .before .before .before .before .before .before .before .before .before .before .before .before .before .before .before .before in
+    let p = placesOf (r .last .1 .0) (r .last .1 .1 .0) (r .last .1 .1 .1 .0) (r .last .1 .1 .1 .1 .0) (r .last .1 .1 .1 .1 .1 .0) (r .last .1 .1 .1 .1 .1 .1 .0) (r .last .1 .1 .1 .1 .1 .1 .1 .0) (r .last .1 .1 .1 .1 .1 .1 .1 .1 .0) (r .last .1 .1 .1 .1 .1 .1 .1 .1 .1 .0) (r .last .1 .1 .1 .1 .1 .1 .1 .1 .1 .1 .0) (r .last .1 .1 .1 .1 .1 .1 .1 .1 .1 .1 .1 .0) (r .last .1 .1 .1 .1 .1 .1 .1 .1 .1 .1 .1 .1 .0) (r .last .1 .1 .1 .1 .1 .1 .1 .1 .1 .1 .1 .1 .1 .0) (r .last .1 .1 .1 .1 .1 .1 .1 .1 .1 .1 .1 .1 .1 .1 .0) (r .last .1 .1 .1 .1 .1 .1 .1 .1 .1 .1 .1 .1 .1 .1 .1 .0) (r .last .1 .1 .1 .1 .1 .1 .1 .1 .1 .1 .1 .1 .1 .1 .1 .1 .0) (r .last .1 .1 .1 .1 .1 .1 .1 .1 .1 .1 .1 .1 .1 .1 .1 .1 .1 .0) in
+    let a = network-read (o .args .place) empty p empty-sized (r .ensures) (c .before .before .before .before .before .before .before .before .before .before .before .before .before .before .before .before .before .before .before .before .before .before .said2 .given .1) in
     let put = c .before .before .put-case-file .ensures in
     wrote-file (o .args .place) a (put .1) (put .0)
 
@@ -172,9 +178,10 @@ put-small-network-spec =
     slice-aggregate-small-network-14
     slice-aggregate-small-network-15
     slice-aggregate-small-network-16
+    slice-aggregate-small-network-17
     small-network-requires
-    enum-known-reading
-    enum-known-reading-2
+    enum-known-said
+    enum-known-said-2
     slice-aggregate-put-case-file
     slice-aggregate-put-case-file-2
     slice-aggregate-put-case-file-3
@@ -191,6 +198,7 @@ put-small-network-spec =
     slice-aggregate-put-case-file-14
     slice-aggregate-put-case-file-15
     slice-aggregate-put-case-file-16
+    slice-aggregate-put-case-file-17
     put-case-file-requires
     returns
     same-length

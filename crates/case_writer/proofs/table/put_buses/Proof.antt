@@ -4,25 +4,25 @@ use mathlib.Core.Path.{_≡_, refl}
 use native.Mathlib.Omega.{arith}
 use lib.ListN.{length}
 use Rattle.casefile_defs.specs.Layout.{sizeOf}
-use Rattle.casefile_defs.specs.declared.Kind.the-variants.{Bus}
+use Rattle.casefile_defs.specs.declared.Kind.the-variants.{WeighedBus}
 use Rattle.casefile_theorems.specs.Writer.{tableBytes}
 use Rattle.case_writer.specs.Put.{Put}
-use Rattle.case_writer.specs.Words.{only, busWords}
+use Rattle.case_writer.specs.Words.{only, busKind, busWords}
 use Rattle.case_writer.proofs.Puts.{no-record, one-more, all-put}
 use Rattle.case_writer.proofs.table.put_buses.Statement.{statement}
 use Rattle.case_writer.proofs.table.put_buses.Tie as tie
 
 abbrev Inv-loop : tie.InvT-loop
-Inv-loop out₀ len count tier load used₀ i₀ out used i =
-    (i ≤ count) × (length out ≡ length out₀) × (used ≡ len + i * sizeOf Bus) × Put out₀ len (tableBytes (only Bus) i (busWords tier load)) out used
+Inv-loop out₀ len count weighed tier reading weight used₀ i₀ out used i =
+    (i ≤ count) × (length out ≡ length out₀) × (used ≤ len + i * sizeOf WeighedBus) × Put out₀ len (tableBytes (only (busKind weighed)) i (busWords tier reading weight)) out used
 
 abbrev μ-loop : tie.MeasureT-loop
-μ-loop out₀ len count tier load used₀ i₀ out used i = count - i
+μ-loop out₀ len count weighed tier reading weight used₀ i₀ out used i = count - i
 
 loop-holds : tie.Need-loop-holds Inv-loop μ-loop
 loop-holds c =
-    let a = c .before .before .before .args in
-    (omega arith, refl, omega arith, no-record (a .out .now) (only Bus) (busWords (a .tier .now) (a .load .now)) (a .len))
+    let a = c .before .before .before .before .args in
+    (omega arith, refl, omega arith, no-record (a .out .now) (only (busKind (a .weighed))) (busWords (a .tier .now) (a .reading .now) (a .weight .now)) (a .len))
 
 mul-put-bus : tie.Need-mul-put-bus Inv-loop μ-loop
 mul-put-bus c = omega arith
@@ -36,6 +36,12 @@ mul-put-bus-2 c = omega arith
 shared-slice-read-put-bus-2 : tie.Need-shared-slice-read-put-bus-2 Inv-loop μ-loop
 shared-slice-read-put-bus-2 c = omega arith
 
+mul-put-bus-3 : tie.Need-mul-put-bus-3 Inv-loop μ-loop
+mul-put-bus-3 c = omega arith
+
+shared-slice-read-put-bus-3 : tie.Need-shared-slice-read-put-bus-3 Inv-loop μ-loop
+shared-slice-read-put-bus-3 c = omega arith
+
 put-bus-requires : tie.Need-put-bus-requires Inv-loop μ-loop
 put-bus-requires c κs = omega arith
 
@@ -47,10 +53,10 @@ loop-less c = omega arith
 
 loop-again : tie.Need-loop-again Inv-loop μ-loop
 loop-again c =
-    let l = c .before .before .before .before .before .before .before .loop in
-    let a = c .before .before .before .before .before .before .before .before .before .before .before .args in
+    let l = c .before .before .before .before .before .before .before .before .loop in
+    let a = c .before .before .before .before .before .before .before .before .before .before .before .before .before .args in
     let put = c .before .before .put-bus .ensures in
-    (omega arith, omega arith, omega (arith, put .1), one-more (only Bus) (busWords (a .tier .now) (a .load .now)) (l .i) (l .inv .3) (put .0))
+    (omega arith, omega arith, omega (arith, put .1), one-more (only (busKind (a .weighed))) (busWords (a .tier .now) (a .reading .now) (a .weight .now)) (l .i) (l .inv .3) (put .0))
 
 same-length : tie.Need-same-length Inv-loop μ-loop
 same-length c = omega arith
@@ -58,9 +64,9 @@ same-length c = omega arith
 returns : tie.Need-returns Inv-loop μ-loop
 returns c =
     let l = c .before .loop in
-    let a = c .before .before .before .before .before .args in
+    let a = c .before .before .before .before .before .before .args in
     let end : l .i ≡ a .count = omega arith in
-    (all-put (only Bus) (busWords (a .tier .now) (a .load .now)) (l .i) (a .count) end (l .inv .3), omega arith)
+    (all-put (only (busKind (a .weighed))) (busWords (a .tier .now) (a .reading .now) (a .weight .now)) (l .i) (a .count) end (l .inv .3), omega arith)
 
 pub put-buses-spec : {M : Type 1} → statement M
 put-buses-spec =
@@ -73,6 +79,8 @@ put-buses-spec =
     shared-slice-read-put-bus
     mul-put-bus-2
     shared-slice-read-put-bus-2
+    mul-put-bus-3
+    shared-slice-read-put-bus-3
     put-bus-requires
     add-i
     loop-less

@@ -7,8 +7,11 @@ use Rattle.planning.proofs.check.bus_ok.Tie as tie
 wide-requires : tie.Need-wide-requires
 wide-requires c κs = search needs
 
+load-ok-requires : tie.Need-load-ok-requires
+load-ok-requires c κs = search needs
+
 returns : tie.Need-returns
-returns c = rw (c .wide .ensures)
+returns c = rw (c .load-ok .ensures, c .before .wide .ensures)
 
 pub bus-ok-spec : {M : Type 1} → statement M
-bus-ok-spec = tie.close (tie.spec wide-requires returns)
+bus-ok-spec = tie.close (tie.spec wide-requires load-ok-requires returns)

@@ -4,20 +4,22 @@ use Prim.Native.Nat.{_-_, _≤_}
 use mathlib.Core.Path.{_≡_, sym, _∙_}
 use borrow.Author.Tests.{not-true, not-false}
 use native.Mathlib.Omega.{arith}
+use denote.Ref.{now}
 use lib.ListN.{length}
 use borrow.Author.Needs.{needs}
 use Rattle.loops.specs.Loops.{first}
 use Rattle.loops.proofs.Scan.{first-start, first-pass, first-stop, first-end}
 use Rattle.plan_defs.specs.Accept.{busOk}
 use Rattle.planning.specs.Check.{busesFor}
+use Rattle.planning.proofs.Checks.{bus-is}
 use Rattle.planning.proofs.check.faulty_bus.Statement.{statement}
 use Rattle.planning.proofs.check.faulty_bus.Tie as tie
 
 abbrev Inv-loop : tie.InvT-loop
-Inv-loop requested tier load i₀ i = (i ≤ length tier) × (first (busOk (busesFor requested tier load)) (length tier - i) i ≡ first (busOk (busesFor requested tier load)) (length tier) 0)
+Inv-loop requested tier reading weight i₀ i = (i ≤ length tier) × (first (busOk (busesFor requested tier reading weight)) (length tier - i) i ≡ first (busOk (busesFor requested tier reading weight)) (length tier) 0)
 
 abbrev μ-loop : tie.MeasureT-loop
-μ-loop requested tier load i₀ i = length tier - i
+μ-loop requested tier reading weight i₀ i = length tier - i
 
 loop-holds : tie.Need-loop-holds Inv-loop μ-loop
 loop-holds c = (omega arith, first-start _ _)
@@ -34,14 +36,20 @@ mul-bus-ok-2 c = search needs
 shared-slice-read-bus-ok-2 : tie.Need-shared-slice-read-bus-ok-2 Inv-loop μ-loop
 shared-slice-read-bus-ok-2 c = search needs
 
+mul-bus-ok-3 : tie.Need-mul-bus-ok-3 Inv-loop μ-loop
+mul-bus-ok-3 c = search needs
+
+shared-slice-read-bus-ok-3 : tie.Need-shared-slice-read-bus-ok-3 Inv-loop μ-loop
+shared-slice-read-bus-ok-3 c = search needs
+
 bus-ok-requires : tie.Need-bus-ok-requires Inv-loop μ-loop
 bus-ok-requires c κs = search needs
 
 returns : tie.Need-returns Inv-loop μ-loop
-unfolding busOk
 returns c =
-    let l = c .before .before .before .before .before in
-    sym (first-stop _ _ (l .loop .i) (omega arith) (sym (c .before .bus-ok .ensures) ∙ not-true _ (c .if1 .taken))) ∙ l .loop .inv .1
+    let l = c .before .before .before .before .before .before in
+    let z = l .before .before .before .before .args in
+    sym (first-stop _ _ (l .loop .i) (omega arith) (sym (bus-is (z .requested) (now (z .tier)) (now (z .reading)) (now (z .weight)) (l .loop .i) _ (omega arith) (c .before .bus-ok .ensures)) ∙ not-true _ (c .if1 .taken))) ∙ l .loop .inv .1
 
 add-i : tie.Need-add-i Inv-loop μ-loop
 add-i c = search needs
@@ -50,10 +58,10 @@ loop-less : tie.Need-loop-less Inv-loop μ-loop
 loop-less c = search needs
 
 loop-again : tie.Need-loop-again Inv-loop μ-loop
-unfolding busOk
 loop-again c =
-    let l = c .before .before .before .before .before in
-    (omega arith, sym (first-pass _ _ (l .loop .i) (omega arith) (sym (c .before .bus-ok .ensures) ∙ not-false _ (c .if1 .left))) ∙ l .loop .inv .1)
+    let l = c .before .before .before .before .before .before in
+    let z = l .before .before .before .before .args in
+    (omega arith, sym (first-pass _ _ (l .loop .i) (omega arith) (sym (bus-is (z .requested) (now (z .tier)) (now (z .reading)) (now (z .weight)) (l .loop .i) _ (omega arith) (c .before .bus-ok .ensures)) ∙ not-false _ (c .if1 .left))) ∙ l .loop .inv .1)
 
 returns-2 : tie.Need-returns-2 Inv-loop μ-loop
 returns-2 c = sym (first-end _ _ (c .before .loop .i) (omega arith)) ∙ c .before .loop .inv .1
@@ -69,6 +77,8 @@ faulty-bus-spec =
     shared-slice-read-bus-ok
     mul-bus-ok-2
     shared-slice-read-bus-ok-2
+    mul-bus-ok-3
+    shared-slice-read-bus-ok-3
     bus-ok-requires
     returns
     add-i

@@ -24,6 +24,9 @@ fill-counts-requires c κs = search needs
 fill-figures-requires-2 : tie.Need-fill-figures-requires-2
 fill-figures-requires-2 c κs = search needs
 
+fill-figures-requires-3 : tie.Need-fill-figures-requires-3
+fill-figures-requires-3 c κs = search needs
+
 same-length : tie.Need-same-length
 same-length c = search needs
 
@@ -33,12 +36,18 @@ same-length-2 c = search needs
 same-length-3 : tie.Need-same-length-3
 same-length-3 c = search needs
 
+same-length-4 : tie.Need-same-length-4
+same-length-4 c = search needs
+
 returns : tie.Need-returns
 returns c = (
-  c .before .before .before .before .before .before .before .before .before .before .fill-figures .ensures,
+  c .before .before .before .before .before .before .before .before .before .before .before .before .before .before .fill-figures .ensures,
   (
-    c .before .before .before .before .before .before .fill-counts .ensures,
-    c .before .before .fill-figures2 .ensures ∙ values nought _ _ (c .before .before .before .before .before .before .before .before .before .before .before .before .before .before .lowest-load .ensures) (c .before .before .before .before .before .before .before .before .before .before .before .before .before .lowest-load2 .ensures) (c .before .before .before .before .before .before .before .before .before .before .before .before .lowest-load3 .ensures),
+    c .before .before .before .before .before .before .before .before .before .before .fill-counts .ensures,
+    (
+      c .before .before .before .before .before .before .fill-figures2 .ensures ∙ values nought _ _ (c .before .before .before .before .before .before .before .before .before .before .before .before .before .before .before .before .before .before .lowest-load .ensures) (c .before .before .before .before .before .before .before .before .before .before .before .before .before .before .before .before .before .lowest-load2 .ensures) (c .before .before .before .before .before .before .before .before .before .before .before .before .before .before .before .before .lowest-load3 .ensures),
+      c .before .before .fill-figures3 .ensures,
+    ),
   ),
 )
 
@@ -52,7 +61,9 @@ put-buses-spec =
     fill-figures-requires
     fill-counts-requires
     fill-figures-requires-2
+    fill-figures-requires-3
     same-length
     same-length-2
     same-length-3
+    same-length-4
     returns)

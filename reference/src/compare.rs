@@ -31,11 +31,27 @@ pub const LIMIT: Duration = Duration::from_secs(120);
 /// written its last.
 const PAUSE: Duration = Duration::from_micros(50);
 
-/// A program that is compared; it reads standard input and takes no arguments.
+/// A program that is compared; it reads standard input.
 pub struct Program<'a> {
     pub path: &'a str,
+    pub arguments: Vec<&'a str>,
     /// How long one run may take.
     pub limit: Duration,
+}
+
+impl<'a> Program<'a> {
+    /// A program without arguments.
+    pub fn at(path: &'a str) -> Self {
+        Self::called(path, &[])
+    }
+
+    pub fn called(path: &'a str, arguments: &[&'a str]) -> Self {
+        Self {
+            path,
+            arguments: arguments.to_vec(),
+            limit: LIMIT,
+        }
+    }
 }
 
 /// How many answers were compared, how many differed, and what was met.
@@ -74,6 +90,7 @@ impl Program<'_> {
     pub fn run(&self, input: Vec<u8>) -> io::Result<Run> {
         let until = Instant::now() + self.limit;
         let mut child = Command::new(self.path)
+            .args(&self.arguments)
             .stdin(Stdio::piped())
             .stdout(Stdio::piped())
             .spawn()?;

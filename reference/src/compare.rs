@@ -31,26 +31,16 @@ pub const LIMIT: Duration = Duration::from_secs(120);
 /// written its last.
 const PAUSE: Duration = Duration::from_micros(50);
 
-/// A program that is compared; it reads standard input.
+/// A program that is compared; it reads standard input and takes no arguments.
 pub struct Program<'a> {
     pub path: &'a str,
-    pub arguments: Vec<&'a str>,
     /// How long one run may take.
     pub limit: Duration,
 }
 
 impl<'a> Program<'a> {
-    /// A program without arguments.
     pub fn at(path: &'a str) -> Self {
-        Self::called(path, &[])
-    }
-
-    pub fn called(path: &'a str, arguments: &[&'a str]) -> Self {
-        Self {
-            path,
-            arguments: arguments.to_vec(),
-            limit: LIMIT,
-        }
+        Self { path, limit: LIMIT }
     }
 }
 
@@ -90,7 +80,6 @@ impl Program<'_> {
     pub fn run(&self, input: Vec<u8>) -> io::Result<Run> {
         let until = Instant::now() + self.limit;
         let mut child = Command::new(self.path)
-            .args(&self.arguments)
             .stdin(Stdio::piped())
             .stdout(Stdio::piped())
             .spawn()?;

@@ -148,11 +148,10 @@ fn run(words: &[&str]) -> Result<(), Failure> {
             if listing.len() < 2 =>
         {
             let direction = Direction::of(word).ok_or(Failure::Usage)?;
-            let program = Program::called(path, &[word]);
-            let back = Program::called(path, &[direction.other().word()]);
+            let program = Program::at(path);
             let listing = listing.first().map(|path| Program::at(path));
             let seeds = (number(first)?, number(count)?);
-            let outcome = compare_moves(&program, &back, listing.as_ref(), direction, seeds)?;
+            let outcome = compare_moves(&program, listing.as_ref(), direction, seeds)?;
             report_counted(word, "comparisons of moved files", &outcome, counts)
         }
         ["season"] => write(answer_season(&input()?).as_bytes()),

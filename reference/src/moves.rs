@@ -25,13 +25,21 @@ fn listed(listing: &Program, file: &[u8]) -> io::Result<Vec<u8>> {
     }
 }
 
+/// What the program reads: the direction's first letter, then the file.
+fn told(direction: Direction, file: &[u8]) -> Vec<u8> {
+    let letter: &[u8] = match direction {
+        Direction::Forward => b"F",
+        Direction::Back => b"B",
+    };
+    [letter, file].concat()
+}
+
 /// Moves the files of `count` seeds by `program`, and what is answered back
 /// again; both are compared with the reference's, byte by byte. `listing`, or
 /// the reference where there is none, lists each moved file as the file itself
 /// is listed by the reference.
 pub fn compare_moves(
     program: &Program,
-    back: &Program,
     listing: Option<&Program>,
     direction: Direction,
     (first_seed, count): (u64, u64),
@@ -45,7 +53,7 @@ pub fn compare_moves(
         let mut moved = None;
         let goes_on = judge(
             program,
-            bytes.clone(),
+            told(direction, &bytes),
             seed,
             &mut outcome,
             |theirs, outcome| {
@@ -60,8 +68,8 @@ pub fn compare_moves(
             continue;
         };
         let goes_on = judge(
-            back,
-            moved.clone(),
+            program,
+            told(direction.other(), &moved),
             seed,
             &mut outcome,
             |theirs, outcome| {

@@ -38,6 +38,12 @@ pub struct Program<'a> {
     pub limit: Duration,
 }
 
+impl<'a> Program<'a> {
+    pub fn at(path: &'a str) -> Self {
+        Self { path, limit: LIMIT }
+    }
+}
+
 /// How many answers were compared, how many differed, and what was met.
 #[derive(Default)]
 pub struct Outcome {

@@ -16,6 +16,7 @@ pub mod differences;
 pub mod generate;
 pub mod harness;
 pub mod judge;
+pub mod moves;
 pub mod previews;
 pub mod tally;
 pub mod targets;

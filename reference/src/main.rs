@@ -5,9 +5,10 @@ use std::process::ExitCode;
 
 use reference::compare::{
     compare_answers, compare_cases, compare_padded, compare_seasons, wrong_answers, Asking,
-    Outcome, Program, LIMIT,
+    Outcome, Program,
 };
 use reference::differences::sheet_differences;
+use reference::generate::cases::moved::file_to_move;
 use reference::generate::cases::{case_file, ones_file, serving_file, without_weights};
 use reference::generate::requests::{as_input, batch, KINDS};
 use reference::generate::seasons::{as_blocks, season};
@@ -15,9 +16,11 @@ use reference::harness::answers::answer_all;
 use reference::harness::case_file::{answer_read, write_case};
 use reference::harness::case_text::parse_text;
 use reference::harness::listing::answer_list;
+use reference::harness::moves::{answer_move, Direction};
 use reference::harness::preview::answer_preview;
 use reference::harness::season::answer_season;
 use reference::harness::small::small_networks;
+use reference::moves::compare_moves;
 use reference::previews::{compare_previews, preview_input};
 use reference::tally::Tally;
 use reference::targets::compare_targets;
@@ -34,6 +37,9 @@ const USAGE: &str = "usage:
   reference compare-cases PROGRAM list|read|serve|ones FIRST_SEED COUNT COUNTS
   reference compare-padded PROGRAM                           padded files made by hand, read by both
   reference compare-targets PROGRAM FIRST_SEED COUNT          each Expand case under several targets
+  reference move forward|back                                a case file on standard input, into the other form
+  reference to-move forward|back SEED                        a case file for it
+  reference compare-moves PROGRAM forward|back FIRST_SEED COUNT COUNTS [LISTING]
   reference season                                           case files on standard input, 65,536 bytes each
   reference season-files SEED
   reference compare-seasons PROGRAM FIRST_SEED COUNT
@@ -89,7 +95,7 @@ fn run(words: &[&str]) -> Result<(), Failure> {
             write(&as_input(&requests.ok_or(Failure::Usage)?))
         }
         ["compare-answers", path, kind, first, batches, counts] if KINDS.contains(&kind) => {
-            let program = Program { path, limit: LIMIT };
+            let program = Program::at(path);
             let outcome = compare_answers(&program, kind, number(first)?, number(batches)?)?;
             report_counted(kind, "requests", &outcome, counts)
         }
@@ -101,14 +107,14 @@ fn run(words: &[&str]) -> Result<(), Failure> {
             }
         }
         ["sheet-differences", path, first, batches] => {
-            let program = Program { path, limit: LIMIT };
+            let program = Program::at(path);
             let text = sheet_differences(&program, number(first)?, number(batches)?)?;
             write(text.as_bytes())
         }
         ["case", seed] => write(&case_file(number(seed)?).bytes),
         ["serving", seed] => write(&serving_file(number(seed)?).bytes),
         ["compare-cases", path, what, first, count, counts] => {
-            let program = Program { path, limit: LIMIT };
+            let program = Program::at(path);
             let asking: Asking = match what {
                 "list" => ("list", case_file, answer_list),
                 "read" => ("read", case_file, answer_read),
@@ -122,25 +128,43 @@ fn run(words: &[&str]) -> Result<(), Failure> {
             report_counted(what, "cases", &outcome, counts)
         }
         ["compare-padded", path] => {
-            let program = Program { path, limit: LIMIT };
+            let program = Program::at(path);
             report("padded", "files", &compare_padded(&program)?)
         }
         ["compare-targets", path, first, count] => {
-            let program = Program { path, limit: LIMIT };
+            let program = Program::at(path);
             let outcome = compare_targets(&program, number(first)?, number(count)?)?;
             report("targets", "comparisons", &outcome)
+        }
+        ["move", word] => {
+            let direction = Direction::of(word).ok_or(Failure::Usage)?;
+            write(&answer_move(&input()?, direction))
+        }
+        ["to-move", word, seed] => {
+            let direction = Direction::of(word).ok_or(Failure::Usage)?;
+            write(&file_to_move(number(seed)?, direction).bytes)
+        }
+        ["compare-moves", path, word, first, count, counts, ref listing @ ..]
+            if listing.len() < 2 =>
+        {
+            let direction = Direction::of(word).ok_or(Failure::Usage)?;
+            let program = Program::at(path);
+            let listing = listing.first().map(|path| Program::at(path));
+            let seeds = (number(first)?, number(count)?);
+            let outcome = compare_moves(&program, listing.as_ref(), direction, seeds)?;
+            report_counted(word, "comparisons of moved files", &outcome, counts)
         }
         ["season"] => write(answer_season(&input()?).as_bytes()),
         ["season-files", seed] => write(&as_blocks(&season(number(seed)?).files, false)),
         ["compare-seasons", path, first, count] => {
-            let program = Program { path, limit: LIMIT };
+            let program = Program::at(path);
             let outcome = compare_seasons(&program, number(first)?, number(count)?)?;
             report("seasons", "answers", &outcome)
         }
         ["preview"] => write(answer_preview(&input()?).as_bytes()),
         ["preview-input", seed] => write(&preview_input(number(seed)?)),
         ["compare-previews", path, first, count, counts] => {
-            let program = Program { path, limit: LIMIT };
+            let program = Program::at(path);
             let outcome = compare_previews(&program, number(first)?, number(count)?)?;
             report_counted("previews", "answers", &outcome, counts)
         }

@@ -9,6 +9,7 @@ use std::ops::RangeInclusive;
 use crate::generate::cases::{self, CaseFile};
 use crate::generate::requests::{family_names, largest, Request, KINDS};
 use crate::harness::case_file::{read_case, MOST_BYTES};
+use crate::harness::moves::Direction;
 use crate::harness::operations::leaders;
 use crate::harness::tables::{
     Case, CorridorRecord, MOST_BUSES, MOST_CORRIDORS, MOST_GENERATORS, MOST_LEVELS, MOST_MODE,
@@ -66,6 +67,16 @@ const ANSWERS: &[(&str, &[&str])] = &[
         &["RF 2", "RF 6", "RF 8", "RF 9", "RF 13", "RF 15", "RF 17"],
     ),
     ("BAD", &["??"]),
+    (
+        "forward",
+        &["moved", "RF 2", "RF 13", "RF 14", "RF 15", "RF 16", "RF 17"],
+    ),
+    (
+        "back",
+        &[
+            "moved", "RF 2", "RF 13", "RF 14", "RF 15", "RF 16", "RF 17", "RF 21",
+        ],
+    ),
 ];
 
 type TestOf<T> = fn(&T) -> bool;
@@ -220,6 +231,27 @@ impl Tally {
         self.answer(what, answer);
     }
 
+    /// Counts a file that is moved, and what the reference build answers.
+    pub fn moved(&mut self, direction: Direction, family: &str, file: &[u8], answer: &[u8]) {
+        let word = direction.word();
+        self.count("compared: moves".to_owned());
+        self.count(format!("moved: {word}, {family}"));
+        if answer.starts_with(b"RF") {
+            return self.answer(word, &String::from_utf8_lossy(answer));
+        }
+        self.answer(word, "moved");
+        let buses = read_case(file).map_or(0, |case| case.buses.len());
+        let sizes = [
+            ("no bus", buses == 0),
+            ("256 buses", buses == MOST_BUSES),
+            ("65,536 bytes", file.len() == MOST_BYTES),
+            ("fewer bytes", file.len() < MOST_BYTES),
+        ];
+        for (name, _) in sizes.into_iter().filter(|&(_, is_so)| is_so) {
+            self.count(format!("moved: {word}, answered, {name}"));
+        }
+    }
+
     /// Counts a request and the reference build's answer.
     pub fn request(&mut self, kind: &str, request: &Request, answer: &[u8]) {
         self.count(format!("compared: {kind}"));
@@ -312,6 +344,14 @@ fn expected() -> BTreeMap<String, u64> {
     let serving = cases::serving_names().into_iter();
     let serving = serving.map(|name| format!("case: serve, {name}"));
     let serving = serving.chain(caps("serve", SERVING..=MOST_MODE));
+    let moves = ["forward", "back"].into_iter().flat_map(|word| {
+        let families = cases::moved::move_names().map(str::to_owned);
+        let sizes = ["no bus", "256 buses", "65,536 bytes", "fewer bytes"];
+        let sizes = sizes.map(|name| format!("answered, {name}"));
+        families
+            .chain(sizes)
+            .map(move |name| format!("moved: {word}, {name}"))
+    });
     let of_requests = KINDS.iter().flat_map(|kind| {
         family_names(kind)
             .into_iter()
@@ -321,6 +361,7 @@ fn expected() -> BTreeMap<String, u64> {
         .chain(answers)
         .chain(of_cases)
         .chain(serving)
+        .chain(moves)
         .chain(of_requests);
     let mut expected: BTreeMap<String, u64> = names.map(|name| (name, 1)).collect();
     for kind in KINDS {

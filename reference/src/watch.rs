@@ -51,6 +51,7 @@ branches! {
     WeighedCut "case file: a BV of 11 to 18 bytes, at which the file ends"
     WeighedAfterPlain "case file: a BV among BU"
     PlainAfterWeighed "case file: a BU among BV"
+    OtherForm "case file: moved, it has the other form at its first bus"
     FormsMeetSecond "case file: the forms meet at the second bus"
     FormsMeetBetween "case file: the forms meet at a bus between"
     FormsMeetLast "case file: the forms meet at the last bus"

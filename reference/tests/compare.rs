@@ -29,8 +29,8 @@ fn answers(name: &str, commands: &str, seconds: u64) -> Outcome {
     let _one = ONE.lock().unwrap_or_else(PoisonError::into_inner);
     let path = script(name, commands);
     let program = Program {
-        path: path.to_str().expect("a path of text"),
         limit: Duration::from_secs(seconds),
+        ..Program::at(path.to_str().expect("a path of text"))
     };
     // Seed 4 leaves out the last line feed.
     compare_answers(&program, "IMP", 1, 4).expect("the program starts")
@@ -39,10 +39,7 @@ fn answers(name: &str, commands: &str, seconds: u64) -> Outcome {
 fn listings(name: &str, commands: &str) -> Outcome {
     let _one = ONE.lock().unwrap_or_else(PoisonError::into_inner);
     let path = script(name, commands);
-    let program = Program {
-        path: path.to_str().expect("a path of text"),
-        limit: Duration::from_secs(60),
-    };
+    let program = Program::at(path.to_str().expect("a path of text"));
     compare_cases(&program, ("list", case_file, answer_list), 0, 3).expect("the program starts")
 }
 

@@ -1,19 +1,24 @@
-// Case reading: the bytes of a case file into tables (document 01, "Case file" and "Case reading").
+// Case reading: the bytes of a case file into tables (document 01, "Case file" and "Case reading"); and a file's buses in the other form (document 02, K7).
 ghost use mathlib.Core.Path.{_≡_};
 ghost use Rattle.casefile_defs.specs.Tables.{held, outcome, placesOf, readCase};
+ghost use Rattle.casefile_defs.specs.Moving.{movedAs, moveForward, moveBack};
 use casefile_defs::CaseRead;
 use casefile_defs::Header;
 use casefile_defs::MOST_BUSES;
+use casefile_defs::MOST_BYTES;
 use casefile_defs::MOST_CORRIDORS;
 use casefile_defs::MOST_GENERATORS;
 use casefile_defs::MOST_LEVELS;
 use casefile_defs::MOST_SHEET;
 use casefile_defs::Reading;
+use casefile_defs::Wanted;
 use mode::PlanMode;
+use refusal::Answer;
 use refusal::Refusal;
 
 mod bytes;
 mod columns;
+mod moving;
 mod record;
 mod scan;
 mod tables;
@@ -79,7 +84,7 @@ pub fn read_case(
     if !sized {
         return scan::said(Reading::Refused(Refusal::Length), 0);
     }
-    let read = scan::read_of(file);
+    let read = scan::read_as(file, Wanted::Either);
     let said = read.reading;
     let h = held(said);
     let levels = h.above + h.requested;
@@ -109,4 +114,30 @@ pub fn read_case(
     );
     tables::read_lines(file, lines, h.corridors * levels, sheet);
     read
+}
+
+// A file of BU as one of BV: each load a reading of weight 1.
+pub fn move_forward(file: &[u8], out: &mut [u8]) -> Answer
+    ensures { λ r. ⌜ movedAs r (now (out .exit)) ≡ moveForward (now (file .entry)) (now (out .entry)) ⌝ }
+{
+    if out.len() != MOST_BYTES {
+        return Answer::Refused(Refusal::Length);
+    }
+    let read = scan::read_as(file, Wanted::Plain);
+    let said = read.reading;
+    moving::clear(out);
+    moving::forward_by(file, said, out)
+}
+
+// A file of BV as one of BU, where every weight is 1.
+pub fn move_back(file: &[u8], out: &mut [u8]) -> Answer
+    ensures { λ r. ⌜ movedAs r (now (out .exit)) ≡ moveBack (now (file .entry)) (now (out .entry)) ⌝ }
+{
+    if out.len() != MOST_BYTES {
+        return Answer::Refused(Refusal::Length);
+    }
+    let read = scan::read_as(file, Wanted::Weighed);
+    let said = read.reading;
+    moving::clear(out);
+    moving::back_by(file, said, out)
 }

@@ -39,7 +39,7 @@ pub const HEAD_END: usize = HEAD_REQUESTED + U8;
 
 pub const LEVEL_KV: usize = MARK;
 
-const LEVEL_END: usize = LEVEL_KV + FIGURE;
+pub const LEVEL_END: usize = LEVEL_KV + FIGURE;
 
 pub const BUS_TIER: usize = MARK;
 
@@ -117,7 +117,7 @@ pub fn size(kind: Kind) -> usize
 }
 
 // A mark's two letters.
-fn first_letter(kind: Kind) -> u8
+pub fn first_letter(kind: Kind) -> u8
     ensures { λ r. ⌜ r ≡ layoutOf kind .first ⌝ }
 {
     match kind {
@@ -132,7 +132,7 @@ fn first_letter(kind: Kind) -> u8
     }
 }
 
-fn second_letter(kind: Kind) -> u8
+pub fn second_letter(kind: Kind) -> u8
     ensures { λ r. ⌜ r ≡ layoutOf kind .second ⌝ }
 {
     match kind {
@@ -222,7 +222,7 @@ pub fn standing(file: &[u8], kind: Kind, at: usize) -> Kind
 }
 
 // Whether a record is a BV.
-fn weighs(kind: Kind) -> bool
+pub fn weighs(kind: Kind) -> bool
     ensures { λ r. ⌜ r ≡ weighs kind ⌝ }
 {
     match kind {

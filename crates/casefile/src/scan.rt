@@ -3,7 +3,7 @@ ghost use mathlib.Core.Path.{_≡_};
 ghost use Prim.Native.Nat.{_-_, _<_, _≤_};
 ghost use lib.ListN.{length};
 ghost use Rattle.casefile_defs.specs.Layout.{sizeOf};
-ghost use Rattle.casefile_defs.specs.Reading.{stepped, walked, headerOf, modeOf, countsOk, Small, busForm, tablesWalked, caseRead, endRead, bodyRead, readOf};
+ghost use Rattle.casefile_defs.specs.Reading.{stepped, walked, headerOf, modeOf, countsOk, Small, busForm, tablesWalked, caseRead, endRead, bodyRead, readAs};
 ghost use Rattle.casefile_defs.specs.Looks.{lookedAs, lookedAt, wordsLooked, bytesLooked};
 use crate::bytes::eight;
 use crate::bytes::word;
@@ -18,6 +18,7 @@ use casefile_defs::Kind;
 use casefile_defs::Looked;
 use casefile_defs::Reading;
 use casefile_defs::Walk;
+use casefile_defs::Wanted;
 use mode::PlanMode;
 use refusal::Refusal;
 
@@ -112,8 +113,8 @@ fn counts_ok(h: Header) -> bool
 }
 
 // Whether a file's buses are BV: by the mark of the first.
-fn bus_form(file: &[u8], w: Walk) -> bool
-    ensures { λ b. ⌜ b ≡ busForm (now (file .entry)) w ⌝ }
+fn first_form(file: &[u8], w: Walk) -> bool
+    ensures { λ b. ⌜ b ≡ busForm Wanted.Either (now (file .entry)) w ⌝ }
 {
     match w {
         Walk::Fault(_) => false,
@@ -121,10 +122,21 @@ fn bus_form(file: &[u8], w: Walk) -> bool
     }
 }
 
+// Whether they are to be BV.
+fn bus_form(file: &[u8], wanted: Wanted, w: Walk) -> bool
+    ensures { λ b. ⌜ b ≡ busForm wanted (now (file .entry)) w ⌝ }
+{
+    match wanted {
+        Wanted::Either => first_form(file, w),
+        Wanted::Plain => false,
+        Wanted::Weighed => true,
+    }
+}
+
 // The records after the header, table by table.
-fn walk_tables(file: &[u8], h: Header, from: Walk) -> Walk
+fn walk_tables(file: &[u8], h: Header, wanted: Wanted, from: Walk) -> Walk
     requires { ⌜ Small h ⌝ }
-    ensures { λ w. ⌜ w ≡ tablesWalked h (now (file .entry)) from ⌝ }
+    ensures { λ w. ⌜ w ≡ tablesWalked wanted h (now (file .entry)) from ⌝ }
 {
     let levels = h.above + h.requested;
     let buses = 1 + levels;
@@ -133,7 +145,7 @@ fn walk_tables(file: &[u8], h: Header, from: Walk) -> Walk
     let lines = corridors + h.corridors;
     let end = lines + h.corridors * levels;
     let w1 = walk_kind(file, from, Kind::Level, false, 1, buses);
-    let weighed = bus_form(file, w1);
+    let weighed = bus_form(file, wanted, w1);
     let w2 = walk_kind(file, w1, Kind::Bus, weighed, buses, generators);
     let w3 = walk_kind(file, w2, Kind::Generator, false, generators, corridors);
     let w4 = walk_kind(file, w3, Kind::Corridor, false, corridors, lines);
@@ -220,21 +232,21 @@ fn end_read(file: &[u8], h: Header, w: Walk) -> CaseRead
 }
 
 // What follows a header that stands.
-fn body_read(file: &[u8], at: usize) -> CaseRead
+fn body_read(file: &[u8], wanted: Wanted, at: usize) -> CaseRead
     requires { ⌜ sizeOf Kind.Head ≤ length (now file) ⌝ }
-    ensures { λ r. ⌜ r ≡ bodyRead (now (file .entry)) (Walk.At at) ⌝ }
+    ensures { λ r. ⌜ r ≡ bodyRead wanted (now (file .entry)) (Walk.At at) ⌝ }
 {
     let h = header_of(file);
     if !counts_ok(h) {
         return said(Reading::Refused(Refusal::Count), 0);
     }
-    let w = walk_tables(file, h, Walk::At(at));
+    let w = walk_tables(file, h, wanted, Walk::At(at));
     end_read(file, h, w)
 }
 
 // The header, or the first refusal, and the words and bytes looked at after the last record.
-pub fn read_of(file: &[u8]) -> CaseRead
-    ensures { λ r. ⌜ r ≡ readOf (now (file .entry)) ⌝ }
+pub fn read_as(file: &[u8], wanted: Wanted) -> CaseRead
+    ensures { λ r. ⌜ r ≡ readAs wanted (now (file .entry)) ⌝ }
 {
     if casefile_defs::MOST_BYTES < file.len() {
         return said(Reading::Refused(Refusal::FileLength), 0);
@@ -242,6 +254,6 @@ pub fn read_of(file: &[u8]) -> CaseRead
     let w = record_at(file, Kind::Head, 0, 0);
     match w {
         Walk::Fault(f) => said(Reading::Refused(f), 0),
-        Walk::At(at) => body_read(file, at),
+        Walk::At(at) => body_read(file, wanted, at),
     }
 }

@@ -14,13 +14,15 @@ use Rattle.loops.proofs.Loops.{iter-still}
 use Rattle.refusal.specs.declared.Refusal.{Refusal}
 use Rattle.casefile_defs.specs.Bounds.{mostBytes}
 use Rattle.casefile_defs.specs.Layout.{marked, standing, suits, endOf, spot}
-use Rattle.casefile_defs.specs.Reading.{recordAt, admitted, stepped, walked, busForm, countsOk, headerOf, levels, lines, tablesWalked, trailing, unread, endRead, bodyRead, readOf, readingOf, beforeBuses, beforeGenerators, beforeCorridors, beforeLines, recordsOf}
+use Rattle.casefile_defs.specs.Reading.{recordAt, admitted, stepped, walked, busForm, countsOk, headerOf, levels, lines, tablesWalked, trailing, unread, endRead, bodyRead, readAs, readingOf, beforeBuses, beforeGenerators, beforeCorridors, beforeLines, recordsOf}
 use Rattle.casefile_defs.specs.Tables.{levelsAt, busesAt, generatorsAt, corridorsAt, linesAt}
 use Rattle.casefile_defs.specs.declared.Kind.{Kind}
 use Rattle.casefile_defs.specs.declared.Kind.the-variants.{Head, Level, Bus, Generator, Corridor, Line, WeighedBus}
 use Rattle.casefile_defs.specs.declared.Header.{Header}
 use Rattle.casefile_defs.specs.declared.Walk.{Walk}
 use Rattle.casefile_defs.specs.declared.Walk.the-variants.{At, Fault}
+use Rattle.casefile_defs.specs.declared.Wanted.{Wanted}
+use Rattle.casefile_defs.specs.declared.Wanted.the-variants.{Either}
 use Rattle.casefile_defs.specs.declared.CaseRead.{CaseRead}
 use Rattle.casefile_defs.specs.declared.Reading.the-variants.{Refused, Read}
 use Rattle.casefile_defs.proofs.Records.{Passed, passed, fault-not-at, admitted-at}
@@ -96,9 +98,17 @@ one-form true false e = e
 one-form false true e = sym e
 one-form false false e = refl
 
--- each bus of a file bears the mark of the first, or not, as the first does
+-- each bus of a file is of the form that the first has
 abbrev pub OneForm : List ℕ → ℕ → ℕ → Type 0
 OneForm s at n = (i : ℕ) → i < n → marked WeighedBus s (spot Bus s at i) ≡ marked WeighedBus s at
+
+-- each bus of a file is of the form that is wanted
+abbrev pub AsWanted : Wanted → List ℕ → ℕ → ℕ → Type 0
+AsWanted wanted s at n = (i : ℕ) → i < n → marked WeighedBus s (spot Bus s at i) ≡ busForm wanted s (At at)
+
+one-form-of : (wanted : Wanted) (s : List ℕ) (at n : ℕ) → AsWanted wanted s at n → OneForm s at n
+unfolding spot
+one-form-of wanted s at n g i h = g i h ∙ sym (g 0 (omega arith))
 
 -- where the last record ends
 abbrev pub endAt : List ℕ → Header → ℕ
@@ -118,19 +128,14 @@ pub record Accepted (s : List ℕ) (h : Header) : Type 0 where
   pub zeros : length s ≤ trailing s (endAt s h)
 
 -- the tables of a walk over all of them
-pub record Tables (s : List ℕ) (h : Header) (next : ℕ) : Type 0 where
+pub record Tables (wanted : Wanted) (s : List ℕ) (h : Header) (next : ℕ) : Type 0 where
   pub levels : Table Level s levelsAt (levels h)
   pub buses : Table Bus s (busesAt s h) (h .buses)
-  pub form : OneForm s (busesAt s h) (h .buses)
+  pub form : AsWanted wanted s (busesAt s h) (h .buses)
   pub generators : Table Generator s (generatorsAt s h) (h .generators)
   pub corridors : Table Corridor s (corridorsAt s h) (h .corridors)
   pub rows : Table Line s (linesAt s h) (lines h)
   pub end : next ≡ endAt s h
-
--- the buses are of the form that the first has
-form-at : (s : List ℕ) (w : Walk) (at : ℕ) → w ≡ At at → busForm s w ≡ marked WeighedBus s at
-unfolding busForm
-form-at s w at e = ap (λ (v : Walk). busForm s v) e
 
 -- a table from where the walk before it ended
 moved : (k : Kind) (weighed : Bool) (s : List ℕ) (n : ℕ) {at place : ℕ} → at ≡ place → ((i : ℕ) → i < n → Stood k weighed s (spot k s at i)) → Table k s place n
@@ -140,9 +145,9 @@ moved k weighed s n p t = subst (λ (m : ℕ). Table k s m n) p (λ i h. t i h .
 at-same : {m n : ℕ} → At m ≡ At n → m ≡ n
 at-same e = cc
 
-tables-of : (s : List ℕ) (h : Header) (next : ℕ) → tablesWalked h s (At levelsAt) ≡ At next → Tables s h next
+tables-of : (wanted : Wanted) (s : List ℕ) (h : Header) (next : ℕ) → tablesWalked wanted h s (At levelsAt) ≡ At next → Tables wanted s h next
 unfolding tablesWalked
-tables-of s h next e =
+tables-of wanted s h next e =
     let w₅ = walked-all Line false s (beforeLines h) (recordsOf h) (lines h) _ next (omega arith) e in
     let w₄ = walked-all Corridor false s (beforeCorridors h) (beforeLines h) (h .corridors) _ (w₅ .at) (omega arith) (w₅ .from) in
     let w₃ = walked-all Generator false s (beforeGenerators h) (beforeCorridors h) (h .generators) _ (w₄ .at) (omega arith) (w₄ .from) in
@@ -156,7 +161,7 @@ tables-of s h next e =
     record {
       levels = moved Level false s (levels h) p₁ (w₁ .all);
       buses = moved Bus _ s (h .buses) p₂ (w₂ .all);
-      form = subst (λ (m : ℕ). OneForm s m (h .buses)) p₂ (λ i l. one-form _ _ (w₂ .all i l .suited) ∙ form-at s _ (w₂ .at) (w₂ .from));
+      form = subst (λ (m : ℕ). AsWanted wanted s m (h .buses)) p₂ (λ i l. one-form _ _ (w₂ .all i l .suited) ∙ ap (λ (w : Walk). busForm wanted s w) (w₂ .from));
       generators = moved Generator false s (h .generators) p₃ (w₃ .all);
       corridors = moved Corridor false s (h .corridors) p₄ (w₄ .all);
       rows = moved Line false s (lines h) p₅ (w₅ .all);
@@ -190,37 +195,44 @@ counted : (s : List ℕ) (h : Header) (y : Bool) (r : CaseRead) (f : Refusal) �
 counted s h true r f e = (refl, e)
 counted s h false r f e = absurd (refused-not-read e)
 
-body-accepted : (s : List ℕ) (h : Header) (w : Walk) → length s ≤ mostBytes → recordAt Head s 0 0 ≡ w → bodyRead s w .reading ≡ Read h → Accepted s h
+body-accepted : (wanted : Wanted) (s : List ℕ) (h : Header) (w : Walk) → length s ≤ mostBytes → recordAt Head s 0 0 ≡ w → bodyRead wanted s w .reading ≡ Read h
+    → Accepted s h × AsWanted wanted s (busesAt s h) (h .buses)
 unfolding bodyRead
-body-accepted s h (Fault f) l q e = absurd (refused-not-read e)
-body-accepted s h (At at) l q e =
+body-accepted wanted s h (Fault f) l q e = absurd (refused-not-read e)
+body-accepted wanted s h (At at) l q e =
     let c = counted s h _ _ _ e in
     let n = ended s h (headerOf s) _ (c .1) in
     let p = passed Head s 0 0 at q in
     let a : at ≡ levelsAt = p .past in
-    let w : tablesWalked (headerOf s) s (At levelsAt) ≡ At (n .next) = ap (λ (m : ℕ). tablesWalked (headerOf s) s (At m)) (sym a) ∙ n .walk in
-    let t = tables-of s h (n .next) (ap (λ (g : Header). tablesWalked g s (At levelsAt)) (n .same) ∙ w) in
-    record {
-      short = l;
-      header = n .same;
-      head = subst (λ (m : ℕ). Passed Head s 0 m) a p;
-      counts = ap (λ (g : Header). countsOk g) (n .same) ∙ c .0;
-      levels = t .levels;
-      buses = t .buses;
-      form = t .form;
-      generators = t .generators;
-      corridors = t .corridors;
-      rows = t .rows;
-      zeros = subst (λ (m : ℕ). length s ≤ trailing s m) (t .end) (n .zeros);
-    }
+    let w : tablesWalked wanted (headerOf s) s (At levelsAt) ≡ At (n .next) = ap (λ (m : ℕ). tablesWalked wanted (headerOf s) s (At m)) (sym a) ∙ n .walk in
+    let t = tables-of wanted s h (n .next) (ap (λ (g : Header). tablesWalked wanted g s (At levelsAt)) (n .same) ∙ w) in (
+      record {
+        short = l;
+        header = n .same;
+        head = subst (λ (m : ℕ). Passed Head s 0 m) a p;
+        counts = ap (λ (g : Header). countsOk g) (n .same) ∙ c .0;
+        levels = t .levels;
+        buses = t .buses;
+        form = one-form-of wanted s (busesAt s h) (h .buses) (t .form);
+        generators = t .generators;
+        corridors = t .corridors;
+        rows = t .rows;
+        zeros = subst (λ (m : ℕ). length s ≤ trailing s m) (t .end) (n .zeros);
+      },
+      t .form,
+    )
 
 whole-by : (s : List ℕ) (h : Header) (x : Bool) (r : CaseRead) (f : Refusal) → ltb mostBytes (length s) ≡ x → cond x (unread f) r .reading ≡ Read h
     → (length s ≤ mostBytes) × (r .reading ≡ Read h)
 whole-by s h true r f q e = absurd (refused-not-read e)
 whole-by s h false r f q e = (ltb-false mostBytes (length s) q, e)
 
-pub accepted : (s : List ℕ) (h : Header) → readingOf s ≡ Read h → Accepted s h
-unfolding readOf
-accepted s h e =
+-- a file that is answered, whatever is wanted, is such a file, and its buses are as wanted
+pub accepted-as : (wanted : Wanted) (s : List ℕ) (h : Header) → readAs wanted s .reading ≡ Read h → Accepted s h × AsWanted wanted s (busesAt s h) (h .buses)
+unfolding readAs
+accepted-as wanted s h e =
     let g = whole-by s h _ _ _ refl e in
-    body-accepted s h (recordAt Head s 0 0) (g .0) refl (g .1)
+    body-accepted wanted s h (recordAt Head s 0 0) (g .0) refl (g .1)
+
+pub accepted : (s : List ℕ) (h : Header) → readingOf s ≡ Read h → Accepted s h
+accepted s h e = accepted-as Either s h e .0

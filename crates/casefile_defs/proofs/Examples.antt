@@ -1,5 +1,5 @@
 -- Worked examples, by computation: case L (document 01, "Case file") as a file, what is read of it and what is left in the tables; its corridor with a cap; its buses with
--- weights, and BU and BV in one file; the refusals of files that differ from it in a byte or two; the bounds of counts and length; and the words and bytes looked at,
+-- weights, and BU and BV in one file; case L moved into the other form and back; the refusals of files that differ from it in a byte or two; the bounds of counts and length; and the words and bytes looked at,
 -- both bounds of whose count are met.
 use Prim.Native.Nat.{ℕ, _+_, _*_}
 use mathlib.Core.Bool.{Bool, true, false}
@@ -9,14 +9,19 @@ use lib.ListN.{length, replicate, set, take}
 use lib.Ieee.{Float, binary64, ofBits}
 use Rattle.loops.specs.Figures.{nought, half, one, fifty, hundred}
 use Rattle.loops.specs.Loops.{iter, first, tab}
-use Rattle.refusal.specs.declared.Refusal.the-variants.{Count, FileLength, Cut, Mark, Code, Trailing}
+use Rattle.loops.specs.Parts.{part}
+use Rattle.refusal.specs.declared.Answer.the-variants.{Answered}
+use Rattle.refusal.specs.declared.Answer.the-variants.{Refused as Unmoved}
+use Rattle.refusal.specs.declared.Refusal.the-variants.{Count, FileLength, Cut, Mark, Code, Trailing, Weight}
 use Rattle.mode.specs.Number.{modeNumber}
 use Rattle.mode.specs.declared.PlanMode.the-variants.{Observe}
 use Rattle.casefile_defs.specs.Layout.{little, word, spot}
 use Rattle.casefile_defs.specs.Looks.{lookedAs, lookedAt}
-use Rattle.casefile_defs.specs.Reading.{lines, recordAt, admitted, stepped, walked, busForm, modeOf, headerOf, countsOk, tablesWalked, trailing, looksFor, caseRead, unread, endRead, bodyRead, readOf}
+use Rattle.casefile_defs.specs.Moving.{busAs, busesAs, fileAs, fitted, movedAs, unmoved, forwardBy, firstOther, backBy, moveBack}
+use Rattle.casefile_defs.specs.Reading.{lines, recordAt, admitted, stepped, walked, busForm, modeOf, headerOf, countsOk, tablesWalked, trailing, looksFor, caseRead, unread, endRead, bodyRead, readAs, readOf}
 use Rattle.casefile_defs.specs.Tables.{Places, numberAt, figureAt, numberIn, figureIn, weightAt, weightIn, sheetIn, linesAt, tablesOf}
 use Rattle.casefile_defs.specs.declared.Header.{Header}
+use Rattle.casefile_defs.specs.declared.Wanted.the-variants.{Either, Plain, Weighed}
 use Rattle.casefile_defs.specs.declared.Kind.the-variants.{Head}
 use Rattle.casefile_defs.specs.declared.Reading.the-variants.{Refused, Read}
 
@@ -52,7 +57,7 @@ abbrev headerL : Header
 headerL = record { mode = Observe; target = 0; buses = 2; corridors = 1; generators = 1; above = 0; requested = 1 }
 
 pub case-l : readOf fileL ≡ caseRead (Read headerL) 0
-unfolding readOf bodyRead endRead tablesWalked walked busForm stepped admitted recordAt headerOf modeOf modeNumber trailing looksFor iter first word little
+unfolding readAs bodyRead endRead tablesWalked walked busForm stepped admitted recordAt headerOf modeOf modeNumber trailing looksFor iter first word little
 case-l = refl
 
 -- ---- its tables: zeros past the counts
@@ -105,7 +110,7 @@ headerTwo = record { mode = Observe; target = 0; buses = 2; corridors = 2; gener
 pub capped :
     map readOf (cappedL 2 ∷ cappedL 7 ∷ twoL ∷ take 107 (cappedL 2) ∷ take 107 fileL ∷ set (take 107 fileL) 85 0x51 ∷ set (set fileL 25 0x43) 26 0x50 ∷ [])
     ≡ caseRead (Read headerL) 0 ∷ caseRead (Read headerL) 0 ∷ caseRead (Read headerTwo) 0 ∷ map unread (Cut 5 ∷ Cut 6 ∷ Mark 5 ∷ Mark 2 ∷ [])
-unfolding readOf bodyRead endRead tablesWalked walked busForm stepped admitted recordAt headerOf modeOf modeNumber trailing looksFor iter first word little
+unfolding readAs bodyRead endRead tablesWalked walked busForm stepped admitted recordAt headerOf modeOf modeNumber trailing looksFor iter first word little
 capped = refl
 
 -- a CO has cap 0; what stands behind a CP is found; past the corridors there are zeros, whatever stands there
@@ -138,7 +143,7 @@ abbrev fileW : List ℕ
 fileW = busesL (firstL ++ secondL)
 
 pub case-w : readOf fileW ≡ caseRead (Read headerL) 0
-unfolding readOf bodyRead endRead tablesWalked walked busForm stepped admitted recordAt headerOf modeOf modeNumber trailing looksFor iter first word little
+unfolding readAs bodyRead endRead tablesWalked walked busForm stepped admitted recordAt headerOf modeOf modeNumber trailing looksFor iter first word little
 case-w = refl
 
 -- what stands behind a BV is found; past the buses there are zeros, also for the weight
@@ -166,8 +171,39 @@ pub forms-meet :
     (plainFirst ∷ weighedFirst ∷ take 55 plainFirst ∷ take 54 plainFirst ∷ take 55 weighedFirst ∷ take 54 weighedFirst ∷ take 43 fileW ∷ take 44 fileW
     ∷ set (take 55 weighedFirst) 45 0x57 ∷ set plainFirst 26 0x57 ∷ set fileL 47 0x42 ∷ set (set fileL 47 0x42) 48 0x56 ∷ [])
     ≡ map unread (Mark 3 ∷ Mark 3 ∷ Mark 3 ∷ Cut 3 ∷ Mark 3 ∷ Cut 3 ∷ Cut 2 ∷ Cut 3 ∷ Mark 3 ∷ Mark 2 ∷ Mark 4 ∷ Mark 4 ∷ [])
-unfolding readOf bodyRead endRead tablesWalked walked busForm stepped admitted recordAt headerOf modeOf modeNumber trailing looksFor iter first word little
+unfolding readAs bodyRead endRead tablesWalked walked busForm stepped admitted recordAt headerOf modeOf modeNumber trailing looksFor iter first word little
 forms-meet = refl
+
+-- ---- document 02's K7: case L with its loads as readings of weight 1, and back; the output is this and zeros
+abbrev oneL : List ℕ
+oneL = bits 0 0xf0 0x3f
+
+abbrev forwardL : List ℕ
+forwardL = busesL (weighedL 0 (bits 0 0 0) oneL ++ weighedL 0 (bits 0 0x49 0x40) oneL)
+
+pub moved-forward : forwardBy fileL (Read headerL) ≡ movedAs Answered (fitted forwardL)
+unfolding forwardBy fileAs busesAs busAs part spot
+moved-forward = refl
+
+pub moved-back : backBy forwardL (Read headerL) ≡ movedAs Answered (fitted fileL)
+unfolding backBy firstOther fileAs busesAs busAs part spot first word little
+moved-back = refl
+
+-- a file of the other form is 15 at its first bus, 14 where that is cut; a mixed one where they meet
+pub other-form :
+    map (readAs Plain) (fileW ∷ take 43 fileW ∷ plainFirst ∷ []) ++ map (readAs Weighed) (fileL ∷ take 35 fileL ∷ weighedFirst ∷ [])
+    ≡ map unread (Mark 2 ∷ Cut 2 ∷ Mark 3 ∷ Mark 2 ∷ Cut 2 ∷ Mark 3 ∷ [])
+unfolding readAs bodyRead endRead tablesWalked walked busForm stepped admitted recordAt headerOf modeOf modeNumber trailing looksFor iter first word little
+other-form = refl
+
+-- 21 at the lowest bus whose weight is not 1, the output zero; after every refusal of the reading
+pub other-weight : backBy fileW (Read headerL) ∷ backBy (busesL (secondL ++ firstL)) (Read headerL) ∷ [] ≡ unmoved (Weight 0) ∷ unmoved (Weight 1) ∷ []
+unfolding backBy firstOther spot first word little
+other-weight = refl
+
+pub trailing-first : (out : List ℕ) → length out ≡ 65536 → moveBack (fileW ++ (7 ∷ [])) out ≡ movedAs (Unmoved (Trailing 158)) (replicate 65536 0)
+unfolding moveBack backBy readAs bodyRead endRead tablesWalked walked busForm stepped admitted recordAt headerOf modeOf modeNumber trailing looksFor iter first word little
+trailing-first out e = rw e refl
 
 -- ---- refusals: no byte, and a header cut; mode 6; 129 generators; a bus cut, its mark wrong too; the level's mark; the second bus's mark, and a basis of 2
 -- behind it; slack 2; basis 2
@@ -176,14 +212,14 @@ pub refusals :
     ([] ∷ take 14 fileL ∷ set fileL 2 6 ∷ set fileL 11 129 ∷ take 35 fileL ∷ set (take 35 fileL) 25 0 ∷ set fileL 15 0 ∷ set (set fileL 36 0) 141 2 ∷ set fileL 51 2
     ∷ set fileL 141 2 ∷ [])
     ≡ map unread (Cut 0 ∷ Cut 0 ∷ Code 0 ∷ Count ∷ Cut 2 ∷ Cut 2 ∷ Mark 1 ∷ Mark 3 ∷ Code 4 ∷ Code 6 ∷ [])
-unfolding readOf bodyRead endRead tablesWalked walked busForm stepped admitted recordAt headerOf modeOf modeNumber trailing looksFor iter first word little
+unfolding readAs bodyRead endRead tablesWalked walked busForm stepped admitted recordAt headerOf modeOf modeNumber trailing looksFor iter first word little
 refusals = refl
 
 -- zeros behind the last record; a byte that is not zero in the third place, as the first of a word, as the last of the second
 pub after-the-last :
     map (λ l. readOf (fileL ++ l)) (replicate 9 0 ∷ (0 ∷ 0 ∷ 7 ∷ []) ∷ (7 ∷ replicate 7 0) ∷ (replicate 15 0 ++ (7 ∷ [])) ∷ [])
     ≡ caseRead (Read headerL) 2 ∷ caseRead (Refused (Trailing 144)) 3 ∷ caseRead (Refused (Trailing 142)) 2 ∷ caseRead (Refused (Trailing 157)) 10 ∷ []
-unfolding readOf bodyRead endRead tablesWalked walked busForm stepped admitted recordAt headerOf modeOf modeNumber trailing looksFor iter first word little
+unfolding readAs bodyRead endRead tablesWalked walked busForm stepped admitted recordAt headerOf modeOf modeNumber trailing looksFor iter first word little
 after-the-last = refl
 
 -- ---- document 01's bounds: each count and the target at its largest, and then each outside its bound
@@ -198,12 +234,12 @@ pub bounds :
 bounds = refl
 
 -- a file of 65,536 bytes is read; one of a byte more is not, whatever it holds
-pub longest : (s : List ℕ) → length s ≡ 65536 → readOf s ≡ bodyRead s (recordAt Head s 0 0)
-unfolding readOf
+pub longest : (s : List ℕ) → length s ≡ 65536 → readOf s ≡ bodyRead Either s (recordAt Head s 0 0)
+unfolding readAs
 longest s e = simp e
 
 pub too-long : (s : List ℕ) → length s ≡ 65537 → readOf s ≡ unread FileLength
-unfolding readOf
+unfolding readAs
 too-long s e = simp e
 
 -- ---- the words and bytes looked at

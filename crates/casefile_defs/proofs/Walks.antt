@@ -10,25 +10,26 @@ use Rattle.refusal.specs.declared.Refusal.{Refusal}
 use Rattle.refusal.specs.declared.Refusal.the-variants.{Count, FileLength, Trailing}
 use Rattle.casefile_defs.specs.Bounds.{mostBytes}
 use Rattle.casefile_defs.specs.Looks.{lookedAt}
-use Rattle.casefile_defs.specs.Reading.{recordAt, walked, busesWalked, countsOk, headerOf, tablesWalked, trailing, caseRead, unread, endRead, bodyRead, readOf, beforeBuses, beforeGenerators, beforeCorridors, beforeLines, recordsOf}
+use Rattle.casefile_defs.specs.Reading.{recordAt, walked, busesWalked, countsOk, headerOf, tablesWalked, trailing, caseRead, unread, endRead, bodyRead, readAs, beforeBuses, beforeGenerators, beforeCorridors, beforeLines, recordsOf}
 use Rattle.casefile_defs.specs.declared.Kind.the-variants.{Head, Level, Generator, Corridor, Line}
 use Rattle.casefile_defs.specs.declared.Header.{Header}
 use Rattle.casefile_defs.specs.declared.Walk.{Walk}
 use Rattle.casefile_defs.specs.declared.Walk.the-variants.{At, Fault}
+use Rattle.casefile_defs.specs.declared.Wanted.{Wanted}
 use Rattle.casefile_defs.specs.declared.CaseRead.{CaseRead}
 use Rattle.casefile_defs.specs.declared.Looked.{Looked}
 use Rattle.casefile_defs.specs.declared.Reading.the-variants.{Refused, Read}
 
 -- five walks, one after the other
-pub tables-walked : (h : Header) (s : List ℕ) (w w₁ w₂ w₃ w₄ w₅ : Walk)
+pub tables-walked : (wanted : Wanted) (h : Header) (s : List ℕ) (w w₁ w₂ w₃ w₄ w₅ : Walk)
     → w₁ ≡ walked Level false 1 (beforeBuses h) s w
-    → w₂ ≡ busesWalked h s w₁
+    → w₂ ≡ busesWalked wanted h s w₁
     → w₃ ≡ walked Generator false (beforeGenerators h) (beforeCorridors h) s w₂
     → w₄ ≡ walked Corridor false (beforeCorridors h) (beforeLines h) s w₃
     → w₅ ≡ walked Line false (beforeLines h) (recordsOf h) s w₄
-    → w₅ ≡ tablesWalked h s w
+    → w₅ ≡ tablesWalked wanted h s w
 unfolding tablesWalked
-tables-walked h s w w₁ w₂ w₃ w₄ w₅ e₁ e₂ e₃ e₄ e₅ = cc
+tables-walked wanted h s w w₁ w₂ w₃ w₄ w₅ e₁ e₂ e₃ e₄ e₅ = cc
 
 -- ---- after the last record
 module _ (h : Header) (s : List ℕ) (w : Walk) where
@@ -49,25 +50,25 @@ module _ (h : Header) (s : List ℕ) (w : Walk) where
       ap (λ (x : Looked). caseRead (Read h) (x .looks)) q ∙ simp (e, le-ltb _ _ m)
 
 -- ---- after the header
-module _ (s : List ℕ) (at : ℕ) (h : Header) (e : h ≡ headerOf s) where
-  pub body-counts : countsOk h ≡ false → unread Count ≡ bodyRead s (At at)
+module _ (wanted : Wanted) (s : List ℕ) (at : ℕ) (h : Header) (e : h ≡ headerOf s) where
+  pub body-counts : countsOk h ≡ false → unread Count ≡ bodyRead wanted s (At at)
   unfolding bodyRead
   body-counts c = simp (sym e, c)
 
-  pub body-end : (w : Walk) (r : CaseRead) → countsOk h ≡ true → w ≡ tablesWalked h s (At at) → r ≡ endRead h s w → r ≡ bodyRead s (At at)
+  pub body-end : (w : Walk) (r : CaseRead) → countsOk h ≡ true → w ≡ tablesWalked wanted h s (At at) → r ≡ endRead h s w → r ≡ bodyRead wanted s (At at)
   unfolding bodyRead
   body-end w r c p q = simp (sym e, c, q, p)
 
 -- ---- the whole file
-module _ (s : List ℕ) where
-  pub whole-long : mostBytes < length s → unread FileLength ≡ readOf s
-  unfolding readOf
+module _ (wanted : Wanted) (s : List ℕ) where
+  pub whole-long : mostBytes < length s → unread FileLength ≡ readAs wanted s
+  unfolding readAs
   whole-long l = simp (lt-ltb _ _ l)
 
-  pub whole-fault : (w : Walk) (f : Refusal) → length s ≤ mostBytes → w ≡ recordAt Head s 0 0 → w ≡ Fault f → unread f ≡ readOf s
-  unfolding readOf bodyRead
+  pub whole-fault : (w : Walk) (f : Refusal) → length s ≤ mostBytes → w ≡ recordAt Head s 0 0 → w ≡ Fault f → unread f ≡ readAs wanted s
+  unfolding readAs bodyRead
   whole-fault w f l e q = simp (le-ltb _ _ l, sym e, q)
 
-  pub whole-body : (w : Walk) (at : ℕ) (r : CaseRead) → length s ≤ mostBytes → w ≡ recordAt Head s 0 0 → w ≡ At at → r ≡ bodyRead s (At at) → r ≡ readOf s
-  unfolding readOf
+  pub whole-body : (w : Walk) (at : ℕ) (r : CaseRead) → length s ≤ mostBytes → w ≡ recordAt Head s 0 0 → w ≡ At at → r ≡ bodyRead wanted s (At at) → r ≡ readAs wanted s
+  unfolding readAs
   whole-body w at r l e q p = simp (le-ltb _ _ l, sym e, q, p)

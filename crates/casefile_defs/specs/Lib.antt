@@ -2,5 +2,6 @@
 pub mod Bounds
 pub mod Layout
 pub mod Looks
+pub mod Moving
 pub mod Reading
 pub mod Tables

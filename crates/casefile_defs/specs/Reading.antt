@@ -1,6 +1,6 @@
 -- Document 01's "Case reading": the header that a file is read as, or the first refusal, record by record.
 use Prim.Native.Nat.{ℕ, _+_, _-_, _*_, _/_, _%_, _≤_, min}
-use mathlib.Core.Bool.{Bool, false, _&&_, cond}
+use mathlib.Core.Bool.{Bool, true, false, _&&_, cond}
 use mathlib.Core.List.{List}
 use lib.Dec.{leb, ltb, eqb}
 use lib.ListN.{length, getD}
@@ -17,6 +17,8 @@ use Rattle.casefile_defs.specs.declared.Kind.the-variants.{Head, Level, 
 use Rattle.casefile_defs.specs.declared.Header.{Header}
 use Rattle.casefile_defs.specs.declared.Walk.{Walk}
 use Rattle.casefile_defs.specs.declared.Walk.the-variants.{At, Fault}
+use Rattle.casefile_defs.specs.declared.Wanted.{Wanted}
+use Rattle.casefile_defs.specs.declared.Wanted.the-variants.{Either, Plain, Weighed}
 use Rattle.casefile_defs.specs.declared.CaseRead.{CaseRead}
 use Rattle.casefile_defs.specs.declared.Reading.{Reading}
 use Rattle.casefile_defs.specs.declared.Reading.the-variants.{Refused, Read}
@@ -42,10 +44,12 @@ stepped k weighed s r (At at) = admitted weighed (standing k s at) r (recordAt (
 unfoldable pub walked : Kind → Bool → ℕ → ℕ → List ℕ → Walk → Walk
 walked k weighed start end s w = iter (stepped k weighed s) (end - start) start w
 
--- whether a file's buses are BV: by the mark of the first, where the levels end
-unfoldable pub busForm : List ℕ → Walk → Bool
-busForm s (Fault f) = false
-busForm s (At at) = marked WeighedBus s at
+-- whether a file's buses are to be BV: by the mark of the first, where the levels end, or by what is wanted
+unfoldable pub busForm : Wanted → List ℕ → Walk → Bool
+busForm Either s (Fault f) = false
+busForm Either s (At at) = marked WeighedBus s at
+busForm Plain s w = false
+busForm Weighed s w = true
 
 -- the mode of a number of at most 5
 unfoldable pub modeOf : ℕ → PlanMode
@@ -105,16 +109,16 @@ abbrev pub recordsOf : Header → ℕ
 recordsOf h = beforeLines h + lines h
 
 -- the buses' records, from where the levels end
-abbrev pub busesWalked : Header → List ℕ → Walk → Walk
-busesWalked h s w = walked Bus (busForm s w) (beforeBuses h) (beforeGenerators h) s w
+abbrev pub busesWalked : Wanted → Header → List ℕ → Walk → Walk
+busesWalked wanted h s w = walked Bus (busForm wanted s w) (beforeBuses h) (beforeGenerators h) s w
 
 -- the tables' records, in order, from where the header ends
-unfoldable pub tablesWalked : Header → List ℕ → Walk → Walk
-tablesWalked h s w =
+unfoldable pub tablesWalked : Wanted → Header → List ℕ → Walk → Walk
+tablesWalked wanted h s w =
     walked Line false (beforeLines h) (recordsOf h) s
     (walked Corridor false (beforeCorridors h) (beforeLines h) s
     (walked Generator false (beforeGenerators h) (beforeCorridors h) s
-    (busesWalked h s
+    (busesWalked wanted h s
     (walked Level false 1 (beforeBuses h) s w))))
 
 -- the first byte from a place on that is not zero, or a place past the file
@@ -152,13 +156,16 @@ endRead h s (Fault f) = unread f
 endRead h s (At at) = caseRead (cond (ltb (trailing s at) (length s)) (Refused (Trailing (trailing s at))) (Read h)) (looks s at)
 
 -- after the header (2, then the tables)
-unfoldable pub bodyRead : List ℕ → Walk → CaseRead
-bodyRead s (Fault f) = unread f
-bodyRead s (At at) = cond (countsOk (headerOf s)) (endRead (headerOf s) s (tablesWalked (headerOf s) s (At at))) (unread Count)
+unfoldable pub bodyRead : Wanted → List ℕ → Walk → CaseRead
+bodyRead wanted s (Fault f) = unread f
+bodyRead wanted s (At at) = cond (countsOk (headerOf s)) (endRead (headerOf s) s (tablesWalked wanted (headerOf s) s (At at))) (unread Count)
 
 -- the reading of a file: its header, or the first refusal; and how much of what follows its records was looked at
-unfoldable pub readOf : List ℕ → CaseRead
-readOf s = cond (ltb mostBytes (length s)) (unread FileLength) (bodyRead s (recordAt Head s 0 0))
+unfoldable pub readAs : Wanted → List ℕ → CaseRead
+readAs wanted s = cond (ltb mostBytes (length s)) (unread FileLength) (bodyRead wanted s (recordAt Head s 0 0))
+
+abbrev pub readOf : List ℕ → CaseRead
+readOf s = readAs Either s
 
 abbrev pub readingOf : List ℕ → Reading
 readingOf s = readOf s .reading

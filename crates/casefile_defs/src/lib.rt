@@ -53,6 +53,13 @@ pub enum Kind {
     WeighedBus,
 }
 
+// The buses that a file may have: of the first one's kind, or only BU, or only BV.
+pub enum Wanted {
+    Either,
+    Plain,
+    Weighed,
+}
+
 // A walk over the records: the next record's place, or the first fault.
 pub enum Walk {
     At(usize),

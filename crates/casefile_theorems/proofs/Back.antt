@@ -7,14 +7,15 @@ use mathlib.Core.List.{List, [], _∷_, _++_, append-assoc}
 use native.Mathlib.Omega.{arith}
 use borrow.Author.Tests.{eq-eqb}
 use lib.Dec.{lit<}
-use lib.ListN.{length, getD, replicate, length-append, length-replicate}
+use lib.ListN.{length, getD, take, drop, replicate, length-append, length-replicate}
+use lib.Seq.{take-at, drop-at}
 use Rattle.loops.proofs.Scan.{passed}
 use Rattle.mode.specs.Number.{modeNumber}
 use Rattle.mode.specs.declared.PlanMode.{PlanMode}
 use Rattle.mode.specs.declared.PlanMode.the-variants.{Expand, Reinforce, Observe, ExpandServing, ReinforceServing, ObserveServing}
 use Rattle.casefile_defs.specs.Bounds.{mostBytes}
-use Rattle.casefile_defs.specs.Layout.{layoutOf, field, marked, suits, spot}
-use Rattle.casefile_defs.specs.Reading.{headerOf, modeOf, countsOk, levels, lines, busForm, tablesWalked, trailing, zeroAt, zerosPassed, looksFor, looks, caseRead, readOf, beforeBuses, beforeGenerators, beforeCorridors, beforeLines, recordsOf}
+use Rattle.casefile_defs.specs.Layout.{layoutOf, field, suits, spot}
+use Rattle.casefile_defs.specs.Reading.{headerOf, modeOf, countsOk, levels, lines, busForm, tablesWalked, trailing, zeroAt, zerosPassed, looksFor, looks, caseRead, readAs, readOf, beforeBuses, beforeGenerators, beforeCorridors, beforeLines, recordsOf}
 use Rattle.casefile_defs.specs.Looks.{lookedAt}
 use Rattle.casefile_defs.specs.Tables.{levelsAt, busesAt, generatorsAt, corridorsAt, linesAt}
 use Rattle.casefile_defs.specs.declared.Kind.{Kind}
@@ -22,6 +23,8 @@ use Rattle.casefile_defs.specs.declared.Kind.the-variants.{Head, Level, Bus, Ge
 use Rattle.casefile_defs.specs.declared.Header.{Header}
 use Rattle.casefile_defs.specs.declared.Walk.the-variants.{At}
 use Rattle.casefile_defs.specs.declared.Reading.the-variants.{Read}
+use Rattle.casefile_defs.specs.declared.Wanted.{Wanted}
+use Rattle.casefile_defs.specs.declared.Wanted.the-variants.{Either}
 use Rattle.casefile_defs.proofs.Accepted.{endAt}
 use Rattle.casefile_defs.proofs.Trailing.{zeros-among}
 use Rattle.casefile_defs.proofs.Walks.{tables-walked, end-good, body-end, whole-body}
@@ -36,7 +39,7 @@ pub record Whole (f : Form) (h : Header) (v : Kind → ℕ → ℕ → ℕ) : Ty
   pub rows : (k : Kind) (i : ℕ) → i < countOf k h → Fine (layoutOf (kindsOf f k i) .fields) (v k i)
 
 -- ---- zeros to the end
-length-zeros : (n : ℕ) → length (replicate {A = ℕ} n 0) ≡ n
+pub length-zeros : (n : ℕ) → length (replicate {A = ℕ} n 0) ≡ n
 length-zeros n = length-replicate n 0
 
 pub no-trailing : (s : List ℕ) (at : ℕ) → ((m : ℕ) → at ≤ m → getD s m 0 ≡ 0) → length s ≤ trailing s at
@@ -177,15 +180,25 @@ module _ (f : Form) (h : Header) (v : Kind → ℕ → ℕ → ℕ) (n : ℕ) (g
   unfolding spot
   weighed-back b = same-kind WeighedBus Bus bus-kinds (formIn padded h .weighed) (f .weighed) (bus-found 0 b .kind)
 
-  buses-suit : (i : ℕ) → i < h .buses → suits (marked WeighedBus padded (busesAt padded h)) (kindsOf f Bus i) ≡ true
-  buses-suit i b = ap (λ (x : Bool). suits x (kindsOf f Bus i)) (weighed-back (omega arith)) ∙ bus-suits (f .weighed)
+  -- what stands before the buses, and what follows them
+  pub before-buses : take (busesAt padded h) padded ≡ p₂
+  before-buses = ap (λ (x : List ℕ). take (busesAt padded h) x) e₂ ∙ take-at p₂ _ (busesAt padded h) l₂
 
-  tables-pass : At (endAt padded h) ≡ tablesWalked h padded (At levelsAt)
-  unfolding busForm
-  tables-pass =
-      tables-walked h padded (At levelsAt) (At (busesAt padded h)) (At (generatorsAt padded h)) (At (corridorsAt padded h)) (At (linesAt padded h)) (At (endAt padded h))
+  pub behind-buses : drop (generatorsAt padded h) padded ≡ (part Generator ++ (part Corridor ++ part Line)) ++ replicate n 0
+  behind-buses = ap (λ (x : List ℕ). drop (generatorsAt padded h) x) e₃ ∙ drop-at p₃ _ (generatorsAt padded h) l₃ ∙ simp append-assoc
+
+  -- the form is one that is wanted
+  abbrev pub Fits : Wanted → Type 0
+  Fits wanted = 0 < h .buses → busForm wanted padded (At (busesAt padded h)) ≡ f .weighed
+
+  buses-suit : (wanted : Wanted) → Fits wanted → (i : ℕ) → i < h .buses → suits (busForm wanted padded (At (busesAt padded h))) (kindsOf f Bus i) ≡ true
+  buses-suit wanted q i b = ap (λ (x : Bool). suits x (kindsOf f Bus i)) (q (omega arith)) ∙ bus-suits (f .weighed)
+
+  tables-pass : (wanted : Wanted) → Fits wanted → At (endAt padded h) ≡ tablesWalked wanted h padded (At levelsAt)
+  tables-pass wanted q =
+      tables-walked wanted h padded (At levelsAt) (At (busesAt padded h)) (At (generatorsAt padded h)) (At (corridorsAt padded h)) (At (linesAt padded h)) (At (endAt padded h))
       (sym (walk-stands Level (kindsOf f Level) (v Level) padded p₁ _ levelsAt (levels h) (λ i b. suits-level) e₁ l₁ (g .rows Level) false (λ i b. refl) 1 (beforeBuses h) (omega arith)))
-      (sym (walk-stands Bus (kindsOf f Bus) (v Bus) padded p₂ _ (busesAt padded h) (h .buses) (λ i b. suits-bus (f .weighed)) e₂ l₂ (g .rows Bus) _ buses-suit (beforeBuses h) (beforeGenerators h) (omega arith)))
+      (sym (walk-stands Bus (kindsOf f Bus) (v Bus) padded p₂ _ (busesAt padded h) (h .buses) (λ i b. suits-bus (f .weighed)) e₂ l₂ (g .rows Bus) _ (buses-suit wanted q) (beforeBuses h) (beforeGenerators h) (omega arith)))
       (sym (walk-stands Generator (kindsOf f Generator) (v Generator) padded p₃ _ (generatorsAt padded h) (h .generators) (λ i b. suits-generator) e₃ l₃ (g .rows Generator) false (λ i b. refl) (beforeGenerators h) (beforeCorridors h) (omega arith)))
       (sym (walk-stands Corridor (kindsOf f Corridor) (v Corridor) padded p₄ _ (corridorsAt padded h) (h .corridors) (λ i b. suits-corridor (f .capped i)) e₄ l₄ (g .rows Corridor) false (λ i b. corridor-suits (f .capped i)) (beforeCorridors h) (beforeLines h) (omega arith)))
       (sym (walk-stands Line (kindsOf f Line) (v Line) padded p₅ _ (linesAt padded h) (lines h) (λ i b. suits-line) e₅ l₅ (g .rows Line) false (λ i b. refl) (beforeLines h) (recordsOf h) (omega arith)))
@@ -217,10 +230,14 @@ module _ (f : Form) (h : Header) (v : Kind → ℕ → ℕ → ℕ) (n : ℕ) (g
       ap (λ (m : ℕ). looksFor m (zerosPassed padded (endAt padded h))) a ∙ ap (λ (m : ℕ). looksFor n m) b
 
   -- the first direction: the padded file of a case is answered, with its header
-  pub reading-back : length padded ≤ mostBytes → readOf padded ≡ caseRead (Read h) (looksFor n n)
-  reading-back short =
+  pub read-back : (wanted : Wanted) → Fits wanted → length padded ≤ mostBytes → readAs wanted padded ≡ caseRead (Read h) (looksFor n n)
+  read-back wanted q short =
       sym
-      (whole-body padded (At levelsAt) levelsAt (caseRead (Read h) (looks padded (endAt padded h))) short (sym (head-stands .goes 0)) refl
-      (body-end padded levelsAt h header-back (At (endAt padded h)) (caseRead (Read h) (looks padded (endAt padded h))) (g .counts) tables-pass
+      (whole-body wanted padded (At levelsAt) levelsAt (caseRead (Read h) (looks padded (endAt padded h))) short (sym (head-stands .goes 0)) refl
+      (body-end wanted padded levelsAt h header-back (At (endAt padded h)) (caseRead (Read h) (looks padded (endAt padded h))) (g .counts) (tables-pass wanted q)
       (end-good h padded (At (endAt padded h)) (endAt padded h) (lookedAt padded (endAt padded h)) refl refl nothing)))
       ∙ ap (λ (m : ℕ). caseRead (Read h) m) looks-back
+
+  pub reading-back : length padded ≤ mostBytes → readOf padded ≡ caseRead (Read h) (looksFor n n)
+  unfolding busForm
+  reading-back short = read-back Either weighed-back short

@@ -28,7 +28,7 @@ use Rattle.casefile_defs.specs.declared.Header.{Header}
 use Rattle.casefile_defs.specs.declared.Reading.the-variants.{Read}
 use Rattle.casefile_defs.proofs.Counts.{small-of, lines-small}
 use Rattle.casefile_defs.proofs.Whole.{read-whole}
-use Rattle.casefile_theorems.specs.Writer.{headRow, countOf, Form, formIn, kindsOf, fileOf, wordsOf, bitsAt, basisAt, rowPlace}
+use Rattle.casefile_theorems.specs.Writer.{headRow, countOf, Form, formIn, kindsOf, fileWith, fileOf, wordsOf, bitsAt, basisAt, rowPlace}
 use Rattle.casefile_theorems.specs.Cases.{Numbers, Figures, Sheet, Case, Legal, longest}
 use Rattle.casefile_theorems.proofs.Back.{Whole, padded, length-file, weighed-back, capped-back, reading-back}
 use Rattle.casefile_theorems.proofs.Bytes.{Fine}
@@ -121,12 +121,10 @@ corridor-most s p = go (marked CappedCorridor s p)
     go true = omega arith
     go false = omega arith
 
-pub file-short : (f : Form) (h : Header) (p : Places) → Case h p → length (fileOf f h p) ≤ longest
-unfolding fileOf
-file-short f h p c =
-    let b = small-of h (c .counts) in
-    let w = whole-of f h p c in
-    let s = padded f h (wordsOf p) 0 w in
+pub whole-short : (f : Form) (h : Header) (v : Kind → ℕ → ℕ → ℕ) → Whole f h v → length (fileWith f h v) ≤ longest
+whole-short f h v w =
+    let b = small-of h (w .counts) in
+    let s = padded f h v 0 w in
     omega (
       arith,
       lines-small h b,
@@ -134,13 +132,17 @@ file-short f h p c =
       b .generators,
       b .corridors,
       b .levels,
-      length-file f h (wordsOf p) 0 w,
+      length-file f h v 0 w,
       spot-most Level s 10 levelsAt (levels h) (λ q. omega arith),
       spot-most Bus s 19 (busesAt s h) (h .buses) (bus-most s),
       spot-most Generator s 37 (generatorsAt s h) (h .generators) (λ q. omega arith),
       spot-most Corridor s 24 (corridorsAt s h) (h .corridors) (corridor-most s),
       spot-most Line s 35 (linesAt s h) (lines h) (λ q. omega arith),
     )
+
+pub file-short : (f : Form) (h : Header) (p : Places) → Case h p → length (fileOf f h p) ≤ longest
+unfolding fileOf
+file-short f h p c = whole-short f h (wordsOf p) (whole-of f h p c)
 
 -- ---- the file of a case shows its form
 pub case-weighed : (f : Form) (h : Header) (p : Places) → Case h p → (n : ℕ) → 0 < h .buses → formIn (fileOf f h p ++ replicate n 0) h .weighed ≡ f .weighed

@@ -30,7 +30,7 @@ use Rattle.casefile_theorems.proofs.Bytes.{Fine, fields-same}
 use Rattle.casefile_theorems.proofs.Places.{numbersFrom, figuresFrom, weightFrom, capFrom, lineFrom, sheetFrom, placesFrom}
 
 -- ---- the same numbers make the same file
-tables-alike : (ks : ℕ → Kind) (n : ℕ) (u v : ℕ → ℕ → ℕ) → ((i j : ℕ) → i < n → j < length (layoutOf (ks i) .fields) → u i j ≡ v i j) → tableBytes ks n u ≡ tableBytes ks n v
+pub tables-alike : (ks : ℕ → Kind) (n : ℕ) (u v : ℕ → ℕ → ℕ) → ((i j : ℕ) → i < n → j < length (layoutOf (ks i) .fields) → u i j ≡ v i j) → tableBytes ks n u ≡ tableBytes ks n v
 unfolding tableBytes recordBytes
 tables-alike ks zero u v e = refl
 tables-alike ks (suc n) u v e =

@@ -8,4 +8,6 @@ pub mod Forth
 pub mod CaseForth
 pub mod Refused
 pub mod Theorems
+pub mod Moving
+pub mod RoundTrip
 pub mod Padding

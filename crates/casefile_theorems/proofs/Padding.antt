@@ -10,11 +10,12 @@ use lib.ListN.{length}
 use Rattle.refusal.specs.Reply.{refusedBy}
 use Rattle.refusal.specs.declared.Refusal.the-variants.{Count, FileLength, Length}
 use Rattle.casefile_defs.specs.Bounds.{mostBytes}
-use Rattle.casefile_defs.specs.Reading.{recordAt, countsOk, headerOf, tablesWalked, looksFor, zerosPassed, looks, endRead, bodyRead, readOf, readingOf}
+use Rattle.casefile_defs.specs.Reading.{recordAt, countsOk, headerOf, tablesWalked, looksFor, zerosPassed, looks, endRead, bodyRead, readAs, readingOf}
 use Rattle.casefile_defs.specs.Tables.{Places, Outcome, replyOf, sizesOk, readCase}
 use Rattle.casefile_defs.specs.declared.CaseRead.{CaseRead}
 use Rattle.casefile_defs.specs.declared.Kind.the-variants.{Head}
 use Rattle.casefile_defs.specs.declared.Header.{Header}
+use Rattle.casefile_defs.specs.declared.Wanted.the-variants.{Either}
 use Rattle.casefile_defs.specs.declared.Reading.{Reading}
 use Rattle.casefile_defs.specs.declared.Reading.the-variants.{Refused}
 use Rattle.casefile_defs.specs.declared.Walk.{Walk}
@@ -32,15 +33,15 @@ unfolding endRead
 end-same h s (Fault f) = refl
 end-same h s (At at) = refl
 
-body-same : (s : List ℕ) (w : Walk) → bodyRead s w .reading ≡ plainBody s w
+body-same : (s : List ℕ) (w : Walk) → bodyRead Either s w .reading ≡ plainBody s w
 unfolding bodyRead
 body-same s (Fault f) = refl
 body-same s (At at) =
     either (countsOk (headerOf s)) _ _
-    ∙ ap (λ (r : Reading). cond (countsOk (headerOf s)) r (Refused Count)) (end-same (headerOf s) s (tablesWalked (headerOf s) s (At at)))
+    ∙ ap (λ (r : Reading). cond (countsOk (headerOf s)) r (Refused Count)) (end-same (headerOf s) s (tablesWalked Either (headerOf s) s (At at)))
 
 same-reading : (s : List ℕ) → readingOf s ≡ plainReading s
-unfolding readOf
+unfolding readAs
 same-reading s =
     either (ltb mostBytes (length s)) _ _ ∙ ap (λ (r : Reading). cond (ltb mostBytes (length s)) (Refused FileLength) r) (body-same s (recordAt Head s 0 0))
 

@@ -11,6 +11,7 @@ use Rattle.casefile_defs.specs.declared.Kind.the-variants.{Head}
 use Rattle.casefile_defs.specs.declared.Header.{Header}
 use Rattle.casefile_defs.specs.declared.Walk.{Walk}
 use Rattle.casefile_defs.specs.declared.Walk.the-variants.{At, Fault}
+use Rattle.casefile_defs.specs.declared.Wanted.the-variants.{Either}
 use Rattle.casefile_defs.specs.declared.Reading.{Reading}
 use Rattle.casefile_defs.specs.declared.Reading.the-variants.{Refused, Read}
 
@@ -22,7 +23,7 @@ plainEnd h s (At at) = cond (ltb (trailing s at) (length s)) (Refused (Trailing 
 -- after the header (2, then the tables)
 abbrev pub plainBody : List ℕ → Walk → Reading
 plainBody s (Fault f) = Refused f
-plainBody s (At at) = cond (countsOk (headerOf s)) (plainEnd (headerOf s) s (tablesWalked (headerOf s) s (At at))) (Refused Count)
+plainBody s (At at) = cond (countsOk (headerOf s)) (plainEnd (headerOf s) s (tablesWalked Either (headerOf s) s (At at))) (Refused Count)
 
 abbrev pub plainReading : List ℕ → Reading
 plainReading s = cond (ltb mostBytes (length s)) (Refused FileLength) (plainBody s (recordAt Head s 0 0))

@@ -3,3 +3,4 @@ pub mod Numbers
 pub mod Outcomes
 pub mod Examples
 pub mod Figures
+pub mod Forms

@@ -4,6 +4,7 @@
 mod angles_calls;
 mod dispatch_calls;
 mod leaders_calls;
+mod moving_calls;
 mod placement_calls;
 mod planning_calls;
 mod preview_calls;
@@ -24,6 +25,7 @@ fn first() {
     planning_calls::first();
     preview_calls::first();
     reading_calls::first();
+    moving_calls::first();
     sheet_calls::first();
     season_calls::first();
     small_calls::first();
@@ -37,6 +39,7 @@ fn both(slice: usize) {
     planning_calls::both(slice);
     preview_calls::both(slice);
     reading_calls::both(slice);
+    moving_calls::both(slice);
     sheet_calls::both(slice);
     season_calls::both(slice);
     small_calls::both(slice);

@@ -6,8 +6,13 @@ use refusal::Refusal;
 // The places of every lent array, one more than the longest slice has.
 pub const ROOM: usize = casefile_defs::MOST_SHEET + 1;
 
+// The same of arrays of bytes: a file's.
+pub const BYTES: usize = casefile_defs::MOST_BYTES + 1;
+
 // What a lent place holds before a call.
 pub const MARK: u32 = 7;
+
+pub const BYTE: u8 = 7;
 
 pub const FIGURE: f64 = 7.0;
 
@@ -31,7 +36,7 @@ pub fn none() -> Wrong {
 
 // How long to make the slice at a place where `right` is right.
 pub fn made(right: usize, place: usize, wrong: Wrong) -> usize
-    requires { ⌜ (1 ≤ right) × (right ≤ 6400) ⌝ }
+    requires { ⌜ (1 ≤ right) × (right ≤ 65536) ⌝ }
     ensures { λ r. ⌜ r ≤ right + 1 ⌝ }
 {
     if place != wrong.slice {
@@ -103,6 +108,17 @@ pub fn figures_kept(xs: &[f64; ROOM]) -> bool {
     let mut i: usize = 0;
     while i < ROOM {
         if xs[i] != FIGURE {
+            return false;
+        }
+        i += 1;
+    }
+    true
+}
+
+pub fn bytes_kept(xs: &[u8; BYTES]) -> bool {
+    let mut i: usize = 0;
+    while i < BYTES {
+        if xs[i] != BYTE {
             return false;
         }
         i += 1;

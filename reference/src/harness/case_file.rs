@@ -125,8 +125,9 @@ impl<'a> Reader<'a> {
     }
 
     /// All buses: a BV where its mark stands, otherwise a BU, and a wrong mark
-    /// has its length; 15 where one is not of the first one's form.
-    fn buses(&mut self, count: usize) -> Result<Vec<Bus>, Refusal> {
+    /// has its length; 15 where one is not of the first one's form, or of
+    /// `form`.
+    fn buses(&mut self, count: usize, form: Option<bool>) -> Result<Vec<Bus>, Refusal> {
         let mut buses: Vec<Bus> = Vec::new();
         for place in 0..count {
             let weighed = self.rest.starts_with(BV.mark);
@@ -135,7 +136,8 @@ impl<'a> Reader<'a> {
                 Branch::WeighedCut,
             );
             let mut fields = self.record(if weighed { &BV } else { &BU })?;
-            if buses.first().is_some_and(|first| first.weighed != weighed) {
+            let due = form.or(buses.first().map(|first| first.weighed));
+            if due.is_some_and(|due| due != weighed) {
                 watch_meeting(place, count, weighed);
                 return Err(Refusal::new(MARK, self.record - 1));
             }
@@ -195,6 +197,7 @@ fn watch_meeting(place: usize, count: usize, weighed: bool) {
         false => Branch::PlainAfterWeighed,
     });
     seen(match place {
+        0 => Branch::OtherForm,
         1 => Branch::FormsMeetSecond,
         _ if place + 1 == count => Branch::FormsMeetLast,
         _ => Branch::FormsMeetBetween,
@@ -202,7 +205,7 @@ fn watch_meeting(place: usize, count: usize, weighed: bool) {
 }
 
 /// The case of the records of `file`, and the bytes behind them.
-fn read_records(file: &[u8]) -> Result<(Case, &[u8]), Refusal> {
+fn read_records(file: &[u8], form: Option<bool>) -> Result<(Case, &[u8]), Refusal> {
     if file.len() > MOST_BYTES {
         return Err(Refusal::new(FILE_TOO_LONG, 0));
     }
@@ -233,7 +236,7 @@ fn read_records(file: &[u8]) -> Result<(Case, &[u8]), Refusal> {
         target,
         above,
         ladder: reader.table(levels, Reader::level)?,
-        buses: reader.buses(buses)?,
+        buses: reader.buses(buses, form)?,
         generators: reader.table(generators, Reader::generator)?,
         corridors: reader.table(corridors, Reader::corridor)?,
         sheet: reader.table(corridors * levels, Reader::line)?,
@@ -243,7 +246,13 @@ fn read_records(file: &[u8]) -> Result<(Case, &[u8]), Refusal> {
 
 /// The case that `file` holds.
 pub fn read_case(file: &[u8]) -> Result<Case, Refusal> {
-    let (case, rest) = read_records(file)?;
+    read_form(file, None)
+}
+
+/// The case that `file` holds, whose buses must be BV, or must be BU, where
+/// `form` says so (document 02, K7).
+pub fn read_form(file: &[u8], form: Option<bool>) -> Result<Case, Refusal> {
+    let (case, rest) = read_records(file, form)?;
     match rest.iter().position(|&byte| byte != 0) {
         Some(place) => Err(Refusal::new(AFTER_THE_END, file.len() - rest.len() + place)),
         None => Ok(case),
@@ -273,7 +282,7 @@ fn looks_at(mut rest: &[u8]) -> usize {
 
 /// How often that test looks; 0 where the file is refused before it.
 pub fn looks(file: &[u8]) -> usize {
-    read_records(file).map_or(0, |(_, rest)| looks_at(rest))
+    read_records(file, None).map_or(0, |(_, rest)| looks_at(rest))
 }
 
 /// The file of `case`, without padding. Counts are written as the tables have

@@ -7,6 +7,7 @@ pub mod case_text;
 pub mod checks;
 pub mod figures;
 pub mod listing;
+pub mod moves;
 pub mod operations;
 pub mod plan;
 pub mod preview;

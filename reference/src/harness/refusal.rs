@@ -27,6 +27,7 @@ pub const AFTER_THE_END: u32 = 17;
 pub const MODE: u32 = 18;
 pub const UNEVEN: u32 = 19;
 pub const SEASON_FULL: u32 = 20;
+pub const WEIGHT: u32 = 21;
 pub const SPREAD: u32 = 22;
 pub const ORDER: u32 = 30;
 

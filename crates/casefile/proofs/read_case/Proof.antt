@@ -66,7 +66,7 @@ sizes-true c = not-false _ (c .before .before .if1 .left)
 -- ---- where each table lies
 -- the counts fit the tables, and the tables the file
 room : (c : tie.After-held) → Roomy (fileAt c) (c .held .result)
-room c = roomy _ _ _ (ap (λ (r : CaseRead). r .reading) (c .before .read-of .ensures)) (c .held .ensures)
+room c = roomy _ _ _ (ap (λ (r : CaseRead). r .reading) (c .before .read-as .ensures)) (c .held .ensures)
 
 buses-at : (c : tie.After-read-levels) → c .read-levels .result ≡ busesAt (fileAt (counts-held c)) (counts-held c .held .result)
 buses-at c = c .read-levels .ensures .1
@@ -112,8 +112,8 @@ said-requires c κs = search needs
 returns : tie.Need-returns
 returns c = ap (λ (r : CaseRead). outcome r (placesAt (start-before (c .before)))) (c .said .ensures) ∙ refused-lengths _ _ (sizes-false (c .before))
 
-read-of-requires : tie.Need-read-of-requires
-read-of-requires c κs = search needs
+read-as-requires : tie.Need-read-as-requires
+read-as-requires c κs = search needs
 
 held-requires : tie.Need-held-requires
 held-requires c κs = search needs
@@ -214,7 +214,7 @@ returns-2 c =
     let z = sizes (placesAt (start-of h)) (sizes-true h) in
     let s = fileAt h in
     let n = h .held .result in
-    read-whole _ _ _ _ n (sizes-true h) (h .before .read-of .ensures) (h .held .ensures)
+    read-whole _ _ _ _ n (sizes-true h) (h .before .read-as .ensures) (h .held .ensures)
     (tables-same s n _ _ _ _ _ _ _ _ _ _ _ _ _ _ _ _ _
     (l .read-levels .ensures .0 ∙ ap (λ (m : ℕ). figures Level 0 s levelsAt (n .above + n .requested) m) (z .ladder))
     (column-numbers Bus Bus 0 s (n .buses) (buses-at l) (z .tier) (b .read-buses .ensures .0))
@@ -240,7 +240,7 @@ read-case-spec =
     (tie.spec
     said-requires
     returns
-    read-of-requires
+    read-as-requires
     held-requires
     add-levels
     read-levels-requires

@@ -8,6 +8,7 @@ mod caps;
 mod damage;
 mod edges;
 mod faults;
+pub mod moved;
 mod networks;
 pub mod padding;
 mod serving;

@@ -20,7 +20,7 @@ said-requires c κs = search needs
 returns : tie.Need-returns
 returns c =
     c .said .ensures
-    ∙ body-counts _ _ _ (c .before .before .before .header-of .ensures .0) (sym (c .before .before .counts-ok .ensures) ∙ not-true _ (c .before .if1 .taken))
+    ∙ body-counts _ _ _ _ (c .before .before .before .header-of .ensures .0) (sym (c .before .before .counts-ok .ensures) ∙ not-true _ (c .before .if1 .taken))
 
 walk-tables-requires : tie.Need-walk-tables-requires
 walk-tables-requires c κs = small-of _ (sym (c .before .counts-ok .ensures) ∙ not-false _ (c .if1 .left))
@@ -30,7 +30,7 @@ end-read-requires c κs = search needs
 
 returns-2 : tie.Need-returns-2
 returns-2 c =
-    body-end _ _ _ (c .before .before .before .before .header-of .ensures .0) _ _ (sym (c .before .before .before .counts-ok .ensures) ∙ not-false _ (c .before .before .if1 .left))
+    body-end _ _ _ _ (c .before .before .before .before .header-of .ensures .0) _ _ (sym (c .before .before .before .counts-ok .ensures) ∙ not-false _ (c .before .before .if1 .left))
     (c .before .walk-tables .ensures) (c .end-read .ensures)
 
 pub body-read-spec : {M : Type 1} → statement M

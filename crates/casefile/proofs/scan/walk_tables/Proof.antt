@@ -55,7 +55,7 @@ returns : tie.Need-returns
 returns c =
     let b = c .before .before .before in
     let h = b .before .before .before .before .before .before .before .before .before in
-    tables-walked _ _ _ _ _ _ _ _ (b .before .before .walk-kind .ensures)
+    tables-walked _ _ _ _ _ _ _ _ _ (b .before .before .walk-kind .ensures)
     (b .walk-kind2 .ensures ∙ ap (λ (x : Bool). walked Bus x (beforeBuses (h .args .h)) (beforeGenerators (h .args .h)) (now (h .args .file)) (b .before .before .walk-kind .result)) (b .before .bus-form .ensures))
     (c .before .before .walk-kind3 .ensures) (c .before .walk-kind4 .ensures) (c .walk-kind5 .ensures)
 

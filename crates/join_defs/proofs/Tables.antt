@@ -55,7 +55,7 @@ counts-are n by x y =
     (λ i h. placed 0 x (moved by y) (length y) (λ j. getD x j 0) (λ j. by + getD y j 0) (length-map y (λ j. by + j)) (λ j l. refl)
     (λ j l. get-map (λ k. by + k) y j 0 0 l) i)
 
-unmoved : (l : List ℕ) → moved 0 l ≡ l
+pub unmoved : (l : List ℕ) → moved 0 l ≡ l
 unmoved [] = refl
 unmoved (k ∷ l) = ap (λ (j : ℕ). j ∷ moved 0 l) (let z : 0 + k ≡ k = omega arith in z) ∙ ap (λ (r : List ℕ). k ∷ r) (unmoved l)
 

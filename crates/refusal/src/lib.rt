@@ -52,6 +52,8 @@ pub enum Refusal {
     Mode,
     // A place of a filling order that names no corridor, or one again.
     Order(usize),
+    // Two cases to be joined have not one mode, one ladder and one count of requested levels.
+    Districts,
 }
 
 impl Refusal {
@@ -83,6 +85,7 @@ impl Refusal {
             Refusal::Place => 23,
             Refusal::Mode => 18,
             Refusal::Order(_) => 30,
+            Refusal::Districts => 24,
         }
     }
 
@@ -115,6 +118,7 @@ impl Refusal {
             Refusal::Place => 0,
             Refusal::Mode => 0,
             Refusal::Order(i) => i,
+            Refusal::Districts => 0,
         }
     }
 }

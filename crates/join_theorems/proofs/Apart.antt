@@ -2,7 +2,7 @@
 -- Corridors join no bus of one to a bus of the other, so the components are the first's, then the second's, and each is served in its own places.
 use Prim.Native.Nat.{ℕ, _+_, _-_, _<_}
 use mathlib.Core.Bool.{true}
-use mathlib.Core.List.{List, [], _∷_, _++_, map, append-nil}
+use mathlib.Core.List.{List, [], _∷_, _++_, map, append-nil, map-append}
 use mathlib.Core.Path.{_≡_, refl, sym, ap, _∙_, subst}
 use native.Mathlib.Omega.{arith}
 use lib.Ieee.{Float, nan}
@@ -34,10 +34,6 @@ use Rattle.join_theorems.specs.Apart.{Apart, AnswersApart}
 use Rattle.join_theorems.proofs.Lists.{passing-split, map-moved, map-raised, stages-append, stages-within}
 use Rattle.join_theorems.proofs.Within.{second-at, moved-first, moved-second, first-within, second-within}
 use Rattle.join_theorems.proofs.Served.{Closed, leads-is, ground-is, served-within}
-
-map-append : {A B : Type 0} (f : A → B) (x y : List A) → map f (x ++ y) ≡ map f x ++ map f y
-map-append f [] y = refl
-map-append {A} {B} f (a ∷ x) y = ap (λ (l : List B). f a ∷ l) (map-append f x y)
 
 -- ---- a plan's dispatch and grounds are those of its case's components
 pub record Stands (c : Case) (p : Plan) : Type 0 where

@@ -52,7 +52,7 @@ pub enum Refusal {
     Mode,
     // A place of a filling order that names no corridor, or one again.
     Order(usize),
-    // Two cases to be joined have not one mode, one ladder and one count of requested levels.
+    // Two districts of other modes, ladders or counts of requested levels.
     Districts,
 }
 

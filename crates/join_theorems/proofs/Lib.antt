@@ -1,0 +1,6 @@
+-- Theorems about two cases joined, by subject.
+pub mod Lists
+pub mod Within
+pub mod Accepted
+pub mod Served
+pub mod Apart

@@ -1,0 +1,2 @@
+-- What the theorems about joined cases say.
+pub mod Apart

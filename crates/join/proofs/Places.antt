@@ -1,24 +1,23 @@
--- A place of a joined column by where it falls, and two lists that have as many levels.
+-- Where a place of two columns one after the other falls, and whether a sum is within a bound, asked without the sum.
 use Prim.Native.Nat.{ℕ, _+_, _-_, _≤_, _<_}
-use mathlib.Core.Bool.{Bool, cond}
-use mathlib.Core.Path.{_≡_, sym, ap, _∙_}
+use mathlib.Core.Bool.{Bool, true, false}
+use mathlib.Core.Path.{_≡_, refl, sym}
 use native.Mathlib.Omega.{arith}
-use borrow.Author.Tests.{lt-ltb, le-ltb}
-use lib.Dec.{ltb}
+use borrow.Author.Tests.{lt-ltb, le-ltb, le-leb, lt-leb, leb-true, leb-false}
+use lib.Dec.{ltb, leb}
 
-module _ {A : Type 0} (n m i : ℕ) (x y z : A) where
-  abbrev place : Bool → Bool → A
-  place s t = cond s x (cond t y z)
+pub in-second : (n m i : ℕ) → n ≤ i → i - n < m → ltb i (n + m) ≡ true
+in-second n m i h l = lt-ltb i (n + m) (omega arith)
 
-  pub in-first : i < n → x ≡ place (ltb i n) (ltb i (n + m))
-  in-first h = ap (λ (s : Bool). place s (ltb i (n + m))) (sym (lt-ltb i n h))
+pub past-both : (n m i : ℕ) → n ≤ i → m ≤ i - n → ltb i (n + m) ≡ false
+past-both n m i h l = le-ltb i (n + m) (omega arith)
 
-  pub in-second : n ≤ i → i - n < m → y ≡ place (ltb i n) (ltb i (n + m))
-  in-second h l =
-      let k : i < n + m = omega arith in
-      ap (λ (t : Bool). cond t y z) (sym (lt-ltb i (n + m) k)) ∙ ap (λ (s : Bool). place s (ltb i (n + m))) (sym (le-ltb i n h))
+pub sum-not : (most x y : ℕ) → most < x → false ≡ leb (x + y) most
+sum-not most x y h = sym (lt-leb (x + y) most (omega arith))
 
-  pub past-both : n ≤ i → m ≤ i - n → z ≡ place (ltb i n) (ltb i (n + m))
-  past-both h l =
-      let k : n + m ≤ i = omega arith in
-      ap (λ (t : Bool). cond t y z) (sym (le-ltb i (n + m) k)) ∙ ap (λ (s : Bool). place s (ltb i (n + m))) (sym (le-ltb i n h))
+pub sum-is : (most x y : ℕ) → x ≤ most → leb y (most - x) ≡ leb (x + y) most
+sum-is most x y h = go (leb y (most - x)) refl
+  where
+    go : (b : Bool) → leb y (most - x) ≡ b → b ≡ leb (x + y) most
+    go true e = sym (le-leb (x + y) most (omega (arith, leb-true y (most - x) e)))
+    go false e = sym (lt-leb (x + y) most (omega (arith, leb-false y (most - x) e)))

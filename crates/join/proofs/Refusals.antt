@@ -1,6 +1,6 @@
 -- The refusals in order: 1 for the joined tables and 1 to 7 of the first case, 1 to 7 of the second, 2, 24; and what passes them all.
 use Prim.Native.Nat.{ℕ, _+_, _^_, _≤_, _<_}
-use mathlib.Core.Bool.{Bool, true, false, cond}
+use mathlib.Core.Bool.{Bool, true, false, cond, _&&_, and-assoc}
 use mathlib.Core.List.{List}
 use mathlib.Core.Option.{Option, none, some}
 use mathlib.Core.Path.{_≡_, refl, sym, ap, _∙_}
@@ -19,9 +19,9 @@ use Rattle.plan_defs.specs.Case.{Case}
 use Rattle.plan_defs.specs.Accept.{caseFault}
 use Rattle.plan_defs.proofs.Accepted.{Accepted, accepted, bus-below, end-a, end-b}
 use Rattle.acceptance.specs.Check.{answerOf}
-use Rattle.join_defs.specs.Districts.{sumsOk, alike, orElse, joinFault}
+use Rattle.join_defs.specs.Districts.{sameLadder, sumsOk, alike, orElse, joinFault}
 use Rattle.join_defs.specs.Joining.{caseAs}
-use Rattle.join.specs.Joins.{Raises, Summed, checkOf}
+use Rattle.join.specs.Joins.{Raised, Summed, headsAlike, checkOf}
 
 module _ (fits : Bool) (c : Case) (t : ℕ) (d : Case) (u : ℕ) where
   -- what is left after 1 to 7 of both, and of the first
@@ -114,11 +114,16 @@ module _ (fits : Bool) (h : Header) (p : Places) (k : Header) (q : Places)
   second-ok = accepted (caseAs k q) (k .target) (j .second)
 
   -- the second's buses, raised by the first's, fit
-  pub bus-raises : Raises (h .buses) (q .bus)
-  bus-raises i l = omega (arith, summed .buses, bus-below (caseAs k q) (k .target) second-ok i (omega (arith, second-ok .columns .bus)))
+  pub raised : (n : ℕ) → n ≡ h .buses → Raised n (q .bus) (q .a) (q .b)
+  raised n e =
+      record {
+        bus = λ i l. omega (arith, summed .buses, bus-below (caseAs k q) (k .target) second-ok i (omega (arith, second-ok .columns .bus)));
+        a = λ i l. omega (arith, summed .buses, end-a (caseAs k q) (k .target) second-ok i (omega (arith, second-ok .columns .a)));
+        b = λ i l. omega (arith, summed .buses, end-b (caseAs k q) (k .target) second-ok i (omega (arith, second-ok .columns .b)));
+      }
 
-  pub a-raises : Raises (h .buses) (q .a)
-  a-raises i l = omega (arith, summed .buses, end-a (caseAs k q) (k .target) second-ok i (omega (arith, second-ok .columns .a)))
-
-  pub b-raises : Raises (h .buses) (q .b)
-  b-raises i l = omega (arith, summed .buses, end-b (caseAs k q) (k .target) second-ok i (omega (arith, second-ok .columns .b)))
+-- 24, the headers and the ladders each tested for themselves
+pub alike-is : (h : Header) (p : Places) (k : Header) (q : Places) (x y : Bool) → x ≡ headsAlike h k → y ≡ sameLadder (p .ladder) (q .ladder)
+    → (x && y) ≡ alike (caseAs h p) (caseAs k q)
+unfolding alike
+alike-is h p k q x y ex ey = rw (ex, ey) (simp and-assoc)

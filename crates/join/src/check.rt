@@ -65,10 +65,10 @@ fn unlike_level(x: &[f64], y: &[f64]) -> usize
 fn same_ladder(x: &[f64], y: &[f64]) -> bool
     ensures { λ r. ⌜ r ≡ sameLadder (now (x .entry)) (now (y .entry)) ⌝ }
 {
-    if x.len() != y.len() {
-        return false;
+    if x.len() == y.len() {
+        return unlike_level(x, y) == x.len();
     }
-    unlike_level(x, y) == x.len()
+    false
 }
 
 fn alike(first: Header, second: Header) -> bool

@@ -12,7 +12,9 @@ use casefile_defs::MOST_GENERATORS;
 use casefile_defs::MOST_LEVELS;
 use casefile_defs::MOST_SHEET;
 use casefile_defs::Reading;
+use check::check_both;
 use refusal::Answer;
+use tables::put_tables;
 
 mod check;
 mod columns;
@@ -118,7 +120,7 @@ pub fn join_cases(
         & (share.len() == MOST_CORRIDORS)
         & (cap.len() == MOST_CORRIDORS)
         & (sheet.len() == MOST_SHEET);
-    match check::check_both(
+    match check_both(
         sized,
         first,
         first_ladder,
@@ -162,42 +164,18 @@ pub fn join_cases(
     }
     let h = joined_header(first, second);
     let n = narrow(first.buses);
-    tables::put_buses(
+    put_tables(
+        n,
         first_ladder,
         first_tier,
         first_reading,
         first_weight,
-        second_tier,
-        second_reading,
-        second_weight,
-        ladder,
-        tier,
-        reading,
-        weight,
-    );
-    tables::put_generators(
-        n,
         first_bus,
         first_slack,
         first_pmin,
         first_pmax,
         first_c1,
         first_c2,
-        second_bus,
-        second_slack,
-        second_pmin,
-        second_pmax,
-        second_c1,
-        second_c2,
-        bus,
-        slack,
-        pmin,
-        pmax,
-        c1,
-        c2,
-    );
-    tables::put_corridors(
-        n,
         first_a,
         first_b,
         first_circuits,
@@ -205,6 +183,15 @@ pub fn join_cases(
         first_share,
         first_cap,
         first_sheet,
+        second_tier,
+        second_reading,
+        second_weight,
+        second_bus,
+        second_slack,
+        second_pmin,
+        second_pmax,
+        second_c1,
+        second_c2,
         second_a,
         second_b,
         second_circuits,
@@ -212,6 +199,16 @@ pub fn join_cases(
         second_share,
         second_cap,
         second_sheet,
+        ladder,
+        tier,
+        reading,
+        weight,
+        bus,
+        slack,
+        pmin,
+        pmax,
+        c1,
+        c2,
         a,
         b,
         circuits,

@@ -1,0 +1,158 @@
+-- `join::join_cases` meets its contract. The check's refusals touch nothing; of what passes it the tables are the joined case's.
+use mathlib.Core.Path.{_≡_, sym, _∙_}
+use native.Mathlib.Omega.{arith}
+use borrow.Author.Needs.{needs}
+use denote.Ref.{now}
+use Rattle.casefile_defs.specs.Tables.{Places, placesOf, sizesOk}
+use Rattle.join_defs.specs.Joining.{caseAs}
+use Rattle.join.specs.Joins.{checkOf}
+use Rattle.join.proofs.Refusals.{Joinable, joinable, summed, raised}
+use Rattle.join.proofs.Whole.{refused-whole, tables-joined, joined-whole}
+use Rattle.join.proofs.join_cases.Statement.{statement}
+use Rattle.join.proofs.join_cases.Tie as tie
+
+-- the two cases' tables
+abbrev firstAt : tie.Start → Places
+firstAt o = let z = o .args in placesOf (now (z .first-ladder)) (now (z .first-tier)) (now (z .first-reading)) (now (z .first-weight)) (now (z .first-bus)) (now (z .first-slack)) (now (z .first-pmin)) (now (z .first-pmax)) (now (z .first-c1)) (now (z .first-c2)) (now (z .first-a)) (now (z .first-b)) (now (z .first-circuits)) (now (z .first-length-km)) (now (z .first-share)) (now (z .first-cap)) (now (z .first-sheet))
+
+abbrev secondAt : tie.Start → Places
+secondAt o = let z = o .args in placesOf (now (z .second-ladder)) (now (z .second-tier)) (now (z .second-reading)) (now (z .second-weight)) (now (z .second-bus)) (now (z .second-slack)) (now (z .second-pmin)) (now (z .second-pmax)) (now (z .second-c1)) (now (z .second-c2)) (now (z .second-a)) (now (z .second-b)) (now (z .second-circuits)) (now (z .second-length-km)) (now (z .second-share)) (now (z .second-cap)) (now (z .second-sheet))
+
+-- the joined tables as they were lent
+abbrev lent : tie.Start → Places
+lent o = let z = o .args in placesOf (now (z .ladder)) (now (z .tier)) (now (z .reading)) (now (z .weight)) (now (z .bus)) (now (z .slack)) (now (z .pmin)) (now (z .pmax)) (now (z .c1)) (now (z .c2)) (now (z .a)) (now (z .b)) (now (z .circuits)) (now (z .length-km)) (now (z .share)) (now (z .cap)) (now (z .sheet))
+
+abbrev start-of : tie.After-check-both → tie.Start
+start-of c = c .before .before .before .before .before .before .before .before .before .before .before .before .before .before .before .before .before .before .before .before .before .before .before .before .before .before .before .before .before .before .before .before .before .before .before .before .before .before .before .before .before .before .before .before .before .before .before .before .before .before .before .before
+
+-- what the check answers
+abbrev answer-is : (c : tie.After-check-both) → let o = start-of c in
+    c .check-both .result ≡ checkOf (sizesOk (lent o)) (caseAs (o .args .first) (firstAt o)) (o .args .first .target) (caseAs (o .args .second) (secondAt o)) (o .args .second .target)
+unfolding sizesOk
+answer-is c = c .check-both .ensures
+
+passed : (c : tie.After-enum-told) → let o = start-of (c .before .before) in
+    Joinable (sizesOk (lent o)) (caseAs (o .args .first) (firstAt o)) (o .args .first .target) (caseAs (o .args .second) (secondAt o)) (o .args .second .target)
+passed c = joinable _ _ _ _ _ (sym (c .enum-told .given .1) ∙ answer-is (c .before .before))
+
+check-both-requires : tie.Need-check-both-requires
+check-both-requires c κs = search needs
+
+enum-known-f : tie.Need-enum-known-f
+enum-known-f c = search needs
+
+returns : tie.Need-returns
+returns c =
+    let k = c .before .before .before in
+    let o = start-of k in
+    refused-whole (o .args .first) (firstAt o) (o .args .second) (secondAt o) (lent o) _ (sym (c .before .f .given .1) ∙ answer-is k)
+
+enum-told : tie.Need-enum-told
+enum-told c = search needs
+
+joined-header-requires : tie.Need-joined-header-requires
+joined-header-requires c κs =
+    let o = start-of (c .before .before) in
+    summed (sizesOk (lent o)) (o .args .first) (firstAt o) (o .args .second) (secondAt o) (passed c)
+
+narrow-requires : tie.Need-narrow-requires
+narrow-requires c κs =
+    let t = c .before in
+    let o = start-of (t .before .before) in
+    let s = summed (sizesOk (lent o)) (o .args .first) (firstAt o) (o .args .second) (secondAt o) (passed t) in
+    omega (arith, s .buses)
+
+put-tables-requires : tie.Need-put-tables-requires
+put-tables-requires c κs =
+    let t = c .before .before .before .before .before .before .before .before .before .before .before .before .before .before .before .before .before .before .before in
+    let o = start-of (t .before .before) in
+    raised (sizesOk (lent o)) (o .args .first) (firstAt o) (o .args .second) (secondAt o) (passed t) _ (c .before .before .before .before .before .before .before .before .before .before .before .before .before .before .before .before .before .narrow .ensures)
+
+same-length : tie.Need-same-length
+same-length c = c .before .before .before .before .before .before .before .before .before .before .before .before .before .before .before .before .before .before .before .before .before .before .before .before .before .before .before .before .before .before .before .before .before .before .put-tables .kept .1 .1 .1 .1 .1 .1 .1 .1 .1 .1 .1 .1 .1 .1 .1 .1 .1 .1 .1 .1 .1 .1 .1 .1 .1 .1 .1 .1 .1 .1 .1 .1 .1 .1 .0
+
+same-length-2 : tie.Need-same-length-2
+same-length-2 c = c .before .before .before .before .before .before .before .before .before .before .before .before .before .before .before .before .before .before .before .before .before .before .before .before .before .before .before .before .before .before .before .before .before .before .put-tables .kept .1 .1 .1 .1 .1 .1 .1 .1 .1 .1 .1 .1 .1 .1 .1 .1 .1 .1 .1 .1 .1 .1 .1 .1 .1 .1 .1 .1 .1 .1 .1 .1 .1 .1 .1 .0
+
+same-length-3 : tie.Need-same-length-3
+same-length-3 c = c .before .before .before .before .before .before .before .before .before .before .before .before .before .before .before .before .before .before .before .before .before .before .before .before .before .before .before .before .before .before .before .before .before .before .put-tables .kept .1 .1 .1 .1 .1 .1 .1 .1 .1 .1 .1 .1 .1 .1 .1 .1 .1 .1 .1 .1 .1 .1 .1 .1 .1 .1 .1 .1 .1 .1 .1 .1 .1 .1 .1 .1 .0
+
+same-length-4 : tie.Need-same-length-4
+same-length-4 c = c .before .before .before .before .before .before .before .before .before .before .before .before .before .before .before .before .before .before .before .before .before .before .before .before .before .before .before .before .before .before .before .before .before .before .put-tables .kept .1 .1 .1 .1 .1 .1 .1 .1 .1 .1 .1 .1 .1 .1 .1 .1 .1 .1 .1 .1 .1 .1 .1 .1 .1 .1 .1 .1 .1 .1 .1 .1 .1 .1 .1 .1 .1 .0
+
+same-length-5 : tie.Need-same-length-5
+same-length-5 c = c .before .before .before .before .before .before .before .before .before .before .before .before .before .before .before .before .before .before .before .before .before .before .before .before .before .before .before .before .before .before .before .before .before .before .put-tables .kept .1 .1 .1 .1 .1 .1 .1 .1 .1 .1 .1 .1 .1 .1 .1 .1 .1 .1 .1 .1 .1 .1 .1 .1 .1 .1 .1 .1 .1 .1 .1 .1 .1 .1 .1 .1 .1 .1 .0
+
+same-length-6 : tie.Need-same-length-6
+same-length-6 c = c .before .before .before .before .before .before .before .before .before .before .before .before .before .before .before .before .before .before .before .before .before .before .before .before .before .before .before .before .before .before .before .before .before .before .put-tables .kept .1 .1 .1 .1 .1 .1 .1 .1 .1 .1 .1 .1 .1 .1 .1 .1 .1 .1 .1 .1 .1 .1 .1 .1 .1 .1 .1 .1 .1 .1 .1 .1 .1 .1 .1 .1 .1 .1 .1 .0
+
+same-length-7 : tie.Need-same-length-7
+same-length-7 c = c .before .before .before .before .before .before .before .before .before .before .before .before .before .before .before .before .before .before .before .before .before .before .before .before .before .before .before .before .before .before .before .before .before .before .put-tables .kept .1 .1 .1 .1 .1 .1 .1 .1 .1 .1 .1 .1 .1 .1 .1 .1 .1 .1 .1 .1 .1 .1 .1 .1 .1 .1 .1 .1 .1 .1 .1 .1 .1 .1 .1 .1 .1 .1 .1 .1 .0
+
+same-length-8 : tie.Need-same-length-8
+same-length-8 c = c .before .before .before .before .before .before .before .before .before .before .before .before .before .before .before .before .before .before .before .before .before .before .before .before .before .before .before .before .before .before .before .before .before .before .put-tables .kept .1 .1 .1 .1 .1 .1 .1 .1 .1 .1 .1 .1 .1 .1 .1 .1 .1 .1 .1 .1 .1 .1 .1 .1 .1 .1 .1 .1 .1 .1 .1 .1 .1 .1 .1 .1 .1 .1 .1 .1 .1 .0
+
+same-length-9 : tie.Need-same-length-9
+same-length-9 c = c .before .before .before .before .before .before .before .before .before .before .before .before .before .before .before .before .before .before .before .before .before .before .before .before .before .before .before .before .before .before .before .before .before .before .put-tables .kept .1 .1 .1 .1 .1 .1 .1 .1 .1 .1 .1 .1 .1 .1 .1 .1 .1 .1 .1 .1 .1 .1 .1 .1 .1 .1 .1 .1 .1 .1 .1 .1 .1 .1 .1 .1 .1 .1 .1 .1 .1 .1 .0
+
+same-length-10 : tie.Need-same-length-10
+same-length-10 c = c .before .before .before .before .before .before .before .before .before .before .before .before .before .before .before .before .before .before .before .before .before .before .before .before .before .before .before .before .before .before .before .before .before .before .put-tables .kept .1 .1 .1 .1 .1 .1 .1 .1 .1 .1 .1 .1 .1 .1 .1 .1 .1 .1 .1 .1 .1 .1 .1 .1 .1 .1 .1 .1 .1 .1 .1 .1 .1 .1 .1 .1 .1 .1 .1 .1 .1 .1 .1 .0
+
+same-length-11 : tie.Need-same-length-11
+same-length-11 c = c .before .before .before .before .before .before .before .before .before .before .before .before .before .before .before .before .before .before .before .before .before .before .before .before .before .before .before .before .before .before .before .before .before .before .put-tables .kept .1 .1 .1 .1 .1 .1 .1 .1 .1 .1 .1 .1 .1 .1 .1 .1 .1 .1 .1 .1 .1 .1 .1 .1 .1 .1 .1 .1 .1 .1 .1 .1 .1 .1 .1 .1 .1 .1 .1 .1 .1 .1 .1 .1 .0
+
+same-length-12 : tie.Need-same-length-12
+same-length-12 c = c .before .before .before .before .before .before .before .before .before .before .before .before .before .before .before .before .before .before .before .before .before .before .before .before .before .before .before .before .before .before .before .before .before .before .put-tables .kept .1 .1 .1 .1 .1 .1 .1 .1 .1 .1 .1 .1 .1 .1 .1 .1 .1 .1 .1 .1 .1 .1 .1 .1 .1 .1 .1 .1 .1 .1 .1 .1 .1 .1 .1 .1 .1 .1 .1 .1 .1 .1 .1 .1 .1 .0
+
+same-length-13 : tie.Need-same-length-13
+same-length-13 c = c .before .before .before .before .before .before .before .before .before .before .before .before .before .before .before .before .before .before .before .before .before .before .before .before .before .before .before .before .before .before .before .before .before .before .put-tables .kept .1 .1 .1 .1 .1 .1 .1 .1 .1 .1 .1 .1 .1 .1 .1 .1 .1 .1 .1 .1 .1 .1 .1 .1 .1 .1 .1 .1 .1 .1 .1 .1 .1 .1 .1 .1 .1 .1 .1 .1 .1 .1 .1 .1 .1 .1 .0
+
+same-length-14 : tie.Need-same-length-14
+same-length-14 c = c .before .before .before .before .before .before .before .before .before .before .before .before .before .before .before .before .before .before .before .before .before .before .before .before .before .before .before .before .before .before .before .before .before .before .put-tables .kept .1 .1 .1 .1 .1 .1 .1 .1 .1 .1 .1 .1 .1 .1 .1 .1 .1 .1 .1 .1 .1 .1 .1 .1 .1 .1 .1 .1 .1 .1 .1 .1 .1 .1 .1 .1 .1 .1 .1 .1 .1 .1 .1 .1 .1 .1 .1 .0
+
+same-length-15 : tie.Need-same-length-15
+same-length-15 c = c .before .before .before .before .before .before .before .before .before .before .before .before .before .before .before .before .before .before .before .before .before .before .before .before .before .before .before .before .before .before .before .before .before .before .put-tables .kept .1 .1 .1 .1 .1 .1 .1 .1 .1 .1 .1 .1 .1 .1 .1 .1 .1 .1 .1 .1 .1 .1 .1 .1 .1 .1 .1 .1 .1 .1 .1 .1 .1 .1 .1 .1 .1 .1 .1 .1 .1 .1 .1 .1 .1 .1 .1 .1 .0
+
+same-length-16 : tie.Need-same-length-16
+same-length-16 c = c .before .before .before .before .before .before .before .before .before .before .before .before .before .before .before .before .before .before .before .before .before .before .before .before .before .before .before .before .before .before .before .before .before .before .put-tables .kept .1 .1 .1 .1 .1 .1 .1 .1 .1 .1 .1 .1 .1 .1 .1 .1 .1 .1 .1 .1 .1 .1 .1 .1 .1 .1 .1 .1 .1 .1 .1 .1 .1 .1 .1 .1 .1 .1 .1 .1 .1 .1 .1 .1 .1 .1 .1 .1 .1 .0
+
+same-length-17 : tie.Need-same-length-17
+same-length-17 c = c .before .before .before .before .before .before .before .before .before .before .before .before .before .before .before .before .before .before .before .before .before .before .before .before .before .before .before .before .before .before .before .before .before .before .put-tables .kept .1 .1 .1 .1 .1 .1 .1 .1 .1 .1 .1 .1 .1 .1 .1 .1 .1 .1 .1 .1 .1 .1 .1 .1 .1 .1 .1 .1 .1 .1 .1 .1 .1 .1 .1 .1 .1 .1 .1 .1 .1 .1 .1 .1 .1 .1 .1 .1 .1 .1 .0
+
+returns-2 : tie.Need-returns-2
+returns-2 c =
+    let w = c .before .before .before .before .before .before .before .before .before .before .before .before .before .before .before .before .before .before .before .before .before .before .before .before .before .before .before .before .before .before .before .before .before .before in
+    let t = w .before .before .before .before .before .before .before .before .before .before .before .before .before .before .before .before .before .before .before .before in
+    let o = start-of (t .before .before) in
+    joined-whole (o .args .first) (firstAt o) (o .args .second) (secondAt o) (lent o) _ _ (passed t) (w .before .before .before .before .before .before .before .before .before .before .before .before .before .before .before .before .before .before .before .joined-header .ensures)
+    (tables-joined (o .args .first) (firstAt o) (o .args .second) (secondAt o) (lent o) _ _ (w .before .before .before .before .before .before .before .before .before .before .before .before .before .before .before .before .before .before .narrow .ensures) (passed t .sized) (w .put-tables .ensures))
+
+pub join-cases-spec : {M : Type 1} → statement M
+join-cases-spec =
+    tie.close
+    (tie.spec
+    check-both-requires
+    enum-known-f
+    returns
+    enum-told
+    joined-header-requires
+    narrow-requires
+    put-tables-requires
+    same-length
+    same-length-2
+    same-length-3
+    same-length-4
+    same-length-5
+    same-length-6
+    same-length-7
+    same-length-8
+    same-length-9
+    same-length-10
+    same-length-11
+    same-length-12
+    same-length-13
+    same-length-14
+    same-length-15
+    same-length-16
+    same-length-17
+    returns-2)

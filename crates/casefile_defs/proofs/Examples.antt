@@ -1,5 +1,6 @@
--- Worked examples, by computation: case L (document 01, "Case file") as a file, what is read of it and what is left in the tables; its corridor with a cap; the refusals of
--- files that differ from it in a byte or two; the bounds of counts and length; and the words and bytes looked at, both bounds of whose count are met.
+-- Worked examples, by computation: case L (document 01, "Case file") as a file, what is read of it and what is left in the tables; its corridor with a cap; its buses with
+-- weights, and BU and BV in one file; the refusals of files that differ from it in a byte or two; the bounds of counts and length; and the words and bytes looked at,
+-- both bounds of whose count are met.
 use Prim.Native.Nat.{ℕ, _+_, _*_}
 use mathlib.Core.Bool.{Bool, true, false}
 use mathlib.Core.List.{List, [], _∷_, _++_, map}
@@ -13,8 +14,8 @@ use Rattle.mode.specs.Number.{modeNumber}
 use Rattle.mode.specs.declared.PlanMode.the-variants.{Observe}
 use Rattle.casefile_defs.specs.Layout.{little, word, spot}
 use Rattle.casefile_defs.specs.Looks.{lookedAs, lookedAt}
-use Rattle.casefile_defs.specs.Reading.{lines, recordAt, stepped, walked, modeOf, headerOf, countsOk, tablesWalked, trailing, looksFor, caseRead, unread, endRead, bodyRead, readOf}
-use Rattle.casefile_defs.specs.Tables.{Places, numberAt, figureAt, numberIn, figureIn, sheetIn, linesAt, tablesOf}
+use Rattle.casefile_defs.specs.Reading.{lines, recordAt, admitted, stepped, walked, busForm, modeOf, headerOf, countsOk, tablesWalked, trailing, looksFor, caseRead, unread, endRead, bodyRead, readOf}
+use Rattle.casefile_defs.specs.Tables.{Places, numberAt, figureAt, numberIn, figureIn, weightAt, weightIn, sheetIn, linesAt, tablesOf}
 use Rattle.casefile_defs.specs.declared.Header.{Header}
 use Rattle.casefile_defs.specs.declared.Kind.the-variants.{Head}
 use Rattle.casefile_defs.specs.declared.Reading.the-variants.{Refused, Read}
@@ -24,14 +25,19 @@ use Rattle.casefile_defs.specs.declared.Reading.the-variants.{Refused, R
 abbrev bits : ℕ → ℕ → ℕ → List ℕ
 bits x y z = 0 ∷ 0 ∷ 0 ∷ 0 ∷ 0 ∷ x ∷ y ∷ z ∷ []
 
--- the records before the corridor's; the corridor's, by the second letter of its mark; the line's
+-- the header's and the level's; a bus's; the generator's; the corridor's, by the second letter of its mark; the line's
+abbrev headL : List ℕ
+headL = (0x48 ∷ 0x44 ∷ 2 ∷ 0 ∷ 0 ∷ 0 ∷ 0 ∷ 2 ∷ 0 ∷ 1 ∷ 0 ∷ 1 ∷ 0 ∷ 0 ∷ 1 ∷ []) ++ (0x4c ∷ 0x56 ∷ bits 0x40 0x61 0x40)
+
+abbrev busL : List ℕ → List ℕ
+busL load = 0x42 ∷ 0x55 ∷ 0 ∷ load
+
+abbrev generatorL : List ℕ
+generatorL = (0x47 ∷ 0x45 ∷ 0 ∷ 0 ∷ 1 ∷ bits 0 0 0) ++ bits 0 0x59 0x40 ++ bits 0 0x34 0x40 ++ bits 0 0xd0 0x3f
+
+-- all of them before the corridor's
 abbrev frontL : List ℕ
-frontL =
-    (0x48 ∷ 0x44 ∷ 2 ∷ 0 ∷ 0 ∷ 0 ∷ 0 ∷ 2 ∷ 0 ∷ 1 ∷ 0 ∷ 1 ∷ 0 ∷ 0 ∷ 1 ∷ [])
-    ++ (0x4c ∷ 0x56 ∷ bits 0x40 0x61 0x40)
-    ++ (0x42 ∷ 0x55 ∷ 0 ∷ bits 0 0 0)
-    ++ (0x42 ∷ 0x55 ∷ 0 ∷ bits 0 0x49 0x40)
-    ++ (0x47 ∷ 0x45 ∷ 0 ∷ 0 ∷ 1 ∷ bits 0 0 0) ++ bits 0 0x59 0x40 ++ bits 0 0x34 0x40 ++ bits 0 0xd0 0x3f
+frontL = headL ++ busL (bits 0 0 0) ++ busL (bits 0 0x49 0x40) ++ generatorL
 
 abbrev corridorL : ℕ → List ℕ
 corridorL letter = (0x43 ∷ letter ∷ 0 ∷ 0 ∷ 1 ∷ 0 ∷ 1 ∷ bits 0 0x24 0x40) ++ bits 0 0xf0 0x3f
@@ -46,7 +52,7 @@ abbrev headerL : Header
 headerL = record { mode = Observe; target = 0; buses = 2; corridors = 1; generators = 1; above = 0; requested = 1 }
 
 pub case-l : readOf fileL ≡ caseRead (Read headerL) 0
-unfolding readOf bodyRead endRead tablesWalked walked stepped recordAt headerOf modeOf modeNumber trailing looksFor iter first word little
+unfolding readOf bodyRead endRead tablesWalked walked busForm stepped admitted recordAt headerOf modeOf modeNumber trailing looksFor iter first word little
 case-l = refl
 
 -- ---- its tables: zeros past the counts
@@ -66,9 +72,10 @@ unfolding tablesOf numberIn numberAt spot tab word little
 counts-l = refl
 
 pub figures-l :
-    tablesL .ladder ∷ tablesL .load ∷ tablesL .pmin ∷ tablesL .pmax ∷ tablesL .c1 ∷ tablesL .c2 ∷ tablesL .lengthKm ∷ tablesL .share ∷ []
+    tablesL .ladder ∷ tablesL .reading ∷ tablesL .weight ∷ tablesL .pmin ∷ tablesL .pmax ∷ tablesL .c1 ∷ tablesL .c2 ∷ tablesL .lengthKm ∷ tablesL .share ∷ []
     ≡ figures (ofBits binary64 0x4061_4000_0000_0000 ∷ []) 4
     ∷ figures (nought ∷ fifty ∷ []) 254
+    ∷ figures (one ∷ one ∷ []) 254
     ∷ figures (nought ∷ []) 127
     ∷ figures (hundred ∷ []) 127
     ∷ figures (ofBits binary64 0x4034_0000_0000_0000 ∷ []) 127
@@ -76,7 +83,7 @@ pub figures-l :
     ∷ figures (ofBits binary64 0x4024_0000_0000_0000 ∷ []) 255
     ∷ figures (one ∷ []) 255
     ∷ []
-unfolding tablesOf figureIn figureAt spot tab word little
+unfolding tablesOf figureIn figureAt weightIn weightAt spot tab word little
 figures-l = refl
 
 -- the first places of the sheet, past its one row too
@@ -98,7 +105,7 @@ headerTwo = record { mode = Observe; target = 0; buses = 2; corridors = 2; gener
 pub capped :
     map readOf (cappedL 2 ∷ cappedL 7 ∷ twoL ∷ take 107 (cappedL 2) ∷ take 107 fileL ∷ set (take 107 fileL) 85 0x51 ∷ set (set fileL 25 0x43) 26 0x50 ∷ [])
     ≡ caseRead (Read headerL) 0 ∷ caseRead (Read headerL) 0 ∷ caseRead (Read headerTwo) 0 ∷ map unread (Cut 5 ∷ Cut 6 ∷ Mark 5 ∷ Mark 2 ∷ [])
-unfolding readOf bodyRead endRead tablesWalked walked stepped recordAt headerOf modeOf modeNumber trailing looksFor iter first word little
+unfolding readOf bodyRead endRead tablesWalked walked busForm stepped admitted recordAt headerOf modeOf modeNumber trailing looksFor iter first word little
 capped = refl
 
 -- a CO has cap 0; what stands behind a CP is found; past the corridors there are zeros, whatever stands there
@@ -113,6 +120,55 @@ pub sheet-two : tab 12 (sheetIn twoL (linesAt twoL headerTwo) (lines headerTwo))
 unfolding sheetIn spot tab word little
 sheet-two = refl
 
+-- ---- document 02's BV: two buses, of tier 3 with 100 at weight 0.5 and of tier 4 with 50 at weight 1
+abbrev weighedL : ℕ → List ℕ → List ℕ → List ℕ
+weighedL tier reading weight = (0x42 ∷ 0x56 ∷ tier ∷ reading) ++ weight
+
+abbrev firstL : List ℕ
+firstL = weighedL 3 (bits 0 0x59 0x40) (bits 0 0xe0 0x3f)
+
+abbrev secondL : List ℕ
+secondL = weighedL 4 (bits 0 0x49 0x40) (bits 0 0xf0 0x3f)
+
+-- case L with other buses
+abbrev busesL : List ℕ → List ℕ
+busesL buses = headL ++ buses ++ generatorL ++ corridorL 0x4f ++ lineL
+
+abbrev fileW : List ℕ
+fileW = busesL (firstL ++ secondL)
+
+pub case-w : readOf fileW ≡ caseRead (Read headerL) 0
+unfolding readOf bodyRead endRead tablesWalked walked busForm stepped admitted recordAt headerOf modeOf modeNumber trailing looksFor iter first word little
+case-w = refl
+
+-- what stands behind a BV is found; past the buses there are zeros, also for the weight
+abbrev tablesW : Places
+tablesW = tablesOf fileW headerL
+
+pub numbers-w : tablesW .tier ∷ tablesW .slack ∷ tablesW .b ∷ [] ≡ counts (3 ∷ 4 ∷ []) 254 ∷ counts (1 ∷ []) 127 ∷ counts (1 ∷ []) 255 ∷ []
+unfolding tablesOf numberIn numberAt spot tab word little
+numbers-w = refl
+
+pub figures-w : tablesW .reading ∷ tablesW .weight ∷ tablesW .pmax ∷ [] ≡ figures (hundred ∷ fifty ∷ []) 254 ∷ figures (half ∷ one ∷ []) 254 ∷ figures (hundred ∷ []) 127 ∷ []
+unfolding tablesOf figureIn figureAt weightIn weightAt spot tab word little
+figures-w = refl
+
+-- BU and BV in one file: 15 at the first bus that differs, whichever came first; 14 before it, by that record's own length; so a BV with 18 bytes left is cut, and another
+-- mark with 11 is wrong; another mark before a BV; a BV in the generator's place
+abbrev plainFirst : List ℕ
+plainFirst = busesL (busL (bits 0 0 0) ++ firstL)
+
+abbrev weighedFirst : List ℕ
+weighedFirst = busesL (firstL ++ busL (bits 0 0 0))
+
+pub forms-meet :
+    map readOf
+    (plainFirst ∷ weighedFirst ∷ take 55 plainFirst ∷ take 54 plainFirst ∷ take 55 weighedFirst ∷ take 54 weighedFirst ∷ take 43 fileW ∷ take 44 fileW
+    ∷ set (take 55 weighedFirst) 45 0x57 ∷ set plainFirst 26 0x57 ∷ set fileL 47 0x42 ∷ set (set fileL 47 0x42) 48 0x56 ∷ [])
+    ≡ map unread (Mark 3 ∷ Mark 3 ∷ Mark 3 ∷ Cut 3 ∷ Mark 3 ∷ Cut 3 ∷ Cut 2 ∷ Cut 3 ∷ Mark 3 ∷ Mark 2 ∷ Mark 4 ∷ Mark 4 ∷ [])
+unfolding readOf bodyRead endRead tablesWalked walked busForm stepped admitted recordAt headerOf modeOf modeNumber trailing looksFor iter first word little
+forms-meet = refl
+
 -- ---- refusals: no byte, and a header cut; mode 6; 129 generators; a bus cut, its mark wrong too; the level's mark; the second bus's mark, and a basis of 2
 -- behind it; slack 2; basis 2
 pub refusals :
@@ -120,14 +176,14 @@ pub refusals :
     ([] ∷ take 14 fileL ∷ set fileL 2 6 ∷ set fileL 11 129 ∷ take 35 fileL ∷ set (take 35 fileL) 25 0 ∷ set fileL 15 0 ∷ set (set fileL 36 0) 141 2 ∷ set fileL 51 2
     ∷ set fileL 141 2 ∷ [])
     ≡ map unread (Cut 0 ∷ Cut 0 ∷ Code 0 ∷ Count ∷ Cut 2 ∷ Cut 2 ∷ Mark 1 ∷ Mark 3 ∷ Code 4 ∷ Code 6 ∷ [])
-unfolding readOf bodyRead endRead tablesWalked walked stepped recordAt headerOf modeOf modeNumber trailing looksFor iter first word little
+unfolding readOf bodyRead endRead tablesWalked walked busForm stepped admitted recordAt headerOf modeOf modeNumber trailing looksFor iter first word little
 refusals = refl
 
 -- zeros behind the last record; a byte that is not zero in the third place, as the first of a word, as the last of the second
 pub after-the-last :
     map (λ l. readOf (fileL ++ l)) (replicate 9 0 ∷ (0 ∷ 0 ∷ 7 ∷ []) ∷ (7 ∷ replicate 7 0) ∷ (replicate 15 0 ++ (7 ∷ [])) ∷ [])
     ≡ caseRead (Read headerL) 2 ∷ caseRead (Refused (Trailing 144)) 3 ∷ caseRead (Refused (Trailing 142)) 2 ∷ caseRead (Refused (Trailing 157)) 10 ∷ []
-unfolding readOf bodyRead endRead tablesWalked walked stepped recordAt headerOf modeOf modeNumber trailing looksFor iter first word little
+unfolding readOf bodyRead endRead tablesWalked walked busForm stepped admitted recordAt headerOf modeOf modeNumber trailing looksFor iter first word little
 after-the-last = refl
 
 -- ---- document 01's bounds: each count and the target at its largest, and then each outside its bound

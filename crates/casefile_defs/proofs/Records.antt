@@ -10,10 +10,11 @@ use lib.Dec.{leb, ltb, eqb}
 use lib.ListN.{length, getD, List·getD-eq-default}
 use Rattle.refusal.specs.declared.Refusal.{Refusal}
 use Rattle.refusal.specs.declared.Refusal.the-variants.{Cut, Mark, Code}
-use Rattle.casefile_defs.specs.Layout.{layoutOf, sizeOf, codesOk, word, marked}
-use Rattle.casefile_defs.specs.Reading.{recordAt}
+use Rattle.casefile_defs.specs.Layout.{layoutOf, sizeOf, codesOk, word, marked, suits}
+use Rattle.casefile_defs.specs.Reading.{recordAt, admitted}
 use Rattle.casefile_defs.specs.declared.Kind.{Kind}
-use Rattle.casefile_defs.specs.declared.Kind.the-variants.{Head, Level, Bus, Generator, Corridor, Line, CappedCorridor}
+use Rattle.casefile_defs.specs.declared.Kind.the-variants.{Head, Level, Bus, Generator, Corridor, Line, CappedCorridor, WeighedBus}
+use Rattle.casefile_defs.specs.declared.Walk.{Walk}
 use Rattle.casefile_defs.specs.declared.Walk.the-variants.{At, Fault}
 
 and-true : (b : Bool) → b ≡ (b && true)
@@ -46,6 +47,7 @@ second-letter Generator = refl
 second-letter Corridor = refl
 second-letter Line = refl
 second-letter CappedCorridor = refl
+second-letter WeighedBus = refl
 
 pub unmarked : (k : Kind) (s : List ℕ) (at : ℕ) → length s < at + 2 → false ≡ marked k s at
 unmarked k s at h =
@@ -90,3 +92,13 @@ passed-by k s r at next false false z p q o e = absurd (fault-not-at e)
 pub passed : (k : Kind) (s : List ℕ) (r at next : ℕ) → recordAt k s r at ≡ At next → Passed k s at next
 unfolding recordAt
 passed k s r at next e = passed-by k s r at next _ _ _ refl refl refl e
+
+-- a record that is admitted is of the file's form
+pub admitted-at : (weighed : Bool) (k : Kind) (r next : ℕ) (w : Walk) → admitted weighed k r w ≡ At next → (w ≡ At next) × (suits weighed k ≡ true)
+unfolding admitted
+admitted-at weighed k r next (Fault f) e = absurd (fault-not-at e)
+admitted-at weighed k r next (At m) e = go (suits weighed k) _ refl e
+  where
+    go : (b : Bool) (f : Refusal) → suits weighed k ≡ b → cond b (At m) (Fault f) ≡ At next → (At m ≡ At next) × (suits weighed k ≡ true)
+    go true f q e = (e, q)
+    go false f q e = absurd (fault-not-at e)

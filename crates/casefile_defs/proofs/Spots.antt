@@ -12,15 +12,19 @@ use lib.Ieee.{Float, binary64, ofBits}
 use Rattle.loops.specs.Figures.{nought}
 use Rattle.casefile_defs.specs.Bounds.{rowFigures}
 use Rattle.casefile_defs.specs.Layout.{sizeOf, marked, standing, endOf, spot, word, field}
-use Rattle.casefile_defs.specs.Tables.{numberAt, numberIn, figureIn, sheetIn, lineFigure, basisOf, basisField}
+use Rattle.casefile_defs.specs.Tables.{numberAt, numberIn, figureIn, weightIn, sheetIn, lineFigure, basisOf, basisField}
 use Rattle.casefile_defs.specs.declared.Kind.{Kind}
-use Rattle.casefile_defs.specs.declared.Kind.the-variants.{Head, Level, Bus, Generator, Corridor, Line, CappedCorridor}
+use Rattle.casefile_defs.specs.declared.Kind.the-variants.{Head, Level, Bus, Generator, Corridor, Line, CappedCorridor, WeighedBus}
 
 -- a record that may stand for an older one is no shorter
 pub standing-least : (k : Kind) (s : List ℕ) (at : ℕ) → sizeOf k ≤ sizeOf (standing k s at)
 standing-least Head s at = omega arith
 standing-least Level s at = omega arith
-standing-least Bus s at = omega arith
+standing-least Bus s at = go (marked WeighedBus s at)
+  where
+    go : (b : Bool) → sizeOf Bus ≤ sizeOf (cond b WeighedBus Bus)
+    go true = omega arith
+    go false = omega arith
 standing-least Generator s at = omega arith
 standing-least Corridor s at = go (marked CappedCorridor s at)
   where
@@ -29,6 +33,7 @@ standing-least Corridor s at = go (marked CappedCorridor s at)
     go false = omega arith
 standing-least Line s at = omega arith
 standing-least CappedCorridor s at = omega arith
+standing-least WeighedBus s at = omega arith
 
 -- the table without its first record
 pub spot-next : (k : Kind) (s : List ℕ) (at i : ℕ) → spot k s (endOf k s at) i ≡ spot k s at (suc i)
@@ -69,6 +74,10 @@ module _ (k : Kind) (s : List ℕ) (at count o : ℕ) where
   pub figure-past : (i : ℕ) → count ≤ i → nought ≡ figureIn k s at count o i
   unfolding figureIn
   figure-past i h = simp (le-ltb _ _ h)
+
+pub weight-past : (s : List ℕ) (at count i : ℕ) → count ≤ i → nought ≡ weightIn s at count i
+unfolding weightIn
+weight-past s at count i h = simp (le-ltb _ _ h)
 
 -- the first four fields of a line are figures of eight bytes
 pub line-field : (at j : ℕ) (s : List ℕ) → j < basisField → word 8 (at + (2 + 8 * j)) s ≡ field Line j at s

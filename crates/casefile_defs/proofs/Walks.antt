@@ -10,8 +10,8 @@ use Rattle.refusal.specs.declared.Refusal.{Refusal}
 use Rattle.refusal.specs.declared.Refusal.the-variants.{Count, FileLength, Trailing}
 use Rattle.casefile_defs.specs.Bounds.{mostBytes}
 use Rattle.casefile_defs.specs.Looks.{lookedAt}
-use Rattle.casefile_defs.specs.Reading.{recordAt, walked, countsOk, headerOf, tablesWalked, trailing, caseRead, unread, endRead, bodyRead, readOf, beforeBuses, beforeGenerators, beforeCorridors, beforeLines, recordsOf}
-use Rattle.casefile_defs.specs.declared.Kind.the-variants.{Head, Level, Bus, Generator, Corridor, Line}
+use Rattle.casefile_defs.specs.Reading.{recordAt, walked, busesWalked, countsOk, headerOf, tablesWalked, trailing, caseRead, unread, endRead, bodyRead, readOf, beforeBuses, beforeGenerators, beforeCorridors, beforeLines, recordsOf}
+use Rattle.casefile_defs.specs.declared.Kind.the-variants.{Head, Level, Generator, Corridor, Line}
 use Rattle.casefile_defs.specs.declared.Header.{Header}
 use Rattle.casefile_defs.specs.declared.Walk.{Walk}
 use Rattle.casefile_defs.specs.declared.Walk.the-variants.{At, Fault}
@@ -21,11 +21,11 @@ use Rattle.casefile_defs.specs.declared.Reading.the-variants.{Refused, R
 
 -- five walks, one after the other
 pub tables-walked : (h : Header) (s : List ℕ) (w w₁ w₂ w₃ w₄ w₅ : Walk)
-    → w₁ ≡ walked Level 1 (beforeBuses h) s w
-    → w₂ ≡ walked Bus (beforeBuses h) (beforeGenerators h) s w₁
-    → w₃ ≡ walked Generator (beforeGenerators h) (beforeCorridors h) s w₂
-    → w₄ ≡ walked Corridor (beforeCorridors h) (beforeLines h) s w₃
-    → w₅ ≡ walked Line (beforeLines h) (recordsOf h) s w₄
+    → w₁ ≡ walked Level false 1 (beforeBuses h) s w
+    → w₂ ≡ busesWalked h s w₁
+    → w₃ ≡ walked Generator false (beforeGenerators h) (beforeCorridors h) s w₂
+    → w₄ ≡ walked Corridor false (beforeCorridors h) (beforeLines h) s w₃
+    → w₅ ≡ walked Line false (beforeLines h) (recordsOf h) s w₄
     → w₅ ≡ tablesWalked h s w
 unfolding tablesWalked
 tables-walked h s w w₁ w₂ w₃ w₄ w₅ e₁ e₂ e₃ e₄ e₅ = cc

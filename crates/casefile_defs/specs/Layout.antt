@@ -1,12 +1,12 @@
--- Document 01's "Case file", with document 02's CP: each record is a mark of two letters, then its fields. Lengths and places follow from the one table
--- `layoutOf`.
+-- Document 01's "Case file", with document 02's CP and BV: each record is a mark of two letters, then its fields. Lengths and places follow from the one
+-- table `layoutOf`.
 use Prim.Native.Nat.{ℕ, zero, suc, _+_, _*_}
-use mathlib.Core.Bool.{Bool, true, _&&_, cond}
+use mathlib.Core.Bool.{Bool, true, false, not, _&&_, cond}
 use mathlib.Core.List.{List, [], _∷_}
 use lib.Dec.{leb, eqb}
 use lib.ListN.{getD, take, drop}
 use Rattle.casefile_defs.specs.declared.Kind.{Kind}
-use Rattle.casefile_defs.specs.declared.Kind.the-variants.{Head, Level, Bus, Generator, Corridor, Line, CappedCorridor}
+use Rattle.casefile_defs.specs.declared.Kind.the-variants.{Head, Level, Bus, Generator, Corridor, Line, CappedCorridor, WeighedBus}
 
 -- the number that bytes stand for, the least significant first
 unfoldable pub little : List ℕ → ℕ
@@ -54,7 +54,7 @@ abbrev pub laid : ℕ → ℕ → List Field → Layout
 laid m n fs = record { first = m; second = n; fields = fs }
 
 -- HD mode target buses corridors generators above requested; LV kV; BU tier load;
--- GE bus slack pmin pmax c1 c2; CO a b circuits length share; LN r x b rate basis; CP the fields of CO, then cap
+-- GE bus slack pmin pmax c1 c2; CO a b circuits length share; LN r x b rate basis; CP the fields of CO, then cap; BV tier reading weight
 abbrev pub layoutOf : Kind → Layout
 layoutOf Head = laid 0x48 0x44 (upTo 5 ∷ u32 ∷ u16 ∷ u16 ∷ u16 ∷ u8 ∷ u8 ∷ [])
 layoutOf Level = laid 0x4c 0x56 (figure ∷ [])
@@ -63,6 +63,7 @@ layoutOf Generator = laid 0x47 0x45 (u16 ∷ upTo 1 ∷ figure ∷ figure ∷ fi
 layoutOf Corridor = laid 0x43 0x4f (u16 ∷ u16 ∷ u8 ∷ figure ∷ figure ∷ [])
 layoutOf Line = laid 0x4c 0x4e (figure ∷ figure ∷ figure ∷ figure ∷ upTo 1 ∷ [])
 layoutOf CappedCorridor = laid 0x43 0x50 (u16 ∷ u16 ∷ u8 ∷ figure ∷ figure ∷ u8 ∷ [])
+layoutOf WeighedBus = laid 0x42 0x56 (u8 ∷ figure ∷ figure ∷ [])
 
 abbrev pub widthsOf : List Field → ℕ
 widthsOf [] = 0
@@ -102,15 +103,31 @@ codesOk k s at = allowedFrom (layoutOf k .fields) 2 at s
 abbrev pub marked : Kind → List ℕ → ℕ → Bool
 marked k s at = eqb (getD s at 0) (layoutOf k .first) && eqb (getD s (at + 1) 0) (layoutOf k .second)
 
--- the record that stands where one of kind k is due, by its mark: a CP may stand for a CO, and any other mark is taken for the older record's
+-- the record that stands where one of kind k is due, by its mark: a CP may stand for a CO, a BV for a BU, and any other mark is taken for the older
+-- record's
 abbrev pub standing : Kind → List ℕ → ℕ → Kind
 standing Head s at = Head
 standing Level s at = Level
-standing Bus s at = Bus
+standing Bus s at = cond (marked WeighedBus s at) WeighedBus Bus
 standing Generator s at = Generator
 standing Corridor s at = cond (marked CappedCorridor s at) CappedCorridor Corridor
 standing Line s at = Line
 standing CappedCorridor s at = CappedCorridor
+standing WeighedBus s at = WeighedBus
+
+-- one file uses only one of BU and BV: whether a record may stand in a file of the one or of the other
+abbrev pub weighs : Kind → Bool
+weighs Head = false
+weighs Level = false
+weighs Bus = false
+weighs Generator = false
+weighs Corridor = false
+weighs Line = false
+weighs CappedCorridor = false
+weighs WeighedBus = true
+
+abbrev pub suits : Bool → Kind → Bool
+suits weighed k = cond weighed (weighs k) (not (weighs k))
 
 -- where it ends
 abbrev pub endOf : Kind → List ℕ → ℕ → ℕ

@@ -1,6 +1,6 @@
 -- Document 01's "Case reading": the header that a file is read as, or the first refusal, record by record.
 use Prim.Native.Nat.{ℕ, _+_, _-_, _*_, _/_, _%_, _≤_, min}
-use mathlib.Core.Bool.{Bool, _&&_, cond}
+use mathlib.Core.Bool.{Bool, false, _&&_, cond}
 use mathlib.Core.List.{List}
 use lib.Dec.{leb, ltb, eqb}
 use lib.ListN.{length, getD}
@@ -11,9 +11,9 @@ use Rattle.mode.specs.Number.{modeNumber}
 use Rattle.mode.specs.declared.PlanMode.{PlanMode}
 use Rattle.mode.specs.declared.PlanMode.the-variants.{Expand, Reinforce, Observe, ExpandServing, ReinforceServing, ObserveServing}
 use Rattle.casefile_defs.specs.Bounds.{mostLevels, mostBuses, mostGenerators, mostCorridors, mostTarget, mostBytes}
-use Rattle.casefile_defs.specs.Layout.{sizeOf, codesOk, field, marked, standing}
+use Rattle.casefile_defs.specs.Layout.{sizeOf, codesOk, field, marked, standing, suits}
 use Rattle.casefile_defs.specs.declared.Kind.{Kind}
-use Rattle.casefile_defs.specs.declared.Kind.the-variants.{Head, Level, Bus, Generator, Corridor, Line}
+use Rattle.casefile_defs.specs.declared.Kind.the-variants.{Head, Level, Bus, Generator, Corridor, Line, WeighedBus}
 use Rattle.casefile_defs.specs.declared.Header.{Header}
 use Rattle.casefile_defs.specs.declared.Walk.{Walk}
 use Rattle.casefile_defs.specs.declared.Walk.the-variants.{At, Fault}
@@ -28,14 +28,24 @@ recordAt k s r at =
     (Fault (Cut r))
     (cond (marked k s at) (cond (codesOk k s at) (At (at + sizeOf k)) (Fault (Code r))) (Fault (Mark r)))
 
+-- a record that is whole, but a BV in a file of BU or a BU in a file of BV, has a wrong mark (15)
+unfoldable pub admitted : Bool → Kind → ℕ → Walk → Walk
+admitted weighed k r (Fault f) = Fault f
+admitted weighed k r (At next) = cond (suits weighed k) (At next) (Fault (Mark r))
+
 -- a fault is passed on; where a record of kind k is due, the one that stands there is read
-unfoldable pub stepped : Kind → List ℕ → ℕ → Walk → Walk
-stepped k s r (Fault f) = Fault f
-stepped k s r (At at) = recordAt (standing k s at) s r at
+unfoldable pub stepped : Kind → Bool → List ℕ → ℕ → Walk → Walk
+stepped k weighed s r (Fault f) = Fault f
+stepped k weighed s r (At at) = admitted weighed (standing k s at) r (recordAt (standing k s at) s r at)
 
 -- records start to end - 1, of kind k each
-unfoldable pub walked : Kind → ℕ → ℕ → List ℕ → Walk → Walk
-walked k start end s w = iter (stepped k s) (end - start) start w
+unfoldable pub walked : Kind → Bool → ℕ → ℕ → List ℕ → Walk → Walk
+walked k weighed start end s w = iter (stepped k weighed s) (end - start) start w
+
+-- whether a file's buses are BV: by the mark of the first, where the levels end
+unfoldable pub busForm : List ℕ → Walk → Bool
+busForm s (Fault f) = false
+busForm s (At at) = marked WeighedBus s at
 
 -- the mode of a number of at most 5
 unfoldable pub modeOf : ℕ → PlanMode
@@ -94,14 +104,18 @@ beforeLines h = beforeCorridors h + h .corridors
 abbrev pub recordsOf : Header → ℕ
 recordsOf h = beforeLines h + lines h
 
+-- the buses' records, from where the levels end
+abbrev pub busesWalked : Header → List ℕ → Walk → Walk
+busesWalked h s w = walked Bus (busForm s w) (beforeBuses h) (beforeGenerators h) s w
+
 -- the tables' records, in order, from where the header ends
 unfoldable pub tablesWalked : Header → List ℕ → Walk → Walk
 tablesWalked h s w =
-    walked Line (beforeLines h) (recordsOf h) s
-    (walked Corridor (beforeCorridors h) (beforeLines h) s
-    (walked Generator (beforeGenerators h) (beforeCorridors h) s
-    (walked Bus (beforeBuses h) (beforeGenerators h) s
-    (walked Level 1 (beforeBuses h) s w))))
+    walked Line false (beforeLines h) (recordsOf h) s
+    (walked Corridor false (beforeCorridors h) (beforeLines h) s
+    (walked Generator false (beforeGenerators h) (beforeCorridors h) s
+    (busesWalked h s
+    (walked Level false 1 (beforeBuses h) s w))))
 
 -- the first byte from a place on that is not zero, or a place past the file
 abbrev pub zeroAt : List ℕ → ℕ → Bool

@@ -11,10 +11,10 @@ use Rattle.refusal.specs.Reply.{Reply, answered, refusedBy}
 use Rattle.refusal.specs.declared.Refusal.the-variants.{Length}
 use Rattle.mode.specs.declared.PlanMode.the-variants.{Expand}
 use Rattle.casefile_defs.specs.Bounds.{mostLevels, mostBuses, mostGenerators, mostCorridors, rowFigures, mostSheet}
-use Rattle.casefile_defs.specs.Layout.{sizeOf, placeOf, spanOf, standing, spot, word, field}
+use Rattle.casefile_defs.specs.Layout.{sizeOf, placeOf, spanOf, marked, standing, spot, word, field}
 use Rattle.casefile_defs.specs.Reading.{levels, lines, readOf, unread}
 use Rattle.casefile_defs.specs.declared.Kind.{Kind}
-use Rattle.casefile_defs.specs.declared.Kind.the-variants.{Head, Level, Bus, Generator, Corridor, Line, CappedCorridor}
+use Rattle.casefile_defs.specs.declared.Kind.the-variants.{Head, Level, Bus, Generator, Corridor, Line, CappedCorridor, WeighedBus}
 use Rattle.casefile_defs.specs.declared.Header.{Header}
 use Rattle.casefile_defs.specs.declared.CaseRead.{CaseRead}
 use Rattle.casefile_defs.specs.declared.Reading.{Reading}
@@ -35,6 +35,20 @@ numberIn k s at count o w i = cond (ltb i count) (numberAt k s (spot k s at i) o
 unfoldable pub figureIn : Kind → List ℕ → ℕ → ℕ → ℕ → ℕ → Float
 figureIn k s at count o i = cond (ltb i count) (figureAt s (spot k s at i) o) nought
 
+-- a bus's weight is the last field of a BV, a corridor's cap of a CP
+abbrev pub weightField : ℕ
+weightField = 2
+
+abbrev pub capField : ℕ
+capField = 5
+
+-- the weight of the bus at a place: a BU has weight 1
+unfoldable pub weightAt : List ℕ → ℕ → Float
+weightAt s at = cond (marked WeighedBus s at) (figureAt s at (placeOf WeighedBus weightField)) one
+
+unfoldable pub weightIn : List ℕ → ℕ → ℕ → ℕ → Float
+weightIn s at count i = cond (ltb i count) (weightAt s (spot Bus s at i)) nought
+
 -- a whole column of n places, where records of kind k are due, by the field's index in a record of kind l
 abbrev pub numbersOf : Kind → Kind → ℕ → List ℕ → ℕ → ℕ → ℕ → List ℕ
 numbersOf k l j s at count n = tab n (numberIn k s at count (placeOf l j) (spanOf l j))
@@ -44,6 +58,9 @@ numbers k j s at count n = numbersOf k k j s at count n
 
 abbrev pub figures : Kind → ℕ → List ℕ → ℕ → ℕ → ℕ → List Float
 figures k j s at count n = tab n (figureIn k s at count (placeOf k j))
+
+abbrev pub weights : List ℕ → ℕ → ℕ → ℕ → List Float
+weights s at count n = tab n (weightIn s at count)
 
 -- the basis is the last field of a line, and a figure in the sheet
 abbrev pub basisField : ℕ
@@ -59,11 +76,12 @@ lineFigure s at j = cond (ltb j basisField) (ofBits binary64 (field Line j at s)
 unfoldable pub sheetIn : List ℕ → ℕ → ℕ → ℕ → Float
 sheetIn s at count p = cond (ltb (p / rowFigures) count) (lineFigure s (spot Line s at (p / rowFigures)) (p % rowFigures)) nought
 
--- the sixteen lent tables
+-- the seventeen lent tables
 pub record Places : Type 0 where
   pub ladder : List Float
   pub tier : List ℕ
-  pub load : List Float
+  pub reading : List Float
+  pub weight : List Float
   pub bus : List ℕ
   pub slack : List ℕ
   pub pmin : List Float
@@ -78,11 +96,12 @@ pub record Places : Type 0 where
   pub cap : List ℕ
   pub sheet : List Float
 
-abbrev pub placesOf : List Float → List ℕ → List Float → List ℕ → List ℕ → List Float → List Float → List Float → List Float → List ℕ → List ℕ → List ℕ → List Float → List Float → List ℕ → List Float → Places
-placesOf ladder tier load bus slack pmin pmax c1 c2 a b circuits lengthKm share cap sheet = record {
+abbrev pub placesOf : List Float → List ℕ → List Float → List Float → List ℕ → List ℕ → List Float → List Float → List Float → List Float → List ℕ → List ℕ → List ℕ → List Float → List Float → List ℕ → List Float → Places
+placesOf ladder tier reading weight bus slack pmin pmax c1 c2 a b circuits lengthKm share cap sheet = record {
   ladder = ladder;
   tier = tier;
-  load = load;
+  reading = reading;
+  weight = weight;
   bus = bus;
   slack = slack;
   pmin = pmin;
@@ -114,16 +133,13 @@ corridorsAt s h = spot Generator s (generatorsAt s h) (h .generators)
 abbrev pub linesAt : List ℕ → Header → ℕ
 linesAt s h = spot Corridor s (corridorsAt s h) (h .corridors)
 
--- a corridor's cap is the last field of a CP
-abbrev pub capField : ℕ
-capField = 5
-
 -- the tables of a header's counts: the records' fields, and zero past the counts
 unfoldable pub tablesOf : List ℕ → Header → Places
 tablesOf s h = placesOf
     (figures Level 0 s levelsAt (levels h) mostLevels)
     (numbers Bus 0 s (busesAt s h) (h .buses) mostBuses)
     (figures Bus 1 s (busesAt s h) (h .buses) mostBuses)
+    (weights s (busesAt s h) (h .buses) mostBuses)
     (numbers Generator 0 s (generatorsAt s h) (h .generators) mostGenerators)
     (numbers Generator 1 s (generatorsAt s h) (h .generators) mostGenerators)
     (figures Generator 2 s (generatorsAt s h) (h .generators) mostGenerators)
@@ -146,7 +162,7 @@ held (Read h) = h
 -- each table is lent at its largest size
 unfoldable pub sizesOk : Places → Bool
 sizesOk p =
-    ((((((((((((((eqb (length (p .ladder)) mostLevels && eqb (length (p .tier)) mostBuses) && eqb (length (p .load)) mostBuses)
+    (((((((((((((((eqb (length (p .ladder)) mostLevels && eqb (length (p .tier)) mostBuses) && eqb (length (p .reading)) mostBuses) && eqb (length (p .weight)) mostBuses)
     && eqb (length (p .bus)) mostGenerators) && eqb (length (p .slack)) mostGenerators) && eqb (length (p .pmin)) mostGenerators)
     && eqb (length (p .pmax)) mostGenerators) && eqb (length (p .c1)) mostGenerators) && eqb (length (p .c2)) mostGenerators)
     && eqb (length (p .a)) mostCorridors) && eqb (length (p .b)) mostCorridors) && eqb (length (p .circuits)) mostCorridors)

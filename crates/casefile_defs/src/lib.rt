@@ -41,7 +41,7 @@ pub struct CaseRead {
     pub looks: usize,
 }
 
-// The kinds of record, in the file's order; the last may stand for a corridor.
+// The kinds of record, in the file's order; the last two may stand for a corridor and for a bus.
 pub enum Kind {
     Head,
     Level,
@@ -50,6 +50,7 @@ pub enum Kind {
     Corridor,
     Line,
     CappedCorridor,
+    WeighedBus,
 }
 
 // A walk over the records: the next record's place, or the first fault.

@@ -25,16 +25,18 @@ fn figure_at(table: &[f64], i: usize) -> f64
     if i < table.len() {
         return table[i];
     }
-    f64::from_bits(0x7ff8_0000_0000_0000)
+    0.0 / 0.0
 }
 
-// Works out the buses' loads. The tables may be of any length: past either of them a load is a NaN.
-pub fn weigh(reading: &[f64], weight: &[f64], load: &mut [f64; MOST_BUSES])
-    ensures { λ _. ⌜ now (load .exit) ≡ loadsOf 256 (now (reading .entry)) (now (weight .entry)) ⌝ }
+// The buses' loads. The tables may be of any length: past either of them a load is a NaN.
+pub fn weigh(reading: &[f64], weight: &[f64]) -> [f64; MOST_BUSES]
+    ensures { λ r. ⌜ r ≡ loadsOf 256 (now (reading .entry)) (now (weight .entry)) ⌝ }
 {
+    let mut load = [0.0; MOST_BUSES];
     let mut i = 0;
     while i < MOST_BUSES {
         load[i] = figure_at(reading, i) * figure_at(weight, i);
         i += 1;
     }
+    load
 }

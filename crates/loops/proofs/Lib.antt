@@ -11,6 +11,7 @@ pub mod Order
 pub mod Zeros
 pub mod Signs
 pub mod Real
+pub mod Exact
 pub mod Sums
 pub mod Puts
 pub mod Totals

@@ -4,16 +4,14 @@
 use mathlib.Core.Path.{_≡_, refl, sym, ap, _∙_, subst}
 use mathlib.Core.Bool.{Bool, true, false, not, cond, _&&_}
 use mathlib.Core.Logic.{⊎-elim}
-use Prim.Native.Nat.{ℕ, zero, suc, _+_, _-_, _*_, _%_, _^_, _<_, _≤_}
-use native.Mathlib.Nat.{le-of-eq, le-of-lt, lt-irrefl, lt-of-lt-of-le, lt-of-le-of-lt, zero-mul, mul-one, mul-comm, mul-assoc, mul-left-comm, mul-le-mul-right, mul-pos, add-mul, add-zero, sub-zero, mul-lt-mul-of-pos-right}
+use Prim.Native.Nat.{ℕ, _+_, _-_, _*_, _≤_}
+use native.Mathlib.Nat.{le-of-eq, le-of-lt, zero-mul, mul-comm, mul-assoc, mul-left-comm, mul-le-mul-right, mul-pos, add-mul, add-zero, sub-zero}
 use native.Mathlib.Omega.{arith}
 use borrow.Author.Tests.{ltb-true, eqb-true, le-ltb}
-use lib.IntN.{ℤ, pos, negsuc}
-use lib.Dec.{T, ltb, leb, eqb, ltb→lt, leb→le}
-use lib.Pow.{pow-pos, pow-mono, pow-lt, pow-add, shl-lt}
+use lib.IntN.{ℤ, pos}
+use lib.Dec.{T, ltb, eqb}
 use lib.Ieee.{Float, nan, inf, fin, binary64, up, down, round, add, sum, lt, eq, le, fits, ofBits}
-use lib.Ieee.Fits.{down-pos, and-l, and-r}
-use lib.Ieee.Exact.{HasValue, round-exact}
+use lib.Ieee.Fits.{down-pos}
 use lib.Ieee.Order.{le-of-values, round-mono}
 use lib.Ieee.Positive.{num, den, den-pos, through}
 use Rattle.loops.specs.Figures.{plus, nought, infinity}
@@ -22,6 +20,7 @@ use Rattle.loops.proofs.Rounded.{round-is}
 use Rattle.loops.proofs.Order.{real, bounded, le-self, le-of-not-lt}
 use Rattle.loops.proofs.Zeros.{size-zero, nil-product}
 use Rattle.loops.proofs.Signs.{sound}
+use Rattle.loops.proofs.Exact.{exact}
 
 abbrev pub unsigned : Float → Bool
 unsigned nan = false
@@ -212,41 +211,6 @@ plus-mono (fin false m e) (fin false n d) k g h l p =
     (round-mono binary64 a (down e * den k) b (down d * den k) (mul-pos (down-pos e) (den-pos k)) (mul-pos (down-pos d) (den-pos k))
     (more (m * up e) (down e) (n * up d) (down d) (num k) (den k) (cross m e n d p)))
 
--- ---- a figure that binary64 holds is what it rounds to
-not-below : {a b : ℕ} → (b < a → ⊥) → a ≤ b
-not-below h = omega arith
-
-pow-le-back : (i p : ℕ) → 2 ^ i ≤ 2 ^ p → i ≤ p
-pow-le-back i p h = not-below (λ (g : p < i). lt-irrefl (2 ^ p) (lt-of-lt-of-le (pow-lt g) h))
-
-exact : (m : ℕ) (e : ℤ) → T (fits binary64 (fin false m e)) → HasValue (round binary64 false (m * up e) (down e)) false (m * up e) (down e)
-unfolding fits
-exact zero e f =
-    round-exact binary64 false (0 * up e) (down e) 0 0 (down-pos e) (pow-pos 53) (lt-of-le-of-lt (le-of-eq (zero-mul (2 ^ 0))) (pow-pos 2098))
-    (ap (λ (z : ℕ). z * 2 ^ 1074) (zero-mul (up e)) ∙ zero-mul (2 ^ 1074) ∙ sym (zero-mul (down e)) ∙ ap (λ (z : ℕ). z * down e) (sym (zero-mul (2 ^ 0))))
-exact (suc m) (pos k) f =
-    let a = eqb (suc m % 2) 1 in
-    let b = ltb (suc m) (2 ^ 53) in
-    let c = leb 1 (2 ^ 1074) in
-    let d = ltb (suc m * 2 ^ k) (2 ^ 1024 * 1) in
-    let hi : suc m * 2 ^ k < 2 ^ 1024 = ltb→lt (suc m * 2 ^ k) (2 ^ 1024 * 1) (and-r (a && b && c) d f) in
-    let q : suc m * 2 ^ (k + 1074) ≡ suc m * 2 ^ k * 2 ^ 1074 = ap (λ (z : ℕ). suc m * z) (pow-add 2 k 1074) ∙ sym (mul-assoc (suc m) (2 ^ k) (2 ^ 1074)) in
-    round-exact binary64 false (suc m * 2 ^ k) 1 (suc m) (k + 1074) (pow-pos 0) (ltb→lt (suc m) (2 ^ 53) (and-r a b (and-l (a && b) c (and-l (a && b && c) d f))))
-    (lt-of-le-of-lt (le-of-eq q) (lt-of-lt-of-le (mul-lt-mul-of-pos-right hi (pow-pos 1074)) (le-of-eq (sym (pow-add 2 1024 1074)))))
-    (sym q ∙ sym (mul-one (suc m * 2 ^ (k + 1074))))
-exact (suc m) (negsuc k) f =
-    let a = eqb (suc m % 2) 1 in
-    let b = ltb (suc m) (2 ^ 53) in
-    let c = leb (2 ^ suc k) (2 ^ 1074) in
-    let d = ltb (suc m * 1) (2 ^ 1024 * 2 ^ suc k) in
-    let small : suc m < 2 ^ 53 = ltb→lt (suc m) (2 ^ 53) (and-r a b (and-l (a && b) c (and-l (a && b && c) d f))) in
-    let room : suc k ≤ 1074 = pow-le-back (suc k) 1074 (leb→le (2 ^ suc k) (2 ^ 1074) (and-r (a && b) c (and-l (a && b && c) d f))) in
-    let e : 1074 - suc k + suc k ≡ 1074 = omega arith in
-    let top : 53 + (1074 - suc k) ≤ 2098 = omega arith in
-    round-exact binary64 false (suc m * 1) (2 ^ suc k) (suc m) (1074 - suc k) (pow-pos (suc k)) small
-    (lt-of-lt-of-le (shl-lt 53 (1074 - suc k) small) (pow-mono top))
-    (ap (λ (z : ℕ). z * 2 ^ 1074) (mul-one (suc m)) ∙ ap (λ (z : ℕ). suc m * 2 ^ z) (sym e) ∙ ap (λ (z : ℕ). suc m * z) (pow-add 2 (1074 - suc k) (suc k)) ∙ sym (mul-assoc (suc m) (2 ^ (1074 - suc k)) (2 ^ suc k)))
-
 -- (A / E is at most A / E + N / D)
 longer : (A E N D : ℕ) → A * (E * D) ≤ (A * D + N * E) * E
 longer A E N D =
@@ -264,7 +228,7 @@ plus-grows (fin false m e) k g f l =
     let b = m * up e * den k + num k * down e in
     let t = plus (fin false m e) k in
     let first : le (fin false m e) r ≡ true =
-    holds (le (fin false m e) r) (le-of-values (fin false m e) r (m * up e) (down e) (m * up e) (down e) (down-pos e) (down-pos e) (refl, refl) (exact m e f) (le-of-eq refl)) in
+    holds (le (fin false m e) r) (le-of-values (fin false m e) r (m * up e) (down e) (m * up e) (down e) (down-pos e) (down-pos e) (refl, refl) (exact false m e f) (le-of-eq refl)) in
     let second : le r t ≡ true =
     ap (λ (z : Float). le r z) (plus-form m e k l)
     ∙ holds (le r (round binary64 false b (down e * den k))) (round-mono binary64 (m * up e) (down e) b (down e * den k) (down-pos e) (mul-pos (down-pos e) (den-pos k)) (longer (m * up e) (down e) (num k) (den k))) in

@@ -9,7 +9,7 @@ use mathlib.Core.Path.{_≡_, refl}
 use Rattle.mode.specs.declared.PlanMode.the-variants.{Reinforce}
 use Rattle.plan_defs.specs.Case.{Case}
 use Rattle.plan_defs.specs.Listing.{listingOf}
-use Rattle.plan_cases.proofs.Figures.{figures}
+use Rattle.plan_cases.proofs.Figures.{figures, loadBits}
 
 -- HD 1 0 3 1 2 1 2
 -- LV 138
@@ -35,6 +35,8 @@ given =
       requested = 2;
       ladder = figures (0x4061_4000_0000_0000 ∷ 0x4051_4000_0000_0000 ∷ 0x4041_4000_0000_0000 ∷ []);
       tier = 0 ∷ 1 ∷ 1 ∷ [];
+      reading = figures (0x4062_C000_0000_0000 ∷ 0 ∷ 0x4072_C000_0000_0000 ∷ []);
+      weight = figures (0x3FF0_0000_0000_0000 ∷ 0x3FF0_0000_0000_0000 ∷ 0x3FF0_0000_0000_0000 ∷ []);
       load = figures (0x4062_C000_0000_0000 ∷ 0 ∷ 0x4072_C000_0000_0000 ∷ []);
       bus = 1 ∷ 1 ∷ [];
       slack = 0 ∷ 1 ∷ [];
@@ -50,6 +52,10 @@ given =
       cap = 0 ∷ [];
       sheet = figures (0 ∷ 0x3FB9_9999_9999_999A ∷ 0x3FE0_0000_0000_0000 ∷ 0x4052_C000_0000_0000 ∷ 0x3FF0_0000_0000_0000 ∷ 0 ∷ 0x3FB9_9999_9999_999A ∷ 0 ∷ 0x407D_B000_0000_0000 ∷ 0 ∷ 0 ∷ 0x3FB9_9999_9999_999A ∷ 0 ∷ 0x407D_B000_0000_0000 ∷ 0x3FF0_0000_0000_0000 ∷ []);
     }
+
+pub weighed : loadBits given ≡ 0x4062_C000_0000_0000 ∷ 0 ∷ 0x4072_C000_0000_0000 ∷ []
+unfolding listingOf
+weighed = refl
 
 pub listed :
     listingOf given 0

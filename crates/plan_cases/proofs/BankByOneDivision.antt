@@ -10,7 +10,7 @@ use mathlib.Core.Path.{_≡_, refl}
 use Rattle.mode.specs.declared.PlanMode.the-variants.{Expand}
 use Rattle.plan_defs.specs.Case.{Case}
 use Rattle.plan_defs.specs.Listing.{listingOf}
-use Rattle.plan_cases.proofs.Figures.{figures}
+use Rattle.plan_cases.proofs.Figures.{figures, loadBits}
 
 -- HD 0 0 3 2 1 0 2
 -- LV 345
@@ -36,6 +36,8 @@ given =
       requested = 2;
       ladder = figures (0x4075_9000_0000_0000 ∷ 0x4061_4000_0000_0000 ∷ []);
       tier = 0 ∷ 1 ∷ 1 ∷ [];
+      reading = figures (0 ∷ 0 ∷ 0x4097_C402_14EB_C876 ∷ []);
+      weight = figures (0x3FF0_0000_0000_0000 ∷ 0x3FF0_0000_0000_0000 ∷ 0x3FF0_0000_0000_0000 ∷ []);
       load = figures (0 ∷ 0 ∷ 0x4097_C402_14EB_C876 ∷ []);
       bus = 0 ∷ [];
       slack = 0 ∷ [];
@@ -51,6 +53,10 @@ given =
       cap = 0 ∷ 0 ∷ [];
       sheet = figures (0 ∷ 0x3F40_4ECD_2E36_192A ∷ 0 ∷ 0x40D3_8800_0000_0000 ∷ 0 ∷ 0 ∷ 0x3F40_4ECD_2E36_192A ∷ 0 ∷ 0x40D3_8800_0000_0000 ∷ 0 ∷ 0 ∷ 0x3F40_4ECD_2E36_192A ∷ 0 ∷ 0x40D3_8800_0000_0000 ∷ 0 ∷ 0 ∷ 0x3F40_4ECD_2E36_192A ∷ 0 ∷ 0x40D3_8800_0000_0000 ∷ 0 ∷ []);
     }
+
+pub weighed : loadBits given ≡ 0 ∷ 0 ∷ 0x4097_C402_14EB_C876 ∷ []
+unfolding listingOf
+weighed = refl
 
 pub listed :
     listingOf given 0

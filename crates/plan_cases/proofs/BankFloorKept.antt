@@ -14,7 +14,7 @@ use mathlib.Core.Path.{_≡_, refl}
 use Rattle.mode.specs.declared.PlanMode.the-variants.{Expand}
 use Rattle.plan_defs.specs.Case.{Case}
 use Rattle.plan_defs.specs.Listing.{listingOf}
-use Rattle.plan_cases.proofs.Figures.{figures}
+use Rattle.plan_cases.proofs.Figures.{figures, loadBits}
 
 -- HD 0 10 3 2 2 2 2
 -- LV 345
@@ -47,6 +47,8 @@ given =
       requested = 2;
       ladder = figures (0x4075_9000_0000_0000 ∷ 0x406C_C000_0000_0000 ∷ 0x4061_4000_0000_0000 ∷ 0x4051_4000_0000_0000 ∷ []);
       tier = 0 ∷ 1 ∷ 1 ∷ [];
+      reading = figures (0 ∷ 0x408F_4000_0000_0000 ∷ 0 ∷ []);
+      weight = figures (0x3FF0_0000_0000_0000 ∷ 0x3FF0_0000_0000_0000 ∷ 0x3FF0_0000_0000_0000 ∷ []);
       load = figures (0 ∷ 0x408F_4000_0000_0000 ∷ 0 ∷ []);
       bus = 2 ∷ 1 ∷ [];
       slack = 1 ∷ 1 ∷ [];
@@ -62,6 +64,10 @@ given =
       cap = 0 ∷ 0 ∷ [];
       sheet = figures (0 ∷ 0x3FA0_0000_0000_0000 ∷ 0 ∷ 0x40C2_C000_0000_0000 ∷ 0 ∷ 0 ∷ 0x3FC0_0000_0000_0000 ∷ 0 ∷ 0x4074_5000_0000_0000 ∷ 0x3FF0_0000_0000_0000 ∷ 0x3FA9_9999_9999_999A ∷ 0x3FE0_0000_0000_0000 ∷ 0 ∷ 0x4082_C000_0000_0000 ∷ 0x3FF0_0000_0000_0000 ∷ 0x3FC9_9999_9999_999A ∷ 0x4000_0000_0000_0000 ∷ 0 ∷ 0x4062_C000_0000_0000 ∷ 0x3FF0_0000_0000_0000 ∷ 0 ∷ 0x3F34_7AE1_47AE_147B ∷ 0x3FE0_0000_0000_0000 ∷ 0x40D4_5000_0000_0000 ∷ 0x3FF0_0000_0000_0000 ∷ 0 ∷ 0x3F54_7AE1_47AE_147B ∷ 0 ∷ 0x407C_2000_0000_0000 ∷ 0 ∷ 0 ∷ 0x3F74_7AE1_47AE_147B ∷ 0 ∷ 0x407D_B000_0000_0000 ∷ 0 ∷ 0 ∷ 0x3F94_7AE1_47AE_147B ∷ 0x3FE0_0000_0000_0000 ∷ 0x4074_5000_0000_0000 ∷ 0 ∷ []);
     }
+
+pub weighed : loadBits given ≡ 0 ∷ 0x408F_4000_0000_0000 ∷ 0 ∷ []
+unfolding listingOf
+weighed = refl
 
 pub listed :
     listingOf given 10

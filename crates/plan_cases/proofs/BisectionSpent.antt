@@ -1,6 +1,7 @@
 -- Reinforce, one island, an initial count of zero, an initial count above six: the defined plan's listing is the reference build's. The branches that are taken:
 -- dispatch: bisection spent its 200 turns; the first interior unit takes the gap
 -- angles: settled after steps
+-- load: a reading of minus zero
 -- end: converged
 -- By evaluation.
 use mathlib.Core.List.{[], _∷_}
@@ -8,7 +9,7 @@ use mathlib.Core.Path.{_≡_, refl}
 use Rattle.mode.specs.declared.PlanMode.the-variants.{Reinforce}
 use Rattle.plan_defs.specs.Case.{Case}
 use Rattle.plan_defs.specs.Listing.{listingOf}
-use Rattle.plan_cases.proofs.Figures.{figures}
+use Rattle.plan_cases.proofs.Figures.{figures, loadBits}
 
 -- HD 1 1 5 5 3 0 2
 -- LV 0.00001
@@ -47,6 +48,8 @@ given =
       requested = 2;
       ladder = figures (0x3EE4_F8B5_88E3_68F1 ∷ 0x3EE2_DFD6_94CC_AB3E ∷ []);
       tier = 1 ∷ 1 ∷ 1 ∷ 1 ∷ 1 ∷ [];
+      reading = figures (0x0000_0000_0000_0001 ∷ 0x0000_0000_0000_0001 ∷ 0 ∷ 0x412E_8480_0000_0000 ∷ 0x8000_0000_0000_0000 ∷ []);
+      weight = figures (0x3FF0_0000_0000_0000 ∷ 0x3FF0_0000_0000_0000 ∷ 0x3FF0_0000_0000_0000 ∷ 0x3FF0_0000_0000_0000 ∷ 0x3FF0_0000_0000_0000 ∷ []);
       load = figures (0x0000_0000_0000_0001 ∷ 0x0000_0000_0000_0001 ∷ 0 ∷ 0x412E_8480_0000_0000 ∷ 0x8000_0000_0000_0000 ∷ []);
       bus = 0 ∷ 0 ∷ 2 ∷ [];
       slack = 1 ∷ 0 ∷ 0 ∷ [];
@@ -62,6 +65,10 @@ given =
       cap = 0 ∷ 0 ∷ 0 ∷ 0 ∷ 0 ∷ [];
       sheet = figures (0 ∷ 0x3FBA_26C5_C06D_FE53 ∷ 0x7FE1_CCF3_85EB_C8A0 ∷ 0x3F50_624D_D2F1_A9FC ∷ 0x3FF0_0000_0000_0000 ∷ 0x3FE9_BCDA_C2BD_2188 ∷ 0x4010_BEB3_1AA8_2927 ∷ 0 ∷ 0x3F50_624D_D2F1_A9FC ∷ 0 ∷ 0 ∷ 0x3FAB_20DE_5BE8_F22C ∷ 0 ∷ 0x412E_8480_0000_0000 ∷ 0x3FF0_0000_0000_0000 ∷ 0x8000_0000_0000_0000 ∷ 0x4005_A377_6C05_9F55 ∷ 0x7FE1_CCF3_85EB_C8A0 ∷ 0x3FF0_0000_0000_0000 ∷ 0x3FF0_0000_0000_0000 ∷ 0x8000_0000_0000_0000 ∷ 0x3FAD_9A18_42A2_6534 ∷ 0x7FE1_CCF3_85EB_C8A0 ∷ 0x412E_8480_0000_0000 ∷ 0 ∷ 0 ∷ 0x4006_CCAA_6DEB_BCBF ∷ 0x7FE1_CCF3_85EB_C8A0 ∷ 0x412E_8480_0000_0000 ∷ 0x3FF0_0000_0000_0000 ∷ 0 ∷ 0x3FAE_6FFC_5F9D_3310 ∷ 0x7FE1_CCF3_85EB_C8A0 ∷ 0x412E_8480_0000_0000 ∷ 0 ∷ 0x3FD4_A487_D803_F63C ∷ 0x4005_2F30_95B8_D9A6 ∷ 0 ∷ 0x3FF0_0000_0000_0000 ∷ 0x3FF0_0000_0000_0000 ∷ 0 ∷ 0x3FB6_CA30_5934_54E3 ∷ 0x7FE1_CCF3_85EB_C8A0 ∷ 0x3F50_624D_D2F1_A9FC ∷ 0x3FF0_0000_0000_0000 ∷ 0 ∷ 0x4010_42A3_5A28_E20E ∷ 0x7FE1_CCF3_85EB_C8A0 ∷ 0x3F50_624D_D2F1_A9FC ∷ 0x3FF0_0000_0000_0000 ∷ []);
     }
+
+pub weighed : loadBits given ≡ 0x0000_0000_0000_0001 ∷ 0x0000_0000_0000_0001 ∷ 0 ∷ 0x412E_8480_0000_0000 ∷ 0x8000_0000_0000_0000 ∷ []
+unfolding listingOf
+weighed = refl
 
 pub listed :
     listingOf given 1

@@ -12,7 +12,7 @@ use mathlib.Core.Path.{_≡_, refl}
 use Rattle.mode.specs.declared.PlanMode.the-variants.{Expand}
 use Rattle.plan_defs.specs.Case.{Case}
 use Rattle.plan_defs.specs.Listing.{listingOf}
-use Rattle.plan_cases.proofs.Figures.{figures}
+use Rattle.plan_cases.proofs.Figures.{figures, loadBits}
 
 -- HD 0 10 3 2 2 2 2
 -- LV 345
@@ -45,6 +45,8 @@ given =
       requested = 2;
       ladder = figures (0x4075_9000_0000_0000 ∷ 0x406C_C000_0000_0000 ∷ 0x4061_4000_0000_0000 ∷ 0x4051_4000_0000_0000 ∷ []);
       tier = 0 ∷ 1 ∷ 1 ∷ [];
+      reading = figures (0x4059_0000_0000_0000 ∷ 0x4072_C000_0000_0000 ∷ 0x4072_C000_0000_0000 ∷ []);
+      weight = figures (0x3FF0_0000_0000_0000 ∷ 0x3FF0_0000_0000_0000 ∷ 0x3FF0_0000_0000_0000 ∷ []);
       load = figures (0x4059_0000_0000_0000 ∷ 0x4072_C000_0000_0000 ∷ 0x4072_C000_0000_0000 ∷ []);
       bus = 2 ∷ 2 ∷ [];
       slack = 0 ∷ 1 ∷ [];
@@ -60,6 +62,10 @@ given =
       cap = 0 ∷ 0 ∷ [];
       sheet = figures (0x3F99_9999_9999_999A ∷ 0x3FD0_0000_0000_0000 ∷ 0 ∷ 0x40A7_7000_0000_0000 ∷ 0 ∷ 0x3FA9_9999_9999_999A ∷ 0x3FE0_0000_0000_0000 ∷ 0x3FE0_0000_0000_0000 ∷ 0x4097_7000_0000_0000 ∷ 0x3FF0_0000_0000_0000 ∷ 0 ∷ 0x3FF0_0000_0000_0000 ∷ 0 ∷ 0x4087_7000_0000_0000 ∷ 0 ∷ 0 ∷ 0x4000_0000_0000_0000 ∷ 0 ∷ 0x4077_7000_0000_0000 ∷ 0x3FF0_0000_0000_0000 ∷ 0 ∷ 0x3FB0_0000_0000_0000 ∷ 0 ∷ 0x40AF_4000_0000_0000 ∷ 0 ∷ 0 ∷ 0x3FC0_0000_0000_0000 ∷ 0 ∷ 0x409F_4000_0000_0000 ∷ 0 ∷ 0 ∷ 0x3FD0_0000_0000_0000 ∷ 0x3FE0_0000_0000_0000 ∷ 0x408F_4000_0000_0000 ∷ 0 ∷ 0 ∷ 0x3FE0_0000_0000_0000 ∷ 0 ∷ 0x407F_4000_0000_0000 ∷ 0x3FF0_0000_0000_0000 ∷ []);
     }
+
+pub weighed : loadBits given ≡ 0x4059_0000_0000_0000 ∷ 0x4072_C000_0000_0000 ∷ 0x4072_C000_0000_0000 ∷ []
+unfolding listingOf
+weighed = refl
 
 pub listed :
     listingOf given 10

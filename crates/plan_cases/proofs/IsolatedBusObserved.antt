@@ -8,7 +8,7 @@ use mathlib.Core.Path.{_≡_, refl}
 use Rattle.mode.specs.declared.PlanMode.the-variants.{Observe}
 use Rattle.plan_defs.specs.Case.{Case}
 use Rattle.plan_defs.specs.Listing.{listingOf}
-use Rattle.plan_cases.proofs.Figures.{figures}
+use Rattle.plan_cases.proofs.Figures.{figures, loadBits}
 
 -- HD 2 3 3 1 2 2 1
 -- LV 230
@@ -34,6 +34,8 @@ given =
       requested = 1;
       ladder = figures (0x406C_C000_0000_0000 ∷ 0x4061_4000_0000_0000 ∷ 0x4051_4000_0000_0000 ∷ []);
       tier = 0 ∷ 0 ∷ 0 ∷ [];
+      reading = figures (0 ∷ 0x4075_E000_0000_0000 ∷ 0x407C_2000_0000_0000 ∷ []);
+      weight = figures (0x3FF0_0000_0000_0000 ∷ 0x3FF0_0000_0000_0000 ∷ 0x3FF0_0000_0000_0000 ∷ []);
       load = figures (0 ∷ 0x4075_E000_0000_0000 ∷ 0x407C_2000_0000_0000 ∷ []);
       bus = 0 ∷ 0 ∷ [];
       slack = 0 ∷ 1 ∷ [];
@@ -49,6 +51,10 @@ given =
       cap = 0 ∷ [];
       sheet = figures (0 ∷ 0x3F84_7AE1_47AE_147B ∷ 0x3FE0_0000_0000_0000 ∷ 0x406F_4000_0000_0000 ∷ 0 ∷ 0 ∷ 0x3F84_7AE1_47AE_147B ∷ 0 ∷ 0x406F_4000_0000_0000 ∷ 0 ∷ 0x3F50_624D_D2F1_A9FC ∷ 0x3F84_7AE1_47AE_147B ∷ 0 ∷ 0x406F_4000_0000_0000 ∷ 0 ∷ []);
     }
+
+pub weighed : loadBits given ≡ 0 ∷ 0x4075_E000_0000_0000 ∷ 0x407C_2000_0000_0000 ∷ []
+unfolding listingOf
+weighed = refl
 
 pub listed :
     listingOf given 3

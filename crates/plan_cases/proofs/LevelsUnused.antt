@@ -13,7 +13,7 @@ use mathlib.Core.Path.{_≡_, refl}
 use Rattle.mode.specs.declared.PlanMode.the-variants.{Expand}
 use Rattle.plan_defs.specs.Case.{Case}
 use Rattle.plan_defs.specs.Listing.{listingOf}
-use Rattle.plan_cases.proofs.Figures.{figures}
+use Rattle.plan_cases.proofs.Figures.{figures, loadBits}
 
 -- HD 0 5 2 1 1 2 2
 -- LV 230
@@ -39,6 +39,8 @@ given =
       requested = 2;
       ladder = figures (0x406C_C000_0000_0000 ∷ 0x4061_4000_0000_0000 ∷ 0x4051_4000_0000_0000 ∷ 0x4041_4000_0000_0000 ∷ []);
       tier = 0 ∷ 1 ∷ [];
+      reading = figures (0x4069_0000_0000_0000 ∷ 0x4085_E000_0000_0000 ∷ []);
+      weight = figures (0x3FF0_0000_0000_0000 ∷ 0x3FF0_0000_0000_0000 ∷ []);
       load = figures (0x4069_0000_0000_0000 ∷ 0x4085_E000_0000_0000 ∷ []);
       bus = 1 ∷ [];
       slack = 0 ∷ [];
@@ -54,6 +56,10 @@ given =
       cap = 0 ∷ [];
       sheet = figures (0 ∷ 0x3FE0_0000_0000_0000 ∷ 0x3FE0_0000_0000_0000 ∷ 0x4059_0000_0000_0000 ∷ 0x3FF0_0000_0000_0000 ∷ 0 ∷ 0x3FE0_0000_0000_0000 ∷ 0 ∷ 0x4072_C000_0000_0000 ∷ 0 ∷ 0x3FA9_9999_9999_999A ∷ 0x3FE0_0000_0000_0000 ∷ 0 ∷ 0x4059_0000_0000_0000 ∷ 0x3FF0_0000_0000_0000 ∷ 0x3FA9_9999_9999_999A ∷ 0x3FE0_0000_0000_0000 ∷ 0 ∷ 0x4059_0000_0000_0000 ∷ 0 ∷ []);
     }
+
+pub weighed : loadBits given ≡ 0x4069_0000_0000_0000 ∷ 0x4085_E000_0000_0000 ∷ []
+unfolding listingOf
+weighed = refl
 
 pub listed :
     listingOf given 5

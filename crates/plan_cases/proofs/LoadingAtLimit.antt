@@ -8,7 +8,7 @@ use mathlib.Core.Path.{_≡_, refl}
 use Rattle.mode.specs.declared.PlanMode.the-variants.{Observe}
 use Rattle.plan_defs.specs.Case.{Case}
 use Rattle.plan_defs.specs.Listing.{listingOf}
-use Rattle.plan_cases.proofs.Figures.{figures}
+use Rattle.plan_cases.proofs.Figures.{figures, loadBits}
 
 -- HD 2 0 2 1 1 0 1
 -- LV 138
@@ -28,6 +28,8 @@ given =
       requested = 1;
       ladder = figures (0x4061_4000_0000_0000 ∷ []);
       tier = 0 ∷ 0 ∷ [];
+      reading = figures (0 ∷ 0x409B_B3E8_0E81_F8E7 ∷ []);
+      weight = figures (0x3FF0_0000_0000_0000 ∷ 0x3FF0_0000_0000_0000 ∷ []);
       load = figures (0 ∷ 0x409B_B3E8_0E81_F8E7 ∷ []);
       bus = 0 ∷ [];
       slack = 1 ∷ [];
@@ -43,6 +45,10 @@ given =
       cap = 0 ∷ [];
       sheet = figures (0 ∷ 0x3F45_5D05_A2AE_B6F2 ∷ 0 ∷ 0x4077_6B31_1868_54F6 ∷ 0 ∷ []);
     }
+
+pub weighed : loadBits given ≡ 0 ∷ 0x409B_B3E8_0E81_F8E7 ∷ []
+unfolding listingOf
+weighed = refl
 
 pub listed :
     listingOf given 0

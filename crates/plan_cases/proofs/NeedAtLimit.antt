@@ -10,7 +10,7 @@ use mathlib.Core.Path.{_≡_, refl}
 use Rattle.mode.specs.declared.PlanMode.the-variants.{Reinforce}
 use Rattle.plan_defs.specs.Case.{Case}
 use Rattle.plan_defs.specs.Listing.{listingOf}
-use Rattle.plan_cases.proofs.Figures.{figures}
+use Rattle.plan_cases.proofs.Figures.{figures, loadBits}
 
 -- HD 1 0 2 1 1 0 1
 -- LV 69
@@ -30,6 +30,8 @@ given =
       requested = 1;
       ladder = figures (0x4051_4000_0000_0000 ∷ []);
       tier = 0 ∷ 0 ∷ [];
+      reading = figures (0 ∷ 0x4080_C1F7_60B1_2603 ∷ []);
+      weight = figures (0x3FF0_0000_0000_0000 ∷ 0x3FF0_0000_0000_0000 ∷ []);
       load = figures (0 ∷ 0x4080_C1F7_60B1_2603 ∷ []);
       bus = 0 ∷ [];
       slack = 1 ∷ [];
@@ -45,6 +47,10 @@ given =
       cap = 0 ∷ [];
       sheet = figures (0 ∷ 0x3F4C_DFC3_BF9E_92E0 ∷ 0 ∷ 0x4058_D381_72BB_C832 ∷ 0 ∷ []);
     }
+
+pub weighed : loadBits given ≡ 0 ∷ 0x4080_C1F7_60B1_2603 ∷ []
+unfolding listingOf
+weighed = refl
 
 pub listed :
     listingOf given 0

@@ -11,7 +11,7 @@ use mathlib.Core.Path.{_≡_, refl}
 use Rattle.mode.specs.declared.PlanMode.the-variants.{Expand}
 use Rattle.plan_defs.specs.Case.{Case}
 use Rattle.plan_defs.specs.Listing.{listingOf}
-use Rattle.plan_cases.proofs.Figures.{figures}
+use Rattle.plan_cases.proofs.Figures.{figures, loadBits}
 
 -- HD 0 0 3 2 2 0 1
 -- LV 500
@@ -35,6 +35,8 @@ given =
       requested = 1;
       ladder = figures (0x407F_4000_0000_0000 ∷ []);
       tier = 0 ∷ 0 ∷ 0 ∷ [];
+      reading = figures (0 ∷ 0x412E_8480_0000_0000 ∷ 0x412E_8480_0000_0000 ∷ []);
+      weight = figures (0x3FF0_0000_0000_0000 ∷ 0x3FF0_0000_0000_0000 ∷ 0x3FF0_0000_0000_0000 ∷ []);
       load = figures (0 ∷ 0x412E_8480_0000_0000 ∷ 0x412E_8480_0000_0000 ∷ []);
       bus = 0 ∷ 0 ∷ [];
       slack = 1 ∷ 0 ∷ [];
@@ -50,6 +52,10 @@ given =
       cap = 0 ∷ 0 ∷ [];
       sheet = figures (0 ∷ 0x3E7A_D7F2_9ABC_AF48 ∷ 0 ∷ 0x3F50_624D_D2F1_A9FC ∷ 0 ∷ 0 ∷ 0x3E7A_D7F2_9ABC_AF48 ∷ 0 ∷ 0x412E_8480_0000_0000 ∷ 0 ∷ []);
     }
+
+pub weighed : loadBits given ≡ 0 ∷ 0x412E_8480_0000_0000 ∷ 0x412E_8480_0000_0000 ∷ []
+unfolding listingOf
+weighed = refl
 
 pub listed :
     listingOf given 0

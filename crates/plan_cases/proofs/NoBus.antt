@@ -8,7 +8,7 @@ use mathlib.Core.Path.{_≡_, refl}
 use Rattle.mode.specs.declared.PlanMode.the-variants.{Expand}
 use Rattle.plan_defs.specs.Case.{Case}
 use Rattle.plan_defs.specs.Listing.{listingOf}
-use Rattle.plan_cases.proofs.Figures.{figures}
+use Rattle.plan_cases.proofs.Figures.{figures, loadBits}
 
 -- HD 0 7 0 0 0 1 1
 -- LV 230
@@ -24,6 +24,8 @@ given =
       requested = 1;
       ladder = figures (0x406C_C000_0000_0000 ∷ 0x4061_4000_0000_0000 ∷ []);
       tier = [];
+      reading = figures ([]);
+      weight = figures ([]);
       load = figures ([]);
       bus = [];
       slack = [];
@@ -39,6 +41,10 @@ given =
       cap = [];
       sheet = figures ([]);
     }
+
+pub weighed : loadBits given ≡ []
+unfolding listingOf
+weighed = refl
 
 pub listed :
     listingOf given 7

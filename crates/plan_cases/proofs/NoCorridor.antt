@@ -7,7 +7,7 @@ use mathlib.Core.Path.{_≡_, refl}
 use Rattle.mode.specs.declared.PlanMode.the-variants.{Reinforce}
 use Rattle.plan_defs.specs.Case.{Case}
 use Rattle.plan_defs.specs.Listing.{listingOf}
-use Rattle.plan_cases.proofs.Figures.{figures}
+use Rattle.plan_cases.proofs.Figures.{figures, loadBits}
 
 -- HD 1 7 3 0 2 0 1
 -- LV 138
@@ -27,6 +27,8 @@ given =
       requested = 1;
       ladder = figures (0x4061_4000_0000_0000 ∷ []);
       tier = 0 ∷ 0 ∷ 0 ∷ [];
+      reading = figures (0x4034_0000_0000_0000 ∷ 0 ∷ 0x403E_0000_0000_0000 ∷ []);
+      weight = figures (0x3FF0_0000_0000_0000 ∷ 0x3FF0_0000_0000_0000 ∷ 0x3FF0_0000_0000_0000 ∷ []);
       load = figures (0x4034_0000_0000_0000 ∷ 0 ∷ 0x403E_0000_0000_0000 ∷ []);
       bus = 0 ∷ 2 ∷ [];
       slack = 0 ∷ 1 ∷ [];
@@ -42,6 +44,10 @@ given =
       cap = [];
       sheet = figures ([]);
     }
+
+pub weighed : loadBits given ≡ 0x4034_0000_0000_0000 ∷ 0 ∷ 0x403E_0000_0000_0000 ∷ []
+unfolding listingOf
+weighed = refl
 
 pub listed :
     listingOf given 7

@@ -9,7 +9,7 @@ use mathlib.Core.Path.{_≡_, refl}
 use Rattle.mode.specs.declared.PlanMode.the-variants.{Expand}
 use Rattle.plan_defs.specs.Case.{Case}
 use Rattle.plan_defs.specs.Listing.{listingOf}
-use Rattle.plan_cases.proofs.Figures.{figures}
+use Rattle.plan_cases.proofs.Figures.{figures, loadBits}
 
 -- HD 0 7 2 0 2 2 1
 -- LV 765
@@ -30,6 +30,8 @@ given =
       requested = 1;
       ladder = figures (0x4087_E800_0000_0000 ∷ 0x4075_9000_0000_0000 ∷ 0x4061_4000_0000_0000 ∷ []);
       tier = 0 ∷ 0 ∷ [];
+      reading = figures (0x403E_0000_0000_0000 ∷ 0 ∷ []);
+      weight = figures (0x3FF0_0000_0000_0000 ∷ 0x3FF0_0000_0000_0000 ∷ []);
       load = figures (0x403E_0000_0000_0000 ∷ 0 ∷ []);
       bus = 0 ∷ 0 ∷ [];
       slack = 0 ∷ 1 ∷ [];
@@ -45,6 +47,10 @@ given =
       cap = [];
       sheet = figures ([]);
     }
+
+pub weighed : loadBits given ≡ 0x403E_0000_0000_0000 ∷ 0 ∷ []
+unfolding listingOf
+weighed = refl
 
 pub listed :
     listingOf given 7

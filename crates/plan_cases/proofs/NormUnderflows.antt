@@ -8,7 +8,7 @@ use mathlib.Core.Path.{_≡_, refl}
 use Rattle.mode.specs.declared.PlanMode.the-variants.{Expand}
 use Rattle.plan_defs.specs.Case.{Case}
 use Rattle.plan_defs.specs.Listing.{listingOf}
-use Rattle.plan_cases.proofs.Figures.{figures}
+use Rattle.plan_cases.proofs.Figures.{figures, loadBits}
 
 -- HD 0 0 2 2 2 0 1
 -- LV 69
@@ -31,6 +31,8 @@ given =
       requested = 1;
       ladder = figures (0x4051_4000_0000_0000 ∷ []);
       tier = 0 ∷ 0 ∷ [];
+      reading = figures (0 ∷ 0x1EA5_DA82_1656_F25A ∷ []);
+      weight = figures (0x3FF0_0000_0000_0000 ∷ 0x3FF0_0000_0000_0000 ∷ []);
       load = figures (0 ∷ 0x1EA5_DA82_1656_F25A ∷ []);
       bus = 0 ∷ 1 ∷ [];
       slack = 1 ∷ 0 ∷ [];
@@ -46,6 +48,10 @@ given =
       cap = 0 ∷ 0 ∷ [];
       sheet = figures (0x3FC5_2271_05D7_21DA ∷ 0x3FF0_BA4B_8F92_FC06 ∷ 0x3F95_FBC7_66EC_7DCC ∷ 0x4036_2C35_F81D_37FC ∷ 0x3FF0_0000_0000_0000 ∷ 0x3FA7_55BA_3879_8A39 ∷ 0x3FE5_00AC_21A7_6E52 ∷ 0x3F88_5AC6_6E7E_BD82 ∷ 0x4044_0398_3157_83CD ∷ 0x3FF0_0000_0000_0000 ∷ []);
     }
+
+pub weighed : loadBits given ≡ 0 ∷ 0x1EA5_DA82_1656_F25A ∷ []
+unfolding listingOf
+weighed = refl
 
 pub listed :
     listingOf given 0

@@ -9,7 +9,7 @@ use mathlib.Core.Path.{_≡_, refl}
 use Rattle.mode.specs.declared.PlanMode.the-variants.{Expand}
 use Rattle.plan_defs.specs.Case.{Case}
 use Rattle.plan_defs.specs.Listing.{listingOf}
-use Rattle.plan_cases.proofs.Figures.{figures}
+use Rattle.plan_cases.proofs.Figures.{figures, loadBits}
 
 -- HD 0 20 4 3 0 0 1
 -- LV 138
@@ -34,6 +34,8 @@ given =
       requested = 1;
       ladder = figures (0x4061_4000_0000_0000 ∷ []);
       tier = 0 ∷ 0 ∷ 0 ∷ 0 ∷ [];
+      reading = figures (0 ∷ 0 ∷ 0 ∷ 0 ∷ []);
+      weight = figures (0x3FF0_0000_0000_0000 ∷ 0x3FF0_0000_0000_0000 ∷ 0x3FF0_0000_0000_0000 ∷ 0x3FF0_0000_0000_0000 ∷ []);
       load = figures (0 ∷ 0 ∷ 0 ∷ 0 ∷ []);
       bus = [];
       slack = [];
@@ -49,6 +51,10 @@ given =
       cap = 2 ∷ 0 ∷ 6 ∷ [];
       sheet = figures (0 ∷ 0x3FB9_9999_9999_999A ∷ 0 ∷ 0x4059_0000_0000_0000 ∷ 0 ∷ 0 ∷ 0x3FB9_9999_9999_999A ∷ 0 ∷ 0x4059_0000_0000_0000 ∷ 0 ∷ 0 ∷ 0x3FB9_9999_9999_999A ∷ 0 ∷ 0x4059_0000_0000_0000 ∷ 0 ∷ []);
     }
+
+pub weighed : loadBits given ≡ 0 ∷ 0 ∷ 0 ∷ 0 ∷ []
+unfolding listingOf
+weighed = refl
 
 pub listed :
     listingOf given 20

@@ -11,7 +11,7 @@ use mathlib.Core.Path.{_≡_, refl}
 use Rattle.mode.specs.declared.PlanMode.the-variants.{Expand}
 use Rattle.plan_defs.specs.Case.{Case}
 use Rattle.plan_defs.specs.Listing.{listingOf}
-use Rattle.plan_cases.proofs.Figures.{figures}
+use Rattle.plan_cases.proofs.Figures.{figures, loadBits}
 
 -- HD 0 0 2 1 1 1 1
 -- LV 345
@@ -33,6 +33,8 @@ given =
       requested = 1;
       ladder = figures (0x4075_9000_0000_0000 ∷ 0x4061_4000_0000_0000 ∷ []);
       tier = 0 ∷ 0 ∷ [];
+      reading = figures (0 ∷ 0x406F_4000_0000_0000 ∷ []);
+      weight = figures (0x3FF0_0000_0000_0000 ∷ 0x3FF0_0000_0000_0000 ∷ []);
       load = figures (0 ∷ 0x406F_4000_0000_0000 ∷ []);
       bus = 0 ∷ [];
       slack = 1 ∷ [];
@@ -48,6 +50,10 @@ given =
       cap = 1 ∷ [];
       sheet = figures (0 ∷ 0x3F84_7AE1_47AE_147B ∷ 0 ∷ 0x4079_0000_0000_0000 ∷ 0 ∷ 0 ∷ 0x3FB0_0000_0000_0000 ∷ 0 ∷ 0x4059_0000_0000_0000 ∷ 0 ∷ []);
     }
+
+pub weighed : loadBits given ≡ 0 ∷ 0x406F_4000_0000_0000 ∷ []
+unfolding listingOf
+weighed = refl
 
 pub listed :
     listingOf given 0

@@ -5,7 +5,7 @@ use mathlib.Core.Path.{_≡_, refl}
 use Rattle.mode.specs.declared.PlanMode.the-variants.{Expand}
 use Rattle.plan_defs.specs.Case.{Case}
 use Rattle.plan_defs.specs.Listing.{listingOf}
-use Rattle.plan_cases.proofs.Figures.{figures}
+use Rattle.plan_cases.proofs.Figures.{figures, loadBits}
 
 -- HD 0 0 2 1 1 1 2
 -- LV 345
@@ -29,6 +29,8 @@ given =
       requested = 2;
       ladder = figures (0x4075_9000_0000_0000 ∷ 0x4061_4000_0000_0000 ∷ 0x4061_3FFF_FEF3_9086 ∷ []);
       tier = 2 ∷ 0 ∷ [];
+      reading = figures (0 ∷ 0x4049_0000_0000_0000 ∷ []);
+      weight = figures (0x3FF0_0000_0000_0000 ∷ 0x3FF0_0000_0000_0000 ∷ []);
       load = figures (0 ∷ 0x4049_0000_0000_0000 ∷ []);
       bus = 0 ∷ [];
       slack = 1 ∷ [];
@@ -44,6 +46,10 @@ given =
       cap = 0 ∷ [];
       sheet = figures (0 ∷ 0x3FE0_0000_0000_0000 ∷ 0 ∷ 0x4059_0000_0000_0000 ∷ 0 ∷ 0 ∷ 0x3FE0_0000_0000_0000 ∷ 0 ∷ 0x4059_0000_0000_0000 ∷ 0 ∷ 0 ∷ 0x3FE0_0000_0000_0000 ∷ 0 ∷ 0x4059_0000_0000_0000 ∷ 0 ∷ []);
     }
+
+pub weighed : loadBits given ≡ 0 ∷ 0x4049_0000_0000_0000 ∷ []
+unfolding listingOf
+weighed = refl
 
 pub listed :
     listingOf given 0

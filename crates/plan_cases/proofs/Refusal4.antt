@@ -1,11 +1,12 @@
--- Reinforce, several islands, an isolated bus, levels above, refused: 4 2: the defined plan's listing is the reference build's. The branches that are taken: none.
+-- Reinforce, several islands, an isolated bus, levels above, refused: 4 2: the defined plan's listing is the reference build's. The branches that are taken:
+-- refusal 4: the tier
 -- By evaluation.
 use mathlib.Core.List.{[], _∷_}
 use mathlib.Core.Path.{_≡_, refl}
 use Rattle.mode.specs.declared.PlanMode.the-variants.{Reinforce}
 use Rattle.plan_defs.specs.Case.{Case}
 use Rattle.plan_defs.specs.Listing.{listingOf}
-use Rattle.plan_cases.proofs.Figures.{figures}
+use Rattle.plan_cases.proofs.Figures.{figures, loadBits}
 
 -- HD 1 0 3 1 1 1 1
 -- LV 345
@@ -28,6 +29,8 @@ given =
       requested = 1;
       ladder = figures (0x4075_9000_0000_0000 ∷ 0x4061_4000_0000_0000 ∷ []);
       tier = 0 ∷ 0 ∷ 1 ∷ [];
+      reading = figures (0 ∷ 0x412E_8480_0000_0000 ∷ 0x4049_0000_0000_0000 ∷ []);
+      weight = figures (0x3FF0_0000_0000_0000 ∷ 0x3FF0_0000_0000_0000 ∷ 0x3FF0_0000_0000_0000 ∷ []);
       load = figures (0 ∷ 0x412E_8480_0000_0000 ∷ 0x4049_0000_0000_0000 ∷ []);
       bus = 9 ∷ [];
       slack = 1 ∷ [];
@@ -43,6 +46,10 @@ given =
       cap = 0 ∷ [];
       sheet = figures (0 ∷ 0x3FE0_0000_0000_0000 ∷ 0 ∷ 0x4059_0000_0000_0000 ∷ 0 ∷ 0 ∷ 0x3FE0_0000_0000_0000 ∷ 0 ∷ 0x4059_0000_0000_0000 ∷ 0 ∷ []);
     }
+
+pub weighed : loadBits given ≡ 0 ∷ 0x412E_8480_0000_0000 ∷ 0x4049_0000_0000_0000 ∷ []
+unfolding listingOf
+weighed = refl
 
 pub listed :
     listingOf given 0

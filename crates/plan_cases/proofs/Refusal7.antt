@@ -5,7 +5,7 @@ use mathlib.Core.Path.{_≡_, refl}
 use Rattle.mode.specs.declared.PlanMode.the-variants.{Reinforce}
 use Rattle.plan_defs.specs.Case.{Case}
 use Rattle.plan_defs.specs.Listing.{listingOf}
-use Rattle.plan_cases.proofs.Figures.{figures}
+use Rattle.plan_cases.proofs.Figures.{figures, loadBits}
 
 -- HD 1 0 3 2 1 1 1
 -- LV 345
@@ -31,6 +31,8 @@ given =
       requested = 1;
       ladder = figures (0x4075_9000_0000_0000 ∷ 0x4061_4000_0000_0000 ∷ []);
       tier = 0 ∷ 0 ∷ 0 ∷ [];
+      reading = figures (0 ∷ 0x4049_0000_0000_0000 ∷ 0 ∷ []);
+      weight = figures (0x3FF0_0000_0000_0000 ∷ 0x3FF0_0000_0000_0000 ∷ 0x3FF0_0000_0000_0000 ∷ []);
       load = figures (0 ∷ 0x4049_0000_0000_0000 ∷ 0 ∷ []);
       bus = 0 ∷ [];
       slack = 1 ∷ [];
@@ -46,6 +48,10 @@ given =
       cap = 0 ∷ 0 ∷ [];
       sheet = figures (0 ∷ 0x3FE0_0000_0000_0000 ∷ 0 ∷ 0x4059_0000_0000_0000 ∷ 0 ∷ 0 ∷ 0x3FE0_0000_0000_0000 ∷ 0 ∷ 0x4059_0000_0000_0000 ∷ 0 ∷ 0 ∷ 0x3FE0_0000_0000_0000 ∷ 0 ∷ 0x4059_0000_0000_0000 ∷ 0 ∷ 0 ∷ 0x3FE0_0000_0000_0000 ∷ 0 ∷ 0x3F4D_7DBF_487F_CB92 ∷ 0 ∷ []);
     }
+
+pub weighed : loadBits given ≡ 0 ∷ 0x4049_0000_0000_0000 ∷ 0 ∷ []
+unfolding listingOf
+weighed = refl
 
 pub listed :
     listingOf given 0

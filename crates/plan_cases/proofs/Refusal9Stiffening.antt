@@ -8,7 +8,7 @@ use mathlib.Core.Path.{_≡_, refl}
 use Rattle.mode.specs.declared.PlanMode.the-variants.{Expand}
 use Rattle.plan_defs.specs.Case.{Case}
 use Rattle.plan_defs.specs.Listing.{listingOf}
-use Rattle.plan_cases.proofs.Figures.{figures}
+use Rattle.plan_cases.proofs.Figures.{figures, loadBits}
 
 -- HD 0 0 2 1 1 0 1
 -- LV 138
@@ -28,6 +28,8 @@ given =
       requested = 1;
       ladder = figures (0x4061_4000_0000_0000 ∷ []);
       tier = 0 ∷ 0 ∷ [];
+      reading = figures (0 ∷ 0x219F_F779_FD32_9CB9 ∷ []);
+      weight = figures (0x3FF0_0000_0000_0000 ∷ 0x3FF0_0000_0000_0000 ∷ []);
       load = figures (0 ∷ 0x219F_F779_FD32_9CB9 ∷ []);
       bus = 0 ∷ [];
       slack = 1 ∷ [];
@@ -43,6 +45,10 @@ given =
       cap = 0 ∷ [];
       sheet = figures (0x5FE7_DDDF_6B09_5FF1 ∷ 0x3EE4_F8B5_88E3_68F1 ∷ 0 ∷ 0x4059_0000_0000_0000 ∷ 0 ∷ []);
     }
+
+pub weighed : loadBits given ≡ 0 ∷ 0x219F_F779_FD32_9CB9 ∷ []
+unfolding listingOf
+weighed = refl
 
 pub listed :
     listingOf given 0

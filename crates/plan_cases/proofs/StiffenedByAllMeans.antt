@@ -12,7 +12,7 @@ use mathlib.Core.Path.{_≡_, refl}
 use Rattle.mode.specs.declared.PlanMode.the-variants.{Expand}
 use Rattle.plan_defs.specs.Case.{Case}
 use Rattle.plan_defs.specs.Listing.{listingOf}
-use Rattle.plan_cases.proofs.Figures.{figures}
+use Rattle.plan_cases.proofs.Figures.{figures, loadBits}
 
 -- HD 0 3 3 1 1 1 3
 -- LV 230
@@ -39,6 +39,8 @@ given =
       requested = 3;
       ladder = figures (0x406C_C000_0000_0000 ∷ 0x4061_4000_0000_0000 ∷ 0x4051_4000_0000_0000 ∷ 0x4041_4000_0000_0000 ∷ []);
       tier = 1 ∷ 0 ∷ 0 ∷ [];
+      reading = figures (0x4085_E000_0000_0000 ∷ 0x408C_2000_0000_0000 ∷ 0 ∷ []);
+      weight = figures (0x3FF0_0000_0000_0000 ∷ 0x3FF0_0000_0000_0000 ∷ 0x3FF0_0000_0000_0000 ∷ []);
       load = figures (0x4085_E000_0000_0000 ∷ 0x408C_2000_0000_0000 ∷ 0 ∷ []);
       bus = 2 ∷ [];
       slack = 1 ∷ [];
@@ -54,6 +56,10 @@ given =
       cap = 0 ∷ [];
       sheet = figures (0x3F99_9999_9999_999A ∷ 0x3FD0_0000_0000_0000 ∷ 0 ∷ 0x40A7_7000_0000_0000 ∷ 0x3FF0_0000_0000_0000 ∷ 0 ∷ 0x3FE0_0000_0000_0000 ∷ 0x3FE0_0000_0000_0000 ∷ 0x4097_7000_0000_0000 ∷ 0x3FF0_0000_0000_0000 ∷ 0 ∷ 0x3FF0_0000_0000_0000 ∷ 0 ∷ 0x4087_7000_0000_0000 ∷ 0x3FF0_0000_0000_0000 ∷ 0x3FC9_9999_9999_999A ∷ 0x4000_0000_0000_0000 ∷ 0 ∷ 0x4077_7000_0000_0000 ∷ 0 ∷ []);
     }
+
+pub weighed : loadBits given ≡ 0x4085_E000_0000_0000 ∷ 0x408C_2000_0000_0000 ∷ 0 ∷ []
+unfolding listingOf
+weighed = refl
 
 pub listed :
     listingOf given 3

@@ -12,7 +12,7 @@ use mathlib.Core.Path.{_≡_, refl}
 use Rattle.mode.specs.declared.PlanMode.the-variants.{Expand}
 use Rattle.plan_defs.specs.Case.{Case}
 use Rattle.plan_defs.specs.Listing.{listingOf}
-use Rattle.plan_cases.proofs.Figures.{figures}
+use Rattle.plan_cases.proofs.Figures.{figures, loadBits}
 
 -- HD 0 2 2 1 2 2 2
 -- LV 230
@@ -39,6 +39,8 @@ given =
       requested = 2;
       ladder = figures (0x406C_C000_0000_0000 ∷ 0x4061_4000_0000_0000 ∷ 0x4051_4000_0000_0000 ∷ 0x4041_4000_0000_0000 ∷ []);
       tier = 0 ∷ 1 ∷ [];
+      reading = figures (0x408C_2000_0000_0000 ∷ 0x4089_0000_0000_0000 ∷ []);
+      weight = figures (0x3FF0_0000_0000_0000 ∷ 0x3FF0_0000_0000_0000 ∷ []);
       load = figures (0x408C_2000_0000_0000 ∷ 0x4089_0000_0000_0000 ∷ []);
       bus = 1 ∷ 1 ∷ [];
       slack = 1 ∷ 0 ∷ [];
@@ -54,6 +56,10 @@ given =
       cap = 0 ∷ [];
       sheet = figures (0 ∷ 0x3F89_9999_9999_999A ∷ 0x3FE0_0000_0000_0000 ∷ 0x408F_4000_0000_0000 ∷ 0 ∷ 0 ∷ 0x3F99_9999_9999_999A ∷ 0x3FE0_0000_0000_0000 ∷ 0x407F_4000_0000_0000 ∷ 0x3FF0_0000_0000_0000 ∷ 0x3F74_7AE1_47AE_147C ∷ 0x3FA9_9999_9999_999A ∷ 0 ∷ 0x406F_4000_0000_0000 ∷ 0x3FF0_0000_0000_0000 ∷ 0x3F84_7AE1_47AE_147C ∷ 0x3FB9_9999_9999_999A ∷ 0x3FE0_0000_0000_0000 ∷ 0x405F_4000_0000_0000 ∷ 0x3FF0_0000_0000_0000 ∷ []);
     }
+
+pub weighed : loadBits given ≡ 0x408C_2000_0000_0000 ∷ 0x4089_0000_0000_0000 ∷ []
+unfolding listingOf
+weighed = refl
 
 pub listed :
     listingOf given 2

@@ -8,7 +8,7 @@ use mathlib.Core.Path.{_≡_, refl}
 use Rattle.mode.specs.declared.PlanMode.the-variants.{Reinforce}
 use Rattle.plan_defs.specs.Case.{Case}
 use Rattle.plan_defs.specs.Listing.{listingOf}
-use Rattle.plan_cases.proofs.Figures.{figures}
+use Rattle.plan_cases.proofs.Figures.{figures, loadBits}
 
 -- HD 1 0 2 1 2 0 1
 -- LV 345
@@ -29,6 +29,8 @@ given =
       requested = 1;
       ladder = figures (0x4075_9000_0000_0000 ∷ []);
       tier = 0 ∷ 0 ∷ [];
+      reading = figures (0 ∷ 0x412E_8480_0000_0000 ∷ []);
+      weight = figures (0x3FF0_0000_0000_0000 ∷ 0x3FF0_0000_0000_0000 ∷ []);
       load = figures (0 ∷ 0x412E_8480_0000_0000 ∷ []);
       bus = 0 ∷ 0 ∷ [];
       slack = 1 ∷ 0 ∷ [];
@@ -44,6 +46,10 @@ given =
       cap = 0 ∷ [];
       sheet = figures (0 ∷ 0x3F1A_36E2_EB1C_432D ∷ 0 ∷ 0x4112_4F80_0000_0000 ∷ 0 ∷ []);
     }
+
+pub weighed : loadBits given ≡ 0 ∷ 0x412E_8480_0000_0000 ∷ []
+unfolding listingOf
+weighed = refl
 
 pub listed :
     listingOf given 0

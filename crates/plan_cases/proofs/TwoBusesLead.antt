@@ -12,7 +12,7 @@ use mathlib.Core.Path.{_≡_, refl}
 use Rattle.mode.specs.declared.PlanMode.the-variants.{Expand}
 use Rattle.plan_defs.specs.Case.{Case}
 use Rattle.plan_defs.specs.Listing.{listingOf}
-use Rattle.plan_cases.proofs.Figures.{figures}
+use Rattle.plan_cases.proofs.Figures.{figures, loadBits}
 
 -- HD 0 0 3 2 1 2 2
 -- LV 500
@@ -44,6 +44,8 @@ given =
       requested = 2;
       ladder = figures (0x407F_4000_0000_0000 ∷ 0x4075_9000_0000_0000 ∷ 0x406C_C000_0000_0000 ∷ 0x4061_4000_0000_0000 ∷ []);
       tier = 1 ∷ 0 ∷ 1 ∷ [];
+      reading = figures (0x4085_E000_0000_0000 ∷ 0x4072_C000_0000_0000 ∷ 0 ∷ []);
+      weight = figures (0x3FF0_0000_0000_0000 ∷ 0x3FF0_0000_0000_0000 ∷ 0x3FF0_0000_0000_0000 ∷ []);
       load = figures (0x4085_E000_0000_0000 ∷ 0x4072_C000_0000_0000 ∷ 0 ∷ []);
       bus = 1 ∷ [];
       slack = 1 ∷ [];
@@ -59,6 +61,10 @@ given =
       cap = 0 ∷ 0 ∷ [];
       sheet = figures (0x3F59_9999_9999_999A ∷ 0x3F90_0000_0000_0000 ∷ 0 ∷ 0x40D7_7000_0000_0000 ∷ 0x3FF0_0000_0000_0000 ∷ 0 ∷ 0x3FB0_0000_0000_0000 ∷ 0 ∷ 0x40B7_7000_0000_0000 ∷ 0 ∷ 0 ∷ 0x3FD0_0000_0000_0000 ∷ 0 ∷ 0x4097_7000_0000_0000 ∷ 0x3FF0_0000_0000_0000 ∷ 0x3FB9_9999_9999_999A ∷ 0x3FF0_0000_0000_0000 ∷ 0x3FE0_0000_0000_0000 ∷ 0x4077_7000_0000_0000 ∷ 0 ∷ 0x3F39_9999_9999_999A ∷ 0x3F70_0000_0000_0000 ∷ 0 ∷ 0x40C2_C000_0000_0000 ∷ 0x3FF0_0000_0000_0000 ∷ 0x3F59_9999_9999_999A ∷ 0x3F90_0000_0000_0000 ∷ 0 ∷ 0x4072_C000_0000_0000 ∷ 0 ∷ 0x3F79_9999_9999_999A ∷ 0x3FB0_0000_0000_0000 ∷ 0 ∷ 0x4082_C000_0000_0000 ∷ 0x3FF0_0000_0000_0000 ∷ 0 ∷ 0x3FD0_0000_0000_0000 ∷ 0 ∷ 0x4062_C000_0000_0000 ∷ 0 ∷ []);
     }
+
+pub weighed : loadBits given ≡ 0x4085_E000_0000_0000 ∷ 0x4072_C000_0000_0000 ∷ 0 ∷ []
+unfolding listingOf
+weighed = refl
 
 pub listed :
     listingOf given 0

@@ -1,21 +1,20 @@
 -- Voltage support (reactive.rs, `place_voltage_support`): while a loaded bus lies more than 100 km from the nearest source, the farthest
 -- joins the sources with a condenser; then each condenser is sized by the loads that lie nearest to it.
-use mathlib.Core.Path.{_≡_}
 use mathlib.Core.List.{List}
 use mathlib.Core.Bool.{cond, _&&_, _||_}
-use Prim.Native.Nat.{ℕ, zero, suc, _+_, _≤_}
+use Prim.Native.Nat.{ℕ, zero, suc, _+_}
 use lib.Dec.{eqb, ltb}
 use lib.ListN.{length, getD, set, replicate}
 use lib.Ieee.{Float, lt}
 use Rattle.loops.specs.Figures.{at, plus, times, greater, nought, half, five, hundred, infinity}
 use Rattle.loops.specs.Loops.{iter}
 use Rattle.refusal.specs.Reply.{Reply, answered, refusedBy}
-use Rattle.placement.specs.Request.{mostBuses, Request, requestOf, checkOf}
-use Rattle.placement.specs.Distance.{Network, network, distances}
-use Rattle.placement.specs.declared.Verdict.{Verdict}
-use Rattle.placement.specs.declared.Verdict.the-variants.{Sound, Faulty}
-use Rattle.placement.specs.declared.Placement.{Placement}
-use Rattle.placement.specs.declared.Placement.the-variants.{Placed, Refused}
+use Rattle.placement_defs.specs.Request.{mostBuses, Request, checkOf}
+use Rattle.placement_defs.specs.Distance.{Network, network, distances}
+use Rattle.placement_defs.specs.declared.Verdict.{Verdict}
+use Rattle.placement_defs.specs.declared.Verdict.the-variants.{Sound, Faulty}
+use Rattle.placement_defs.specs.declared.Placement.{Placement}
+use Rattle.placement_defs.specs.declared.Placement.the-variants.{Placed, Refused}
 
 -- a load farther than this from every source gets a condenser
 abbrev pub supportKm : Float
@@ -110,29 +109,22 @@ abbrev pub networkOf : Request → Network
 networkOf k = network (k .n) (k .m) (k .a) (k .b) (k .km)
 
 -- the sites after all have joined: results are zero past the count
-unfoldable pub sitesOf : Request → Sites
-sitesOf k = joined (networkOf k) (k .loads) (sites (flagged (k .generators) (replicate mostBuses 0)) (replicate (k .n) 0) 0)
+unfoldable pub sitesBy : Network → List Float → List ℕ → Sites
+sitesBy w loads generators = joined w loads (sites (flagged generators (replicate mostBuses 0)) (replicate (w .n) 0) 0)
 
-unfoldable pub placed : Request → Outcome
-placed k =
-    let s = sitesOf k in
-    outcome (Placed (s .count)) (s .buses)
-    (sized (networkOf k) (k .loads) (s .sources) (s .buses) (s .count) (replicate (k .n) nought))
+unfoldable pub placed : Network → List Float → List ℕ → Outcome
+placed w loads generators =
+    let s = sitesBy w loads generators in
+    outcome (Placed (s .count)) (s .buses) (sized w loads (s .sources) (s .buses) (s .count) (replicate (w .n) nought))
+
+abbrev pub sitesOf : Request → Sites
+sitesOf k = sitesBy (networkOf k) (k .loads) (k .generators)
 
 -- a refusal touches nothing
 unfoldable pub answerTo : Verdict → Request → List ℕ → List Float → Outcome
-answerTo Sound k buses mvars = placed k
+answerTo Sound k buses mvars = placed (networkOf k) (k .loads) (k .generators)
 answerTo (Faulty f) k buses mvars = outcome (Refused f) buses mvars
 
 -- the operation, from the result slices that it is lent
 unfoldable pub placement : Request → List ℕ → List Float → Outcome
 placement k buses mvars = answerTo (checkOf k (length buses) (length mvars)) k buses mvars
-
--- what the two stages of placing leave
-pub record Joined (w : Network) (loads : List Float) (sources₀ buses₀ sources buses : List ℕ) (count : ℕ) : Type 0 where
-  pub all : sites sources buses count ≡ joined w loads (sites sources₀ buses₀ 0)
-  pub few : count ≤ w .n
-
-abbrev pub Placing : ℕ → ℕ → List Float → List ℕ → List ℕ → List Float → List ℕ → ℕ → List ℕ → List Float → Type 0
-Placing n m loads a b km generators count buses mvars =
-    outcome (Placed count) buses mvars ≡ placed (requestOf n m (length generators) loads a b km generators)

@@ -8,7 +8,7 @@ use Prim.Native.Nat.{ℕ, _<_}
 use lib.ListN.{getD}
 use lib.Ieee.{Float, lt, le}
 use Rattle.loops.specs.Figures.{at, plus, nought, infinity}
-use Rattle.placement.specs.Distance.{Network, Labels}
+use Rattle.placement_defs.specs.Distance.{Network, Labels}
 
 -- corridor c leads from i to j
 abbrev pub Joins : Network → ℕ → ℕ → ℕ → Type 0

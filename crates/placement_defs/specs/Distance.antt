@@ -10,7 +10,7 @@ use lib.ListN.{getD, set, replicate}
 use lib.Ieee.{Float, lt}
 use Rattle.loops.specs.Figures.{at, plus, nought, infinity}
 use Rattle.loops.specs.Loops.{iter}
-use Rattle.placement.specs.Request.{mostBuses}
+use Rattle.placement_defs.specs.Request.{mostBuses}
 
 -- the three sets, as a mark of each bus
 abbrev pub rest : ℕ

@@ -31,45 +31,52 @@ pub fn compare_joins(
     let mut outcome = Outcome::default();
     for seed in first_seed..first_seed + count {
         let (pair, _) = watch::apart(|| pair(seed));
-        let (family, input) = (pair.family, pair.input());
+        let (what, input) = (format!("seed {seed}, {}", pair.family), pair.input());
         let (first, second) = files_of(&input);
         let (joined, taken) = watch::apart(|| join_files(first, second));
         outcome.tally.branches(&taken);
         count_pair(&mut outcome.tally, &pair, &joined);
         let ours = printed(&joined);
-        let goes_on = judge(
-            program,
-            input.clone(),
-            seed,
-            &mut outcome,
-            |theirs, outcome| {
-                let what = format!("seed {seed}, {family}");
-                outcome.count(ours == theirs, || describe_bytes(&what, &ours, theirs));
-            },
-        )?;
+        let asked = input.clone();
+        let goes_on = judge(program, asked, seed, &mut outcome, |theirs, outcome| {
+            outcome.count(ours == theirs, || describe_bytes(&what, &ours, theirs));
+        })?;
         if !goes_on {
             break;
         }
-        if let Ok(joined) = joined {
-            let what = format!("seed {seed}, {family}");
-            let (apart, _) = watch::apart(|| planned_apart([first, second], &joined));
-            if let Some(apart) = apart {
-                outcome.tally.count(name("all three planned"));
-                outcome.count(apart, || format!("{what}: joined it is planned otherwise"));
-            }
-            for file in [first, second, &ours]
-                .into_iter()
-                .filter(|_| listing.is_some())
-            {
-                let theirs = printed_by(listing.expect("it is there"), file)?;
-                let (ours, _) = watch::apart(|| answer_list(file));
-                outcome.count(ours.as_bytes() == theirs, || {
-                    format!("{what}: the program lists it otherwise")
-                });
-            }
+        let Ok(joined) = joined else {
+            continue;
+        };
+        compare_plans(&what, [first, second], &joined, &mut outcome);
+        if let Some(listing) = listing {
+            compare_listings(listing, &what, [first, second, &ours], &mut outcome)?;
         }
     }
     Ok(outcome)
+}
+
+fn compare_plans(what: &str, files: [&[u8]; 2], joined: &Case, outcome: &mut Outcome) {
+    let (apart, _) = watch::apart(|| planned_apart(files, joined));
+    if let Some(apart) = apart {
+        outcome.tally.count(name("all three planned"));
+        outcome.count(apart, || format!("{what}: joined it is planned otherwise"));
+    }
+}
+
+fn compare_listings(
+    listing: &Program,
+    what: &str,
+    files: [&[u8]; 3],
+    outcome: &mut Outcome,
+) -> io::Result<()> {
+    for (file, which) in files.into_iter().zip(["first", "second", "joined"]) {
+        let theirs = printed_by(listing, file)?;
+        let (ours, _) = watch::apart(|| answer_list(file));
+        outcome.count(ours.as_bytes() == theirs, || {
+            format!("{what}: the {which} case is listed otherwise")
+        });
+    }
+    Ok(())
 }
 
 /// Whether each generator's MW is that of its own case and the grounds are

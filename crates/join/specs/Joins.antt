@@ -8,7 +8,7 @@ use lib.ListN.{length, getD}
 use Rattle.refusal.specs.declared.Answer.{Answer}
 use Rattle.refusal.specs.declared.Refusal.the-variants.{Length}
 use Rattle.mode.specs.Number.{modeNumber}
-use Rattle.casefile_defs.specs.Bounds.{mostBuses, mostCorridors, mostGenerators, mostTarget}
+use Rattle.casefile_defs.specs.Bounds.{mostLevels, mostBuses, mostCorridors, mostGenerators, mostTarget, mostSheet}
 use Rattle.casefile_defs.specs.Tables.{Places, placesOf}
 use Rattle.casefile_defs.specs.declared.Header.{Header}
 use Rattle.plan_defs.specs.Case.{Case}
@@ -20,10 +20,15 @@ use Rattle.join_defs.specs.Districts.{joinFault}
 abbrev pub Raises : ℕ → List ℕ → Type 0
 Raises by y = (i : ℕ) → i < length y → by + getD y i 0 < 2 ^ 32
 
-pub record Raised (by : ℕ) (bus a b : List ℕ) : Type 0 where
-  pub bus : Raises by bus
-  pub a : Raises by a
-  pub b : Raises by b
+pub record Raised (by : ℕ) (x y z : List ℕ) : Type 0 where
+  pub bus : Raises by x
+  pub a : Raises by y
+  pub b : Raises by z
+
+-- 1 of the joined tables, by their lengths
+abbrev pub sizesBy : ℕ → ℕ → ℕ → ℕ → ℕ → ℕ → ℕ → ℕ → ℕ → ℕ → ℕ → ℕ → ℕ → ℕ → ℕ → ℕ → ℕ → Bool
+sizesBy ladder tier reading weight bus slack pmin pmax c1 c2 a b circuits lengthKm share cap sheet =
+    (((((((((((((((eqb ladder mostLevels && eqb tier mostBuses) && eqb reading mostBuses) && eqb weight mostBuses) && eqb bus mostGenerators) && eqb slack mostGenerators) && eqb pmin mostGenerators) && eqb pmax mostGenerators) && eqb c1 mostGenerators) && eqb c2 mostGenerators) && eqb a mostCorridors) && eqb b mostCorridors) && eqb circuits mostCorridors) && eqb lengthKm mostCorridors) && eqb share mostCorridors) && eqb cap mostCorridors) && eqb sheet mostSheet
 
 -- 2: the sums are within the bounds of one case; as a test, and as facts
 abbrev pub sumsFit : Header → Header → Bool

@@ -1,11 +1,12 @@
 -- `join::join_cases` meets its contract. The check's refusals touch nothing; of what passes it the tables are the joined case's.
-use mathlib.Core.Path.{_≡_, sym, _∙_}
+use mathlib.Core.Bool.{Bool}
+use mathlib.Core.Path.{_≡_, sym, ap, _∙_}
 use native.Mathlib.Omega.{arith}
 use borrow.Author.Needs.{needs}
 use denote.Ref.{now}
 use Rattle.casefile_defs.specs.Tables.{Places, placesOf, sizesOk}
 use Rattle.join_defs.specs.Joining.{caseAs}
-use Rattle.join.specs.Joins.{checkOf}
+use Rattle.join.specs.Joins.{checkOf, tablesBy}
 use Rattle.join.proofs.Refusals.{Joinable, joinable, summed, raised}
 use Rattle.join.proofs.Whole.{refused-whole, tables-joined, joined-whole}
 use Rattle.join.proofs.join_cases.Statement.{statement}
@@ -23,17 +24,23 @@ abbrev lent : tie.Start → Places
 lent o = let z = o .args in placesOf (now (z .ladder)) (now (z .tier)) (now (z .reading)) (now (z .weight)) (now (z .bus)) (now (z .slack)) (now (z .pmin)) (now (z .pmax)) (now (z .c1)) (now (z .c2)) (now (z .a)) (now (z .b)) (now (z .circuits)) (now (z .length-km)) (now (z .share)) (now (z .cap)) (now (z .sheet))
 
 abbrev start-of : tie.After-check-both → tie.Start
-start-of c = c .before .before .before .before .before .before .before .before .before .before .before .before .before .before .before .before .before .before .before .before .before .before .before .before .before .before .before .before .before .before .before .before .before .before .before .before .before .before .before .before .before .before .before .before .before .before .before .before .before .before .before .before
+start-of c = c .before .before .before .before .before .before .before .before .before .before .before .before .before .before .before .before .before .before .before .before .before .before .before .before .before .before .before .before .before .before .before .before .before .before .before .before .before .before .before .before .before .before .before .before .before .before .before .before .before .before .before .before .before
 
 -- what the check answers
-abbrev answer-is : (c : tie.After-check-both) → let o = start-of c in
+answer-is : (c : tie.After-check-both) → let o = start-of c in
     c .check-both .result ≡ checkOf (sizesOk (lent o)) (caseAs (o .args .first) (firstAt o)) (o .args .first .target) (caseAs (o .args .second) (secondAt o)) (o .args .second .target)
 unfolding sizesOk
-answer-is c = c .check-both .ensures
+answer-is c =
+    let o = start-of c in
+    c .check-both .ensures
+    ∙ ap (λ (b : Bool). checkOf b (caseAs (o .args .first) (firstAt o)) (o .args .first .target) (caseAs (o .args .second) (secondAt o)) (o .args .second .target)) (c .before .sizes-ok .ensures)
 
 passed : (c : tie.After-enum-told) → let o = start-of (c .before .before) in
     Joinable (sizesOk (lent o)) (caseAs (o .args .first) (firstAt o)) (o .args .first .target) (caseAs (o .args .second) (secondAt o)) (o .args .second .target)
 passed c = joinable _ _ _ _ _ (sym (c .enum-told .given .1) ∙ answer-is (c .before .before))
+
+sizes-ok-requires : tie.Need-sizes-ok-requires
+sizes-ok-requires c κs = search needs
 
 check-both-requires : tie.Need-check-both-requires
 check-both-requires c κs = search needs
@@ -120,6 +127,7 @@ same-length-17 : tie.Need-same-length-17
 same-length-17 c = c .before .before .before .before .before .before .before .before .before .before .before .before .before .before .before .before .before .before .before .before .before .before .before .before .before .before .before .before .before .before .before .before .before .before .put-tables .kept .1 .1 .1 .1 .1 .1 .1 .1 .1 .1 .1 .1 .1 .1 .1 .1 .1 .1 .1 .1 .1 .1 .1 .1 .1 .1 .1 .1 .1 .1 .1 .1 .1 .1 .1 .1 .1 .1 .1 .1 .1 .1 .1 .1 .1 .1 .1 .1 .1 .1 .0
 
 returns-2 : tie.Need-returns-2
+unfolding tablesBy
 returns-2 c =
     let w = c .before .before .before .before .before .before .before .before .before .before .before .before .before .before .before .before .before .before .before .before .before .before .before .before .before .before .before .before .before .before .before .before .before .before in
     let t = w .before .before .before .before .before .before .before .before .before .before .before .before .before .before .before .before .before .before .before .before in
@@ -131,6 +139,7 @@ pub join-cases-spec : {M : Type 1} → statement M
 join-cases-spec =
     tie.close
     (tie.spec
+    sizes-ok-requires
     check-both-requires
     enum-known-f
     returns

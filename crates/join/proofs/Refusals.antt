@@ -21,7 +21,7 @@ use Rattle.plan_defs.proofs.Accepted.{Accepted, accepted, bus-below, end-a, end
 use Rattle.acceptance.specs.Check.{answerOf}
 use Rattle.join_defs.specs.Districts.{sameLadder, sumsOk, alike, orElse, joinFault}
 use Rattle.join_defs.specs.Joining.{caseAs}
-use Rattle.join.specs.Joins.{Raised, Summed, headsAlike, checkOf}
+use Rattle.join.specs.Joins.{Raises, Summed, headsAlike, checkOf}
 
 module _ (fits : Bool) (c : Case) (t : ℕ) (d : Case) (u : ℕ) where
   -- what is left after 1 to 7 of both, and of the first
@@ -100,6 +100,11 @@ module _ (fits : Bool) (c : Case) (t : ℕ) (d : Case) (u : ℕ) where
           free-by true v r = rw (y, z, w, v)
 
 -- ---- of two headers and their tables
+pub record Raised (by : ℕ) (x y z : List ℕ) : Type 0 where
+  pub bus : Raises by x
+  pub a : Raises by y
+  pub b : Raises by z
+
 module _ (fits : Bool) (h : Header) (p : Places) (k : Header) (q : Places)
     (j : Joinable fits (caseAs h p) (h .target) (caseAs k q) (k .target)) where
   pub summed : Summed h k

@@ -14,7 +14,9 @@ use casefile_defs::MOST_SHEET;
 use casefile_defs::Reading;
 use check::check_both;
 use refusal::Answer;
-use tables::put_tables;
+use tables::put_buses;
+use tables::put_corridors;
+use tables::put_generators;
 
 mod check;
 mod columns;
@@ -207,18 +209,42 @@ pub fn join_cases(
     }
     let h = joined_header(first, second);
     let n = narrow(first.buses);
-    put_tables(
-        n,
+    put_buses(
         first_ladder,
         first_tier,
         first_reading,
         first_weight,
+        second_tier,
+        second_reading,
+        second_weight,
+        ladder,
+        tier,
+        reading,
+        weight,
+    );
+    put_generators(
+        n,
         first_bus,
         first_slack,
         first_pmin,
         first_pmax,
         first_c1,
         first_c2,
+        second_bus,
+        second_slack,
+        second_pmin,
+        second_pmax,
+        second_c1,
+        second_c2,
+        bus,
+        slack,
+        pmin,
+        pmax,
+        c1,
+        c2,
+    );
+    put_corridors(
+        n,
         first_a,
         first_b,
         first_circuits,
@@ -226,15 +252,6 @@ pub fn join_cases(
         first_share,
         first_cap,
         first_sheet,
-        second_tier,
-        second_reading,
-        second_weight,
-        second_bus,
-        second_slack,
-        second_pmin,
-        second_pmax,
-        second_c1,
-        second_c2,
         second_a,
         second_b,
         second_circuits,
@@ -242,16 +259,6 @@ pub fn join_cases(
         second_share,
         second_cap,
         second_sheet,
-        ladder,
-        tier,
-        reading,
-        weight,
-        bus,
-        slack,
-        pmin,
-        pmax,
-        c1,
-        c2,
         a,
         b,
         circuits,

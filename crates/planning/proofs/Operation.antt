@@ -3,13 +3,10 @@ use mathlib.Core.Bool.{Bool, true, false, not, _&&_}
 use mathlib.Core.List.{List}
 use mathlib.Core.Option.{Option}
 use mathlib.Core.Path.{_≡_, refl, sym, ap, _∙_, subst}
-use Prim.Native.Nat.{ℕ, _-_, _≤_}
-use native.Mathlib.Nat.{sub-zero}
+use Prim.Native.Nat.{ℕ, _≤_}
 use native.Mathlib.Omega.{arith}
 use lib.ListN.{length, take, replicate}
 use lib.Ieee.{Float}
-use Rattle.loads.specs.Load.{loadsOf}
-use Rattle.loads.proofs.One.{loads-front}
 use Rattle.refusal.specs.declared.Refusal.{Refusal}
 use Rattle.refusal.specs.declared.Answer.{Answer}
 use Rattle.refusal.specs.declared.Answer.the-variants.{Answered as Accepted, Refused as Unaccepted}
@@ -31,11 +28,6 @@ use Rattle.planning.specs.Plan.{WholeAs, PlanDone, Lendable}
 use Rattle.planning.specs.declared.plan.PlanRun.{PlanRun}
 use Rattle.planning.proofs.Liftings.{finished-refused, finished-answered}
 use Rattle.planning.proofs.Sounds.{sound, lengths-of, kept-lengths, refused-outcome, passed, placesOf, tablesOf}
-
--- the loads are lent by their end less their start, which is 0
-pub loads-lent : (n : ℕ) (reading weight load : List Float) → load ≡ loadsOf mostBuses reading weight → n ≤ mostBuses → take (n - 0) load ≡ loadsOf n reading weight
-loads-lent n reading weight load e h =
-    ap (take (n - 0)) e ∙ ap (λ (k : ℕ). take k (loadsOf mostBuses reading weight)) (sub-zero n) ∙ loads-front mostBuses n reading weight h
 
 module _ (c : Case) (target : ℕ) (s : Slices) where
   -- ---- what is promised: the defined outcome, and of an answer demand 3

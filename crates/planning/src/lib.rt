@@ -33,10 +33,10 @@ mod stiffen;
 mod top_up;
 
 // The circuits of each corridor, with their flows and ratings, the dispatch, the angles, the tiers, the grounds and the levels added,
-// for a case of n buses, m corridors and g generators; a bus's load is its reading times its weight, rounded once; `cap` has the corridors' own caps, 0 for none. `before` and `order` are what a
-// plan keeps of filling, also where nothing is filled: the circuits with which it begins and the order of the corridors; zero in a
-// mode that does not fill. `kept_cap` keeps the own caps, in every mode. Refusals 1 to 7 touch nothing; after 8 and 9 every place is
-// zero; after an answer the work, `figures` and `counts`, is zero.
+// for a case of n buses, m corridors and g generators. A bus's load is its reading times its weight, rounded once; `cap` has the
+// corridors' own caps, 0 for none. `before` and `order` are what a plan keeps of filling, also where nothing is filled: the circuits
+// with which it begins and the order of the corridors; zero in a mode that does not fill. `kept_cap` keeps the own caps, in every
+// mode. Refusals 1 to 7 touch nothing; after 8 and 9 every place is zero; after an answer the work, `figures` and `counts`, is zero.
 pub fn plan_corridors(
     mode: PlanMode,
     target: u32,

@@ -4,6 +4,7 @@ use Prim.Native.Nat.{_-_, _≤_}
 use mathlib.Core.Path.{_≡_, sym, _∙_}
 use borrow.Author.Tests.{not-true, not-false}
 use native.Mathlib.Omega.{arith}
+use denote.Ref.{now}
 use lib.ListN.{length}
 use borrow.Author.Needs.{needs}
 use Rattle.loops.specs.Loops.{first}
@@ -47,7 +48,8 @@ bus-ok-requires c κs = search needs
 returns : tie.Need-returns Inv-loop μ-loop
 returns c =
     let l = c .before .before .before .before .before .before in
-    sym (first-stop _ _ (l .loop .i) (omega arith) (sym (bus-is _ _ _ _ (l .loop .i) _ (omega arith) (c .before .bus-ok .ensures)) ∙ not-true _ (c .if1 .taken))) ∙ l .loop .inv .1
+    let z = l .before .before .before .before .args in
+    sym (first-stop _ _ (l .loop .i) (omega arith) (sym (bus-is (z .requested) (now (z .tier)) (now (z .reading)) (now (z .weight)) (l .loop .i) _ (omega arith) (c .before .bus-ok .ensures)) ∙ not-true _ (c .if1 .taken))) ∙ l .loop .inv .1
 
 add-i : tie.Need-add-i Inv-loop μ-loop
 add-i c = search needs
@@ -58,7 +60,8 @@ loop-less c = search needs
 loop-again : tie.Need-loop-again Inv-loop μ-loop
 loop-again c =
     let l = c .before .before .before .before .before .before in
-    (omega arith, sym (first-pass _ _ (l .loop .i) (omega arith) (sym (bus-is _ _ _ _ (l .loop .i) _ (omega arith) (c .before .bus-ok .ensures)) ∙ not-false _ (c .if1 .left))) ∙ l .loop .inv .1)
+    let z = l .before .before .before .before .args in
+    (omega arith, sym (first-pass _ _ (l .loop .i) (omega arith) (sym (bus-is (z .requested) (now (z .tier)) (now (z .reading)) (now (z .weight)) (l .loop .i) _ (omega arith) (c .before .bus-ok .ensures)) ∙ not-false _ (c .if1 .left))) ∙ l .loop .inv .1)
 
 returns-2 : tie.Need-returns-2 Inv-loop μ-loop
 returns-2 c = sym (first-end _ _ (c .before .loop .i) (omega arith)) ∙ c .before .loop .inv .1

@@ -48,10 +48,9 @@ pub fn draft(shape: Shape) -> Case {
         ..Case::default()
     };
     for i in 0..shape.buses {
-        case.buses.push(Bus {
-            tier: shape.ladder.len() as u8 - 1,
-            load: 1.0 + (shape.load - 1.0) * draws.next(),
-        });
+        let load = 1.0 + (shape.load - 1.0) * draws.next();
+        let tier = shape.ladder.len() as u8 - 1;
+        case.buses.push(Bus::plain(tier, load));
         if i % 8 == 0 {
             case.generators.push(Generator {
                 bus: i as u16,

@@ -178,11 +178,13 @@ fn compare_leaders(what: &str, net: &Net, runs: usize) {
 
 // ---- placement
 
-/// A load of 1 MW and more at each bus, and so many generators, evenly spread.
+/// A load of 1 MW and more at each bus, some of them by a weight, and so many generators, evenly spread.
 fn support(net: &Net, generators: usize) -> Support {
     let mut draws = Draws::new(generators);
     Support {
-        loads: (0..net.buses).map(|_| 1.0 + draws.next()).collect(),
+        buses: (0..net.buses)
+            .map(|bus| (1.0 + draws.next(), [1.0, 1.25][bus % 2]))
+            .collect(),
         corridors: net
             .ends
             .iter()
@@ -196,7 +198,7 @@ fn support(net: &Net, generators: usize) -> Support {
 }
 
 fn placement_agrees(what: &str, q: &Support) -> PlacementSaid {
-    let n = q.loads.len();
+    let n = q.buses.len();
     let (mut buses, mut mvars) = (vec![7; n], vec![7.0; n]);
     let port = columns(q).place(&mut buses, &mut mvars);
     let rust = operations::placement(q);
@@ -225,7 +227,8 @@ fn placement_agrees(what: &str, q: &Support) -> PlacementSaid {
 
 fn columns(q: &Support) -> PlacementColumns {
     PlacementColumns {
-        loads: q.loads.clone(),
+        reading: q.buses.iter().map(|bus| bus.0).collect(),
+        weight: q.buses.iter().map(|bus| bus.1).collect(),
         a: q.corridors.iter().map(|c| c.0 as u32).collect(),
         b: q.corridors.iter().map(|c| c.1 as u32).collect(),
         km: q.corridors.iter().map(|c| c.2).collect(),
@@ -235,10 +238,10 @@ fn columns(q: &Support) -> PlacementColumns {
 
 /// The published code's tables.
 fn draft(q: &Support) -> (Vec<DraftBus>, Vec<Corridor>, Vec<DraftGenerator>) {
-    let bus = |&load_mw: &f64| DraftBus {
+    let bus = |&(reading, weight): &(f64, f64)| DraftBus {
         tier: 0,
         base_kv: 0.0,
-        load_mw,
+        load_mw: reading * weight,
     };
     let corridor = |&(a, b, length_km): &(usize, usize, f64)| Corridor {
         a,
@@ -259,7 +262,7 @@ fn draft(q: &Support) -> (Vec<DraftBus>, Vec<Corridor>, Vec<DraftGenerator>) {
         condenser: false,
     };
     (
-        q.loads.iter().map(bus).collect(),
+        q.buses.iter().map(bus).collect(),
         q.corridors.iter().map(corridor).collect(),
         q.generator_buses.iter().map(generator).collect(),
     )

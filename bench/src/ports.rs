@@ -76,8 +76,10 @@ extern "C" {
         ladder_len: usize,
         tier: *mut u32,
         tier_len: usize,
-        load: *mut f64,
-        load_len: usize,
+        reading: *mut f64,
+        reading_len: usize,
+        weight: *mut f64,
+        weight_len: usize,
         generator_bus: *mut u32,
         generator_bus_len: usize,
         slack: *mut u32,
@@ -145,8 +147,10 @@ extern "C" {
         n: usize,
         m: usize,
         g: usize,
-        loads: *const f64,
-        loads_len: usize,
+        reading: *const f64,
+        reading_len: usize,
+        weight: *const f64,
+        weight_len: usize,
         a: *const u32,
         a_len: usize,
         b: *const u32,
@@ -201,7 +205,7 @@ pub fn dc_angles(q: &Request, result: &mut [f64], work: &mut [f64]) -> AnglesSai
 
 /// The tables of a case at their largest size.
 pub struct Tables {
-    /// Ladder, loads, pmin, pmax, c1, c2, lengths, shares, the sheet.
+    /// Ladder, readings, weights, pmin, pmax, c1, c2, lengths, shares, the sheet.
     pub figures: Vec<Vec<f64>>,
     /// Tiers, the generators' buses, slack, the corridors' two ends, circuits, caps.
     pub wholes: Vec<Vec<u32>>,
@@ -209,7 +213,7 @@ pub struct Tables {
 
 impl Tables {
     pub fn new() -> Self {
-        let figures = [5, 256, 128, 128, 128, 128, 256, 256, 6400];
+        let figures = [5, 256, 256, 128, 128, 128, 128, 256, 256, 6400];
         let wholes = [256, 128, 128, 256, 256, 256, 256];
         Self {
             figures: figures.iter().map(|&n| vec![0.0; n]).collect(),
@@ -239,32 +243,34 @@ pub fn read_case(file: &[u8], t: &mut Tables) -> ReadingSaid {
             w[0].1,
             f[1].0,
             f[1].1,
+            f[2].0,
+            f[2].1,
             w[1].0,
             w[1].1,
             w[2].0,
             w[2].1,
-            f[2].0,
-            f[2].1,
             f[3].0,
             f[3].1,
             f[4].0,
             f[4].1,
             f[5].0,
             f[5].1,
+            f[6].0,
+            f[6].1,
             w[3].0,
             w[3].1,
             w[4].0,
             w[4].1,
             w[5].0,
             w[5].1,
-            f[6].0,
-            f[6].1,
             f[7].0,
             f[7].1,
-            w[6].0,
-            w[6].1,
             f[8].0,
             f[8].1,
+            w[6].0,
+            w[6].1,
+            f[9].0,
+            f[9].1,
         )
     }
 }
@@ -328,7 +334,8 @@ pub fn leaders(a: &[u32], b: &[u32], leader: &mut [u32]) -> AnswerSaid {
 
 /// What placement is asked, in the port's columns.
 pub struct PlacementColumns {
-    pub loads: Vec<f64>,
+    pub reading: Vec<f64>,
+    pub weight: Vec<f64>,
     pub a: Vec<u32>,
     pub b: Vec<u32>,
     pub km: Vec<f64>,
@@ -340,11 +347,13 @@ impl PlacementColumns {
     pub fn place(&self, buses: &mut [u32], mvars: &mut [f64]) -> PlacementSaid {
         unsafe {
             lopnaski_place_voltage_support(
-                self.loads.len(),
+                self.reading.len(),
                 self.a.len(),
                 self.generators.len(),
-                self.loads.as_ptr(),
-                self.loads.len(),
+                self.reading.as_ptr(),
+                self.reading.len(),
+                self.weight.as_ptr(),
+                self.weight.len(),
                 self.a.as_ptr(),
                 self.a.len(),
                 self.b.as_ptr(),

@@ -34,7 +34,7 @@ fn case(buses: u16, corridors: u16, generators: u16, levels: u8) -> Vec<u8> {
         record(&mut file, b"LV", &[&figure(500.0 - 50.0 * level as f64)]);
     }
     for i in 0..buses {
-        record(&mut file, b"BU", &[&[0], &figure(i as f64)]);
+        record(&mut file, b"BV", &[&[0], &figure(i as f64), &figure(1.25)]);
     }
     for _ in 0..generators {
         record(
@@ -124,15 +124,16 @@ fn tables_of(answer: &Result<Case, Refusal>) -> Tables {
         tables.figures[k][..column.len()].copy_from_slice(&column);
     };
     figures(0, case.ladder.clone());
-    figures(1, case.buses.iter().map(|b| b.load).collect());
-    figures(2, case.generators.iter().map(|g| g.pmin).collect());
-    figures(3, case.generators.iter().map(|g| g.pmax).collect());
-    figures(4, case.generators.iter().map(|g| g.c1).collect());
-    figures(5, case.generators.iter().map(|g| g.c2).collect());
-    figures(6, case.corridors.iter().map(|c| c.length).collect());
-    figures(7, case.corridors.iter().map(|c| c.share).collect());
+    figures(1, case.buses.iter().map(|b| b.reading).collect());
+    figures(2, case.buses.iter().map(|b| b.weight).collect());
+    figures(3, case.generators.iter().map(|g| g.pmin).collect());
+    figures(4, case.generators.iter().map(|g| g.pmax).collect());
+    figures(5, case.generators.iter().map(|g| g.c1).collect());
+    figures(6, case.generators.iter().map(|g| g.c2).collect());
+    figures(7, case.corridors.iter().map(|c| c.length).collect());
+    figures(8, case.corridors.iter().map(|c| c.share).collect());
     let row = |l: &Line| [l.r, l.x, l.b, l.rate, l.basis.into()];
-    figures(8, case.sheet.iter().flat_map(row).collect());
+    figures(9, case.sheet.iter().flat_map(row).collect());
     let mut wholes = |k: usize, column: Vec<u32>| {
         tables.wholes[k][..column.len()].copy_from_slice(&column);
     };
@@ -181,6 +182,14 @@ fn compare(what: &str, file: &[u8], runs: usize) {
 pub fn run() {
     let mut damaged = case(3, 2, 1, 2);
     assert_eq!(agree("cut", &damaged[..damaged.len() - 1]), (14, 12));
+    let second = 15 + 2 * 10 + 19;
+    let mut mixed = damaged.clone();
+    mixed[second + 1] = b'U';
+    mixed.drain(second + 11..second + 19);
+    assert_eq!(agree("two forms", &mixed), (15, 4));
+    mixed[second - 18] = b'U';
+    mixed.drain(second - 8..second);
+    assert_eq!(agree("the other way round", &mixed), (15, 5));
     damaged[15] = b'X';
     assert_eq!(agree("a wrong mark", &damaged), (15, 1));
     let mut small = case(2, 1, 1, 1);

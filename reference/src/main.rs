@@ -8,7 +8,7 @@ use reference::compare::{
     Outcome, Program, LIMIT,
 };
 use reference::differences::sheet_differences;
-use reference::generate::cases::{case_file, serving_file};
+use reference::generate::cases::{case_file, ones_file, serving_file, without_weights};
 use reference::generate::requests::{as_input, batch, KINDS};
 use reference::generate::seasons::{as_blocks, season};
 use reference::harness::answers::answer_all;
@@ -31,7 +31,7 @@ const USAGE: &str = "usage:
   reference case SEED
   reference serving SEED                                     a case in modes 3 to 5
   reference compare-answers PROGRAM KIND FIRST_SEED BATCHES COUNTS
-  reference compare-cases PROGRAM list|read|serve FIRST_SEED COUNT COUNTS
+  reference compare-cases PROGRAM list|read|serve|ones FIRST_SEED COUNT COUNTS
   reference compare-padded PROGRAM                           padded files made by hand, read by both
   reference compare-targets PROGRAM FIRST_SEED COUNT          each Expand case under several targets
   reference season                                           case files on standard input, 65,536 bytes each
@@ -113,6 +113,9 @@ fn run(words: &[&str]) -> Result<(), Failure> {
                 "list" => ("list", case_file, answer_list),
                 "read" => ("read", case_file, answer_read),
                 "serve" => ("serve", serving_file, answer_list),
+                "ones" => ("ones", ones_file, |file| {
+                    answer_list(&without_weights(file))
+                }),
                 _ => return Err(Failure::Usage),
             };
             let outcome = compare_cases(&program, asking, number(first)?, number(count)?)?;

@@ -100,6 +100,22 @@ const SHAPES: &[(&str, TestOf<Case>)] = &[
     ("every corridor a CP", |case| {
         !case.corridors.is_empty() && case.corridors.iter().all(CorridorRecord::is_capped)
     }),
+    ("every bus a BV", |case| {
+        case.buses.iter().any(|bus| bus.weighed)
+    }),
+    ("every weight 1", |case| {
+        !case.buses.is_empty()
+            && case
+                .buses
+                .iter()
+                .all(|bus| bus.weighed && bus.weight == 1.0)
+    }),
+    ("weights other than 1", |case| {
+        case.buses.iter().any(|bus| bus.weight != 1.0)
+    }),
+    ("weights and own caps", |case| {
+        case.buses.iter().any(|bus| bus.weight != 1.0) && case.corridors.iter().any(|c| c.cap > 0)
+    }),
     ("an own cap below the initial count", |case| {
         let below = |c: &CorridorRecord| 0 < c.cap && c.cap < c.circuits;
         case.corridors.iter().any(below)

@@ -27,10 +27,11 @@ pub fn theorem(file: &[u8]) -> Option<String> {
     let (listing, taken) = apart(|| answer_list(file));
     let mode = MODES[usize::from(case.mode)];
     Some(format!(
-        "{}-- By evaluation.\n{}{}{}",
+        "{}-- By evaluation.\n{}{}{}{}",
         happenings(&case, &listing, &taken),
         uses(mode),
         given(&case, mode),
+        weighed(&case),
         listed(&case, &listing)
     ))
 }
@@ -68,7 +69,7 @@ use mathlib.Core.Path.{{_≡_, refl}}
 use Rattle.mode.specs.declared.PlanMode.the-variants.{{{mode}}}
 use Rattle.plan_defs.specs.Case.{{Case}}
 use Rattle.plan_defs.specs.Listing.{{listingOf}}
-use Rattle.plan_cases.proofs.Figures.{{figures}}
+use Rattle.plan_cases.proofs.Figures.{{figures, loadBits}}
 "
     )
 }
@@ -84,9 +85,12 @@ fn whole<T: Into<u32>>(numbers: impl Iterator<Item = T>) -> String {
     list(numbers.map(|n| n.into().to_string()))
 }
 
+fn bits(figures: impl Iterator<Item = f64>) -> String {
+    list(figures.map(|v| hex(&format!("{:016X}", v.to_bits()))))
+}
+
 fn figures(figures: impl Iterator<Item = f64>) -> String {
-    let bits = figures.map(|v| hex(&format!("{:016X}", v.to_bits())));
-    format!("figures ({})", list(bits))
+    format!("figures ({})", bits(figures))
 }
 
 /// A figure of the listing as a number: its sixteen digits in fours.
@@ -115,7 +119,9 @@ fn given(case: &Case, mode: &str) -> String {
         ("requested", case.requested().to_string()),
         ("ladder", figures(case.ladder.iter().copied())),
         ("tier", whole(buses.iter().map(|bus| bus.tier))),
-        ("load", figures(buses.iter().map(|bus| bus.load))),
+        ("reading", figures(buses.iter().map(|bus| bus.reading))),
+        ("weight", figures(buses.iter().map(|bus| bus.weight))),
+        ("load", figures(buses.iter().map(|bus| bus.load()))),
         ("bus", whole(units.iter().map(|g| g.bus))),
         ("slack", whole(units.iter().map(|g| g.slack))),
         ("pmin", figures(units.iter().map(|g| g.pmin))),
@@ -141,6 +147,12 @@ fn given(case: &Case, mode: &str) -> String {
         writeln!(text, "      {name} = {value};").expect("text grows");
     }
     text + "    }\n"
+}
+
+/// That the case's loads are what its readings and weights make.
+fn weighed(case: &Case) -> String {
+    let loads = bits(case.buses.iter().map(|bus| bus.load()));
+    format!("\npub weighed : loadBits given ≡ {loads}\nunfolding listingOf\nweighed = refl\n")
 }
 
 /// One field of all lines of the listing that have this mark; the mark is field 0.

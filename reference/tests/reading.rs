@@ -1,7 +1,7 @@
 //! Case reading: the refusals and their indices.
 
 use reference::generate::cases::padding::padded_files;
-use reference::generate::cases::{case_file, CAPPED};
+use reference::generate::cases::{case_file, ones_file, without_weights, CAPPED, WEIGHED};
 use reference::harness::case_file::{answer_read, looks, read_case, write_case, MOST_BYTES};
 use reference::harness::case_text::parse_text;
 use reference::harness::listing::answer_list;
@@ -19,9 +19,15 @@ fn refused(file: &[u8]) -> (u32, usize) {
     (number, index)
 }
 
+/// Some of each range.
+fn seeds() -> impl Iterator<Item = u64> {
+    let from = [0, CAPPED, WEIGHED];
+    from.into_iter().flat_map(|first| first..first + 300)
+}
+
 #[test]
 fn a_case_and_its_file() {
-    for seed in (0..300).chain(CAPPED..CAPPED + 300) {
+    for seed in seeds() {
         let file = case_file(seed).bytes;
         if let Ok(case) = read_case(&file) {
             let written = write_case(&case);
@@ -114,6 +120,73 @@ fn a_cap_is_read_as_it_stands() {
         assert!(text.contains(&format!("3FF0000000000000 {cap}\nCO 0 1 1 ")));
         assert_eq!(answer_list(&file).starts_with("RF 6 0"), cap > 6);
     }
+}
+
+/// A case of three buses with the marks `marks`, so many bytes of it from the
+/// second bus on.
+fn cut_bus(marks: [&[u8; 2]; 3], bytes: usize) -> Vec<u8> {
+    let mut file = b"HD\x02\0\0\0\0\x03\0\0\0\0\0\0\x01LV".to_vec();
+    file.extend(138f64.to_le_bytes());
+    let mut second = 0;
+    for (place, mark) in marks.into_iter().enumerate() {
+        if place == 1 {
+            second = file.len();
+        }
+        file.extend(mark);
+        file.push(0);
+        file.extend(50f64.to_le_bytes());
+        if mark == b"BV" {
+            file.extend(2f64.to_le_bytes());
+        }
+    }
+    file.truncate(second + bytes);
+    file
+}
+
+#[test]
+fn a_bus_is_as_long_as_its_mark_says() {
+    for (marks, bytes, refusal) in [
+        // The second bus is record 3.
+        ([b"BV", b"BV", b"BV"], 10, (14, 3)),
+        ([b"BV", b"BV", b"BV"], 18, (14, 3)),
+        ([b"BV", b"BV", b"BV"], 19, (14, 4)),
+        ([b"BU", b"BV", b"BU"], 18, (14, 3)),
+        ([b"BU", b"BV", b"BU"], 19, (15, 3)),
+        ([b"BV", b"BU", b"BV"], 10, (14, 3)),
+        ([b"BV", b"BU", b"BV"], 11, (15, 3)),
+        ([b"BV", b"BW", b"BV"], 10, (14, 3)),
+        ([b"BV", b"BW", b"BV"], 11, (15, 3)),
+        ([b"BV", b"CP", b"BV"], 11, (15, 3)),
+        ([b"BU", b"BU", b"BV"], 11 + 18, (14, 4)),
+        ([b"BU", b"BU", b"BV"], 11 + 19, (15, 4)),
+        ([b"BV", b"BV", b"BU"], 19 + 10, (14, 4)),
+        ([b"BV", b"BV", b"BU"], 19 + 11, (15, 4)),
+    ] {
+        let file = cut_bus(marks, bytes);
+        assert_eq!(refused(&file), refusal, "{marks:?}, {bytes} bytes");
+    }
+}
+
+#[test]
+fn reading_and_weight_are_printed_as_they_stand() {
+    let text = answer_read(&cut_bus([b"BV"; 3], 100));
+    assert!(text.contains("\nBU 0 4049000000000000 4000000000000000\n"));
+    let text = answer_read(&cut_bus([b"BU"; 3], 100));
+    assert!(text.contains("\nBU 0 4049000000000000 3FF0000000000000\n"));
+}
+
+#[test]
+fn with_weight_one_a_file_is_listed_as_with_none() {
+    let mut weighed = 0;
+    for seed in seeds().filter(|&seed| seed < WEIGHED) {
+        let (plain, ones) = (case_file(seed).bytes, ones_file(seed).bytes);
+        assert_eq!(answer_list(&plain), answer_list(&ones), "seed {seed}");
+        if let Ok(case) = read_case(&plain) {
+            assert_eq!(without_weights(&ones), write_case(&case), "seed {seed}");
+            weighed += usize::from(!case.buses.is_empty() && plain != ones);
+        }
+    }
+    assert!(weighed > 400);
 }
 
 #[test]

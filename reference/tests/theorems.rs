@@ -1,6 +1,6 @@
 //! A case as text, and its theorem.
 
-use reference::generate::cases::{case_file, CAPPED};
+use reference::generate::cases::{case_file, CAPPED, WEIGHED};
 use reference::harness::case_file::{read_case, write_case};
 use reference::harness::case_text::{parse_text, print_text};
 use reference::theorem::theorem;
@@ -16,7 +16,8 @@ fn without_nan(text: &str) -> bool {
 #[test]
 fn text_is_read_back_as_the_same_case() {
     let mut read = 0;
-    for seed in (0..400).chain(CAPPED..CAPPED + 400) {
+    let ranges = [0, CAPPED, WEIGHED];
+    for seed in ranges.into_iter().flat_map(|first| first..first + 400) {
         let Ok(case) = read_case(&case_file(seed).bytes) else {
             continue;
         };
@@ -27,7 +28,7 @@ fn text_is_read_back_as_the_same_case() {
             read += 1;
         }
     }
-    assert!(read > 400);
+    assert!(read > 700);
 }
 
 #[test]
@@ -36,6 +37,8 @@ fn other_text_is_no_case() {
         CASE_L.replace("LV 138\n", ""),
         CASE_L.replace("BU 0 50", "BU 0"),
         CASE_L.replace("BU 0 50", "GE 0 50"),
+        CASE_L.replace("BU 0 50", "BV 0 50"),
+        CASE_L.replace("BU 0 50", "BU 0 50 1"),
         CASE_L.replace("CO 0 1 1 10 1", "CP 0 1 1 10 1"),
         CASE_L.replace("CO 0 1 1 10 1", "CO 0 1 1 10 1 3"),
         CASE_L.replace("0.25", "a quarter"),

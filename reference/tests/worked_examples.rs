@@ -19,13 +19,7 @@ fn case_l() -> Case {
         target: 0,
         above: 0,
         ladder: vec![138.0],
-        buses: vec![
-            Bus { tier: 0, load: 0.0 },
-            Bus {
-                tier: 0,
-                load: 50.0,
-            },
-        ],
+        buses: vec![Bus::plain(0, 0.0), Bus::plain(0, 50.0)],
         generators: vec![Generator {
             bus: 0,
             slack: 1,
@@ -115,10 +109,7 @@ fn example_6_both_ends_rise_above_the_higher() {
     case.mode = EXPAND;
     case.ladder = vec![765.0, 345.0, 138.0, 69.0];
     case.buses[0].tier = 1;
-    case.buses[1] = Bus {
-        tier: 3,
-        load: 500.0,
-    };
+    case.buses[1] = Bus::plain(3, 500.0);
     case.generators[0].pmax = 1_000.0;
     // Carried by three lines at 345 kV, or by one at 765 kV.
     let line = |x, rate| Line {
@@ -146,7 +137,7 @@ fn example_7_caps() {
         let mut case = case_l();
         case.mode = mode;
         case.ladder = vec![kv];
-        case.buses[1].load = 1e4;
+        case.buses[1].reading = 1e4;
         case.generators[0].pmax = 1e4;
         case.sheet[0].x = 1e-4;
         planned(&case).plan.circuits[0]
@@ -162,7 +153,7 @@ fn example_8_filling() {
         let mut case = case_l();
         case.mode = EXPAND;
         case.target = target;
-        case.buses = vec![Bus { tier: 0, load: 0.0 }; 4];
+        case.buses = vec![Bus::plain(0, 0.0); 4];
         case.corridors = [(1, 10.0), (4, 20.0), (2, 30.0)]
             .iter()
             .enumerate()
@@ -194,7 +185,7 @@ fn own_caps_in_sizing() {
     let sized = |mode, cap, above: usize| {
         let mut case = case_l();
         case.mode = mode;
-        case.buses[1].load = 700.0;
+        case.buses[1].reading = 700.0;
         case.generators[0].pmax = 1_000.0;
         case.corridors[0].cap = cap;
         case.sheet[0].x = 1e-3;
@@ -238,7 +229,7 @@ fn example_9_injection_at_the_ground_only() {
 fn example_10_condensers() {
     let placed = |km, load| {
         placement(&Support {
-            loads: vec![0.0, 0.0, load],
+            buses: vec![(0.0, 1.0), (0.0, 1.0), (load, 1.0)],
             corridors: vec![(0, 1, km), (1, 2, km)],
             generator_buses: vec![0],
         })
@@ -274,9 +265,61 @@ fn the_angles_of_a_unit_solve_count() {
     let mut case = case_l();
     case.sheet[0].r = 1e154;
     case.sheet[0].x = 1e-5;
-    case.buses[1].load = 1e-150;
+    case.buses[1].reading = 1e-150;
     case.mode = EXPAND;
     assert_eq!(plan_case(&case).err(), Some(Refusal::new(9, 0)));
     case.mode = REINFORCE;
     assert!(plan_case(&case).is_ok());
+}
+
+/// Case L whose second bus has this reading and weight.
+fn weighed(reading: f64, weight: f64) -> Case {
+    let mut case = case_l();
+    case.buses[1] = Bus {
+        reading,
+        weight,
+        weighed: true,
+        ..case.buses[1]
+    };
+    case
+}
+
+#[test]
+fn a_load_is_the_reading_times_its_weight_rounded_once() {
+    for (reading, weight) in [(25.0, 2.0), (50.0, 1.0), (0.1, 500.0), (0.3, 0.1)] {
+        let dispatch = planned(&weighed(reading, weight)).plan.dispatch;
+        assert_eq!(dispatch, [reading * weight]);
+    }
+}
+
+#[test]
+fn readings_weights_and_products_that_are_refused() {
+    for (reading, weight) in [
+        (-0.0, 2.0),
+        (0.0, 1000.0),
+        (1e6, 1.0),
+        (1000.0, 1000.0),
+        (1e-200, 1e-200),
+        (1e6, 5e-324),
+    ] {
+        let refused = plan_case(&weighed(reading, weight)).err();
+        assert_ne!(refused.map(|r| r.number), Some(4), "{reading} {weight}");
+    }
+    for (reading, weight) in [
+        (50.0, 0.0),
+        (50.0, -0.0),
+        (0.0, 1000f64.next_up()),
+        (50.0, -1.0),
+        (50.0, f64::NAN),
+        (50.0, f64::INFINITY),
+        (1e6f64.next_up(), 0.5),
+        (-5e-324, 1.0),
+        (f64::NAN, 1.0),
+        (f64::INFINITY, 1e-3),
+        (1e6, 1f64.next_up()),
+        (1001.0, 1000.0),
+    ] {
+        let refused = plan_case(&weighed(reading, weight)).err();
+        assert_eq!(refused, Some(Refusal::new(4, 1)), "{reading} {weight}");
+    }
 }

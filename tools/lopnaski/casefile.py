@@ -26,12 +26,16 @@ FIELDS = {
     "HD": (("mode", "B"), ("target", "I"), ("buses", "H"), ("corridors", "H"), ("generators", "H"), ("above", "B"), ("requested", "B")),
     "LV": (("kv", "Q"),),
     "BU": (("tier", "B"), ("load", "Q")),
+    # A bus whose reading has a weight (document 02, K6), of which its load is the product. All buses of a file are BU, or all are BV.
+    "BV": (("tier", "B"), ("reading", "Q"), ("weight", "Q")),
     "GE": (("bus", "H"), ("slack", "B"), ("pmin", "Q"), ("pmax", "Q"), ("c1", "Q"), ("c2", "Q")),
     "CO": CORRIDOR,
     # A corridor with a cap of its own (document 02, K5), which may stand for any CO.
     "CP": CORRIDOR + (("cap", "B"),),
     "LN": (("r", "Q"), ("x", "Q"), ("b", "Q"), ("rate", "Q"), ("basis", "B")),
 }
+# Marks that may stand where another is due.
+OTHERS = {"BU": "BV", "CO": "CP"}
 WIDEST = {"B": 0xFF, "H": 0xFFFF, "I": 0xFFFFFFFF}
 # The fields of which reading refuses a number above a bound (16).
 SMALL = {"HD": ("mode", 5), "GE": ("slack", 1), "LN": ("basis", 1)}
@@ -48,7 +52,7 @@ class Refusal(Exception):
 
 
 class Case:
-    """What a case file holds. A record is the list of its fields, in the file's order; a corridor has the fields of CO or of CP."""
+    """What a case file holds. A record is the list of its fields, in the file's order; a bus has the fields of BU or of BV, a corridor those of CO or of CP."""
 
     def __init__(self, header):
         self.header = header
@@ -75,6 +79,22 @@ class Case:
         """A whole number of the record at `place` of its table."""
         return self.records[mark][place][place_of(mark, field)]
 
+    def is_weighed(self):
+        """Whether the buses are BV."""
+        return any(mark_of("BU", fields) == "BV" for fields in self.records["BU"])
+
+    def reading(self, bus):
+        """What the survey clerk called at a bus, MW; a BU's load."""
+        return of_bits(self.records["BU"][bus][1])
+
+    def weight(self, bus):
+        """What a bus's reading counts for; 1 in a BU."""
+        fields = self.records["BU"][bus]
+        return of_bits(fields[2]) if mark_of("BU", fields) == "BV" else 1.0
+
+    def load(self, bus):
+        """A bus's load, MW."""
+        return self.reading(bus) * self.weight(bus)
 
     def cap(self, corridor):
         """A corridor's own cap, 0 where it has none."""
@@ -101,13 +121,13 @@ def size(mark):
 
 
 def mark_of(mark, fields):
-    """The mark that a record of a table is written with: a corridor's by its fields."""
-    return "CP" if mark == "CO" and len(fields) == len(FIELDS["CP"]) else mark
+    """The mark that a record of a table is written with: a bus's and a corridor's by its fields."""
+    return next(stands for stands in marks_of(mark) if len(fields) == len(FIELDS[stands]))
 
 
 def marks_of(mark):
     """The marks that may stand where one is due."""
-    return ("CO", "CP") if mark == "CO" else (mark,)
+    return (mark, OTHERS[mark]) if mark in OTHERS else (mark,)
 
 
 def tables_of(header):
@@ -162,9 +182,11 @@ def read(data):
     record = 1
     for mark, count in tables_of(header):
         for _ in range(count):
-            stands = "CP" if mark == "CO" and data[at : at + 2] == b"CP" else mark
+            stands = next((other for other in marks_of(mark) if data[at : at + 2] == other.encode()), mark)
             fields, at = read_record(data, at, stands, record)
             case.records[mark].append(fields)
+            if mark == "BU" and len(fields) != len(case.records[mark][0]):
+                raise Refusal(15, record)
             record += 1
     for place in range(at, len(data)):
         if data[place] != 0:

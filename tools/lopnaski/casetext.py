@@ -125,13 +125,17 @@ def header_of(lines):
 
 def table_of(lines, mark, count, where):
     """`count` records with this mark, and their lines in `where`."""
+    due = casefile.marks_of(mark)
     for place in range(count):
         number, words = next(lines, (0, None))
         if words is None:
             raise Wrong(0, "the text ends after %d of %d %s records, as HD counts them" % (place, count, mark))
-        if words[0] not in casefile.marks_of(mark):
-            due = " or ".join(casefile.marks_of(mark))
-            raise Wrong(number, "here is %s, and %s record %d of %d is due, as HD counts them" % (words[0], due, place + 1, count))
+        if words[0] not in due:
+            why = "here is %s, and %s record %d of %d is due, as HD counts them" % (words[0], " or ".join(due), place + 1, count)
+            both = mark == "BU" and words[0] in casefile.marks_of(mark)
+            raise Wrong(number, why + (": the buses of a case are all BU, or all BV" if both else ""))
+        if mark == "BU":
+            due = (words[0],)
         where[mark, place] = number
         yield record_of(number, words, words[0])
 

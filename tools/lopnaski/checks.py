@@ -2,7 +2,7 @@
 
 import math
 
-from lopnaski.figures import text_of_bits
+from lopnaski.figures import shortest, text_of_bits
 
 LEAST_STEP_KV = 1e-6
 
@@ -46,9 +46,14 @@ def bus_faults(case, place):
     tier = case.whole("BU", place, "tier")
     if tier >= case.head("requested"):
         yield "tier", "tier is %d, and the requested levels are 0 to %d" % (tier, case.head("requested") - 1)
-    why = outside(case, "BU", place, "load", 0.0, 1e6, "0 to 1,000,000 MW")
-    if why:
-        yield "load", why
+    fields = case.records["BU"][place]
+    field = "reading" if case.is_weighed() else "load"
+    if not 0.0 <= case.reading(place) <= 1e6:
+        yield field, "%s is %s, and must be 0 to 1,000,000 MW" % (field, text_of_bits(fields[1]))
+    elif not 0.0 < case.weight(place) <= 1e3:
+        yield "weight", "weight is %s, and must be above 0 and at most 1,000" % text_of_bits(fields[2])
+    elif not case.load(place) <= 1e6:
+        yield "weight", "reading times weight is %s, and must be at most 1,000,000 MW" % shortest(case.load(place))
 
 
 def no_bus(case, mark, place, field):

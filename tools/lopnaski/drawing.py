@@ -40,7 +40,7 @@ class Drawing:
         self.case, self.plan, self.names = case, plan, names
         self.edges = [(case.whole("CO", k, "a"), case.whole("CO", k, "b")) for k in range(case.count("CO"))]
         self.levels = plan.added + case.levels()[case.head("above") :]
-        self.most_load = max([case.figure("BU", bus, "load") for bus in range(case.count("BU"))] + [0.0])
+        self.most_load = max([case.load(bus) for bus in range(case.count("BU"))] + [0.0])
         self.at_generator = {case.whole("GE", k, "bus") for k in range(case.count("GE"))}
         radii = [self.radius(bus) + (1.5 * BADGE if bus in self.at_generator else 0.0) for bus in range(case.count("BU"))]
         self.places, self.width, self.height = layout.network(len(radii), self.edges, radii, GAP, UNIT) if radii else ([], 0.0, 0.0)
@@ -48,7 +48,7 @@ class Drawing:
 
     def radius(self, bus):
         """A circle's area above the least grows with the load."""
-        load = self.case.figure("BU", bus, "load")
+        load = self.case.load(bus)
         return LEAST_RADIUS + (MORE_RADIUS * math.sqrt(load / self.most_load) if load > 0.0 else 0.0)
 
     def add(self, text, *values):
@@ -123,7 +123,7 @@ class Drawing:
         words = "bus %s: %s kV, load %s MW, angle %s degrees" % (
             self.names[bus],
             shortest(self.plan.kv(self.case, bus)),
-            shortest(self.case.figure("BU", bus, "load")),
+            shortest(self.case.load(bus)),
             rounded(math.degrees(self.plan.angles[bus]), 2),
         )
         units = [str(k) for k in range(self.case.count("GE")) if self.case.whole("GE", k, "bus") == bus]

@@ -94,7 +94,7 @@ class Report:
 
     def supply(self):
         case, plan = self.case, self.plan
-        load = math.fsum(case.figure("BU", bus, "load") for bus in range(case.count("BU")))
+        load = math.fsum(case.load(bus) for bus in range(case.count("BU")))
         given = math.fsum(plan.dispatch)
         islands = count(len(plan.grounds), "island")
         text = "The load is %s MW in %s; the generators give %s MW at a cost of %s an hour." % (
@@ -115,7 +115,7 @@ class Report:
         case, lacking, beyond = self.case, [], []
         ends = [(case.whole("CO", k, "a"), case.whole("CO", k, "b")) for k in range(case.count("CO"))]
         for members in layout.islands_of(case.count("BU"), ends):
-            load = math.fsum(case.figure("BU", bus, "load") for bus in members)
+            load = math.fsum(case.load(bus) for bus in members)
             given = math.fsum(p for k, p in enumerate(self.plan.dispatch) if case.whole("GE", k, "bus") in members)
             if abs(load - given) > NOTHING * max(1.0, load):
                 (lacking if load > given else beyond).append(abs(load - given))
@@ -218,12 +218,18 @@ class Report:
             before, after = levels[case.whole("BU", bus, "tier")], plan.kv(case, bus)
             marks = ["raised"] if after > before else []
             marks += ["ground"] if bus in plan.grounds else []
+            called = [shortest(case.reading(bus)), shortest(case.weight(bus))] if case.is_weighed() else []
             rows.append(
-                [self.names[bus], shortest(before), shortest(after), shortest(case.figure("BU", bus, "load"))]
-                + [self.figure(math.degrees(plan.angles[bus]), 2), ", ".join(marks)]
+                [self.names[bus], shortest(before), shortest(after)]
+                + called
+                + [shortest(case.load(bus)), self.figure(math.degrees(plan.angles[bus]), 2), ", ".join(marks)]
             )
         note = self.rounding("Angles are rounded to 0.01 degrees") + "; the ground of an island has angle 0"
-        return Table("Buses", note, ("bus", "kV before", "kV after", "load, MW", "angle, degrees", "marks"), rows)
+        called = ()
+        if case.is_weighed():
+            note += "; a load is the reading times its weight, rounded once"
+            called = ("reading, MW", "weight")
+        return Table("Buses", note, ("bus", "kV before", "kV after") + called + ("load, MW", "angle, degrees", "marks"), rows)
 
     def added(self):
         return Table("Added levels", "Levels above the request that the plan raised a bus to", ("kV",), [[shortest(kv)] for kv in self.plan.added])

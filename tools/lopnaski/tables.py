@@ -13,11 +13,12 @@ from lopnaski.casefile import BASES, FIELDS, MODES, WIDEST
 from lopnaski.casetext import WHOLE, text_of, whole_of
 from lopnaski.figures import DECIMAL, bits_of_text, text_of_bits
 
-# The columns of each table in the order in which they are written; those in brackets may be left out.
+# The columns of each table in the order in which they are written; those in brackets may be left out. Of a bus there is its load, or its
+# reading and the weight of that.
 COLUMNS = {
     "case": ("mode", "target"),
     "levels": ("[level]", "kv", "requested"),
-    "buses": ("[bus]", "level", "load"),
+    "buses": ("[bus]", "level", "[load]", "[reading]", "[weight]"),
     "generators": ("[generator]", "bus", "slack", "pmin", "pmax", "c1", "c2"),
     "corridors": ("[corridor]", "a", "b", "circuits", "length", "share", "[cap]", "[spread]"),
     "lines": ("corridor", "level", "r", "x", "b", "rate", "basis"),
@@ -140,7 +141,24 @@ def header_columns(folder, table, line, names):
     for column in COLUMNS[table]:
         if not is_optional(column) and column not in names:
             folder.wrong(table, "column '%s' is missing" % column, line)
+    if table == "buses" and len(folder.faults) == before:
+        for why in load_columns(names):
+            folder.wrong(table, why, line)
     return names if len(folder.faults) == before else None
+
+
+def load_columns(names):
+    """What is wrong with the columns that say the load: it is there, or both reading and weight."""
+    if "load" in names:
+        more = [name for name in ("reading", "weight") if name in names]
+        if more:
+            yield "column '%s' beside 'load': a bus has a load, or a reading and its weight" % more[0]
+    elif "reading" in names and "weight" not in names:
+        yield "column 'weight' is missing beside 'reading'"
+    elif "weight" in names and "reading" not in names:
+        yield "column 'reading' is missing beside 'weight'"
+    elif "reading" not in names:
+        yield "column 'load' is missing"
 
 
 def width_fault(cells, names):
@@ -414,7 +432,8 @@ def case_of(path, as_is=False):
     Names(folder, "generators", "generator", 0)
     case = casefile.Case(header_fields(folder, above, requested))
     case.records["LV"] = [[bits] for bits in kv]
-    case.records["BU"] = records_of(folder, "buses", (("level", tier_of(levels, above)),) + plain("BU", "tier"))
+    weighed = any("weight" in row.cells for row in folder.rows["buses"])
+    case.records["BU"] = records_of(folder, "buses", (("level", tier_of(levels, above)),) + plain("BV" if weighed else "BU", "tier"))
     case.records["GE"] = records_of(folder, "generators", (("bus", buses),) + plain("GE", "bus"))
     case.records["CO"] = records_of(folder, "corridors", (("a", buses), ("b", buses)) + plain("CO", "a", "b"))
     for row, record in zip(folder.rows["corridors"], case.records["CO"]):
@@ -466,9 +485,10 @@ def line_rows(case):
 
 
 def written_columns(case, table):
-    """The columns of a table that are written: caps where some corridor has one, and nothing that a case file does not hold."""
+    """The columns of a table that are written: caps where some corridor has one, reading and weight where the buses are BV, and nothing that a case file does not hold."""
     caps = any(case.is_capped(k) for k in range(case.count("CO")))
-    return [bare(column) for column in COLUMNS[table] if column not in ONLY_READ and (caps or column != "[cap]")]
+    without = ONLY_READ + (() if caps else ("[cap]",)) + (("[load]",) if case.is_weighed() else ("[reading]", "[weight]"))
+    return [bare(column) for column in COLUMNS[table] if column not in without]
 
 
 def texts(case):

@@ -13,7 +13,7 @@ use crate::text::read_edges;
 use crate::text::read_figures;
 use crate::text::read_wholes;
 use crate::text::start;
-use placement::Placement;
+use placement_defs::Placement;
 
 // The condensers: the bus and the Mvar of each.
 fn put_condensers(out: &mut [u8], buses: &[u32; 400], mvars: &[f64; 400], n: usize) -> usize

@@ -12,10 +12,11 @@ use Rattle.loops.specs.Figures.{nought}
 use Rattle.loops.specs.Loops.{tab}
 use Rattle.loops.proofs.Tab.{tab-same}
 use Rattle.casefile_defs.specs.Layout.{sizeOf, endOf, spot}
-use Rattle.casefile_defs.specs.Tables.{numberAt, figureAt, numberIn, figureIn}
+use Rattle.casefile_defs.specs.Tables.{numberAt, figureAt, weightAt, numberIn, figureIn, weightIn}
 use Rattle.casefile_defs.specs.declared.Kind.{Kind}
+use Rattle.casefile_defs.specs.declared.Kind.the-variants.{Bus}
 use Rattle.casefile_defs.proofs.Spots.{standing-least, by-test}
-use Rattle.casefile.specs.Starts.{Room, Starts, Whole, Within, numberBy, figureBy}
+use Rattle.casefile.specs.Starts.{Room, Starts, Whole, Within, numberBy, figureBy, weightBy}
 
 module _ (k : Kind) (s : List ℕ) (at : ℕ) where
   -- ---- the loop that stores them: its start, and a turn
@@ -58,3 +59,7 @@ module _ (k : Kind) (s : List ℕ) (at : ℕ) where
     pub figures-stored : (o n : ℕ) → tab n (figureBy s starts count o) ≡ tab n (figureIn k s at count o)
     unfolding Starts figureBy figureIn
     figures-stored o n = tab-same n _ _ (λ i h. by-test i count _ _ nought (λ l. ap (λ (p : ℕ). figureAt s p o) (g i l)))
+
+pub weights-stored : (s : List ℕ) (at count : ℕ) (starts : List ℕ) → Starts Bus s at count starts → (n : ℕ) → tab n (weightBy s starts count) ≡ tab n (weightIn s at count)
+unfolding Starts weightBy weightIn
+weights-stored s at count starts g n = tab-same n _ _ (λ i h. by-test i count _ _ nought (λ l. ap (λ (p : ℕ). weightAt s p) (g i l)))

@@ -8,7 +8,7 @@ use lib.Ieee.{Float}
 use lib.ListN.{length, getD}
 use Rattle.loops.specs.Figures.{nought}
 use Rattle.casefile_defs.specs.Layout.{endOf, spot}
-use Rattle.casefile_defs.specs.Tables.{numberAt, figureAt}
+use Rattle.casefile_defs.specs.Tables.{numberAt, figureAt, weightAt}
 use Rattle.casefile_defs.specs.declared.Kind.{Kind}
 
 -- every record of a table is inside the file
@@ -32,3 +32,6 @@ numberBy k s starts count o w i = cond (ltb i count) (numberAt k s (getD starts 
 
 unfoldable pub figureBy : List ℕ → List ℕ → ℕ → ℕ → ℕ → Float
 figureBy s starts count o i = cond (ltb i count) (figureAt s (getD starts i 0) o) nought
+
+unfoldable pub weightBy : List ℕ → List ℕ → ℕ → ℕ → Float
+weightBy s starts count i = cond (ltb i count) (weightAt s (getD starts i 0)) nought

@@ -5,11 +5,12 @@ ghost use lib.Dec.{leb};
 ghost use lib.ListN.{length};
 ghost use Rattle.loops.specs.Loops.{tab};
 ghost use Rattle.casefile_defs.specs.Layout.{sizeOf, standing, endOf, spot};
-ghost use Rattle.casefile_defs.specs.Tables.{numberAt};
-ghost use Rattle.casefile.specs.Starts.{Room, Starts, Whole, Within, numberBy, figureBy};
+ghost use Rattle.casefile_defs.specs.Tables.{numberAt, weightAt};
+ghost use Rattle.casefile.specs.Starts.{Room, Starts, Whole, Within, numberBy, figureBy, weightBy};
 use crate::bytes::figure;
 use crate::bytes::word;
 use crate::record;
+use crate::record::bears;
 use crate::record::size;
 use crate::record::standing;
 use casefile_defs::Kind;
@@ -119,6 +120,29 @@ fn figure_in(
     0.0
 }
 
+// The weight of the bus at a place: a BU has weight 1.
+fn weight_at(file: &[u8], at: usize) -> f64
+    requires { ⌜ endOf Kind.Bus (now file) at ≤ length (now file) ⌝ }
+    ensures { λ r. ⌜ r ≡ weightAt (now (file .entry)) at ⌝ }
+{
+    if bears(file, Kind::WeighedBus, at) {
+        return figure(word(file, at + record::BUS_WEIGHT, record::FIGURE));
+    }
+    1.0
+}
+
+// Place i of the buses' weights.
+fn weight_in(file: &[u8], starts: &[usize; MOST_RECORDS], count: usize, i: usize) -> f64
+    requires whole { ⌜ Whole Kind.Bus (now file) (now starts) count ⌝ }
+    requires few { ⌜ count ≤ 256 ⌝ }
+    ensures { λ r. ⌜ r ≡ weightBy (now (file .entry)) (now (starts .entry)) count i ⌝ }
+{
+    if i < count {
+        return weight_at(file, starts[i]);
+    }
+    0.0
+}
+
 // Fills a column of whole numbers, with zeros past the records.
 pub fn fill_numbers(
     file: &[u8],
@@ -155,6 +179,19 @@ pub fn fill_figures(
     let mut i = 0;
     while i < out.len() {
         out[i] = figure_in(file, starts, count, offset, i);
+        i += 1;
+    }
+}
+
+// Fills the buses' weights, with zeros past the records.
+pub fn fill_weights(file: &[u8], starts: &[usize; MOST_RECORDS], count: usize, out: &mut [f64])
+    requires whole { ⌜ Whole Kind.Bus (now file) (now starts) count ⌝ }
+    requires few { ⌜ count ≤ 256 ⌝ }
+    ensures { λ _. ⌜ now (out .exit) ≡ tab (length (now (out .entry))) (weightBy (now (file .entry)) (now (starts .entry)) count) ⌝ }
+{
+    let mut i = 0;
+    while i < out.len() {
+        out[i] = weight_in(file, starts, count, i);
         i += 1;
     }
 }

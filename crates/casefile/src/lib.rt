@@ -41,7 +41,8 @@ pub fn read_case(
     file: &[u8],
     ladder: &mut [f64],
     tier: &mut [u32],
-    load: &mut [f64],
+    reading: &mut [f64],
+    weight: &mut [f64],
     generator_bus: &mut [u32],
     slack: &mut [u32],
     pmin: &mut [f64],
@@ -56,11 +57,12 @@ pub fn read_case(
     cap: &mut [u32],
     sheet: &mut [f64],
 ) -> CaseRead
-    ensures { λ r. ⌜ outcome r (placesOf (now (ladder .exit)) (now (tier .exit)) (now (load .exit)) (now («generator_bus» .exit)) (now (slack .exit)) (now (pmin .exit)) (now (pmax .exit)) (now (c1 .exit)) (now (c2 .exit)) (now (a .exit)) (now (b .exit)) (now (circuits .exit)) (now («length_km» .exit)) (now (share .exit)) (now (cap .exit)) (now (sheet .exit))) ≡ readCase (now (file .entry)) (placesOf (now (ladder .entry)) (now (tier .entry)) (now (load .entry)) (now («generator_bus» .entry)) (now (slack .entry)) (now (pmin .entry)) (now (pmax .entry)) (now (c1 .entry)) (now (c2 .entry)) (now (a .entry)) (now (b .entry)) (now (circuits .entry)) (now («length_km» .entry)) (now (share .entry)) (now (cap .entry)) (now (sheet .entry))) ⌝ }
+    ensures { λ r. ⌜ outcome r (placesOf (now (ladder .exit)) (now (tier .exit)) (now (reading .exit)) (now (weight .exit)) (now («generator_bus» .exit)) (now (slack .exit)) (now (pmin .exit)) (now (pmax .exit)) (now (c1 .exit)) (now (c2 .exit)) (now (a .exit)) (now (b .exit)) (now (circuits .exit)) (now («length_km» .exit)) (now (share .exit)) (now (cap .exit)) (now (sheet .exit))) ≡ readCase (now (file .entry)) (placesOf (now (ladder .entry)) (now (tier .entry)) (now (reading .entry)) (now (weight .entry)) (now («generator_bus» .entry)) (now (slack .entry)) (now (pmin .entry)) (now (pmax .entry)) (now (c1 .entry)) (now (c2 .entry)) (now (a .entry)) (now (b .entry)) (now (circuits .entry)) (now («length_km» .entry)) (now (share .entry)) (now (cap .entry)) (now (sheet .entry))) ⌝ }
 {
     let sized = (ladder.len() == MOST_LEVELS)
         & (tier.len() == MOST_BUSES)
-        & (load.len() == MOST_BUSES)
+        & (reading.len() == MOST_BUSES)
+        & (weight.len() == MOST_BUSES)
         & (generator_bus.len() == MOST_GENERATORS)
         & (slack.len() == MOST_GENERATORS)
         & (pmin.len() == MOST_GENERATORS)
@@ -78,11 +80,11 @@ pub fn read_case(
         return scan::said(Reading::Refused(Refusal::Length), 0);
     }
     let read = scan::read_of(file);
-    let reading = read.reading;
-    let h = held(reading);
+    let said = read.reading;
+    let h = held(said);
     let levels = h.above + h.requested;
     let buses = tables::read_levels(file, record::HEAD_END, levels, ladder);
-    let generators = tables::read_buses(file, buses, h.buses, tier, load);
+    let generators = tables::read_buses(file, buses, h.buses, tier, reading, weight);
     let corridors = tables::read_generators(
         file,
         generators,

@@ -2,8 +2,8 @@
 ghost use mathlib.Core.Path.{_≡_};
 ghost use Prim.Native.Nat.{_+_, _≤_};
 ghost use lib.ListN.{length};
-ghost use Rattle.casefile_defs.specs.Layout.{sizeOf, layoutOf, codesOk, marked, standing};
-ghost use Rattle.casefile_defs.specs.Reading.{recordAt};
+ghost use Rattle.casefile_defs.specs.Layout.{sizeOf, layoutOf, codesOk, marked, standing, weighs, suits};
+ghost use Rattle.casefile_defs.specs.Reading.{recordAt, admitted};
 use crate::bytes::word;
 use casefile_defs::Kind;
 use casefile_defs::Walk;
@@ -43,9 +43,13 @@ const LEVEL_END: usize = LEVEL_KV + FIGURE;
 
 pub const BUS_TIER: usize = MARK;
 
-pub const BUS_LOAD: usize = BUS_TIER + U8;
+pub const BUS_READING: usize = BUS_TIER + U8;
 
-const BUS_END: usize = BUS_LOAD + FIGURE;
+const BUS_END: usize = BUS_READING + FIGURE;
+
+pub const BUS_WEIGHT: usize = BUS_END;
+
+const WEIGHED_END: usize = BUS_WEIGHT + FIGURE;
 
 pub const GENERATOR_BUS: usize = MARK;
 
@@ -108,6 +112,7 @@ pub fn size(kind: Kind) -> usize
         Kind::Corridor => CORRIDOR_END,
         Kind::Line => LINE_END,
         Kind::CappedCorridor => CAPPED_END,
+        Kind::WeighedBus => WEIGHED_END,
     }
 }
 
@@ -123,6 +128,7 @@ fn first_letter(kind: Kind) -> u8
         Kind::Corridor => b'C',
         Kind::Line => b'L',
         Kind::CappedCorridor => b'C',
+        Kind::WeighedBus => b'B',
     }
 }
 
@@ -137,6 +143,7 @@ fn second_letter(kind: Kind) -> u8
         Kind::Corridor => b'O',
         Kind::Line => b'N',
         Kind::CappedCorridor => b'P',
+        Kind::WeighedBus => b'V',
     }
 }
 
@@ -161,11 +168,12 @@ fn codes_ok(file: &[u8], kind: Kind, at: usize) -> bool
         Kind::Corridor => true,
         Kind::Line => word(file, at + LINE_BASIS, U8) <= LAST_BASIS,
         Kind::CappedCorridor => true,
+        Kind::WeighedBus => true,
     }
 }
 
 // Whether a record's mark stands at a place, wherever that is: a mark that is cut is none.
-fn bears(file: &[u8], kind: Kind, at: usize) -> bool
+pub fn bears(file: &[u8], kind: Kind, at: usize) -> bool
     ensures { λ r. ⌜ r ≡ marked kind (now (file .entry)) at ⌝ }
 {
     if file.len() < MARK {
@@ -187,6 +195,16 @@ fn corridor_at(file: &[u8], at: usize) -> Kind
     Kind::Corridor
 }
 
+// A BU, or the BV that stands for it.
+fn bus_at(file: &[u8], at: usize) -> Kind
+    ensures { λ r. ⌜ r ≡ standing Kind.Bus (now (file .entry)) at ⌝ }
+{
+    if bears(file, Kind::WeighedBus, at) {
+        return Kind::WeighedBus;
+    }
+    Kind::Bus
+}
+
 // The record that stands at a place where one of a kind is due, by its mark.
 pub fn standing(file: &[u8], kind: Kind, at: usize) -> Kind
     ensures { λ r. ⌜ r ≡ standing kind (now (file .entry)) at ⌝ }
@@ -194,11 +212,53 @@ pub fn standing(file: &[u8], kind: Kind, at: usize) -> Kind
     match kind {
         Kind::Head => Kind::Head,
         Kind::Level => Kind::Level,
-        Kind::Bus => Kind::Bus,
+        Kind::Bus => bus_at(file, at),
         Kind::Generator => Kind::Generator,
         Kind::Corridor => corridor_at(file, at),
         Kind::Line => Kind::Line,
         Kind::CappedCorridor => Kind::CappedCorridor,
+        Kind::WeighedBus => Kind::WeighedBus,
+    }
+}
+
+// Whether a record is a BV.
+fn weighs(kind: Kind) -> bool
+    ensures { λ r. ⌜ r ≡ weighs kind ⌝ }
+{
+    match kind {
+        Kind::Head => false,
+        Kind::Level => false,
+        Kind::Bus => false,
+        Kind::Generator => false,
+        Kind::Corridor => false,
+        Kind::Line => false,
+        Kind::CappedCorridor => false,
+        Kind::WeighedBus => true,
+    }
+}
+
+// Whether a record may stand in a file of BV, or of BU.
+fn suited(weighed: bool, kind: Kind) -> bool
+    ensures { λ r. ⌜ r ≡ suits weighed kind ⌝ }
+{
+    if weighed {
+        return weighs(kind);
+    }
+    !weighs(kind)
+}
+
+// A record that is whole, but a BV in a file of BU or a BU in a file of BV, has a wrong mark.
+pub fn admit(weighed: bool, kind: Kind, r: usize, w: Walk) -> Walk
+    ensures { λ n. ⌜ n ≡ admitted weighed kind r w ⌝ }
+{
+    match w {
+        Walk::Fault(_) => w,
+        Walk::At(_) => {
+            if suited(weighed, kind) {
+                return w;
+            }
+            Walk::Fault(Refusal::Mark(r))
+        }
     }
 }
 

@@ -3,11 +3,13 @@ ghost use mathlib.Core.Path.{_≡_};
 ghost use Prim.Native.Nat.{_-_, _<_, _≤_};
 ghost use lib.ListN.{length};
 ghost use Rattle.casefile_defs.specs.Layout.{sizeOf};
-ghost use Rattle.casefile_defs.specs.Reading.{stepped, walked, headerOf, modeOf, countsOk, Small, tablesWalked, caseRead, endRead, bodyRead, readOf};
+ghost use Rattle.casefile_defs.specs.Reading.{stepped, walked, headerOf, modeOf, countsOk, Small, busForm, tablesWalked, caseRead, endRead, bodyRead, readOf};
 ghost use Rattle.casefile_defs.specs.Looks.{lookedAs, lookedAt, wordsLooked, bytesLooked};
 use crate::bytes::eight;
 use crate::bytes::word;
 use crate::record;
+use crate::record::admit;
+use crate::record::bears;
 use crate::record::record_at;
 use crate::record::standing;
 use casefile_defs::CaseRead;
@@ -25,23 +27,26 @@ const MOST_TARGET: u32 = 65536;
 const WORD: usize = 8;
 
 // A fault is passed on; where a record of a kind is due, the one that stands there is read.
-fn step(file: &[u8], from: Walk, kind: Kind, r: usize) -> Walk
-    ensures { λ w. ⌜ w ≡ stepped kind (now (file .entry)) r from ⌝ }
+fn step(file: &[u8], from: Walk, kind: Kind, weighed: bool, r: usize) -> Walk
+    ensures { λ w. ⌜ w ≡ stepped kind weighed (now (file .entry)) r from ⌝ }
 {
     match from {
         Walk::Fault(_) => from,
-        Walk::At(at) => record_at(file, standing(file, kind, at), r, at),
+        Walk::At(at) => {
+            let stands = standing(file, kind, at);
+            admit(weighed, stands, r, record_at(file, stands, r, at))
+        }
     }
 }
 
 // Records start to end - 1, of one kind each.
-fn walk_kind(file: &[u8], from: Walk, kind: Kind, start: usize, end: usize) -> Walk
-    ensures { λ w. ⌜ w ≡ walked kind start end (now (file .entry)) from ⌝ }
+fn walk_kind(file: &[u8], from: Walk, kind: Kind, weighed: bool, start: usize, end: usize) -> Walk
+    ensures { λ w. ⌜ w ≡ walked kind weighed start end (now (file .entry)) from ⌝ }
 {
     let mut at = from;
     let mut r = start;
     while r < end {
-        at = step(file, at, kind, r);
+        at = step(file, at, kind, weighed, r);
         r += 1;
     }
     at
@@ -106,6 +111,16 @@ fn counts_ok(h: Header) -> bool
         & (h.target <= MOST_TARGET)
 }
 
+// Whether a file's buses are BV: by the mark of the first.
+fn bus_form(file: &[u8], w: Walk) -> bool
+    ensures { λ b. ⌜ b ≡ busForm (now (file .entry)) w ⌝ }
+{
+    match w {
+        Walk::Fault(_) => false,
+        Walk::At(at) => bears(file, Kind::WeighedBus, at),
+    }
+}
+
 // The records after the header, table by table.
 fn walk_tables(file: &[u8], h: Header, from: Walk) -> Walk
     requires { ⌜ Small h ⌝ }
@@ -117,11 +132,12 @@ fn walk_tables(file: &[u8], h: Header, from: Walk) -> Walk
     let corridors = generators + h.generators;
     let lines = corridors + h.corridors;
     let end = lines + h.corridors * levels;
-    let w1 = walk_kind(file, from, Kind::Level, 1, buses);
-    let w2 = walk_kind(file, w1, Kind::Bus, buses, generators);
-    let w3 = walk_kind(file, w2, Kind::Generator, generators, corridors);
-    let w4 = walk_kind(file, w3, Kind::Corridor, corridors, lines);
-    walk_kind(file, w4, Kind::Line, lines, end)
+    let w1 = walk_kind(file, from, Kind::Level, false, 1, buses);
+    let weighed = bus_form(file, w1);
+    let w2 = walk_kind(file, w1, Kind::Bus, weighed, buses, generators);
+    let w3 = walk_kind(file, w2, Kind::Generator, false, generators, corridors);
+    let w4 = walk_kind(file, w3, Kind::Corridor, false, corridors, lines);
+    walk_kind(file, w4, Kind::Line, false, lines, end)
 }
 
 fn came_to(at: usize, looks: usize) -> Looked

@@ -4,13 +4,14 @@ ghost use Prim.Native.Nat.{_+_, _≤_};
 ghost use lib.ListN.{length};
 ghost use Rattle.loops.specs.Loops.{tab};
 ghost use Rattle.casefile_defs.specs.Layout.{sizeOf, spot};
-ghost use Rattle.casefile_defs.specs.Tables.{sheetIn, basisOf, lineFigure, numbers, numbersOf, figures, capField};
+ghost use Rattle.casefile_defs.specs.Tables.{sheetIn, basisOf, lineFigure, numbers, numbersOf, figures, weights, capField};
 ghost use Rattle.casefile.specs.Starts.{Room};
 use crate::bytes::figure;
 use crate::bytes::word;
 use crate::columns::MOST_RECORDS;
 use crate::columns::fill_figures;
 use crate::columns::fill_numbers;
+use crate::columns::fill_weights;
 use crate::columns::line_at;
 use crate::columns::store_starts;
 use crate::record;
@@ -70,11 +71,19 @@ pub fn read_levels(file: &[u8], at: usize, count: usize, ladder: &mut [f64]) -> 
 }
 
 // Fills the buses' tables.
-pub fn read_buses(file: &[u8], at: usize, count: usize, tier: &mut [u32], load: &mut [f64]) -> usize
+pub fn read_buses(
+    file: &[u8],
+    at: usize,
+    count: usize,
+    tier: &mut [u32],
+    reading: &mut [f64],
+    weight: &mut [f64],
+) -> usize
     requires room { ⌜ Room Kind.Bus (now file) at count ⌝ }
     requires few { ⌜ count ≤ 256 ⌝ }
     ensures tier { λ _. ⌜ now (tier .exit) ≡ numbers Kind.Bus 0 (now (file .entry)) at count (length (now (tier .entry))) ⌝ }
-    ensures load { λ _. ⌜ now (load .exit) ≡ figures Kind.Bus 1 (now (file .entry)) at count (length (now (load .entry))) ⌝ }
+    ensures reading { λ _. ⌜ now (reading .exit) ≡ figures Kind.Bus 1 (now (file .entry)) at count (length (now (reading .entry))) ⌝ }
+    ensures weight { λ _. ⌜ now (weight .exit) ≡ weights (now (file .entry)) at count (length (now (weight .entry))) ⌝ }
     ensures end { λ r. ⌜ r ≡ spot Kind.Bus (now (file .entry)) at count ⌝ }
 {
     let mut starts = [0; MOST_RECORDS];
@@ -88,7 +97,8 @@ pub fn read_buses(file: &[u8], at: usize, count: usize, tier: &mut [u32], load: 
         record::U8,
         tier,
     );
-    fill_figures(file, &starts, count, record::BUS_LOAD, load);
+    fill_figures(file, &starts, count, record::BUS_READING, reading);
+    fill_weights(file, &starts, count, weight);
     end
 }
 

@@ -97,8 +97,8 @@ one-form false true e = sym e
 one-form false false e = refl
 
 -- each bus of a file bears the mark of the first, or not, as the first does
-abbrev pub Alike : List ℕ → ℕ → ℕ → Type 0
-Alike s at n = (i : ℕ) → i < n → marked WeighedBus s (spot Bus s at i) ≡ marked WeighedBus s at
+abbrev pub OneForm : List ℕ → ℕ → ℕ → Type 0
+OneForm s at n = (i : ℕ) → i < n → marked WeighedBus s (spot Bus s at i) ≡ marked WeighedBus s at
 
 -- where the last record ends
 abbrev pub endAt : List ℕ → Header → ℕ
@@ -111,7 +111,7 @@ pub record Accepted (s : List ℕ) (h : Header) : Type 0 where
   pub counts : countsOk h ≡ true
   pub levels : Table Level s levelsAt (levels h)
   pub buses : Table Bus s (busesAt s h) (h .buses)
-  pub form : Alike s (busesAt s h) (h .buses)
+  pub form : OneForm s (busesAt s h) (h .buses)
   pub generators : Table Generator s (generatorsAt s h) (h .generators)
   pub corridors : Table Corridor s (corridorsAt s h) (h .corridors)
   pub rows : Table Line s (linesAt s h) (lines h)
@@ -121,7 +121,7 @@ pub record Accepted (s : List ℕ) (h : Header) : Type 0 where
 pub record Tables (s : List ℕ) (h : Header) (next : ℕ) : Type 0 where
   pub levels : Table Level s levelsAt (levels h)
   pub buses : Table Bus s (busesAt s h) (h .buses)
-  pub form : Alike s (busesAt s h) (h .buses)
+  pub form : OneForm s (busesAt s h) (h .buses)
   pub generators : Table Generator s (generatorsAt s h) (h .generators)
   pub corridors : Table Corridor s (corridorsAt s h) (h .corridors)
   pub rows : Table Line s (linesAt s h) (lines h)
@@ -156,7 +156,7 @@ tables-of s h next e =
     record {
       levels = moved Level false s (levels h) p₁ (w₁ .all);
       buses = moved Bus _ s (h .buses) p₂ (w₂ .all);
-      form = subst (λ (m : ℕ). Alike s m (h .buses)) p₂ (λ i l. one-form _ _ (w₂ .all i l .suited) ∙ form-at s _ (w₂ .at) (w₂ .from));
+      form = subst (λ (m : ℕ). OneForm s m (h .buses)) p₂ (λ i l. one-form _ _ (w₂ .all i l .suited) ∙ form-at s _ (w₂ .at) (w₂ .from));
       generators = moved Generator false s (h .generators) p₃ (w₃ .all);
       corridors = moved Corridor false s (h .corridors) p₄ (w₄ .all);
       rows = moved Line false s (lines h) p₅ (w₅ .all);

@@ -97,8 +97,8 @@ passed k s r at next e = passed-by k s r at next _ _ _ refl refl refl e
 pub admitted-at : (weighed : Bool) (k : Kind) (r next : ℕ) (w : Walk) → admitted weighed k r w ≡ At next → (w ≡ At next) × (suits weighed k ≡ true)
 unfolding admitted
 admitted-at weighed k r next (Fault f) e = absurd (fault-not-at e)
-admitted-at weighed k r next (At m) e = go (suits weighed k) refl e
+admitted-at weighed k r next (At m) e = go (suits weighed k) _ refl e
   where
-    go : (b : Bool) → suits weighed k ≡ b → cond b (At m) (Fault (Mark r)) ≡ At next → (At m ≡ At next) × (suits weighed k ≡ true)
-    go true q e = (e, q)
-    go false q e = absurd (fault-not-at e)
+    go : (b : Bool) (f : Refusal) → suits weighed k ≡ b → cond b (At m) (Fault f) ≡ At next → (At m ≡ At next) × (suits weighed k ≡ true)
+    go true f q e = (e, q)
+    go false f q e = absurd (fault-not-at e)

@@ -13,12 +13,12 @@ use Rattle.mode.specs.Number.{modeNumber}
 use Rattle.mode.specs.declared.PlanMode.{PlanMode}
 use Rattle.mode.specs.declared.PlanMode.the-variants.{Expand, Reinforce, Observe, ExpandServing, ReinforceServing, ObserveServing}
 use Rattle.casefile_defs.specs.Bounds.{mostBytes}
-use Rattle.casefile_defs.specs.Layout.{layoutOf, field, spot}
-use Rattle.casefile_defs.specs.Reading.{headerOf, modeOf, countsOk, levels, lines, tablesWalked, trailing, zeroAt, zerosPassed, looksFor, looks, caseRead, readOf, beforeBuses, beforeGenerators, beforeCorridors, beforeLines, recordsOf}
+use Rattle.casefile_defs.specs.Layout.{layoutOf, field, marked, suits, spot}
+use Rattle.casefile_defs.specs.Reading.{headerOf, modeOf, countsOk, levels, lines, busForm, tablesWalked, trailing, zeroAt, zerosPassed, looksFor, looks, caseRead, readOf, beforeBuses, beforeGenerators, beforeCorridors, beforeLines, recordsOf}
 use Rattle.casefile_defs.specs.Looks.{lookedAt}
 use Rattle.casefile_defs.specs.Tables.{levelsAt, busesAt, generatorsAt, corridorsAt, linesAt}
 use Rattle.casefile_defs.specs.declared.Kind.{Kind}
-use Rattle.casefile_defs.specs.declared.Kind.the-variants.{Head, Level, Bus, Generator, Corridor, Line, CappedCorridor}
+use Rattle.casefile_defs.specs.declared.Kind.the-variants.{Head, Level, Bus, Generator, Corridor, Line, CappedCorridor, WeighedBus}
 use Rattle.casefile_defs.specs.declared.Header.{Header}
 use Rattle.casefile_defs.specs.declared.Walk.the-variants.{At}
 use Rattle.casefile_defs.specs.declared.Reading.the-variants.{Read}
@@ -61,12 +61,24 @@ mode-back ExpandServing = refl
 mode-back ReinforceServing = refl
 mode-back ObserveServing = refl
 
--- a CO is no CP
-same-kind : (b c : Bool) → _≡_ {A = Kind} (cond b CappedCorridor Corridor) (cond c CappedCorridor Corridor) → b ≡ c
-same-kind true true e = refl
-same-kind false false e = refl
-same-kind true false e = absurd (let z : _≡_ {A = ℕ} 0 1 = cc in omega arith)
-same-kind false true e = absurd (let z : _≡_ {A = ℕ} 0 1 = cc in omega arith)
+-- one of two kinds tells which it is
+pub same-kind : (k l : Kind) → (k ≡ l → ⊥) → (b c : Bool) → _≡_ {A = Kind} (cond b k l) (cond c k l) → b ≡ c
+same-kind k l n true true e = refl
+same-kind k l n false false e = refl
+same-kind k l n true false e = absurd (n e)
+same-kind k l n false true e = absurd (n (sym e))
+
+pub bus-kinds : _≡_ {A = Kind} WeighedBus Bus → ⊥
+bus-kinds e = let z : _≡_ {A = ℕ} 0 1 = cc in omega arith
+
+-- what stands in a file suits its form
+bus-suits : (b : Bool) → suits b (cond b WeighedBus Bus) ≡ true
+bus-suits true = refl
+bus-suits false = refl
+
+corridor-suits : (b : Bool) → suits false (cond b CappedCorridor Corridor) ≡ true
+corridor-suits true = refl
+corridor-suits false = refl
 
 module _ (f : Form) (h : Header) (v : Kind → ℕ → ℕ → ℕ) (n : ℕ) (g : Whole f h v) where
   -- the file, padded
@@ -125,13 +137,13 @@ module _ (f : Form) (h : Header) (v : Kind → ℕ → ℕ → ℕ) (n : ℕ) (g
   l₂ = table-spot Level (kindsOf f Level) (v Level) padded p₁ _ levelsAt (levels h) (λ i b. suits-level) e₁ l₁ (g .rows Level) (levels h) (omega arith)
 
   l₃ : length p₃ ≡ generatorsAt padded h
-  l₃ = table-spot Bus (kindsOf f Bus) (v Bus) padded p₂ _ (busesAt padded h) (h .buses) (λ i b. suits-bus) e₂ l₂ (g .rows Bus) (h .buses) (omega arith)
+  l₃ = table-spot Bus (kindsOf f Bus) (v Bus) padded p₂ _ (busesAt padded h) (h .buses) (λ i b. suits-bus (f .weighed)) e₂ l₂ (g .rows Bus) (h .buses) (omega arith)
 
   l₄ : length p₄ ≡ corridorsAt padded h
   l₄ = table-spot Generator (kindsOf f Generator) (v Generator) padded p₃ _ (generatorsAt padded h) (h .generators) (λ i b. suits-generator) e₃ l₃ (g .rows Generator) (h .generators) (omega arith)
 
   l₅ : length p₅ ≡ linesAt padded h
-  l₅ = table-spot Corridor (kindsOf f Corridor) (v Corridor) padded p₄ _ (corridorsAt padded h) (h .corridors) (λ i b. suits-corridor (f i)) e₄ l₄ (g .rows Corridor) (h .corridors) (omega arith)
+  l₅ = table-spot Corridor (kindsOf f Corridor) (v Corridor) padded p₄ _ (corridorsAt padded h) (h .corridors) (λ i b. suits-corridor (f .capped i)) e₄ l₄ (g .rows Corridor) (h .corridors) (omega arith)
 
   -- the file's length without the zeros
   pub length-file : length (fileWith f h v) ≡ endAt padded h
@@ -145,29 +157,38 @@ module _ (f : Form) (h : Header) (v : Kind → ℕ → ℕ → ℕ) (n : ℕ) (g
   level-found = table-found Level (kindsOf f Level) (v Level) padded p₁ _ levelsAt (levels h) (λ i b. suits-level) e₁ l₁ (g .rows Level)
 
   pub bus-found : (i : ℕ) → i < h .buses → Found Bus (kindsOf f Bus i) padded (spot Bus padded (busesAt padded h) i) (v Bus i)
-  bus-found = table-found Bus (kindsOf f Bus) (v Bus) padded p₂ _ (busesAt padded h) (h .buses) (λ i b. suits-bus) e₂ l₂ (g .rows Bus)
+  bus-found = table-found Bus (kindsOf f Bus) (v Bus) padded p₂ _ (busesAt padded h) (h .buses) (λ i b. suits-bus (f .weighed)) e₂ l₂ (g .rows Bus)
 
   pub generator-found : (i : ℕ) → i < h .generators → Found Generator (kindsOf f Generator i) padded (spot Generator padded (generatorsAt padded h) i) (v Generator i)
   generator-found = table-found Generator (kindsOf f Generator) (v Generator) padded p₃ _ (generatorsAt padded h) (h .generators) (λ i b. suits-generator) e₃ l₃ (g .rows Generator)
 
   pub corridor-found : (i : ℕ) → i < h .corridors → Found Corridor (kindsOf f Corridor i) padded (spot Corridor padded (corridorsAt padded h) i) (v Corridor i)
-  corridor-found = table-found Corridor (kindsOf f Corridor) (v Corridor) padded p₄ _ (corridorsAt padded h) (h .corridors) (λ i b. suits-corridor (f i)) e₄ l₄ (g .rows Corridor)
+  corridor-found = table-found Corridor (kindsOf f Corridor) (v Corridor) padded p₄ _ (corridorsAt padded h) (h .corridors) (λ i b. suits-corridor (f .capped i)) e₄ l₄ (g .rows Corridor)
 
   pub line-found : (i : ℕ) → i < lines h → Found Line (kindsOf f Line i) padded (spot Line padded (linesAt padded h) i) (v Line i)
   line-found = table-found Line (kindsOf f Line) (v Line) padded p₅ _ (linesAt padded h) (lines h) (λ i b. suits-line) e₅ l₅ (g .rows Line)
 
   -- the marks show the form
-  pub form-back : (i : ℕ) → i < h .corridors → formIn padded h i ≡ f i
-  form-back i b = same-kind (formIn padded h i) (f i) (corridor-found i b .kind)
+  pub capped-back : (i : ℕ) → i < h .corridors → formIn padded h .capped i ≡ f .capped i
+  capped-back i b =
+      same-kind CappedCorridor Corridor (λ e. let z : _≡_ {A = ℕ} 0 1 = cc in omega arith) (formIn padded h .capped i) (f .capped i) (corridor-found i b .kind)
+
+  pub weighed-back : 0 < h .buses → formIn padded h .weighed ≡ f .weighed
+  unfolding spot
+  weighed-back b = same-kind WeighedBus Bus bus-kinds (formIn padded h .weighed) (f .weighed) (bus-found 0 b .kind)
+
+  buses-suit : (i : ℕ) → i < h .buses → suits (marked WeighedBus padded (busesAt padded h)) (kindsOf f Bus i) ≡ true
+  buses-suit i b = ap (λ (x : Bool). suits x (kindsOf f Bus i)) (weighed-back (omega arith)) ∙ bus-suits (f .weighed)
 
   tables-pass : At (endAt padded h) ≡ tablesWalked h padded (At levelsAt)
+  unfolding busForm
   tables-pass =
       tables-walked h padded (At levelsAt) (At (busesAt padded h)) (At (generatorsAt padded h)) (At (corridorsAt padded h)) (At (linesAt padded h)) (At (endAt padded h))
-      (sym (walk-stands Level (kindsOf f Level) (v Level) padded p₁ _ levelsAt (levels h) (λ i b. suits-level) e₁ l₁ (g .rows Level) 1 (beforeBuses h) (omega arith)))
-      (sym (walk-stands Bus (kindsOf f Bus) (v Bus) padded p₂ _ (busesAt padded h) (h .buses) (λ i b. suits-bus) e₂ l₂ (g .rows Bus) (beforeBuses h) (beforeGenerators h) (omega arith)))
-      (sym (walk-stands Generator (kindsOf f Generator) (v Generator) padded p₃ _ (generatorsAt padded h) (h .generators) (λ i b. suits-generator) e₃ l₃ (g .rows Generator) (beforeGenerators h) (beforeCorridors h) (omega arith)))
-      (sym (walk-stands Corridor (kindsOf f Corridor) (v Corridor) padded p₄ _ (corridorsAt padded h) (h .corridors) (λ i b. suits-corridor (f i)) e₄ l₄ (g .rows Corridor) (beforeCorridors h) (beforeLines h) (omega arith)))
-      (sym (walk-stands Line (kindsOf f Line) (v Line) padded p₅ _ (linesAt padded h) (lines h) (λ i b. suits-line) e₅ l₅ (g .rows Line) (beforeLines h) (recordsOf h) (omega arith)))
+      (sym (walk-stands Level (kindsOf f Level) (v Level) padded p₁ _ levelsAt (levels h) (λ i b. suits-level) e₁ l₁ (g .rows Level) false (λ i b. refl) 1 (beforeBuses h) (omega arith)))
+      (sym (walk-stands Bus (kindsOf f Bus) (v Bus) padded p₂ _ (busesAt padded h) (h .buses) (λ i b. suits-bus (f .weighed)) e₂ l₂ (g .rows Bus) _ buses-suit (beforeBuses h) (beforeGenerators h) (omega arith)))
+      (sym (walk-stands Generator (kindsOf f Generator) (v Generator) padded p₃ _ (generatorsAt padded h) (h .generators) (λ i b. suits-generator) e₃ l₃ (g .rows Generator) false (λ i b. refl) (beforeGenerators h) (beforeCorridors h) (omega arith)))
+      (sym (walk-stands Corridor (kindsOf f Corridor) (v Corridor) padded p₄ _ (corridorsAt padded h) (h .corridors) (λ i b. suits-corridor (f .capped i)) e₄ l₄ (g .rows Corridor) false (λ i b. corridor-suits (f .capped i)) (beforeCorridors h) (beforeLines h) (omega arith)))
+      (sym (walk-stands Line (kindsOf f Line) (v Line) padded p₅ _ (linesAt padded h) (lines h) (λ i b. suits-line) e₅ l₅ (g .rows Line) false (λ i b. refl) (beforeLines h) (recordsOf h) (omega arith)))
 
   -- the header is read back
   header-back : h ≡ headerOf padded

@@ -23,16 +23,16 @@ use Rattle.casefile_defs.specs.Layout.{Field, layoutOf, sizeOf, marked, standin
 use Rattle.casefile_defs.specs.Reading.{countsOk, levels, lines, looksFor, caseRead}
 use Rattle.casefile_defs.specs.Tables.{Places, basisField, basisOf, levelsAt, busesAt, generatorsAt, corridorsAt, linesAt, held, sizesOk, outcome, readCase}
 use Rattle.casefile_defs.specs.declared.Kind.{Kind}
-use Rattle.casefile_defs.specs.declared.Kind.the-variants.{Head, Level, Bus, Generator, Corridor, Line, CappedCorridor}
+use Rattle.casefile_defs.specs.declared.Kind.the-variants.{Head, Level, Bus, Generator, Corridor, Line, CappedCorridor, WeighedBus}
 use Rattle.casefile_defs.specs.declared.Header.{Header}
 use Rattle.casefile_defs.specs.declared.Reading.the-variants.{Read}
 use Rattle.casefile_defs.proofs.Counts.{small-of, lines-small}
 use Rattle.casefile_defs.proofs.Whole.{read-whole}
 use Rattle.casefile_theorems.specs.Writer.{headRow, countOf, Form, formIn, kindsOf, fileOf, wordsOf, bitsAt, basisAt, rowPlace}
 use Rattle.casefile_theorems.specs.Cases.{Numbers, Figures, Sheet, Case, Legal, longest}
-use Rattle.casefile_theorems.proofs.Back.{Whole, padded, length-file, form-back, reading-back}
+use Rattle.casefile_theorems.proofs.Back.{Whole, padded, length-file, weighed-back, capped-back, reading-back}
 use Rattle.casefile_theorems.proofs.Bytes.{Fine}
-use Rattle.casefile_theorems.proofs.Places.{numbersFrom, figuresFrom, capFrom, lineFrom, sheetFrom, placesFrom, tables-from}
+use Rattle.casefile_theorems.proofs.Places.{numbersFrom, figuresFrom, weightFrom, capFrom, lineFrom, sheetFrom, placesFrom, tables-from}
 
 -- ---- a case's numbers fit their fields
 bits-small : (x : Float) → T (fits binary64 x) → toBits binary64 x < 256 ^ 8
@@ -70,9 +70,13 @@ row-fine : (f : Form) (h : Header) (p : Places) → Case h p → (k : Kind) (i :
 unfolding Fine wordsOf
 row-fine f h p c Head i l = (lit< tt, refl, (lit< tt, refl, (lit< tt, refl, (lit< tt, refl, (lit< tt, refl, (lit< tt, refl, (lit< tt, refl, tt)))))))
 row-fine f h p c Level i l = (bits-small _ (c .ladder .double i l), refl, tt)
-row-fine f h p c Bus i l = (c .tier .small i l, c .tier .bound i l, (bits-small _ (c .load .double i l), refl, tt))
+row-fine f h p c Bus i l = bus (f .weighed)
+  where
+    bus : (b : Bool) → Fine (layoutOf (cond b WeighedBus Bus) .fields) (wordsOf p Bus i)
+    bus false = (c .tier .small i l, c .tier .bound i l, (bits-small _ (c .reading .double i l), refl, tt))
+    bus true = (c .tier .small i l, c .tier .bound i l, (bits-small _ (c .reading .double i l), refl, (bits-small _ (c .weight .double i l), refl, tt)))
 row-fine f h p c Generator i l = (c .bus .small i l, c .bus .bound i l, (c .slack .small i l, c .slack .bound i l, (bits-small _ (c .pmin .double i l), refl, (bits-small _ (c .pmax .double i l), refl, (bits-small _ (c .c1 .double i l), refl, (bits-small _ (c .c2 .double i l), refl, tt))))))
-row-fine f h p c Corridor i l = corridor (f i)
+row-fine f h p c Corridor i l = corridor (f .capped i)
   where
     corridor : (b : Bool) → Fine (layoutOf (cond b CappedCorridor Corridor) .fields) (wordsOf p Corridor i)
     corridor false = (c .a .small i l, c .a .bound i l, (c .b .small i l, c .b .bound i l, (c .circuits .small i l, c .circuits .bound i l, (bits-small _ (c .lengthKm .double i l), refl, (bits-small _ (c .share .double i l), refl, tt)))))
@@ -92,6 +96,7 @@ row-fine f h p c Line i l =
       ),
     )
 row-fine f h p c CappedCorridor i l = absurd (omega arith)
+row-fine f h p c WeighedBus i l = absurd (omega arith)
 
 whole-of : (f : Form) (h : Header) (p : Places) → Case h p → Whole f h (wordsOf p)
 whole-of f h p c = record { counts = c .counts; head = head-fine h (c .counts); rows = λ k i l. row-fine f h p c k i l }
@@ -101,6 +106,13 @@ spot-most : (k : Kind) (s : List ℕ) (m at n : ℕ) → ((p : ℕ) → sizeOf (
 unfolding spot
 spot-most k s m at zero g = omega arith
 spot-most k s m at (suc n) g = omega (arith, spot-most k s m at n g, g (spot k s at n), suc-mul n m)
+
+bus-most : (s : List ℕ) (p : ℕ) → sizeOf (standing Bus s p) ≤ 19
+bus-most s p = go (marked WeighedBus s p)
+  where
+    go : (b : Bool) → sizeOf (cond b WeighedBus Bus) ≤ 19
+    go true = omega arith
+    go false = omega arith
 
 corridor-most : (s : List ℕ) (p : ℕ) → sizeOf (standing Corridor s p) ≤ 24
 corridor-most s p = go (marked CappedCorridor s p)
@@ -124,16 +136,20 @@ file-short f h p c =
       b .levels,
       length-file f h (wordsOf p) 0 w,
       spot-most Level s 10 levelsAt (levels h) (λ q. omega arith),
-      spot-most Bus s 11 (busesAt s h) (h .buses) (λ q. omega arith),
+      spot-most Bus s 19 (busesAt s h) (h .buses) (bus-most s),
       spot-most Generator s 37 (generatorsAt s h) (h .generators) (λ q. omega arith),
       spot-most Corridor s 24 (corridorsAt s h) (h .corridors) (corridor-most s),
       spot-most Line s 35 (linesAt s h) (lines h) (λ q. omega arith),
     )
 
 -- ---- the file of a case shows its form
-pub case-form : (f : Form) (h : Header) (p : Places) → Case h p → (n i : ℕ) → i < h .corridors → formIn (fileOf f h p ++ replicate n 0) h i ≡ f i
+pub case-weighed : (f : Form) (h : Header) (p : Places) → Case h p → (n : ℕ) → 0 < h .buses → formIn (fileOf f h p ++ replicate n 0) h .weighed ≡ f .weighed
 unfolding fileOf
-case-form f h p c n i b = form-back f h (wordsOf p) n (whole-of f h p c) i b
+case-weighed f h p c n b = weighed-back f h (wordsOf p) n (whole-of f h p c) b
+
+pub case-capped : (f : Form) (h : Header) (p : Places) → Case h p → (n i : ℕ) → i < h .corridors → formIn (fileOf f h p ++ replicate n 0) h .capped i ≡ f .capped i
+unfolding fileOf
+case-capped f h p c n i b = capped-back f h (wordsOf p) n (whole-of f h p c) i b
 
 -- ---- a column from the numbers of its case
 numbers-from : {f : Field} (n count : ℕ) (l : List ℕ) (v : ℕ → ℕ) → Numbers f n count l → ((i : ℕ) → i < count → v i ≡ getD l i 0) → numbersFrom n count v ≡ l
@@ -195,11 +211,18 @@ sheet-from count p c =
     ])
 
 module _ (f : Form) (h : Header) (p : Places) (g : Legal f h p) (c : Case h p) where
-  cap-back : (i : ℕ) → i < h .corridors → capFrom (f i) (getD (p .cap) i 0) ≡ getD (p .cap) i 0
-  cap-back i l = by (f i) refl
+  weight-back : (i : ℕ) → i < h .buses → weightFrom (f .weighed) (bitsAt (p .weight) i) ≡ getD (p .weight) i nought
+  weight-back i l = by (f .weighed) refl
     where
-      by : (b : Bool) → f i ≡ b → capFrom b (getD (p .cap) i 0) ≡ getD (p .cap) i 0
-      by false e = sym (g i l e)
+      by : (b : Bool) → f .weighed ≡ b → weightFrom b (bitsAt (p .weight) i) ≡ getD (p .weight) i nought
+      by false e = sym (g .weights e i l)
+      by true e = bits-back _ _ (p .weight) (c .weight) i l
+
+  cap-back : (i : ℕ) → i < h .corridors → capFrom (f .capped i) (getD (p .cap) i 0) ≡ getD (p .cap) i 0
+  cap-back i l = by (f .capped i) refl
+    where
+      by : (b : Bool) → f .capped i ≡ b → capFrom b (getD (p .cap) i 0) ≡ getD (p .cap) i 0
+      by false e = sym (g .caps i l e)
       by true e = refl
 
   -- the tables of the case's numbers are the case's
@@ -209,7 +232,8 @@ module _ (f : Form) (h : Header) (p : Places) (g : Legal f h p) (c : Case h p) w
       simp (
         figures-from _ _ (p .ladder) (λ i. ofBits binary64 (bitsAt (p .ladder) i)) (c .ladder) (bits-back _ _ (p .ladder) (c .ladder)),
         numbers-from _ _ (p .tier) (λ i. getD (p .tier) i 0) (c .tier) (λ i l. refl),
-        figures-from _ _ (p .load) (λ i. ofBits binary64 (bitsAt (p .load) i)) (c .load) (bits-back _ _ (p .load) (c .load)),
+        figures-from _ _ (p .reading) (λ i. ofBits binary64 (bitsAt (p .reading) i)) (c .reading) (bits-back _ _ (p .reading) (c .reading)),
+        figures-from _ _ (p .weight) (λ i. weightFrom (f .weighed) (bitsAt (p .weight) i)) (c .weight) weight-back,
         numbers-from _ _ (p .bus) (λ i. getD (p .bus) i 0) (c .bus) (λ i l. refl),
         numbers-from _ _ (p .slack) (λ i. getD (p .slack) i 0) (c .slack) (λ i l. refl),
         figures-from _ _ (p .pmin) (λ i. ofBits binary64 (bitsAt (p .pmin) i)) (c .pmin) (bits-back _ _ (p .pmin) (c .pmin)),
@@ -221,7 +245,7 @@ module _ (f : Form) (h : Header) (p : Places) (g : Legal f h p) (c : Case h p) w
         numbers-from _ _ (p .circuits) (λ i. getD (p .circuits) i 0) (c .circuits) (λ i l. refl),
         figures-from _ _ (p .lengthKm) (λ i. ofBits binary64 (bitsAt (p .lengthKm) i)) (c .lengthKm) (bits-back _ _ (p .lengthKm) (c .lengthKm)),
         figures-from _ _ (p .share) (λ i. ofBits binary64 (bitsAt (p .share) i)) (c .share) (bits-back _ _ (p .share) (c .share)),
-        numbers-from _ _ (p .cap) (λ i. capFrom (f i) (getD (p .cap) i 0)) (c .cap) cap-back,
+        numbers-from _ _ (p .cap) (λ i. capFrom (f .capped i) (getD (p .cap) i 0)) (c .cap) cap-back,
         sheet-from (lines h) p (c .sheet),
       )
 

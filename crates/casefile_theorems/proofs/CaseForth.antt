@@ -18,16 +18,16 @@ use Rattle.loops.proofs.Tab.{length-tab, get-tab}
 use Rattle.casefile_defs.specs.Bounds.{mostLevels, mostBuses, mostGenerators, mostCorridors, mostSheet, rowFigures}
 use Rattle.casefile_defs.specs.Layout.{Field, figure, upTo, u8, u16, widthOf, allowed, layoutOf}
 use Rattle.casefile_defs.specs.Reading.{levels, lines, Small}
-use Rattle.casefile_defs.specs.Tables.{basisField, basisOf, capField}
+use Rattle.casefile_defs.specs.Tables.{basisField, basisOf, weightField, capField}
 use Rattle.casefile_defs.specs.declared.Kind.{Kind}
-use Rattle.casefile_defs.specs.declared.Kind.the-variants.{Level, Bus, Generator, Corridor, Line, CappedCorridor}
+use Rattle.casefile_defs.specs.declared.Kind.the-variants.{Level, Bus, Generator, Corridor, Line, CappedCorridor, WeighedBus}
 use Rattle.casefile_defs.specs.declared.Header.{Header}
 use Rattle.casefile_defs.proofs.Counts.{small-of, lines-small}
 use Rattle.casefile_theorems.specs.Writer.{recordBytes, tableBytes, Form, kindsOf, fileWith, fileOf, wordsOf, rowPlace, nanPattern, tidy, tidied}
 use Rattle.casefile_theorems.specs.Cases.{Numbers, Figures, Sheet, Case, Legal}
 use Rattle.casefile_theorems.proofs.Back.{Whole}
 use Rattle.casefile_theorems.proofs.Bytes.{Fine, fields-same}
-use Rattle.casefile_theorems.proofs.Places.{numbersFrom, figuresFrom, capFrom, lineFrom, sheetFrom, placesFrom}
+use Rattle.casefile_theorems.proofs.Places.{numbersFrom, figuresFrom, weightFrom, capFrom, lineFrom, sheetFrom, placesFrom}
 
 -- ---- the same numbers make the same file
 tables-alike : (ks : ℕ → Kind) (n : ℕ) (u v : ℕ → ℕ → ℕ) → ((i j : ℕ) → i < n → j < length (layoutOf (ks i) .fields) → u i j ≡ v i j) → tableBytes ks n u ≡ tableBytes ks n v
@@ -100,15 +100,22 @@ numbers-case f n count v l g = record {
   ];
 }
 
-figures-case : (n count : ℕ) (v : ℕ → ℕ) → count ≤ n → Figures n count (figuresFrom n count (λ i. ofBits binary64 (v i)))
-figures-case n count v l = record {
+doubles-case : (n count : ℕ) (v : ℕ → Float) → count ≤ n → ((i : ℕ) → T (fits binary64 (v i))) → Figures n count (figuresFrom n count v)
+doubles-case n count v l g = record {
   size = length-tab n _;
-  double = λ i h. rw (figure-cell n count i (λ m. ofBits binary64 (v m)) h l) (ofBits-fits binary64 (v i));
+  double = λ i h. rw (figure-cell n count i v h l) (g i);
   past = λ i h. elim (decLt i n) [
-    | yes m ↦ get-tab n _ i nought m ∙ ap (λ (x : Bool). cond x (ofBits binary64 (v i)) nought) (le-ltb i count h)
-    | no m ↦ List·getD-eq-default (figuresFrom n count (λ i. ofBits binary64 (v i))) nought (rw length-tab (omega arith))
+    | yes m ↦ get-tab n _ i nought m ∙ ap (λ (x : Bool). cond x (v i) nought) (le-ltb i count h)
+    | no m ↦ List·getD-eq-default (figuresFrom n count v) nought (rw length-tab (omega arith))
   ];
 }
+
+figures-case : (n count : ℕ) (v : ℕ → ℕ) → count ≤ n → Figures n count (figuresFrom n count (λ i. ofBits binary64 (v i)))
+figures-case n count v l = doubles-case n count (λ i. ofBits binary64 (v i)) l (λ i. ofBits-fits binary64 (v i))
+
+weight-double : (b : Bool) (n : ℕ) → T (fits binary64 (weightFrom b n))
+weight-double true n = ofBits-fits binary64 n
+weight-double false n = ofBits-fits binary64 0x3ff0_0000_0000_0000
 
 line-double : (w : ℕ → ℕ) (j : ℕ) → j < basisField → T (fits binary64 (lineFrom w j))
 line-double w j h = rw (lt-ltb j basisField h) (ofBits-fits binary64 (w j))
@@ -125,6 +132,17 @@ sheet-case count v l g = record {
     | no m ↦ List·getD-eq-default (sheetFrom count v) nought (rw (length-tab mostSheet _) (omega arith))
   ];
 }
+
+-- a bus's numbers, in either record
+pub record BusFields (as-bv : Bool) (w : ℕ → ℕ) : Type 0 where
+  pub tier : w 0 < 256 ^ 1
+  pub reading : w 1 < 256 ^ 8
+  pub weight : cond as-bv (w weightField) 0 < 256 ^ 8
+
+bus-fine : (b : Bool) (w : ℕ → ℕ) → Fine (layoutOf (cond b WeighedBus Bus) .fields) w → BusFields b w
+unfolding Fine
+bus-fine false w g = record { tier = g .0; reading = g .2 .0; weight = lit< tt }
+bus-fine true w g = record { tier = g .0; reading = g .2 .0; weight = g .2 .2 .0 }
 
 -- a corridor's numbers, in either record; a CO has cap 0
 pub record Fields (as-cp : Bool) (w : ℕ → ℕ) : Type 0 where
@@ -144,16 +162,20 @@ module _ (f : Form) (h : Header) (v : Kind → ℕ → ℕ → ℕ) (g : Whole f
   small : Small h
   small = small-of h (g .counts)
 
-  corridor-of : (i : ℕ) → i < h .corridors → Fields (f i) (v Corridor i)
-  corridor-of i l = corridor-fine (f i) (v Corridor i) (g .rows Corridor i l)
+  bus-of : (i : ℕ) → i < h .buses → BusFields (f .weighed) (v Bus i)
+  bus-of i l = bus-fine (f .weighed) (v Bus i) (g .rows Bus i l)
+
+  corridor-of : (i : ℕ) → i < h .corridors → Fields (f .capped i) (v Corridor i)
+  corridor-of i l = corridor-fine (f .capped i) (v Corridor i) (g .rows Corridor i l)
 
   pub case-from : Case h (placesFrom f h v)
   unfolding placesFrom Fine
   case-from = record {
     counts = g .counts;
     ladder = figures-case mostLevels (levels h) (λ i. v Level i 0) (small .levels);
-    tier = numbers-case u8 mostBuses (h .buses) (λ i. v Bus i 0) (small .buses) (λ i l. (g .rows Bus i l .0, refl));
-    load = figures-case mostBuses (h .buses) (λ i. v Bus i 1) (small .buses);
+    tier = numbers-case u8 mostBuses (h .buses) (λ i. v Bus i 0) (small .buses) (λ i l. (bus-of i l .tier, refl));
+    reading = figures-case mostBuses (h .buses) (λ i. v Bus i 1) (small .buses);
+    weight = doubles-case mostBuses (h .buses) (λ i. weightFrom (f .weighed) (v Bus i weightField)) (small .buses) (λ i. weight-double (f .weighed) (v Bus i weightField));
     bus = numbers-case u16 mostGenerators (h .generators) (λ i. v Generator i 0) (small .generators) (λ i l. (g .rows Generator i l .0, refl));
     slack = numbers-case (upTo 1) mostGenerators (h .generators) (λ i. v Generator i 1) (small .generators) (λ i l. (g .rows Generator i l .2 .0, g .rows Generator i l .2 .1));
     pmin = figures-case mostGenerators (h .generators) (λ i. v Generator i 2) (small .generators);
@@ -165,16 +187,20 @@ module _ (f : Form) (h : Header) (v : Kind → ℕ → ℕ → ℕ) (g : Whole f
     circuits = numbers-case u8 mostCorridors (h .corridors) (λ i. v Corridor i 2) (small .corridors) (λ i l. (corridor-of i l .circuits, refl));
     lengthKm = figures-case mostCorridors (h .corridors) (λ i. v Corridor i 3) (small .corridors);
     share = figures-case mostCorridors (h .corridors) (λ i. v Corridor i 4) (small .corridors);
-    cap = numbers-case u8 mostCorridors (h .corridors) (λ i. capFrom (f i) (v Corridor i capField)) (small .corridors) (λ i l. (corridor-of i l .cap, refl));
+    cap = numbers-case u8 mostCorridors (h .corridors) (λ i. capFrom (f .capped i) (v Corridor i capField)) (small .corridors) (λ i l. (corridor-of i l .cap, refl));
     sheet = sheet-case (lines h) (v Line) (lines-small h small) (λ i l. leb-true _ 1 (g .rows Line i l .2 .2 .2 .2 .1));
   }
 
   -- it can be written in the form
   pub legal-from : Legal f h (placesFrom f h v)
   unfolding placesFrom
-  legal-from i l e =
-      number-cell mostCorridors (h .corridors) i (λ m. capFrom (f m) (v Corridor m capField)) l (small .corridors)
-      ∙ ap (λ (b : Bool). capFrom b (v Corridor i capField)) e
+  legal-from = record {
+    weights = λ e i l.
+        figure-cell mostBuses (h .buses) i (λ m. weightFrom (f .weighed) (v Bus m weightField)) l (small .buses) ∙ ap (λ (b : Bool). weightFrom b (v Bus i weightField)) e;
+    caps = λ i l e.
+        number-cell mostCorridors (h .corridors) i (λ m. capFrom (f .capped m) (v Corridor m capField)) l (small .corridors)
+        ∙ ap (λ (b : Bool). capFrom b (v Corridor i capField)) e;
+  }
 
   -- ---- its numbers are these
   figure-words : (n count : ℕ) (w : ℕ → ℕ) (i : ℕ) → i < count → count ≤ n → w i < 2 ^ 64 → toBits binary64 (getD (figuresFrom n count (λ m. ofBits binary64 (w m))) i nought) ≡ tidy figure (w i)
@@ -185,11 +211,32 @@ module _ (f : Form) (h : Header) (v : Kind → ℕ → ℕ → ℕ) (g : Whole f
   level-words i zero l m = figure-words mostLevels (levels h) (λ k. v Level k 0) i l (small .levels) (g .rows Level i l .0)
   level-words i (suc j) l m = absurd (omega arith)
 
+  -- the fields that either bus record has, and the weight of a BV
+  tier-word : (i : ℕ) → i < h .buses → wordsOf (placesFrom f h v) Bus i 0 ≡ v Bus i 0
+  unfolding wordsOf placesFrom
+  tier-word i l = number-cell mostBuses (h .buses) i (λ k. v Bus k 0) l (small .buses)
+
+  reading-word : (i : ℕ) → i < h .buses → wordsOf (placesFrom f h v) Bus i 1 ≡ tidy figure (v Bus i 1)
+  unfolding wordsOf placesFrom
+  reading-word i l = figure-words mostBuses (h .buses) (λ k. v Bus k 1) i l (small .buses) (bus-of i l .reading)
+
+  bus-word : (i : ℕ) → i < h .buses → (b : Bool) → f .weighed ≡ b → (j : ℕ) → j < length (layoutOf (cond b WeighedBus Bus) .fields)
+      → wordsOf (placesFrom f h v) Bus i j ≡ tidy (getD (layoutOf (cond b WeighedBus Bus) .fields) j figure) (v Bus i j)
+  unfolding wordsOf placesFrom tidy
+  bus-word i l false e zero m = tier-word i l
+  bus-word i l false e (suc zero) m = reading-word i l
+  bus-word i l false e (suc (suc j)) m = absurd (omega arith)
+  bus-word i l true e zero m = tier-word i l
+  bus-word i l true e (suc zero) m = reading-word i l
+  bus-word i l true e (suc (suc zero)) m =
+      ap (λ (x : Float). toBits binary64 x)
+      (figure-cell mostBuses (h .buses) i (λ k. weightFrom (f .weighed) (v Bus k weightField)) l (small .buses) ∙ ap (λ (b : Bool). weightFrom b (v Bus i weightField)) e)
+      ∙ bits-tidy (v Bus i weightField) (subst (λ (b : Bool). cond b (v Bus i weightField) 0 < 256 ^ 8) e (bus-of i l .weight))
+  bus-word i l true e (suc (suc (suc j))) m = absurd (omega arith)
+
   bus-words : Alike f (wordsOf (placesFrom f h v)) (tidied f v) Bus (h .buses)
-  unfolding wordsOf placesFrom tidied tidy Fine
-  bus-words i zero l m = number-cell mostBuses (h .buses) i (λ k. v Bus k 0) l (small .buses)
-  bus-words i (suc zero) l m = figure-words mostBuses (h .buses) (λ k. v Bus k 1) i l (small .buses) (g .rows Bus i l .2 .0)
-  bus-words i (suc (suc j)) l m = absurd (omega arith)
+  unfolding tidied
+  bus-words i j l m = bus-word i l (f .weighed) refl j m
 
   generator-words : Alike f (wordsOf (placesFrom f h v)) (tidied f v) Generator (h .generators)
   unfolding wordsOf placesFrom tidied tidy Fine
@@ -211,7 +258,7 @@ module _ (f : Form) (h : Header) (v : Kind → ℕ → ℕ → ℕ) (g : Whole f
   shared-word i l (suc (suc (suc (suc zero)))) m = figure-words mostCorridors (h .corridors) (λ k. v Corridor k 4) i l (small .corridors) (corridor-of i l .share)
   shared-word i l (suc (suc (suc (suc (suc j))))) m = absurd (omega arith)
 
-  corridor-word : (i : ℕ) → i < h .corridors → (b : Bool) → f i ≡ b → (j : ℕ) → j < length (layoutOf (cond b CappedCorridor Corridor) .fields)
+  corridor-word : (i : ℕ) → i < h .corridors → (b : Bool) → f .capped i ≡ b → (j : ℕ) → j < length (layoutOf (cond b CappedCorridor Corridor) .fields)
       → wordsOf (placesFrom f h v) Corridor i j ≡ tidy (getD (layoutOf (cond b CappedCorridor Corridor) .fields) j figure) (v Corridor i j)
   unfolding wordsOf placesFrom tidy
   corridor-word i l false e j m = shared-word i l j m
@@ -221,12 +268,12 @@ module _ (f : Form) (h : Header) (v : Kind → ℕ → ℕ → ℕ) (g : Whole f
   corridor-word i l true e (suc (suc (suc zero))) m = shared-word i l 3 (lit< tt)
   corridor-word i l true e (suc (suc (suc (suc zero)))) m = shared-word i l 4 (lit< tt)
   corridor-word i l true e (suc (suc (suc (suc (suc zero))))) m =
-      number-cell mostCorridors (h .corridors) i (λ k. capFrom (f k) (v Corridor k capField)) l (small .corridors) ∙ ap (λ (b : Bool). capFrom b (v Corridor i capField)) e
+      number-cell mostCorridors (h .corridors) i (λ k. capFrom (f .capped k) (v Corridor k capField)) l (small .corridors) ∙ ap (λ (b : Bool). capFrom b (v Corridor i capField)) e
   corridor-word i l true e (suc (suc (suc (suc (suc (suc j)))))) m = absurd (omega arith)
 
   corridor-words : Alike f (wordsOf (placesFrom f h v)) (tidied f v) Corridor (h .corridors)
   unfolding tidied
-  corridor-words i j l m = corridor-word i l (f i) refl j m
+  corridor-words i j l m = corridor-word i l (f .capped i) refl j m
 
   line-figure : (i j : ℕ) → i < lines h → j < basisField → v Line i j < 2 ^ 64 → toBits binary64 (getD (sheetFrom (lines h) (v Line)) (rowPlace i j) nought) ≡ tidy figure (v Line i j)
   line-figure i j l m b =

@@ -2,8 +2,8 @@
 -- their ranges, and its tables are theirs.
 -- A record that is passed is its mark and its fields' bytes (record-written); so are the tables, one after the other.
 use Prim.Native.Nat.{ℕ, zero, suc, _+_, _-_, _<_, _≤_}
-use mathlib.Core.Path.{_≡_, refl, sym, ap, _∙_}
-use mathlib.Core.Bool.{true}
+use mathlib.Core.Path.{_≡_, refl, sym, ap, _∙_, subst}
+use mathlib.Core.Bool.{Bool, true, cond}
 use mathlib.Core.List.{List, _∷_, _++_, append-assoc}
 use native.Mathlib.Omega.{arith}
 use borrow.Author.Tests.{eqb-true, leb-true}
@@ -16,7 +16,7 @@ use Rattle.casefile_defs.specs.Layout.{layoutOf, sizeOf, widthsOf, field, stand
 use Rattle.casefile_defs.specs.Reading.{headerOf, modeOf, levels, lines, trailing, zeroAt}
 use Rattle.casefile_defs.specs.Tables.{levelsAt, busesAt, generatorsAt, corridorsAt, linesAt, tablesOf}
 use Rattle.casefile_defs.specs.declared.Kind.{Kind}
-use Rattle.casefile_defs.specs.declared.Kind.the-variants.{Head, Level, Bus, Generator, Corridor, Line, CappedCorridor}
+use Rattle.casefile_defs.specs.declared.Kind.the-variants.{Head, Level, Bus, Generator, Corridor, Line, CappedCorridor, WeighedBus}
 use Rattle.casefile_defs.specs.declared.Header.{Header}
 use Rattle.casefile_defs.proofs.Records.{Passed}
 use Rattle.casefile_defs.proofs.Accepted.{Table, Accepted, endAt}
@@ -36,6 +36,7 @@ startOf Generator s h = generatorsAt s h
 startOf Corridor s h = corridorsAt s h
 startOf Line s h = linesAt s h
 startOf CappedCorridor s h = 0
+startOf WeighedBus s h = 0
 
 -- the numbers in the records of an answered file
 abbrev pub wordsIn : List ℕ → Header → Kind → ℕ → ℕ → ℕ
@@ -83,6 +84,18 @@ table-written k s at (suc n) b t =
     table-written k s at n b (λ i h. t i (omega arith))
     ∙ ap (λ (x : List ℕ). a ++ x) (record-written l s (spot k s at n) _ b (t n (omega arith)))
     ∙ sym (append-assoc a (recordBytes l (λ j. field l j (spot k s at n) s)) (drop (spot k s at (suc n)) s))
+
+-- a table by the kinds of its records
+kinds-same : (ks ls : ℕ → Kind) (n : ℕ) (w : Kind → ℕ → ℕ → ℕ) → ((i : ℕ) → i < n → ks i ≡ ls i) → tableBytes ks n (λ i. w (ks i) i) ≡ tableBytes ls n (λ i. w (ls i) i)
+unfolding tableBytes
+kinds-same ks ls zero w e = refl
+kinds-same ks ls (suc n) w e =
+    ap (λ (x : List ℕ). x ++ recordBytes (ks n) (w (ks n) n)) (kinds-same ks ls n w (λ i h. e i (omega arith)))
+    ∙ ap (λ (k : Kind). tableBytes ls n (λ i. w (ls i) i) ++ recordBytes k (w k n)) (e n (omega arith))
+
+-- each bus of an answered file is of the kind of the first
+bus-kind : (s : List ℕ) (h : Header) → Accepted s h → (i : ℕ) → i < h .buses → standing Bus s (spot Bus s (busesAt s h) i) ≡ kindsOf (formIn s h) Bus i
+bus-kind s h a i l = ap (λ (b : Bool). cond b WeighedBus Bus) (a .form i l)
 
 -- ---- the zeros
 zeros-end : (s : List ℕ) (at : ℕ) → at ≤ length s → length s ≤ trailing s at → drop at s ≡ replicate (length s - at) 0
@@ -160,6 +173,8 @@ written s h b a =
     head-written s h b (a .header) (a .head)
     ∙ after t₀ (table-written Level s levelsAt (levels h) b (a .levels)
     ∙ after t₁ (table-written Bus s (busesAt s h) (h .buses) b (a .buses)
+    ∙ ap (λ (x : List ℕ). x ++ drop (generatorsAt s h) s)
+    (kinds-same (λ i. standing Bus s (spot Bus s (busesAt s h) i)) (kindsOf f Bus) (h .buses) (λ k i j. field k j (spot Bus s (busesAt s h) i) s) (bus-kind s h a))
     ∙ after t₂ (table-written Generator s (generatorsAt s h) (h .generators) b (a .generators)
     ∙ after t₃ (table-written Corridor s (corridorsAt s h) (h .corridors) b (a .corridors)
     ∙ after t₄ (table-written Line s (linesAt s h) (lines h) b (a .rows) ∙ after t₅ (zeros-end s (endAt s h) (inside s h a) (a .zeros)))))))
@@ -177,11 +192,13 @@ unfolding spot
 rows-fine s h b a Head zero l = record-fine Head s 0 _ b (a .head)
 rows-fine s h b a Head (suc i) l = absurd (omega arith)
 rows-fine s h b a Level i l = record-fine Level s _ _ b (a .levels i l)
-rows-fine s h b a Bus i l = record-fine Bus s _ _ b (a .buses i l)
+rows-fine s h b a Bus i l =
+    subst (λ (k : Kind). Fine (layoutOf k .fields) (λ j. field k j (spot Bus s (busesAt s h) i) s)) (bus-kind s h a i l) (record-fine _ s _ _ b (a .buses i l))
 rows-fine s h b a Generator i l = record-fine Generator s _ _ b (a .generators i l)
 rows-fine s h b a Corridor i l = record-fine (kindsOf (formIn s h) Corridor i) s _ _ b (a .corridors i l)
 rows-fine s h b a Line i l = record-fine Line s _ _ b (a .rows i l)
 rows-fine s h b a CappedCorridor i l = absurd (omega arith)
+rows-fine s h b a WeighedBus i l = absurd (omega arith)
 
 pub whole-in : (s : List ℕ) (h : Header) → Bytes s → Accepted s h → Whole (formIn s h) h (wordsIn s h)
 whole-in s h b a = record { counts = a .counts; head = head-fine h (a .counts); rows = rows-fine s h b a }

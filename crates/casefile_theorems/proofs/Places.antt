@@ -1,4 +1,5 @@
--- The tables that the file of a form and of numbers is read into: they depend on the numbers, and on the form only where a CO has no cap.
+-- The tables that the file of a form and of numbers is read into: they depend on the numbers, and on the form only where a BU has no weight
+-- and a CO no cap.
 -- Each record stands in its place, so each place of a column is its field's number.
 use Prim.Native.Nat.{ℕ, zero, suc, _+_, _/_, _%_, _<_, _≤_}
 use mathlib.Core.Bool.{Bool, true, false, cond}
@@ -8,20 +9,20 @@ use native.Mathlib.Omega.{arith}
 use lib.Dec.{lit<, ltb}
 use lib.Ieee.{Float, binary64, ofBits}
 use lib.ListN.{length}
-use Rattle.loops.specs.Figures.{nought}
+use Rattle.loops.specs.Figures.{nought, one}
 use Rattle.loops.specs.Loops.{tab}
 use Rattle.loops.proofs.Tab.{tab-same}
 use Rattle.casefile_defs.specs.Bounds.{mostLevels, mostBuses, mostGenerators, mostCorridors, mostSheet, rowFigures}
-use Rattle.casefile_defs.specs.Layout.{layoutOf, sizeOf, placeOf, spanOf, field, word, spot}
+use Rattle.casefile_defs.specs.Layout.{layoutOf, sizeOf, placeOf, spanOf, field, word, marked, spot}
 use Rattle.casefile_defs.specs.Reading.{levels, lines}
-use Rattle.casefile_defs.specs.Tables.{Places, placesOf, numberAt, figureAt, numberIn, figureIn, numbers, sheetIn, lineFigure, basisField, basisOf, capField, levelsAt, busesAt, generatorsAt, corridorsAt, linesAt, tablesOf}
+use Rattle.casefile_defs.specs.Tables.{Places, placesOf, numberAt, figureAt, weightAt, numberIn, figureIn, weightIn, numbers, sheetIn, lineFigure, basisField, basisOf, weightField, capField, levelsAt, busesAt, generatorsAt, corridorsAt, linesAt, tablesOf}
 use Rattle.casefile_defs.specs.declared.Kind.{Kind}
-use Rattle.casefile_defs.specs.declared.Kind.the-variants.{Level, Bus, Generator, Corridor, Line, CappedCorridor}
+use Rattle.casefile_defs.specs.declared.Kind.the-variants.{Level, Bus, Generator, Corridor, Line, CappedCorridor, WeighedBus}
 use Rattle.casefile_defs.specs.declared.Header.{Header}
 use Rattle.casefile_defs.proofs.Spots.{by-test, number-had, number-not}
 use Rattle.casefile_defs.proofs.Whole.{tables-same}
 use Rattle.casefile_theorems.specs.Writer.{Form}
-use Rattle.casefile_theorems.proofs.Back.{Whole, padded, level-found, bus-found, generator-found, corridor-found, line-found}
+use Rattle.casefile_theorems.proofs.Back.{same-kind, bus-kinds, Whole, padded, level-found, bus-found, generator-found, corridor-found, line-found}
 use Rattle.casefile_theorems.proofs.Written.{Found}
 
 -- ---- a column from the numbers: its first places, and zeros
@@ -31,7 +32,10 @@ numbersFrom n count v = tab n (λ i. cond (ltb i count) (v i) 0)
 abbrev pub figuresFrom : ℕ → ℕ → (ℕ → Float) → List Float
 figuresFrom n count v = tab n (λ i. cond (ltb i count) (v i) nought)
 
--- a CO has cap 0
+-- a BU has weight 1, and a CO cap 0
+abbrev pub weightFrom : Bool → ℕ → Float
+weightFrom b n = cond b (ofBits binary64 n) one
+
 abbrev pub capFrom : Bool → ℕ → ℕ
 capFrom b n = cond b n 0
 
@@ -46,6 +50,10 @@ figure-column : (k : Kind) (s : List ℕ) (at count o n : ℕ) (v : ℕ → Floa
 unfolding figureIn
 figure-column k s at count o n v g = tab-same n _ _ (λ i h. by-test i count _ _ nought (g i))
 
+weight-column : (s : List ℕ) (at count n : ℕ) (v : ℕ → Float) → ((i : ℕ) → i < count → weightAt s (spot Bus s at i) ≡ v i) → tab n (weightIn s at count) ≡ figuresFrom n count v
+unfolding weightIn
+weight-column s at count n v g = tab-same n _ _ (λ i h. by-test i count _ _ nought (g i))
+
 -- ---- a field of a record that was found
 number-cell : (k l : Kind) (s : List ℕ) (p : ℕ) (w : ℕ → ℕ) (j o b : ℕ) → Found k l s p w → j < length (layoutOf l .fields) → field l j p s ≡ word b (p + o) s → o + b ≤ sizeOf l
     → numberAt k s p o b ≡ w j
@@ -56,6 +64,23 @@ figure-cell : (k l : Kind) (s : List ℕ) (p : ℕ) (w : ℕ → ℕ) (j o : ℕ
     → figureAt s p o ≡ ofBits binary64 (w j)
 unfolding figureAt
 figure-cell k l s p w j o g h e = ap (λ (n : ℕ). ofBits binary64 n) (sym e ∙ g .stands .holds j h)
+
+-- a bus's fields, in either record
+abbrev busKind : Bool → Kind
+busKind b = cond b WeighedBus Bus
+
+bus-tier : (b : Bool) (s : List ℕ) (p : ℕ) (w : ℕ → ℕ) → Found Bus (busKind b) s p w → numberAt Bus s p 2 1 ≡ w 0
+bus-tier false s p w g = number-cell Bus Bus s p w 0 2 1 g (lit< tt) refl (omega arith)
+bus-tier true s p w g = number-cell Bus WeighedBus s p w 0 2 1 g (lit< tt) refl (omega arith)
+
+bus-reading : (b : Bool) (s : List ℕ) (p : ℕ) (w : ℕ → ℕ) → Found Bus (busKind b) s p w → figureAt s p 3 ≡ ofBits binary64 (w 1)
+bus-reading false s p w g = figure-cell Bus Bus s p w 1 3 g (lit< tt) refl
+bus-reading true s p w g = figure-cell Bus WeighedBus s p w 1 3 g (lit< tt) refl
+
+bus-weight : (b : Bool) (s : List ℕ) (p : ℕ) (w : ℕ → ℕ) → Found Bus (busKind b) s p w → weightAt s p ≡ weightFrom b (w weightField)
+unfolding weightAt
+bus-weight false s p w g = ap (λ (x : Bool). cond x (figureAt s p 11) one) (same-kind WeighedBus Bus bus-kinds (marked WeighedBus s p) false (g .kind))
+bus-weight true s p w g = ap (λ (x : Bool). cond x (figureAt s p 11) one) (g .stands .mark) ∙ figure-cell Bus WeighedBus s p w 2 11 g (lit< tt) refl
 
 -- a corridor's fields, in either record
 abbrev corridorKind : Bool → Kind
@@ -107,6 +132,7 @@ placesFrom f h v = placesOf
     (figuresFrom mostLevels (levels h) (λ i. ofBits binary64 (v Level i 0)))
     (numbersFrom mostBuses (h .buses) (λ i. v Bus i 0))
     (figuresFrom mostBuses (h .buses) (λ i. ofBits binary64 (v Bus i 1)))
+    (figuresFrom mostBuses (h .buses) (λ i. weightFrom (f .weighed) (v Bus i weightField)))
     (numbersFrom mostGenerators (h .generators) (λ i. v Generator i 0))
     (numbersFrom mostGenerators (h .generators) (λ i. v Generator i 1))
     (figuresFrom mostGenerators (h .generators) (λ i. ofBits binary64 (v Generator i 2)))
@@ -118,7 +144,7 @@ placesFrom f h v = placesOf
     (numbersFrom mostCorridors (h .corridors) (λ i. v Corridor i 2))
     (figuresFrom mostCorridors (h .corridors) (λ i. ofBits binary64 (v Corridor i 3)))
     (figuresFrom mostCorridors (h .corridors) (λ i. ofBits binary64 (v Corridor i 4)))
-    (numbersFrom mostCorridors (h .corridors) (λ i. capFrom (f i) (v Corridor i capField)))
+    (numbersFrom mostCorridors (h .corridors) (λ i. capFrom (f .capped i) (v Corridor i capField)))
     (sheetFrom (lines h) (v Line))
 
 module _ (f : Form) (h : Header) (v : Kind → ℕ → ℕ → ℕ) (n : ℕ) (g : Whole f h v) where
@@ -139,16 +165,17 @@ module _ (f : Form) (h : Header) (v : Kind → ℕ → ℕ → ℕ) (n : ℕ) (g
   corridor-column : (j : ℕ) → j < 3 → numbers Corridor j s (corridorsAt s h) (h .corridors) mostCorridors ≡ numbersFrom mostCorridors (h .corridors) (λ i. v Corridor i j)
   corridor-column j l =
       number-column Corridor s (corridorsAt s h) (h .corridors) (placeOf Corridor j) (spanOf Corridor j) mostCorridors _
-      (λ i b. corridor-number (f i) s _ (v Corridor i) j l (corridor-found f h v n g i b))
+      (λ i b. corridor-number (f .capped i) s _ (v Corridor i) j l (corridor-found f h v n g i b))
 
   pub tables-from : tablesOf s h ≡ placesFrom f h v
   unfolding placesFrom
   tables-from =
       sym
-      (tables-same s h _ _ _ _ _ _ _ _ _ _ _ _ _ _ _ _
+      (tables-same s h _ _ _ _ _ _ _ _ _ _ _ _ _ _ _ _ _
       (sym (figure-column Level s levelsAt (levels h) 2 mostLevels _ (λ i b. figure-cell Level Level s _ (v Level i) 0 2 (level-found f h v n g i b) (lit< tt) refl)))
-      (sym (number-column Bus s (busesAt s h) (h .buses) 2 1 mostBuses _ (λ i b. number-cell Bus Bus s _ (v Bus i) 0 2 1 (bus-found f h v n g i b) (lit< tt) refl (omega arith))))
-      (sym (figure-column Bus s (busesAt s h) (h .buses) 3 mostBuses _ (λ i b. figure-cell Bus Bus s _ (v Bus i) 1 3 (bus-found f h v n g i b) (lit< tt) refl)))
+      (sym (number-column Bus s (busesAt s h) (h .buses) 2 1 mostBuses _ (λ i b. bus-tier (f .weighed) s _ (v Bus i) (bus-found f h v n g i b))))
+      (sym (figure-column Bus s (busesAt s h) (h .buses) 3 mostBuses _ (λ i b. bus-reading (f .weighed) s _ (v Bus i) (bus-found f h v n g i b))))
+      (sym (weight-column s (busesAt s h) (h .buses) mostBuses _ (λ i b. bus-weight (f .weighed) s _ (v Bus i) (bus-found f h v n g i b))))
       (sym (generator-number 0 2 2 (lit< tt) (λ p. refl) (omega arith)))
       (sym (generator-number 1 4 1 (lit< tt) (λ p. refl) (omega arith)))
       (sym (generator-figure 2 5 (lit< tt) (λ p. refl)))
@@ -158,7 +185,7 @@ module _ (f : Form) (h : Header) (v : Kind → ℕ → ℕ → ℕ) (n : ℕ) (g
       (sym (corridor-column 0 (lit< tt)))
       (sym (corridor-column 1 (lit< tt)))
       (sym (corridor-column 2 (lit< tt)))
-      (sym (figure-column Corridor s (corridorsAt s h) (h .corridors) 7 mostCorridors _ (λ i b. corridor-length (f i) s _ (v Corridor i) (corridor-found f h v n g i b))))
-      (sym (figure-column Corridor s (corridorsAt s h) (h .corridors) 15 mostCorridors _ (λ i b. corridor-share (f i) s _ (v Corridor i) (corridor-found f h v n g i b))))
-      (sym (number-column Corridor s (corridorsAt s h) (h .corridors) 23 1 mostCorridors _ (λ i b. corridor-cap (f i) s _ (v Corridor i) (corridor-found f h v n g i b))))
+      (sym (figure-column Corridor s (corridorsAt s h) (h .corridors) 7 mostCorridors _ (λ i b. corridor-length (f .capped i) s _ (v Corridor i) (corridor-found f h v n g i b))))
+      (sym (figure-column Corridor s (corridorsAt s h) (h .corridors) 15 mostCorridors _ (λ i b. corridor-share (f .capped i) s _ (v Corridor i) (corridor-found f h v n g i b))))
+      (sym (number-column Corridor s (corridorsAt s h) (h .corridors) 23 1 mostCorridors _ (λ i b. corridor-cap (f .capped i) s _ (v Corridor i) (corridor-found f h v n g i b))))
       (sym (sheet-column s (linesAt s h) (lines h) (v Line) (line-found f h v n g))))

@@ -1,15 +1,16 @@
--- A case and its files: a file is determined by its case and by which corridors are written as CP, its form. Reading the file of a case in a form in which it
+-- A case and its files: a file is determined by its case and by its form, whether its buses are written as BV and which corridors as CP. Reading the file of a case in a form in which it
 -- can be written gives the case (case-back), zeros after it or not (case-padded); every answered file is the file of its answer in the form that its marks
 -- show, followed by zeros, but that the answer's file has one pattern for each NaN (case-forth, plain-forth); no two cases share a file, and no two forms of one
 -- (cases-apart); a refusal but 1 leaves zeros (refused-zero).
 use Prim.Native.Nat.{ℕ, _<_, _≤_}
-use mathlib.Core.Bool.{true, false}
+use mathlib.Core.Bool.{Bool, true, false}
 use mathlib.Core.List.{List, _++_, append-nil}
 use mathlib.Core.Path.{_≡_, refl, sym, ap, _∙_, subst}
 use native.Mathlib.Omega.{arith}
 use borrow.Author.Tests.{ltb-false}
 use lib.Ieee.{binary64, nanBits}
 use lib.ListN.{length, getD, replicate}
+use Rattle.loops.specs.Figures.{nought, one}
 use Rattle.refusal.specs.declared.Refusal.{Refusal}
 use Rattle.casefile_defs.specs.Bounds.{mostBytes}
 use Rattle.casefile_defs.specs.Layout.{Field, number, upTo, figure, layoutOf}
@@ -25,7 +26,7 @@ use Rattle.casefile_defs.proofs.Callers.{answered-case}
 use Rattle.casefile_theorems.specs.Writer.{countOf, Form, formIn, kindsOf, fileWith, fileOf, capsOnly, tidy, tidied}
 use Rattle.casefile_theorems.specs.Cases.{Case, Legal, blank}
 use Rattle.casefile_theorems.proofs.Bytes.{Bytes}
-use Rattle.casefile_theorems.proofs.CaseBack.{file-short, case-form, case-read}
+use Rattle.casefile_theorems.proofs.CaseBack.{file-short, case-weighed, case-capped, case-read}
 use Rattle.casefile_theorems.proofs.CaseForth.{files-alike, case-from, legal-from, file-from}
 use Rattle.casefile_theorems.proofs.Forth.{wordsIn, restOf, written, whole-in, tables-in}
 use Rattle.casefile_theorems.proofs.Places.{placesFrom}
@@ -43,10 +44,13 @@ case-back f h p q g c z =
     subst (λ (s : List ℕ). readCase s q ≡ outcome (caseRead (Read h) 0) p) (append-nil (fileOf f h p))
     (case-padded f h p q 0 g c z (rw append-nil (omega (arith, file-short f h p c))))
 
--- every case can be written with CP for the corridors that have a cap
-pub caps-legal : (h : Header) (p : Places) → Legal (capsOnly p) h p
+-- every case can be written with CP for the corridors that have a cap, and with BV; with BU where every weight is 1
+pub caps-legal : (weighed : Bool) (h : Header) (p : Places) → (weighed ≡ false → (i : ℕ) → i < h .buses → getD (p .weight) i nought ≡ one) → Legal (capsOnly weighed p) h p
 unfolding capsOnly
-caps-legal h p i l e = let z : getD (p .cap) i 0 ≤ 0 = ltb-false 0 (getD (p .cap) i 0) e in omega arith
+caps-legal weighed h p g = record {
+  weights = g;
+  caps = λ i l e. let z : getD (p .cap) i 0 ≤ 0 = ltb-false 0 (getD (p .cap) i 0) e in omega arith;
+}
 
 -- ---- the file of an answer
 -- s is the file of some numbers in its form, and then zeros; the file of the case has the same numbers, with each NaN's pattern made the one that is written
@@ -102,7 +106,8 @@ case-sizes h p c =
     simp (
       c .ladder .size,
       c .tier .size,
-      c .load .size,
+      c .reading .size,
+      c .weight .size,
       c .bus .size,
       c .slack .size,
       c .pmin .size,
@@ -123,7 +128,7 @@ read-same e = (cc (ap (λ (o : Outcome). o .reply) e), ap (λ (o : Outcome). o .
 
 pub cases-apart : (f f′ : Form) (h h′ : Header) (p p′ : Places) (n n′ : ℕ) → Legal f h p → Legal f′ h′ p′ → Case h p → Case h′ p′
     → length (fileOf f h p ++ replicate n 0) ≤ mostBytes → fileOf f h p ++ replicate n 0 ≡ fileOf f′ h′ p′ ++ replicate n′ 0
-    → (h ≡ h′) × (p ≡ p′) × ((i : ℕ) → i < h .corridors → f i ≡ f′ i)
+    → (h ≡ h′) × (p ≡ p′) × (0 < h .buses → f .weighed ≡ f′ .weighed) × ((i : ℕ) → i < h .corridors → f .capped i ≡ f′ .capped i)
 cases-apart f f′ h h′ p p′ n n′ g g′ c c′ l e =
     let z = case-sizes h p c in
     let r =
@@ -133,11 +138,16 @@ cases-apart f f′ h h′ p p′ n n′ g g′ c c′ l e =
     ∙ case-padded f′ h′ p′ p n′ g′ c′ z (subst (λ (s : List ℕ). length s ≤ mostBytes) e l)) in (
       r .0,
       r .1,
+      λ b.
+          sym (case-weighed f h p c n b)
+          ∙ ap (λ (s : List ℕ). formIn s h .weighed) e
+          ∙ ap (λ (x : Header). formIn (fileOf f′ h′ p′ ++ replicate n′ 0) x .weighed) (r .0)
+          ∙ case-weighed f′ h′ p′ c′ n′ (subst (λ (x : Header). 0 < x .buses) (r .0) b),
       λ i b.
-          sym (case-form f h p c n i b)
-          ∙ ap (λ (s : List ℕ). formIn s h i) e
-          ∙ ap (λ (x : Header). formIn (fileOf f′ h′ p′ ++ replicate n′ 0) x i) (r .0)
-          ∙ case-form f′ h′ p′ c′ n′ i (subst (λ (x : Header). i < x .corridors) (r .0) b),
+          sym (case-capped f h p c n i b)
+          ∙ ap (λ (s : List ℕ). formIn s h .capped i) e
+          ∙ ap (λ (x : Header). formIn (fileOf f′ h′ p′ ++ replicate n′ 0) x .capped i) (r .0)
+          ∙ case-capped f′ h′ p′ c′ n′ i (subst (λ (x : Header). i < x .corridors) (r .0) b),
     )
 
 -- ---- a refusal of a file, with every table at its size, leaves zeros

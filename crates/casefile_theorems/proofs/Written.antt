@@ -13,12 +13,13 @@ use lib.ListN.{length, getD, drop, length-append}
 use lib.Seq.{drop-at, drop-drop, getD-drop}
 use Rattle.loops.specs.Loops.{iter}
 use Rattle.loops.proofs.Bools.{and-of, both}
-use Rattle.casefile_defs.specs.Layout.{layoutOf, sizeOf, offsetOf, field, spanOf, placeOf, word, marked, standing, spot}
-use Rattle.casefile_defs.specs.Reading.{recordAt, stepped, walked}
+use Rattle.refusal.specs.declared.Refusal.the-variants.{Mark}
+use Rattle.casefile_defs.specs.Layout.{layoutOf, sizeOf, offsetOf, field, spanOf, placeOf, word, marked, standing, suits, spot}
+use Rattle.casefile_defs.specs.Reading.{recordAt, admitted, stepped, walked}
 use Rattle.casefile_defs.specs.declared.Kind.{Kind}
-use Rattle.casefile_defs.specs.declared.Kind.the-variants.{Level, Bus, Generator, Corridor, Line, CappedCorridor}
+use Rattle.casefile_defs.specs.declared.Kind.the-variants.{Level, Bus, Generator, Corridor, Line, CappedCorridor, WeighedBus}
 use Rattle.casefile_defs.specs.declared.Walk.{Walk}
-use Rattle.casefile_defs.specs.declared.Walk.the-variants.{At}
+use Rattle.casefile_defs.specs.declared.Walk.the-variants.{At, Fault}
 use Rattle.casefile_defs.proofs.Records.{good-at}
 use Rattle.casefile_theorems.specs.Writer.{fieldBytes, recordBytes, tableBytes}
 use Rattle.casefile_theorems.proofs.Bytes.{Fine, fieldIn, allowedIn, word-in, allowed-in, length-fields, fields-read, allowed-read}
@@ -84,9 +85,6 @@ Suits k l = (s : List ℕ) (at : ℕ) → marked l s at ≡ true → standing k 
 pub suits-level : Suits Level Level
 suits-level s at e = refl
 
-pub suits-bus : Suits Bus Bus
-suits-bus s at e = refl
-
 pub suits-generator : Suits Generator Generator
 suits-generator s at e = refl
 
@@ -102,6 +100,11 @@ other-mark a x y p q e n =
     no-and : (b : Bool) → (b && false) ≡ false
     no-and true = refl
     no-and false = refl
+
+pub suits-bus : (b : Bool) → Suits Bus (cond b WeighedBus Bus)
+suits-bus true s at e = ap (λ (x : Bool). cond x WeighedBus Bus) e
+suits-bus false s at e =
+    ap (λ (x : Bool). cond x WeighedBus Bus) (other-mark (getD s (at + 1) 0) 0x55 0x56 (eqb (getD s at 0) 0x42) (eqb (getD s at 0) 0x42) e refl)
 
 pub suits-corridor : (b : Bool) → Suits Corridor (cond b CappedCorridor Corridor)
 suits-corridor true s at e = ap (λ (x : Bool). cond x CappedCorridor Corridor) e
@@ -166,24 +169,28 @@ module _ (k : Kind) (ks : ℕ → Kind) (v : ℕ → ℕ → ℕ) (s p rest : Li
   pub table-found : (i : ℕ) → i < n → Found k (ks i) s (spot k s at i) (v i)
   table-found i h = record { kind = table-kind i h; stands = table-stands i h }
 
-  -- a walk passes them
-  step-on : (i r : ℕ) → i < n → stepped k s r (At (spot k s at i)) ≡ At (spot k s at (suc i))
-  unfolding stepped spot
-  step-on i r h =
-      let t = table-kind i h in
-      ap (λ (x : Kind). recordAt x s r (spot k s at i)) t ∙ table-stands i h .goes r ∙ ap (λ (x : Kind). At (spot k s at i + sizeOf x)) (sym t)
+  -- a walk passes them, where they suit the file's form
+  module _ (weighed : Bool) (u : (i : ℕ) → i < n → suits weighed (ks i) ≡ true) where
+    step-on : (i r : ℕ) → i < n → stepped k weighed s r (At (spot k s at i)) ≡ At (spot k s at (suc i))
+    unfolding stepped admitted spot
+    step-on i r h =
+        let t = table-kind i h in
+        ap (λ (x : Kind). admitted weighed x r (recordAt x s r (spot k s at i))) t
+        ∙ ap (λ (w : Walk). admitted weighed (ks i) r w) (table-stands i h .goes r)
+        ∙ ap (λ (b : Bool). cond b (At (spot k s at i + sizeOf (ks i))) (Fault (Mark r))) (u i h)
+        ∙ ap (λ (x : Kind). At (spot k s at i + sizeOf x)) (sym t)
 
-  walk-on : (d i r : ℕ) → i + d ≤ n → iter (stepped k s) d r (At (spot k s at i)) ≡ At (spot k s at (i + d))
-  unfolding iter
-  walk-on zero i r h = ap (λ (m : ℕ). At (spot k s at m)) (sym (add-zero i))
-  walk-on (suc d) i r h =
-      ap (λ (w : Walk). iter (stepped k s) d (suc r) w) (step-on i r (omega arith))
-      ∙ walk-on d (suc i) (suc r) (omega arith)
-      ∙ ap (λ (m : ℕ). At (spot k s at m)) (let z : suc i + d ≡ i + suc d = omega arith in z)
+    walk-on : (d i r : ℕ) → i + d ≤ n → iter (stepped k weighed s) d r (At (spot k s at i)) ≡ At (spot k s at (i + d))
+    unfolding iter
+    walk-on zero i r h = ap (λ (m : ℕ). At (spot k s at m)) (sym (add-zero i))
+    walk-on (suc d) i r h =
+        ap (λ (w : Walk). iter (stepped k weighed s) d (suc r) w) (step-on i r (omega arith))
+        ∙ walk-on d (suc i) (suc r) (omega arith)
+        ∙ ap (λ (m : ℕ). At (spot k s at m)) (let z : suc i + d ≡ i + suc d = omega arith in z)
 
-  pub walk-stands : (start end : ℕ) → end - start ≡ n → walked k start end s (At at) ≡ At (spot k s at n)
-  unfolding walked spot
-  walk-stands start end q =
-      ap (λ (d : ℕ). iter (stepped k s) d start (At at)) q
-      ∙ walk-on n 0 start (omega arith)
-      ∙ ap (λ (m : ℕ). At (spot k s at m)) (let z : 0 + n ≡ n = omega arith in z)
+    pub walk-stands : (start end : ℕ) → end - start ≡ n → walked k weighed start end s (At at) ≡ At (spot k s at n)
+    unfolding walked spot
+    walk-stands start end q =
+        ap (λ (d : ℕ). iter (stepped k weighed s) d start (At at)) q
+        ∙ walk-on n 0 start (omega arith)
+        ∙ ap (λ (m : ℕ). At (spot k s at m)) (let z : 0 + n ≡ n = omega arith in z)

@@ -6,7 +6,7 @@ use mathlib.Core.Path.{_≡_}
 use lib.Dec.{T}
 use lib.Ieee.{Float, binary64, fits}
 use lib.ListN.{length, getD, replicate}
-use Rattle.loops.specs.Figures.{nought}
+use Rattle.loops.specs.Figures.{nought, one}
 use Rattle.casefile_defs.specs.Bounds.{mostLevels, mostBuses, mostGenerators, mostCorridors, mostSheet}
 use Rattle.casefile_defs.specs.Layout.{Field, upTo, u8, u16, widthOf, allowed}
 use Rattle.casefile_defs.specs.Reading.{levels, lines, countsOk}
@@ -37,7 +37,8 @@ pub record Case (h : Header) (p : Places) : Type 0 where
   pub counts : countsOk h ≡ true
   pub ladder : Figures mostLevels (levels h) (p .ladder)
   pub tier : Numbers u8 mostBuses (h .buses) (p .tier)
-  pub load : Figures mostBuses (h .buses) (p .load)
+  pub reading : Figures mostBuses (h .buses) (p .reading)
+  pub weight : Figures mostBuses (h .buses) (p .weight)
   pub bus : Numbers u16 mostGenerators (h .generators) (p .bus)
   pub slack : Numbers (upTo 1) mostGenerators (h .generators) (p .slack)
   pub pmin : Figures mostGenerators (h .generators) (p .pmin)
@@ -52,20 +53,22 @@ pub record Case (h : Header) (p : Places) : Type 0 where
   pub cap : Numbers u8 mostCorridors (h .corridors) (p .cap)
   pub sheet : Sheet (lines h) (p .sheet)
 
--- a form in which a case can be written: a corridor that is written as CO has cap 0
-abbrev pub Legal : Form → Header → Places → Type 0
-Legal f h p = (i : ℕ) → i < h .corridors → f i ≡ false → getD (p .cap) i 0 ≡ 0
+-- a form in which a case can be written: a bus that is written as BU has weight 1, and a corridor that is written as CO has cap 0
+pub record Legal (f : Form) (h : Header) (p : Places) : Type 0 where
+  pub weights : f .weighed ≡ false → (i : ℕ) → i < h .buses → getD (p .weight) i nought ≡ one
+  pub caps : (i : ℕ) → i < h .corridors → f .capped i ≡ false → getD (p .cap) i 0 ≡ 0
 
--- the longest file of a case, without zeros after it: 15 bytes of header, 5 levels of 10, 256 buses of 11, 128 generators of 37, 256 corridors of 24 and
+-- the longest file of a case, without zeros after it: 15 bytes of header, 5 levels of 10, 256 buses of 19, 128 generators of 37, 256 corridors of 24 and
 -- 1,280 sheet rows of 35
 abbrev pub longest : ℕ
-longest = 58561
+longest = 60609
 
 -- tables of zeros
 unfoldable pub blank : Places
 blank = placesOf
     (replicate mostLevels nought)
     (replicate mostBuses 0)
+    (replicate mostBuses nought)
     (replicate mostBuses nought)
     (replicate mostGenerators 0)
     (replicate mostGenerators 0)

@@ -1,4 +1,4 @@
--- The file of a case: a writer after document 01's "Case file", with document 02's CP, as a definition only.
+-- The file of a case: a writer after document 01's "Case file", with document 02's CP and BV, as a definition only.
 use Prim.Native.Nat.{ℕ, zero, suc, _+_, _*_, _/_, _%_}
 use mathlib.Core.Bool.{Bool, cond}
 use mathlib.Core.List.{List, [], _∷_, _++_}
@@ -10,9 +10,9 @@ use Rattle.mode.specs.Number.{modeNumber}
 use Rattle.casefile_defs.specs.Bounds.{rowFigures}
 use Rattle.casefile_defs.specs.Layout.{Field, number, upTo, figure, widthOf, layoutOf, marked, spot}
 use Rattle.casefile_defs.specs.Reading.{levels, lines}
-use Rattle.casefile_defs.specs.Tables.{Places, basisField, corridorsAt}
+use Rattle.casefile_defs.specs.Tables.{Places, basisField, busesAt, corridorsAt}
 use Rattle.casefile_defs.specs.declared.Kind.{Kind}
-use Rattle.casefile_defs.specs.declared.Kind.the-variants.{Head, Level, Bus, Generator, Corridor, Line, CappedCorridor}
+use Rattle.casefile_defs.specs.declared.Kind.the-variants.{Head, Level, Bus, Generator, Corridor, Line, CappedCorridor, WeighedBus}
 use Rattle.casefile_defs.specs.declared.Header.{Header}
 
 -- w bytes of a number, the least significant first
@@ -49,24 +49,27 @@ countOf Generator h = h .generators
 countOf Corridor h = h .corridors
 countOf Line h = lines h
 countOf CappedCorridor h = 0
+countOf WeighedBus h = 0
 
--- the form of a file: which corridors are written as CP
-abbrev pub Form : Type 0
-Form = ℕ → Bool
+-- the form of a file: whether its buses are written as BV, and which corridors as CP
+pub record Form : Type 0 where
+  pub weighed : Bool
+  pub capped : ℕ → Bool
 
--- the form of a file that is read with a header: by the marks that stand where reading finds the corridors
+-- the form of a file that is read with a header: by the marks that stand where reading finds the first bus and the corridors
 abbrev pub formIn : List ℕ → Header → Form
-formIn s h i = marked CappedCorridor s (spot Corridor s (corridorsAt s h) i)
+formIn s h = record { weighed = marked WeighedBus s (busesAt s h); capped = λ i. marked CappedCorridor s (spot Corridor s (corridorsAt s h) i) }
 
 -- the kind of record i of a table
 abbrev pub kindsOf : Form → Kind → ℕ → Kind
 kindsOf f Head i = Head
 kindsOf f Level i = Level
-kindsOf f Bus i = Bus
+kindsOf f Bus i = cond (f .weighed) WeighedBus Bus
 kindsOf f Generator i = Generator
-kindsOf f Corridor i = cond (f i) CappedCorridor Corridor
+kindsOf f Corridor i = cond (f .capped i) CappedCorridor Corridor
 kindsOf f Line i = Line
 kindsOf f CappedCorridor i = CappedCorridor
+kindsOf f WeighedBus i = WeighedBus
 
 -- the file of a form, a header and the numbers in the tables' records: field j of record i of table k is v k i j
 unfoldable pub fileWith : Form → Header → (Kind → ℕ → ℕ → ℕ) → List ℕ
@@ -92,21 +95,22 @@ rowPlace i j = i * rowFigures + j
 unfoldable pub wordsOf : Places → Kind → ℕ → ℕ → ℕ
 wordsOf p Head i = row []
 wordsOf p Level i = row (bitsAt (p .ladder) i ∷ [])
-wordsOf p Bus i = row (getD (p .tier) i 0 ∷ bitsAt (p .load) i ∷ [])
+wordsOf p Bus i = row (getD (p .tier) i 0 ∷ bitsAt (p .reading) i ∷ bitsAt (p .weight) i ∷ [])
 wordsOf p Generator i = row (getD (p .bus) i 0 ∷ getD (p .slack) i 0 ∷ bitsAt (p .pmin) i ∷ bitsAt (p .pmax) i ∷ bitsAt (p .c1) i ∷ bitsAt (p .c2) i ∷ [])
 wordsOf p Corridor i = row (getD (p .a) i 0 ∷ getD (p .b) i 0 ∷ getD (p .circuits) i 0 ∷ bitsAt (p .lengthKm) i ∷ bitsAt (p .share) i ∷ getD (p .cap) i 0 ∷ [])
 wordsOf p Line i =
     row (bitsAt (p .sheet) (rowPlace i 0) ∷ bitsAt (p .sheet) (rowPlace i 1) ∷ bitsAt (p .sheet) (rowPlace i 2) ∷ bitsAt (p .sheet) (rowPlace i 3)
     ∷ basisAt (p .sheet) (rowPlace i basisField) ∷ [])
 wordsOf p CappedCorridor i = row []
+wordsOf p WeighedBus i = row []
 
 -- the file of a case in a form
 unfoldable pub fileOf : Form → Header → Places → List ℕ
 fileOf f h p = fileWith f h (wordsOf p)
 
--- the form in which only corridors with a cap are written as CP
-unfoldable pub capsOnly : Places → Form
-capsOnly p i = ltb 0 (getD (p .cap) i 0)
+-- the form in which only corridors with a cap are written as CP, and the buses as BV or not
+unfoldable pub capsOnly : Bool → Places → Form
+capsOnly weighed p = record { weighed = weighed; capped = λ i. ltb 0 (getD (p .cap) i 0) }
 
 -- the pattern under which the NaN is written
 abbrev pub nanPattern : ℕ

@@ -13,8 +13,8 @@ use Rattle.refusal.specs.declared.Answer.{Answer}
 use Rattle.dispatch.specs.Operation as dispatch
 use Rattle.leaders.specs.Operation as leaders
 use Rattle.line_defs.specs.Sheet as sheets
-use Rattle.placement.specs.Support as support
-use Rattle.placement.specs.declared.Placement.{Placement}
+use Rattle.placement_defs.specs.Support as support
+use Rattle.placement_defs.specs.declared.Placement.{Placement}
 use Rattle.exports.specs.Said.{anglesSaid, readingSaid, caseSaid, answerSaid, placementSaid}
 use Rattle.exports.specs.declared.AnglesSaid.{AnglesSaid}
 use Rattle.exports.specs.declared.ReadingSaid.{ReadingSaid}

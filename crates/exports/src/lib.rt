@@ -8,8 +8,8 @@ ghost use Rattle.dispatch.specs.Operation.{dispatched};
 ghost use Rattle.dispatch.specs.Units.{unitsOf};
 ghost use Rattle.leaders.specs.Operation.{ledOutcome};
 ghost use Rattle.line_defs.specs.Sheet.{lineSheet};
-ghost use Rattle.placement.specs.Request as asked;
-ghost use Rattle.placement.specs.Support.{placement};
+ghost use Rattle.placement_defs.specs.Request as asked;
+ghost use Rattle.placement_defs.specs.Support.{placement};
 ghost use Rattle.exports.specs.Said.{anglesSaid, caseSaid, answerSaid, placementSaid};
 
 // The answer of `dc_angles`. A field that has nothing to say is 0.

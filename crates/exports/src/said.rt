@@ -2,7 +2,7 @@
 ghost use mathlib.Core.Path.{_≡_};
 ghost use Rattle.angles_defs.specs.Operation as defined;
 ghost use Rattle.casefile_defs.specs.Tables as tables;
-ghost use Rattle.placement.specs.Support as support;
+ghost use Rattle.placement_defs.specs.Support as support;
 ghost use Rattle.refusal.specs.Reply as replies;
 ghost use Rattle.exports.specs.Said.{anglesSaid, endedFigure, endedNumber, readingSaid, answerSaid, placementSaid};
 use crate::AnglesSaid;
@@ -15,7 +15,7 @@ use angles_defs::Solution;
 use casefile_defs::CaseRead;
 use casefile_defs::Header;
 use casefile_defs::Reading;
-use placement::Placement;
+use placement_defs::Placement;
 use refusal::Answer;
 use refusal::Refusal;
 

@@ -1,5 +1,6 @@
 -- Two districts by hand: what is said of them joined, the joined ends, and each refusal in its order.
 use Prim.Native.Nat.{ℕ}
+use mathlib.Core.Bool.{true, false}
 use mathlib.Core.List.{List, [], _∷_}
 use mathlib.Core.Path.{_≡_, refl}
 use lib.Ieee.{Float, binary64, ofBits}
@@ -12,7 +13,7 @@ use Rattle.casefile_defs.specs.Tables.{Places, placesOf}
 use Rattle.casefile_defs.specs.declared.Header.{Header}
 use Rattle.plan_defs.specs.Case.{Case}
 use Rattle.join_defs.specs.Columns.{counts}
-use Rattle.join_defs.specs.Districts.{joinedCase}
+use Rattle.join_defs.specs.Districts.{joinedCase, sumsOk}
 use Rattle.join_defs.specs.Joining.{caseAs, joinCases}
 
 -- 138 and 230 kV
@@ -63,7 +64,7 @@ said h p k q = joinCases h p k q (lent 6400) .reply
 -- ---- counts and targets are added
 pub joined : said (header Expand 3 2 1 0 1) first (header Expand 5 3 2 0 1) second
     ≡ answered (record { mode = Expand; target = 8; buses = 5; corridors = 3; generators = 2; above = 0; requested = 1 })
-unfolding joinCases Rattle.join_defs.specs.Joining.joinedBy Rattle.join_defs.specs.Districts.joinFault Rattle.join_defs.specs.Districts.joinedCase Rattle.join_defs.specs.Districts.sumsOk Rattle.join_defs.specs.Districts.alike Rattle.join_defs.specs.Districts.sameLadder Rattle.casefile_defs.specs.Tables.sizesOk Rattle.refusal.specs.Number.numberOf Rattle.refusal.specs.Number.indexOf Rattle.mode.specs.Number.modeNumber Rattle.loops.specs.Loops.first Rattle.loops.specs.Loops.tab Rattle.plan_defs.specs.Case.rowPlace Rattle.plan_defs.specs.Case.rowAt Rattle.plan_defs.specs.Accept.lengthsOk Rattle.plan_defs.specs.Accept.countsOk Rattle.plan_defs.specs.Accept.levelOk Rattle.plan_defs.specs.Accept.busOk Rattle.plan_defs.specs.Accept.generatorOk Rattle.plan_defs.specs.Accept.corridorSound Rattle.plan_defs.specs.Accept.rowOk Rattle.plan_defs.specs.Accept.tablesFault Rattle.plan_defs.specs.Accept.caseFault lib.Ieee.add lib.Ieee.mul lib.Ieee.lt lib.Ieee.le lib.Ieee.eq lib.Ieee.neg ofBits lib.Ieee.round
+unfolding joinCases Rattle.join_defs.specs.Joining.joinedBy Rattle.join_defs.specs.Districts.joinFault joinedCase sumsOk Rattle.join_defs.specs.Districts.alike Rattle.join_defs.specs.Districts.sameLadder Rattle.casefile_defs.specs.Tables.sizesOk Rattle.refusal.specs.Number.numberOf Rattle.refusal.specs.Number.indexOf Rattle.mode.specs.Number.modeNumber Rattle.loops.specs.Loops.first Rattle.loops.specs.Loops.tab Rattle.plan_defs.specs.Case.rowPlace Rattle.plan_defs.specs.Case.rowAt Rattle.plan_defs.specs.Accept.lengthsOk Rattle.plan_defs.specs.Accept.countsOk Rattle.plan_defs.specs.Accept.levelOk Rattle.plan_defs.specs.Accept.busOk Rattle.plan_defs.specs.Accept.generatorOk Rattle.plan_defs.specs.Accept.corridorSound Rattle.plan_defs.specs.Accept.rowOk Rattle.plan_defs.specs.Accept.tablesFault Rattle.plan_defs.specs.Accept.caseFault lib.Ieee.add lib.Ieee.mul lib.Ieee.lt lib.Ieee.le lib.Ieee.eq lib.Ieee.neg ofBits lib.Ieee.round
 joined = refl
 
 -- ---- the second's ends and its generator's bus are moved, its circuits are not
@@ -87,8 +88,24 @@ pub refusals :
     ∷ said (header Expand 65_532 2 1 0 1) first (header ExpandServing 5 3 2 0 1) second
     ∷ []
     ≡ refused 1 0 ∷ refused 6 0 ∷ refused 5 0 ∷ refused 2 0 ∷ []
-unfolding joinCases Rattle.join_defs.specs.Joining.joinedBy Rattle.join_defs.specs.Districts.joinFault Rattle.join_defs.specs.Districts.joinedCase Rattle.join_defs.specs.Districts.sumsOk Rattle.join_defs.specs.Districts.alike Rattle.join_defs.specs.Districts.sameLadder Rattle.casefile_defs.specs.Tables.sizesOk Rattle.refusal.specs.Number.numberOf Rattle.refusal.specs.Number.indexOf Rattle.mode.specs.Number.modeNumber Rattle.loops.specs.Loops.first Rattle.loops.specs.Loops.tab Rattle.plan_defs.specs.Case.rowPlace Rattle.plan_defs.specs.Case.rowAt Rattle.plan_defs.specs.Accept.lengthsOk Rattle.plan_defs.specs.Accept.countsOk Rattle.plan_defs.specs.Accept.levelOk Rattle.plan_defs.specs.Accept.busOk Rattle.plan_defs.specs.Accept.generatorOk Rattle.plan_defs.specs.Accept.corridorSound Rattle.plan_defs.specs.Accept.rowOk Rattle.plan_defs.specs.Accept.tablesFault Rattle.plan_defs.specs.Accept.caseFault lib.Ieee.add lib.Ieee.mul lib.Ieee.lt lib.Ieee.le lib.Ieee.eq lib.Ieee.neg ofBits lib.Ieee.round
+unfolding joinCases Rattle.join_defs.specs.Joining.joinedBy Rattle.join_defs.specs.Districts.joinFault joinedCase sumsOk Rattle.join_defs.specs.Districts.alike Rattle.join_defs.specs.Districts.sameLadder Rattle.casefile_defs.specs.Tables.sizesOk Rattle.refusal.specs.Number.numberOf Rattle.refusal.specs.Number.indexOf Rattle.mode.specs.Number.modeNumber Rattle.loops.specs.Loops.first Rattle.loops.specs.Loops.tab Rattle.plan_defs.specs.Case.rowPlace Rattle.plan_defs.specs.Case.rowAt Rattle.plan_defs.specs.Accept.lengthsOk Rattle.plan_defs.specs.Accept.countsOk Rattle.plan_defs.specs.Accept.levelOk Rattle.plan_defs.specs.Accept.busOk Rattle.plan_defs.specs.Accept.generatorOk Rattle.plan_defs.specs.Accept.corridorSound Rattle.plan_defs.specs.Accept.rowOk Rattle.plan_defs.specs.Accept.tablesFault Rattle.plan_defs.specs.Accept.caseFault lib.Ieee.add lib.Ieee.mul lib.Ieee.lt lib.Ieee.le lib.Ieee.eq lib.Ieee.neg ofBits lib.Ieee.round
 refusals = refl
+
+-- 2 of the sums, at each bound and past it
+abbrev counted : ℕ → ℕ → ℕ → Case
+counted buses corridors generators =
+    caseAs (record { mode = Expand; target = 0; buses = buses; corridors = corridors; generators = generators; above = 0; requested = 1 }) first
+
+pub bounds :
+    sumsOk (counted 200 200 100) 60_000 (counted 56 56 28) 5_536
+    ∷ sumsOk (counted 200 200 100) 60_000 (counted 57 56 28) 5_536
+    ∷ sumsOk (counted 200 200 100) 60_000 (counted 56 57 28) 5_536
+    ∷ sumsOk (counted 200 200 100) 60_000 (counted 56 56 29) 5_536
+    ∷ sumsOk (counted 200 200 100) 60_000 (counted 56 56 28) 5_537
+    ∷ []
+    ≡ true ∷ false ∷ false ∷ false ∷ false ∷ []
+unfolding sumsOk
+bounds = refl
 
 -- by mode, by kV, by the number of levels, by how many are requested
 pub unlike :
@@ -98,5 +115,5 @@ pub unlike :
     ∷ said (header Expand 3 2 1 1 1) (west (high ∷ low ∷ []) twice (1 ∷ []) fifty) (header Expand 3 2 1 0 2) (west (high ∷ low ∷ []) twice (1 ∷ []) fifty)
     ∷ []
     ≡ refused 24 0 ∷ refused 24 0 ∷ refused 24 0 ∷ refused 24 0 ∷ []
-unfolding joinCases Rattle.join_defs.specs.Joining.joinedBy Rattle.join_defs.specs.Districts.joinFault Rattle.join_defs.specs.Districts.joinedCase Rattle.join_defs.specs.Districts.sumsOk Rattle.join_defs.specs.Districts.alike Rattle.join_defs.specs.Districts.sameLadder Rattle.casefile_defs.specs.Tables.sizesOk Rattle.refusal.specs.Number.numberOf Rattle.refusal.specs.Number.indexOf Rattle.mode.specs.Number.modeNumber Rattle.loops.specs.Loops.first Rattle.loops.specs.Loops.tab Rattle.plan_defs.specs.Case.rowPlace Rattle.plan_defs.specs.Case.rowAt Rattle.plan_defs.specs.Accept.lengthsOk Rattle.plan_defs.specs.Accept.countsOk Rattle.plan_defs.specs.Accept.levelOk Rattle.plan_defs.specs.Accept.busOk Rattle.plan_defs.specs.Accept.generatorOk Rattle.plan_defs.specs.Accept.corridorSound Rattle.plan_defs.specs.Accept.rowOk Rattle.plan_defs.specs.Accept.tablesFault Rattle.plan_defs.specs.Accept.caseFault lib.Ieee.add lib.Ieee.mul lib.Ieee.lt lib.Ieee.le lib.Ieee.eq lib.Ieee.neg ofBits lib.Ieee.round
+unfolding joinCases Rattle.join_defs.specs.Joining.joinedBy Rattle.join_defs.specs.Districts.joinFault joinedCase sumsOk Rattle.join_defs.specs.Districts.alike Rattle.join_defs.specs.Districts.sameLadder Rattle.casefile_defs.specs.Tables.sizesOk Rattle.refusal.specs.Number.numberOf Rattle.refusal.specs.Number.indexOf Rattle.mode.specs.Number.modeNumber Rattle.loops.specs.Loops.first Rattle.loops.specs.Loops.tab Rattle.plan_defs.specs.Case.rowPlace Rattle.plan_defs.specs.Case.rowAt Rattle.plan_defs.specs.Accept.lengthsOk Rattle.plan_defs.specs.Accept.countsOk Rattle.plan_defs.specs.Accept.levelOk Rattle.plan_defs.specs.Accept.busOk Rattle.plan_defs.specs.Accept.generatorOk Rattle.plan_defs.specs.Accept.corridorSound Rattle.plan_defs.specs.Accept.rowOk Rattle.plan_defs.specs.Accept.tablesFault Rattle.plan_defs.specs.Accept.caseFault lib.Ieee.add lib.Ieee.mul lib.Ieee.lt lib.Ieee.le lib.Ieee.eq lib.Ieee.neg ofBits lib.Ieee.round
 unlike = refl

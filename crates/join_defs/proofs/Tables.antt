@@ -1,22 +1,21 @@
 -- The joined tables as code fills them, column by column.
 use Prim.Native.Nat.{ℕ, zero, suc, _+_, _-_, _<_, _≤_}
 use mathlib.Core.Bool.{Bool, true, false, cond}
-use mathlib.Core.List.{List, [], _∷_, _++_, map, append-nil}
+use mathlib.Core.List.{List, [], _∷_, _++_, append-nil}
 use mathlib.Core.Path.{_≡_, refl, sym, ap, _∙_}
 use native.Mathlib.Omega.{arith}
 use borrow.Author.Tests.{ltb-true, ltb-false}
 use lib.Dec.{ltb}
 use lib.Ieee.{Float, nan}
-use lib.ListN.{length, getD, length-append, length-map, List·getD-append, List·getD-eq-default}
+use lib.ListN.{length, getD, length-map, List·getD-append, List·getD-eq-default}
 use lib.Seq.{getD-append-add}
 use Rattle.loops.specs.Figures.{at, nought}
-use Rattle.loops.specs.Loops.{tab}
 use Rattle.loops.proofs.Tab.{tab-same}
 use Rattle.loops.proofs.Fronts.{get-map}
 use Rattle.casefile_defs.specs.Bounds.{mostLevels, mostBuses, mostGenerators, mostCorridors, mostSheet}
-use Rattle.casefile_defs.specs.Tables.{Places, placesOf}
+use Rattle.casefile_defs.specs.Tables.{placesOf}
 use Rattle.plan_defs.specs.Case.{Case}
-use Rattle.join_defs.specs.Columns.{figureAt, figures, countAt, counts}
+use Rattle.join_defs.specs.Columns.{figures, counts}
 use Rattle.join_defs.specs.Districts.{moved, joinedCase}
 use Rattle.join_defs.specs.Joining.{padded, laidOut}
 

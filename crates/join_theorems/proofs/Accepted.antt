@@ -1,28 +1,24 @@
 -- The joined case of two accepted cases that can be joined is accepted. Each test of a joined row is the test of the row in its own case.
-use Prim.Native.Nat.{ℕ, zero, suc, _+_, _-_, _*_, _/_, _%_, _≤_, _<_}
+use Prim.Native.Nat.{ℕ, _+_, _-_, _*_, _/_, _%_, _≤_, _<_}
 use mathlib.Core.Bool.{Bool, true, false, not, cond, _&&_}
 use mathlib.Core.List.{List, _++_}
 use mathlib.Core.Option.{Option, none, some}
-use mathlib.Core.Path.{_≡_, refl, sym, ap, _∙_, subst}
+use mathlib.Core.Path.{_≡_, refl, sym, ap, _∙_}
 use native.Mathlib.Nat.{add-mul, mod-lt, div-lt-iff-lt-mul}
 use native.Mathlib.Omega.{arith}
-use borrow.Author.Tests.{ltb-true, ltb-false, leb-true, lt-ltb, le-ltb, le-leb, eq-eqb, ne-eqb, eqb-true, eqb-false}
+use borrow.Author.Tests.{ltb-true, ltb-false, lt-ltb, le-ltb, le-leb, eq-eqb}
 use lib.Dec.{ltb, leb, eqb}
-use lib.Ieee.{Float}
 use lib.ListN.{length, getD, length-append, length-map}
-use Rattle.loops.specs.Figures.{at, nought, one, half, tenThousand, inside}
 use Rattle.loops.specs.Loops.{first}
 use Rattle.loops.proofs.Bools.{both, and-of, unequal}
 use Rattle.loops.proofs.Scan.{pass-all}
-use Rattle.loads.specs.Load.{loadOk}
 use Rattle.refusal.specs.declared.Refusal.{Refusal}
 use Rattle.refusal.specs.declared.Refusal.the-variants.{Length, Count, Level, Bus, Generator, Corridor, Row as SheetRow, Districts}
 use Rattle.leaders.specs.Operation.{corridorOk}
-use Rattle.dispatch.specs.Units.{unitOk}
-use Rattle.plan_defs.specs.Constants.{mostBuses, mostCorridors, mostGenerators, mostLevels, mostTarget, mostInitial, mostCap, rowFigures}
-use Rattle.plan_defs.specs.Case.{Case, Row, levels, loadOf, endA, endB, ownCap, rowAt}
+use Rattle.plan_defs.specs.Constants.{mostBuses, mostCorridors, mostGenerators, mostLevels, rowFigures}
+use Rattle.plan_defs.specs.Case.{Case, levels, endA, endB, rowAt}
 use Rattle.plan_defs.specs.Accept.{lengthsOk, countsOk, levelOk, busOk, generatorOk, corridorSound, rowSound, rowOk, firstFault, tablesFault, caseFault}
-use Rattle.plan_defs.proofs.Accepted.{Columns, Counts, Accepted, accepted, row-sound, bus-below, end-a, end-b}
+use Rattle.plan_defs.proofs.Accepted.{Accepted, accepted, row-sound, bus-below, end-a, end-b}
 use Rattle.join_defs.specs.Districts.{moved, joinedCase, sumsOk, alike, orElse, joinFault}
 use Rattle.join_theorems.proofs.Lists.{eqb-moved}
 use Rattle.join_theorems.proofs.Within.{Within, first-within, second-within, levels-same}

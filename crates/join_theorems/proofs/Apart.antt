@@ -1,14 +1,12 @@
 -- Where all three are answered, joining leaves two districts apart: the dispatch and the grounds of the joined case are those of the two.
 -- Corridors join no bus of one to a bus of the other, so the components are the first's, then the second's, and each is served in its own places.
-use Prim.Native.Nat.{ℕ, zero, suc, _+_, _-_, _≤_, _<_}
-use mathlib.Core.Bool.{Bool, true}
-use mathlib.Core.List.{List, [], _∷_, _++_, map, append-nil}
-use mathlib.Core.Option.{none}
+use Prim.Native.Nat.{ℕ, _+_, _-_, _<_}
+use mathlib.Core.Bool.{true}
+use mathlib.Core.List.{List, [], _∷_, _++_, map, append-nil, map-append}
 use mathlib.Core.Path.{_≡_, refl, sym, ap, _∙_, subst}
 use native.Mathlib.Omega.{arith}
 use lib.Ieee.{Float, nan}
 use lib.ListN.{length, getD, replicate, length-append, length-map, length-replicate, replicate-append-replicate, List·getD-append}
-use lib.Seq.{getD-append-add}
 use Rattle.loops.specs.Figures.{at, nought}
 use Rattle.leaders.specs.Chain.{Led}
 use Rattle.leaders.proofs.Laws.{led as led-by}
@@ -16,7 +14,6 @@ use Rattle.angles_defs.specs.Network.{zeros}
 use Rattle.plan_defs.specs.Lists.{passing}
 use Rattle.plan_defs.specs.Stage.{Stage, going, onward, eachStage}
 use Rattle.plan_defs.specs.Case.{Case}
-use Rattle.plan_defs.specs.Accept.{caseFault}
 use Rattle.plan_defs.specs.Components.{component, leads, roots, groundOf, groundsOf}
 use Rattle.plan_defs.specs.Dispatch.{serve, dispatchOf}
 use Rattle.plan_defs.specs.Solve.{Peak, PlanningCase, planningState}
@@ -25,7 +22,7 @@ use Rattle.plan_defs.specs.Plan.{Plan, Ready, readyOf, closing, planFor, planne
 use Rattle.plan_defs.specs.Outcome.{Slices, Outcome, upTo, held, summary}
 use Rattle.plan_defs.specs.Demand.{AnswerTo}
 use Rattle.plan_defs.specs.declared.CorridorPlan.{CorridorPlan}
-use Rattle.plan_defs.proofs.Lists.{All, pass-below, get-map}
+use Rattle.plan_defs.proofs.Lists.{All, pass-below}
 use Rattle.plan_defs.proofs.Stages.{On, on-all, on-onward}
 use Rattle.plan_defs.proofs.Accepted.{Accepted, accepted, ends, bus-below}
 use Rattle.plan_defs.proofs.Opened.{Done, done}
@@ -35,12 +32,8 @@ use Rattle.join_defs.specs.Districts.{moved, joinedCase, alike}
 use Rattle.join_defs.proofs.Tables.{unmoved}
 use Rattle.join_theorems.specs.Apart.{Apart, AnswersApart}
 use Rattle.join_theorems.proofs.Lists.{passing-split, map-moved, map-raised, stages-append, stages-within}
-use Rattle.join_theorems.proofs.Within.{Within, first-at, second-at, moved-first, moved-second, first-within, second-within}
+use Rattle.join_theorems.proofs.Within.{second-at, moved-first, moved-second, first-within, second-within}
 use Rattle.join_theorems.proofs.Served.{Closed, leads-is, ground-is, served-within}
-
-map-append : {A B : Type 0} (f : A → B) (x y : List A) → map f (x ++ y) ≡ map f x ++ map f y
-map-append f [] y = refl
-map-append {A} {B} f (a ∷ x) y = ap (λ (l : List B). f a ∷ l) (map-append f x y)
 
 -- ---- a plan's dispatch and grounds are those of its case's components
 pub record Stands (c : Case) (p : Plan) : Type 0 where

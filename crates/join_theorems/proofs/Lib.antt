@@ -4,3 +4,4 @@ pub mod Within
 pub mod Accepted
 pub mod Served
 pub mod Apart
+pub mod Calls

@@ -1,9 +1,9 @@
 -- A district within a larger case that no corridor leaves: each of its components has the units, the demand, the dispatch and the ground that it has alone.
 -- Sums and outputs are over the same figures in the same order, so nothing is rounded otherwise.
-use Prim.Native.Nat.{ℕ, zero, suc, _+_, _≤_, _<_}
+use Prim.Native.Nat.{ℕ, _+_, _≤_, _<_}
 use mathlib.Core.Bool.{Bool, true, false, not, _&&_}
-use mathlib.Core.List.{List, [], _∷_, _++_, map}
-use mathlib.Core.Path.{_≡_, refl, sym, ap, _∙_, subst}
+use mathlib.Core.List.{List, [], _∷_, _++_}
+use mathlib.Core.Path.{_≡_, refl, sym, ap, _∙_}
 use native.Mathlib.Omega.{arith}
 use borrow.Author.Tests.{ne-eqb}
 use lib.Dec.{eqb, ltb}
@@ -11,17 +11,17 @@ use lib.Ieee.{Float}
 use lib.ListN.{length, getD, length-map}
 use Rattle.loops.specs.Figures.{at, plus, nought}
 use Rattle.loops.proofs.Bools.{unequal}
-use Rattle.dispatch.specs.Units.{Units, unitsOf}
+use Rattle.dispatch.specs.Units.{Units}
 use Rattle.dispatch.specs.Dispatch.{faultyCost}
 use Rattle.plan_defs.specs.Lists.{passing, sumOver}
-use Rattle.plan_defs.specs.Stage.{Stage, stopped, going}
+use Rattle.plan_defs.specs.Stage.{going}
 use Rattle.plan_defs.specs.Case.{Case, topsUp, loadOf}
 use Rattle.plan_defs.specs.TopUp.{givenBy}
 use Rattle.plan_defs.specs.Components.{leads, within, members, unitWithin, unitsIn, slackWithin, busOr, groundOf}
 use Rattle.plan_defs.specs.Dispatch.{unitsAt, demandOf, scatter, servedIf, servedBy, serve}
 use Rattle.plan_defs.proofs.Lists.{All, pass-below}
 use Rattle.join_defs.specs.Districts.{moved}
-use Rattle.join_theorems.proofs.Lists.{eqb-moved, passing-within, each-moved, map-moved, map-raised, scatter-middle, length-scatter}
+use Rattle.join_theorems.proofs.Lists.{eqb-moved, passing-within, each-moved, map-moved, scatter-middle, length-scatter}
 use Rattle.join_theorems.proofs.Within.{Within}
 
 -- no leader of the district leads a bus outside it, and none outside one of its own; e buses and f generators follow
@@ -100,8 +100,12 @@ module _ (c j : Case) (led wide : List ℕ) (b o m e f : ℕ) (w : Within c j b 
 
   limits-are : (ks : List ℕ) → All (λ k. k < c .generators) ks → unitsAt j (moved o ks) ≡ unitsAt c ks
   limits-are ks h =
-      cc (map-moved o (c .generators) (at (j .pmin)) (at (c .pmin)) (w .pmin) ks h, map-moved o (c .generators) (at (j .pmax)) (at (c .pmax)) (w .pmax) ks h,
-      map-moved o (c .generators) (at (j .c1)) (at (c .c1)) (w .c1) ks h, map-moved o (c .generators) (at (j .c2)) (at (c .c2)) (w .c2) ks h)
+      cc (
+        map-moved o (c .generators) (at (j .pmin)) (at (c .pmin)) (w .pmin) ks h,
+        map-moved o (c .generators) (at (j .pmax)) (at (c .pmax)) (w .pmax) ks h,
+        map-moved o (c .generators) (at (j .c1)) (at (c .c1)) (w .c1) ks h,
+        map-moved o (c .generators) (at (j .c2)) (at (c .c2)) (w .c2) ks h,
+      )
 
   -- ---- its dispatch, put to the units' places; what stands before and after is left
   module _ (left right : List Float) (size : length left ≡ o) where
@@ -111,8 +115,7 @@ module _ (c j : Case) (led wide : List ℕ) (b o m e f : ℕ) (w : Within c j b 
     unfolding servedIf
     put-within ks h u demand i x y s true q = absurd (unequal (cc))
     put-within ks h u demand i x y s false q =
-        let p : scatter ks (givenBy (topsUp (c .mode)) u demand) x ≡ y = cc in
-        (
+        let p : scatter ks (givenBy (topsUp (c .mode)) u demand) x ≡ y = cc in (
           ap going (scatter-middle ks (givenBy (topsUp (c .mode)) u demand) left right o (c .generators) size h x s ∙ ap (λ (l : List Float). left ++ (l ++ right)) p),
           ap length (sym p) ∙ length-scatter ks (givenBy (topsUp (c .mode)) u demand) x ∙ s,
         )
@@ -127,13 +130,12 @@ module _ (c j : Case) (led wide : List ℕ) (b o m e f : ℕ) (w : Within c j b 
         let d = demandOf c led root in
         let i = faultyCost u d in
         let r = put-within ks h u d i x y s (ltb i (length ks)) q in
-        let all = left ++ (x ++ right) in
-        (
+        let all = left ++ (x ++ right) in (
           ap (λ (l : List ℕ). servedBy (topsUp (j .mode)) l (unitsAt j l) (demandOf j wide (b + root)) all) units-are
-          ∙ ap (λ (v : Units). servedBy (topsUp (j .mode)) (moved o ks) v (demandOf j wide (b + root)) all) (limits-are ks h)
-          ∙ ap (λ (v : Float). servedBy (topsUp (j .mode)) (moved o ks) u v all) demand-is
-          ∙ ap (λ (t : Bool). servedBy t (moved o ks) u d all) (w .tops)
-          ∙ ap (λ (n : ℕ). servedIf (ltb i n) (topsUp (c .mode)) (moved o ks) u d i all) (length-map ks (λ k. o + k))
-          ∙ r .0,
+              ∙ ap (λ (v : Units). servedBy (topsUp (j .mode)) (moved o ks) v (demandOf j wide (b + root)) all) (limits-are ks h)
+              ∙ ap (λ (v : Float). servedBy (topsUp (j .mode)) (moved o ks) u v all) demand-is
+              ∙ ap (λ (t : Bool). servedBy t (moved o ks) u d all) (w .tops)
+              ∙ ap (λ (n : ℕ). servedIf (ltb i n) (topsUp (c .mode)) (moved o ks) u d i all) (length-map ks (λ k. o + k))
+              ∙ r .0,
           r .1,
         )

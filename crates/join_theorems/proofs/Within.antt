@@ -2,12 +2,11 @@
 -- Of two joined cases both are within the joined one.
 use Prim.Native.Nat.{ℕ, _+_, _*_, _≤_, _<_}
 use mathlib.Core.List.{List, _++_}
-use mathlib.Core.Path.{_≡_, refl, sym, ap, _∙_, subst}
+use mathlib.Core.Path.{_≡_, refl, sym, ap, _∙_}
 use mathlib.Core.Bool.{true}
-use native.Mathlib.Nat.{mul-le-mul-right, suc-mul, mul-add, add-mul}
-use native.Mathlib.Numerals.{add-one}
+use native.Mathlib.Nat.{add-mul}
 use native.Mathlib.Omega.{arith}
-use borrow.Author.Tests.{eqb-true, leb-true}
+use borrow.Author.Tests.{eqb-true}
 use lib.Dec.{eqb, leb}
 use lib.Ieee.{Float, nan}
 use lib.ListN.{length, getD, List·getD-append}
@@ -18,9 +17,9 @@ use Rattle.mode.specs.Number.{modeNumber}
 use Rattle.mode.specs.declared.PlanMode.{PlanMode}
 use Rattle.mode.specs.declared.PlanMode.the-variants.{Expand, Reinforce, Observe, ExpandServing, ReinforceServing, ObserveServing}
 use Rattle.plan_defs.specs.Constants.{rowFigures}
-use Rattle.plan_defs.specs.Case.{Case, Row, levels, topsUp, loadOf, endA, endB, ownCap, rowPlace, rowFrom, rowAt}
+use Rattle.plan_defs.specs.Case.{Case, levels, topsUp, loadOf, endA, endB, ownCap, rowPlace, rowFrom, rowAt}
 use Rattle.plan_defs.proofs.Lists.{get-map}
-use Rattle.plan_defs.proofs.Accepted.{Columns, Accepted, row-inside}
+use Rattle.plan_defs.proofs.Accepted.{Accepted, row-inside}
 use Rattle.join_defs.specs.Districts.{moved, joinedCase, sameLadder, alike}
 
 -- c within j: its buses from b on, its generators from o on, its corridors from m on
@@ -64,16 +63,26 @@ moved-second x y b n i e h = second-at x (moved b y) 0 n i e ∙ get-map (λ k. 
 -- a row of five figures there
 from-first : (x y : List Float) (i : ℕ) → i + rowFigures ≤ length x → rowFrom (x ++ y) i ≡ rowFrom x i
 from-first x y i h =
-    cc (List·getD-append x y nan i (omega arith), List·getD-append x y nan (i + 1) (omega arith), List·getD-append x y nan (i + 2) (omega arith),
-    List·getD-append x y nan (i + 3) (omega arith), List·getD-append x y nan (i + 4) (omega arith))
+    cc (
+      List·getD-append x y nan i (omega arith),
+      List·getD-append x y nan (i + 1) (omega arith),
+      List·getD-append x y nan (i + 2) (omega arith),
+      List·getD-append x y nan (i + 3) (omega arith),
+      List·getD-append x y nan (i + 4) (omega arith),
+    )
 
 past : (x y : List Float) (n i j : ℕ) → length x ≡ n → n + i ≡ j → at (x ++ y) j ≡ at y i
 past x y n i j e h = ap (at (x ++ y)) (sym h) ∙ second-at x y nan n i e
 
 from-second : (x y : List Float) (n i : ℕ) → length x ≡ n → rowFrom (x ++ y) (n + i) ≡ rowFrom y i
 from-second x y n i e =
-    cc (past x y n i (n + i) e refl, past x y n (i + 1) (n + i + 1) e (omega arith), past x y n (i + 2) (n + i + 2) e (omega arith),
-    past x y n (i + 3) (n + i + 3) e (omega arith), past x y n (i + 4) (n + i + 4) e (omega arith))
+    cc (
+      past x y n i (n + i) e refl,
+      past x y n (i + 1) (n + i + 1) e (omega arith),
+      past x y n (i + 2) (n + i + 2) e (omega arith),
+      past x y n (i + 3) (n + i + 3) e (omega arith),
+      past x y n (i + 4) (n + i + 4) e (omega arith),
+    )
 
 -- ---- the same mode, requested levels and count of levels
 tops-up : (mode : PlanMode) → topsUp mode ≡ leb 3 (modeNumber mode)

@@ -1,5 +1,5 @@
 -- With the weight 1 a load is its reading, bit for bit, of every figure that f64 holds. The loads of the first buses do not turn on how many follow.
-use Prim.Native.Nat.{ℕ, _<_, _≤_}
+use Prim.Native.Nat.{ℕ, _-_, _<_, _≤_}
 use mathlib.Core.Path.{_≡_, ap, _∙_}
 use mathlib.Core.List.{List}
 use native.Mathlib.Omega.{arith}
@@ -9,7 +9,7 @@ use lib.Ieee.{Float, nan, binary64, fits}
 use Rattle.loops.specs.Figures.{at, times, one}
 use Rattle.loops.proofs.Exact.{times-one}
 use Rattle.loops.proofs.Tab.{length-tab, get-tab, tab-same, tab-of}
-use Rattle.loops.proofs.Fronts.{front-tab}
+use Rattle.loops.proofs.Fronts.{front-tab, front-lent}
 use Rattle.loads.specs.Load.{loadBy, weighed, loadsOf}
 
 pub weight-one : (x : Float) → T (fits binary64 x) → loadBy x one ≡ x
@@ -25,3 +25,11 @@ pub loads-front : (m n : ℕ) (reading weight : List Float) → n ≤ m → take
 loads-front m n reading weight h =
     front-tab n (loadsOf m reading weight) nan (rw (length-tab m (weighed reading weight)) h)
     ∙ tab-same n _ _ (λ i l. get-tab m (weighed reading weight) i nan (omega arith))
+
+-- as a caller of `loads::weigh` lends them: the first n of its array
+module _ (n : ℕ) (reading weight load : List Float) (e : load ≡ loadsOf 256 reading weight) (h : n ≤ 256) where
+  pub loads-lent : take (n - 0) load ≡ loadsOf n reading weight
+  loads-lent = front-lent n load (loadsOf n reading weight) (ap (take n) e ∙ loads-front 256 n reading weight h)
+
+  pub loads-room : n ≤ length load
+  loads-room = omega (arith, ap length e ∙ length-tab 256 (weighed reading weight))

@@ -7,10 +7,10 @@ use native.Mathlib.Omega.{arith}
 use lib.ListN.{length}
 use lib.Ieee.{Float}
 use Rattle.refusal.specs.Reply.{answered}
-use Rattle.placement.specs.Request.{Request, checkOf}
-use Rattle.placement.specs.Support.{answerTo, placement}
-use Rattle.placement.specs.declared.Verdict.{Verdict}
-use Rattle.placement.specs.declared.Verdict.the-variants.{Sound, Faulty}
+use Rattle.placement_defs.specs.Request.{Request, checkOf}
+use Rattle.placement_defs.specs.Support.{answerTo, placement}
+use Rattle.placement_defs.specs.declared.Verdict.{Verdict}
+use Rattle.placement_defs.specs.declared.Verdict.the-variants.{Sound, Faulty}
 use Rattle.placement.proofs.Checks.{Passed, passed}
 
 pub accepted : (k : Request) (buses : List ℕ) (mvars : List Float) (count : ℕ) → placement k buses mvars .reply ≡ answered count → Passed k (length buses) (length mvars)

@@ -15,11 +15,11 @@ use lib.Seq.{getD-set-same, getD-set-other}
 use lib.Ieee.{Float, lt, le}
 use Rattle.loops.specs.Figures.{at, plus, nought, infinity}
 use Rattle.loops.proofs.Sums.{unsigned, plus-unsigned, nought-least, infinity-above, le-refl, lt-alike}
-use Rattle.placement.specs.Request.{Net}
-use Rattle.placement.specs.Distance.{Network, Labels, labels, rest, candidate, settled, reached, seeded, searched, distances, distancesFrom, nobody}
+use Rattle.placement_defs.specs.Request.{Net}
+use Rattle.placement_defs.specs.Distance.{Network, Labels, labels, rest, candidate, settled, reached, seeded, searched, distances, distancesFrom, nobody}
 use Rattle.placement.specs.Blocks.{Numbers}
-use Rattle.placement.specs.Support.{supportKm, farther, farthestTo, ifFar, nextBy, nextOf}
-use Rattle.placement.specs.Chain.{Chain, here, along, Source}
+use Rattle.placement_defs.specs.Support.{supportKm, farther, farthestTo, ifFar, nextBy, nextOf}
+use Rattle.placement_defs.specs.Chain.{Chain, here, along, Source}
 use Rattle.placement.proofs.Chains.{chain-as, nought-unsigned, infinity-unsigned, limit-unsigned, length-at}
 use Rattle.placement.proofs.Choice.{farthest-within}
 use Rattle.placement.proofs.Turns.{blank-start}

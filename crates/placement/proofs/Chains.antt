@@ -12,11 +12,11 @@ use Rattle.loops.specs.Figures.{at, nought, tenThousand, infinity}
 use Rattle.loops.proofs.Bools.{and-of}
 use Rattle.loops.proofs.Order.{bounded, inside-bounded}
 use Rattle.loops.proofs.Signs.{sound-of}
-use Rattle.placement.specs.Request.{Net}
-use Rattle.placement.specs.Distance.{Network}
+use Rattle.placement_defs.specs.Request.{Net}
+use Rattle.placement_defs.specs.Distance.{Network}
 use Rattle.placement.proofs.Tests.{net-ends}
-use Rattle.placement.specs.Support.{supportKm}
-use Rattle.placement.specs.Chain.{Chain, here, along, Joins}
+use Rattle.placement_defs.specs.Support.{supportKm}
+use Rattle.placement_defs.specs.Chain.{Chain, here, along, Joins}
 use Rattle.loops.proofs.Sums.{unsigned, Term, plus-unsigned}
 
 -- a chain as its ends and its length are written

@@ -7,17 +7,17 @@ use borrow.Author.Tests.{eqb-true, leb-true, ltb-true, ltb-false}
 use native.Mathlib.Omega.{arith}
 use lib.Dec.{eqb, ltb, leb}
 use lib.ListN.{length, getD}
-use Rattle.loops.specs.Figures.{at}
 use Rattle.loops.proofs.Bools.{both}
 use Rattle.loops.proofs.Scan.{all-pass}
 use Rattle.refusal.specs.declared.Refusal.the-variants.{Length, Count, Bus, Generator, Corridor}
-use Rattle.placement.specs.Request.{Request, Net, Units, lengthsOk, countsOk, loadOk, busOk, corridorAt, firstLoad, firstGenerator, firstCorridor, faultyRow, checkOf}
-use Rattle.placement.specs.declared.Verdict.{Verdict}
-use Rattle.placement.specs.declared.Verdict.the-variants.{Sound, Faulty}
+use Rattle.placement_defs.specs.Request.{Request, Net, Units, lengthsOk, countsOk, busOk, corridorAt, firstLoad, firstGenerator, firstCorridor, faultyRow, checkOf}
+use Rattle.placement_defs.specs.declared.Verdict.{Verdict}
+use Rattle.placement_defs.specs.declared.Verdict.the-variants.{Sound, Faulty}
 
 -- ---- every slice has its length
 pub record Lengths (k : Request) (b₁ b₂ : ℕ) : Type 0 where
-  pub loads : length (k .loads) ≡ k .n
+  pub reading : length (k .reading) ≡ k .n
+  pub weight : length (k .weight) ≡ k .n
   pub a : length (k .a) ≡ k .m
   pub b : length (k .b) ≡ k .m
   pub km : length (k .km) ≡ k .m
@@ -27,7 +27,8 @@ pub record Lengths (k : Request) (b₁ b₂ : ℕ) : Type 0 where
 
 pub lengths-of : (k : Request) (buses mvars : ℕ) → lengthsOk k buses mvars ≡ true → Lengths k buses mvars
 lengths-of k buses mvars e =
-    let l1 = eqb (length (k .loads)) (k .n) in
+    let l0 = eqb (length (k .reading)) (k .n) in
+    let l1 = l0 && eqb (length (k .weight)) (k .n) in
     let l2 = l1 && eqb (length (k .a)) (k .m) in
     let l3 = l2 && eqb (length (k .b)) (k .m) in
     let l4 = l3 && eqb (length (k .km)) (k .m) in
@@ -39,8 +40,10 @@ lengths-of k buses mvars e =
     let h3 = both l3 (eqb (length (k .km)) (k .m)) (h4 .0) in
     let h2 = both l2 (eqb (length (k .b)) (k .m)) (h3 .0) in
     let h1 = both l1 (eqb (length (k .a)) (k .m)) (h2 .0) in
+    let h0 = both l0 (eqb (length (k .weight)) (k .n)) (h1 .0) in
     record {
-      loads = eqb-true (length (k .loads)) (k .n) (h1 .0);
+      reading = eqb-true (length (k .reading)) (k .n) (h0 .0);
+      weight = eqb-true (length (k .weight)) (k .n) (h0 .1);
       a = eqb-true (length (k .a)) (k .m) (h1 .1);
       b = eqb-true (length (k .b)) (k .m) (h2 .1);
       km = eqb-true (length (k .km)) (k .m) (h3 .1);
@@ -54,7 +57,6 @@ pub record Passed (k : Request) (buses mvars : ℕ) : Type 0 where
   pub lengths : Lengths k buses mvars
   pub net : Net (k .n) (k .m) (k .a) (k .b) (k .km)
   pub units : Units (k .n) (k .generators)
-  pub loaded : (i : ℕ) → i < k .n → loadOk (at (k .loads) i) ≡ true
 
 only : (b : Bool) (x y : Verdict) → cond b x y ≡ Sound → (y ≡ Sound → ⊥) → (b ≡ true) × (x ≡ Sound)
 only true x y e n = (refl, e)
@@ -73,17 +75,13 @@ stand : (k : Request) → length (k .generators) ≡ k .g → k .g ≤ firstGene
 unfolding firstGenerator
 stand k q h c l = ltb-true (getD (k .generators) c 0) (k .n) (all-pass (λ i. busOk (k .n) (getD (k .generators) i 0)) (k .g) h c (omega arith))
 
-loads : (k : Request) → k .n ≤ firstLoad (k .loads) (k .n) → (i : ℕ) → i < k .n → loadOk (at (k .loads) i) ≡ true
-unfolding firstLoad
-loads k h = all-pass (λ j. loadOk (at (k .loads) j)) (k .n) h
-
 pub passed : (k : Request) (buses mvars : ℕ) → Sound ≡ checkOf k buses mvars → Passed k buses mvars
 unfolding checkOf
 passed k buses mvars e =
     let n = k .n in
     let m = k .m in
     let g = k .g in
-    let load = firstLoad (k .loads) n in
+    let load = firstLoad (k .reading) (k .weight) n in
     let gen = firstGenerator (k .generators) n g in
     let cor = firstCorridor (k .a) (k .b) (k .km) n m in
     let c5 = faultyRow Corridor cor m Sound in
@@ -101,5 +99,4 @@ passed k buses mvars e =
       lengths = l;
       net = record { few = leb-true n 256 (counts .0); short = leb-true m 256 (counts .1); a-length = l .a; b-length = l .b; km-length = l .km; ends = ends k (ltb-false cor m (h5 .0)) };
       units = record { stand = stand k (l .generators) (ltb-false gen g (h4 .0)) };
-      loaded = loads k (ltb-false load n (h3 .0));
     }

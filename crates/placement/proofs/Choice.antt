@@ -10,7 +10,7 @@ use lib.Dec.{eqb}
 use lib.ListN.{getD}
 use lib.Ieee.{Float, lt}
 use Rattle.loops.specs.Figures.{at, nought, infinity}
-use Rattle.placement.specs.Support.{farther, farthestTo, servedTo, added}
+use Rattle.placement_defs.specs.Support.{farther, farthestTo, servedTo, added}
 
 -- a choice between two numbers below a bound is below it
 pub choice-within : (b : Bool) (x y n : ℕ) → x ≤ n → y ≤ n → cond b x y ≤ n

@@ -1,4 +1,4 @@
--- Laws of the tests, the choices and the stages; what the search keeps and what its distances are; worked examples.
+-- Laws of the tests, the choices and the stages; what the search keeps and what its distances are.
 pub mod Choice
 pub mod Tests
 pub mod Turns
@@ -14,4 +14,3 @@ pub mod Nearest
 pub mod Again
 pub mod Sites
 pub mod Accepted
-pub mod Examples

@@ -15,9 +15,9 @@ use lib.Ieee.{Float, nan, lt, le}
 use Rattle.loops.specs.Loops.{iter}
 use Rattle.loops.proofs.Loops.{iter-carries}
 use Rattle.loops.specs.Figures.{at, plus, nought, infinity}
-use Rattle.placement.specs.Request.{Net}
-use Rattle.placement.specs.Distance.{Network, Labels, rest, candidate, settled, nobody, blank, seeded, seed, reached, searched, distancesFrom, distances}
-use Rattle.placement.specs.Chain.{Chain, here, along, Source, Nearest}
+use Rattle.placement_defs.specs.Request.{Net}
+use Rattle.placement_defs.specs.Distance.{Network, Labels, rest, candidate, settled, nobody, blank, seeded, seed, reached, searched, distancesFrom, distances}
+use Rattle.placement_defs.specs.Chain.{Chain, here, along, Source, Nearest}
 use Rattle.loops.proofs.Sums.{plus-unsigned, plus-mono, plus-infinity, infinity-most, infinity-above, le-refl, le-trans}
 use Rattle.loops.proofs.Bools as bools
 use Rattle.placement.proofs.Chains.{chain-as, chain-unsigned, nought-unsigned, length-at, far-bus}

@@ -19,7 +19,7 @@ use Rattle.loops.specs.Figures.{at, nought, infinity}
 use Rattle.loops.specs.Loops.{iter}
 use Rattle.loops.proofs.Loops.{iter-carries}
 use Rattle.loops.proofs.Order.{le-of-not-lt, le-of-lt, le-self, left-real, right-real, le-through, lt-not-le}
-use Rattle.placement.specs.Distance.{Labels, rest, candidate, settled, nearer, nearestTo, reached, seeded, seed}
+use Rattle.placement_defs.specs.Distance.{Labels, rest, candidate, settled, nearer, nearestTo, reached, seeded, seed}
 use Rattle.placement.specs.Blocks.{Before, LeastOf, closer, nearestWith, Numbers, Nearests, Front}
 
 -- ---- the order

@@ -16,9 +16,9 @@ use Rattle.loops.specs.Figures.{at, plus, nought, infinity}
 use Rattle.loops.proofs.Bools as bools
 use Rattle.loops.proofs.Order.{le-of-lt}
 use Rattle.loops.proofs.Sums.{unsigned, plus-unsigned, plus-grows, plus-infinity, infinity-most, le-refl, le-trans}
-use Rattle.placement.specs.Request.{Net}
-use Rattle.placement.specs.Distance.{Network, Labels, candidate, settled, reached}
-use Rattle.placement.specs.Chain.{Chain, along, Joins, Source}
+use Rattle.placement_defs.specs.Request.{Net}
+use Rattle.placement_defs.specs.Distance.{Network, Labels, candidate, settled, reached}
+use Rattle.placement_defs.specs.Chain.{Chain, along, Joins, Source}
 use Rattle.placement.proofs.Chains.{chain-as, chain-unsigned, nought-unsigned, infinity-unsigned, length-at}
 
 abbrev pub M : Labels → ℕ → ℕ

@@ -16,10 +16,10 @@ use lib.Ieee.{Float, lt, le}
 use Rattle.loops.specs.Loops.{iter}
 use Rattle.loops.proofs.Loops.{iter-carries, iter-still}
 use Rattle.loops.specs.Figures.{at, plus}
-use Rattle.placement.specs.Request.{Net}
-use Rattle.placement.specs.Distance.{Network, Labels, candidate, settled, shortens, reached, offered, farEnd, considered, corridor, nearer, nearestTo, settle, spread, turn}
+use Rattle.placement_defs.specs.Request.{Net}
+use Rattle.placement_defs.specs.Distance.{Network, Labels, candidate, settled, shortens, reached, offered, farEnd, considered, corridor, nearer, nearestTo, settle, spread, turn}
 use Rattle.placement.proofs.Tests.{net-ends}
-use Rattle.placement.specs.Chain.{Joins}
+use Rattle.placement_defs.specs.Chain.{Joins}
 use Rattle.loops.proofs.Bools.{both}
 use Rattle.loops.proofs.Order.{le-of-lt}
 use Rattle.loops.proofs.Sums.{unsigned, plus-unsigned, plus-grows, le-refl, le-trans, le-of-not-less}

@@ -10,14 +10,15 @@ use Rattle.loops.specs.Loops.{iter}
 use Rattle.loops.proofs.Loops.{iter-keeps}
 use Rattle.loops.specs.Figures.{infinity, nought}
 use native.Mathlib.Omega.{arith}
-use Rattle.placement.specs.Request.{Request, requestOf, Units, checkOf}
-use Rattle.placement.specs.Distance.{Labels, labels, Network, network, rest, nobody, distances, distancesFrom}
-use Rattle.placement.specs.Support.{farthestTo, ifFar, nextBy, nextOf, Sites, sites, join, joinNext, joined, Joined, sizeAt, sized, flag, flagged, sitesOf, placed, Outcome, outcome, Placing, answerTo, placement}
+use Rattle.placement_defs.specs.Request.{Request, Units, checkOf}
+use Rattle.placement_defs.specs.Distance.{Labels, labels, Network, network, rest, nobody, distances, distancesFrom}
+use Rattle.placement_defs.specs.Support.{farthestTo, ifFar, nextBy, nextOf, Sites, sites, join, joinNext, joined, sizeAt, sized, flag, flagged, sitesBy, placed, Outcome, outcome, networkOf, answerTo, placement}
+use Rattle.placement.specs.Stages.{Joined, Placing}
 use Rattle.placement.proofs.Turns.{blank-start}
-use Rattle.placement.specs.declared.Placement.the-variants.{Placed, Refused}
+use Rattle.placement_defs.specs.declared.Placement.the-variants.{Placed, Refused}
 use Rattle.refusal.specs.declared.Refusal.{Refusal}
-use Rattle.placement.specs.declared.Verdict.{Verdict}
-use Rattle.placement.specs.declared.Verdict.the-variants.{Sound, Faulty}
+use Rattle.placement_defs.specs.declared.Verdict.{Verdict}
+use Rattle.placement_defs.specs.declared.Verdict.the-variants.{Sound, Faulty}
 
 pub next-is : (n : ℕ) (loads dist : List Float) (i r : ℕ) → i ≡ farthestTo n loads dist n → r ≡ ifFar n dist i → r ≡ nextBy n loads dist
 unfolding nextBy
@@ -57,10 +58,9 @@ pub placed-is : (n m : ℕ) (loads : List Float) (a b : List ℕ) (km : List Flo
     → length buses₀ ≡ n → length mvars₀ ≡ n → buses₁ ≡ replicate (length buses₀) 0 → mvars₁ ≡ replicate (length mvars₀) nought
     → sources₁ ≡ flagged generators (replicate 256 0) → Joined (network n m a b km) loads sources₁ buses₁ sources₂ buses₂ count
     → mvars₂ ≡ sized (network n m a b km) loads sources₂ buses₂ count mvars₁ → Placing n m loads a b km generators count buses₂ mvars₂
-unfolding placed sitesOf
+unfolding placed sitesBy
 placed-is n m loads a b km generators buses₀ buses₁ buses₂ sources₁ sources₂ mvars₀ mvars₁ mvars₂ count p q e f g j z =
     let w = network n m a b km in
-    let k = requestOf n m (length generators) loads a b km generators in
     let e′ : buses₁ ≡ replicate n 0 = e ∙ ap (λ (t : ℕ). replicate t 0) p in
     let f′ : mvars₁ ≡ replicate n nought = f ∙ ap (λ (t : ℕ). replicate t nought) q in
     let s : sites sources₂ buses₂ count ≡ joined w loads (sites (flagged generators (replicate 256 0)) (replicate n 0) 0) =
@@ -81,11 +81,6 @@ module _ (k : Request) (buses : List ℕ) (mvars : List Float) (v : Verdict) (e 
   unfolding placement answerTo
   refused-is f q = ap (λ (t : Verdict). answerTo t k buses mvars) (sym q ∙ e)
 
-  pub done-is : (o : Outcome) → v ≡ Sound → o ≡ placed k → o ≡ placement k buses mvars
+  pub done-is : (o : Outcome) → v ≡ Sound → o ≡ placed (networkOf k) (k .loads) (k .generators) → o ≡ placement k buses mvars
   unfolding placement answerTo
   done-is o q p = p ∙ ap (λ (t : Verdict). answerTo t k buses mvars) (sym q ∙ e)
-
--- the number of generators does not matter to a request that passes
-pub same-units : (n m g : ℕ) (loads : List Float) (a b : List ℕ) (km : List Float) (generators : List ℕ) (o : Outcome) → length generators ≡ g
-    → o ≡ placed (requestOf n m (length generators) loads a b km generators) → o ≡ placed (requestOf n m g loads a b km generators)
-same-units n m g loads a b km generators o e p = p ∙ ap (λ (t : ℕ). placed (requestOf n m t loads a b km generators)) e

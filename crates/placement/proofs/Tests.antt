@@ -12,8 +12,8 @@ use lib.ListN.{getD}
 use lib.Ieee.{Float, lt, le}
 use Rattle.loops.specs.Figures.{at, plus, inside, nought, tenThousand, infinity}
 use Rattle.loops.proofs.Bools.{both}
-use Rattle.placement.specs.Request.{Net, corridorOk}
-use Rattle.placement.specs.Distance.{Labels, settled, shortens, farEnd, considered, offered, reached}
+use Rattle.placement_defs.specs.Request.{Net, corridorOk}
+use Rattle.placement_defs.specs.Distance.{Labels, settled, shortens, farEnd, considered, offered, reached}
 
 -- a choice that is none, and one that is a bus
 pub none-chosen : (best n : ℕ) → best ≤ n → n ≤ best → eqb best n ≡ true

@@ -8,7 +8,7 @@ use lib.Ieee.{Float}
 use Rattle.loops.specs.Figures.{infinity}
 use Rattle.loops.specs.Loops.{iter}
 use borrow.Author.Tests.{lt-ltb, le-ltb}
-use Rattle.placement.specs.Distance.{Labels, labels, Network, rest, nobody, distances, seed, nearestTo, spread, turn, searched, distancesFrom}
+use Rattle.placement_defs.specs.Distance.{Labels, labels, Network, rest, nobody, distances, seed, nearestTo, spread, turn, searched, distancesFrom}
 
 module _ (w : Network) (s : Labels) (i : ℕ) where
   pub turn-idle : i ≡ nearestTo (w .n) (s .mark) (s .dist) (w .n) → w .n ≤ i → (k : ℕ) → turn w k s ≡ s

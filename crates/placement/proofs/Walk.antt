@@ -17,8 +17,8 @@ use Rattle.loops.specs.Loops.{iter, first}
 use Rattle.loops.proofs.Bools.{or-left, or-right}
 use Rattle.loops.proofs.Loops.{iter-all, iter-more}
 use Rattle.loops.proofs.Scan.{first-pass, first-stop, first-end}
-use Rattle.placement.specs.Request.{Net}
-use Rattle.placement.specs.Distance.{Network, Labels, labels, settled, considered, corridor, settle, spread}
+use Rattle.placement_defs.specs.Request.{Net}
+use Rattle.placement_defs.specs.Distance.{Network, Labels, labels, settled, considered, corridor, settle, spread}
 use Rattle.placement.specs.Corridors.{endsAt, nextAt, Listed}
 use Rattle.placement.proofs.Tests.{net-ends}
 

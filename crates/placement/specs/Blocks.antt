@@ -8,8 +8,8 @@ use lib.Dec.{eqb, ltb}
 use lib.ListN.{length, getD}
 use lib.Ieee.{Float, lt, le}
 use Rattle.loops.specs.Figures.{at}
-use Rattle.placement.specs.Request.{mostBuses}
-use Rattle.placement.specs.Distance.{candidate}
+use Rattle.placement_defs.specs.Request.{mostBuses}
+use Rattle.placement_defs.specs.Distance.{candidate}
 
 -- buses of a block, and blocks
 abbrev pub blockSize : ℕ

@@ -6,8 +6,8 @@ use Prim.Native.Nat.{ℕ, _+_, _-_, _≤_, _<_}
 use lib.Dec.{eqb}
 use lib.ListN.{length, getD}
 use Rattle.loops.specs.Loops.{first}
-use Rattle.placement.specs.Request.{mostBuses, mostCorridors}
-use Rattle.placement.specs.Distance.{Network}
+use Rattle.placement_defs.specs.Request.{mostBuses, mostCorridors}
+use Rattle.placement_defs.specs.Distance.{Network}
 
 abbrev pub endsAt : Network → ℕ → ℕ → Bool
 endsAt w i c = eqb (getD (w .a) c 0) i || eqb (getD (w .b) c 0) i

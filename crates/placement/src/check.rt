@@ -1,17 +1,15 @@
 // Placement's refusals 1, 2, 4, 5 and 6, in their order.
 ghost use mathlib.Core.Path.{_≡_};
 ghost use lib.ListN.{length};
-ghost use Rattle.placement.specs.Request.{requestOf, lengthsOk, countsOk, loadOk, corridorOk, firstLoad, firstGenerator, firstCorridor, checkOf};
+ghost use Rattle.placement_defs.specs.Request.{requestOf, lengthsOk, countsOk, corridorOk, firstLoad, firstGenerator, firstCorridor, checkOf};
 use crate::MOST_BUSES;
-use crate::Verdict;
 use crate::wide;
+use placement_defs::Verdict;
 use refusal::Refusal;
 
 const MOST_CORRIDORS: usize = 256;
 
 const MOST_GENERATORS: usize = 128;
-
-const MOST_MW: f64 = 1000000.0;
 
 const LONGEST_KM: f64 = 10000.0;
 
@@ -19,7 +17,8 @@ fn lengths_ok(
     n: usize,
     m: usize,
     g: usize,
-    loads: &[f64],
+    reading: &[f64],
+    weight: &[f64],
     a: &[u32],
     b: &[u32],
     km: &[f64],
@@ -27,9 +26,10 @@ fn lengths_ok(
     buses: usize,
     mvars: usize,
 ) -> bool
-    ensures { λ r. ⌜ r ≡ lengthsOk (requestOf n m g (now (loads .entry)) (now (a .entry)) (now (b .entry)) (now (km .entry)) (now (generators .entry))) buses mvars ⌝ }
+    ensures { λ r. ⌜ r ≡ lengthsOk (requestOf n m g (now (reading .entry)) (now (weight .entry)) (now (a .entry)) (now (b .entry)) (now (km .entry)) (now (generators .entry))) buses mvars ⌝ }
 {
-    (loads.len() == n)
+    (reading.len() == n)
+        & (weight.len() == n)
         & (a.len() == m)
         & (b.len() == m)
         & (km.len() == m)
@@ -44,26 +44,20 @@ fn counts_ok(n: usize, m: usize, g: usize) -> bool
     (n <= MOST_BUSES) & (m <= MOST_CORRIDORS) & (g <= MOST_GENERATORS)
 }
 
-fn load_ok(load: f64) -> bool
-    ensures { λ r. ⌜ r ≡ loadOk load ⌝ }
-{
-    (0.0 <= load) & (load <= MOST_MW)
-}
-
 fn corridor_ok(n: usize, a: usize, b: usize, km: f64) -> bool
     ensures { λ r. ⌜ r ≡ corridorOk n a b km ⌝ }
 {
     (a < n) & (b < n) & !(a == b) & ((0.0 <= km) & (km <= LONGEST_KM))
 }
 
-// The first load out of its bounds, or n.
-fn first_load(n: usize, loads: &[f64]) -> usize
-    requires { ⌜ length (now loads) ≡ n ⌝ }
-    ensures { λ r. ⌜ r ≡ firstLoad (now (loads .entry)) n ⌝ }
+// The first bus whose reading, weight or load is out of its bounds, or n.
+fn first_load(n: usize, reading: &[f64], weight: &[f64]) -> usize
+    requires { ⌜ (length (now reading) ≡ n) × (length (now weight) ≡ n) ⌝ }
+    ensures { λ r. ⌜ r ≡ firstLoad (now (reading .entry)) (now (weight .entry)) n ⌝ }
 {
     let mut i = 0;
     while i < n {
-        if !load_ok(loads[i]) {
+        if !loads::load_ok(reading[i], weight[i]) {
             return i;
         }
         i += 1;
@@ -106,7 +100,8 @@ pub fn check(
     n: usize,
     m: usize,
     g: usize,
-    loads: &[f64],
+    reading: &[f64],
+    weight: &[f64],
     a: &[u32],
     b: &[u32],
     km: &[f64],
@@ -114,15 +109,15 @@ pub fn check(
     buses: usize,
     mvars: usize,
 ) -> Verdict
-    ensures { λ r. ⌜ r ≡ checkOf (requestOf n m g (now (loads .entry)) (now (a .entry)) (now (b .entry)) (now (km .entry)) (now (generators .entry))) buses mvars ⌝ }
+    ensures { λ r. ⌜ r ≡ checkOf (requestOf n m g (now (reading .entry)) (now (weight .entry)) (now (a .entry)) (now (b .entry)) (now (km .entry)) (now (generators .entry))) buses mvars ⌝ }
 {
-    if !lengths_ok(n, m, g, loads, a, b, km, generators, buses, mvars) {
+    if !lengths_ok(n, m, g, reading, weight, a, b, km, generators, buses, mvars) {
         return Verdict::Faulty(Refusal::Length);
     }
     if !counts_ok(n, m, g) {
         return Verdict::Faulty(Refusal::Count);
     }
-    let load = first_load(n, loads);
+    let load = first_load(n, reading, weight);
     if load < n {
         return Verdict::Faulty(Refusal::Bus(load));
     }

@@ -2,11 +2,12 @@
 ghost use mathlib.Core.Path.{_≡_};
 ghost use Prim.Native.Nat.{_≤_, _<_};
 ghost use lib.ListN.{length, replicate};
-ghost use Rattle.placement.specs.Request.{mostBuses, Net, Units};
+ghost use Rattle.placement_defs.specs.Request.{mostBuses, Net, Units};
 ghost use Rattle.loops.specs.Figures.{infinity, nought, greater};
-ghost use Rattle.placement.specs.Distance.{network};
+ghost use Rattle.placement_defs.specs.Distance.{network};
 ghost use Rattle.placement.specs.Corridors.{Listed};
-ghost use Rattle.placement.specs.Support.{farther, farthestTo, ifFar, nextBy, added, servedTo, leastMvar, mvarOf, sized, flagged, Joined, Placing};
+ghost use Rattle.placement_defs.specs.Support.{farther, farthestTo, ifFar, nextBy, added, servedTo, leastMvar, mvarOf, sized, flagged};
+ghost use Rattle.placement.specs.Stages.{Joined, Placing};
 use crate::MOST_BUSES;
 use crate::MOST_CORRIDORS;
 use crate::corridors::list_corridors;

@@ -2,8 +2,8 @@
 ghost use mathlib.Core.Path.{_≡_};
 ghost use Prim.Native.Nat.{_≤_, _<_};
 ghost use Rattle.loops.specs.Loops.{iter};
-ghost use Rattle.placement.specs.Request.{mostBuses, Net};
-ghost use Rattle.placement.specs.Distance.{labels, network, seeded, seed, shortens, farEnd, considered, spread, searched, distancesFrom};
+ghost use Rattle.placement_defs.specs.Request.{mostBuses, Net};
+ghost use Rattle.placement_defs.specs.Distance.{labels, network, seeded, seed, shortens, farEnd, considered, spread, searched, distancesFrom};
 ghost use Rattle.placement.specs.Corridors.{Listed};
 ghost use Rattle.placement.specs.Blocks.{Numbers, Front};
 use crate::BLOCKS;

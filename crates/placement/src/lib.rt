@@ -1,8 +1,9 @@
 // Synchronous condensers for remote load pockets (document 01, module 7; reactive.rs, `place_voltage_support`).
 ghost use mathlib.Core.Path.{_≡_};
-ghost use Rattle.placement.specs.Request.{requestOf};
-ghost use Rattle.placement.specs.Support.{outcome, placement};
-use refusal::Refusal;
+ghost use Rattle.placement_defs.specs.Request.{requestOf};
+ghost use Rattle.placement_defs.specs.Support.{outcome, placement};
+use placement_defs::Placement;
+use placement_defs::Verdict;
 
 mod blocks;
 mod check;
@@ -16,18 +17,6 @@ const MOST_CORRIDORS: usize = 256;
 
 // Blocks of sixteen buses.
 const BLOCKS: usize = 16;
-
-// How many condensers were placed, or why none could be looked for.
-pub enum Placement {
-    Placed(usize),
-    Refused(Refusal),
-}
-
-// What the checks say of a request.
-enum Verdict {
-    Sound,
-    Faulty(Refusal),
-}
 
 fn wide(x: u32) -> usize
     ensures { λ r. ⌜ r ≡ x ⌝ }
@@ -43,13 +32,14 @@ fn index(x: u16) -> usize
 }
 
 // Puts a condenser at the farthest loaded bus as long as one lies more than 100 km of corridor from the nearest generator or
-// condenser, then sizes each to half the load that lies nearest to it, 5 Mvar at least. Reads n buses, m corridors and g generators;
-// writes the condensers' buses and Mvar, zero past their count.
+// condenser, then sizes each to half the load that lies nearest to it, 5 Mvar at least. A bus's load is its reading times its weight, rounded once.
+// Reads n buses, m corridors and g generators; writes the condensers' buses and Mvar, zero past their count.
 pub fn place_voltage_support(
     n: usize,
     m: usize,
     g: usize,
-    loads: &[f64],
+    reading: &[f64],
+    weight: &[f64],
     a: &[u32],
     b: &[u32],
     km: &[f64],
@@ -58,13 +48,14 @@ pub fn place_voltage_support(
     mvars: &mut [f64],
 ) -> Placement
     ensures { λ r. ⌜ outcome r (now (buses .exit)) (now (mvars .exit))
-        ≡ placement (requestOf n m g (now (loads .entry)) (now (a .entry)) (now (b .entry)) (now (km .entry)) (now (generators .entry))) (now (buses .entry)) (now (mvars .entry)) ⌝ }
+        ≡ placement (requestOf n m g (now (reading .entry)) (now (weight .entry)) (now (a .entry)) (now (b .entry)) (now (km .entry)) (now (generators .entry))) (now (buses .entry)) (now (mvars .entry)) ⌝ }
 {
     match check::check(
         n,
         m,
         g,
-        loads,
+        reading,
+        weight,
         a,
         b,
         km,
@@ -74,7 +65,8 @@ pub fn place_voltage_support(
     ) {
         Verdict::Faulty(f) => Placement::Refused(f),
         Verdict::Sound => {
-            let count = condenser::place(n, m, loads, a, b, km, generators, buses, mvars);
+            let load = loads::weigh(reading, weight);
+            let count = condenser::place(n, m, &load[0..n], a, b, km, generators, buses, mvars);
             Placement::Placed(count)
         }
     }

@@ -8,8 +8,8 @@ use native.Mathlib.Omega.{arith}
 use lib.Ieee.{Float, binary64, ofBits, add, lt}
 use Rattle.loops.specs.Loops.{iter}
 use Rattle.loops.specs.Figures.{at, plus, nought}
-use Rattle.placement.specs.Distance.{Network, network, seeded, offered, considered, nearer, nearestTo, settle, spread, turn, searched, distancesFrom, distances}
-use Rattle.placement.specs.Chain.{Chain, here, along}
+use Rattle.placement_defs.specs.Distance.{Network, network, seeded, offered, considered, nearer, nearestTo, settle, spread, turn, searched, distancesFrom, distances}
+use Rattle.placement_defs.specs.Chain.{Chain, here, along}
 
 abbrev f50 : Float
 f50 = ofBits binary64 0x4049000000000000

@@ -14,8 +14,8 @@ use lib.Seq.{getD-set-same, getD-set-other}
 use Rattle.loops.specs.Figures.{at, plus, nought, infinity}
 use Rattle.loops.specs.Loops.{iter}
 use Rattle.loops.proofs.Loops.{iter-keeps}
-use Rattle.placement.specs.Request.{mostBuses}
-use Rattle.placement.specs.Distance.{Network, Labels, labels, rest, candidate, settled, blank, seeded, seed, shortens, reached, offered, farEnd, considered, corridor, nearestTo, settle, spread, turn}
+use Rattle.placement_defs.specs.Request.{mostBuses}
+use Rattle.placement_defs.specs.Distance.{Network, Labels, labels, rest, candidate, settled, blank, seeded, seed, shortens, reached, offered, farEnd, considered, corridor, nearestTo, settle, spread, turn}
 
 -- every bus of C is infinitely far
 pub Far : Labels → Type 0

@@ -16,13 +16,13 @@ use Rattle.loops.proofs.Bools as bools
 use Rattle.loops.proofs.Bools.{and-of, unequal}
 use Rattle.loops.proofs.Loops.{iter-still}
 use Rattle.loops.specs.Figures.{at, nought, infinity}
-use Rattle.placement.specs.Request.{Request, Net}
-use Rattle.placement.specs.Distance.{Network, distances}
-use Rattle.placement.specs.Support.{supportKm, farther, farthestTo, ifFar, nextBy, nextOf, Sites, sites, join, joinNext, joined, flagged, networkOf, sitesOf, placement}
+use Rattle.placement_defs.specs.Request.{Request, Net}
+use Rattle.placement_defs.specs.Distance.{Network, distances}
+use Rattle.placement_defs.specs.Support.{supportKm, farther, farthestTo, ifFar, nextBy, nextOf, Sites, sites, join, joinNext, joined, flagged, networkOf, sitesBy, placement}
 use Rattle.refusal.specs.Reply.{answered}
 use Rattle.placement.proofs.Accepted.{accepted}
 use Rattle.placement.proofs.Sites.{flagged-length}
-use Rattle.placement.specs.Chain.{Source}
+use Rattle.placement_defs.specs.Chain.{Source}
 use Rattle.placement_theorems.specs.Support.{Supported, Achieved}
 use Rattle.loops.proofs.Order.{le-of-lt}
 use Rattle.loops.proofs.Sums.{unsigned, le-refl, le-trans, le-of-not-less, le-not-lt, nought-least}
@@ -187,7 +187,7 @@ none-far-supported w net loads sources none j h l source km chain finite =
 
 -- Of every request that is answered.
 pub placing : (k : Request) (buses : List ℕ) (mvars : List Float) (count : ℕ) → placement k buses mvars .reply ≡ answered count → Achieved k
-unfolding sitesOf
+unfolding sitesBy
 placing k buses mvars count e =
     let p = accepted k buses mvars count e in
     let s₀ = sites (flagged (k .generators) (replicate 256 0)) (replicate (k .n) 0) 0 in

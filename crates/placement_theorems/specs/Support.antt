@@ -5,10 +5,10 @@ use mathlib.Core.List.{List}
 use Prim.Native.Nat.{ℕ, _<_}
 use lib.Ieee.{Float, lt, le}
 use Rattle.loops.specs.Figures.{at, nought, infinity}
-use Rattle.placement.specs.Request.{Request}
-use Rattle.placement.specs.Distance.{Network, distances}
-use Rattle.placement.specs.Chain.{Chain, Nearest}
-use Rattle.placement.specs.Support.{supportKm, networkOf, sitesOf}
+use Rattle.placement_defs.specs.Request.{Request}
+use Rattle.placement_defs.specs.Distance.{Network, distances}
+use Rattle.placement_defs.specs.Chain.{Chain, Nearest}
+use Rattle.placement_defs.specs.Support.{supportKm, networkOf, sitesOf}
 
 -- a chain of at most 100 km from a source to bus j
 pub record Near (w : Network) (sources : List ℕ) (j : ℕ) : Type 0 where

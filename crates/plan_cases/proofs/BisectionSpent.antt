@@ -1,6 +1,7 @@
 -- Reinforce, one island, an initial count of zero, an initial count above six: the defined plan's listing is the reference build's. The branches that are taken:
 -- dispatch: bisection spent its 200 turns; the first interior unit takes the gap
 -- angles: settled after steps
+-- load: a reading of minus zero
 -- end: converged
 -- By evaluation.
 use mathlib.Core.List.{[], _∷_}

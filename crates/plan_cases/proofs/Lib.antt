@@ -67,12 +67,15 @@ pub mod OwnCapFilled
 pub mod OwnCapRaised
 pub mod OwnCapReinforced
 pub mod OwnCapStiffened
+pub mod ProductUnderflows
 pub mod RaiseAndAddInRound
 pub mod RaiseBeforeRounds
 pub mod RaiseBySeveralTiers
 pub mod RaiseInRound
 pub mod Refusal3
 pub mod Refusal4
+pub mod Refusal4Product
+pub mod Refusal4Weight
 pub mod Refusal5
 pub mod Refusal6
 pub mod Refusal6OwnCap
@@ -103,3 +106,5 @@ pub mod SumsEqual
 pub mod TwoBusesLag
 pub mod TwoBusesLead
 pub mod VoltageBudgetSpent
+pub mod Weighed
+pub mod WeightsOfOne

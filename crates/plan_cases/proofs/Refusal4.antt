@@ -1,4 +1,5 @@
--- Reinforce, several islands, an isolated bus, levels above, refused: 4 2: the defined plan's listing is the reference build's. The branches that are taken: none.
+-- Reinforce, several islands, an isolated bus, levels above, refused: 4 2: the defined plan's listing is the reference build's. The branches that are taken:
+-- refusal 4: the tier
 -- By evaluation.
 use mathlib.Core.List.{[], _∷_}
 use mathlib.Core.Path.{_≡_, refl}

@@ -5,7 +5,7 @@ use mathlib.Core.List.{List, [], _∷_, map}
 use mathlib.Core.Path.{_≡_, refl}
 use lib.ListN.{getD, replicate}
 use lib.Ieee.{Float, binary64, ofBits, nan}
-use Rattle.loops.specs.Figures.{nought, half, one, two, hundred, thousand, million, decimal}
+use Rattle.loops.specs.Figures.{nought, half, one, hundred, thousand, decimal}
 use Rattle.mode.specs.declared.PlanMode.{PlanMode}
 use Rattle.mode.specs.declared.PlanMode.the-variants.{Expand, Observe}
 use Rattle.plan_defs.specs.Case.{Case, surveyed}

@@ -6,11 +6,11 @@ use mathlib.Core.List.{List, [], _∷_}
 use mathlib.Core.Path.{_≡_, refl, sym, ap, _∙_, subst}
 use native.Mathlib.Nat.{suc-mul, mul-le-mul-right, lt-of-le-of-lt, le-trans}
 use native.Mathlib.Omega.{arith}
-use lib.Dec.{T, ltb, lit<}
+use lib.Dec.{T, lit<}
 use lib.ListN.{length, getD}
 use lib.Ieee.{Float, le, ofBits, round}
 use lib.Ieee.Positive.{den}
-use Rattle.loops.specs.Figures.{plus, nought, million, billion, inside}
+use Rattle.loops.specs.Figures.{plus, nought, million, billion}
 use Rattle.loops.proofs.Bools.{is, both, and-of}
 use Rattle.loops.proofs.Signs.{sound-of}
 use Rattle.loops.proofs.Sums.{unsigned, Term, plus-unsigned, nought-least}

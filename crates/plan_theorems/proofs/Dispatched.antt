@@ -14,7 +14,7 @@ use lib.Ieee.{Float, nan, binary64, fits, ofBits}
 use lib.ListN.{length, getD, set, length-set, length-map, replicate, length-replicate}
 use lib.Seq.{getD-set-same, getD-set-other, set-out}
 use Rattle.loops.specs.Figures.{at, plus, nought, million, inside}
-use Rattle.loops.proofs.Bools.{both, and-of}
+use Rattle.loops.proofs.Bools.{and-of}
 use Rattle.loops.proofs.Loops.{iter-carries}
 use Rattle.loops.proofs.Order.{real, bounded, inside-bounded}
 use Rattle.loops.proofs.Signs.{real-add}

@@ -6,7 +6,7 @@ use mathlib.Core.Path.{_≡_, refl}
 use lib.ListN.{replicate}
 use lib.Ieee.{Float, binary64, ofBits}
 use Rattle.loops.specs.Figures.{nought, half, one, hundred, decimal}
-use Rattle.loops.specs.Loops.{first}
+use Rattle.loops.specs.Loops.{first, tab}
 use Rattle.root.specs.Root.{root}
 use Rattle.leaders.specs.Leaders.{leadersOf}
 use Rattle.impedance.specs.Impedance.{zOf, xOverR}
@@ -17,9 +17,9 @@ use Rattle.angles_defs.specs.Solve.{solve}
 use Rattle.mode.specs.declared.PlanMode.{PlanMode}
 use Rattle.mode.specs.declared.PlanMode.the-variants.{Expand, Reinforce}
 use Rattle.refusal.specs.Reply.{Reply, answered, refused}
-use Rattle.placement.specs.Request.{requestOf, firstLoad, firstGenerator, firstCorridor, checkOf}
-use Rattle.placement.specs.Distance.{seeded, offered, considered, nearer, nearestTo, settle, spread, turn, searched, distancesFrom}
-use Rattle.placement.specs.Support.{farther, farthestTo, ifFar, nextBy, nextOf, join, joinNext, joined, servedTo, mvarOf, sized, flagged, sitesOf, placed, answerTo, placement, Outcome}
+use Rattle.placement_defs.specs.Request.{requestOf, firstLoad, firstGenerator, firstCorridor, checkOf}
+use Rattle.placement_defs.specs.Distance.{seeded, offered, considered, nearer, nearestTo, settle, spread, turn, searched, distancesFrom}
+use Rattle.placement_defs.specs.Support.{farther, farthestTo, ifFar, nextBy, nextOf, join, joinNext, joined, servedTo, mvarOf, sized, flagged, sitesBy, placed, answerTo, placement, Outcome}
 use Rattle.plan_defs.specs.Case.{Case, surveyed, promote, circuitCap}
 use Rattle.plan_defs.specs.Raise.{noMarks, markEnds, raisedLevels}
 use Rattle.plan_defs.specs.Plan.{Ending, unaccepted, unanswered, planned, endingOf}
@@ -77,10 +77,10 @@ shown o = (condensers (o .reply) ∷ o .buses) ++ bits (o .mvars)
 abbrev remote : ℕ → ℕ → List ℕ
 remote km mw =
     shown
-    (placement (requestOf 3 2 1 (nought ∷ nought ∷ whole mw ∷ []) (0 ∷ 1 ∷ []) (1 ∷ 2 ∷ []) (whole km ∷ whole km ∷ []) (0 ∷ [])) (replicate 3 0) (replicate 3 nought))
+    (placement (requestOf 3 2 1 (nought ∷ nought ∷ whole mw ∷ []) (replicate 3 one) (0 ∷ 1 ∷ []) (1 ∷ 2 ∷ []) (whole km ∷ whole km ∷ []) (0 ∷ [])) (replicate 3 0) (replicate 3 nought))
 
 unfoldable pub tally : List (List ℕ)
-unfolding listingOf first firstLoad firstGenerator firstCorridor checkOf seeded offered considered nearer nearestTo settle spread turn searched distancesFrom farther farthestTo ifFar nextBy nextOf join joinNext joined servedTo mvarOf sized flagged sitesOf placed answerTo placement
+unfolding listingOf first tab firstLoad firstGenerator firstCorridor checkOf seeded offered considered nearer nearestTo settle spread turn searched distancesFrom farther farthestTo ifFar nextBy nextOf join joinNext joined servedTo mvarOf sized flagged sitesBy placed answerTo placement
 tally =
     -- ★1
     bits (root (decimal 1 4) ∷ root (ofBits binary64 1) ∷ [])

@@ -6,18 +6,19 @@ ghost use Rattle.plan_defs.specs.Demand.{AnswerTo};
 ghost use Rattle.plan_defs.specs.Preview.{keptAs, outcome as outcomeOf, preview as previewOf};
 ghost use Rattle.plan_defs.specs.declared.CorridorPlan.{CorridorPlan};
 ghost use Rattle.plan_defs.specs.declared.Planned.the-variants.{Answered};
-use check::Places;
+use acceptance::check_case;
+use lent::Places;
 use loads::weigh;
 use mode::PlanMode;
 use plan_defs::Planned;
 use policy::promotes;
 use refusal::Answer;
 
-mod check;
 mod close;
 mod design;
 mod figures;
 mod fill;
+mod lent;
 mod opening;
 mod plan;
 mod policy;
@@ -33,10 +34,10 @@ mod stiffen;
 mod top_up;
 
 // The circuits of each corridor, with their flows and ratings, the dispatch, the angles, the tiers, the grounds and the levels added,
-// for a case of n buses, m corridors and g generators; a bus's load is its reading times its weight, rounded once; `cap` has the corridors' own caps, 0 for none. `before` and `order` are what a
-// plan keeps of filling, also where nothing is filled: the circuits with which it begins and the order of the corridors; zero in a
-// mode that does not fill. `kept_cap` keeps the own caps, in every mode. Refusals 1 to 7 touch nothing; after 8 and 9 every place is
-// zero; after an answer the work, `figures` and `counts`, is zero.
+// for a case of n buses, m corridors and g generators. A bus's load is its reading times its weight, rounded once; `cap` has the
+// corridors' own caps, 0 for none. `before` and `order` are what a plan keeps of filling, also where nothing is filled: the circuits
+// with which it begins and the order of the corridors; zero in a mode that does not fill. `kept_cap` keeps the own caps, in every
+// mode. Refusals 1 to 7 touch nothing; after 8 and 9 every place is zero; after an answer the work, `figures` and `counts`, is zero.
 pub fn plan_corridors(
     mode: PlanMode,
     target: u32,
@@ -97,7 +98,9 @@ pub fn plan_corridors(
         figures: figures.len(),
         counts: counts.len(),
     };
-    match check::check_case(
+    let fits = lent::places_ok(n, m, g, above, places);
+    match check_case(
+        fits,
         target,
         n,
         m,
@@ -121,7 +124,6 @@ pub fn plan_corridors(
         share,
         cap,
         sheet,
-        places,
     ) {
         Answer::Refused(f) => return Planned::Refused(f),
         Answer::Answered => {}

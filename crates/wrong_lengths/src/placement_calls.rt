@@ -11,7 +11,7 @@ use crate::report::say_answered;
 use crate::report::say_call;
 use crate::report::say_kept;
 use crate::report::say_refusal;
-use placement::Placement;
+use placement_defs::Placement;
 
 const SLICES: usize = 7;
 

@@ -1,7 +1,7 @@
 //! Seeded seasons: case files that are handed to the season program one after
 //! another.
 
-use crate::generate::cases::{case_file, some_seed};
+use crate::generate::cases::{case_file, some_seed, weigh_some, WEIGHED};
 use crate::generate::random::Random;
 use crate::harness::case_file::{read_case, write_case, MOST_BYTES};
 use crate::harness::tables::{Case, MOST_MODE};
@@ -12,7 +12,8 @@ pub struct Season {
     pub files: Vec<Vec<u8>>,
 }
 
-/// The season of a seed; the seed chooses the family in turn.
+/// The season of a seed; the seed chooses the family in turn. From [`WEIGHED`]
+/// on every other case has weights.
 pub fn season(seed: u64) -> Season {
     const FAMILIES: &[(&str, fn(&mut Random) -> Vec<Vec<u8>>)] = &[
         ("drafts of one network", |random| drafts(random, 12)),
@@ -22,7 +23,11 @@ pub fn season(seed: u64) -> Season {
         ("one file", |random| drafts(random, 1)),
     ];
     let (family, make) = FAMILIES[(seed % FAMILIES.len() as u64) as usize];
-    let mut files = make(&mut Random::new(family, seed));
+    let mut random = Random::new(family, seed);
+    let mut files = make(&mut random);
+    if seed >= WEIGHED {
+        weigh_some(&mut random, &mut files);
+    }
     for file in &mut files {
         file.truncate(MOST_BYTES);
     }
@@ -60,7 +65,7 @@ fn draft_of(random: &mut Random, network: &Case) -> Case {
     case.target = random.below(1 + 5 * case.corridors.len()) as u32;
     let scale = random.between(0.2, 3.0);
     for bus in &mut case.buses {
-        bus.load *= scale;
+        bus.reading *= scale;
     }
     for corridor in &mut case.corridors {
         if random.once_in(3) {

@@ -162,8 +162,10 @@ fn ask_placement<'a>(mut fields: Fields<impl Iterator<Item = &'a [u8]>>) -> Answ
     let buses = fields.count()?;
     let corridors = fields.count()?;
     let generators = fields.count()?;
+    let readings = fields.many(buses, Fields::figure)?;
+    let weights = fields.many(buses, Fields::figure)?;
     let support = Support {
-        loads: fields.many(buses, Fields::figure)?,
+        buses: readings.into_iter().zip(weights).collect(),
         corridors: fields.many(corridors, |f| Some((f.whole()?, f.whole()?, f.figure()?)))?,
         generator_buses: fields.many(generators, Fields::whole)?,
     };

@@ -11,6 +11,7 @@ use crate::harness::tables::{
     Bus, Case, CorridorRecord, Generator, Line, MOST_BUSES, MOST_CORRIDORS, MOST_GENERATORS,
     MOST_LEVELS, MOST_MODE, MOST_TARGET,
 };
+use crate::watch::{seen, seen_if, Branch};
 
 /// The longest file that is read, bytes.
 pub const MOST_BYTES: usize = 65_536;
@@ -32,6 +33,11 @@ const LV: Kind = Kind {
 const BU: Kind = Kind {
     mark: b"BU",
     length: 2 + 1 + 8,
+};
+/// A bus whose reading has a weight (document 02, K6).
+const BV: Kind = Kind {
+    mark: b"BV",
+    length: BU.length + 8,
 };
 const GE: Kind = Kind {
     mark: b"GE",
@@ -118,12 +124,29 @@ impl<'a> Reader<'a> {
         Ok(self.record(&LV)?.f64())
     }
 
-    fn bus(&mut self) -> Result<Bus, Refusal> {
-        let mut fields = self.record(&BU)?;
-        Ok(Bus {
-            tier: fields.u8(),
-            load: fields.f64(),
-        })
+    /// All buses: a BV where its mark stands, otherwise a BU, and a wrong mark
+    /// has its length; 15 where one is not of the first one's form.
+    fn buses(&mut self, count: usize) -> Result<Vec<Bus>, Refusal> {
+        let mut buses: Vec<Bus> = Vec::new();
+        for place in 0..count {
+            let weighed = self.rest.starts_with(BV.mark);
+            seen_if(
+                weighed && (BU.length..BV.length).contains(&self.rest.len()),
+                Branch::WeighedCut,
+            );
+            let mut fields = self.record(if weighed { &BV } else { &BU })?;
+            if buses.first().is_some_and(|first| first.weighed != weighed) {
+                watch_meeting(place, count, weighed);
+                return Err(Refusal::new(MARK, self.record - 1));
+            }
+            buses.push(Bus {
+                tier: fields.u8(),
+                reading: fields.f64(),
+                weight: if weighed { fields.f64() } else { 1.0 },
+                weighed,
+            });
+        }
+        Ok(buses)
     }
 
     fn generator(&mut self) -> Result<Generator, Refusal> {
@@ -165,6 +188,19 @@ impl<'a> Reader<'a> {
     }
 }
 
+/// Counts where the second form stands, and which it is.
+fn watch_meeting(place: usize, count: usize, weighed: bool) {
+    seen(match weighed {
+        true => Branch::WeighedAfterPlain,
+        false => Branch::PlainAfterWeighed,
+    });
+    seen(match place {
+        1 => Branch::FormsMeetSecond,
+        _ if place + 1 == count => Branch::FormsMeetLast,
+        _ => Branch::FormsMeetBetween,
+    });
+}
+
 /// The case of the records of `file`, and the bytes behind them.
 fn read_records(file: &[u8]) -> Result<(Case, &[u8]), Refusal> {
     if file.len() > MOST_BYTES {
@@ -197,7 +233,7 @@ fn read_records(file: &[u8]) -> Result<(Case, &[u8]), Refusal> {
         target,
         above,
         ladder: reader.table(levels, Reader::level)?,
-        buses: reader.table(buses, Reader::bus)?,
+        buses: reader.buses(buses)?,
         generators: reader.table(generators, Reader::generator)?,
         corridors: reader.table(corridors, Reader::corridor)?,
         sheet: reader.table(corridors * levels, Reader::line)?,
@@ -261,9 +297,12 @@ pub fn write_case(case: &Case) -> Vec<u8> {
         put(&kv.to_le_bytes());
     }
     for bus in &case.buses {
-        put(BU.mark);
+        put(if bus.weighed { BV.mark } else { BU.mark });
         put(&[bus.tier]);
-        put(&bus.load.to_le_bytes());
+        put(&bus.reading.to_le_bytes());
+        if bus.weighed {
+            put(&bus.weight.to_le_bytes());
+        }
     }
     for g in &case.generators {
         put(GE.mark);
@@ -311,7 +350,8 @@ pub fn print_case(case: &Case) -> String {
         line(format_args!("LV {}", as_read(kv)));
     }
     for bus in &case.buses {
-        line(format_args!("BU {} {}", bus.tier, as_read(bus.load)));
+        let (reading, weight) = (as_read(bus.reading), as_read(bus.weight));
+        line(format_args!("BU {} {reading} {weight}", bus.tier));
     }
     for g in &case.generators {
         line(format_args!(

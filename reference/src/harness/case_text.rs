@@ -44,7 +44,11 @@ pub fn print_text(case: &Case) -> String {
         line("LV", &[], &[kv], &[]);
     }
     for bus in &case.buses {
-        line("BU", &[bus.tier.into()], &[bus.load], &[]);
+        let tier = [bus.tier.into()];
+        match bus.weighed {
+            true => line("BV", &tier, &[bus.reading, bus.weight], &[]),
+            false => line("BU", &tier, &[bus.reading], &[]),
+        }
     }
     for g in &case.generators {
         let whole = [g.bus.into(), g.slack.into()];
@@ -89,6 +93,21 @@ impl Words<'_> {
             .collect()
     }
 
+    /// A bus after its mark, BU or BV.
+    fn bus(&mut self) -> Option<Bus> {
+        let weighed = match self.0.next()? {
+            "BU" => false,
+            "BV" => true,
+            _ => return None,
+        };
+        Some(Bus {
+            tier: self.field()?,
+            reading: self.field()?,
+            weight: if weighed { self.field()? } else { 1.0 },
+            weighed,
+        })
+    }
+
     /// A corridor after its mark, CO or CP.
     fn corridor(&mut self) -> Option<CorridorRecord> {
         let marked = match self.0.next()? {
@@ -129,12 +148,7 @@ pub fn parse_text(text: &str) -> Option<Case> {
         target,
         above,
         ladder: words.table(levels, "LV", Words::field)?,
-        buses: words.table(buses, "BU", |words| {
-            Some(Bus {
-                tier: words.field()?,
-                load: words.field()?,
-            })
-        })?,
+        buses: (0..buses).map(|_| words.bus()).collect::<Option<_>>()?,
         generators: words.table(generators, "GE", |words| {
             Some(Generator {
                 bus: words.field()?,

@@ -8,13 +8,16 @@ use crate::harness::tables::{
     Bus, Case, CorridorRecord, Generator, Line, MOST_BUSES, MOST_CORRIDORS, MOST_GENERATORS,
     MOST_LEVELS, MOST_TARGET,
 };
+use crate::watch::{seen_if, Branch};
 
 /// A unit as dispatch takes it: pmin, pmax, c1, c2.
 pub type Unit = (f64, f64, f64, f64);
 
 const MOST_KV: f64 = 10_000.0;
 const LEAST_STEP_KV: f64 = 1e-6;
-const MOST_MW: f64 = 1e6;
+pub const MOST_MW: f64 = 1e6;
+/// A reading's weight (document 02, K6).
+pub const MOST_WEIGHT: f64 = 1_000.0;
 const MOST_LINEAR_COST: f64 = 1e6;
 const MOST_DEMAND: f64 = 1e9;
 const MOST_CIRCUITS: u8 = 64;
@@ -35,8 +38,51 @@ fn finite_from_zero(v: f64) -> bool {
     v.is_finite() && v >= 0.0
 }
 
-pub fn load_is_good(load: f64) -> bool {
-    within(load, 0.0, MOST_MW)
+/// A reading, its weight and their product (document 02, K6).
+pub fn load_is_good(reading: f64, weight: f64) -> bool {
+    let load = reading * weight;
+    let good = within(reading, 0.0, MOST_MW)
+        && 0.0 < weight
+        && weight <= MOST_WEIGHT
+        && within(load, 0.0, MOST_MW);
+    watch_load(reading, weight, load, good);
+    good
+}
+
+/// Counts why a load is refused, or what is at the edge of one that is not.
+fn watch_load(reading: f64, weight: f64, load: f64, good: bool) {
+    let reading_good = within(reading, 0.0, MOST_MW);
+    let weight_good = 0.0 < weight && weight <= MOST_WEIGHT;
+    let why = [
+        (reading.is_nan(), Branch::ReadingNoNumber),
+        (reading < 0.0, Branch::ReadingBelow),
+        (reading > MOST_MW, Branch::ReadingAbove),
+        (reading_good && weight.is_nan(), Branch::WeightNoNumber),
+        (reading_good && weight == 0.0, Branch::WeightZero),
+        (reading_good && weight < 0.0, Branch::WeightBelow),
+        (reading_good && weight > MOST_WEIGHT, Branch::WeightAbove),
+        (reading_good && weight_good && !good, Branch::ProductAbove),
+    ];
+    let edge = [
+        (
+            reading == 0.0 && reading.is_sign_negative(),
+            Branch::ReadingMinusZero,
+        ),
+        (reading > 0.0 && load == 0.0, Branch::ProductUnderflows),
+        (
+            weight != 1.0 && load.is_subnormal(),
+            Branch::ProductSubnormal,
+        ),
+        (weight != 1.0 && load == MOST_MW, Branch::ProductAtMost),
+        (weight == MOST_WEIGHT, Branch::WeightAtMost),
+        (
+            weight != 1.0 && weight.fract() != 0.0 && load > 0.0,
+            Branch::ProductWorkedOut,
+        ),
+    ];
+    for (so, branch) in if good { &edge[..] } else { &why[..] } {
+        seen_if(*so, *branch);
+    }
 }
 
 pub fn length_is_good(length_km: f64) -> bool {
@@ -80,7 +126,9 @@ pub fn ladder_is_good(ladder: &[f64]) -> Result<(), Refusal> {
 }
 
 fn bus_is_good(bus: &Bus, requested: usize) -> bool {
-    usize::from(bus.tier) < requested && load_is_good(bus.load)
+    let tier = usize::from(bus.tier) < requested;
+    seen_if(!tier, Branch::TierPastRequest);
+    tier && load_is_good(bus.reading, bus.weight)
 }
 
 fn generator_is_good(g: &Generator, buses: usize) -> bool {
@@ -158,7 +206,7 @@ pub fn case_costs_are_finite(case: &Case) -> Result<(), Refusal> {
         let units: Vec<Unit> = members.iter().map(|&k| unit(&case.generators[k])).collect();
         let demand: f64 = (0..case.buses.len())
             .filter(|&i| leaders[i] == leader)
-            .map(|i| case.buses[i].load)
+            .map(|i| case.buses[i].load())
             .sum();
         costs_are_finite(&units, demand)
             .map_err(|refusal| Refusal::new(COST, members[refusal.index]))?;

@@ -96,7 +96,8 @@ pub fn angles(network: &Network) -> Result<Solve, Refusal> {
 
 /// What placement is asked.
 pub struct Support {
-    pub loads: Vec<f64>,
+    /// Reading and weight of each bus.
+    pub buses: Vec<(f64, f64)>,
     /// Two ends and a length, km.
     pub corridors: Vec<(usize, usize, f64)>,
     pub generator_buses: Vec<usize>,
@@ -105,7 +106,7 @@ pub struct Support {
 /// The condensers: bus and Mvar, in the order they were placed.
 pub fn placement(support: &Support) -> Result<Vec<(usize, f64)>, Refusal> {
     let Support {
-        loads,
+        buses: loads,
         corridors,
         generator_buses,
     } = support;
@@ -113,13 +114,15 @@ pub fn placement(support: &Support) -> Result<Vec<(usize, f64)>, Refusal> {
     count_at_most(buses, MOST_BUSES)?;
     count_at_most(corridors.len(), MOST_CORRIDORS)?;
     count_at_most(generator_buses.len(), MOST_GENERATORS)?;
-    first_fault(BUS, loads, |&load| !load_is_good(load))?;
+    first_fault(BUS, loads, |&(reading, weight)| {
+        !load_is_good(reading, weight)
+    })?;
     first_fault(GENERATOR, generator_buses, |&bus| bus >= buses)?;
     first_fault(CORRIDOR, corridors, |&(a, b, km)| {
         !ends_are_good(a, b, buses) || !length_is_good(km)
     })?;
     let condensers = place_voltage_support(
-        &loads.iter().map(|&load| bus_with(load)).collect::<Vec<_>>(),
+        &loads.iter().map(bus_with).collect::<Vec<_>>(),
         &corridors.iter().map(corridor_of).collect::<Vec<_>>(),
         &generator_buses
             .iter()
@@ -130,11 +133,11 @@ pub fn placement(support: &Support) -> Result<Vec<(usize, f64)>, Refusal> {
 }
 
 /// A bus of which placement reads the load alone.
-fn bus_with(load_mw: f64) -> DraftBus {
+fn bus_with((reading, weight): &(f64, f64)) -> DraftBus {
     DraftBus {
         tier: 0,
         base_kv: 0.0,
-        load_mw,
+        load_mw: reading * weight,
     }
 }
 

@@ -33,7 +33,7 @@ fn draft_buses(case: &Case) -> Vec<DraftBus> {
         .map(|bus| DraftBus {
             tier: bus.tier.into(),
             base_kv: levels[usize::from(bus.tier)],
-            load_mw: bus.load,
+            load_mw: bus.load(),
         })
         .collect()
 }

@@ -41,12 +41,7 @@ fn network(buses: usize, corridors: usize, loads: usize) -> Case {
         target: 0,
         above: 0,
         ladder: vec![138.0],
-        buses: (0..buses)
-            .map(|bus| Bus {
-                tier: 0,
-                load: load(bus),
-            })
-            .collect(),
+        buses: (0..buses).map(|bus| Bus::plain(0, load(bus))).collect(),
         generators: vec![Generator {
             bus: 0,
             slack: 1,

@@ -32,11 +32,33 @@ impl Case {
     }
 }
 
-#[derive(Clone, Copy, Debug, Default, PartialEq)]
+#[derive(Clone, Copy, Debug, PartialEq)]
 pub struct Bus {
     /// Index among the requested levels.
     pub tier: u8,
-    pub load: f64,
+    /// What the survey clerk called.
+    pub reading: f64,
+    /// What the reading counts for (document 02, K6); 1 in a BU.
+    pub weight: f64,
+    /// Whether it is a BV; in a file that is read all buses are, or none.
+    pub weighed: bool,
+}
+
+impl Bus {
+    /// A bus as a BU has it.
+    pub fn plain(tier: u8, reading: f64) -> Self {
+        Self {
+            tier,
+            reading,
+            weight: 1.0,
+            weighed: false,
+        }
+    }
+
+    /// MW: the reading times its weight, rounded once.
+    pub fn load(&self) -> f64 {
+        self.reading * self.weight
+    }
 }
 
 #[derive(Clone, Copy, Debug, Default, PartialEq)]

@@ -12,7 +12,7 @@ use native.Mathlib.Omega.{arith}
 use Rattle.loops.specs.Loops.{tab}
 use Rattle.casefile_defs.specs.Layout.{spot}
 use Rattle.casefile_defs.specs.Reading.{lines}
-use Rattle.casefile_defs.specs.Tables.{Places, placesOf, outcome, sizesOk, numbersOf, figures, sheetIn, capField, levelsAt, busesAt, generatorsAt, corridorsAt, linesAt}
+use Rattle.casefile_defs.specs.Tables.{Places, placesOf, outcome, sizesOk, numbersOf, figures, weights, sheetIn, capField, levelsAt, busesAt, generatorsAt, corridorsAt, linesAt}
 use Rattle.casefile_defs.specs.declared.CaseRead.{CaseRead}
 use Rattle.casefile_defs.specs.declared.Kind.{Kind}
 use Rattle.casefile_defs.specs.declared.Kind.the-variants.{Level, Bus, Generator, Corridor, Line, CappedCorridor}
@@ -31,29 +31,29 @@ abbrev generators-read : tie.After-read-corridors → tie.After-read-generators
 generators-read c = c .before .before .before .before .before .before .before .before .before .before .before .before .before .before .before .before .before .before .before
 
 abbrev buses-read : tie.After-read-generators → tie.After-read-buses
-buses-read c = c .before .before .before .before .before .before .before .before .before .before .before
+buses-read c = c .before .before .before .before .before .before .before .before .before .before .before .before .before
 
 abbrev levels-read : tie.After-read-buses → tie.After-read-levels
-levels-read c = c .before .before .before .before .before
+levels-read c = c .before .before .before .before .before .before
 
 abbrev counts-held : tie.After-read-levels → tie.After-held
 counts-held c = c .before .before .before
 
 abbrev start-of : tie.After-held → tie.Start
-start-of c = c .before .before .before .before .before .before .before .before .before .before .before .before .before .before .before .before .before .before .before .before
+start-of c = c .before .before .before .before .before .before .before .before .before .before .before .before .before .before .before .before .before .before .before .before .before
 
 abbrev fileAt : tie.After-held → List ℕ
 fileAt c = now (start-of c .args .file)
 
 abbrev placesAt : tie.Start → Places
 placesAt c =
-    placesOf (now (c .args .ladder)) (now (c .args .tier)) (now (c .args .load)) (now (c .args .generator-bus)) (now (c .args .slack)) (now (c .args .pmin))
+    placesOf (now (c .args .ladder)) (now (c .args .tier)) (now (c .args .reading)) (now (c .args .weight)) (now (c .args .generator-bus)) (now (c .args .slack)) (now (c .args .pmin))
     (now (c .args .pmax)) (now (c .args .c1)) (now (c .args .c2)) (now (c .args .a)) (now (c .args .b)) (now (c .args .circuits)) (now (c .args .length-km))
     (now (c .args .share)) (now (c .args .cap)) (now (c .args .sheet))
 
 -- ---- the slices' lengths
 abbrev start-before : tie.Then1 → tie.Start
-start-before c = c .before .before .before .before .before .before .before .before .before .before .before .before .before .before .before .before .before .before
+start-before c = c .before .before .before .before .before .before .before .before .before .before .before .before .before .before .before .before .before .before .before
 
 sizes-false : (c : tie.Then1) → sizesOk (placesAt (start-before c)) ≡ false
 unfolding sizesOk
@@ -74,7 +74,7 @@ buses-at c = c .read-levels .ensures .1
 generators-at : (c : tie.After-read-buses) → c .read-buses .result ≡ generatorsAt (fileAt (counts-held (levels-read c))) (counts-held (levels-read c) .held .result)
 generators-at c =
     let h = counts-held (levels-read c) in
-    c .read-buses .ensures .1 .1 ∙ ap (λ (p : ℕ). spot Bus (fileAt h) p (h .held .result .buses)) (buses-at (levels-read c))
+    c .read-buses .ensures .1 .1 .1 ∙ ap (λ (p : ℕ). spot Bus (fileAt h) p (h .held .result .buses)) (buses-at (levels-read c))
 
 corridors-at : (c : tie.After-read-generators)
     → c .read-generators .result ≡ corridorsAt (fileAt (counts-held (levels-read (buses-read c)))) (counts-held (levels-read (buses-read c)) .held .result)
@@ -98,6 +98,9 @@ column-numbers k l j s count {x} {p} {q} {n} {m} a b e = e ∙ ap (λ (i : ℕ).
 
 column-figures : (k : Kind) (j : ℕ) (s : List ℕ) (count : ℕ) {x : List Float} {p q n m : ℕ} → p ≡ q → n ≡ m → x ≡ figures k j s p count n → x ≡ figures k j s q count m
 column-figures k j s count {x} {p} {q} {n} {m} a b e = e ∙ ap (λ (i : ℕ). figures k j s i count n) a ∙ ap (λ (i : ℕ). figures k j s q count i) b
+
+column-weights : (s : List ℕ) (count : ℕ) {x : List Float} {p q n m : ℕ} → p ≡ q → n ≡ m → x ≡ weights s p count n → x ≡ weights s q count m
+column-weights s count {x} {p} {q} {n} {m} a b e = e ∙ ap (λ (i : ℕ). weights s i count n) a ∙ ap (λ (i : ℕ). weights s q count i) b
 
 sheet-rows : (s : List ℕ) (count : ℕ) {x : List Float} {p q n m : ℕ} → p ≡ q → n ≡ m → x ≡ tab n (sheetIn s p count) → x ≡ tab m (sheetIn s q count)
 sheet-rows s count {x} {p} {q} {n} {m} a b e = e ∙ ap (λ (i : ℕ). tab n (sheetIn s i count)) a ∙ ap (λ (i : ℕ). tab i (sheetIn s q count)) b
@@ -123,13 +126,13 @@ read-levels-requires c κs = let r = room (c .before .before) in (r .levels, ome
 
 read-buses-requires : tie.Need-read-buses-requires
 read-buses-requires c κs =
-    let d = c .before .before .before .before in
+    let d = c .before .before .before .before .before in
     let h = counts-held d in
     (moved Bus (fileAt h) (h .held .result .buses) (buses-at d) (room h .buses), room h .small .buses)
 
 read-generators-requires : tie.Need-read-generators-requires
 read-generators-requires c κs =
-    let d = c .before .before .before .before .before .before .before .before .before .before in
+    let d = c .before .before .before .before .before .before .before .before .before .before .before .before in
     let h = counts-held (levels-read d) in
     (moved Generator (fileAt h) (h .held .result .generators) (generators-at d) (room h .generators), omega (arith, room h .small .generators))
 
@@ -160,43 +163,46 @@ same-length-3 : tie.Need-same-length-3
 same-length-3 c = buses-read (generators-read (corridors-read (c .before .before))) .read-buses .kept .1 .1 .1 .1 .0
 
 same-length-4 : tie.Need-same-length-4
-same-length-4 c = generators-read (corridors-read (c .before .before)) .read-generators .kept .1 .1 .1 .0
+same-length-4 c = buses-read (generators-read (corridors-read (c .before .before))) .read-buses .kept .1 .1 .1 .1 .1 .0
 
 same-length-5 : tie.Need-same-length-5
-same-length-5 c = generators-read (corridors-read (c .before .before)) .read-generators .kept .1 .1 .1 .1 .0
+same-length-5 c = generators-read (corridors-read (c .before .before)) .read-generators .kept .1 .1 .1 .0
 
 same-length-6 : tie.Need-same-length-6
-same-length-6 c = generators-read (corridors-read (c .before .before)) .read-generators .kept .1 .1 .1 .1 .1 .0
+same-length-6 c = generators-read (corridors-read (c .before .before)) .read-generators .kept .1 .1 .1 .1 .0
 
 same-length-7 : tie.Need-same-length-7
-same-length-7 c = generators-read (corridors-read (c .before .before)) .read-generators .kept .1 .1 .1 .1 .1 .1 .0
+same-length-7 c = generators-read (corridors-read (c .before .before)) .read-generators .kept .1 .1 .1 .1 .1 .0
 
 same-length-8 : tie.Need-same-length-8
-same-length-8 c = generators-read (corridors-read (c .before .before)) .read-generators .kept .1 .1 .1 .1 .1 .1 .1 .0
+same-length-8 c = generators-read (corridors-read (c .before .before)) .read-generators .kept .1 .1 .1 .1 .1 .1 .0
 
 same-length-9 : tie.Need-same-length-9
-same-length-9 c = generators-read (corridors-read (c .before .before)) .read-generators .kept .1 .1 .1 .1 .1 .1 .1 .1 .0
+same-length-9 c = generators-read (corridors-read (c .before .before)) .read-generators .kept .1 .1 .1 .1 .1 .1 .1 .0
 
 same-length-10 : tie.Need-same-length-10
-same-length-10 c = corridors-read (c .before .before) .read-corridors .kept .1 .1 .1 .0
+same-length-10 c = generators-read (corridors-read (c .before .before)) .read-generators .kept .1 .1 .1 .1 .1 .1 .1 .1 .0
 
 same-length-11 : tie.Need-same-length-11
-same-length-11 c = corridors-read (c .before .before) .read-corridors .kept .1 .1 .1 .1 .0
+same-length-11 c = corridors-read (c .before .before) .read-corridors .kept .1 .1 .1 .0
 
 same-length-12 : tie.Need-same-length-12
-same-length-12 c = corridors-read (c .before .before) .read-corridors .kept .1 .1 .1 .1 .1 .0
+same-length-12 c = corridors-read (c .before .before) .read-corridors .kept .1 .1 .1 .1 .0
 
 same-length-13 : tie.Need-same-length-13
-same-length-13 c = corridors-read (c .before .before) .read-corridors .kept .1 .1 .1 .1 .1 .1 .0
+same-length-13 c = corridors-read (c .before .before) .read-corridors .kept .1 .1 .1 .1 .1 .0
 
 same-length-14 : tie.Need-same-length-14
-same-length-14 c = corridors-read (c .before .before) .read-corridors .kept .1 .1 .1 .1 .1 .1 .1 .0
+same-length-14 c = corridors-read (c .before .before) .read-corridors .kept .1 .1 .1 .1 .1 .1 .0
 
 same-length-15 : tie.Need-same-length-15
-same-length-15 c = corridors-read (c .before .before) .read-corridors .kept .1 .1 .1 .1 .1 .1 .1 .1 .0
+same-length-15 c = corridors-read (c .before .before) .read-corridors .kept .1 .1 .1 .1 .1 .1 .1 .0
 
 same-length-16 : tie.Need-same-length-16
-same-length-16 c = c .before .before .read-lines .kept .1 .1 .1 .0
+same-length-16 c = corridors-read (c .before .before) .read-corridors .kept .1 .1 .1 .1 .1 .1 .1 .1 .0
+
+same-length-17 : tie.Need-same-length-17
+same-length-17 c = c .before .before .read-lines .kept .1 .1 .1 .0
 
 returns-2 : tie.Need-returns-2
 returns-2 c =
@@ -209,10 +215,11 @@ returns-2 c =
     let s = fileAt h in
     let n = h .held .result in
     read-whole _ _ _ _ n (sizes-true h) (h .before .read-of .ensures) (h .held .ensures)
-    (tables-same s n _ _ _ _ _ _ _ _ _ _ _ _ _ _ _ _
+    (tables-same s n _ _ _ _ _ _ _ _ _ _ _ _ _ _ _ _ _
     (l .read-levels .ensures .0 ∙ ap (λ (m : ℕ). figures Level 0 s levelsAt (n .above + n .requested) m) (z .ladder))
     (column-numbers Bus Bus 0 s (n .buses) (buses-at l) (z .tier) (b .read-buses .ensures .0))
-    (column-figures Bus 1 s (n .buses) (buses-at l) (z .load) (b .read-buses .ensures .1 .0))
+    (column-figures Bus 1 s (n .buses) (buses-at l) (z .reading) (b .read-buses .ensures .1 .0))
+    (column-weights s (n .buses) (buses-at l) (z .weight) (b .read-buses .ensures .1 .1 .0))
     (column-numbers Generator Generator 0 s (n .generators) (generators-at b) (z .bus) (g .read-generators .ensures .0))
     (column-numbers Generator Generator 1 s (n .generators) (generators-at b) (z .slack) (g .read-generators .ensures .1 .0))
     (column-figures Generator 2 s (n .generators) (generators-at b) (z .pmin) (g .read-generators .ensures .1 .1 .0))
@@ -258,4 +265,5 @@ read-case-spec =
     same-length-14
     same-length-15
     same-length-16
+    same-length-17
     returns-2)

@@ -2,6 +2,7 @@
 //! a corridor's two marks are exchanged.
 
 use super::damage::good_file;
+use super::Extras;
 use crate::generate::random::Random;
 use crate::harness::case_file::{read_case, write_case};
 use crate::harness::checks::MOST_CAP;
@@ -77,8 +78,8 @@ pub fn put_past(random: &mut Random, case: &mut Case) {
 }
 
 /// One cap past its bound, or two; every other time beside another fault.
-pub fn past_its_bound(random: &mut Random, turn: usize, capped: bool) -> Vec<u8> {
-    let file = good_file(random, capped);
+pub fn past_its_bound(random: &mut Random, turn: usize, extras: Extras) -> Vec<u8> {
+    let file = good_file(random, extras);
     let mut case = read_case(&file).expect("the file is good");
     for _ in 0..random.from_to(1, 2) {
         put_past(random, &mut case);
@@ -115,8 +116,8 @@ fn corridors_in(file: &[u8]) -> Vec<(usize, bool)> {
 
 /// A CO made CP or a CP made CO, with its cap byte put in or left out, or the
 /// mark alone; then every record behind it stands in another place.
-pub fn made_the_other(random: &mut Random, turn: usize, capped: bool) -> Vec<u8> {
-    let mut file = good_file(random, capped);
+pub fn made_the_other(random: &mut Random, turn: usize, extras: Extras) -> Vec<u8> {
+    let mut file = good_file(random, extras);
     let corridors = corridors_in(&file);
     if corridors.is_empty() {
         return file;
@@ -133,8 +134,8 @@ pub fn made_the_other(random: &mut Random, turn: usize, capped: bool) -> Vec<u8>
 }
 
 /// Cut inside a corridor, or right before or behind it.
-pub fn cut_in_a_corridor(random: &mut Random, _: usize, capped: bool) -> Vec<u8> {
-    let mut file = good_file(random, capped);
+pub fn cut_in_a_corridor(random: &mut Random, _: usize, extras: Extras) -> Vec<u8> {
+    let mut file = good_file(random, extras);
     let corridors = corridors_in(&file);
     if !corridors.is_empty() {
         let (place, _) = random.pick(&corridors);

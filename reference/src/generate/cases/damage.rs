@@ -1,9 +1,10 @@
 //! Families of files that are no good case file, or barely one: wrong counts,
 //! marks and small fields, padding, cuts, flips and noise.
 
-use super::caps::with_caps;
 use super::networks::{middling_observe, small_expand, small_observe, small_reinforce, two_buses};
 use super::sketch::{plain_line, uniform_sheet, OBSERVE};
+use super::weights::with_ones;
+use super::{with_extras, Extras};
 use crate::generate::random::Random;
 use crate::harness::case_file::{write_case, MOST_BYTES};
 use crate::harness::tables::{CorridorRecord, MOST_MODE};
@@ -17,20 +18,25 @@ const GENERATORS: usize = 11;
 const ABOVE: usize = 13;
 const REQUESTED: usize = 14;
 
-/// A file that is read, with own caps where `capped` says so.
-pub fn good_file(random: &mut Random, capped: bool) -> Vec<u8> {
+/// A file that is read.
+pub fn good_file(random: &mut Random, extras: Extras) -> Vec<u8> {
     let make = random.pick(&[small_expand, small_reinforce, small_observe]);
     let case = make(random);
-    write_case(&with_caps(random, case, capped))
+    write_case(&with_extras(random, case, extras))
 }
 
-/// A file with every kind of record, as small as can be: case L, and with a
-/// second corridor that is a CP where `capped` says so.
-pub fn smallest_file(capped: bool) -> Vec<u8> {
+/// A file with every kind of record, as small as can be: case L, with a second
+/// corridor that is a CP where there are caps, and with BV where there are
+/// weights.
+pub fn smallest_file(extras: Extras) -> Vec<u8> {
     let mut case = two_buses(OBSERVE, 138.0, 50.0, plain_line(0.5, 100.0));
     case.generators[0].pmax = 100.0;
     case.generators[0].c2 = 0.25;
-    if capped {
+    if extras.weighed {
+        case = with_ones(case);
+        case.buses[1].weight = 0.75;
+    }
+    if extras.capped {
         let second = CorridorRecord {
             cap: 2,
             marked: true,
@@ -47,8 +53,8 @@ fn put_u16(file: &mut [u8], place: usize, value: u16) {
 }
 
 /// A count or target past its bound, or a count that the records do not keep.
-pub fn counts(random: &mut Random, turn: usize, capped: bool) -> Vec<u8> {
-    let mut file = good_file(random, capped);
+pub fn counts(random: &mut Random, turn: usize, extras: Extras) -> Vec<u8> {
+    let mut file = good_file(random, extras);
     match turn % 8 {
         0 => put_u16(&mut file, BUSES, random.pick(&[257, 300, u16::MAX])),
         1 => put_u16(&mut file, CORRIDORS, random.pick(&[257, 512, u16::MAX])),
@@ -87,8 +93,8 @@ fn records(file: &[u8], mark: &[u8; 2]) -> Vec<usize> {
 }
 
 /// A mode, slack or basis past its bound.
-pub fn small_fields(random: &mut Random, turn: usize, capped: bool) -> Vec<u8> {
-    let mut file = good_file(random, capped);
+pub fn small_fields(random: &mut Random, turn: usize, extras: Extras) -> Vec<u8> {
+    let mut file = good_file(random, extras);
     let past = random.pick(&[2, 3, 128, 255]);
     let (mark, offset) = [(b"HD", MODE), (b"GE", 4), (b"LN", 34)][turn % 3];
     let places = records(&file, mark);
@@ -108,11 +114,12 @@ pub fn small_fields(random: &mut Random, turn: usize, capped: bool) -> Vec<u8> {
 }
 
 /// One record's mark made another.
-pub fn marks(random: &mut Random, turn: usize, capped: bool) -> Vec<u8> {
-    const MARKS: [&[u8; 2]; 7] = [b"HD", b"LV", b"BU", b"GE", b"CO", b"LN", b"CP"];
-    let mut file = good_file(random, capped);
-    let kinds = if capped { 7 } else { 6 };
-    let places = records(&file, MARKS[turn % kinds]);
+pub fn marks(random: &mut Random, turn: usize, extras: Extras) -> Vec<u8> {
+    let bus = if extras.weighed { b"BV" } else { b"BU" };
+    let marks = [b"HD", b"LV", bus, b"GE", b"CO", b"LN", b"CP"];
+    let mut file = good_file(random, extras);
+    let kinds = if extras.capped { 7 } else { 6 };
+    let places = records(&file, marks[turn % kinds]);
     if let Some(&place) = places.get(random.below(places.len().max(1))) {
         let other = random.pick(&[
             b"HD", b"LV", b"BU", b"GE", b"CO", b"LN", b"bu", b"BV", b"CP", b"\0\0",
@@ -127,8 +134,8 @@ pub fn marks(random: &mut Random, turn: usize, capped: bool) -> Vec<u8> {
 }
 
 /// Zeros after the end, up to the largest file there is.
-pub fn padded(random: &mut Random, _: usize, capped: bool) -> Vec<u8> {
-    let mut file = good_file(random, capped);
+pub fn padded(random: &mut Random, _: usize, extras: Extras) -> Vec<u8> {
+    let mut file = good_file(random, extras);
     let any = random.from_to(file.len(), MOST_BYTES);
     let length = random.pick(&[
         file.len() + 1,
@@ -143,10 +150,10 @@ pub fn padded(random: &mut Random, _: usize, capped: bool) -> Vec<u8> {
 }
 
 /// One byte too many, or more.
-pub fn padded_past(random: &mut Random, _: usize, capped: bool) -> Vec<u8> {
+pub fn padded_past(random: &mut Random, _: usize, extras: Extras) -> Vec<u8> {
     let mut file = match random.once_in(3) {
         true => Vec::new(),
-        false => good_file(random, capped),
+        false => good_file(random, extras),
     };
     let byte = random.pick(&[0, 0, 1]);
     file.resize(MOST_BYTES + random.pick(&[1, 1, 2, 100, 4_465]), byte);
@@ -154,8 +161,8 @@ pub fn padded_past(random: &mut Random, _: usize, capped: bool) -> Vec<u8> {
 }
 
 /// A byte that is not zero among the padding; sometimes several.
-pub fn after_the_end(random: &mut Random, _: usize, capped: bool) -> Vec<u8> {
-    let mut file = good_file(random, capped);
+pub fn after_the_end(random: &mut Random, _: usize, extras: Extras) -> Vec<u8> {
+    let mut file = good_file(random, extras);
     let end = file.len();
     let length = random.pick(&[1, 8, 9, 40, 5_000, MOST_BYTES - end]);
     file.resize((end + length).min(MOST_BYTES), 0);
@@ -167,13 +174,13 @@ pub fn after_the_end(random: &mut Random, _: usize, capped: bool) -> Vec<u8> {
     file
 }
 
-pub fn cut(random: &mut Random, _: usize, capped: bool) -> Vec<u8> {
+pub fn cut(random: &mut Random, _: usize, extras: Extras) -> Vec<u8> {
     let mut file = match random.once_in(3) {
         true => {
             let case = middling_observe(random);
-            write_case(&with_caps(random, case, capped))
+            write_case(&with_extras(random, case, extras))
         }
-        false => good_file(random, capped),
+        false => good_file(random, extras),
     };
     file.truncate(random.below(file.len()));
     file
@@ -184,8 +191,8 @@ fn flip(random: &mut Random, file: &mut [u8], place: usize) {
     file[place] ^= random.pick(&[bit, bit, 255]);
 }
 
-pub fn flipped(random: &mut Random, _: usize, capped: bool) -> Vec<u8> {
-    let mut file = good_file(random, capped);
+pub fn flipped(random: &mut Random, _: usize, extras: Extras) -> Vec<u8> {
+    let mut file = good_file(random, extras);
     for _ in 0..random.pick(&[1, 1, 1, 2, 5]) {
         let place = random.below(file.len());
         flip(random, &mut file, place);
@@ -194,28 +201,35 @@ pub fn flipped(random: &mut Random, _: usize, capped: bool) -> Vec<u8> {
 }
 
 /// The smallest file cut at each byte in turn, and whole.
-pub fn cut_in_turn(_: &mut Random, turn: usize, capped: bool) -> Vec<u8> {
-    let mut file = smallest_file(capped);
+pub fn cut_in_turn(_: &mut Random, turn: usize, extras: Extras) -> Vec<u8> {
+    let mut file = smallest_file(extras);
     file.truncate(turn % (file.len() + 1));
     file
 }
 
 /// The smallest file with each byte flipped in turn.
-pub fn flipped_in_turn(random: &mut Random, turn: usize, capped: bool) -> Vec<u8> {
-    let mut file = smallest_file(capped);
+pub fn flipped_in_turn(random: &mut Random, turn: usize, extras: Extras) -> Vec<u8> {
+    let mut file = smallest_file(extras);
     let place = turn % file.len();
     flip(random, &mut file, place);
     file
 }
 
 /// A file of the right shape with any bits for some of its figures.
-pub fn any_figures(random: &mut Random, _: usize, capped: bool) -> Vec<u8> {
+pub fn any_figures(random: &mut Random, _: usize, extras: Extras) -> Vec<u8> {
     let case = small_observe(random);
-    let mut case = with_caps(random, case, capped);
+    let mut case = with_extras(random, case, extras);
+    if extras.weighed {
+        for bus in &mut case.buses {
+            if random.once_in(8) {
+                bus.weight = random.any_figure();
+            }
+        }
+    }
     let figures = case
         .ladder
         .iter_mut()
-        .chain(case.buses.iter_mut().map(|bus| &mut bus.load))
+        .chain(case.buses.iter_mut().map(|bus| &mut bus.reading))
         .chain(
             case.generators
                 .iter_mut()
@@ -243,7 +257,7 @@ pub fn any_figures(random: &mut Random, _: usize, capped: bool) -> Vec<u8> {
 }
 
 /// Noise, sometimes behind a good header.
-pub fn any_bytes(random: &mut Random, turn: usize, capped: bool) -> Vec<u8> {
+pub fn any_bytes(random: &mut Random, turn: usize, extras: Extras) -> Vec<u8> {
     if turn.is_multiple_of(16) {
         return Vec::new();
     }
@@ -252,7 +266,7 @@ pub fn any_bytes(random: &mut Random, turn: usize, capped: bool) -> Vec<u8> {
         .map(|_| random.bits() as u8)
         .collect();
     if random.once_in(2) {
-        let mut headed = good_file(random, capped);
+        let mut headed = good_file(random, extras);
         headed.truncate(15);
         headed.append(&mut file);
         return headed;

@@ -39,8 +39,8 @@ fn spoil_bus(random: &mut Random, case: &mut Case) {
     let requested = case.requested() as u8;
     match random.below(3) {
         0 => case.buses[place].tier = random.pick(&[requested, requested + 1, 255]),
-        1 => case.buses[place].load = random.pick(&NEVER),
-        _ => case.buses[place].load = random.pick(&[1e6f64.next_up(), f64::INFINITY, -5e-324]),
+        1 => case.buses[place].reading = random.pick(&NEVER),
+        _ => case.buses[place].reading = random.pick(&[1e6f64.next_up(), f64::INFINITY, -5e-324]),
     }
 }
 
@@ -148,7 +148,7 @@ pub fn costs_of_islands(random: &mut Random) -> Case {
     for i in 0..islands {
         let (a, b) = (names[2 * i], names[2 * i + 1]);
         case.corridors.push(sketch::corridor(a, b));
-        case.buses[a].load = random.between(0.0, 100.0);
+        case.buses[a].reading = random.between(0.0, 100.0);
         for _ in 0..random.from_to(1, 3) {
             let mut g = unit(random.pick(&[a, b]), random.between(50.0, 150.0));
             g.c2 = random.pick(&[0.01, 0.01, 1e306, f64::MAX]);

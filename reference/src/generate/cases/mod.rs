@@ -1,6 +1,8 @@
 //! Seeded case files. The seed chooses the family in turn, so that every run
 //! of [`FAMILIES`] seeds in a row holds one file of each. From [`CAPPED`] on
-//! the corridors have caps of their own, and there are [`CAP_FAMILIES`] too.
+//! the corridors have caps of their own, and there are [`CAP_FAMILIES`] too;
+//! from [`WEIGHED`] on the buses have weights, and there are
+//! [`WEIGHT_FAMILIES`] too.
 
 mod caps;
 mod damage;
@@ -11,18 +13,33 @@ pub mod padding;
 mod serving;
 mod sketch;
 mod stiffening;
+mod weights;
 
 use crate::generate::random::Random;
-use crate::harness::case_file::write_case;
+use crate::harness::case_file::{read_case, write_case};
 use crate::harness::tables::{Case, SERVING};
 
 /// How a file of a family is made.
 enum Make {
     /// The unpadded file of a case.
     Case(fn(&mut Random) -> Case),
-    /// A file that is no such thing; its turn counts the family's files, and
-    /// the flag says whether corridors have caps.
-    File(fn(&mut Random, usize, bool) -> Vec<u8>),
+    /// A file that is no such thing; its turn counts the family's files.
+    File(fn(&mut Random, usize, Extras) -> Vec<u8>),
+}
+
+/// What records have beside what document 01 gives them.
+#[derive(Clone, Copy, Default)]
+pub struct Extras {
+    /// Corridors have caps of their own.
+    capped: bool,
+    /// Buses have weights.
+    weighed: bool,
+}
+
+/// The case with what its file has beside.
+fn with_extras(random: &mut Random, case: Case, extras: Extras) -> Case {
+    let case = caps::with_caps(random, case, extras.capped);
+    weights::with_weights(random, case, extras.weighed)
 }
 
 /// A case file and the family it comes from.
@@ -33,6 +50,60 @@ pub struct CaseFile {
 
 /// Seeds from here on have own caps (document 02, K5).
 pub const CAPPED: u64 = 1_000_000;
+
+/// Seeds from here on have weights (document 02, K6), and every other run of
+/// the families own caps too.
+pub const WEIGHED: u64 = 2_000_000;
+
+/// A range of seeds.
+#[derive(Clone, Copy, PartialEq, Eq)]
+enum Range {
+    Plain,
+    Capped,
+    Weighed,
+}
+
+const RANGES: [Range; 3] = [Range::Plain, Range::Capped, Range::Weighed];
+
+impl Range {
+    /// A seed's range and its number in it.
+    fn of(seed: u64) -> (Self, u64) {
+        match seed {
+            WEIGHED.. => (Self::Weighed, seed - WEIGHED),
+            CAPPED.. => (Self::Capped, seed - CAPPED),
+            _ => (Self::Plain, seed),
+        }
+    }
+
+    fn extras(self, run: u64) -> Extras {
+        Extras {
+            capped: self == Self::Capped || self == Self::Weighed && run % 2 == 1,
+            weighed: self == Self::Weighed,
+        }
+    }
+
+    fn families(self) -> Families {
+        let caps = if self == Self::Plain {
+            &[]
+        } else {
+            CAP_FAMILIES
+        };
+        let weights = match self {
+            Self::Weighed => WEIGHT_FAMILIES,
+            _ => &[],
+        };
+        FAMILIES.iter().chain(caps).chain(weights).collect()
+    }
+
+    fn name(self, family: &str) -> String {
+        let more = match self {
+            Self::Plain => "",
+            Self::Capped => ", own caps",
+            Self::Weighed => ", weighed",
+        };
+        format!("{family}{more}")
+    }
+}
 
 /// All families, the ones that deserve more files several times.
 const FAMILIES: &[(&str, Make)] = &[
@@ -171,52 +242,61 @@ const CAP_FAMILIES: &[(&str, Make)] = &[
     ("cut in a corridor", Make::File(caps::cut_in_a_corridor)),
 ];
 
+/// Families that only weights have.
+const WEIGHT_FAMILIES: &[(&str, Make)] = &[
+    (
+        "refused: reading, weight or load",
+        Make::File(weights::past_bounds),
+    ),
+    (
+        "edge of reading, weight or load",
+        Make::File(weights::at_bounds),
+    ),
+    ("BU and BV meet", Make::File(weights::forms_meet)),
+    ("BU and BV meet", Make::File(weights::forms_meet)),
+    ("cut in a bus", Make::File(weights::cut_in_a_bus)),
+    (
+        "BV in the place of others",
+        Make::File(weights::in_place_of_others),
+    ),
+];
+
 type Families = Vec<&'static (&'static str, Make)>;
-
-fn families(capped: bool) -> Families {
-    let more = if capped { CAP_FAMILIES } else { &[] };
-    FAMILIES.iter().chain(more).collect()
-}
-
-fn family_name(name: &str, capped: bool) -> String {
-    let caps = if capped { ", own caps" } else { "" };
-    format!("{name}{caps}")
-}
 
 /// Names of all families.
 pub fn family_names() -> Vec<String> {
-    let of = |capped| {
-        let names = families(capped).into_iter().map(|&(name, _)| name);
-        names.map(move |name| family_name(name, capped))
+    let of = |range: Range| {
+        let names = range.families().into_iter().map(|&(name, _)| name);
+        names.map(move |name| range.name(name))
     };
-    of(false).chain(of(true)).collect()
+    RANGES.into_iter().flat_map(of).collect()
 }
 
 /// The seed of some case, with caps or without.
 pub fn some_seed(random: &mut Random) -> u64 {
-    random.bits() % (2 * CAPPED)
+    random.bits() % WEIGHED
 }
 
 /// The case file of a seed.
 pub fn case_file(seed: u64) -> CaseFile {
-    let capped = seed >= CAPPED;
-    let families = families(capped);
-    let number = if capped { seed - CAPPED } else { seed };
+    let (range, number) = Range::of(seed);
+    let families = range.families();
     let count = families.len() as u64;
-    let place = (number % count) as usize;
+    let (place, run) = ((number % count) as usize, number / count);
+    let extras = range.extras(run);
     let (family, make) = families[place];
     let mut random = Random::new(family, seed);
     let bytes = match make {
         Make::Case(case) => {
             let case = case(&mut random);
-            write_case(&caps::with_caps(&mut random, case, capped))
+            write_case(&with_extras(&mut random, case, extras))
         }
         Make::File(file) => {
-            let turn = turn(&families, place, (number / count) as usize);
-            file(&mut random, turn, capped)
+            let turn = turn(&families, place, run as usize);
+            file(&mut random, turn, extras)
         }
     };
-    let family = family_name(family, capped);
+    let family = range.name(family);
     CaseFile { family, bytes }
 }
 
@@ -230,37 +310,72 @@ fn plain_families() -> impl Iterator<Item = serving::Family> {
 
 /// Names of all families in modes 3 to 5.
 pub fn serving_names() -> Vec<String> {
-    let of = |capped| {
+    let of = |range: Range| {
         let own = serving::FAMILIES.iter().copied();
         let names = own.chain(plain_families()).map(|(name, _)| name);
-        names.map(move |name| family_name(name, capped))
+        names.map(move |name| range.name(name))
     };
-    of(false).chain(of(true)).collect()
+    RANGES.into_iter().flat_map(of).collect()
 }
 
 /// The case file of a seed in modes 3 to 5: of odd seeds a family with idle
 /// units, of even ones a case as in modes 0 to 2 with its mode raised. Of
 /// those with own caps one in twelve has a cap past its bound.
 pub fn serving_file(seed: u64) -> CaseFile {
-    let capped = seed >= CAPPED;
-    let number = if capped { seed - CAPPED } else { seed };
+    let (range, number) = Range::of(seed);
     let families: Vec<serving::Family> = match number % 2 {
         1 => serving::FAMILIES.to_vec(),
         _ => plain_families().collect(),
     };
-    let (family, make) = families[(number / 2) as usize % families.len()];
+    let turn = number / 2;
+    let count = families.len() as u64;
+    let extras = range.extras(turn / count);
+    let (family, make) = families[(turn % count) as usize];
     let mut random = Random::new(family, seed);
     let mut case = make(&mut random);
     if case.mode < SERVING {
         case.mode += SERVING;
     }
-    let mut case = caps::with_caps(&mut random, case, capped);
-    if capped && random.once_in(12) {
+    let mut case = with_extras(&mut random, case, extras);
+    if extras.capped && random.once_in(12) {
         caps::put_past(&mut random, &mut case);
     }
-    let family = family_name(family, capped);
+    let family = range.name(family);
     let bytes = write_case(&case);
     CaseFile { family, bytes }
+}
+
+/// The case file of a seed written as BV with weight 1, where it can be read.
+pub fn ones_file(seed: u64) -> CaseFile {
+    let file = case_file(seed);
+    match read_case(&file.bytes) {
+        Ok(case) => CaseFile {
+            bytes: write_case(&weights::with_ones(case)),
+            ..file
+        },
+        Err(_) => file,
+    }
+}
+
+/// Such a file with its weights left out.
+pub fn without_weights(file: &[u8]) -> Vec<u8> {
+    match read_case(file) {
+        Ok(mut case) => {
+            case.buses.iter_mut().for_each(|bus| bus.weighed = false);
+            write_case(&case)
+        }
+        Err(_) => file.to_vec(),
+    }
+}
+
+/// Gives every other case of a season weights.
+pub fn weigh_some(random: &mut Random, files: &mut [Vec<u8>]) {
+    for file in files {
+        if let Ok(case) = read_case(file) {
+            let weighed = random.once_in(2);
+            *file = write_case(&weights::with_weights(random, case, weighed));
+        }
+    }
 }
 
 /// Which file of its family this is: a family that stands twice in the list

@@ -208,7 +208,7 @@ pub fn whole_numbers(random: &mut Random) -> Case {
     let mode = random.pick(&[EXPAND, EXPAND, REINFORCE, OBSERVE]);
     let mut case = made(random, small_spec, mode);
     for bus in &mut case.buses {
-        bus.load = 10.0 * random.below(5) as f64;
+        bus.reading = 10.0 * random.below(5) as f64;
     }
     for g in &mut case.generators {
         g.pmin = 0.0;
@@ -263,7 +263,7 @@ pub fn figures_at_bounds(random: &mut Random) -> Case {
         case.ladder = (0..levels).map(|i| (levels - i) as f64 * 2_000.0).collect();
     }
     for bus in &mut case.buses {
-        bus.load = random.pick(&[0.0, -0.0, 5e-324, 1.0, 1e6]);
+        bus.reading = random.pick(&[0.0, -0.0, 5e-324, 1.0, 1e6]);
     }
     for g in &mut case.generators {
         g.pmax = random.pick(&[0.0, 1.0, 1e6]);
@@ -292,7 +292,7 @@ pub fn tiny_loads(random: &mut Random) -> Case {
     let mut case = made(random, small_spec, mode);
     let scale = random.pick(&[1e-170, 1e-162, 1e-158, 1e-100]);
     for bus in &mut case.buses {
-        bus.load *= scale;
+        bus.reading *= scale;
     }
     for g in &mut case.generators {
         g.pmin *= scale;
@@ -322,7 +322,7 @@ pub fn filling_to_caps(random: &mut Random) -> Case {
 pub fn filling_ties(random: &mut Random) -> Case {
     let mut case = made(random, small_spec, EXPAND);
     for bus in &mut case.buses {
-        bus.load = 0.0;
+        bus.reading = 0.0;
     }
     for g in &mut case.generators {
         g.pmin = 0.0;
@@ -364,7 +364,7 @@ pub fn extreme_sheet(random: &mut Random) -> Case {
     }
     let heavy = random.pick(&[1.0, 1.0, 1e4]);
     for bus in &mut case.buses {
-        bus.load = (bus.load * heavy).min(1e6);
+        bus.reading = (bus.reading * heavy).min(1e6);
     }
     for g in &mut case.generators {
         g.pmax = (g.pmax * heavy).min(1e6);

@@ -2,6 +2,7 @@
 //! is not zero stands in each place of the first and of the last words.
 
 use super::damage::smallest_file;
+use super::Extras;
 use crate::harness::case_file::MOST_BYTES;
 
 /// Three words: up to here every length and every place is tried.
@@ -25,7 +26,7 @@ fn places(padding: usize) -> Vec<usize> {
 
 /// The file with so many bytes behind it: zeros alone, then a byte in each place.
 fn padded(padding: usize) -> Vec<Vec<u8>> {
-    let mut zeros = smallest_file(false);
+    let mut zeros = smallest_file(Extras::default());
     let end = zeros.len();
     zeros.resize(end + padding, 0);
     let mut files = vec![zeros.clone()];
@@ -43,7 +44,7 @@ fn padded(padding: usize) -> Vec<Vec<u8>> {
 /// All these files: with each few bytes behind the records, and with as many as
 /// fill the file or leave up to seven free, so that every rest of a word is met.
 pub fn padded_files() -> Vec<Vec<u8>> {
-    let full = MOST_BYTES - smallest_file(false).len();
+    let full = MOST_BYTES - smallest_file(Extras::default()).len();
     (0..=SHORT)
         .chain(full - 7..=full)
         .flat_map(padded)

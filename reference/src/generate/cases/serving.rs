@@ -58,7 +58,7 @@ fn some(random: &mut Random) -> Case {
 fn idle_units(random: &mut Random) -> Case {
     let mut case = some(random);
     for bus in &mut case.buses {
-        bus.load = 10.0 * random.below(4) as f64;
+        bus.reading = 10.0 * random.below(4) as f64;
     }
     for g in &mut case.generators {
         g.pmin = 0.0;
@@ -110,7 +110,7 @@ fn just_between(random: &mut Random) -> Case {
     }
     let least: f64 = case.generators.iter().map(|g| g.pmin).sum();
     let most: f64 = case.generators.iter().map(|g| g.pmax).sum();
-    case.buses[1].load = random.pick(&[least.next_up(), most.next_down(), least, most]);
+    case.buses[1].reading = random.pick(&[least.next_up(), most.next_down(), least, most]);
     case
 }
 
@@ -149,7 +149,7 @@ fn all_there_may_be(random: &mut Random) -> Case {
 fn sums_that_round(random: &mut Random) -> Case {
     let mut case = pair(random);
     let load = random.between(30.0, 60.0);
-    case.buses[1].load = load;
+    case.buses[1].reading = load;
     let place = load.next_up() - load;
     for _ in 0..random.from_to(2, 6) {
         let small = place * random.between(0.2, 1.4);

@@ -75,10 +75,7 @@ pub fn corridor(a: usize, b: usize) -> CorridorRecord {
 }
 
 pub fn bus(tier: usize, load: f64) -> Bus {
-    Bus {
-        tier: tier as u8,
-        load,
-    }
+    Bus::plain(tier as u8, load)
 }
 
 /// A unit that can serve up to `pmax`, with ordinary costs.
@@ -145,7 +142,7 @@ pub fn network(random: &mut Random, spec: &Spec) -> Case {
 }
 
 pub fn total_load(case: &Case) -> f64 {
-    case.buses.iter().map(|bus| bus.load).sum()
+    case.buses.iter().map(|bus| bus.reading).sum()
 }
 
 /// Lower levels more often than higher ones.
@@ -216,7 +213,7 @@ pub fn chain(mode: u8, ladder: Vec<f64>, above: usize, buses: usize, load: f64) 
     let mut case = empty(mode, ladder, above);
     let tier = case.requested() - 1;
     case.buses = vec![bus(tier, 0.0); buses];
-    case.buses[buses - 1].load = load;
+    case.buses[buses - 1].reading = load;
     case.corridors = (1..buses).map(|i| corridor(i - 1, i)).collect();
     case.generators = vec![Generator {
         slack: 1,

@@ -26,7 +26,7 @@ pub fn banks(random: &mut Random) -> Case {
     let mut case = network(random, &spec);
     for bus in &mut case.buses {
         if !random.once_in(4) {
-            bus.load = 0.0;
+            bus.reading = 0.0;
         }
     }
     for line in &mut case.sheet {
@@ -120,7 +120,7 @@ pub fn too_late(random: &mut Random) -> Case {
     let spread = random.between(1.2, 3.0);
     let x = spread * 100.0 / load / (length - 1) as f64;
     case.buses.extend(vec![bus(0, 0.0); length]);
-    case.buses[first + length - 1].load = load;
+    case.buses[first + length - 1].reading = load;
     case.generators.push(unit(first, 2.0 * load));
     for i in first + 1..first + length {
         case.corridors.push(corridor(i - 1, i));
@@ -275,11 +275,11 @@ pub fn equal_arms(random: &mut Random) -> Case {
                 ..unit(end, power)
             });
         } else {
-            case.buses[end].load = power;
+            case.buses[end].reading = power;
         }
     }
     if leading {
-        case.buses[hub].load = 2.0 * power;
+        case.buses[hub].reading = 2.0 * power;
     }
     uniform_sheet(&mut case, plain_line(x, 1e3));
     case
@@ -332,10 +332,10 @@ pub fn large(random: &mut Random) -> Case {
     let requested = random.from_to(1, 4);
     let times = random.pick(&[1.2, 2.0]);
     let mut case = wide_chain(random, (0, requested), buses, times, 0.7);
-    let load = case.buses[buses - 1].load;
+    let load = case.buses[buses - 1].reading;
     // The same load in many places.
     for bus in &mut case.buses {
-        bus.load = 2.0 * load / buses as f64;
+        bus.reading = 2.0 * load / buses as f64;
     }
     case.generators = vec![unit(0, 4.0 * load)];
     if random.once_in(3) {

@@ -4,6 +4,7 @@ use super::leaders::pair;
 use super::{Family, Words};
 use crate::generate::random::Random;
 use crate::harness::answers::MOST_COUNT;
+use crate::harness::checks::{MOST_MW, MOST_WEIGHT};
 use crate::harness::operations::Support;
 use crate::harness::tables::{MOST_BUSES, MOST_CORRIDORS, MOST_GENERATORS};
 
@@ -30,16 +31,23 @@ pub const FAMILIES: &[Family] = &[
     ("faults of several kinds", several_faults),
     ("count past its bound", past_bounds),
     ("any bits", any_bits),
+    ("weights", weighed),
+    ("weights", weighed),
+    ("weights, long chain", weighed_chain),
+    ("products at their bounds", products_at_bounds),
+    ("tiny products", tiny_products),
+    ("a faulty weight", faulty_weight),
 ];
 
 pub const LARGEST: Family = ("256 buses, 256 corridors, 128 generators", largest);
 
 fn ask(support: &Support) -> Words {
     Words::new("PLACE")
-        .whole(support.loads.len())
+        .whole(support.buses.len())
         .whole(support.corridors.len())
         .whole(support.generator_buses.len())
-        .each(&support.loads, |words, &load| words.figure(load))
+        .each(&support.buses, |words, &(reading, _)| words.figure(reading))
+        .each(&support.buses, |words, &(_, weight)| words.figure(weight))
         .each(&support.corridors, |words, &(a, b, km)| {
             words.whole(a).whole(b).figure(km)
         })
@@ -62,7 +70,7 @@ fn support(
     length: fn(&mut Random) -> f64,
 ) -> Support {
     Support {
-        loads: (0..buses).map(|_| load(random)).collect(),
+        buses: (0..buses).map(|_| (load(random), 1.0)).collect(),
         corridors: (0..corridors)
             .map(|_| {
                 let (a, b) = pair(random, buses);
@@ -91,7 +99,7 @@ fn small(random: &mut Random) -> Words {
 fn chain_of(random: &mut Random, buses: usize, length: fn(&mut Random) -> f64) -> Support {
     let names = random.shuffled(buses);
     Support {
-        loads: (0..buses).map(|_| load(random)).collect(),
+        buses: (0..buses).map(|_| (load(random), 1.0)).collect(),
         corridors: (1..buses)
             .map(|i| (names[i - 1], names[i], length(random)))
             .collect(),
@@ -157,7 +165,7 @@ fn no_generator(random: &mut Random) -> Words {
 
 fn no_load(random: &mut Random) -> Words {
     let mut support = small_support(random);
-    support.loads.fill(random.pick(&[0.0, -0.0]));
+    support.buses.fill((random.pick(&[0.0, -0.0]), 1.0));
     ask(&support)
 }
 
@@ -169,7 +177,7 @@ fn no_corridor(random: &mut Random) -> Words {
 
 fn no_bus(random: &mut Random) -> Words {
     ask(&Support {
-        loads: vec![],
+        buses: vec![],
         corridors: vec![(0, 1, 1.0); random.pick(&[0, 0, 1])],
         generator_buses: vec![0; random.pick(&[0, 0, 1])],
     })
@@ -178,8 +186,8 @@ fn no_bus(random: &mut Random) -> Words {
 fn small_loads(random: &mut Random) -> Words {
     let buses = random.from_to(2, 8);
     let mut support = chain_of(random, buses, |random| random.between(60.0, 200.0));
-    for load in &mut support.loads {
-        *load = random.pick(&[5e-324, 0.1, 4.0, 8.0, 10.0, 10.000000000000002]);
+    for (reading, _) in &mut support.buses {
+        *reading = random.pick(&[5e-324, 0.1, 4.0, 8.0, 10.0, 10.000000000000002]);
     }
     ask(&support)
 }
@@ -197,8 +205,8 @@ fn at_bounds(random: &mut Random) -> Words {
     let mut support = support(random, MOST_BUSES, corridors, generators, |random| {
         random.pick(&[0.0, 10.0, 10_000.0])
     });
-    for load in &mut support.loads {
-        *load = random.pick(&[0.0, 1.0, 1e6]);
+    for (reading, _) in &mut support.buses {
+        *reading = random.pick(&[0.0, 1.0, 1e6]);
     }
     ask(&support)
 }
@@ -217,23 +225,23 @@ fn largest(random: &mut Random) -> Words {
 const OUT_OF_RANGE: [f64; 5] = [-5e-324, -1.0, f64::INFINITY, f64::NEG_INFINITY, f64::NAN];
 
 fn spoil_load(random: &mut Random, support: &mut Support) {
-    let place = random.below(support.loads.len());
+    let place = random.below(support.buses.len());
     let past = random.pick(&[1e6f64.next_up(), 1e7]);
-    support.loads[place] = match random.once_in(3) {
+    support.buses[place].0 = match random.once_in(3) {
         true => past,
         false => random.pick(&OUT_OF_RANGE),
     };
 }
 
 fn spoil_generator(random: &mut Random, support: &mut Support) {
-    let buses = support.loads.len();
+    let buses = support.buses.len();
     let place = random.below(support.generator_buses.len() + 1);
     let past = random.pick(&[buses, buses + 1, 65_536]);
     support.generator_buses.insert(place, past);
 }
 
 fn spoil_corridor(random: &mut Random, support: &mut Support) {
-    let buses = support.loads.len();
+    let buses = support.buses.len();
     let place = random.below(support.corridors.len());
     let (a, b, km) = support.corridors[place];
     let past = random.pick(&[buses, 999_999_999]);
@@ -278,7 +286,7 @@ fn past_bounds(random: &mut Random) -> Words {
     let mut support = small_support(random);
     let past = random.pick(&[MOST_BUSES + 1, 300, MOST_COUNT]);
     match random.below(3) {
-        0 => support.loads.resize(past, 1.0),
+        0 => support.buses.resize(past, (1.0, 1.0)),
         1 => support.corridors.resize(past, (0, 0, 1.0)),
         _ => {
             let generators = random.pick(&[MOST_GENERATORS + 1, past]);
@@ -292,7 +300,9 @@ fn any_bits(random: &mut Random) -> Words {
     let buses = random.from_to(1, 4);
     let corridors = random.below(4);
     ask(&Support {
-        loads: (0..buses).map(|_| random.any_figure().abs()).collect(),
+        buses: (0..buses)
+            .map(|_| (random.any_figure().abs(), random.any_figure().abs()))
+            .collect(),
         corridors: (0..corridors)
             .map(|_| {
                 (
@@ -304,4 +314,72 @@ fn any_bits(random: &mut Random) -> Words {
             .collect(),
         generator_buses: vec![random.below(buses)],
     })
+}
+
+/// The readings' weights; the load stays about what it was, or not.
+fn weigh(random: &mut Random, support: &mut Support) {
+    let keep = random.once_in(2);
+    for (reading, weight) in &mut support.buses {
+        *weight = random.pick(&[0.25, 0.75, 2.0, MOST_WEIGHT]);
+        if random.once_in(2) {
+            *weight = random.between(0.01, 20.0);
+        }
+        if keep {
+            *reading /= *weight;
+        }
+    }
+}
+
+fn weighed(random: &mut Random) -> Words {
+    let mut support = small_support(random);
+    weigh(random, &mut support);
+    ask(&support)
+}
+
+fn weighed_chain(random: &mut Random) -> Words {
+    let buses = random.from_to(10, MOST_BUSES);
+    let mut support = chain_of(random, buses, length);
+    weigh(random, &mut support);
+    ask(&support)
+}
+
+/// Products of a million, a last place more or less.
+fn products_at_bounds(random: &mut Random) -> Words {
+    let mut support = small_support(random);
+    for (reading, weight) in &mut support.buses {
+        *weight = random.pick(&[1.0, 3.0, 700.0, MOST_WEIGHT]);
+        *reading = match random.once_in(4) {
+            true => random.near(MOST_MW / *weight, 1),
+            false => random.between(0.0, 0.99) * MOST_MW / *weight,
+        };
+    }
+    ask(&support)
+}
+
+/// Products that are subnormal, or underflow, among others.
+fn tiny_products(random: &mut Random) -> Words {
+    let mut support = small_support(random);
+    for (reading, weight) in &mut support.buses {
+        if random.once_in(2) {
+            *reading = random.pick(&[5e-324, 0.1, 0.5, 1.5, 1e-10, -0.0]);
+            *weight = random.pick(&[5e-324, 1e-322, 1e-310, 1e-5, 0.5]);
+        }
+    }
+    ask(&support)
+}
+
+fn faulty_weight(random: &mut Random) -> Words {
+    let mut support = small_support(random);
+    weigh(random, &mut support);
+    for _ in 0..random.from_to(1, 2) {
+        let place = random.below(support.buses.len());
+        let never = random.pick(&OUT_OF_RANGE);
+        let weight = random.pick(&[0.0, -0.0, MOST_WEIGHT.next_up(), 1e6, never, never]);
+        support.buses[place] = match random.below(4) {
+            0 => (MOST_MW, 1f64.next_up()),
+            1 => (random.pick(&[MOST_MW.next_up(), 2e6]), 0.25),
+            _ => (support.buses[place].0, weight),
+        };
+    }
+    ask(&support)
 }

@@ -47,6 +47,9 @@ word-requires-3 c κs = omega (arith, size-at Line (c .enum-told6 .given .1))
 enum-told-7 : tie.Need-enum-told-7
 enum-told-7 c = search needs
 
+enum-told-8 : tie.Need-enum-told-8
+enum-told-8 c = search needs
+
 returns : tie.Need-returns
 returns c = bounded Head 2 5 _ _ (λ at s. refl) (c .before .enum-told .given .1) (c .word .ensures .0)
 
@@ -68,6 +71,9 @@ returns-6 c = bounded Line 34 1 _ _ (λ at s. refl) (c .before .enum-told6 .give
 returns-7 : tie.Need-returns-7
 returns-7 c = search needs
 
+returns-8 : tie.Need-returns-8
+returns-8 c = search needs
+
 pub codes-ok-spec : {M : Type 1} → statement M
 codes-ok-spec =
     tie.close
@@ -85,10 +91,12 @@ codes-ok-spec =
     add-word-3
     word-requires-3
     enum-told-7
+    enum-told-8
     returns
     returns-2
     returns-3
     returns-4
     returns-5
     returns-6
-    returns-7)
+    returns-7
+    returns-8)

@@ -10,10 +10,10 @@ use Rattle.casefile.proofs.scan.walk_kind.Statement.{statement}
 use Rattle.casefile.proofs.scan.walk_kind.Tie as tie
 
 abbrev Inv-loop : tie.InvT-loop
-Inv-loop file kind start end at₀ r₀ at r = iter (stepped kind file) (end - r) r at ≡ walked kind start end file at₀
+Inv-loop file kind weighed start end at₀ r₀ at r = iter (stepped kind weighed file) (end - r) r at ≡ walked kind weighed start end file at₀
 
 abbrev μ-loop : tie.MeasureT-loop
-μ-loop file kind start end at₀ r₀ at r = end - r
+μ-loop file kind weighed start end at₀ r₀ at r = end - r
 
 loop-holds : tie.Need-loop-holds Inv-loop μ-loop
 unfolding walked

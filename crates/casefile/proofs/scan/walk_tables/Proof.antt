@@ -1,7 +1,12 @@
 -- `casefile::scan::walk_tables` meets its contract.
 -- Five walks, one after the other (tables-walked); the counts are small, so no sum wraps.
+use mathlib.Core.Bool.{Bool}
+use mathlib.Core.Path.{ap, _∙_}
 use native.Mathlib.Omega.{arith}
 use borrow.Author.Needs.{needs}
+use denote.Ref.{now}
+use Rattle.casefile_defs.specs.Reading.{walked, beforeBuses, beforeGenerators}
+use Rattle.casefile_defs.specs.declared.Kind.the-variants.{Bus}
 use Rattle.casefile_defs.proofs.Counts.{lines-small}
 use Rattle.casefile_defs.proofs.Walks.{tables-walked}
 use Rattle.casefile.proofs.scan.walk_tables.Statement.{statement}
@@ -31,6 +36,9 @@ add-end c = omega (arith, lines-small (c .before .before .before .before .before
 walk-kind-requires : tie.Need-walk-kind-requires
 walk-kind-requires c κs = search needs
 
+bus-form-requires : tie.Need-bus-form-requires
+bus-form-requires c κs = search needs
+
 walk-kind-requires-2 : tie.Need-walk-kind-requires-2
 walk-kind-requires-2 c κs = search needs
 
@@ -45,7 +53,10 @@ walk-kind-requires-5 c κs = search needs
 
 returns : tie.Need-returns
 returns c =
-    tables-walked _ _ _ _ _ _ _ _ (c .before .before .before .before .walk-kind .ensures) (c .before .before .before .walk-kind2 .ensures)
+    let b = c .before .before .before in
+    let h = b .before .before .before .before .before .before .before .before .before in
+    tables-walked _ _ _ _ _ _ _ _ (b .before .before .walk-kind .ensures)
+    (b .walk-kind2 .ensures ∙ ap (λ (x : Bool). walked Bus x (beforeBuses (h .args .h)) (beforeGenerators (h .args .h)) (now (h .args .file)) (b .before .before .walk-kind .result)) (b .before .bus-form .ensures))
     (c .before .before .walk-kind3 .ensures) (c .before .walk-kind4 .ensures) (c .walk-kind5 .ensures)
 
 pub walk-tables-spec : {M : Type 1} → statement M
@@ -60,6 +71,7 @@ walk-tables-spec =
     mul-end
     add-end
     walk-kind-requires
+    bus-form-requires
     walk-kind-requires-2
     walk-kind-requires-3
     walk-kind-requires-4

@@ -1,8 +1,8 @@
 -- `exports::said::placement` meets its contract, a variant at a time.
 use borrow.Author.Needs.{needs}
 use mathlib.Core.Path.{sym, ap, _∙_}
-use Rattle.placement.specs.Support.{replyOf}
-use Rattle.placement.specs.declared.Placement.{Placement}
+use Rattle.placement_defs.specs.Support.{replyOf}
+use Rattle.placement_defs.specs.declared.Placement.{Placement}
 use Rattle.exports.specs.Said.{placementSaid}
 use Rattle.exports.proofs.said.placement.Statement.{statement}
 use Rattle.exports.proofs.said.placement.Tie as tie

@@ -1,7 +1,7 @@
 -- `placement::blocks::nearer_bus` meets its contract.
 -- By its three tests; a choice that is none is n.
 use Rattle.placement.proofs.Tests.{none-chosen, some-chosen}
-use Rattle.placement.specs.Distance.{nearer}
+use Rattle.placement_defs.specs.Distance.{nearer}
 use borrow.Author.Tests.{eq-eqb, ne-eqb}
 use borrow.Author.Needs.{needs}
 use Rattle.placement.proofs.blocks.nearer_bus.Statement.{statement}

@@ -3,7 +3,7 @@
 use mathlib.Core.Path.{sym, _∙_}
 use borrow.Author.Needs.{needs}
 use borrow.Author.Tests.{lt-ltb, le-ltb, not-true, not-false}
-use Rattle.placement.specs.Request.{requestOf, checkOf}
+use Rattle.placement_defs.specs.Request.{requestOf, checkOf}
 use Rattle.placement.proofs.Checks.{lengths-of}
 use Rattle.placement.proofs.check.check.Statement.{statement}
 use Rattle.placement.proofs.check.check.Tie as tie
@@ -32,10 +32,10 @@ returns-2 c = simp (
 
 first-load-requires : tie.Need-first-load-requires
 first-load-requires c κs =
-    let s = c .before .before .before .before .before .before .before .before .before .args in
-    let h = lengths-of (requestOf (s .n) (s .m) (s .g) (s .loads .now) (s .a .now) (s .b .now) (s .km .now) (s .generators .now)) (s .buses) (s .mvars)
+    let s = c .before .before .before .before .before .before .before .before .before .before .args in
+    let h = lengths-of (requestOf (s .n) (s .m) (s .g) (s .reading .now) (s .weight .now) (s .a .now) (s .b .now) (s .km .now) (s .generators .now)) (s .buses) (s .mvars)
     (sym (c .before .before .before .lengths-ok .ensures) ∙ not-false _ (c .before .before .if1 .left)) in
-    h .loads
+    (h .reading, h .weight)
 
 returns-3 : tie.Need-returns-3
 unfolding checkOf
@@ -50,8 +50,8 @@ returns-3 c = simp (
 
 first-generator-requires : tie.Need-first-generator-requires
 first-generator-requires c κs =
-    let s = c .before .before .before .before .before .before .before .before .before .before .before .args in
-    let h = lengths-of (requestOf (s .n) (s .m) (s .g) (s .loads .now) (s .a .now) (s .b .now) (s .km .now) (s .generators .now)) (s .buses) (s .mvars)
+    let s = c .before .before .before .before .before .before .before .before .before .before .before .before .args in
+    let h = lengths-of (requestOf (s .n) (s .m) (s .g) (s .reading .now) (s .weight .now) (s .a .now) (s .b .now) (s .km .now) (s .generators .now)) (s .buses) (s .mvars)
     (sym (c .before .before .before .before .before .lengths-ok .ensures) ∙ not-false _ (c .before .before .before .before .if1 .left)) in
     h .generators
 
@@ -70,8 +70,8 @@ returns-4 c = simp (
 
 first-corridor-requires : tie.Need-first-corridor-requires
 first-corridor-requires c κs =
-    let s = c .before .before .before .before .before .before .before .before .before .before .before .before .before .args in
-    let h = lengths-of (requestOf (s .n) (s .m) (s .g) (s .loads .now) (s .a .now) (s .b .now) (s .km .now) (s .generators .now)) (s .buses) (s .mvars)
+    let s = c .before .before .before .before .before .before .before .before .before .before .before .before .before .before .args in
+    let h = lengths-of (requestOf (s .n) (s .m) (s .g) (s .reading .now) (s .weight .now) (s .a .now) (s .b .now) (s .km .now) (s .generators .now)) (s .buses) (s .mvars)
     (sym (c .before .before .before .before .before .before .before .lengths-ok .ensures) ∙ not-false _ (c .before .before .before .before .before .before .if1 .left)) in
     (h .a, h .b, h .km)
 

@@ -2,7 +2,7 @@
 -- The invariant: what is left of the loop gives what the whole does.
 use Rattle.loops.proofs.Scan.{first-pass, first-stop, first-end, first-start}
 use Rattle.loops.specs.Loops.{first}
-use Rattle.placement.specs.Request.{corridorAt, firstCorridor}
+use Rattle.placement_defs.specs.Request.{corridorAt, firstCorridor}
 use Prim.Native.Nat.{_-_, _≤_}
 use mathlib.Core.Path.{_≡_, sym, _∙_}
 use borrow.Author.Tests.{not-true, not-false}

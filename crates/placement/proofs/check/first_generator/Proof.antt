@@ -3,7 +3,7 @@
 use lib.ListN.{getD}
 use Rattle.loops.proofs.Scan.{first-pass, first-stop, first-end, first-start}
 use Rattle.loops.specs.Loops.{first}
-use Rattle.placement.specs.Request.{busOk, firstGenerator}
+use Rattle.placement_defs.specs.Request.{busOk, firstGenerator}
 use Prim.Native.Nat.{_-_, _≤_}
 use mathlib.Core.Path.{_≡_, sym, _∙_}
 use borrow.Author.Tests.{lt-ltb, le-ltb}

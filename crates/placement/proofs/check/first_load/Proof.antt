@@ -2,8 +2,7 @@
 -- The invariant: what is left of the loop gives what the whole does.
 use Rattle.loops.proofs.Scan.{first-pass, first-stop, first-end, first-start}
 use Rattle.loops.specs.Loops.{first}
-use Rattle.placement.specs.Request.{loadOk, firstLoad}
-use Rattle.loops.specs.Figures.{at}
+use Rattle.placement_defs.specs.Request.{loadAt, firstLoad}
 use Prim.Native.Nat.{_-_, _≤_}
 use mathlib.Core.Path.{_≡_, sym, _∙_}
 use borrow.Author.Tests.{not-true, not-false}
@@ -13,10 +12,10 @@ use Rattle.placement.proofs.check.first_load.Statement.{statement}
 use Rattle.placement.proofs.check.first_load.Tie as tie
 
 abbrev Inv-loop : tie.InvT-loop
-Inv-loop n loads i₀ i = (i ≤ n) × (first (λ k. loadOk (at loads k)) (n - i) i ≡ firstLoad loads n)
+Inv-loop n reading weight i₀ i = (i ≤ n) × (first (loadAt reading weight) (n - i) i ≡ firstLoad reading weight n)
 
 abbrev μ-loop : tie.MeasureT-loop
-μ-loop n loads i₀ i = n - i
+μ-loop n reading weight i₀ i = n - i
 
 loop-holds : tie.Need-loop-holds Inv-loop μ-loop
 unfolding firstLoad
@@ -28,12 +27,18 @@ mul-load-ok c = search needs
 shared-slice-read-load-ok : tie.Need-shared-slice-read-load-ok Inv-loop μ-loop
 shared-slice-read-load-ok c = search needs
 
+mul-load-ok-2 : tie.Need-mul-load-ok-2 Inv-loop μ-loop
+mul-load-ok-2 c = search needs
+
+shared-slice-read-load-ok-2 : tie.Need-shared-slice-read-load-ok-2 Inv-loop μ-loop
+shared-slice-read-load-ok-2 c = search needs
+
 load-ok-requires : tie.Need-load-ok-requires Inv-loop μ-loop
 load-ok-requires c κs = search needs
 
 returns : tie.Need-returns Inv-loop μ-loop
 returns c =
-    let l = c .before .before .before .before in
+    let l = c .before .before .before .before .before in
     sym (first-stop _ _ (l .loop .i) (omega arith) (sym (c .before .load-ok .ensures) ∙ not-true _ (c .if1 .taken))) ∙ l .loop .inv .1
 
 add-i : tie.Need-add-i Inv-loop μ-loop
@@ -44,7 +49,7 @@ loop-less c = search needs
 
 loop-again : tie.Need-loop-again Inv-loop μ-loop
 loop-again c =
-    let l = c .before .before .before .before in
+    let l = c .before .before .before .before .before in
     (omega arith, sym (first-pass _ _ (l .loop .i) (omega arith) (sym (c .before .load-ok .ensures) ∙ not-false _ (c .if1 .left))) ∙ l .loop .inv .1)
 
 returns-2 : tie.Need-returns-2 Inv-loop μ-loop
@@ -59,6 +64,8 @@ first-load-spec =
     loop-holds
     mul-load-ok
     shared-slice-read-load-ok
+    mul-load-ok-2
+    shared-slice-read-load-ok-2
     load-ok-requires
     returns
     add-i

@@ -1,7 +1,7 @@
 -- `placement::condenser::farther_bus` meets its contract.
 -- By its three tests; a choice that is none is n.
 use Rattle.placement.proofs.Tests.{reached-no, reached-yes, none-chosen, some-chosen}
-use Rattle.placement.specs.Support.{farther}
+use Rattle.placement_defs.specs.Support.{farther}
 use borrow.Author.Needs.{needs}
 use Rattle.placement.proofs.condenser.farther_bus.Statement.{statement}
 use Rattle.placement.proofs.condenser.farther_bus.Tie as tie

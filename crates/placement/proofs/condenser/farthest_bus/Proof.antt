@@ -1,7 +1,7 @@
 -- `placement::condenser::farthest_bus` meets its contract.
 -- The invariant: the choice so far is the definition's.
 use Rattle.placement.proofs.Choice.{farthest-turn}
-use Rattle.placement.specs.Support.{farthestTo}
+use Rattle.placement_defs.specs.Support.{farthestTo}
 use native.Mathlib.Nat.{le-antisymm}
 use Prim.Native.Nat.{_-_, _≤_}
 use mathlib.Core.Path.{_≡_, refl}

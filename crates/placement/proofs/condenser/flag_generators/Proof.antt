@@ -1,6 +1,6 @@
 -- `placement::condenser::flag_generators` meets its contract.
 -- The invariant: what is left of the loop gives what the whole does.
-use Rattle.placement.specs.Support.{flag, flagged}
+use Rattle.placement_defs.specs.Support.{flag, flagged}
 use Rattle.loops.proofs.Loops.{iter-all, iter-more, iter-end}
 use Rattle.loops.specs.Loops.{iter}
 use Prim.Native.Nat.{ℕ, _-_, _≤_}

@@ -1,6 +1,6 @@
 -- `placement::condenser::if_far` meets its contract.
 -- By its two tests.
-use Rattle.placement.specs.Support.{ifFar}
+use Rattle.placement_defs.specs.Support.{ifFar}
 use borrow.Author.Tests.{lt-ltb, le-ltb}
 use borrow.Author.Needs.{needs}
 use Rattle.placement.proofs.condenser.if_far.Statement.{statement}

@@ -3,8 +3,8 @@
 use Rattle.placement.proofs.Sites.{join-idle, join-busy, all-joined}
 use Rattle.placement.proofs.Again.{Known, known-first, known-choice, known-next, known-numbers}
 use Rattle.placement.proofs.Ranges.{numbers-blank}
-use Rattle.placement.specs.Support.{sites, joinNext}
-use Rattle.placement.specs.Distance.{network}
+use Rattle.placement_defs.specs.Support.{sites, joinNext}
+use Rattle.placement_defs.specs.Distance.{network}
 use Rattle.loops.proofs.Loops.{iter-all, iter-more, iter-end, iter-still}
 use Rattle.loops.specs.Loops.{iter}
 use Prim.Native.Nat.{_-_, _≤_}

@@ -2,7 +2,7 @@
 -- One equation after the other.
 use lib.Ieee.{Float}
 use Rattle.loops.specs.Figures.{greater, times}
-use Rattle.placement.specs.Support.{supportShare, leastMvar, mvarOf}
+use Rattle.placement_defs.specs.Support.{supportShare, leastMvar, mvarOf}
 use mathlib.Core.Path.{ap, _∙_}
 use borrow.Author.Needs.{needs}
 use Rattle.placement.proofs.condenser.mvar_of.Statement.{statement}

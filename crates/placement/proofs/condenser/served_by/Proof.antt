@@ -1,6 +1,6 @@
 -- `placement::condenser::served_by` meets its contract.
 -- The invariant: the sum so far is the definition's.
-use Rattle.placement.specs.Support.{servedTo}
+use Rattle.placement_defs.specs.Support.{servedTo}
 use native.Mathlib.Nat.{le-antisymm}
 use Rattle.placement.proofs.Choice.{served-turn}
 use Prim.Native.Nat.{_-_, _≤_}

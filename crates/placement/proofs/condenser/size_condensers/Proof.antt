@@ -3,7 +3,7 @@
 use lib.Ieee.{Float}
 use Rattle.placement.proofs.Ranges.{numbers-blank}
 use Rattle.placement.proofs.Sites.{sized-none, sized-is}
-use Rattle.placement.specs.Support.{sizeAt}
+use Rattle.placement_defs.specs.Support.{sizeAt}
 use Rattle.loops.proofs.Loops.{iter-all, iter-more, iter-end}
 use Rattle.loops.specs.Loops.{iter}
 use Prim.Native.Nat.{_-_, _≤_}

@@ -3,7 +3,7 @@
 use Prim.Native.Nat.{_-_, _≤_}
 use native.Mathlib.Omega.{arith}
 use mathlib.Core.Path.{_≡_}
-use Rattle.placement.specs.Distance.{network}
+use Rattle.placement_defs.specs.Distance.{network}
 use Rattle.placement.specs.Corridors.{Listed}
 use Rattle.placement.proofs.Tests.{net-ends}
 use Rattle.placement.proofs.Walk.{listed-turn}

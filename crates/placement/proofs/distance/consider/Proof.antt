@@ -1,7 +1,7 @@
 -- `placement::distance::consider` meets its contract: by the tests, a corridor is off, rejected or taken.
 use mathlib.Core.Path.{_∙_}
 use lib.ListN.{getD}
-use Rattle.placement.specs.Distance.{labels}
+use Rattle.placement_defs.specs.Distance.{labels}
 use Rattle.placement.proofs.Tests.{consider-off, consider-rejected, consider-taken, taken-less}
 use borrow.Author.Needs.{needs}
 use Rattle.placement.proofs.distance.consider.Statement.{statement}

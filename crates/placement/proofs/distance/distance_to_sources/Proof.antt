@@ -1,5 +1,5 @@
 -- `placement::distance::distance_to_sources` meets its contract: the sources are placed, and the search begins from them.
-use Rattle.placement.specs.Distance.{labels}
+use Rattle.placement_defs.specs.Distance.{labels}
 use Rattle.placement.proofs.Turns.{distances-from}
 use Rattle.placement.proofs.Ranges.{numbers-sources}
 use borrow.Author.Needs.{needs}

@@ -1,5 +1,5 @@
 -- `placement::distance::distance_with_source` meets its contract: the source is placed, and the search begins from it.
-use Rattle.placement.specs.Distance.{labels}
+use Rattle.placement_defs.specs.Distance.{labels}
 use Rattle.placement.proofs.Turns.{searched-from}
 use Rattle.placement.proofs.Ranges.{numbers-source}
 use borrow.Author.Needs.{needs}

@@ -1,6 +1,6 @@
 -- `placement::distance::place_source` meets its contract.
 -- By its test.
-use Rattle.placement.specs.Distance.{seeded}
+use Rattle.placement_defs.specs.Distance.{seeded}
 use borrow.Author.Tests.{eq-eqb, ne-eqb}
 use borrow.Author.Needs.{needs}
 use Rattle.placement.proofs.distance.place_source.Statement.{statement}

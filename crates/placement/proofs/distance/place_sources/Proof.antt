@@ -1,6 +1,6 @@
 -- `placement::distance::place_sources` meets its contract.
 -- The invariant: what is left of the loop gives what the whole does.
-use Rattle.placement.specs.Distance.{labels, seed}
+use Rattle.placement_defs.specs.Distance.{labels, seed}
 use Rattle.loops.proofs.Loops.{iter-all, iter-more, iter-end}
 use Rattle.loops.specs.Loops.{iter}
 use Prim.Native.Nat.{_-_, _≤_}

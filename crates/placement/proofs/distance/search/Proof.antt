@@ -6,7 +6,7 @@ use mathlib.Core.Path.{_≡_, sym, _∙_}
 use lib.ListN.{length-replicate}
 use Rattle.loops.specs.Loops.{iter}
 use Rattle.loops.proofs.Loops.{iter-all, iter-more, iter-end, iter-still}
-use Rattle.placement.specs.Distance.{labels, network, turn}
+use Rattle.placement_defs.specs.Distance.{labels, network, turn}
 use Rattle.placement.specs.Blocks.{Front}
 use Rattle.placement.proofs.Turns.{turn-idle, turn-busy, turns-done}
 use borrow.Author.Needs.{needs}

@@ -6,7 +6,7 @@ use mathlib.Core.Path.{_≡_, sym, _∙_}
 use mathlib.Core.Bool.{true}
 use Rattle.loops.specs.Loops.{iter}
 use Rattle.loops.proofs.Loops.{iter-end}
-use Rattle.placement.specs.Distance.{labels, network, corridor}
+use Rattle.placement_defs.specs.Distance.{labels, network, corridor}
 use Rattle.placement.specs.Corridors.{endsAt}
 use Rattle.placement.specs.Blocks.{Front}
 use Rattle.placement.proofs.Tests.{net-ends}

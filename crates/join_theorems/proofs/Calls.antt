@@ -32,7 +32,7 @@ use Rattle.join_defs.specs.Joining.{caseAs, headerOf, padded, laidOut, Outcome 
 use Rattle.join_theorems.specs.Apart.{AnswersApart}
 use Rattle.join_theorems.specs.Calls.{fronts, caseIn, Joined}
 use Rattle.join_theorems.proofs.Within.{second-at}
-use Rattle.join_theorems.proofs.Accepted.{Joinable, joinable, joined-accepted}
+use Rattle.join_theorems.proofs.Accepted.{Joinable, joinable, all-accepted}
 use Rattle.join_theorems.proofs.Apart.{answers-apart}
 
 -- ---- the front of a laid out column is the column
@@ -123,13 +123,18 @@ module _ (h k : Header) (p q : Places) (s : Joinable (caseAs h p) (caseAs k q) (
       cc (List·getD-append (p .reading) (q .reading) nan i (omega (arith, C .columns .reading)), List·getD-append (p .weight) (q .weight) nan i (omega (arith, C .columns .weight))))
       (λ i. cc (second-at (p .reading) (q .reading) nan (h .buses) i (C .columns .reading), second-at (p .weight) (q .weight) nan (h .buses) i (C .columns .weight))))
 
-  tables-hold : joinFault c (h .target) d (k .target) ≡ none → caseIn (headerOf joined (h .target + k .target)) (laidOut joined) ≡ joined
-  tables-hold e = held joined (h .target + k .target) (accepted joined (h .target + k .target) (joined-accepted c d (h .target) (k .target) e)) joined-loads
+  tables-hold : caseIn (headerOf joined (h .target + k .target)) (laidOut joined) ≡ joined
+  tables-hold = held joined (h .target + k .target) (accepted joined (h .target + k .target) (all-accepted c d (h .target) (k .target) s)) joined-loads
 
--- ---- an answer
-pub joined-answer : (h k j : Header) (p q out r : Places) → outcome (Read j) r ≡ joinCases h p k q out → Joined h k j p q r
+-- ---- an answer: no refusal, and what the joined tables are
+pub record Laid (h k j : Header) (p q r : Places) : Type 0 where
+  pub joins : Joinable (caseAs h p) (caseAs k q) (h .target) (k .target)
+  pub header : j ≡ headerOf (joinedCase (caseAs h p) (caseAs k q)) (h .target + k .target)
+  pub tables : r ≡ laidOut (joinedCase (caseAs h p) (caseAs k q))
+
+pub laid : (h k j : Header) (p q out r : Places) → outcome (Read j) r ≡ joinCases h p k q out → Laid h k j p q r
 unfolding joinCases joinedBy
-joined-answer h k j p q out r e = go (sizesOk out) e
+laid h k j p q out r e = go (sizesOk out) e
   where
     c : Case
     c = caseAs h p
@@ -140,29 +145,28 @@ joined-answer h k j p q out r e = go (sizesOk out) e
     t : ℕ
     t = h .target + k .target
 
-    answer : joinFault c (h .target) d (k .target) ≡ none → headerOf (joinedCase c d) t ≡ j → laidOut (joinedCase c d) ≡ r → Joined h k j p q r
-    answer f x y =
-        let s = joinable c d (h .target) (k .target) f in
-        let held : caseIn j r ≡ joinedCase c d =
-        ap (λ (i : Header). caseIn i r) (sym x) ∙ ap (caseIn (headerOf (joinedCase c d) t)) (sym y) ∙ tables-hold h k p q s f in
-        let sum : j .target ≡ t = ap (λ (i : Header). i .target) (sym x) in
-        record {
-          case = held;
-          target = sum;
-          same = s .same;
-          accepted =
-              ap (λ (x : Case). caseFault x (j .target)) held
-              ∙ ap (caseFault (joinedCase c d)) sum
-              ∙ joined-accepted c d (h .target) (k .target) f;
-        }
-
-    by : (f : Option Refusal) → joinFault c (h .target) d (k .target) ≡ f → outcome (Read j) r ≡ joinedBy f (joinedCase c d) t out → Joined h k j p q r
+    by : (f : Option Refusal) → joinFault c (h .target) d (k .target) ≡ f → outcome (Read j) r ≡ joinedBy f (joinedCase c d) t out → Laid h k j p q r
     by (some f) x y = absurd (unequal (cc (ap (λ (o : Made). o .reply) y)))
-    by none x y = answer x (cc (ap (λ (o : Made). o .reply) y)) (sym (ap (λ (o : Made). o .places) y))
+    by none x y =
+        record { joins = joinable c d (h .target) (k .target) x; header = cc (ap (λ (o : Made). o .reply) y); tables = ap (λ (o : Made). o .places) y }
 
-    go : (b : Bool) → outcome (Read j) r ≡ cond b (joinedBy (joinFault c (h .target) d (k .target)) (joinedCase c d) t out) (outcome (Refused Length) out) → Joined h k j p q r
+    go : (b : Bool) → outcome (Read j) r ≡ cond b (joinedBy (joinFault c (h .target) d (k .target)) (joinedCase c d) t out) (outcome (Refused Length) out) → Laid h k j p q r
     go true x = by (joinFault c (h .target) d (k .target)) refl x
     go false x = absurd (unequal (cc (ap (λ (o : Made). o .reply) x)))
+
+pub joined-answer : (h k j : Header) (p q out r : Places) → outcome (Read j) r ≡ joinCases h p k q out → Joined h k j p q r
+joined-answer h k j p q out r e =
+    let l = laid h k j p q out r e in
+    let c = joinedCase (caseAs h p) (caseAs k q) in
+    let t = h .target + k .target in
+    let holds : caseIn j r ≡ c = ap (λ (i : Header). caseIn i r) (l .header) ∙ ap (caseIn (headerOf c t)) (l .tables) ∙ tables-hold h k p q (l .joins) in
+    let sum : j .target ≡ t = ap (λ (i : Header). i .target) (l .header) in
+    record {
+      case = holds;
+      target = sum;
+      same = l .joins .same;
+      accepted = ap (λ (x : Case). caseFault x (j .target)) holds ∙ ap (caseFault c) sum ∙ all-accepted (caseAs h p) (caseAs k q) (h .target) (k .target) (l .joins);
+    }
 
 -- ---- the theorem: o and x are what planning of the first case leaves and says, v and y the second's, w and z the joined tables'
 pub calls-apart : (h k j : Header) (p q out r : Places) (o v w : Outcome) (x y z : CorridorPlan) → outcome (Read j) r ≡ joinCases h p k q out

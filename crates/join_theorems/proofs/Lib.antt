@@ -5,3 +5,4 @@ pub mod Accepted
 pub mod Served
 pub mod Apart
 pub mod Calls
+pub mod Files

@@ -1,5 +1,5 @@
 -- What the contracts cite: document 01's refusals 1 to 7 by the columns that each test reads, and all of them in order.
-use Prim.Native.Nat.{ℕ, _+_, _*_, _≤_}
+use Prim.Native.Nat.{ℕ, _*_, _≤_}
 use mathlib.Core.Bool.{Bool, true, cond, _&&_}
 use mathlib.Core.List.{List, []}
 use mathlib.Core.Option.{Option, none, some}

@@ -1,18 +1,16 @@
 -- The refusals in order: 1 for the joined tables and 1 to 7 of the first case, 1 to 7 of the second, 2, 24; and what passes them all.
-use Prim.Native.Nat.{ℕ, _+_, _^_, _≤_, _<_}
+use Prim.Native.Nat.{ℕ}
 use mathlib.Core.Bool.{Bool, true, false, cond, _&&_, and-assoc}
 use mathlib.Core.List.{List}
 use mathlib.Core.Option.{Option, none, some}
 use mathlib.Core.Path.{_≡_, refl, sym, ap, _∙_}
 use native.Mathlib.Omega.{arith}
 use borrow.Author.Tests.{leb-true}
-use lib.ListN.{length, getD}
 use Rattle.loops.proofs.Bools.{both, unequal}
 use Rattle.refusal.specs.declared.Refusal.{Refusal}
 use Rattle.refusal.specs.declared.Refusal.the-variants.{Length, Count, Districts}
 use Rattle.refusal.specs.declared.Answer.{Answer}
 use Rattle.refusal.specs.declared.Answer.the-variants.{Answered, Refused}
-use Rattle.casefile_defs.specs.Bounds.{mostBuses}
 use Rattle.casefile_defs.specs.Tables.{Places}
 use Rattle.casefile_defs.specs.declared.Header.{Header}
 use Rattle.plan_defs.specs.Case.{Case}
@@ -21,7 +19,7 @@ use Rattle.plan_defs.proofs.Accepted.{Accepted, accepted, bus-below, end-a, end
 use Rattle.acceptance.specs.Check.{answerOf}
 use Rattle.join_defs.specs.Districts.{sameLadder, sumsOk, alike, orElse, joinFault}
 use Rattle.join_defs.specs.Joining.{caseAs}
-use Rattle.join.specs.Joins.{Raised, Summed, headsAlike, checkOf}
+use Rattle.join.specs.Joins.{Raises, Summed, headsAlike, checkOf}
 
 module _ (fits : Bool) (c : Case) (t : ℕ) (d : Case) (u : ℕ) where
   -- what is left after 1 to 7 of both, and of the first
@@ -100,6 +98,11 @@ module _ (fits : Bool) (c : Case) (t : ℕ) (d : Case) (u : ℕ) where
           free-by true v r = rw (y, z, w, v)
 
 -- ---- of two headers and their tables
+pub record Raised (by : ℕ) (x y z : List ℕ) : Type 0 where
+  pub bus : Raises by x
+  pub a : Raises by y
+  pub b : Raises by z
+
 module _ (fits : Bool) (h : Header) (p : Places) (k : Header) (q : Places)
     (j : Joinable fits (caseAs h p) (h .target) (caseAs k q) (k .target)) where
   pub summed : Summed h k

@@ -5,6 +5,7 @@ use mathlib.Core.List.{List, []}
 use mathlib.Core.Option.{Option, none, some}
 use mathlib.Core.Path.{_≡_, refl, sym, ap, _∙_}
 use lib.Ieee.{Float}
+use lib.ListN.{length}
 use Rattle.loops.proofs.Bools.{unequal}
 use Rattle.refusal.specs.declared.Refusal.{Refusal}
 use Rattle.refusal.specs.declared.Refusal.the-variants.{Length}
@@ -18,13 +19,23 @@ use Rattle.join_defs.specs.Columns.{figures, counts}
 use Rattle.join_defs.specs.Districts.{joinedCase, joinFault}
 use Rattle.join_defs.specs.Joining.{caseAs, headerOf, laidOut, Outcome, outcome, joinedBy, joinCases}
 use Rattle.join_defs.proofs.Tables.{filled-tables}
-use Rattle.join.specs.Joins.{headersOf, checkOf, tablesBy}
+use Rattle.join.specs.Joins.{headersOf, checkOf}
 use Rattle.join.proofs.Refusals.{Joinable, refused-is}
 
 pub places-same : {ladder ladder′ : List Float} {tier tier′ : List ℕ} {reading reading′ : List Float} {weight weight′ : List Float} {bus bus′ : List ℕ} {slack slack′ : List ℕ} {pmin pmin′ : List Float} {pmax pmax′ : List Float} {c1 c1′ : List Float} {c2 c2′ : List Float} {a a′ : List ℕ} {b b′ : List ℕ} {circuits circuits′ : List ℕ} {lengthKm lengthKm′ : List Float} {share share′ : List Float} {cap cap′ : List ℕ} {sheet sheet′ : List Float}
     → ladder ≡ ladder′ → tier ≡ tier′ → reading ≡ reading′ → weight ≡ weight′ → bus ≡ bus′ → slack ≡ slack′ → pmin ≡ pmin′ → pmax ≡ pmax′ → c1 ≡ c1′ → c2 ≡ c2′ → a ≡ a′ → b ≡ b′ → circuits ≡ circuits′ → lengthKm ≡ lengthKm′ → share ≡ share′ → cap ≡ cap′ → sheet ≡ sheet′
     → placesOf ladder tier reading weight bus slack pmin pmax c1 c2 a b circuits lengthKm share cap sheet ≡ placesOf ladder′ tier′ reading′ weight′ bus′ slack′ pmin′ pmax′ c1′ c2′ a′ b′ circuits′ lengthKm′ share′ cap′ sheet′
 places-same e0 e1 e2 e3 e4 e5 e6 e7 e8 e9 e10 e11 e12 e13 e14 e15 e16 = cc
+
+-- the tables that two cases leave in those that are lent: the second's buses stand after n of the first's
+unfoldable pub tablesBy : ℕ → Places → Places → Places → Places
+tablesBy n p q out =
+    placesOf (figures (length (out .ladder)) (p .ladder) []) (counts (length (out .tier)) 0 (p .tier) (q .tier)) (figures (length (out .reading)) (p .reading) (q .reading))
+    (figures (length (out .weight)) (p .weight) (q .weight)) (counts (length (out .bus)) n (p .bus) (q .bus)) (counts (length (out .slack)) 0 (p .slack) (q .slack))
+    (figures (length (out .pmin)) (p .pmin) (q .pmin)) (figures (length (out .pmax)) (p .pmax) (q .pmax)) (figures (length (out .c1)) (p .c1) (q .c1))
+    (figures (length (out .c2)) (p .c2) (q .c2)) (counts (length (out .a)) n (p .a) (q .a)) (counts (length (out .b)) n (p .b) (q .b))
+    (counts (length (out .circuits)) 0 (p .circuits) (q .circuits)) (figures (length (out .lengthKm)) (p .lengthKm) (q .lengthKm)) (figures (length (out .share)) (p .share) (q .share))
+    (counts (length (out .cap)) 0 (p .cap) (q .cap)) (figures (length (out .sheet)) (p .sheet) (q .sheet))
 
 module _ (h : Header) (p : Places) (k : Header) (q : Places) (out : Places) where
   abbrev first : Case

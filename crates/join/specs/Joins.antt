@@ -1,29 +1,27 @@
 -- What the contracts of join's functions cite: the tests that read two headers, the joined header, and the refusals in order.
 use Prim.Native.Nat.{ℕ, _+_, _^_, _<_, _≤_}
 use mathlib.Core.Bool.{Bool, cond, _&&_}
-use mathlib.Core.List.{List, []}
+use mathlib.Core.List.{List}
 use mathlib.Core.Option.{some}
 use lib.Dec.{leb, eqb}
 use lib.ListN.{length, getD}
 use Rattle.refusal.specs.declared.Answer.{Answer}
 use Rattle.refusal.specs.declared.Refusal.the-variants.{Length}
 use Rattle.mode.specs.Number.{modeNumber}
-use Rattle.casefile_defs.specs.Bounds.{mostBuses, mostCorridors, mostGenerators, mostTarget}
-use Rattle.casefile_defs.specs.Tables.{Places, placesOf}
+use Rattle.casefile_defs.specs.Bounds.{mostLevels, mostBuses, mostCorridors, mostGenerators, mostTarget, mostSheet}
 use Rattle.casefile_defs.specs.declared.Header.{Header}
 use Rattle.plan_defs.specs.Case.{Case}
 use Rattle.acceptance.specs.Check.{answerOf}
-use Rattle.join_defs.specs.Columns.{figures, counts}
 use Rattle.join_defs.specs.Districts.{joinFault}
 
 -- numbers that fit a u32 when they are raised
 abbrev pub Raises : ℕ → List ℕ → Type 0
 Raises by y = (i : ℕ) → i < length y → by + getD y i 0 < 2 ^ 32
 
-pub record Raised (by : ℕ) (bus a b : List ℕ) : Type 0 where
-  pub bus : Raises by bus
-  pub a : Raises by a
-  pub b : Raises by b
+-- 1 of the joined tables, by their lengths
+abbrev pub sizesBy : ℕ → ℕ → ℕ → ℕ → ℕ → ℕ → ℕ → ℕ → ℕ → ℕ → ℕ → ℕ → ℕ → ℕ → ℕ → ℕ → ℕ → Bool
+sizesBy ladder tier reading weight bus slack pmin pmax c1 c2 a b circuits lengthKm share cap sheet =
+    (((((((((((((((eqb ladder mostLevels && eqb tier mostBuses) && eqb reading mostBuses) && eqb weight mostBuses) && eqb bus mostGenerators) && eqb slack mostGenerators) && eqb pmin mostGenerators) && eqb pmax mostGenerators) && eqb c1 mostGenerators) && eqb c2 mostGenerators) && eqb a mostCorridors) && eqb b mostCorridors) && eqb circuits mostCorridors) && eqb lengthKm mostCorridors) && eqb share mostCorridors) && eqb cap mostCorridors) && eqb sheet mostSheet
 
 -- 2: the sums are within the bounds of one case; as a test, and as facts
 abbrev pub sumsFit : Header → Header → Bool
@@ -55,13 +53,3 @@ headersOf h k = record {
 -- the refusals; `fits`: the joined tables have their sizes
 unfoldable pub checkOf : Bool → Case → ℕ → Case → ℕ → Answer
 checkOf fits c t d u = answerOf (cond fits (joinFault c t d u) (some Length))
-
--- the tables that two cases leave in those that are lent: the second's buses stand after n of the first's
-unfoldable pub tablesBy : ℕ → Places → Places → Places → Places
-tablesBy n p q out =
-    placesOf (figures (length (out .ladder)) (p .ladder) []) (counts (length (out .tier)) 0 (p .tier) (q .tier)) (figures (length (out .reading)) (p .reading) (q .reading))
-    (figures (length (out .weight)) (p .weight) (q .weight)) (counts (length (out .bus)) n (p .bus) (q .bus)) (counts (length (out .slack)) 0 (p .slack) (q .slack))
-    (figures (length (out .pmin)) (p .pmin) (q .pmin)) (figures (length (out .pmax)) (p .pmax) (q .pmax)) (figures (length (out .c1)) (p .c1) (q .c1))
-    (figures (length (out .c2)) (p .c2) (q .c2)) (counts (length (out .a)) n (p .a) (q .a)) (counts (length (out .b)) n (p .b) (q .b))
-    (counts (length (out .circuits)) 0 (p .circuits) (q .circuits)) (figures (length (out .lengthKm)) (p .lengthKm) (q .lengthKm)) (figures (length (out .share)) (p .share) (q .share))
-    (counts (length (out .cap)) 0 (p .cap) (q .cap)) (figures (length (out .sheet)) (p .sheet) (q .sheet))

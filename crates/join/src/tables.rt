@@ -2,9 +2,8 @@
 ghost use mathlib.Core.List.{[]};
 ghost use mathlib.Core.Path.{_≡_};
 ghost use lib.ListN.{length};
-ghost use Rattle.casefile_defs.specs.Tables.{placesOf};
 ghost use Rattle.join_defs.specs.Columns.{figures, counts};
-ghost use Rattle.join.specs.Joins.{Raises, Raised, tablesBy};
+ghost use Rattle.join.specs.Joins.{Raises};
 use crate::columns::append_counts;
 use crate::columns::append_figures;
 
@@ -15,7 +14,7 @@ fn put_ladder(first_ladder: &[f64], ladder: &mut [f64])
     append_figures(ladder, first_ladder, &first_ladder[0..0]);
 }
 
-fn put_buses(
+pub fn put_buses(
     first_ladder: &[f64],
     first_tier: &[u32],
     first_reading: &[f64],
@@ -39,7 +38,7 @@ fn put_buses(
     append_figures(weight, first_weight, second_weight);
 }
 
-fn put_generators(
+pub fn put_generators(
     n: u32,
     first_bus: &[u32],
     first_slack: &[u32],
@@ -76,7 +75,7 @@ fn put_generators(
     append_figures(c2, first_c2, second_c2);
 }
 
-fn put_corridors(
+pub fn put_corridors(
     n: u32,
     first_a: &[u32],
     first_b: &[u32],
@@ -117,121 +116,4 @@ fn put_corridors(
     append_figures(share, first_share, second_share);
     append_counts(cap, first_cap, second_cap, 0);
     append_figures(sheet, first_sheet, second_sheet);
-}
-
-// All of them.
-pub fn put_tables(
-    n: u32,
-    first_ladder: &[f64],
-    first_tier: &[u32],
-    first_reading: &[f64],
-    first_weight: &[f64],
-    first_bus: &[u32],
-    first_slack: &[u32],
-    first_pmin: &[f64],
-    first_pmax: &[f64],
-    first_c1: &[f64],
-    first_c2: &[f64],
-    first_a: &[u32],
-    first_b: &[u32],
-    first_circuits: &[u32],
-    first_length_km: &[f64],
-    first_share: &[f64],
-    first_cap: &[u32],
-    first_sheet: &[f64],
-    second_tier: &[u32],
-    second_reading: &[f64],
-    second_weight: &[f64],
-    second_bus: &[u32],
-    second_slack: &[u32],
-    second_pmin: &[f64],
-    second_pmax: &[f64],
-    second_c1: &[f64],
-    second_c2: &[f64],
-    second_a: &[u32],
-    second_b: &[u32],
-    second_circuits: &[u32],
-    second_length_km: &[f64],
-    second_share: &[f64],
-    second_cap: &[u32],
-    second_sheet: &[f64],
-    ladder: &mut [f64],
-    tier: &mut [u32],
-    reading: &mut [f64],
-    weight: &mut [f64],
-    bus: &mut [u32],
-    slack: &mut [u32],
-    pmin: &mut [f64],
-    pmax: &mut [f64],
-    c1: &mut [f64],
-    c2: &mut [f64],
-    a: &mut [u32],
-    b: &mut [u32],
-    circuits: &mut [u32],
-    length_km: &mut [f64],
-    share: &mut [f64],
-    cap: &mut [u32],
-    sheet: &mut [f64],
-)
-    requires { ⌜ Raised n (now «second_bus») (now «second_a») (now «second_b») ⌝ }
-    ensures { λ _. ⌜ placesOf (now (ladder .exit)) (now (tier .exit)) (now (reading .exit)) (now (weight .exit)) (now (bus .exit)) (now (slack .exit)) (now (pmin .exit)) (now (pmax .exit)) (now (c1 .exit)) (now (c2 .exit)) (now (a .exit)) (now (b .exit)) (now (circuits .exit)) (now («length_km» .exit)) (now (share .exit)) (now (cap .exit)) (now (sheet .exit)) ≡ tablesBy n (placesOf (now («first_ladder» .entry)) (now («first_tier» .entry)) (now («first_reading» .entry)) (now («first_weight» .entry)) (now («first_bus» .entry)) (now («first_slack» .entry)) (now («first_pmin» .entry)) (now («first_pmax» .entry)) (now («first_c1» .entry)) (now («first_c2» .entry)) (now («first_a» .entry)) (now («first_b» .entry)) (now («first_circuits» .entry)) (now («first_length_km» .entry)) (now («first_share» .entry)) (now («first_cap» .entry)) (now («first_sheet» .entry))) (placesOf [] (now («second_tier» .entry)) (now («second_reading» .entry)) (now («second_weight» .entry)) (now («second_bus» .entry)) (now («second_slack» .entry)) (now («second_pmin» .entry)) (now («second_pmax» .entry)) (now («second_c1» .entry)) (now («second_c2» .entry)) (now («second_a» .entry)) (now («second_b» .entry)) (now («second_circuits» .entry)) (now («second_length_km» .entry)) (now («second_share» .entry)) (now («second_cap» .entry)) (now («second_sheet» .entry))) (placesOf (now (ladder .entry)) (now (tier .entry)) (now (reading .entry)) (now (weight .entry)) (now (bus .entry)) (now (slack .entry)) (now (pmin .entry)) (now (pmax .entry)) (now (c1 .entry)) (now (c2 .entry)) (now (a .entry)) (now (b .entry)) (now (circuits .entry)) (now («length_km» .entry)) (now (share .entry)) (now (cap .entry)) (now (sheet .entry))) ⌝ }
-{
-    put_buses(
-        first_ladder,
-        first_tier,
-        first_reading,
-        first_weight,
-        second_tier,
-        second_reading,
-        second_weight,
-        ladder,
-        tier,
-        reading,
-        weight,
-    );
-    put_generators(
-        n,
-        first_bus,
-        first_slack,
-        first_pmin,
-        first_pmax,
-        first_c1,
-        first_c2,
-        second_bus,
-        second_slack,
-        second_pmin,
-        second_pmax,
-        second_c1,
-        second_c2,
-        bus,
-        slack,
-        pmin,
-        pmax,
-        c1,
-        c2,
-    );
-    put_corridors(
-        n,
-        first_a,
-        first_b,
-        first_circuits,
-        first_length_km,
-        first_share,
-        first_cap,
-        first_sheet,
-        second_a,
-        second_b,
-        second_circuits,
-        second_length_km,
-        second_share,
-        second_cap,
-        second_sheet,
-        a,
-        b,
-        circuits,
-        length_km,
-        share,
-        cap,
-        sheet,
-    );
 }

@@ -1,5 +1,5 @@
 -- `join::check::check_both` meets its contract. Each return is the definition with its tests decided.
-use mathlib.Core.Bool.{Bool, true}
+use mathlib.Core.Bool.{true}
 use mathlib.Core.Option.{none}
 use mathlib.Core.Path.{_≡_, sym, _∙_}
 use borrow.Author.Needs.{needs}

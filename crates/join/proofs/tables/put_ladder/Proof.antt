@@ -3,6 +3,9 @@ use borrow.Author.Needs.{needs}
 use Rattle.join.proofs.tables.put_ladder.Statement.{statement}
 use Rattle.join.proofs.tables.put_ladder.Tie as tie
 
+sub-append-figures : tie.Need-sub-append-figures
+sub-append-figures c = search needs
+
 part-append-figures-start : tie.Need-part-append-figures-start
 part-append-figures-start c = search needs
 
@@ -19,4 +22,4 @@ returns : tie.Need-returns
 returns c = c .before .before .append-figures .ensures
 
 pub put-ladder-spec : {M : Type 1} → statement M
-put-ladder-spec = tie.close (tie.spec part-append-figures-start part-append-figures-end append-figures-requires same-length returns)
+put-ladder-spec = tie.close (tie.spec sub-append-figures part-append-figures-start part-append-figures-end append-figures-requires same-length returns)

@@ -1,9 +1,9 @@
--- `planning::check::places_ok` meets its contract.
+-- `planning::lent::places_ok` meets its contract.
 -- The same tests, grouped as code groups them.
 use borrow.Author.Needs.{needs}
 use mathlib.Core.Bool.{and-assoc}
-use Rattle.planning.proofs.check.places_ok.Statement.{statement}
-use Rattle.planning.proofs.check.places_ok.Tie as tie
+use Rattle.planning.proofs.lent.places_ok.Statement.{statement}
+use Rattle.planning.proofs.lent.places_ok.Tie as tie
 
 work-ok-requires : tie.Need-work-ok-requires
 work-ok-requires c κs = search needs

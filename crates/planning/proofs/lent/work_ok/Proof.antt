@@ -3,7 +3,7 @@
 use mathlib.Core.Path.{sym}
 use native.Mathlib.Omega.{arith}
 use Rattle.loops.proofs.Products.{rows-not}
-use Rattle.planning.proofs.Lent.{work-not, work-is}
+use Rattle.planning.proofs.Lending.{work-not, work-is}
 use Rattle.planning.proofs.lent.work_ok.Statement.{statement}
 use Rattle.planning.proofs.lent.work_ok.Tie as tie
 

@@ -187,6 +187,26 @@ pub(crate) fn judge(
     Ok(true)
 }
 
+/// What a program prints of a file, or how else it ended.
+pub(crate) fn printed_by(program: &Program, file: &[u8]) -> io::Result<Vec<u8>> {
+    match program.run(file.to_vec())? {
+        Run::Ended(printed) => Ok(printed),
+        Run::Failed(status) => Ok(format!("ended with {status}").into_bytes()),
+        Run::Hung => Ok(b"did not end".to_vec()),
+    }
+}
+
+/// The first byte at which two files differ, or their refusals.
+pub(crate) fn describe_bytes(what: &str, ours: &[u8], theirs: &[u8]) -> String {
+    let said = |answer: &[u8]| match answer.starts_with(b"RF") {
+        true => String::from_utf8_lossy(answer).trim_end().to_owned(),
+        false => format!("{} bytes", answer.len()),
+    };
+    let place = ours.iter().zip(theirs).position(|(a, b)| a != b);
+    let (ours, theirs) = (said(ours), said(theirs));
+    format!("{what}, byte {place:?}\n  reference {ours}\n  program   {theirs}")
+}
+
 /// Compares `batches` batches of requests of one kind.
 pub fn compare_answers(
     program: &Program,

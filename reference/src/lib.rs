@@ -15,6 +15,7 @@ pub mod compare;
 pub mod differences;
 pub mod generate;
 pub mod harness;
+pub mod joins;
 pub mod judge;
 pub mod moves;
 pub mod previews;

@@ -9,17 +9,20 @@ use reference::compare::{
 };
 use reference::differences::sheet_differences;
 use reference::generate::cases::moved::file_to_move;
+use reference::generate::cases::pairs::pair;
 use reference::generate::cases::{case_file, ones_file, serving_file, without_weights};
 use reference::generate::requests::{as_input, batch, KINDS};
 use reference::generate::seasons::{as_blocks, season};
 use reference::harness::answers::answer_all;
 use reference::harness::case_file::{answer_read, write_case};
 use reference::harness::case_text::parse_text;
+use reference::harness::join::answer_join;
 use reference::harness::listing::answer_list;
 use reference::harness::moves::{answer_move, Direction};
 use reference::harness::preview::answer_preview;
 use reference::harness::season::answer_season;
 use reference::harness::small::small_networks;
+use reference::joins::compare_joins;
 use reference::moves::compare_moves;
 use reference::previews::{compare_previews, preview_input};
 use reference::tally::Tally;
@@ -40,6 +43,9 @@ const USAGE: &str = "usage:
   reference move forward|back                                a case file on standard input, into the other form
   reference to-move forward|back SEED                        a case file for it
   reference compare-moves PROGRAM forward|back FIRST_SEED COUNT COUNTS [LISTING]
+  reference join                                             two case files on standard input, the first in 65,536 bytes
+  reference to-join SEED                                     two case files for it
+  reference compare-joins PROGRAM FIRST_SEED COUNT COUNTS [LISTING]
   reference season                                           case files on standard input, 65,536 bytes each
   reference season-files SEED
   reference compare-seasons PROGRAM FIRST_SEED COUNT
@@ -153,6 +159,14 @@ fn run(words: &[&str]) -> Result<(), Failure> {
             let seeds = (number(first)?, number(count)?);
             let outcome = compare_moves(&program, listing.as_ref(), direction, seeds)?;
             report_counted(word, "comparisons of moved files", &outcome, counts)
+        }
+        ["join"] => write(&answer_join(&input()?)),
+        ["to-join", seed] => write(&pair(number(seed)?).input()),
+        ["compare-joins", path, first, count, counts, ref listing @ ..] if listing.len() < 2 => {
+            let listing = listing.first().map(|path| Program::at(path));
+            let seeds = (number(first)?, number(count)?);
+            let outcome = compare_joins(&Program::at(path), listing.as_ref(), seeds.0, seeds.1)?;
+            report_counted("joins", "comparisons", &outcome, counts)
         }
         ["season"] => write(answer_season(&input()?).as_bytes()),
         ["season-files", seed] => write(&as_blocks(&season(number(seed)?).files, false)),

@@ -2,7 +2,7 @@
 
 use std::io;
 
-use crate::compare::{judge, Outcome, Program, Run};
+use crate::compare::{describe_bytes, judge, printed_by, Outcome, Program};
 use crate::generate::cases::moved::{file_to_move, FileToMove};
 use crate::harness::case_file::MOST_BYTES;
 use crate::harness::listing::answer_list;
@@ -14,15 +14,6 @@ fn padded(file: &[u8]) -> Vec<u8> {
     let mut padded = file.to_vec();
     padded.resize(MOST_BYTES, 0);
     padded
-}
-
-/// What a listing program prints of a file.
-fn listed(listing: &Program, file: &[u8]) -> io::Result<Vec<u8>> {
-    match listing.run(file.to_vec())? {
-        Run::Ended(printed) => Ok(printed),
-        Run::Failed(status) => Ok(format!("ended with {status}").into_bytes()),
-        Run::Hung => Ok(b"did not end".to_vec()),
-    }
 }
 
 /// What the program reads: the direction's first letter, then the file.
@@ -57,7 +48,8 @@ pub fn compare_moves(
             seed,
             &mut outcome,
             |theirs, outcome| {
-                outcome.count(ours == theirs, || describe(seed, family, &ours, theirs));
+                let what = format!("seed {seed}, {family}");
+                outcome.count(ours == theirs, || describe_bytes(&what, &ours, theirs));
                 moved = Some(theirs.to_vec());
             },
         )?;
@@ -82,7 +74,7 @@ pub fn compare_moves(
             break;
         }
         let again = match listing {
-            Some(listing) => listed(listing, &moved)?,
+            Some(listing) => printed_by(listing, &moved)?,
             None => answer_list(&moved).into_bytes(),
         };
         outcome.count(again == answer_list(&bytes).into_bytes(), || {
@@ -90,15 +82,4 @@ pub fn compare_moves(
         });
     }
     Ok(outcome)
-}
-
-/// The first byte that differs, or both refusals.
-fn describe(seed: u64, family: &str, ours: &[u8], theirs: &[u8]) -> String {
-    let said = |answer: &[u8]| match answer.starts_with(b"RF") {
-        true => String::from_utf8_lossy(answer).trim_end().to_owned(),
-        false => format!("{} bytes", answer.len()),
-    };
-    let place = ours.iter().zip(theirs).position(|(a, b)| a != b);
-    let (ours, theirs) = (said(ours), said(theirs));
-    format!("seed {seed}, {family}, byte {place:?}\n  reference {ours}\n  program   {theirs}")
 }

@@ -15,6 +15,7 @@ use crate::harness::tables::{
     Case, CorridorRecord, MOST_BUSES, MOST_CORRIDORS, MOST_GENERATORS, MOST_LEVELS, MOST_MODE,
     SERVING,
 };
+use crate::joins;
 use crate::previews::{OTHER, TARGETS};
 use crate::watch::BRANCHES;
 
@@ -189,7 +190,7 @@ impl Tally {
         *self.counts.entry(name).or_default() += times;
     }
 
-    fn count(&mut self, name: String) {
+    pub(crate) fn count(&mut self, name: String) {
         self.add(name, 1);
     }
 
@@ -376,5 +377,6 @@ fn expected() -> BTreeMap<String, u64> {
         expected.insert(format!("preview: {target}"), PREVIEWED);
     }
     expected.insert(format!("preview: {OTHER}"), 1);
+    expected.extend(joins::expected());
     expected
 }

@@ -22,7 +22,7 @@ pub mod Solving
 pub mod States
 pub mod Lifting
 pub mod Openings
-pub mod Checks
+pub mod Lending
 pub mod Insertion
 pub mod ToppingUp
 pub mod Orders

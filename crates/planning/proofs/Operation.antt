@@ -14,20 +14,21 @@ use Rattle.plan_defs.specs.Stage.{Stage, stopped, going}
 use Rattle.plan_defs.specs.Constants.{mostBuses, mostCorridors}
 use Rattle.plan_defs.specs.Case.{Case, promote}
 use Rattle.plan_defs.specs.Plan.{Plan, endingOn, endingBy, endingOf, planFor}
-use Rattle.plan_defs.specs.Outcome.{Slices, cleared, keptIf, keptOf, held, summary, Outcome, replyOf, outcome, outcomeBy, outcomeIf, planCorridors}
+use Rattle.plan_defs.specs.Outcome.{Slices, slicesOk, cleared, keptIf, keptOf, held, summary, Outcome, replyOf, outcome, outcomeBy, outcomeIf, planCorridors}
 use Rattle.plan_defs.specs.Demand.{AnswerTo}
 use Rattle.plan_defs.specs.declared.CorridorPlan.{CorridorPlan}
 use Rattle.plan_defs.specs.declared.Planned.{Planned}
 use Rattle.plan_defs.specs.declared.Planned.the-variants.{Answered, Refused}
+use Rattle.acceptance.specs.Check.{checkOf}
+use Rattle.acceptance.proofs.Callers.{tablesOf, passed-by}
 use Rattle.plan_theorems.proofs.Dispatched.{Binary}
 use Rattle.plan_theorems.proofs.Outcomes.{answer-to}
-use Rattle.planning.specs.Check.{checkOf}
 use Rattle.planning.specs.Close.{isRefused, lentTo, withKept, finished}
 use Rattle.planning.specs.Sound.{Sound, Lengths}
 use Rattle.planning.specs.Plan.{WholeAs, PlanDone, Lendable}
 use Rattle.planning.specs.declared.plan.PlanRun.{PlanRun}
 use Rattle.planning.proofs.Liftings.{finished-refused, finished-answered}
-use Rattle.planning.proofs.Sounds.{sound, lengths-of, kept-lengths, refused-outcome, passed, placesOf, tablesOf}
+use Rattle.planning.proofs.Sounds.{sound, lengths-of, kept-lengths, refused-outcome}
 
 module _ (c : Case) (target : ℕ) (s : Slices) where
   -- ---- what is promised: the defined outcome, and of an answer demand 3
@@ -41,15 +42,15 @@ module _ (c : Case) (target : ℕ) (s : Slices) where
   )
 
   -- 1 to 7
-  pub ends-unaccepted : Binary c → (f : Refusal) → Unaccepted f ≡ checkOf (tablesOf c) target (placesOf s) → Ends (Refused f) s
+  pub ends-unaccepted : Binary c → (f : Refusal) → Unaccepted f ≡ checkOf (slicesOk c s) (tablesOf c) target → Ends (Refused f) s
   ends-unaccepted binary f e = ends-by binary (Refused f) s (refused-outcome c target s f e)
 
-  module _ (ok : Accepted ≡ checkOf (tablesOf c) target (placesOf s)) where
+  module _ (ok : Accepted ≡ checkOf (slicesOk c s) (tablesOf c) target) where
     is-sound : Sound c target
-    is-sound = sound c target (passed c target s ok .1)
+    is-sound = sound c target (passed-by (slicesOk c s) c target ok .1)
 
     sizes : Lengths c s
-    sizes = lengths-of c s (passed c target s ok .0)
+    sizes = lengths-of c s (passed-by (slicesOk c s) c target ok .0)
 
     abbrev lentOf : Slices → Slices
     lentOf t = lentTo (t .circuits) (t .flow) (t .rate) (t .mw) (t .angle) (t .tier) (t .ground) (t .added) (t .figures) (t .counts)
@@ -82,8 +83,8 @@ module _ (c : Case) (target : ℕ) (s : Slices) where
     unfolding planCorridors endingOf
     ends =
         sym
-        (ap (λ (b : Bool). outcomeIf b c target s) (passed c target s ok .0)
-        ∙ ap (λ (f : Option Refusal). outcomeBy (endingBy f c target) c s) (passed c target s ok .1))
+        (ap (λ (b : Bool). outcomeIf b c target s) (passed-by (slicesOk c s) c target ok .0)
+        ∙ ap (λ (f : Option Refusal). outcomeBy (endingBy f c target) c s) (passed-by (slicesOk c s) c target ok .1))
 
     module _ (r : PlanRun) (lent : Slices) (size : Lengths c lent)
         (done : PlanDone (c .mode) target (c .above) (c .ladder) (c .tier) (c .load) (c .bus) (c .slack) (c .pmin) (c .pmax) (c .c1) (c .c2) (c .a) (c .b) (c .circuits)
@@ -173,12 +174,12 @@ module _ (c : Case) (target : ℕ) (s : Slices) where
           ends-answered binary x q e (u ∙ all (front (r .kept .before))) (v ∙ all (front (r .kept .order))) w
 
   -- the same by what the check answers, and by what the stages leave, each slice as long as it was, what is cleared, and what is kept
-  module _ (x : Answer) (k : x ≡ checkOf (tablesOf c) target (placesOf s)) (q : x ≡ Accepted) where
+  module _ (x : Answer) (k : x ≡ checkOf (slicesOk c s) (tablesOf c) target) (q : x ≡ Accepted) where
     -- the places lent for what is kept are those of the corridors, which the arrays have
     pub kept-fits : (length (s .before) ≤ mostCorridors) × (length (s .order) ≤ mostCorridors) × (length (s .cap) ≤ mostCorridors)
     kept-fits =
         let ok = sym q ∙ k in
-        let w = kept-lengths c s (passed c target s ok .0) in
+        let w = kept-lengths c s (passed-by (slicesOk c s) c target ok .0) in
         (omega (arith, w .0, is-sound ok .few-corridors), omega (arith, w .1, is-sound ok .few-corridors), omega (arith, w .2, is-sound ok .few-corridors))
 
     pub caps-fit : length (c .cap) ≤ mostCorridors
@@ -206,7 +207,7 @@ module _ (c : Case) (target : ℕ) (s : Slices) where
     ends-when binary r lent e₁ e₂ e₃ e₄ e₅ e₆ e₇ e₈ e₉ e₀ load p done out refused u v keeps w before order f g copy caps x y =
         let ok = sym q ∙ k in
         let z = sizes ok in
-        let m = kept-lengths c s (passed c target s ok .0) in
+        let m = kept-lengths c s (passed-by (slicesOk c s) c target ok .0) in
         let a = is-sound ok .a-size in
         let keeps-is : keeps ≡ (promote (c .mode) && not (isRefused (r .said))) = w ∙ ap (λ (b : Bool). promote (c .mode) && not b) u in
         let all : (i : ℕ) (l : List ℕ) → i ≡ c .corridors → keptIf keeps i (take i l) ≡ keptIf (promote (c .mode) && not (isRefused (r .said))) (c .corridors) (take (length (c .a)) l) =

@@ -21,7 +21,7 @@ use Rattle.plan_defs.specs.Case.{promote, fullOf, fullAt}
 use Rattle.plan_defs.specs.Fill.{unfilled, filledIf, fill}
 use Rattle.plan_defs.specs.Preview.{Kept, keptAs, lengthsOk, countsOk, countOk, placeOk, keptFault, previewFault, refilled, outcome, previewBy, preview}
 use Rattle.plan_theorems.proofs.Preview.{sound-of}
-use Rattle.planning.specs.Check.{answerOf}
+use Rattle.acceptance.specs.Check.{answerOf}
 use Rattle.planning.specs.Fill.{capsFor, Whole, Ranked, Counted}
 use Rattle.planning.specs.Preview.{countsFor, orderFor, Refillable}
 

@@ -15,22 +15,23 @@ use Rattle.loops.proofs.Bools.{both}
 use Rattle.refusal.specs.declared.Refusal.{Refusal}
 use Rattle.refusal.specs.declared.Refusal.the-variants.{Length}
 use Rattle.refusal.specs.declared.Answer.{Answer}
-use Rattle.refusal.specs.declared.Answer.the-variants.{Answered, Refused}
-use Rattle.mode.specs.declared.PlanMode.the-variants.{Observe}
+use Rattle.refusal.specs.declared.Answer.the-variants.{Refused}
 use Rattle.impedance.specs.Impedance.{ratingOk}
 use Rattle.leaders.specs.Operation.{corridorOk}
 use Rattle.plan_defs.specs.Constants.{kvTolerance, mostInitial, mostCap, rowFigures}
-use Rattle.plan_defs.specs.Case.{Case, caseOf, levels, kvOf, endA, endB, ownCap, rowPlace, rowAt}
-use Rattle.plan_defs.specs.Accept.{lengthsOk, countsOk, levelOk, busOk, generatorOk, corridorSound, rowOk, tablesFault, caseFault}
+use Rattle.plan_defs.specs.Case.{Case, levels, kvOf, endA, endB, ownCap, rowPlace, rowAt}
+use Rattle.plan_defs.specs.Accept.{levelOk, generatorOk, corridorSound, caseFault}
 use Rattle.plan_defs.specs.Plan.{endingOf}
 use Rattle.plan_defs.specs.Outcome.{Slices, slicesOk, outcome, outcomeIf, outcomeBy, planCorridors}
 use Rattle.plan_defs.specs.declared.Planned.the-variants.{Refused as Unplanned}
 use Rattle.plan_defs.proofs.Accepted.{Accepted, accepted, end-a, end-b, bus-below, unit-ok, tier-below, load-inside, initial-few, cap-few, row-inside, row-sound}
 use Rattle.plan_theorems.proofs.Outcomes.{lengths-of as all-lengths}
+use Rattle.acceptance.specs.Check.{checkOf}
+use Rattle.acceptance.proofs.Callers.{tablesOf, refused-by}
 use Rattle.planning.specs.Design.{Lines, rateAt}
-use Rattle.planning.specs.Check.{placesIn, answerOf, checkOf}
+use Rattle.planning.specs.Lent.{placesOk}
 use Rattle.planning.specs.Sound.{Sound, Lengths}
-use Rattle.planning.specs.declared.check.Places.{Places}
+use Rattle.planning.specs.declared.lent.Places.{Places}
 use Rattle.planning.proofs.Ratings.{sheet-rating}
 
 -- ---- what the tests of one row say
@@ -143,7 +144,7 @@ lengths-of c s h =
 pub kept-lengths : (c : Case) (s : Slices) → slicesOk c s ≡ true → (length (s .before) ≡ c .corridors) × (length (s .order) ≡ c .corridors) × (length (s .cap) ≡ c .corridors)
 kept-lengths c s h = let l = all-lengths c s h in (l .before, l .order, l .cap)
 
--- how many places they have, as `check_case` is told
+-- how many places they have, as `places_ok` is told
 abbrev pub placesOf : Slices → Places
 placesOf s =
     record {
@@ -162,46 +163,24 @@ placesOf s =
       counts = length (s .counts);
     }
 
--- ---- the check: of the tables, in any mode
-abbrev pub tablesOf : Case → Case
-tablesOf c =
-    caseOf Observe (c .buses) (c .corridors) (c .generators) (c .above) (c .requested) (c .ladder) (c .tier) (c .reading) (c .weight) (c .load) (c .bus) (c .slack) (c .pmin) (c .pmax) (c .c1) (c .c2)
-    (c .a) (c .b) (c .circuits) (c .km) (c .share) (c .cap) (c .sheet)
-
+-- ---- the check
 module _ (c : Case) (target : ℕ) (s : Slices) where
-  places-are : placesIn (tablesOf c) (placesOf s) ≡ slicesOk c s
+  -- with 1 of the lent slices as the definition tests it
+  pub checked : (x : Answer) (fits : Bool) → fits ≡ placesOk (c .buses) (c .corridors) (c .generators) (c .above) (placesOf s)
+      → x ≡ checkOf fits (tablesOf c) target → x ≡ checkOf (slicesOk c s) (tablesOf c) target
   unfolding slicesOk
-  places-are = refl
-
-  fault-lifts : caseFault (tablesOf c) target ≡ caseFault c target
-  unfolding caseFault lengthsOk countsOk tablesFault levelOk busOk generatorOk corridorSound rowOk rowAt rowPlace
-  fault-lifts = refl
-
-  abbrev checked : Bool → Option Refusal → Answer
-  checked b f = cond b (answerOf f) (Refused Length)
-
-  check-lifts : checkOf (tablesOf c) target (placesOf s) ≡ checked (slicesOk c s) (caseFault c target)
-  unfolding checkOf
-  check-lifts = ap (λ (b : Bool). checked b (caseFault (tablesOf c) target)) places-are ∙ ap (checked (slicesOk c s)) fault-lifts
+  checked x fits e k = k ∙ ap (λ (b : Bool). checkOf b (tablesOf c) target) e
 
   -- a refusal is the defined one, with every slice as it was
-  pub refused-outcome : (f : Refusal) → Refused f ≡ checkOf (tablesOf c) target (placesOf s) → outcome (Unplanned f) s ≡ planCorridors c target s
+  pub refused-outcome : (f : Refusal) → Refused f ≡ checkOf (slicesOk c s) (tablesOf c) target → outcome (Unplanned f) s ≡ planCorridors c target s
   unfolding planCorridors endingOf outcomeBy
-  refused-outcome f e = go (slicesOk c s) (caseFault c target) refl refl (e ∙ check-lifts)
+  refused-outcome f e = go (slicesOk c s) (caseFault c target) refl refl (refused-by (slicesOk c s) c target f e)
     where
-      go : (b : Bool) (o : Option Refusal) → slicesOk c s ≡ b → caseFault c target ≡ o → Refused f ≡ checked b o → outcome (Unplanned f) s ≡ outcomeIf (slicesOk c s) c target s
+      go : (b : Bool) (o : Option Refusal) → slicesOk c s ≡ b → caseFault c target ≡ o → cond b o (some Length) ≡ some f
+          → outcome (Unplanned f) s ≡ outcomeIf (slicesOk c s) c target s
       go false o p q h = let z : f ≡ Length = cc in rw (p, z)
       go true (some g) p q h = let z : f ≡ g = cc in rw (p, q, z)
       go true none p q h = let z : _≡_ {A = ℕ} 0 1 = cc in absurd (omega arith)
-
-  -- what passes
-  pub passed : Answered ≡ checkOf (tablesOf c) target (placesOf s) → (slicesOk c s ≡ true) × (caseFault c target ≡ none)
-  passed e = go (slicesOk c s) (caseFault c target) refl refl (e ∙ check-lifts)
-    where
-      go : (b : Bool) (o : Option Refusal) → slicesOk c s ≡ b → caseFault c target ≡ o → Answered ≡ checked b o → (slicesOk c s ≡ true) × (caseFault c target ≡ none)
-      go false o p q h = let z : _≡_ {A = ℕ} 0 1 = cc in absurd (omega arith)
-      go true (some g) p q h = let z : _≡_ {A = ℕ} 0 1 = cc in absurd (omega arith)
-      go true none p q h = (p, q)
 
 -- ---- the columns that a design reads, at levels on the ladder
 pub lines-of : (c : Case) (target : ℕ) → Sound c target → (level : List ℕ) → length level ≡ c .buses

@@ -5,7 +5,7 @@ pub mod Raise
 pub mod Size
 pub mod Opening
 pub mod Solve
-pub mod Check
+pub mod Lent
 pub mod Fill
 pub mod Close
 pub mod Sound

@@ -20,10 +20,10 @@ use plan_defs::CircuitDesign;
 use plan_defs::RatingBasis;
 
 // Two kV that differ by no more are one level.
-pub const KV_TOLERANCE: f64 = 1e-6;
+const KV_TOLERANCE: f64 = 1e-6;
 
 // Figures of a row of the line sheet: r, x, b, rate, basis.
-pub const ROW_FIGURES: usize = 5;
+const ROW_FIGURES: usize = 5;
 
 // ---- the line alone
 fn basis_of(code: f64) -> RatingBasis
@@ -174,7 +174,7 @@ pub fn ends_of(ladder: &[f64], level: &[u32], a: &[u32], b: &[u32], k: usize) ->
 
 // ---- the design of corridor k, from its line and its bank
 // The place of the first figure of the row for a corridor and a level.
-pub fn row_place(levels: usize, k: usize, level: usize) -> usize
+fn row_place(levels: usize, k: usize, level: usize) -> usize
     requires { ⌜ rowFigures * (k * levels + level) < 2 ^ 64 ⌝ }
     ensures { λ r. ⌜ r ≡ rowFigures * (k * levels + level) ⌝ }
 {

@@ -6,18 +6,19 @@ ghost use Rattle.plan_defs.specs.Demand.{AnswerTo};
 ghost use Rattle.plan_defs.specs.Preview.{keptAs, outcome as outcomeOf, preview as previewOf};
 ghost use Rattle.plan_defs.specs.declared.CorridorPlan.{CorridorPlan};
 ghost use Rattle.plan_defs.specs.declared.Planned.the-variants.{Answered};
-use check::Places;
+use acceptance::check_case;
+use lent::Places;
 use loads::weigh;
 use mode::PlanMode;
 use plan_defs::Planned;
 use policy::promotes;
 use refusal::Answer;
 
-mod check;
 mod close;
 mod design;
 mod figures;
 mod fill;
+mod lent;
 mod opening;
 mod plan;
 mod policy;
@@ -97,7 +98,9 @@ pub fn plan_corridors(
         figures: figures.len(),
         counts: counts.len(),
     };
-    match check::check_case(
+    let fits = lent::places_ok(n, m, g, above, places);
+    match check_case(
+        fits,
         target,
         n,
         m,
@@ -121,7 +124,6 @@ pub fn plan_corridors(
         share,
         cap,
         sheet,
-        places,
     ) {
         Answer::Refused(f) => return Planned::Refused(f),
         Answer::Answered => {}

@@ -8,12 +8,8 @@ ghost use Rattle.loops.specs.Loops.{first};
 ghost use Rattle.plan_defs.specs.Case.{promote};
 ghost use Rattle.plan_defs.specs.Constants.{mostInitial, mostCap};
 ghost use Rattle.plan_defs.specs.Preview.{keptAs, countOk, differsAt, placeOk, previewFault, refilled};
-ghost use Rattle.planning.specs.Check.{answerOf};
+ghost use Rattle.acceptance.specs.Check.{answerOf};
 ghost use Rattle.planning.specs.Preview.{countsFor, orderFor, Refillable};
-use crate::check::MOST_CAP;
-use crate::check::MOST_CORRIDORS;
-use crate::check::MOST_INITIAL;
-use crate::check::MOST_TARGET;
 use crate::close::copy_front;
 use crate::figures::wide;
 use crate::fill::copied;
@@ -22,6 +18,14 @@ use crate::policy::promotes;
 use mode::PlanMode;
 use refusal::Answer;
 use refusal::Refusal;
+
+const MOST_CORRIDORS: usize = 256;
+
+const MOST_TARGET: u32 = 65536;
+
+const MOST_INITIAL: u32 = 64;
+
+const MOST_CAP: u32 = 6;
 
 // ---- 6: the first corridor whose kept count is outside 1 to 64, or whose cap is above 6
 fn count_ok(count: u32, cap: u32) -> bool

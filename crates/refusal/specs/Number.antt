@@ -1,7 +1,7 @@
 -- The documents' number and index of each refusal (document 01, "Refusals of each operation, in order"; document 02); the index is 0 where they name none.
 use Prim.Native.Nat.{ℕ}
 use Rattle.refusal.specs.declared.Refusal.{Refusal}
-use Rattle.refusal.specs.declared.Refusal.the-variants.{Length, Count, Level, Bus, Generator, Demand, Corridor, Row, Cost, NotFinite, Edge, Ground, Rating, FileLength, Cut, Mark, Code, Trailing, Uneven, SeasonFull, Spread, Place, Mode, Order, Weight}
+use Rattle.refusal.specs.declared.Refusal.the-variants.{Length, Count, Level, Bus, Generator, Demand, Corridor, Row, Cost, NotFinite, Edge, Ground, Rating, FileLength, Cut, Mark, Code, Trailing, Uneven, SeasonFull, Spread, Place, Mode, Order, Weight, Districts}
 
 unfoldable pub numberOf : Refusal → ℕ
 numberOf Length = 1
@@ -29,6 +29,7 @@ numberOf Place = 23
 numberOf Mode = 18
 numberOf (Order i) = 30
 numberOf (Weight i) = 21
+numberOf Districts = 24
 
 unfoldable pub indexOf : Refusal → ℕ
 indexOf Length = 0
@@ -56,3 +57,4 @@ indexOf Place = 0
 indexOf Mode = 0
 indexOf (Order i) = i
 indexOf (Weight i) = i
+indexOf Districts = 0

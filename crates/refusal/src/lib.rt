@@ -54,6 +54,8 @@ pub enum Refusal {
     Order(usize),
     // A bus's weight is not 1, in a file to be moved back.
     Weight(usize),
+    // Two districts of other modes, ladders or counts of requested levels.
+    Districts,
 }
 
 impl Refusal {
@@ -86,6 +88,7 @@ impl Refusal {
             Refusal::Mode => 18,
             Refusal::Order(_) => 30,
             Refusal::Weight(_) => 21,
+            Refusal::Districts => 24,
         }
     }
 
@@ -119,6 +122,7 @@ impl Refusal {
             Refusal::Mode => 0,
             Refusal::Order(i) => i,
             Refusal::Weight(i) => i,
+            Refusal::Districts => 0,
         }
     }
 }

@@ -6,6 +6,7 @@ pub mod case_file;
 pub mod case_text;
 pub mod checks;
 pub mod figures;
+pub mod join;
 pub mod listing;
 pub mod moves;
 pub mod operations;

@@ -29,6 +29,7 @@ pub const UNEVEN: u32 = 19;
 pub const SEASON_FULL: u32 = 20;
 pub const WEIGHT: u32 = 21;
 pub const SPREAD: u32 = 22;
+pub const DISTRICTS: u32 = 24;
 pub const ORDER: u32 = 30;
 
 impl Refusal {

@@ -11,6 +11,7 @@ mod faults;
 pub mod moved;
 mod networks;
 pub mod padding;
+pub mod pairs;
 mod serving;
 mod sketch;
 mod stiffening;

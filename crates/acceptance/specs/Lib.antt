@@ -1,0 +1,2 @@
+-- What acceptance's contracts cite, beside the definition of acceptance.
+pub mod Check

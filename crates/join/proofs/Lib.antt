@@ -1,0 +1,4 @@
+-- Laws that no one function owns.
+pub mod Places
+pub mod Refusals
+pub mod Whole

@@ -1,0 +1,3 @@
+-- Laws of the joined tables, and worked examples.
+pub mod Examples
+pub mod Tables

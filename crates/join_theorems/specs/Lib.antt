@@ -1,0 +1,3 @@
+-- What the theorems about joined cases say.
+pub mod Apart
+pub mod Calls

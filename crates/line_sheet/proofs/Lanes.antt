@@ -1,6 +1,6 @@
 -- A lane from its start to its last digit: the two numbers of each segment fit it, a turn of the code is one of the definition, and the count is that of the digits. Assumes nothing.
 use mathlib.Core.Path.{_≡_, refl, sym, ap, _∙_, subst}
-use mathlib.Core.Bool.{Bool, true, false, not, cond, _&&_}
+use mathlib.Core.Bool.{Bool, true, false, not, cond}
 use mathlib.Core.List.{[], _∷_}
 use Prim.Native.Nat.{ℕ, zero, suc, _+_, _-_, _*_, _/_, _^_, _≤_, _<_}
 use native.Mathlib.Nat.{add-zero}

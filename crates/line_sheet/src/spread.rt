@@ -17,6 +17,11 @@ const MOST: u64 = 0x4_0000_0000;
 // 3, which is above any root here as well.
 const ABOVE: u64 = 0x3_0000_0000;
 
+// A spread of 1 in steps of 2^-54, and its root in steps of 2^-32.
+const ONE_SPREAD: u64 = 0x40_0000_0000_0000;
+
+const ONE_ROOT: u64 = 0x1_0000_0000;
+
 // The binary digits of a root.
 const ROOT_BITS: u64 = 0x3_ffff_ffff;
 
@@ -114,11 +119,14 @@ fn searched(a: u64, guess: u64) -> u64
     lo
 }
 
-// The largest r with 4 * r^5 at most the cube of a.
+// The largest r with 4 * r^5 at most the cube of a. A spread of 1 is the exact root that is common, and halves of products leave those open.
 fn fifth_root(a: u64, guess: u64) -> u64
     requires { ⌜ (0 < a) × (a < 2 ^ 57) ⌝ }
     ensures { λ r. ⌜ (r ≡ fifthRoot 34 (a ^ 3 / 4)) × (r < 2 ^ 34) ⌝ }
 {
+    if a == ONE_SPREAD {
+        return ONE_ROOT;
+    }
     if settled(a, guess) {
         return guess;
     }

@@ -7,22 +7,24 @@ use crate::{least, report};
 use reference::harness::sheet::{SheetRequest, ROW};
 use reference::judge::judge;
 
-/// So many corridors, whose lengths go round the whole curve, and levels from 765 kV down.
-fn request(corridors: usize, levels: usize) -> SheetRequest {
+/// So many corridors, whose lengths go round the whole curve, and levels from 765 kV down. The spreads fall from 4 to 0.25,
+/// or all are the same.
+fn request(corridors: usize, levels: usize, same: Option<f64>) -> SheetRequest {
     let kvs = [765.0, 500.0, 345.0, 138.0, 69.0];
     SheetRequest {
         ladder: kvs[..levels].to_vec(),
         corridors: (0..corridors)
             .map(|k| {
                 let turn = k as f64 / corridors as f64;
-                (1_200.0 * turn, 0.25 + 3.75 * (1.0 - turn))
+                let falling = 0.25 + 3.75 * (1.0 - turn);
+                (1_200.0 * turn, same.unwrap_or(falling))
             })
             .collect(),
     }
 }
 
-fn compare(corridors: usize, levels: usize, runs: usize) {
-    let request = request(corridors, levels);
+fn compare(corridors: usize, levels: usize, same: Option<f64>, runs: usize) {
+    let request = request(corridors, levels, same);
     let (km, spread): (Vec<f64>, Vec<f64>) = request.corridors.iter().copied().unzip();
     let mut sheet = vec![0.0; ROW * corridors * levels];
     let said = line_sheet(&request.ladder, &km, &spread, &mut sheet);
@@ -47,8 +49,9 @@ fn compare(corridors: usize, levels: usize, runs: usize) {
             std::hint::black_box(request.published());
         },
     );
+    let spreads = same.map_or(String::new(), |s| format!(", spreads {s}"));
     report(
-        &format!("sheet, corridors {corridors}, levels {levels}"),
+        &format!("sheet, corridors {corridors}, levels {levels}{spreads}"),
         &format!("{} rows", corridors * levels),
         times,
     );
@@ -66,7 +69,8 @@ fn compare_refusal() {
 
 pub fn run() {
     compare_refusal();
-    compare(1, 1, 4000);
-    compare(256, 1, 1000);
-    compare(256, 5, 1000);
+    compare(1, 1, None, 4000);
+    compare(256, 1, None, 1000);
+    compare(256, 1, Some(1.0), 1000);
+    compare(256, 5, None, 1000);
 }

@@ -16,6 +16,7 @@ use Rattle.line_defs.specs.Row.{lineRow}
 use Rattle.line_defs.specs.Spread.{keptSpread}
 use Rattle.line_defs.specs.Loadability.{loadabilityOf}
 use Rattle.line_defs.specs.Sheet.{rowAt, figuresOf, figureAt, sheetOf}
+use Rattle.line_sheet.specs.Filled.{Further}
 
 -- ---- five places
 five : (w s : List Float) (f : ℕ → Float) (o : ℕ) (a b c d e : Float) → s ≡ filled w f o → o + 5 ≤ length w → a ≡ f o → b ≡ f (o + 1) → c ≡ f (o + 2) → d ≡ f (o + 3) → e ≡ f (o + 4)
@@ -105,19 +106,20 @@ module _ (levels corridors : ℕ) (ladder km spread : List Float) where
       let c : 5 * (k * levels + l) ≡ sheetFigures levels (k + 1) = omega arith in
       i .2 w n e ∙ ap (λ (n : ℕ). filled w places n) c
 
-  -- ---- the corridors
-  abbrev pub Corridors : List Float → List Float → ℕ → Type 0
-  Corridors s₀ s k = (k ≤ corridors) × (length s ≡ sheetFigures levels corridors) × (s ≡ filled s₀ places (sheetFigures levels k))
+  -- ---- the corridors from a on, up to i
+  abbrev pub Filled : ℕ → ℕ → List Float → List Float → Type 0
+  Filled a i s₀ s = (i ≤ corridors) × (length s ≡ sheetFigures levels corridors) × Further levels corridors ladder km spread a i s₀ s
 
-  pub no-corridors : (s₀ : List Float) → length s₀ ≡ sheetFigures levels corridors → Corridors s₀ s₀ 0
-  no-corridors s₀ h = (omega arith, h, fill-start s₀ places ∙ ap (λ (n : ℕ). filled s₀ places n) (let z : 0 ≡ 5 * (0 * levels) = omega arith in z))
+  pub none-filled : (a i : ℕ) (s₀ : List Float) → a ≤ corridors → length s₀ ≡ sheetFigures levels corridors → i ≡ a → Filled a i s₀ s₀
+  none-filled a i s₀ h n e = rw e (h, n, λ w m f. f)
 
-  pub one-corridor : (s₀ s t : List Float) (k : ℕ) → length s₀ ≡ sheetFigures levels corridors → k < corridors → length t ≡ length s
-      → ((w : List Float) → length w ≡ sheetFigures levels corridors → s ≡ filled w places (sheetFigures levels k) → t ≡ filled w places (sheetFigures levels (k + 1)))
-      → Corridors s₀ s k → Corridors s₀ t (k + 1)
-  one-corridor s₀ s t k n h e f i = (omega arith, e ∙ i .1, f s₀ n (i .2))
+  pub more-filled : (a i j m : ℕ) (s₀ s t : List Float) → m ≤ corridors → length t ≡ length s → Further levels corridors ladder km spread i j s t → j ≡ m → Filled a i s₀ s → Filled a m s₀ t
+  more-filled a i j m s₀ s t h n f e o = (h, n ∙ o .1, λ w k g. f w k (o .2 w k g) ∙ ap (λ (z : ℕ). filled w places (sheetFigures levels z)) e)
 
-  pub all-corridors : (s₀ s : List Float) (k : ℕ) → length s₀ ≡ sheetFigures levels corridors → corridors ≤ k → Corridors s₀ s k → s ≡ sheetOf levels corridors ladder km spread
-  all-corridors s₀ s k n h i =
-      let a : k ≡ corridors = omega arith in
-      fill-end s₀ s places (sheetFigures levels k) (sheetFigures levels corridors) n (ap (λ (z : ℕ). sheetFigures levels z) a) (i .2)
+  pub filled-to : (a i m : ℕ) (s₀ s : List Float) → i ≡ m → Filled a i s₀ s → Further levels corridors ladder km spread a m s₀ s
+  filled-to a i m s₀ s e o = λ w n f. o .2 w n f ∙ ap (λ (z : ℕ). filled w places (sheetFigures levels z)) e
+
+  pub all-filled : (s₀ s : List Float) → length s₀ ≡ sheetFigures levels corridors → Further levels corridors ladder km spread 0 corridors s₀ s → s ≡ sheetOf levels corridors ladder km spread
+  all-filled s₀ s n f =
+      fill-end s₀ s places (sheetFigures levels corridors) (sheetFigures levels corridors) n refl
+      (f s₀ n (fill-start s₀ places ∙ ap (λ (n : ℕ). filled s₀ places n) (let z : 0 ≡ 5 * (0 * levels) = omega arith in z)))

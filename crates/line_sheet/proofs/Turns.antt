@@ -23,13 +23,6 @@ module _ (near far v : ℕ) (s : Start near far v) where
   pub square-most : v * v ≤ 2 ^ 62
   square-most = mul-le-mul v-most v-most
 
-  pub product-most : v * v / unit * near ≤ 2 ^ 32 * 965
-  product-most =
-      let h = square-most in
-      let w : v * v / unit ≤ 2 ^ 32 = omega arith in
-      let n : near ≤ 965 = omega (arith, s .far-most, s .apart) in
-      mul-le-mul w n
-
   pub one-left : far * unit ≤ v * v / unit * near → Start near far (v * v / unit * near / far)
   one-left h = record {
     near-least = s .near-least;

@@ -15,6 +15,7 @@ mod row;
 mod rows;
 mod sheet;
 mod spread;
+mod wide;
 
 // Writes a row for each corridor and level: r, x, b, rate, basis (0 thermal, 1 loadability), all levels of corridor 0 first. Reads
 // the levels' kV, and each corridor's length in km and impedance spread.

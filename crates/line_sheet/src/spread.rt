@@ -1,15 +1,26 @@
 // The impedance spread that a class of 345 kV or above keeps: the spread to the power 0.6 (EHV_SPREAD_SHARE of branches.rs).
 ghost use mathlib.Core.Path.{_≡_};
-ghost use Prim.Native.Nat.{_+_, _/_, _^_, _≤_, _<_};
+ghost use mathlib.Core.Bool.{true};
+ghost use Prim.Native.Nat.{_+_, _*_, _/_, _^_, _≤_, _<_};
+ghost use lib.ListN.{length};
 ghost use Rattle.line_defs.specs.Spread.{fifthRoot, keptSpread};
 ghost use Rattle.line_defs.specs.Bounds.{Spread};
 use crate::grid::on_grid;
 use crate::grid::steps_of_spread;
 use crate::limbs::at_most;
 use crate::limbs::power;
+use crate::wide::high;
 
 // More than any root here: 4 steps of 2^-32 each.
 const MOST: u64 = 0x4_0000_0000;
+
+// 3, which is above any root here as well.
+const ABOVE: u64 = 0x3_0000_0000;
+
+// A spread of 1 in steps of 2^-54, and its root in steps of 2^-32.
+const ONE_SPREAD: u64 = 0x40_0000_0000_0000;
+
+const ONE_ROOT: u64 = 0x1_0000_0000;
 
 // The binary digits of a root.
 const ROOT_BITS: u64 = 0x3_ffff_ffff;
@@ -41,6 +52,19 @@ pub fn guess(s: f64) -> u64 {
     0
 }
 
+// The guesses of the spreads from k on, side by side, since each is a long chain.
+pub fn guesses(spread: &[f64], k: usize) -> [u64; 8]
+    requires { ⌜ k + 8 ≤ length (now spread) ⌝ }
+{
+    let mut r = [0u64; 8];
+    let mut j: usize = 0;
+    while j < 8 {
+        r[j] = guess(spread[k + j]);
+        j += 1;
+    }
+    r
+}
+
 // Where to look next between two ends: at the guess, one past it where it has become the lower end, else in the middle.
 fn next(lo: u64, hi: u64, guess: u64) -> u64
     requires { ⌜ (lo + 1 < hi) × (hi ≤ 2 ^ 34) ⌝ }
@@ -58,8 +82,26 @@ fn next(lo: u64, hi: u64, guess: u64) -> u64
     (lo + hi) / 2
 }
 
-// The largest r with 4 * r^5 at most the cube of a.
-fn fifth_root(a: u64, guess: u64) -> u64
+// Whether r is surely the root: by the upper halves of products, each of which loses less than 1. It says no where the fifth power of r or
+// of the next place is so near to the cube that this counts.
+fn settled(a: u64, r: u64) -> bool
+    requires { ⌜ a < 2 ^ 57 ⌝ }
+    ensures { λ s. ⌜ (s ≡ true → (r < 2 ^ 34) × (4 * r ^ 5 ≤ a ^ 3) × (a ^ 3 < 4 * (r + 1) ^ 5)) ⌝ }
+{
+    if ABOVE <= r {
+        return false;
+    }
+    let s = a * 0x80;
+    let cube = high(high(s, s), s) / 2;
+    let q = r * 0x4000_0000;
+    let square = high(q, q);
+    let fourth = high(square, square);
+    let fifth = high(fourth, q);
+    (fifth + 4 <= cube) & (cube + 2 <= fifth + 5 * (fourth / MOST))
+}
+
+// The largest r with 4 * r^5 at most the cube of a, between ends that close in on it.
+fn searched(a: u64, guess: u64) -> u64
     requires { ⌜ (0 < a) × (a < 2 ^ 57) ⌝ }
     ensures { λ r. ⌜ (r ≡ fifthRoot 34 (a ^ 3 / 4)) × (r < 2 ^ 34) ⌝ }
 {
@@ -75,6 +117,20 @@ fn fifth_root(a: u64, guess: u64) -> u64
         }
     }
     lo
+}
+
+// The largest r with 4 * r^5 at most the cube of a. A spread of 1 is the exact root that is common, and halves of products leave those open.
+fn fifth_root(a: u64, guess: u64) -> u64
+    requires { ⌜ (0 < a) × (a < 2 ^ 57) ⌝ }
+    ensures { λ r. ⌜ (r ≡ fifthRoot 34 (a ^ 3 / 4)) × (r < 2 ^ 34) ⌝ }
+{
+    if a == ONE_SPREAD {
+        return ONE_ROOT;
+    }
+    if settled(a, guess) {
+        return guess;
+    }
+    searched(a, guess)
 }
 
 // The spread to the power 0.6, of a spread from 0.25 to 4, with a place where to look first.

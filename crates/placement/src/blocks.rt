@@ -20,7 +20,7 @@ const BLOCK: usize = 16;
 // The better of two choices: i where it is a candidate and none was found before it, or is closer.
 fn nearer_bus(
     n: usize,
-    mark: &[u32; MOST_BUSES],
+    mark: &[u16; MOST_BUSES],
     dist: &[f64; MOST_BUSES],
     best: usize,
     i: usize,
@@ -48,7 +48,7 @@ fn block_end(n: usize, lo: usize) -> usize
 // The nearest candidate of the block that begins at bus lo, the lowest on a tie, or n.
 fn nearest_in_block(
     n: usize,
-    mark: &[u32; MOST_BUSES],
+    mark: &[u16; MOST_BUSES],
     dist: &[f64; MOST_BUSES],
     lo: usize,
 ) -> usize
@@ -69,7 +69,7 @@ fn nearest_in_block(
 // Looks at every block.
 pub fn look_at_blocks(
     n: usize,
-    mark: &[u32; MOST_BUSES],
+    mark: &[u16; MOST_BUSES],
     dist: &[f64; MOST_BUSES],
     nearest: &mut [usize; BLOCKS],
 )
@@ -101,7 +101,7 @@ fn closer_bus(n: usize, dist: &[f64; MOST_BUSES], best: usize, x: usize) -> usiz
 // Step 2: the candidate of least distance, the lowest on a tie, or n.
 pub fn nearest_candidate(
     n: usize,
-    mark: &[u32; MOST_BUSES],
+    mark: &[u16; MOST_BUSES],
     dist: &[f64; MOST_BUSES],
     nearest: &[usize; BLOCKS],
 ) -> usize
@@ -122,7 +122,7 @@ pub fn nearest_candidate(
 pub fn settle_bus(
     n: usize,
     i: usize,
-    mark: &mut [u32; MOST_BUSES],
+    mark: &mut [u16; MOST_BUSES],
     dist: &[f64; MOST_BUSES],
     nearest: &mut [usize; BLOCKS],
 )
@@ -158,10 +158,10 @@ pub fn reach_bus(
     n: usize,
     j: usize,
     nd: f64,
-    src: u32,
-    mark: &mut [u32; MOST_BUSES],
+    src: u16,
+    mark: &mut [u16; MOST_BUSES],
     dist: &mut [f64; MOST_BUSES],
-    from: &mut [u32; MOST_BUSES],
+    from: &mut [u16; MOST_BUSES],
     nearest: &mut [usize; BLOCKS],
 )
     requires { ⌜ (n ≤ mostBuses) × (j < n) × (lt nd (at (now dist) j) ≡ true) ⌝ }

@@ -3,11 +3,12 @@ ghost use mathlib.Core.Path.{_≡_};
 ghost use Prim.Native.Nat.{_≤_, _<_};
 ghost use lib.ListN.{length, replicate};
 ghost use Rattle.placement_defs.specs.Request.{mostBuses, Net, Units};
-ghost use Rattle.loops.specs.Figures.{infinity, nought, greater};
+ghost use Rattle.loops.specs.Figures.{at, infinity, nought, greater};
+ghost use Rattle.loads.specs.Load.{loadsOf};
 ghost use Rattle.placement_defs.specs.Distance.{network};
 ghost use Rattle.placement.specs.Corridors.{Listed};
 ghost use Rattle.placement_defs.specs.Support.{farther, farthestTo, ifFar, nextBy, added, servedTo, leastMvar, mvarOf, sized, flagged};
-ghost use Rattle.placement.specs.Stages.{Joined, Placing};
+ghost use Rattle.placement.specs.Stages.{Called, Joined, Placing};
 use crate::MOST_BUSES;
 use crate::MOST_CORRIDORS;
 use crate::corridors::list_corridors;
@@ -15,6 +16,7 @@ use crate::distance::NOBODY;
 use crate::distance::REST;
 use crate::distance::distance_to_sources;
 use crate::distance::distance_with_source;
+use crate::number;
 use crate::wide;
 
 // A load farther than this from every source gets a condenser: reactive power does not travel far, and voltage control areas span tens to a
@@ -34,12 +36,28 @@ fn infinity() -> f64
     f64::from_bits(0x7ff0_0000_0000_0000)
 }
 
-// The better of two choices: i where it is loaded and reached, and none was found before it, or is farther.
-fn farther_bus(n: usize, loads: &[f64], dist: &[f64; MOST_BUSES], best: usize, i: usize) -> usize
-    requires { ⌜ (n ≤ mostBuses) × (best ≤ n) × (i < n) × (length (now loads) ≡ n) ⌝ }
-    ensures { λ r. ⌜ r ≡ farther n (now (loads .entry)) (now (dist .entry)) best i ⌝ }
+// The load of bus i. It is worked out where it is asked for, so that a case of few buses pays for those alone.
+fn load_of(n: usize, reading: &[f64], weight: &[f64], i: usize) -> f64
+    requires { ⌜ (i < n) × Called n (now reading) (now weight) ⌝ }
+    ensures { λ r. ⌜ r ≡ at (loadsOf n (now (reading .entry)) (now (weight .entry))) i ⌝ }
 {
-    if !((0.0 < loads[i]) & (dist[i] < infinity())) {
+    reading[i] * weight[i]
+}
+
+// The better of two choices: i where it is loaded and reached, and none was found before it, or is farther.
+fn farther_bus(
+    n: usize,
+    reading: &[f64],
+    weight: &[f64],
+    dist: &[f64; MOST_BUSES],
+    best: usize,
+    i: usize,
+) -> usize
+    requires { ⌜ (n ≤ mostBuses) × (best ≤ n) × (i < n) × Called n (now reading) (now weight) ⌝ }
+    ensures { λ r. ⌜ r ≡ farther n (loadsOf n (now (reading .entry)) (now (weight .entry))) (now (dist .entry)) best i ⌝ }
+{
+    let load = load_of(n, reading, weight, i);
+    if !((0.0 < load) & (dist[i] < infinity())) {
         return best;
     }
     if best >= n {
@@ -49,14 +67,14 @@ fn farther_bus(n: usize, loads: &[f64], dist: &[f64; MOST_BUSES], best: usize, i
 }
 
 // The farthest loaded bus that a source reaches, the lowest on a tie, or n.
-fn farthest_bus(n: usize, loads: &[f64], dist: &[f64; MOST_BUSES]) -> usize
-    requires { ⌜ (n ≤ mostBuses) × (length (now loads) ≡ n) ⌝ }
-    ensures { λ r. ⌜ r ≡ farthestTo n (now (loads .entry)) (now (dist .entry)) n ⌝ }
+fn farthest_bus(n: usize, reading: &[f64], weight: &[f64], dist: &[f64; MOST_BUSES]) -> usize
+    requires { ⌜ (n ≤ mostBuses) × Called n (now reading) (now weight) ⌝ }
+    ensures { λ r. ⌜ r ≡ farthestTo n (loadsOf n (now (reading .entry)) (now (weight .entry))) (now (dist .entry)) n ⌝ }
 {
     let mut best = n;
     let mut i = 0;
     while i < n {
-        best = farther_bus(n, loads, dist, best, i);
+        best = farther_bus(n, reading, weight, dist, best, i);
         i += 1;
     }
     best
@@ -74,11 +92,11 @@ fn if_far(n: usize, dist: &[f64; MOST_BUSES], i: usize) -> usize
 }
 
 // The bus that is to have a condenser next, or n.
-fn next_condenser(n: usize, loads: &[f64], dist: &[f64; MOST_BUSES]) -> usize
-    requires { ⌜ (n ≤ mostBuses) × (length (now loads) ≡ n) ⌝ }
-    ensures { λ r. ⌜ r ≡ nextBy n (now (loads .entry)) (now (dist .entry)) ⌝ }
+fn next_condenser(n: usize, reading: &[f64], weight: &[f64], dist: &[f64; MOST_BUSES]) -> usize
+    requires { ⌜ (n ≤ mostBuses) × Called n (now reading) (now weight) ⌝ }
+    ensures { λ r. ⌜ r ≡ nextBy n (loadsOf n (now (reading .entry)) (now (weight .entry))) (now (dist .entry)) ⌝ }
 {
-    let i = farthest_bus(n, loads, dist);
+    let i = farthest_bus(n, reading, weight, dist);
     if_far(n, dist, i)
 }
 
@@ -86,20 +104,21 @@ fn next_condenser(n: usize, loads: &[f64], dist: &[f64; MOST_BUSES]) -> usize
 fn join_condensers(
     n: usize,
     m: usize,
-    loads: &[f64],
+    reading: &[f64],
+    weight: &[f64],
     a: &[u32],
     b: &[u32],
     km: &[f64],
     head: &[u16; MOST_BUSES],
     after_a: &[u16; MOST_CORRIDORS],
     after_b: &[u16; MOST_CORRIDORS],
-    sources: &mut [u32; MOST_BUSES],
+    sources: &mut [u16; MOST_BUSES],
     buses: &mut [u32],
 ) -> usize
     requires { ⌜ Net n m (now a) (now b) (now km) ⌝ }
     requires { ⌜ Listed (network n m (now a) (now b) (now km)) 0 (now head) (now «after_a») (now «after_b») ⌝ }
-    requires { ⌜ (length (now loads) ≡ n) × (length (now sources) ≡ mostBuses) × (length (now buses) ≡ n) ⌝ }
-    ensures { λ r. ⌜ Joined (network n m (now (a .entry)) (now (b .entry)) (now (km .entry))) (now (loads .entry)) (now (sources .entry)) (now (buses .entry)) (now (sources .exit)) (now (buses .exit)) r ⌝ }
+    requires { ⌜ Called n (now reading) (now weight) × (length (now sources) ≡ mostBuses) × (length (now buses) ≡ n) ⌝ }
+    ensures { λ r. ⌜ Joined (network n m (now (a .entry)) (now (b .entry)) (now (km .entry))) (loadsOf n (now (reading .entry)) (now (weight .entry))) (now (sources .entry)) (now (buses .entry)) (now (sources .exit)) (now (buses .exit)) r ⌝ }
 {
     let mut mark = [REST; MOST_BUSES];
     let mut dist = [infinity(); MOST_BUSES];
@@ -120,7 +139,7 @@ fn join_condensers(
     );
     let mut count = 0;
     while count < n {
-        let i = next_condenser(n, loads, &dist);
+        let i = next_condenser(n, reading, weight, &dist);
         if i >= n {
             return count;
         }
@@ -147,21 +166,21 @@ fn join_condensers(
 }
 
 // One more load, where it lies nearest to the bus.
-fn add_load(sum: f64, load: f64, from: u32, bus: u32) -> f64
+fn add_load(sum: f64, load: f64, from: u16, bus: u32) -> f64
     ensures { λ r. ⌜ r ≡ added sum load from bus ⌝ }
 {
-    if from == bus { sum + load } else { sum }
+    if number(from) == bus { sum + load } else { sum }
 }
 
 // The loads that lie nearest to a bus, added by bus index.
-fn served_by(n: usize, loads: &[f64], from: &[u32; MOST_BUSES], bus: u32) -> f64
-    requires { ⌜ (n ≤ mostBuses) × (length (now loads) ≡ n) ⌝ }
-    ensures { λ r. ⌜ r ≡ servedTo (now (loads .entry)) (now (from .entry)) bus n ⌝ }
+fn served_by(n: usize, reading: &[f64], weight: &[f64], from: &[u16; MOST_BUSES], bus: u32) -> f64
+    requires { ⌜ (n ≤ mostBuses) × Called n (now reading) (now weight) ⌝ }
+    ensures { λ r. ⌜ r ≡ servedTo (loadsOf n (now (reading .entry)) (now (weight .entry))) (now (from .entry)) bus n ⌝ }
 {
     let mut sum = 0.0;
     let mut i = 0;
     while i < n {
-        sum = add_load(sum, loads[i], from[i], bus);
+        sum = add_load(sum, load_of(n, reading, weight, i), from[i], bus);
         i += 1;
     }
     sum
@@ -179,33 +198,34 @@ fn at_least(q: f64) -> f64
 }
 
 // A condenser's size.
-fn mvar_of(n: usize, loads: &[f64], from: &[u32; MOST_BUSES], bus: u32) -> f64
-    requires { ⌜ (n ≤ mostBuses) × (length (now loads) ≡ n) ⌝ }
-    ensures { λ r. ⌜ r ≡ mvarOf (now (loads .entry)) (now (from .entry)) n bus ⌝ }
+fn mvar_of(n: usize, reading: &[f64], weight: &[f64], from: &[u16; MOST_BUSES], bus: u32) -> f64
+    requires { ⌜ (n ≤ mostBuses) × Called n (now reading) (now weight) ⌝ }
+    ensures { λ r. ⌜ r ≡ mvarOf (loadsOf n (now (reading .entry)) (now (weight .entry))) (now (from .entry)) n bus ⌝ }
 {
-    at_least(VOLTAGE_SUPPORT_Q_SHARE * served_by(n, loads, from, bus))
+    at_least(VOLTAGE_SUPPORT_Q_SHARE * served_by(n, reading, weight, from, bus))
 }
 
 // Sizes the condensers once all are placed.
 fn size_condensers(
     n: usize,
     m: usize,
-    loads: &[f64],
+    reading: &[f64],
+    weight: &[f64],
     a: &[u32],
     b: &[u32],
     km: &[f64],
     head: &[u16; MOST_BUSES],
     after_a: &[u16; MOST_CORRIDORS],
     after_b: &[u16; MOST_CORRIDORS],
-    sources: &[u32; MOST_BUSES],
+    sources: &[u16; MOST_BUSES],
     count: usize,
     buses: &[u32],
     mvars: &mut [f64],
 )
     requires { ⌜ Net n m (now a) (now b) (now km) ⌝ }
     requires { ⌜ Listed (network n m (now a) (now b) (now km)) 0 (now head) (now «after_a») (now «after_b») ⌝ }
-    requires { ⌜ (length (now loads) ≡ n) × (length (now buses) ≡ n) × (length (now mvars) ≡ n) × (count ≤ n) ⌝ }
-    ensures { λ _. ⌜ now (mvars .exit) ≡ sized (network n m (now (a .entry)) (now (b .entry)) (now (km .entry))) (now (loads .entry)) (now (sources .entry)) (now (buses .entry)) count (now (mvars .entry)) ⌝ }
+    requires { ⌜ Called n (now reading) (now weight) × (length (now buses) ≡ n) × (length (now mvars) ≡ n) × (count ≤ n) ⌝ }
+    ensures { λ _. ⌜ now (mvars .exit) ≡ sized (network n m (now (a .entry)) (now (b .entry)) (now (km .entry))) (loadsOf n (now (reading .entry)) (now (weight .entry))) (now (sources .entry)) (now (buses .entry)) count (now (mvars .entry)) ⌝ }
 {
     if count == 0 {
         return;
@@ -229,13 +249,13 @@ fn size_condensers(
     );
     let mut k = 0;
     while k < count {
-        mvars[k] = mvar_of(n, loads, &from, buses[k]);
+        mvars[k] = mvar_of(n, reading, weight, &from, buses[k]);
         k += 1;
     }
 }
 
 // Flags the generators' buses.
-fn flag_generators(generators: &[u32], sources: &mut [u32; MOST_BUSES])
+fn flag_generators(generators: &[u32], sources: &mut [u16; MOST_BUSES])
     requires { ⌜ Units mostBuses (now generators) ⌝ }
     ensures { λ _. ⌜ now (sources .exit) ≡ flagged (now (generators .entry)) (now (sources .entry)) ⌝ }
 {
@@ -272,7 +292,8 @@ fn clear_mvars(mvars: &mut [f64])
 pub fn place(
     n: usize,
     m: usize,
-    loads: &[f64],
+    reading: &[f64],
+    weight: &[f64],
     a: &[u32],
     b: &[u32],
     km: &[f64],
@@ -282,8 +303,8 @@ pub fn place(
 ) -> usize
     requires { ⌜ Net n m (now a) (now b) (now km) ⌝ }
     requires { ⌜ Units n (now generators) ⌝ }
-    requires { ⌜ (length (now loads) ≡ n) × (length (now buses) ≡ n) × (length (now mvars) ≡ n) ⌝ }
-    ensures { λ r. ⌜ Placing n m (now (loads .entry)) (now (a .entry)) (now (b .entry)) (now (km .entry)) (now (generators .entry)) r (now (buses .exit)) (now (mvars .exit)) ⌝ }
+    requires { ⌜ Called n (now reading) (now weight) × (length (now buses) ≡ n) × (length (now mvars) ≡ n) ⌝ }
+    ensures { λ r. ⌜ Placing n m (loadsOf n (now (reading .entry)) (now (weight .entry))) (now (a .entry)) (now (b .entry)) (now (km .entry)) (now (generators .entry)) r (now (buses .exit)) (now (mvars .exit)) ⌝ }
 {
     clear_buses(buses);
     clear_mvars(mvars);
@@ -296,7 +317,8 @@ pub fn place(
     let count = join_condensers(
         n,
         m,
-        loads,
+        reading,
+        weight,
         a,
         b,
         km,
@@ -309,7 +331,8 @@ pub fn place(
     size_condensers(
         n,
         m,
-        loads,
+        reading,
+        weight,
         a,
         b,
         km,

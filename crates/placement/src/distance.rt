@@ -18,22 +18,22 @@ use crate::index;
 use crate::wide;
 
 // The three sets.
-pub const REST: u32 = 0;
+pub const REST: u16 = 0;
 
-pub const CANDIDATE: u32 = 1;
+pub const CANDIDATE: u16 = 1;
 
-pub const SETTLED: u32 = 2;
+pub const SETTLED: u16 = 2;
 
 // The source of a bus that none reaches.
-pub const NOBODY: u32 = 256;
+pub const NOBODY: u16 = 256;
 
 // A source is a candidate at no distance from itself.
 fn place_source(
     i: usize,
-    source: u32,
-    mark: &mut [u32; MOST_BUSES],
+    source: u16,
+    mark: &mut [u16; MOST_BUSES],
     dist: &mut [f64; MOST_BUSES],
-    from: &mut [u32; MOST_BUSES],
+    from: &mut [u16; MOST_BUSES],
 )
     requires { ⌜ i < mostBuses ⌝ }
     ensures { λ _. ⌜ labels (now (mark .exit)) (now (dist .exit)) (now (from .exit))
@@ -44,16 +44,16 @@ fn place_source(
     }
     mark[i] = CANDIDATE;
     dist[i] = 0.0;
-    from[i] = i as u32;
+    from[i] = i as u16;
 }
 
 // The sources, from which the search begins.
 fn place_sources(
     n: usize,
-    sources: &[u32; MOST_BUSES],
-    mark: &mut [u32; MOST_BUSES],
+    sources: &[u16; MOST_BUSES],
+    mark: &mut [u16; MOST_BUSES],
     dist: &mut [f64; MOST_BUSES],
-    from: &mut [u32; MOST_BUSES],
+    from: &mut [u16; MOST_BUSES],
 )
     requires { ⌜ n ≤ mostBuses ⌝ }
     ensures { λ _. ⌜ labels (now (mark .exit)) (now (dist .exit)) (now (from .exit))
@@ -67,7 +67,7 @@ fn place_sources(
 }
 
 // Whether a way of nd km is taken to a bus with this mark and distance.
-fn shortens_way(mark: u32, nd: f64, d: f64) -> bool
+fn shortens_way(mark: u16, nd: f64, d: f64) -> bool
     ensures { λ r. ⌜ r ≡ shortens mark nd d ⌝ }
 {
     !(mark == SETTLED) & (nd < d)
@@ -88,9 +88,9 @@ fn consider(
     a: usize,
     b: usize,
     km: f64,
-    mark: &mut [u32; MOST_BUSES],
+    mark: &mut [u16; MOST_BUSES],
     dist: &mut [f64; MOST_BUSES],
-    from: &mut [u32; MOST_BUSES],
+    from: &mut [u16; MOST_BUSES],
     nearest: &mut [usize; BLOCKS],
 )
     requires { ⌜ (n ≤ mostBuses) × (i < n) × (a < n) × (b < n) ⌝ }
@@ -122,9 +122,9 @@ fn spread_from(
     after_a: &[u16; MOST_CORRIDORS],
     after_b: &[u16; MOST_CORRIDORS],
     i: usize,
-    mark: &mut [u32; MOST_BUSES],
+    mark: &mut [u16; MOST_BUSES],
     dist: &mut [f64; MOST_BUSES],
-    from: &mut [u32; MOST_BUSES],
+    from: &mut [u16; MOST_BUSES],
     nearest: &mut [usize; BLOCKS],
 )
     requires { ⌜ Net n m (now a) (now b) (now km) ⌝ }
@@ -154,9 +154,9 @@ pub fn search(
     head: &[u16; MOST_BUSES],
     after_a: &[u16; MOST_CORRIDORS],
     after_b: &[u16; MOST_CORRIDORS],
-    mark: &mut [u32; MOST_BUSES],
+    mark: &mut [u16; MOST_BUSES],
     dist: &mut [f64; MOST_BUSES],
-    from: &mut [u32; MOST_BUSES],
+    from: &mut [u16; MOST_BUSES],
 )
     requires { ⌜ Net n m (now a) (now b) (now km) ⌝ }
     requires { ⌜ Listed (network n m (now a) (now b) (now km)) 0 (now head) (now «after_a») (now «after_b») ⌝ }
@@ -201,10 +201,10 @@ pub fn distance_to_sources(
     head: &[u16; MOST_BUSES],
     after_a: &[u16; MOST_CORRIDORS],
     after_b: &[u16; MOST_CORRIDORS],
-    sources: &[u32; MOST_BUSES],
-    mark: &mut [u32; MOST_BUSES],
+    sources: &[u16; MOST_BUSES],
+    mark: &mut [u16; MOST_BUSES],
     dist: &mut [f64; MOST_BUSES],
-    from: &mut [u32; MOST_BUSES],
+    from: &mut [u16; MOST_BUSES],
 )
     requires { ⌜ Net n m (now a) (now b) (now km) ⌝ }
     requires { ⌜ Listed (network n m (now a) (now b) (now km)) 0 (now head) (now «after_a») (now «after_b») ⌝ }
@@ -228,9 +228,9 @@ pub fn distance_with_source(
     after_a: &[u16; MOST_CORRIDORS],
     after_b: &[u16; MOST_CORRIDORS],
     i: usize,
-    mark: &mut [u32; MOST_BUSES],
+    mark: &mut [u16; MOST_BUSES],
     dist: &mut [f64; MOST_BUSES],
-    from: &mut [u32; MOST_BUSES],
+    from: &mut [u16; MOST_BUSES],
 )
     requires { ⌜ Net n m (now a) (now b) (now km) ⌝ }
     requires { ⌜ Listed (network n m (now a) (now b) (now km)) 0 (now head) (now «after_a») (now «after_b») ⌝ }

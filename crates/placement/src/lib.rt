@@ -24,6 +24,12 @@ fn wide(x: u32) -> usize
     x as usize
 }
 
+fn number(x: u16) -> u32
+    ensures { λ r. ⌜ r ≡ x ⌝ }
+{
+    x as u32
+}
+
 // A corridor that a list names.
 fn index(x: u16) -> usize
     ensures { λ r. ⌜ r ≡ x ⌝ }
@@ -65,8 +71,7 @@ pub fn place_voltage_support(
     ) {
         Verdict::Faulty(f) => Placement::Refused(f),
         Verdict::Sound => {
-            let load = loads::weigh(reading, weight);
-            let count = condenser::place(n, m, &load[0..n], a, b, km, generators, buses, mvars);
+            let count = condenser::place(n, m, reading, weight, a, b, km, generators, buses, mvars);
             Placement::Placed(count)
         }
     }

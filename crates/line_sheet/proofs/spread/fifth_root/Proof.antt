@@ -1,72 +1,29 @@
--- `line_sheet::spread::fifth_root` meets its contract. The invariant: the root lies from `lo` up to `hi`, by exact comparison of limbs (proofs/Roots.antt). The measure is their distance.
-use Prim.Native.Nat.{_-_}
-use mathlib.Core.Path.{refl, sym, _∙_}
-use native.Mathlib.Omega.{arith}
-use lib.Dec.{lit<}
-use Rattle.line_sheet.specs.Limbs.{worth}
-use Rattle.line_sheet.proofs.Halving.{Bracket, cube-fits, fifth-fits, whole-range, upper-part, lower-part, halved}
+-- `line_sheet::spread::fifth_root` meets its contract: 1 of a spread of 1, the guess where that is settled, else what the search finds.
+use borrow.Author.Needs.{needs}
+use Prim.Native.Nat.{_^_}
+use lib.Dec.{lit<, lit≤}
+use Rattle.line_defs.proofs.Roots.{cube-few, found}
 use Rattle.line_sheet.proofs.spread.fifth_root.Statement.{statement}
 use Rattle.line_sheet.proofs.spread.fifth_root.Tie as tie
 
-abbrev Inv-loop : tie.InvT-loop
-Inv-loop a guess cube lo₀ hi₀ lo hi = Bracket (worth cube) lo hi
+returns : tie.Need-returns
+returns c = rw (c .if1 .taken) (found (0x40_0000_0000_0000 ^ 3) 0x1_0000_0000 (cube-few 0x40_0000_0000_0000 (lit< tt)) (lit≤ tt) (lit< tt), lit< tt)
 
-abbrev μ-loop : tie.MeasureT-loop
-μ-loop a guess cube lo₀ hi₀ lo hi = hi - lo
+settled-requires : tie.Need-settled-requires
+settled-requires c κs = search needs
 
-power-requires : tie.Need-power-requires Inv-loop μ-loop
-power-requires c κs = (lit< tt, c .pre .0, cube-fits (c .args .a) (c .pre .1))
-
-loop-holds : tie.Need-loop-holds Inv-loop μ-loop
-loop-holds c = whole-range (c .before .args .a) _ (c .before .pre .1) (c .power .ensures .1)
-
-sub-loop : tie.Need-sub-loop Inv-loop μ-loop
-sub-loop c = omega (arith, c .loop .inv .0)
-
-next-requires : tie.Need-next-requires Inv-loop μ-loop
-next-requires c κs = (omega (arith, c .loop-test .taken), c .before .loop .inv .1)
-
-power-requires-2 : tie.Need-power-requires-2 Inv-loop μ-loop
-power-requires-2 c κs = let i = c .before .before .loop .inv in (lit< tt, omega (arith, c .next .ensures), fifth-fits _ (omega (arith, c .next .ensures, i .1)))
-
-at-most-requires : tie.Need-at-most-requires Inv-loop μ-loop
-at-most-requires c κs = (c .power2 .ensures .0, c .before .before .before .before .power .ensures .0)
-
-loop-less : tie.Need-loop-less Inv-loop μ-loop
-loop-less c = omega (arith, c .before .before .before .next .ensures)
-
-loop-again : tie.Need-loop-again Inv-loop μ-loop
-loop-again c =
-    let l = c .before .before .before in
-    upper-part _ _ _ _ _ _ (l .next .ensures) (c .before .before .power2 .ensures .1) refl (sym (c .before .at-most .ensures) ∙ c .if1 .taken) (l .before .before .loop .inv)
-
-loop-less-2 : tie.Need-loop-less-2 Inv-loop μ-loop
-loop-less-2 c = omega (arith, c .before .before .before .next .ensures)
-
-loop-again-2 : tie.Need-loop-again-2 Inv-loop μ-loop
-loop-again-2 c =
-    let l = c .before .before .before in
-    lower-part _ _ _ _ _ _ (l .next .ensures) (c .before .before .power2 .ensures .1) refl (sym (c .before .at-most .ensures) ∙ c .if1 .left) (l .before .before .loop .inv)
-
-returns : tie.Need-returns Inv-loop μ-loop
-returns c =
+returns-2 : tie.Need-returns-2
+returns-2 c =
     let s = c .before .before .before in
-    halved (s .args .a) _ _ _ (s .pre .1) (c .before .before .power .ensures .1) (c .loop-test .left) (c .before .loop .inv)
+    let r = c .before .settled .ensures (c .if2 .taken) in
+    (found (s .args .a ^ 3) (s .args .guess) (cube-few (s .args .a) (s .pre .1)) (r .1) (r .2), r .0)
+
+searched-requires : tie.Need-searched-requires
+searched-requires c κs = search needs
+
+returns-3 : tie.Need-returns-3
+returns-3 c = search needs
 
 pub fifth-root-spec : {M : Type 1} → statement M
 fifth-root-spec =
-    tie.close
-    (tie.spec
-    Inv-loop
-    μ-loop
-    power-requires
-    loop-holds
-    sub-loop
-    next-requires
-    power-requires-2
-    at-most-requires
-    loop-less
-    loop-again
-    loop-less-2
-    loop-again-2
-    returns)
+    tie.close (tie.spec returns settled-requires returns-2 searched-requires returns-3)

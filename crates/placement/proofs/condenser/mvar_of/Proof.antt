@@ -9,7 +9,7 @@ use Rattle.placement.proofs.condenser.mvar_of.Statement.{statement}
 use Rattle.placement.proofs.condenser.mvar_of.Tie as tie
 
 served-by-requires : tie.Need-served-by-requires
-served-by-requires c κs = search needs
+served-by-requires c κs = c .before .before .pre
 
 at-least-requires : tie.Need-at-least-requires
 at-least-requires c κs = search needs

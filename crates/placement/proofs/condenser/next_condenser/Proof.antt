@@ -6,7 +6,7 @@ use Rattle.placement.proofs.condenser.next_condenser.Statement.{stateme
 use Rattle.placement.proofs.condenser.next_condenser.Tie as tie
 
 farthest-bus-requires : tie.Need-farthest-bus-requires
-farthest-bus-requires c κs = search needs
+farthest-bus-requires c κs = c .before .before .pre
 
 if-far-requires : tie.Need-if-far-requires
 if-far-requires c κs = search needs

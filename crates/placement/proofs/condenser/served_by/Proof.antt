@@ -1,5 +1,6 @@
 -- `placement::condenser::served_by` meets its contract.
 -- The invariant: the sum so far is the definition's.
+use Rattle.loads.specs.Load.{loadsOf}
 use Rattle.placement_defs.specs.Support.{servedTo}
 use native.Mathlib.Nat.{le-antisymm}
 use Rattle.placement.proofs.Choice.{served-turn}
@@ -11,23 +12,20 @@ use Rattle.placement.proofs.condenser.served_by.Statement.{statement}
 use Rattle.placement.proofs.condenser.served_by.Tie as tie
 
 abbrev Inv-loop : tie.InvT-loop
-Inv-loop n loads from bus sum₀ i₀ sum i = (i ≤ n) × (sum ≡ servedTo loads from bus i)
+Inv-loop n reading weight from bus sum₀ i₀ sum i = (i ≤ n) × (sum ≡ servedTo (loadsOf n reading weight) from bus i)
 
 abbrev μ-loop : tie.MeasureT-loop
-μ-loop n loads from bus sum₀ i₀ sum i = n - i
+μ-loop n reading weight from bus sum₀ i₀ sum i = n - i
 
 loop-holds : tie.Need-loop-holds Inv-loop μ-loop
 unfolding servedTo
 loop-holds c = (search needs, refl)
 
+load-of-requires : tie.Need-load-of-requires Inv-loop μ-loop
+load-of-requires c κs = (c .loop-test .taken, c .before .before .before .before .pre .1)
+
 mul-add-load : tie.Need-mul-add-load Inv-loop μ-loop
 mul-add-load c = search needs
-
-shared-slice-read-add-load : tie.Need-shared-slice-read-add-load Inv-loop μ-loop
-shared-slice-read-add-load c = search needs
-
-mul-add-load-2 : tie.Need-mul-add-load-2 Inv-loop μ-loop
-mul-add-load-2 c = search needs
 
 element-copy-out-add-load : tie.Need-element-copy-out-add-load Inv-loop μ-loop
 element-copy-out-add-load c = search needs
@@ -42,7 +40,7 @@ loop-less : tie.Need-loop-less Inv-loop μ-loop
 loop-less c = search needs
 
 loop-again : tie.Need-loop-again Inv-loop μ-loop
-loop-again c = (omega arith, served-turn _ _ _ _ _ _ (c .before .before .before .before .loop .inv .1) (c .add-load .ensures))
+loop-again c = (omega arith, served-turn _ _ _ _ _ _ (c .before .before .before .before .loop .inv .1) (rw (c .before .before .load-of .ensures) at (c .add-load .ensures)))
 
 returns : tie.Need-returns Inv-loop μ-loop
 returns c = rw (le-antisymm (c .before .loop .inv .0) (c .loop-test .left)) at (c .before .loop .inv .1)
@@ -54,9 +52,8 @@ served-by-spec =
     Inv-loop
     μ-loop
     loop-holds
+    load-of-requires
     mul-add-load
-    shared-slice-read-add-load
-    mul-add-load-2
     element-copy-out-add-load
     add-load-requires
     add-i

@@ -3,6 +3,7 @@
 use lib.Ieee.{Float}
 use Rattle.placement.proofs.Ranges.{numbers-blank}
 use Rattle.placement.proofs.Sites.{sized-none, sized-is}
+use Rattle.loads.specs.Load.{loadsOf}
 use Rattle.placement_defs.specs.Support.{sizeAt}
 use Rattle.loops.proofs.Loops.{iter-all, iter-more, iter-end}
 use Rattle.loops.specs.Loops.{iter}
@@ -15,12 +16,12 @@ use Rattle.placement.proofs.condenser.size_condensers.Statement.{statem
 use Rattle.placement.proofs.condenser.size_condensers.Tie as tie
 
 abbrev Inv-loop : tie.InvT-loop
-Inv-loop n m loads a b km head after-a after-b sources count buses mvars₀ from k₀ mvars k =
+Inv-loop n m reading weight a b km head after-a after-b sources count buses mvars₀ from k₀ mvars k =
     (k ≤ count) × (length mvars ≡ length mvars₀)
-    × (iter (sizeAt loads from n buses) (count - k) k mvars ≡ iter (sizeAt loads from n buses) count 0 mvars₀)
+    × (iter (sizeAt (loadsOf n reading weight) from n buses) (count - k) k mvars ≡ iter (sizeAt (loadsOf n reading weight) from n buses) count 0 mvars₀)
 
 abbrev μ-loop : tie.MeasureT-loop
-μ-loop n m loads a b km head after-a after-b sources count buses mvars₀ from k₀ mvars k = count - k
+μ-loop n m reading weight a b km head after-a after-b sources count buses mvars₀ from k₀ mvars k = count - k
 
 returns : tie.Need-returns Inv-loop μ-loop
 returns c = sized-none _ _ _ _ _ _ (c .if1 .taken)
@@ -30,7 +31,7 @@ infinity-requires c κs = search needs
 
 distance-to-sources-requires : tie.Need-distance-to-sources-requires Inv-loop μ-loop
 distance-to-sources-requires c κs =
-    let p = c .before .before .before .before .before .before .before .before .before .before .before .pre in
+    let p = c .before .before .before .before .before .before .before .before .before .before .before .before .pre in
     (p .0, (p .1 .0, numbers-blank _ _ (p .0 .few) (c .before .before .before .infinity .ensures)))
 
 loop-holds : tie.Need-loop-holds Inv-loop μ-loop
@@ -43,13 +44,13 @@ shared-slice-read-mvar-of : tie.Need-shared-slice-read-mvar-of Inv-loop μ-loop
 shared-slice-read-mvar-of c = search needs
 
 mvar-of-requires : tie.Need-mvar-of-requires Inv-loop μ-loop
-mvar-of-requires c κs = let p = c .before .before .before .before .before .before .before .before .before .before .before .before .before .before .before .before .pre in (p .0 .few, p .1 .1 .0)
+mvar-of-requires c κs = let p = c .before .before .before .before .before .before .before .before .before .before .before .before .before .before .before .before .before .pre in (p .0 .few, p .1 .1 .0)
 
 mul-mvars : tie.Need-mul-mvars Inv-loop μ-loop
-mul-mvars c = search needs
+mul-mvars c = let p = c .before .before .before .before .before .before .before .before .before .before .before .before .before .before .before .before .before .before .pre in omega (arith, c .before .before .before .loop-test .taken, p .0 .few, p .1 .1 .3)
 
 slice-write-mvars : tie.Need-slice-write-mvars Inv-loop μ-loop
-slice-write-mvars c = search needs
+slice-write-mvars c = let p = c .before .before .before .before .before .before .before .before .before .before .before .before .before .before .before .before .before .before .pre in omega (arith, c .before .before .before .loop-test .taken, c .before .before .before .before .loop .inv .1, p .1 .1 .2, p .1 .1 .3)
 
 add-k : tie.Need-add-k Inv-loop μ-loop
 add-k c = search needs

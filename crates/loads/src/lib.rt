@@ -9,6 +9,13 @@ const MOST_MW: f64 = 1000000.0;
 
 const MOST_WEIGHT: f64 = 1000.0;
 
+// A bus's load.
+pub fn load_by(reading: f64, weight: f64) -> f64
+    ensures { λ r. ⌜ r ≡ loadBy reading weight ⌝ }
+{
+    reading * weight
+}
+
 // Whether a bus's reading, weight and load are within their bounds.
 pub fn load_ok(reading: f64, weight: f64) -> bool
     ensures { λ r. ⌜ r ≡ loadOk reading weight (loadBy reading weight) ⌝ }
@@ -35,7 +42,7 @@ pub fn weigh(reading: &[f64], weight: &[f64]) -> [f64; MOST_BUSES]
     let mut load = [0.0; MOST_BUSES];
     let mut i = 0;
     while i < MOST_BUSES {
-        load[i] = figure_at(reading, i) * figure_at(weight, i);
+        load[i] = load_by(figure_at(reading, i), figure_at(weight, i));
         i += 1;
     }
     load

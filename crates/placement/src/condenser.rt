@@ -41,7 +41,7 @@ fn load_of(n: usize, reading: &[f64], weight: &[f64], i: usize) -> f64
     requires { ⌜ (i < n) × Called n (now reading) (now weight) ⌝ }
     ensures { λ r. ⌜ r ≡ at (loadsOf n (now (reading .entry)) (now (weight .entry))) i ⌝ }
 {
-    reading[i] * weight[i]
+    loads::load_by(reading[i], weight[i])
 }
 
 // The better of two choices: i where it is loaded and reached, and none was found before it, or is farther.

@@ -28,6 +28,9 @@ figure-at-requires c κs = search needs
 figure-at-requires-2 : tie.Need-figure-at-requires-2 Inv-loop μ-loop
 figure-at-requires-2 c κs = search needs
 
+load-by-requires : tie.Need-load-by-requires Inv-loop μ-loop
+load-by-requires c κs = search needs
+
 mul-load : tie.Need-mul-load Inv-loop μ-loop
 mul-load c = search needs
 
@@ -43,9 +46,9 @@ loop-less c = search needs
 loop-again : tie.Need-loop-again Inv-loop μ-loop
 loop-again c = (
   omega arith,
-  c .before .before .before .loop .inv .1,
-  fill-turn _ _ (weighed (c .before .before .before .before .before .before .args .reading .now) (c .before .before .before .before .before .before .args .weight .now)) _ _
-      (c .before .before .before .loop .inv .2) (omega arith) (cc),
+  c .before .before .before .before .loop .inv .1,
+  fill-turn _ _ (weighed (c .before .before .before .before .before .before .before .args .reading .now) (c .before .before .before .before .before .before .before .args .weight .now)) _ _
+      (c .before .before .before .before .loop .inv .2) (omega arith) (cc),
 )
 
 returns : tie.Need-returns Inv-loop μ-loop
@@ -54,4 +57,4 @@ returns c = fill-end _ _ _ _ _ (c .before .loop .inv .1) (le-antisymm (c .before
 pub weigh-spec : {M : Type 1} → statement M
 weigh-spec =
     tie.close
-    (tie.spec Inv-loop μ-loop loop-holds figure-at-requires figure-at-requires-2 mul-load array-write-load add-i loop-less loop-again returns)
+    (tie.spec Inv-loop μ-loop loop-holds figure-at-requires figure-at-requires-2 load-by-requires mul-load array-write-load add-i loop-less loop-again returns)

@@ -59,10 +59,10 @@ same-not order j i d e =
     let x : _≡_ {A = ℕ} 0 1 = cc in
     omega arith
 
-first-names : (order : List ℕ) (j : ℕ) → ((i : ℕ) → i < j → getD order i 0 ≡ getD order j 0 → ⊥) → firstNamed order j ≡ true
+pub first-names : (order : List ℕ) (j : ℕ) → ((i : ℕ) → i < j → getD order i 0 ≡ getD order j 0 → ⊥) → firstNamed order j ≡ true
 first-names order j n = eq-eqb _ j (pass-all (differsAt order j) j (λ i h. differ order j i (n i h)))
 
-names-first : (order : List ℕ) (j : ℕ) → firstNamed order j ≡ true → (i : ℕ) → i < j → getD order i 0 ≡ getD order j 0 → ⊥
+pub names-first : (order : List ℕ) (j : ℕ) → firstNamed order j ≡ true → (i : ℕ) → i < j → getD order i 0 ≡ getD order j 0 → ⊥
 names-first order j e i h =
     let f = eqb-true (first (differsAt order j) j 0) j e in
     same-not order j i (all-pass (differsAt order j) j (omega arith) i h)

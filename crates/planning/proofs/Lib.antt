@@ -46,3 +46,4 @@ pub mod Plans
 pub mod Joins
 pub mod Operation
 pub mod Previews
+pub mod Places

@@ -6,8 +6,8 @@ use mathlib.Core.List.{List}
 use mathlib.Core.Option.{Option, none, some}
 use mathlib.Core.Path.{_≡_, refl, sym, ap, _∙_, subst}
 use native.Mathlib.Omega.{arith}
-use borrow.Author.Tests.{lt-ltb, le-ltb, eqb-true}
-use lib.Dec.{ltb, eqb}
+use borrow.Author.Tests.{lt-ltb, le-ltb, leb-true, eqb-true}
+use lib.Dec.{ltb, leb, eqb}
 use lib.ListN.{length, getD, take}
 use lib.Seq.{getD-take}
 use Rattle.loops.specs.Loops.{first}
@@ -17,6 +17,7 @@ use Rattle.refusal.specs.declared.Refusal.{Refusal}
 use Rattle.refusal.specs.declared.Refusal.the-variants.{Length, Count, Corridor, Mode, Order}
 use Rattle.refusal.specs.declared.Answer.{Answer}
 use Rattle.refusal.specs.declared.Answer.the-variants.{Answered, Refused}
+use Rattle.plan_defs.specs.Constants.{mostCorridors}
 use Rattle.plan_defs.specs.Case.{promote, fullOf, fullAt}
 use Rattle.plan_defs.specs.Fill.{unfilled, filledIf, fill}
 use Rattle.plan_defs.specs.Preview.{Kept, keptAs, lengthsOk, countsOk, countOk, placeOk, keptFault, previewFault, refilled, outcome, previewBy, preview}
@@ -84,6 +85,9 @@ module _ (mode : PlanMode) (m places : ℕ) (before order cap : List ℕ) (x : l
 
   pub caps-sized : length cap ≡ length before
   caps-sized = sizes .2 ∙ sym (sizes .0)
+
+  pub order-few : (target : ℕ) → countsOk (keptAs mode m before order cap) target ≡ true → length order ≤ mostCorridors
+  order-few target y = rw (sizes .1) (leb-true m mostCorridors (both (leb m mostCorridors) _ y .0))
 
   pub counts-scan : (k : ℕ) → k ≡ first (countOk (countsFor before cap)) (length before) 0 → k ≡ first (countOk (keptAs mode m before order cap)) m 0
   counts-scan k e = e ∙ ap (λ (n : ℕ). first (countOk (keptAs mode m before order cap)) n 0) (sizes .0)

@@ -1,13 +1,13 @@
 // The preview of a filling (document 02, K1): its refusals, in order, and the circuits for a target from what a plan keeps.
 ghost use mathlib.Core.Bool.{_&&_, true};
 ghost use mathlib.Core.Path.{_≡_};
-ghost use Prim.Native.Nat.{_<_};
+ghost use Prim.Native.Nat.{_≤_};
 ghost use lib.Dec.{leb};
 ghost use lib.ListN.{length};
 ghost use Rattle.loops.specs.Loops.{first};
 ghost use Rattle.plan_defs.specs.Case.{promote};
-ghost use Rattle.plan_defs.specs.Constants.{mostInitial, mostCap};
-ghost use Rattle.plan_defs.specs.Preview.{keptAs, countOk, differsAt, placeOk, previewFault, refilled};
+ghost use Rattle.plan_defs.specs.Constants.{mostCorridors, mostInitial, mostCap};
+ghost use Rattle.plan_defs.specs.Preview.{keptAs, countOk, placeOk, previewFault, refilled};
 ghost use Rattle.acceptance.specs.Check.{answerOf};
 ghost use Rattle.planning.specs.Preview.{countsFor, orderFor, Refillable};
 use crate::close::copy_front;
@@ -49,38 +49,22 @@ fn faulty_count(before: &[u32], cap: &[u32]) -> usize
 }
 
 // ---- 30: the first place that names no corridor, or one again
-// The first place that names what place j names.
-fn first_named(order: &[u32], j: usize) -> usize
-    requires { ⌜ j < length (now order) ⌝ }
-    ensures { λ r. ⌜ r ≡ first (differsAt (now (order .entry)) j) j 0 ⌝ }
-{
-    let named = order[j];
-    let mut i = 0;
-    while i < j {
-        if order[i] == named {
-            return i;
-        }
-        i += 1;
-    }
-    i
-}
-
-fn place_ok(order: &[u32], j: usize) -> bool
-    requires { ⌜ j < length (now order) ⌝ }
-    ensures { λ r. ⌜ r ≡ placeOk (orderFor (now (order .entry))) j ⌝ }
-{
-    let found = first_named(order, j);
-    (wide(order[j]) < order.len()) & (found == j)
-}
-
+// Of each corridor a place that named it, and 1, is kept, so that each place is looked at once.
 fn faulty_place(order: &[u32]) -> usize
+    requires { ⌜ length (now order) ≤ mostCorridors ⌝ }
     ensures { λ r. ⌜ r ≡ first (placeOk (orderFor (now (order .entry)))) (length (now (order .entry))) 0 ⌝ }
 {
+    let mut named = [0u16; MOST_CORRIDORS];
     let mut j = 0;
     while j < order.len() {
-        if !place_ok(order, j) {
+        let corridor = wide(order[j]);
+        if corridor >= order.len() {
             return j;
         }
+        if named[corridor] != 0 {
+            return j;
+        }
+        named[corridor] = (j + 1) as u16;
         j += 1;
     }
     j

@@ -5,7 +5,7 @@ use borrow.Author.Tests.{not-true, not-false}
 use native.Mathlib.Omega.{arith}
 use denote.Ref.{now}
 use Rattle.plan_defs.specs.Preview.{keptAs, lengthsOk}
-use Rattle.planning.proofs.Previews.{refused-length, refused-count, refused-mode, refused-corridor, refused-order, passed-all, caps-sized, counts-scan, places-scan}
+use Rattle.planning.proofs.Previews.{refused-length, refused-count, refused-mode, refused-corridor, refused-order, passed-all, caps-sized, order-few, counts-scan, places-scan}
 use Rattle.planning.proofs.preview.check.Statement.{statement}
 use Rattle.planning.proofs.preview.check.Tie as tie
 
@@ -33,7 +33,8 @@ unfolding lengthsOk
 returns-4 c = let z = c .before .before .before .before .before .before .before .before .before .args in let p = keptAs (z .mode) (z .m) (now (z .before)) (now (z .order)) (now (z .cap)) in refused-corridor p (z .target) (z .places) (not-false _ (c .before .before .before .before .before .if1 .left)) (not-false _ (c .before .before .before .before .if2 .left)) (sym (c .before .before .before .promotes .ensures) ∙ not-false _ (c .before .before .if3 .left)) _ (counts-scan (z .mode) (z .m) (z .places) (now (z .before)) (now (z .order)) (now (z .cap)) (not-false _ (c .before .before .before .before .before .if1 .left)) (c .before .faulty-count .result) (c .before .faulty-count .ensures)) (c .if4 .taken)
 
 faulty-place-requires : tie.Need-faulty-place-requires
-faulty-place-requires c κs = search needs
+unfolding lengthsOk
+faulty-place-requires c κs = let z = c .before .before .before .before .before .before .before .before .before .args in order-few (z .mode) (z .m) (z .places) (now (z .before)) (now (z .order)) (now (z .cap)) (not-false _ (c .before .before .before .before .before .if1 .left)) (z .target) (not-false _ (c .before .before .before .before .if2 .left))
 
 returns-5 : tie.Need-returns-5
 unfolding lengthsOk

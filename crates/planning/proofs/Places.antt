@@ -18,6 +18,7 @@ and-no : (a b : Bool) → b ≡ false → (a && b) ≡ false
 and-no true b e = e
 and-no false b e = refl
 
+-- of the first j places
 pub record Named (order named : List ℕ) (j : ℕ) : Type 0 where
   pub size : length named ≡ 256
   pub never : (v : ℕ) → v < 256 → getD named v 0 ≡ 0 → (i : ℕ) → i < j → getD order i 0 ≡ v → ⊥

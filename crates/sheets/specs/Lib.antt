@@ -1,0 +1,2 @@
+-- Where a row of a line sheet stands.
+pub mod Sheet

@@ -1,7 +1,7 @@
 -- `sheets::sheet_ok` meets its contract.
 -- Rows of five figures: by dividing.
 use Prim.Native.Nat.{ℕ}
-use mathlib.Core.Path.{_≡_, sym, _∙_}
+use mathlib.Core.Path.{sym, _∙_}
 use native.Mathlib.Omega.{arith}
 use borrow.Author.Needs.{needs}
 use Rattle.loops.proofs.Products.{rows-are, rows-not}

@@ -5,7 +5,7 @@ use mathlib.Core.Bool.{Bool, true, false, cond, _&&_}
 use mathlib.Core.List.{List}
 use mathlib.Core.Option.{Option, none, some}
 use mathlib.Core.Path.{_≡_, refl, sym, ap, _∙_, subst}
-use native.Mathlib.Nat.{div-add-mod', div-eq-of-lt-le, mul-add-mod-self-right, mod-eq-of-lt, suc-mul, mul-le-mul-right}
+use native.Mathlib.Nat.{mul-comm, div-eq-of-lt-le, mul-add-mod-self-right, mod-eq-of-lt, suc-mul, mul-le-mul-right}
 use native.Mathlib.Numerals.{add-one}
 use native.Mathlib.Omega.{arith}
 use borrow.Author.Tests.{ltb-true, ltb-false, leb-true, eqb-true}
@@ -19,10 +19,11 @@ use Rattle.loops.proofs.Scan.{all-pass}
 use Rattle.loops.proofs.Tab.{get-tab}
 use Rattle.refusal.specs.declared.Refusal.{Refusal}
 use Rattle.refusal.specs.declared.Refusal.the-variants.{Length, Count, Level, Bus, Generator, Corridor, Row}
+use Rattle.sheets.specs.Sheet.{rowFigures, rowPlace}
 use Rattle.leaders.specs.Operation.{Ends, corridorOk}
 use Rattle.dispatch.specs.Units.{unitOk}
-use Rattle.plan_defs.specs.Constants.{mostBuses, mostCorridors, mostGenerators, mostLevels, mostTarget, mostInitial, mostCap, rowFigures}
-use Rattle.plan_defs.specs.Case.{Case, levels, loadOf, endA, endB, ownOr, ownCap, higherA, fromOf, toOf, firstLevels, rowPlace, rowAt}
+use Rattle.plan_defs.specs.Constants.{mostBuses, mostCorridors, mostGenerators, mostLevels, mostTarget, mostInitial, mostCap}
+use Rattle.plan_defs.specs.Case.{Case, levels, loadOf, endA, endB, ownOr, ownCap, higherA, fromOf, toOf, firstLevels, rowAt}
 use Rattle.plan_defs.specs.Accept.{lengthsOk, countsOk, levelOk, busOk, generatorOk, corridorSound, rowOk, rowSound, firstFault, tablesFault, caseFault}
 
 -- where an own cap and the usual one are at most 6, so is the one that is taken
@@ -48,7 +49,7 @@ pub record Columns (c : Case) : Type 0 where
   pub km : length (c .km) ≡ c .corridors
   pub share : length (c .share) ≡ c .corridors
   pub cap : length (c .cap) ≡ c .corridors
-  pub sheet : length (c .sheet) ≡ rowFigures * (c .corridors * levels c)
+  pub sheet : c .figures ≡ rowFigures * (c .corridors * levels c)
 
 pub record Counts (c : Case) (target : ℕ) : Type 0 where
   pub few-buses : c .buses ≤ mostBuses
@@ -251,15 +252,11 @@ row-index c k l h = (
     more : (k + 1) * levels c ≡ k * levels c + levels c
     more = ap (λ (m : ℕ). m * levels c) (add-one k) ∙ suc-mul k (levels c)
 
-pub row-place : (c : Case) (i : ℕ) → rowPlace c (i / levels c) (i % levels c) ≡ rowFigures * i
-unfolding rowPlace
-row-place c i = ap (λ (m : ℕ). rowFigures * m) (div-add-mod' i (levels c))
-
-pub row-inside : (c : Case) (target : ℕ) → Accepted c target → (k l : ℕ) → k < c .corridors → l < levels c → rowPlace c k l + rowFigures ≤ length (c .sheet)
-unfolding rowPlace
+pub row-inside : (c : Case) (target : ℕ) → Accepted c target → (k l : ℕ) → k < c .corridors → l < levels c → rowPlace (c .corridors) k l + rowFigures ≤ c .figures
 row-inside c target ok k l h q =
-    let a : suc k * levels c ≤ c .corridors * levels c = mul-le-mul-right (levels c) h in
-    let b : suc k * levels c ≡ k * levels c + levels c = suc-mul k (levels c) in
+    let a : suc l * c .corridors ≤ levels c * c .corridors = mul-le-mul-right (c .corridors) q in
+    let b : suc l * c .corridors ≡ l * c .corridors + c .corridors = suc-mul l (c .corridors) in
+    let e : levels c * c .corridors ≡ c .corridors * levels c = mul-comm (levels c) (c .corridors) in
     omega (arith, ok .columns .sheet)
 
 pub row-sound : (c : Case) (target : ℕ) → Accepted c target → (k l : ℕ) → k < c .corridors → l < levels c → rowSound (rowAt c k l) ≡ true

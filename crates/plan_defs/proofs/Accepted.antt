@@ -5,8 +5,7 @@ use mathlib.Core.Bool.{Bool, true, false, cond, _&&_}
 use mathlib.Core.List.{List}
 use mathlib.Core.Option.{Option, none, some}
 use mathlib.Core.Path.{_≡_, refl, sym, ap, _∙_, subst}
-use native.Mathlib.Nat.{mul-comm, div-eq-of-lt-le, mul-add-mod-self-right, mod-eq-of-lt, suc-mul, mul-le-mul-right}
-use native.Mathlib.Numerals.{add-one}
+use native.Mathlib.Nat.{mul-comm}
 use native.Mathlib.Omega.{arith}
 use borrow.Author.Tests.{ltb-true, ltb-false, leb-true, eqb-true}
 use lib.Dec.{ltb, leb, eqb}
@@ -15,11 +14,13 @@ use lib.Ieee.{lt, le}
 use Rattle.loops.specs.Figures.{at, nought, one, half, thousand, tenThousand, million, inside}
 use Rattle.loops.specs.Loops.{first}
 use Rattle.loops.proofs.Bools.{both}
+use Rattle.loops.proofs.Rows.{row-fits}
 use Rattle.loops.proofs.Scan.{all-pass}
 use Rattle.loops.proofs.Tab.{get-tab}
 use Rattle.refusal.specs.declared.Refusal.{Refusal}
 use Rattle.refusal.specs.declared.Refusal.the-variants.{Length, Count, Level, Bus, Generator, Corridor, Row}
 use Rattle.sheets.specs.Sheet.{rowFigures, rowPlace}
+use Rattle.sheets.proofs.Layouts.{parts}
 use Rattle.leaders.specs.Operation.{Ends, corridorOk}
 use Rattle.dispatch.specs.Units.{unitOk}
 use Rattle.plan_defs.specs.Constants.{mostBuses, mostCorridors, mostGenerators, mostLevels, mostTarget, mostInitial, mostCap}
@@ -243,27 +244,12 @@ module _ (c : Case) (target : ℕ) (ok : Accepted c target) where
   first-below i h = omega (arith, get-tab (c .buses) (λ (j : ℕ). c .above + getD (c .tier) j 0) i 0 h, tier-below i h)
 
 -- ---- the sheet's rows: index corridor × levels + level, and the five figures of a row are in the sheet
-pub row-index : (c : Case) (k l : ℕ) → l < levels c → ((k * levels c + l) / levels c ≡ k) × ((k * levels c + l) % levels c ≡ l)
-row-index c k l h = (
-  div-eq-of-lt-le (levels c) (let z : k * levels c ≤ k * levels c + l = omega arith in z) (let z : k * levels c + l < (k + 1) * levels c = omega (arith, more) in z),
-  mul-add-mod-self-right k (levels c) l ∙ mod-eq-of-lt h,
-)
-  where
-    more : (k + 1) * levels c ≡ k * levels c + levels c
-    more = ap (λ (m : ℕ). m * levels c) (add-one k) ∙ suc-mul k (levels c)
-
 pub row-inside : (c : Case) (target : ℕ) → Accepted c target → (k l : ℕ) → k < c .corridors → l < levels c → rowPlace (c .corridors) k l + rowFigures ≤ c .figures
-row-inside c target ok k l h q =
-    let a : suc l * c .corridors ≤ levels c * c .corridors = mul-le-mul-right (c .corridors) q in
-    let b : suc l * c .corridors ≡ l * c .corridors + c .corridors = suc-mul l (c .corridors) in
-    let e : levels c * c .corridors ≡ c .corridors * levels c = mul-comm (levels c) (c .corridors) in
-    omega (arith, ok .columns .sheet)
+row-inside c target ok k l h q = omega (arith, ok .columns .sheet, row-fits l (levels c) (c .corridors) q, mul-comm (levels c) (c .corridors))
 
 pub row-sound : (c : Case) (target : ℕ) → Accepted c target → (k l : ℕ) → k < c .corridors → l < levels c → rowSound (rowAt c k l) ≡ true
 unfolding rowOk
 row-sound c target ok k l h q =
-    let a : suc k * levels c ≤ c .corridors * levels c = mul-le-mul-right (levels c) h in
-    let b : suc k * levels c ≡ k * levels c + levels c = suc-mul k (levels c) in
-    let e = row-index c k l q in
-    let r = ok .row-ok (k * levels c + l) (omega arith) in
+    let e = parts (levels c) k l q in
+    let r = ok .row-ok (k * levels c + l) (omega (arith, row-fits k (c .corridors) (levels c) h)) in
     subst (λ (j : ℕ). rowSound (rowAt c j l) ≡ true) (e .0) (subst (λ (j : ℕ). rowSound (rowAt c ((k * levels c + l) / levels c) j) ≡ true) (e .1) r)

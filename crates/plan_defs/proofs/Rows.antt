@@ -1,17 +1,25 @@
--- Worked examples of a sheet by level (document 02, K11), of two corridors and three levels: the rows of the first level come first, a corridor each.
--- By evaluation.
-use Prim.Native.Nat.{ℕ}
+-- The rows of a sheet by level (document 02, K11), and worked examples, by evaluation: of two corridors and three levels, the rows of the first level come
+-- first, a corridor each.
+use Prim.Native.Nat.{ℕ, _<_}
 use mathlib.Core.List.{List, [], _∷_, _++_, map}
 use mathlib.Core.Option.{some}
 use mathlib.Core.Path.{_≡_, refl}
+use borrow.Author.Tests.{lt-ltb}
 use lib.Ieee.{Float}
 use Rattle.loops.specs.Figures.{nought, half, one, hundred, decimal}
 use Rattle.mode.specs.declared.PlanMode.the-variants.{Observe}
 use Rattle.refusal.specs.declared.Refusal.the-variants.{Row}
-use Rattle.plan_defs.specs.Case.{Case, surveyed, rowAt}
+use Rattle.sheets.specs.Sheet.{rowPlace}
+use Rattle.plan_defs.specs.Case.{Case, rowFrom, rowsOf, surveyed, rowAt}
 use Rattle.plan_defs.specs.Accept.{caseFault}
 use Rattle.plan_defs.specs.Listing.{bitsOf, listingOf}
 
+-- a corridor's row at a level is at its place in the sheet
+pub row-from : (m n : ℕ) (sheet : List Float) (k l : ℕ) → k < m → l < n → rowsOf m n sheet k l ≡ rowFrom sheet (rowPlace m k l)
+unfolding rowsOf
+row-from m n sheet k l h q = rw (lt-ltb k m h, lt-ltb l n q)
+
+-- ---- examples
 abbrev whole : ℕ → Float
 whole n = decimal n 1
 

@@ -71,9 +71,9 @@ pub record Case : Type 0 where
   pub figures : ℕ
   pub row : ℕ → ℕ → Row
 
-abbrev pub caseOf : PlanMode → ℕ → ℕ → ℕ → ℕ → ℕ → List Float → List ℕ → List Float → List Float → List Float → List ℕ → List ℕ → List Float → List Float → List Float
-    → List Float → List ℕ → List ℕ → List ℕ → List Float → List Float → List ℕ → List Float → Case
-caseOf mode buses corridors generators above requested ladder tier reading weight load bus slack pmin pmax c1 c2 a b circuits km share cap sheet =
+abbrev pub caseWith : PlanMode → ℕ → ℕ → ℕ → ℕ → ℕ → List Float → List ℕ → List Float → List Float → List Float → List ℕ → List ℕ → List Float → List Float → List Float
+    → List Float → List ℕ → List ℕ → List ℕ → List Float → List Float → List ℕ → ℕ → (ℕ → ℕ → Row) → Case
+caseWith mode buses corridors generators above requested ladder tier reading weight load bus slack pmin pmax c1 c2 a b circuits km share cap figures row =
     record {
       mode = mode;
       buses = buses;
@@ -98,9 +98,16 @@ caseOf mode buses corridors generators above requested ladder tier reading weigh
       km = km;
       share = share;
       cap = cap;
-      figures = length sheet;
-      row = rowsOf corridors (above + requested) sheet;
+      figures = figures;
+      row = row;
     }
+
+-- of a sheet by level
+abbrev pub caseOf : PlanMode → ℕ → ℕ → ℕ → ℕ → ℕ → List Float → List ℕ → List Float → List Float → List Float → List ℕ → List ℕ → List Float → List Float → List Float
+    → List Float → List ℕ → List ℕ → List ℕ → List Float → List Float → List ℕ → List Float → Case
+caseOf mode buses corridors generators above requested ladder tier reading weight load bus slack pmin pmax c1 c2 a b circuits km share cap sheet =
+    caseWith mode buses corridors generators above requested ladder tier reading weight load bus slack pmin pmax c1 c2 a b circuits km share cap (length sheet)
+    (rowsOf corridors (above + requested) sheet)
 
 -- the case of tables as they are handed in: each load is the reading times the weight (document 02, K6)
 abbrev pub surveyed : PlanMode → ℕ → ℕ → ℕ → ℕ → ℕ → List Float → List ℕ → List Float → List Float → List ℕ → List ℕ → List Float → List Float → List Float → List Float

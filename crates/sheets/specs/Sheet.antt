@@ -22,6 +22,10 @@ corridorPlace n k level = rowFigures * (k * n + level)
 abbrev pub lineOf : ℕ → ℕ → ℕ → ℕ
 lineOf m n i = i % m * n + i / m
 
+-- and the figure by corridor that is figure p by level
+abbrev pub figureOf : ℕ → ℕ → ℕ → ℕ
+figureOf m n p = rowFigures * lineOf m n (p / rowFigures) + p % rowFigures
+
 -- a sheet by corridor laid out by level
 unfoldable pub byLevel : ℕ → ℕ → List Float → List Float
-byLevel m n sheet = tab (rowFigures * (m * n)) (λ p. at sheet (rowFigures * lineOf m n (p / rowFigures) + p % rowFigures))
+byLevel m n sheet = tab (rowFigures * (m * n)) (λ p. at sheet (figureOf m n p))

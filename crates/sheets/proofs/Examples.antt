@@ -6,7 +6,6 @@ use lib.Ieee.{Float}
 use Rattle.loops.specs.Figures.{float}
 use Rattle.loops.specs.Loops.{tab}
 use Rattle.refusal.specs.declared.Refusal.the-variants.{Length, Count}
-use Rattle.refusal.specs.declared.Answer.{Answer}
 use Rattle.refusal.specs.declared.Answer.the-variants.{Answered, Refused}
 use Rattle.sheets.specs.Request.{checkOf}
 use Rattle.sheets.specs.Sheet.{byLevel}

@@ -1,14 +1,13 @@
 -- A sheet by corridor and the same sheet by level (document 02, K11): the figure found for each corridor and level is the same. Assumes nothing.
 use Prim.Native.Nat.{ℕ, zero, suc, _+_, _*_, _/_, _%_, _≤_, _<_}
 use mathlib.Core.List.{List}
-use mathlib.Core.Path.{_≡_, refl, sym, ap, _∙_}
-use native.Mathlib.Nat.{div-add-mod', div-eq-of-lt-le, mul-add-mod-self-right, mod-eq-of-lt, mod-lt, div-lt-iff-lt-mul, suc-mul, mul-le-mul-right, mul-comm, mul-zero, zero-mul, not-suc-le-zero, zero-lt-suc}
+use mathlib.Core.Path.{_≡_, ap, _∙_}
+use native.Mathlib.Nat.{div-add-mod', div-eq-of-lt-le, mul-add-mod-self-right, mod-eq-of-lt, mod-lt, div-lt-iff-lt-mul, suc-mul, mul-comm, mul-zero, zero-mul, not-suc-le-zero, zero-lt-suc}
 use native.Mathlib.Numerals.{add-one}
 use native.Mathlib.Omega.{arith}
 use lib.Ieee.{Float, nan}
 use lib.ListN.{length}
 use Rattle.loops.specs.Figures.{at}
-use Rattle.loops.specs.Loops.{tab}
 use Rattle.loops.proofs.Rows.{row-fits}
 use Rattle.loops.proofs.Tab.{length-tab, get-tab}
 use Rattle.sheets.specs.Sheet.{rowFigures, rowPlace, corridorPlace, lineOf, byLevel}

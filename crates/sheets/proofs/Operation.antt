@@ -1,8 +1,8 @@
 -- The check by its tests, what it passes, and the operation with its check decided. Assumes nothing.
-use Prim.Native.Nat.{ℕ, _+_, _*_, _/_, _%_, _≤_, _<_}
+use Prim.Native.Nat.{ℕ, _*_, _/_, _<_}
 use mathlib.Core.Bool.{Bool, true, false, cond, _&&_}
 use mathlib.Core.List.{List}
-use mathlib.Core.Path.{_≡_, refl, sym, ap, _∙_}
+use mathlib.Core.Path.{_≡_, refl, _∙_}
 use native.Mathlib.Omega.{arith}
 use borrow.Author.Tests.{eqb-true}
 use lib.Dec.{eqb}
@@ -14,7 +14,6 @@ use Rattle.loops.proofs.Tab.{fill-end}
 use Rattle.loops.proofs.Bools.{both, unequal}
 use Rattle.refusal.specs.declared.Refusal.{Refusal}
 use Rattle.refusal.specs.declared.Refusal.the-variants.{Length, Count}
-use Rattle.refusal.specs.declared.Answer.{Answer}
 use Rattle.refusal.specs.declared.Answer.the-variants.{Answered, Refused}
 use Rattle.sheets.specs.Request.{lengthsOk, countsOk, checkOf, Sized, outcome, laidBy, layOut}
 use Rattle.sheets.specs.Sheet.{rowFigures, lineOf, figureOf, byLevel}

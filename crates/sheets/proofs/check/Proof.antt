@@ -1,8 +1,7 @@
 -- `sheets::check` meets its contract. Each return is the definition with the tests that led to it (proofs/Operation.antt).
-use mathlib.Core.Path.{_≡_, sym, _∙_}
+use mathlib.Core.Path.{sym, _∙_}
 use borrow.Author.Needs.{needs}
 use borrow.Author.Tests.{not-true, not-false}
-use Rattle.sheets.specs.Request.{lengthsOk}
 use Rattle.sheets.proofs.Operation.{both-tests, not-lengths, not-counts, all-sound}
 use Rattle.sheets.proofs.check.Statement.{statement}
 use Rattle.sheets.proofs.check.Tie as tie

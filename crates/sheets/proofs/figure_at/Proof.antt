@@ -1,6 +1,6 @@
 -- `sheets::figure_at` meets its contract: the row that is read is among the rows (proofs/Operation.antt).
 use Prim.Native.Nat.{ℕ, _+_, _*_, _/_, _%_, _<_}
-use mathlib.Core.Path.{_≡_, ap}
+use mathlib.Core.Path.{ap}
 use native.Mathlib.Omega.{arith}
 use lib.ListN.{length}
 use Rattle.loops.specs.Figures.{at}

@@ -2,11 +2,10 @@
 // from the corridor's row of the line sheet and its bank, and never stored.
 ghost use mathlib.Core.Path.{_≡_};
 ghost use mathlib.Core.Bool.{true};
-ghost use Prim.Native.Nat.{_+_, _*_, _^_, _<_};
+ghost use Prim.Native.Nat.{_<_};
 ghost use lib.ListN.{length, getD};
 ghost use Rattle.loops.specs.Figures.{at};
 ghost use Rattle.impedance.specs.Impedance.{ratingOk};
-ghost use Rattle.plan_defs.specs.Constants.{rowFigures};
 ghost use Rattle.plan_defs.specs.Case.{rowOf};
 ghost use Rattle.plan_defs.specs.Design.{basisOf, lineOf, bankBasis, withBank, setTransformerMva, bankedBy, differ, drawn};
 ghost use Rattle.planning.specs.Design.{linesFor, endsFor, Lines, EndsFit, LineFits, endsOf, lineBetween};
@@ -18,13 +17,12 @@ use impedance::SeriesImpedance;
 use impedance::TransformerImpedance;
 use plan_defs::CircuitDesign;
 use plan_defs::RatingBasis;
+use sheets::row_place;
 
 // Two kV that differ by no more are one level.
 const KV_TOLERANCE: f64 = 1e-6;
 
 // Figures of a row of the line sheet: r, x, b, rate, basis.
-const ROW_FIGURES: usize = 5;
-
 // ---- the line alone
 fn basis_of(code: f64) -> RatingBasis
     ensures { λ r. ⌜ r ≡ basisOf code ⌝ }
@@ -173,14 +171,6 @@ pub fn ends_of(ladder: &[f64], level: &[u32], a: &[u32], b: &[u32], k: usize) ->
 }
 
 // ---- the design of corridor k, from its line and its bank
-// The place of the first figure of the row for a corridor and a level.
-fn row_place(levels: usize, k: usize, level: usize) -> usize
-    requires { ⌜ rowFigures * (k * levels + level) < 2 ^ 64 ⌝ }
-    ensures { λ r. ⌜ r ≡ rowFigures * (k * levels + level) ⌝ }
-{
-    ROW_FIGURES * (k * levels + level)
-}
-
 fn line_at(
     ladder: &[f64],
     level: &[u32],
@@ -195,7 +185,8 @@ fn line_at(
     ensures { λ d. ⌜ d ≡ lineBetween (now (ladder .entry)) (now (level .entry)) (now (km .entry)) (now (share .entry)) (now (sheet .entry)) k from to ⌝ }
 {
     let top = wide(level[from]);
-    let row = row_place(ladder.len(), k, top);
+    // as many corridors as lengths
+    let row = row_place(km.len(), k, top);
     line(
         from,
         to,

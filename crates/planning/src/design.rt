@@ -2,11 +2,12 @@
 // from the corridor's row of the line sheet and its bank, and never stored.
 ghost use mathlib.Core.Path.{_≡_};
 ghost use mathlib.Core.Bool.{true};
-ghost use Prim.Native.Nat.{_<_};
+ghost use Prim.Native.Nat.{_+_, _<_, _≤_};
 ghost use lib.ListN.{length, getD};
 ghost use Rattle.loops.specs.Figures.{at};
 ghost use Rattle.impedance.specs.Impedance.{ratingOk};
-ghost use Rattle.plan_defs.specs.Case.{rowOf};
+ghost use Rattle.sheets.specs.Sheet.{rowFigures};
+ghost use Rattle.plan_defs.specs.Case.{rowOf, rowFrom};
 ghost use Rattle.plan_defs.specs.Design.{basisOf, lineOf, bankBasis, withBank, setTransformerMva, bankedBy, differ, drawn};
 ghost use Rattle.planning.specs.Design.{linesFor, endsFor, Lines, EndsFit, LineFits, endsOf, lineBetween};
 use crate::figures::choose;
@@ -171,6 +172,33 @@ pub fn ends_of(ladder: &[f64], level: &[u32], a: &[u32], b: &[u32], k: usize) ->
 }
 
 // ---- the design of corridor k, from its line and its bank
+// From the row of the sheet that begins there.
+fn line_from(
+    from: usize,
+    to: usize,
+    kv: f64,
+    sheet: &[f64],
+    row: usize,
+    length_km: f64,
+    rate_spread: f64,
+) -> CircuitDesign
+    requires { ⌜ row + rowFigures ≤ length (now sheet) ⌝ }
+    ensures { λ d. ⌜ d ≡ lineOf from to kv (rowFrom (now (sheet .entry)) row) «length_km» «rate_spread» ⌝ }
+{
+    line(
+        from,
+        to,
+        kv,
+        sheet[row],
+        sheet[row + 1],
+        sheet[row + 2],
+        sheet[row + 3],
+        sheet[row + 4],
+        length_km,
+        rate_spread,
+    )
+}
+
 fn line_at(
     ladder: &[f64],
     level: &[u32],
@@ -187,18 +215,7 @@ fn line_at(
     let top = wide(level[from]);
     // as many corridors as lengths
     let row = row_place(km.len(), k, top);
-    line(
-        from,
-        to,
-        ladder[top],
-        sheet[row],
-        sheet[row + 1],
-        sheet[row + 2],
-        sheet[row + 3],
-        sheet[row + 4],
-        km[k],
-        share[k],
-    )
+    line_from(from, to, ladder[top], sheet, row, km[k], share[k])
 }
 
 pub fn circuit(

@@ -15,10 +15,10 @@ use Rattle.casefile_defs.specs.Tables.{Places, placesOf, sizesOk}
 use Rattle.casefile_defs.specs.declared.Header.{Header}
 use Rattle.casefile_defs.specs.declared.Reading.the-variants.{Refused, Read}
 use Rattle.casefile_defs.proofs.Whole.{Sizes, sizes}
-use Rattle.plan_defs.specs.Case.{Case, rowsOf, levels}
+use Rattle.plan_defs.specs.Case.{Case, levels}
 use Rattle.join_defs.specs.Columns.{figures, counts, joinedSheet}
-use Rattle.join_defs.specs.Districts.{joinedRow, joinedCase, joinFault}
-use Rattle.join_defs.specs.Joining.{caseAs, headerOf, sheetOf, laidOut, Outcome, outcome, joinedBy, joinCases}
+use Rattle.join_defs.specs.Districts.{joinedCase, joinFault}
+use Rattle.join_defs.specs.Joining.{caseAs, headerOf, laidOut, Outcome, outcome, joinedBy, joinCases}
 use Rattle.join_defs.proofs.Tables.{sheet-are, filled-tables}
 use Rattle.join.specs.Joins.{headersOf, checkOf}
 use Rattle.join.proofs.Refusals.{Joinable, refused-is}
@@ -60,12 +60,6 @@ module _ (h : Header) (p : Places) (k : Header) (q : Places) (out : Places) wher
       go true (some g) r = ap joined (sym r)
 
   -- ---- an answer: the tables, column by column, and the header
-  sheet-is : levels first ≡ levels second → sheetOf mostSheet (h .corridors + k .corridors) (levels first) (joinedRow (h .corridors) (first .row) (second .row))
-      ≡ joinedSheet mostSheet (h .corridors) (k .corridors) (levels first) (p .sheet) (q .sheet)
-  sheet-is e =
-      ap (λ (n : ℕ). sheetOf mostSheet (h .corridors + k .corridors) (levels first) (joinedRow (h .corridors) (first .row) (rowsOf (k .corridors) n (q .sheet)))) (sym e)
-      ∙ sheet-are (h .corridors) (k .corridors) (levels first) (p .sheet) (q .sheet) mostSheet
-
   tables-by : levels first ≡ levels second → Sizes out → tablesBy (h .buses) (h .corridors) (k .corridors) (levels first) p q out ≡ laidOut (joinedCase first second)
   unfolding tablesBy
   tables-by e z =
@@ -86,7 +80,7 @@ module _ (h : Header) (p : Places) (k : Header) (q : Places) (out : Places) wher
       (ap (λ (m : ℕ). figures m (p .lengthKm) (q .lengthKm)) (z .lengthKm))
       (ap (λ (m : ℕ). figures m (p .share) (q .share)) (z .share))
       (ap (λ (m : ℕ). counts m 0 (p .cap) (q .cap)) (z .cap))
-      (ap (λ (m : ℕ). joinedSheet m (h .corridors) (k .corridors) (levels first) (p .sheet) (q .sheet)) (z .sheet) ∙ sym (sheet-is e))
+      (ap (λ (m : ℕ). joinedSheet m (h .corridors) (k .corridors) (levels first) (p .sheet) (q .sheet)) (z .sheet) ∙ sym (sheet-are (h .corridors) (k .corridors) (levels first) (p .sheet) (q .sheet) mostSheet (levels second) e))
       ∙ sym (filled-tables first second)
 
   pub tables-joined : (n : ℕ) (r : Places) → n ≡ h .buses → levels first ≡ levels second → sizesOk out ≡ true

@@ -93,9 +93,9 @@ module _ (m o n : ℕ) (x y : List Float) where
   by-district k l j h q f true e = figure-from m n x k l j (ltb-true k m e) q f
   by-district k l j h q f false e = let z : m ≤ k = ltb-false k m e in figure-from o n y (k - m) l j (omega arith) q f
 
-  pub sheet-are : (N : ℕ) → sheetOf N (m + o) n (joinedRow m (rowsOf m n x) (rowsOf o n y)) ≡ joinedSheet N m o n x y
+  one-sheet : (N : ℕ) → sheetOf N (m + o) n (joinedRow m (rowsOf m n x) (rowsOf o n y)) ≡ joinedSheet N m o n x y
   unfolding sheetOf joinedRow
-  sheet-are N = tab-same N _ _ (λ p h. go (p / rowFigures) (p % rowFigures) (mod-lt p (omega arith)) (ltb (p / rowFigures) ((m + o) * n)) refl)
+  one-sheet N = tab-same N _ _ (λ p h. go (p / rowFigures) (p % rowFigures) (mod-lt p (omega arith)) (ltb (p / rowFigures) ((m + o) * n)) refl)
     where
       go : (i j : ℕ) → j < rowFigures → (b : Bool) → ltb i ((m + o) * n) ≡ b → let k = i % (m + o) in let l = i / (m + o) in
           cond b (figureIn (cond (ltb k m) (rowsOf m n x k l) (rowsOf o n y (k - m) l)) j) nought
@@ -104,6 +104,10 @@ module _ (m o n : ℕ) (x y : List Float) where
       go i j f true e =
           let t = row-there (m + o) n i (ltb-true _ _ e) in
           by-district (i % (m + o)) (i / (m + o)) j (t .0) (t .1) f (ltb (i % (m + o)) m) refl
+
+  -- of two cases that have as many levels
+  pub sheet-are : (N n′ : ℕ) → n ≡ n′ → sheetOf N (m + o) n (joinedRow m (rowsOf m n x) (rowsOf o n′ y)) ≡ joinedSheet N m o n x y
+  sheet-are N n′ e = ap (λ (i : ℕ). sheetOf N (m + o) n (joinedRow m (rowsOf m n x) (rowsOf o i y))) (sym e) ∙ one-sheet N
 
 -- ---- all of them
 pub filled-tables : (c d : Case) → laidOut (joinedCase c d)

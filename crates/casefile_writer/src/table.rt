@@ -158,7 +158,13 @@ fn put_row(out: &mut [u8], len: usize, sheet: &[f64], p: usize) -> usize
 }
 
 // The file has its lines by corridor, the sheet its rows by level.
-pub fn put_lines(out: &mut [u8], len: usize, corridors: usize, levels: usize, sheet: &[f64]) -> usize
+pub fn put_lines(
+    out: &mut [u8],
+    len: usize,
+    corridors: usize,
+    levels: usize,
+    sheet: &[f64],
+) -> usize
     requires { ⌜ len + corridors * levels * sizeOf Kind.Line ≤ length (now out) ⌝ }
     requires { ⌜ corridors * levels * rowFigures ≤ length (now sheet) ⌝ }
     ensures put { λ r. ⌜ Put (now (out .entry)) len (tableBytes (only Kind.Line) (corridors * levels) (lineWords corridors levels (now (sheet .entry)))) (now (out .exit)) r ⌝ }

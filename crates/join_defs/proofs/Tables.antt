@@ -23,12 +23,13 @@ use Rattle.join_defs.specs.Columns.{figures, counts, joinedSheet}
 use Rattle.join_defs.specs.Districts.{moved, joinedRow, joinedCase}
 use Rattle.join_defs.specs.Joining.{padded, figureIn, sheetOf, laidOut}
 
--- ---- a place of two lists one after the other
-within : {A : Type 0} (l : List A) (i : ℕ) (d e : A) → i < length l → getD l i d ≡ getD l i e
+-- a place of a list is the same whatever stands for one past it
+pub within : {A : Type 0} (l : List A) (i : ℕ) (d e : A) → i < length l → getD l i d ≡ getD l i e
 within [] i d e h = absurd (omega arith)
 within (x ∷ l) zero d e h = refl
 within (x ∷ l) (suc i) d e h = within l i d e (omega arith)
 
+-- ---- a place of two lists one after the other
 module _ {A : Type 0} (zero : A) (x z : List A) (m : ℕ) (u v : ℕ → A) (size : length z ≡ m)
     (low : (i : ℕ) → i < length x → getD x i zero ≡ u i) (high : (i : ℕ) → i < m → getD z i zero ≡ v i) where
   placed : (i : ℕ) → getD (x ++ z) i zero ≡ cond (ltb i (length x)) (u i) (cond (ltb i (length x + m)) (v (i - length x)) zero)

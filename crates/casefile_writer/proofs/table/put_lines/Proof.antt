@@ -75,9 +75,14 @@ loop-again : tie.Need-loop-again Inv-loop μ-loop
 loop-again c =
     let l = c .before .before .before .before .before .before .loop in
     let a = c .before .before .before .before .before .before .before .before .before .args in
-    let put = c .before .before .put-row .ensures in
-    (omega arith, omega arith, omega (arith, put .1), one-more (only Line) (lineWords (a .corridors) (a .levels) (a .sheet .now)) (l .i) (l .inv .3)
-    (at-place (a .sheet .now) (c .before .before .before .before .row-place .ensures) (put .0)), l .inv .4)
+    let put = c .before .before .put-row .ensures in (
+      omega arith,
+      omega arith,
+      omega (arith, put .1),
+      one-more (only Line) (lineWords (a .corridors) (a .levels) (a .sheet .now)) (l .i) (l .inv .3)
+          (at-place (a .sheet .now) (c .before .before .before .before .row-place .ensures) (put .0)),
+      l .inv .4,
+    )
 
 same-length : tie.Need-same-length Inv-loop μ-loop
 same-length c = omega arith

@@ -6,6 +6,7 @@ use std::io;
 use crate::compare::{describe_bytes, judge, printed_by, Outcome, Program};
 use crate::generate::cases::pairs::{pair, pair_names, Pair};
 use crate::harness::case_file::read_case;
+use crate::harness::checks::accept_case;
 use crate::harness::figures::listed;
 use crate::harness::join::{
     differences, files_of, join_files, printed, sums_past, Refused, Step, DIFFERENCES, SUMS,
@@ -20,8 +21,8 @@ use crate::watch;
 const PLANNED: u64 = 200;
 
 /// Joins the pairs of `count` seeds by `program`; the answers are compared byte
-/// by byte. What is joined is planned, and both cases apart; `listing` lists
-/// all three as the reference does.
+/// by byte. What is joined is accepted and planned, and both cases apart;
+/// `listing` lists all three as the reference does.
 pub fn compare_joins(
     program: &Program,
     listing: Option<&Program>,
@@ -55,7 +56,13 @@ pub fn compare_joins(
     Ok(outcome)
 }
 
+/// The joined case is accepted, and where all three have a plan it is that of
+/// both apart.
 fn compare_plans(what: &str, files: [&[u8]; 2], joined: &Case, outcome: &mut Outcome) {
+    let (fault, _) = watch::apart(|| accept_case(joined).err());
+    outcome.count(fault.is_none(), || {
+        format!("{what}: the joined case is refused: {fault:?}")
+    });
     let (apart, _) = watch::apart(|| planned_apart(files, joined));
     if let Some(apart) = apart {
         outcome.tally.count(name("all three planned"));

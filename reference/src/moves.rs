@@ -16,6 +16,15 @@ fn padded(file: &[u8]) -> Vec<u8> {
     padded
 }
 
+/// What the program reads: the direction's first letter, then the file.
+fn told(direction: Direction, file: &[u8]) -> Vec<u8> {
+    let letter: &[u8] = match direction {
+        Direction::Forward => b"F",
+        Direction::Back => b"B",
+    };
+    [letter, file].concat()
+}
+
 /// Moves the files of `count` seeds by `program`, and what is answered back
 /// again; both are compared with the reference's, byte by byte. `listing`, or
 /// the reference where there is none, lists each moved file as the file itself

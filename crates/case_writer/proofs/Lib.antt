@@ -1,4 +1,2 @@
--- Laws of what is put into a buffer.
-pub mod Puts
-pub mod Lent
+-- Laws of what the program writes.
 pub mod Networks

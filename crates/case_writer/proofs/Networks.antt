@@ -25,6 +25,11 @@ use Rattle.casefile_defs.proofs.Counts.{small-of}
 use Rattle.casefile_defs.proofs.Whole.{sizes}
 use Rattle.casefile_theorems.specs.Cases.{longest}
 use Rattle.casefile_theorems.specs.Writer.{fileOf, capsOnly}
+use Rattle.casefile_writer.specs.Files.{fileIn}
+use Rattle.casefile_writer.specs.Put.{Put}
+use Rattle.casefile_writer.specs.Words.{weighs}
+use Rattle.casefile_writer.proofs.Lent.{within}
+use Rattle.casefile_writer.proofs.Puts.{same-bytes}
 use Rattle.small.specs.Networks.{allPlaces}
 use Rattle.small.specs.Tables.{padded, laidOut, headerAt, tablesAt, Made, made, smallNetwork}
 use Rattle.small_theorems.specs.Held.{fileAt}
@@ -32,11 +37,7 @@ use Rattle.small_theorems.proofs.Accepted.{sound-at}
 use Rattle.small_theorems.proofs.Theorems.{weights-one}
 use Rattle.case_writer.specs.declared.Written.{Written}
 use Rattle.case_writer.specs.declared.Written.the-variants.{Bytes}
-use Rattle.case_writer.specs.Files.{fileIn, Wrote}
-use Rattle.case_writer.specs.Put.{Put}
-use Rattle.case_writer.specs.Words.{weighs}
-use Rattle.case_writer.proofs.Lent.{within}
-use Rattle.case_writer.proofs.Puts.{same-bytes}
+use Rattle.case_writer.specs.Files.{Wrote}
 
 -- the two ways of tables that are sized
 there : (i : ℕ) (q : Places) → sizesOk q ≡ true → i < allPlaces → smallNetwork i q ≡ made (Read (headerAt i)) (tablesAt i)

@@ -1,4 +1,2 @@
 -- What the program writes.
-pub mod Put
-pub mod Words
 pub mod Files

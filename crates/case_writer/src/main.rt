@@ -1,10 +1,7 @@
 // Writes the case file of a small network: its place, in decimal, comes on standard input. Prints the refusal of a place that there
 // is not, and ?? where the input is no number. The file's bytes are proved (put_small_network); that the number is read rightly
 // and the refusal printed rightly is tested.
-mod bytes;
 mod file;
-mod record;
-mod table;
 
 use file::put_small_network;
 use libc::STDIN_FILENO;

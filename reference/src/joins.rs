@@ -127,6 +127,7 @@ fn alone_name(step: Step, what: &str) -> String {
 }
 
 const IDLE: &str = "modes 3 apart, alone";
+const UPPER: &str = "kV above the last level, alone";
 
 type Shape = (&'static str, fn(&Case, &Case) -> bool);
 
@@ -196,6 +197,9 @@ fn count_reason(tally: &mut Tally, step: Step, first: &Case, second: &Case) {
         if step == Step::Unlike && first.mode.abs_diff(second.mode) == SERVING {
             tally.count(name(IDLE));
         }
+        if reason == "kV" && first.ladder.last() == second.ladder.last() {
+            tally.count(name(UPPER));
+        }
     }
 }
 
@@ -242,7 +246,7 @@ pub fn expected() -> impl Iterator<Item = (String, u64)> {
         .chain(unlike)
         .chain(modes)
         .chain(shapes);
-    once.chain([name(IDLE)])
+    once.chain([name(IDLE), name(UPPER)])
         .map(|name| (name, 1))
         .chain([(name("all three planned"), PLANNED)])
 }

@@ -1,8 +1,9 @@
 // Calls each operation with each of its slices one place too short and one too long, which no text can ask for, and prints what
 // it answered and whether the lent arrays kept their contents. Before that each is called with every length right, and with a
-// count past its bound that makes lengths wrong too, or a place past the last: refusal 1 comes before 2 and 23.
+// count past its bound that makes lengths wrong too, or a place past the last: refusal 1 comes before 2, 23 and 24.
 mod angles_calls;
 mod dispatch_calls;
+mod join_calls;
 mod leaders_calls;
 mod moving_calls;
 mod placement_calls;
@@ -14,8 +15,8 @@ mod season_calls;
 mod sheet_calls;
 mod small_calls;
 
-// Of planning, which has the most.
-const MOST_SLICES: usize = 30;
+// Of joining, which has the most.
+const MOST_SLICES: usize = 51;
 
 fn first() {
     leaders_calls::first();
@@ -29,6 +30,7 @@ fn first() {
     sheet_calls::first();
     season_calls::first();
     small_calls::first();
+    join_calls::first();
 }
 
 fn both(slice: usize) {
@@ -43,6 +45,7 @@ fn both(slice: usize) {
     sheet_calls::both(slice);
     season_calls::both(slice);
     small_calls::both(slice);
+    join_calls::both(slice);
 }
 
 fn main() {

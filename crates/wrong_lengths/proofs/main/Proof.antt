@@ -5,10 +5,10 @@ use Rattle.wrong_lengths.proofs.main.Statement.{statement}
 use Rattle.wrong_lengths.proofs.main.Tie as tie
 
 abbrev Inv-loop : tie.InvT-loop
-Inv-loop slice₀ slice = slice ≤ 30
+Inv-loop slice₀ slice = slice ≤ 51
 
 abbrev μ-loop : tie.MeasureT-loop
-μ-loop slice₀ slice = 30 - slice
+μ-loop slice₀ slice = 51 - slice
 
 first-requires : tie.Need-first-requires Inv-loop μ-loop
 first-requires c κs = search needs

@@ -344,16 +344,16 @@ fn make_unlike(random: &mut Random, turn: usize, first: &Case, second: &mut Case
     }
 }
 
-/// A level that is less by one last place, or by a fraction.
+/// One level is less by one last place or by a fraction, where the ladder
+/// allows it; else the last one.
 fn another_kv(random: &mut Random, case: &mut Case) {
-    let kv = case.ladder.last_mut().expect("a level is requested");
-    *kv = random.pick(&[kv.next_down(), *kv * 0.75]);
-    // Higher levels too, where the ladder allows it.
-    let place = random.below(case.ladder.len());
-    let lower = case.ladder[place].next_down();
-    let stands = |next: &f64| lower > next + 1e-6;
-    if random.once_in(2) && case.ladder.get(place + 1).is_none_or(stands) {
-        case.ladder[place] = lower;
+    let last = case.ladder.len() - 1;
+    let place = random.below(last + 1);
+    let kv = case.ladder[place];
+    let lower = random.pick(&[kv.next_down(), kv * 0.75]);
+    match case.ladder.get(place + 1) {
+        Some(next) if lower <= next + 1e-6 => case.ladder[last] = case.ladder[last].next_down(),
+        _ => case.ladder[place] = lower,
     }
 }
 

@@ -4,6 +4,7 @@ use crate::ports::{read_case, ReadingSaid, Tables};
 use crate::{least, report};
 use reference::harness::case_file::looks;
 use reference::harness::refusal::Refusal;
+use reference::harness::sheet::by_level;
 use reference::harness::tables::{Case, Line};
 
 fn record(file: &mut Vec<u8>, mark: &[u8; 2], fields: &[&[u8]]) {
@@ -133,7 +134,8 @@ fn tables_of(answer: &Result<Case, Refusal>) -> Tables {
     figures(7, case.corridors.iter().map(|c| c.length).collect());
     figures(8, case.corridors.iter().map(|c| c.share).collect());
     let row = |l: &Line| [l.r, l.x, l.b, l.rate, l.basis.into()];
-    figures(9, case.sheet.iter().flat_map(row).collect());
+    let rows = by_level(&case.sheet, case.ladder.len());
+    figures(9, rows.iter().flat_map(row).collect());
     let mut wholes = |k: usize, column: Vec<u32>| {
         tables.wholes[k][..column.len()].copy_from_slice(&column);
     };

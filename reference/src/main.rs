@@ -58,7 +58,7 @@ const USAGE: &str = "usage:
   reference sheet-differences PROGRAM FIRST_SEED BATCHES
   reference write                                            a case as text on standard input
   reference theorem                                          a case on standard input
-KIND is one of SQRT IMP LEAD DISP ANG PLACE SHEET ROWS PREV BAD.";
+KIND is one of SQRT IMP LEAD DISP ANG PLACE SHEET ROWS LAID PREV BAD.";
 
 /// Why a command did not run to its end.
 enum Failure {

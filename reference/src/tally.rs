@@ -61,6 +61,7 @@ const ANSWERS: &[(&str, &[&str])] = &[
     ("PLACE", &["OK", "RF 2", "RF 4", "RF 5", "RF 6"]),
     ("SHEET", &["OK", "RF 2", "RF 3", "RF 6", "RF 22"]),
     ("ROWS", &["OK"]),
+    ("LAID", &["OK", "RF 1", "RF 2"]),
     ("PREV", &["OK", "RF 2", "RF 6", "RF 18", "RF 30"]),
     ("preview", &["CO", "nothing", "RF 2", "RF 18"]),
     (

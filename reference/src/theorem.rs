@@ -64,10 +64,12 @@ fn happenings(case: &Case, listing: &str, taken: &[u64]) -> String {
 
 fn uses(mode: &str) -> String {
     format!(
-        "use mathlib.Core.List.{{[], _∷_}}
+        "use mathlib.Core.List.{{List, [], _∷_}}
 use mathlib.Core.Path.{{_≡_, refl}}
+use lib.ListN.{{length}}
+use lib.Ieee.{{Float}}
 use Rattle.mode.specs.declared.PlanMode.the-variants.{{{mode}}}
-use Rattle.plan_defs.specs.Case.{{Case}}
+use Rattle.plan_defs.specs.Case.{{Case, rowsOf}}
 use Rattle.plan_defs.specs.Listing.{{listingOf}}
 use Rattle.plan_cases.proofs.Figures.{{figures, loadBits}}
 "
@@ -107,6 +109,17 @@ fn hex(digits: &str) -> String {
     }
 }
 
+/// The sheet by level, as planning has it; the case's own rows are by corridor.
+fn sheet(case: &Case) -> String {
+    let (levels, ways) = (case.ladder.len(), case.corridors.len());
+    let rows = (0..levels * ways).map(|i| &case.sheet[i % ways * levels + i / ways]);
+    let sheet = rows.flat_map(|row| [row.r, row.x, row.b, row.rate, f64::from(row.basis)]);
+    format!(
+        "\n-- by level\nabbrev pub sheet : List Float\nsheet = {}\n\n",
+        figures(sheet)
+    )
+}
+
 /// The case, as its text and as a record.
 fn given(case: &Case, mode: &str) -> String {
     let (buses, units, ways) = (&case.buses, &case.generators, &case.corridors);
@@ -135,10 +148,9 @@ fn given(case: &Case, mode: &str) -> String {
         ("share", figures(ways.iter().map(|c| c.share))),
         ("cap", whole(ways.iter().map(|c| c.cap))),
     ];
-    let rows = case.sheet.iter();
-    let sheet = rows.flat_map(|row| [row.r, row.x, row.b, row.rate, f64::from(row.basis)]);
-    fields.push(("sheet", figures(sheet)));
-    let mut text = String::from("\n");
+    let rows = format!("rowsOf {} {} sheet", ways.len(), case.ladder.len());
+    fields.extend([("figures", "length sheet".to_owned()), ("row", rows)]);
+    let mut text = sheet(case);
     for line in print_text(case).lines() {
         writeln!(text, "-- {line}").expect("text grows");
     }

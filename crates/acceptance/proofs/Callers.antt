@@ -8,19 +8,19 @@ use Rattle.refusal.specs.declared.Refusal.{Refusal}
 use Rattle.refusal.specs.declared.Refusal.the-variants.{Length}
 use Rattle.refusal.specs.declared.Answer.the-variants.{Answered, Refused}
 use Rattle.mode.specs.declared.PlanMode.the-variants.{Observe}
-use Rattle.plan_defs.specs.Case.{Case, caseOf, rowPlace, rowAt}
+use Rattle.plan_defs.specs.Case.{Case, caseWith, rowAt}
 use Rattle.plan_defs.specs.Accept.{lengthsOk, countsOk, levelOk, busOk, generatorOk, corridorSound, rowOk, tablesFault, caseFault}
 use Rattle.acceptance.specs.Check.{answerOf, checkOf}
 
 -- a case as it is checked
 abbrev pub tablesOf : Case → Case
 tablesOf c =
-    caseOf Observe (c .buses) (c .corridors) (c .generators) (c .above) (c .requested) (c .ladder) (c .tier) (c .reading) (c .weight) (c .load) (c .bus) (c .slack) (c .pmin) (c .pmax) (c .c1) (c .c2)
-    (c .a) (c .b) (c .circuits) (c .km) (c .share) (c .cap) (c .sheet)
+    caseWith Observe (c .buses) (c .corridors) (c .generators) (c .above) (c .requested) (c .ladder) (c .tier) (c .reading) (c .weight) (c .load) (c .bus) (c .slack) (c .pmin) (c .pmax) (c .c1) (c .c2)
+    (c .a) (c .b) (c .circuits) (c .km) (c .share) (c .cap) (c .figures) (c .row)
 
 module _ (fits : Bool) (c : Case) (target : ℕ) where
   any-mode : caseFault (tablesOf c) target ≡ caseFault c target
-  unfolding caseFault lengthsOk countsOk tablesFault levelOk busOk generatorOk corridorSound rowOk rowAt rowPlace
+  unfolding caseFault lengthsOk countsOk tablesFault levelOk busOk generatorOk corridorSound rowOk rowAt
   any-mode = refl
 
   -- the first refusal, with that of the caller's own slices

@@ -1,11 +1,11 @@
--- The tests: a sum or product that is asked without being made, and what passes the lengths and the counts.
+-- The tests: a sum that is asked without being made, and what passes the lengths and the counts.
 -- Two tests of equality agree where each equation follows from the other.
 use Prim.Native.Nat.{ℕ, _+_, _-_, _*_, _/_, _%_, _^_, _≤_, _<_}
 use mathlib.Core.Bool.{Bool, true, false, cond, _&&_, _||_, and-assoc}
 use mathlib.Core.List.{List}
 use mathlib.Core.Option.{Option, none, some}
 use mathlib.Core.Path.{_≡_, refl, sym, ap, _∙_}
-use native.Mathlib.Nat.{le-trans, mul-le-mul-left, mul-le-mul-right, div-add-mod'}
+use native.Mathlib.Nat.{le-trans, mul-le-mul-left, mul-le-mul-right, mul-comm, mod-lt, div-lt-iff-lt-mul}
 use native.Mathlib.Omega.{arith}
 use borrow.Author.Tests.{eqb-true, eqb-false, eq-eqb, ne-eqb, le-leb, lt-leb, lt-ltb, le-ltb}
 use lib.Dec.{eqb, ltb, leb}
@@ -14,16 +14,18 @@ use lib.Ieee.{Float, nan, lt, le}
 use Rattle.loops.specs.Figures.{at, plus, nought, tenThousand}
 use Rattle.loops.specs.Loops.{first}
 use Rattle.loops.proofs.Bools.{both, and-true, or-left}
-use Rattle.loops.proofs.Products.{rows-are}
+use Rattle.loops.proofs.Rows.{row-fits}
 use Rattle.loops.proofs.Tab.{length-tab, get-tab}
 use Rattle.loads.specs.Load.{weighed, loadsOf, loadOk}
 use Rattle.refusal.specs.declared.Refusal.{Refusal}
 use Rattle.refusal.specs.declared.Refusal.the-variants.{Length, Count, Level, Bus, Generator, Corridor, Row}
 use Rattle.refusal.specs.declared.Answer.{Answer}
 use Rattle.refusal.specs.declared.Answer.the-variants.{Answered, Refused}
-use Rattle.plan_defs.specs.Constants.{kvTolerance, mostCorridors, mostLevels, rowFigures}
-use Rattle.plan_defs.specs.Case.{Case, levels, rowPlace, rowAt, rowFrom}
+use Rattle.sheets.specs.Sheet.{rowFigures, rowPlace}
+use Rattle.plan_defs.specs.Constants.{kvTolerance, mostCorridors, mostLevels}
+use Rattle.plan_defs.specs.Case.{Case, levels, rowAt, rowFrom, rowsOf}
 use Rattle.plan_defs.specs.Accept.{lengthsOk, countsOk, levelOk, busOk, generatorOk, corridorSound, rowSound, rowOk, firstFault, tablesFault, caseFault}
+use Rattle.plan_defs.proofs.Rows.{row-from}
 use Rattle.plan_defs.proofs.Accepted.{Columns, columns-of, counts-of}
 use Rattle.acceptance.specs.Check.{generatorSizes, corridorSizes, tablesFor, ladderFor, busesFor, generatorsFor, corridorsFor, sheetFor, Buses, Generators, Corridors, Sheet, Tables, countsIn, answerOf, checkOf}
 
@@ -41,9 +43,6 @@ sum-not total x y h = sym (ne-eqb total (x + y) (λ e. omega arith))
 
 pub sum-is : (total x y : ℕ) → x ≤ total → eqb (total - x) y ≡ eqb total (x + y)
 sum-is total x y h = eqb-same (total - x) y total (x + y) (λ e. omega arith) (λ e. omega arith)
-
-pub sheet-is : (figures m levels : ℕ) → figures % rowFigures ≡ 0 → eqb (figures / rowFigures) (m * levels) ≡ eqb figures (rowFigures * (m * levels))
-sheet-is figures m levels e = rows-are rowFigures figures (m * levels) e (λ e. let z : _≡_ {A = ℕ} 5 0 = e in omega arith)
 
 -- ---- a level that is the last, or is above the next
 module _ (ladder : List Float) (i : ℕ) where
@@ -81,20 +80,26 @@ module _ (m levels : ℕ) (sheet : List Float) (fits : Sheet m levels sheet) whe
   few-rows = le-trans (mul-le-mul-right levels (fits .few-corridors)) (mul-le-mul-left mostCorridors (fits .few-levels))
 
   module _ (i : ℕ) (h : i < m * levels) where
-    index-is : i / levels * levels + i % levels ≡ i
-    index-is = div-add-mod' i levels
+    corridor-in : i / levels < m
+    corridor-in = div-lt-iff-lt-mul (fits .some-level) .1 h
 
-    pub place-fits : rowFigures * (i / levels * levels + i % levels) < 2 ^ 64
-    place-fits = omega (arith, index-is, few-rows)
+    level-in : i % levels < levels
+    level-in = mod-lt i (fits .some-level)
 
-    pub row-inside : (p : ℕ) → p ≡ rowFigures * (i / levels * levels + i % levels) → p + rowFigures ≤ length sheet
-    row-inside p e = omega (arith, index-is, fits .size)
+    place-inside : rowPlace m (i / levels) (i % levels) + rowFigures ≤ rowFigures * (m * levels)
+    place-inside = omega (arith, corridor-in, row-fits (i % levels) levels m level-in, mul-comm levels m)
 
-    pub row-is : (p : ℕ) (r : Bool) → p ≡ rowFigures * (i / levels * levels + i % levels) → r ≡ rowSound (rowFrom sheet p) → r ≡ rowOk (sheetFor levels sheet) i
-    unfolding rowOk rowAt rowPlace
+    pub place-fits : rowPlace m (i / levels) (i % levels) < 2 ^ 64
+    place-fits = omega (arith, place-inside, few-rows)
+
+    pub row-inside : (p : ℕ) → p ≡ rowPlace m (i / levels) (i % levels) → p + rowFigures ≤ length sheet
+    row-inside p e = omega (arith, place-inside, fits .size)
+
+    pub row-is : (p : ℕ) (r : Bool) → p ≡ rowPlace m (i / levels) (i % levels) → r ≡ rowSound (rowFrom sheet p) → r ≡ rowOk (sheetFor m levels sheet) i
+    unfolding rowOk rowAt
     row-is p r e q =
-        let z : levels ≡ 0 + levels = omega arith in
-        q ∙ ap (λ (o : ℕ). rowSound (rowFrom sheet o)) e ∙ ap (λ (l : ℕ). rowSound (rowFrom sheet (rowFigures * (i / l * l + i % l)))) z
+        q ∙ ap (λ (o : ℕ). rowSound (rowFrom sheet o)) e ∙ ap rowSound (sym (row-from m levels sheet (i / levels) (i % levels) corridor-in level-in))
+        ∙ ap (λ (n : ℕ). rowSound (rowsOf m n sheet (i / n) (i % n))) (let z : levels ≡ 0 + levels = omega arith in z)
 
 -- ---- one table after another
 module _ (ok : ℕ → Bool) (fault : ℕ → Refusal) (n : ℕ) (next : Option Refusal) (i : ℕ) (found : i ≡ first ok n 0) where
@@ -197,10 +202,10 @@ module _ (n m g above requested : ℕ) (ladder : List Float) (tier : List ℕ) (
     corridor-at k e = e ∙ ap (λ (x : ℕ). first (corridorSound given) x 0) (sizes .a)
 
     abbrev rowIn : ℕ → ℕ → Bool
-    rowIn count i = rowSound (rowFrom sheet (rowFigures * (i / count * count + i % count)))
+    rowIn count i = rowSound (rowsOf m count sheet (i / count) (i % count))
 
-    row-at : (w : ℕ) → w ≡ first (rowOk (sheetFor (above + requested) sheet)) (m * (above + requested)) 0 → w ≡ first (rowOk given) (m * (above + requested)) 0
-    unfolding rowOk rowAt rowPlace
+    row-at : (w : ℕ) → w ≡ first (rowOk (sheetFor m (above + requested) sheet)) (m * (above + requested)) 0 → w ≡ first (rowOk given) (m * (above + requested)) 0
+    unfolding rowOk rowAt
     row-at w e = e ∙ ap (λ (x : ℕ). first (rowIn x) (m * (above + requested)) 0) (let z : 0 + (above + requested) ≡ above + requested = omega arith in z)
 
     module _ (l : ℕ) (el : l ≡ first (levelOk (ladderFor ladder)) (length ladder) 0) where
@@ -230,7 +235,7 @@ module _ (n m g above requested : ℕ) (ladder : List Float) (tier : List ℕ) (
             pub corridor-refused : k < m → Refused (Corridor k) ≡ answerOf (tablesFault given)
             corridor-refused h = sym (ap answerOf (past-generators ∙ stop-at (corridorSound given) Corridor m (afterCorridors given) k (corridor-at k ek) h))
 
-            module _ (hk : m ≤ k) (w : ℕ) (ew : w ≡ first (rowOk (sheetFor (above + requested) sheet)) (m * (above + requested)) 0) where
+            module _ (hk : m ≤ k) (w : ℕ) (ew : w ≡ first (rowOk (sheetFor m (above + requested) sheet)) (m * (above + requested)) 0) where
               past-corridors : tablesFault given ≡ afterCorridors given
               past-corridors = past-generators ∙ go-on (corridorSound given) Corridor m (afterCorridors given) k (corridor-at k ek) hk
 

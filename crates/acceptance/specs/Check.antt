@@ -12,7 +12,8 @@ use Rattle.refusal.specs.declared.Refusal.the-variants.{Length}
 use Rattle.refusal.specs.declared.Answer.{Answer}
 use Rattle.refusal.specs.declared.Answer.the-variants.{Answered, Refused}
 use Rattle.mode.specs.declared.PlanMode.the-variants.{Observe}
-use Rattle.plan_defs.specs.Constants.{mostBuses, mostCorridors, mostGenerators, mostLevels, mostTarget, rowFigures}
+use Rattle.sheets.specs.Sheet.{rowFigures}
+use Rattle.plan_defs.specs.Constants.{mostBuses, mostCorridors, mostGenerators, mostLevels, mostTarget}
 use Rattle.plan_defs.specs.Case.{Case, surveyed, levels}
 use Rattle.plan_defs.specs.Accept.{lengthsOk, caseFault}
 
@@ -34,8 +35,8 @@ generatorsFor n bus slack pmin pmax c1 c2 = tablesFor n 0 0 0 0 [] [] [] [] bus 
 abbrev pub corridorsFor : ℕ → List ℕ → List ℕ → List ℕ → List Float → List Float → List ℕ → Case
 corridorsFor n a b initial km share cap = tablesFor n 0 0 0 0 [] [] [] [] [] [] [] [] [] [] a b initial km share cap []
 
-abbrev pub sheetFor : ℕ → List Float → Case
-sheetFor levels sheet = tablesFor 0 0 0 0 levels [] [] [] [] [] [] [] [] [] [] [] [] [] [] [] [] sheet
+abbrev pub sheetFor : ℕ → ℕ → List Float → Case
+sheetFor m levels sheet = tablesFor 0 m 0 0 levels [] [] [] [] [] [] [] [] [] [] [] [] [] [] [] [] sheet
 
 -- ---- what a scan asks of its columns
 pub record Buses (tier : List ℕ) (reading weight : List Float) : Type 0 where

@@ -4,9 +4,9 @@ ghost use Rattle.acceptance.specs.Check.{tablesFor, countsIn, checkOf};
 use lengths::corridor_lengths_ok;
 use lengths::generator_lengths_ok;
 use lengths::is_sum;
-use lengths::sheet_ok;
 use refusal::Answer;
 use refusal::Refusal;
+use sheets::sheet_ok;
 use tables::check_tables;
 
 mod lengths;

@@ -1,7 +1,7 @@
 // Refusals 3 to 7: the rows of the tables, one table after another.
 ghost use mathlib.Core.Bool.{_&&_};
 ghost use mathlib.Core.Path.{_≡_};
-ghost use Prim.Native.Nat.{_+_, _*_, _^_, _<_, _≤_};
+ghost use Prim.Native.Nat.{_+_, _*_, _<_, _≤_};
 ghost use lib.Dec.{ltb, leb};
 ghost use lib.ListN.{length};
 ghost use Rattle.loops.specs.Figures.{nought, one, half, tenThousand, infinity, inside, finite};
@@ -9,13 +9,15 @@ ghost use Rattle.loops.specs.Loops.{first};
 ghost use Rattle.loads.specs.Load.{loadBy, loadOk};
 ghost use Rattle.leaders.specs.Operation.{corridorOk};
 ghost use Rattle.dispatch.specs.Units.{unitOk};
-ghost use Rattle.plan_defs.specs.Constants.{mostInitial, mostCap, rowFigures};
+ghost use Rattle.sheets.specs.Sheet.{rowFigures};
+ghost use Rattle.plan_defs.specs.Constants.{mostInitial, mostCap};
 ghost use Rattle.plan_defs.specs.Case.{rowOf, rowFrom};
 ghost use Rattle.plan_defs.specs.Accept.{levelOk, busOk, generatorOk, corridorSound, rowSound, rowOk, tablesFault};
 ghost use Rattle.acceptance.specs.Check.{tablesFor, ladderFor, busesFor, generatorsFor, corridorsFor, sheetFor, Buses, Generators, Corridors, Sheet, Tables, answerOf};
 use loads::load_ok;
 use refusal::Answer;
 use refusal::Refusal;
+use sheets::row_place;
 
 const MOST_INITIAL: u32 = 64;
 
@@ -37,9 +39,6 @@ const MOST_RATE: f64 = 1e6;
 
 // Two kV that differ by no more are one level.
 const KV_TOLERANCE: f64 = 1e-6;
-
-// Figures of a row of the line sheet: r, x, b, rate, basis.
-pub const ROW_FIGURES: usize = 5;
 
 // ---- figures and counts
 fn infinity() -> f64
@@ -206,27 +205,19 @@ fn row_ok_from(sheet: &[f64], p: usize) -> bool
     )
 }
 
-// The place of the first figure of the row for a corridor and a level.
-fn row_place(levels: usize, k: usize, level: usize) -> usize
-    requires { ⌜ rowFigures * (k * levels + level) < 2 ^ 64 ⌝ }
-    ensures { λ r. ⌜ r ≡ rowFigures * (k * levels + level) ⌝ }
-{
-    ROW_FIGURES * (k * levels + level)
-}
-
 // Row i in the order of corridor, then level, however the rows lie.
 fn row_ok_at(m: usize, levels: usize, sheet: &[f64], i: usize) -> bool
     requires { ⌜ Sheet m levels (now sheet) ⌝ }
     requires { ⌜ i < m * levels ⌝ }
-    ensures { λ r. ⌜ r ≡ rowOk (sheetFor levels (now (sheet .entry))) i ⌝ }
+    ensures { λ r. ⌜ r ≡ rowOk (sheetFor m levels (now (sheet .entry))) i ⌝ }
 {
-    let p = row_place(levels, i / levels, i % levels);
+    let p = row_place(m, i / levels, i % levels);
     row_ok_from(sheet, p)
 }
 
 fn faulty_row(m: usize, levels: usize, sheet: &[f64]) -> usize
     requires { ⌜ Sheet m levels (now sheet) ⌝ }
-    ensures { λ r. ⌜ r ≡ first (rowOk (sheetFor levels (now (sheet .entry)))) (m * levels) 0 ⌝ }
+    ensures { λ r. ⌜ r ≡ first (rowOk (sheetFor m levels (now (sheet .entry)))) (m * levels) 0 ⌝ }
 {
     let rows = m * levels;
     let mut i = 0;

@@ -3,6 +3,7 @@
 // prints is tested.
 mod ang;
 mod disp;
+mod laid;
 mod lead;
 mod place;
 mod preview;
@@ -16,6 +17,7 @@ ghost use Prim.Native.Nat.{_≤_, _<_};
 ghost use lib.ListN.{length};
 use ang::answer_angles;
 use disp::answer_dispatch;
+use laid::answer_laid;
 use lead::answer_leaders;
 use libc::STDIN_FILENO;
 use libc::STDOUT_FILENO;
@@ -33,7 +35,7 @@ const LINE_FEED: u8 = b'\n';
 // Every request is shorter: the longest, ROWS with 7,710 figures in each sheet, has 262,204 bytes.
 const MOST_LINE: usize = 300_000;
 
-// Every answer is shorter: the longest, of SHEET with 256 corridors and 5 levels, has 108,802 bytes.
+// Every answer is shorter: the longest, of SHEET or LAID with 256 corridors and 5 levels, has 108,802 bytes.
 const MOST_ANSWER: usize = 131_072;
 
 // Whether the line begins with a word.
@@ -82,6 +84,9 @@ fn answer(line: &[u8], out: &mut [u8]) -> usize
     }
     if begins(line, b"ROWS ") {
         return answer_rows(line, out);
+    }
+    if begins(line, b"LAID ") {
+        return answer_laid(line, out);
     }
     if begins(line, b"PREV ") {
         return answer_preview(line, out);

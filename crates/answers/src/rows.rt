@@ -12,7 +12,7 @@ use crate::text::start;
 use crate::text::whole;
 
 // Figures of a sheet that are taken: those of one level and one corridor past their bounds.
-const MOST_FIGURES: usize = 7710;
+pub const MOST_FIGURES: usize = 7710;
 
 // ROWS corridors levels surveyed k n figure×n m figure×m
 pub fn answer_rows(line: &[u8], out: &mut [u8]) -> usize

@@ -3,15 +3,15 @@
 // What is printed is tested, not proved; that the program is safe, ends and prints the places of the records alone is proved.
 mod print;
 
-ghost use Prim.Native.Nat.{_*_, _<_, _≤_};
-ghost use Rattle.casefile_defs.specs.Bounds.{mostLevels, mostBuses, mostGenerators, mostCorridors};
+ghost use Prim.Native.Nat.{_+_, _<_, _≤_};
+ghost use Rattle.casefile_defs.specs.Bounds.{mostLevels, mostBuses, mostGenerators, mostCorridors, mostSheet};
+ghost use Rattle.sheets.specs.Sheet.{rowFigures};
 use casefile_defs::Header;
 use casefile_defs::MOST_BUSES;
 use casefile_defs::MOST_CORRIDORS;
 use casefile_defs::MOST_GENERATORS;
 use casefile_defs::MOST_LEVELS;
 use casefile_defs::MOST_SHEET;
-use casefile_defs::ROW_FIGURES;
 use casefile_defs::Reading;
 use print::end_line;
 use print::figure;
@@ -177,10 +177,9 @@ fn basis(x: f64) -> u32 {
     1
 }
 
-fn print_line(i: usize, sheet: &[f64; MOST_SHEET])
-    requires { ⌜ i < mostCorridors * mostLevels ⌝ }
+fn print_line(row: usize, sheet: &[f64; MOST_SHEET])
+    requires { ⌜ row + rowFigures ≤ mostSheet ⌝ }
 {
-    let row = i * ROW_FIGURES;
     mark(b"LN");
     figure(sheet[row]);
     figure(sheet[row + 1]);
@@ -190,20 +189,22 @@ fn print_line(i: usize, sheet: &[f64; MOST_SHEET])
     end_line();
 }
 
-fn print_lines(count: usize, sheet: &[f64; MOST_SHEET])
-    requires { ⌜ count ≤ mostCorridors * mostLevels ⌝ }
+// A corridor's lines, a level each.
+fn print_rows(corridors: usize, levels: usize, k: usize, sheet: &[f64; MOST_SHEET])
+    requires { ⌜ (k < corridors) × (corridors ≤ mostCorridors) × (levels ≤ mostLevels) ⌝ }
 {
-    for i in 0..count {
-        print_line(i, sheet);
+    for level in 0..levels {
+        print_line(sheets::row_place(corridors, k, level), sheet);
     }
 }
 
-// The rows of the sheet that hold lines.
-fn lines(corridors: usize, levels: usize) -> usize
+// The lines in the file's order, by corridor.
+fn print_lines(corridors: usize, levels: usize, sheet: &[f64; MOST_SHEET])
     requires { ⌜ (corridors ≤ mostCorridors) × (levels ≤ mostLevels) ⌝ }
-    ensures { λ r. ⌜ r ≤ mostCorridors * mostLevels ⌝ }
 {
-    corridors * levels
+    for k in 0..corridors {
+        print_rows(corridors, levels, k, sheet);
+    }
 }
 
 fn main() {
@@ -256,7 +257,7 @@ fn main() {
             print_buses(h.buses, &tier, &reading, &weight);
             print_generators(h.generators, &bus, &slack, &pmin, &pmax, &c1, &c2);
             print_corridors(h.corridors, &a, &b, &circuits, &length_km, &share, &cap);
-            print_lines(lines(h.corridors, levels), &sheet);
+            print_lines(h.corridors, levels, &sheet);
         }
     }
     print_looks(read.looks);

@@ -112,7 +112,7 @@ pub fn read_case(
         share,
         cap,
     );
-    tables::read_lines(file, lines, h.corridors * levels, sheet);
+    tables::read_lines(file, lines, h.corridors, levels, sheet);
     read
 }
 

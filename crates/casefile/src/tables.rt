@@ -1,6 +1,6 @@
 // Filling the lent tables, kind by kind, and the line sheet.
 ghost use mathlib.Core.Path.{_≡_};
-ghost use Prim.Native.Nat.{_+_, _≤_};
+ghost use Prim.Native.Nat.{_+_, _*_, _^_, _≤_, _<_};
 ghost use lib.ListN.{length};
 ghost use Rattle.loops.specs.Loops.{tab};
 ghost use Rattle.casefile_defs.specs.Layout.{sizeOf, spot};
@@ -45,14 +45,16 @@ fn line_figure(file: &[u8], at: usize, j: usize) -> f64
     basis_of(word(file, at + record::LINE_BASIS, record::U8))
 }
 
-// Place p of the sheet.
-fn sheet_in(file: &[u8], at: usize, count: usize, p: usize) -> f64
-    requires { ⌜ Room Kind.Line (now file) at count ⌝ }
-    ensures { λ r. ⌜ r ≡ sheetIn (now (file .entry)) at count p ⌝ }
+// Place p of the sheet, which has its rows by level where the file has them by corridor.
+fn sheet_in(file: &[u8], at: usize, corridors: usize, levels: usize, p: usize) -> f64
+    requires room { ⌜ Room Kind.Line (now file) at (corridors * levels) ⌝ }
+    requires few { ⌜ corridors * levels < 2 ^ 64 ⌝ }
+    ensures { λ r. ⌜ r ≡ sheetIn (now (file .entry)) at corridors levels p ⌝ }
 {
     let row = p / casefile_defs::ROW_FIGURES;
-    if row < count {
-        return line_figure(file, line_at(at, row), p % casefile_defs::ROW_FIGURES);
+    if row < corridors * levels {
+        let line = sheets::line_of(corridors, levels, row);
+        return line_figure(file, line_at(at, line), p % casefile_defs::ROW_FIGURES);
     }
     0.0
 }
@@ -217,13 +219,14 @@ pub fn read_corridors(
 }
 
 // Fills the sheet.
-pub fn read_lines(file: &[u8], at: usize, count: usize, sheet: &mut [f64])
-    requires { ⌜ Room Kind.Line (now file) at count ⌝ }
-    ensures { λ _. ⌜ now (sheet .exit) ≡ tab (length (now (sheet .entry))) (sheetIn (now (file .entry)) at count) ⌝ }
+pub fn read_lines(file: &[u8], at: usize, corridors: usize, levels: usize, sheet: &mut [f64])
+    requires room { ⌜ Room Kind.Line (now file) at (corridors * levels) ⌝ }
+    requires few { ⌜ corridors * levels < 2 ^ 64 ⌝ }
+    ensures { λ _. ⌜ now (sheet .exit) ≡ tab (length (now (sheet .entry))) (sheetIn (now (file .entry)) at corridors levels) ⌝ }
 {
     let mut p = 0;
     while p < sheet.len() {
-        sheet[p] = sheet_in(file, at, count, p);
+        sheet[p] = sheet_in(file, at, corridors, levels, p);
         p += 1;
     }
 }

@@ -1,4 +1,4 @@
--- Worked examples, by computation: case L (document 01, "Case file") as a file, what is read of it and what is left in the tables; its corridor with a cap; its buses with
+-- Worked examples, by computation: case L (document 01, "Case file") as a file, what is read of it and what is left in the tables; its corridor with a cap; lines by level; its buses with
 -- weights, and BU and BV in one file; case L moved into the other form and back; the refusals of files that differ from it in a byte or two; the bounds of counts and length; and the words and bytes looked at,
 -- both bounds of whose count are met.
 use Prim.Native.Nat.{ℕ, _+_, _*_}
@@ -18,7 +18,7 @@ use Rattle.mode.specs.declared.PlanMode.the-variants.{Observe}
 use Rattle.casefile_defs.specs.Layout.{little, word, spot}
 use Rattle.casefile_defs.specs.Looks.{lookedAs, lookedAt}
 use Rattle.casefile_defs.specs.Moving.{busAs, busesAs, fileAs, fitted, movedAs, unmoved, forwardBy, firstOther, backBy, moveBack}
-use Rattle.casefile_defs.specs.Reading.{lines, recordAt, admitted, stepped, walked, busForm, modeOf, headerOf, countsOk, tablesWalked, trailing, looksFor, caseRead, unread, endRead, bodyRead, readAs, readOf}
+use Rattle.casefile_defs.specs.Reading.{recordAt, admitted, stepped, walked, busForm, modeOf, headerOf, countsOk, tablesWalked, trailing, looksFor, caseRead, unread, endRead, bodyRead, readAs, readOf}
 use Rattle.casefile_defs.specs.Tables.{Places, numberAt, figureAt, numberIn, figureIn, weightAt, weightIn, sheetIn, linesAt, tablesOf}
 use Rattle.casefile_defs.specs.declared.Header.{Header}
 use Rattle.casefile_defs.specs.declared.Wanted.the-variants.{Either, Plain, Weighed}
@@ -92,7 +92,7 @@ unfolding tablesOf figureIn figureAt weightIn weightAt spot tab word little
 figures-l = refl
 
 -- the first places of the sheet, past its one row too
-pub sheet-l : tab 8 (sheetIn fileL (linesAt fileL headerL) (lines headerL)) ≡ nought ∷ half ∷ nought ∷ hundred ∷ nought ∷ nought ∷ nought ∷ nought ∷ []
+pub sheet-l : tab 8 (sheetIn fileL (linesAt fileL headerL) 1 1) ≡ nought ∷ half ∷ nought ∷ hundred ∷ nought ∷ nought ∷ nought ∷ nought ∷ []
 unfolding sheetIn spot tab word little
 sheet-l = refl
 
@@ -121,9 +121,20 @@ pub caps :
 unfolding tablesOf numberIn numberAt spot tab word little
 caps = refl
 
-pub sheet-two : tab 12 (sheetIn twoL (linesAt twoL headerTwo) (lines headerTwo)) ≡ nought ∷ half ∷ nought ∷ hundred ∷ nought ∷ nought ∷ half ∷ nought ∷ hundred ∷ nought ∷ nought ∷ nought ∷ []
+pub sheet-two : tab 12 (sheetIn twoL (linesAt twoL headerTwo) 2 1) ≡ nought ∷ half ∷ nought ∷ hundred ∷ nought ∷ nought ∷ half ∷ nought ∷ hundred ∷ nought ∷ nought ∷ nought ∷ []
 unfolding sheetIn spot tab word little
 sheet-two = refl
+
+-- document 02's K11: the first figure of each row, past the rows too, of three corridors' lines at two levels, told apart by that figure's last byte
+abbrev lineAs : ℕ → List ℕ
+lineAs z = set lineL 9 z
+
+abbrev sixL : List ℕ
+sixL = lineAs 1 ++ lineAs 2 ++ lineAs 3 ++ lineAs 4 ++ lineAs 5 ++ lineAs 6
+
+pub by-level : map (λ i. sheetIn sixL 0 3 2 (5 * i)) (0 ∷ 1 ∷ 2 ∷ 3 ∷ 4 ∷ 5 ∷ 6 ∷ []) ≡ map (λ z. ofBits binary64 (z * 0x100_0000_0000_0000)) (1 ∷ 3 ∷ 5 ∷ 2 ∷ 4 ∷ 6 ∷ 0 ∷ [])
+unfolding sheetIn spot word little
+by-level = refl
 
 -- ---- document 02's BV: two buses, of tier 3 with 100 at weight 0.5 and of tier 4 with 50 at weight 1
 abbrev weighedL : ℕ → List ℕ → List ℕ → List ℕ

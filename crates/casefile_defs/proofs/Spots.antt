@@ -10,6 +10,7 @@ use borrow.Author.Tests.{lt-ltb, le-ltb, ltb-true, le-leb, lt-leb}
 use lib.Dec.{ltb}
 use lib.Ieee.{Float, binary64, ofBits}
 use Rattle.loops.specs.Figures.{nought}
+use Rattle.sheets.specs.Sheet.{lineOf}
 use Rattle.casefile_defs.specs.Bounds.{rowFigures}
 use Rattle.casefile_defs.specs.Layout.{sizeOf, marked, standing, endOf, spot, word, field}
 use Rattle.casefile_defs.specs.Tables.{numberAt, numberIn, figureIn, weightIn, sheetIn, lineFigure, basisOf, basisField}
@@ -93,11 +94,11 @@ line-there at j x y s h e q = q ∙ ap (λ (n : ℕ). ofBits binary64 n) (e ∙ 
 pub line-basis : (at j x : ℕ) (y : Float) (s : List ℕ) → basisField ≤ j → x ≡ field Line basisField at s → y ≡ basisOf x → y ≡ lineFigure s at j
 line-basis at j x y s h e q = q ∙ ap (λ (n : ℕ). basisOf n) e ∙ simp (le-ltb _ _ h)
 
-module _ (s : List ℕ) (at count p : ℕ) where
-  pub sheet-there : (q : ℕ) (y : Float) → p / rowFigures < count → q ≡ spot Line s at (p / rowFigures) → y ≡ lineFigure s q (p % rowFigures) → y ≡ sheetIn s at count p
+module _ (s : List ℕ) (at m n p : ℕ) where
+  pub sheet-there : (q : ℕ) (y : Float) → p / rowFigures < m * n → q ≡ spot Line s at (lineOf m n (p / rowFigures)) → y ≡ lineFigure s q (p % rowFigures) → y ≡ sheetIn s at m n p
   unfolding sheetIn
   sheet-there q y h e f = f ∙ ap (λ (r : ℕ). lineFigure s r (p % rowFigures)) e ∙ simp (lt-ltb _ _ h)
 
-  pub sheet-past : count ≤ p / rowFigures → nought ≡ sheetIn s at count p
+  pub sheet-past : m * n ≤ p / rowFigures → nought ≡ sheetIn s at m n p
   unfolding sheetIn
   sheet-past h = simp (le-ltb _ _ h)

@@ -11,7 +11,7 @@ use Rattle.loops.specs.Loops.{tab}
 use Rattle.loops.proofs.Bools.{both}
 use Rattle.refusal.specs.declared.Refusal.the-variants.{Length}
 use Rattle.casefile_defs.specs.Bounds.{mostLevels, mostBuses, mostGenerators, mostCorridors, mostSheet}
-use Rattle.casefile_defs.specs.Reading.{levels, lines, readOf, unread}
+use Rattle.casefile_defs.specs.Reading.{levels, readOf, unread}
 use Rattle.casefile_defs.specs.Tables.{Places, placesOf, numbersOf, numbers, figures, weights, capField, sheetIn, levelsAt, busesAt, generatorsAt, corridorsAt, linesAt, tablesOf, held, sizesOk, outcome, readCase}
 use Rattle.casefile_defs.specs.declared.Kind.the-variants.{Level, Bus, Generator, Corridor, CappedCorridor}
 use Rattle.casefile_defs.specs.declared.Header.{Header}
@@ -94,7 +94,7 @@ pub tables-same : (s : List ℕ) (h : Header) (ladder : List Float) (tier : List
     → lengthKm ≡ figures Corridor 3 s (corridorsAt s h) (h .corridors) mostCorridors
     → share ≡ figures Corridor 4 s (corridorsAt s h) (h .corridors) mostCorridors
     → cap ≡ numbersOf Corridor CappedCorridor capField s (corridorsAt s h) (h .corridors) mostCorridors
-    → sheet ≡ tab mostSheet (sheetIn s (linesAt s h) (lines h))
+    → sheet ≡ tab mostSheet (sheetIn s (linesAt s h) (h .corridors) (levels h))
     → placesOf ladder tier reading weight bus slack pmin pmax c1 c2 a b circuits lengthKm share cap sheet ≡ tablesOf s h
 unfolding tablesOf
 tables-same s h ladder tier reading weight bus slack pmin pmax c1 c2 a b circuits lengthKm share cap sheet e0 e1 e2 e3 e4 e5 e6 e7 e8 e9 e10 e11 e12 e13 e14 e15 e16 = cc

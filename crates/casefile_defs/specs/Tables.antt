@@ -1,5 +1,5 @@
 -- Document 01's "Case reading": the lent tables, what reading leaves in each of their places, and the operation whole.
-use Prim.Native.Nat.{ℕ, _/_, _%_, _+_}
+use Prim.Native.Nat.{ℕ, _/_, _%_, _+_, _*_}
 use mathlib.Core.Bool.{Bool, _&&_, cond}
 use mathlib.Core.List.{List}
 use lib.Dec.{leb, ltb, eqb}
@@ -10,9 +10,10 @@ use Rattle.loops.specs.Loops.{tab}
 use Rattle.refusal.specs.Reply.{Reply, answered, refusedBy}
 use Rattle.refusal.specs.declared.Refusal.the-variants.{Length}
 use Rattle.mode.specs.declared.PlanMode.the-variants.{Expand}
+use Rattle.sheets.specs.Sheet.{lineOf}
 use Rattle.casefile_defs.specs.Bounds.{mostLevels, mostBuses, mostGenerators, mostCorridors, rowFigures, mostSheet}
 use Rattle.casefile_defs.specs.Layout.{sizeOf, placeOf, spanOf, marked, standing, spot, word, field}
-use Rattle.casefile_defs.specs.Reading.{levels, lines, readOf, unread}
+use Rattle.casefile_defs.specs.Reading.{levels, readOf, unread}
 use Rattle.casefile_defs.specs.declared.Kind.{Kind}
 use Rattle.casefile_defs.specs.declared.Kind.the-variants.{Head, Level, Bus, Generator, Corridor, Line, CappedCorridor, WeighedBus}
 use Rattle.casefile_defs.specs.declared.Header.{Header}
@@ -72,9 +73,9 @@ basisOf n = cond (eqb n 0) nought one
 abbrev pub lineFigure : List ℕ → ℕ → ℕ → Float
 lineFigure s at j = cond (ltb j basisField) (ofBits binary64 (field Line j at s)) (basisOf (field Line basisField at s))
 
--- place p of the sheet: a row for each line, in the file's order
-unfoldable pub sheetIn : List ℕ → ℕ → ℕ → ℕ → Float
-sheetIn s at count p = cond (ltb (p / rowFigures) count) (lineFigure s (spot Line s at (p / rowFigures)) (p % rowFigures)) nought
+-- place p of the sheet of m corridors and n levels: a row for each line. The file has them by corridor, the sheet by level (document 02, K11).
+unfoldable pub sheetIn : List ℕ → ℕ → ℕ → ℕ → ℕ → Float
+sheetIn s at m n p = cond (ltb (p / rowFigures) (m * n)) (lineFigure s (spot Line s at (lineOf m n (p / rowFigures))) (p % rowFigures)) nought
 
 -- the seventeen lent tables
 pub record Places : Type 0 where
@@ -152,7 +153,7 @@ tablesOf s h = placesOf
     (figures Corridor 3 s (corridorsAt s h) (h .corridors) mostCorridors)
     (figures Corridor 4 s (corridorsAt s h) (h .corridors) mostCorridors)
     (numbersOf Corridor CappedCorridor capField s (corridorsAt s h) (h .corridors) mostCorridors)
-    (tab mostSheet (sheetIn s (linesAt s h) (lines h)))
+    (tab mostSheet (sheetIn s (linesAt s h) (h .corridors) (levels h)))
 
 -- the counts that a reading leaves in the tables: none where it is refused
 unfoldable pub held : Reading → Header

@@ -5,7 +5,7 @@ use mathlib.Core.Path.{_≡_, refl, sym, ap, _∙_}
 use mathlib.Core.Bool.{Bool, true, false, cond}
 use mathlib.Core.List.{List, _++_}
 use native.Mathlib.Decide.{decLt}
-use native.Mathlib.Nat.{suc-mul}
+use native.Mathlib.Nat.{suc-mul, mul-comm}
 use native.Mathlib.Omega.{arith}
 use borrow.Author.Tests.{lt-ltb, le-ltb}
 use lib.Dec.{T, leb, lit<}
@@ -18,7 +18,9 @@ use Rattle.loops.proofs.Tab.{length-tab, get-tab}
 use Rattle.mode.specs.Number.{modeNumber}
 use Rattle.mode.specs.declared.PlanMode.{PlanMode}
 use Rattle.mode.specs.declared.PlanMode.the-variants.{Expand, Reinforce, Observe, ExpandServing, ReinforceServing, ObserveServing}
-use Rattle.casefile_defs.specs.Bounds.{mostSheet, mostBytes, rowFigures}
+use Rattle.sheets.specs.Sheet.{rowFigures, lineOf}
+use Rattle.sheets.proofs.Layouts.{line-inside, line-back as row-back}
+use Rattle.casefile_defs.specs.Bounds.{mostSheet, mostBytes}
 use Rattle.casefile_defs.specs.Layout.{Field, layoutOf, sizeOf, marked, standing, spot}
 use Rattle.casefile_defs.specs.Reading.{countsOk, levels, lines, looksFor, caseRead}
 use Rattle.casefile_defs.specs.Tables.{Places, basisField, basisOf, levelsAt, busesAt, generatorsAt, corridorsAt, linesAt, held, sizesOk, outcome, readCase}
@@ -28,11 +30,11 @@ use Rattle.casefile_defs.specs.declared.Header.{Header}
 use Rattle.casefile_defs.specs.declared.Reading.the-variants.{Read}
 use Rattle.casefile_defs.proofs.Counts.{small-of, lines-small}
 use Rattle.casefile_defs.proofs.Whole.{read-whole}
-use Rattle.casefile_theorems.specs.Writer.{headRow, countOf, Form, formIn, kindsOf, fileWith, fileOf, wordsOf, bitsAt, basisAt, rowPlace}
+use Rattle.casefile_theorems.specs.Writer.{headRow, countOf, Form, formIn, kindsOf, fileWith, fileOf, wordsOf, bitsAt, basisAt, rowPlace, rowOf}
 use Rattle.casefile_theorems.specs.Cases.{Numbers, Figures, Sheet, Case, Legal, longest}
 use Rattle.casefile_theorems.proofs.Back.{Whole, padded, length-file, weighed-back, capped-back, reading-back}
 use Rattle.casefile_theorems.proofs.Bytes.{Fine}
-use Rattle.casefile_theorems.proofs.Places.{numbersFrom, figuresFrom, weightFrom, capFrom, lineFrom, sheetFrom, placesFrom, tables-from}
+use Rattle.casefile_theorems.proofs.Places.{numbersFrom, figuresFrom, weightFrom, capFrom, lineFrom, sheetFrom, row-in, placesFrom, tables-from}
 
 -- ---- a case's numbers fit their fields
 bits-small : (x : Float) → T (fits binary64 x) → toBits binary64 x < 256 ^ 8
@@ -66,39 +68,40 @@ basis-small l i = by (eq (getD l i nought) nought)
     by true = (lit< tt, refl)
     by false = (lit< tt, refl)
 
-row-fine : (f : Form) (h : Header) (p : Places) → Case h p → (k : Kind) (i : ℕ) → i < countOf k h → Fine (layoutOf (kindsOf f k i) .fields) (wordsOf p k i)
+row-fine : (f : Form) (h : Header) (p : Places) → Case h p → (k : Kind) (i : ℕ) → i < countOf k h → Fine (layoutOf (kindsOf f k i) .fields) (wordsOf h p k i)
 unfolding Fine wordsOf
 row-fine f h p c Head i l = (lit< tt, refl, (lit< tt, refl, (lit< tt, refl, (lit< tt, refl, (lit< tt, refl, (lit< tt, refl, (lit< tt, refl, tt)))))))
 row-fine f h p c Level i l = (bits-small _ (c .ladder .double i l), refl, tt)
 row-fine f h p c Bus i l = bus (f .weighed)
   where
-    bus : (b : Bool) → Fine (layoutOf (cond b WeighedBus Bus) .fields) (wordsOf p Bus i)
+    bus : (b : Bool) → Fine (layoutOf (cond b WeighedBus Bus) .fields) (wordsOf h p Bus i)
     bus false = (c .tier .small i l, c .tier .bound i l, (bits-small _ (c .reading .double i l), refl, tt))
     bus true = (c .tier .small i l, c .tier .bound i l, (bits-small _ (c .reading .double i l), refl, (bits-small _ (c .weight .double i l), refl, tt)))
 row-fine f h p c Generator i l = (c .bus .small i l, c .bus .bound i l, (c .slack .small i l, c .slack .bound i l, (bits-small _ (c .pmin .double i l), refl, (bits-small _ (c .pmax .double i l), refl, (bits-small _ (c .c1 .double i l), refl, (bits-small _ (c .c2 .double i l), refl, tt))))))
 row-fine f h p c Corridor i l = corridor (f .capped i)
   where
-    corridor : (b : Bool) → Fine (layoutOf (cond b CappedCorridor Corridor) .fields) (wordsOf p Corridor i)
+    corridor : (b : Bool) → Fine (layoutOf (cond b CappedCorridor Corridor) .fields) (wordsOf h p Corridor i)
     corridor false = (c .a .small i l, c .a .bound i l, (c .b .small i l, c .b .bound i l, (c .circuits .small i l, c .circuits .bound i l, (bits-small _ (c .lengthKm .double i l), refl, (bits-small _ (c .share .double i l), refl, tt)))))
     corridor true = (c .a .small i l, c .a .bound i l, (c .b .small i l, c .b .bound i l, (c .circuits .small i l, c .circuits .bound i l, (bits-small _ (c .lengthKm .double i l), refl, (bits-small _ (c .share .double i l), refl, (c .cap .small i l, c .cap .bound i l, tt))))))
 row-fine f h p c Line i l =
-    let b = basis-small (p .sheet) (rowPlace i basisField) in (
-      bits-small _ (c .sheet .double i 0 l (lit< tt)),
+    let r = row-in (h .corridors) (levels h) i l in
+    let b = basis-small (p .sheet) (rowPlace (rowOf h i) basisField) in (
+      bits-small _ (c .sheet .double (rowOf h i) 0 r (lit< tt)),
       refl,
       (
-        bits-small _ (c .sheet .double i 1 l (lit< tt)),
+        bits-small _ (c .sheet .double (rowOf h i) 1 r (lit< tt)),
         refl,
         (
-          bits-small _ (c .sheet .double i 2 l (lit< tt)),
+          bits-small _ (c .sheet .double (rowOf h i) 2 r (lit< tt)),
           refl,
-          (bits-small _ (c .sheet .double i 3 l (lit< tt)), refl, (b .0, b .1, tt)),
+          (bits-small _ (c .sheet .double (rowOf h i) 3 r (lit< tt)), refl, (b .0, b .1, tt)),
         ),
       ),
     )
 row-fine f h p c CappedCorridor i l = absurd (omega arith)
 row-fine f h p c WeighedBus i l = absurd (omega arith)
 
-whole-of : (f : Form) (h : Header) (p : Places) → Case h p → Whole f h (wordsOf p)
+whole-of : (f : Form) (h : Header) (p : Places) → Case h p → Whole f h (wordsOf h p)
 whole-of f h p c = record { counts = c .counts; head = head-fine h (c .counts); rows = λ k i l. row-fine f h p c k i l }
 
 -- ---- the file of a case is never too long
@@ -142,16 +145,16 @@ whole-short f h v w =
 
 pub file-short : (f : Form) (h : Header) (p : Places) → Case h p → length (fileOf f h p) ≤ longest
 unfolding fileOf
-file-short f h p c = whole-short f h (wordsOf p) (whole-of f h p c)
+file-short f h p c = whole-short f h (wordsOf h p) (whole-of f h p c)
 
 -- ---- the file of a case shows its form
 pub case-weighed : (f : Form) (h : Header) (p : Places) → Case h p → (n : ℕ) → 0 < h .buses → formIn (fileOf f h p ++ replicate n 0) h .weighed ≡ f .weighed
 unfolding fileOf
-case-weighed f h p c n b = weighed-back f h (wordsOf p) n (whole-of f h p c) b
+case-weighed f h p c n b = weighed-back f h (wordsOf h p) n (whole-of f h p c) b
 
 pub case-capped : (f : Form) (h : Header) (p : Places) → Case h p → (n i : ℕ) → i < h .corridors → formIn (fileOf f h p ++ replicate n 0) h .capped i ≡ f .capped i
 unfolding fileOf
-case-capped f h p c n i b = capped-back f h (wordsOf p) n (whole-of f h p c) i b
+case-capped f h p c n i b = capped-back f h (wordsOf h p) n (whole-of f h p c) i b
 
 -- ---- a column from the numbers of its case
 numbers-from : {f : Field} (n count : ℕ) (l : List ℕ) (v : ℕ → ℕ) → Numbers f n count l → ((i : ℕ) → i < count → v i ≡ getD l i 0) → numbersFrom n count v ≡ l
@@ -175,41 +178,48 @@ figures-from n count l v c g =
 bits-back : (n count : ℕ) (l : List Float) → Figures n count l → (i : ℕ) → i < count → ofBits binary64 (bitsAt l i) ≡ getD l i nought
 bits-back n count l c i h = ofBits-toBits binary64 (getD l i nought) (c .double i h)
 
--- a row of the sheet
-line-words : (p : Places) (i j : ℕ) → j < basisField → wordsOf p Line i j ≡ bitsAt (p .sheet) (rowPlace i j)
+-- a line of the file, from its row of the sheet
+line-words : (h : Header) (p : Places) (i j : ℕ) → j < basisField → wordsOf h p Line i j ≡ bitsAt (p .sheet) (rowPlace (rowOf h i) j)
 unfolding wordsOf
-line-words p i zero h = refl
-line-words p i (suc zero) h = refl
-line-words p i (suc (suc zero)) h = refl
-line-words p i (suc (suc (suc zero))) h = refl
-line-words p i (suc (suc (suc (suc j)))) h = absurd (omega arith)
+line-words h p i zero l = refl
+line-words h p i (suc zero) l = refl
+line-words h p i (suc (suc zero)) l = refl
+line-words h p i (suc (suc (suc zero))) l = refl
+line-words h p i (suc (suc (suc (suc j)))) l = absurd (omega arith)
 
-line-back : (count : ℕ) (p : Places) → Sheet count (p .sheet) → (i j : ℕ) → i < count → j < rowFigures → lineFrom (wordsOf p Line i) j ≡ getD (p .sheet) (rowPlace i j) nought
+line-back : (h : Header) (p : Places) → Sheet (lines h) (p .sheet) → (i j : ℕ) → i < lines h → j < rowFigures
+    → lineFrom (wordsOf h p Line i) j ≡ getD (p .sheet) (rowPlace (rowOf h i) j) nought
 unfolding wordsOf
-line-back count p c i j h l =
+line-back h p c i j l m =
+    let r = row-in (h .corridors) (levels h) i l in
     elim (decLt j basisField) [
       | yes b ↦
-          ap (λ (x : Bool). cond x (ofBits binary64 (wordsOf p Line i j)) (basisOf (wordsOf p Line i basisField))) (lt-ltb j basisField b)
-          ∙ ap (λ (x : ℕ). ofBits binary64 x) (line-words p i j b)
-          ∙ ofBits-toBits binary64 (getD (p .sheet) (rowPlace i j) nought) (c .double i j h b)
+          ap (λ (x : Bool). cond x (ofBits binary64 (wordsOf h p Line i j)) (basisOf (wordsOf h p Line i basisField))) (lt-ltb j basisField b)
+          ∙ ap (λ (x : ℕ). ofBits binary64 x) (line-words h p i j b)
+          ∙ ofBits-toBits binary64 (getD (p .sheet) (rowPlace (rowOf h i) j) nought) (c .double (rowOf h i) j r b)
       | no b ↦
           let e : basisField ≡ j = omega arith in
-          ap (λ (x : Bool). cond x (ofBits binary64 (wordsOf p Line i j)) (basisOf (wordsOf p Line i basisField))) (le-ltb j basisField (omega arith))
-          ∙ c .basis i h
-          ∙ ap (λ (m : ℕ). getD (p .sheet) (rowPlace i m) nought) e
+          ap (λ (x : Bool). cond x (ofBits binary64 (wordsOf h p Line i j)) (basisOf (wordsOf h p Line i basisField))) (le-ltb j basisField (omega arith))
+          ∙ c .basis (rowOf h i) r
+          ∙ ap (λ (x : ℕ). getD (p .sheet) (rowPlace (rowOf h i) x) nought) e
     ]
 
-sheet-from : (count : ℕ) (p : Places) → Sheet count (p .sheet) → sheetFrom count (wordsOf p Line) ≡ p .sheet
-sheet-from count p c =
-    ext-getD nought (sheetFrom count (wordsOf p Line)) (p .sheet) (length-tab mostSheet _ ∙ sym (c .size)) (λ q b.
+-- the sheet from the lines: row q / 5 by level, by corridor and by level again
+sheet-from : (m n : ℕ) (l : List Float) (v : ℕ → ℕ → ℕ) → Sheet (m * n) l → ((i j : ℕ) → i < m * n → j < rowFigures → lineFrom (v i) j ≡ getD l (rowPlace (lineOf n m i) j) nought) → sheetFrom m n v ≡ l
+sheet-from m n l v c g =
+    ext-getD nought (sheetFrom m n v) l (length-tab mostSheet _ ∙ sym (c .size)) (λ q b.
+    let r = q / rowFigures in
+    let j = q % rowFigures in
     get-tab mostSheet _ q nought (rw (length-tab mostSheet _) at b)
-    ∙ elim (decLt (q / rowFigures) count) [
+    ∙ elim (decLt r (m * n)) [
       | yes h ↦
-          let e : rowPlace (q / rowFigures) (q % rowFigures) ≡ q = omega arith in
-          ap (λ (x : Bool). cond x (lineFrom (wordsOf p Line (q / rowFigures)) (q % rowFigures)) nought) (lt-ltb (q / rowFigures) count h)
-          ∙ line-back count p c (q / rowFigures) (q % rowFigures) h (omega arith)
-          ∙ ap (λ (m : ℕ). getD (p .sheet) m nought) e
-      | no h ↦ ap (λ (x : Bool). cond x (lineFrom (wordsOf p Line (q / rowFigures)) (q % rowFigures)) nought) (le-ltb (q / rowFigures) count (omega arith)) ∙ sym (c .past q (omega arith))
+          let e : rowPlace r j ≡ q = omega arith in
+          let h′ : r < n * m = omega (arith, mul-comm m n) in
+          ap (λ (x : Bool). cond x (lineFrom (v (lineOf m n r)) j) nought) (lt-ltb r (m * n) h)
+          ∙ g (lineOf m n r) j (line-inside m n r h) (omega arith)
+          ∙ ap (λ (x : ℕ). getD l (rowPlace x j) nought) (row-back n m r h′)
+          ∙ ap (λ (x : ℕ). getD l x nought) e
+      | no h ↦ ap (λ (x : Bool). cond x (lineFrom (v (lineOf m n r)) j) nought) (le-ltb r (m * n) (omega arith)) ∙ sym (c .past q (omega arith))
     ])
 
 module _ (f : Form) (h : Header) (p : Places) (g : Legal f h p) (c : Case h p) where
@@ -228,7 +238,7 @@ module _ (f : Form) (h : Header) (p : Places) (g : Legal f h p) (c : Case h p) w
       by true e = refl
 
   -- the tables of the case's numbers are the case's
-  pub places-back : placesFrom f h (wordsOf p) ≡ p
+  pub places-back : placesFrom f h (wordsOf h p) ≡ p
   unfolding placesFrom wordsOf
   places-back =
       simp (
@@ -248,7 +258,7 @@ module _ (f : Form) (h : Header) (p : Places) (g : Legal f h p) (c : Case h p) w
         figures-from _ _ (p .lengthKm) (λ i. ofBits binary64 (bitsAt (p .lengthKm) i)) (c .lengthKm) (bits-back _ _ (p .lengthKm) (c .lengthKm)),
         figures-from _ _ (p .share) (λ i. ofBits binary64 (bitsAt (p .share) i)) (c .share) (bits-back _ _ (p .share) (c .share)),
         numbers-from _ _ (p .cap) (λ i. capFrom (f .capped i) (getD (p .cap) i 0)) (c .cap) cap-back,
-        sheet-from (lines h) p (c .sheet),
+        sheet-from (h .corridors) (levels h) (p .sheet) (wordsOf h p Line) (c .sheet) (line-back h p (c .sheet)),
       )
 
   -- the first direction, whole: reading the file of a case, followed by zeros, gives the case
@@ -258,5 +268,5 @@ module _ (f : Form) (h : Header) (p : Places) (g : Legal f h p) (c : Case h p) w
   case-read n q z l =
       let w = whole-of f h p c in
       sym
-      (read-whole (padded f h (wordsOf p) n w) q p (caseRead (Read h) (looksFor n n)) h z (sym (reading-back f h (wordsOf p) n w l)) refl
-      (sym (tables-from f h (wordsOf p) n w ∙ places-back)))
+      (read-whole (padded f h (wordsOf h p) n w) q p (caseRead (Read h) (looksFor n n)) h z (sym (reading-back f h (wordsOf h p) n w l)) refl
+      (sym (tables-from f h (wordsOf h p) n w ∙ places-back)))

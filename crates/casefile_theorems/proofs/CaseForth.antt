@@ -15,7 +15,9 @@ use lib.ListN.{length, getD, List·getD-eq-default}
 use Rattle.loops.specs.Figures.{nought}
 use Rattle.loops.proofs.Bits.{only-nan}
 use Rattle.loops.proofs.Tab.{length-tab, get-tab}
-use Rattle.casefile_defs.specs.Bounds.{mostLevels, mostBuses, mostGenerators, mostCorridors, mostSheet, rowFigures}
+use Rattle.sheets.specs.Sheet.{rowFigures, lineOf}
+use Rattle.sheets.proofs.Layouts.{line-inside, line-back}
+use Rattle.casefile_defs.specs.Bounds.{mostLevels, mostBuses, mostGenerators, mostCorridors, mostSheet}
 use Rattle.casefile_defs.specs.Layout.{Field, figure, upTo, u8, u16, widthOf, allowed, layoutOf}
 use Rattle.casefile_defs.specs.Reading.{levels, lines, Small}
 use Rattle.casefile_defs.specs.Tables.{basisField, basisOf, weightField, capField}
@@ -23,11 +25,11 @@ use Rattle.casefile_defs.specs.declared.Kind.{Kind}
 use Rattle.casefile_defs.specs.declared.Kind.the-variants.{Level, Bus, Generator, Corridor, Line, CappedCorridor, WeighedBus}
 use Rattle.casefile_defs.specs.declared.Header.{Header}
 use Rattle.casefile_defs.proofs.Counts.{small-of, lines-small}
-use Rattle.casefile_theorems.specs.Writer.{recordBytes, tableBytes, Form, kindsOf, fileWith, fileOf, wordsOf, rowPlace, nanPattern, tidy, tidied}
+use Rattle.casefile_theorems.specs.Writer.{recordBytes, tableBytes, Form, kindsOf, fileWith, fileOf, wordsOf, rowPlace, rowOf, nanPattern, tidy, tidied}
 use Rattle.casefile_theorems.specs.Cases.{Numbers, Figures, Sheet, Case, Legal}
 use Rattle.casefile_theorems.proofs.Back.{Whole}
 use Rattle.casefile_theorems.proofs.Bytes.{Fine, fields-same}
-use Rattle.casefile_theorems.proofs.Places.{numbersFrom, figuresFrom, weightFrom, capFrom, lineFrom, sheetFrom, placesFrom}
+use Rattle.casefile_theorems.proofs.Places.{numbersFrom, figuresFrom, weightFrom, capFrom, lineFrom, sheetFrom, row-in, placesFrom}
 
 -- ---- the same numbers make the same file
 pub tables-alike : (ks : ℕ → Kind) (n : ℕ) (u v : ℕ → ℕ → ℕ) → ((i j : ℕ) → i < n → j < length (layoutOf (ks i) .fields) → u i j ≡ v i j) → tableBytes ks n u ≡ tableBytes ks n v
@@ -72,14 +74,14 @@ number-cell n count i v h l = get-tab n _ i 0 (omega arith) ∙ ap (λ (x : Bool
 figure-cell : (n count i : ℕ) (v : ℕ → Float) → i < count → count ≤ n → getD (figuresFrom n count v) i nought ≡ v i
 figure-cell n count i v h l = get-tab n _ i nought (omega arith) ∙ ap (λ (x : Bool). cond x (v i) nought) (lt-ltb i count h)
 
-sheet-cell : (count : ℕ) (v : ℕ → ℕ → ℕ) (i j : ℕ) → i < count → count ≤ mostCorridors * mostLevels → j < rowFigures → getD (sheetFrom count v) (rowPlace i j) nought ≡ lineFrom (v i) j
-sheet-cell count v i j h l b =
+sheet-cell : (m n : ℕ) (v : ℕ → ℕ → ℕ) (i j : ℕ) → i < m * n → m * n ≤ mostCorridors * mostLevels → j < rowFigures → getD (sheetFrom m n v) (rowPlace i j) nought ≡ lineFrom (v (lineOf m n i)) j
+sheet-cell m n v i j h l b =
     let q : rowPlace i j / rowFigures ≡ i = omega arith in
     let r : rowPlace i j % rowFigures ≡ j = omega arith in
     get-tab mostSheet _ (rowPlace i j) nought (omega arith)
-    ∙ ap (λ (m : ℕ). cond (ltb m count) (lineFrom (v m) (rowPlace i j % rowFigures)) nought) q
-    ∙ ap (λ (m : ℕ). cond (ltb i count) (lineFrom (v i) m) nought) r
-    ∙ ap (λ (x : Bool). cond x (lineFrom (v i) j) nought) (lt-ltb i count h)
+    ∙ ap (λ (x : ℕ). cond (ltb x (m * n)) (lineFrom (v (lineOf m n x)) (rowPlace i j % rowFigures)) nought) q
+    ∙ ap (λ (x : ℕ). cond (ltb i (m * n)) (lineFrom (v (lineOf m n i)) x) nought) r
+    ∙ ap (λ (x : Bool). cond x (lineFrom (v (lineOf m n i)) j) nought) (lt-ltb i (m * n) h)
 
 -- a basis that was read as a figure is written as it was
 basis-back : (n : ℕ) → n ≤ 1 → cond (eq (basisOf n) nought) 0 1 ≡ n
@@ -120,16 +122,16 @@ weight-double false n = ofBits-fits binary64 0x3ff0_0000_0000_0000
 line-double : (w : ℕ → ℕ) (j : ℕ) → j < basisField → T (fits binary64 (lineFrom w j))
 line-double w j h = rw (lt-ltb j basisField h) (ofBits-fits binary64 (w j))
 
-sheet-case : (count : ℕ) (v : ℕ → ℕ → ℕ) → count ≤ mostCorridors * mostLevels → ((i : ℕ) → i < count → v i basisField ≤ 1) → Sheet count (sheetFrom count v)
-sheet-case count v l g = record {
+sheet-case : (m n : ℕ) (v : ℕ → ℕ → ℕ) → m * n ≤ mostCorridors * mostLevels → ((i : ℕ) → i < m * n → v i basisField ≤ 1) → Sheet (m * n) (sheetFrom m n v)
+sheet-case m n v l g = record {
   size = length-tab mostSheet _;
-  double = λ i j h b. rw (sheet-cell count v i j h l (omega arith)) (line-double (v i) j b);
+  double = λ i j h b. rw (sheet-cell m n v i j h l (omega arith)) (line-double (v (lineOf m n i)) j b);
   basis = λ i h.
-      let e : getD (sheetFrom count v) (rowPlace i basisField) nought ≡ basisOf (v i basisField) = sheet-cell count v i basisField h l (lit< tt) in
-      ap (λ (x : Float). basisOf (cond (eq x nought) 0 1)) e ∙ ap (λ (m : ℕ). basisOf m) (basis-back _ (g i h)) ∙ sym e;
+      let e : getD (sheetFrom m n v) (rowPlace i basisField) nought ≡ basisOf (v (lineOf m n i) basisField) = sheet-cell m n v i basisField h l (lit< tt) in
+      ap (λ (x : Float). basisOf (cond (eq x nought) 0 1)) e ∙ ap (λ (x : ℕ). basisOf x) (basis-back _ (g (lineOf m n i) (line-inside m n i h))) ∙ sym e;
   past = λ q h. elim (decLt q mostSheet) [
-    | yes m ↦ get-tab mostSheet _ q nought m ∙ ap (λ (x : Bool). cond x (lineFrom (v (q / rowFigures)) (q % rowFigures)) nought) (le-ltb (q / rowFigures) count (omega arith))
-    | no m ↦ List·getD-eq-default (sheetFrom count v) nought (rw (length-tab mostSheet _) (omega arith))
+    | yes b ↦ get-tab mostSheet _ q nought b ∙ ap (λ (x : Bool). cond x (lineFrom (v (lineOf m n (q / rowFigures))) (q % rowFigures)) nought) (le-ltb (q / rowFigures) (m * n) (omega arith))
+    | no b ↦ List·getD-eq-default (sheetFrom m n v) nought (rw (length-tab mostSheet _) (omega arith))
   ];
 }
 
@@ -188,7 +190,7 @@ module _ (f : Form) (h : Header) (v : Kind → ℕ → ℕ → ℕ) (g : Whole f
     lengthKm = figures-case mostCorridors (h .corridors) (λ i. v Corridor i 3) (small .corridors);
     share = figures-case mostCorridors (h .corridors) (λ i. v Corridor i 4) (small .corridors);
     cap = numbers-case u8 mostCorridors (h .corridors) (λ i. capFrom (f .capped i) (v Corridor i capField)) (small .corridors) (λ i l. (corridor-of i l .cap, refl));
-    sheet = sheet-case (lines h) (v Line) (lines-small h small) (λ i l. leb-true _ 1 (g .rows Line i l .2 .2 .2 .2 .1));
+    sheet = sheet-case (h .corridors) (levels h) (v Line) (lines-small h small) (λ i l. leb-true _ 1 (g .rows Line i l .2 .2 .2 .2 .1));
   }
 
   -- it can be written in the form
@@ -206,22 +208,22 @@ module _ (f : Form) (h : Header) (v : Kind → ℕ → ℕ → ℕ) (g : Whole f
   figure-words : (n count : ℕ) (w : ℕ → ℕ) (i : ℕ) → i < count → count ≤ n → w i < 2 ^ 64 → toBits binary64 (getD (figuresFrom n count (λ m. ofBits binary64 (w m))) i nought) ≡ tidy figure (w i)
   figure-words n count w i l m b = ap (λ (x : Float). toBits binary64 x) (figure-cell n count i (λ k. ofBits binary64 (w k)) l m) ∙ bits-tidy (w i) b
 
-  level-words : Alike f (wordsOf (placesFrom f h v)) (tidied f v) Level (levels h)
+  level-words : Alike f (wordsOf h (placesFrom f h v)) (tidied f v) Level (levels h)
   unfolding wordsOf placesFrom tidied tidy Fine
   level-words i zero l m = figure-words mostLevels (levels h) (λ k. v Level k 0) i l (small .levels) (g .rows Level i l .0)
   level-words i (suc j) l m = absurd (omega arith)
 
   -- the fields that either bus record has, and the weight of a BV
-  tier-word : (i : ℕ) → i < h .buses → wordsOf (placesFrom f h v) Bus i 0 ≡ v Bus i 0
+  tier-word : (i : ℕ) → i < h .buses → wordsOf h (placesFrom f h v) Bus i 0 ≡ v Bus i 0
   unfolding wordsOf placesFrom
   tier-word i l = number-cell mostBuses (h .buses) i (λ k. v Bus k 0) l (small .buses)
 
-  reading-word : (i : ℕ) → i < h .buses → wordsOf (placesFrom f h v) Bus i 1 ≡ tidy figure (v Bus i 1)
+  reading-word : (i : ℕ) → i < h .buses → wordsOf h (placesFrom f h v) Bus i 1 ≡ tidy figure (v Bus i 1)
   unfolding wordsOf placesFrom
   reading-word i l = figure-words mostBuses (h .buses) (λ k. v Bus k 1) i l (small .buses) (bus-of i l .reading)
 
   bus-word : (i : ℕ) → i < h .buses → (b : Bool) → f .weighed ≡ b → (j : ℕ) → j < length (layoutOf (cond b WeighedBus Bus) .fields)
-      → wordsOf (placesFrom f h v) Bus i j ≡ tidy (getD (layoutOf (cond b WeighedBus Bus) .fields) j figure) (v Bus i j)
+      → wordsOf h (placesFrom f h v) Bus i j ≡ tidy (getD (layoutOf (cond b WeighedBus Bus) .fields) j figure) (v Bus i j)
   unfolding wordsOf placesFrom tidy
   bus-word i l false e zero m = tier-word i l
   bus-word i l false e (suc zero) m = reading-word i l
@@ -234,11 +236,11 @@ module _ (f : Form) (h : Header) (v : Kind → ℕ → ℕ → ℕ) (g : Whole f
       ∙ bits-tidy (v Bus i weightField) (subst (λ (b : Bool). cond b (v Bus i weightField) 0 < 256 ^ 8) e (bus-of i l .weight))
   bus-word i l true e (suc (suc (suc j))) m = absurd (omega arith)
 
-  bus-words : Alike f (wordsOf (placesFrom f h v)) (tidied f v) Bus (h .buses)
+  bus-words : Alike f (wordsOf h (placesFrom f h v)) (tidied f v) Bus (h .buses)
   unfolding tidied
   bus-words i j l m = bus-word i l (f .weighed) refl j m
 
-  generator-words : Alike f (wordsOf (placesFrom f h v)) (tidied f v) Generator (h .generators)
+  generator-words : Alike f (wordsOf h (placesFrom f h v)) (tidied f v) Generator (h .generators)
   unfolding wordsOf placesFrom tidied tidy Fine
   generator-words i zero l m = number-cell mostGenerators (h .generators) i (λ k. v Generator k 0) l (small .generators)
   generator-words i (suc zero) l m = number-cell mostGenerators (h .generators) i (λ k. v Generator k 1) l (small .generators)
@@ -249,7 +251,7 @@ module _ (f : Form) (h : Header) (v : Kind → ℕ → ℕ → ℕ) (g : Whole f
   generator-words i (suc (suc (suc (suc (suc (suc j)))))) l m = absurd (omega arith)
 
   -- the fields that either corridor record has
-  shared-word : (i : ℕ) → i < h .corridors → (j : ℕ) → j < length (layoutOf Corridor .fields) → wordsOf (placesFrom f h v) Corridor i j ≡ tidy (getD (layoutOf Corridor .fields) j figure) (v Corridor i j)
+  shared-word : (i : ℕ) → i < h .corridors → (j : ℕ) → j < length (layoutOf Corridor .fields) → wordsOf h (placesFrom f h v) Corridor i j ≡ tidy (getD (layoutOf Corridor .fields) j figure) (v Corridor i j)
   unfolding wordsOf placesFrom tidy
   shared-word i l zero m = number-cell mostCorridors (h .corridors) i (λ k. v Corridor k 0) l (small .corridors)
   shared-word i l (suc zero) m = number-cell mostCorridors (h .corridors) i (λ k. v Corridor k 1) l (small .corridors)
@@ -259,7 +261,7 @@ module _ (f : Form) (h : Header) (v : Kind → ℕ → ℕ → ℕ) (g : Whole f
   shared-word i l (suc (suc (suc (suc (suc j))))) m = absurd (omega arith)
 
   corridor-word : (i : ℕ) → i < h .corridors → (b : Bool) → f .capped i ≡ b → (j : ℕ) → j < length (layoutOf (cond b CappedCorridor Corridor) .fields)
-      → wordsOf (placesFrom f h v) Corridor i j ≡ tidy (getD (layoutOf (cond b CappedCorridor Corridor) .fields) j figure) (v Corridor i j)
+      → wordsOf h (placesFrom f h v) Corridor i j ≡ tidy (getD (layoutOf (cond b CappedCorridor Corridor) .fields) j figure) (v Corridor i j)
   unfolding wordsOf placesFrom tidy
   corridor-word i l false e j m = shared-word i l j m
   corridor-word i l true e zero m = shared-word i l 0 (lit< tt)
@@ -271,27 +273,34 @@ module _ (f : Form) (h : Header) (v : Kind → ℕ → ℕ → ℕ) (g : Whole f
       number-cell mostCorridors (h .corridors) i (λ k. capFrom (f .capped k) (v Corridor k capField)) l (small .corridors) ∙ ap (λ (b : Bool). capFrom b (v Corridor i capField)) e
   corridor-word i l true e (suc (suc (suc (suc (suc (suc j)))))) m = absurd (omega arith)
 
-  corridor-words : Alike f (wordsOf (placesFrom f h v)) (tidied f v) Corridor (h .corridors)
+  corridor-words : Alike f (wordsOf h (placesFrom f h v)) (tidied f v) Corridor (h .corridors)
   unfolding tidied
   corridor-words i j l m = corridor-word i l (f .capped i) refl j m
 
-  line-figure : (i j : ℕ) → i < lines h → j < basisField → v Line i j < 2 ^ 64 → toBits binary64 (getD (sheetFrom (lines h) (v Line)) (rowPlace i j) nought) ≡ tidy figure (v Line i j)
+  -- the row of the sheet that is line i of the file holds that line
+  line-cell : (i j : ℕ) → i < lines h → j < rowFigures → getD (sheetFrom (h .corridors) (levels h) (v Line)) (rowPlace (rowOf h i) j) nought ≡ lineFrom (v Line i) j
+  line-cell i j l m =
+      sheet-cell (h .corridors) (levels h) (v Line) (rowOf h i) j (row-in (h .corridors) (levels h) i l) (lines-small h small) m
+      ∙ ap (λ (x : ℕ). lineFrom (v Line x) j) (line-back (h .corridors) (levels h) i l)
+
+  line-figure : (i j : ℕ) → i < lines h → j < basisField → v Line i j < 2 ^ 64
+      → toBits binary64 (getD (sheetFrom (h .corridors) (levels h) (v Line)) (rowPlace (rowOf h i) j) nought) ≡ tidy figure (v Line i j)
   line-figure i j l m b =
-      ap (λ (x : Float). toBits binary64 x) (sheet-cell (lines h) (v Line) i j l (lines-small h small) (omega arith) ∙ ap (λ (x : Bool). cond x (ofBits binary64 (v Line i j)) (basisOf (v Line i basisField))) (lt-ltb j basisField m))
+      ap (λ (x : Float). toBits binary64 x) (line-cell i j l (omega arith) ∙ ap (λ (x : Bool). cond x (ofBits binary64 (v Line i j)) (basisOf (v Line i basisField))) (lt-ltb j basisField m))
       ∙ bits-tidy (v Line i j) b
 
-  line-words : Alike f (wordsOf (placesFrom f h v)) (tidied f v) Line (lines h)
+  line-words : Alike f (wordsOf h (placesFrom f h v)) (tidied f v) Line (lines h)
   unfolding wordsOf placesFrom tidied tidy Fine
   line-words i zero l m = line-figure i 0 l (lit< tt) (g .rows Line i l .0)
   line-words i (suc zero) l m = line-figure i 1 l (lit< tt) (g .rows Line i l .2 .0)
   line-words i (suc (suc zero)) l m = line-figure i 2 l (lit< tt) (g .rows Line i l .2 .2 .0)
   line-words i (suc (suc (suc zero))) l m = line-figure i 3 l (lit< tt) (g .rows Line i l .2 .2 .2 .0)
   line-words i (suc (suc (suc (suc zero)))) l m =
-      ap (λ (x : Float). cond (eq x nought) 0 1) (sheet-cell (lines h) (v Line) i basisField l (lines-small h small) (lit< tt))
+      ap (λ (x : Float). cond (eq x nought) 0 1) (line-cell i basisField l (lit< tt))
       ∙ basis-back (v Line i basisField) (leb-true _ 1 (g .rows Line i l .2 .2 .2 .2 .1))
   line-words i (suc (suc (suc (suc (suc j))))) l m = absurd (omega arith)
 
   -- the file of the tables
   pub file-from : fileOf f h (placesFrom f h v) ≡ fileWith f h (tidied f v)
   unfolding fileOf
-  file-from = files-alike f h (wordsOf (placesFrom f h v)) (tidied f v) level-words bus-words generator-words corridor-words line-words
+  file-from = files-alike f h (wordsOf h (placesFrom f h v)) (tidied f v) level-words bus-words generator-words corridor-words line-words

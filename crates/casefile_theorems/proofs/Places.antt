@@ -1,10 +1,11 @@
 -- The tables that the file of a form and of numbers is read into: they depend on the numbers, and on the form only where a BU has no weight
 -- and a CO no cap.
 -- Each record stands in its place, so each place of a column is its field's number.
-use Prim.Native.Nat.{ℕ, zero, suc, _+_, _/_, _%_, _<_, _≤_}
+use Prim.Native.Nat.{ℕ, zero, suc, _+_, _*_, _/_, _%_, _<_, _≤_}
 use mathlib.Core.Bool.{Bool, true, false, cond}
 use mathlib.Core.List.{List}
 use mathlib.Core.Path.{_≡_, refl, sym, ap, _∙_, subst}
+use native.Mathlib.Nat.{mul-comm}
 use native.Mathlib.Omega.{arith}
 use lib.Dec.{lit<, ltb}
 use lib.Ieee.{Float, binary64, ofBits}
@@ -12,9 +13,11 @@ use lib.ListN.{length}
 use Rattle.loops.specs.Figures.{nought, one}
 use Rattle.loops.specs.Loops.{tab}
 use Rattle.loops.proofs.Tab.{tab-same}
-use Rattle.casefile_defs.specs.Bounds.{mostLevels, mostBuses, mostGenerators, mostCorridors, mostSheet, rowFigures}
+use Rattle.sheets.specs.Sheet.{rowFigures, lineOf}
+use Rattle.sheets.proofs.Layouts.{line-inside}
+use Rattle.casefile_defs.specs.Bounds.{mostLevels, mostBuses, mostGenerators, mostCorridors, mostSheet}
 use Rattle.casefile_defs.specs.Layout.{layoutOf, sizeOf, placeOf, spanOf, field, word, marked, spot}
-use Rattle.casefile_defs.specs.Reading.{levels, lines}
+use Rattle.casefile_defs.specs.Reading.{levels}
 use Rattle.casefile_defs.specs.Tables.{Places, placesOf, numberAt, figureAt, weightAt, numberIn, figureIn, weightIn, numbers, sheetIn, lineFigure, basisField, basisOf, weightField, capField, levelsAt, busesAt, generatorsAt, corridorsAt, linesAt, tablesOf}
 use Rattle.casefile_defs.specs.declared.Kind.{Kind}
 use Rattle.casefile_defs.specs.declared.Kind.the-variants.{Level, Bus, Generator, Corridor, Line, CappedCorridor, WeighedBus}
@@ -112,19 +115,26 @@ corridor-cap true s p w g = number-cell Corridor CappedCorridor s p w 5 23 1 g (
 abbrev pub lineFrom : (ℕ → ℕ) → ℕ → Float
 lineFrom w j = cond (ltb j basisField) (ofBits binary64 (w j)) (basisOf (w basisField))
 
-abbrev pub sheetFrom : ℕ → (ℕ → ℕ → ℕ) → List Float
-sheetFrom count v = tab mostSheet (λ p. cond (ltb (p / rowFigures) count) (lineFrom (v (p / rowFigures)) (p % rowFigures)) nought)
+-- v i is line i of the file, and row p / 5 by level is line `lineOf m n (p / 5)`
+abbrev pub sheetFrom : ℕ → ℕ → (ℕ → ℕ → ℕ) → List Float
+sheetFrom m n v = tab mostSheet (λ p. cond (ltb (p / rowFigures) (m * n)) (lineFrom (v (lineOf m n (p / rowFigures))) (p % rowFigures)) nought)
+
+-- the row of a line is among the rows
+pub row-in : (m n i : ℕ) → i < m * n → lineOf n m i < m * n
+row-in m n i l = let z : i < n * m = omega (arith, mul-comm m n) in omega (arith, line-inside n m i z, mul-comm m n)
 
 line-cell : (s : List ℕ) (p : ℕ) (w : ℕ → ℕ) (j : ℕ) → j < rowFigures → Found Line Line s p w → lineFigure s p j ≡ lineFrom w j
 line-cell s p w j h g =
     by-test j basisField _ _ _ (λ b. ap (λ (x : ℕ). ofBits binary64 x) (g .stands .holds j h))
     ∙ ap (λ (x : ℕ). cond (ltb j basisField) (ofBits binary64 (w j)) (basisOf x)) (g .stands .holds basisField (lit< tt))
 
-sheet-column : (s : List ℕ) (at count : ℕ) (v : ℕ → ℕ → ℕ) → ((i : ℕ) → i < count → Found Line Line s (spot Line s at i) (v i)) → tab mostSheet (sheetIn s at count) ≡ sheetFrom count v
+sheet-column : (s : List ℕ) (at m n : ℕ) (v : ℕ → ℕ → ℕ) → ((i : ℕ) → i < m * n → Found Line Line s (spot Line s at i) (v i)) → tab mostSheet (sheetIn s at m n) ≡ sheetFrom m n v
 unfolding sheetIn
-sheet-column s at count v g =
+sheet-column s at m n v g =
     tab-same mostSheet _ _
-    (λ p h. by-test (p / rowFigures) count _ _ nought (λ b. line-cell s (spot Line s at (p / rowFigures)) (v (p / rowFigures)) (p % rowFigures) (omega arith) (g (p / rowFigures) b)))
+    (λ p h.
+    let i = lineOf m n (p / rowFigures) in
+    by-test (p / rowFigures) (m * n) _ _ nought (λ b. line-cell s (spot Line s at i) (v i) (p % rowFigures) (omega arith) (g i (line-inside m n (p / rowFigures) b))))
 
 -- ---- all tables
 unfoldable pub placesFrom : Form → Header → (Kind → ℕ → ℕ → ℕ) → Places
@@ -145,7 +155,7 @@ placesFrom f h v = placesOf
     (figuresFrom mostCorridors (h .corridors) (λ i. ofBits binary64 (v Corridor i 3)))
     (figuresFrom mostCorridors (h .corridors) (λ i. ofBits binary64 (v Corridor i 4)))
     (numbersFrom mostCorridors (h .corridors) (λ i. capFrom (f .capped i) (v Corridor i capField)))
-    (sheetFrom (lines h) (v Line))
+    (sheetFrom (h .corridors) (levels h) (v Line))
 
 module _ (f : Form) (h : Header) (v : Kind → ℕ → ℕ → ℕ) (n : ℕ) (g : Whole f h v) where
   abbrev s : List ℕ
@@ -188,4 +198,4 @@ module _ (f : Form) (h : Header) (v : Kind → ℕ → ℕ → ℕ) (n : ℕ) (g
       (sym (figure-column Corridor s (corridorsAt s h) (h .corridors) 7 mostCorridors _ (λ i b. corridor-length (f .capped i) s _ (v Corridor i) (corridor-found f h v n g i b))))
       (sym (figure-column Corridor s (corridorsAt s h) (h .corridors) 15 mostCorridors _ (λ i b. corridor-share (f .capped i) s _ (v Corridor i) (corridor-found f h v n g i b))))
       (sym (number-column Corridor s (corridorsAt s h) (h .corridors) 23 1 mostCorridors _ (λ i b. corridor-cap (f .capped i) s _ (v Corridor i) (corridor-found f h v n g i b))))
-      (sym (sheet-column s (linesAt s h) (lines h) (v Line) (line-found f h v n g))))
+      (sym (sheet-column s (linesAt s h) (h .corridors) (levels h) (v Line) (line-found f h v n g))))

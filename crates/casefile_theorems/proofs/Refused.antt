@@ -27,8 +27,8 @@ no-figures k j s at n = sym (tab-replicate n nought) ∙ tab-same n (λ i. nough
 no-weights : (s : List ℕ) (at n : ℕ) → replicate n nought ≡ weights s at 0 n
 no-weights s at n = sym (tab-replicate n nought) ∙ tab-same n (λ i. nought) _ (λ i h. weight-past s at 0 i (omega arith))
 
-no-sheet : (s : List ℕ) (at n : ℕ) → replicate n nought ≡ tab n (sheetIn s at 0)
-no-sheet s at n = sym (tab-replicate n nought) ∙ tab-same n (λ i. nought) _ (λ i h. sheet-past s at 0 i (omega arith))
+no-sheet : (s : List ℕ) (at n : ℕ) → replicate n nought ≡ tab n (sheetIn s at 0 0)
+no-sheet s at n = sym (tab-replicate n nought) ∙ tab-same n (λ i. nought) _ (λ i h. sheet-past s at 0 0 i (omega arith))
 
 pub refused-blank : (s : List ℕ) (f : Refusal) → blank ≡ tablesOf s (held (Refused f))
 unfolding held blank

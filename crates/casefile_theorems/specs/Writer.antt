@@ -7,7 +7,7 @@ use lib.Ieee.{Float, binary64, toBits, eq, nanBits}
 use lib.ListN.{getD}
 use Rattle.loops.specs.Figures.{nought}
 use Rattle.mode.specs.Number.{modeNumber}
-use Rattle.casefile_defs.specs.Bounds.{rowFigures}
+use Rattle.sheets.specs.Sheet.{rowFigures, lineOf}
 use Rattle.casefile_defs.specs.Layout.{Field, number, upTo, figure, widthOf, layoutOf, marked, spot}
 use Rattle.casefile_defs.specs.Reading.{levels, lines}
 use Rattle.casefile_defs.specs.Tables.{Places, basisField, busesAt, corridorsAt}
@@ -91,22 +91,26 @@ basisAt l i = cond (eq (getD l i nought) nought) 0 1
 abbrev pub rowPlace : ℕ → ℕ → ℕ
 rowPlace i j = i * rowFigures + j
 
+-- the row of the sheet that is line i of the file: the file has the rows by corridor, the sheet by level, and the way back is the same formula with the counts exchanged
+abbrev pub rowOf : Header → ℕ → ℕ
+rowOf h i = lineOf (levels h) (h .corridors) i
+
 -- the numbers of a case's records; the header's are in `headRow`
-unfoldable pub wordsOf : Places → Kind → ℕ → ℕ → ℕ
-wordsOf p Head i = row []
-wordsOf p Level i = row (bitsAt (p .ladder) i ∷ [])
-wordsOf p Bus i = row (getD (p .tier) i 0 ∷ bitsAt (p .reading) i ∷ bitsAt (p .weight) i ∷ [])
-wordsOf p Generator i = row (getD (p .bus) i 0 ∷ getD (p .slack) i 0 ∷ bitsAt (p .pmin) i ∷ bitsAt (p .pmax) i ∷ bitsAt (p .c1) i ∷ bitsAt (p .c2) i ∷ [])
-wordsOf p Corridor i = row (getD (p .a) i 0 ∷ getD (p .b) i 0 ∷ getD (p .circuits) i 0 ∷ bitsAt (p .lengthKm) i ∷ bitsAt (p .share) i ∷ getD (p .cap) i 0 ∷ [])
-wordsOf p Line i =
-    row (bitsAt (p .sheet) (rowPlace i 0) ∷ bitsAt (p .sheet) (rowPlace i 1) ∷ bitsAt (p .sheet) (rowPlace i 2) ∷ bitsAt (p .sheet) (rowPlace i 3)
-    ∷ basisAt (p .sheet) (rowPlace i basisField) ∷ [])
-wordsOf p CappedCorridor i = row []
-wordsOf p WeighedBus i = row []
+unfoldable pub wordsOf : Header → Places → Kind → ℕ → ℕ → ℕ
+wordsOf h p Head i = row []
+wordsOf h p Level i = row (bitsAt (p .ladder) i ∷ [])
+wordsOf h p Bus i = row (getD (p .tier) i 0 ∷ bitsAt (p .reading) i ∷ bitsAt (p .weight) i ∷ [])
+wordsOf h p Generator i = row (getD (p .bus) i 0 ∷ getD (p .slack) i 0 ∷ bitsAt (p .pmin) i ∷ bitsAt (p .pmax) i ∷ bitsAt (p .c1) i ∷ bitsAt (p .c2) i ∷ [])
+wordsOf h p Corridor i = row (getD (p .a) i 0 ∷ getD (p .b) i 0 ∷ getD (p .circuits) i 0 ∷ bitsAt (p .lengthKm) i ∷ bitsAt (p .share) i ∷ getD (p .cap) i 0 ∷ [])
+wordsOf h p Line i =
+    row (bitsAt (p .sheet) (rowPlace (rowOf h i) 0) ∷ bitsAt (p .sheet) (rowPlace (rowOf h i) 1) ∷ bitsAt (p .sheet) (rowPlace (rowOf h i) 2)
+    ∷ bitsAt (p .sheet) (rowPlace (rowOf h i) 3) ∷ basisAt (p .sheet) (rowPlace (rowOf h i) basisField) ∷ [])
+wordsOf h p CappedCorridor i = row []
+wordsOf h p WeighedBus i = row []
 
 -- the file of a case in a form
 unfoldable pub fileOf : Form → Header → Places → List ℕ
-fileOf f h p = fileWith f h (wordsOf p)
+fileOf f h p = fileWith f h (wordsOf h p)
 
 -- the form in which only corridors with a cap are written as CP, and the buses as BV or not
 unfoldable pub capsOnly : Bool → Places → Form

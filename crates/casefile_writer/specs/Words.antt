@@ -1,5 +1,5 @@
 -- The numbers of a record, by the tables that they stand in: those of casefile_theorems' `wordsOf`, one kind at a time. And a mark as a number of two bytes.
-use Prim.Native.Nat.{ℕ, _+_, _*_}
+use Prim.Native.Nat.{ℕ, _+_, _*_, _/_, _%_}
 use mathlib.Core.Bool.{Bool, cond}
 use mathlib.Core.List.{List, [], _∷_}
 use lib.Dec.{ltb}
@@ -7,9 +7,11 @@ use lib.Ieee.{Float, binary64, toBits, eq}
 use lib.ListN.{getD}
 use Rattle.loops.specs.Figures.{at, nought, one}
 use Rattle.loops.specs.Loops.{first}
-use Rattle.casefile_defs.specs.Bounds.{rowFigures}
+use Rattle.sheets.specs.Sheet.{rowPlace}
 use Rattle.casefile_defs.specs.Layout.{layoutOf}
+use Rattle.casefile_defs.specs.Reading.{levels}
 use Rattle.casefile_defs.specs.Tables.{Places, basisField}
+use Rattle.casefile_defs.specs.declared.Header.{Header}
 use Rattle.casefile_defs.specs.declared.Kind.{Kind}
 use Rattle.casefile_defs.specs.declared.Kind.the-variants.{Head, Level, Bus, Generator, Corridor, Line, CappedCorridor, WeighedBus}
 use Rattle.casefile_theorems.specs.Writer.{row}
@@ -74,17 +76,20 @@ generatorWords bus slack pmin pmax c1 c2 i = generatorRow (getD bus i 0) (getD s
 abbrev pub corridorWords : List ℕ → List ℕ → List ℕ → List Float → List Float → List ℕ → ℕ → ℕ → ℕ
 corridorWords a b circuits km share cap i = corridorRow (getD a i 0) (getD b i 0) (getD circuits i 0) (at km i) (at share i) (getD cap i 0)
 
-abbrev pub lineWords : List Float → ℕ → ℕ → ℕ
-lineWords sheet i =
-    let p = i * rowFigures in
-    lineRow (at sheet p) (at sheet (p + 1)) (at sheet (p + 2)) (at sheet (p + 3)) (at sheet (p + basisField))
+-- the line of the row that begins at place p
+abbrev pub lineFrom : List Float → ℕ → ℕ → ℕ
+lineFrom sheet p = lineRow (at sheet p) (at sheet (p + 1)) (at sheet (p + 2)) (at sheet (p + 3)) (at sheet (p + basisField))
 
-unfoldable pub wordsIn : Places → Kind → ℕ → ℕ → ℕ
-wordsIn p Head i = row []
-wordsIn p Level i = levelWords (p .ladder) i
-wordsIn p Bus i = busWords (p .tier) (p .reading) (p .weight) i
-wordsIn p Generator i = generatorWords (p .bus) (p .slack) (p .pmin) (p .pmax) (p .c1) (p .c2) i
-wordsIn p Corridor i = corridorWords (p .a) (p .b) (p .circuits) (p .lengthKm) (p .share) (p .cap) i
-wordsIn p Line i = lineWords (p .sheet) i
-wordsIn p CappedCorridor i = row []
-wordsIn p WeighedBus i = row []
+-- line i is corridor i / n's at level i % n, in a sheet by level of m corridors (document 02, K11)
+abbrev pub lineWords : ℕ → ℕ → List Float → ℕ → ℕ → ℕ
+lineWords m n sheet i = lineFrom sheet (rowPlace m (i / n) (i % n))
+
+unfoldable pub wordsIn : Header → Places → Kind → ℕ → ℕ → ℕ
+wordsIn h p Head i = row []
+wordsIn h p Level i = levelWords (p .ladder) i
+wordsIn h p Bus i = busWords (p .tier) (p .reading) (p .weight) i
+wordsIn h p Generator i = generatorWords (p .bus) (p .slack) (p .pmin) (p .pmax) (p .c1) (p .c2) i
+wordsIn h p Corridor i = corridorWords (p .a) (p .b) (p .circuits) (p .lengthKm) (p .share) (p .cap) i
+wordsIn h p Line i = lineWords (h .corridors) (levels h) (p .sheet) i
+wordsIn h p CappedCorridor i = row []
+wordsIn h p WeighedBus i = row []

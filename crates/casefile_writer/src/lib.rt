@@ -50,7 +50,6 @@ pub fn put_case_file(
     ensures size { λ r. ⌜ r ≤ longest ⌝ }
 {
     let levels = h.above + h.requested;
-    let lines = h.corridors * levels;
     let used = put_head(out, 0, h);
     let used = put_levels(out, used, levels, ladder);
     let weighed = some_weight(h.buses, weight);
@@ -67,5 +66,5 @@ pub fn put_case_file(
         share,
         cap,
     );
-    put_lines(out, used, lines, sheet)
+    put_lines(out, used, h.corridors, levels, sheet)
 }

@@ -4,16 +4,16 @@ ghost use Prim.Native.Nat.{_+_, _*_, _≤_};
 ghost use lib.ListN.{length};
 ghost use Rattle.casefile_defs.specs.Bounds.{rowFigures};
 ghost use Rattle.casefile_defs.specs.Layout.{sizeOf};
-ghost use Rattle.casefile_theorems.specs.Writer.{tableBytes};
+ghost use Rattle.casefile_theorems.specs.Writer.{recordBytes, tableBytes};
 ghost use Rattle.casefile_writer.specs.Put.{Put};
-ghost use Rattle.casefile_writer.specs.Words.{only, weighs, busKind, corridorKinds, levelWords, busWords, generatorWords, corridorWords, lineWords};
+ghost use Rattle.casefile_writer.specs.Words.{only, weighs, busKind, corridorKinds, levelWords, busWords, generatorWords, corridorWords, lineFrom, lineWords};
 use crate::record::put_bus;
 use crate::record::put_corridor;
 use crate::record::put_generator;
 use crate::record::put_level;
 use crate::record::put_line;
 use casefile_defs::Kind;
-use casefile_defs::ROW_FIGURES;
+use sheets::row_place;
 
 pub fn put_levels(out: &mut [u8], len: usize, count: usize, ladder: &[f64]) -> usize
     requires { ⌜ len + count * sizeOf Kind.Level ≤ length (now out) ⌝ }
@@ -139,25 +139,43 @@ pub fn put_corridors(
     used
 }
 
-pub fn put_lines(out: &mut [u8], len: usize, count: usize, sheet: &[f64]) -> usize
-    requires { ⌜ len + count * sizeOf Kind.Line ≤ length (now out) ⌝ }
-    requires { ⌜ count * rowFigures ≤ length (now sheet) ⌝ }
-    ensures put { λ r. ⌜ Put (now (out .entry)) len (tableBytes (only Kind.Line) count (lineWords (now (sheet .entry)))) (now (out .exit)) r ⌝ }
-    ensures size { λ r. ⌜ r ≡ len + count * sizeOf Kind.Line ⌝ }
+// The row of the sheet that begins at place p.
+fn put_row(out: &mut [u8], len: usize, sheet: &[f64], p: usize) -> usize
+    requires { ⌜ len + sizeOf Kind.Line ≤ length (now out) ⌝ }
+    requires { ⌜ p + rowFigures ≤ length (now sheet) ⌝ }
+    ensures put { λ r. ⌜ Put (now (out .entry)) len (recordBytes Kind.Line (lineFrom (now (sheet .entry)) p)) (now (out .exit)) r ⌝ }
+    ensures size { λ r. ⌜ r ≡ len + sizeOf Kind.Line ⌝ }
 {
+    put_line(
+        out,
+        len,
+        sheet[p],
+        sheet[p + 1],
+        sheet[p + 2],
+        sheet[p + 3],
+        sheet[p + 4],
+    )
+}
+
+// The file has its lines by corridor, the sheet its rows by level.
+pub fn put_lines(
+    out: &mut [u8],
+    len: usize,
+    corridors: usize,
+    levels: usize,
+    sheet: &[f64],
+) -> usize
+    requires { ⌜ len + corridors * levels * sizeOf Kind.Line ≤ length (now out) ⌝ }
+    requires { ⌜ corridors * levels * rowFigures ≤ length (now sheet) ⌝ }
+    ensures put { λ r. ⌜ Put (now (out .entry)) len (tableBytes (only Kind.Line) (corridors * levels) (lineWords corridors levels (now (sheet .entry)))) (now (out .exit)) r ⌝ }
+    ensures size { λ r. ⌜ r ≡ len + corridors * levels * sizeOf Kind.Line ⌝ }
+{
+    let count = corridors * levels;
     let mut used = len;
     let mut i = 0;
     while i < count {
-        let at = i * ROW_FIGURES;
-        used = put_line(
-            out,
-            used,
-            sheet[at],
-            sheet[at + 1],
-            sheet[at + 2],
-            sheet[at + 3],
-            sheet[at + 4],
-        );
+        let p = row_place(corridors, i / levels, i % levels);
+        used = put_row(out, used, sheet, p);
         i += 1;
     }
     used

@@ -1,25 +1,28 @@
 -- The refusals in order: 1 for the joined tables and 1 to 7 of the first case, 1 to 7 of the second, 2, 24; and what passes them all.
-use Prim.Native.Nat.{ℕ}
+use Prim.Native.Nat.{ℕ, _*_}
 use mathlib.Core.Bool.{Bool, true, false, cond, _&&_, and-assoc}
 use mathlib.Core.List.{List}
 use mathlib.Core.Option.{Option, none, some}
 use mathlib.Core.Path.{_≡_, refl, sym, ap, _∙_}
 use native.Mathlib.Omega.{arith}
 use borrow.Author.Tests.{leb-true}
+use lib.ListN.{length}
 use Rattle.loops.proofs.Bools.{both, unequal}
 use Rattle.refusal.specs.declared.Refusal.{Refusal}
 use Rattle.refusal.specs.declared.Refusal.the-variants.{Length, Count, Districts}
 use Rattle.refusal.specs.declared.Answer.{Answer}
 use Rattle.refusal.specs.declared.Answer.the-variants.{Answered, Refused}
+use Rattle.sheets.specs.Sheet.{rowFigures}
 use Rattle.casefile_defs.specs.Tables.{Places}
 use Rattle.casefile_defs.specs.declared.Header.{Header}
-use Rattle.plan_defs.specs.Case.{Case}
+use Rattle.plan_defs.specs.Case.{Case, levels}
 use Rattle.plan_defs.specs.Accept.{caseFault}
 use Rattle.plan_defs.proofs.Accepted.{Accepted, accepted, bus-below, end-a, end-b}
 use Rattle.acceptance.specs.Check.{answerOf}
 use Rattle.join_defs.specs.Districts.{sameLadder, sumsOk, alike, orElse, joinFault}
 use Rattle.join_defs.specs.Joining.{caseAs}
-use Rattle.join.specs.Joins.{Raises, Summed, headsAlike, checkOf}
+use Rattle.join_defs.proofs.Levels.{levels-same}
+use Rattle.join.specs.Joins.{Raises, Rowed, Summed, headsAlike, checkOf}
 
 module _ (fits : Bool) (c : Case) (t : ℕ) (d : Case) (u : ℕ) where
   -- what is left after 1 to 7 of both, and of the first
@@ -80,6 +83,7 @@ module _ (fits : Bool) (c : Case) (t : ℕ) (d : Case) (u : ℕ) where
     pub first : caseFault c t ≡ none
     pub second : caseFault d u ≡ none
     pub sums : sumsOk c t d u ≡ true
+    pub same : alike c d ≡ true
 
   pub joinable : Answered ≡ checkOf fits c t d u → Joinable
   unfolding checkOf joinFault
@@ -91,11 +95,11 @@ module _ (fits : Bool) (c : Case) (t : ℕ) (d : Case) (u : ℕ) where
       go true (some f) p s x y z w q = absurd (unequal cc)
       go true none (some f) s x y z w q = absurd (unequal cc)
       go true none none false x y z w q = absurd (unequal cc)
-      go true none none true x y z w q = record { sized = x; free = free-by (alike c d) refl q; first = y; second = z; sums = w }
+      go true none none true x y z w q = by-same (alike c d) refl q
         where
-          free-by : (l : Bool) → alike c d ≡ l → Answered ≡ answerOf (cond l none (some Districts)) → joinFault c t d u ≡ none
-          free-by false v r = absurd (unequal cc)
-          free-by true v r = rw (y, z, w, v)
+          by-same : (l : Bool) → alike c d ≡ l → Answered ≡ answerOf (cond l none (some Districts)) → Joinable
+          by-same false v r = absurd (unequal cc)
+          by-same true v r = record { sized = x; free = rw (y, z, w, v); first = y; second = z; sums = w; same = v }
 
 -- ---- of two headers and their tables
 pub record Raised (by : ℕ) (x y z : List ℕ) : Type 0 where
@@ -113,6 +117,9 @@ module _ (fits : Bool) (h : Header) (p : Places) (k : Header) (q : Places)
       let s₃ = both _ _ (s₂ .1) in
       record { buses = leb-true _ _ (s₁ .0); corridors = leb-true _ _ (s₂ .0); generators = leb-true _ _ (s₃ .0); target = leb-true _ _ (s₃ .1) }
 
+  first-ok : Accepted (caseAs h p) (h .target)
+  first-ok = accepted (caseAs h p) (h .target) (j .first)
+
   second-ok : Accepted (caseAs k q) (k .target)
   second-ok = accepted (caseAs k q) (k .target) (j .second)
 
@@ -123,6 +130,19 @@ module _ (fits : Bool) (h : Header) (p : Places) (k : Header) (q : Places)
         bus = λ i l. omega (arith, summed .buses, bus-below (caseAs k q) (k .target) second-ok i (omega (arith, second-ok .columns .bus)));
         a = λ i l. omega (arith, summed .buses, end-a (caseAs k q) (k .target) second-ok i (omega (arith, second-ok .columns .a)));
         b = λ i l. omega (arith, summed .buses, end-b (caseAs k q) (k .target) second-ok i (omega (arith, second-ok .columns .b)));
+      }
+
+  pub same-levels : levels (caseAs h p) ≡ levels (caseAs k q)
+  same-levels = levels-same (caseAs h p) (caseAs k q) (j .same) (h .target) (k .target) first-ok second-ok
+
+  -- the two sheets have the rows of one count of levels
+  pub rowed : Rowed (h .corridors) (k .corridors) (levels (caseAs h p)) (length (p .sheet)) (length (q .sheet))
+  rowed =
+      record {
+        first-size = first-ok .columns .sheet;
+        second-size = second-ok .columns .sheet ∙ ap (λ (n : ℕ). rowFigures * (k .corridors * n)) (sym same-levels);
+        few-corridors = summed .corridors;
+        few-levels = first-ok .counts .few-levels;
       }
 
 -- 24, the headers and the ladders each tested for themselves

@@ -1,13 +1,15 @@
 -- What the contracts of join's functions cite: the tests that read two headers, the joined header, and the refusals in order.
-use Prim.Native.Nat.{ℕ, _+_, _^_, _<_, _≤_}
+use Prim.Native.Nat.{ℕ, _+_, _*_, _^_, _<_, _≤_}
 use mathlib.Core.Bool.{Bool, cond, _&&_}
 use mathlib.Core.List.{List}
 use mathlib.Core.Option.{some}
+use mathlib.Core.Path.{_≡_}
 use lib.Dec.{leb, eqb}
 use lib.ListN.{length, getD}
 use Rattle.refusal.specs.declared.Answer.{Answer}
 use Rattle.refusal.specs.declared.Refusal.the-variants.{Length}
 use Rattle.mode.specs.Number.{modeNumber}
+use Rattle.sheets.specs.Sheet.{rowFigures}
 use Rattle.casefile_defs.specs.Bounds.{mostLevels, mostBuses, mostCorridors, mostGenerators, mostTarget, mostSheet}
 use Rattle.casefile_defs.specs.declared.Header.{Header}
 use Rattle.plan_defs.specs.Case.{Case}
@@ -17,6 +19,13 @@ use Rattle.join_defs.specs.Districts.{joinFault}
 -- numbers that fit a u32 when they are raised
 abbrev pub Raises : ℕ → List ℕ → Type 0
 Raises by y = (i : ℕ) → i < length y → by + getD y i 0 < 2 ^ 32
+
+-- sheets of so many figures have the rows of m corridors and of o, at n levels
+pub record Rowed (m o n first second : ℕ) : Type 0 where
+  pub first-size : first ≡ rowFigures * (m * n)
+  pub second-size : second ≡ rowFigures * (o * n)
+  pub few-corridors : m + o ≤ mostCorridors
+  pub few-levels : n ≤ mostLevels
 
 -- 1 of the joined tables, by their lengths
 abbrev pub sizesBy : ℕ → ℕ → ℕ → ℕ → ℕ → ℕ → ℕ → ℕ → ℕ → ℕ → ℕ → ℕ → ℕ → ℕ → ℕ → ℕ → ℕ → Bool

@@ -245,6 +245,9 @@ pub fn join_cases(
     );
     put_corridors(
         n,
+        first.corridors,
+        second.corridors,
+        first.above + first.requested,
         first_a,
         first_b,
         first_circuits,

@@ -2,10 +2,11 @@
 ghost use mathlib.Core.List.{[]};
 ghost use mathlib.Core.Path.{_≡_};
 ghost use lib.ListN.{length};
-ghost use Rattle.join_defs.specs.Columns.{figures, counts};
-ghost use Rattle.join.specs.Joins.{Raises};
+ghost use Rattle.join_defs.specs.Columns.{figures, counts, joinedSheet};
+ghost use Rattle.join.specs.Joins.{Raises, Rowed};
 use crate::columns::append_counts;
 use crate::columns::append_figures;
+use crate::columns::append_sheet;
 
 // The ladder is the first's.
 fn put_ladder(first_ladder: &[f64], ladder: &mut [f64])
@@ -75,8 +76,12 @@ pub fn put_generators(
     append_figures(c2, first_c2, second_c2);
 }
 
+// The first has m corridors and the second o, at so many levels.
 pub fn put_corridors(
     n: u32,
+    m: usize,
+    o: usize,
+    levels: usize,
     first_a: &[u32],
     first_b: &[u32],
     first_circuits: &[u32],
@@ -101,13 +106,14 @@ pub fn put_corridors(
 )
     requires { ⌜ Raises n (now «second_a») ⌝ }
     requires { ⌜ Raises n (now «second_b») ⌝ }
+    requires { ⌜ Rowed m o levels (length (now «first_sheet»)) (length (now «second_sheet»)) ⌝ }
     ensures a { λ _. ⌜ now (a .exit) ≡ counts (length (now (a .entry))) n (now («first_a» .entry)) (now («second_a» .entry)) ⌝ }
     ensures b { λ _. ⌜ now (b .exit) ≡ counts (length (now (b .entry))) n (now («first_b» .entry)) (now («second_b» .entry)) ⌝ }
     ensures circuits { λ _. ⌜ now (circuits .exit) ≡ counts (length (now (circuits .entry))) 0 (now («first_circuits» .entry)) (now («second_circuits» .entry)) ⌝ }
     ensures length_km { λ _. ⌜ now («length_km» .exit) ≡ figures (length (now («length_km» .entry))) (now («first_length_km» .entry)) (now («second_length_km» .entry)) ⌝ }
     ensures share { λ _. ⌜ now (share .exit) ≡ figures (length (now (share .entry))) (now («first_share» .entry)) (now («second_share» .entry)) ⌝ }
     ensures cap { λ _. ⌜ now (cap .exit) ≡ counts (length (now (cap .entry))) 0 (now («first_cap» .entry)) (now («second_cap» .entry)) ⌝ }
-    ensures sheet { λ _. ⌜ now (sheet .exit) ≡ figures (length (now (sheet .entry))) (now («first_sheet» .entry)) (now («second_sheet» .entry)) ⌝ }
+    ensures sheet { λ _. ⌜ now (sheet .exit) ≡ joinedSheet (length (now (sheet .entry))) m o levels (now («first_sheet» .entry)) (now («second_sheet» .entry)) ⌝ }
 {
     append_counts(a, first_a, second_a, n);
     append_counts(b, first_b, second_b, n);
@@ -115,5 +121,5 @@ pub fn put_corridors(
     append_figures(length_km, first_length_km, second_length_km);
     append_figures(share, first_share, second_share);
     append_counts(cap, first_cap, second_cap, 0);
-    append_figures(sheet, first_sheet, second_sheet);
+    append_sheet(sheet, m, o, levels, first_sheet, second_sheet);
 }

@@ -1,20 +1,20 @@
 -- Two districts by hand: what is said of them joined, the joined ends, and each refusal in its order.
-use Prim.Native.Nat.{ℕ}
+use Prim.Native.Nat.{ℕ, _+_, _*_}
 use mathlib.Core.Bool.{true, false}
-use mathlib.Core.List.{List, [], _∷_}
+use mathlib.Core.List.{List, [], _∷_, _++_}
 use mathlib.Core.Path.{_≡_, refl}
 use lib.Ieee.{Float, binary64, ofBits}
 use lib.ListN.{replicate}
-use Rattle.loops.specs.Figures.{nought, half, one, two, fifty, hundred}
+use Rattle.loops.specs.Figures.{nought, half, one, two, fifty, hundred, float}
 use Rattle.refusal.specs.Reply.{Reply, answered, refused}
 use Rattle.mode.specs.declared.PlanMode.{PlanMode}
 use Rattle.mode.specs.declared.PlanMode.the-variants.{Expand, ExpandServing}
 use Rattle.casefile_defs.specs.Tables.{Places, placesOf}
 use Rattle.casefile_defs.specs.declared.Header.{Header}
-use Rattle.plan_defs.specs.Case.{Case}
+use Rattle.plan_defs.specs.Case.{Case, rowsOf}
 use Rattle.join_defs.specs.Columns.{counts}
-use Rattle.join_defs.specs.Districts.{joinedCase, sumsOk}
-use Rattle.join_defs.specs.Joining.{caseAs, joinCases}
+use Rattle.join_defs.specs.Districts.{joinedRow, joinedCase, sumsOk}
+use Rattle.join_defs.specs.Joining.{caseAs, sheetOf, joinCases}
 
 -- 138 and 230 kV
 abbrev low : Float
@@ -64,7 +64,7 @@ said h p k q = joinCases h p k q (lent 6400) .reply
 -- ---- counts and targets are added
 pub joined : said (header Expand 3 2 1 0 1) first (header Expand 5 3 2 0 1) second
     ≡ answered (record { mode = Expand; target = 8; buses = 5; corridors = 3; generators = 2; above = 0; requested = 1 })
-unfolding joinCases Rattle.join_defs.specs.Joining.joinedBy Rattle.join_defs.specs.Districts.joinFault joinedCase sumsOk Rattle.join_defs.specs.Districts.alike Rattle.join_defs.specs.Districts.sameLadder Rattle.casefile_defs.specs.Tables.sizesOk Rattle.refusal.specs.Number.numberOf Rattle.refusal.specs.Number.indexOf Rattle.mode.specs.Number.modeNumber Rattle.loops.specs.Loops.first Rattle.loops.specs.Loops.tab Rattle.plan_defs.specs.Case.rowPlace Rattle.plan_defs.specs.Case.rowAt Rattle.plan_defs.specs.Accept.lengthsOk Rattle.plan_defs.specs.Accept.countsOk Rattle.plan_defs.specs.Accept.levelOk Rattle.plan_defs.specs.Accept.busOk Rattle.plan_defs.specs.Accept.generatorOk Rattle.plan_defs.specs.Accept.corridorSound Rattle.plan_defs.specs.Accept.rowOk Rattle.plan_defs.specs.Accept.tablesFault Rattle.plan_defs.specs.Accept.caseFault lib.Ieee.add lib.Ieee.mul lib.Ieee.lt lib.Ieee.le lib.Ieee.eq lib.Ieee.neg ofBits lib.Ieee.round
+unfolding joinCases Rattle.join_defs.specs.Joining.joinedBy Rattle.join_defs.specs.Districts.joinFault joinedCase sumsOk Rattle.join_defs.specs.Districts.alike Rattle.join_defs.specs.Districts.sameLadder Rattle.casefile_defs.specs.Tables.sizesOk Rattle.refusal.specs.Number.numberOf Rattle.refusal.specs.Number.indexOf Rattle.mode.specs.Number.modeNumber Rattle.loops.specs.Loops.first Rattle.loops.specs.Loops.tab Rattle.plan_defs.specs.Case.rowsOf Rattle.join_defs.specs.Districts.joinedRow Rattle.plan_defs.specs.Case.rowAt Rattle.plan_defs.specs.Accept.lengthsOk Rattle.plan_defs.specs.Accept.countsOk Rattle.plan_defs.specs.Accept.levelOk Rattle.plan_defs.specs.Accept.busOk Rattle.plan_defs.specs.Accept.generatorOk Rattle.plan_defs.specs.Accept.corridorSound Rattle.plan_defs.specs.Accept.rowOk Rattle.plan_defs.specs.Accept.tablesFault Rattle.plan_defs.specs.Accept.caseFault lib.Ieee.add lib.Ieee.mul lib.Ieee.lt lib.Ieee.le lib.Ieee.eq lib.Ieee.neg ofBits lib.Ieee.round
 joined = refl
 
 -- ---- the second's ends and its generator's bus are moved, its circuits are not
@@ -80,6 +80,15 @@ pub column : counts 5 2 (0 ∷ []) (0 ∷ 2 ∷ []) ≡ 0 ∷ 2 ∷ 4 ∷ 0 ∷ 
 unfolding Rattle.loops.specs.Loops.tab
 column = refl
 
+-- ---- the sheet by level: one corridor and two at two levels, the rows told apart; zero past them
+abbrev row : ℕ → List Float
+row t = float (10 * t) ∷ float (10 * t + 1) ∷ float (10 * t + 2) ∷ float (10 * t + 3) ∷ float (10 * t + 4) ∷ []
+
+pub laid : sheetOf 32 3 2 (joinedRow 1 (rowsOf 1 2 (row 1 ++ row 2)) (rowsOf 2 2 (row 3 ++ row 4 ++ row 5 ++ row 6)))
+    ≡ row 1 ++ row 3 ++ row 4 ++ row 2 ++ row 5 ++ row 6 ++ nought ∷ nought ∷ []
+unfolding sheetOf joinedRow rowsOf Rattle.loops.specs.Loops.tab
+laid = refl
+
 -- ---- refusals: the joined tables' 1; the first's own, whatever the second is; the second's own, with its own index; 2 of the sums; then 24
 pub refusals :
     joinCases (header Expand 3 2 1 0 1) first (header Expand 5 3 2 0 1) second (lent 6399) .reply
@@ -88,7 +97,7 @@ pub refusals :
     ∷ said (header Expand 65_532 2 1 0 1) first (header ExpandServing 5 3 2 0 1) second
     ∷ []
     ≡ refused 1 0 ∷ refused 6 0 ∷ refused 5 0 ∷ refused 2 0 ∷ []
-unfolding joinCases Rattle.join_defs.specs.Joining.joinedBy Rattle.join_defs.specs.Districts.joinFault joinedCase sumsOk Rattle.join_defs.specs.Districts.alike Rattle.join_defs.specs.Districts.sameLadder Rattle.casefile_defs.specs.Tables.sizesOk Rattle.refusal.specs.Number.numberOf Rattle.refusal.specs.Number.indexOf Rattle.mode.specs.Number.modeNumber Rattle.loops.specs.Loops.first Rattle.loops.specs.Loops.tab Rattle.plan_defs.specs.Case.rowPlace Rattle.plan_defs.specs.Case.rowAt Rattle.plan_defs.specs.Accept.lengthsOk Rattle.plan_defs.specs.Accept.countsOk Rattle.plan_defs.specs.Accept.levelOk Rattle.plan_defs.specs.Accept.busOk Rattle.plan_defs.specs.Accept.generatorOk Rattle.plan_defs.specs.Accept.corridorSound Rattle.plan_defs.specs.Accept.rowOk Rattle.plan_defs.specs.Accept.tablesFault Rattle.plan_defs.specs.Accept.caseFault lib.Ieee.add lib.Ieee.mul lib.Ieee.lt lib.Ieee.le lib.Ieee.eq lib.Ieee.neg ofBits lib.Ieee.round
+unfolding joinCases Rattle.join_defs.specs.Joining.joinedBy Rattle.join_defs.specs.Districts.joinFault joinedCase sumsOk Rattle.join_defs.specs.Districts.alike Rattle.join_defs.specs.Districts.sameLadder Rattle.casefile_defs.specs.Tables.sizesOk Rattle.refusal.specs.Number.numberOf Rattle.refusal.specs.Number.indexOf Rattle.mode.specs.Number.modeNumber Rattle.loops.specs.Loops.first Rattle.loops.specs.Loops.tab Rattle.plan_defs.specs.Case.rowsOf Rattle.join_defs.specs.Districts.joinedRow Rattle.plan_defs.specs.Case.rowAt Rattle.plan_defs.specs.Accept.lengthsOk Rattle.plan_defs.specs.Accept.countsOk Rattle.plan_defs.specs.Accept.levelOk Rattle.plan_defs.specs.Accept.busOk Rattle.plan_defs.specs.Accept.generatorOk Rattle.plan_defs.specs.Accept.corridorSound Rattle.plan_defs.specs.Accept.rowOk Rattle.plan_defs.specs.Accept.tablesFault Rattle.plan_defs.specs.Accept.caseFault lib.Ieee.add lib.Ieee.mul lib.Ieee.lt lib.Ieee.le lib.Ieee.eq lib.Ieee.neg ofBits lib.Ieee.round
 refusals = refl
 
 -- 2 of the sums, at each bound and past it
@@ -115,5 +124,5 @@ pub unlike :
     ∷ said (header Expand 3 2 1 1 1) (west (high ∷ low ∷ []) twice (1 ∷ []) fifty) (header Expand 3 2 1 0 2) (west (high ∷ low ∷ []) twice (1 ∷ []) fifty)
     ∷ []
     ≡ refused 24 0 ∷ refused 24 0 ∷ refused 24 0 ∷ refused 24 0 ∷ []
-unfolding joinCases Rattle.join_defs.specs.Joining.joinedBy Rattle.join_defs.specs.Districts.joinFault joinedCase sumsOk Rattle.join_defs.specs.Districts.alike Rattle.join_defs.specs.Districts.sameLadder Rattle.casefile_defs.specs.Tables.sizesOk Rattle.refusal.specs.Number.numberOf Rattle.refusal.specs.Number.indexOf Rattle.mode.specs.Number.modeNumber Rattle.loops.specs.Loops.first Rattle.loops.specs.Loops.tab Rattle.plan_defs.specs.Case.rowPlace Rattle.plan_defs.specs.Case.rowAt Rattle.plan_defs.specs.Accept.lengthsOk Rattle.plan_defs.specs.Accept.countsOk Rattle.plan_defs.specs.Accept.levelOk Rattle.plan_defs.specs.Accept.busOk Rattle.plan_defs.specs.Accept.generatorOk Rattle.plan_defs.specs.Accept.corridorSound Rattle.plan_defs.specs.Accept.rowOk Rattle.plan_defs.specs.Accept.tablesFault Rattle.plan_defs.specs.Accept.caseFault lib.Ieee.add lib.Ieee.mul lib.Ieee.lt lib.Ieee.le lib.Ieee.eq lib.Ieee.neg ofBits lib.Ieee.round
+unfolding joinCases Rattle.join_defs.specs.Joining.joinedBy Rattle.join_defs.specs.Districts.joinFault joinedCase sumsOk Rattle.join_defs.specs.Districts.alike Rattle.join_defs.specs.Districts.sameLadder Rattle.casefile_defs.specs.Tables.sizesOk Rattle.refusal.specs.Number.numberOf Rattle.refusal.specs.Number.indexOf Rattle.mode.specs.Number.modeNumber Rattle.loops.specs.Loops.first Rattle.loops.specs.Loops.tab Rattle.plan_defs.specs.Case.rowsOf Rattle.join_defs.specs.Districts.joinedRow Rattle.plan_defs.specs.Case.rowAt Rattle.plan_defs.specs.Accept.lengthsOk Rattle.plan_defs.specs.Accept.countsOk Rattle.plan_defs.specs.Accept.levelOk Rattle.plan_defs.specs.Accept.busOk Rattle.plan_defs.specs.Accept.generatorOk Rattle.plan_defs.specs.Accept.corridorSound Rattle.plan_defs.specs.Accept.rowOk Rattle.plan_defs.specs.Accept.tablesFault Rattle.plan_defs.specs.Accept.caseFault lib.Ieee.add lib.Ieee.mul lib.Ieee.lt lib.Ieee.le lib.Ieee.eq lib.Ieee.neg ofBits lib.Ieee.round
 unlike = refl

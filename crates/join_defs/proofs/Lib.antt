@@ -1,3 +1,4 @@
--- Laws of the joined tables, and worked examples.
+-- Laws of the joined tables and of cases that may be joined, and worked examples.
 pub mod Examples
+pub mod Levels
 pub mod Tables

@@ -1,9 +1,9 @@
 -- The case of two survey districts (document 02, K10): buses, generators and corridors of the second follow the first's, renumbered; targets add.
-use Prim.Native.Nat.{ℕ, _+_}
+use Prim.Native.Nat.{ℕ, _+_, _-_}
 use mathlib.Core.Bool.{Bool, cond, _&&_}
 use mathlib.Core.List.{List, _++_, map}
 use mathlib.Core.Option.{Option, none, some}
-use lib.Dec.{leb, eqb}
+use lib.Dec.{leb, ltb, eqb}
 use lib.ListN.{length}
 use lib.Ieee.{Float, eq}
 use Rattle.loops.specs.Figures.{at}
@@ -12,7 +12,7 @@ use Rattle.refusal.specs.declared.Refusal.{Refusal}
 use Rattle.refusal.specs.declared.Refusal.the-variants.{Count, Districts}
 use Rattle.mode.specs.Number.{modeNumber}
 use Rattle.plan_defs.specs.Constants.{mostBuses, mostCorridors, mostGenerators, mostTarget}
-use Rattle.plan_defs.specs.Case.{Case, caseOf}
+use Rattle.plan_defs.specs.Case.{Case, Row, caseWith}
 use Rattle.plan_defs.specs.Accept.{caseFault}
 
 -- ---- the joined case
@@ -20,18 +20,18 @@ use Rattle.plan_defs.specs.Accept.{caseFault}
 abbrev pub moved : ℕ → List ℕ → List ℕ
 moved n l = map (λ i. n + i) l
 
--- the line sheet: the first's rows, then the second's
-abbrev pub joinedSheet : Case → Case → List Float
-joinedSheet c d = c .sheet ++ d .sheet
+-- the row of a corridor at a level: the first's m corridors, then the second's
+unfoldable pub joinedRow : ℕ → (ℕ → ℕ → Row) → (ℕ → ℕ → Row) → ℕ → ℕ → Row
+joinedRow m x y k level = cond (ltb k m) (x k level) (y (k - m) level)
 
 unfoldable pub joinedCase : Case → Case → Case
 joinedCase c d =
     let n = c .buses in
-    caseOf (c .mode) (n + d .buses) (c .corridors + d .corridors) (c .generators + d .generators) (c .above) (c .requested) (c .ladder)
+    caseWith (c .mode) (n + d .buses) (c .corridors + d .corridors) (c .generators + d .generators) (c .above) (c .requested) (c .ladder)
     (c .tier ++ d .tier) (c .reading ++ d .reading) (c .weight ++ d .weight) (c .load ++ d .load)
     (c .bus ++ moved n (d .bus)) (c .slack ++ d .slack) (c .pmin ++ d .pmin) (c .pmax ++ d .pmax) (c .c1 ++ d .c1) (c .c2 ++ d .c2)
     (c .a ++ moved n (d .a)) (c .b ++ moved n (d .b)) (c .circuits ++ d .circuits) (c .km ++ d .km) (c .share ++ d .share) (c .cap ++ d .cap)
-    (joinedSheet c d)
+    (c .figures + d .figures) (joinedRow (c .corridors) (c .row) (d .row))
 
 -- ---- 2: the sums are within the bounds of one case
 unfoldable pub sumsOk : Case → ℕ → Case → ℕ → Bool

@@ -1,21 +1,24 @@
 -- `join_cases`: two cases in tables of exactly their counts, and the joined tables, lent as for case reading. After 1 for the joined tables come the refusals of
 -- `joinFault`; a refusal touches nothing, an answer fills every place, zero past the counts.
-use Prim.Native.Nat.{ℕ, _+_}
+use Prim.Native.Nat.{ℕ, _+_, _*_, _/_, _%_}
 use mathlib.Core.Bool.{cond}
-use mathlib.Core.List.{List}
+use mathlib.Core.List.{List, [], _∷_}
 use mathlib.Core.Option.{Option, none, some}
+use lib.Dec.{ltb}
+use lib.Ieee.{Float}
 use lib.ListN.{getD}
-use Rattle.loops.specs.Figures.{nought}
+use Rattle.loops.specs.Figures.{at, nought}
 use Rattle.loops.specs.Loops.{tab}
 use Rattle.refusal.specs.Reply.{Reply}
 use Rattle.refusal.specs.declared.Refusal.{Refusal}
 use Rattle.refusal.specs.declared.Refusal.the-variants.{Length}
+use Rattle.sheets.specs.Sheet.{rowFigures}
 use Rattle.casefile_defs.specs.Bounds.{mostLevels, mostBuses, mostGenerators, mostCorridors, mostSheet}
 use Rattle.casefile_defs.specs.Tables.{Places, placesOf, sizesOk, replyOf}
 use Rattle.casefile_defs.specs.declared.Header.{Header}
 use Rattle.casefile_defs.specs.declared.Reading.{Reading}
 use Rattle.casefile_defs.specs.declared.Reading.the-variants.{Refused, Read}
-use Rattle.plan_defs.specs.Case.{Case, surveyed}
+use Rattle.plan_defs.specs.Case.{Case, Row, surveyed, levels}
 use Rattle.join_defs.specs.Districts.{joinedCase, joinFault}
 
 -- the case of a header and of tables of its counts
@@ -40,13 +43,21 @@ headerOf c target = record {
 unfoldable pub padded : {A : Type 0} → A → ℕ → List A → List A
 padded zero n l = tab n (λ i. getD l i zero)
 
+-- the rows of m corridors at n levels in a sheet by level (document 02, K11), zero past them
+abbrev pub figureIn : Row → ℕ → Float
+figureIn w j = at (w .r ∷ w .x ∷ w .b ∷ w .rate ∷ w .basis ∷ []) j
+
+unfoldable pub sheetOf : ℕ → ℕ → ℕ → (ℕ → ℕ → Row) → List Float
+sheetOf places m n row =
+    tab places (λ p. let i = p / rowFigures in cond (ltb i (m * n)) (figureIn (row (i % m) (i / m)) (p % rowFigures)) nought)
+
 unfoldable pub laidOut : Case → Places
 laidOut c =
     placesOf (padded nought mostLevels (c .ladder)) (padded 0 mostBuses (c .tier)) (padded nought mostBuses (c .reading)) (padded nought mostBuses (c .weight))
     (padded 0 mostGenerators (c .bus)) (padded 0 mostGenerators (c .slack)) (padded nought mostGenerators (c .pmin)) (padded nought mostGenerators (c .pmax))
     (padded nought mostGenerators (c .c1)) (padded nought mostGenerators (c .c2)) (padded 0 mostCorridors (c .a)) (padded 0 mostCorridors (c .b))
     (padded 0 mostCorridors (c .circuits)) (padded nought mostCorridors (c .km)) (padded nought mostCorridors (c .share)) (padded 0 mostCorridors (c .cap))
-    (padded nought mostSheet (c .sheet))
+    (sheetOf mostSheet (c .corridors) (levels c) (c .row))
 
 -- ---- what is said, and every place of every joined table
 pub record Outcome : Type 0 where

@@ -14,14 +14,16 @@ use Rattle.loops.proofs.Bools.{both, and-of, unequal}
 use Rattle.loops.proofs.Scan.{pass-all}
 use Rattle.refusal.specs.declared.Refusal.{Refusal}
 use Rattle.refusal.specs.declared.Refusal.the-variants.{Length, Count, Level, Bus, Generator, Corridor, Row as SheetRow, Districts}
+use Rattle.sheets.specs.Sheet.{rowFigures}
 use Rattle.leaders.specs.Operation.{corridorOk}
-use Rattle.plan_defs.specs.Constants.{mostBuses, mostCorridors, mostGenerators, mostLevels, rowFigures}
+use Rattle.plan_defs.specs.Constants.{mostBuses, mostCorridors, mostGenerators, mostLevels}
 use Rattle.plan_defs.specs.Case.{Case, levels, endA, endB, rowAt}
 use Rattle.plan_defs.specs.Accept.{lengthsOk, countsOk, levelOk, busOk, generatorOk, corridorSound, rowSound, rowOk, firstFault, tablesFault, caseFault}
 use Rattle.plan_defs.proofs.Accepted.{Accepted, accepted, row-sound, bus-below, end-a, end-b}
 use Rattle.join_defs.specs.Districts.{moved, joinedCase, sumsOk, alike, orElse, joinFault}
+use Rattle.join_defs.proofs.Levels.{levels-same}
 use Rattle.join_theorems.proofs.Lists.{eqb-moved}
-use Rattle.join_theorems.proofs.Within.{Within, first-within, second-within, levels-same}
+use Rattle.join_theorems.proofs.Within.{Within, first-within, second-within}
 
 -- ---- two cases that can be joined
 pub record Joinable (c d : Case) (t u : ℕ) : Type 0 where
@@ -133,11 +135,10 @@ module _ (c d : Case) (t u : ℕ) (s : Joinable c d t u) where
       (and-of (joined-size (c .share) (d .share) _ _ (x .share) (y .share))
       (and-of (joined-size (c .cap) (d .cap) _ _ (x .cap) (y .cap)) sheet))))))))))))))))
     where
-      sheet : eqb (length (c .sheet ++ d .sheet)) (rowFigures * ((c .corridors + d .corridors) * levels c)) ≡ true
+      sheet : eqb (c .figures + d .figures) (rowFigures * ((c .corridors + d .corridors) * levels c)) ≡ true
       sheet =
-          eq-eqb _ _ (length-append (c .sheet) (d .sheet)
-          ∙ (let p : length (d .sheet) ≡ rowFigures * (d .corridors * levels c) = D .columns .sheet ∙ ap (λ (l : ℕ). rowFigures * (d .corridors * l)) (sym (levels-same c d t u C D (s .same))) in
-          omega (arith, C .columns .sheet, add-mul (c .corridors) (d .corridors) (levels c))))
+          let p : d .figures ≡ rowFigures * (d .corridors * levels c) = D .columns .sheet ∙ ap (λ (l : ℕ). rowFigures * (d .corridors * l)) (sym (levels-same c d (s .same) t u C D)) in
+          eq-eqb (c .figures + d .figures) (rowFigures * ((c .corridors + d .corridors) * levels c)) (omega (arith, C .columns .sheet, add-mul (c .corridors) (d .corridors) (levels c)))
 
   counts : countsOk joined (t + u) ≡ true
   unfolding countsOk joinedCase sumsOk
@@ -175,7 +176,7 @@ module _ (c d : Case) (t u : ℕ) (s : Joinable c d t u) where
   row-at l q =
       all-of (λ k. rowSound (rowAt joined k l)) (c .corridors) (d .corridors)
       (λ k h. ap rowSound (low .row k l h q) ∙ row-sound c t C k l h q)
-      (λ k h. let z : l < levels d = omega (arith, levels-same c d t u C D (s .same)) in ap rowSound (high .row k l h z) ∙ row-sound d u D k l h z)
+      (λ k h. let z : l < levels d = omega (arith, levels-same c d (s .same) t u C D) in ap rowSound (high .row k l h z) ∙ row-sound d u D k l h z)
 
   row-ok : (i : ℕ) → i < joined .corridors * levels joined → rowOk joined i ≡ true
   unfolding rowOk joinedCase

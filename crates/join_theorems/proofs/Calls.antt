@@ -1,34 +1,40 @@
 -- What `join_cases` answers, and planning of what it leaves: the joined tables hold the joined case, which planning accepts, and where planning answers all three
 -- the districts stand apart. The premises are what the calls promise.
-use Prim.Native.Nat.{ℕ, zero, suc, _+_, _*_, _≤_, _<_}
-use mathlib.Core.Bool.{Bool, true, false, cond}
+use Prim.Native.Nat.{ℕ, zero, suc, _+_, _-_, _*_, _/_, _%_, _≤_, _<_}
+use mathlib.Core.Bool.{Bool, true, false, cond, _&&_}
 use mathlib.Core.List.{List, [], _∷_, _++_, append-nil, append-assoc}
 use mathlib.Core.Option.{Option, none, some}
-use mathlib.Core.Path.{_≡_, refl, sym, ap, _∙_, subst}
+use mathlib.Core.Path.{_≡_, refl, sym, ap, _∙_, subst, fun-ext}
 use native.Mathlib.Nat.{mul-comm, mul-le-mul}
 use native.Mathlib.Omega.{arith}
+use borrow.Author.Tests.{lt-ltb, le-ltb, ltb-true, ltb-false}
+use lib.Dec.{ltb}
 use lib.Ieee.{Float, nan}
 use lib.ListN.{length, getD, take, List·getD-append}
-use Rattle.loops.specs.Figures.{nought}
+use lib.Seq.{getD-take, length-take-le}
+use Rattle.loops.specs.Figures.{at, nought}
 use Rattle.loops.specs.Loops.{tab}
-use Rattle.loops.proofs.Bools.{unequal}
+use Rattle.loops.proofs.Bools.{both, unequal}
 use Rattle.loops.proofs.Fronts.{front-tab}
 use Rattle.loops.proofs.Tab.{length-tab, get-tab, tab-same, tab-of}
+use Rattle.sheets.specs.Sheet.{rowFigures, rowPlace}
+use Rattle.sheets.proofs.Layouts.{parts, row-inside}
 use Rattle.loads.specs.Load.{weighed, loadsOf}
 use Rattle.refusal.specs.declared.Refusal.{Refusal}
 use Rattle.refusal.specs.declared.Refusal.the-variants.{Length}
-use Rattle.casefile_defs.specs.Bounds.{mostLevels, mostBuses, mostGenerators, mostCorridors, mostSheet, rowFigures}
+use Rattle.casefile_defs.specs.Bounds.{mostLevels, mostBuses, mostGenerators, mostCorridors, mostSheet}
 use Rattle.casefile_defs.specs.Tables.{Places, placesOf, sizesOk}
 use Rattle.casefile_defs.specs.declared.Header.{Header}
 use Rattle.casefile_defs.specs.declared.Reading.the-variants.{Read, Refused}
-use Rattle.plan_defs.specs.Case.{Case, caseOf, levels}
+use Rattle.plan_defs.specs.Case.{Case, Row, rowFrom, rowIf, rowsOf, caseWith, levels}
 use Rattle.plan_defs.specs.Accept.{caseFault}
 use Rattle.plan_defs.specs.Outcome.{Outcome}
 use Rattle.plan_defs.specs.Demand.{AnswerTo}
 use Rattle.plan_defs.specs.declared.CorridorPlan.{CorridorPlan}
 use Rattle.plan_defs.proofs.Accepted.{Accepted, accepted}
-use Rattle.join_defs.specs.Districts.{joinedCase, joinFault}
-use Rattle.join_defs.specs.Joining.{caseAs, headerOf, padded, laidOut, Outcome as Made, outcome, joinedBy, joinCases}
+use Rattle.join_defs.specs.Districts.{joinedRow, joinedCase, joinFault}
+use Rattle.join_defs.specs.Joining.{caseAs, headerOf, padded, figureIn, sheetOf, laidOut, Outcome as Made, outcome, joinedBy, joinCases}
+use Rattle.join_defs.proofs.Levels.{levels-same}
 use Rattle.join_theorems.specs.Apart.{AnswersApart}
 use Rattle.join_theorems.specs.Calls.{fronts, caseIn, Joined}
 use Rattle.join_theorems.proofs.Within.{second-at}
@@ -51,10 +57,89 @@ places-same p q e₁ e₂ e₃ e₄ e₅ e₆ e₇ e₈ e₉ f₁ f₂ f₃ f₄
     ≡ placesOf (q .ladder) (q .tier) (q .reading) (q .weight) (q .bus) (q .slack) (q .pmin) (q .pmax) (q .c1) (q .c2) (q .a) (q .b) (q .circuits) (q .lengthKm) (q .share) (q .cap) (q .sheet) = cc in
     z
 
-module _ (c : Case) (t : ℕ) (ok : Accepted c t) (loads : c .load ≡ loadsOf (c .buses) (c .reading) (c .weight)) where
+-- ---- the rows of the front of a laid out sheet are those that were laid out, where there are no others
+module _ (N m n : ℕ) (row : ℕ → ℕ → Row) (room : m * n * rowFigures ≤ N) (no-other : (k l : ℕ) → (ltb k m && ltb l n) ≡ false → row k l ≡ rowIf false (row k l)) where
+  abbrev front : List Float
+  front = take (m * n * rowFigures) (sheetOf N m n row)
+
+  cell : (k l j : ℕ) → k < m → l < n → j < rowFigures → at front (rowPlace m k l + j) ≡ figureIn (row k l) j
+  unfolding sheetOf
+  cell k l j h q b =
+      let i = rowPlace m k l + j in
+      let z = row-inside m n [] k l h q in
+      let d : i / rowFigures ≡ l * m + k = omega arith in
+      let e : i % rowFigures ≡ j = omega arith in
+      let low : l * m + k < m * n = omega arith in
+      getD-take (m * n * rowFigures) (sheetOf N m n row) i nan (omega arith)
+      ∙ get-tab N _ i nan (omega arith)
+      ∙ ap (λ (x : ℕ). cond (ltb x (m * n)) (figureIn (row (x % m) (x / m)) (i % rowFigures)) nought) d
+      ∙ ap (λ (x : Bool). cond x (figureIn (row ((l * m + k) % m) ((l * m + k) / m)) (i % rowFigures)) nought) (lt-ltb (l * m + k) (m * n) low)
+      ∙ ap (λ (x : ℕ). figureIn (row x ((l * m + k) / m)) (i % rowFigures)) (parts m l k h .1)
+      ∙ ap (λ (x : ℕ). figureIn (row k x) (i % rowFigures)) (parts m l k h .0)
+      ∙ ap (figureIn (row k l)) e
+
+  row-back : (k l : ℕ) → k < m → l < n → rowFrom front (rowPlace m k l) ≡ row k l
+  row-back k l h q = λ i.
+      record {
+        r = first i;
+        x = cell k l 1 h q (omega arith) i;
+        b = cell k l 2 h q (omega arith) i;
+        rate = cell k l 3 h q (omega arith) i;
+        basis = cell k l 4 h q (omega arith) i;
+      }
+    where
+      first : at front (rowPlace m k l) ≡ row k l .r
+      first = ap (at front) (let z : rowPlace m k l ≡ rowPlace m k l + 0 = omega arith in z) ∙ cell k l 0 h q (omega arith)
+
+  rows-back : rowsOf m n front ≡ row
+  unfolding rowsOf
+  rows-back = fun-ext (λ k. fun-ext (λ l. go k l (ltb k m && ltb l n) refl))
+    where
+      go : (k l : ℕ) (b : Bool) → (ltb k m && ltb l n) ≡ b → rowIf b (rowFrom front (rowPlace m k l)) ≡ row k l
+      go k l false e = sym (no-other k l e)
+      go k l true e = let p = both (ltb k m) (ltb l n) e in row-back k l (ltb-true k m (p .0)) (ltb-true l n (p .1))
+
+  front-size : length front ≡ m * n * rowFigures
+  unfolding sheetOf
+  front-size = length-take-le (m * n * rowFigures) (sheetOf N m n row) (omega (arith, length-tab N (λ p. cond (ltb (p / rowFigures) (m * n)) (figureIn (row (p / rowFigures % m) (p / rowFigures / m)) (p % rowFigures)) nought)))
+
+-- past the corridors of both and past the levels there is none
+module _ (m o n : ℕ) (x y : List Float) (k l : ℕ) (past : (ltb k (m + o) && ltb l n) ≡ false) where
+  no-row : (b : Bool) (w v : Row) → b ≡ false → rowIf b w ≡ rowIf false v
+  no-row false w v e = refl
+  no-row true w v e = absurd (unequal cc)
+
+  second-test : m ≤ k → ltb (k - m) o ≡ ltb k (m + o)
+  second-test h = go (ltb k (m + o)) refl
+    where
+      go : (b : Bool) → ltb k (m + o) ≡ b → ltb (k - m) o ≡ b
+      go true e = let z : k < m + o = ltb-true k (m + o) e in lt-ltb (k - m) o (omega arith)
+      go false e = let z : m + o ≤ k = ltb-false k (m + o) e in le-ltb (k - m) o (omega arith)
+
+  no-joined : (v : Row) → joinedRow m (rowsOf m n x) (rowsOf o n y) k l ≡ rowIf false v
+  unfolding joinedRow rowsOf
+  no-joined v = go (ltb k m) refl
+    where
+      go : (b : Bool) → ltb k m ≡ b → cond b (rowsOf m n x k l) (rowsOf o n y (k - m) l) ≡ rowIf false v
+      go true e =
+          let z : k < m = ltb-true k m e in
+          no-row (ltb k m && ltb l n) (rowFrom x (rowPlace m k l)) v (ap (λ (t : Bool). t && ltb l n) (e ∙ sym (lt-ltb k (m + o) (omega arith))) ∙ past)
+      go false e = no-row (ltb (k - m) o && ltb l n) (rowFrom y (rowPlace o (k - m) l)) v (ap (λ (t : Bool). t && ltb l n) (second-test (ltb-false k m e)) ∙ past)
+
+module _ (c : Case) (t : ℕ) (ok : Accepted c t) (loads : c .load ≡ loadsOf (c .buses) (c .reading) (c .weight))
+    (no-other : (k l : ℕ) → (ltb k (c .corridors) && ltb l (levels c)) ≡ false → c .row k l ≡ rowIf false (c .row k l)) where
+  few : c .corridors * levels c ≤ mostCorridors * mostLevels
+  few = mul-le-mul (ok .counts .few-corridors) (ok .counts .few-levels)
+
+  room : c .corridors * levels c * rowFigures ≤ mostSheet
+  room = omega (arith, few)
+
+  abbrev sheet : List Float
+  sheet = front mostSheet (c .corridors) (levels c) (c .row) room no-other
+
   abbrev columns : Places
   columns =
-      placesOf (c .ladder) (c .tier) (c .reading) (c .weight) (c .bus) (c .slack) (c .pmin) (c .pmax) (c .c1) (c .c2) (c .a) (c .b) (c .circuits) (c .km) (c .share) (c .cap) (c .sheet)
+      placesOf (c .ladder) (c .tier) (c .reading) (c .weight) (c .bus) (c .slack) (c .pmin) (c .pmax) (c .c1) (c .c2) (c .a) (c .b) (c .circuits) (c .km) (c .share) (c .cap) sheet
 
   fronts-are : fronts (headerOf c t) (laidOut c) ≡ columns
   unfolding laidOut
@@ -63,8 +148,6 @@ module _ (c : Case) (t : ℕ) (ok : Accepted c t) (loads : c .load ≡ loadsOf (
       let n = ok .counts .few-buses in
       let g = ok .counts .few-generators in
       let m = ok .counts .few-corridors in
-      let s : length (c .sheet) ≡ c .corridors * levels c * rowFigures = x .sheet ∙ mul-comm rowFigures (c .corridors * levels c) in
-      let few : c .corridors * levels c ≤ mostCorridors * mostLevels = mul-le-mul m (ok .counts .few-levels) in
       places-same (fronts (headerOf c t) (laidOut c)) columns
       (take-padded nought mostLevels (levels c) (c .ladder) (x .ladder) (ok .counts .few-levels))
       (take-padded 0 mostBuses (c .buses) (c .tier) (x .tier) n)
@@ -82,14 +165,20 @@ module _ (c : Case) (t : ℕ) (ok : Accepted c t) (loads : c .load ≡ loadsOf (
       (take-padded nought mostCorridors (c .corridors) (c .km) (x .km) m)
       (take-padded nought mostCorridors (c .corridors) (c .share) (x .share) m)
       (take-padded 0 mostCorridors (c .corridors) (c .cap) (x .cap) m)
-      (take-padded nought mostSheet (c .corridors * levels c * rowFigures) (c .sheet) s (omega arith))
+      refl
 
   held : caseIn (headerOf c t) (laidOut c) ≡ c
   held =
       ap (caseAs (headerOf c t)) fronts-are
-      ∙ ap (λ (l : List Float).
-      caseOf (c .mode) (c .buses) (c .corridors) (c .generators) (c .above) (c .requested) (c .ladder) (c .tier) (c .reading) (c .weight) l (c .bus) (c .slack) (c .pmin) (c .pmax)
-      (c .c1) (c .c2) (c .a) (c .b) (c .circuits) (c .km) (c .share) (c .cap) (c .sheet)) (sym loads)
+      ∙ ap (λ (l : List Float). with-these l (length sheet) (rowsOf (c .corridors) (levels c) sheet)) (sym loads)
+      ∙ ap (λ (f : ℕ). with-these (c .load) f (rowsOf (c .corridors) (levels c) sheet))
+      (front-size mostSheet (c .corridors) (levels c) (c .row) room no-other ∙ mul-comm (c .corridors * levels c) rowFigures ∙ sym (ok .columns .sheet))
+      ∙ ap (with-these (c .load) (c .figures)) (rows-back mostSheet (c .corridors) (levels c) (c .row) room no-other)
+    where
+      with-these : List Float → ℕ → (ℕ → ℕ → Row) → Case
+      with-these load figures row =
+          caseWith (c .mode) (c .buses) (c .corridors) (c .generators) (c .above) (c .requested) (c .ladder) (c .tier) (c .reading) (c .weight) load (c .bus) (c .slack) (c .pmin) (c .pmax)
+          (c .c1) (c .c2) (c .a) (c .b) (c .circuits) (c .km) (c .share) (c .cap) figures row
 
 -- ---- the loads of the joined readings and weights are the first's loads, then the second's
 tab-joined : {A : Type 0} (n m : ℕ) (f g h : ℕ → A) → ((i : ℕ) → i < n → f i ≡ g i) → ((i : ℕ) → f (n + i) ≡ h i) → tab (n + m) f ≡ tab n g ++ tab m h
@@ -123,8 +212,15 @@ module _ (h k : Header) (p q : Places) (s : Joinable (caseAs h p) (caseAs k q) (
       cc (List·getD-append (p .reading) (q .reading) nan i (omega (arith, C .columns .reading)), List·getD-append (p .weight) (q .weight) nan i (omega (arith, C .columns .weight))))
       (λ i. cc (second-at (p .reading) (q .reading) nan (h .buses) i (C .columns .reading), second-at (p .weight) (q .weight) nan (h .buses) i (C .columns .weight))))
 
+  no-others : (i l : ℕ) → (ltb i (joined .corridors) && ltb l (levels joined)) ≡ false → joined .row i l ≡ rowIf false (joined .row i l)
+  unfolding joinedCase
+  no-others i l e =
+      let D = accepted d (k .target) (s .second) in
+      ap (λ (n : ℕ). joinedRow (h .corridors) (c .row) (rowsOf (k .corridors) n (q .sheet)) i l) (sym (levels-same c d (s .same) (h .target) (k .target) C D))
+      ∙ no-joined (h .corridors) (k .corridors) (levels c) (p .sheet) (q .sheet) i l e (joined .row i l)
+
   tables-hold : caseIn (headerOf joined (h .target + k .target)) (laidOut joined) ≡ joined
-  tables-hold = held joined (h .target + k .target) (accepted joined (h .target + k .target) (all-accepted c d (h .target) (k .target) s)) joined-loads
+  tables-hold = held joined (h .target + k .target) (accepted joined (h .target + k .target) (all-accepted c d (h .target) (k .target) s)) joined-loads no-others
 
 -- ---- an answer: no refusal, and what the joined tables are
 pub record Laid (h k j : Header) (p q r : Places) : Type 0 where

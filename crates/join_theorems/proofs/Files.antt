@@ -1,21 +1,23 @@
 -- The file of the joined tables: where files hold the two cases a file holds the joined one, and reading it gives the tables back.
 -- Numbers are small since planning accepts the joined case; figures are those of the two.
-use Prim.Native.Nat.{ℕ, _+_, _-_, _*_, _^_, _≤_, _<_}
+use Prim.Native.Nat.{ℕ, _+_, _-_, _*_, _/_, _%_, _^_, _≤_, _<_}
 use mathlib.Core.Bool.{Bool, true, false, cond, _&&_}
 use mathlib.Core.List.{List, _++_}
 use mathlib.Core.Path.{_≡_, refl, sym, ap, _∙_, subst}
-use native.Mathlib.Nat.{add-mul, mul-comm, mul-le-mul}
+use native.Mathlib.Nat.{mul-le-mul}
 use native.Mathlib.Omega.{arith}
-use borrow.Author.Tests.{ltb-true, ltb-false, leb-true, le-leb}
+use borrow.Author.Tests.{ltb-true, ltb-false, lt-ltb, le-ltb, leb-true, le-leb}
 use lib.Dec.{T, ltb, leb}
-use lib.Ieee.{Float, binary64, fits, eq}
+use lib.Ieee.{Float, binary64, fits, eq, nan}
 use lib.ListN.{length, getD, take, List·getD-append, List·getD-eq-default}
 use lib.Seq.{getD-take, length-take-le}
-use Rattle.loops.specs.Figures.{nought}
+use Rattle.loops.specs.Figures.{at, nought}
 use Rattle.loops.specs.Loops.{tab}
 use Rattle.loops.proofs.Bools.{both, and-of}
 use Rattle.loops.proofs.Tab.{length-tab, get-tab}
-use Rattle.casefile_defs.specs.Bounds.{mostLevels, mostBuses, mostGenerators, mostCorridors, mostSheet, rowFigures}
+use Rattle.sheets.specs.Sheet.{rowFigures, rowPlace as placeAt}
+use Rattle.sheets.proofs.Layouts.{row-inside}
+use Rattle.casefile_defs.specs.Bounds.{mostLevels, mostBuses, mostGenerators, mostCorridors, mostSheet}
 use Rattle.casefile_defs.specs.Layout.{Field, u8, u16, upTo, widthOf, allowed}
 use Rattle.casefile_defs.specs.Reading.{lines, countsOk, caseRead}
 use Rattle.casefile_defs.specs.Tables.{Places, sizesOk, basisField, basisOf, readCase, outcome as readAs}
@@ -24,13 +26,16 @@ use Rattle.casefile_defs.specs.declared.Reading.the-variants.{Read}
 use Rattle.casefile_theorems.specs.Writer.{Form, fileOf, rowPlace}
 use Rattle.casefile_theorems.specs.Cases.{Numbers, Figures, Sheet, Case as Filed, Legal}
 use Rattle.casefile_theorems.proofs.Theorems.{case-back}
-use Rattle.plan_defs.specs.Case.{Case, levels}
+use Rattle.plan_defs.specs.Case.{Case, Row, levels}
 use Rattle.plan_defs.specs.Accept.{generatorOk}
 use Rattle.plan_defs.proofs.Accepted.{Accepted, accepted, tier-below, bus-below, end-a, end-b, initial-few, cap-few}
+use Rattle.join_defs.specs.Columns.{sheetAt, joinedSheet}
 use Rattle.join_defs.specs.Districts.{joinedCase}
-use Rattle.join_defs.specs.Joining.{headerOf, padded, laidOut, outcome, joinCases}
+use Rattle.join_defs.specs.Joining.{headerOf, padded, figureIn, sheetOf, laidOut, outcome, joinCases}
+use Rattle.join_defs.proofs.Levels.{levels-same}
+use Rattle.join_defs.proofs.Tables.{within, row-there, sheet-are}
 use Rattle.join_theorems.specs.Calls.{fronts, caseIn}
-use Rattle.join_theorems.proofs.Within.{second-at, levels-same}
+use Rattle.join_theorems.proofs.Within.{second-at}
 use Rattle.join_theorems.proofs.Accepted.{Joinable, all-accepted}
 use Rattle.join_theorems.proofs.Calls.{laid}
 
@@ -87,17 +92,50 @@ module _ (n m : ℕ) (x y : List Float) (room : n ≤ length x) (P : Float → T
       go true e = let l : i < n = ltb-true _ _ e in front-of i l (low i l)
       go false e = let l : n ≤ i = ltb-false _ _ e in back-of (i - n) i (omega arith) (omega arith) (high (i - n) (omega arith))
 
--- figure f of each row of the one sheet, then of the other
-module _ (n m f : ℕ) (x y : List Float) (room : n * rowFigures ≤ length x) (inside : f < rowFigures) (P : Float → Type 0) where
-  rows-of : ((i : ℕ) → i < n → P (getD x (rowPlace i f) nought)) → ((i : ℕ) → i < m → P (getD y (rowPlace i f) nought))
-      → (i : ℕ) → i < n + m → P (getD (take (n * rowFigures) x ++ take (m * rowFigures) y) (rowPlace i f) nought)
-  rows-of low high i h = go (ltb i n) refl
-    where
-      go : (b : Bool) → ltb i n ≡ b → P (getD (take (n * rowFigures) x ++ take (m * rowFigures) y) (rowPlace i f) nought)
-      go true e = let l : i < n = ltb-true _ _ e in front-of (n * rowFigures) (m * rowFigures) x y room P (rowPlace i f) (omega arith) (low i l)
-      go false e =
-          let l : n ≤ i = ltb-false _ _ e in
-          back-of (n * rowFigures) (m * rowFigures) x y room P (rowPlace (i - n) f) (rowPlace i f) (omega arith) (omega arith) (high (i - n) (omega arith))
+-- ---- a sheet that is laid out
+sheet-size : (N m n : ℕ) (row : ℕ → ℕ → Row) → length (sheetOf N m n row) ≡ N
+unfolding sheetOf
+sheet-size N m n row = length-tab N _
+
+sheet-past : (N m n : ℕ) (row : ℕ → ℕ → Row) (q : ℕ) → rowPlace (m * n) 0 ≤ q → getD (sheetOf N m n row) q nought ≡ nought
+unfolding sheetOf
+sheet-past N m n row q h = go (ltb q N) refl
+  where
+    go : (b : Bool) → ltb q N ≡ b → getD (sheetOf N m n row) q nought ≡ nought
+    go true e =
+        get-tab N _ q nought (ltb-true q N e)
+        ∙ ap (λ (x : Bool). cond x (figureIn (row (q / rowFigures % m) (q / rowFigures / m)) (q % rowFigures)) nought) (le-ltb (q / rowFigures) (m * n) (omega arith))
+    go false e = let z : N ≤ q = ltb-false q N e in List·getD-eq-default (sheetOf N m n row) nought (omega (arith, sheet-size N m n row))
+
+-- what holds of figure f of each row of the one sheet and of the other holds of each row of the joined one
+module _ (f : ℕ) (inside : f < rowFigures) (P : Float → Type 0) where
+  row-of : (m n : ℕ) (x : List Float) → length x ≡ rowFigures * (m * n) → ((i : ℕ) → i < m * n → P (getD x (rowPlace i f) nought))
+      → (k l : ℕ) → k < m → l < n → P (at x (placeAt m k l + f))
+  row-of m n x size all k l h q =
+      let z = row-inside m n x k l h q in
+      let i = l * m + k in
+      let e : placeAt m k l + f ≡ rowPlace i f = omega arith in
+      subst P (sym (ap (at x) e ∙ within x (rowPlace i f) nan nought (omega arith))) (all i (omega arith))
+
+  module _ (m o n : ℕ) (x y : List Float) (size : length x ≡ rowFigures * (m * n)) (other : length y ≡ rowFigures * (o * n))
+      (low : (i : ℕ) → i < m * n → P (getD x (rowPlace i f) nought)) (high : (i : ℕ) → i < o * n → P (getD y (rowPlace i f) nought)) where
+    joined-row : (k l : ℕ) → k < m + o → l < n → (b : Bool) → ltb k m ≡ b → P (cond b (at x (placeAt m k l + f)) (at y (placeAt o (k - m) l + f)))
+    joined-row k l h q true e = row-of m n x size low k l (ltb-true k m e) q
+    joined-row k l h q false e = let z : m ≤ k = ltb-false k m e in row-of o n y other high (k - m) l (omega arith) q
+
+    rows-of : (i : ℕ) → i < (m + o) * n → P (sheetAt m o n x y (rowPlace i f))
+    rows-of i b =
+        let d : rowPlace i f / rowFigures ≡ i = omega arith in
+        let e : rowPlace i f % rowFigures ≡ f = omega arith in
+        let k = i % (m + o) in
+        let l = i / (m + o) in
+        let t = row-there (m + o) n i b in
+        subst P
+        (sym (ap (λ (j : ℕ). cond (ltb j ((m + o) * n)) (cond (ltb (j % (m + o)) m) (at x (placeAt m (j % (m + o)) (j / (m + o)) + rowPlace i f % rowFigures))
+        (at y (placeAt o (j % (m + o) - m) (j / (m + o)) + rowPlace i f % rowFigures))) nought) d
+        ∙ ap (λ (j : ℕ). cond (ltb i ((m + o) * n)) (cond (ltb k m) (at x (placeAt m k l + j)) (at y (placeAt o (k - m) l + j))) nought) e
+        ∙ ap (λ (u : Bool). cond u (cond (ltb k m) (at x (placeAt m k l + f)) (at y (placeAt o (k - m) l + f))) nought) (lt-ltb i ((m + o) * n) b)))
+        (joined-row k l (t .0) (t .1) (ltb k m) refl)
 
 -- ---- the joined case
 module _ (h k : Header) (p q : Places) (x : Filed h p) (y : Filed k q) (s : Joinable (caseIn h p) (caseIn k q) (h .target) (k .target)) where
@@ -128,35 +166,38 @@ module _ (h k : Header) (p q : Places) (x : Filed h p) (y : Filed k q) (s : Join
       both (ltb (getD (joined .bus) i 0) (joined .buses)) _
       (both (ltb (getD (joined .bus) i 0) (joined .buses) && leb (getD (joined .slack) i 0) 1) _ (A .generator-ok i b) .0) .1
 
-  all-lines : lines (headerOf joined t) ≡ lines h + lines k
-  unfolding joinedCase
-  all-lines =
-      add-mul (h .corridors) (k .corridors) (levels c)
-      ∙ ap (λ (n : ℕ). h .corridors * levels c + k .corridors * n) (levels-same c d (h .target) (k .target) (accepted c (h .target) (s .first)) (accepted d (k .target) (s .second)) (s .same))
+  same-levels : levels c ≡ levels d
+  same-levels = levels-same c d (s .same) (h .target) (k .target) (accepted c (h .target) (s .first)) (accepted d (k .target) (s .second))
 
-  sheet-size : length (joined .sheet) ≡ (lines h + lines k) * rowFigures
-  sheet-size = A .columns .sheet ∙ mul-comm rowFigures (lines (headerOf joined t)) ∙ ap (λ (n : ℕ). n * rowFigures) all-lines
+  sheet-joined : laidOut joined .sheet ≡ joinedSheet mostSheet (h .corridors) (k .corridors) (levels c) (fronts h p .sheet) (fronts k q .sheet)
+  unfolding laidOut joinedCase
+  sheet-joined = sheet-are (h .corridors) (k .corridors) (levels c) (fronts h p .sheet) (fronts k q .sheet) mostSheet (levels d) same-levels
 
-  few-lines : lines h + lines k ≤ mostCorridors * mostLevels
-  few-lines = let z = mul-le-mul (A .counts .few-corridors) (A .counts .few-levels) in omega (arith, all-lines)
+  few-lines : lines (headerOf joined t) ≤ mostCorridors * mostLevels
+  few-lines = mul-le-mul (A .counts .few-corridors) (A .counts .few-levels)
 
   rows : (f : ℕ) → f < rowFigures → (P : Float → Type 0) → ((i : ℕ) → i < lines h → P (getD (p .sheet) (rowPlace i f) nought))
       → ((i : ℕ) → i < lines k → P (getD (q .sheet) (rowPlace i f) nought)) → (i : ℕ) → i < lines (headerOf joined t) → P (getD (laidOut joined .sheet) (rowPlace i f) nought)
-  unfolding laidOut joinedCase
+  unfolding joinedCase
   rows f inside P low high i b =
-      let room : length (joined .sheet) ≤ mostSheet = omega (arith, sheet-size, few-lines) in
-      subst P (sym (padded-at nought mostSheet (joined .sheet) (rowPlace i f) room))
-      (rows-of (lines h) (lines k) f (p .sheet) (q .sheet) (omega (arith, x .sheet .size, few-lines)) inside P low high i (omega (arith, all-lines)))
+      let levels-of : k .corridors * levels c ≡ lines k = ap (λ (n : ℕ). k .corridors * n) same-levels in
+      subst P
+      (sym (ap (λ (l : List Float). getD l (rowPlace i f) nought) sheet-joined ∙ get-tab mostSheet _ (rowPlace i f) nought (omega (arith, few-lines))))
+      (rows-of f inside P (h .corridors) (k .corridors) (levels c) (fronts h p .sheet) (fronts k q .sheet)
+      (accepted c (h .target) (s .first) .columns .sheet)
+      (accepted d (k .target) (s .second) .columns .sheet ∙ ap (λ (n : ℕ). rowFigures * n) (sym levels-of))
+      (λ j l. subst P (sym (getD-take (lines h * rowFigures) (p .sheet) (rowPlace j f) nought (omega arith))) (low j l))
+      (λ j l. let z : j < lines k = omega (arith, levels-of) in subst P (sym (getD-take (lines k * rowFigures) (q .sheet) (rowPlace j f) nought (omega arith))) (high j z))
+      i b)
 
   sheet : Sheet (lines (headerOf joined t)) (laidOut joined .sheet)
   unfolding laidOut
   sheet =
       record {
-        size = padded-size nought mostSheet (joined .sheet);
+        size = sheet-size mostSheet (joined .corridors) (levels joined) (joined .row);
         double = λ i f b l. rows f (omega arith) (λ z. T (fits binary64 z)) (λ j g. x .sheet .double j f g l) (λ j g. y .sheet .double j f g l) i b;
         basis = λ i b. rows basisField (omega arith) (λ z. basisOf (cond (eq z nought) 0 1) ≡ z) (x .sheet .basis) (y .sheet .basis) i b;
-        past = λ i b.
-            padded-at nought mostSheet (joined .sheet) i (omega (arith, sheet-size, few-lines)) ∙ List·getD-eq-default (joined .sheet) nought (omega (arith, sheet-size, all-lines));
+        past = sheet-past mostSheet (joined .corridors) (levels joined) (joined .row);
       }
 
   counts : countsOk (headerOf joined t) ≡ true

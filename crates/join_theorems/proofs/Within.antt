@@ -1,14 +1,13 @@
 -- A district within a larger case: its buses, generators and corridors stand together some way in, and every column has there what the district has.
 -- Of two joined cases both are within the joined one.
-use Prim.Native.Nat.{ℕ, _+_, _*_, _≤_, _<_}
+use Prim.Native.Nat.{ℕ, _+_, _-_, _≤_, _<_}
 use mathlib.Core.List.{List, _++_}
 use mathlib.Core.Path.{_≡_, refl, sym, ap, _∙_}
-use mathlib.Core.Bool.{true}
-use native.Mathlib.Nat.{add-mul}
+use mathlib.Core.Bool.{Bool, true, cond}
 use native.Mathlib.Omega.{arith}
-use borrow.Author.Tests.{eqb-true}
-use lib.Dec.{eqb, leb}
-use lib.Ieee.{Float, nan}
+use borrow.Author.Tests.{eqb-true, lt-ltb, le-ltb}
+use lib.Dec.{eqb, leb, ltb}
+use lib.Ieee.{nan}
 use lib.ListN.{length, getD, List·getD-append}
 use lib.Seq.{getD-append-add}
 use Rattle.loops.specs.Figures.{at}
@@ -16,11 +15,11 @@ use Rattle.loops.proofs.Bools.{both}
 use Rattle.mode.specs.Number.{modeNumber}
 use Rattle.mode.specs.declared.PlanMode.{PlanMode}
 use Rattle.mode.specs.declared.PlanMode.the-variants.{Expand, Reinforce, Observe, ExpandServing, ReinforceServing, ObserveServing}
-use Rattle.plan_defs.specs.Constants.{rowFigures}
-use Rattle.plan_defs.specs.Case.{Case, levels, topsUp, loadOf, endA, endB, ownCap, rowPlace, rowFrom, rowAt}
+use Rattle.plan_defs.specs.Case.{Case, levels, topsUp, loadOf, endA, endB, ownCap, rowAt}
 use Rattle.plan_defs.proofs.Lists.{get-map}
-use Rattle.plan_defs.proofs.Accepted.{Accepted, row-inside}
-use Rattle.join_defs.specs.Districts.{moved, joinedCase, sameLadder, alike}
+use Rattle.plan_defs.proofs.Accepted.{Accepted}
+use Rattle.join_defs.specs.Districts.{moved, joinedRow, joinedCase, alike}
+use Rattle.join_defs.proofs.Levels.{same-requested, levels-same}
 
 -- c within j: its buses from b on, its generators from o on, its corridors from m on
 pub record Within (c j : Case) (b o m : ℕ) : Type 0 where
@@ -60,30 +59,6 @@ moved-first x y i h = first-at x y 0 i h ∙ (let z : getD x i 0 ≡ 0 + getD x 
 pub moved-second : (x y : List ℕ) (b n i : ℕ) → length x ≡ n → i < length y → getD (x ++ moved b y) (n + i) 0 ≡ b + getD y i 0
 moved-second x y b n i e h = second-at x (moved b y) 0 n i e ∙ get-map (λ k. b + k) y i 0 0 h
 
--- a row of five figures there
-from-first : (x y : List Float) (i : ℕ) → i + rowFigures ≤ length x → rowFrom (x ++ y) i ≡ rowFrom x i
-from-first x y i h =
-    cc (
-      List·getD-append x y nan i (omega arith),
-      List·getD-append x y nan (i + 1) (omega arith),
-      List·getD-append x y nan (i + 2) (omega arith),
-      List·getD-append x y nan (i + 3) (omega arith),
-      List·getD-append x y nan (i + 4) (omega arith),
-    )
-
-past : (x y : List Float) (n i j : ℕ) → length x ≡ n → n + i ≡ j → at (x ++ y) j ≡ at y i
-past x y n i j e h = ap (at (x ++ y)) (sym h) ∙ second-at x y nan n i e
-
-from-second : (x y : List Float) (n i : ℕ) → length x ≡ n → rowFrom (x ++ y) (n + i) ≡ rowFrom y i
-from-second x y n i e =
-    cc (
-      past x y n i (n + i) e refl,
-      past x y n (i + 1) (n + i + 1) e (omega arith),
-      past x y n (i + 2) (n + i + 2) e (omega arith),
-      past x y n (i + 3) (n + i + 3) e (omega arith),
-      past x y n (i + 4) (n + i + 4) e (omega arith),
-    )
-
 -- ---- the same mode, requested levels and count of levels
 tops-up : (mode : PlanMode) → topsUp mode ≡ leb 3 (modeNumber mode)
 unfolding modeNumber
@@ -103,31 +78,18 @@ module _ (c d : Case) (t u : ℕ) (C : Accepted c t) (D : Accepted d u) (same : 
   same-tops =
       tops-up (c .mode) ∙ ap (leb 3) (eqb-true (modeNumber (c .mode)) (modeNumber (d .mode)) (both (eqb (modeNumber (c .mode)) (modeNumber (d .mode))) _ same .0)) ∙ sym (tops-up (d .mode))
 
-  rest : (eqb (c .requested) (d .requested) ≡ true) × (sameLadder (c .ladder) (d .ladder) ≡ true)
-  unfolding alike
-  rest = both (eqb (c .requested) (d .requested)) _ (both (eqb (modeNumber (c .mode)) (modeNumber (d .mode))) _ same .1)
-
-  same-requested : c .requested ≡ d .requested
-  same-requested = eqb-true _ _ (rest .0)
-
-  pub levels-same : levels c ≡ levels d
-  unfolding sameLadder
-  levels-same = sym (C .columns .ladder) ∙ eqb-true _ _ (both (eqb (length (c .ladder)) (length (d .ladder))) _ (rest .1) .0) ∙ D .columns .ladder
-
-  -- ---- the sheet's rows: a corridor's row at a level is the row it had, however the rows lie
-  pub first-row : (k l : ℕ) → k < c .corridors → l < levels c → rowAt joined (0 + k) l ≡ rowAt c k l
-  unfolding rowAt rowPlace joinedCase
+  -- ---- the sheet's rows: a corridor's row at a level is the row it had
+  first-row : (k l : ℕ) → k < c .corridors → l < levels c → rowAt joined (0 + k) l ≡ rowAt c k l
+  unfolding rowAt joinedCase joinedRow
   first-row k l h q =
-      ap (λ (i : ℕ). rowFrom (c .sheet ++ d .sheet) (rowFigures * (i * levels c + l))) (let z : 0 + k ≡ k = omega arith in z)
-      ∙ from-first (c .sheet) (d .sheet) (rowFigures * (k * levels c + l)) (row-inside c t C k l h q)
+      ap (λ (i : ℕ). cond (ltb i (c .corridors)) (c .row i l) (d .row (i - c .corridors) l)) (let z : 0 + k ≡ k = omega arith in z)
+      ∙ ap (λ (b : Bool). cond b (c .row k l) (d .row (k - c .corridors) l)) (lt-ltb k (c .corridors) h)
 
-  pub second-row : (k l : ℕ) → k < d .corridors → l < levels d → rowAt joined (c .corridors + k) l ≡ rowAt d k l
-  unfolding rowAt rowPlace joinedCase
+  second-row : (k l : ℕ) → k < d .corridors → l < levels d → rowAt joined (c .corridors + k) l ≡ rowAt d k l
+  unfolding rowAt joinedCase joinedRow
   second-row k l h q =
-      ap (λ (n : ℕ). rowFrom (c .sheet ++ d .sheet) (rowFigures * (n + l))) (add-mul (c .corridors) k (levels c))
-      ∙ ap (λ (n : ℕ). rowFrom (c .sheet ++ d .sheet) n) (let z : rowFigures * (c .corridors * levels c + k * levels c + l) ≡ rowFigures * (c .corridors * levels c) + rowFigures * (k * levels c + l) = omega arith in z)
-      ∙ from-second (c .sheet) (d .sheet) (rowFigures * (c .corridors * levels c)) (rowFigures * (k * levels c + l)) (C .columns .sheet)
-      ∙ ap (λ (n : ℕ). rowFrom (d .sheet) (rowFigures * (k * n + l))) levels-same
+      ap (λ (b : Bool). cond b (c .row (c .corridors + k) l) (d .row (c .corridors + k - c .corridors) l)) (le-ltb (c .corridors + k) (c .corridors) (omega arith))
+      ∙ ap (λ (i : ℕ). d .row i l) (let z : c .corridors + k - c .corridors ≡ k = omega arith in z)
 
   -- ---- both are within
   pub first-within : Within c joined 0 0 0
@@ -162,8 +124,8 @@ module _ (c d : Case) (t u : ℕ) (C : Accepted c t) (D : Accepted d u) (same : 
   second-within =
       record {
         tops = same-tops;
-        requested = same-requested;
-        same-levels = levels-same;
+        requested = same-requested c d same;
+        same-levels = levels-same c d same t u C D;
         buses = omega arith;
         tier = λ i h. second-at (c .tier) (d .tier) 0 (c .buses) i (C .columns .tier);
         reading = λ i h. second-at (c .reading) (d .reading) nan (c .buses) i (C .columns .reading);

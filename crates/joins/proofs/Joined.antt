@@ -18,7 +18,7 @@ use Rattle.casefile_writer.specs.Put.{Put}
 use Rattle.plan_defs.specs.Case.{Case}
 use Rattle.plan_defs.proofs.Accepted.{accepted}
 use Rattle.join_defs.specs.Districts.{joinedCase}
-use Rattle.join_defs.specs.Joining.{caseAs, padded, laidOut, outcome, joinCases}
+use Rattle.join_defs.specs.Joining.{caseAs, padded, sheetOf, laidOut, outcome, joinCases}
 use Rattle.join_theorems.proofs.Accepted.{all-accepted}
 use Rattle.join_theorems.proofs.Calls.{laid}
 use Rattle.joins.specs.declared.Written.{Written}
@@ -38,7 +38,7 @@ module _ (s : List ℕ) (p : Places) {r : CaseRead} {x : Reading} (e : read-outc
 
 -- ---- joining
 laid-sized : (c : Case) → sizesOk (laidOut c) ≡ true
-unfolding sizesOk laidOut padded
+unfolding sizesOk laidOut padded sheetOf
 laid-sized c = simp length-tab
 
 module _ (h k : Header) (p q r : Places) {x y : Reading} (e : outcome x r ≡ joinCases h p k q blank) (g : x ≡ y) where

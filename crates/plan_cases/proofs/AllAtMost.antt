@@ -3,12 +3,18 @@
 -- angles: settled after steps
 -- closing: an overloaded corridor
 -- By evaluation.
-use mathlib.Core.List.{[], _∷_}
+use mathlib.Core.List.{List, [], _∷_}
 use mathlib.Core.Path.{_≡_, refl}
+use lib.ListN.{length}
+use lib.Ieee.{Float}
 use Rattle.mode.specs.declared.PlanMode.the-variants.{Observe}
-use Rattle.plan_defs.specs.Case.{Case}
+use Rattle.plan_defs.specs.Case.{Case, rowsOf}
 use Rattle.plan_defs.specs.Listing.{listingOf}
 use Rattle.plan_cases.proofs.Figures.{figures, loadBits}
+
+-- by level
+abbrev pub sheet : List Float
+sheet = figures (0 ∷ 0x3F64_7AE1_47AE_147B ∷ 0x3FE0_0000_0000_0000 ∷ 0x4077_7000_0000_0000 ∷ 0x3FF0_0000_0000_0000 ∷ 0x3F40_624D_D2F1_A9FC ∷ 0x3F74_7AE1_47AE_147B ∷ 0x3FE0_0000_0000_0000 ∷ 0x4052_C000_0000_0000 ∷ 0x3FF0_0000_0000_0000 ∷ 0 ∷ 0x3F84_7AE1_47AE_147B ∷ 0 ∷ 0x4062_C000_0000_0000 ∷ 0x3FF0_0000_0000_0000 ∷ [])
 
 -- HD 2 2 3 1 1 1 2
 -- LV 230
@@ -48,7 +54,8 @@ given =
       km = figures (0x4039_0000_0000_0000 ∷ []);
       share = figures (0x3FEC_CCCC_CCCC_CCCD ∷ []);
       cap = 0 ∷ [];
-      sheet = figures (0 ∷ 0x3F64_7AE1_47AE_147B ∷ 0x3FE0_0000_0000_0000 ∷ 0x4077_7000_0000_0000 ∷ 0x3FF0_0000_0000_0000 ∷ 0x3F40_624D_D2F1_A9FC ∷ 0x3F74_7AE1_47AE_147B ∷ 0x3FE0_0000_0000_0000 ∷ 0x4052_C000_0000_0000 ∷ 0x3FF0_0000_0000_0000 ∷ 0 ∷ 0x3F84_7AE1_47AE_147B ∷ 0 ∷ 0x4062_C000_0000_0000 ∷ 0x3FF0_0000_0000_0000 ∷ []);
+      figures = length sheet;
+      row = rowsOf 1 3 sheet;
     }
 
 pub weighed : loadBits given ≡ 0 ∷ 0x4054_0000_0000_0000 ∷ 0 ∷ []

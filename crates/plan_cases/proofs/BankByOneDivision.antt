@@ -5,12 +5,18 @@
 -- rounds: a need exactly met; a bank enlarged by steps; the larger bank is not enough; one division would give another bank; more than four needed
 -- end: converged
 -- By evaluation.
-use mathlib.Core.List.{[], _∷_}
+use mathlib.Core.List.{List, [], _∷_}
 use mathlib.Core.Path.{_≡_, refl}
+use lib.ListN.{length}
+use lib.Ieee.{Float}
 use Rattle.mode.specs.declared.PlanMode.the-variants.{Expand}
-use Rattle.plan_defs.specs.Case.{Case}
+use Rattle.plan_defs.specs.Case.{Case, rowsOf}
 use Rattle.plan_defs.specs.Listing.{listingOf}
 use Rattle.plan_cases.proofs.Figures.{figures, loadBits}
+
+-- by level
+abbrev pub sheet : List Float
+sheet = figures (0 ∷ 0x3F40_4ECD_2E36_192A ∷ 0 ∷ 0x40D3_8800_0000_0000 ∷ 0 ∷ 0 ∷ 0x3F40_4ECD_2E36_192A ∷ 0 ∷ 0x40D3_8800_0000_0000 ∷ 0 ∷ 0 ∷ 0x3F40_4ECD_2E36_192A ∷ 0 ∷ 0x40D3_8800_0000_0000 ∷ 0 ∷ 0 ∷ 0x3F40_4ECD_2E36_192A ∷ 0 ∷ 0x40D3_8800_0000_0000 ∷ 0 ∷ [])
 
 -- HD 0 0 3 2 1 0 2
 -- LV 345
@@ -51,7 +57,8 @@ given =
       km = figures (0x4024_0000_0000_0000 ∷ 0x4024_0000_0000_0000 ∷ []);
       share = figures (0x3FE2_06D5_34A8_39FF ∷ 0x3FF0_0000_0000_0000 ∷ []);
       cap = 0 ∷ 0 ∷ [];
-      sheet = figures (0 ∷ 0x3F40_4ECD_2E36_192A ∷ 0 ∷ 0x40D3_8800_0000_0000 ∷ 0 ∷ 0 ∷ 0x3F40_4ECD_2E36_192A ∷ 0 ∷ 0x40D3_8800_0000_0000 ∷ 0 ∷ 0 ∷ 0x3F40_4ECD_2E36_192A ∷ 0 ∷ 0x40D3_8800_0000_0000 ∷ 0 ∷ 0 ∷ 0x3F40_4ECD_2E36_192A ∷ 0 ∷ 0x40D3_8800_0000_0000 ∷ 0 ∷ []);
+      figures = length sheet;
+      row = rowsOf 2 2 sheet;
     }
 
 pub weighed : loadBits given ≡ 0 ∷ 0 ∷ 0x4097_C402_14EB_C876 ∷ []

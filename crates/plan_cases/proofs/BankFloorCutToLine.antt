@@ -8,12 +8,18 @@
 -- end: capped; spread too wide
 -- closing: an overloaded corridor; a capped corridor; levels added
 -- By evaluation.
-use mathlib.Core.List.{[], _∷_}
+use mathlib.Core.List.{List, [], _∷_}
 use mathlib.Core.Path.{_≡_, refl}
+use lib.ListN.{length}
+use lib.Ieee.{Float}
 use Rattle.mode.specs.declared.PlanMode.the-variants.{Expand}
-use Rattle.plan_defs.specs.Case.{Case}
+use Rattle.plan_defs.specs.Case.{Case, rowsOf}
 use Rattle.plan_defs.specs.Listing.{listingOf}
 use Rattle.plan_cases.proofs.Figures.{figures, loadBits}
+
+-- by level
+abbrev pub sheet : List Float
+sheet = figures (0 ∷ 0x3FD0_0000_0000_0000 ∷ 0 ∷ 0x4062_C000_0000_0000 ∷ 0 ∷ 0 ∷ 0x3FD0_0000_0000_0000 ∷ 0x3FE0_0000_0000_0000 ∷ 0x40AF_4000_0000_0000 ∷ 0x3FF0_0000_0000_0000 ∷ 0 ∷ 0x3FE0_0000_0000_0000 ∷ 0 ∷ 0x409F_4000_0000_0000 ∷ 0x3FF0_0000_0000_0000 ∷ 0 ∷ 0x3FE0_0000_0000_0000 ∷ 0 ∷ 0x4049_0000_0000_0000 ∷ 0 ∷ 0x3FB9_9999_9999_999A ∷ 0x3FF0_0000_0000_0000 ∷ 0 ∷ 0x408F_4000_0000_0000 ∷ 0x3FF0_0000_0000_0000 ∷ 0 ∷ 0x3FF0_0000_0000_0000 ∷ 0x3FE0_0000_0000_0000 ∷ 0x408F_4000_0000_0000 ∷ 0x3FF0_0000_0000_0000 ∷ [])
 
 -- HD 0 0 3 2 1 2 1
 -- LV 500
@@ -57,7 +63,8 @@ given =
       km = figures (0x4041_8000_0000_0000 ∷ 0x4034_0000_0000_0000 ∷ []);
       share = figures (0x3FEC_CCCC_CCCC_CCCD ∷ 0x3FE0_0000_0000_0000 ∷ []);
       cap = 0 ∷ 0 ∷ [];
-      sheet = figures (0 ∷ 0x3FD0_0000_0000_0000 ∷ 0 ∷ 0x4062_C000_0000_0000 ∷ 0 ∷ 0 ∷ 0x3FE0_0000_0000_0000 ∷ 0 ∷ 0x409F_4000_0000_0000 ∷ 0x3FF0_0000_0000_0000 ∷ 0x3FB9_9999_9999_999A ∷ 0x3FF0_0000_0000_0000 ∷ 0 ∷ 0x408F_4000_0000_0000 ∷ 0x3FF0_0000_0000_0000 ∷ 0 ∷ 0x3FD0_0000_0000_0000 ∷ 0x3FE0_0000_0000_0000 ∷ 0x40AF_4000_0000_0000 ∷ 0x3FF0_0000_0000_0000 ∷ 0 ∷ 0x3FE0_0000_0000_0000 ∷ 0 ∷ 0x4049_0000_0000_0000 ∷ 0 ∷ 0 ∷ 0x3FF0_0000_0000_0000 ∷ 0x3FE0_0000_0000_0000 ∷ 0x408F_4000_0000_0000 ∷ 0x3FF0_0000_0000_0000 ∷ []);
+      figures = length sheet;
+      row = rowsOf 2 3 sheet;
     }
 
 pub weighed : loadBits given ≡ 0 ∷ 0 ∷ 0x4089_0000_0000_0000 ∷ []

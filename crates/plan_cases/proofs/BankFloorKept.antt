@@ -9,12 +9,18 @@
 -- filling: passes over a full corridor; to the caps
 -- closing: levels added; levels unused
 -- By evaluation.
-use mathlib.Core.List.{[], _∷_}
+use mathlib.Core.List.{List, [], _∷_}
 use mathlib.Core.Path.{_≡_, refl}
+use lib.ListN.{length}
+use lib.Ieee.{Float}
 use Rattle.mode.specs.declared.PlanMode.the-variants.{Expand}
-use Rattle.plan_defs.specs.Case.{Case}
+use Rattle.plan_defs.specs.Case.{Case, rowsOf}
 use Rattle.plan_defs.specs.Listing.{listingOf}
 use Rattle.plan_cases.proofs.Figures.{figures, loadBits}
+
+-- by level
+abbrev pub sheet : List Float
+sheet = figures (0 ∷ 0x3FA0_0000_0000_0000 ∷ 0 ∷ 0x40C2_C000_0000_0000 ∷ 0 ∷ 0 ∷ 0x3F34_7AE1_47AE_147B ∷ 0x3FE0_0000_0000_0000 ∷ 0x40D4_5000_0000_0000 ∷ 0x3FF0_0000_0000_0000 ∷ 0 ∷ 0x3FC0_0000_0000_0000 ∷ 0 ∷ 0x4074_5000_0000_0000 ∷ 0x3FF0_0000_0000_0000 ∷ 0 ∷ 0x3F54_7AE1_47AE_147B ∷ 0 ∷ 0x407C_2000_0000_0000 ∷ 0 ∷ 0x3FA9_9999_9999_999A ∷ 0x3FE0_0000_0000_0000 ∷ 0 ∷ 0x4082_C000_0000_0000 ∷ 0x3FF0_0000_0000_0000 ∷ 0 ∷ 0x3F74_7AE1_47AE_147B ∷ 0 ∷ 0x407D_B000_0000_0000 ∷ 0 ∷ 0x3FC9_9999_9999_999A ∷ 0x4000_0000_0000_0000 ∷ 0 ∷ 0x4062_C000_0000_0000 ∷ 0x3FF0_0000_0000_0000 ∷ 0 ∷ 0x3F94_7AE1_47AE_147B ∷ 0x3FE0_0000_0000_0000 ∷ 0x4074_5000_0000_0000 ∷ 0 ∷ [])
 
 -- HD 0 10 3 2 2 2 2
 -- LV 345
@@ -62,7 +68,8 @@ given =
       km = figures (0x4041_8000_0000_0000 ∷ 0x4014_0000_0000_0000 ∷ []);
       share = figures (0x3FEC_CCCC_CCCC_CCCD ∷ 0x3FE8_0000_0000_0000 ∷ []);
       cap = 0 ∷ 0 ∷ [];
-      sheet = figures (0 ∷ 0x3FA0_0000_0000_0000 ∷ 0 ∷ 0x40C2_C000_0000_0000 ∷ 0 ∷ 0 ∷ 0x3FC0_0000_0000_0000 ∷ 0 ∷ 0x4074_5000_0000_0000 ∷ 0x3FF0_0000_0000_0000 ∷ 0x3FA9_9999_9999_999A ∷ 0x3FE0_0000_0000_0000 ∷ 0 ∷ 0x4082_C000_0000_0000 ∷ 0x3FF0_0000_0000_0000 ∷ 0x3FC9_9999_9999_999A ∷ 0x4000_0000_0000_0000 ∷ 0 ∷ 0x4062_C000_0000_0000 ∷ 0x3FF0_0000_0000_0000 ∷ 0 ∷ 0x3F34_7AE1_47AE_147B ∷ 0x3FE0_0000_0000_0000 ∷ 0x40D4_5000_0000_0000 ∷ 0x3FF0_0000_0000_0000 ∷ 0 ∷ 0x3F54_7AE1_47AE_147B ∷ 0 ∷ 0x407C_2000_0000_0000 ∷ 0 ∷ 0 ∷ 0x3F74_7AE1_47AE_147B ∷ 0 ∷ 0x407D_B000_0000_0000 ∷ 0 ∷ 0 ∷ 0x3F94_7AE1_47AE_147B ∷ 0x3FE0_0000_0000_0000 ∷ 0x4074_5000_0000_0000 ∷ 0 ∷ []);
+      figures = length sheet;
+      row = rowsOf 2 4 sheet;
     }
 
 pub weighed : loadBits given ≡ 0 ∷ 0x408F_4000_0000_0000 ∷ 0 ∷ []

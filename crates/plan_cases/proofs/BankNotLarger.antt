@@ -4,12 +4,18 @@
 -- rounds: the next bank is not larger; one division would give another bank; circuits added
 -- end: converged
 -- By evaluation.
-use mathlib.Core.List.{[], _∷_}
+use mathlib.Core.List.{List, [], _∷_}
 use mathlib.Core.Path.{_≡_, refl}
+use lib.ListN.{length}
+use lib.Ieee.{Float}
 use Rattle.mode.specs.declared.PlanMode.the-variants.{Reinforce}
-use Rattle.plan_defs.specs.Case.{Case}
+use Rattle.plan_defs.specs.Case.{Case, rowsOf}
 use Rattle.plan_defs.specs.Listing.{listingOf}
 use Rattle.plan_cases.proofs.Figures.{figures, loadBits}
+
+-- by level
+abbrev pub sheet : List Float
+sheet = figures (0 ∷ 0x3F22_48BE_AC21_2550 ∷ 0 ∷ 0x40D3_8800_0000_0000 ∷ 0 ∷ 0 ∷ 0x3F22_48BE_AC21_2550 ∷ 0 ∷ 0x40D3_8800_0000_0000 ∷ 0 ∷ 0 ∷ 0x3F22_48BE_AC21_2550 ∷ 0 ∷ 0x40D3_8800_0000_0000 ∷ 0 ∷ 0 ∷ 0x3F22_48BE_AC21_2550 ∷ 0 ∷ 0x40D3_8800_0000_0000 ∷ 0 ∷ [])
 
 -- HD 1 0 3 2 1 0 2
 -- LV 345
@@ -50,7 +56,8 @@ given =
       km = figures (0x4024_0000_0000_0000 ∷ 0x4024_0000_0000_0000 ∷ []);
       share = figures (0x3FE4_1DE4_6EAB_C4B6 ∷ 0x3FF0_0000_0000_0000 ∷ []);
       cap = 0 ∷ 0 ∷ [];
-      sheet = figures (0 ∷ 0x3F22_48BE_AC21_2550 ∷ 0 ∷ 0x40D3_8800_0000_0000 ∷ 0 ∷ 0 ∷ 0x3F22_48BE_AC21_2550 ∷ 0 ∷ 0x40D3_8800_0000_0000 ∷ 0 ∷ 0 ∷ 0x3F22_48BE_AC21_2550 ∷ 0 ∷ 0x40D3_8800_0000_0000 ∷ 0 ∷ 0 ∷ 0x3F22_48BE_AC21_2550 ∷ 0 ∷ 0x40D3_8800_0000_0000 ∷ 0 ∷ []);
+      figures = length sheet;
+      row = rowsOf 2 2 sheet;
     }
 
 pub weighed : loadBits given ≡ 0 ∷ 0 ∷ 0x4065_3786_ECB9_297A ∷ []

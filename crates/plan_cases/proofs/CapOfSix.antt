@@ -5,12 +5,18 @@
 -- end: capped
 -- closing: an overloaded corridor; a capped corridor
 -- By evaluation.
-use mathlib.Core.List.{[], _∷_}
+use mathlib.Core.List.{List, [], _∷_}
 use mathlib.Core.Path.{_≡_, refl}
+use lib.ListN.{length}
+use lib.Ieee.{Float}
 use Rattle.mode.specs.declared.PlanMode.the-variants.{Reinforce}
-use Rattle.plan_defs.specs.Case.{Case}
+use Rattle.plan_defs.specs.Case.{Case, rowsOf}
 use Rattle.plan_defs.specs.Listing.{listingOf}
 use Rattle.plan_cases.proofs.Figures.{figures, loadBits}
+
+-- by level
+abbrev pub sheet : List Float
+sheet = figures (0 ∷ 0x3FC0_0000_0000_0000 ∷ 0 ∷ 0x406F_4000_0000_0000 ∷ 0x3FF0_0000_0000_0000 ∷ 0 ∷ 0x3FB0_0000_0000_0000 ∷ 0 ∷ 0x40B5_E000_0000_0000 ∷ 0x3FF0_0000_0000_0000 ∷ 0 ∷ 0x3FE0_0000_0000_0000 ∷ 0 ∷ 0x4059_0000_0000_0000 ∷ 0 ∷ 0 ∷ 0x3FD0_0000_0000_0000 ∷ 0 ∷ 0x4095_E000_0000_0000 ∷ 0 ∷ 0x3FC9_9999_9999_999A ∷ 0x4000_0000_0000_0000 ∷ 0x3FE0_0000_0000_0000 ∷ 0x4039_0000_0000_0000 ∷ 0x3FF0_0000_0000_0000 ∷ 0 ∷ 0x3FF0_0000_0000_0000 ∷ 0 ∷ 0x4075_E000_0000_0000 ∷ 0x3FF0_0000_0000_0000 ∷ [])
 
 -- HD 1 0 2 2 1 1 2
 -- LV 138
@@ -53,7 +59,8 @@ given =
       km = figures (0x402E_0000_0000_0000 ∷ 0x4014_0000_0000_0000 ∷ []);
       share = figures (0x3FE0_0000_0000_0000 ∷ 0x3FE0_0000_0000_0000 ∷ []);
       cap = 0 ∷ 0 ∷ [];
-      sheet = figures (0 ∷ 0x3FC0_0000_0000_0000 ∷ 0 ∷ 0x406F_4000_0000_0000 ∷ 0x3FF0_0000_0000_0000 ∷ 0 ∷ 0x3FE0_0000_0000_0000 ∷ 0 ∷ 0x4059_0000_0000_0000 ∷ 0 ∷ 0x3FC9_9999_9999_999A ∷ 0x4000_0000_0000_0000 ∷ 0x3FE0_0000_0000_0000 ∷ 0x4039_0000_0000_0000 ∷ 0x3FF0_0000_0000_0000 ∷ 0 ∷ 0x3FB0_0000_0000_0000 ∷ 0 ∷ 0x40B5_E000_0000_0000 ∷ 0x3FF0_0000_0000_0000 ∷ 0 ∷ 0x3FD0_0000_0000_0000 ∷ 0 ∷ 0x4095_E000_0000_0000 ∷ 0 ∷ 0 ∷ 0x3FF0_0000_0000_0000 ∷ 0 ∷ 0x4075_E000_0000_0000 ∷ 0x3FF0_0000_0000_0000 ∷ []);
+      figures = length sheet;
+      row = rowsOf 2 3 sheet;
     }
 
 pub weighed : loadBits given ≡ 0x4089_0000_0000_0000 ∷ 0x4082_C000_0000_0000 ∷ []

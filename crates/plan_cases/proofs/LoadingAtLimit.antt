@@ -3,12 +3,18 @@
 -- angles: settled after steps
 -- closing: a loading exactly at the limit
 -- By evaluation.
-use mathlib.Core.List.{[], _∷_}
+use mathlib.Core.List.{List, [], _∷_}
 use mathlib.Core.Path.{_≡_, refl}
+use lib.ListN.{length}
+use lib.Ieee.{Float}
 use Rattle.mode.specs.declared.PlanMode.the-variants.{Observe}
-use Rattle.plan_defs.specs.Case.{Case}
+use Rattle.plan_defs.specs.Case.{Case, rowsOf}
 use Rattle.plan_defs.specs.Listing.{listingOf}
 use Rattle.plan_cases.proofs.Figures.{figures, loadBits}
+
+-- by level
+abbrev pub sheet : List Float
+sheet = figures (0 ∷ 0x3F45_5D05_A2AE_B6F2 ∷ 0 ∷ 0x4077_6B31_1868_54F6 ∷ 0 ∷ [])
 
 -- HD 2 0 2 1 1 0 1
 -- LV 138
@@ -43,7 +49,8 @@ given =
       km = figures (0x4024_0000_0000_0000 ∷ []);
       share = figures (0x3FEE_4877_3378_9796 ∷ []);
       cap = 0 ∷ [];
-      sheet = figures (0 ∷ 0x3F45_5D05_A2AE_B6F2 ∷ 0 ∷ 0x4077_6B31_1868_54F6 ∷ 0 ∷ []);
+      figures = length sheet;
+      row = rowsOf 1 1 sheet;
     }
 
 pub weighed : loadBits given ≡ 0 ∷ 0x409B_B3E8_0E81_F8E7 ∷ []

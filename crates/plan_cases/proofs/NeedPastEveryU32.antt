@@ -6,12 +6,18 @@
 -- end: capped
 -- closing: an overloaded corridor; a capped corridor
 -- By evaluation.
-use mathlib.Core.List.{[], _∷_}
+use mathlib.Core.List.{List, [], _∷_}
 use mathlib.Core.Path.{_≡_, refl}
+use lib.ListN.{length}
+use lib.Ieee.{Float}
 use Rattle.mode.specs.declared.PlanMode.the-variants.{Expand}
-use Rattle.plan_defs.specs.Case.{Case}
+use Rattle.plan_defs.specs.Case.{Case, rowsOf}
 use Rattle.plan_defs.specs.Listing.{listingOf}
 use Rattle.plan_cases.proofs.Figures.{figures, loadBits}
+
+-- by level
+abbrev pub sheet : List Float
+sheet = figures (0 ∷ 0x3E7A_D7F2_9ABC_AF48 ∷ 0 ∷ 0x3F50_624D_D2F1_A9FC ∷ 0 ∷ 0 ∷ 0x3E7A_D7F2_9ABC_AF48 ∷ 0 ∷ 0x412E_8480_0000_0000 ∷ 0 ∷ [])
 
 -- HD 0 0 3 2 2 0 1
 -- LV 500
@@ -50,7 +56,8 @@ given =
       km = figures (0x4024_0000_0000_0000 ∷ 0x4034_0000_0000_0000 ∷ []);
       share = figures (0x3FE0_0000_0000_0000 ∷ 0x3FF0_0000_0000_0000 ∷ []);
       cap = 0 ∷ 0 ∷ [];
-      sheet = figures (0 ∷ 0x3E7A_D7F2_9ABC_AF48 ∷ 0 ∷ 0x3F50_624D_D2F1_A9FC ∷ 0 ∷ 0 ∷ 0x3E7A_D7F2_9ABC_AF48 ∷ 0 ∷ 0x412E_8480_0000_0000 ∷ 0 ∷ []);
+      figures = length sheet;
+      row = rowsOf 2 1 sheet;
     }
 
 pub weighed : loadBits given ≡ 0 ∷ 0x412E_8480_0000_0000 ∷ 0x412E_8480_0000_0000 ∷ []

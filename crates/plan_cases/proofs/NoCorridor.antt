@@ -2,12 +2,18 @@
 -- dispatch: every unit at its most; bisection narrowed the price; the first interior unit takes the gap
 -- angles: the norm is zero
 -- By evaluation.
-use mathlib.Core.List.{[], _∷_}
+use mathlib.Core.List.{List, [], _∷_}
 use mathlib.Core.Path.{_≡_, refl}
+use lib.ListN.{length}
+use lib.Ieee.{Float}
 use Rattle.mode.specs.declared.PlanMode.the-variants.{Reinforce}
-use Rattle.plan_defs.specs.Case.{Case}
+use Rattle.plan_defs.specs.Case.{Case, rowsOf}
 use Rattle.plan_defs.specs.Listing.{listingOf}
 use Rattle.plan_cases.proofs.Figures.{figures, loadBits}
+
+-- by level
+abbrev pub sheet : List Float
+sheet = figures ([])
 
 -- HD 1 7 3 0 2 0 1
 -- LV 138
@@ -42,7 +48,8 @@ given =
       km = figures ([]);
       share = figures ([]);
       cap = [];
-      sheet = figures ([]);
+      figures = length sheet;
+      row = rowsOf 0 1 sheet;
     }
 
 pub weighed : loadBits given ≡ 0x4034_0000_0000_0000 ∷ 0 ∷ 0x403E_0000_0000_0000 ∷ []

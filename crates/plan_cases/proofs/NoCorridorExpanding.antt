@@ -4,12 +4,18 @@
 -- raises: a pass before the rounds raises nothing
 -- closing: levels unused
 -- By evaluation.
-use mathlib.Core.List.{[], _∷_}
+use mathlib.Core.List.{List, [], _∷_}
 use mathlib.Core.Path.{_≡_, refl}
+use lib.ListN.{length}
+use lib.Ieee.{Float}
 use Rattle.mode.specs.declared.PlanMode.the-variants.{Expand}
-use Rattle.plan_defs.specs.Case.{Case}
+use Rattle.plan_defs.specs.Case.{Case, rowsOf}
 use Rattle.plan_defs.specs.Listing.{listingOf}
 use Rattle.plan_cases.proofs.Figures.{figures, loadBits}
+
+-- by level
+abbrev pub sheet : List Float
+sheet = figures ([])
 
 -- HD 0 7 2 0 2 2 1
 -- LV 765
@@ -45,7 +51,8 @@ given =
       km = figures ([]);
       share = figures ([]);
       cap = [];
-      sheet = figures ([]);
+      figures = length sheet;
+      row = rowsOf 0 3 sheet;
     }
 
 pub weighed : loadBits given ≡ 0x403E_0000_0000_0000 ∷ 0 ∷ []

@@ -4,12 +4,18 @@
 -- end: converged
 -- filling: to the target
 -- By evaluation.
-use mathlib.Core.List.{[], _∷_}
+use mathlib.Core.List.{List, [], _∷_}
 use mathlib.Core.Path.{_≡_, refl}
+use lib.ListN.{length}
+use lib.Ieee.{Float}
 use Rattle.mode.specs.declared.PlanMode.the-variants.{Expand}
-use Rattle.plan_defs.specs.Case.{Case}
+use Rattle.plan_defs.specs.Case.{Case, rowsOf}
 use Rattle.plan_defs.specs.Listing.{listingOf}
 use Rattle.plan_cases.proofs.Figures.{figures, loadBits}
+
+-- by level
+abbrev pub sheet : List Float
+sheet = figures (0x3FF0_0000_0000_0000 ∷ 0x7FE1_CCF3_85EB_C8A0 ∷ 0 ∷ 0x4059_0000_0000_0000 ∷ 0 ∷ [])
 
 -- HD 0 3 2 1 1 0 1
 -- LV 138
@@ -44,7 +50,8 @@ given =
       km = figures (0x4024_0000_0000_0000 ∷ []);
       share = figures (0x3FF0_0000_0000_0000 ∷ []);
       cap = 0 ∷ [];
-      sheet = figures (0x3FF0_0000_0000_0000 ∷ 0x7FE1_CCF3_85EB_C8A0 ∷ 0 ∷ 0x4059_0000_0000_0000 ∷ 0 ∷ []);
+      figures = length sheet;
+      row = rowsOf 1 1 sheet;
     }
 
 pub weighed : loadBits given ≡ 0 ∷ 0x4049_0000_0000_0000 ∷ []

@@ -8,12 +8,18 @@
 -- filling: to the target
 -- closing: levels unused
 -- By evaluation.
-use mathlib.Core.List.{[], _∷_}
+use mathlib.Core.List.{List, [], _∷_}
 use mathlib.Core.Path.{_≡_, refl}
+use lib.ListN.{length}
+use lib.Ieee.{Float}
 use Rattle.mode.specs.declared.PlanMode.the-variants.{Expand}
-use Rattle.plan_defs.specs.Case.{Case}
+use Rattle.plan_defs.specs.Case.{Case, rowsOf}
 use Rattle.plan_defs.specs.Listing.{listingOf}
 use Rattle.plan_cases.proofs.Figures.{figures, loadBits}
+
+-- by level
+abbrev pub sheet : List Float
+sheet = figures (0x3F84_7AE1_47AE_147B ∷ 0x3FB9_9999_9999_999A ∷ 0 ∷ 0x4079_0000_0000_0000 ∷ 0 ∷ 0x3F84_7AE1_47AE_147B ∷ 0x3FB9_9999_9999_999A ∷ 0 ∷ 0x4079_0000_0000_0000 ∷ 0 ∷ 0x3F94_7AE1_47AE_147B ∷ 0x3FC9_9999_9999_999A ∷ 0 ∷ 0x4062_C000_0000_0000 ∷ 0 ∷ 0x3F94_7AE1_47AE_147B ∷ 0x3FC9_9999_9999_999A ∷ 0 ∷ 0x4062_C000_0000_0000 ∷ 0 ∷ 0x3FA9_9999_9999_999A ∷ 0x3FD9_9999_9999_999A ∷ 0 ∷ 0x4049_0000_0000_0000 ∷ 0x3FF0_0000_0000_0000 ∷ 0x3FA9_9999_9999_999A ∷ 0x3FD9_9999_9999_999A ∷ 0 ∷ 0x4049_0000_0000_0000 ∷ 0x3FF0_0000_0000_0000 ∷ [])
 
 -- HD 0 5 3 2 0 1 2
 -- LV 345
@@ -56,7 +62,8 @@ given =
       km = figures (0x4024_0000_0000_0000 ∷ 0x4034_0000_0000_0000 ∷ []);
       share = figures (0x3FF0_0000_0000_0000 ∷ 0x3FEC_CCCC_CCCC_CCCD ∷ []);
       cap = 0 ∷ 0 ∷ [];
-      sheet = figures (0x3F84_7AE1_47AE_147B ∷ 0x3FB9_9999_9999_999A ∷ 0 ∷ 0x4079_0000_0000_0000 ∷ 0 ∷ 0x3F94_7AE1_47AE_147B ∷ 0x3FC9_9999_9999_999A ∷ 0 ∷ 0x4062_C000_0000_0000 ∷ 0 ∷ 0x3FA9_9999_9999_999A ∷ 0x3FD9_9999_9999_999A ∷ 0 ∷ 0x4049_0000_0000_0000 ∷ 0x3FF0_0000_0000_0000 ∷ 0x3F84_7AE1_47AE_147B ∷ 0x3FB9_9999_9999_999A ∷ 0 ∷ 0x4079_0000_0000_0000 ∷ 0 ∷ 0x3F94_7AE1_47AE_147B ∷ 0x3FC9_9999_9999_999A ∷ 0 ∷ 0x4062_C000_0000_0000 ∷ 0 ∷ 0x3FA9_9999_9999_999A ∷ 0x3FD9_9999_9999_999A ∷ 0 ∷ 0x4049_0000_0000_0000 ∷ 0x3FF0_0000_0000_0000 ∷ []);
+      figures = length sheet;
+      row = rowsOf 2 3 sheet;
     }
 
 pub weighed : loadBits given ≡ 0x4034_0000_0000_0000 ∷ 0x4044_0000_0000_0000 ∷ 0x404E_0000_0000_0000 ∷ []

@@ -3,12 +3,18 @@
 -- angles: settled after steps
 -- closing: an overloaded corridor
 -- By evaluation.
-use mathlib.Core.List.{[], _∷_}
+use mathlib.Core.List.{List, [], _∷_}
 use mathlib.Core.Path.{_≡_, refl}
+use lib.ListN.{length}
+use lib.Ieee.{Float}
 use Rattle.mode.specs.declared.PlanMode.the-variants.{Observe}
-use Rattle.plan_defs.specs.Case.{Case}
+use Rattle.plan_defs.specs.Case.{Case, rowsOf}
 use Rattle.plan_defs.specs.Listing.{listingOf}
 use Rattle.plan_cases.proofs.Figures.{figures, loadBits}
+
+-- by level
+abbrev pub sheet : List Float
+sheet = figures (0x3F99_9999_9999_999A ∷ 0x3FD0_0000_0000_0000 ∷ 0 ∷ 0x407F_4000_0000_0000 ∷ 0 ∷ 0x3FB9_9999_9999_999A ∷ 0x3FF0_0000_0000_0000 ∷ 0 ∷ 0x405F_4000_0000_0000 ∷ 0 ∷ [])
 
 -- HD 2 0 3 1 1 1 1
 -- LV 345
@@ -46,7 +52,8 @@ given =
       km = figures (0x4044_0000_0000_0000 ∷ []);
       share = figures (0x3FE8_0000_0000_0000 ∷ []);
       cap = 0 ∷ [];
-      sheet = figures (0x3F99_9999_9999_999A ∷ 0x3FD0_0000_0000_0000 ∷ 0 ∷ 0x407F_4000_0000_0000 ∷ 0 ∷ 0x3FB9_9999_9999_999A ∷ 0x3FF0_0000_0000_0000 ∷ 0 ∷ 0x405F_4000_0000_0000 ∷ 0 ∷ []);
+      figures = length sheet;
+      row = rowsOf 1 2 sheet;
     }
 
 pub weighed : loadBits given ≡ 0x407C_2000_0000_0000 ∷ 0x407F_4000_0000_0000 ∷ 0 ∷ []

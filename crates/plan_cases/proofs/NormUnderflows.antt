@@ -3,12 +3,18 @@
 -- angles: the norm is zero; the norm underflows to zero
 -- end: converged
 -- By evaluation.
-use mathlib.Core.List.{[], _∷_}
+use mathlib.Core.List.{List, [], _∷_}
 use mathlib.Core.Path.{_≡_, refl}
+use lib.ListN.{length}
+use lib.Ieee.{Float}
 use Rattle.mode.specs.declared.PlanMode.the-variants.{Expand}
-use Rattle.plan_defs.specs.Case.{Case}
+use Rattle.plan_defs.specs.Case.{Case, rowsOf}
 use Rattle.plan_defs.specs.Listing.{listingOf}
 use Rattle.plan_cases.proofs.Figures.{figures, loadBits}
+
+-- by level
+abbrev pub sheet : List Float
+sheet = figures (0x3FC5_2271_05D7_21DA ∷ 0x3FF0_BA4B_8F92_FC06 ∷ 0x3F95_FBC7_66EC_7DCC ∷ 0x4036_2C35_F81D_37FC ∷ 0x3FF0_0000_0000_0000 ∷ 0x3FA7_55BA_3879_8A39 ∷ 0x3FE5_00AC_21A7_6E52 ∷ 0x3F88_5AC6_6E7E_BD82 ∷ 0x4044_0398_3157_83CD ∷ 0x3FF0_0000_0000_0000 ∷ [])
 
 -- HD 0 0 2 2 2 0 1
 -- LV 69
@@ -46,7 +52,8 @@ given =
       km = figures (0x4060_1AB1_12FB_2324 ∷ 0x4051_D75A_7DE2_4170 ∷ []);
       share = figures (0x3FF0_0000_0000_0000 ∷ 0x3FF0_0000_0000_0000 ∷ []);
       cap = 0 ∷ 0 ∷ [];
-      sheet = figures (0x3FC5_2271_05D7_21DA ∷ 0x3FF0_BA4B_8F92_FC06 ∷ 0x3F95_FBC7_66EC_7DCC ∷ 0x4036_2C35_F81D_37FC ∷ 0x3FF0_0000_0000_0000 ∷ 0x3FA7_55BA_3879_8A39 ∷ 0x3FE5_00AC_21A7_6E52 ∷ 0x3F88_5AC6_6E7E_BD82 ∷ 0x4044_0398_3157_83CD ∷ 0x3FF0_0000_0000_0000 ∷ []);
+      figures = length sheet;
+      row = rowsOf 2 1 sheet;
     }
 
 pub weighed : loadBits given ≡ 0 ∷ 0x1EA5_DA82_1656_F25A ∷ []

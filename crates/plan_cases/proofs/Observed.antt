@@ -3,12 +3,18 @@
 -- angles: settled after steps
 -- closing: an overloaded corridor
 -- By evaluation.
-use mathlib.Core.List.{[], _∷_}
+use mathlib.Core.List.{List, [], _∷_}
 use mathlib.Core.Path.{_≡_, refl}
+use lib.ListN.{length}
+use lib.Ieee.{Float}
 use Rattle.mode.specs.declared.PlanMode.the-variants.{Observe}
-use Rattle.plan_defs.specs.Case.{Case}
+use Rattle.plan_defs.specs.Case.{Case, rowsOf}
 use Rattle.plan_defs.specs.Listing.{listingOf}
 use Rattle.plan_cases.proofs.Figures.{figures, loadBits}
+
+-- by level
+abbrev pub sheet : List Float
+sheet = figures (0 ∷ 0x3F49_9999_9999_999A ∷ 0 ∷ 0x40A9_0000_0000_0000 ∷ 0x3FF0_0000_0000_0000 ∷ 0 ∷ 0x3F69_9999_9999_999A ∷ 0x3FE0_0000_0000_0000 ∷ 0x4089_0000_0000_0000 ∷ 0 ∷ 0x3F54_7AE1_47AE_147C ∷ 0x3F89_9999_9999_999A ∷ 0x3FE0_0000_0000_0000 ∷ 0x4069_0000_0000_0000 ∷ 0x3FF0_0000_0000_0000 ∷ 0 ∷ 0x3FA9_9999_9999_999A ∷ 0 ∷ 0x4049_0000_0000_0000 ∷ 0x3FF0_0000_0000_0000 ∷ [])
 
 -- HD 2 3 3 1 1 2 2
 -- LV 230
@@ -50,7 +56,8 @@ given =
       km = figures (0x404B_8000_0000_0000 ∷ []);
       share = figures (0x3FEC_CCCC_CCCC_CCCD ∷ []);
       cap = 0 ∷ [];
-      sheet = figures (0 ∷ 0x3F49_9999_9999_999A ∷ 0 ∷ 0x40A9_0000_0000_0000 ∷ 0x3FF0_0000_0000_0000 ∷ 0 ∷ 0x3F69_9999_9999_999A ∷ 0x3FE0_0000_0000_0000 ∷ 0x4089_0000_0000_0000 ∷ 0 ∷ 0x3F54_7AE1_47AE_147C ∷ 0x3F89_9999_9999_999A ∷ 0x3FE0_0000_0000_0000 ∷ 0x4069_0000_0000_0000 ∷ 0x3FF0_0000_0000_0000 ∷ 0 ∷ 0x3FA9_9999_9999_999A ∷ 0 ∷ 0x4049_0000_0000_0000 ∷ 0x3FF0_0000_0000_0000 ∷ []);
+      figures = length sheet;
+      row = rowsOf 1 4 sheet;
     }
 
 pub weighed : loadBits given ≡ 0 ∷ 0x408C_2000_0000_0000 ∷ 0 ∷ []

@@ -2,12 +2,18 @@
 -- refusal 4: a product above a million
 -- load: the product is a million; a weight of a thousand
 -- By evaluation.
-use mathlib.Core.List.{[], _∷_}
+use mathlib.Core.List.{List, [], _∷_}
 use mathlib.Core.Path.{_≡_, refl}
+use lib.ListN.{length}
+use lib.Ieee.{Float}
 use Rattle.mode.specs.declared.PlanMode.the-variants.{Observe}
-use Rattle.plan_defs.specs.Case.{Case}
+use Rattle.plan_defs.specs.Case.{Case, rowsOf}
 use Rattle.plan_defs.specs.Listing.{listingOf}
 use Rattle.plan_cases.proofs.Figures.{figures, loadBits}
+
+-- by level
+abbrev pub sheet : List Float
+sheet = figures (0 ∷ 0x3FE0_0000_0000_0000 ∷ 0 ∷ 0x4059_0000_0000_0000 ∷ 0 ∷ [])
 
 -- HD 2 0 2 1 1 0 1
 -- LV 138
@@ -42,7 +48,8 @@ given =
       km = figures (0x4024_0000_0000_0000 ∷ []);
       share = figures (0x3FF0_0000_0000_0000 ∷ []);
       cap = 0 ∷ [];
-      sheet = figures (0 ∷ 0x3FE0_0000_0000_0000 ∷ 0 ∷ 0x4059_0000_0000_0000 ∷ 0 ∷ []);
+      figures = length sheet;
+      row = rowsOf 1 1 sheet;
     }
 
 pub weighed : loadBits given ≡ 0x412E_8480_0000_0000 ∷ 0x412E_8480_0000_0002 ∷ []

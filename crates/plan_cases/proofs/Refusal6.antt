@@ -1,11 +1,17 @@
 -- Expand, one island, an initial count above six, refused: 6 1: the defined plan's listing is the reference build's. The branches that are taken: none.
 -- By evaluation.
-use mathlib.Core.List.{[], _∷_}
+use mathlib.Core.List.{List, [], _∷_}
 use mathlib.Core.Path.{_≡_, refl}
+use lib.ListN.{length}
+use lib.Ieee.{Float}
 use Rattle.mode.specs.declared.PlanMode.the-variants.{Expand}
-use Rattle.plan_defs.specs.Case.{Case}
+use Rattle.plan_defs.specs.Case.{Case, rowsOf}
 use Rattle.plan_defs.specs.Listing.{listingOf}
 use Rattle.plan_cases.proofs.Figures.{figures, loadBits}
+
+-- by level
+abbrev pub sheet : List Float
+sheet = figures (0 ∷ 0 ∷ 0 ∷ 0x4059_0000_0000_0000 ∷ 0 ∷ 0 ∷ 0x3FE0_0000_0000_0000 ∷ 0 ∷ 0x4059_0000_0000_0000 ∷ 0 ∷ 0 ∷ 0x3FE0_0000_0000_0000 ∷ 0 ∷ 0x4059_0000_0000_0000 ∷ 0 ∷ [])
 
 -- HD 0 0 3 3 1 0 1
 -- LV 138
@@ -45,7 +51,8 @@ given =
       km = figures (0x4024_0000_0000_0000 ∷ 0x4024_0000_0000_0000 ∷ 0x4024_0000_0000_0000 ∷ []);
       share = figures (0x3FF0_0000_0000_0000 ∷ 0x3FDF_FFFF_94A0_3595 ∷ 0x3FF0_0000_0000_0000 ∷ []);
       cap = 0 ∷ 0 ∷ 0 ∷ [];
-      sheet = figures (0 ∷ 0 ∷ 0 ∷ 0x4059_0000_0000_0000 ∷ 0 ∷ 0 ∷ 0x3FE0_0000_0000_0000 ∷ 0 ∷ 0x4059_0000_0000_0000 ∷ 0 ∷ 0 ∷ 0x3FE0_0000_0000_0000 ∷ 0 ∷ 0x4059_0000_0000_0000 ∷ 0 ∷ []);
+      figures = length sheet;
+      row = rowsOf 3 1 sheet;
     }
 
 pub weighed : loadBits given ≡ 0 ∷ 0x4049_0000_0000_0000 ∷ 0 ∷ []

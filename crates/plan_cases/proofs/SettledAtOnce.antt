@@ -8,12 +8,18 @@
 -- end: capped; spread too wide
 -- closing: an overloaded corridor; a capped corridor; levels added
 -- By evaluation.
-use mathlib.Core.List.{[], _∷_}
+use mathlib.Core.List.{List, [], _∷_}
 use mathlib.Core.Path.{_≡_, refl}
+use lib.ListN.{length}
+use lib.Ieee.{Float}
 use Rattle.mode.specs.declared.PlanMode.the-variants.{Expand}
-use Rattle.plan_defs.specs.Case.{Case}
+use Rattle.plan_defs.specs.Case.{Case, rowsOf}
 use Rattle.plan_defs.specs.Listing.{listingOf}
 use Rattle.plan_cases.proofs.Figures.{figures, loadBits}
+
+-- by level
+abbrev pub sheet : List Float
+sheet = figures (0 ∷ 0x3F94_7AE1_47AE_147B ∷ 0 ∷ 0x4079_0000_0000_0000 ∷ 0 ∷ 0x3FB9_9999_9999_999A ∷ 0x3FF0_0000_0000_0000 ∷ 0 ∷ 0x4052_C000_0000_0000 ∷ 0 ∷ 0 ∷ 0x3F94_7AE1_47AE_147B ∷ 0x3FE0_0000_0000_0000 ∷ 0x4079_0000_0000_0000 ∷ 0x3FF0_0000_0000_0000 ∷ 0 ∷ 0x3FF0_0000_0000_0000 ∷ 0 ∷ 0x4052_C000_0000_0000 ∷ 0x3FF0_0000_0000_0000 ∷ 0 ∷ 0x3F94_7AE1_47AE_147B ∷ 0x3FE0_0000_0000_0000 ∷ 0x4079_0000_0000_0000 ∷ 0 ∷ 0 ∷ 0x3FF0_0000_0000_0000 ∷ 0 ∷ 0x407A_9000_0000_0000 ∷ 0 ∷ 0 ∷ 0x3F94_7AE1_47AE_147B ∷ 0 ∷ 0x4079_0000_0000_0000 ∷ 0x3FF0_0000_0000_0000 ∷ 0 ∷ 0x3FF0_0000_0000_0000 ∷ 0 ∷ 0x4052_C000_0000_0000 ∷ 0 ∷ [])
 
 -- HD 0 4 3 2 1 1 3
 -- LV 345
@@ -60,7 +66,8 @@ given =
       km = figures (0x4041_8000_0000_0000 ∷ 0x404E_0000_0000_0000 ∷ []);
       share = figures (0x3FEC_CCCC_CCCC_CCCD ∷ 0x3FEC_CCCC_CCCC_CCCD ∷ []);
       cap = 0 ∷ 0 ∷ [];
-      sheet = figures (0 ∷ 0x3F94_7AE1_47AE_147B ∷ 0 ∷ 0x4079_0000_0000_0000 ∷ 0 ∷ 0 ∷ 0x3F94_7AE1_47AE_147B ∷ 0x3FE0_0000_0000_0000 ∷ 0x4079_0000_0000_0000 ∷ 0x3FF0_0000_0000_0000 ∷ 0 ∷ 0x3F94_7AE1_47AE_147B ∷ 0x3FE0_0000_0000_0000 ∷ 0x4079_0000_0000_0000 ∷ 0 ∷ 0 ∷ 0x3F94_7AE1_47AE_147B ∷ 0 ∷ 0x4079_0000_0000_0000 ∷ 0x3FF0_0000_0000_0000 ∷ 0x3FB9_9999_9999_999A ∷ 0x3FF0_0000_0000_0000 ∷ 0 ∷ 0x4052_C000_0000_0000 ∷ 0 ∷ 0 ∷ 0x3FF0_0000_0000_0000 ∷ 0 ∷ 0x4052_C000_0000_0000 ∷ 0x3FF0_0000_0000_0000 ∷ 0 ∷ 0x3FF0_0000_0000_0000 ∷ 0 ∷ 0x407A_9000_0000_0000 ∷ 0 ∷ 0 ∷ 0x3FF0_0000_0000_0000 ∷ 0 ∷ 0x4052_C000_0000_0000 ∷ 0 ∷ []);
+      figures = length sheet;
+      row = rowsOf 2 4 sheet;
     }
 
 pub weighed : loadBits given ≡ 0x4059_0000_0000_0000 ∷ 0x4072_C000_0000_0000 ∷ 0x407C_2000_0000_0000 ∷ []

@@ -7,12 +7,18 @@
 -- end: converged
 -- closing: levels added; levels unused
 -- By evaluation.
-use mathlib.Core.List.{[], _∷_}
+use mathlib.Core.List.{List, [], _∷_}
 use mathlib.Core.Path.{_≡_, refl}
+use lib.ListN.{length}
+use lib.Ieee.{Float}
 use Rattle.mode.specs.declared.PlanMode.the-variants.{Expand}
-use Rattle.plan_defs.specs.Case.{Case}
+use Rattle.plan_defs.specs.Case.{Case, rowsOf}
 use Rattle.plan_defs.specs.Listing.{listingOf}
 use Rattle.plan_cases.proofs.Figures.{figures, loadBits}
+
+-- by level
+abbrev pub sheet : List Float
+sheet = figures (0x3F59_9999_9999_999A ∷ 0x3F90_0000_0000_0000 ∷ 0 ∷ 0x40D7_7000_0000_0000 ∷ 0x3FF0_0000_0000_0000 ∷ 0x3F39_9999_9999_999A ∷ 0x3F70_0000_0000_0000 ∷ 0 ∷ 0x40C2_C000_0000_0000 ∷ 0x3FF0_0000_0000_0000 ∷ 0 ∷ 0x3FB0_0000_0000_0000 ∷ 0 ∷ 0x40B7_7000_0000_0000 ∷ 0 ∷ 0x3F59_9999_9999_999A ∷ 0x3F90_0000_0000_0000 ∷ 0 ∷ 0x4072_C000_0000_0000 ∷ 0 ∷ 0 ∷ 0x3FD0_0000_0000_0000 ∷ 0 ∷ 0x4097_7000_0000_0000 ∷ 0x3FF0_0000_0000_0000 ∷ 0x3F79_9999_9999_999A ∷ 0x3FB0_0000_0000_0000 ∷ 0 ∷ 0x4082_C000_0000_0000 ∷ 0x3FF0_0000_0000_0000 ∷ 0x3FB9_9999_9999_999A ∷ 0x3FF0_0000_0000_0000 ∷ 0x3FE0_0000_0000_0000 ∷ 0x4077_7000_0000_0000 ∷ 0 ∷ 0 ∷ 0x3FD0_0000_0000_0000 ∷ 0 ∷ 0x4062_C000_0000_0000 ∷ 0 ∷ [])
 
 -- HD 0 0 3 2 1 2 2
 -- LV 500
@@ -59,7 +65,8 @@ given =
       km = figures (0x4044_0000_0000_0000 ∷ 0x402E_0000_0000_0000 ∷ []);
       share = figures (0x3FE0_0000_0000_0000 ∷ 0x3FEC_CCCC_CCCC_CCCD ∷ []);
       cap = 0 ∷ 0 ∷ [];
-      sheet = figures (0x3F59_9999_9999_999A ∷ 0x3F90_0000_0000_0000 ∷ 0 ∷ 0x40D7_7000_0000_0000 ∷ 0x3FF0_0000_0000_0000 ∷ 0 ∷ 0x3FB0_0000_0000_0000 ∷ 0 ∷ 0x40B7_7000_0000_0000 ∷ 0 ∷ 0 ∷ 0x3FD0_0000_0000_0000 ∷ 0 ∷ 0x4097_7000_0000_0000 ∷ 0x3FF0_0000_0000_0000 ∷ 0x3FB9_9999_9999_999A ∷ 0x3FF0_0000_0000_0000 ∷ 0x3FE0_0000_0000_0000 ∷ 0x4077_7000_0000_0000 ∷ 0 ∷ 0x3F39_9999_9999_999A ∷ 0x3F70_0000_0000_0000 ∷ 0 ∷ 0x40C2_C000_0000_0000 ∷ 0x3FF0_0000_0000_0000 ∷ 0x3F59_9999_9999_999A ∷ 0x3F90_0000_0000_0000 ∷ 0 ∷ 0x4072_C000_0000_0000 ∷ 0 ∷ 0x3F79_9999_9999_999A ∷ 0x3FB0_0000_0000_0000 ∷ 0 ∷ 0x4082_C000_0000_0000 ∷ 0x3FF0_0000_0000_0000 ∷ 0 ∷ 0x3FD0_0000_0000_0000 ∷ 0 ∷ 0x4062_C000_0000_0000 ∷ 0 ∷ []);
+      figures = length sheet;
+      row = rowsOf 2 4 sheet;
     }
 
 pub weighed : loadBits given ≡ 0x4085_E000_0000_0000 ∷ 0x4072_C000_0000_0000 ∷ 0 ∷ []

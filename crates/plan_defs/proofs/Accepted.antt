@@ -1,12 +1,11 @@
 -- What acceptance gives: every length, every count within its bounds, every row of every table sound; and that of the ends, the levels and the sheet's rows.
 -- Each test of `caseFault` is taken apart; a refusal is no `none`.
-use Prim.Native.Nat.{ℕ, zero, suc, _+_, _*_, _/_, _%_, _≤_, _<_}
+use Prim.Native.Nat.{ℕ, zero, suc, _+_, _*_, _/_, _≤_, _<_}
 use mathlib.Core.Bool.{Bool, true, false, cond, _&&_}
 use mathlib.Core.List.{List}
 use mathlib.Core.Option.{Option, none, some}
-use mathlib.Core.Path.{_≡_, refl, sym, ap, _∙_, subst}
-use native.Mathlib.Nat.{div-add-mod', div-eq-of-lt-le, mul-add-mod-self-right, mod-eq-of-lt, suc-mul, mul-le-mul-right}
-use native.Mathlib.Numerals.{add-one}
+use mathlib.Core.Path.{_≡_, refl, sym, _∙_, subst}
+use native.Mathlib.Nat.{mul-comm}
 use native.Mathlib.Omega.{arith}
 use borrow.Author.Tests.{ltb-true, ltb-false, leb-true, eqb-true}
 use lib.Dec.{ltb, leb, eqb}
@@ -15,14 +14,17 @@ use lib.Ieee.{lt, le}
 use Rattle.loops.specs.Figures.{at, nought, one, half, thousand, tenThousand, million, inside}
 use Rattle.loops.specs.Loops.{first}
 use Rattle.loops.proofs.Bools.{both}
+use Rattle.loops.proofs.Rows.{row-fits}
 use Rattle.loops.proofs.Scan.{all-pass}
 use Rattle.loops.proofs.Tab.{get-tab}
 use Rattle.refusal.specs.declared.Refusal.{Refusal}
 use Rattle.refusal.specs.declared.Refusal.the-variants.{Length, Count, Level, Bus, Generator, Corridor, Row}
+use Rattle.sheets.specs.Sheet.{rowFigures, rowPlace}
+use Rattle.sheets.proofs.Layouts.{parts}
 use Rattle.leaders.specs.Operation.{Ends, corridorOk}
 use Rattle.dispatch.specs.Units.{unitOk}
-use Rattle.plan_defs.specs.Constants.{mostBuses, mostCorridors, mostGenerators, mostLevels, mostTarget, mostInitial, mostCap, rowFigures}
-use Rattle.plan_defs.specs.Case.{Case, levels, loadOf, endA, endB, ownOr, ownCap, higherA, fromOf, toOf, firstLevels, rowPlace, rowAt}
+use Rattle.plan_defs.specs.Constants.{mostBuses, mostCorridors, mostGenerators, mostLevels, mostTarget, mostInitial, mostCap}
+use Rattle.plan_defs.specs.Case.{Case, levels, loadOf, endA, endB, ownOr, ownCap, higherA, fromOf, toOf, firstLevels, rowAt}
 use Rattle.plan_defs.specs.Accept.{lengthsOk, countsOk, levelOk, busOk, generatorOk, corridorSound, rowOk, rowSound, firstFault, tablesFault, caseFault}
 
 -- where an own cap and the usual one are at most 6, so is the one that is taken
@@ -48,7 +50,7 @@ pub record Columns (c : Case) : Type 0 where
   pub km : length (c .km) ≡ c .corridors
   pub share : length (c .share) ≡ c .corridors
   pub cap : length (c .cap) ≡ c .corridors
-  pub sheet : length (c .sheet) ≡ rowFigures * (c .corridors * levels c)
+  pub sheet : c .figures ≡ rowFigures * (c .corridors * levels c)
 
 pub record Counts (c : Case) (target : ℕ) : Type 0 where
   pub few-buses : c .buses ≤ mostBuses
@@ -242,31 +244,12 @@ module _ (c : Case) (target : ℕ) (ok : Accepted c target) where
   first-below i h = omega (arith, get-tab (c .buses) (λ (j : ℕ). c .above + getD (c .tier) j 0) i 0 h, tier-below i h)
 
 -- ---- the sheet's rows: index corridor × levels + level, and the five figures of a row are in the sheet
-pub row-index : (c : Case) (k l : ℕ) → l < levels c → ((k * levels c + l) / levels c ≡ k) × ((k * levels c + l) % levels c ≡ l)
-row-index c k l h = (
-  div-eq-of-lt-le (levels c) (let z : k * levels c ≤ k * levels c + l = omega arith in z) (let z : k * levels c + l < (k + 1) * levels c = omega (arith, more) in z),
-  mul-add-mod-self-right k (levels c) l ∙ mod-eq-of-lt h,
-)
-  where
-    more : (k + 1) * levels c ≡ k * levels c + levels c
-    more = ap (λ (m : ℕ). m * levels c) (add-one k) ∙ suc-mul k (levels c)
-
-pub row-place : (c : Case) (i : ℕ) → rowPlace c (i / levels c) (i % levels c) ≡ rowFigures * i
-unfolding rowPlace
-row-place c i = ap (λ (m : ℕ). rowFigures * m) (div-add-mod' i (levels c))
-
-pub row-inside : (c : Case) (target : ℕ) → Accepted c target → (k l : ℕ) → k < c .corridors → l < levels c → rowPlace c k l + rowFigures ≤ length (c .sheet)
-unfolding rowPlace
-row-inside c target ok k l h q =
-    let a : suc k * levels c ≤ c .corridors * levels c = mul-le-mul-right (levels c) h in
-    let b : suc k * levels c ≡ k * levels c + levels c = suc-mul k (levels c) in
-    omega (arith, ok .columns .sheet)
+pub row-inside : (c : Case) (target : ℕ) → Accepted c target → (k l : ℕ) → k < c .corridors → l < levels c → rowPlace (c .corridors) k l + rowFigures ≤ c .figures
+row-inside c target ok k l h q = omega (arith, ok .columns .sheet, row-fits l (levels c) (c .corridors) q, mul-comm (levels c) (c .corridors))
 
 pub row-sound : (c : Case) (target : ℕ) → Accepted c target → (k l : ℕ) → k < c .corridors → l < levels c → rowSound (rowAt c k l) ≡ true
 unfolding rowOk
 row-sound c target ok k l h q =
-    let a : suc k * levels c ≤ c .corridors * levels c = mul-le-mul-right (levels c) h in
-    let b : suc k * levels c ≡ k * levels c + levels c = suc-mul k (levels c) in
-    let e = row-index c k l q in
-    let r = ok .row-ok (k * levels c + l) (omega arith) in
+    let e = parts (levels c) k l q in
+    let r = ok .row-ok (k * levels c + l) (omega (arith, row-fits k (c .corridors) (levels c) h)) in
     subst (λ (j : ℕ). rowSound (rowAt c j l) ≡ true) (e .0) (subst (λ (j : ℕ). rowSound (rowAt c ((k * levels c + l) / levels c) j) ≡ true) (e .1) r)

@@ -13,3 +13,4 @@ pub mod Opened
 pub mod Examples
 pub mod OwnCaps
 pub mod Weights
+pub mod Rows

@@ -8,12 +8,13 @@ use lib.ListN.{length, getD}
 use lib.Ieee.{eq, lt, le}
 use Rattle.loops.specs.Figures.{plus, at, nought, one, half, tenThousand, million, thousandth, finite, inside}
 use Rattle.loops.specs.Loops.{first}
+use Rattle.sheets.specs.Sheet.{rowFigures}
 use Rattle.loads.specs.Load.{loadOk}
 use Rattle.refusal.specs.declared.Refusal.{Refusal}
 use Rattle.refusal.specs.declared.Refusal.the-variants.{Length, Count, Level, Bus, Generator, Corridor, Row as SheetRow}
 use Rattle.leaders.specs.Operation.{corridorOk}
 use Rattle.dispatch.specs.Units.{unitOk}
-use Rattle.plan_defs.specs.Constants.{kvTolerance, mostBuses, mostCorridors, mostGenerators, mostLevels, mostTarget, mostInitial, mostCap, rowFigures}
+use Rattle.plan_defs.specs.Constants.{kvTolerance, mostBuses, mostCorridors, mostGenerators, mostLevels, mostTarget, mostInitial, mostCap}
 use Rattle.plan_defs.specs.Case.{Case, Row, levels, loadOf, endA, endB, ownCap, rowAt}
 
 -- ---- 1: every column of the case has its length
@@ -36,7 +37,7 @@ lengthsOk c =
     && (eqb (length (c .km)) (c .corridors)
     && (eqb (length (c .share)) (c .corridors)
     && (eqb (length (c .cap)) (c .corridors)
-    && eqb (length (c .sheet)) (rowFigures * (c .corridors * levels c))))))))))))))))))
+    && eqb (c .figures) (rowFigures * (c .corridors * levels c))))))))))))))))))
 
 -- ---- 2
 unfoldable pub countsOk : Case → ℕ → Bool

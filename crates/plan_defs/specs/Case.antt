@@ -1,17 +1,42 @@
 -- A case (document 01, "Tables and their bounds"), but for the target, which filling alone reads: the counts as given, and a list for each column of the tables.
 -- Then what its mode does, and what the tables say of a level, a bus and a corridor. The definitions marked as seams are the only ones that say it.
-use Prim.Native.Nat.{ℕ, zero, suc, _+_, _*_, max}
+use Prim.Native.Nat.{ℕ, zero, suc, _+_, max}
 use mathlib.Core.Bool.{Bool, true, false, not, cond, _&&_}
 use mathlib.Core.List.{List}
-use lib.ListN.{getD}
-use lib.Ieee.{Float, lt, le}
+use lib.Dec.{ltb}
+use lib.ListN.{length, getD}
+use lib.Ieee.{Float, nan, lt, le}
 use Rattle.loops.specs.Figures.{at}
 use Rattle.loops.specs.Loops.{tab}
+use Rattle.sheets.specs.Sheet.{rowPlace}
 use Rattle.loads.specs.Load.{loadsOf}
 use Rattle.mode.specs.declared.PlanMode.{PlanMode}
 use Rattle.mode.specs.declared.PlanMode.the-variants.{Expand, Reinforce, Observe, ExpandServing, ReinforceServing, ObserveServing}
-use Rattle.plan_defs.specs.Constants.{subtransmissionKv, subtransmissionMaxCircuits, maxCircuitsPerCorridor, rowFigures}
+use Rattle.plan_defs.specs.Constants.{subtransmissionKv, subtransmissionMaxCircuits, maxCircuitsPerCorridor}
 
+-- ---- a row of the line sheet
+pub record Row : Type 0 where
+  pub r : Float
+  pub x : Float
+  pub b : Float
+  pub rate : Float
+  pub basis : Float
+
+abbrev pub rowOf : Float → Float → Float → Float → Float → Row
+rowOf r x b rate basis = record { r = r; x = x; b = b; rate = rate; basis = basis }
+
+abbrev pub rowFrom : List Float → ℕ → Row
+rowFrom sheet i = rowOf (at sheet i) (at sheet (i + 1)) (at sheet (i + 2)) (at sheet (i + 3)) (at sheet (i + 4))
+
+abbrev pub rowIf : Bool → Row → Row
+rowIf true w = w
+rowIf false w = rowOf nan nan nan nan nan
+
+-- the rows of a sheet of m corridors and n levels, laid out by level (document 02, K11); there are no others
+unfoldable pub rowsOf : ℕ → ℕ → List Float → ℕ → ℕ → Row
+rowsOf m n sheet k level = rowIf (ltb k m && ltb level n) (rowFrom sheet (rowPlace m k level))
+
+-- ---- the case
 pub record Case : Type 0 where
   pub mode : PlanMode
   pub buses : ℕ
@@ -42,12 +67,13 @@ pub record Case : Type 0 where
   pub share : List Float
   -- its own cap, 0 where it has none
   pub cap : List ℕ
-  -- the line sheet, five figures to a row
-  pub sheet : List Float
+  -- the line sheet: how many figures it has, and its row for each corridor and level
+  pub figures : ℕ
+  pub row : ℕ → ℕ → Row
 
-abbrev pub caseOf : PlanMode → ℕ → ℕ → ℕ → ℕ → ℕ → List Float → List ℕ → List Float → List Float → List Float → List ℕ → List ℕ → List Float → List Float → List Float
-    → List Float → List ℕ → List ℕ → List ℕ → List Float → List Float → List ℕ → List Float → Case
-caseOf mode buses corridors generators above requested ladder tier reading weight load bus slack pmin pmax c1 c2 a b circuits km share cap sheet =
+abbrev pub caseWith : PlanMode → ℕ → ℕ → ℕ → ℕ → ℕ → List Float → List ℕ → List Float → List Float → List Float → List ℕ → List ℕ → List Float → List Float → List Float
+    → List Float → List ℕ → List ℕ → List ℕ → List Float → List Float → List ℕ → ℕ → (ℕ → ℕ → Row) → Case
+caseWith mode buses corridors generators above requested ladder tier reading weight load bus slack pmin pmax c1 c2 a b circuits km share cap figures row =
     record {
       mode = mode;
       buses = buses;
@@ -72,8 +98,16 @@ caseOf mode buses corridors generators above requested ladder tier reading weigh
       km = km;
       share = share;
       cap = cap;
-      sheet = sheet;
+      figures = figures;
+      row = row;
     }
+
+-- of a sheet by level
+abbrev pub caseOf : PlanMode → ℕ → ℕ → ℕ → ℕ → ℕ → List Float → List ℕ → List Float → List Float → List Float → List ℕ → List ℕ → List Float → List Float → List Float
+    → List Float → List ℕ → List ℕ → List ℕ → List Float → List Float → List ℕ → List Float → Case
+caseOf mode buses corridors generators above requested ladder tier reading weight load bus slack pmin pmax c1 c2 a b circuits km share cap sheet =
+    caseWith mode buses corridors generators above requested ladder tier reading weight load bus slack pmin pmax c1 c2 a b circuits km share cap (length sheet)
+    (rowsOf corridors (above + requested) sheet)
 
 -- the case of tables as they are handed in: each load is the reading times the weight (document 02, K6)
 abbrev pub surveyed : PlanMode → ℕ → ℕ → ℕ → ℕ → ℕ → List Float → List ℕ → List Float → List Float → List ℕ → List ℕ → List Float → List Float → List Float → List Float
@@ -175,23 +209,6 @@ levelOf c level k = getD level (fromOf c level k) 0
 unfoldable pub kvHigh : Case → List ℕ → ℕ → Float
 kvHigh c level k = kvOf c (levelOf c level k)
 
--- ---- seam: the place of the first figure of the sheet's row for a corridor and a level
-unfoldable pub rowPlace : Case → ℕ → ℕ → ℕ
-rowPlace c k level = rowFigures * (k * levels c + level)
-
--- a row of the line sheet
-pub record Row : Type 0 where
-  pub r : Float
-  pub x : Float
-  pub b : Float
-  pub rate : Float
-  pub basis : Float
-
-abbrev pub rowOf : Float → Float → Float → Float → Float → Row
-rowOf r x b rate basis = record { r = r; x = x; b = b; rate = rate; basis = basis }
-
-abbrev pub rowFrom : List Float → ℕ → Row
-rowFrom sheet i = rowOf (at sheet i) (at sheet (i + 1)) (at sheet (i + 2)) (at sheet (i + 3)) (at sheet (i + 4))
-
+-- the row of the line sheet for a corridor and a level
 unfoldable pub rowAt : Case → ℕ → ℕ → Row
-rowAt c k level = rowFrom (c .sheet) (rowPlace c k level)
+rowAt c k level = c .row k level

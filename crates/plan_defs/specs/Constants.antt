@@ -98,10 +98,6 @@ mostInitial = 64
 abbrev pub mostCap : ℕ
 mostCap = 6
 
--- figures of a row of the line sheet: r, x, b, rate, basis
-abbrev pub rowFigures : ℕ
-rowFigures = 5
-
 -- places of each work slice for each bus, corridor and generator
 abbrev pub workRows : ℕ
 workRows = 12

@@ -14,6 +14,7 @@ pub mod Naming
 pub mod Preview
 pub mod Uncapped
 pub mod Unweighed
+pub mod LaidOut
 pub mod Outcomes
 pub mod Joined
 pub mod Demanded

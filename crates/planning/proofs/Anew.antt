@@ -118,7 +118,7 @@ module _ (ladder : List Float) (level a b : List ℕ) (km share sheet load : Lis
   unfolding anewFrom designAt
   anew-defined =
       ap (λ (x : Float). keptBank (drawn (linesFor ladder a b km share sheet) level k x) (at floors k)) fresh-defined
-      ∙ ap (λ (d : CircuitDesign). keptBank d (at floors k)) (drawn-lifts C level k _ (omega arith))
+      ∙ ap (λ (d : CircuitDesign). keptBank d (at floors k)) (drawn-lifts C sheet refl refl (omega arith) level k _)
 
   pub bank-defined : (d : CircuitDesign) (mva : Float) → mva ≡ bankOf d
       → d ≡ anewFrom (linesFor ladder a b km share sheet) level (freshAt (endsFor ladder a b) level load gens shared k) (at floors k) k → mva ≡ bankAnew C level floors k

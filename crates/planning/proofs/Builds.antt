@@ -18,7 +18,7 @@ use Rattle.plan_defs.specs.Build.{built, buildOf, bankBelow, setBank, drawnAll}
 use Rattle.plan_defs.specs.declared.CircuitDesign.{CircuitDesign}
 use Rattle.planning.specs.Design.{linesFor}
 use Rattle.planning.specs.Size.{setIf}
-use Rattle.planning.proofs.Draws.{drawn-lifts}
+use Rattle.planning.proofs.Draws.{Laid, drawn-lifts}
 
 -- ---- what is kept of the enlarged design is the larger bank
 pub kept-next : (larger : Bool) (first d : CircuitDesign) (next : Float) (banks : List Float) (k : ℕ) → d ≡ bankedBy larger first next
@@ -83,9 +83,9 @@ module _ (c : Case) (level : List ℕ) where
         ∙ drawn-set banks k mva h n)
 
   -- ---- what the designs read of the case
-  pub drawn-all-lifts : (banks : List Float) → length (c .a) ≡ c .corridors → length (c .ladder) ≡ levels c
-      → drawnAll (linesFor (c .ladder) (c .a) (c .b) (c .km) (c .share) (c .sheet)) level banks ≡ drawnAll c level banks
+  pub drawn-all-lifts : (sheet : List Float) → Laid c sheet → (banks : List Float) → length (c .a) ≡ c .corridors → length (c .ladder) ≡ levels c
+      → drawnAll (linesFor (c .ladder) (c .a) (c .b) (c .km) (c .share) sheet) level banks ≡ drawnAll c level banks
   unfolding drawnAll
-  drawn-all-lifts banks m e =
-      tab-same (length (c .a)) _ (λ k. drawn c level k (at banks k)) (λ k h. drawn-lifts c level k (at banks k) e)
+  drawn-all-lifts sheet laid banks m e =
+      tab-same (length (c .a)) _ (λ k. drawn c level k (at banks k)) (λ k h. drawn-lifts c sheet laid m e level k (at banks k))
       ∙ ap (λ (n : ℕ). tab n (λ k. drawn c level k (at banks k))) m

@@ -25,7 +25,7 @@ use Rattle.plan_defs.specs.declared.CircuitDesign.{CircuitDesign}
 use Rattle.planning.specs.Design.{linesFor, Banks}
 use Rattle.planning.specs.Size.{sizeFor, growFor, sizedOf, sizingOf, setIf, Grows}
 use Rattle.planning.specs.declared.size.Tally.{Tally}
-use Rattle.planning.proofs.Draws.{drawn-lifts}
+use Rattle.planning.proofs.Draws.{Laid, drawn-lifts}
 use Rattle.planning.proofs.Builds.{kept-next, bank-drawn, drawn-at, set-bank, drawn-all-lifts}
 
 -- ---- a larger bank
@@ -130,7 +130,7 @@ module _ (mode : PlanMode) (buses : ℕ) (ladder : List Float) (level a b : List
     size-is required first next larger banks′ floors′ upsized′ d s circuits′ marks′ t′ pr pf pn pl pd qb qc pu ps g =
         let pb = qb ∙ kept-next larger first d next banks k pd in
         let pc = qc ∙ kept-next larger first d next floors k pd in
-        let first-is = pf ∙ drawn-lifts C level k (at banks k) (omega arith) in
+        let first-is = pf ∙ drawn-lifts C sheet refl refl (omega arith) level k (at banks k) in
         let design-is : design (drawnAll C level banks′) k ≡ d =
         ap (λ (l : List Float). design (drawnAll C level l) k) pb
         ∙ enlarged-design C level circuits banks floors upsized marks t k h n required first next larger first-is pn pl
@@ -169,9 +169,9 @@ module _ (mode : PlanMode) (buses : ℕ) (ladder : List Float) (level a b : List
   left-end k circuits banks floors upsized marks t h = iter-end (sizeOne C level flow) h
 
 -- ---- what sizing reads of a case
-module _ (c : Case) (level : List ℕ) (flow : List Float) where
+module _ (c : Case) (sheet : List Float) (laid : Laid c sheet) (level : List ℕ) (flow : List Float) where
   abbrev N : Case
-  N = sizeFor (c .mode) (length level) (c .ladder) (c .a) (c .b) (c .km) (c .share) (c .cap) (c .sheet)
+  N = sizeFor (c .mode) (length level) (c .ladder) (c .a) (c .b) (c .km) (c .share) (c .cap) sheet
 
   one-lifts : (k : ℕ) (s : Sizing) → sizeOne N level flow k s ≡ sizeOne c level flow k s
   unfolding sizeOne
@@ -187,7 +187,7 @@ module _ (c : Case) (level : List ℕ) (flow : List Float) where
       ∙ ap (λ (i : ℕ). iter (sizeOne c level flow) (c .corridors) 0 (sizing b (noMarks i) capacity false false)) n
 
   designs-lift : (banks : List Float) → length (c .a) ≡ c .corridors → length (c .ladder) ≡ levels c → drawnAll N level banks ≡ drawnAll c level banks
-  designs-lift banks m l = sym (drawn-all-lifts N level banks refl (omega arith)) ∙ drawn-all-lifts c level banks m l
+  designs-lift banks m l = sym (drawn-all-lifts N level sheet refl banks refl (omega arith)) ∙ drawn-all-lifts c level sheet laid banks m l
 
   -- what a call of the loop says of a whole case
   pub size-lifts : (capacity : ℕ) (circuits : List ℕ) (banks floors : List Float) (upsized circuits′ : List ℕ) (banks′ floors′ : List Float) (upsized′ marks′ : List ℕ) (t′ : Tally)

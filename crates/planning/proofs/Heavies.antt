@@ -31,7 +31,7 @@ use Rattle.planning.specs.Sound.{Sound}
 use Rattle.planning.specs.Rounds.{Redrawn}
 use Rattle.planning.specs.Raises.{heavyFor, passFor, raisedOf, passedAs, HeavyRaised}
 use Rattle.planning.specs.declared.raises.Raised.the-variants.{Promoted}
-use Rattle.planning.proofs.Draws.{drawn-lifts}
+use Rattle.planning.proofs.Draws.{Laid, drawn-lifts}
 use Rattle.planning.proofs.Builds.{drawn-at, drawn-all-lifts}
 use Rattle.planning.proofs.Redesigns.{redesign-is, banks-lift}
 use Rattle.planning.proofs.Marks.{mark-lifts, none-raised, lines-raised}
@@ -46,7 +46,7 @@ module _ (ladder : List Float) (level a b : List ℕ) (km share sheet banks flow
 
   module _ (k : ℕ) (h : k < length a) (d : CircuitDesign) (pd : d ≡ drawn (linesFor ladder a b km share sheet) level k (at banks k)) (t : Bool) (pt : t ≡ tooHeavy d (at flow k)) (marks : List ℕ) where
     heavy-is : t ≡ tooHeavy (design (drawnAll H level banks) k) (at flow k)
-    heavy-is = pt ∙ ap (λ (x : CircuitDesign). tooHeavy x (at flow k)) (pd ∙ drawn-lifts H level k (at banks k) (omega arith) ∙ sym (drawn-at H level banks k h))
+    heavy-is = pt ∙ ap (λ (x : CircuitDesign). tooHeavy x (at flow k)) (pd ∙ drawn-lifts H sheet refl refl (omega arith) level k (at banks k) ∙ sym (drawn-at H level banks k h))
 
     pub heavy-marked : t ≡ true → (marks′ : List ℕ) → marks′ ≡ markIf (canRaise (pairsFor a b) level 0 k) (pairsFor a b) level k marks → marks′ ≡ heavyAt H S flow k marks
     heavy-marked e marks′ q =
@@ -61,12 +61,12 @@ module _ (ladder : List Float) (level a b : List ℕ) (km share sheet banks flow
       iter-all (heavyAt H S flow) (length a) marks ∙ ap (λ (m : List ℕ). iter (heavyAt H S flow) (length a) 0 m) (p ∙ ap (λ (i : ℕ). noMarks i) q)
 
 -- ---- what the marks read of a case
-module _ (c : Case) (level : List ℕ) (banks flow : List Float) (m : length (c .a) ≡ c .corridors) (l : length (c .ladder) ≡ levels c) (n : length level ≡ c .buses) (promoted : ℕ) where
+module _ (c : Case) (sheet : List Float) (laid : Laid c sheet) (level : List ℕ) (banks flow : List Float) (m : length (c .a) ≡ c .corridors) (l : length (c .ladder) ≡ levels c) (n : length level ≡ c .buses) (promoted : ℕ) where
   abbrev N : Case
-  N = heavyFor (length level) (c .ladder) (c .a) (c .b) (c .km) (c .share) (c .sheet)
+  N = heavyFor (length level) (c .ladder) (c .a) (c .b) (c .km) (c .share) sheet
 
   designs-are : drawnAll N level banks ≡ drawnAll c level banks
-  designs-are = sym (drawn-all-lifts N level banks refl (omega arith)) ∙ drawn-all-lifts c level banks m l
+  designs-are = sym (drawn-all-lifts N level sheet refl banks refl (omega arith)) ∙ drawn-all-lifts c level sheet laid banks m l
 
   at-lifts : (k : ℕ) (marks : List ℕ) → heavyAt N (raisedOf N level banks 0) flow k marks ≡ heavyAt c (raisedOf c level banks promoted) flow k marks
   at-lifts k marks =
@@ -135,7 +135,7 @@ module _ (ladder : List Float) (level a b : List ℕ) (km share sheet load : Lis
   -- the solve, from zero
   state-is : planningState (peakFor (length level) grounds injection) (drawnAll lines level banks) circuits angle₀ ≡ planningState P (drawnAll C level banks) circuits (zeros (o .buses))
   state-is =
-      ap (λ (ds : List CircuitDesign). planningState (peakFor (length level) grounds injection) ds circuits angle₀) (drawn-all-lifts C level banks (s .a-size) (s .ladder-size))
+      ap (λ (ds : List CircuitDesign). planningState (peakFor (length level) grounds injection) ds circuits angle₀) (drawn-all-lifts C level sheet refl banks (s .a-size) (s .ladder-size))
       ∙ ap (λ (x : List Float). planningState (peakFor (length level) grounds injection) (drawnAll C level banks) circuits x) (cleared ∙ ap (λ (i : ℕ). zeros i) size)
       ∙ ap (λ (i : ℕ). planningState (peakFor i grounds injection) (drawnAll C level banks) circuits (zeros i)) buses
 
@@ -148,7 +148,7 @@ module _ (ladder : List Float) (level a b : List ℕ) (km share sheet load : Lis
   module _ (answered : r ≡ Answered) (floors : List Float) (unset : floors ≡ zeros (length a)) (level′ : List ℕ) (banks′ : List Float) (moved : ℕ) (marks : List ℕ)
       (w : HeavyRaised ladder level a b km share sheet load bus pmax flow floors banks level′ banks′ moved marks) where
     marks-is : marks ≡ heavyMarks C before flow
-    marks-is = w .marks-are ∙ marks-lift C level banks flow (s .a-size) (s .ladder-size) buses promoted
+    marks-is = w .marks-are ∙ marks-lift C sheet refl level banks flow (s .a-size) (s .ladder-size) buses promoted
 
     pass-is : passedBy moved C before marks (passes d C P circuits) ≡ passes (suc d) C P circuits before
     unfolding passes
@@ -162,7 +162,7 @@ module _ (ladder : List Float) (level a b : List ℕ) (km share sheet load : Lis
     anew-is e =
         ap (drawnAll C level′)
         (w .anew e
-        ∙ banks-lift C level′ (s .a-size) (s .bus-size) (s .ladder-size) floors
+        ∙ banks-lift C sheet refl level′ (s .a-size) (s .bus-size) (s .ladder-size) floors
         ∙ ap (banksAnew C level′) (unset ∙ ap (λ (i : ℕ). zeros i) (s .a-size)))
         ∙ sym (redesign-is C level′ (zeros (o .corridors)))
         ∙ ap (λ (x : List ℕ). redesign C x (zeros (o .corridors))) (w .levels)

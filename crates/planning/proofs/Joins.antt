@@ -46,6 +46,7 @@ use Rattle.planning.specs.declared.plan.PlanRun.{PlanRun}
 use Rattle.planning.specs.declared.plan.Opening.{Opening}
 use Rattle.planning.specs.declared.plan.Opening.the-variants.{Refused as Unopened, Opened as Begun}
 use Rattle.planning.proofs.Grounds.{grounds-few, grounds-below, grounds-lent}
+use Rattle.planning.proofs.Draws.{Laid}
 use Rattle.planning.proofs.Sounds.{lines-of}
 
 -- ---- a unit's most is not below zero, since its least is not
@@ -96,10 +97,11 @@ module _ (c : Case) (target : ℕ) (s : Sound c target) where
   level-size : (level : List ℕ) → level ≡ firstLevels c → length level ≡ c .buses
   level-size level e = ap length e ∙ risen-first c .size
 
-  columns-by : (level : List ℕ) → level ≡ firstLevels c → Columns (c .ladder) level (c .a) (c .b) (c .km) (c .share) (c .sheet) (c .load) (c .bus) (c .pmax)
-  columns-by level e =
+  columns-by : (sheet : List Float) → Laid c sheet → length sheet ≡ c .figures → (level : List ℕ) → level ≡ firstLevels c
+      → Columns (c .ladder) level (c .a) (c .b) (c .km) (c .share) sheet (c .load) (c .bus) (c .pmax)
+  columns-by sheet laid figures level e =
       record {
-        lines = lines-of c target s level (level-size level e) (λ i h. subst (λ (l : List ℕ). getD l i 0 < levels c) (sym e) (first-below i h));
+        lines = lines-of c target s sheet laid figures level (level-size level e) (λ i h. subst (λ (l : List ℕ). getD l i 0 < levels c) (sym e) (first-below i h));
         loads =
             record {
               load-size = s .load-size ∙ sym (level-size level e);
@@ -135,15 +137,15 @@ module _ (c : Case) (target : ℕ) (s : Sound c target) where
     pub count-fits : length leader ≡ c .buses → count ≤ c .buses
     count-fits n = omega (arith, h .count-is, grounds-few c (component c), ap length (h .led), n)
 
-    pub plannable-by : (banks floors : List Float) (upsized marks : List ℕ) (angle flow : List Float) → length leader ≡ c .buses → length injection ≡ c .buses
+    pub plannable-by : (sheet : List Float) → Laid c sheet → length sheet ≡ c .figures → (banks floors : List Float) (upsized marks : List ℕ) (angle flow : List Float) → length leader ≡ c .buses → length injection ≡ c .buses
         → length circuits ≡ c .corridors → length banks ≡ c .corridors → floors ≡ zeros (length (c .a)) → upsized ≡ replicate (length (c .a)) 0 → length marks ≡ c .buses
         → length angle ≡ c .buses → length flow ≡ c .corridors
-        → Plannable (c .ladder) level (c .a) (c .b) (c .km) (c .share) (c .cap) (c .sheet) (c .load) (c .bus) (c .pmax) leader (take (count - 0) ground) injection circuits banks floors upsized marks angle flow
-    plannable-by banks floors upsized marks angle flow e₁ e₂ e₃ e₄ e₅ e₆ e₇ e₈ e₉ =
+        → Plannable (c .ladder) level (c .a) (c .b) (c .km) (c .share) (c .cap) sheet (c .load) (c .bus) (c .pmax) leader (take (count - 0) ground) injection circuits banks floors upsized marks angle flow
+    plannable-by sheet laid figures banks floors upsized marks angle flow e₁ e₂ e₃ e₄ e₅ e₆ e₇ e₈ e₉ =
         let n = level-size level (h .levels-are) in
         let k : length leader ≡ length (component c) = ap length (h .led) in
         record {
-          columns = columns-by level (h .levels-are);
+          columns = columns-by sheet laid figures level (h .levels-are);
           places =
               record {
                 leader-size = e₁ ∙ sym n;
@@ -336,7 +338,7 @@ module _ (mode : PlanMode) (target above : ℕ) (ladder : List Float) (tier : Li
               let n = ap length led ∙ e ∙ lent-size 0 in
               let l = h .lengths in (
                 plannable-by (C (h .whole)) target (h .sound) (again (length tier) 0 leader′) (again (length tier) nought injection′) count ground′ mw′ level′ circuits′ k
-                    (take (length a - 0) figures) (fresh (length a) nought) (take (length a - 0) zeroed) (fresh (length tier) 0) angle flow n (ap length injected ∙ f ∙ lent-size nought)
+                    sheet refl refl (take (length a - 0) figures) (fresh (length a) nought) (take (length a - 0) zeroed) (fresh (length tier) 0) angle flow n (ap length injected ∙ f ∙ lent-size nought)
                     (g ∙ l .circuits) bank-size (front-replicate 256 (length a) nought (corridors-fit (h .sound))) not-upsized (lent-size 0) (l .angle) (l .flow),
                 closable-by (C (h .whole)) target (h .sound) (again (length tier) 0 leader′) (again (length tier) nought injection′) count ground′ mw′ level′ circuits′ k
                     (take (length a - 0) zeroed) angle rate added n not-upsized (l .angle) (l .rate) (l .added),

@@ -1,21 +1,14 @@
--- The opening and the solves over their own columns are those of the whole case: each definition reads only these fields.
+-- The opening over its own columns is that of the whole case: each definition reads only these fields.
 use Prim.Native.Nat.{ℕ}
 use mathlib.Core.List.{List, [], _∷_}
 use mathlib.Core.Path.{_≡_, refl, ap, _∙_}
 use lib.ListN.{length, getD}
 use lib.Ieee.{Float}
-use Rattle.loops.specs.Figures.{at}
-use Rattle.loops.specs.Loops.{tab}
-use Rattle.loops.proofs.Tab.{tab-same}
 use Rattle.plan_defs.specs.Lists.{passing}
-use Rattle.plan_defs.specs.Case.{Case, caseOf, levels}
+use Rattle.plan_defs.specs.Case.{Case, caseWith}
 use Rattle.plan_defs.specs.Components.{roots, slackWithin, busOr, groundOf, groundsOf}
 use Rattle.plan_defs.specs.Dispatch.{serve, dispatchOf, injectionMw, injections}
-use Rattle.plan_defs.specs.Design.{drawn}
-use Rattle.plan_defs.specs.Build.{drawnAll}
-use Rattle.planning.specs.Design.{linesFor}
 use Rattle.planning.specs.Opening.{slackCase, dispatchCase, injectionCase}
-use Rattle.planning.proofs.Draws.{drawn-lifts}
 use Rattle.loops.proofs.Fronts.{map-same}
 
 bus-or : (c d : Case) → c .bus ≡ d .bus → (root : ℕ) (ks : List ℕ) → busOr c root ks ≡ busOr d root ks
@@ -25,8 +18,8 @@ bus-or c d e root (k ∷ ks) = ap (λ (l : List ℕ). getD l k 0) e
 module _ (c : Case) where
   -- the case with n buses and g generators
   abbrev with : ℕ → ℕ → Case
-  with n g = caseOf (c .mode) n (c .corridors) g (c .above) (c .requested) (c .ladder) (c .tier) (c .reading) (c .weight) (c .load) (c .bus) (c .slack) (c .pmin) (c .pmax) (c .c1) (c .c2)
-      (c .a) (c .b) (c .circuits) (c .km) (c .share) (c .cap) (c .sheet)
+  with n g = caseWith (c .mode) n (c .corridors) g (c .above) (c .requested) (c .ladder) (c .tier) (c .reading) (c .weight) (c .load) (c .bus) (c .slack) (c .pmin) (c .pmax) (c .c1) (c .c2)
+      (c .a) (c .b) (c .circuits) (c .km) (c .share) (c .cap) (c .figures) (c .row)
 
   module _ (e : length (c .bus) ≡ c .generators) where
     pub grounds-lift : (led : List ℕ) → groundsOf (slackCase (c .bus) (c .slack)) led ≡ groundsOf c led
@@ -43,12 +36,3 @@ module _ (c : Case) where
     pub injections-lift : length (c .load) ≡ c .buses → (mw : List Float) → injections (injectionCase (c .load) (c .bus)) mw ≡ injections c mw
     unfolding injections injectionMw
     injections-lift h mw = ap (λ (g : ℕ). injections (with (length (c .load)) g) mw) e ∙ ap (λ (n : ℕ). injections (with n (c .generators)) mw) h
-
-  -- ---- designs drawn, and the state solved from them
-  module _ (h : length (c .ladder) ≡ levels c) (e : length (c .a) ≡ c .corridors) (level : List ℕ) (banks : List Float) where
-    pub draws-lift : drawnAll (linesFor (c .ladder) (c .a) (c .b) (c .km) (c .share) (c .sheet)) level banks ≡ drawnAll c level banks
-    unfolding drawnAll
-    draws-lift =
-        ap (λ (m : ℕ). tab m (λ k. drawn (linesFor (c .ladder) (c .a) (c .b) (c .km) (c .share) (c .sheet)) level k (at banks k))) e
-        ∙ tab-same (c .corridors) (λ k. drawn (linesFor (c .ladder) (c .a) (c .b) (c .km) (c .share) (c .sheet)) level k (at banks k)) (λ k. drawn c level k (at banks k))
-        (λ k b. drawn-lifts c level k (at banks k) h)

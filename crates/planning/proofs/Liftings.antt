@@ -23,13 +23,14 @@ use Rattle.planning.specs.Fill.{designsFor, capsFor}
 use Rattle.planning.specs.Close.{corridorsOf, levelsFor, loadingsBy, closingOf, withKept, finished}
 use Rattle.planning.specs.Sound.{Sound, Lengths}
 use Rattle.planning.specs.declared.close.Closing.{Closing}
+use Rattle.planning.proofs.Draws.{Laid}
 use Rattle.planning.proofs.Builds.{drawn-all-lifts}
 use Rattle.planning.proofs.Closings.{new-size, least-most}
 
 module _ (c : Case) (target : ℕ) (s : Sound c target) (level : List ℕ) (banks : List Float) where
   -- ---- the designs and the filling order
-  pub designs-lift : designsFor (c .ladder) level (c .a) (c .b) (c .km) (c .share) (c .sheet) banks ≡ drawnAll c level banks
-  designs-lift = drawn-all-lifts c level banks (s .a-size) (s .ladder-size)
+  pub designs-lift : (sheet : List Float) → Laid c sheet → designsFor (c .ladder) level (c .a) (c .b) (c .km) (c .share) sheet banks ≡ drawnAll c level banks
+  designs-lift sheet laid = drawn-all-lifts c level sheet laid banks (s .a-size) (s .ladder-size)
 
 -- ---- the filling
 pub fill-lifts : (c : Case) (target : ℕ) (order counts : List ℕ) → fill (capsFor (c .mode) (c .cap)) target order counts ≡ fill c target order counts

@@ -12,7 +12,7 @@ use Rattle.refusal.specs.declared.Answer.{Answer}
 use Rattle.refusal.specs.declared.Answer.the-variants.{Answered as Accepted, Refused as Unaccepted}
 use Rattle.plan_defs.specs.Stage.{Stage, stopped, going}
 use Rattle.plan_defs.specs.Constants.{mostBuses, mostCorridors}
-use Rattle.plan_defs.specs.Case.{Case, promote}
+use Rattle.plan_defs.specs.Case.{Case, Row, rowsOf, caseWith, promote, levels}
 use Rattle.plan_defs.specs.Plan.{Plan, endingOn, endingBy, endingOf, planFor}
 use Rattle.plan_defs.specs.Outcome.{Slices, slicesOk, cleared, keptIf, keptOf, held, summary, Outcome, replyOf, outcome, outcomeBy, outcomeIf, planCorridors}
 use Rattle.plan_defs.specs.Demand.{AnswerTo}
@@ -27,6 +27,7 @@ use Rattle.planning.specs.Close.{isRefused, lentTo, withKept, finished}
 use Rattle.planning.specs.Sound.{Sound, Lengths}
 use Rattle.planning.specs.Plan.{WholeAs, PlanDone, Lendable}
 use Rattle.planning.specs.declared.plan.PlanRun.{PlanRun}
+use Rattle.planning.proofs.Draws.{Laid}
 use Rattle.planning.proofs.Liftings.{finished-refused, finished-answered}
 use Rattle.planning.proofs.Sounds.{sound, lengths-of, kept-lengths, refused-outcome}
 
@@ -40,6 +41,15 @@ module _ (c : Case) (target : ℕ) (s : Slices) where
     e,
     λ x q. subst (λ (y : Outcome). AnswerTo c target y x) (sym e) (answer-to c target binary s x (ap (λ (y : Outcome). y .reply) (sym e) ∙ ap replyOf q)),
   )
+
+  -- ---- the case with the rows of a sheet, where they are its own
+  abbrev withRows : ℕ → (ℕ → ℕ → Row) → Case
+  withRows figures row =
+      caseWith (c .mode) (c .buses) (c .corridors) (c .generators) (c .above) (c .requested) (c .ladder) (c .tier) (c .reading) (c .weight) (c .load) (c .bus) (c .slack)
+      (c .pmin) (c .pmax) (c .c1) (c .c2) (c .a) (c .b) (c .circuits) (c .km) (c .share) (c .cap) figures row
+
+  relaid-is : (sheet : List Float) → Laid c sheet → length sheet ≡ c .figures → withRows (length sheet) (rowsOf (c .corridors) (levels c) sheet) ≡ c
+  relaid-is sheet laid figures = ap (λ (n : ℕ). withRows n (rowsOf (c .corridors) (levels c) sheet)) figures ∙ ap (withRows (c .figures)) laid
 
   -- 1 to 7
   pub ends-unaccepted : Binary c → (f : Refusal) → Unaccepted f ≡ checkOf (slicesOk c s) (tablesOf c) target → Ends (Refused f) s
@@ -71,13 +81,15 @@ module _ (c : Case) (target : ℕ) (s : Slices) where
         }
 
     -- with the loads that are lent
-    abbrev LendableWith : List Float → Type 0
-    LendableWith load =
+    abbrev LendableWith : List Float → List Float → Type 0
+    LendableWith sheet load =
         Lendable (c .mode) target (c .above) (c .ladder) (c .tier) load (c .bus) (c .slack) (c .pmin) (c .pmax) (c .c1) (c .c2) (c .a) (c .b) (c .circuits)
-        (c .km) (c .share) (c .cap) (c .sheet) (lentOf s)
+        (c .km) (c .share) (c .cap) sheet (lentOf s)
 
-    pub lendable-by : (load : List Float) → load ≡ c .load → LendableWith load
-    lendable-by load e = subst LendableWith (sym e) (record { whole = c; sound = is-sound; lengths = lent-sizes })
+    pub lendable-by : (sheet : List Float) → Laid c sheet → length sheet ≡ c .figures → (load : List Float) → load ≡ c .load → LendableWith sheet load
+    lendable-by sheet laid figures load e =
+        let p = sym (relaid-is sheet laid figures) in
+        subst (LendableWith sheet) (sym e) (record { whole = c; sound = subst (λ (x : Case). Sound x target) p is-sound; lengths = subst (λ (x : Case). Lengths x (lentOf s)) p lent-sizes })
 
     ends : outcomeBy (endingOn (planFor c target)) c s ≡ planCorridors c target s
     unfolding planCorridors endingOf
@@ -86,20 +98,25 @@ module _ (c : Case) (target : ℕ) (s : Slices) where
         (ap (λ (b : Bool). outcomeIf b c target s) (passed-by (slicesOk c s) c target ok .0)
         ∙ ap (λ (f : Option Refusal). outcomeBy (endingBy f c target) c s) (passed-by (slicesOk c s) c target ok .1))
 
-    module _ (r : PlanRun) (lent : Slices) (size : Lengths c lent)
+    module _ (sheet : List Float) (laid : Laid c sheet) (figures : length sheet ≡ c .figures) (r : PlanRun) (lent : Slices) (size : Lengths c lent)
         (done : PlanDone (c .mode) target (c .above) (c .ladder) (c .tier) (c .load) (c .bus) (c .slack) (c .pmin) (c .pmax) (c .c1) (c .c2) (c .a) (c .b) (c .circuits)
-        (c .km) (c .share) (c .cap) (c .sheet) (lent .circuits) (lent .flow) (lent .rate) (lent .mw) (lent .angle) (lent .tier) (lent .ground) (lent .added) r)
+        (c .km) (c .share) (c .cap) sheet (lent .circuits) (lent .flow) (lent .rate) (lent .mw) (lent .angle) (lent .tier) (lent .ground) (lent .added) r)
         (out : Slices) (before order caps : List ℕ) where
       abbrev front : List ℕ → List ℕ
       front l = take (length (c .a)) l
 
-      abbrev Whole : Stage Plan → Type 0
-      Whole t =
+      abbrev WholeIn : Case → Stage Plan → Type 0
+      WholeIn x t =
           WholeAs (r .said) (front (r .kept .before)) (front (r .kept .order)) (lent .circuits) (lent .flow) (lent .rate) (lent .mw) (lent .angle) (lent .tier) (lent .ground)
-          (lent .added) c t
+          (lent .added) x t
+
+      abbrev Whole : Stage Plan → Type 0
+      Whole t = WholeIn c t
 
       whole : Whole (planFor c target)
-      whole = done .plan c is-sound
+      whole =
+          let p = relaid-is sheet laid figures in
+          subst (λ (x : Case). WholeIn x (planFor x target)) p (done .plan c (subst (λ (x : Case). Sound x target) (sym p) is-sound))
 
       abbrev none : List ℕ
       none = replicate (c .corridors) 0
@@ -189,22 +206,22 @@ module _ (c : Case) (target : ℕ) (s : Slices) where
     buses-fit = is-sound (sym q ∙ k) .few-buses
 
     -- with the loads that were lent
-    abbrev DoneWith : PlanRun → Slices → List Float → Type 0
-    DoneWith r lent load =
+    abbrev DoneWith : List Float → PlanRun → Slices → List Float → Type 0
+    DoneWith sheet r lent load =
         PlanDone (c .mode) target (c .above) (c .ladder) (c .tier) load (c .bus) (c .slack) (c .pmin) (c .pmax) (c .c1) (c .c2) (c .a) (c .b) (c .circuits)
-        (c .km) (c .share) (c .cap) (c .sheet) (lent .circuits) (lent .flow) (lent .rate) (lent .mw) (lent .angle) (lent .tier) (lent .ground) (lent .added) r
+        (c .km) (c .share) (c .cap) sheet (lent .circuits) (lent .flow) (lent .rate) (lent .mw) (lent .angle) (lent .tier) (lent .ground) (lent .added) r
 
-    pub ends-when : Binary c → (r : PlanRun) (lent : Slices)
+    pub ends-when : (sheet : List Float) → Laid c sheet → length sheet ≡ c .figures → Binary c → (r : PlanRun) (lent : Slices)
         → length (lent .circuits) ≡ length (s .circuits) → length (lent .flow) ≡ length (s .flow) → length (lent .rate) ≡ length (s .rate)
         → length (lent .mw) ≡ length (s .mw) → length (lent .angle) ≡ length (s .angle) → length (lent .tier) ≡ length (s .tier) → length (lent .ground) ≡ length (s .ground)
         → length (lent .added) ≡ length (s .added) → length (lent .figures) ≡ length (s .figures) → length (lent .counts) ≡ length (s .counts)
-        → (load : List Float) → load ≡ c .load → DoneWith r lent load → (out : Slices) (refused : Bool) → refused ≡ isRefused (r .said) → out ≡ finished refused lent
+        → (load : List Float) → load ≡ c .load → DoneWith sheet r lent load → (out : Slices) (refused : Bool) → refused ≡ isRefused (r .said) → out ≡ finished refused lent
         → (keeps : Bool) → keeps ≡ (promote (c .mode) && not refused) → (before order : List ℕ)
         → before ≡ keptIf keeps (length (s .before)) (take (length (s .before)) (r .kept .before))
         → order ≡ keptIf keeps (length (s .order)) (take (length (s .order)) (r .kept .order))
         → (copy caps : List ℕ) → take (length (c .cap)) copy ≡ c .cap → caps ≡ keptIf (not refused) (length (s .cap)) (take (length (s .cap)) copy)
         → Ends (r .said) (withKept before order caps out)
-    ends-when binary r lent e₁ e₂ e₃ e₄ e₅ e₆ e₇ e₈ e₉ e₀ load p done out refused u v keeps w before order f g copy caps x y =
+    ends-when sheet laid figures binary r lent e₁ e₂ e₃ e₄ e₅ e₆ e₇ e₈ e₉ e₀ load p done out refused u v keeps w before order f g copy caps x y =
         let ok = sym q ∙ k in
         let z = sizes ok in
         let m = kept-lengths c s (passed-by (slicesOk c s) c target ok .0) in
@@ -221,7 +238,7 @@ module _ (c : Case) (target : ℕ) (s : Slices) where
         ∙ ap (λ (n : ℕ). keptIf (not (isRefused (r .said))) n (take n copy)) (m .2)
         ∙ ap (λ (n : ℕ). keptIf (not (isRefused (r .said))) (c .corridors) (take n copy)) (sym (is-sound ok .cap-size))
         ∙ ap (keptIf (not (isRefused (r .said))) (c .corridors)) x in
-        ends-as ok r lent
+        ends-as ok sheet laid figures r lent
         (record {
           circuits = e₁ ∙ z .circuits;
           flow = e₂ ∙ z .flow;
@@ -234,5 +251,5 @@ module _ (c : Case) (target : ℕ) (s : Slices) where
           figures = e₉ ∙ z .figures;
           counts = e₀ ∙ z .counts;
         })
-        (subst (DoneWith r lent) p done) out before order caps binary (r .said) refl (v ∙ ap (λ (b : Bool). finished b lent) u) (f ∙ all (length (s .before)) (r .kept .before) (m .0))
+        (subst (DoneWith sheet r lent) p done) out before order caps binary (r .said) refl (v ∙ ap (λ (b : Bool). finished b lent) u) (f ∙ all (length (s .before)) (r .kept .before) (m .0))
         (g ∙ all (length (s .order)) (r .kept .order) (m .1)) kept-caps

@@ -326,10 +326,10 @@ module _ (mode : PlanMode) (target above : ℕ) (ladder : List Float) (level a b
 
         designs-are : drawnAll E level banks₁ ≡ designCircuits E level
         designs-are =
-            ap (drawnAll E level) (anew ∙ banks-lift E level (s .a-size) (s .bus-size) (s .ladder-size) floors)
+            ap (drawnAll E level) (anew ∙ banks-lift E sheet refl level (s .a-size) (s .bus-size) (s .ladder-size) floors)
             ∙ sym (redesign-is E level floors)
             ∙ ap (redesign E level) (h .unset ∙ ap (λ (m : ℕ). zeros m) (s .a-size))
-            ∙ first-design E level (s .a-size) (s .bus-size) (s .ladder-size) (h .columns .lines) (h .columns .loads) (h .columns .units) (h .columns .few)
+            ∙ first-design E sheet refl level (s .a-size) (s .bus-size) (s .ladder-size) (h .columns .lines) (h .columns .loads) (h .columns .units) (h .columns .few)
 
         firsts-are : raisedOf E level banks₁ 0 ≡ firstRaised E
         firsts-are =

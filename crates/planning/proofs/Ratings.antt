@@ -3,7 +3,7 @@
 use Prim.Native.Nat.{ℕ, zero, suc, _+_, _*_, _^_, _<_, _≤_, max}
 use mathlib.Core.Bool.{Bool, true, false, cond, _&&_}
 use mathlib.Core.List.{List}
-use mathlib.Core.Path.{_≡_, refl, subst}
+use mathlib.Core.Path.{_≡_, refl, sym, subst}
 use native.Mathlib.Omega.{arith}
 use borrow.Author.Tests.{ltb-true, lt-ltb}
 use native.Mathlib.Nat.{zero-lt-suc, zero-mul, mul-pos}
@@ -19,10 +19,11 @@ use Rattle.loops.proofs.Real.{positive-of}
 use Rattle.loops.proofs.Most.{Most, most-bounded, times-most, over-most}
 use Rattle.impedance.specs.Impedance.{ratingOk}
 use Rattle.plan_defs.specs.Constants.{transformerHeadroom, transformerMinMva}
-use Rattle.plan_defs.specs.Case.{fromOf, levelOf, rowAt, rowPlace}
+use Rattle.plan_defs.specs.Case.{Row, fromOf, levelOf, rowAt}
 use Rattle.plan_defs.specs.Design.{lineOf, lineAt, withBank, setTransformerMva, bankedBy, stepsDown, drawn, keptBy, keptBank, freshBank}
 use Rattle.plan_defs.specs.declared.CircuitDesign.{CircuitDesign}
-use Rattle.planning.specs.Design.{linesFor, Lines, Rated, rateAt}
+use Rattle.plan_defs.proofs.Rows.{row-from}
+use Rattle.planning.specs.Design.{linesFor, Lines, Rated}
 use Rattle.planning.specs.Redesign.{bankOf}
 use Rattle.planning.proofs.Draws.{ends-fit, from-below}
 
@@ -126,12 +127,12 @@ fresh-rating N load generation shared p q l m = go (lt served transformerMinMva)
 -- ---- a design's bank and its line's rate
 module _ (ladder : List Float) (level a b : List ℕ) (km share sheet : List Float) (k : ℕ) (lines : Lines ladder level a b km share sheet) (h : k < length a) where
   rate-ok : ratingOk (lineAt (linesFor ladder a b km share sheet) level k .«line_rate») ≡ true
-  unfolding lineAt lineOf rowAt rowPlace fromOf
+  unfolding lineAt lineOf rowAt fromOf
   rate-ok =
       let L = levelOf (linesFor ladder a b km share sheet) level k in
-      let e : length ladder ≡ 0 + length ladder = omega arith in
-      subst (λ (z : ℕ). ratingOk (rateAt z sheet k L) ≡ true) e
-      (lines .rates k L h (lines .level-below _ (from-below ladder level a b k (ends-fit ladder level a b km share sheet k lines h))))
+      let q : L < length ladder = lines .level-below _ (from-below ladder level a b k (ends-fit ladder level a b km share sheet k lines h)) in
+      subst (λ (w : Row). ratingOk (w .rate) ≡ true) (sym (row-from (length a) (0 + length ladder) sheet k L h (let z : L < 0 + length ladder = omega (arith, q) in z)))
+      (lines .rates k L h q)
 
   rated-by : (t : Bool) (mva : Float) → ratingOk mva ≡ true → Rated (bankedBy t (lineAt (linesFor ladder a b km share sheet) level k) mva)
   unfolding setTransformerMva withBank lineAt lineOf

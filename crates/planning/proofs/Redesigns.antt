@@ -23,7 +23,7 @@ use Rattle.plan_defs.specs.Build.{built, buildOf, drawnAll, rebuilt}
 use Rattle.plan_defs.specs.declared.CircuitDesign.{CircuitDesign}
 use Rattle.planning.specs.Design.{Lines, Rated}
 use Rattle.planning.specs.Redesign.{redesignFor, bankOf, bankAnew, banksAnew, Loads, Units}
-use Rattle.planning.proofs.Draws.{drawn-lifts}
+use Rattle.planning.proofs.Draws.{Laid, drawn-lifts}
 use Rattle.planning.proofs.Ratings.{rating-positive, drawn-rated}
 use Rattle.planning.proofs.Anew.{fresh-ok, fresh-defined}
 
@@ -77,9 +77,9 @@ module _ (c : Case) (level : List ℕ) where
   rebuilt-is before circuits banks floors upsized = ap (λ (ds : List CircuitDesign). built circuits ds floors upsized) (redesign-is floors)
 
 -- ---- what a redesign reads of the case
-module _ (c : Case) (level : List ℕ) (m : length (c .a) ≡ c .corridors) (g : length (c .bus) ≡ c .generators) (l : length (c .ladder) ≡ levels c) where
+module _ (c : Case) (sheet : List Float) (laid : Laid c sheet) (level : List ℕ) (m : length (c .a) ≡ c .corridors) (g : length (c .bus) ≡ c .generators) (l : length (c .ladder) ≡ levels c) where
   abbrev R : Case
-  R = redesignFor (c .ladder) (c .load) (c .bus) (c .pmax) (c .a) (c .b) (c .km) (c .share) (c .sheet)
+  R = redesignFor (c .ladder) (c .load) (c .bus) (c .pmax) (c .a) (c .b) (c .km) (c .share) sheet
 
   gen-lifts : (i : ℕ) → genAt R i ≡ genAt c i
   unfolding genAt
@@ -96,7 +96,7 @@ module _ (c : Case) (level : List ℕ) (m : length (c .a) ≡ c .corridors) (g :
       ∙ ap (λ (n : ℕ). freshBank (at (c .load) i) (genAt c i) n) (shared-lifts i)
 
   circuit-lifts : (k : ℕ) (mva : Float) → drawn R level k mva ≡ drawn c level k mva
-  circuit-lifts k mva = sym (drawn-lifts R level k mva (omega arith)) ∙ drawn-lifts c level k mva l
+  circuit-lifts k mva = sym (drawn-lifts R sheet refl refl (omega arith) level k mva) ∙ drawn-lifts c sheet laid m l level k mva
 
   anew-lifts : (floors : List Float) (k : ℕ) → bankAnew R level floors k ≡ bankAnew c level floors k
   unfolding bankAnew designAt toOf
@@ -110,19 +110,19 @@ module _ (c : Case) (level : List ℕ) (m : length (c .a) ≡ c .corridors) (g :
       tab-same (length (c .a)) (bankAnew R level floors) (bankAnew c level floors) (λ k h. anew-lifts floors k) ∙ ap (λ (n : ℕ). tab n (bankAnew c level floors)) m
 
   -- ---- the first design is a redesign with floors of zero
-  module _ (lines : Lines (c .ladder) level (c .a) (c .b) (c .km) (c .share) (c .sheet)) (loads : Loads level (c .load)) (units : Units (c .bus) (c .pmax)) (few : length (c .a) ≤ 256) where
+  module _ (lines : Lines (c .ladder) level (c .a) (c .b) (c .km) (c .share) sheet) (loads : Loads level (c .load)) (units : Units (c .bus) (c .pmax)) (few : length (c .a) ≤ 256) where
     fresh-sound : (k : ℕ) → k < length (c .a) → ratingOk (bankFor c level (toOf c level k)) ≡ true
     unfolding toOf
     fresh-sound k h =
-        let p = fresh-ok (c .ladder) level (c .a) (c .b) (c .km) (c .share) (c .sheet) (c .load) (c .bus) (c .pmax) (c .pmax) _ _ k lines loads units few h refl refl in
-        let q = fresh-defined (c .ladder) level (c .a) (c .b) (c .km) (c .share) (c .sheet) (c .load) (c .bus) (c .pmax) (c .pmax) _ _ k lines loads units few h refl refl in
+        let p = fresh-ok (c .ladder) level (c .a) (c .b) (c .km) (c .share) sheet (c .load) (c .bus) (c .pmax) (c .pmax) _ _ k lines loads units few h refl refl in
+        let q = fresh-defined (c .ladder) level (c .a) (c .b) (c .km) (c .share) sheet (c .load) (c .bus) (c .pmax) (c .pmax) _ _ k lines loads units few h refl refl in
         subst (λ (x : Float). ratingOk x ≡ true) (q ∙ bank-lifts (toOf c level k)) p
 
     design-rated : (k : ℕ) → k < length (c .a) → Rated (designAt c level k)
     unfolding designAt
     design-rated k h =
-        subst Rated (drawn-lifts c level k (bankFor c level (toOf c level k)) l)
-        (drawn-rated (c .ladder) level (c .a) (c .b) (c .km) (c .share) (c .sheet) k lines h (bankFor c level (toOf c level k)) (fresh-sound k h))
+        subst Rated (drawn-lifts c sheet laid m l level k (bankFor c level (toOf c level k)))
+        (drawn-rated (c .ladder) level (c .a) (c .b) (c .km) (c .share) sheet k lines h (bankFor c level (toOf c level k)) (fresh-sound k h))
 
     pub first-design : redesign c level (zeros (c .corridors)) ≡ designCircuits c level
     unfolding redesign designCircuits

@@ -2,7 +2,7 @@
 use Prim.Native.Nat.{ℕ, _<_, _≤_, max}
 use mathlib.Core.Bool.{Bool, _&&_, _||_}
 use mathlib.Core.List.{List, [], map}
-use mathlib.Core.Path.{_≡_, sym, ap, _∙_}
+use mathlib.Core.Path.{_≡_, refl, sym, ap, _∙_}
 use native.Mathlib.Omega.{arith}
 use lib.Dec.{ltb}
 use lib.ListN.{length, getD, take}
@@ -57,7 +57,7 @@ module _ (root : ℕ) (excess : Float) (g : Limits) (ladder : List Float) (level
     gain-is k h =
         filled-at gain none (gainAt g ladder level a b km share cap sheet leader angle phi circuits banks t root) (length a) k nan pg h
         ∙ ap (λ (x : Bool). gainIf x (gainOf angle phi (design (designsFor ladder level a b km share sheet banks) k))) (candidate-lifts k h)
-        ∙ ap (λ (ds : List CircuitDesign). gainIf (test k) (gainOf angle phi (design ds k))) (drawn-all-lifts C level banks p q)
+        ∙ ap (λ (ds : List CircuitDesign). gainIf (test k) (gainOf angle phi (design ds k))) (drawn-all-lifts C level sheet refl banks p q)
 
     cap-lifts : batchCap (pairsFor a []) leader root ≡ batchCap C leader root
     cap-lifts = ap (λ (n : ℕ). max (toUnsigned 64 (ceil (times stiffeningBatchShare (float (counting (λ k. within leader root (getD a k 0)) n))))) 1) p

@@ -43,7 +43,7 @@ use Rattle.planning.specs.declared.stiffen.Stiffened.{Stiffened}
 use Rattle.planning.specs.declared.stiffen.Stiffened.the-variants.{Refused as Unstiffened, Going}
 use Rattle.planning.specs.declared.rounds.Progress.{Progress}
 use Rattle.planning.proofs.Lists.{count-most}
-use Rattle.planning.proofs.Lifting.{draws-lift}
+use Rattle.planning.proofs.Builds.{drawn-all-lifts}
 use Rattle.planning.proofs.Redesigns.{rebuilt-is, banks-lift}
 use Rattle.planning.proofs.States.{state-of}
 use Rattle.planning.proofs.Corridors.{left, left-end, size-lifts}
@@ -143,7 +143,7 @@ module _ (mode : PlanMode) (above : ℕ) (ladder : List Float) (a b : List ℕ) 
     anew-build o target m s e =
         let q = redrawn .anew m e in
         ap (λ (l : List ℕ). buildOf (C o) l circuits banks′ floors upsized) (q .0)
-        ∙ ap (λ (x : List Float). buildOf (C o) (raisedLevels level marks) circuits x floors upsized) (q .1 ∙ banks-lift (C o) (raisedLevels level marks) (s .a-size) (s .bus-size) (s .ladder-size) floors)
+        ∙ ap (λ (x : List Float). buildOf (C o) (raisedLevels level marks) circuits x floors upsized) (q .1 ∙ banks-lift (C o) sheet refl (raisedLevels level marks) (s .a-size) (s .bus-size) (s .ladder-size) floors)
         ∙ sym (rebuilt-is (C o) (raisedLevels level marks) level circuits banks floors upsized)
 
   -- ---- a round: it begins with d + 1 left, and is solved
@@ -180,7 +180,7 @@ module _ (mode : PlanMode) (above : ℕ) (ladder : List Float) (a b : List ℕ) 
 
     lifted : (o : Case) (target : ℕ) → Sound (C o) target → Fits o → solvedOf r (Solved o .edges) theta flow ≡ planningState (P o) (drawnAll (C o) level banks) circuits angle
     lifted o target s e =
-        let l = draws-lift (C o) (s .ladder-size) (s .a-size) level banks in
+        let l = drawn-all-lifts (C o) level sheet refl banks (s .a-size) (s .ladder-size) in
         ap (λ (ds : List CircuitDesign). solvedOf r (edgesFor ds circuits) theta flow) (sym l) ∙ solved
         ∙ ap (λ (ds : List CircuitDesign). planningState (peakFor (length level) grounds injection) ds circuits angle) l
         ∙ ap (λ (m : ℕ). planningState (peakFor m grounds injection) (drawnAll (C o) level banks) circuits angle) (size ∙ e .0)
@@ -212,7 +212,7 @@ module _ (mode : PlanMode) (above : ℕ) (ladder : List Float) (a b : List ℕ) 
 
       sized-is : (o : Case) (target : ℕ) → Sound (C o) target → Fits o → Z o ≡ sizeAll (C o) level flow (S o .build) (p .capacity)
       sized-is o target s e =
-          size-lifts (C o) level flow (p .capacity) circuits banks floors upsized circuits′ banks′ floors′ upsized′ marks′ t (size ∙ e .0) (s .a-size) (s .ladder-size)
+          size-lifts (C o) sheet refl level flow (p .capacity) circuits banks floors upsized circuits′ banks′ floors′ upsized′ marks′ t (size ∙ e .0) (s .a-size) (s .ladder-size)
           (subst (λ (l : List ℕ).
           sizingOf (sizeFor mode (length level) ladder a b km share l sheet) level circuits′ banks′ floors′ upsized′ marks′ t
           ≡ sizeAll (sizeFor mode (length level) ladder a b km share l sheet) level flow (buildOf (sizeFor mode (length level) ladder a b km share l sheet) level circuits banks floors upsized) (p .capacity)) (sym (e .1))
@@ -286,7 +286,7 @@ module _ (mode : PlanMode) (above : ℕ) (ladder : List Float) (a b : List ℕ) 
             ap (λ (E : Edges). the-case E)
             (edges
             ∙ ap (λ (l : List ℕ). edgesFor (drawnAll (linesFor ladder a b km share sheet) l banks) circuits) (sym kept)
-            ∙ ap (λ (ds : List CircuitDesign). edgesFor ds circuits) (draws-lift (C o) (s .ladder-size) (s .a-size) level banks))
+            ∙ ap (λ (ds : List CircuitDesign). edgesFor ds circuits) (drawn-all-lifts (C o) level sheet refl banks (s .a-size) (s .ladder-size)))
           where
             the-case : Edges → PlanningCase
             the-case E = record { edges = E; theta = theta; flows = flow }

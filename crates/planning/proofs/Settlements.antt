@@ -27,6 +27,7 @@ use Rattle.planning.specs.Settle.{Ended, endedOf, endedBy, closedAfter, 
 use Rattle.planning.specs.declared.settle.Settled.{Settled}
 use Rattle.planning.specs.declared.settle.Settling.{Settling}
 use Rattle.planning.specs.declared.settle.Settled.the-variants.{Refused, Closed}
+use Rattle.planning.proofs.Draws.{Laid}
 use Rattle.planning.proofs.Liftings.{designs-lift, fill-lifts, closing-lifts, tiers-lift, added-lifts}
 
 -- ---- a plan as the slices hold it
@@ -123,16 +124,16 @@ module _ (c : Case) (target : ℕ) (p : Opened) (s : Draft) (few : c .above ≤ 
       go (going v) = next-is v
 
 -- ---- and from columns that hold the same
-module _ (c : Case) (target : ℕ) (S : Sound c target) (leader grounds : List ℕ) (injection banks floors : List Float) (upsized circuits level : List ℕ) (p : Opened) (s : Draft)
+module _ (c : Case) (target : ℕ) (S : Sound c target) (sheet : List Float) (laid : Laid c sheet) (leader grounds : List ℕ) (injection banks floors : List Float) (upsized circuits level : List ℕ) (p : Opened) (s : Draft)
     (size : length level ≡ c .buses) (led : p .led ≡ leader) (peak : p .peak ≡ peakFor (c .buses) grounds injection) (on : s .level ≡ level)
     (build : s .build ≡ buildOf c level circuits banks floors upsized) where
-  columns-settle : settledFrom (c .mode) (c .cap) (c .above) leader (c .ladder) level (designsFor (c .ladder) level (c .a) (c .b) (c .km) (c .share) (c .sheet) banks) upsized
+  columns-settle : settledFrom (c .mode) (c .cap) (c .above) leader (c .ladder) level (designsFor (c .ladder) level (c .a) (c .b) (c .km) (c .share) sheet banks) upsized
       (peakFor (length level) grounds injection) target (length (c .a)) circuits
       ≡ endedOn (c .above) (onward (settledTo c p s) (closing c target))
   columns-settle =
       let from : List ℕ → List ℕ → Build → Peak → ℕ → Stage Ended =
       λ l v b P m. settledFrom (c .mode) (c .cap) (c .above) l (c .ladder) v (b .designs) (b .upsized) P target m (b .circuits) in
-      ap (λ (ds : List CircuitDesign). from leader level (built circuits ds floors upsized) (peakFor (length level) grounds injection) (length (c .a))) (designs-lift c target S level banks)
+      ap (λ (ds : List CircuitDesign). from leader level (built circuits ds floors upsized) (peakFor (length level) grounds injection) (length (c .a))) (designs-lift c target S level banks sheet laid)
       ∙ ap (λ (k : ℕ). from leader level (buildOf c level circuits banks floors upsized) (peakFor k grounds injection) (length (c .a))) size
       ∙ ap (from leader level (buildOf c level circuits banks floors upsized) (peakFor (c .buses) grounds injection)) (S .a-size)
       ∙ ap (λ (P : Peak). from leader level (buildOf c level circuits banks floors upsized) P (c .corridors)) (sym peak)
@@ -156,7 +157,7 @@ settles mode target above ladder a b km share cap sheet leader grounds injection
           settled-as (take (length a) (r .kept .before)) (take (length a) (r .kept .order)) circuits′ level′ flow′ rate′ angle′ added′ c (r .settled) (onward (settledTo c p s) (closing c target))
           (e
           ∙ ap (λ (l : List ℕ). settledFrom mode l above leader ladder level (designsFor ladder level a b km share sheet banks) upsized (peakFor (length level) grounds injection) target (length a) circuits) (sym caps)
-          ∙ columns-settle c target S leader grounds injection banks floors upsized circuits level p s size led peak on build);
+          ∙ columns-settle c target S sheet refl leader grounds injection banks floors upsized circuits level p s size led peak on build);
     }
 
 pub settles-refused : (mode : PlanMode) (target above : ℕ) (ladder : List Float) (a b : List ℕ) (km share : List Float) (cap : List ℕ) (sheet : List Float) (leader grounds : List ℕ) (injection banks : List Float)

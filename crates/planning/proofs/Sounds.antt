@@ -9,7 +9,7 @@ use native.Mathlib.Omega.{arith}
 use borrow.Author.Tests.{leb-true, eqb-false, lt-leb}
 use lib.Dec.{ltb, leb, eqb}
 use lib.ListN.{length, getD}
-use lib.Ieee.{lt, le}
+use lib.Ieee.{Float, lt, le}
 use Rattle.loops.specs.Figures.{at, plus, nought, one, half, tenThousand, million, thousandth, finite, inside}
 use Rattle.loops.proofs.Bools.{both}
 use Rattle.refusal.specs.declared.Refusal.{Refusal}
@@ -18,13 +18,15 @@ use Rattle.refusal.specs.declared.Answer.{Answer}
 use Rattle.refusal.specs.declared.Answer.the-variants.{Refused}
 use Rattle.impedance.specs.Impedance.{ratingOk}
 use Rattle.leaders.specs.Operation.{corridorOk}
-use Rattle.plan_defs.specs.Constants.{kvTolerance, mostInitial, mostCap, rowFigures}
-use Rattle.plan_defs.specs.Case.{Case, levels, kvOf, endA, endB, ownCap, rowPlace, rowAt}
+use Rattle.sheets.specs.Sheet.{rowFigures}
+use Rattle.plan_defs.specs.Constants.{kvTolerance, mostInitial, mostCap}
+use Rattle.plan_defs.specs.Case.{Case, levels, kvOf, endA, endB, ownCap, Row, rowAt}
 use Rattle.plan_defs.specs.Accept.{levelOk, generatorOk, corridorSound, caseFault}
 use Rattle.plan_defs.specs.Plan.{endingOf}
 use Rattle.plan_defs.specs.Outcome.{Slices, slicesOk, outcome, outcomeIf, outcomeBy, planCorridors}
 use Rattle.plan_defs.specs.declared.Planned.the-variants.{Refused as Unplanned}
 use Rattle.plan_defs.proofs.Accepted.{Accepted, accepted, end-a, end-b, bus-below, unit-ok, tier-below, load-inside, initial-few, cap-few, row-inside, row-sound}
+use Rattle.plan_defs.proofs.Rows.{row-from}
 use Rattle.plan_theorems.proofs.Outcomes.{lengths-of as all-lengths}
 use Rattle.acceptance.specs.Check.{checkOf}
 use Rattle.acceptance.proofs.Callers.{tablesOf, refused-by}
@@ -32,6 +34,7 @@ use Rattle.planning.specs.Design.{Lines, rateAt}
 use Rattle.planning.specs.Lent.{placesOk}
 use Rattle.planning.specs.Sound.{Sound, Lengths}
 use Rattle.planning.specs.declared.lent.Places.{Places}
+use Rattle.planning.proofs.Draws.{Laid}
 use Rattle.planning.proofs.Ratings.{sheet-rating}
 
 -- ---- what the tests of one row say
@@ -183,26 +186,28 @@ module _ (c : Case) (target : ℕ) (s : Slices) where
       go true none p q h = let z : _≡_ {A = ℕ} 0 1 = cc in absurd (omega arith)
 
 -- ---- the columns that a design reads, at levels on the ladder
-pub lines-of : (c : Case) (target : ℕ) → Sound c target → (level : List ℕ) → length level ≡ c .buses
-    → ((i : ℕ) → i < c .buses → getD level i 0 < levels c) → Lines (c .ladder) level (c .a) (c .b) (c .km) (c .share) (c .sheet)
-unfolding rowAt rowPlace
-lines-of c target s level e on =
+pub lines-of : (c : Case) (target : ℕ) → Sound c target → (sheet : List Float) → Laid c sheet → length sheet ≡ c .figures → (level : List ℕ) → length level ≡ c .buses
+    → ((i : ℕ) → i < c .buses → getD level i 0 < levels c) → Lines (c .ladder) level (c .a) (c .b) (c .km) (c .share) sheet
+unfolding rowAt
+lines-of c target s sheet laid figures level e on =
     let m = s .a-size in
     record {
       b-size = s .b-size ∙ sym m;
       km-size = s .km-size ∙ sym m;
       share-size = s .share-size ∙ sym m;
-      sheet-size = s .sheet-size ∙ sheet-is;
+      sheet-size = figures ∙ s .sheet-size ∙ sheet-is;
       a-below = λ k h. omega (arith, s .end-a k (omega (arith, m)));
       b-below = λ k h. omega (arith, s .end-b k (omega (arith, m)));
       level-below = λ i h. omega (arith, on i (omega arith), s .ladder-size);
       rates = λ k l h q.
-          subst (λ (L : ℕ). ratingOk (rateAt L (c .sheet) k l) ≡ true) (sym (s .ladder-size)) (rating k l (omega (arith, m)) (omega (arith, s .ladder-size)));
+          subst (λ (n : ℕ). ratingOk (rateAt n sheet k l) ≡ true) (sym m) (rating k l (omega (arith, m)) (omega (arith, s .ladder-size)));
     }
   where
     sheet-is : rowFigures * (c .corridors * levels c) ≡ rowFigures * (length (c .a) * length (c .ladder))
     sheet-is =
         ap (λ (n : ℕ). rowFigures * (n * levels c)) (sym (s .a-size)) ∙ ap (λ (n : ℕ). rowFigures * (length (c .a) * n)) (sym (s .ladder-size))
 
-    rating : (k l : ℕ) → k < c .corridors → l < levels c → ratingOk (rateAt (levels c) (c .sheet) k l) ≡ true
-    rating k l h q = s .row-rating k l h q
+    rating : (k l : ℕ) → k < c .corridors → l < levels c → ratingOk (rateAt (c .corridors) sheet k l) ≡ true
+    rating k l h q =
+        subst (λ (w : Row). ratingOk (w .rate) ≡ true)
+        (sym (ap (λ (row : ℕ → ℕ → Row). row k l) laid) ∙ row-from (c .corridors) (levels c) sheet k l h q) (s .row-rating k l h q)

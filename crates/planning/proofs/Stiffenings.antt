@@ -182,7 +182,7 @@ module _ (g : Limits) (ladder : List Float) (level a b : List ℕ) (km share : L
     S = stiffOf C level circuits banks floors upsized marks t
 
     design-is : d ≡ design (drawnAll C level banks) k
-    design-is = pd ∙ drawn-lifts C level k (at banks k) q ∙ sym (drawn-at C level banks k (omega arith))
+    design-is = pd ∙ drawn-lifts C sheet refl p q level k (at banks k) ∙ sym (drawn-at C level banks k (omega arith))
 
     one-by : (x : Bool) → below ≡ x
         → stiffenBy x (raisable g (t .hv) level a b k) (hasRoom C (budgetFor g) k S) C level (budgetFor g) k S ≡ each (stiffenOne C level (budgetFor g)) (k ∷ []) S
@@ -199,7 +199,7 @@ module _ (g : Limits) (ladder : List Float) (level a b : List ℕ) (km share : L
         let z : t .total + 0 ≡ t .total = omega arith in
         let u : t .hv + 0 ≡ t .hv = omega arith in
         let w : t .stiffening + 0 ≡ t .stiffening = omega arith in
-        let v : bankBelow (drawn C level k (at banks k)) ≡ true = ap (λ (z : CircuitDesign). bankBelow z) (sym (pd ∙ drawn-lifts C level k (at banks k) q)) ∙ sym pw ∙ e in
+        let v : bankBelow (drawn C level k (at banks k)) ≡ true = ap (λ (z : CircuitDesign). bankBelow z) (sym (pd ∙ drawn-lifts C sheet refl p q level k (at banks k))) ∙ sym pw ∙ e in
         ap (λ (x : Stiffness). stiffOf C level circuits (set banks k mva) (set floors k mva) (set upsized k 1) marks x) pt
         ∙ stiff-same (buildOf C level circuits (set banks k mva) (set floors k mva) (set upsized k 1)) marks (t .total + 0) (t .total) (t .hv + 0) (t .hv) (t .stiffening + 0) (t .stiffening) (t .wide) true z u w
         ∙ ap (λ (x : Build). stiff x marks (t .total) (t .hv) (t .stiffening) (t .wide) true) (sym (set-bank C level circuits banks floors upsized k mva (omega arith) (pb ∙ p) v))

@@ -8,7 +8,7 @@ use lib.Ieee.{Float}
 use Rattle.loops.specs.Figures.{at}
 use Rattle.mode.specs.declared.PlanMode.the-variants.{Observe}
 use Rattle.impedance.specs.Impedance.{ratingOk}
-use Rattle.plan_defs.specs.Constants.{rowFigures}
+use Rattle.sheets.specs.Sheet.{rowFigures, rowPlace}
 use Rattle.plan_defs.specs.Case.{Case, caseOf, fromOf, toOf, rowFrom}
 use Rattle.plan_defs.specs.Design.{lineOf, stepsDown}
 use Rattle.plan_defs.specs.declared.CircuitDesign.{CircuitDesign}
@@ -22,9 +22,9 @@ linesFor ladder a b km share sheet = caseOf Observe 0 (length a) 0 0 (length lad
 abbrev pub endsFor : List Float → List ℕ → List ℕ → Case
 endsFor ladder a b = linesFor ladder a b [] [] []
 
--- the rate of a corridor's row at a level
+-- the rate of a corridor's row at a level, of m corridors
 abbrev pub rateAt : ℕ → List Float → ℕ → ℕ → Float
-rateAt levels sheet k l = at sheet (rowFigures * (k * levels + l) + 3)
+rateAt m sheet k l = at sheet (rowPlace m k l + 3)
 
 -- what acceptance gives of these columns, and what planning keeps true of the levels
 pub record Lines (ladder : List Float) (level a b : List ℕ) (km share sheet : List Float) : Type 0 where
@@ -35,7 +35,7 @@ pub record Lines (ladder : List Float) (level a b : List ℕ) (km share sheet : 
   pub a-below : (k : ℕ) → k < length a → getD a k 0 < length level
   pub b-below : (k : ℕ) → k < length a → getD b k 0 < length level
   pub level-below : (i : ℕ) → i < length level → getD level i 0 < length ladder
-  pub rates : (k l : ℕ) → k < length a → l < length ladder → ratingOk (rateAt (length ladder) sheet k l) ≡ true
+  pub rates : (k l : ℕ) → k < length a → l < length ladder → ratingOk (rateAt (length a) sheet k l) ≡ true
 
 -- the same of the ends' columns, and of one corridor
 pub record EndsFit (ladder : List Float) (level a b : List ℕ) (k : ℕ) : Type 0 where
@@ -51,7 +51,7 @@ pub record LineFits (ladder : List Float) (level : List ℕ) (km share sheet : L
   pub step : getD level from 0 < length ladder
   pub km-size : k < length km
   pub share-size : k < length share
-  pub row-size : rowFigures * (k * length ladder + getD level from 0) + rowFigures ≤ length sheet
+  pub row-size : rowPlace (length km) k (getD level from 0) + rowFigures ≤ length sheet
 
 -- every bank is one that `transformer_impedance` takes; and of a design, its bank and its line's rate
 abbrev pub Banks : List Float → Type 0
@@ -67,4 +67,4 @@ endsOf c level k = record { from = fromOf c level k; to = toOf c level k; «step
 
 unfoldable pub lineBetween : List Float → List ℕ → List Float → List Float → List Float → ℕ → ℕ → ℕ → CircuitDesign
 lineBetween ladder level km share sheet k from to =
-    lineOf from to (at ladder (getD level from 0)) (rowFrom sheet (rowFigures * (k * length ladder + getD level from 0))) (at km k) (at share k)
+    lineOf from to (at ladder (getD level from 0)) (rowFrom sheet (rowPlace (length km) k (getD level from 0))) (at km k) (at share k)

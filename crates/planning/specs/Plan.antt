@@ -12,7 +12,7 @@ use Rattle.mode.specs.declared.PlanMode.{PlanMode}
 use Rattle.angles_defs.specs.Network.{zeros}
 use Rattle.plan_defs.specs.Constants.{mostBuses, mostLevels, planningMaxRounds}
 use Rattle.plan_defs.specs.Stage.{Stage, stopped, going, onward}
-use Rattle.plan_defs.specs.Case.{Case, caseOf, expand, firstLevels, lowerBounds}
+use Rattle.plan_defs.specs.Case.{Case, caseOf, caseWith, expand, firstLevels, lowerBounds}
 use Rattle.plan_defs.specs.Components.{component, groundsOf}
 use Rattle.plan_defs.specs.Dispatch.{dispatchOf, injections}
 use Rattle.plan_defs.specs.Rounds.{allRounds}
@@ -38,7 +38,7 @@ use Rattle.planning.specs.declared.plan.Opening.the-variants.{Refused as
 -- ---- the opening: any case with the mode and the columns that it reads
 abbrev pub openCase : Case → PlanMode → ℕ → List ℕ → List Float → List ℕ → List ℕ → List Float → List Float → List Float → List Float → List ℕ → List ℕ → List ℕ → Case
 openCase o mode above tier load bus slack pmin pmax c1 c2 a b initial =
-    caseOf mode (o .buses) (o .corridors) (o .generators) above (o .requested) (o .ladder) tier (o .reading) (o .weight) load bus slack pmin pmax c1 c2 a b initial (o .km) (o .share) (o .cap) (o .sheet)
+    caseWith mode (o .buses) (o .corridors) (o .generators) above (o .requested) (o .ladder) tier (o .reading) (o .weight) load bus slack pmin pmax c1 c2 a b initial (o .km) (o .share) (o .cap) (o .figures) (o .row)
 
 -- a sound one, and places for what it leaves
 pub record Openable (mode : PlanMode) (above : ℕ) (tier : List ℕ) (load : List Float) (bus slack : List ℕ) (pmin pmax c1 c2 : List Float) (a b initial leader : List ℕ) (injection : List Float)

@@ -9,8 +9,9 @@ use Rattle.loops.specs.Figures.{at, plus, nought, one, half, tenThousand, milli
 use Rattle.impedance.specs.Impedance.{ratingOk}
 use Rattle.leaders.specs.Operation.{corridorOk}
 use Rattle.dispatch.specs.Units.{unitOk}
-use Rattle.plan_defs.specs.Constants.{kvTolerance, mostBuses, mostCorridors, mostGenerators, mostLevels, mostTarget, mostInitial, mostCap, rowFigures}
-use Rattle.plan_defs.specs.Case.{Case, levels, kvOf, loadOf, endA, endB, ownCap, rowPlace, rowAt}
+use Rattle.sheets.specs.Sheet.{rowFigures, rowPlace}
+use Rattle.plan_defs.specs.Constants.{kvTolerance, mostBuses, mostCorridors, mostGenerators, mostLevels, mostTarget, mostInitial, mostCap}
+use Rattle.plan_defs.specs.Case.{Case, levels, kvOf, loadOf, endA, endB, ownCap, rowAt}
 use Rattle.plan_defs.specs.Accept.{rowSound}
 use Rattle.plan_defs.specs.Outcome.{Slices, workPlaces}
 
@@ -31,7 +32,7 @@ pub record Sound (c : Case) (target : ℕ) : Type 0 where
   pub km-size : length (c .km) ≡ c .corridors
   pub share-size : length (c .share) ≡ c .corridors
   pub cap-size : length (c .cap) ≡ c .corridors
-  pub sheet-size : length (c .sheet) ≡ rowFigures * (c .corridors * levels c)
+  pub sheet-size : c .figures ≡ rowFigures * (c .corridors * levels c)
   -- counts
   pub few-buses : c .buses ≤ mostBuses
   pub few-corridors : c .corridors ≤ mostCorridors
@@ -59,7 +60,7 @@ pub record Sound (c : Case) (target : ℕ) : Type 0 where
   pub share-inside : (k : ℕ) → k < c .corridors → inside half one (at (c .share) k) ≡ true
   pub cap-few : (k : ℕ) → ownCap c k ≤ mostCap
   -- rows of the line sheet; a line's rating is one that a bank may have
-  pub row-inside : (k l : ℕ) → k < c .corridors → l < levels c → rowPlace c k l + rowFigures ≤ length (c .sheet)
+  pub row-inside : (k l : ℕ) → k < c .corridors → l < levels c → rowPlace (c .corridors) k l + rowFigures ≤ c .figures
   pub row-sound : (k l : ℕ) → k < c .corridors → l < levels c → rowSound (rowAt c k l) ≡ true
   pub row-rating : (k l : ℕ) → k < c .corridors → l < levels c → ratingOk (rowAt c k l .rate) ≡ true
 

@@ -3,7 +3,7 @@ use Prim.Native.Nat.{ℕ}
 use mathlib.Core.List.{List}
 use lib.Ieee.{Float}
 use Rattle.mode.specs.declared.PlanMode.{PlanMode}
-use Rattle.plan_defs.specs.Case.{Case, caseOf}
+use Rattle.plan_defs.specs.Case.{Case, caseOf, caseWith}
 
 -- with these columns of the ladder, the corridors and the sheet
 abbrev pub withLines : Case → List Float → List ℕ → List ℕ → List Float → List Float → List Float → Case
@@ -14,5 +14,5 @@ withLines o ladder a b km share sheet =
 -- with this mode, these levels above the request, and these columns of loads and units
 abbrev pub withUnits : Case → PlanMode → ℕ → List Float → List ℕ → List Float → Case
 withUnits o mode above load bus pmax =
-    caseOf mode (o .buses) (o .corridors) (o .generators) above (o .requested) (o .ladder) (o .tier) (o .reading) (o .weight) load bus (o .slack) (o .pmin) pmax (o .c1) (o .c2)
-    (o .a) (o .b) (o .circuits) (o .km) (o .share) (o .cap) (o .sheet)
+    caseWith mode (o .buses) (o .corridors) (o .generators) above (o .requested) (o .ladder) (o .tier) (o .reading) (o .weight) load bus (o .slack) (o .pmin) pmax (o .c1) (o .c2)
+    (o .a) (o .b) (o .circuits) (o .km) (o .share) (o .cap) (o .figures) (o .row)

@@ -2,12 +2,12 @@
 // from the corridor's row of the line sheet and its bank, and never stored.
 ghost use mathlib.Core.Path.{_≡_};
 ghost use mathlib.Core.Bool.{true};
-ghost use Prim.Native.Nat.{_+_, _*_, _^_, _<_};
+ghost use Prim.Native.Nat.{_+_, _<_, _≤_};
 ghost use lib.ListN.{length, getD};
 ghost use Rattle.loops.specs.Figures.{at};
 ghost use Rattle.impedance.specs.Impedance.{ratingOk};
-ghost use Rattle.plan_defs.specs.Constants.{rowFigures};
-ghost use Rattle.plan_defs.specs.Case.{rowOf};
+ghost use Rattle.sheets.specs.Sheet.{rowFigures};
+ghost use Rattle.plan_defs.specs.Case.{rowOf, rowFrom};
 ghost use Rattle.plan_defs.specs.Design.{basisOf, lineOf, bankBasis, withBank, setTransformerMva, bankedBy, differ, drawn};
 ghost use Rattle.planning.specs.Design.{linesFor, endsFor, Lines, EndsFit, LineFits, endsOf, lineBetween};
 use crate::figures::choose;
@@ -18,13 +18,12 @@ use impedance::SeriesImpedance;
 use impedance::TransformerImpedance;
 use plan_defs::CircuitDesign;
 use plan_defs::RatingBasis;
+use sheets::row_place;
 
 // Two kV that differ by no more are one level.
 const KV_TOLERANCE: f64 = 1e-6;
 
 // Figures of a row of the line sheet: r, x, b, rate, basis.
-const ROW_FIGURES: usize = 5;
-
 // ---- the line alone
 fn basis_of(code: f64) -> RatingBasis
     ensures { λ r. ⌜ r ≡ basisOf code ⌝ }
@@ -173,12 +172,31 @@ pub fn ends_of(ladder: &[f64], level: &[u32], a: &[u32], b: &[u32], k: usize) ->
 }
 
 // ---- the design of corridor k, from its line and its bank
-// The place of the first figure of the row for a corridor and a level.
-fn row_place(levels: usize, k: usize, level: usize) -> usize
-    requires { ⌜ rowFigures * (k * levels + level) < 2 ^ 64 ⌝ }
-    ensures { λ r. ⌜ r ≡ rowFigures * (k * levels + level) ⌝ }
+// From the row of the sheet that begins there.
+fn line_from(
+    from: usize,
+    to: usize,
+    kv: f64,
+    sheet: &[f64],
+    row: usize,
+    length_km: f64,
+    rate_spread: f64,
+) -> CircuitDesign
+    requires { ⌜ row + rowFigures ≤ length (now sheet) ⌝ }
+    ensures { λ d. ⌜ d ≡ lineOf from to kv (rowFrom (now (sheet .entry)) row) «length_km» «rate_spread» ⌝ }
 {
-    ROW_FIGURES * (k * levels + level)
+    line(
+        from,
+        to,
+        kv,
+        sheet[row],
+        sheet[row + 1],
+        sheet[row + 2],
+        sheet[row + 3],
+        sheet[row + 4],
+        length_km,
+        rate_spread,
+    )
 }
 
 fn line_at(
@@ -195,19 +213,9 @@ fn line_at(
     ensures { λ d. ⌜ d ≡ lineBetween (now (ladder .entry)) (now (level .entry)) (now (km .entry)) (now (share .entry)) (now (sheet .entry)) k from to ⌝ }
 {
     let top = wide(level[from]);
-    let row = row_place(ladder.len(), k, top);
-    line(
-        from,
-        to,
-        ladder[top],
-        sheet[row],
-        sheet[row + 1],
-        sheet[row + 2],
-        sheet[row + 3],
-        sheet[row + 4],
-        km[k],
-        share[k],
-    )
+    // as many corridors as lengths
+    let row = row_place(km.len(), k, top);
+    line_from(from, to, ladder[top], sheet, row, km[k], share[k])
 }
 
 pub fn circuit(

@@ -39,7 +39,7 @@ sound i =
     passed (caseFault (caseWith h p) (h .target)) && (countsOk h && (low (p .a) && (low (p .b) && eqb (placeFor (networkWith h p)) i)))
 
 all-sound : first sound allPlaces 0 ≡ allPlaces
-unfolding sound first tab busesAt numberAt networkAt numbered bits chosen headerOf columnsOf binary firstPlace placeFor joins networkWith Rattle.plan_defs.specs.Case.rowPlace Rattle.plan_defs.specs.Case.rowAt Rattle.plan_defs.specs.Accept.lengthsOk Rattle.plan_defs.specs.Accept.countsOk Rattle.plan_defs.specs.Accept.levelOk Rattle.plan_defs.specs.Accept.busOk Rattle.plan_defs.specs.Accept.generatorOk Rattle.plan_defs.specs.Accept.corridorSound Rattle.plan_defs.specs.Accept.rowOk Rattle.plan_defs.specs.Accept.tablesFault Rattle.plan_defs.specs.Accept.caseFault lib.Ieee.add lib.Ieee.mul lib.Ieee.lt lib.Ieee.le lib.Ieee.eq lib.Ieee.neg lib.Ieee.ofBits lib.Ieee.round
+unfolding sound first tab busesAt numberAt networkAt numbered bits chosen headerOf columnsOf binary firstPlace placeFor joins networkWith Rattle.plan_defs.specs.Case.rowsOf Rattle.plan_defs.specs.Case.rowAt Rattle.plan_defs.specs.Accept.lengthsOk Rattle.plan_defs.specs.Accept.countsOk Rattle.plan_defs.specs.Accept.levelOk Rattle.plan_defs.specs.Accept.busOk Rattle.plan_defs.specs.Accept.generatorOk Rattle.plan_defs.specs.Accept.corridorSound Rattle.plan_defs.specs.Accept.rowOk Rattle.plan_defs.specs.Accept.tablesFault Rattle.plan_defs.specs.Accept.caseFault lib.Ieee.add lib.Ieee.mul lib.Ieee.lt lib.Ieee.le lib.Ieee.eq lib.Ieee.neg lib.Ieee.ofBits lib.Ieee.round
 all-sound = refl
 
 pub record Sound (i : ℕ) : Type 0 where

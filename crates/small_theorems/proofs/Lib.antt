@@ -5,3 +5,4 @@ pub mod Accepted
 pub mod Tables
 pub mod Theorems
 pub mod Examples
+pub mod OneLevel

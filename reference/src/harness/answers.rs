@@ -7,7 +7,7 @@ use crate::harness::operations::{
 };
 use crate::harness::preview::Kept;
 use crate::harness::refusal::Refusal;
-use crate::harness::sheet::{RowsRequest, SheetRequest, ROW};
+use crate::harness::sheet::{LaidRequest, RowsRequest, SheetRequest, ROW};
 use crate::harness::tables::{MOST_CORRIDORS, MOST_LEVELS, MOST_MODE};
 
 /// Levels, corridors and figures of a sheet up to these are taken: one past
@@ -55,6 +55,7 @@ fn ask(line: &[u8]) -> Option<Result<String, Refusal>> {
         b"PLACE" => ask_placement(fields),
         b"SHEET" => ask_sheet(fields),
         b"ROWS" => ask_rows(fields),
+        b"LAID" => ask_laid(fields),
         b"PREV" => ask_preview(fields),
         _ => None,
     }
@@ -229,6 +230,22 @@ fn ask_rows<'a>(mut fields: Fields<impl Iterator<Item = &'a [u8]>>) -> Answer {
     let rows = request.rows();
     let head = std::iter::once(rows.len().to_string());
     Some(Ok(ok(head.chain(rows.iter().copied().map(listed)))))
+}
+
+fn ask_laid<'a>(mut fields: Fields<impl Iterator<Item = &'a [u8]>>) -> Answer {
+    let [corridors, levels] = [fields.count()?, fields.count()?];
+    let figures = fields.at_most(MOST_SHEET_FIGURES)?;
+    let rows = fields.many(figures, Fields::figure)?;
+    let places = fields.at_most(MOST_SHEET_FIGURES)?;
+    fields.end()?;
+    let request = LaidRequest {
+        corridors,
+        levels,
+        rows,
+        places,
+    };
+    let laid = request.laid();
+    Some(laid.map(|figures| ok(figures.into_iter().map(listed))))
 }
 
 fn ask_preview<'a>(mut fields: Fields<impl Iterator<Item = &'a [u8]>>) -> Answer {

@@ -9,6 +9,7 @@ pub struct Refusal {
     pub index: usize,
 }
 
+pub const LENGTH: u32 = 1;
 pub const COUNT: u32 = 2;
 pub const LADDER: u32 = 3;
 pub const BUS: u32 = 4;

@@ -1,10 +1,12 @@
 //! The line office's sheet (document 02, K8): what is asked, its refusals, the
-//! rows by the published `line_parameters`, and a corridor's rows of one of
-//! two sheets.
+//! rows by the published `line_parameters`, a corridor's rows of one of two
+//! sheets; and a sheet by corridor laid out by level (K11).
 
 use crate::electrical::branches::class_line_parameters;
 use crate::harness::checks::{ladder_is_good, length_is_good, spread_is_good};
-use crate::harness::refusal::{count_at_most, first_fault, Refusal, CORRIDOR, COUNT, SPREAD};
+use crate::harness::refusal::{
+    count_at_most, first_fault, Refusal, CORRIDOR, COUNT, LENGTH, SPREAD,
+};
 use crate::harness::tables::{MOST_CORRIDORS, MOST_LEVELS};
 
 /// Figures of a row: r, x, b, rate, basis.
@@ -85,5 +87,37 @@ impl RowsRequest {
             false => &self.worked,
         };
         &sheet[figures(self.corridor)..figures(self.corridor + 1)]
+    }
+}
+
+/// The rows by corridor, laid out by level: the first row of each corridor,
+/// then the second, and so on.
+pub fn by_level<T: Copy>(rows: &[T], levels: usize) -> Vec<T> {
+    (0..levels)
+        .flat_map(|level| rows.iter().skip(level).step_by(levels))
+        .copied()
+        .collect()
+}
+
+/// A sheet to be laid out by level.
+pub struct LaidRequest {
+    pub corridors: usize,
+    pub levels: usize,
+    /// The figures by corridor.
+    pub rows: Vec<f64>,
+    /// The places of the sheet that is written.
+    pub places: usize,
+}
+
+impl LaidRequest {
+    /// The figures by level, or refusal 1 or 2.
+    pub fn laid(&self) -> Result<Vec<f64>, Refusal> {
+        let figures = ROW * self.corridors * self.levels;
+        if self.rows.len() != figures || self.places != figures {
+            return Err(Refusal::new(LENGTH, 0));
+        }
+        counts_are_good(self.levels, self.corridors)?;
+        let rows: Vec<&[f64]> = self.rows.chunks(ROW).collect();
+        Ok(by_level(&rows, self.levels).concat())
     }
 }

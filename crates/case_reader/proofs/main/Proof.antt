@@ -120,11 +120,8 @@ print-generators-requires c κs = small (levels-printed (buses-printed (c .befor
 print-corridors-requires : tie.Need-print-corridors-requires
 print-corridors-requires c κs = small (levels-printed (buses-printed (generators-printed (c .before .before .before .before .before .before)))) .corridors
 
-lines-requires : tie.Need-lines-requires
-lines-requires c κs = let s = small (levels-printed (buses-printed (generators-printed (corridors-printed c)))) in (s .corridors, s .levels)
-
 print-lines-requires : tie.Need-print-lines-requires
-print-lines-requires c κs = search needs
+print-lines-requires c κs = let s = small (levels-printed (buses-printed (generators-printed (corridors-printed (c .before))))) in (s .corridors, s .levels)
 
 print-looks-requires : tie.Need-print-looks-requires
 print-looks-requires c κs = search needs
@@ -168,7 +165,6 @@ main-spec =
     print-buses-requires
     print-generators-requires
     print-corridors-requires
-    lines-requires
     print-lines-requires
     print-looks-requires
     returns)

@@ -1,5 +1,5 @@
--- `case_reader::print_lines` meets its contract. The invariant: the index is at most the count.
--- The measure is what is left of the count.
+-- `case_reader::print_lines` meets its contract. The invariant: the index is at most the corridors'.
+-- The measure is what is left of the corridors.
 use Prim.Native.Nat.{_-_, _≤_}
 use native.Mathlib.Omega.{arith}
 use borrow.Author.Needs.{needs}
@@ -7,19 +7,19 @@ use Rattle.case_reader.proofs.print_lines.Statement.{statement}
 use Rattle.case_reader.proofs.print_lines.Tie as tie
 
 abbrev Inv-loop : tie.InvT-loop
-Inv-loop count sheet i₀ i = i ≤ count
+Inv-loop corridors levels sheet k₀ k = k ≤ corridors
 
 abbrev μ-loop : tie.MeasureT-loop
-μ-loop count sheet i₀ i = count - i
+μ-loop corridors levels sheet k₀ k = corridors - k
 
 loop-holds : tie.Need-loop-holds Inv-loop μ-loop
 loop-holds c = omega arith
 
-print-line-requires : tie.Need-print-line-requires Inv-loop μ-loop
-print-line-requires c κs = omega arith
+print-rows-requires : tie.Need-print-rows-requires Inv-loop μ-loop
+print-rows-requires c κs = let s = c .before .before .pre in (omega arith, s .0, s .1)
 
-add-i : tie.Need-add-i Inv-loop μ-loop
-add-i c = omega arith
+add-k : tie.Need-add-k Inv-loop μ-loop
+add-k c = omega arith
 
 loop-less : tie.Need-loop-less Inv-loop μ-loop
 loop-less c = omega arith
@@ -33,4 +33,4 @@ returns c = search needs
 pub print-lines-spec : {M : Type 1} → statement M
 print-lines-spec =
     tie.close
-    (tie.spec Inv-loop μ-loop loop-holds print-line-requires add-i loop-less loop-again returns)
+    (tie.spec Inv-loop μ-loop loop-holds print-rows-requires add-k loop-less loop-again returns)

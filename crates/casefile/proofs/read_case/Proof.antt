@@ -11,7 +11,7 @@ use lib.Ieee.{Float}
 use native.Mathlib.Omega.{arith}
 use Rattle.loops.specs.Loops.{tab}
 use Rattle.casefile_defs.specs.Layout.{spot}
-use Rattle.casefile_defs.specs.Reading.{lines}
+use Rattle.casefile_defs.specs.Reading.{levels, lines}
 use Rattle.casefile_defs.specs.Tables.{Places, placesOf, outcome, sizesOk, numbersOf, figures, weights, sheetIn, capField, levelsAt, busesAt, generatorsAt, corridorsAt, linesAt}
 use Rattle.casefile_defs.specs.declared.CaseRead.{CaseRead}
 use Rattle.casefile_defs.specs.declared.Kind.{Kind}
@@ -25,7 +25,7 @@ use Rattle.casefile.proofs.read_case.Tie as tie
 
 -- ---- the places of the code, each from the one after it
 abbrev corridors-read : tie.After-read-lines → tie.After-read-corridors
-corridors-read c = c .before .before .before .before .before .before .before .before .before .before .before .before .before .before .before
+corridors-read c = c .before .before .before .before .before .before .before .before .before .before .before .before .before .before
 
 abbrev generators-read : tie.After-read-corridors → tie.After-read-generators
 generators-read c = c .before .before .before .before .before .before .before .before .before .before .before .before .before .before .before .before .before .before .before
@@ -102,8 +102,8 @@ column-figures k j s count {x} {p} {q} {n} {m} a b e = e ∙ ap (λ (i : ℕ). f
 column-weights : (s : List ℕ) (count : ℕ) {x : List Float} {p q n m : ℕ} → p ≡ q → n ≡ m → x ≡ weights s p count n → x ≡ weights s q count m
 column-weights s count {x} {p} {q} {n} {m} a b e = e ∙ ap (λ (i : ℕ). weights s i count n) a ∙ ap (λ (i : ℕ). weights s q count i) b
 
-sheet-rows : (s : List ℕ) (count : ℕ) {x : List Float} {p q n m : ℕ} → p ≡ q → n ≡ m → x ≡ tab n (sheetIn s p count) → x ≡ tab m (sheetIn s q count)
-sheet-rows s count {x} {p} {q} {n} {m} a b e = e ∙ ap (λ (i : ℕ). tab n (sheetIn s i count)) a ∙ ap (λ (i : ℕ). tab i (sheetIn s q count)) b
+sheet-rows : (s : List ℕ) (corridors levels : ℕ) {x : List Float} {p q n m : ℕ} → p ≡ q → n ≡ m → x ≡ tab n (sheetIn s p corridors levels) → x ≡ tab m (sheetIn s q corridors levels)
+sheet-rows s corridors levels {x} {p} {q} {n} {m} a b e = e ∙ ap (λ (i : ℕ). tab n (sheetIn s i corridors levels)) a ∙ ap (λ (i : ℕ). tab i (sheetIn s q corridors levels)) b
 
 -- ---- the needs
 said-requires : tie.Need-said-requires
@@ -142,16 +142,11 @@ read-corridors-requires c κs =
     let h = counts-held (levels-read (buses-read d)) in
     (moved Corridor (fileAt h) (h .held .result .corridors) (corridors-at d) (room h .corridors), room h .small .corridors)
 
-mul-read-lines : tie.Need-mul-read-lines
-mul-read-lines c =
-    let h = counts-held (levels-read (buses-read (generators-read (c .before .before .before .before .before .before .before .before .before .before .before .before .before)))) in
-    omega (arith, lines-small (h .held .result) (room h .small))
-
 read-lines-requires : tie.Need-read-lines-requires
 read-lines-requires c κs =
-    let d = c .before .before .before .before .before .before .before .before .before .before .before .before .before .before in
+    let d = c .before .before .before .before .before .before .before .before .before .before .before .before .before in
     let h = counts-held (levels-read (buses-read (generators-read d))) in
-    moved Line (fileAt h) (lines (h .held .result)) (lines-at d) (room h .rows)
+    (moved Line (fileAt h) (lines (h .held .result)) (lines-at d) (room h .rows), omega (arith, lines-small (h .held .result) (room h .small)))
 
 same-length : tie.Need-same-length
 same-length c = levels-read (buses-read (generators-read (corridors-read (c .before .before)))) .read-levels .kept .1 .1 .1 .0
@@ -202,7 +197,7 @@ same-length-16 : tie.Need-same-length-16
 same-length-16 c = corridors-read (c .before .before) .read-corridors .kept .1 .1 .1 .1 .1 .1 .1 .1 .0
 
 same-length-17 : tie.Need-same-length-17
-same-length-17 c = c .before .before .read-lines .kept .1 .1 .1 .0
+same-length-17 c = c .before .before .read-lines .kept .1 .1 .1 .1 .0
 
 returns-2 : tie.Need-returns-2
 returns-2 c =
@@ -232,7 +227,7 @@ returns-2 c =
     (column-figures Corridor 3 s (n .corridors) (corridors-at g) (z .lengthKm) (e .read-corridors .ensures .1 .1 .1 .0))
     (column-figures Corridor 4 s (n .corridors) (corridors-at g) (z .share) (e .read-corridors .ensures .1 .1 .1 .1 .0))
     (column-numbers Corridor CappedCorridor capField s (n .corridors) (corridors-at g) (z .cap) (e .read-corridors .ensures .1 .1 .1 .1 .1 .0))
-    (sheet-rows s (lines n) (lines-at e) (z .sheet) (c .before .before .read-lines .ensures)))
+    (sheet-rows s (n .corridors) (levels n) (lines-at e) (z .sheet) (c .before .before .read-lines .ensures)))
 
 pub read-case-spec : {M : Type 1} → statement M
 read-case-spec =
@@ -247,7 +242,6 @@ read-case-spec =
     read-buses-requires
     read-generators-requires
     read-corridors-requires
-    mul-read-lines
     read-lines-requires
     same-length
     same-length-2

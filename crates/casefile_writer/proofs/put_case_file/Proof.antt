@@ -38,42 +38,39 @@ few-lines o = lines-small (o .args .h) (counts o)
 add-levels : tie.Need-add-levels
 add-levels c = omega (arith, counts (c .before .before .before .before .before .before .before .before .before .before .before .before .before .before .before .before .before .before .before) .levels)
 
-mul-lines : tie.Need-mul-lines
-mul-lines c = omega (arith, few-lines (c .before .before .before .before .before .before .before .before .before .before .before .before .before .before .before .before .before .before .before .before))
-
 put-head-requires : tie.Need-put-head-requires
 put-head-requires c κs =
-    let o = c .before .before .before .before .before .before .before .before .before .before .before .before .before .before .before .before .before .before .before .before .before in
+    let o = c .before .before .before .before .before .before .before .before .before .before .before .before .before .before .before .before .before .before .before .before in
     omega (arith, room o)
 
 put-levels-requires : tie.Need-put-levels-requires
 put-levels-requires c κs =
-    let o = c .before .before .before .before .before .before .before .before .before .before .before .before .before .before .before .before .before .before .before .before .before .before .before .before .before in
+    let o = c .before .before .before .before .before .before .before .before .before .before .before .before .before .before .before .before .before .before .before .before .before .before .before .before in
     (omega (arith, room o, counts o .levels, counts o .buses, counts o .generators, counts o .corridors, few-lines o, c .before .before .before .put-head .ensures .1, c .before .before .before .put-head .kept .0), omega (arith, sized o .ladder, counts o .levels))
 
 some-weight-requires : tie.Need-some-weight-requires
 some-weight-requires c κs =
-    let o = c .before .before .before .before .before .before .before .before .before .before .before .before .before .before .before .before .before .before .before .before .before .before .before .before .before .before .before .before in
+    let o = c .before .before .before .before .before .before .before .before .before .before .before .before .before .before .before .before .before .before .before .before .before .before .before .before .before .before .before in
     omega (arith, sized o .weight, counts o .buses)
 
 put-buses-requires : tie.Need-put-buses-requires
 put-buses-requires c κs =
-    let o = c .before .before .before .before .before .before .before .before .before .before .before .before .before .before .before .before .before .before .before .before .before .before .before .before .before .before .before .before .before .before in
+    let o = c .before .before .before .before .before .before .before .before .before .before .before .before .before .before .before .before .before .before .before .before .before .before .before .before .before .before .before .before .before in
     (omega (arith, room o, counts o .levels, counts o .buses, counts o .generators, counts o .corridors, few-lines o, c .before .before .before .before .put-levels .ensures .1, c .before .before .before .before .put-levels .kept .0, c .before .before .before .before .before .before .before .before .put-head .ensures .1, c .before .before .before .before .before .before .before .before .put-head .kept .0), (omega (arith, sized o .tier, counts o .buses), (omega (arith, sized o .reading, counts o .buses), omega (arith, sized o .weight, counts o .buses))))
 
 put-generators-requires : tie.Need-put-generators-requires
 put-generators-requires c κs =
-    let o = c .before .before .before .before .before .before .before .before .before .before .before .before .before .before .before .before .before .before .before .before .before .before .before .before .before .before .before .before .before .before .before .before .before .before in
+    let o = c .before .before .before .before .before .before .before .before .before .before .before .before .before .before .before .before .before .before .before .before .before .before .before .before .before .before .before .before .before .before .before .before .before in
     (omega (arith, room o, counts o .levels, counts o .buses, counts o .generators, counts o .corridors, few-lines o, c .before .before .before .put-buses .ensures .1, c .before .before .before .put-buses .kept .0, c .before .before .before .before .before .before .before .before .put-levels .ensures .1, c .before .before .before .before .before .before .before .before .put-levels .kept .0, c .before .before .before .before .before .before .before .before .before .before .before .before .put-head .ensures .1, c .before .before .before .before .before .before .before .before .before .before .before .before .put-head .kept .0), (omega (arith, sized o .bus, counts o .generators), (omega (arith, sized o .slack, counts o .generators), (omega (arith, sized o .pmin, counts o .generators), (omega (arith, sized o .pmax, counts o .generators), (omega (arith, sized o .c1, counts o .generators), omega (arith, sized o .c2, counts o .generators)))))))
 
 put-corridors-requires : tie.Need-put-corridors-requires
 put-corridors-requires c κs =
-    let o = c .before .before .before .before .before .before .before .before .before .before .before .before .before .before .before .before .before .before .before .before .before .before .before .before .before .before .before .before .before .before .before .before .before .before .before .before .before .before in
+    let o = c .before .before .before .before .before .before .before .before .before .before .before .before .before .before .before .before .before .before .before .before .before .before .before .before .before .before .before .before .before .before .before .before .before .before .before .before .before in
     (omega (arith, room o, counts o .levels, counts o .buses, counts o .generators, counts o .corridors, few-lines o, c .before .before .before .put-generators .ensures .1, c .before .before .before .put-generators .kept .0, c .before .before .before .before .before .before .before .put-buses .ensures .1, c .before .before .before .before .before .before .before .put-buses .kept .0, c .before .before .before .before .before .before .before .before .before .before .before .before .put-levels .ensures .1, c .before .before .before .before .before .before .before .before .before .before .before .before .put-levels .kept .0, c .before .before .before .before .before .before .before .before .before .before .before .before .before .before .before .before .put-head .ensures .1, c .before .before .before .before .before .before .before .before .before .before .before .before .before .before .before .before .put-head .kept .0), (omega (arith, sized o .a, counts o .corridors), (omega (arith, sized o .b, counts o .corridors), (omega (arith, sized o .circuits, counts o .corridors), (omega (arith, sized o .lengthKm, counts o .corridors), (omega (arith, sized o .share, counts o .corridors), omega (arith, sized o .cap, counts o .corridors)))))))
 
 put-lines-requires : tie.Need-put-lines-requires
 put-lines-requires c κs =
-    let o = c .before .before .before .before .before .before .before .before .before .before .before .before .before .before .before .before .before .before .before .before .before .before .before .before .before .before .before .before .before .before .before .before .before .before .before .before .before .before .before .before .before .before in
+    let o = c .before .before .before .before .before .before .before .before .before .before .before .before .before .before .before .before .before .before .before .before .before .before .before .before .before .before .before .before .before .before .before .before .before .before .before .before .before .before .before .before .before in
     (omega (arith, room o, counts o .levels, counts o .buses, counts o .generators, counts o .corridors, few-lines o, c .before .before .before .put-corridors .ensures .1, c .before .before .before .put-corridors .kept .0, c .before .before .before .before .before .before .before .put-generators .ensures .1, c .before .before .before .before .before .before .before .put-generators .kept .0, c .before .before .before .before .before .before .before .before .before .before .before .put-buses .ensures .1, c .before .before .before .before .before .before .before .before .before .before .before .put-buses .kept .0, c .before .before .before .before .before .before .before .before .before .before .before .before .before .before .before .before .put-levels .ensures .1, c .before .before .before .before .before .before .before .before .before .before .before .before .before .before .before .before .put-levels .kept .0, c .before .before .before .before .before .before .before .before .before .before .before .before .before .before .before .before .before .before .before .before .put-head .ensures .1, c .before .before .before .before .before .before .before .before .before .before .before .before .before .before .before .before .before .before .before .before .put-head .kept .0), omega (arith, sized o .sheet, few-lines o))
 
 same-length : tie.Need-same-length
@@ -82,7 +79,7 @@ same-length c = omega (arith, c .before .before .put-lines .kept .0, c .before .
 returns : tie.Need-returns
 unfolding fileWith wordsIn capsOnly
 returns c =
-    let o = c .before .before .before .before .before .before .before .before .before .before .before .before .before .before .before .before .before .before .before .before .before .before .before .before .before .before .before .before .before .before .before .before .before .before .before .before .before .before .before .before .before .before .before .before .before in (
+    let o = c .before .before .before .before .before .before .before .before .before .before .before .before .before .before .before .before .before .before .before .before .before .before .before .before .before .before .before .before .before .before .before .before .before .before .before .before .before .before .before .before .before .before .before .before in (
       same-bytes (file-lent (o .args .h) (lent o) (counts o) (o .pre .1 .1) (c .before .before .before .before .before .before .before .before .before .before .before .before .before .before .before .before .some-weight .result) (c .before .before .before .before .before .before .before .before .before .before .before .before .before .before .before .before .some-weight .ensures)) (puts (c .before .before .before .before .before .before .before .before .before .before .before .before .before .before .before .before .before .before .before .before .before .before .before .put-head .ensures .0) (puts (c .before .before .before .before .before .before .before .before .before .before .before .before .before .before .before .before .before .before .before .put-levels .ensures .0) (puts (c .before .before .before .before .before .before .before .before .before .before .before .before .before .before .put-buses .ensures .0) (puts (c .before .before .before .before .before .before .before .before .before .before .put-generators .ensures .0) (puts (c .before .before .before .before .before .before .put-corridors .ensures .0) (c .before .before .put-lines .ensures .0)))))),
       omega (arith, counts o .levels, counts o .buses, counts o .generators, counts o .corridors, few-lines o, c .before .before .before .before .before .before .before .before .before .before .before .before .before .before .before .before .before .before .before .before .before .before .before .put-head .ensures .1, c .before .before .before .before .before .before .before .before .before .before .before .before .before .before .before .before .before .before .before .put-levels .ensures .1, c .before .before .before .before .before .before .before .before .before .before .before .before .before .before .put-buses .ensures .1, c .before .before .before .before .before .before .before .before .before .before .put-generators .ensures .1, c .before .before .before .before .before .before .put-corridors .ensures .1, c .before .before .put-lines .ensures .1),
     )
@@ -92,7 +89,6 @@ put-case-file-spec =
     tie.close
     (tie.spec
     add-levels
-    mul-lines
     put-head-requires
     put-levels-requires
     some-weight-requires

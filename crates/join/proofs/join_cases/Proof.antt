@@ -4,10 +4,12 @@ use mathlib.Core.Path.{_≡_, sym, ap, _∙_}
 use native.Mathlib.Omega.{arith}
 use borrow.Author.Needs.{needs}
 use denote.Ref.{now}
+use lib.ListN.{length}
 use Rattle.casefile_defs.specs.Tables.{Places, placesOf, sizesOk}
+use Rattle.plan_defs.specs.Case.{levels}
 use Rattle.join_defs.specs.Joining.{caseAs}
-use Rattle.join.specs.Joins.{checkOf}
-use Rattle.join.proofs.Refusals.{Joinable, joinable, summed, Raised, raised}
+use Rattle.join.specs.Joins.{Rowed, checkOf}
+use Rattle.join.proofs.Refusals.{Joinable, joinable, summed, Raised, raised, same-levels, rowed}
 use Rattle.join.proofs.Whole.{places-same, tablesBy, refused-whole, tables-joined, joined-whole}
 use Rattle.join.proofs.join_cases.Statement.{statement}
 use Rattle.join.proofs.join_cases.Tie as tie
@@ -41,7 +43,7 @@ passed c = joinable _ _ _ _ _ (sym (c .enum-told .given .1) ∙ answer-is (c .be
 
 -- ---- the places of the code, each from the one after it
 abbrev generators-put : tie.After-put-corridors → tie.After-put-generators
-generators-put c = c .before .before .before .before .before .before .before .before .before .before .before .before .before .before .before .before .before .before .before .before
+generators-put c = c .before .before .before .before .before .before .before .before .before .before .before .before .before .before .before .before .before .before .before .before .before
 
 abbrev buses-put : tie.After-put-generators → tie.After-put-buses
 buses-put c = c .before .before .before .before .before .before .before .before .before .before .before .before .before .before .before
@@ -55,6 +57,11 @@ may-raise c =
     let t = c .before .before in
     let o = start-of (t .before .before) in
     raised (sizesOk (lent o)) (o .args .first) (firstAt o) (o .args .second) (secondAt o) (passed t) _ (c .narrow .ensures)
+
+-- the sheets have the rows of one count of levels
+rows-are : (c : tie.After-enum-told) → let o = start-of (c .before .before) in
+    Rowed (o .args .first .corridors) (o .args .second .corridors) (levels (caseAs (o .args .first) (firstAt o))) (length (firstAt o .sheet)) (length (secondAt o .sheet))
+rows-are c = let o = start-of (c .before .before) in rowed (sizesOk (lent o)) (o .args .first) (firstAt o) (o .args .second) (secondAt o) (passed c)
 
 sizes-ok-requires : tie.Need-sizes-ok-requires
 sizes-ok-requires c κs = search needs
@@ -92,8 +99,14 @@ put-buses-requires c κs = search needs
 put-generators-requires : tie.Need-put-generators-requires
 put-generators-requires c κs = may-raise (narrowed (c .before .before .before .before .before .before .before .before .before .before .before .before .before .before)) .bus
 
+add-put-corridors : tie.Need-add-put-corridors
+add-put-corridors c = omega (arith, rows-are (narrowed (buses-put (c .before .before .before .before .before .before .before .before .before .before .before .before .before)) .before .before) .few-levels)
+
 put-corridors-requires : tie.Need-put-corridors-requires
-put-corridors-requires c κs = let r = may-raise (narrowed (buses-put (c .before .before .before .before .before .before .before .before .before .before .before .before .before .before .before .before .before .before .before))) in (r .a, r .b)
+put-corridors-requires c κs =
+    let n = narrowed (buses-put (c .before .before .before .before .before .before .before .before .before .before .before .before .before .before .before .before .before .before .before .before)) in
+    let r = may-raise n in
+    (r .a, (r .b, rows-are (n .before .before)))
 
 same-length : tie.Need-same-length
 same-length c = buses-put (generators-put (c .before .before .before .before .before .before .before .before .before .before .before .before .before .before)) .put-buses .kept .1 .1 .1 .1 .1 .1 .1 .0
@@ -126,25 +139,25 @@ same-length-10 : tie.Need-same-length-10
 same-length-10 c = generators-put (c .before .before .before .before .before .before .before .before .before .before .before .before .before .before) .put-generators .kept .1 .1 .1 .1 .1 .1 .1 .1 .1 .1 .1 .1 .1 .1 .1 .1 .1 .1 .0
 
 same-length-11 : tie.Need-same-length-11
-same-length-11 c = c .before .before .before .before .before .before .before .before .before .before .before .before .before .before .put-corridors .kept .1 .1 .1 .1 .1 .1 .1 .1 .1 .1 .1 .1 .1 .1 .1 .0
+same-length-11 c = c .before .before .before .before .before .before .before .before .before .before .before .before .before .before .put-corridors .kept .1 .1 .1 .1 .1 .1 .1 .1 .1 .1 .1 .1 .1 .1 .1 .1 .1 .1 .0
 
 same-length-12 : tie.Need-same-length-12
-same-length-12 c = c .before .before .before .before .before .before .before .before .before .before .before .before .before .before .put-corridors .kept .1 .1 .1 .1 .1 .1 .1 .1 .1 .1 .1 .1 .1 .1 .1 .1 .0
+same-length-12 c = c .before .before .before .before .before .before .before .before .before .before .before .before .before .before .put-corridors .kept .1 .1 .1 .1 .1 .1 .1 .1 .1 .1 .1 .1 .1 .1 .1 .1 .1 .1 .1 .0
 
 same-length-13 : tie.Need-same-length-13
-same-length-13 c = c .before .before .before .before .before .before .before .before .before .before .before .before .before .before .put-corridors .kept .1 .1 .1 .1 .1 .1 .1 .1 .1 .1 .1 .1 .1 .1 .1 .1 .1 .0
+same-length-13 c = c .before .before .before .before .before .before .before .before .before .before .before .before .before .before .put-corridors .kept .1 .1 .1 .1 .1 .1 .1 .1 .1 .1 .1 .1 .1 .1 .1 .1 .1 .1 .1 .1 .0
 
 same-length-14 : tie.Need-same-length-14
-same-length-14 c = c .before .before .before .before .before .before .before .before .before .before .before .before .before .before .put-corridors .kept .1 .1 .1 .1 .1 .1 .1 .1 .1 .1 .1 .1 .1 .1 .1 .1 .1 .1 .0
+same-length-14 c = c .before .before .before .before .before .before .before .before .before .before .before .before .before .before .put-corridors .kept .1 .1 .1 .1 .1 .1 .1 .1 .1 .1 .1 .1 .1 .1 .1 .1 .1 .1 .1 .1 .1 .0
 
 same-length-15 : tie.Need-same-length-15
-same-length-15 c = c .before .before .before .before .before .before .before .before .before .before .before .before .before .before .put-corridors .kept .1 .1 .1 .1 .1 .1 .1 .1 .1 .1 .1 .1 .1 .1 .1 .1 .1 .1 .1 .0
+same-length-15 c = c .before .before .before .before .before .before .before .before .before .before .before .before .before .before .put-corridors .kept .1 .1 .1 .1 .1 .1 .1 .1 .1 .1 .1 .1 .1 .1 .1 .1 .1 .1 .1 .1 .1 .1 .0
 
 same-length-16 : tie.Need-same-length-16
-same-length-16 c = c .before .before .before .before .before .before .before .before .before .before .before .before .before .before .put-corridors .kept .1 .1 .1 .1 .1 .1 .1 .1 .1 .1 .1 .1 .1 .1 .1 .1 .1 .1 .1 .1 .0
+same-length-16 c = c .before .before .before .before .before .before .before .before .before .before .before .before .before .before .put-corridors .kept .1 .1 .1 .1 .1 .1 .1 .1 .1 .1 .1 .1 .1 .1 .1 .1 .1 .1 .1 .1 .1 .1 .1 .0
 
 same-length-17 : tie.Need-same-length-17
-same-length-17 c = c .before .before .before .before .before .before .before .before .before .before .before .before .before .before .put-corridors .kept .1 .1 .1 .1 .1 .1 .1 .1 .1 .1 .1 .1 .1 .1 .1 .1 .1 .1 .1 .1 .1 .0
+same-length-17 c = c .before .before .before .before .before .before .before .before .before .before .before .before .before .before .put-corridors .kept .1 .1 .1 .1 .1 .1 .1 .1 .1 .1 .1 .1 .1 .1 .1 .1 .1 .1 .1 .1 .1 .1 .1 .1 .0
 
 returns-2 : tie.Need-returns-2
 unfolding tablesBy
@@ -156,7 +169,8 @@ returns-2 c =
     let t = n .before .before in
     let o = start-of (t .before .before) in
     joined-whole (o .args .first) (firstAt o) (o .args .second) (secondAt o) (lent o) _ _ (passed t) (n .before .joined-header .ensures)
-    (tables-joined (o .args .first) (firstAt o) (o .args .second) (secondAt o) (lent o) _ _ (n .narrow .ensures) (passed t .sized)
+    (tables-joined (o .args .first) (firstAt o) (o .args .second) (secondAt o) (lent o) _ _ (n .narrow .ensures)
+    (same-levels (sizesOk (lent o)) (o .args .first) (firstAt o) (o .args .second) (secondAt o) (passed t)) (passed t .sized)
     (places-same (b .put-buses .ensures .0) (b .put-buses .ensures .1 .0) (b .put-buses .ensures .1 .1 .0) (b .put-buses .ensures .1 .1 .1)
     (g .put-generators .ensures .0) (g .put-generators .ensures .1 .0) (g .put-generators .ensures .1 .1 .0) (g .put-generators .ensures .1 .1 .1 .0) (g .put-generators .ensures .1 .1 .1 .1 .0) (g .put-generators .ensures .1 .1 .1 .1 .1)
     (e .put-corridors .ensures .0) (e .put-corridors .ensures .1 .0) (e .put-corridors .ensures .1 .1 .0) (e .put-corridors .ensures .1 .1 .1 .0) (e .put-corridors .ensures .1 .1 .1 .1 .0) (e .put-corridors .ensures .1 .1 .1 .1 .1 .0) (e .put-corridors .ensures .1 .1 .1 .1 .1 .1)))
@@ -174,6 +188,7 @@ join-cases-spec =
     narrow-requires
     put-buses-requires
     put-generators-requires
+    add-put-corridors
     put-corridors-requires
     same-length
     same-length-2

@@ -35,8 +35,8 @@ pub const FAMILIES: &[(&str, Damage)] = &[
 ];
 
 const WORDS: &[&[u8]] = &[
-    b"SQRT", b"IMP", b"LEAD", b"DISP", b"ANG", b"PLACE", b"SHEET", b"ROWS", b"PREV", b"RF", b"OK",
-    b"??",
+    b"SQRT", b"IMP", b"LEAD", b"DISP", b"ANG", b"PLACE", b"SHEET", b"ROWS", b"LAID", b"PREV",
+    b"RF", b"OK", b"??",
 ];
 
 const LARGE_COUNTS: &[&[u8]] = &[
@@ -57,6 +57,10 @@ const LARGE_COUNTS: &[&[u8]] = &[
     b"ROWS 1 1 0 401 0 0",
     b"ROWS 1 1 0 0 7711 0",
     b"ROWS 1 1 0 0 0 999999999",
+    b"LAID 401 1 0 0",
+    b"LAID 1 401 0 0",
+    b"LAID 1 1 7711 0",
+    b"LAID 1 1 0 7711",
     b"PREV 0 0 401",
     b"PREV 0 0 999999999 1 0",
 ];
@@ -130,7 +134,7 @@ pub fn one(random: &mut Random) -> Request {
 fn good_line(random: &mut Random) -> Vec<u8> {
     loop {
         let kind = random.pick(&[
-            "SQRT", "IMP", "LEAD", "DISP", "ANG", "PLACE", "SHEET", "ROWS", "PREV",
+            "SQRT", "IMP", "LEAD", "DISP", "ANG", "PLACE", "SHEET", "ROWS", "LAID", "PREV",
         ]);
         let (_, words) = random.pick(families(kind).expect("a kind of request"));
         let line = words(random).line();

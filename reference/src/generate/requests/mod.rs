@@ -5,6 +5,7 @@ mod angles;
 mod bad;
 mod dispatch;
 mod impedance;
+mod laid;
 mod leaders;
 mod placement;
 mod preview;
@@ -36,8 +37,8 @@ pub fn is_long(seed: u64) -> bool {
 }
 
 /// The kinds of request, `BAD` being lines that are none.
-pub const KINDS: [&str; 10] = [
-    "SQRT", "IMP", "LEAD", "DISP", "ANG", "PLACE", "SHEET", "ROWS", "PREV", "BAD",
+pub const KINDS: [&str; 11] = [
+    "SQRT", "IMP", "LEAD", "DISP", "ANG", "PLACE", "SHEET", "ROWS", "LAID", "PREV", "BAD",
 ];
 
 /// One line, without its line feed, and the family it comes from.
@@ -60,6 +61,7 @@ fn families(kind: &str) -> Option<&'static [Family]> {
         "PLACE" => placement::FAMILIES,
         "SHEET" => sheet::FAMILIES,
         "ROWS" => rows::FAMILIES,
+        "LAID" => laid::FAMILIES,
         "PREV" => preview::FAMILIES,
         _ => return None,
     })

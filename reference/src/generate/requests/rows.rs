@@ -42,7 +42,7 @@ fn ask(random: &mut Random, asked: Asked, more: [isize; 2]) -> Words {
 }
 
 /// Any figure, sometimes a zero or a NaN, which are printed as one.
-fn any_bits(random: &mut Random) -> u64 {
+pub fn any_bits(random: &mut Random) -> u64 {
     match random.below(12) {
         0 => random.pick(&[0, 1 << 63, 0x7FF8_0000_0000_0001, u64::MAX]),
         _ => random.bits(),

@@ -15,7 +15,7 @@ use Rattle.acceptance.proofs.tables.faulty_row.Statement.{statement}
 use Rattle.acceptance.proofs.tables.faulty_row.Tie as tie
 
 abbrev Inv-loop : tie.InvT-loop
-Inv-loop m levels sheet rows i₀ i = (i ≤ m * levels) × (first (rowOk (sheetFor levels sheet)) (m * levels - i) i ≡ first (rowOk (sheetFor levels sheet)) (m * levels) 0) × (rows ≡ m * levels)
+Inv-loop m levels sheet rows i₀ i = (i ≤ m * levels) × (first (rowOk (sheetFor m levels sheet)) (m * levels - i) i ≡ first (rowOk (sheetFor m levels sheet)) (m * levels) 0) × (rows ≡ m * levels)
 
 abbrev μ-loop : tie.MeasureT-loop
 μ-loop m levels sheet rows i₀ i = m * levels - i

@@ -11,10 +11,10 @@ use Rattle.casefile.proofs.tables.read_lines.Statement.{statement}
 use Rattle.casefile.proofs.tables.read_lines.Tie as tie
 
 abbrev Inv-loop : tie.InvT-loop
-Inv-loop file at count sheet₀ p₀ sheet p = (p ≤ length sheet₀) × (sheet ≡ filled sheet₀ (sheetIn file at count) p)
+Inv-loop file at corridors levels sheet₀ p₀ sheet p = (p ≤ length sheet₀) × (sheet ≡ filled sheet₀ (sheetIn file at corridors levels) p)
 
 abbrev μ-loop : tie.MeasureT-loop
-μ-loop file at count sheet₀ p₀ sheet p = length sheet₀ - p
+μ-loop file at corridors levels sheet₀ p₀ sheet p = length sheet₀ - p
 
 -- the slice keeps its length
 same : (c : tie.At-loop Inv-loop μ-loop) → length (c .loop .sheet) ≡ length (c .before .before .before .args .sheet .now)

@@ -8,7 +8,7 @@ append-counts-requires : tie.Need-append-counts-requires
 append-counts-requires c κs = c .before .before .before .before .before .before .before .before .before .before .before .before .before .before .before .before .before .before .before .before .before .before .pre .0
 
 append-counts-requires-2 : tie.Need-append-counts-requires-2
-append-counts-requires-2 c κs = c .before .before .before .before .before .before .before .before .before .before .before .before .before .before .before .before .before .before .before .before .before .before .before .before .before .before .pre .1
+append-counts-requires-2 c κs = c .before .before .before .before .before .before .before .before .before .before .before .before .before .before .before .before .before .before .before .before .before .before .before .before .before .before .pre .1 .0
 
 append-counts-requires-3 : tie.Need-append-counts-requires-3
 append-counts-requires-3 c κs = λ i h. omega (arith, c .before .before .before .before .before .before .before .before .before .before .before .before .before .before .before .before .before .before .before .before .shared-slice-known10 .given i)
@@ -22,8 +22,8 @@ append-figures-requires-2 c κs = search needs
 append-counts-requires-4 : tie.Need-append-counts-requires-4
 append-counts-requires-4 c κs = λ i h. omega (arith, c .before .before .before .before .before .before .before .before .before .before .before .before .before .before .before .before .before .before .before .before .before .before .before .before .before .before .before .before .before .shared-slice-known13 .given i)
 
-append-figures-requires-3 : tie.Need-append-figures-requires-3
-append-figures-requires-3 c κs = search needs
+append-sheet-requires : tie.Need-append-sheet-requires
+append-sheet-requires c κs = c .before .before .before .before .before .before .before .before .before .before .before .before .before .before .before .before .before .before .before .before .before .before .before .before .before .before .before .before .before .before .before .before .before .before .before .before .before .before .before .before .before .before .before .before .before .before .pre .1 .1
 
 same-length : tie.Need-same-length
 same-length c = c .before .before .before .before .before .before .before .before .before .before .before .before .before .before .before .before .before .before .before .before .before .before .before .before .before .before .append-counts .kept .0
@@ -44,10 +44,10 @@ same-length-6 : tie.Need-same-length-6
 same-length-6 c = c .before .before .before .before .before .before .append-counts4 .kept .0
 
 same-length-7 : tie.Need-same-length-7
-same-length-7 c = c .before .before .append-figures3 .kept .0
+same-length-7 c = c .before .before .append-sheet .kept .0
 
 returns : tie.Need-returns
-returns c = (c .before .before .before .before .before .before .before .before .before .before .before .before .before .before .before .before .before .before .before .before .before .before .before .before .before .before .append-counts .ensures, (c .before .before .before .before .before .before .before .before .before .before .before .before .before .before .before .before .before .before .before .before .before .before .append-counts2 .ensures, (c .before .before .before .before .before .before .before .before .before .before .before .before .before .before .before .before .before .before .append-counts3 .ensures, (c .before .before .before .before .before .before .before .before .before .before .before .before .before .before .append-figures .ensures, (c .before .before .before .before .before .before .before .before .before .before .append-figures2 .ensures, (c .before .before .before .before .before .before .append-counts4 .ensures, c .before .before .append-figures3 .ensures))))))
+returns c = (c .before .before .before .before .before .before .before .before .before .before .before .before .before .before .before .before .before .before .before .before .before .before .before .before .before .before .append-counts .ensures, (c .before .before .before .before .before .before .before .before .before .before .before .before .before .before .before .before .before .before .before .before .before .before .append-counts2 .ensures, (c .before .before .before .before .before .before .before .before .before .before .before .before .before .before .before .before .before .before .append-counts3 .ensures, (c .before .before .before .before .before .before .before .before .before .before .before .before .before .before .append-figures .ensures, (c .before .before .before .before .before .before .before .before .before .before .append-figures2 .ensures, (c .before .before .before .before .before .before .append-counts4 .ensures, c .before .before .append-sheet .ensures))))))
 
 pub put-corridors-spec : {M : Type 1} → statement M
 put-corridors-spec =
@@ -59,7 +59,7 @@ put-corridors-spec =
     append-figures-requires
     append-figures-requires-2
     append-counts-requires-4
-    append-figures-requires-3
+    append-sheet-requires
     same-length
     same-length-2
     same-length-3

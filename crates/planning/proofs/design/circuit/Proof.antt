@@ -20,8 +20,9 @@ banked-if-requires c κs = search needs
 
 returns : tie.Need-returns
 returns c =
-    let z = c .before .before .before .before .before .before .before .before .before .before .args in
-    circuit-is (now (z .ladder)) (now (z .level)) (now (z .a)) (now (z .b)) (now (z .km)) (now (z .share)) (now (z .sheet)) (z .k) (z .mva) _ _ _ (c .before .before .ends-of .ensures) (c .before .line-at .ensures) (c .banked-if .ensures)
+    let s = c .before .before .before .before .before .before .before .before .before .before in
+    let z = s .args in
+    circuit-is (now (z .ladder)) (now (z .level)) (now (z .a)) (now (z .b)) (now (z .km)) (now (z .share)) (now (z .sheet)) (z .k) (s .pre .0) (s .pre .1 .0) (z .mva) _ _ _ (c .before .before .ends-of .ensures) (c .before .line-at .ensures) (c .banked-if .ensures)
 
 pub circuit-spec : {M : Type 1} → statement M
 circuit-spec = tie.close (tie.spec ends-of-requires line-at-requires banked-if-requires returns)

@@ -1,9 +1,9 @@
--- `acceptance::lengths::is_product` meets its contract.
+-- `sheets::is_product` meets its contract.
 -- By dividing: a total is a product exactly where the quotient is the other factor and nothing is left.
 use borrow.Author.Needs.{needs}
 use Rattle.loops.proofs.Products.{product-nought, product-is}
-use Rattle.acceptance.proofs.lengths.is_product.Statement.{statement}
-use Rattle.acceptance.proofs.lengths.is_product.Tie as tie
+use Rattle.sheets.proofs.is_product.Statement.{statement}
+use Rattle.sheets.proofs.is_product.Tie as tie
 
 returns : tie.Need-returns
 returns c = product-nought _ _ _ (c .if1 .taken)

@@ -27,78 +27,63 @@ square h l k =
 whole : (s q hh hl ll : ℕ) → q * q ≡ hh * 2 ^ 54 + 2 * (hl * 2 ^ 27) + ll → hh * 4 + hl / 2 ^ 24 ≤ s → hl % 2 ^ 24 * 2 ^ 28 + ll ≤ (s - (hh * 4 + hl / 2 ^ 24)) * 2 ^ 52 → q * q + ((s - (hh * 4 + hl / 2 ^ 24)) * 2 ^ 52 - (hl % 2 ^ 24 * 2 ^ 28 + ll)) ≡ s * 2 ^ 52
 whole s q hh hl ll e u v = omega arith
 
-mul-high : tie.Need-overflow-mul-high
+mul-high : tie.Need-overflow_mul-high
 mul-high c = omega (arith, bounds c.args.q c.requires)
 
-mul-high-2 : tie.Need-overflow-mul-high-2
+mul-high-2 : tie.Need-overflow_mul-high-2
 mul-high-2 c = omega (arith, bounds c.args.q c.requires)
 
-mul-high-3 : tie.Need-overflow-mul-high-3
+mul-high-3 : tie.Need-overflow_mul-high-3
 mul-high-3 c = omega (arith, bounds c.args.q c.requires)
 
-add-high : tie.Need-overflow-add-high
+add-high : tie.Need-overflow_add-high
 add-high c = omega (arith, bounds c.args.q c.requires)
 
-mul_low : tie.Need-overflow-mul-low
+mul_low : tie.Need-overflow_mul-low
 mul_low c = omega (arith, bounds c.args.q c.requires)
 
-mul-low-2 : tie.Need-overflow-mul-low-2
+mul-low-2 : tie.Need-overflow_mul-low-2
 mul-low-2 c = search rules
 
-mul-low-3 : tie.Need-overflow-mul-low-3
+mul-low-3 : tie.Need-overflow_mul-low-3
 mul-low-3 c = omega (arith, bounds c.args.q c.requires)
 
-add_low : tie.Need-overflow-add-low
+add_low : tie.Need-overflow_add-low
 add_low c = omega (arith, bounds c.args.q c.requires)
 
-returns : tie.Need-returns
+returns : tie.Need-returns-then-s-high
 returns c = search rules
 
-returns-2 : tie.Need-returns-2
+returns-2 : tie.Need-returns-then-s-high-gt255
 returns-2 c = search rules
 
-mul-if3 : tie.Need-overflow-mul-if3
+mul-if3 : tie.Need-overflow_mul-s
 mul-if3 c = search rules
 
-returns-3 : tie.Need-returns-3
+returns-3 : tie.Need-returns-then-s-high-2
 returns-3 c = search rules
 
-mul-result : tie.Need-overflow-mul-result
+mul-result : tie.Need-overflow_mul-result
 mul-result c = search rules
 
-sub-result : tie.Need-overflow-sub-result
+sub-result : tie.Need-overflow_sub-result-2
 sub-result c = search rules
 
-returns-4 : tie.Need-returns-4
+returns-4 : tie.Need-returns
 returns-4 c r =
-    let q = c.before.before.before.args.q in
+    let q = c.args.q in
     let parts : q ≡ q / 2 ^ 27 * 2 ^ 27 + q % 2 ^ 27 = omega arith in
     whole
-    c.before.before.before.args.s
+    c.args.s
     q
     (q / 2 ^ 27 * (q / 2 ^ 27))
     (q / 2 ^ 27 * (q % 2 ^ 27))
     (q % 2 ^ 27 * (q % 2 ^ 27))
     (ap (λ (z : ℕ). z * z) parts ∙ square (q / 2 ^ 27) (q % 2 ^ 27) (2 ^ 27))
-    c.before.before.if1.false
-    c.if3.false
+    c.if-s-high.false
+    c.if-s-high-2.false
 
-pub left-over-spec : {M : Type 1} → statement M
-left-over-spec =
+pub left_over_spec : {M : Type 1} → statement M
+left_over_spec =
     tie.close
-    (tie.spec
-    mul-high
-    mul-high-2
-    mul-high-3
-    add-high
-    mul_low
-    mul-low-2
-    mul-low-3
-    add_low
-    returns
-    returns-2
-    mul-if3
-    returns-3
-    mul-result
-    sub-result
-    returns-4)
+    (tie.spec mul-high mul-high-2 mul-high-3 add-high mul_low mul-low-2 mul-low-3 add_low returns returns-2 mul-if3 returns-3 mul-result sub-result returns-4)

@@ -14,10 +14,10 @@ use Rattle.root.proofs.root_by_digits.Tie as tie
 abbrev Used : ℕ → ℕ → ℕ → ℕ → ℕ → Type 0
 Used s q rem rest i = (i ≤ 53) × (rem ≤ 2 * q) × (q < 2 ^ i) × (rest < 2 ^ 54) × ((q * q + rem) * 2 ^ 54 + rest ≡ s * 4 ^ i)
 
-abbrev invariant-loop : tie.invariant-loop
+abbrev invariant-loop : tie.invariant-loop-i
 invariant-loop s q₀ rem₀ rest₀ i₀ q rem rest i = Used s q rem rest i
 
-abbrev decreases-loop : tie.decreases-loop
+abbrev decreases-loop : tie.decreases-loop-i
 decreases-loop s q₀ rem₀ rest₀ i₀ q rem rest i = 53 - i
 
 small : (q i : ℕ) → q < 2 ^ i → i < 53 → q < 2 ^ 52
@@ -63,83 +63,65 @@ finish s q r rest i u h =
     let f : (q * q + r) * 2 ^ 54 + rest ≡ s * 4 ^ 53 = u.4 ∙ ap (λ (z : ℕ). s * 4 ^ z) e in
     omega arith
 
-loop-holds : tie.Need-loop-init invariant-loop decreases-loop
+loop-holds : tie.Need-loop-i-init invariant-loop decreases-loop
 loop-holds c = let e : c.args.s * 4 ^ 0 ≡ c.args.s = mul-one c.args.s in omega arith
 
-mul-rem : tie.Need-overflow-mul-rem invariant-loop decreases-loop
-mul-rem c = omega (arith, small _ _ c.before.loop.invariant.2 c.loop-test.true)
+mul-rem : tie.Need-overflow_mul-rem invariant-loop decreases-loop
+mul-rem c = omega (arith, small _ _ c.loop-i.invariant.2 c.loop-i-test.true)
 
-add-rem : tie.Need-overflow-add-rem invariant-loop decreases-loop
-add-rem c = omega (arith, small _ _ c.before.loop.invariant.2 c.loop-test.true)
+add-rem : tie.Need-overflow_add-rem invariant-loop decreases-loop
+add-rem c = omega (arith, small _ _ c.loop-i.invariant.2 c.loop-i-test.true)
 
-mul-rest : tie.Need-overflow-mul-rest invariant-loop decreases-loop
+mul-rest : tie.Need-overflow_mul-rest invariant-loop decreases-loop
 mul-rest c = omega arith
 
-mul-q : tie.Need-overflow-mul-q invariant-loop decreases-loop
-mul-q c = omega (arith, small _ _ c.before.loop.invariant.2 c.loop-test.true)
+mul-q : tie.Need-overflow_mul-q invariant-loop decreases-loop
+mul-q c = omega (arith, small _ _ c.loop-i.invariant.2 c.loop-i-test.true)
 
-mul-if1 : tie.Need-overflow-mul-if1 invariant-loop decreases-loop
-mul-if1 c = omega (arith, small _ _ c.before.loop.invariant.2 c.loop-test.true)
+mul-if1 : tie.Need-overflow_mul-q-in-loop-i invariant-loop decreases-loop
+mul-if1 c = omega (arith, small _ _ c.loop-i.invariant.2 c.loop-i-test.true)
 
-mul-rem-2 : tie.Need-overflow-mul-rem-2 invariant-loop decreases-loop
-mul-rem-2 c = omega (arith, small _ _ c.before.before.loop.invariant.2 c.before.loop-test.true)
+mul-rem-2 : tie.Need-overflow_mul-rem-then-rem-q invariant-loop decreases-loop
+mul-rem-2 c = omega (arith, small _ _ c.loop-i.invariant.2 c.loop-i-test.true)
 
-add-rem-2 : tie.Need-overflow-add-rem-2 invariant-loop decreases-loop
-add-rem-2 c = omega (arith, small _ _ c.before.before.loop.invariant.2 c.before.loop-test.true)
+add-rem-2 : tie.Need-overflow_add-rem-then-rem-q invariant-loop decreases-loop
+add-rem-2 c = omega (arith, small _ _ c.loop-i.invariant.2 c.loop-i-test.true)
 
-sub-rem : tie.Need-overflow-sub-rem invariant-loop decreases-loop
+sub-rem : tie.Need-overflow_sub-rem invariant-loop decreases-loop
 sub-rem c = omega arith
 
-add-q : tie.Need-overflow-add-q invariant-loop decreases-loop
-add-q c = omega (arith, small _ _ c.before.before.loop.invariant.2 c.before.loop-test.true)
+add-q : tie.Need-overflow_add-q invariant-loop decreases-loop
+add-q c = omega (arith, small _ _ c.loop-i.invariant.2 c.loop-i-test.true)
 
-add-i : tie.Need-overflow-add-i invariant-loop decreases-loop
+add-i : tie.Need-overflow_add-i invariant-loop decreases-loop
 add-i c = omega arith
 
-loop-less : tie.Need-loop-smaller invariant-loop decreases-loop
+loop-less : tie.Need-loop-i-smaller invariant-loop decreases-loop
 loop-less c = omega arith
 
-loop-again : tie.Need-loop-preserved invariant-loop decreases-loop
+loop-again : tie.Need-loop-i-preserved invariant-loop decreases-loop
 loop-again c =
-    let a = c.before.before.loop in
-    let s = c.before.before.before.args.s in
-    let l = c.before.loop-test.true in
-    ⊎_elim (λ w. carry s _ _ _ _ _ _ w.1 w.2 (move s a.q a.rem a.rest a.i a.invariant l w.0.taken))
-    (λ w. carry s _ _ _ _ _ _ w.1 w.2 (stay s a.q a.rem a.rest a.i a.invariant l w.0.left))
-    c.if1.branch
+    let a = c.loop-i in
+    let s = c.args.s in
+    let l = c.loop-i-test.true in
+    ⊎_elim (λ w. carry s _ _ _ _ _ _ w.q-is w.rem-is (move s a.q a.rem a.rest a.i a.invariant l w.if-rem-q.true))
+    (λ w. carry s _ _ _ _ _ _ w.q-is w.rem-is (stay s a.q a.rem a.rest a.i a.invariant l w.if-rem-q.false))
+    c.if-rem-q.branch-raw
 
-add-result : tie.Need-overflow-add-result invariant-loop decreases-loop
-add-result c = omega (arith, small-end _ _ c.before.before.loop.invariant.2 c.before.before.loop.invariant.0)
+add-result : tie.Need-overflow_add-result invariant-loop decreases-loop
+add-result c = omega (arith, small-end _ _ c.loop-i.invariant.2 c.loop-i.invariant.0)
 
 -- q, what is left over, and that their number is s * 2 ^ 52
-abbrev ended : (c : tie.After-loop invariant-loop decreases-loop) → Left (c.before.before.args.s * 2 ^ 52) c.before.loop.q c.before.loop.rem
-ended c = let a = c.before.loop in finish c.before.before.args.s a.q a.rem a.rest a.i a.invariant c.loop-test.false
+abbrev ended : (c : tie.After-loop-i invariant-loop decreases-loop) → Left (c.args.s * 2 ^ 52) c.loop-i.q c.loop-i.rem
+ended c = let a = c.loop-i in finish c.args.s a.q a.rem a.rest a.i a.invariant c.loop-i-test.false
 
-returns : tie.Need-returns invariant-loop decreases-loop
-returns c = sym (closest_up _ _ _ (ended c.before) c.if2.true)
+returns : tie.Need-returns-then-rem-q-2 invariant-loop decreases-loop
+returns c = sym (closest_up _ _ _ (ended c.before) c.if-rem-q-2.true)
 
-returns-2 : tie.Need-returns-2 invariant-loop decreases-loop
-returns-2 c = sym (closest_down _ _ _ (ended c.before) c.if2.false)
+returns-2 : tie.Need-returns-else-rem-q-2 invariant-loop decreases-loop
+returns-2 c = sym (closest_down _ _ _ (ended c.before) c.if-rem-q-2.false)
 
-pub root-by-digits-spec : {M : Type 1} → statement M
-root-by-digits-spec =
+pub root_by_digits_spec : {M : Type 1} → statement M
+root_by_digits_spec =
     tie.close
-    (tie.spec
-    invariant-loop
-    decreases-loop
-    loop-holds
-    mul-rem
-    add-rem
-    mul-rest
-    mul-q
-    mul-if1
-    mul-rem-2
-    add-rem-2
-    sub-rem
-    add-q
-    add-i
-    loop-less
-    loop-again
-    add-result
-    returns
-    returns-2)
+    (tie.spec invariant-loop decreases-loop loop-holds mul-rem add-rem mul-rest mul-q mul-if1 mul-rem-2 add-rem-2 sub-rem add-q add-i loop-less loop-again add-result returns returns-2)

@@ -14,10 +14,10 @@ use Rattle.root.proofs.root_of_number.Tie as tie
 abbrev Moved : ℕ → ℕ → ℕ → ℕ → Type 0
 Moved s e t k = (0 < t) × (t < 2 ^ 53) × (k ≤ e) × (1022 ≤ k) × (t * 2 ^ k ≡ s * 2 ^ e)
 
-abbrev invariant-loop : tie.invariant-loop
+abbrev invariant-loop : tie.invariant-loop-t
 invariant-loop s e t₀ k₀ t k = Moved s e t k
 
-abbrev decreases-loop : tie.decreases-loop
+abbrev decreases-loop : tie.decreases-loop-t
 decreases-loop s e t₀ k₀ t k = k
 
 -- t * 2 ^ k is 2 ^ 1074 at least
@@ -56,69 +56,56 @@ as-even s e t k m l o =
     let x : k ≡ 52 + ((k - 52) / 2 + (k - 52) / 2) = omega arith in
     (l, omega arith, sym m.4 ∙ ap (λ (z : ℕ). t * 2 ^ z) x)
 
-even : (c : tie.Joined1 invariant-loop decreases-loop) → Even c.before.before.before.args.s c.before.before.before.args.e c.if1.t c.before.before.loop.k
+even : (c : tie.Joined-k-eq1 invariant-loop decreases-loop) → Even c.args.s c.args.e c.if-k-eq1.t c.loop-t.k
 even c =
-    let a = c.before.before.loop in
-    let s = c.before.before.before.args.s in
-    let e = c.before.before.before.args.e in
-    let l = c.before.loop-test.false in
-    ⊎_elim (λ w. subst (λ (t : ℕ). Even s e t a.k) (sym w.1) (as-odd s e a.t a.k a.invariant l w.0.taken))
-    (λ w. subst (λ (t : ℕ). Even s e t a.k) (sym w.1) (as-even s e a.t a.k a.invariant l w.0.left))
-    c.if1.branch
+    let a = c.loop-t in
+    let s = c.args.s in
+    let e = c.args.e in
+    let l = c.loop-t-test.false in
+    ⊎_elim (λ w. subst (λ (t : ℕ). Even s e t a.k) (sym w.t-is) (as-odd s e a.t a.k a.invariant l w.if-k-eq1.true))
+    (λ w. subst (λ (t : ℕ). Even s e t a.k) (sym w.t-is) (as-even s e a.t a.k a.invariant l w.if-k-eq1.false))
+    c.if-k-eq1.branch-raw
 
-loop-holds : tie.Need-loop-init invariant-loop decreases-loop
+loop-holds : tie.Need-loop-t-init invariant-loop decreases-loop
 loop-holds c = (c.requires.0, c.requires.1, omega arith, omega arith, refl)
 
-mul-t : tie.Need-overflow-mul-t invariant-loop decreases-loop
+mul-t : tie.Need-overflow_mul-t invariant-loop decreases-loop
 mul-t c = omega arith
 
-sub-k : tie.Need-overflow-sub-k invariant-loop decreases-loop
+sub-k : tie.Need-overflow_sub-k invariant-loop decreases-loop
 sub-k c = omega arith
 
-loop-less : tie.Need-loop-smaller invariant-loop decreases-loop
+loop-less : tie.Need-loop-t-smaller invariant-loop decreases-loop
 loop-less c = omega arith
 
-loop-again : tie.Need-loop-preserved invariant-loop decreases-loop
+loop-again : tie.Need-loop-t-preserved invariant-loop decreases-loop
 loop-again c =
-    let p = c.before.before.requires in
-    let a = c.before.loop in
-    turn c.before.before.args.s c.before.before.args.e a.t a.k p.0 p.2 a.invariant c.loop-test.true
+    let p = c.requires in
+    let a = c.loop-t in
+    turn c.args.s c.args.e a.t a.k p.0 p.2 a.invariant c.loop-t-test.true
 
-mul-t-2 : tie.Need-overflow-mul-t-2 invariant-loop decreases-loop
+mul-t-2 : tie.Need-overflow_mul-t-then-k-eq1 invariant-loop decreases-loop
 mul-t-2 c = omega arith
 
-sub-result : tie.Need-overflow-sub-result invariant-loop decreases-loop
+sub-result : tie.Need-overflow_sub-result invariant-loop decreases-loop
 sub-result c = omega arith
 
-mul-result : tie.Need-overflow-mul-result invariant-loop decreases-loop
+mul-result : tie.Need-overflow_mul-result invariant-loop decreases-loop
 mul-result c = omega arith
 
-closest-root-requires : tie.Need-closest-root-requires invariant-loop decreases-loop
+closest-root-requires : tie.Need-closest_root-requires invariant-loop decreases-loop
 closest-root-requires c κs = (even c).1
 
-add-result : tie.Need-overflow-add-result invariant-loop decreases-loop
-add-result c = omega (arith, c.closest-root.ensures, closest_range c.before.if1.t (even c.before).0 (even c.before).1)
+add-result : tie.Need-overflow_add-result invariant-loop decreases-loop
+add-result c = omega (arith, c.closest_root.ensures, closest_range c.if-k-eq1.t (even c.before).0 (even c.before).1)
 
 returns : tie.Need-returns invariant-loop decreases-loop
 returns c =
-    let a = c.before.before.before.loop in
+    let a = c.loop-t in
     let r = even c.before in
-    ap (λ (z : ℕ). (a.k - 52) / 2 * 2 ^ 52 + z) c.closest-root.ensures ∙ sym (root_pattern _ c.before.if1.t ((a.k - 52) / 2) r.0 r.1 (omega arith) r.2)
+    ap (λ (z : ℕ). (a.k - 52) / 2 * 2 ^ 52 + z) c.closest_root.ensures ∙ sym (root_pattern _ c.if-k-eq1.t ((a.k - 52) / 2) r.0 r.1 (omega arith) r.2)
 
-pub root-of-number-spec : {M : Type 1} → statement M
-root-of-number-spec =
+pub root_of_number_spec : {M : Type 1} → statement M
+root_of_number_spec =
     tie.close
-    (tie.spec
-    invariant-loop
-    decreases-loop
-    loop-holds
-    mul-t
-    sub-k
-    loop-less
-    loop-again
-    mul-t-2
-    sub-result
-    mul-result
-    closest-root-requires
-    add-result
-    returns)
+    (tie.spec invariant-loop decreases-loop loop-holds mul-t sub-k loop-less loop-again mul-t-2 sub-result mul-result closest-root-requires add-result returns)

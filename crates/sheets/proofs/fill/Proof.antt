@@ -11,56 +11,45 @@ use Rattle.sheets.proofs.Operation.{all_filled}
 use Rattle.sheets.proofs.fill.Statement.{statement}
 use Rattle.sheets.proofs.fill.Tie as tie
 
-abbrev invariant-loop : tie.invariant-loop
+abbrev invariant-loop : tie.invariant-loop-p
 invariant-loop corridors levels rows sheet₀ p₀ sheet p = (length sheet ≡ length sheet₀) × (p ≤ length sheet₀) × (sheet ≡ filled sheet₀ (λ q. at rows (figure_of corridors levels q)) p)
 
-abbrev decreases-loop : tie.decreases-loop
+abbrev decreases-loop : tie.decreases-loop-p
 decreases-loop corridors levels rows sheet₀ p₀ sheet p = length sheet₀ - p
 
-loop-holds : tie.Need-loop-init invariant-loop decreases-loop
+loop-holds : tie.Need-loop-p-init invariant-loop decreases-loop
 loop-holds c = (refl, omega arith, fill_start _ _)
 
-figure-at-requires : tie.Need-figure-at-requires invariant-loop decreases-loop
-figure-at-requires c κs = let s = c.before.before.before.before.requires in (omega (arith, s.from_size, s.to_size), s.from_size)
+figure-at-requires : tie.Need-figure_at-requires invariant-loop decreases-loop
+figure-at-requires c κs = let s = c.requires in (omega (arith, s.from_size, s.to_size), s.from_size)
 
-mul-sheet : tie.Need-overflow-mul-sheet invariant-loop decreases-loop
+mul-sheet : tie.Need-offset_bounds-sheet-p invariant-loop decreases-loop
 mul-sheet c = omega arith
 
-slice-write-sheet : tie.Need-slice-write-sheet invariant-loop decreases-loop
+slice-write-sheet : tie.Need-bounds-sheet-p invariant-loop decreases-loop
 slice-write-sheet c = omega arith
 
-add-p : tie.Need-overflow-add-p invariant-loop decreases-loop
+add-p : tie.Need-overflow_add-p invariant-loop decreases-loop
 add-p c = omega arith
 
-loop-less : tie.Need-loop-smaller invariant-loop decreases-loop
+loop-less : tie.Need-loop-p-smaller invariant-loop decreases-loop
 loop-less c = omega arith
 
-loop-again : tie.Need-loop-preserved invariant-loop decreases-loop
+loop-again : tie.Need-loop-p-preserved invariant-loop decreases-loop
 loop-again c =
-    let l = c.before.before.loop in
-    (length-set l.sheet l.p _ ∙ l.invariant.0, omega arith, fill_turn _ _ _ _ _ l.invariant.2 (omega arith) c.figure-at.ensures)
+    let l = c.loop-p in
+    (length-set l.sheet l.p _ ∙ l.invariant.0, omega arith, fill_turn _ _ _ _ _ l.invariant.2 (omega arith) c.figure_at.ensures)
 
-same_length : tie.Need-same-length invariant-loop decreases-loop
-same_length c = c.before.loop.invariant.0
+same_length : tie.Need-shape_of-sheet invariant-loop decreases-loop
+same_length c = c.loop-p.invariant.0
 
 returns : tie.Need-returns invariant-loop decreases-loop
 returns c =
-    let l = c.before.loop in
-    let s = c.before.before.before.before in
+    let l = c.loop-p in
+    let s = c in
     all_filled s.args.corridors s.args.levels s.args.rows.now s.args.sheet.now _ l.p s.requires.to_size (omega arith) l.invariant.2
 
 pub fill_spec : {M : Type 1} → statement M
 fill_spec =
     tie.close
-    (tie.spec
-    invariant-loop
-    decreases-loop
-    loop-holds
-    figure-at-requires
-    mul-sheet
-    slice-write-sheet
-    add-p
-    loop-less
-    loop-again
-    same_length
-    returns)
+    (tie.spec invariant-loop decreases-loop loop-holds figure-at-requires mul-sheet slice-write-sheet add-p loop-less loop-again same_length returns)

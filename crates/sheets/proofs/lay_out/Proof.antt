@@ -8,32 +8,32 @@ use Rattle.sheets.proofs.lay_out.Tie as tie
 check-requires : tie.Need-check-requires
 check-requires c κs = search rules
 
-enum-known-f : tie.Need-enum-known-f
+enum-known-f : tie.Need-enum_known-f
 enum-known-f c = search rules
 
-enum_told : tie.Need-enum-told
+enum_told : tie.Need-enum_told-1
 enum_told c = search rules
 
 fill-requires : tie.Need-fill-requires
 fill-requires c κs =
-    let s = c.before.before.before.before.before.before.args in
-    passed s.corridors s.levels _ _ (sym c.before.before.before.check.ensures ∙ c.before.enum_told.given.1)
+    let s = c.args in
+    passed s.corridors s.levels _ _ (sym c.check.ensures ∙ c.in-Answered.is)
 
-returns : tie.Need-returns
+returns : tie.Need-returns-in-Refused
 returns c =
-    let s = c.before.before.before.before.before.before.args in
-    is_refused_lem s.corridors s.levels s.rows.now s.sheet.now _ (sym c.before.before.before.check.ensures ∙ c.before.f.given.1)
+    let s = c.args in
+    is_refused_lem s.corridors s.levels s.rows.now s.sheet.now _ (sym c.check.ensures ∙ c.in-Refused.is)
 
-same_length : tie.Need-same-length
+same_length : tie.Need-shape_of-sheet
 same_length c = search rules
 
-returns-2 : tie.Need-returns-2
+returns-2 : tie.Need-returns-in-Answered
 returns-2 c =
-    let s = c.before.before.before.before.before.before.before.before.before.args in
-    let e = sym c.before.before.before.before.before.before.check.ensures ∙ c.before.before.before.before.enum_told.given.1 in
-    is_laid s.corridors s.levels s.rows.now s.sheet.now _ e c.before.before.fill.ensures
+    let s = c.args in
+    let e = sym c.check.ensures ∙ c.in-Answered.is in
+    is_laid s.corridors s.levels s.rows.now s.sheet.now _ e c.fill.ensures
 
-pub lay-out-spec : {M : Type 1} → statement M
-lay-out-spec =
+pub lay_out_spec : {M : Type 1} → statement M
+lay_out_spec =
     tie.close
     (tie.spec check-requires enum-known-f enum_told fill-requires returns same_length returns-2)

@@ -11,14 +11,14 @@ use Rattle.sheets.proofs.sheet_ok.Tie as tie
 some : row_figures ≡ 0 → ⊥
 some e = omega arith
 
-returns : tie.Need-returns
-returns c = sym (rows_not row_figures _ _ c.if1.true)
+returns : tie.Need-returns-then-figures-ne0
+returns c = sym (rows_not row_figures _ _ c.if-figures-ne0.true)
 
-is-product-requires : tie.Need-is-product-requires
+is-product-requires : tie.Need-is_product-requires
 is-product-requires c κs = search rules
 
-returns-2 : tie.Need-returns-2
-returns-2 c = c.is-product.ensures ∙ rows_are row_figures c.before.before.args.figures _ (omega arith) some
+returns-2 : tie.Need-returns
+returns-2 c = c.is_product.ensures ∙ rows_are row_figures c.args.figures _ (omega arith) some
 
-pub sheet-ok-spec : {M : Type 1} → statement M
-sheet-ok-spec = tie.close (tie.spec returns is-product-requires returns-2)
+pub sheet_ok_spec : {M : Type 1} → statement M
+sheet_ok_spec = tie.close (tie.spec returns is-product-requires returns-2)

@@ -14,5 +14,5 @@ returns : tie.Need-returns
 unfolding by_class
 returns c = cc
 
-pub by-class-spec : {M : Type 1} → statement M
-by-class-spec = tie.close (tie.spec pick-requires pick-requires-2 returns)
+pub by_class_spec : {M : Type 1} → statement M
+by_class_spec = tie.close (tie.spec pick-requires pick-requires-2 returns)

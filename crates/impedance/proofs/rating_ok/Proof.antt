@@ -4,12 +4,12 @@ use borrow.Author.Rules.{rules}
 use Rattle.impedance.proofs.rating_ok.Statement.{statement}
 use Rattle.impedance.proofs.rating_ok.Tie as tie
 
-float-from-bits-result : tie.Need-float-from-bits-result
+float-from-bits-result : tie.Need-float_from_bits-result
 unfolding nan_bits
 float-from-bits-result c = search rules
 
 returns : tie.Need-returns
 returns c = search rules
 
-pub rating-ok-spec : {M : Type 1} → statement M
-rating-ok-spec = tie.close (tie.spec float-from-bits-result returns)
+pub rating_ok_spec : {M : Type 1} → statement M
+rating_ok_spec = tie.close (tie.spec float-from-bits-result returns)

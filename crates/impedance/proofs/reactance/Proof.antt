@@ -11,5 +11,5 @@ returns : tie.Need-returns
 unfolding reactance
 returns c = cc
 
-pub reactance-spec : {M : Type 1} → statement M
-reactance-spec = tie.close (tie.spec sqrt-requires returns)
+pub reactance_spec : {M : Type 1} → statement M
+reactance_spec = tie.close (tie.spec sqrt-requires returns)

@@ -9,27 +9,27 @@ use Rattle.leaders.proofs.leaders.Tie as tie
 check-requires : tie.Need-check-requires
 check-requires c κs = search rules
 
-enum-known-f : tie.Need-enum-known-f
+enum-known-f : tie.Need-enum_known-f
 enum-known-f c = search rules
 
-returns : tie.Need-returns
-returns c = refused_outcome _ _ _ _ _ _ (sym c.before.f.given.1 ∙ c.before.before.before.check.ensures)
+returns : tie.Need-returns-in-Refused
+returns c = refused_outcome _ _ _ _ _ _ (sym c.in-Refused.is ∙ c.check.ensures)
 
-enum_told : tie.Need-enum-told
+enum_told : tie.Need-enum_told-1
 enum_told c = search rules
 
 lead-requires : tie.Need-lead-requires
 lead-requires c κs =
-    let s = passes _ _ _ _ _ (sym c.before.enum_told.given.1 ∙ c.before.before.before.check.ensures) in
+    let s = passes _ _ _ _ _ (sym c.in-Answered.is ∙ c.check.ensures) in
     (omega (arith, s.size, s.few), ends_of_lem _ _ _ _ s.size s.ends)
 
-same_length : tie.Need-same-length
+same_length : tie.Need-shape_of-leader
 same_length c = search rules
 
-returns-2 : tie.Need-returns-2
-returns-2 c = answered_outcome _ _ _ _ _ _ (sym c.before.before.before.before.enum_told.given.1 ∙ c.before.before.before.before.before.before.check.ensures) c.before.before.lead.ensures
+returns-2 : tie.Need-returns
+returns-2 c = answered_outcome _ _ _ _ _ _ (sym c.in-Answered.is ∙ c.check.ensures) c.lead.ensures
 
-pub leaders-spec : {M : Type 1} → statement M
-leaders-spec =
+pub leaders_spec : {M : Type 1} → statement M
+leaders_spec =
     tie.close
     (tie.spec check-requires enum-known-f returns enum_told lead-requires same_length returns-2)

@@ -64,7 +64,7 @@ said h p k q = (join_cases h p k q (lent 6400)).reply
 -- ---- counts and targets are added
 pub joined : said (header Expand 3 2 1 0 1) first (header Expand 5 3 2 0 1) second
     ≡ answered (record { mode = Expand; target = 8; buses = 5; corridors = 3; generators = 2; above = 0; requested = 1 })
-unfolding join_cases Rattle.join_defs.specs.Joining.joinedBy Rattle.join_defs.specs.Districts.joinFault joined_case sums_ok Rattle.join_defs.specs.Districts.alike Rattle.join_defs.specs.Districts.sameLadder Rattle.casefile_defs.specs.Tables.sizesOk Rattle.refusal.specs.Number.number_of Rattle.refusal.specs.Number.index_of Rattle.mode.specs.Number.modeNumber Rattle.loops.specs.Loops.first Rattle.loops.specs.Loops.tab Rattle.plan_defs.specs.Case.rows_of Rattle.join_defs.specs.Districts.joinedRow Rattle.plan_defs.specs.Case.row_at Rattle.plan_defs.specs.Accept.lengthsOk Rattle.plan_defs.specs.Accept.countsOk Rattle.plan_defs.specs.Accept.levelOk Rattle.plan_defs.specs.Accept.busOk Rattle.plan_defs.specs.Accept.generatorOk Rattle.plan_defs.specs.Accept.corridorSound Rattle.plan_defs.specs.Accept.row_ok Rattle.plan_defs.specs.Accept.tablesFault Rattle.plan_defs.specs.Accept.caseFault lib.Ieee.add lib.Ieee.mul lib.Ieee.lt lib.Ieee.le lib.Ieee.eq lib.Ieee.neg of_bits lib.Ieee.round
+unfolding join_cases Rattle.join_defs.specs.Joining.joined_by Rattle.join_defs.specs.Districts.join_fault joined_case sums_ok Rattle.join_defs.specs.Districts.alike Rattle.join_defs.specs.Districts.same_ladder Rattle.casefile_defs.specs.Tables.sizes_ok Rattle.refusal.specs.Number.number_of Rattle.refusal.specs.Number.index_of Rattle.mode.specs.Number.mode_number Rattle.loops.specs.Loops.first Rattle.loops.specs.Loops.tab Rattle.plan_defs.specs.Case.rows_of Rattle.join_defs.specs.Districts.joined_row Rattle.plan_defs.specs.Case.row_at Rattle.plan_defs.specs.Accept.lengths_ok Rattle.plan_defs.specs.Accept.counts_ok Rattle.plan_defs.specs.Accept.level_ok Rattle.plan_defs.specs.Accept.bus_ok Rattle.plan_defs.specs.Accept.generator_ok Rattle.plan_defs.specs.Accept.corridor_sound Rattle.plan_defs.specs.Accept.row_ok Rattle.plan_defs.specs.Accept.tables_fault Rattle.plan_defs.specs.Accept.case_fault lib.Ieee.add lib.Ieee.mul lib.Ieee.lt lib.Ieee.le lib.Ieee.eq lib.Ieee.neg of_bits lib.Ieee.round
 joined = refl
 
 -- ---- the second's ends and its generator's bus are moved, its circuits are not
@@ -97,7 +97,7 @@ pub refusals :
     ∷ said (header Expand 65_532 2 1 0 1) first (header ExpandServing 5 3 2 0 1) second
     ∷ []
     ≡ refused 1 0 ∷ refused 6 0 ∷ refused 5 0 ∷ refused 2 0 ∷ []
-unfolding join_cases Rattle.join_defs.specs.Joining.joinedBy Rattle.join_defs.specs.Districts.joinFault joined_case sums_ok Rattle.join_defs.specs.Districts.alike Rattle.join_defs.specs.Districts.sameLadder Rattle.casefile_defs.specs.Tables.sizesOk Rattle.refusal.specs.Number.number_of Rattle.refusal.specs.Number.index_of Rattle.mode.specs.Number.modeNumber Rattle.loops.specs.Loops.first Rattle.loops.specs.Loops.tab Rattle.plan_defs.specs.Case.rows_of Rattle.join_defs.specs.Districts.joinedRow Rattle.plan_defs.specs.Case.row_at Rattle.plan_defs.specs.Accept.lengthsOk Rattle.plan_defs.specs.Accept.countsOk Rattle.plan_defs.specs.Accept.levelOk Rattle.plan_defs.specs.Accept.busOk Rattle.plan_defs.specs.Accept.generatorOk Rattle.plan_defs.specs.Accept.corridorSound Rattle.plan_defs.specs.Accept.row_ok Rattle.plan_defs.specs.Accept.tablesFault Rattle.plan_defs.specs.Accept.caseFault lib.Ieee.add lib.Ieee.mul lib.Ieee.lt lib.Ieee.le lib.Ieee.eq lib.Ieee.neg of_bits lib.Ieee.round
+unfolding join_cases Rattle.join_defs.specs.Joining.joined_by Rattle.join_defs.specs.Districts.join_fault joined_case sums_ok Rattle.join_defs.specs.Districts.alike Rattle.join_defs.specs.Districts.same_ladder Rattle.casefile_defs.specs.Tables.sizes_ok Rattle.refusal.specs.Number.number_of Rattle.refusal.specs.Number.index_of Rattle.mode.specs.Number.mode_number Rattle.loops.specs.Loops.first Rattle.loops.specs.Loops.tab Rattle.plan_defs.specs.Case.rows_of Rattle.join_defs.specs.Districts.joined_row Rattle.plan_defs.specs.Case.row_at Rattle.plan_defs.specs.Accept.lengths_ok Rattle.plan_defs.specs.Accept.counts_ok Rattle.plan_defs.specs.Accept.level_ok Rattle.plan_defs.specs.Accept.bus_ok Rattle.plan_defs.specs.Accept.generator_ok Rattle.plan_defs.specs.Accept.corridor_sound Rattle.plan_defs.specs.Accept.row_ok Rattle.plan_defs.specs.Accept.tables_fault Rattle.plan_defs.specs.Accept.case_fault lib.Ieee.add lib.Ieee.mul lib.Ieee.lt lib.Ieee.le lib.Ieee.eq lib.Ieee.neg of_bits lib.Ieee.round
 refusals = refl
 
 -- 2 of the sums, at each bound and past it
@@ -124,5 +124,5 @@ pub unlike :
     ∷ said (header Expand 3 2 1 1 1) (west (high ∷ low ∷ []) twice (1 ∷ []) fifty) (header Expand 3 2 1 0 2) (west (high ∷ low ∷ []) twice (1 ∷ []) fifty)
     ∷ []
     ≡ refused 24 0 ∷ refused 24 0 ∷ refused 24 0 ∷ refused 24 0 ∷ []
-unfolding join_cases Rattle.join_defs.specs.Joining.joinedBy Rattle.join_defs.specs.Districts.joinFault joined_case sums_ok Rattle.join_defs.specs.Districts.alike Rattle.join_defs.specs.Districts.sameLadder Rattle.casefile_defs.specs.Tables.sizesOk Rattle.refusal.specs.Number.number_of Rattle.refusal.specs.Number.index_of Rattle.mode.specs.Number.modeNumber Rattle.loops.specs.Loops.first Rattle.loops.specs.Loops.tab Rattle.plan_defs.specs.Case.rows_of Rattle.join_defs.specs.Districts.joinedRow Rattle.plan_defs.specs.Case.row_at Rattle.plan_defs.specs.Accept.lengthsOk Rattle.plan_defs.specs.Accept.countsOk Rattle.plan_defs.specs.Accept.levelOk Rattle.plan_defs.specs.Accept.busOk Rattle.plan_defs.specs.Accept.generatorOk Rattle.plan_defs.specs.Accept.corridorSound Rattle.plan_defs.specs.Accept.row_ok Rattle.plan_defs.specs.Accept.tablesFault Rattle.plan_defs.specs.Accept.caseFault lib.Ieee.add lib.Ieee.mul lib.Ieee.lt lib.Ieee.le lib.Ieee.eq lib.Ieee.neg of_bits lib.Ieee.round
+unfolding join_cases Rattle.join_defs.specs.Joining.joined_by Rattle.join_defs.specs.Districts.join_fault joined_case sums_ok Rattle.join_defs.specs.Districts.alike Rattle.join_defs.specs.Districts.same_ladder Rattle.casefile_defs.specs.Tables.sizes_ok Rattle.refusal.specs.Number.number_of Rattle.refusal.specs.Number.index_of Rattle.mode.specs.Number.mode_number Rattle.loops.specs.Loops.first Rattle.loops.specs.Loops.tab Rattle.plan_defs.specs.Case.rows_of Rattle.join_defs.specs.Districts.joined_row Rattle.plan_defs.specs.Case.row_at Rattle.plan_defs.specs.Accept.lengths_ok Rattle.plan_defs.specs.Accept.counts_ok Rattle.plan_defs.specs.Accept.level_ok Rattle.plan_defs.specs.Accept.bus_ok Rattle.plan_defs.specs.Accept.generator_ok Rattle.plan_defs.specs.Accept.corridor_sound Rattle.plan_defs.specs.Accept.row_ok Rattle.plan_defs.specs.Accept.tables_fault Rattle.plan_defs.specs.Accept.case_fault lib.Ieee.add lib.Ieee.mul lib.Ieee.lt lib.Ieee.le lib.Ieee.eq lib.Ieee.neg of_bits lib.Ieee.round
 unlike = refl

@@ -38,7 +38,7 @@ pub case_l :
     ∷ 71 ∷ 69 ∷ 32 ∷ 48 ∷ 32 ∷ 52 ∷ 48 ∷ 52 ∷ 57 ∷ 48 ∷ 48 ∷ 48 ∷ 48 ∷ 48 ∷ 48 ∷ 48 ∷ 48 ∷ 48 ∷ 48 ∷ 48 ∷ 48 ∷ 10
     ∷ 67 ∷ 79 ∷ 32 ∷ 48 ∷ 32 ∷ 49 ∷ 32 ∷ 52 ∷ 48 ∷ 52 ∷ 57 ∷ 48 ∷ 48 ∷ 48 ∷ 48 ∷ 48 ∷ 48 ∷ 48 ∷ 48 ∷ 48 ∷ 48 ∷ 48 ∷ 48 ∷ 32 ∷ 52 ∷ 48 ∷ 53 ∷ 57 ∷ 48 ∷ 48 ∷ 48 ∷ 48 ∷ 48 ∷ 48 ∷ 48 ∷ 48 ∷ 48 ∷ 48 ∷ 48 ∷ 48 ∷ 10
     ∷ 77 ∷ 88 ∷ 32 ∷ 51 ∷ 70 ∷ 69 ∷ 48 ∷ 48 ∷ 48 ∷ 48 ∷ 48 ∷ 48 ∷ 48 ∷ 48 ∷ 48 ∷ 48 ∷ 48 ∷ 48 ∷ 48 ∷ 32 ∷ 51 ∷ 70 ∷ 68 ∷ 48 ∷ 48 ∷ 48 ∷ 48 ∷ 48 ∷ 48 ∷ 48 ∷ 48 ∷ 48 ∷ 48 ∷ 48 ∷ 48 ∷ 48 ∷ 10 ∷ []
-unfolding Rattle.mode.specs.Number.modeNumber Rattle.listing.specs.Text.decimal Rattle.listing.specs.Text.hexadecimal Rattle.listing.specs.Text.number Rattle.listing.specs.Text.figure Rattle.listing.specs.Lines.planLine Rattle.listing.specs.Lines.addedLine Rattle.listing.specs.Lines.groundLine Rattle.listing.specs.Lines.busLine Rattle.listing.specs.Lines.generatorLine Rattle.listing.specs.Lines.corridorLine Rattle.listing.specs.Lines.mostLine Rattle.listing.specs.Lines.lines lib.Ieee.of_bits lib.Ieee.to_bits lib.Ieee.eq
+unfolding Rattle.mode.specs.Number.mode_number Rattle.listing.specs.Text.decimal Rattle.listing.specs.Text.hexadecimal Rattle.listing.specs.Text.number Rattle.listing.specs.Text.figure Rattle.listing.specs.Lines.plan_line Rattle.listing.specs.Lines.added_line Rattle.listing.specs.Lines.ground_line Rattle.listing.specs.Lines.bus_line Rattle.listing.specs.Lines.generator_line Rattle.listing.specs.Lines.corridor_line Rattle.listing.specs.Lines.most_line Rattle.listing.specs.Lines.lines lib.Ieee.of_bits lib.Ieee.to_bits lib.Ieee.eq
 case_l = refl
 
 -- A plan whose tallies all differ, with a level added: each stands in its own place of the text, and the figures that are evaluated give the same text.
@@ -52,5 +52,5 @@ pub sample_text :
     ∷ 71 ∷ 69 ∷ 32 ∷ 48 ∷ 32 ∷ 52 ∷ 48 ∷ 55 ∷ 50 ∷ 67 ∷ 48 ∷ 48 ∷ 48 ∷ 48 ∷ 48 ∷ 48 ∷ 48 ∷ 48 ∷ 48 ∷ 48 ∷ 48 ∷ 10
     ∷ 67 ∷ 79 ∷ 32 ∷ 48 ∷ 32 ∷ 52 ∷ 32 ∷ 52 ∷ 48 ∷ 54 ∷ 57 ∷ 48 ∷ 48 ∷ 48 ∷ 48 ∷ 48 ∷ 48 ∷ 48 ∷ 48 ∷ 48 ∷ 48 ∷ 48 ∷ 48 ∷ 32 ∷ 52 ∷ 48 ∷ 55 ∷ 50 ∷ 67 ∷ 48 ∷ 48 ∷ 48 ∷ 48 ∷ 48 ∷ 48 ∷ 48 ∷ 48 ∷ 48 ∷ 48 ∷ 48 ∷ 10
     ∷ 77 ∷ 88 ∷ 32 ∷ 51 ∷ 70 ∷ 69 ∷ 48 ∷ 48 ∷ 48 ∷ 48 ∷ 48 ∷ 48 ∷ 48 ∷ 48 ∷ 48 ∷ 48 ∷ 48 ∷ 48 ∷ 48 ∷ 32 ∷ 51 ∷ 70 ∷ 68 ∷ 48 ∷ 48 ∷ 48 ∷ 48 ∷ 48 ∷ 48 ∷ 48 ∷ 48 ∷ 48 ∷ 48 ∷ 48 ∷ 48 ∷ 48 ∷ 10 ∷ []
-unfolding Rattle.mode.specs.Number.modeNumber Rattle.listing.specs.Text.decimal Rattle.listing.specs.Text.hexadecimal Rattle.listing.specs.Text.number Rattle.listing.specs.Text.figure Rattle.listing.specs.Lines.planLine Rattle.listing.specs.Lines.addedLine Rattle.listing.specs.Lines.groundLine Rattle.listing.specs.Lines.busLine Rattle.listing.specs.Lines.generatorLine Rattle.listing.specs.Lines.corridorLine Rattle.listing.specs.Lines.mostLine Rattle.listing.specs.Lines.lines lib.Ieee.of_bits lib.Ieee.to_bits lib.Ieee.eq lib.Ieee.mul lib.Ieee.round Rattle.plan_defs.specs.Design.line_of Rattle.plan_defs.specs.Outcome.summary Rattle.listing.specs.Listing.planText
+unfolding Rattle.mode.specs.Number.mode_number Rattle.listing.specs.Text.decimal Rattle.listing.specs.Text.hexadecimal Rattle.listing.specs.Text.number Rattle.listing.specs.Text.figure Rattle.listing.specs.Lines.plan_line Rattle.listing.specs.Lines.added_line Rattle.listing.specs.Lines.ground_line Rattle.listing.specs.Lines.bus_line Rattle.listing.specs.Lines.generator_line Rattle.listing.specs.Lines.corridor_line Rattle.listing.specs.Lines.most_line Rattle.listing.specs.Lines.lines lib.Ieee.of_bits lib.Ieee.to_bits lib.Ieee.eq lib.Ieee.mul lib.Ieee.round Rattle.plan_defs.specs.Design.line_of Rattle.plan_defs.specs.Outcome.summary Rattle.listing.specs.Listing.plan_text
 sample_text = refl

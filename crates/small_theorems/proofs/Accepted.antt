@@ -39,7 +39,7 @@ sound i =
     passed (case_fault (case_with h p) h.target) && (counts_ok h && (low p.a && (low p.b && eqb (place_for (network_with h p)) i)))
 
 all_sound : first sound all_places 0 ≡ all_places
-unfolding sound first tab buses_at number_at network_at numbered bits chosen header_of columns_of binary first_place place_for joins network_with Rattle.plan_defs.specs.Case.rows_of Rattle.plan_defs.specs.Case.row_at Rattle.plan_defs.specs.Accept.lengthsOk Rattle.plan_defs.specs.Accept.countsOk Rattle.plan_defs.specs.Accept.levelOk Rattle.plan_defs.specs.Accept.busOk Rattle.plan_defs.specs.Accept.generatorOk Rattle.plan_defs.specs.Accept.corridorSound Rattle.plan_defs.specs.Accept.row_ok Rattle.plan_defs.specs.Accept.tablesFault Rattle.plan_defs.specs.Accept.caseFault lib.Ieee.add lib.Ieee.mul lib.Ieee.lt lib.Ieee.le lib.Ieee.eq lib.Ieee.neg lib.Ieee.of_bits lib.Ieee.round
+unfolding sound first tab buses_at number_at network_at numbered bits chosen header_of columns_of binary first_place place_for joins network_with Rattle.plan_defs.specs.Case.rows_of Rattle.plan_defs.specs.Case.row_at Rattle.plan_defs.specs.Accept.lengths_ok Rattle.plan_defs.specs.Accept.counts_ok Rattle.plan_defs.specs.Accept.level_ok Rattle.plan_defs.specs.Accept.bus_ok Rattle.plan_defs.specs.Accept.generator_ok Rattle.plan_defs.specs.Accept.corridor_sound Rattle.plan_defs.specs.Accept.row_ok Rattle.plan_defs.specs.Accept.tables_fault Rattle.plan_defs.specs.Accept.case_fault lib.Ieee.add lib.Ieee.mul lib.Ieee.lt lib.Ieee.le lib.Ieee.eq lib.Ieee.neg lib.Ieee.of_bits lib.Ieee.round
 all_sound = refl
 
 pub record Sound (i : ℕ) : Type 0 where

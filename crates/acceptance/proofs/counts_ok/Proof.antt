@@ -7,5 +7,5 @@ use Rattle.acceptance.proofs.counts_ok.Tie as tie
 returns : tie.Need-returns
 returns c = simp and_assoc
 
-pub counts-ok-spec : {M : Type 1} → statement M
-counts-ok-spec = tie.close (tie.spec returns)
+pub counts_ok_spec : {M : Type 1} → statement M
+counts_ok_spec = tie.close (tie.spec returns)

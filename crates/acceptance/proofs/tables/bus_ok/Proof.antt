@@ -7,11 +7,11 @@ use Rattle.acceptance.proofs.tables.bus_ok.Tie as tie
 wide-requires : tie.Need-wide-requires
 wide-requires c κs = search rules
 
-load-ok-requires : tie.Need-load-ok-requires
+load-ok-requires : tie.Need-load_ok-requires
 load-ok-requires c κs = search rules
 
 returns : tie.Need-returns
-returns c = rw (c.load_ok.ensures, c.before.wide.ensures)
+returns c = rw (c.load_ok.ensures, c.wide.ensures)
 
-pub bus-ok-spec : {M : Type 1} → statement M
-bus-ok-spec = tie.close (tie.spec wide-requires load-ok-requires returns)
+pub bus_ok_spec : {M : Type 1} → statement M
+bus_ok_spec = tie.close (tie.spec wide-requires load-ok-requires returns)

@@ -10,15 +10,11 @@ wide-requires c κs = search rules
 wide-requires-2 : tie.Need-wide-requires-2
 wide-requires-2 c κs = search rules
 
-ends-ok-requires : tie.Need-ends-ok-requires
+ends-ok-requires : tie.Need-ends_ok-requires
 ends-ok-requires c κs = search rules
 
 returns : tie.Need-returns
-returns c = rw (c.ends_ok.ensures, c.before.before.wide.ensures, c.before.wide2.ensures)
+returns c = rw (c.ends_ok.ensures, c.wide.ensures, c.wide-2.ensures)
 
-pub corridor-ok-spec : {M : Type 1} → statement M
-corridor-ok-spec = tie.close (tie.spec
-    wide-requires
-    wide-requires-2
-    ends-ok-requires
-    returns)
+pub corridor_ok_spec : {M : Type 1} → statement M
+corridor_ok_spec = tie.close (tie.spec wide-requires wide-requires-2 ends-ok-requires returns)

@@ -14,73 +14,58 @@ use Rattle.acceptance.proofs.Checks.{bus_is}
 use Rattle.acceptance.proofs.tables.faulty_bus.Statement.{statement}
 use Rattle.acceptance.proofs.tables.faulty_bus.Tie as tie
 
-abbrev invariant-loop : tie.invariant-loop
+abbrev invariant-loop : tie.invariant-loop-i
 invariant-loop requested tier reading weight i₀ i = (i ≤ length tier) × (first (bus_ok (buses_for requested tier reading weight)) (length tier - i) i ≡ first (bus_ok (buses_for requested tier reading weight)) (length tier) 0)
 
-abbrev decreases-loop : tie.decreases-loop
+abbrev decreases-loop : tie.decreases-loop-i
 decreases-loop requested tier reading weight i₀ i = length tier - i
 
-loop-holds : tie.Need-loop-init invariant-loop decreases-loop
+loop-holds : tie.Need-loop-i-init invariant-loop decreases-loop
 loop-holds c = (omega arith, first_start _ _)
 
-mul-bus-ok : tie.Need-overflow-mul-bus-ok invariant-loop decreases-loop
+mul-bus-ok : tie.Need-offset_bounds-tier-i invariant-loop decreases-loop
 mul-bus-ok c = search rules
 
-shared-slice-read-bus-ok : tie.Need-shared-slice-read-bus-ok invariant-loop decreases-loop
+shared-slice-read-bus-ok : tie.Need-bounds-tier-i invariant-loop decreases-loop
 shared-slice-read-bus-ok c = search rules
 
-mul-bus-ok-2 : tie.Need-overflow-mul-bus-ok-2 invariant-loop decreases-loop
+mul-bus-ok-2 : tie.Need-offset_bounds-reading-i invariant-loop decreases-loop
 mul-bus-ok-2 c = search rules
 
-shared-slice-read-bus-ok-2 : tie.Need-shared-slice-read-bus-ok-2 invariant-loop decreases-loop
+shared-slice-read-bus-ok-2 : tie.Need-bounds-reading-i invariant-loop decreases-loop
 shared-slice-read-bus-ok-2 c = search rules
 
-mul-bus-ok-3 : tie.Need-overflow-mul-bus-ok-3 invariant-loop decreases-loop
+mul-bus-ok-3 : tie.Need-offset_bounds-weight-i invariant-loop decreases-loop
 mul-bus-ok-3 c = search rules
 
-shared-slice-read-bus-ok-3 : tie.Need-shared-slice-read-bus-ok-3 invariant-loop decreases-loop
+shared-slice-read-bus-ok-3 : tie.Need-bounds-weight-i invariant-loop decreases-loop
 shared-slice-read-bus-ok-3 c = search rules
 
-bus-ok-requires : tie.Need-bus-ok-requires invariant-loop decreases-loop
+bus-ok-requires : tie.Need-bus_ok-requires invariant-loop decreases-loop
 bus-ok-requires c κs = search rules
 
-returns : tie.Need-returns invariant-loop decreases-loop
+returns : tie.Need-returns-then-not-bus_ok invariant-loop decreases-loop
 returns c =
-    let l = c.before.before.before.before.before.before in
-    let z = l.before.before.before.before.args in
-    sym (first_stop _ _ l.loop.i (omega arith) (sym (bus_is z.requested z.tier.now z.reading.now z.weight.now l.loop.i _ (omega arith) c.before.bus_ok_holds.ensures) ∙ not-true _ c.if1.true)) ∙ l.loop.invariant.1
+    let l = c in
+    let z = l.args in
+    sym (first_stop _ _ l.loop-i.i (omega arith) (sym (bus_is z.requested z.tier.now z.reading.now z.weight.now l.loop-i.i _ (omega arith) c.bus_ok.ensures) ∙ c.if-not-bus_ok.true)) ∙ l.loop-i.invariant.1
 
-add-i : tie.Need-overflow-add-i invariant-loop decreases-loop
+add-i : tie.Need-overflow_add-i invariant-loop decreases-loop
 add-i c = search rules
 
-loop-less : tie.Need-loop-smaller invariant-loop decreases-loop
+loop-less : tie.Need-loop-i-smaller invariant-loop decreases-loop
 loop-less c = search rules
 
-loop-again : tie.Need-loop-preserved invariant-loop decreases-loop
+loop-again : tie.Need-loop-i-preserved invariant-loop decreases-loop
 loop-again c =
-    let l = c.before.before.before.before.before.before in
-    let z = l.before.before.before.before.args in
-    (omega arith, sym (first_pass _ _ l.loop.i (omega arith) (sym (bus_is z.requested z.tier.now z.reading.now z.weight.now l.loop.i _ (omega arith) c.before.bus_ok_holds.ensures) ∙ not-false _ c.if1.false)) ∙ l.loop.invariant.1)
+    let l = c in
+    let z = l.args in
+    (omega arith, sym (first_pass _ _ l.loop-i.i (omega arith) (sym (bus_is z.requested z.tier.now z.reading.now z.weight.now l.loop-i.i _ (omega arith) c.bus_ok.ensures) ∙ c.if-not-bus_ok.false)) ∙ l.loop-i.invariant.1)
 
-returns-2 : tie.Need-returns-2 invariant-loop decreases-loop
-returns-2 c = sym (first_end _ _ c.before.loop.i (omega arith)) ∙ c.before.loop.invariant.1
+returns-2 : tie.Need-returns invariant-loop decreases-loop
+returns-2 c = sym (first_end _ _ c.loop-i.i (omega arith)) ∙ c.loop-i.invariant.1
 
-pub faulty-bus-spec : {M : Type 1} → statement M
-faulty-bus-spec =
+pub faulty_bus_spec : {M : Type 1} → statement M
+faulty_bus_spec =
     tie.close
-    (tie.spec
-    invariant-loop
-    decreases-loop
-    loop-holds
-    mul-bus-ok
-    shared-slice-read-bus-ok
-    mul-bus-ok-2
-    shared-slice-read-bus-ok-2
-    mul-bus-ok-3
-    shared-slice-read-bus-ok-3
-    bus-ok-requires
-    returns
-    add-i
-    loop-less
-    loop-again
-    returns-2)
+    (tie.spec invariant-loop decreases-loop loop-holds mul-bus-ok shared-slice-read-bus-ok mul-bus-ok-2 shared-slice-read-bus-ok-2 mul-bus-ok-3 shared-slice-read-bus-ok-3 bus-ok-requires returns add-i loop-less loop-again returns-2)

@@ -13,97 +13,76 @@ use Rattle.acceptance.specs.Check.{generators_for}
 use Rattle.acceptance.proofs.tables.faulty_generator.Statement.{statement}
 use Rattle.acceptance.proofs.tables.faulty_generator.Tie as tie
 
-abbrev invariant-loop : tie.invariant-loop
+abbrev invariant-loop : tie.invariant-loop-k
 invariant-loop n bus slack pmin pmax c1 c2 k₀ k = (k ≤ length bus) × (first (generator_ok (generators_for n bus slack pmin pmax c1 c2)) (length bus - k) k ≡ first (generator_ok (generators_for n bus slack pmin pmax c1 c2)) (length bus) 0)
 
-abbrev decreases-loop : tie.decreases-loop
+abbrev decreases-loop : tie.decreases-loop-k
 decreases-loop n bus slack pmin pmax c1 c2 k₀ k = length bus - k
 
-loop-holds : tie.Need-loop-init invariant-loop decreases-loop
+loop-holds : tie.Need-loop-k-init invariant-loop decreases-loop
 loop-holds c = (omega arith, first_start _ _)
 
-mul-generator-ok : tie.Need-overflow-mul-generator-ok invariant-loop decreases-loop
+mul-generator-ok : tie.Need-offset_bounds-bus-k invariant-loop decreases-loop
 mul-generator-ok c = search rules
 
-shared-slice-read-generator-ok : tie.Need-shared-slice-read-generator-ok invariant-loop decreases-loop
+shared-slice-read-generator-ok : tie.Need-bounds-bus-k invariant-loop decreases-loop
 shared-slice-read-generator-ok c = search rules
 
-mul-generator-ok-2 : tie.Need-overflow-mul-generator-ok-2 invariant-loop decreases-loop
+mul-generator-ok-2 : tie.Need-offset_bounds-slack-k invariant-loop decreases-loop
 mul-generator-ok-2 c = search rules
 
-shared-slice-read-generator-ok-2 : tie.Need-shared-slice-read-generator-ok-2 invariant-loop decreases-loop
+shared-slice-read-generator-ok-2 : tie.Need-bounds-slack-k invariant-loop decreases-loop
 shared-slice-read-generator-ok-2 c = search rules
 
-mul-generator-ok-3 : tie.Need-overflow-mul-generator-ok-3 invariant-loop decreases-loop
+mul-generator-ok-3 : tie.Need-offset_bounds-pmin-k invariant-loop decreases-loop
 mul-generator-ok-3 c = search rules
 
-shared-slice-read-generator-ok-3 : tie.Need-shared-slice-read-generator-ok-3 invariant-loop decreases-loop
+shared-slice-read-generator-ok-3 : tie.Need-bounds-pmin-k invariant-loop decreases-loop
 shared-slice-read-generator-ok-3 c = search rules
 
-mul-generator-ok-4 : tie.Need-overflow-mul-generator-ok-4 invariant-loop decreases-loop
+mul-generator-ok-4 : tie.Need-offset_bounds-pmax-k invariant-loop decreases-loop
 mul-generator-ok-4 c = search rules
 
-shared-slice-read-generator-ok-4 : tie.Need-shared-slice-read-generator-ok-4 invariant-loop decreases-loop
+shared-slice-read-generator-ok-4 : tie.Need-bounds-pmax-k invariant-loop decreases-loop
 shared-slice-read-generator-ok-4 c = search rules
 
-mul-generator-ok-5 : tie.Need-overflow-mul-generator-ok-5 invariant-loop decreases-loop
+mul-generator-ok-5 : tie.Need-offset_bounds-c1-k invariant-loop decreases-loop
 mul-generator-ok-5 c = search rules
 
-shared-slice-read-generator-ok-5 : tie.Need-shared-slice-read-generator-ok-5 invariant-loop decreases-loop
+shared-slice-read-generator-ok-5 : tie.Need-bounds-c1-k invariant-loop decreases-loop
 shared-slice-read-generator-ok-5 c = search rules
 
-mul-generator-ok-6 : tie.Need-overflow-mul-generator-ok-6 invariant-loop decreases-loop
+mul-generator-ok-6 : tie.Need-offset_bounds-c2-k invariant-loop decreases-loop
 mul-generator-ok-6 c = search rules
 
-shared-slice-read-generator-ok-6 : tie.Need-shared-slice-read-generator-ok-6 invariant-loop decreases-loop
+shared-slice-read-generator-ok-6 : tie.Need-bounds-c2-k invariant-loop decreases-loop
 shared-slice-read-generator-ok-6 c = search rules
 
-generator-ok-requires : tie.Need-generator-ok-requires invariant-loop decreases-loop
+generator-ok-requires : tie.Need-generator_ok-requires invariant-loop decreases-loop
 generator-ok-requires c κs = search rules
 
-returns : tie.Need-returns invariant-loop decreases-loop
+returns : tie.Need-returns-then-not-generator_ok invariant-loop decreases-loop
 unfolding generator_ok
 returns c =
-    let l = c.before.before.before.before.before.before.before.before.before in
-    sym (first_stop _ _ l.loop.k (omega arith) (sym c.before.generator_ok_holds.ensures ∙ not-true _ c.if1.true)) ∙ l.loop.invariant.1
+    let l = c in
+    sym (first_stop _ _ l.loop-k.k (omega arith) (sym c.generator_ok.ensures ∙ c.if-not-generator_ok.true)) ∙ l.loop-k.invariant.1
 
-add-k : tie.Need-overflow-add-k invariant-loop decreases-loop
+add-k : tie.Need-overflow_add-k invariant-loop decreases-loop
 add-k c = search rules
 
-loop-less : tie.Need-loop-smaller invariant-loop decreases-loop
+loop-less : tie.Need-loop-k-smaller invariant-loop decreases-loop
 loop-less c = search rules
 
-loop-again : tie.Need-loop-preserved invariant-loop decreases-loop
+loop-again : tie.Need-loop-k-preserved invariant-loop decreases-loop
 unfolding generator_ok
 loop-again c =
-    let l = c.before.before.before.before.before.before.before.before.before in
-    (omega arith, sym (first_pass _ _ l.loop.k (omega arith) (sym c.before.generator_ok_holds.ensures ∙ not-false _ c.if1.false)) ∙ l.loop.invariant.1)
+    let l = c in
+    (omega arith, sym (first_pass _ _ l.loop-k.k (omega arith) (sym c.generator_ok.ensures ∙ c.if-not-generator_ok.false)) ∙ l.loop-k.invariant.1)
 
-returns-2 : tie.Need-returns-2 invariant-loop decreases-loop
-returns-2 c = sym (first_end _ _ c.before.loop.k (omega arith)) ∙ c.before.loop.invariant.1
+returns-2 : tie.Need-returns invariant-loop decreases-loop
+returns-2 c = sym (first_end _ _ c.loop-k.k (omega arith)) ∙ c.loop-k.invariant.1
 
-pub faulty-generator-spec : {M : Type 1} → statement M
-faulty-generator-spec =
+pub faulty_generator_spec : {M : Type 1} → statement M
+faulty_generator_spec =
     tie.close
-    (tie.spec
-    invariant-loop
-    decreases-loop
-    loop-holds
-    mul-generator-ok
-    shared-slice-read-generator-ok
-    mul-generator-ok-2
-    shared-slice-read-generator-ok-2
-    mul-generator-ok-3
-    shared-slice-read-generator-ok-3
-    mul-generator-ok-4
-    shared-slice-read-generator-ok-4
-    mul-generator-ok-5
-    shared-slice-read-generator-ok-5
-    mul-generator-ok-6
-    shared-slice-read-generator-ok-6
-    generator-ok-requires
-    returns
-    add-k
-    loop-less
-    loop-again
-    returns-2)
+    (tie.spec invariant-loop decreases-loop loop-holds mul-generator-ok shared-slice-read-generator-ok mul-generator-ok-2 shared-slice-read-generator-ok-2 mul-generator-ok-3 shared-slice-read-generator-ok-3 mul-generator-ok-4 shared-slice-read-generator-ok-4 mul-generator-ok-5 shared-slice-read-generator-ok-5 mul-generator-ok-6 shared-slice-read-generator-ok-6 generator-ok-requires returns add-k loop-less loop-again returns-2)

@@ -13,47 +13,38 @@ use Rattle.acceptance.specs.Check.{ladder_for}
 use Rattle.acceptance.proofs.tables.faulty_level.Statement.{statement}
 use Rattle.acceptance.proofs.tables.faulty_level.Tie as tie
 
-abbrev invariant-loop : tie.invariant-loop
+abbrev invariant-loop : tie.invariant-loop-i
 invariant-loop ladder i₀ i = (i ≤ length ladder) × (first (level_ok (ladder_for ladder)) (length ladder - i) i ≡ first (level_ok (ladder_for ladder)) (length ladder) 0)
 
-abbrev decreases-loop : tie.decreases-loop
+abbrev decreases-loop : tie.decreases-loop-i
 decreases-loop ladder i₀ i = length ladder - i
 
-loop-holds : tie.Need-loop-init invariant-loop decreases-loop
+loop-holds : tie.Need-loop-i-init invariant-loop decreases-loop
 loop-holds c = (omega arith, first_start _ _)
 
-level-ok-requires : tie.Need-level-ok-requires invariant-loop decreases-loop
+level-ok-requires : tie.Need-level_ok-requires invariant-loop decreases-loop
 level-ok-requires c κs = search rules
 
-returns : tie.Need-returns invariant-loop decreases-loop
+returns : tie.Need-returns-then-not-level_ok invariant-loop decreases-loop
 returns c =
-    let l = c.before.before.before in
-    sym (first_stop _ _ l.loop.i (omega arith) (sym c.before.level_ok_holds.ensures ∙ not-true _ c.if1.true)) ∙ l.loop.invariant.1
+    let l = c in
+    sym (first_stop _ _ l.loop-i.i (omega arith) (sym c.level_ok.ensures ∙ c.if-not-level_ok.true)) ∙ l.loop-i.invariant.1
 
-add-i : tie.Need-overflow-add-i invariant-loop decreases-loop
+add-i : tie.Need-overflow_add-i invariant-loop decreases-loop
 add-i c = search rules
 
-loop-less : tie.Need-loop-smaller invariant-loop decreases-loop
+loop-less : tie.Need-loop-i-smaller invariant-loop decreases-loop
 loop-less c = search rules
 
-loop-again : tie.Need-loop-preserved invariant-loop decreases-loop
+loop-again : tie.Need-loop-i-preserved invariant-loop decreases-loop
 loop-again c =
-    let l = c.before.before.before in
-    (omega arith, sym (first_pass _ _ l.loop.i (omega arith) (sym c.before.level_ok_holds.ensures ∙ not-false _ c.if1.false)) ∙ l.loop.invariant.1)
+    let l = c in
+    (omega arith, sym (first_pass _ _ l.loop-i.i (omega arith) (sym c.level_ok.ensures ∙ c.if-not-level_ok.false)) ∙ l.loop-i.invariant.1)
 
-returns-2 : tie.Need-returns-2 invariant-loop decreases-loop
-returns-2 c = sym (first_end _ _ c.before.loop.i (omega arith)) ∙ c.before.loop.invariant.1
+returns-2 : tie.Need-returns invariant-loop decreases-loop
+returns-2 c = sym (first_end _ _ c.loop-i.i (omega arith)) ∙ c.loop-i.invariant.1
 
-pub faulty-level-spec : {M : Type 1} → statement M
-faulty-level-spec =
+pub faulty_level_spec : {M : Type 1} → statement M
+faulty_level_spec =
     tie.close
-    (tie.spec
-    invariant-loop
-    decreases-loop
-    loop-holds
-    level-ok-requires
-    returns
-    add-i
-    loop-less
-    loop-again
-    returns-2)
+    (tie.spec invariant-loop decreases-loop loop-holds level-ok-requires returns add-i loop-less loop-again returns-2)

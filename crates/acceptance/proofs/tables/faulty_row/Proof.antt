@@ -13,53 +13,43 @@ use Rattle.acceptance.proofs.Checks.{few_rows}
 use Rattle.acceptance.proofs.tables.faulty_row.Statement.{statement}
 use Rattle.acceptance.proofs.tables.faulty_row.Tie as tie
 
-abbrev invariant-loop : tie.invariant-loop
+abbrev invariant-loop : tie.invariant-loop-i
 invariant-loop m levels sheet rows i₀ i = (i ≤ m * levels) × (first (row_ok (sheet_for m levels sheet)) (m * levels - i) i ≡ first (row_ok (sheet_for m levels sheet)) (m * levels) 0) × (rows ≡ m * levels)
 
-abbrev decreases-loop : tie.decreases-loop
+abbrev decreases-loop : tie.decreases-loop-i
 decreases-loop m levels sheet rows i₀ i = m * levels - i
 
-mul-rows : tie.Need-overflow-mul-rows invariant-loop decreases-loop
+mul-rows : tie.Need-overflow_mul-rows invariant-loop decreases-loop
 mul-rows c =
-    let s = c.before in
+    let s = c in
     record { fits = omega (arith, few_rows s.args.m s.args.levels s.args.sheet.now s.requires) }
 
-loop-holds : tie.Need-loop-init invariant-loop decreases-loop
+loop-holds : tie.Need-loop-i-init invariant-loop decreases-loop
 loop-holds c = (omega arith, first_start _ _, refl)
 
-row-ok-at-requires : tie.Need-row-ok-at-requires invariant-loop decreases-loop
+row-ok-at-requires : tie.Need-row_ok_at-requires invariant-loop decreases-loop
 row-ok-at-requires c κs = search rules
 
-returns : tie.Need-returns invariant-loop decreases-loop
+returns : tie.Need-returns-then-not-row_ok_at invariant-loop decreases-loop
 returns c =
-    let l = c.before.before.before in
-    sym (first_stop _ _ l.loop.i (omega arith) (sym c.before.row-ok-at.ensures ∙ not-true _ c.if1.true)) ∙ l.loop.invariant.1
+    let l = c in
+    sym (first_stop _ _ l.loop-i.i (omega arith) (sym c.row_ok_at.ensures ∙ c.if-not-row_ok_at.true)) ∙ l.loop-i.invariant.1
 
-add-i : tie.Need-overflow-add-i invariant-loop decreases-loop
+add-i : tie.Need-overflow_add-i invariant-loop decreases-loop
 add-i c = search rules
 
-loop-less : tie.Need-loop-smaller invariant-loop decreases-loop
+loop-less : tie.Need-loop-i-smaller invariant-loop decreases-loop
 loop-less c = search rules
 
-loop-again : tie.Need-loop-preserved invariant-loop decreases-loop
+loop-again : tie.Need-loop-i-preserved invariant-loop decreases-loop
 loop-again c =
-    let l = c.before.before.before in
-    (omega arith, sym (first_pass _ _ l.loop.i (omega arith) (sym c.before.row-ok-at.ensures ∙ not-false _ c.if1.false)) ∙ l.loop.invariant.1, l.loop.invariant.2)
+    let l = c in
+    (omega arith, sym (first_pass _ _ l.loop-i.i (omega arith) (sym c.row_ok_at.ensures ∙ c.if-not-row_ok_at.false)) ∙ l.loop-i.invariant.1, l.loop-i.invariant.2)
 
-returns-2 : tie.Need-returns-2 invariant-loop decreases-loop
-returns-2 c = sym (first_end _ _ c.before.loop.i (omega arith)) ∙ c.before.loop.invariant.1
+returns-2 : tie.Need-returns invariant-loop decreases-loop
+returns-2 c = sym (first_end _ _ c.loop-i.i (omega arith)) ∙ c.loop-i.invariant.1
 
-pub faulty-row-spec : {M : Type 1} → statement M
-faulty-row-spec =
+pub faulty_row_spec : {M : Type 1} → statement M
+faulty_row_spec =
     tie.close
-    (tie.spec
-    invariant-loop
-    decreases-loop
-    mul-rows
-    loop-holds
-    row-ok-at-requires
-    returns
-    add-i
-    loop-less
-    loop-again
-    returns-2)
+    (tie.spec invariant-loop decreases-loop mul-rows loop-holds row-ok-at-requires returns add-i loop-less loop-again returns-2)

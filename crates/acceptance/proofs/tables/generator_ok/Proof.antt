@@ -7,11 +7,11 @@ use Rattle.acceptance.proofs.tables.generator_ok.Tie as tie
 wide-requires : tie.Need-wide-requires
 wide-requires c κs = search rules
 
-unit-ok-requires : tie.Need-unit-ok-requires
+unit-ok-requires : tie.Need-unit_ok-requires
 unit-ok-requires c κs = search rules
 
 returns : tie.Need-returns
-returns c = rw (c.before.wide.ensures, c.unit_ok_holds.ensures)
+returns c = rw (c.wide.ensures, c.unit_ok.ensures)
 
-pub generator-ok-spec : {M : Type 1} → statement M
-generator-ok-spec = tie.close (tie.spec wide-requires unit-ok-requires returns)
+pub generator_ok_spec : {M : Type 1} → statement M
+generator_ok_spec = tie.close (tie.spec wide-requires unit-ok-requires returns)

@@ -2,7 +2,7 @@
 -- The tests are those of the definition, in its order.
 use borrow.Author.Rules.{rules}
 use Rattle.dispatch.proofs.unit.unit_ok.Statement.{statement}
-use Rattle.dispatch.proofs.unit.unit_ok_holds.Tie as tie
+use Rattle.dispatch.proofs.unit.unit_ok.Tie as tie
 
 infinity-requires : tie.Need-infinity-requires
 infinity-requires c κs = search rules

@@ -14,7 +14,7 @@ mod steps;
 mod vectors;
 
 // What the checks say of a request.
-#[derive(Drop)]
+#[derive(Clone, Copy)]
 enum Verdict {
     Sound,
     Faulty(Refusal),

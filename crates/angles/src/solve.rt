@@ -17,7 +17,7 @@ use angles_defs::{Ended, Solution};
 const SETTLED_SHARE: f64 = 1e-11;
 
 // What one iteration hands to the next: r · z, r · r, and how often x was moved.
-#[derive(Drop)]
+#[derive(Clone, Copy)]
 struct Carried {
     rz: f64,
     rr: f64,
@@ -25,14 +25,14 @@ struct Carried {
 }
 
 // What an iteration comes to.
-#[derive(Drop)]
+#[derive(Clone, Copy)]
 enum Iteration {
     Ends(Solution),
     Continues(Carried),
 }
 
 // A residual against the bound, with its norm where it is within.
-#[derive(Drop)]
+#[derive(Clone, Copy)]
 enum Judgement {
     Within(f64),
     Beyond,

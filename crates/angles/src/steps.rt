@@ -68,7 +68,7 @@ pub fn residual(w: &mut [f64], n: usize) -> f64
 }
 
 // The sums that end an iteration: r · r and r · z.
-#[derive(Drop)]
+#[derive(Clone, Copy)]
 pub struct Sums {
     pub rr: f64,
     pub rz: f64,

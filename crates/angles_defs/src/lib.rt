@@ -2,7 +2,7 @@
 use refusal::Refusal;
 
 // How a solve ended, with its last figure.
-#[derive(Drop)]
+#[derive(Clone, Copy)]
 pub enum Ended {
     // The norm of the residual is at most 1e-11 of the right side's: that norm.
     Settled(f64),
@@ -13,14 +13,14 @@ pub enum Ended {
 }
 
 // How often x was moved, and how the solve ended.
-#[derive(Drop)]
+#[derive(Clone, Copy)]
 pub struct Solution {
     pub steps: usize,
     pub ended: Ended,
 }
 
 // The answer of `dc_angles`; the angles themselves are in the slice that it is lent.
-#[derive(Drop)]
+#[derive(Clone, Copy)]
 pub enum Angles {
     Answered(Solution),
     Refused(Refusal),

@@ -6,7 +6,7 @@ use crate::text::{Reading, bits, complete, count, figure, start};
 use refusal::Answer;
 
 // A unit that was read, and how far the line is read then.
-#[derive(Drop)]
+#[derive(Clone, Copy)]
 struct UnitReading {
     pmin: f64,
     pmax: f64,

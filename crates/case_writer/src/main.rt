@@ -14,7 +14,7 @@ const MOST_FILE: usize = 60_609;
 const MOST_DIGITS: usize = 16;
 
 // What was put into a buffer: so many bytes, or nothing.
-#[derive(Drop)]
+#[derive(Clone, Copy)]
 pub enum Written {
     Bytes(usize),
     Refused(Refusal),
@@ -30,7 +30,7 @@ fn print_refusal(f: Refusal) {
 }
 
 // The place that was asked for, where the input is a number.
-#[derive(Drop)]
+#[derive(Clone, Copy)]
 enum Wanted {
     Place(usize),
     Nothing,

@@ -19,7 +19,7 @@ pub const ROW_FIGURES: usize = 5;
 pub const MOST_SHEET: usize = MOST_CORRIDORS * MOST_LEVELS * ROW_FIGURES;
 
 // A case's mode, target and counts.
-#[derive(Drop)]
+#[derive(Clone, Copy)]
 pub struct Header {
     pub mode: PlanMode,
     pub target: u32,
@@ -31,21 +31,21 @@ pub struct Header {
 }
 
 // What case reading answers.
-#[derive(Drop)]
+#[derive(Clone, Copy)]
 pub enum Reading {
     Read(Header),
     Refused(Refusal),
 }
 
 // A reading, and how many words of eight bytes and single bytes were looked at after the last record (none where it was refused before).
-#[derive(Drop)]
+#[derive(Clone, Copy)]
 pub struct CaseRead {
     pub reading: Reading,
     pub looks: usize,
 }
 
 // The kinds of record, in the file's order; the last two may stand for a corridor and for a bus.
-#[derive(Drop)]
+#[derive(Clone, Copy)]
 pub enum Kind {
     Head,
     Level,
@@ -58,7 +58,7 @@ pub enum Kind {
 }
 
 // The buses that a file may have: of the first one's kind, or only BU, or only BV.
-#[derive(Drop)]
+#[derive(Clone, Copy)]
 pub enum Wanted {
     Either,
     Plain,
@@ -66,14 +66,14 @@ pub enum Wanted {
 }
 
 // A walk over the records: the next record's place, or the first fault.
-#[derive(Drop)]
+#[derive(Clone, Copy)]
 pub enum Walk {
     At(usize),
     Fault(Refusal),
 }
 
 // How far a test of the trailing bytes came: the place of the next byte, and the words or bytes looked at.
-#[derive(Drop)]
+#[derive(Clone, Copy)]
 pub struct Looked {
     pub at: usize,
     pub looks: usize,

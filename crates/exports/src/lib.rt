@@ -14,7 +14,7 @@ ghost use Rattle.exports.specs.Said.{angles_said, case_said, answer_said, placem
 
 // The answer of `dc_angles`. A field that has nothing to say is 0.
 #[repr(C)]
-#[derive(Drop)]
+#[derive(Clone, Copy)]
 pub struct AnglesSaid {
     // Document 01's number and index of the refusal; 0 where the request is answered.
     pub refusal: u32,
@@ -28,7 +28,7 @@ pub struct AnglesSaid {
 
 // The answer of `read_case`. A field that has nothing to say is 0.
 #[repr(C)]
-#[derive(Drop)]
+#[derive(Clone, Copy)]
 pub struct ReadingSaid {
     // Document 01's number and index of the refusal; 0 where the file is read.
     pub refusal: u32,
@@ -47,7 +47,7 @@ pub struct ReadingSaid {
 
 // The answer of an operation that leaves its results in a slice: the documents' number and index of the refusal; 0 where it is answered.
 #[repr(C)]
-#[derive(Drop)]
+#[derive(Clone, Copy)]
 pub struct AnswerSaid {
     pub refusal: u32,
     pub index: usize,
@@ -56,7 +56,7 @@ pub struct AnswerSaid {
 // The answer of `place_voltage_support`: document 01's number and index of the refusal, 0 where it is answered, and then the count of
 // condensers.
 #[repr(C)]
-#[derive(Drop)]
+#[derive(Clone, Copy)]
 pub struct PlacementSaid {
     pub refusal: u32,
     pub index: usize,

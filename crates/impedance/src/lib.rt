@@ -6,13 +6,13 @@ ghost use Rattle.impedance.specs.Impedance.{by_class, reactance, impedance_of, r
 use refusal::Refusal;
 
 // Resistance and reactance, per unit on 100 MVA.
-#[derive(Drop)]
+#[derive(Clone, Copy)]
 pub struct SeriesImpedance {
     pub r: f64,
     pub x: f64,
 }
 
-#[derive(Drop)]
+#[derive(Clone, Copy)]
 pub enum TransformerImpedance {
     Answered(SeriesImpedance),
     Refused(Refusal),

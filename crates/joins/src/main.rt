@@ -15,7 +15,7 @@ const MOST_FILE: usize = 60_609;
 const MOST_SECOND: usize = MOST_BYTES + 1;
 
 // What was put into a buffer: so many bytes, or nothing.
-#[derive(Drop)]
+#[derive(Clone, Copy)]
 pub enum Written {
     Bytes(usize),
     Refused(Refusal),

@@ -19,7 +19,7 @@ const DIGITS: u64 = 24;
 
 // The digits of one length, as they are worked out: what is left, in units, and the digits so far and 1. `reach` is far / near in
 // units, and `part` near / far in steps of 2^-64, each the next whole number.
-#[derive(Drop)]
+#[derive(Clone, Copy)]
 pub struct Lane {
     pub near: u64,
     pub far: u64,

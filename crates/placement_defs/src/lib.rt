@@ -2,14 +2,14 @@
 use refusal::Refusal;
 
 // How many condensers were placed, or why none could be looked for.
-#[derive(Drop)]
+#[derive(Clone, Copy)]
 pub enum Placement {
     Placed(usize),
     Refused(Refusal),
 }
 
 // What the checks say of a request.
-#[derive(Drop)]
+#[derive(Clone, Copy)]
 pub enum Verdict {
     Sound,
     Faulty(Refusal),

@@ -2,7 +2,7 @@
 use refusal::Refusal;
 
 // Where a circuit's rating comes from.
-#[derive(Drop)]
+#[derive(Clone, Copy)]
 pub enum RatingBasis {
     // The conductor's thermal limit.
     Thermal,
@@ -13,7 +13,7 @@ pub enum RatingBasis {
 }
 
 // The electrical design of one circuit of a corridor, after the Rust's struct.
-#[derive(Drop)]
+#[derive(Clone, Copy)]
 pub struct CircuitDesign {
     // The higher end, and the other one.
     pub from: usize,
@@ -41,7 +41,7 @@ pub struct CircuitDesign {
 }
 
 // Where a bus is to go.
-#[derive(Drop)]
+#[derive(Clone, Copy)]
 pub enum Raise {
     Stay,
     // To this level of the ladder, the highest being 0.
@@ -49,7 +49,7 @@ pub enum Raise {
 }
 
 // What a sizing round leads to.
-#[derive(Drop)]
+#[derive(Clone, Copy)]
 pub enum RoundEnd {
     Again,
     Settled,
@@ -57,7 +57,7 @@ pub enum RoundEnd {
 
 // What planning says of a plan; the rest of it is in the slices that planning is lent. Document 01's PL and MX, and how many
 // grounds and added levels there are.
-#[derive(Drop)]
+#[derive(Clone, Copy)]
 pub struct CorridorPlan {
     pub rounds: u32,
     pub converged: bool,
@@ -78,7 +78,7 @@ pub struct CorridorPlan {
     pub added: u32,
 }
 
-#[derive(Drop)]
+#[derive(Clone, Copy)]
 pub enum Planned {
     Answered(CorridorPlan),
     Refused(Refusal),

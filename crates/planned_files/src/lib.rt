@@ -21,7 +21,7 @@ const WORK_ROWS: usize = 12;
 const MOST_WORK: usize = WORK_ROWS * (MOST_BUSES + MOST_CORRIDORS + MOST_GENERATORS);
 
 // A file's header, what planning says, and its results in the first places of each array. A file that reading refuses has no records.
-#[derive(Drop)]
+#[derive(Clone, Copy)]
 pub struct PlannedFile {
     pub header: Header,
     pub planned: Planned,

@@ -25,7 +25,7 @@ use plan_defs::Planned;
 const LOADING_TOLERANCE: f64 = 1e-9;
 
 // The closing figures.
-#[derive(Drop)]
+#[derive(Clone, Copy)]
 pub struct Closing {
     pub upsized: u32,
     pub overloaded: u32,

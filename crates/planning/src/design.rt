@@ -124,7 +124,7 @@ pub fn banked_if(bank: bool, d: CircuitDesign, mva: f64) -> CircuitDesign
 }
 
 // ---- a corridor's ends at the buses' levels
-#[derive(Drop)]
+#[derive(Clone, Copy)]
 pub struct Ends {
     // The one with the higher kV, a on a tie, and the other one.
     pub from: usize,

@@ -175,7 +175,7 @@ pub fn fill_order(
 
 // ---- what a plan keeps of filling
 // At the front of the two, the circuits before filling and the order.
-#[derive(Drop)]
+#[derive(Clone, Copy)]
 pub struct Kept {
     pub before: [u32; 256],
     pub order: [u32; 256],
@@ -230,7 +230,7 @@ pub fn total(circuits: &[u32]) -> u32
 }
 
 // Circuits in all, and how many of them filling added.
-#[derive(Drop)]
+#[derive(Clone, Copy)]
 pub struct Filling {
     pub total: u32,
     pub filler: u32,

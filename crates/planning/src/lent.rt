@@ -6,7 +6,7 @@ ghost use Rattle.planning.specs.Lent.{work_in, places_ok};
 const WORK_ROWS: usize = 12;
 
 // How many places the lent slices have.
-#[derive(Drop)]
+#[derive(Clone, Copy)]
 pub struct Places {
     pub circuits: usize,
     pub flow: usize,

@@ -22,7 +22,7 @@ use refusal::{Answer, Refusal};
 const PLANNING_MAX_ROUNDS: u32 = 64;
 
 // How many grounds there are; or refusal 8.
-#[derive(Drop)]
+#[derive(Clone, Copy)]
 pub enum Opening {
     Refused(Refusal),
     Opened(usize),
@@ -138,7 +138,7 @@ fn run_rounds(
 
 // ---- the stages joined
 // What planning says, with what the plan keeps of filling.
-#[derive(Drop)]
+#[derive(Clone, Copy)]
 pub struct PlanRun {
     pub said: Planned,
     pub kept: Kept,

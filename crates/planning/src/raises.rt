@@ -17,7 +17,7 @@ use plan_defs::CircuitDesign;
 use refusal::{Answer, Refusal};
 
 // How many buses were raised; or refusal 9.
-#[derive(Drop)]
+#[derive(Clone, Copy)]
 pub enum Raised {
     Refused(Refusal),
     Promoted(u32),

@@ -16,7 +16,7 @@ use mode::PlanMode;
 use refusal::{Answer, Refusal};
 
 // How far the rounds have come.
-#[derive(Drop)]
+#[derive(Clone, Copy)]
 pub struct Progress {
     // Rounds run.
     pub rounds: u32,
@@ -31,7 +31,7 @@ pub struct Progress {
 }
 
 // How they ended.
-#[derive(Drop)]
+#[derive(Clone, Copy)]
 pub enum Rounds {
     Refused(Refusal),
     Ran(Progress),

@@ -16,20 +16,20 @@ use mode::PlanMode;
 use refusal::{Answer, Refusal};
 
 // The circuits that filling added, and the closing figures.
-#[derive(Drop)]
+#[derive(Clone, Copy)]
 pub struct Settlement {
     pub filler: u32,
     pub closing: Closing,
 }
 
-#[derive(Drop)]
+#[derive(Clone, Copy)]
 pub enum Settled {
     Refused(Refusal),
     Closed(Settlement),
 }
 
 // With what the plan keeps of filling.
-#[derive(Drop)]
+#[derive(Clone, Copy)]
 pub struct Settling {
     pub settled: Settled,
     pub kept: Kept,

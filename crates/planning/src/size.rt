@@ -24,7 +24,7 @@ const TRANSFORMER_SIZE_STEP_MVA: f64 = 50.0;
 pub const UPGRADE_CIRCUITS: u32 = 2;
 
 // What sizing adds up.
-#[derive(Drop)]
+#[derive(Clone, Copy)]
 pub struct Tally {
     // Circuits added in the rounds so far.
     pub capacity: u32,

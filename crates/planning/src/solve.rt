@@ -29,7 +29,7 @@ pub fn susceptance(d: CircuitDesign) -> f64
 }
 
 // Edge k is of corridor k, at the front of the three.
-#[derive(Drop)]
+#[derive(Clone, Copy)]
 pub struct Edges {
     pub from: [u32; 256],
     pub to: [u32; 256],

@@ -37,7 +37,7 @@ const STIFFENING_ROUNDS: u32 = 48;
 const MAX_ANGLE_SPREAD_RAD: f64 = 0.775397496610753;
 
 // The budgets of stiffening.
-#[derive(Drop)]
+#[derive(Clone, Copy)]
 pub struct Limits {
     // Buses at or above `top`, circuits in all, and the highest level to raise to.
     pub hv: usize,
@@ -46,7 +46,7 @@ pub struct Limits {
 }
 
 // What stiffening adds up.
-#[derive(Drop)]
+#[derive(Clone, Copy)]
 pub struct Stiffness {
     // Circuits in all; buses at or above the top, an end again for each corridor that marks it; circuits that stiffening added so far.
     pub total: u32,
@@ -58,7 +58,7 @@ pub struct Stiffness {
 }
 
 // How a component ended.
-#[derive(Drop)]
+#[derive(Clone, Copy)]
 pub enum Stiffened {
     Refused(Refusal),
     Going(Stiffness),

@@ -12,7 +12,7 @@ use planning::preview_filling;
 use refusal::Answer;
 
 // What the plan of a case file keeps of filling, in the first places of each array.
-#[derive(Drop)]
+#[derive(Clone, Copy)]
 pub struct Draft {
     pub said: Answer,
     pub mode: PlanMode,
@@ -55,7 +55,7 @@ pub fn draft_file(file: &[u8]) -> Draft
 }
 
 // What is said of a target, and the circuits that filling to it would give, in the first places.
-#[derive(Drop)]
+#[derive(Clone, Copy)]
 pub struct Filling {
     pub said: Answer,
     pub circuits: [u32; MOST_CORRIDORS],

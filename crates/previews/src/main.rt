@@ -19,7 +19,7 @@ const MOST_FILE: usize = MOST_BYTES + 1;
 
 // ---- reading
 // A number that was read, and whether it was there whole.
-#[derive(Drop)]
+#[derive(Clone, Copy)]
 struct Number {
     value: u32,
     there: bool,

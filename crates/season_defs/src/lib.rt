@@ -7,7 +7,7 @@ pub const MOST_PLANS: u32 = 4_096;
 pub const MOST_CORRIDORS: usize = 256;
 
 // What is kept of the plans taken; place k of an array is of corridor k.
-#[derive(Drop)]
+#[derive(Clone, Copy)]
 pub struct Season {
     pub taken: u32,
     // Of each plan taken.
@@ -22,21 +22,21 @@ pub struct Season {
 }
 
 // What is said of a plan that was fed, and the season then.
-#[derive(Drop)]
+#[derive(Clone, Copy)]
 pub struct Fed {
     pub said: Answer,
     pub season: Season,
 }
 
 // A fraction of two whole numbers.
-#[derive(Drop)]
+#[derive(Clone, Copy)]
 pub struct Ratio {
     pub over: u64,
     pub under: u64,
 }
 
 // Of one corridor index.
-#[derive(Drop)]
+#[derive(Clone, Copy)]
 pub struct CorridorFigures {
     pub least: u32,
     pub greatest: u32,
@@ -44,7 +44,7 @@ pub struct CorridorFigures {
 }
 
 // Over all plans: how many there are, their mean rounds, and the share that converged.
-#[derive(Drop)]
+#[derive(Clone, Copy)]
 pub struct SeasonFigures {
     pub plans: u32,
     pub rounds: Ratio,

@@ -22,7 +22,7 @@ fn print_refusal(place: u64, f: Refusal) {
 }
 
 // The season after a file, and whether there may be more.
-#[derive(Drop)]
+#[derive(Clone, Copy)]
 struct Turn {
     season: Season,
     more: bool,

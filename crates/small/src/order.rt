@@ -8,7 +8,7 @@ const FIRST_OF_TWO: usize = 2;
 const FIRST_OF_THREE: usize = 10;
 
 // A network: its buses, and which pairs have a corridor and which buses a load, as binary numbers.
-#[derive(Drop)]
+#[derive(Clone, Copy)]
 pub struct Shape {
     pub buses: usize,
     pub corridors: usize,

@@ -22,7 +22,7 @@ const NO_SLICE: usize = 99;
 
 // The slice that has not its length, by its place among the operation's slices from 0, and whether it is one place too long
 // or too short.
-#[derive(Drop)]
+#[derive(Clone, Copy)]
 pub struct Wrong {
     pub slice: usize,
     pub long: bool,

@@ -9,23 +9,23 @@ use Rattle.season.proofs.add_plan.Tie as tie
 check-requires : tie.Need-check-requires
 check-requires c κs = search rules
 
-enum-known-f : tie.Need-enum-known-f
+enum-known-f : tie.Need-enum_known-f
 enum-known-f c = search rules
 
-enum_told : tie.Need-enum-told
+enum_told : tie.Need-enum_told-1
 enum_told c = search rules
 
-with-plan-requires : tie.Need-with-plan-requires
+with-plan-requires : tie.Need-with_plan-requires
 with-plan-requires c κs =
-    let p = passed _ _ _ (sym c.before.before.check.ensures ∙ c.enum_told.given.1) in
+    let p = passed _ _ _ (sym c.check.ensures ∙ c.in-Answered.is) in
     (p.room, omega (arith, p.size, p.few))
 
-returns : tie.Need-returns
-returns c = sym (fed_refused _ _ _ (sym c.before.before.before.check.ensures ∙ c.before.f.given.1))
+returns : tie.Need-returns-in-Refused
+returns c = sym (fed_refused _ _ _ (sym c.check.ensures ∙ c.in-Refused.is))
 
-returns-2 : tie.Need-returns-2
-returns-2 c = ap (outcome Answered) c.with-plan.ensures ∙ sym (fed_taken _ _ (sym c.before.before.before.check.ensures ∙ c.before.enum_told.given.1))
+returns-2 : tie.Need-returns-in-Answered
+returns-2 c = ap (outcome Answered) c.with_plan.ensures ∙ sym (fed_taken _ _ (sym c.check.ensures ∙ c.in-Answered.is))
 
-pub add-plan-spec : {M : Type 1} → statement M
-add-plan-spec =
+pub add_plan_spec : {M : Type 1} → statement M
+add_plan_spec =
     tie.close (tie.spec check-requires enum-known-f enum_told with-plan-requires returns returns-2)

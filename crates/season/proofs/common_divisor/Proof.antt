@@ -5,26 +5,26 @@ use Rattle.season_defs.proofs.Euclid.{turned, ended}
 use Rattle.season.proofs.common_divisor.Statement.{statement}
 use Rattle.season.proofs.common_divisor.Tie as tie
 
-abbrev invariant-loop : tie.invariant-loop
+abbrev invariant-loop : tie.invariant-loop-y
 invariant-loop a b x₀ y₀ x y = divisor x y ≡ divisor a b
 
-abbrev decreases-loop : tie.decreases-loop
+abbrev decreases-loop : tie.decreases-loop-y
 decreases-loop a b x₀ y₀ x y = y
 
-loop-holds : tie.Need-loop-init invariant-loop decreases-loop
+loop-holds : tie.Need-loop-y-init invariant-loop decreases-loop
 loop-holds c = refl
 
-rem-rest : tie.Need-nonzero-rem-rest invariant-loop decreases-loop
+rem-rest : tie.Need-nonzero_rem-rest invariant-loop decreases-loop
 rem-rest c = omega arith
 
-loop-less : tie.Need-loop-smaller invariant-loop decreases-loop
-loop-less c = mod-lt c.before.loop.x c.loop-test.true
+loop-less : tie.Need-loop-y-smaller invariant-loop decreases-loop
+loop-less c = mod-lt c.loop-y.x c.loop-y-test.true
 
-loop-again : tie.Need-loop-preserved invariant-loop decreases-loop
-loop-again c = turned c.before.loop.x c.before.loop.y c.loop-test.true ∙ c.before.loop.invariant
+loop-again : tie.Need-loop-y-preserved invariant-loop decreases-loop
+loop-again c = turned c.loop-y.x c.loop-y.y c.loop-y-test.true ∙ c.loop-y.invariant
 
 returns : tie.Need-returns invariant-loop decreases-loop
-returns c = ended c.before.loop.x c.before.loop.y (omega arith) ∙ c.before.loop.invariant
+returns c = ended c.loop-y.x c.loop-y.y (omega arith) ∙ c.loop-y.invariant
 
-pub common-divisor-spec : {M : Type 1} → statement M
-common-divisor-spec = tie.close (tie.spec invariant-loop decreases-loop loop-holds rem-rest loop-less loop-again returns)
+pub common_divisor_spec : {M : Type 1} → statement M
+common_divisor_spec = tie.close (tie.spec invariant-loop decreases-loop loop-holds rem-rest loop-less loop-again returns)

@@ -21,7 +21,7 @@ pub const ROW_FIGURES: usize = 5;
 pub const MOST_SHEET: usize = MOST_CORRIDORS * MOST_LEVELS * ROW_FIGURES;
 
 // A case's mode, target and counts.
-#[derive(Drop)]
+#[derive(Clone, Copy)]
 pub struct Header {
     pub mode: PlanMode,
     pub target: u32,
@@ -47,7 +47,7 @@ pub struct CaseRead {
 }
 
 // The kinds of record, in the file's order; the last two may stand for a corridor and for a bus.
-#[derive(Drop)]
+#[derive(Clone, Copy)]
 pub enum Kind {
     Head,
     Level,
@@ -68,7 +68,7 @@ pub enum Wanted {
 }
 
 // A walk over the records: the next record's place, or the first fault.
-#[derive(Drop)]
+#[derive(Clone, Copy)]
 pub enum Walk {
     At(usize),
     Fault(Refusal),

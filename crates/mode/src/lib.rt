@@ -2,7 +2,7 @@
 ghost use Rattle.std.specs.Prelude.{◌≡◌};
 ghost use Rattle.mode.specs.Number.{mode_number};
 
-#[derive(Drop)]
+#[derive(Clone, Copy)]
 pub enum PlanMode {
     // Choose voltage levels and circuits.
     Expand,

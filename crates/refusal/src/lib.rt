@@ -3,7 +3,7 @@ ghost use Rattle.std.specs.Prelude.{◌≡◌};
 ghost use Rattle.refusal.specs.Number.{number_of, index_of};
 
 // What is wrong with a request. A number is the lowest faulty index.
-#[derive(Drop)]
+#[derive(Clone, Copy)]
 pub enum Refusal {
     // A slice has not its length.
     Length,

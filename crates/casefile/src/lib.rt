@@ -1,4 +1,6 @@
 // Case reading: the bytes of a case file into tables (document 01, "Case file" and "Case reading"); and a file's buses in the other form (document 02, K7).
+#![tactic(auto)]
+
 ghost use Rattle.std.specs.Prelude.{◌≡◌};
 ghost use Rattle.casefile_defs.specs.Tables.{held, outcome, places_of, read_case};
 ghost use Rattle.casefile_defs.specs.Moving.{moved_as, move_forward, move_back};

@@ -95,10 +95,10 @@ pub line_basis : (at j x : ℕ) (y : Float) (s : List ℕ) → basis_field ≤ j
 line_basis at j x y s h e q = q ∙ ap (λ (n : ℕ). basis_of n) e ∙ simp (le-ltb _ _ h)
 
 module _ (s : List ℕ) (at m n p : ℕ) where
-  pub sheet_there : (q : ℕ) (y : Float) → p / rowFigures < m * n → q ≡ spot Line s at (line_of m n (p / rowFigures)) → y ≡ line_figure s q (p % rowFigures) → y ≡ sheet_in s at m n p
+  pub sheet_there : (q : ℕ) (y : Float) → p / row_figures < m * n → q ≡ spot Line s at (line_of m n (p / row_figures)) → y ≡ line_figure s q (p % row_figures) → y ≡ sheet_in s at m n p
   unfolding sheet_in
-  sheet_there q y h e f = f ∙ ap (λ (r : ℕ). line_figure s r (p % rowFigures)) e ∙ simp (lt-ltb _ _ h)
+  sheet_there q y h e f = f ∙ ap (λ (r : ℕ). line_figure s r (p % row_figures)) e ∙ simp (lt-ltb _ _ h)
 
-  pub sheet_past : m * n ≤ p / rowFigures → nought ≡ sheet_in s at m n p
+  pub sheet_past : m * n ≤ p / row_figures → nought ≡ sheet_in s at m n p
   unfolding sheet_in
   sheet_past h = simp (le-ltb _ _ h)

@@ -72,7 +72,7 @@ line_figure s at j = cond (ltb j basis_field) (of_bits binary64 (field Line j at
 
 -- place p of the sheet of m corridors and n levels: a row for each line. The file has them by corridor, the sheet by level (document 02, K11).
 unfoldable pub sheet_in : List ℕ → ℕ → ℕ → ℕ → ℕ → Float
-sheet_in s at m n p = cond (ltb (p / rowFigures) (m * n)) (line_figure s (spot Line s at (line_of m n (p / rowFigures))) (p % rowFigures)) nought
+sheet_in s at m n p = cond (ltb (p / row_figures) (m * n)) (line_figure s (spot Line s at (line_of m n (p / row_figures))) (p % row_figures)) nought
 
 -- the seventeen lent tables
 pub record Places : Type 0 where

@@ -1,4 +1,6 @@
 // The case file's types and bounds. There is no code here: the definition of the file and of its reading, their laws, and worked examples.
+#![tactic(auto)]
+
 use mode::PlanMode;
 use refusal::Refusal;
 

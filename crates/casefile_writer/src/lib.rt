@@ -1,4 +1,6 @@
 // Writing a case file: the bytes of a case, put into a lent buffer. Document 01 lists no such operation; docs/DECISIONS.md says why it is public.
+#![tactic(auto)]
+
 ghost use Rattle.std.specs.Prelude.{true, ◌≡◌, ◌≤◌, length};
 ghost use Rattle.casefile_defs.specs.Reading.{Small};
 ghost use Rattle.casefile_defs.specs.Tables.{places_of, sizes_ok};

@@ -137,7 +137,7 @@ pub fn put_corridors(
 // The row of the sheet that begins at place p.
 fn put_row(out: &mut [u8], len: usize, sheet: &[f64], p: usize) -> usize
     requires size_of_in_bounds { len + size_of Kind.Line ≤ length out.old }
-    requires row_figures_in_bounds { p + rowFigures ≤ length sheet.now }
+    requires row_figures_in_bounds { p + row_figures ≤ length sheet.now }
     ensures put { Put out.old len (record_bytes Kind.Line (line_from sheet.now p)) out.new result }
     ensures size { result ≡ len + size_of Kind.Line }
 {
@@ -161,7 +161,7 @@ pub fn put_lines(
     sheet: &[f64],
 ) -> usize
     requires size_of_in_bounds { len + corridors * levels * size_of Kind.Line ≤ length out.old }
-    requires row_figures_in_bounds { corridors * levels * rowFigures ≤ length sheet.now }
+    requires row_figures_in_bounds { corridors * levels * row_figures ≤ length sheet.now }
     ensures put { Put out.old len (table_bytes (only Kind.Line) (corridors * levels) (line_words corridors levels sheet.now)) out.new result }
     ensures size { result ≡ len + corridors * levels * size_of Kind.Line }
 {

@@ -1,4 +1,6 @@
 // A season of plans (document 02, K3): plans are taken one at a time, and figures are read off the season at any time.
+#![tactic(auto)]
+
 ghost use Rattle.std.specs.Prelude.{◌≡◌, ◌<◌, ◌≤◌, min, max, length};
 ghost use Rattle.season_defs.specs.Terms.{divisor, lowest};
 ghost use Rattle.season_defs.specs.Plans.{counted};

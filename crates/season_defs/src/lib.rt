@@ -1,4 +1,6 @@
 // The types of a season of plans (document 02, K3). There is no code here: specs/ has its definitions, proofs/ its theorems.
+#![tactic(auto)]
+
 use refusal::Answer;
 
 // The most plans that a season takes, and the most corridors of a plan.

@@ -59,20 +59,20 @@ row_get (suc (suc (suc (suc zero)))) = refl
 row_get (suc (suc (suc (suc (suc j))))) = simp (ne_eqb (suc (suc (suc (suc (suc j))))) 1 (omega arith), ne_eqb (suc (suc (suc (suc (suc j))))) 3 (omega arith))
 
 abbrev figure_at : ℕ → Float
-figure_at q = get_or sheet_row (q % rowFigures) nought
+figure_at q = get_or sheet_row (q % row_figures) nought
 
 sheet_get : (k p : ℕ) → sheet_at k p ≡ get_or (tab k figure_at) p nought
 sheet_get k p = elim (dec_lt p k) [
-  | yes h ↦ ap (λ (t : Bool). cond t (row_figure (p % rowFigures)) nought) (lt-ltb p k h) ∙ row_get (p % rowFigures) ∙ sym (get_tab k figure_at p nought h)
+  | yes h ↦ ap (λ (t : Bool). cond t (row_figure (p % row_figures)) nought) (lt-ltb p k h) ∙ row_get (p % row_figures) ∙ sym (get_tab k figure_at p nought h)
   | no h ↦
       let short : length (tab k figure_at) ≤ p = omega (arith, length_tab k figure_at) in
-      ap (λ (t : Bool). cond t (row_figure (p % rowFigures)) nought) (le-ltb p k (omega arith)) ∙ sym (get_or-eq_default (tab k figure_at) nought short)
+      ap (λ (t : Bool). cond t (row_figure (p % row_figures)) nought) (le-ltb p k (omega arith)) ∙ sym (get_or-eq_default (tab k figure_at) nought short)
 ]
 
-pub sheet_column : (places : ℕ) {m n : ℕ} → m ≡ n → tab places (sheet_at (m * rowFigures)) ≡ padded nought places (tab (n * rowFigures) figure_at)
+pub sheet_column : (places : ℕ) {m n : ℕ} → m ≡ n → tab places (sheet_at (m * row_figures)) ≡ padded nought places (tab (n * row_figures) figure_at)
 unfolding padded
 sheet_column places {m} {n} e =
-    tab_same places _ _ (λ p h. sheet_get (m * rowFigures) p) ∙ ap (λ (k : ℕ). tab places (λ p. get_or (tab (k * rowFigures) figure_at) p nought)) e
+    tab_same places _ _ (λ p h. sheet_get (m * row_figures) p) ∙ ap (λ (k : ℕ). tab places (λ p. get_or (tab (k * row_figures) figure_at) p nought)) e
 
 -- ---- the buses and their loads
 pub buses_few : (i : ℕ) → buses_at i ≤ 3

@@ -60,7 +60,7 @@ module _ (i : ℕ) (h : i < all_places) where
       → km ≡ figures most_corridors (corridor_count c) ten ten ten
       → share ≡ figures most_corridors (corridor_count c) one one one
       → cap ≡ counts most_corridors (corridor_count c) 0 0 0
-      → sheet ≡ tab most_sheet (sheet_at (corridor_count c * rowFigures))
+      → sheet ≡ tab most_sheet (sheet_at (corridor_count c * row_figures))
       → places_of ladder tier reading weight bus slack pmin pmax c1 c2 a b circuits km share cap sheet ≡ tables_at i
   unfolding laid_out columns_of network_at numbered shape_at
   tables_made e0 e1 e2 e3 e4 e5 e6 e7 e8 e9 e10 e11 e12 e13 e14 e15 e16 =

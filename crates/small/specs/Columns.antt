@@ -24,7 +24,7 @@ abbrev pub row_figure : ℕ → Float
 row_figure j = cond (eqb j 1) half (cond (eqb j 3) hundred nought)
 
 abbrev pub sheet_at : ℕ → ℕ → Float
-sheet_at filled p = cond (ltb p filled) (row_figure (p % rowFigures)) nought
+sheet_at filled p = cond (ltb p filled) (row_figure (p % row_figures)) nought
 
 -- ---- a place as the code takes it apart: of number k of the networks of b buses, with so many sets of loads for each set of corridors
 abbrev pub shape : ℕ → ℕ → ℕ → Shape

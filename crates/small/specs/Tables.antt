@@ -61,7 +61,7 @@ columns_of s =
     (0 ∷ []) (1 ∷ []) (nought ∷ []) (hundred ∷ []) (twenty ∷ []) (quarter ∷ [])
     (map (λ p. p.0) (corridors_of s)) (map (λ p. p.1) (corridors_of s)) (replicate m 1) (replicate m ten) (replicate m one)
     (replicate m 0)
-    (tab (m * rowFigures) (λ q. get_or sheet_row (q % rowFigures) nought))
+    (tab (m * row_figures) (λ q. get_or sheet_row (q % row_figures) nought))
 
 -- ---- the tables: each column, and zero past it
 unfoldable pub padded : {A : Type 0} → A → ℕ → List A → List A

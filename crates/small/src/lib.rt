@@ -1,4 +1,6 @@
 // The small networks in order (document 02, K9): the case of a place, in tables lent as for case reading.
+#![tactic(auto)]
+
 ghost use Rattle.std.specs.Prelude.{◌≡◌};
 ghost use Rattle.casefile_defs.specs.Tables.{places_of};
 ghost use Rattle.small.specs.Tables.{made, small_network};

@@ -174,7 +174,7 @@ pub fn put_corridors(
     ensures length_km { length_km.new ≡ figures (length length_km.old) (corridor_count s.corridors) ten ten ten }
     ensures share { share.new ≡ figures (length share.old) (corridor_count s.corridors) one one one }
     ensures cap { cap.new ≡ counts (length cap.old) (corridor_count s.corridors) 0 0 0 }
-    ensures sheet { sheet.new ≡ tab (length sheet.old) (sheet_at (corridor_count s.corridors * rowFigures)) }
+    ensures sheet { sheet.new ≡ tab (length sheet.old) (sheet_at (corridor_count s.corridors * row_figures)) }
 {
     let corridors = s.corridors;
     let m = corridor_count(corridors);

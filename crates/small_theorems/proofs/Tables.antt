@@ -111,13 +111,13 @@ figures_held n m l e h f =
 
 -- ---- the sheet
 abbrev figure_at : ℕ → Float
-figure_at q = get_or sheet_row (q % rowFigures) nought
+figure_at q = get_or sheet_row (q % row_figures) nought
 
 row_fits : AllFit sheet_row
 unfolding AllFit
 row_fits = (nought_fits, (of_bits-fits binary64 0x3fe0_0000_0000_0000, (nought_fits, (of_bits-fits binary64 0x4059_0000_0000_0000, (nought_fits, tt)))))
 
-basis_nought : (n q : ℕ) → q % rowFigures ≡ basis_field → get_or (tab n figure_at) q nought ≡ nought
+basis_nought : (n q : ℕ) → q % row_figures ≡ basis_field → get_or (tab n figure_at) q nought ≡ nought
 basis_nought n q e = elim (dec_lt q n) [
   | yes b ↦ get_tab n figure_at q nought b ∙ ap (λ (j : ℕ). get_or sheet_row j nought) e
   | no b ↦ get_or-eq_default (tab n figure_at) nought (rw (length_tab n figure_at) (omega arith))
@@ -125,7 +125,7 @@ basis_nought n q e = elim (dec_lt q n) [
 
 sheet_fits : (n q : ℕ) → Fit (get_or (tab n figure_at) q nought)
 sheet_fits n q = elim (dec_lt q n) [
-  | yes b ↦ rw (get_tab n figure_at q nought b) (fit_get sheet_row row_fits (q % rowFigures))
+  | yes b ↦ rw (get_tab n figure_at q nought b) (fit_get sheet_row row_fits (q % row_figures))
   | no b ↦
       let short : length (tab n figure_at) ≤ q = rw (length_tab n figure_at) (omega arith) in
       rw (get_or-eq_default (tab n figure_at) nought {n = q} short) nought_fits
@@ -135,15 +135,15 @@ basis_zero : (l : List Float) (q : ℕ) → get_or l q nought ≡ nought → bas
 unfolding eq of_bits
 basis_zero l q e = rw e refl
 
-pub sheet_held : (m : ℕ) → m * rowFigures ≤ most_sheet → Sheet m (padded nought most_sheet (tab (m * rowFigures) figure_at))
+pub sheet_held : (m : ℕ) → m * row_figures ≤ most_sheet → Sheet m (padded nought most_sheet (tab (m * row_figures) figure_at))
 sheet_held m h =
-    let l = tab (m * rowFigures) figure_at in
-    let s : length l ≤ most_sheet = rw (length_tab (m * rowFigures) figure_at) h in
+    let l = tab (m * row_figures) figure_at in
+    let s : length l ≤ most_sheet = rw (length_tab (m * row_figures) figure_at) h in
     record {
       size = padded_length nought most_sheet l s;
-      double = λ i j b c. rw (padded_get nought most_sheet l s (row_place i j)) (sheet_fits (m * rowFigures) (row_place i j));
+      double = λ i j b c. rw (padded_get nought most_sheet l s (row_place i j)) (sheet_fits (m * row_figures) (row_place i j));
       basis = λ i b.
-          let z : get_or (padded nought most_sheet l) (row_place i basis_field) nought ≡ nought = padded_get nought most_sheet l s (row_place i basis_field) ∙ basis_nought (m * rowFigures) (row_place i basis_field) (omega arith) in
+          let z : get_or (padded nought most_sheet l) (row_place i basis_field) nought ≡ nought = padded_get nought most_sheet l s (row_place i basis_field) ∙ basis_nought (m * row_figures) (row_place i basis_field) (omega arith) in
           ap (λ (n : ℕ). basis_of n) (basis_zero (padded nought most_sheet l) (row_place i basis_field) z) ∙ sym z;
-      past = λ q b. padded_get nought most_sheet l s q ∙ get_or-eq_default l nought (rw (length_tab (m * rowFigures) figure_at) (omega arith));
+      past = λ q b. padded_get nought most_sheet l s q ∙ get_or-eq_default l nought (rw (length_tab (m * row_figures) figure_at) (omega arith));
     }

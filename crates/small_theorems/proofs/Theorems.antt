@@ -64,7 +64,7 @@ module _ (i : ℕ) (below : i < all_places) where
       (padded_front nought most_corridors columns.length_km (omega (arith, k.km)) m k.km)
       (padded_front nought most_corridors columns.share (omega (arith, k.share)) m k.share)
       (padded_front 0 most_corridors columns.cap (omega (arith, length-replicate {A = ℕ} m 0)) m (length-replicate {A = ℕ} m 0))
-      (padded_front nought most_sheet columns.sheet (omega (arith, k.sheet)) (m * 1 * rowFigures) (k.sheet ∙ (let e : rowFigures * (m * 1) ≡ m * 1 * rowFigures = omega arith in e)))
+      (padded_front nought most_sheet columns.sheet (omega (arith, k.sheet)) (m * 1 * row_figures) (k.sheet ∙ (let e : row_figures * (m * 1) ≡ m * 1 * row_figures = omega arith in e)))
 
   -- each is an accepted case
   pub accepted_case : case_fault (case_in (header_at i) (tables_at i)) (header_at i).target ≡ none

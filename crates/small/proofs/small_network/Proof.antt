@@ -149,7 +149,7 @@ returns-3 c =
     (sized (λ (n : ℕ) (s : Shape). figures n (corridor_count s.corridors) ten ten ten) z.length_km q e.1.1.1.0)
     (sized (λ (n : ℕ) (s : Shape). figures n (corridor_count s.corridors) one one one) z.share q e.1.1.1.1.0)
     (sized (λ (n : ℕ) (s : Shape). counts n (corridor_count s.corridors) 0 0 0) z.cap q e.1.1.1.1.1.0)
-    (sized (λ (n : ℕ) (s : Shape). tab n (sheet_at (corridor_count s.corridors * rowFigures))) z.sheet q e.1.1.1.1.1.1))
+    (sized (λ (n : ℕ) (s : Shape). tab n (sheet_at (corridor_count s.corridors * row_figures))) z.sheet q e.1.1.1.1.1.1))
 
 pub small-network-spec : {M : Type 1} → statement M
 small-network-spec =

@@ -1,4 +1,6 @@
 // Economic dispatch: units share a demand at one price, each within its limits. After `economic_dispatch`, electrical/planning.rs.
+#![tactic(auto)]
+
 ghost use Rattle.std.specs.Prelude.{◌≡◌, length};
 ghost use Rattle.dispatch_defs.specs.Units.{units_of, Even};
 ghost use Rattle.dispatch_defs.specs.Operation.{outcome, settled, dispatched};

@@ -1,4 +1,6 @@
 // What placement answers. There is no code here: types, the definition of placing and worked examples.
+#![tactic(auto)]
+
 use refusal::Refusal;
 
 // How many condensers were placed, or why none could be looked for.

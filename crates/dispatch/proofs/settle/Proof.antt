@@ -13,71 +13,58 @@ sum-requires c κs = search rules
 copy-requires : tie.Need-copy-requires
 copy-requires c κs = search rules
 
-same_length : tie.Need-same-length
+same_length : tie.Need-shape_of-mw-then-demand-sum
 same_length c = search rules
 
-returns : tie.Need-returns
+returns : tie.Need-returns-then-demand-sum
 unfolding faulty_cost_at dispatch_at
 returns c =
-    let k = c.before.before.before.before in
-    settle_answered _ _ _ most _ (stands_most _ _ (rw k.before.sum.ensures at k.if1.true)) (le_refl _) c.before.before.copy.ensures
+    let k = c in
+    settle_answered _ _ _ most _ (stands_most _ _ (rw k.sum.ensures at k.if-demand-sum.true)) (le_refl _) c.copy.ensures
 
 sum-requires-2 : tie.Need-sum-requires-2
 sum-requires-2 c κs = search rules
 
-copy-requires-2 : tie.Need-copy-requires-2
+copy-requires-2 : tie.Need-copy-requires-then-demand-sum-2
 copy-requires-2 c κs = search rules
 
-same-length-2 : tie.Need-same-length-2
+same-length-2 : tie.Need-shape_of-mw-then-demand-sum-2
 same-length-2 c = search rules
 
-returns-2 : tie.Need-returns-2
+returns-2 : tie.Need-returns-then-demand-sum-2
 unfolding faulty_cost_at dispatch_at
 returns-2 c =
-    let k = c.before.before.before.before in
-    let l = k.before.before in
-    settle_answered _ _ _ least _ (stands_least _ _ (rw l.before.sum.ensures at l.if1.false) (rw k.before.sum2.ensures at k.if2.true)) (le_refl _)
-    c.before.before.copy2.ensures
+    let k = c in
+    let l = k in
+    settle_answered _ _ _ least _ (stands_least _ _ (rw l.sum.ensures at l.if-demand-sum.false) (rw k.sum-2.ensures at k.if-demand-sum-2.true)) (le_refl _)
+    c.copy-then-demand-sum-2.ensures
 
-infinite-cost-requires : tie.Need-infinite-cost-requires
+infinite-cost-requires : tie.Need-infinite_cost-i-requires
 infinite-cost-requires c κs = search rules
 
-returns-3 : tie.Need-returns-3
+returns-3 : tie.Need-returns-then-i-pmin
 returns-3 c =
-    let k = c.before.before in
-    let l = k.before.before in
-    settle_refused _ _ _ _ (stands_between _ _ (rw l.before.sum.ensures at l.if1.false) (rw k.before.sum2.ensures at k.if2.false))
-    c.before.infinite-cost.ensures c.if3.true
+    let k = c in
+    let l = k in
+    settle_refused _ _ _ _ (stands_between _ _ (rw l.sum.ensures at l.if-demand-sum.false) (rw k.sum-2.ensures at k.if-demand-sum-2.false))
+    c.infinite_cost-i.ensures c.if-i-pmin.true
 
 share-requires : tie.Need-share-requires
 share-requires c κs = search rules
 
-same-length-3 : tie.Need-same-length-3
+same-length-3 : tie.Need-shape_of-mw
 same-length-3 c = search rules
 
-returns-4 : tie.Need-returns-4
+returns-4 : tie.Need-returns
 unfolding faulty_cost_at dispatch_at
 returns-4 c =
-    let j = c.before.before.before.before in
-    let k = j.before.before in
-    let l = k.before.before in
-    settle_answered _ _ _ between _ (stands_between _ _ (rw l.before.sum.ensures at l.if1.false) (rw k.before.sum2.ensures at k.if2.false))
-    (rw j.before.infinite-cost.ensures at j.if3.false) c.before.before.share.ensures
+    let j = c in
+    let k = j in
+    let l = k in
+    settle_answered _ _ _ between _ (stands_between _ _ (rw l.sum.ensures at l.if-demand-sum.false) (rw k.sum-2.ensures at k.if-demand-sum-2.false))
+    (rw j.infinite_cost-i.ensures at j.if-i-pmin.false) c.share.ensures
 
-pub settle-spec : {M : Type 1} → statement M
-settle-spec =
+pub settle_spec : {M : Type 1} → statement M
+settle_spec =
     tie.close
-    (tie.spec
-    sum-requires
-    copy-requires
-    same_length
-    returns
-    sum-requires-2
-    copy-requires-2
-    same-length-2
-    returns-2
-    infinite-cost-requires
-    returns-3
-    share-requires
-    same-length-3
-    returns-4)
+    (tie.spec sum-requires copy-requires same_length returns sum-requires-2 copy-requires-2 same-length-2 returns-2 infinite-cost-requires returns-3 share-requires same-length-3 returns-4)

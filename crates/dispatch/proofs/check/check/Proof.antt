@@ -7,49 +7,41 @@ use Rattle.dispatch_defs.proofs.Checks.{even, check_length, check_count, check_u
 use Rattle.dispatch.proofs.check.check.Statement.{statement}
 use Rattle.dispatch.proofs.check.check.Tie as tie
 
-lengths-ok-requires : tie.Need-lengths-ok-requires
+lengths-ok-requires : tie.Need-lengths_ok-requires
 lengths-ok-requires c κs = search rules
 
-returns : tie.Need-returns
-returns c = check_length _ _ _ _ (sym c.before.lengths-ok.ensures ∙ not-true _ c.if1.true)
+returns : tie.Need-returns-then-not-lengths_ok
+returns c = check_length _ _ _ _ (sym c.lengths_ok.ensures ∙ c.if-not-lengths_ok.true)
 
-returns-2 : tie.Need-returns-2
-returns-2 c = check_count _ _ _ _ (sym c.before.before.lengths-ok.ensures ∙ not-false _ c.before.if1.false) c.if2.true
+returns-2 : tie.Need-returns-then-units-gt-MOST_UNITS
+returns-2 c = check_count _ _ _ _ (sym c.lengths_ok.ensures ∙ c.if-not-lengths_ok.false) c.if-units-gt-MOST_UNITS.true
 
-faulty-unit-requires : tie.Need-faulty-unit-requires
-faulty-unit-requires c κs = even _ _ _ (sym c.before.before.lengths-ok.ensures ∙ not-false _ c.before.if1.false)
+faulty-unit-requires : tie.Need-faulty_unit-i-requires
+faulty-unit-requires c κs = even _ _ _ (sym c.lengths_ok.ensures ∙ c.if-not-lengths_ok.false)
 
-returns-3 : tie.Need-returns-3
+returns-3 : tie.Need-returns-then-i-pmin
 returns-3 c =
-    let l = c.before.before.before in
-    check_unit _ _ _ _ (sym l.before.lengths-ok.ensures ∙ not-false _ l.if1.false) c.before.before.if2.false _ c.before.faulty-unit.ensures c.if3.true
+    let l = c in
+    check_unit _ _ _ _ (sym l.lengths_ok.ensures ∙ l.if-not-lengths_ok.false) c.if-units-gt-MOST_UNITS.false _ c.faulty_unit-i.ensures c.if-i-pmin.true
 
-demand-ok-requires : tie.Need-demand-ok-requires
+demand-ok-requires : tie.Need-demand_ok-requires
 demand-ok-requires c κs = search rules
 
-returns-4 : tie.Need-returns-4
+returns-4 : tie.Need-returns-then-not-demand_ok
 returns-4 c =
-    let k = c.before.before.before in
-    let l = k.before.before in
-    check_demand _ _ _ _ (sym l.before.lengths-ok.ensures ∙ not-false _ l.if1.false) k.before.if2.false _ k.faulty-unit.ensures c.before.before.if3.false
-    (sym c.before.demand-ok.ensures ∙ not-true _ c.if4.true)
+    let k = c in
+    let l = k in
+    check_demand _ _ _ _ (sym l.lengths_ok.ensures ∙ l.if-not-lengths_ok.false) k.if-units-gt-MOST_UNITS.false _ k.faulty_unit-i.ensures c.if-i-pmin.false
+    (sym c.demand_ok.ensures ∙ c.if-not-demand_ok.true)
 
-returns-5 : tie.Need-returns-5
+returns-5 : tie.Need-returns
 returns-5 c =
-    let k = c.before.before.before in
-    let l = k.before.before in
-    check_passed _ _ _ _ (sym l.before.lengths-ok.ensures ∙ not-false _ l.if1.false) k.before.if2.false _ k.faulty-unit.ensures c.before.before.if3.false
-    (sym c.before.demand-ok.ensures ∙ not-false _ c.if4.false)
+    let k = c in
+    let l = k in
+    check_passed _ _ _ _ (sym l.lengths_ok.ensures ∙ l.if-not-lengths_ok.false) k.if-units-gt-MOST_UNITS.false _ k.faulty_unit-i.ensures c.if-i-pmin.false
+    (sym c.demand_ok.ensures ∙ c.if-not-demand_ok.false)
 
-pub check-spec : {M : Type 1} → statement M
-check-spec =
+pub check_spec : {M : Type 1} → statement M
+check_spec =
     tie.close
-    (tie.spec
-    lengths-ok-requires
-    returns
-    returns-2
-    faulty-unit-requires
-    returns-3
-    demand-ok-requires
-    returns-4
-    returns-5)
+    (tie.spec lengths-ok-requires returns returns-2 faulty-unit-requires returns-3 demand-ok-requires returns-4 returns-5)

@@ -5,7 +5,7 @@ use Rattle.dispatch_defs.specs.Share.{halved}
 use Rattle.dispatch.proofs.price.halve.Statement.{statement}
 use Rattle.dispatch.proofs.price.halve.Tie as tie
 
-total-at-requires : tie.Need-total-at-requires
+total-at-requires : tie.Need-total_at-requires
 total-at-requires c κs = search rules
 
 pick-requires : tie.Need-pick-requires
@@ -18,5 +18,5 @@ returns : tie.Need-returns
 unfolding halved
 returns c = cc
 
-pub halve-spec : {M : Type 1} → statement M
-halve-spec = tie.close (tie.spec total-at-requires pick-requires pick-requires-2 returns)
+pub halve_spec : {M : Type 1} → statement M
+halve_spec = tie.close (tie.spec total-at-requires pick-requires pick-requires-2 returns)

@@ -13,5 +13,5 @@ larger-requires c κs = search rules
 returns : tie.Need-returns
 returns c = cc
 
-pub is-narrow-spec : {M : Type 1} → statement M
-is-narrow-spec = tie.close (tie.spec abs-requires larger-requires returns)
+pub is_narrow_spec : {M : Type 1} → statement M
+is_narrow_spec = tie.close (tie.spec abs-requires larger-requires returns)

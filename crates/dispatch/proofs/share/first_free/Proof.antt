@@ -12,72 +12,57 @@ use Rattle.dispatch_defs.specs.Share.{stuck_at, first_free}
 use Rattle.dispatch.proofs.share.first_free.Statement.{statement}
 use Rattle.dispatch.proofs.share.first_free.Tie as tie
 
-abbrev invariant-loop : tie.invariant-loop
+abbrev invariant-loop : tie.invariant-loop-i
 invariant-loop pmin pmax out i₀ i = (i ≤ length pmin) × (first (stuck_at pmin pmax out) (length pmin - i) i ≡ first_free pmin pmax out)
 
-abbrev decreases-loop : tie.decreases-loop
+abbrev decreases-loop : tie.decreases-loop-i
 decreases-loop pmin pmax out i₀ i = length pmin - i
 
-loop-holds : tie.Need-loop-init invariant-loop decreases-loop
+loop-holds : tie.Need-loop-i-init invariant-loop decreases-loop
 unfolding first_free
 loop-holds c = (omega arith, first_start _ _)
 
-mul-is-free : tie.Need-overflow-mul-is-free invariant-loop decreases-loop
+mul-is-free : tie.Need-offset_bounds-pmin-i invariant-loop decreases-loop
 mul-is-free c = search rules
 
-shared-slice-read-is-free : tie.Need-shared-slice-read-is-free invariant-loop decreases-loop
+shared-slice-read-is-free : tie.Need-bounds-pmin-i invariant-loop decreases-loop
 shared-slice-read-is-free c = search rules
 
-mul-is-free-2 : tie.Need-overflow-mul-is-free-2 invariant-loop decreases-loop
+mul-is-free-2 : tie.Need-offset_bounds-pmax-i invariant-loop decreases-loop
 mul-is-free-2 c = search rules
 
-shared-slice-read-is-free-2 : tie.Need-shared-slice-read-is-free-2 invariant-loop decreases-loop
+shared-slice-read-is-free-2 : tie.Need-bounds-pmax-i invariant-loop decreases-loop
 shared-slice-read-is-free-2 c = search rules
 
-mul-is-free-3 : tie.Need-overflow-mul-is-free-3 invariant-loop decreases-loop
+mul-is-free-3 : tie.Need-offset_bounds-out-i invariant-loop decreases-loop
 mul-is-free-3 c = search rules
 
-shared-slice-read-is-free-3 : tie.Need-shared-slice-read-is-free-3 invariant-loop decreases-loop
+shared-slice-read-is-free-3 : tie.Need-bounds-out-i invariant-loop decreases-loop
 shared-slice-read-is-free-3 c = search rules
 
-is-free-requires : tie.Need-is-free-requires invariant-loop decreases-loop
+is-free-requires : tie.Need-is_free-requires invariant-loop decreases-loop
 is-free-requires c κs = search rules
 
-returns : tie.Need-returns invariant-loop decreases-loop
+returns : tie.Need-returns-then-is_free invariant-loop decreases-loop
 returns c =
-    let l = c.before.before.before.before.before.before in
-    sym (first_stop _ _ l.loop.i (omega arith) (ap not (sym c.before.is_free.ensures ∙ c.if1.true))) ∙ l.loop.invariant.1
+    let l = c in
+    sym (first_stop _ _ l.loop-i.i (omega arith) (ap not (sym c.is_free.ensures ∙ c.if-is_free.true))) ∙ l.loop-i.invariant.1
 
-add-i : tie.Need-overflow-add-i invariant-loop decreases-loop
+add-i : tie.Need-overflow_add-i invariant-loop decreases-loop
 add-i c = search rules
 
-loop-less : tie.Need-loop-smaller invariant-loop decreases-loop
+loop-less : tie.Need-loop-i-smaller invariant-loop decreases-loop
 loop-less c = search rules
 
-loop-again : tie.Need-loop-preserved invariant-loop decreases-loop
+loop-again : tie.Need-loop-i-preserved invariant-loop decreases-loop
 loop-again c =
-    let l = c.before.before.before.before.before.before in
-    (omega arith, sym (first_pass _ _ l.loop.i (omega arith) (ap not (sym c.before.is_free.ensures ∙ c.if1.false))) ∙ l.loop.invariant.1)
+    let l = c in
+    (omega arith, sym (first_pass _ _ l.loop-i.i (omega arith) (ap not (sym c.is_free.ensures ∙ c.if-is_free.false))) ∙ l.loop-i.invariant.1)
 
-returns-2 : tie.Need-returns-2 invariant-loop decreases-loop
-returns-2 c = sym (first_end _ _ c.before.loop.i (omega arith)) ∙ c.before.loop.invariant.1
+returns-2 : tie.Need-returns invariant-loop decreases-loop
+returns-2 c = sym (first_end _ _ c.loop-i.i (omega arith)) ∙ c.loop-i.invariant.1
 
-pub first-free-spec : {M : Type 1} → statement M
-first-free-spec =
+pub first_free_spec : {M : Type 1} → statement M
+first_free_spec =
     tie.close
-    (tie.spec
-    invariant-loop
-    decreases-loop
-    loop-holds
-    mul-is-free
-    shared-slice-read-is-free
-    mul-is-free-2
-    shared-slice-read-is-free-2
-    mul-is-free-3
-    shared-slice-read-is-free-3
-    is-free-requires
-    returns
-    add-i
-    loop-less
-    loop-again
-    returns-2)
+    (tie.spec invariant-loop decreases-loop loop-holds mul-is-free shared-slice-read-is-free mul-is-free-2 shared-slice-read-is-free-2 mul-is-free-3 shared-slice-read-is-free-3 is-free-requires returns add-i loop-less loop-again returns-2)

@@ -7,19 +7,19 @@ use Rattle.dispatch.proofs.unit.cost_ok.Tie as tie
 cost-requires : tie.Need-cost-requires
 cost-requires c κs = search rules
 
-is-finite-requires : tie.Need-is-finite-requires
+is-finite-requires : tie.Need-is_finite-requires
 is-finite-requires c κs = search rules
 
 cost-requires-2 : tie.Need-cost-requires-2
 cost-requires-2 c κs = search rules
 
-is-finite-requires-2 : tie.Need-is-finite-requires-2
+is-finite-requires-2 : tie.Need-is_finite-requires-2
 is-finite-requires-2 c κs = search rules
 
 returns : tie.Need-returns
 returns c = cc
 
-pub cost-ok-spec : {M : Type 1} → statement M
-cost-ok-spec =
+pub cost_ok_spec : {M : Type 1} → statement M
+cost_ok_spec =
     tie.close
     (tie.spec cost-requires is-finite-requires cost-requires-2 is-finite-requires-2 returns)

@@ -13,5 +13,5 @@ clamp-requires c κs = search rules
 returns : tie.Need-returns
 returns c = cc
 
-pub output-spec : {M : Type 1} → statement M
-output-spec = tie.close (tie.spec larger-requires clamp-requires returns)
+pub output_spec : {M : Type 1} → statement M
+output_spec = tie.close (tie.spec larger-requires clamp-requires returns)

@@ -10,5 +10,5 @@ infinity-requires c κs = search rules
 returns : tie.Need-returns
 returns c = cc
 
-pub unit-ok-spec : {M : Type 1} → statement M
-unit-ok-spec = tie.close (tie.spec infinity-requires returns)
+pub unit_ok_spec : {M : Type 1} → statement M
+unit_ok_spec = tie.close (tie.spec infinity-requires returns)

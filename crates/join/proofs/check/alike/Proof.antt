@@ -10,7 +10,7 @@ number-requires-2 : tie.Need-number-requires-2
 number-requires-2 c κs = search rules
 
 returns : tie.Need-returns
-returns c = rw (c.before.before.before.number.ensures, c.before.before.number2.ensures)
+returns c = rw (c.number.ensures, c.number-2.ensures)
 
 pub alike_spec : {M : Type 1} → statement M
 alike_spec = tie.close (tie.spec number-requires number-requires-2 returns)

@@ -5,16 +5,16 @@ use Rattle.join_defs.specs.Districts.{same_ladder}
 use Rattle.join.proofs.check.same_ladder.Statement.{statement}
 use Rattle.join.proofs.check.same_ladder.Tie as tie
 
-unlike-level-requires : tie.Need-unlike-level-requires
+unlike-level-requires : tie.Need-unlike_level-requires
 unlike-level-requires c κs = search rules
 
-returns : tie.Need-returns
+returns : tie.Need-returns-then-x-y
 unfolding same_ladder
-returns c = rw (eq-eqb _ _ c.before.if1.true, c.unlike-level.ensures)
+returns c = rw (eq-eqb _ _ c.if-x-y.true, c.unlike_level.ensures)
 
-returns-2 : tie.Need-returns-2
+returns-2 : tie.Need-returns
 unfolding same_ladder
-returns-2 c = rw (ne_eqb _ _ c.if1.false)
+returns-2 c = rw (ne_eqb _ _ c.if-x-y.false)
 
-pub same-ladder-spec : {M : Type 1} → statement M
-same-ladder-spec = tie.close (tie.spec unlike-level-requires returns returns-2)
+pub same_ladder_spec : {M : Type 1} → statement M
+same_ladder_spec = tie.close (tie.spec unlike-level-requires returns returns-2)

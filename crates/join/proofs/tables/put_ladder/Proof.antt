@@ -3,23 +3,23 @@ use borrow.Author.Rules.{rules}
 use Rattle.join.proofs.tables.put_ladder.Statement.{statement}
 use Rattle.join.proofs.tables.put_ladder.Tie as tie
 
-sub-append-figures : tie.Need-overflow-sub-append-figures
+sub-append-figures : tie.Need-slice_bounds-append_figures-count
 sub-append-figures c = search rules
 
-part-append-figures-start : tie.Need-slice-bounds-append-figures-start
-part-append-figures-start c = search rules
-
-part-append-figures-end : tie.Need-slice-bounds-append-figures-end
-part-append-figures-end c = search rules
-
-append-figures-requires : tie.Need-append-figures-requires
+append-figures-requires : tie.Need-append_figures-requires
 append-figures-requires c κs = search rules
 
-same_length : tie.Need-same-length
+same_length : tie.Need-shape_of-ladder
 same_length c = search rules
 
 returns : tie.Need-returns
-returns c = c.before.before.append-figures.ensures
+returns c = c.append_figures.ensures
 
-pub put-ladder-spec : {M : Type 1} → statement M
-put-ladder-spec = tie.close (tie.spec sub-append-figures part-append-figures-start part-append-figures-end append-figures-requires same_length returns)
+n-slice_bounds-append_figures-start : tie.Need-slice_bounds-append_figures-start
+n-slice_bounds-append_figures-start c = search rules
+
+n-slice_bounds-append_figures-end : tie.Need-slice_bounds-append_figures-end
+n-slice_bounds-append_figures-end c = search rules
+
+pub put_ladder_spec : {M : Type 1} → statement M
+put_ladder_spec = tie.close (tie.spec sub-append-figures n-slice_bounds-append_figures-start n-slice_bounds-append_figures-end append-figures-requires same_length returns)

@@ -33,7 +33,7 @@ pub struct Header {
 }
 
 // What case reading answers.
-#[derive(Drop)]
+#[derive(Clone, Copy)]
 pub enum Reading {
     Read(Header),
     Refused(Refusal),

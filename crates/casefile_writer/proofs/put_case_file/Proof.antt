@@ -1,13 +1,7 @@
 -- `casefile_writer::put_case_file` meets its contract. The header and the tables behind one another, each with its exact length.
-use Prim.Native.Nat.{◌*◌, ◌≤◌}
 use native.Mathlib.Omega.{arith}
-use lib.ListN.{length}
-use Rattle.casefile_defs.specs.Bounds.{most_levels, most_corridors}
-use Rattle.casefile_defs.specs.Reading.{lines, Small}
-use Rattle.casefile_defs.specs.Tables.{Places, places_of}
 use Rattle.casefile_defs.proofs.Counts.{lines_small}
-use Rattle.casefile_defs.proofs.Whole.{Sizes, sizes}
-use Rattle.casefile_theorems.specs.Cases.{longest}
+use Rattle.casefile_defs.proofs.Whole.{sizes}
 use Rattle.casefile_theorems.specs.Writer.{file_with, caps_only}
 use Rattle.casefile_writer.specs.Words.{words_in}
 use Rattle.casefile_writer.proofs.Lent.{file_lent}
@@ -15,85 +9,56 @@ use Rattle.casefile_writer.proofs.Puts.{puts, same_bytes}
 use Rattle.casefile_writer.proofs.put_case_file.Statement.{statement}
 use Rattle.casefile_writer.proofs.put_case_file.Tie as tie
 
--- ---- what is known at the start: room, the counts' bounds, the tables' sizes
-room : (o : tie.Start) → longest ≤ length o.args.out.now
-room o = o.requires.0
+add-levels : tie.Need-overflow_add-levels
+add-levels c = omega (arith, c.requires.1.0.levels)
 
-counts : (o : tie.Start) → Small o.args.h
-counts o = o.requires.1.0
-
-abbrev lent : tie.Start → Places
-lent o =
-    places_of o.args.ladder.now o.args.tier.now o.args.reading.now o.args.weight.now o.args.bus.now o.args.slack.now o.args.pmin.now o.args.pmax.now
-    o.args.c1.now o.args.c2.now o.args.a.now o.args.b.now o.args.circuits.now o.args.length-km.now o.args.share.now
-    o.args.cap.now o.args.sheet.now
-
-sized : (o : tie.Start) → Sizes (lent o)
-sized o = sizes (lent o) o.requires.1.1
-
-few-lines : (o : tie.Start) → lines o.args.h ≤ most_corridors * most_levels
-few-lines o = lines_small o.args.h (counts o)
-
-add-levels : tie.Need-overflow-add-levels
-add-levels c = omega (arith, (counts c.before.before.before.before.before.before.before.before.before.before.before.before.before.before.before.before.before.before.before).levels)
-
-put-head-requires : tie.Need-put-head-requires
+put-head-requires : tie.Need-put_head-used-requires
 put-head-requires c κs =
-    let o = c.before.before.before.before.before.before.before.before.before.before.before.before.before.before.before.before.before.before.before.before in
-    omega (arith, room o)
+    let o = c in
+    omega (arith, o.requires.0)
 
-put-levels-requires : tie.Need-put-levels-requires
+put-levels-requires : tie.Need-put_levels-used-requires
 put-levels-requires c κs =
-    let o = c.before.before.before.before.before.before.before.before.before.before.before.before.before.before.before.before.before.before.before.before.before.before.before.before in
-    (omega (arith, room o, (counts o).levels, (counts o).buses, (counts o).generators, (counts o).corridors, few-lines o, c.before.before.before.put-head.ensures.1, c.before.before.before.put-head.auto.0), omega (arith, (sized o).ladder, (counts o).levels))
+    let o = c in
+    (omega (arith, o.requires.0, o.requires.1.0.levels, o.requires.1.0.buses, o.requires.1.0.generators, o.requires.1.0.corridors, lines_small o.args.h o.requires.1.0, c.put_head-used.ensures.1, c.put_head-used.auto.out), omega (arith, (sizes _ o.requires.1.1).ladder, o.requires.1.0.levels))
 
-some-weight-requires : tie.Need-some-weight-requires
+some-weight-requires : tie.Need-some_weight-weighed-requires
 some-weight-requires c κs =
-    let o = c.before.before.before.before.before.before.before.before.before.before.before.before.before.before.before.before.before.before.before.before.before.before.before.before.before.before.before in
-    omega (arith, (sized o).weight, (counts o).buses)
+    let o = c in
+    omega (arith, (sizes _ o.requires.1.1).weight, o.requires.1.0.buses)
 
-put-buses-requires : tie.Need-put-buses-requires
+put-buses-requires : tie.Need-put_buses-used-requires
 put-buses-requires c κs =
-    let o = c.before.before.before.before.before.before.before.before.before.before.before.before.before.before.before.before.before.before.before.before.before.before.before.before.before.before.before.before.before in
-    (omega (arith, room o, (counts o).levels, (counts o).buses, (counts o).generators, (counts o).corridors, few-lines o, c.before.before.before.before.put-levels.ensures.1, c.before.before.before.before.put-levels.auto.0, c.before.before.before.before.before.before.before.before.put-head.ensures.1, c.before.before.before.before.before.before.before.before.put-head.auto.0), (omega (arith, (sized o).tier, (counts o).buses), (omega (arith, (sized o).reading, (counts o).buses), omega (arith, (sized o).weight, (counts o).buses))))
+    let o = c in
+    (omega (arith, o.requires.0, o.requires.1.0.levels, o.requires.1.0.buses, o.requires.1.0.generators, o.requires.1.0.corridors, lines_small o.args.h o.requires.1.0, c.put_levels-used.ensures.1, c.put_levels-used.auto.out, c.put_head-used.ensures.1, c.put_head-used.auto.out), (omega (arith, (sizes _ o.requires.1.1).tier, o.requires.1.0.buses), (omega (arith, (sizes _ o.requires.1.1).reading, o.requires.1.0.buses), omega (arith, (sizes _ o.requires.1.1).weight, o.requires.1.0.buses))))
 
-put-generators-requires : tie.Need-put-generators-requires
+put-generators-requires : tie.Need-put_generators-used-requires
 put-generators-requires c κs =
-    let o = c.before.before.before.before.before.before.before.before.before.before.before.before.before.before.before.before.before.before.before.before.before.before.before.before.before.before.before.before.before.before.before.before.before in
-    (omega (arith, room o, (counts o).levels, (counts o).buses, (counts o).generators, (counts o).corridors, few-lines o, c.before.before.before.put-buses.ensures.1, c.before.before.before.put-buses.auto.0, c.before.before.before.before.before.before.before.before.put-levels.ensures.1, c.before.before.before.before.before.before.before.before.put-levels.auto.0, c.before.before.before.before.before.before.before.before.before.before.before.before.put-head.ensures.1, c.before.before.before.before.before.before.before.before.before.before.before.before.put-head.auto.0), (omega (arith, (sized o).bus, (counts o).generators), (omega (arith, (sized o).slack, (counts o).generators), (omega (arith, (sized o).pmin, (counts o).generators), (omega (arith, (sized o).pmax, (counts o).generators), (omega (arith, (sized o).c1, (counts o).generators), omega (arith, (sized o).c2, (counts o).generators)))))))
+    let o = c in
+    (omega (arith, o.requires.0, o.requires.1.0.levels, o.requires.1.0.buses, o.requires.1.0.generators, o.requires.1.0.corridors, lines_small o.args.h o.requires.1.0, c.put_buses-used.ensures.1, c.put_buses-used.auto.out, c.put_levels-used.ensures.1, c.put_levels-used.auto.out, c.put_head-used.ensures.1, c.put_head-used.auto.out), (omega (arith, (sizes _ o.requires.1.1).bus, o.requires.1.0.generators), (omega (arith, (sizes _ o.requires.1.1).slack, o.requires.1.0.generators), (omega (arith, (sizes _ o.requires.1.1).pmin, o.requires.1.0.generators), (omega (arith, (sizes _ o.requires.1.1).pmax, o.requires.1.0.generators), (omega (arith, (sizes _ o.requires.1.1).c1, o.requires.1.0.generators), omega (arith, (sizes _ o.requires.1.1).c2, o.requires.1.0.generators)))))))
 
-put-corridors-requires : tie.Need-put-corridors-requires
+put-corridors-requires : tie.Need-put_corridors-used-requires
 put-corridors-requires c κs =
-    let o = c.before.before.before.before.before.before.before.before.before.before.before.before.before.before.before.before.before.before.before.before.before.before.before.before.before.before.before.before.before.before.before.before.before.before.before.before.before in
-    (omega (arith, room o, (counts o).levels, (counts o).buses, (counts o).generators, (counts o).corridors, few-lines o, c.before.before.before.put-generators.ensures.1, c.before.before.before.put-generators.auto.0, c.before.before.before.before.before.before.before.put-buses.ensures.1, c.before.before.before.before.before.before.before.put-buses.auto.0, c.before.before.before.before.before.before.before.before.before.before.before.before.put-levels.ensures.1, c.before.before.before.before.before.before.before.before.before.before.before.before.put-levels.auto.0, c.before.before.before.before.before.before.before.before.before.before.before.before.before.before.before.before.put-head.ensures.1, c.before.before.before.before.before.before.before.before.before.before.before.before.before.before.before.before.put-head.auto.0), (omega (arith, (sized o).a, (counts o).corridors), (omega (arith, (sized o).b, (counts o).corridors), (omega (arith, (sized o).circuits, (counts o).corridors), (omega (arith, (sized o).length_km, (counts o).corridors), (omega (arith, (sized o).share, (counts o).corridors), omega (arith, (sized o).cap, (counts o).corridors)))))))
+    let o = c in
+    (omega (arith, o.requires.0, o.requires.1.0.levels, o.requires.1.0.buses, o.requires.1.0.generators, o.requires.1.0.corridors, lines_small o.args.h o.requires.1.0, c.put_generators-used.ensures.1, c.put_generators-used.auto.out, c.put_buses-used.ensures.1, c.put_buses-used.auto.out, c.put_levels-used.ensures.1, c.put_levels-used.auto.out, c.put_head-used.ensures.1, c.put_head-used.auto.out), (omega (arith, (sizes _ o.requires.1.1).a, o.requires.1.0.corridors), (omega (arith, (sizes _ o.requires.1.1).b, o.requires.1.0.corridors), (omega (arith, (sizes _ o.requires.1.1).circuits, o.requires.1.0.corridors), (omega (arith, (sizes _ o.requires.1.1).length_km, o.requires.1.0.corridors), (omega (arith, (sizes _ o.requires.1.1).share, o.requires.1.0.corridors), omega (arith, (sizes _ o.requires.1.1).cap, o.requires.1.0.corridors)))))))
 
-put-lines-requires : tie.Need-put-lines-requires
+put-lines-requires : tie.Need-put_lines-requires
 put-lines-requires c κs =
-    let o = c.before.before.before.before.before.before.before.before.before.before.before.before.before.before.before.before.before.before.before.before.before.before.before.before.before.before.before.before.before.before.before.before.before.before.before.before.before.before.before.before.before in
-    (omega (arith, room o, (counts o).levels, (counts o).buses, (counts o).generators, (counts o).corridors, few-lines o, c.before.before.before.put-corridors.ensures.1, c.before.before.before.put-corridors.auto.0, c.before.before.before.before.before.before.before.put-generators.ensures.1, c.before.before.before.before.before.before.before.put-generators.auto.0, c.before.before.before.before.before.before.before.before.before.before.before.put-buses.ensures.1, c.before.before.before.before.before.before.before.before.before.before.before.put-buses.auto.0, c.before.before.before.before.before.before.before.before.before.before.before.before.before.before.before.before.put-levels.ensures.1, c.before.before.before.before.before.before.before.before.before.before.before.before.before.before.before.before.put-levels.auto.0, c.before.before.before.before.before.before.before.before.before.before.before.before.before.before.before.before.before.before.before.before.put-head.ensures.1, c.before.before.before.before.before.before.before.before.before.before.before.before.before.before.before.before.before.before.before.before.put-head.auto.0), omega (arith, (sized o).sheet, few-lines o))
+    let o = c in
+    (omega (arith, o.requires.0, o.requires.1.0.levels, o.requires.1.0.buses, o.requires.1.0.generators, o.requires.1.0.corridors, lines_small o.args.h o.requires.1.0, c.put_corridors-used.ensures.1, c.put_corridors-used.auto.out, c.put_generators-used.ensures.1, c.put_generators-used.auto.out, c.put_buses-used.ensures.1, c.put_buses-used.auto.out, c.put_levels-used.ensures.1, c.put_levels-used.auto.out, c.put_head-used.ensures.1, c.put_head-used.auto.out), omega (arith, (sizes _ o.requires.1.1).sheet, lines_small o.args.h o.requires.1.0))
 
-same_length : tie.Need-same-length
-same_length c = omega (arith, c.before.before.put-lines.auto.0, c.before.before.before.before.before.before.put-corridors.auto.0, c.before.before.before.before.before.before.before.before.before.before.put-generators.auto.0, c.before.before.before.before.before.before.before.before.before.before.before.before.before.before.put-buses.auto.0, c.before.before.before.before.before.before.before.before.before.before.before.before.before.before.before.before.before.before.before.put-levels.auto.0, c.before.before.before.before.before.before.before.before.before.before.before.before.before.before.before.before.before.before.before.before.before.before.before.put-head.auto.0)
+same_length : tie.Need-shape_of-out
+same_length c = omega (arith, c.put_lines.auto.out, c.put_corridors-used.auto.out, c.put_generators-used.auto.out, c.put_buses-used.auto.out, c.put_levels-used.auto.out, c.put_head-used.auto.out)
 
 returns : tie.Need-returns
 unfolding file_with words_in caps_only
 returns c =
-    let o = c.before.before.before.before.before.before.before.before.before.before.before.before.before.before.before.before.before.before.before.before.before.before.before.before.before.before.before.before.before.before.before.before.before.before.before.before.before.before.before.before.before.before.before.before in (
-      same_bytes (file_lent o.args.h (lent o) (counts o) o.requires.1.1 c.before.before.before.before.before.before.before.before.before.before.before.before.before.before.before.before.some-weight.result c.before.before.before.before.before.before.before.before.before.before.before.before.before.before.before.before.some-weight.ensures) (puts c.before.before.before.before.before.before.before.before.before.before.before.before.before.before.before.before.before.before.before.before.before.before.before.put-head.ensures.0 (puts c.before.before.before.before.before.before.before.before.before.before.before.before.before.before.before.before.before.before.before.put-levels.ensures.0 (puts c.before.before.before.before.before.before.before.before.before.before.before.before.before.before.put-buses.ensures.0 (puts c.before.before.before.before.before.before.before.before.before.before.put-generators.ensures.0 (puts c.before.before.before.before.before.before.put-corridors.ensures.0 c.before.before.put-lines.ensures.0))))),
-      omega (arith, (counts o).levels, (counts o).buses, (counts o).generators, (counts o).corridors, few-lines o, c.before.before.before.before.before.before.before.before.before.before.before.before.before.before.before.before.before.before.before.before.before.before.before.put-head.ensures.1, c.before.before.before.before.before.before.before.before.before.before.before.before.before.before.before.before.before.before.before.put-levels.ensures.1, c.before.before.before.before.before.before.before.before.before.before.before.before.before.before.put-buses.ensures.1, c.before.before.before.before.before.before.before.before.before.before.put-generators.ensures.1, c.before.before.before.before.before.before.put-corridors.ensures.1, c.before.before.put-lines.ensures.1),
+    let o = c in (
+      same_bytes (file_lent o.args.h _ o.requires.1.0 o.requires.1.1 c.some_weight-weighed.result c.some_weight-weighed.ensures) (puts c.put_head-used.ensures.0 (puts c.put_levels-used.ensures.0 (puts c.put_buses-used.ensures.0 (puts c.put_generators-used.ensures.0 (puts c.put_corridors-used.ensures.0 c.put_lines.ensures.0))))),
+      omega (arith, o.requires.1.0.levels, o.requires.1.0.buses, o.requires.1.0.generators, o.requires.1.0.corridors, lines_small o.args.h o.requires.1.0, c.put_head-used.ensures.1, c.put_levels-used.ensures.1, c.put_buses-used.ensures.1, c.put_generators-used.ensures.1, c.put_corridors-used.ensures.1, c.put_lines.ensures.1),
     )
 
-pub put-case-file-spec : {M : Type 1} → statement M
-put-case-file-spec =
+pub put_case_file_spec : {M : Type 1} → statement M
+put_case_file_spec =
     tie.close
-    (tie.spec
-    add-levels
-    put-head-requires
-    put-levels-requires
-    some-weight-requires
-    put-buses-requires
-    put-generators-requires
-    put-corridors-requires
-    put-lines-requires
-    same_length
-    returns)
+    (tie.spec add-levels put-head-requires put-levels-requires some-weight-requires put-buses-requires put-generators-requires put-corridors-requires put-lines-requires same_length returns)

@@ -6,23 +6,19 @@ use Rattle.casefile_writer.proofs.Puts.{same_bytes}
 use Rattle.casefile_writer.proofs.bytes.put_basis.Statement.{statement}
 use Rattle.casefile_writer.proofs.bytes.put_basis.Tie as tie
 
-basis-number-requires : tie.Need-basis-number-requires
+basis-number-requires : tie.Need-basis_number-requires
 basis-number-requires c κs = search rules
 
-put-bytes-requires : tie.Need-put-bytes-requires
+put-bytes-requires : tie.Need-put_bytes-requires
 put-bytes-requires c κs = search rules
 
-same_length : tie.Need-same-length
+same_length : tie.Need-shape_of-out
 same_length c = search rules
 
 returns : tie.Need-returns
-returns c = (same_bytes (ap (bytes 1) c.before.before.before.basis-number.ensures) c.before.before.put-bytes.ensures.0, c.before.before.put-bytes.ensures.1)
+returns c = (same_bytes (ap (bytes 1) c.basis_number.ensures) c.put_bytes.ensures.0, c.put_bytes.ensures.1)
 
-pub put-basis-spec : {M : Type 1} → statement M
-put-basis-spec =
+pub put_basis_spec : {M : Type 1} → statement M
+put_basis_spec =
     tie.close
-    (tie.spec
-    basis-number-requires
-    put-bytes-requires
-    same_length
-    returns)
+    (tie.spec basis-number-requires put-bytes-requires same_length returns)

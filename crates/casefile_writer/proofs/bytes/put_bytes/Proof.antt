@@ -10,11 +10,11 @@ use Rattle.casefile_writer.proofs.Puts.{without, none_put, byte_more, left_more,
 use Rattle.casefile_writer.proofs.bytes.put_bytes.Statement.{statement}
 use Rattle.casefile_writer.proofs.bytes.put_bytes.Tie as tie
 
-abbrev invariant-loop : tie.invariant-loop
+abbrev invariant-loop : tie.invariant-loop-i
 invariant-loop out₀ len width n rest₀ i₀ out rest i =
     (i ≤ width) × (length out ≡ length out₀) × (rest ≡ without i n) × Put out₀ len (bytes i n) out (len + i)
 
-abbrev decreases-loop : tie.decreases-loop
+abbrev decreases-loop : tie.decreases-loop-i
 decreases-loop out₀ len width n rest₀ i₀ out rest i = width - i
 
 -- with no byte put nothing is taken off
@@ -22,57 +22,45 @@ refl' : (n : ℕ) → n ≡ without 0 n
 unfolding without
 refl' n = refl
 
-loop-holds : tie.Need-loop-init invariant-loop decreases-loop
+loop-holds : tie.Need-loop-i-init invariant-loop decreases-loop
 loop-holds c = let a = c.args in (omega arith, refl, refl' a.n, none_put a.out.now a.len a.n)
 
-cast-out : tie.Need-overflow-cast-out invariant-loop decreases-loop
+cast-out : tie.Need-overflow_cast-out invariant-loop decreases-loop
 cast-out c = omega arith
 
-add-out : tie.Need-overflow-add-out invariant-loop decreases-loop
+add-out : tie.Need-overflow_add-out invariant-loop decreases-loop
 add-out c = omega arith
 
-slice-write-out : tie.Need-slice-write-out invariant-loop decreases-loop
+slice-write-out : tie.Need-bounds-out-len invariant-loop decreases-loop
 slice-write-out c = omega arith
 
-add-i : tie.Need-overflow-add-i invariant-loop decreases-loop
+add-i : tie.Need-overflow_add-i invariant-loop decreases-loop
 add-i c = omega arith
 
-loop-less : tie.Need-loop-smaller invariant-loop decreases-loop
+loop-less : tie.Need-loop-i-smaller invariant-loop decreases-loop
 loop-less c = omega arith
 
-loop-again : tie.Need-loop-preserved invariant-loop decreases-loop
+loop-again : tie.Need-loop-i-preserved invariant-loop decreases-loop
 loop-again c =
-    let l = c.before.loop in
-    let a = c.before.before.args in
+    let l = c.loop-i in
+    let a = c.args in
     let low = ap (λ (m : ℕ). m % 256) l.invariant.2 in
     (omega arith, simp length-set l.invariant.1, left_more l.i a.n l.invariant.2, byte_more l.i a.n (l.rest % 256) (omega arith) low l.invariant.3)
 
-add-result : tie.Need-overflow-add-result invariant-loop decreases-loop
+add-result : tie.Need-overflow_add-result invariant-loop decreases-loop
 add-result c = omega arith
 
-same_length : tie.Need-same-length invariant-loop decreases-loop
+same_length : tie.Need-shape_of-out invariant-loop decreases-loop
 same_length c = omega arith
 
 returns : tie.Need-returns invariant-loop decreases-loop
 returns c =
-    let l = c.before.loop in
-    let a = c.before.before.args in
+    let l = c.loop-i in
+    let a = c.args in
     let end : l.i ≡ a.width = omega arith in
     (all_bytes l.i a.width a.n end l.invariant.3, omega arith)
 
-pub put-bytes-spec : {M : Type 1} → statement M
-put-bytes-spec =
+pub put_bytes_spec : {M : Type 1} → statement M
+put_bytes_spec =
     tie.close
-    (tie.spec
-    invariant-loop
-    decreases-loop
-    loop-holds
-    cast-out
-    add-out
-    slice-write-out
-    add-i
-    loop-less
-    loop-again
-    add-result
-    same_length
-    returns)
+    (tie.spec invariant-loop decreases-loop loop-holds cast-out add-out slice-write-out add-i loop-less loop-again add-result same_length returns)

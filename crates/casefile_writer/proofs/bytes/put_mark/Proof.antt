@@ -6,23 +6,19 @@ use Rattle.casefile_writer.proofs.Puts.{same_bytes, mark_bytes}
 use Rattle.casefile_writer.proofs.bytes.put_mark.Statement.{statement}
 use Rattle.casefile_writer.proofs.bytes.put_mark.Tie as tie
 
-mark-of-requires : tie.Need-mark-of-requires
+mark-of-requires : tie.Need-mark_of-requires
 mark-of-requires c κs = search rules
 
-put-bytes-requires : tie.Need-put-bytes-requires
+put-bytes-requires : tie.Need-put_bytes-requires
 put-bytes-requires c κs = search rules
 
-same_length : tie.Need-same-length
+same_length : tie.Need-shape_of-out
 same_length c = search rules
 
 returns : tie.Need-returns
-returns c = (same_bytes (ap (bytes 2) c.before.before.before.mark_of.ensures ∙ mark_bytes c.before.before.before.before.before.before.args.kind) c.before.before.put-bytes.ensures.0, c.before.before.put-bytes.ensures.1)
+returns c = (same_bytes (ap (bytes 2) c.mark_of.ensures ∙ mark_bytes c.args.kind) c.put_bytes.ensures.0, c.put_bytes.ensures.1)
 
-pub put-mark-spec : {M : Type 1} → statement M
-put-mark-spec =
+pub put_mark_spec : {M : Type 1} → statement M
+put_mark_spec =
     tie.close
-    (tie.spec
-    mark-of-requires
-    put-bytes-requires
-    same_length
-    returns)
+    (tie.spec mark-of-requires put-bytes-requires same_length returns)

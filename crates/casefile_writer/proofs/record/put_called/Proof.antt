@@ -6,31 +6,26 @@ use Rattle.casefile_writer.proofs.Puts.{last, puts}
 use Rattle.casefile_writer.proofs.record.put_called.Statement.{statement}
 use Rattle.casefile_writer.proofs.record.put_called.Tie as tie
 
-put-mark-requires : tie.Need-put-mark-requires
+put-mark-requires : tie.Need-put_mark-used-requires
 put-mark-requires c κs = search rules
 
-put-bytes-requires : tie.Need-put-bytes-requires
+put-bytes-requires : tie.Need-put_bytes-used-requires
 put-bytes-requires c κs = search rules
 
-put-figure-requires : tie.Need-put-figure-requires
+put-figure-requires : tie.Need-put_figure-requires
 put-figure-requires c κs = search rules
 
-same_length : tie.Need-same-length
+same_length : tie.Need-shape_of-out
 same_length c = search rules
 
 returns : tie.Need-returns
 unfolding field_bytes
 returns c = (
-  puts c.before.before.before.before.before.before.before.before.before.before.put-mark.ensures.0 (puts c.before.before.before.before.before.before.put-bytes.ensures.0 (last c.before.before.put-figure.ensures.0)),
-  omega (arith, c.before.before.before.before.before.before.before.before.before.before.put-mark.ensures.1, c.before.before.before.before.before.before.put-bytes.ensures.1, c.before.before.put-figure.ensures.1),
+  puts c.put_mark-used.ensures.0 (puts c.put_bytes-used.ensures.0 (last c.put_figure.ensures.0)),
+  omega (arith, c.put_mark-used.ensures.1, c.put_bytes-used.ensures.1, c.put_figure.ensures.1),
 )
 
-pub put-called-spec : {M : Type 1} → statement M
-put-called-spec =
+pub put_called_spec : {M : Type 1} → statement M
+put_called_spec =
     tie.close
-    (tie.spec
-    put-mark-requires
-    put-bytes-requires
-    put-figure-requires
-    same_length
-    returns)
+    (tie.spec put-mark-requires put-bytes-requires put-figure-requires same_length returns)

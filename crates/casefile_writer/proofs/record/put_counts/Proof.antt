@@ -6,39 +6,32 @@ use Rattle.casefile_writer.proofs.Puts.{last, puts}
 use Rattle.casefile_writer.proofs.record.put_counts.Statement.{statement}
 use Rattle.casefile_writer.proofs.record.put_counts.Tie as tie
 
-put-bytes-requires : tie.Need-put-bytes-requires
+put-bytes-requires : tie.Need-put_bytes-used-requires
 put-bytes-requires c κs = search rules
 
-put-bytes-requires-2 : tie.Need-put-bytes-requires-2
+put-bytes-requires-2 : tie.Need-put_bytes-used-requires-2
 put-bytes-requires-2 c κs = search rules
 
-put-bytes-requires-3 : tie.Need-put-bytes-requires-3
+put-bytes-requires-3 : tie.Need-put_bytes-used-requires-3
 put-bytes-requires-3 c κs = search rules
 
-put-bytes-requires-4 : tie.Need-put-bytes-requires-4
+put-bytes-requires-4 : tie.Need-put_bytes-used-requires-4
 put-bytes-requires-4 c κs = search rules
 
-put-bytes-requires-5 : tie.Need-put-bytes-requires-5
+put-bytes-requires-5 : tie.Need-put_bytes-requires
 put-bytes-requires-5 c κs = search rules
 
-same_length : tie.Need-same-length
+same_length : tie.Need-shape_of-out
 same_length c = search rules
 
 returns : tie.Need-returns
 unfolding field_bytes
 returns c = (
-  puts c.before.before.before.before.before.before.before.before.before.before.before.before.before.before.before.before.before.before.put-bytes.ensures.0 (puts c.before.before.before.before.before.before.before.before.before.before.before.before.before.before.put-bytes2.ensures.0 (puts c.before.before.before.before.before.before.before.before.before.before.put-bytes3.ensures.0 (puts c.before.before.before.before.before.before.put-bytes4.ensures.0 (last c.before.before.put-bytes5.ensures.0)))),
-  omega (arith, c.before.before.before.before.before.before.before.before.before.before.before.before.before.before.before.before.before.before.put-bytes.ensures.1, c.before.before.before.before.before.before.before.before.before.before.before.before.before.before.put-bytes2.ensures.1, c.before.before.before.before.before.before.before.before.before.before.put-bytes3.ensures.1, c.before.before.before.before.before.before.put-bytes4.ensures.1, c.before.before.put-bytes5.ensures.1),
+  puts c.put_bytes-used.ensures.0 (puts c.put_bytes-used-2.ensures.0 (puts c.put_bytes-used-3.ensures.0 (puts c.put_bytes-used-4.ensures.0 (last c.put_bytes.ensures.0)))),
+  omega (arith, c.put_bytes-used.ensures.1, c.put_bytes-used-2.ensures.1, c.put_bytes-used-3.ensures.1, c.put_bytes-used-4.ensures.1, c.put_bytes.ensures.1),
 )
 
-pub put-counts-spec : {M : Type 1} → statement M
-put-counts-spec =
+pub put_counts_spec : {M : Type 1} → statement M
+put_counts_spec =
     tie.close
-    (tie.spec
-    put-bytes-requires
-    put-bytes-requires-2
-    put-bytes-requires-3
-    put-bytes-requires-4
-    put-bytes-requires-5
-    same_length
-    returns)
+    (tie.spec put-bytes-requires put-bytes-requires-2 put-bytes-requires-3 put-bytes-requires-4 put-bytes-requires-5 same_length returns)

@@ -6,47 +6,38 @@ use Rattle.casefile_writer.proofs.Puts.{last, puts}
 use Rattle.casefile_writer.proofs.record.put_generator.Statement.{statement}
 use Rattle.casefile_writer.proofs.record.put_generator.Tie as tie
 
-put-mark-requires : tie.Need-put-mark-requires
+put-mark-requires : tie.Need-put_mark-used-requires
 put-mark-requires c κs = search rules
 
-put-bytes-requires : tie.Need-put-bytes-requires
+put-bytes-requires : tie.Need-put_bytes-used-requires
 put-bytes-requires c κs = search rules
 
-put-bytes-requires-2 : tie.Need-put-bytes-requires-2
+put-bytes-requires-2 : tie.Need-put_bytes-used-requires-2
 put-bytes-requires-2 c κs = search rules
 
-put-figure-requires : tie.Need-put-figure-requires
+put-figure-requires : tie.Need-put_figure-used-requires
 put-figure-requires c κs = search rules
 
-put-figure-requires-2 : tie.Need-put-figure-requires-2
+put-figure-requires-2 : tie.Need-put_figure-used-requires-2
 put-figure-requires-2 c κs = search rules
 
-put-figure-requires-3 : tie.Need-put-figure-requires-3
+put-figure-requires-3 : tie.Need-put_figure-used-requires-3
 put-figure-requires-3 c κs = search rules
 
-put-figure-requires-4 : tie.Need-put-figure-requires-4
+put-figure-requires-4 : tie.Need-put_figure-requires
 put-figure-requires-4 c κs = search rules
 
-same_length : tie.Need-same-length
+same_length : tie.Need-shape_of-out
 same_length c = search rules
 
 returns : tie.Need-returns
 unfolding record_bytes field_bytes
 returns c = (
-  puts c.before.before.before.before.before.before.before.before.before.before.before.before.before.before.before.before.before.before.before.before.before.before.before.before.before.before.put-mark.ensures.0 (puts c.before.before.before.before.before.before.before.before.before.before.before.before.before.before.before.before.before.before.before.before.before.before.put-bytes.ensures.0 (puts c.before.before.before.before.before.before.before.before.before.before.before.before.before.before.before.before.before.before.put-bytes2.ensures.0 (puts c.before.before.before.before.before.before.before.before.before.before.before.before.before.before.put-figure.ensures.0 (puts c.before.before.before.before.before.before.before.before.before.before.put-figure2.ensures.0 (puts c.before.before.before.before.before.before.put-figure3.ensures.0 (last c.before.before.put-figure4.ensures.0)))))),
-  omega (arith, c.before.before.before.before.before.before.before.before.before.before.before.before.before.before.before.before.before.before.before.before.before.before.before.before.before.before.put-mark.ensures.1, c.before.before.before.before.before.before.before.before.before.before.before.before.before.before.before.before.before.before.before.before.before.before.put-bytes.ensures.1, c.before.before.before.before.before.before.before.before.before.before.before.before.before.before.before.before.before.before.put-bytes2.ensures.1, c.before.before.before.before.before.before.before.before.before.before.before.before.before.before.put-figure.ensures.1, c.before.before.before.before.before.before.before.before.before.before.put-figure2.ensures.1, c.before.before.before.before.before.before.put-figure3.ensures.1, c.before.before.put-figure4.ensures.1),
+  puts c.put_mark-used.ensures.0 (puts c.put_bytes-used.ensures.0 (puts c.put_bytes-used-2.ensures.0 (puts c.put_figure-used.ensures.0 (puts c.put_figure-used-2.ensures.0 (puts c.put_figure-used-3.ensures.0 (last c.put_figure.ensures.0)))))),
+  omega (arith, c.put_mark-used.ensures.1, c.put_bytes-used.ensures.1, c.put_bytes-used-2.ensures.1, c.put_figure-used.ensures.1, c.put_figure-used-2.ensures.1, c.put_figure-used-3.ensures.1, c.put_figure.ensures.1),
 )
 
-pub put-generator-spec : {M : Type 1} → statement M
-put-generator-spec =
+pub put_generator_spec : {M : Type 1} → statement M
+put_generator_spec =
     tie.close
-    (tie.spec
-    put-mark-requires
-    put-bytes-requires
-    put-bytes-requires-2
-    put-figure-requires
-    put-figure-requires-2
-    put-figure-requires-3
-    put-figure-requires-4
-    same_length
-    returns)
+    (tie.spec put-mark-requires put-bytes-requires put-bytes-requires-2 put-figure-requires put-figure-requires-2 put-figure-requires-3 put-figure-requires-4 same_length returns)

@@ -24,90 +24,77 @@ there m n i h = let s = (some_row m n i h).1 in row_inside m n (i / n) (i % n) (
 at_place : {out z : List ℕ} {r s : ℕ} (sheet : List Float) {p q : ℕ} → p ≡ q → Put out r (record_bytes Line (line_from sheet p)) z s → Put out r (record_bytes Line (line_from sheet q)) z s
 at_place {out} {z} {r} {s} sheet e u = subst (λ (i : ℕ). Put out r (record_bytes Line (line_from sheet i)) z s) e u
 
-abbrev invariant-loop : tie.invariant-loop
+abbrev invariant-loop : tie.invariant-loop-i
 invariant-loop out₀ len corridors levels sheet count used₀ i₀ out used i =
     (i ≤ count) × (length out ≡ length out₀) × (used ≡ len + i * size_of Line) × Put out₀ len (table_bytes (only Line) i (line_words corridors levels sheet)) out used × (count ≡ corridors * levels)
 
-abbrev decreases-loop : tie.decreases-loop
+abbrev decreases-loop : tie.decreases-loop-i
 decreases-loop out₀ len corridors levels sheet count used₀ i₀ out used i = count - i
 
-mul-count : tie.Need-overflow-mul-count invariant-loop decreases-loop
-mul-count c = omega (arith, c.before.before.requires.0, c.before.before.well-formed)
+mul-count : tie.Need-overflow_mul-count invariant-loop decreases-loop
+mul-count c = omega (arith, c.requires.0, c.well_formed)
 
-loop-holds : tie.Need-loop-init invariant-loop decreases-loop
+loop-holds : tie.Need-loop-i-init invariant-loop decreases-loop
 loop-holds c =
-    let a = c.before.before.args in
+    let a = c.args in
     (omega arith, refl, omega arith, no_record a.out.now (only Line) (line_words a.corridors a.levels a.sheet.now) a.len, refl)
 
 -- at a turn: there is a level, and the row of the line is in the sheet
-low : (c : tie.In-loop invariant-loop decreases-loop) → let a = c.before.before.before.before.args in c.before.loop.i < a.corridors * a.levels
-low c = omega (arith, c.before.loop.invariant.4, c.loop-test.true)
+low : (c : tie.In-loop-i invariant-loop decreases-loop) → let a = c.args in c.loop-i.i < a.corridors * a.levels
+low c = omega (arith, c.loop-i.invariant.4, c.loop-i-test.true)
 
-some_level : (c : tie.In-loop invariant-loop decreases-loop) → 0 < c.before.before.before.before.args.levels
-some_level c = let a = c.before.before.before.before.args in (some_row a.corridors a.levels c.before.loop.i (low c)).1
+some_level : (c : tie.In-loop-i invariant-loop decreases-loop) → 0 < c.args.levels
+some_level c = let a = c.args in (some_row a.corridors a.levels c.loop-i.i (low c)).1
 
-inside : (c : tie.In-loop invariant-loop decreases-loop) → let a = c.before.before.before.before.args in
-    row_place a.corridors (c.before.loop.i / a.levels) (c.before.loop.i % a.levels) + row_figures ≤ row_figures * (a.corridors * a.levels)
-inside c = let a = c.before.before.before.before.args in there a.corridors a.levels c.before.loop.i (low c)
+inside : (c : tie.In-loop-i invariant-loop decreases-loop) → let a = c.args in
+    row_place a.corridors (c.loop-i.i / a.levels) (c.loop-i.i % a.levels) + row_figures ≤ row_figures * (a.corridors * a.levels)
+inside c = let a = c.args in there a.corridors a.levels c.loop-i.i (low c)
 
-div-row-place : tie.Need-nonzero-div-row-place invariant-loop decreases-loop
+div-row-place : tie.Need-nonzero_div-i invariant-loop decreases-loop
 div-row-place c = omega (arith, some_level c)
 
-rem-row-place : tie.Need-nonzero-rem-row-place invariant-loop decreases-loop
+rem-row-place : tie.Need-nonzero_rem-i invariant-loop decreases-loop
 rem-row-place c = omega (arith, some_level c)
 
-row-place-requires : tie.Need-row-place-requires invariant-loop decreases-loop
-row-place-requires c κs = let o = c.before.before.before.before in omega (arith, inside c, o.requires.1, o.well-formed)
+row-place-requires : tie.Need-row_place-p-requires invariant-loop decreases-loop
+row-place-requires c κs = let o = c in omega (arith, inside c, o.requires.1, o.well_formed)
 
-put-row-requires : tie.Need-put-row-requires invariant-loop decreases-loop
+put-row-requires : tie.Need-put_row-used-requires invariant-loop decreases-loop
 put-row-requires c κs =
-    let t = c.before.before in
-    let o = t.before.before.before.before in
-    (omega (arith, low t, t.before.loop.invariant.2, t.before.loop.invariant.1, o.requires.0), omega (arith, inside t, c.before.row-place.ensures, o.requires.1))
+    let t = c in
+    let o = t in
+    (omega (arith, low t.before.before, t.loop-i.invariant.2, t.loop-i.invariant.1, o.requires.0), omega (arith, inside t.before.before, c.row_place-p.ensures, o.requires.1))
 
-add-i : tie.Need-overflow-add-i invariant-loop decreases-loop
+add-i : tie.Need-overflow_add-i invariant-loop decreases-loop
 add-i c = omega arith
 
-loop-less : tie.Need-loop-smaller invariant-loop decreases-loop
+loop-less : tie.Need-loop-i-smaller invariant-loop decreases-loop
 loop-less c = omega arith
 
-loop-again : tie.Need-loop-preserved invariant-loop decreases-loop
+loop-again : tie.Need-loop-i-preserved invariant-loop decreases-loop
 loop-again c =
-    let l = c.before.before.before.before.before.before.loop in
-    let a = c.before.before.before.before.before.before.before.before.before.args in
-    let put = c.before.before.put-row.ensures in (
+    let l = c.loop-i in
+    let a = c.args in
+    let put = c.put_row-used.ensures in (
       omega arith,
       omega arith,
       omega (arith, put.1),
       one_more_lem (only Line) (line_words a.corridors a.levels a.sheet.now) l.i l.invariant.3
-          (at_place a.sheet.now c.before.before.before.before.row-place.ensures put.0),
+          (at_place a.sheet.now c.row_place-p.ensures put.0),
       l.invariant.4,
     )
 
-same_length : tie.Need-same-length invariant-loop decreases-loop
+same_length : tie.Need-shape_of-out invariant-loop decreases-loop
 same_length c = omega arith
 
 returns : tie.Need-returns invariant-loop decreases-loop
 returns c =
-    let l = c.before.loop in
-    let a = c.before.before.before.before.args in
+    let l = c.loop-i in
+    let a = c.args in
     let end : l.i ≡ a.corridors * a.levels = omega (arith, l.invariant.4, l.invariant.0) in
     (all_put (only Line) (line_words a.corridors a.levels a.sheet.now) l.i (a.corridors * a.levels) end l.invariant.3, omega (arith, l.invariant.2))
 
-pub put-lines-spec : {M : Type 1} → statement M
-put-lines-spec =
+pub put_lines_spec : {M : Type 1} → statement M
+put_lines_spec =
     tie.close
-    (tie.spec
-    invariant-loop
-    decreases-loop
-    mul-count
-    loop-holds
-    div-row-place
-    rem-row-place
-    row-place-requires
-    put-row-requires
-    add-i
-    loop-less
-    loop-again
-    same_length
-    returns)
+    (tie.spec invariant-loop decreases-loop mul-count loop-holds div-row-place rem-row-place row-place-requires put-row-requires add-i loop-less loop-again same_length returns)

@@ -13,57 +13,47 @@ use Rattle.casefile_writer.specs.Words.{weighs}
 use Rattle.casefile_writer.proofs.table.some_weight.Statement.{statement}
 use Rattle.casefile_writer.proofs.table.some_weight.Tie as tie
 
-abbrev invariant-loop : tie.invariant-loop
+abbrev invariant-loop : tie.invariant-loop-i
 invariant-loop count weight i₀ i = (i ≤ count) × (first (λ k. eq (at weight k) one) (count - i) i ≡ first (λ k. eq (at weight k) one) count 0)
 
-abbrev decreases-loop : tie.decreases-loop
+abbrev decreases-loop : tie.decreases-loop-i
 decreases-loop count weight i₀ i = count - i
 
-loop-holds : tie.Need-loop-init invariant-loop decreases-loop
+loop-holds : tie.Need-loop-i-init invariant-loop decreases-loop
 loop-holds c = (omega arith, first_start _ _)
 
-mul-if1 : tie.Need-overflow-mul-if1 invariant-loop decreases-loop
+mul-if1 : tie.Need-offset_bounds-weight-i invariant-loop decreases-loop
 mul-if1 c = omega arith
 
-shared-slice-read-if1 : tie.Need-shared-slice-read-if1 invariant-loop decreases-loop
+shared-slice-read-if1 : tie.Need-bounds-weight-i invariant-loop decreases-loop
 shared-slice-read-if1 c = omega arith
 
-returns : tie.Need-returns invariant-loop decreases-loop
+returns : tie.Need-returns-then-not-weight-i invariant-loop decreases-loop
 unfolding weighs
 returns c =
-    let l = c.before.before.before in
-    let n = c.before.before.before.before.args.count in
-    sym (ap (λ (k : ℕ). ltb k n) (sym l.loop.invariant.1 ∙ first_stop _ _ l.loop.i (omega arith) (not-true _ c.if1.true)) ∙ lt-ltb l.loop.i n (omega arith))
+    let l = c in
+    let n = c.args.count in
+    sym (ap (λ (k : ℕ). ltb k n) (sym l.loop-i.invariant.1 ∙ first_stop _ _ l.loop-i.i (omega arith) (c.if-not-weight-i.true)) ∙ lt-ltb l.loop-i.i n (omega arith))
 
-add-i : tie.Need-overflow-add-i invariant-loop decreases-loop
+add-i : tie.Need-overflow_add-i invariant-loop decreases-loop
 add-i c = omega arith
 
-loop-less : tie.Need-loop-smaller invariant-loop decreases-loop
+loop-less : tie.Need-loop-i-smaller invariant-loop decreases-loop
 loop-less c = omega arith
 
-loop-again : tie.Need-loop-preserved invariant-loop decreases-loop
+loop-again : tie.Need-loop-i-preserved invariant-loop decreases-loop
 loop-again c =
-    let l = c.before.before.before in
-    (omega arith, sym (first_pass _ _ l.loop.i (omega arith) (not-false _ c.if1.false)) ∙ l.loop.invariant.1)
+    let l = c in
+    (omega arith, sym (first_pass _ _ l.loop-i.i (omega arith) (c.if-not-weight-i.false)) ∙ l.loop-i.invariant.1)
 
-returns-2 : tie.Need-returns-2 invariant-loop decreases-loop
+returns-2 : tie.Need-returns invariant-loop decreases-loop
 unfolding weighs
 returns-2 c =
-    let l = c.before in
-    let n = c.before.before.args.count in
-    sym (ap (λ (k : ℕ). ltb k n) (sym l.loop.invariant.1 ∙ first_end _ _ l.loop.i (omega arith)) ∙ le-ltb l.loop.i n (omega arith))
+    let l = c in
+    let n = c.args.count in
+    sym (ap (λ (k : ℕ). ltb k n) (sym l.loop-i.invariant.1 ∙ first_end _ _ l.loop-i.i (omega arith)) ∙ le-ltb l.loop-i.i n (omega arith))
 
-pub some-weight-spec : {M : Type 1} → statement M
-some-weight-spec =
+pub some_weight_spec : {M : Type 1} → statement M
+some_weight_spec =
     tie.close
-    (tie.spec
-    invariant-loop
-    decreases-loop
-    loop-holds
-    mul-if1
-    shared-slice-read-if1
-    returns
-    add-i
-    loop-less
-    loop-again
-    returns-2)
+    (tie.spec invariant-loop decreases-loop loop-holds mul-if1 shared-slice-read-if1 returns add-i loop-less loop-again returns-2)

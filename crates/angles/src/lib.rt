@@ -1,5 +1,7 @@
 // Bus angles of a direct-current power flow by Jacobi-preconditioned conjugate gradients (document 01, module 5;
 // planning.rs, `dc_angles_cg`).
+#![tactic(auto)]
+
 ghost use Rattle.std.specs.Prelude.{◌≡◌};
 ghost use Rattle.angles_defs.specs.Operation.{request_of, outcome, dc_angles};
 

@@ -18,41 +18,33 @@ request s =
 check-requires : tie.Need-check-requires
 check-requires c κs = search rules
 
-enum-known-f : tie.Need-enum-known-f
+enum-known-f : tie.Need-enum_known-f
 enum-known-f c = search rules
 
-enum_told : tie.Need-enum-told
+enum_told : tie.Need-enum_told-1
 enum_told c = search rules
 
 answer-requires : tie.Need-answer-requires
 answer-requires c κs =
-    let s = c.before.before.before.before.before.before.before.before.before.before.before.before.before in
-    let q = request s in
-    let S = sound_of q (length s.args.res.now) (length s.args.work.now) (sym c.before.before.before.before.check.ensures ∙ ap fault_in c.before.before.enum_told.given.1) in
+    let s = c in
+    let q = request s.before.before.before.before.before.before.before.before.before.before.before.before in
+    let S = sound_of q (length s.args.res.now) (length s.args.work.now) (sym c.check.ensures ∙ ap fault_in c.in-Sound.is) in
     let L = S.lengths in
     (sound_edges q _ _ S, (sound_grounds q _ _ S, (L.work, L.result, L.injection, L.guess, S.buses)))
 
-returns : tie.Need-returns
-returns c = angles_refused (request c.before.before.before.before.before.before.before.before.before.before.before.before) _ _ _ c.before.before.before.check.ensures _ (ap fault_in c.before.f.given.1)
+returns : tie.Need-returns-in-Faulty
+returns c = angles_refused (request c.before.before.before.before.before.before.before.before.before.before) _ _ _ c.check.ensures _ (ap fault_in c.in-Faulty.is)
 
-same_length : tie.Need-same-length
+same_length : tie.Need-shape_of-res
 same_length c = search rules
 
-same-length-2 : tie.Need-same-length-2
+same-length-2 : tie.Need-shape_of-work
 same-length-2 c = search rules
 
-returns-2 : tie.Need-returns-2
-returns-2 c = angles_answered (request c.before.before.before.before.before.before.before.before.before.before.before.before.before.before.before.before.before.before) _ _ _ c.before.before.before.before.before.before.before.before.before.check.ensures _ (ap fault_in c.before.before.before.before.before.before.before.enum_told.given.1) c.before.before.before.before.answer.ensures
+returns-2 : tie.Need-returns-in-Sound
+returns-2 c = angles_answered (request c.before.before.before.before.before.before.before.before.before.before.before.before.before.before.before.before.before) _ _ _ c.check.ensures _ (ap fault_in c.in-Sound.is) c.answer.ensures
 
-pub dc-angles-spec : {M : Type 1} → statement M
-dc-angles-spec =
+pub dc_angles_spec : {M : Type 1} → statement M
+dc_angles_spec =
     tie.close
-    (tie.spec
-    check-requires
-    enum-known-f
-    enum_told
-    answer-requires
-    returns
-    same_length
-    same-length-2
-    returns-2)
+    (tie.spec check-requires enum-known-f enum_told answer-requires returns same_length same-length-2 returns-2)

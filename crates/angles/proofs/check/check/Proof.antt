@@ -8,51 +8,42 @@ use Rattle.angles.proofs.check.check.Statement.{statement}
 use Rattle.angles.proofs.check.check.Tie as tie
 
 -- past the first test the lengths are right
-sound-lengths : (c : tie.Else1) → let a = c.before.before.before.before.before.before.before.before.args in Lengths (request_of a.n a.m a.k a.from.now a.to.now a.weight.now a.injection.now a.grounds.now a.guess.now) a.result a.work
-sound-lengths c = let a = c.before.before.before.before.before.before.before.before.args in lengths_of (request_of a.n a.m a.k a.from.now a.to.now a.weight.now a.injection.now a.grounds.now a.guess.now) a.result a.work (sym c.before.lengths-ok.ensures ∙ not-false _ c.if1.false)
+sound-lengths : (c : tie.Else-not-lengths_ok) → let a = c.args in Lengths (request_of a.n a.m a.k a.from.now a.to.now a.weight.now a.injection.now a.grounds.now a.guess.now) a.res a.work
+sound-lengths c = let a = c.args in lengths_of (request_of a.n a.m a.k a.from.now a.to.now a.weight.now a.injection.now a.grounds.now a.guess.now) a.res a.work (sym c.lengths_ok.ensures ∙ c.if-not-lengths_ok.false)
 
-lengths-ok-requires : tie.Need-lengths-ok-requires
+lengths-ok-requires : tie.Need-lengths_ok-requires
 lengths-ok-requires c κs = search rules
 
-returns : tie.Need-returns
+returns : tie.Need-returns-then-not-lengths_ok
 unfolding fault
-returns c = simp (sym c.before.lengths-ok.ensures, not-true c.before.lengths-ok.result c.if1.true)
+returns c = simp (sym c.lengths_ok.ensures, c.if-not-lengths_ok.true)
 
-counts-ok-requires : tie.Need-counts-ok-requires
+counts-ok-requires : tie.Need-counts_ok-requires
 counts-ok-requires c κs = search rules
 
-returns-2 : tie.Need-returns-2
+returns-2 : tie.Need-returns-then-not-counts_ok
 unfolding fault
-returns-2 c = simp (sym c.before.before.before.lengths-ok.ensures, not-false c.before.before.before.lengths-ok.result c.before.before.if1.false, sym c.before.counts-ok.ensures, not-true c.before.counts-ok.result c.if2.true)
+returns-2 c = simp (sym c.lengths_ok.ensures, c.if-not-lengths_ok.false, sym c.counts_ok.ensures, c.if-not-counts_ok.true)
 
-first-edge-requires : tie.Need-first-edge-requires
+first-edge-requires : tie.Need-first_edge-edge-requires
 first-edge-requires c κs = let L = sound-lengths c.before.before in (L.from, L.to)
 
-returns-3 : tie.Need-returns-3
+returns-3 : tie.Need-returns-then-edge-m
 unfolding fault
-returns-3 c = simp (sym c.before.before.before.before.before.lengths-ok.ensures, not-false c.before.before.before.before.before.lengths-ok.result c.before.before.before.before.if1.false, sym c.before.before.before.counts-ok.ensures, not-false c.before.before.before.counts-ok.result c.before.before.if2.false, sym c.before.first_edge.ensures, lt-ltb _ _ c.if3.true)
+returns-3 c = simp (sym c.lengths_ok.ensures, c.if-not-lengths_ok.false, sym c.counts_ok.ensures, c.if-not-counts_ok.false, sym c.first_edge-edge.ensures, lt-ltb _ _ c.if-edge-m.true)
 
-first-ground-requires : tie.Need-first-ground-requires
+first-ground-requires : tie.Need-first_ground-ground-requires
 first-ground-requires c κs = (sound-lengths c.before.before.before.before).grounds
 
-returns-4 : tie.Need-returns-4
+returns-4 : tie.Need-returns-then-ground-k
 unfolding fault
-returns-4 c = simp (sym c.before.before.before.before.before.before.before.lengths-ok.ensures, not-false c.before.before.before.before.before.before.before.lengths-ok.result c.before.before.before.before.before.before.if1.false, sym c.before.before.before.before.before.counts-ok.ensures, not-false c.before.before.before.before.before.counts-ok.result c.before.before.before.before.if2.false, sym c.before.before.before.first_edge.ensures, le-ltb _ _ c.before.before.if3.false, sym c.before.first-ground.ensures, lt-ltb _ _ c.if4.true)
+returns-4 c = simp (sym c.lengths_ok.ensures, c.if-not-lengths_ok.false, sym c.counts_ok.ensures, c.if-not-counts_ok.false, sym c.first_edge-edge.ensures, le-ltb _ _ c.if-edge-m.false, sym c.first_ground-ground.ensures, lt-ltb _ _ c.if-ground-k.true)
 
-returns-5 : tie.Need-returns-5
+returns-5 : tie.Need-returns
 unfolding fault
-returns-5 c = simp (sym c.before.before.before.before.before.before.before.lengths-ok.ensures, not-false c.before.before.before.before.before.before.before.lengths-ok.result c.before.before.before.before.before.before.if1.false, sym c.before.before.before.before.before.counts-ok.ensures, not-false c.before.before.before.before.before.counts-ok.result c.before.before.before.before.if2.false, sym c.before.before.before.first_edge.ensures, le-ltb _ _ c.before.before.if3.false, sym c.before.first-ground.ensures, le-ltb _ _ c.if4.false)
+returns-5 c = simp (sym c.lengths_ok.ensures, c.if-not-lengths_ok.false, sym c.counts_ok.ensures, c.if-not-counts_ok.false, sym c.first_edge-edge.ensures, le-ltb _ _ c.if-edge-m.false, sym c.first_ground-ground.ensures, le-ltb _ _ c.if-ground-k.false)
 
-pub check-spec : {M : Type 1} → statement M
-check-spec =
+pub check_spec : {M : Type 1} → statement M
+check_spec =
     tie.close
-    (tie.spec
-    lengths-ok-requires
-    returns
-    counts-ok-requires
-    returns-2
-    first-edge-requires
-    returns-3
-    first-ground-requires
-    returns-4
-    returns-5)
+    (tie.spec lengths-ok-requires returns counts-ok-requires returns-2 first-edge-requires returns-3 first-ground-requires returns-4 returns-5)

@@ -4,14 +4,14 @@ use borrow.Author.Rules.{rules}
 use Rattle.angles.proofs.check.lengths_ok.Statement.{statement}
 use Rattle.angles.proofs.check.lengths_ok.Tie as tie
 
-returns : tie.Need-returns
-returns c = rw (ne_eqb _ _ c.if1.true)
+returns : tie.Need-returns-then-injection-n
+returns c = rw (ne_eqb _ _ c.if-injection-n.true)
 
-mul-result : tie.Need-overflow-mul-result
+mul-result : tie.Need-overflow_mul-result
 mul-result c = search rules
 
-returns-2 : tie.Need-returns-2
-returns-2 c = rw (eq-eqb _ _ c.if1.false)
+returns-2 : tie.Need-returns
+returns-2 c = rw (eq-eqb _ _ c.if-injection-n.false)
 
-pub lengths-ok-spec : {M : Type 1} → statement M
-lengths-ok-spec = tie.close (tie.spec returns mul-result returns-2)
+pub lengths_ok_spec : {M : Type 1} → statement M
+lengths_ok_spec = tie.close (tie.spec returns mul-result returns-2)

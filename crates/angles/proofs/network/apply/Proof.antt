@@ -8,19 +8,19 @@ clear-requires : tie.Need-clear-requires
 clear-requires c κs = search rules
 
 scatter-requires : tie.Need-scatter-requires
-scatter-requires c κs = (c.before.before.before.before.before.before.before.before.before.requires.0, search rules)
+scatter-requires c κs = (c.requires.0, search rules)
 
 ground-requires : tie.Need-ground-requires
 ground-requires c κs = search rules
 
-same_length : tie.Need-same-length
+same_length : tie.Need-shape_of-w
 same_length c = search rules
 
 returns : tie.Need-returns
 returns c =
-    let p = c.before.before.before.before.before.before.before.before.before.before.before.before.before.before.before.before.requires.1 in
-    apply_calls _ _ _ _ _ _ _ _ _ _ p.0 p.1 p.2 p.3 p.4 c.before.before.before.before.before.before.before.before.before.before.clear.ensures c.before.before.before.before.before.before.scatter.ensures c.before.before.ground.ensures
+    let p = c.requires.1 in
+    apply_calls _ _ _ _ _ _ _ _ _ _ p.0 p.1 p.2 p.3 p.4 c.clear.ensures c.scatter.ensures c.ground.ensures
 
-pub apply-spec : {M : Type 1} → statement M
-apply-spec =
+pub apply_spec : {M : Type 1} → statement M
+apply_spec =
     tie.close (tie.spec clear-requires scatter-requires ground-requires same_length returns)

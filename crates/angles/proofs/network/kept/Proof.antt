@@ -2,11 +2,11 @@
 use Rattle.angles.proofs.network.kept.Statement.{statement}
 use Rattle.angles.proofs.network.kept.Tie as tie
 
-returns : tie.Need-returns
-returns c = rw c.if1.true
+returns : tie.Need-returns-then-grounded
+returns c = rw c.if-grounded.true
 
-returns-2 : tie.Need-returns-2
-returns-2 c = rw c.if1.false
+returns-2 : tie.Need-returns-else-grounded
+returns-2 c = rw c.if-grounded.false
 
-pub kept-spec : {M : Type 1} → statement M
-kept-spec = tie.close (tie.spec returns returns-2)
+pub kept_spec : {M : Type 1} → statement M
+kept_spec = tie.close (tie.spec returns returns-2)

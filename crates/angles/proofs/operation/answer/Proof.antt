@@ -5,47 +5,38 @@ use borrow.Author.Rules.{rules}
 use Rattle.angles.proofs.operation.answer.Statement.{statement}
 use Rattle.angles.proofs.operation.answer.Tie as tie
 
-set-up-requires : tie.Need-set-up-requires
+set-up-requires : tie.Need-set_up-requires
 set-up-requires c κs = search rules
 
-solve-requires : tie.Need-solve-requires
+solve-requires : tie.Need-solve-solution-requires
 solve-requires c κs = search rules
 
-hand-out-requires : tie.Need-hand-out-requires
+hand-out-requires : tie.Need-hand_out-bus-requires
 hand-out-requires c κs = search rules
 
-same_length : tie.Need-same-length
+same_length : tie.Need-shape_of-res-then-bus-n
 same_length c = search rules
 
-same-length-2 : tie.Need-same-length-2
+same-length-2 : tie.Need-shape_of-work-then-bus-n
 same-length-2 c = search rules
 
-returns : tie.Need-returns
+returns : tie.Need-returns-then-bus-n
 returns c =
-    let t = c.before.before.before.before.before.before.before.before.before.before.solve in
-    answer_refused _ _ _ _ _ _ (rows 8 c.before.before.before.before.before.before.before.before.before.before.before.before.before.before.before.before.before.before.before.before.before.before.before.before.args.n t.new.1.1.1.0) t.result _ _ _ c.before.before.before.before.before.before.before.before.before.before.before.before.before.before.set-up.ensures t.ensures c.before.before.before.before.before.hand-out.ensures c.if1.true
+    let t = c.solve-solution in
+    answer_refused _ _ _ _ _ _ (rows 8 c.args.n t.new.w) t.result _ _ _ c.set_up.ensures t.ensures c.hand_out-bus.ensures c.if-bus-n.true
 
-same-length-3 : tie.Need-same-length-3
+same-length-3 : tie.Need-shape_of-res-else-bus-n
 same-length-3 c = search rules
 
-same-length-4 : tie.Need-same-length-4
+same-length-4 : tie.Need-shape_of-work-else-bus-n
 same-length-4 c = search rules
 
-returns-2 : tie.Need-returns-2
+returns-2 : tie.Need-returns-else-bus-n
 returns-2 c =
-    let t = c.before.before.before.before.before.before.before.before.before.before.solve in
-    answer_given _ _ _ _ _ _ (rows 8 c.before.before.before.before.before.before.before.before.before.before.before.before.before.before.before.before.before.before.before.before.before.before.before.before.args.n t.new.1.1.1.0) t.result _ _ _ c.before.before.before.before.before.before.before.before.before.before.before.before.before.before.set-up.ensures t.ensures c.before.before.before.before.before.hand-out.ensures c.if1.false
+    let t = c.solve-solution in
+    answer_given _ _ _ _ _ _ (rows 8 c.args.n t.new.w) t.result _ _ _ c.set_up.ensures t.ensures c.hand_out-bus.ensures c.if-bus-n.false
 
-pub answer-spec : {M : Type 1} → statement M
-answer-spec =
+pub answer_spec : {M : Type 1} → statement M
+answer_spec =
     tie.close
-    (tie.spec
-    set-up-requires
-    solve-requires
-    hand-out-requires
-    same_length
-    same-length-2
-    returns
-    same-length-3
-    same-length-4
-    returns-2)
+    (tie.spec set-up-requires solve-requires hand-out-requires same_length same-length-2 returns same-length-3 same-length-4 returns-2)

@@ -3,14 +3,14 @@
 use Rattle.angles.proofs.steps.share.Statement.{statement}
 use Rattle.angles.proofs.steps.share.Tie as tie
 
-returns : tie.Need-returns
-returns c = rw c.if1.true
+returns : tie.Need-returns-then-grounded
+returns c = rw c.if-grounded.true
 
-returns-2 : tie.Need-returns-2
-returns-2 c = rw (c.before.if1.false, c.if2.true)
+returns-2 : tie.Need-returns-then-diag
+returns-2 c = rw (c.if-grounded.false, c.if-diag.true)
 
-returns-3 : tie.Need-returns-3
-returns-3 c = rw (c.before.if1.false, c.if2.false)
+returns-3 : tie.Need-returns-else-diag
+returns-3 c = rw (c.if-grounded.false, c.if-diag.false)
 
-pub share-spec : {M : Type 1} → statement M
-share-spec = tie.close (tie.spec returns returns-2 returns-3)
+pub share_spec : {M : Type 1} → statement M
+share_spec = tie.close (tie.spec returns returns-2 returns-3)

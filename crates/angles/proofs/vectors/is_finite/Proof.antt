@@ -4,12 +4,12 @@ use borrow.Author.Rules.{rules}
 use Rattle.angles.proofs.vectors.is_finite.Statement.{statement}
 use Rattle.angles.proofs.vectors.is_finite.Tie as tie
 
-float-from-bits-infinity : tie.Need-float-from-bits-infinity
+float-from-bits-infinity : tie.Need-float_from_bits-infinity
 unfolding nan_bits
 float-from-bits-infinity c = tt
 
 returns : tie.Need-returns
 returns c = search rules
 
-pub is-finite-spec : {M : Type 1} → statement M
-is-finite-spec = tie.close (tie.spec float-from-bits-infinity returns)
+pub is_finite_spec : {M : Type 1} → statement M
+is_finite_spec = tie.close (tie.spec float-from-bits-infinity returns)

@@ -103,17 +103,17 @@ module _ (c : Case) (target : ℕ) (ok : Accepted c target) where
         load_inside = load_inside c target ok;
         bus_below = bus_below c target ok;
         slack_bit = slack_bit;
-        unit_ok_lem = unit_ok_lem c target ok;
+        unit_ok_holds = unit_ok_lem c target ok;
         ends_ok = ends_ok;
-        end_a_lem = end_a_lem c target ok;
-        end_b_lem = end_b_lem c target ok;
+        end_a_holds = end_a_lem c target ok;
+        end_b_holds = end_b_lem c target ok;
         ends_apart = ends_apart;
         initial_few = initial_few c target ok;
         km_inside = λ k h. (both (inside nought ten_thousand (at c.km k)) _ (figures_ok k h)).0;
         share_inside = λ k h. (both (inside half one (at c.share k)) _ (both (inside nought ten_thousand (at c.km k)) _ (figures_ok k h)).1).0;
         cap_few = cap_few c target ok;
         row_inside = row_inside c target ok;
-        row_sound_lem = row_sound_lem c target ok;
+        row_sound_holds = row_sound_lem c target ok;
         row_rating = row_rating;
       }
 

@@ -8,32 +8,25 @@ use Rattle.planning.proofs.preview_filling.Tie as tie
 check-requires : tie.Need-check-requires
 check-requires c κs = search rules
 
-enum-known-f : tie.Need-enum-known-f
+enum-known-f : tie.Need-enum_known-f
 enum-known-f c = search rules
 
-returns : tie.Need-returns
-returns c = let z = c.before.before.before.before.before.before.before.before.args in let p = kept_as z.mode z.m z.before.now z.order.now z.cap.now in preview_refused p z.target z.circuits.now c.before.before.before.check.result c.before.before.before.check.ensures _ c.before.f.given.1
+returns : tie.Need-returns-in-Refused
+returns c = let z = c.args in let p = kept_as z.mode z.m z.before.now z.order.now z.cap.now in preview_refused p z.target z.circuits.now c.check.result c.check.ensures _ c.in-Refused.is
 
-enum_told : tie.Need-enum-told
+enum_told : tie.Need-enum_told-1
 enum_told c = search rules
 
 refill-requires : tie.Need-refill-requires
-refill-requires c κs = let z = c.before.before.before.before.before.before.before.before.args in let p = kept_as z.mode z.m z.before.now z.order.now z.cap.now in refillable p z.target z.circuits.now c.before.before.before.check.result c.before.before.before.check.ensures c.before.enum_told.given.1
+refill-requires c κs = let z = c.args in let p = kept_as z.mode z.m z.before.now z.order.now z.cap.now in refillable p z.target z.circuits.now c.check.result c.check.ensures c.in-Answered.is
 
-same_length : tie.Need-same-length
+same_length : tie.Need-shape_of-circuits
 same_length c = search rules
 
-returns-2 : tie.Need-returns-2
-returns-2 c = let z = c.before.before.before.before.before.before.before.before.before.before.before.args in let p = kept_as z.mode z.m z.before.now z.order.now z.cap.now in preview_answered p z.target z.circuits.now c.before.before.before.before.before.before.check.result c.before.before.before.before.before.before.check.ensures c.before.before.before.before.enum_told.given.1 _ (c.before.before.refill.ensures ∙ refilled_as z.mode (length z.before.now) z.m z.target z.before.now z.order.now z.cap.now)
+returns-2 : tie.Need-returns
+returns-2 c = let z = c.args in let p = kept_as z.mode z.m z.before.now z.order.now z.cap.now in preview_answered p z.target z.circuits.now c.check.result c.check.ensures c.in-Answered.is _ (c.refill.ensures ∙ refilled_as z.mode (length z.before.now) z.m z.target z.before.now z.order.now z.cap.now)
 
-pub preview-filling-spec : {M : Type 1} → statement M
-preview-filling-spec =
+pub preview_filling_spec : {M : Type 1} → statement M
+preview_filling_spec =
     tie.close
-    (tie.spec
-    check-requires
-    enum-known-f
-    returns
-    enum_told
-    refill-requires
-    same_length
-    returns-2)
+    (tie.spec check-requires enum-known-f returns enum_told refill-requires same_length returns-2)

@@ -14,7 +14,7 @@ float-requires : tie.Need-float-requires
 float-requires c κs = search rules
 
 returns : tie.Need-returns
-returns c = rw (c.before.before.magnitude.ensures, c.before.expands.ensures, c.float.ensures)
+returns c = rw (c.magnitude.ensures, c.expands.ensures, c.float.ensures)
 
-pub cap-full-spec : {M : Type 1} → statement M
-cap-full-spec = tie.close (tie.spec magnitude-requires expands-requires float-requires returns)
+pub cap_full_spec : {M : Type 1} → statement M
+cap_full_spec = tie.close (tie.spec magnitude-requires expands-requires float-requires returns)

@@ -5,21 +5,21 @@ use Rattle.planning.specs.Close.{counts_if}
 use Rattle.planning.proofs.close.clear_counts_if.Statement.{statement}
 use Rattle.planning.proofs.close.clear_counts_if.Tie as tie
 
-clear-counts-requires : tie.Need-clear-counts-requires
+clear-counts-requires : tie.Need-clear_counts-requires
 clear-counts-requires c κs = search rules
 
-same_length : tie.Need-same-length
+same_length : tie.Need-shape_of-l
 same_length c = search rules
 
-returns : tie.Need-returns
+returns : tie.Need-returns-then-refused
 returns c =
-    let s = c.before.before.before.before.before.before.args in
-    c.before.before.clear-counts.ensures ∙ sym (ap (λ (t : Bool). counts_if t s.l.now) c.before.before.before.before.if1.true)
+    let s = c.args in
+    c.clear_counts.ensures ∙ sym (ap (λ (t : Bool). counts_if t s.l.now) c.if-refused.true)
 
-returns-2 : tie.Need-returns-2
+returns-2 : tie.Need-returns-else-refused
 returns-2 c =
-    let s = c.before.before.args in
-    sym (ap (λ (t : Bool). counts_if t s.l.now) c.if1.false)
+    let s = c.args in
+    sym (ap (λ (t : Bool). counts_if t s.l.now) c.if-refused.false)
 
-pub clear-counts-if-spec : {M : Type 1} → statement M
-clear-counts-if-spec = tie.close (tie.spec clear-counts-requires same_length returns returns-2)
+pub clear_counts_if_spec : {M : Type 1} → statement M
+clear_counts_if_spec = tie.close (tie.spec clear-counts-requires same_length returns returns-2)

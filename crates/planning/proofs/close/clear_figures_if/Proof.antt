@@ -5,21 +5,21 @@ use Rattle.planning.specs.Close.{figures_if}
 use Rattle.planning.proofs.close.clear_figures_if.Statement.{statement}
 use Rattle.planning.proofs.close.clear_figures_if.Tie as tie
 
-clear-figures-requires : tie.Need-clear-figures-requires
+clear-figures-requires : tie.Need-clear_figures-requires
 clear-figures-requires c κs = search rules
 
-same_length : tie.Need-same-length
+same_length : tie.Need-shape_of-l
 same_length c = search rules
 
-returns : tie.Need-returns
+returns : tie.Need-returns-then-refused
 returns c =
-    let s = c.before.before.before.before.before.before.args in
-    c.before.before.clear-figures.ensures ∙ sym (ap (λ (t : Bool). figures_if t s.l.now) c.before.before.before.before.if1.true)
+    let s = c.args in
+    c.clear_figures.ensures ∙ sym (ap (λ (t : Bool). figures_if t s.l.now) c.if-refused.true)
 
-returns-2 : tie.Need-returns-2
+returns-2 : tie.Need-returns-else-refused
 returns-2 c =
-    let s = c.before.before.args in
-    sym (ap (λ (t : Bool). figures_if t s.l.now) c.if1.false)
+    let s = c.args in
+    sym (ap (λ (t : Bool). figures_if t s.l.now) c.if-refused.false)
 
-pub clear-figures-if-spec : {M : Type 1} → statement M
-clear-figures-if-spec = tie.close (tie.spec clear-figures-requires same_length returns returns-2)
+pub clear_figures_if_spec : {M : Type 1} → statement M
+clear_figures_if_spec = tie.close (tie.spec clear-figures-requires same_length returns returns-2)

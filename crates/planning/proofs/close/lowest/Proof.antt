@@ -10,71 +10,56 @@ use lib.Ieee.{Float}
 use Rattle.planning.proofs.close.lowest.Statement.{statement}
 use Rattle.planning.proofs.close.lowest.Tie as tie
 
-abbrev invariant-loop : tie.invariant-loop
+abbrev invariant-loop : tie.invariant-loop-i
 invariant-loop leader angle root least₀ i₀ least i = (i ≤ length leader) × (iter (lower leader angle root) (length leader - i) i least ≡ lowest angle (members leader root))
 
-abbrev decreases-loop : tie.decreases-loop
+abbrev decreases-loop : tie.decreases-loop-i
 decreases-loop leader angle root least₀ i₀ least i = length leader - i
 
-infinity-requires : tie.Need-infinity-requires invariant-loop decreases-loop
+infinity-requires : tie.Need-infinity-least-requires invariant-loop decreases-loop
 infinity-requires c κs = search rules
 
-loop-holds : tie.Need-loop-init invariant-loop decreases-loop
+loop-holds : tie.Need-loop-i-init invariant-loop decreases-loop
 loop-holds c =
-    let s = c.before.before.before.args in
-    (omega arith, iter_all _ _ _ ∙ ap (λ (x : Float). iter (lower s.leader.now s.angle.now s.root) (length s.leader.now) 0 (x)) c.infinity.ensures ∙ lowest_is s.leader.now s.angle.now s.root)
+    let s = c.args in
+    (omega arith, iter_all _ _ _ ∙ ap (λ (x : Float). iter (lower s.leader.now s.angle.now s.root) (length s.leader.now) 0 (x)) c.infinity-least.ensures ∙ lowest_is s.leader.now s.angle.now s.root)
 
-mul_wide : tie.Need-overflow-mul-wide invariant-loop decreases-loop
+mul_wide : tie.Need-offset_bounds-leader-i invariant-loop decreases-loop
 mul_wide c = search rules
 
-shared-slice-read-wide : tie.Need-shared-slice-read-wide invariant-loop decreases-loop
+shared-slice-read-wide : tie.Need-bounds-leader-i invariant-loop decreases-loop
 shared-slice-read-wide c = search rules
 
 wide-requires : tie.Need-wide-requires invariant-loop decreases-loop
 wide-requires c κs = search rules
 
-mul-lesser : tie.Need-overflow-mul-lesser invariant-loop decreases-loop
+mul-lesser : tie.Need-offset_bounds-angle-i invariant-loop decreases-loop
 mul-lesser c = search rules
 
-shared-slice-read-lesser : tie.Need-shared-slice-read-lesser invariant-loop decreases-loop
+shared-slice-read-lesser : tie.Need-bounds-angle-i invariant-loop decreases-loop
 shared-slice-read-lesser c = search rules
 
 lesser-requires : tie.Need-lesser-requires invariant-loop decreases-loop
 lesser-requires c κs = search rules
 
-pick-requires : tie.Need-pick-requires invariant-loop decreases-loop
+pick-requires : tie.Need-pick-least-requires invariant-loop decreases-loop
 pick-requires c κs = search rules
 
-add-i : tie.Need-overflow-add-i invariant-loop decreases-loop
+add-i : tie.Need-overflow_add-i invariant-loop decreases-loop
 add-i c = search rules
 
-loop-less : tie.Need-loop-smaller invariant-loop decreases-loop
+loop-less : tie.Need-loop-i-smaller invariant-loop decreases-loop
 loop-less c = search rules
 
-loop-again : tie.Need-loop-preserved invariant-loop decreases-loop
+loop-again : tie.Need-loop-i-preserved invariant-loop decreases-loop
 loop-again c =
-    let l = c.before.before.before.before.before.before.loop in
-    (omega arith, sym (iter_more _ c.before.before.before.before.before.loop-test.true (rw (c.before.before.before.wide.ensures, c.before.lesser.ensures) at c.pick.ensures)) ∙ l.invariant.1)
+    let l = c.loop-i in
+    (omega arith, sym (iter_more _ c.loop-i-test.true (rw (c.wide.ensures, c.lesser.ensures) at c.pick-least.ensures)) ∙ l.invariant.1)
 
 returns : tie.Need-returns invariant-loop decreases-loop
-returns c = sym (iter_end _ (omega arith)) ∙ c.before.loop.invariant.1
+returns c = sym (iter_end _ (omega arith)) ∙ c.loop-i.invariant.1
 
-pub lowest-spec : {M : Type 1} → statement M
-lowest-spec =
+pub lowest_spec : {M : Type 1} → statement M
+lowest_spec =
     tie.close
-    (tie.spec
-    invariant-loop
-    decreases-loop
-    infinity-requires
-    loop-holds
-    mul_wide
-    shared-slice-read-wide
-    wide-requires
-    mul-lesser
-    shared-slice-read-lesser
-    lesser-requires
-    pick-requires
-    add-i
-    loop-less
-    loop-again
-    returns)
+    (tie.spec invariant-loop decreases-loop infinity-requires loop-holds mul_wide shared-slice-read-wide wide-requires mul-lesser shared-slice-read-lesser lesser-requires pick-requires add-i loop-less loop-again returns)

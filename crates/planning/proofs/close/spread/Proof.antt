@@ -9,35 +9,35 @@ use Rattle.planning.proofs.Closings.{spread_is}
 use Rattle.planning.proofs.close.spread.Statement.{statement}
 use Rattle.planning.proofs.close.spread.Tie as tie
 
-abbrev invariant-loop : tie.invariant-loop
+abbrev invariant-loop : tie.invariant-loop-i
 invariant-loop leader angle most₀ i₀ most i = (i ≤ length leader) × (iter (wider_by leader angle) (length leader - i) i most ≡ spread_of leader angle)
 
-abbrev decreases-loop : tie.decreases-loop
+abbrev decreases-loop : tie.decreases-loop-i
 decreases-loop leader angle most₀ i₀ most i = length leader - i
 
-loop-holds : tie.Need-loop-init invariant-loop decreases-loop
+loop-holds : tie.Need-loop-i-init invariant-loop decreases-loop
 loop-holds c =
-    let s = c.before.before.args in
+    let s = c.args in
     (omega arith, iter_all _ _ _ ∙ spread_is s.leader.now s.angle.now)
 
-wider-requires : tie.Need-wider-requires invariant-loop decreases-loop
+wider-requires : tie.Need-wider-most-requires invariant-loop decreases-loop
 wider-requires c κs = search rules
 
-add-i : tie.Need-overflow-add-i invariant-loop decreases-loop
+add-i : tie.Need-overflow_add-i invariant-loop decreases-loop
 add-i c = search rules
 
-loop-less : tie.Need-loop-smaller invariant-loop decreases-loop
+loop-less : tie.Need-loop-i-smaller invariant-loop decreases-loop
 loop-less c = search rules
 
-loop-again : tie.Need-loop-preserved invariant-loop decreases-loop
+loop-again : tie.Need-loop-i-preserved invariant-loop decreases-loop
 loop-again c =
-    let l = c.before.before.loop in
-    (omega arith, sym (iter_more _ c.before.loop-test.true c.wider.ensures) ∙ l.invariant.1)
+    let l = c.loop-i in
+    (omega arith, sym (iter_more _ c.loop-i-test.true c.wider-most.ensures) ∙ l.invariant.1)
 
 returns : tie.Need-returns invariant-loop decreases-loop
-returns c = sym (iter_end _ (omega arith)) ∙ c.before.loop.invariant.1
+returns c = sym (iter_end _ (omega arith)) ∙ c.loop-i.invariant.1
 
-pub spread-spec : {M : Type 1} → statement M
-spread-spec =
+pub spread_spec : {M : Type 1} → statement M
+spread_spec =
     tie.close
     (tie.spec invariant-loop decreases-loop loop-holds wider-requires add-i loop-less loop-again returns)

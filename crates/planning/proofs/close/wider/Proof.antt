@@ -5,10 +5,10 @@ use Rattle.planning.proofs.Closings.{wider_leads, wider_not}
 use Rattle.planning.proofs.close.wider.Statement.{statement}
 use Rattle.planning.proofs.close.wider.Tie as tie
 
-mul_wide : tie.Need-overflow-mul-wide
+mul_wide : tie.Need-offset_bounds-leader-i
 mul_wide c = search rules
 
-shared-slice-read-wide : tie.Need-shared-slice-read-wide
+shared-slice-read-wide : tie.Need-bounds-leader-i
 shared-slice-read-wide c = search rules
 
 wide-requires : tie.Need-wide-requires
@@ -23,25 +23,17 @@ lowest-requires c κs = search rules
 greater-requires : tie.Need-greater-requires
 greater-requires c κs = search rules
 
-returns : tie.Need-returns
+returns : tie.Need-returns-then-wide-i
 returns c =
-    let s = c.before.before.before.before.before.before.before.before.args in
-    wider_leads s.leader.now s.angle.now s.i s.most _ _ _ (sym c.before.before.before.before.wide.ensures ∙ c.before.before.before.if1.true) c.before.before.highest.ensures c.before.lowest.ensures c.greater.ensures
+    let s = c.args in
+    wider_leads s.leader.now s.angle.now s.i s.most _ _ _ (sym c.wide.ensures ∙ c.if-wide-i.true) c.highest.ensures c.lowest.ensures c.greater.ensures
 
-returns-2 : tie.Need-returns-2
+returns-2 : tie.Need-returns
 returns-2 c =
-    let s = c.before.before.before.before.before.args in
-    wider_not s.leader.now s.angle.now s.i s.most (λ e. c.if1.false (c.before.wide.ensures ∙ e))
+    let s = c.args in
+    wider_not s.leader.now s.angle.now s.i s.most (λ e. c.if-wide-i.false (c.wide.ensures ∙ e))
 
-pub wider-spec : {M : Type 1} → statement M
-wider-spec =
+pub wider_spec : {M : Type 1} → statement M
+wider_spec =
     tie.close
-    (tie.spec
-    mul_wide
-    shared-slice-read-wide
-    wide-requires
-    highest-requires
-    lowest-requires
-    greater-requires
-    returns
-    returns-2)
+    (tie.spec mul_wide shared-slice-read-wide wide-requires highest-requires lowest-requires greater-requires returns returns-2)

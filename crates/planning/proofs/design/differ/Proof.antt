@@ -10,5 +10,5 @@ magnitude-requires c κs = search rules
 returns : tie.Need-returns
 returns c = simp c.magnitude.ensures
 
-pub differ-spec : {M : Type 1} → statement M
-differ-spec = tie.close (tie.spec magnitude-requires returns)
+pub differ_spec : {M : Type 1} → statement M
+differ_spec = tie.close (tie.spec magnitude-requires returns)

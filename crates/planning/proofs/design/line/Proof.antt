@@ -5,12 +5,12 @@ use Rattle.std.proofs.Common.{rules}
 use Rattle.planning.proofs.design.line.Statement.{statement}
 use Rattle.planning.proofs.design.line.Tie as tie
 
-basis-of-requires : tie.Need-basis-of-requires
+basis-of-requires : tie.Need-basis_of-basis-requires
 basis-of-requires c κs = search rules
 
 returns : tie.Need-returns
 unfolding line_of
-returns c = simp c.basis-of.ensures
+returns c = simp c.basis_of-basis.ensures
 
-pub line-spec : {M : Type 1} → statement M
-line-spec = tie.close (tie.spec basis-of-requires returns)
+pub line_spec : {M : Type 1} → statement M
+line_spec = tie.close (tie.spec basis-of-requires returns)

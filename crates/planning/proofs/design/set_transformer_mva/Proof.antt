@@ -6,32 +6,26 @@ use Rattle.planning.proofs.Draws.{never_refused, answered_by}
 use Rattle.planning.proofs.design.set_transformer_mva.Statement.{statement}
 use Rattle.planning.proofs.design.set_transformer_mva.Tie as tie
 
-transformer-impedance-requires : tie.Need-transformer-impedance-requires
+transformer-impedance-requires : tie.Need-transformer_impedance-answer-requires
 transformer-impedance-requires c κs = search rules
 
-enum-known-answer : tie.Need-enum-known-answer
+enum-known-answer : tie.Need-enum_known-answer
 enum-known-answer c = search rules
 
-enum_told : tie.Need-enum-told
+enum_told : tie.Need-enum_told-1
 enum_told c = search rules
 
-returns : tie.Need-returns
-returns c = absurd (never_refused c.before.before.before.args.mva _ c.before.before.before.requires c.before.before.transformer-impedance.ensures _ c.enum_told.given.1)
+returns : tie.Need-returns-in_default
+returns c = absurd (never_refused c.args.mva _ c.requires c.transformer_impedance-answer.ensures _ c.in_default.is)
 
-with-bank-requires : tie.Need-with-bank-requires
+with-bank-requires : tie.Need-with_bank-requires
 with-bank-requires c κs = search rules
 
-returns-2 : tie.Need-returns-2
+returns-2 : tie.Need-returns
 unfolding set_transformer_mva
-returns-2 c = c.with-bank.ensures ∙ ap (with_bank c.before.before.before.before.before.args.d c.before.before.before.before.before.args.mva) (answered_by c.before.before.before.before.before.args.mva _ c.before.before.before.before.before.requires c.before.before.before.before.transformer-impedance.ensures _ c.before.before.answer.given.1)
+returns-2 c = c.with_bank.ensures ∙ ap (with_bank c.args.d c.args.mva) (answered_by c.args.mva _ c.requires c.transformer_impedance-answer.ensures _ c.in-Answered.is)
 
-pub set-transformer-mva-spec : {M : Type 1} → statement M
-set-transformer-mva-spec =
+pub set_transformer_mva_spec : {M : Type 1} → statement M
+set_transformer_mva_spec =
     tie.close
-    (tie.spec
-    transformer-impedance-requires
-    enum-known-answer
-    enum_told
-    returns
-    with-bank-requires
-    returns-2)
+    (tie.spec transformer-impedance-requires enum-known-answer enum_told returns with-bank-requires returns-2)

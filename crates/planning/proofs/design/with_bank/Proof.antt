@@ -5,15 +5,15 @@ use Rattle.std.proofs.Common.{rules}
 use Rattle.planning.proofs.design.with_bank.Statement.{statement}
 use Rattle.planning.proofs.design.with_bank.Tie as tie
 
-pick-requires : tie.Need-pick-requires
+pick-requires : tie.Need-pick-rate-requires
 pick-requires c κs = search rules
 
-bank-basis-requires : tie.Need-bank-basis-requires
+bank-basis-requires : tie.Need-bank_basis-basis-requires
 bank-basis-requires c κs = search rules
 
 returns : tie.Need-returns
 unfolding with_bank
-returns c = simp (c.before.before.before.before.before.before.pick.ensures, c.before.before.before.before.before.bank-basis.ensures)
+returns c = simp (c.pick-rate.ensures, c.bank_basis-basis.ensures)
 
-pub with-bank-spec : {M : Type 1} → statement M
-with-bank-spec = tie.close (tie.spec pick-requires bank-basis-requires returns)
+pub with_bank_spec : {M : Type 1} → statement M
+with_bank_spec = tie.close (tie.spec pick-requires bank-basis-requires returns)

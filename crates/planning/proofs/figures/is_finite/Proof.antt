@@ -13,5 +13,5 @@ infinity-requires-2 c κs = search rules
 returns : tie.Need-returns
 returns c = cc
 
-pub is-finite-spec : {M : Type 1} → statement M
-is-finite-spec = tie.close (tie.spec infinity-requires infinity-requires-2 returns)
+pub is_finite_spec : {M : Type 1} → statement M
+is_finite_spec = tie.close (tie.spec infinity-requires infinity-requires-2 returns)

@@ -12,35 +12,29 @@ use Rattle.planning.proofs.fill.fill.Tie as tie
 promotes-requires : tie.Need-promotes-requires
 promotes-requires c κs = search rules
 
-returns : tie.Need-returns
+returns : tie.Need-returns-then-not-promotes
 returns c =
-    let s = c.before.before.before.before.args in
-    let e = fill_not s.mode s.cap.now s.target _ s.circuits.now (sym c.before.promotes.ensures ∙ not-true _ c.if1.true) in
+    let s = c.args in
+    let e = fill_not s.mode s.cap.now s.target _ s.circuits.now (sym c.promotes.ensures ∙ c.if-not-promotes.true) in
     (ap (λ (f : Filled). f.counts) e, ap (λ (f : Filled). f.filler) e)
 
 total-requires : tie.Need-total-requires
 total-requires c κs = search rules
 
-fill-rounds-requires : tie.Need-fill-rounds-requires
+fill-rounds-requires : tie.Need-fill_rounds-t-requires
 fill-rounds-requires c κs = search rules
 
-same_length : tie.Need-same-length
+same_length : tie.Need-shape_of-circuits
 same_length c = search rules
 
-returns-2 : tie.Need-returns-2
+returns-2 : tie.Need-returns
 returns-2 c =
-    let s = c.before.before.before.before.before.before.before.before.before.before.args in
+    let s = c.args in
     let ks = take (length s.circuits.now) s.order.now in
-    let e = c.before.before.fill-rounds.ensures ∙ ap (λ (n : ℕ). fill_rounds fill_turns (full_of s.cap.now) s.target ks (filled_as s.circuits.now (tally n 0))) c.before.before.before.before.total.ensures ∙ fill_all s.mode s.cap.now s.target ks s.circuits.now (sym c.before.before.before.before.before.before.before.promotes.ensures ∙ not-false _ c.before.before.before.before.before.before.if1.false) in
+    let e = c.fill_rounds-t.ensures ∙ ap (λ (n : ℕ). fill_rounds fill_turns (full_of s.cap.now) s.target ks (filled_as s.circuits.now (tally n 0))) c.total.ensures ∙ fill_all s.mode s.cap.now s.target ks s.circuits.now (sym c.promotes.ensures ∙ c.if-not-promotes.false) in
     (ap (λ (f : Filled). f.counts) e, ap (λ (f : Filled). f.filler) e)
 
 pub fill_spec : {M : Type 1} → statement M
 fill_spec =
     tie.close
-    (tie.spec
-    promotes-requires
-    returns
-    total-requires
-    fill-rounds-requires
-    same_length
-    returns-2)
+    (tie.spec promotes-requires returns total-requires fill-rounds-requires same_length returns-2)

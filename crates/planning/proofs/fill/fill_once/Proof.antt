@@ -10,136 +10,114 @@ use Rattle.planning.proofs.Fillings.{total_fits, count_fits, tally, fill_corrido
 use Rattle.planning.proofs.fill.fill_once.Statement.{statement}
 use Rattle.planning.proofs.fill.fill_once.Tie as tie
 
-abbrev invariant-loop : tie.invariant-loop
+abbrev invariant-loop : tie.invariant-loop-j
 invariant-loop target cap order circuits₀ total₀ filler₀ j₀ circuits total filler j = (j ≤ length circuits₀) × (length circuits ≡ length circuits₀) × (iter (step (full_of cap) target order (length circuits₀)) (length circuits₀ - j) j (filled_as circuits (tally total filler)) ≡ fill_once (full_of cap) target (take (length circuits₀) order) (filled_as circuits₀ (tally total₀ filler₀))) × (total < 2 ^ 32) × (filler ≤ total)
 
-abbrev decreases-loop : tie.decreases-loop
+abbrev decreases-loop : tie.decreases-loop-j
 decreases-loop target cap order circuits₀ total₀ filler₀ j₀ circuits total filler j = length circuits₀ - j
 
-loop-holds : tie.Need-loop-init invariant-loop decreases-loop
+loop-holds : tie.Need-loop-j-init invariant-loop decreases-loop
 loop-holds c =
-    let s = c.before.before.args in
-    let p = c.before.before.requires in
+    let s = c.args in
+    let p = c.requires in
     (omega arith, refl, once_start (full_of s.cap.now) s.target s.order.now (length s.circuits.now) (omega (arith, p.0.0.few, p.0.0.size)) _, p.1.fits, p.1.filler)
 
-mul_wide : tie.Need-overflow-mul-wide invariant-loop decreases-loop
+mul_wide : tie.Need-offset_bounds-order-j invariant-loop decreases-loop
 mul_wide c = search rules
 
-element-copy-out-wide : tie.Need-element-copy-out-wide invariant-loop decreases-loop
-element-copy-out-wide c = omega (arith, c.before.before.before.before.requires.0.0.few)
+element-copy-out-wide : tie.Need-bounds-order-j invariant-loop decreases-loop
+element-copy-out-wide c = omega (arith, c.requires.0.0.few)
 
-wide-requires : tie.Need-wide-requires invariant-loop decreases-loop
+wide-requires : tie.Need-wide-k-requires invariant-loop decreases-loop
 wide-requires c κs = search rules
 
-mul-count : tie.Need-overflow-mul-count invariant-loop decreases-loop
-mul-count c = record { fits = omega (arith, c.wide.ensures, c.before.before.before.before.before.before.requires.0.0.below c.before.before.before.loop.j (omega arith), c.before.before.before.before.before.before.requires.0.0.few) }
+mul-count : tie.Need-offset_bounds-circuits-k invariant-loop decreases-loop
+mul-count c = record { fits = omega (arith, c.wide-k.ensures, c.requires.0.0.below c.loop-j.j (omega arith), c.requires.0.0.few) }
 
-slice-read-count : tie.Need-slice-read-count invariant-loop decreases-loop
-slice-read-count c = omega (arith, c.before.wide.ensures, c.before.before.before.before.before.before.before.requires.0.0.below c.before.before.before.before.loop.j (omega arith))
+slice-read-count : tie.Need-bounds-circuits-k invariant-loop decreases-loop
+slice-read-count c = omega (arith, c.wide-k.ensures, c.requires.0.0.below c.loop-j.j (omega arith))
 
-gain-requires : tie.Need-gain-requires invariant-loop decreases-loop
+gain-requires : tie.Need-gain-more-requires invariant-loop decreases-loop
 gain-requires c κs = search rules
 
-add-circuits : tie.Need-overflow-add-circuits invariant-loop decreases-loop
+add-circuits : tie.Need-overflow_add-circuits invariant-loop decreases-loop
 add-circuits c =
-    let s = c.before.before.before.before.before.before.before.before.before.before in
-    let l = c.before.before.before.before.before.before.before.loop in
-    let x = get_or l.circuits c.before.before.before.before.wide.result 0 in
+    let s = c in
+    let l = c.loop-j in
+    let x = get_or l.circuits c.wide-k.result 0 in
     let t : s.args.target < 2 ^ 32 = s.ranges.target.fits in
-    let f : x < 2 ^ 32 = (c.before.before.before.slice-known2.given c.before.before.before.before.wide.result).fits in
-    let m : c.before.full_at.result < 2 ^ 32 = c.before.full_at.type-inv in
-    record { fits = omega (arith, c.gain.ensures, count_fits l.total s.args.target c.before.full_at.result x l.invariant.3 t m f) }
+    let f : x < 2 ^ 32 = (c.slice_known-in-loop-j-1.given c.wide-k.result).fits in
+    let m : c.full_at.result < 2 ^ 32 = c.full_at.type_inv in
+    record { fits = omega (arith, c.gain-more.ensures, count_fits l.total s.args.target c.full_at.result x l.invariant.3 t m f) }
 
-mul-circuits : tie.Need-overflow-mul-circuits invariant-loop decreases-loop
-mul-circuits c = record { fits = omega (arith, c.before.before.before.before.wide.ensures, c.before.before.before.before.before.before.before.before.before.before.requires.0.0.below c.before.before.before.before.before.before.before.loop.j (omega arith), c.before.before.before.before.before.before.before.before.before.before.requires.0.0.few) }
+mul-circuits : tie.Need-offset_bounds-circuits-k-in-loop-j invariant-loop decreases-loop
+mul-circuits c = record { fits = omega (arith, c.wide-k.ensures, c.requires.0.0.below c.loop-j.j (omega arith), c.requires.0.0.few) }
 
-slice-write-circuits : tie.Need-slice-write-circuits invariant-loop decreases-loop
-slice-write-circuits c = omega (arith, c.before.before.before.before.wide.ensures, c.before.before.before.before.before.before.before.before.before.before.requires.0.0.below c.before.before.before.before.before.before.before.loop.j (omega arith))
+slice-write-circuits : tie.Need-bounds-circuits-k-in-loop-j invariant-loop decreases-loop
+slice-write-circuits c = omega (arith, c.wide-k.ensures, c.requires.0.0.below c.loop-j.j (omega arith))
 
-add_total : tie.Need-overflow-add-total invariant-loop decreases-loop
+add_total : tie.Need-overflow_add-total invariant-loop decreases-loop
 add_total c =
-    let s = c.before.before.before.before.before.before.before.before.before.before in
-    let l = c.before.before.before.before.before.before.before.loop in
-    let x = get_or l.circuits c.before.before.before.before.wide.result 0 in
+    let s = c in
+    let l = c.loop-j in
+    let x = get_or l.circuits c.wide-k.result 0 in
     let t : s.args.target < 2 ^ 32 = s.ranges.target.fits in
-    let f : x < 2 ^ 32 = (c.before.before.before.slice-known2.given c.before.before.before.before.wide.result).fits in
-    let m : c.before.full_at.result < 2 ^ 32 = c.before.full_at.type-inv in
-    record { fits = omega (arith, c.gain.ensures, total_fits l.total s.args.target c.before.full_at.result x l.invariant.3 t m f) }
+    let f : x < 2 ^ 32 = (c.slice_known-in-loop-j-1.given c.wide-k.result).fits in
+    let m : c.full_at.result < 2 ^ 32 = c.full_at.type_inv in
+    record { fits = omega (arith, c.gain-more.ensures, total_fits l.total s.args.target c.full_at.result x l.invariant.3 t m f) }
 
-add-filler : tie.Need-overflow-add-filler invariant-loop decreases-loop
+add-filler : tie.Need-overflow_add-filler invariant-loop decreases-loop
 add-filler c =
-    let s = c.before.before.before.before.before.before.before.before.before.before in
-    let l = c.before.before.before.before.before.before.before.loop in
-    let x = get_or l.circuits c.before.before.before.before.wide.result 0 in
+    let s = c in
+    let l = c.loop-j in
+    let x = get_or l.circuits c.wide-k.result 0 in
     let t : s.args.target < 2 ^ 32 = s.ranges.target.fits in
-    let f : x < 2 ^ 32 = (c.before.before.before.slice-known2.given c.before.before.before.before.wide.result).fits in
-    let m : c.before.full_at.result < 2 ^ 32 = c.before.full_at.type-inv in
-    record { fits = omega (arith, c.gain.ensures, total_fits l.total s.args.target c.before.full_at.result x l.invariant.3 t m f, l.invariant.4) }
+    let f : x < 2 ^ 32 = (c.slice_known-in-loop-j-1.given c.wide-k.result).fits in
+    let m : c.full_at.result < 2 ^ 32 = c.full_at.type_inv in
+    record { fits = omega (arith, c.gain-more.ensures, total_fits l.total s.args.target c.full_at.result x l.invariant.3 t m f, l.invariant.4) }
 
-add-j : tie.Need-overflow-add-j invariant-loop decreases-loop
+add-j : tie.Need-overflow_add-j invariant-loop decreases-loop
 add-j c = search rules
 
-loop-less : tie.Need-loop-smaller invariant-loop decreases-loop
+loop-less : tie.Need-loop-j-smaller invariant-loop decreases-loop
 loop-less c = search rules
 
-loop-again : tie.Need-loop-preserved invariant-loop decreases-loop
+loop-again : tie.Need-loop-j-preserved invariant-loop decreases-loop
 loop-again c =
-    let s = c.before.before.before.before.before.before.before.before.before.before in
-    let l = c.before.before.before.before.before.before.before.loop in
-    let x = get_or l.circuits c.before.before.before.before.wide.result 0 in
+    let s = c in
+    let l = c.loop-j in
+    let x = get_or l.circuits c.wide-k.result 0 in
     let t : s.args.target < 2 ^ 32 = s.ranges.target.fits in
-    let f : x < 2 ^ 32 = (c.before.before.before.slice-known2.given c.before.before.before.before.wide.result).fits in
-    let m : c.before.full_at.result < 2 ^ 32 = c.before.full_at.type-inv in
-    let k = c.before.before.before.before.wide.result in
+    let f : x < 2 ^ 32 = (c.slice_known-in-loop-j-1.given c.wide-k.result).fits in
+    let m : c.full_at.result < 2 ^ 32 = c.full_at.type_inv in
+    let k = c.wide-k.result in
     let h : l.j < length s.args.circuits.now = omega (arith, l.invariant.1) in
-    let w : k < length l.circuits = omega (arith, c.before.before.before.before.wide.ensures, c.before.before.before.before.before.before.before.before.before.before.requires.0.0.below c.before.before.before.before.before.before.before.loop.j (omega arith), c.before.before.before.before.before.before.before.before.before.before.requires.0.0.few) in (
+    let w : k < length l.circuits = omega (arith, c.wide-k.ensures, c.requires.0.0.below c.loop-j.j (omega arith), c.requires.0.0.few) in (
       omega arith,
       length-set l.circuits k _ ∙ l.invariant.1,
-      sym (iter_more _ {s = filled_as l.circuits (tally l.total l.filler)} h (fill_corridor (full_of s.args.cap.now) s.args.target l.circuits l.total l.filler k _ _ _ w c.before.full_at.ensures refl c.gain.ensures ∙ ap (λ (i : ℕ). fill_at (full_of s.args.cap.now) s.args.target i (filled_as l.circuits (tally l.total l.filler))) c.before.before.before.before.wide.ensures)) ∙ l.invariant.2,
-      omega (arith, c.gain.ensures, total_fits l.total s.args.target c.before.full_at.result x l.invariant.3 t m f),
+      sym (iter_more _ {s = filled_as l.circuits (tally l.total l.filler)} h (fill_corridor (full_of s.args.cap.now) s.args.target l.circuits l.total l.filler k _ _ _ w c.full_at.ensures refl c.gain-more.ensures ∙ ap (λ (i : ℕ). fill_at (full_of s.args.cap.now) s.args.target i (filled_as l.circuits (tally l.total l.filler))) c.wide-k.ensures)) ∙ l.invariant.2,
+      omega (arith, c.gain-more.ensures, total_fits l.total s.args.target c.full_at.result x l.invariant.3 t m f),
       omega (arith, l.invariant.4),
     )
 
-same_length : tie.Need-same-length invariant-loop decreases-loop
+same_length : tie.Need-shape_of-circuits invariant-loop decreases-loop
 same_length c = search rules
 
 returns : tie.Need-returns invariant-loop decreases-loop
 returns c =
-    let l = c.before.loop in
+    let l = c.loop-j in
     (sym (iter_end _ (omega arith)) ∙ l.invariant.2, record { fits = l.invariant.3; filler = l.invariant.4 })
 
-mul-full-at : tie.Need-overflow-mul-full-at invariant-loop decreases-loop
-mul-full-at c = record { fits = omega (arith, c.before.wide.ensures, c.before.before.before.before.before.before.before.requires.0.0.below c.before.before.before.before.loop.j (omega arith), c.before.before.before.before.before.before.before.requires.0.0.few) }
+mul-full-at : tie.Need-offset_bounds-cap-k invariant-loop decreases-loop
+mul-full-at c = record { fits = omega (arith, c.wide-k.ensures, c.requires.0.0.below c.loop-j.j (omega arith), c.requires.0.0.few) }
 
-shared-slice-read-full-at : tie.Need-shared-slice-read-full-at invariant-loop decreases-loop
-shared-slice-read-full-at c = omega (arith, c.before.before.wide.ensures, c.before.before.before.before.before.before.before.before.requires.0.0.below c.before.before.before.before.before.loop.j (omega arith), c.before.before.before.before.before.before.before.before.requires.0.1)
+shared-slice-read-full-at : tie.Need-bounds-cap-k invariant-loop decreases-loop
+shared-slice-read-full-at c = omega (arith, c.wide-k.ensures, c.requires.0.0.below c.loop-j.j (omega arith), c.requires.0.1)
 
-full-at-requires : tie.Need-full-at-requires invariant-loop decreases-loop
+full-at-requires : tie.Need-full_at-requires invariant-loop decreases-loop
 full-at-requires c κs = search rules
 
-pub fill-once-spec : {M : Type 1} → statement M
-fill-once-spec =
+pub fill_once_spec : {M : Type 1} → statement M
+fill_once_spec =
     tie.close
-    (tie.spec
-    invariant-loop
-    decreases-loop
-    loop-holds
-    mul_wide
-    element-copy-out-wide
-    wide-requires
-    mul-count
-    slice-read-count
-    mul-full-at
-    shared-slice-read-full-at
-    full-at-requires
-    gain-requires
-    add-circuits
-    mul-circuits
-    slice-write-circuits
-    add_total
-    add-filler
-    add-j
-    loop-less
-    loop-again
-    same_length
-    returns)
+    (tie.spec invariant-loop decreases-loop loop-holds mul_wide element-copy-out-wide wide-requires mul-count slice-read-count mul-full-at shared-slice-read-full-at full-at-requires gain-requires add-circuits mul-circuits slice-write-circuits add_total add-filler add-j loop-less loop-again same_length returns)

@@ -8,64 +8,52 @@ use Rattle.planning.proofs.Insertion.{shift_start, shifted_here, shifted_next}
 use Rattle.planning.proofs.fill.insert.Statement.{statement}
 use Rattle.planning.proofs.fill.insert.Tie as tie
 
-abbrev invariant-loop : tie.invariant-loop
+abbrev invariant-loop : tie.invariant-loop-i
 invariant-loop order₀ p count k carried₀ i₀ order carried i = (p ≤ i) × (i ≤ count + 1) × (order ≡ filled order₀ (shifted p k order₀) i) × (carried ≡ shifted p k order₀ i)
 
-abbrev decreases-loop : tie.decreases-loop
+abbrev decreases-loop : tie.decreases-loop-i
 decreases-loop order₀ p count k carried₀ i₀ order carried i = count + 1 - i
 
-cast-carried : tie.Need-overflow-cast-carried invariant-loop decreases-loop
+cast-carried : tie.Need-overflow_cast-carried invariant-loop decreases-loop
 cast-carried c = search rules
 
-loop-holds : tie.Need-loop-init invariant-loop decreases-loop
+loop-holds : tie.Need-loop-i-init invariant-loop decreases-loop
 loop-holds c =
     let s = c.args in
     (omega arith, omega arith, shift_start s.p s.k s.order.now (omega arith), shifted_here s.p s.k s.order.now)
 
-mul-held : tie.Need-overflow-mul-held invariant-loop decreases-loop
+mul-held : tie.Need-offset_bounds-order-i invariant-loop decreases-loop
 mul-held c = search rules
 
-element-copy-out-held : tie.Need-element-copy-out-held invariant-loop decreases-loop
+element-copy-out-held : tie.Need-bounds-order-i invariant-loop decreases-loop
 element-copy-out-held c = omega arith
 
-mul-order : tie.Need-overflow-mul-order invariant-loop decreases-loop
+mul-order : tie.Need-offset_bounds-order-i-in-loop-i invariant-loop decreases-loop
 mul-order c = search rules
 
-element-write-order : tie.Need-element-write-order invariant-loop decreases-loop
+element-write-order : tie.Need-bounds-order-i-in-loop-i invariant-loop decreases-loop
 element-write-order c = omega arith
 
-add-i : tie.Need-overflow-add-i invariant-loop decreases-loop
+add-i : tie.Need-overflow_add-i invariant-loop decreases-loop
 add-i c = search rules
 
-loop-less : tie.Need-loop-smaller invariant-loop decreases-loop
+loop-less : tie.Need-loop-i-smaller invariant-loop decreases-loop
 loop-less c = search rules
 
-loop-again : tie.Need-loop-preserved invariant-loop decreases-loop
+loop-again : tie.Need-loop-i-preserved invariant-loop decreases-loop
 loop-again c =
-    let l = c.before.before.loop in
-    let s = c.before.before.before.args in
+    let l = c.loop-i in
+    let s = c.args in
     (omega arith, omega arith, fill_turn _ _ _ _ _ l.invariant.2 (omega arith) l.invariant.3, fill_own _ _ _ _ 0 l.invariant.2 (omega arith) ∙ shifted_next s.p s.k s.order.now l.i (omega arith))
 
 returns : tie.Need-returns invariant-loop decreases-loop
 returns c =
-    let l = c.before.loop in
-    let s = c.before.before.args in
+    let l = c.loop-i in
+    let s = c.args in
     let e : l.i ≡ s.count + 1 = omega arith in
     l.invariant.2 ∙ ap (λ (n : ℕ). filled s.order.now (shifted s.p s.k s.order.now) n) e
 
-pub insert-spec : {M : Type 1} → statement M
-insert-spec =
+pub insert_spec : {M : Type 1} → statement M
+insert_spec =
     tie.close
-    (tie.spec
-    invariant-loop
-    decreases-loop
-    cast-carried
-    loop-holds
-    mul-held
-    element-copy-out-held
-    mul-order
-    element-write-order
-    add-i
-    loop-less
-    loop-again
-    returns)
+    (tie.spec invariant-loop decreases-loop cast-carried loop-holds mul-held element-copy-out-held mul-order element-write-order add-i loop-less loop-again returns)

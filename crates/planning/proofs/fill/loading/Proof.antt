@@ -11,7 +11,7 @@ float-requires : tie.Need-float-requires
 float-requires c κs = search rules
 
 returns : tie.Need-returns
-returns c = rw (c.before.magnitude.ensures, c.float.ensures)
+returns c = rw (c.magnitude.ensures, c.float.ensures)
 
-pub loading-spec : {M : Type 1} → statement M
-loading-spec = tie.close (tie.spec magnitude-requires float-requires returns)
+pub loading_spec : {M : Type 1} → statement M
+loading_spec = tie.close (tie.spec magnitude-requires float-requires returns)

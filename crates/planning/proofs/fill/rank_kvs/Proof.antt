@@ -10,67 +10,55 @@ use Rattle.planning.proofs.Orders.{drawn_here}
 use Rattle.planning.proofs.fill.rank_kvs.Statement.{statement}
 use Rattle.planning.proofs.fill.rank_kvs.Tie as tie
 
-abbrev invariant-loop : tie.invariant-loop
+abbrev invariant-loop : tie.invariant-loop-k
 invariant-loop ladder level a b km share sheet banks out₀ k₀ out k = (k ≤ length a) × (out ≡ filled out₀ (λ (j : ℕ). (design (designs_for ladder level a b km share sheet banks) j).kv) k)
 
-abbrev decreases-loop : tie.decreases-loop
+abbrev decreases-loop : tie.decreases-loop-k
 decreases-loop ladder level a b km share sheet banks out₀ k₀ out k = length a - k
 
-loop-holds : tie.Need-loop-init invariant-loop decreases-loop
+loop-holds : tie.Need-loop-k-init invariant-loop decreases-loop
 loop-holds c = (omega arith, fill_start _ _)
 
-mul-circuit : tie.Need-overflow-mul-circuit invariant-loop decreases-loop
+mul-circuit : tie.Need-offset_bounds-banks-k invariant-loop decreases-loop
 mul-circuit c = search rules
 
-shared-slice-read-circuit : tie.Need-shared-slice-read-circuit invariant-loop decreases-loop
-shared-slice-read-circuit c = omega (arith, c.before.before.before.before.before.before.before.before.before.before.before.requires.1.0.size)
+shared-slice-read-circuit : tie.Need-bounds-banks-k invariant-loop decreases-loop
+shared-slice-read-circuit c = omega (arith, c.requires.1.0.size)
 
-circuit-requires : tie.Need-circuit-requires invariant-loop decreases-loop
+circuit-requires : tie.Need-circuit-d-requires invariant-loop decreases-loop
 circuit-requires c κs =
-    let s = c.before.before.before.before.before.before.before.before.before.before.before in
-    let l = c.before.before.loop in
-    let h = c.before.loop-test.true in
+    let s = c in
+    let l = c.loop-k in
+    let h = c.loop-k-test.true in
     (s.requires.0, (h, s.requires.1.0.sound l.k (omega (arith, s.requires.1.0.size))))
 
-mul-out : tie.Need-overflow-mul-out invariant-loop decreases-loop
+mul-out : tie.Need-offset_bounds-out-k invariant-loop decreases-loop
 mul-out c = search rules
 
-element-write-out : tie.Need-element-write-out invariant-loop decreases-loop
-element-write-out c = omega (arith, c.before.before.before.before.before.before.before.before.before.before.before.before.requires.1.0.few)
+element-write-out : tie.Need-bounds-out-k invariant-loop decreases-loop
+element-write-out c = omega (arith, c.requires.1.0.few)
 
-add-k : tie.Need-overflow-add-k invariant-loop decreases-loop
+add-k : tie.Need-overflow_add-k invariant-loop decreases-loop
 add-k c = search rules
 
-loop-less : tie.Need-loop-smaller invariant-loop decreases-loop
+loop-less : tie.Need-loop-k-smaller invariant-loop decreases-loop
 loop-less c = search rules
 
-loop-again : tie.Need-loop-preserved invariant-loop decreases-loop
+loop-again : tie.Need-loop-k-preserved invariant-loop decreases-loop
 loop-again c =
-    let s = c.before.before.before.before.before.before.before.before.before.before.before.before.args in
-    let l = c.before.before.before.loop in
-    let h : l.k < length s.a.now = c.before.before.loop-test.true in
-    (omega arith, fill_turn _ _ _ _ _ l.invariant.1 (omega (arith, c.before.before.before.before.before.before.before.before.before.before.before.before.requires.1.1, c.before.before.before.before.before.before.before.before.before.before.before.before.requires.1.0.few)) (ap (λ (d : CircuitDesign). d.kv) (drawn_here s.ladder.now s.level.now s.a.now s.b.now s.km.now s.share.now s.sheet.now s.banks.now l.k _ h c.circuit.ensures)))
+    let s = c.args in
+    let l = c.loop-k in
+    let h : l.k < length s.a.now = c.loop-k-test.true in
+    (omega arith, fill_turn _ _ _ _ _ l.invariant.1 (omega (arith, c.requires.1.1, c.requires.1.0.few)) (ap (λ (d : CircuitDesign). d.kv) (drawn_here s.ladder.now s.level.now s.a.now s.b.now s.km.now s.share.now s.sheet.now s.banks.now l.k _ h c.circuit-d.ensures)))
 
 returns : tie.Need-returns invariant-loop decreases-loop
 returns c =
-    let l = c.before.loop in
-    let s = c.before.before.before.before.before.before.before.before.before.before.args in
+    let l = c.loop-k in
+    let s = c.args in
     let e : l.k ≡ length s.a.now = omega arith in
     l.invariant.1 ∙ ap (λ (n : ℕ). filled s.out.now (λ (j : ℕ). (design (designs_for s.ladder.now s.level.now s.a.now s.b.now s.km.now s.share.now s.sheet.now s.banks.now) j).kv) n) e
 
-pub rank-kvs-spec : {M : Type 1} → statement M
-rank-kvs-spec =
+pub rank_kvs_spec : {M : Type 1} → statement M
+rank_kvs_spec =
     tie.close
-    (tie.spec
-    invariant-loop
-    decreases-loop
-    loop-holds
-    mul-circuit
-    shared-slice-read-circuit
-    circuit-requires
-    mul-out
-    element-write-out
-    add-k
-    loop-less
-    loop-again
-    returns)
+    (tie.spec invariant-loop decreases-loop loop-holds mul-circuit shared-slice-read-circuit circuit-requires mul-out element-write-out add-k loop-less loop-again returns)

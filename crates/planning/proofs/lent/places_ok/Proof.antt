@@ -5,17 +5,14 @@ use mathlib.Core.Bool.{and_assoc}
 use Rattle.planning.proofs.lent.places_ok.Statement.{statement}
 use Rattle.planning.proofs.lent.places_ok.Tie as tie
 
-work-ok-requires : tie.Need-work-ok-requires
+work-ok-requires : tie.Need-work_ok-requires
 work-ok-requires c κs = search rules
 
-work-ok-requires-2 : tie.Need-work-ok-requires-2
+work-ok-requires-2 : tie.Need-work_ok-requires-2
 work-ok-requires-2 c κs = search rules
 
 returns : tie.Need-returns
-returns c = rw (c.before.before.before.work-ok.ensures, c.before.before.work-ok2.ensures) (simp and_assoc)
+returns c = rw (c.work_ok.ensures, c.work_ok-2.ensures) (simp and_assoc)
 
-pub places-ok-spec : {M : Type 1} → statement M
-places-ok-spec = tie.close (tie.spec
-    work-ok-requires
-    work-ok-requires-2
-    returns)
+pub places_ok_spec : {M : Type 1} → statement M
+places_ok_spec = tie.close (tie.spec work-ok-requires work-ok-requires-2 returns)

@@ -7,58 +7,47 @@ use Rattle.planning.proofs.Passing.{pass_start, each_yes, each_no, each_end}
 use Rattle.planning.proofs.opening.demand_of.Statement.{statement}
 use Rattle.planning.proofs.opening.demand_of.Tie as tie
 
-abbrev invariant-loop : tie.invariant-loop
+abbrev invariant-loop : tie.invariant-loop-i
 invariant-loop root leader load demand₀ i₀ demand i = (i ≤ length leader) × (each (λ k s. plus s (at load k)) (pass_from (within leader root) (length leader - i) i) demand ≡ sum_over (at load) (members leader root))
 
-abbrev decreases-loop : tie.decreases-loop
+abbrev decreases-loop : tie.decreases-loop-i
 decreases-loop root leader load demand₀ i₀ demand i = length leader - i
 
-loop-holds : tie.Need-loop-init invariant-loop decreases-loop
+loop-holds : tie.Need-loop-i-init invariant-loop decreases-loop
 loop-holds c = (omega arith, ap (λ ks. each (λ k s. plus s (at c.args.load.now k)) ks nought) (pass_start (within c.args.leader.now c.args.root) (length c.args.leader.now)))
 
-mul-if1 : tie.Need-overflow-mul-if1 invariant-loop decreases-loop
+mul-if1 : tie.Need-offset_bounds-leader-i invariant-loop decreases-loop
 mul-if1 c = search rules
 
-shared-slice-read-if1 : tie.Need-shared-slice-read-if1 invariant-loop decreases-loop
+shared-slice-read-if1 : tie.Need-bounds-leader-i invariant-loop decreases-loop
 shared-slice-read-if1 c = search rules
 
-mul-demand : tie.Need-overflow-mul-demand invariant-loop decreases-loop
+mul-demand : tie.Need-offset_bounds-load-i invariant-loop decreases-loop
 mul-demand c = search rules
 
-shared-slice-read-demand : tie.Need-shared-slice-read-demand invariant-loop decreases-loop
+shared-slice-read-demand : tie.Need-bounds-load-i invariant-loop decreases-loop
 shared-slice-read-demand c = search rules
 
-add-i : tie.Need-overflow-add-i invariant-loop decreases-loop
+add-i : tie.Need-overflow_add-i invariant-loop decreases-loop
 add-i c = search rules
 
-loop-less : tie.Need-loop-smaller invariant-loop decreases-loop
+loop-less : tie.Need-loop-i-smaller invariant-loop decreases-loop
 loop-less c = search rules
 
-loop-again : tie.Need-loop-preserved invariant-loop decreases-loop
+loop-again : tie.Need-loop-i-preserved invariant-loop decreases-loop
 loop-again c =
-    let l = c.before.before.before.loop in (
+    let l = c.loop-i in (
       omega arith,
       ⊎_elim
-          (λ w. sym (each_yes _ (within c.before.before.before.before.args.leader.now c.before.before.before.before.args.root) (omega arith) (eq-eqb _ _ w.0.taken) w.2) ∙ l.invariant.1)
-          (λ w. sym (each_no _ (within c.before.before.before.before.args.leader.now c.before.before.before.before.args.root) (omega arith) (ne_eqb _ _ w.0.left) w.1) ∙ l.invariant.1)
-          c.if1.branch,
+          (λ w. sym (each_yes _ (within c.args.leader.now c.args.root) (omega arith) (eq-eqb _ _ w.0.taken) w.2) ∙ l.invariant.1)
+          (λ w. sym (each_no _ (within c.args.leader.now c.args.root) (omega arith) (ne_eqb _ _ w.0.left) w.1) ∙ l.invariant.1)
+          c.if-leader-i.branch,
     )
 
 returns : tie.Need-returns invariant-loop decreases-loop
-returns c = sym (each_end _ (within c.before.before.args.leader.now c.before.before.args.root) (omega arith)) ∙ c.before.loop.invariant.1
+returns c = sym (each_end _ (within c.args.leader.now c.args.root) (omega arith)) ∙ c.loop-i.invariant.1
 
-pub demand-of-spec : {M : Type 1} → statement M
-demand-of-spec =
+pub demand_of_spec : {M : Type 1} → statement M
+demand_of_spec =
     tie.close
-    (tie.spec
-    invariant-loop
-    decreases-loop
-    loop-holds
-    mul-if1
-    shared-slice-read-if1
-    mul-demand
-    shared-slice-read-demand
-    add-i
-    loop-less
-    loop-again
-    returns)
+    (tie.spec invariant-loop decreases-loop loop-holds mul-if1 shared-slice-read-if1 mul-demand shared-slice-read-demand add-i loop-less loop-again returns)

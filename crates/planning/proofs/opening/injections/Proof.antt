@@ -10,21 +10,21 @@ withdraw-requires c κs = search rules
 
 inject-requires : tie.Need-inject-requires
 inject-requires c κs =
-    let s = c.before.before.before.before.before.before.before.before.before.requires in
-    let e = ap length c.before.before.before.withdraw.ensures ∙ length_tab _ _ in
+    let s = c.requires in
+    let e = ap length c.withdraw.ensures ∙ length_tab _ _ in
     (record { few = s.0.few; below = λ k h. omega (arith, e, s.0.below k h, s.2) }, s.1)
 
-per-unit-requires : tie.Need-per-unit-requires
+per-unit-requires : tie.Need-per_unit-requires
 per-unit-requires c κs = search rules
 
-same_length : tie.Need-same-length
+same_length : tie.Need-shape_of-injection
 same_length c = search rules
 
 returns : tie.Need-returns
 returns c =
-    injections_are c.before.before.before.before.before.before.before.before.before.before.before.before.before.before.before.before.args.load.now c.before.before.before.before.before.before.before.before.before.before.before.before.before.before.before.before.args.bus.now c.before.before.before.before.before.before.before.before.before.before.before.before.before.before.before.before.args.mw.now _ _ _ c.before.before.before.before.before.before.before.before.before.before.withdraw.ensures c.before.before.before.before.before.before.inject.ensures
-    (c.before.before.before.before.before.before.inject.auto.1.1.0 ∙ ap length c.before.before.before.before.before.before.before.before.before.before.withdraw.ensures ∙ length_tab _ _) c.before.before.per-unit.ensures
+    injections_are c.args.load.now c.args.bus.now c.args.mw.now _ _ _ c.withdraw.ensures c.inject.ensures
+    (c.inject.auto.injection ∙ ap length c.withdraw.ensures ∙ length_tab _ _) c.per_unit.ensures
 
-pub injections-spec : {M : Type 1} → statement M
-injections-spec =
+pub injections_spec : {M : Type 1} → statement M
+injections_spec =
     tie.close (tie.spec withdraw-requires inject-requires per-unit-requires same_length returns)

@@ -8,62 +8,62 @@ use Rattle.planning.proofs.Passing.{pass_start, pass_yes, pass_no, pass_end}
 use Rattle.planning.proofs.opening.units_in.Statement.{statement}
 use Rattle.planning.proofs.opening.units_in.Tie as tie
 
-abbrev invariant-loop : tie.invariant-loop
+abbrev invariant-loop : tie.invariant-loop-k
 invariant-loop root leader bus units₀ count₀ k₀ units count k = (k ≤ length bus) × (count ≤ k) × (length units ≡ 128)
     × (take count units ++ pass_from (unit_within (bus_case bus) leader root) (length bus - k) k ≡ units_in (bus_case bus) leader root)
 
-abbrev decreases-loop : tie.decreases-loop
+abbrev decreases-loop : tie.decreases-loop-k
 decreases-loop root leader bus units₀ count₀ k₀ units count k = length bus - k
 
-loop-holds : tie.Need-loop-init invariant-loop decreases-loop
-loop-holds c = (omega arith, omega arith, c.before.before.requires.1, pass_start _ _)
+loop-holds : tie.Need-loop-k-init invariant-loop decreases-loop
+loop-holds c = (omega arith, omega arith, c.requires.1, pass_start _ _)
 
-mul_wide : tie.Need-overflow-mul-wide invariant-loop decreases-loop
+mul_wide : tie.Need-offset_bounds-bus-k invariant-loop decreases-loop
 mul_wide c = search rules
 
-shared-slice-read-wide : tie.Need-shared-slice-read-wide invariant-loop decreases-loop
+shared-slice-read-wide : tie.Need-bounds-bus-k invariant-loop decreases-loop
 shared-slice-read-wide c = search rules
 
-wide-requires : tie.Need-wide-requires invariant-loop decreases-loop
+wide-requires : tie.Need-wide-i-requires invariant-loop decreases-loop
 wide-requires c κs = search rules
 
-mul-if1 : tie.Need-overflow-mul-if1 invariant-loop decreases-loop
-mul-if1 c = let h : c.wide.result < length c.before.before.before.before.before.before.args.leader.now = omega (arith, c.wide.ensures, c.before.before.before.before.before.before.requires.0.below c.before.before.before.loop.k (omega arith)) in search rules
+mul-if1 : tie.Need-offset_bounds-leader-i invariant-loop decreases-loop
+mul-if1 c = let h : c.wide-i.result < length c.args.leader.now = omega (arith, c.wide-i.ensures, c.requires.0.below c.loop-k.k (omega arith)) in search rules
 
-shared-slice-read-if1 : tie.Need-shared-slice-read-if1 invariant-loop decreases-loop
-shared-slice-read-if1 c = omega (arith, c.before.wide.ensures, c.before.before.before.before.before.before.before.requires.0.below c.before.before.before.before.loop.k (omega arith))
+shared-slice-read-if1 : tie.Need-bounds-leader-i invariant-loop decreases-loop
+shared-slice-read-if1 c = omega (arith, c.wide-i.ensures, c.requires.0.below c.loop-k.k (omega arith))
 
-cast-units : tie.Need-overflow-cast-units invariant-loop decreases-loop
-cast-units c = omega (arith, c.before.before.before.before.before.before.before.before.requires.0.few)
+cast-units : tie.Need-overflow_cast-units invariant-loop decreases-loop
+cast-units c = omega (arith, c.requires.0.few)
 
-mul-units : tie.Need-overflow-mul-units invariant-loop decreases-loop
+mul-units : tie.Need-offset_bounds-units-count invariant-loop decreases-loop
 mul-units c = search rules
 
-element-write-units : tie.Need-element-write-units invariant-loop decreases-loop
-element-write-units c = omega (arith, c.before.before.before.before.before.before.before.before.requires.0.few)
+element-write-units : tie.Need-bounds-units-count invariant-loop decreases-loop
+element-write-units c = omega (arith, c.requires.0.few)
 
-add-count : tie.Need-overflow-add-count invariant-loop decreases-loop
+add-count : tie.Need-overflow_add-count invariant-loop decreases-loop
 add-count c = search rules
 
-add-k : tie.Need-overflow-add-k invariant-loop decreases-loop
+add-k : tie.Need-overflow_add-k invariant-loop decreases-loop
 add-k c = search rules
 
-loop-less : tie.Need-loop-smaller invariant-loop decreases-loop
+loop-less : tie.Need-loop-k-smaller invariant-loop decreases-loop
 loop-less c = search rules
 
-loop-again : tie.Need-loop-preserved invariant-loop decreases-loop
+loop-again : tie.Need-loop-k-preserved invariant-loop decreases-loop
 loop-again c =
-    let l = c.before.before.before.before.before.loop in
+    let l = c.loop-k in
     ⊎_elim
     (λ w.
     rw (w.1, w.2) (
       omega arith,
       omega arith,
       simp length-set l.invariant.2,
-      collect_keep l.units l.count l.k _ _ (omega (arith, c.before.before.before.before.before.before.before.before.requires.0.few))
+      collect_keep l.units l.count l.k _ _ (omega (arith, c.requires.0.few))
           (ap (λ (r : List ℕ). take l.count l.units ++ r)
-          (sym (pass_yes (unit_within (bus_case c.before.before.before.before.before.before.before.before.args.bus.now) c.before.before.before.before.before.before.before.before.args.leader.now c.before.before.before.before.before.before.before.before.args.root) (omega arith)
-          (eq-eqb _ _ (ap (λ (i : ℕ). get_or c.before.before.before.before.before.before.before.before.args.leader.now i 0) (sym c.before.before.wide.ensures) ∙ w.0.taken))))
+          (sym (pass_yes (unit_within (bus_case c.args.bus.now) c.args.leader.now c.args.root) (omega arith)
+          (eq-eqb _ _ (ap (λ (i : ℕ). get_or c.args.leader.now i 0) (sym c.wide-i.ensures) ∙ w.0.taken))))
           ∙ l.invariant.3),
     ))
     (λ w.
@@ -72,36 +72,20 @@ loop-again c =
       omega arith,
       l.invariant.2,
       ap (λ (r : List ℕ). take l.count l.units ++ r)
-          (sym (pass_no (unit_within (bus_case c.before.before.before.before.before.before.before.before.args.bus.now) c.before.before.before.before.before.before.before.before.args.leader.now c.before.before.before.before.before.before.before.before.args.root) (omega arith)
-          (ne_eqb _ _ (λ e. w.0.left (ap (λ (i : ℕ). get_or c.before.before.before.before.before.before.before.before.args.leader.now i 0) c.before.before.wide.ensures ∙ e)))))
+          (sym (pass_no (unit_within (bus_case c.args.bus.now) c.args.leader.now c.args.root) (omega arith)
+          (ne_eqb _ _ (λ e. w.0.left (ap (λ (i : ℕ). get_or c.args.leader.now i 0) c.wide-i.ensures ∙ e)))))
           ∙ l.invariant.3,
     ))
-    c.if1.branch
+    c.if-leader-i.branch
 
 returns : tie.Need-returns invariant-loop decreases-loop
 returns c =
-    let l = c.before.loop in
-    let e : take l.count l.units ++ [] ≡ units_in (bus_case c.before.before.before.before.args.bus.now) c.before.before.before.before.args.leader.now c.before.before.before.before.args.root =
-    ap (λ (r : List ℕ). take l.count l.units ++ r) (sym (pass_end (unit_within (bus_case c.before.before.before.before.args.bus.now) c.before.before.before.before.args.leader.now c.before.before.before.before.args.root) (omega arith))) ∙ l.invariant.3 in
-    (collect_count l.units l.count _ (omega (arith, c.before.before.before.before.requires.0.few)) e, sym (append-nil (take l.count l.units)) ∙ e)
+    let l = c.loop-k in
+    let e : take l.count l.units ++ [] ≡ units_in (bus_case c.args.bus.now) c.args.leader.now c.args.root =
+    ap (λ (r : List ℕ). take l.count l.units ++ r) (sym (pass_end (unit_within (bus_case c.args.bus.now) c.args.leader.now c.args.root) (omega arith))) ∙ l.invariant.3 in
+    (collect_count l.units l.count _ (omega (arith, c.requires.0.few)) e, sym (append-nil (take l.count l.units)) ∙ e)
 
-pub units-in-spec : {M : Type 1} → statement M
-units-in-spec =
+pub units_in_spec : {M : Type 1} → statement M
+units_in_spec =
     tie.close
-    (tie.spec
-    invariant-loop
-    decreases-loop
-    loop-holds
-    mul_wide
-    shared-slice-read-wide
-    wide-requires
-    mul-if1
-    shared-slice-read-if1
-    cast-units
-    mul-units
-    element-write-units
-    add-count
-    add-k
-    loop-less
-    loop-again
-    returns)
+    (tie.spec invariant-loop decreases-loop loop-holds mul_wide shared-slice-read-wide wide-requires mul-if1 shared-slice-read-if1 cast-units mul-units element-write-units add-count add-k loop-less loop-again returns)

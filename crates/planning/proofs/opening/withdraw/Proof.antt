@@ -7,55 +7,43 @@ use Rattle.loops.proofs.Tab.{fill_start, fill_turn, fill_end}
 use Rattle.planning.proofs.opening.withdraw.Statement.{statement}
 use Rattle.planning.proofs.opening.withdraw.Tie as tie
 
-abbrev invariant-loop : tie.invariant-loop
+abbrev invariant-loop : tie.invariant-loop-i
 invariant-loop load injection₀ i₀ injection i = (i ≤ length load) × (length injection ≡ length load) × (injection ≡ filled injection₀ (λ k. neg (at load k)) i)
 
-abbrev decreases-loop : tie.decreases-loop
+abbrev decreases-loop : tie.decreases-loop-i
 decreases-loop load injection₀ i₀ injection i = length load - i
 
-loop-holds : tie.Need-loop-init invariant-loop decreases-loop
+loop-holds : tie.Need-loop-i-init invariant-loop decreases-loop
 loop-holds c = (omega arith, c.requires, fill_start _ _)
 
-mul-injection : tie.Need-overflow-mul-injection invariant-loop decreases-loop
+mul-injection : tie.Need-offset_bounds-load-i invariant-loop decreases-loop
 mul-injection c = search rules
 
-shared-slice-read-injection : tie.Need-shared-slice-read-injection invariant-loop decreases-loop
+shared-slice-read-injection : tie.Need-bounds-load-i invariant-loop decreases-loop
 shared-slice-read-injection c = search rules
 
-mul-injection-2 : tie.Need-overflow-mul-injection-2 invariant-loop decreases-loop
+mul-injection-2 : tie.Need-offset_bounds-injection-i invariant-loop decreases-loop
 mul-injection-2 c = search rules
 
-slice-write-injection : tie.Need-slice-write-injection invariant-loop decreases-loop
+slice-write-injection : tie.Need-bounds-injection-i invariant-loop decreases-loop
 slice-write-injection c = search rules
 
-add-i : tie.Need-overflow-add-i invariant-loop decreases-loop
+add-i : tie.Need-overflow_add-i invariant-loop decreases-loop
 add-i c = search rules
 
-loop-less : tie.Need-loop-smaller invariant-loop decreases-loop
+loop-less : tie.Need-loop-i-smaller invariant-loop decreases-loop
 loop-less c = search rules
 
-loop-again : tie.Need-loop-preserved invariant-loop decreases-loop
-loop-again c = let l = c.before.before.loop in (omega arith, simp length-set l.invariant.1, fill_turn _ _ _ _ _ l.invariant.2 (omega arith) refl)
+loop-again : tie.Need-loop-i-preserved invariant-loop decreases-loop
+loop-again c = let l = c.loop-i in (omega arith, simp length-set l.invariant.1, fill_turn _ _ _ _ _ l.invariant.2 (omega arith) refl)
 
-same_length : tie.Need-same-length invariant-loop decreases-loop
+same_length : tie.Need-shape_of-injection invariant-loop decreases-loop
 same_length c = search rules
 
 returns : tie.Need-returns invariant-loop decreases-loop
-returns c = fill_end _ _ _ _ _ c.before.before.requires (omega arith) c.before.loop.invariant.2
+returns c = fill_end _ _ _ _ _ c.requires (omega arith) c.loop-i.invariant.2
 
-pub withdraw-spec : {M : Type 1} → statement M
-withdraw-spec =
+pub withdraw_spec : {M : Type 1} → statement M
+withdraw_spec =
     tie.close
-    (tie.spec
-    invariant-loop
-    decreases-loop
-    loop-holds
-    mul-injection
-    shared-slice-read-injection
-    mul-injection-2
-    slice-write-injection
-    add-i
-    loop-less
-    loop-again
-    same_length
-    returns)
+    (tie.spec invariant-loop decreases-loop loop-holds mul-injection shared-slice-read-injection mul-injection-2 slice-write-injection add-i loop-less loop-again same_length returns)

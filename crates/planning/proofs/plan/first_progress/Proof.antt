@@ -9,5 +9,5 @@ expands-requires c κs = search rules
 returns : tie.Need-returns
 returns c = rw c.expands.ensures
 
-pub first-progress-spec : {M : Type 1} → statement M
-first-progress-spec = tie.close (tie.spec expands-requires returns)
+pub first_progress_spec : {M : Type 1} → statement M
+first_progress_spec = tie.close (tie.spec expands-requires returns)

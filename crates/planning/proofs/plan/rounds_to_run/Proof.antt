@@ -7,15 +7,15 @@ use Rattle.planning.proofs.plan.rounds_to_run.Tie as tie
 expands-requires : tie.Need-expands-requires
 expands-requires c κs = search rules
 
-returns : tie.Need-returns
+returns : tie.Need-returns-then-expands-m
 returns c =
-    let z = c.before.before.args in
-    ap (λ (t : Bool). cond t planning_max_rounds 0) (sym (ap (λ (e : Bool). e && not (eqb z.m 0)) (sym c.before.expands.ensures) ∙ c.if1.true))
+    let z = c.args in
+    ap (λ (t : Bool). cond t planning_max_rounds 0) (sym (ap (λ (e : Bool). e && not (eqb z.m 0)) (sym c.expands.ensures) ∙ c.if-expands-m.true))
 
-returns-2 : tie.Need-returns-2
+returns-2 : tie.Need-returns
 returns-2 c =
-    let z = c.before.before.args in
-    ap (λ (t : Bool). cond t planning_max_rounds 0) (sym (ap (λ (e : Bool). e && not (eqb z.m 0)) (sym c.before.expands.ensures) ∙ c.if1.false))
+    let z = c.args in
+    ap (λ (t : Bool). cond t planning_max_rounds 0) (sym (ap (λ (e : Bool). e && not (eqb z.m 0)) (sym c.expands.ensures) ∙ c.if-expands-m.false))
 
-pub rounds-to-run-spec : {M : Type 1} → statement M
-rounds-to-run-spec = tie.close (tie.spec expands-requires returns returns-2)
+pub rounds_to_run_spec : {M : Type 1} → statement M
+rounds_to_run_spec = tie.close (tie.spec expands-requires returns returns-2)

@@ -10,24 +10,20 @@ use Rattle.planning.proofs.policy.cap_at.Tie as tie
 promotes-requires : tie.Need-promotes-requires
 promotes-requires c κs = search rules
 
-circuit-cap-requires : tie.Need-circuit-cap-requires
+circuit-cap-requires : tie.Need-circuit_cap-requires
 circuit-cap-requires c κs = search rules
 
-own-or-requires : tie.Need-own-or-requires
+own-or-requires : tie.Need-own_or-requires
 own-or-requires c κs = search rules
 
 returns : tie.Need-returns
 returns c =
-    let z = c.before.before.before.args in
-    let r = c.own-or.ensures in
-    let u = c.before.circuit-cap.ensures in (
-      r ∙ ap (own_or z.own) (u.0 ∙ ap (λ (x : Bool). circuit_cap x z.kv) c.before.before.promotes.ensures),
+    let z = c.args in
+    let r = c.own_or.ensures in
+    let u = c.circuit_cap.ensures in (
+      r ∙ ap (own_or z.own) (u.0 ∙ ap (λ (x : Bool). circuit_cap x z.kv) c.promotes.ensures),
       λ h. subst (λ (n : ℕ). n ≤ most_cap) (sym r) (own_few z.own _ h u.1),
     )
 
-pub cap-at-spec : {M : Type 1} → statement M
-cap-at-spec = tie.close (tie.spec
-    promotes-requires
-    circuit-cap-requires
-    own-or-requires
-    returns)
+pub cap_at_spec : {M : Type 1} → statement M
+cap_at_spec = tie.close (tie.spec promotes-requires circuit-cap-requires own-or-requires returns)

@@ -5,13 +5,13 @@ use Rattle.plan_defs.specs.Case.{circuit_cap}
 use Rattle.planning.proofs.policy.circuit_cap.Statement.{statement}
 use Rattle.planning.proofs.policy.circuit_cap.Tie as tie
 
-returns : tie.Need-returns
+returns : tie.Need-returns-then-promote-kv
 unfolding circuit_cap
-returns c = (simp c.if1.true, omega arith)
+returns c = (simp c.if-promote-kv.true, omega arith)
 
-returns-2 : tie.Need-returns-2
+returns-2 : tie.Need-returns-else-promote-kv
 unfolding circuit_cap
-returns-2 c = (simp c.if1.false, omega arith)
+returns-2 c = (simp c.if-promote-kv.false, omega arith)
 
-pub circuit-cap-spec : {M : Type 1} → statement M
-circuit-cap-spec = tie.close (tie.spec returns returns-2)
+pub circuit_cap_spec : {M : Type 1} → statement M
+circuit_cap_spec = tie.close (tie.spec returns returns-2)

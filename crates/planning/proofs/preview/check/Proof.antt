@@ -6,51 +6,42 @@ use Rattle.planning.proofs.Previews.{refused_length, refused_count, refused_mode
 use Rattle.planning.proofs.preview.check.Statement.{statement}
 use Rattle.planning.proofs.preview.check.Tie as tie
 
-returns : tie.Need-returns
+returns : tie.Need-returns-then-not-before-m
 unfolding lengths_ok
-returns c = let z = c.before.before.before.before.args in let p = kept_as z.mode z.m z.before.now z.order.now z.cap.now in refused_length p z.target z.places (not-true _ c.if1.true)
+returns c = let z = c.args in let p = kept_as z.mode z.m z.before.now z.order.now z.cap.now in refused_length p z.target z.places (c.if-not-before-m.true)
 
-returns-2 : tie.Need-returns-2
+returns-2 : tie.Need-returns-then-not-m-target
 unfolding lengths_ok
-returns-2 c = let z = c.before.before.before.before.before.args in let p = kept_as z.mode z.m z.before.now z.order.now z.cap.now in refused_count p z.target z.places (not-false _ c.before.if1.false) (not-true _ c.if2.true)
+returns-2 c = let z = c.args in let p = kept_as z.mode z.m z.before.now z.order.now z.cap.now in refused_count p z.target z.places (c.if-not-before-m.false) (c.if-not-m-target.true)
 
 promotes-requires : tie.Need-promotes-requires
 promotes-requires c κs = search rules
 
-returns-3 : tie.Need-returns-3
+returns-3 : tie.Need-returns-then-not-promotes
 unfolding lengths_ok
-returns-3 c = let z = c.before.before.before.before.before.before.before.args in let p = kept_as z.mode z.m z.before.now z.order.now z.cap.now in refused_mode p z.target z.places (not-false _ c.before.before.before.if1.false) (not-false _ c.before.before.if2.false) (sym c.before.promotes.ensures ∙ not-true _ c.if3.true)
+returns-3 c = let z = c.args in let p = kept_as z.mode z.m z.before.now z.order.now z.cap.now in refused_mode p z.target z.places (c.if-not-before-m.false) (c.if-not-m-target.false) (sym c.promotes.ensures ∙ c.if-not-promotes.true)
 
-faulty-count-requires : tie.Need-faulty-count-requires
+faulty-count-requires : tie.Need-faulty_count-k-requires
 unfolding lengths_ok
-faulty-count-requires c κs = let z = c.before.before.before.before.before.before.before.args in caps_sized z.mode z.m z.places z.before.now z.order.now z.cap.now (not-false _ c.before.before.before.if1.false)
+faulty-count-requires c κs = let z = c.args in caps_sized z.mode z.m z.places z.before.now z.order.now z.cap.now (c.if-not-before-m.false)
 
-returns-4 : tie.Need-returns-4
+returns-4 : tie.Need-returns-then-k-m
 unfolding lengths_ok
-returns-4 c = let z = c.before.before.before.before.before.before.before.before.before.args in let p = kept_as z.mode z.m z.before.now z.order.now z.cap.now in refused_corridor p z.target z.places (not-false _ c.before.before.before.before.before.if1.false) (not-false _ c.before.before.before.before.if2.false) (sym c.before.before.before.promotes.ensures ∙ not-false _ c.before.before.if3.false) _ (counts_scan z.mode z.m z.places z.before.now z.order.now z.cap.now (not-false _ c.before.before.before.before.before.if1.false) c.before.faulty-count.result c.before.faulty-count.ensures) c.if4.true
+returns-4 c = let z = c.args in let p = kept_as z.mode z.m z.before.now z.order.now z.cap.now in refused_corridor p z.target z.places (c.if-not-before-m.false) (c.if-not-m-target.false) (sym c.promotes.ensures ∙ c.if-not-promotes.false) _ (counts_scan z.mode z.m z.places z.before.now z.order.now z.cap.now (c.if-not-before-m.false) c.faulty_count-k.result c.faulty_count-k.ensures) c.if-k-m.true
 
-faulty-place-requires : tie.Need-faulty-place-requires
+faulty-place-requires : tie.Need-faulty_place-j-requires
 unfolding lengths_ok
-faulty-place-requires c κs = let z = c.before.before.before.before.before.before.before.before.before.args in order_few z.mode z.m z.places z.before.now z.order.now z.cap.now (not-false _ c.before.before.before.before.before.if1.false) z.target (not-false _ c.before.before.before.before.if2.false)
+faulty-place-requires c κs = let z = c.args in order_few z.mode z.m z.places z.before.now z.order.now z.cap.now (c.if-not-before-m.false) z.target (c.if-not-m-target.false)
 
-returns-5 : tie.Need-returns-5
+returns-5 : tie.Need-returns-then-j-m
 unfolding lengths_ok
-returns-5 c = let z = c.before.before.before.before.before.before.before.before.before.before.before.args in let p = kept_as z.mode z.m z.before.now z.order.now z.cap.now in refused_order p z.target z.places (not-false _ c.before.before.before.before.before.before.before.if1.false) (not-false _ c.before.before.before.before.before.before.if2.false) (sym c.before.before.before.before.before.promotes.ensures ∙ not-false _ c.before.before.before.before.if3.false) _ (counts_scan z.mode z.m z.places z.before.now z.order.now z.cap.now (not-false _ c.before.before.before.before.before.before.before.if1.false) c.before.before.before.faulty-count.result c.before.before.before.faulty-count.ensures) (omega (arith, c.before.before.if4.false)) _ (places_scan z.mode z.m z.places z.before.now z.order.now z.cap.now (not-false _ c.before.before.before.before.before.before.before.if1.false) c.before.faulty-place.result c.before.faulty-place.ensures) c.if5.true
+returns-5 c = let z = c.args in let p = kept_as z.mode z.m z.before.now z.order.now z.cap.now in refused_order p z.target z.places (c.if-not-before-m.false) (c.if-not-m-target.false) (sym c.promotes.ensures ∙ c.if-not-promotes.false) _ (counts_scan z.mode z.m z.places z.before.now z.order.now z.cap.now (c.if-not-before-m.false) c.faulty_count-k.result c.faulty_count-k.ensures) (omega (arith, c.if-k-m.false)) _ (places_scan z.mode z.m z.places z.before.now z.order.now z.cap.now (c.if-not-before-m.false) c.faulty_place-j.result c.faulty_place-j.ensures) c.if-j-m.true
 
-returns-6 : tie.Need-returns-6
+returns-6 : tie.Need-returns
 unfolding lengths_ok
-returns-6 c = let z = c.before.before.before.before.before.before.before.before.before.before.before.args in let p = kept_as z.mode z.m z.before.now z.order.now z.cap.now in passed_all p z.target z.places (not-false _ c.before.before.before.before.before.before.before.if1.false) (not-false _ c.before.before.before.before.before.before.if2.false) (sym c.before.before.before.before.before.promotes.ensures ∙ not-false _ c.before.before.before.before.if3.false) _ (counts_scan z.mode z.m z.places z.before.now z.order.now z.cap.now (not-false _ c.before.before.before.before.before.before.before.if1.false) c.before.before.before.faulty-count.result c.before.before.before.faulty-count.ensures) (omega (arith, c.before.before.if4.false)) _ (places_scan z.mode z.m z.places z.before.now z.order.now z.cap.now (not-false _ c.before.before.before.before.before.before.before.if1.false) c.before.faulty-place.result c.before.faulty-place.ensures) (omega (arith, c.if5.false))
+returns-6 c = let z = c.args in let p = kept_as z.mode z.m z.before.now z.order.now z.cap.now in passed_all p z.target z.places (c.if-not-before-m.false) (c.if-not-m-target.false) (sym c.promotes.ensures ∙ c.if-not-promotes.false) _ (counts_scan z.mode z.m z.places z.before.now z.order.now z.cap.now (c.if-not-before-m.false) c.faulty_count-k.result c.faulty_count-k.ensures) (omega (arith, c.if-k-m.false)) _ (places_scan z.mode z.m z.places z.before.now z.order.now z.cap.now (c.if-not-before-m.false) c.faulty_place-j.result c.faulty_place-j.ensures) (omega (arith, c.if-j-m.false))
 
-pub check-spec : {M : Type 1} → statement M
-check-spec =
+pub check_spec : {M : Type 1} → statement M
+check_spec =
     tie.close
-    (tie.spec
-    returns
-    returns-2
-    promotes-requires
-    returns-3
-    faulty-count-requires
-    returns-4
-    faulty-place-requires
-    returns-5
-    returns-6)
+    (tie.spec returns returns-2 promotes-requires returns-3 faulty-count-requires returns-4 faulty-place-requires returns-5 returns-6)

@@ -4,31 +4,25 @@ use Rattle.planning.proofs.Previews.{fills_anew, filled_anew}
 use Rattle.planning.proofs.preview.refill.Statement.{statement}
 use Rattle.planning.proofs.preview.refill.Tie as tie
 
-copied-requires : tie.Need-copied-requires
-copied-requires c κs = omega (arith, c.before.before.before.before.requires.1.order_size, c.before.before.before.before.requires.1.few)
+copied-requires : tie.Need-copied-all-requires
+copied-requires c κs = omega (arith, c.requires.1.order_size, c.requires.1.few)
 
-copied-requires-2 : tie.Need-copied-requires-2
-copied-requires-2 c κs = c.before.before.before.before.before.requires.1.few
+copied-requires-2 : tie.Need-copied-first-requires
+copied-requires-2 c κs = c.requires.1.few
 
-copy-front-requires : tie.Need-copy-front-requires
-copy-front-requires c κs = omega (arith, c.before.before.before.before.before.before.before.requires.1.circuits_size, c.before.before.before.before.before.before.before.requires.1.few)
+copy-front-requires : tie.Need-copy_front-requires
+copy-front-requires c κs = omega (arith, c.requires.1.circuits_size, c.requires.1.few)
 
 fill-requires : tie.Need-fill-requires
-fill-requires c κs = let z = c.before.before.before.before.before.before.before.before.before.before.before.before.args in fills_anew z.mode z.target z.before.now z.order.now z.cap.now z.circuits.now c.before.before.before.before.before.before.before.copied.result c.before.before.before.before.before.before.copied2.result _ c.before.before.before.before.before.before.before.before.before.before.before.before.requires.0 c.before.before.before.before.before.before.before.before.before.before.before.before.requires.1 c.before.before.before.before.before.before.before.copied.ensures.0 c.before.before.before.before.before.before.before.copied.ensures.1 c.before.before.before.before.before.before.copied2.ensures.0 c.before.before.before.before.copy-front.ensures
+fill-requires c κs = let z = c.args in fills_anew z.mode z.target z.before.now z.order.now z.cap.now z.circuits.now c.copied-all.result c.copied-first.result _ c.requires.0 c.requires.1 c.copied-all.ensures.0 c.copied-all.ensures.1 c.copied-first.ensures.0 c.copy_front.ensures
 
-same_length : tie.Need-same-length
+same_length : tie.Need-shape_of-circuits
 same_length c = search rules
 
 returns : tie.Need-returns
-returns c = let z = c.before.before.before.before.before.before.before.before.before.before.before.before.before.before.before.args in filled_anew z.mode z.target z.before.now z.order.now z.cap.now z.circuits.now c.before.before.before.before.before.before.before.before.before.before.copied.result c.before.before.before.before.before.before.before.before.before.copied2.result _ c.before.before.before.before.before.before.before.before.before.before.before.before.before.before.before.requires.0 c.before.before.before.before.before.before.before.before.before.before.before.before.before.before.before.requires.1 c.before.before.before.before.before.before.before.before.before.before.copied.ensures.0 c.before.before.before.before.before.before.before.before.before.before.copied.ensures.1 c.before.before.before.before.before.before.before.before.before.copied2.ensures.0 c.before.before.before.before.before.before.before.copy-front.ensures _ c.before.before.fill.ensures.0
+returns c = let z = c.args in filled_anew z.mode z.target z.before.now z.order.now z.cap.now z.circuits.now c.copied-all.result c.copied-first.result _ c.requires.0 c.requires.1 c.copied-all.ensures.0 c.copied-all.ensures.1 c.copied-first.ensures.0 c.copy_front.ensures _ c.fill.ensures.0
 
-pub refill-spec : {M : Type 1} → statement M
-refill-spec =
+pub refill_spec : {M : Type 1} → statement M
+refill_spec =
     tie.close
-    (tie.spec
-    copied-requires
-    copied-requires-2
-    copy-front-requires
-    fill-requires
-    same_length
-    returns)
+    (tie.spec copied-requires copied-requires-2 copy-front-requires fill-requires same_length returns)

@@ -19,5 +19,5 @@ float-requires c κs = search rules
 returns : tie.Need-returns
 returns c = let e = two_is in cc
 
-pub too-heavy-spec : {M : Type 1} → statement M
-too-heavy-spec = tie.close (tie.spec magnitude-requires float-requires returns)
+pub too_heavy_spec : {M : Type 1} → statement M
+too_heavy_spec = tie.close (tie.spec magnitude-requires float-requires returns)

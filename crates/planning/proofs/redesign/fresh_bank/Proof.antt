@@ -19,6 +19,6 @@ greater-requires-2 c κs = search rules
 returns : tie.Need-returns
 returns c = cc
 
-pub fresh-bank-spec : {M : Type 1} → statement M
-fresh-bank-spec =
+pub fresh_bank_spec : {M : Type 1} → statement M
+fresh_bank_spec =
     tie.close (tie.spec greater-requires more-requires float-requires greater-requires-2 returns)

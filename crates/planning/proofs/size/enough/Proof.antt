@@ -10,5 +10,5 @@ float-requires c κs = search rules
 returns : tie.Need-returns
 returns c = cc
 
-pub enough-spec : {M : Type 1} → statement M
-enough-spec = tie.close (tie.spec float-requires returns)
+pub enough_spec : {M : Type 1} → statement M
+enough_spec = tie.close (tie.spec float-requires returns)

@@ -7,7 +7,7 @@ use Rattle.planning.proofs.size.next_bank.Tie as tie
 float-requires : tie.Need-float-requires
 float-requires c κs = search rules
 
-ceil-requires : tie.Need-ceil-requires
+ceil-requires : tie.Need-ceil-sized-requires
 ceil-requires c κs = search rules
 
 lesser-requires : tie.Need-lesser-requires
@@ -16,5 +16,5 @@ lesser-requires c κs = search rules
 returns : tie.Need-returns
 returns c = cc
 
-pub next-bank-spec : {M : Type 1} → statement M
-next-bank-spec = tie.close (tie.spec float-requires ceil-requires lesser-requires returns)
+pub next_bank_spec : {M : Type 1} → statement M
+next_bank_spec = tie.close (tie.spec float-requires ceil-requires lesser-requires returns)

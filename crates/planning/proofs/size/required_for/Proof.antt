@@ -10,5 +10,5 @@ magnitude-requires c κs = search rules
 returns : tie.Need-returns
 returns c = cc
 
-pub required-for-spec : {M : Type 1} → statement M
-required-for-spec = tie.close (tie.spec magnitude-requires returns)
+pub required_for_spec : {M : Type 1} → statement M
+required_for_spec = tie.close (tie.spec magnitude-requires returns)

@@ -21,48 +21,48 @@ first-rated s d e =
     let z = s.args in
     subst Rated (sym e) (drawn_rated z.ladder.now z.level.now z.a.now z.b.now z.km.now z.share.now z.sheet.now z.k s.requires.lines s.requires.corridor (at z.banks.now z.k) (s.requires.banked z.k (omega (arith, s.requires.corridor, s.requires.held.bank_size))))
 
-mul-required-for : tie.Need-overflow-mul-required-for
+mul-required-for : tie.Need-offset_bounds-flow-k
 mul-required-for c = search rules
 
-shared-slice-read-required-for : tie.Need-shared-slice-read-required-for
+shared-slice-read-required-for : tie.Need-bounds-flow-k
 shared-slice-read-required-for c = search rules
 
-required-for-requires : tie.Need-required-for-requires
+required-for-requires : tie.Need-required_for-required-requires
 required-for-requires c κs = search rules
 
-mul-count : tie.Need-overflow-mul-count
+mul-count : tie.Need-offset_bounds-circuits-k
 mul-count c = search rules
 
-slice-read-count : tie.Need-slice-read-count
+slice-read-count : tie.Need-bounds-circuits-k
 slice-read-count c = search rules
 
-mul-circuit : tie.Need-overflow-mul-circuit
+mul-circuit : tie.Need-offset_bounds-banks-k
 mul-circuit c = search rules
 
-slice-read-circuit : tie.Need-slice-read-circuit
+slice-read-circuit : tie.Need-bounds-banks-k
 slice-read-circuit c = search rules
 
-circuit-requires : tie.Need-circuit-requires
-circuit-requires c κs = let s = c.before.before.before.before.before.before.before.before.before.before.before.before.before.before.before.before.before.before in (s.requires.lines, (s.requires.corridor, s.requires.banked s.args.k (omega (arith, s.requires.corridor, s.requires.held.bank_size))))
+circuit-requires : tie.Need-circuit-first-requires
+circuit-requires c κs = let s = c in (s.requires.lines, (s.requires.corridor, s.requires.banked s.args.k (omega (arith, s.requires.corridor, s.requires.held.bank_size))))
 
-next-bank-requires : tie.Need-next-bank-requires
+next-bank-requires : tie.Need-next_bank-next-requires
 next-bank-requires c κs = search rules
 
-enlarges-requires : tie.Need-enlarges-requires
+enlarges-requires : tie.Need-enlarges-larger-requires
 enlarges-requires c κs = search rules
 
-banked-if-requires : tie.Need-banked-if-requires
-banked-if-requires c κs = larger_ok _ _ _ _ _ (first-rated c.before.before.before.before.before.before.before.before.before.before.before.before.before.before.before.before.before.before.before.before.before _ c.before.before.circuit.ensures) c.before.next-bank.ensures c.enlarges.ensures
+banked-if-requires : tie.Need-banked_if-d-requires
+banked-if-requires c κs = larger_ok _ _ _ _ _ (first-rated c.before.before.before.before.before.before.before.before.before.before.before.before.before.before.before.before.before.before.before.before.before _ c.circuit-first.ensures) c.next_bank-next.ensures c.enlarges-larger.ensures
 
-keep-bank-requires : tie.Need-keep-bank-requires
-keep-bank-requires c κs = let s = c.before.before.before.before.before.before.before.before.before.before.before.before.before.before.before.before.before.before.before.before.before.before.before.before.before in (omega (arith, s.requires.corridor, s.requires.held.bank_size), omega (arith, s.requires.corridor, s.requires.held.floor_size), omega (arith, s.requires.corridor, s.requires.held.upsized_size))
+keep-bank-requires : tie.Need-keep_bank-requires
+keep-bank-requires c κs = let s = c in (omega (arith, s.requires.corridor, s.requires.held.bank_size), omega (arith, s.requires.corridor, s.requires.held.floor_size), omega (arith, s.requires.corridor, s.requires.held.upsized_size))
 
-with-bank-added-requires : tie.Need-with-bank-added-requires
+with-bank-added-requires : tie.Need-with_bank_added-s-requires
 with-bank-added-requires c κs = search rules
 
 grow-requires : tie.Need-grow-requires
 grow-requires c κs =
-    let s = c.before.before.before.before.before.before.before.before.before.before.before.before.before.before.before.before.before.before.before.before.before.before.before.before.before.before.before.before.before.before.before.before.before.before.before in
+    let s = c in
     let z = s.args in
     let h = s.requires.corridor in (
       record {
@@ -72,65 +72,45 @@ grow-requires c κs =
         b_below = s.requires.lines.b_below z.k h;
         mark_size = s.requires.held.mark_size;
       },
-      (omega (arith, h, s.requires.held.count_size), omega (arith, h, s.requires.capped.size), s.requires.capped.few z.k, omega (arith, s.requires.room, ap (λ (t : Tally). t.capacity) c.before.before.with-bank-added.ensures)),
+      (omega (arith, h, s.requires.held.count_size), omega (arith, h, s.requires.capped.size), s.requires.capped.few z.k, omega (arith, s.requires.room, ap (λ (t : Tally). t.capacity) c.with_bank_added-s.ensures)),
     )
 
-same_length : tie.Need-same-length
-same_length c = c.before.before.before.before.grow.auto.1.1.1.1.1.1.1.1.0
+same_length : tie.Need-shape_of-circuits
+same_length c = c.grow.auto.circuits
 
-same-length-2 : tie.Need-same-length-2
-same-length-2 c = c.before.before.before.before.before.before.before.before.before.before.before.before.before.before.keep-bank.auto.1.1.1.0
+same-length-2 : tie.Need-shape_of-banks
+same-length-2 c = c.keep_bank.auto.banks
 
-same-length-3 : tie.Need-same-length-3
-same-length-3 c = c.before.before.before.before.before.before.before.before.before.before.before.before.before.before.keep-bank.auto.1.1.1.1.0
+same-length-3 : tie.Need-shape_of-floors
+same-length-3 c = c.keep_bank.auto.floors
 
-same-length-4 : tie.Need-same-length-4
-same-length-4 c = c.before.before.before.before.before.before.before.before.before.before.before.before.before.before.keep-bank.auto.1.1.1.1.1.0
+same-length-4 : tie.Need-shape_of-upsized
+same-length-4 c = c.keep_bank.auto.upsized
 
-same-length-5 : tie.Need-same-length-5
-same-length-5 c = c.before.before.before.before.grow.auto.1.1.1.1.1.1.1.1.1.0
+same-length-5 : tie.Need-shape_of-marks
+same-length-5 c = c.grow.auto.marks
 
 returns : tie.Need-returns
 returns c =
-    let s = c.before.before.before.before.before.before.before.before.before.before.before.before.before.before.before.before.before.before.before.before.before.before.before.before.before.before.before.before.before.before.before.before.before.before.before.before.before.before.before.before in
+    let s = c in
     let z = s.args in
-    let first = c.before.before.before.before.before.before.before.before.before.before.before.before.before.before.before.before.before.before.before.before.before.circuit.ensures in
-    let next = c.before.before.before.before.before.before.before.before.before.before.before.before.before.before.before.before.before.before.before.before.next-bank.ensures in
-    let larger = c.before.before.before.before.before.before.before.before.before.before.before.before.before.before.before.before.before.before.before.enlarges.ensures in
-    let d = c.before.before.before.before.before.before.before.before.before.before.before.before.before.before.before.before.before.before.banked-if.ensures in
-    let kept = c.before.before.before.before.before.before.before.before.before.before.before.before.before.before.keep-bank.ensures in
-    let t = c.before.before.before.before.before.before.before.with-bank-added.ensures in
-    let g = c.before.before.before.before.grow.ensures in
+    let first = c.circuit-first.ensures in
+    let next = c.next_bank-next.ensures in
+    let larger = c.enlarges-larger.ensures in
+    let d = c.banked_if-d.ensures in
+    let kept = c.keep_bank.ensures in
+    let t = c.with_bank_added-s.ensures in
+    let g = c.grow.ensures in
     let h : z.k < length z.banks.now = omega (arith, s.requires.corridor, s.requires.held.bank_size) in
     record {
       sized = size_is z.mode (length z.level.now) z.ladder.now z.level.now z.a.now z.b.now z.km.now z.share.now z.cap.now z.sheet.now z.flow.now z.k z.circuits.now z.banks.now z.floors.now z.upsized.now z.marks.now z.t
-          s.requires.corridor s.requires.held.bank_size _ _ _ _ _ _ _ _ _ _ _ _ c.before.before.before.before.before.before.before.before.before.before.before.before.before.before.before.before.before.before.before.before.before.before.before.before.required-for.ensures first next larger d kept.0 kept.1.0 kept.1.1 t g;
-      banked = subst Banks (sym (kept.0 ∙ kept_next c.before.before.before.before.before.before.before.before.before.before.before.before.before.before.before.before.before.before.before.enlarges.result c.before.before.before.before.before.before.before.before.before.before.before.before.before.before.before.before.before.before.before.before.before.circuit.result c.before.before.before.before.before.before.before.before.before.before.before.before.before.before.before.before.before.before.banked-if.result c.before.before.before.before.before.before.before.before.before.before.before.before.before.before.before.before.before.before.before.before.next-bank.result z.banks.now z.k d)) (banks_set z.banks.now z.k _ _ h (larger_ok _ _ _ _ _ (first-rated s _ first) next larger) s.requires.banked);
+          s.requires.corridor s.requires.held.bank_size _ _ _ _ _ _ _ _ _ _ _ _ c.required_for-required.ensures first next larger d kept.0 kept.1.0 kept.1.1 t g;
+      banked = subst Banks (sym (kept.0 ∙ kept_next c.enlarges-larger.result c.circuit-first.result c.banked_if-d.result c.next_bank-next.result z.banks.now z.k d)) (banks_set z.banks.now z.k _ _ h (larger_ok _ _ _ _ _ (first-rated s.before.before.before.before.before.before.before.before.before.before.before.before.before.before.before.before.before.before.before.before.before.before.before.before.before.before.before.before.before.before.before.before.before.before.before.before.before.before.before.before _ first) next larger) s.requires.banked);
       bound = omega (arith, g.bound, ap (λ (x : Tally). x.capacity) t);
       few = g.few;
     }
 
-pub size-corridor-spec : {M : Type 1} → statement M
-size-corridor-spec =
+pub size_corridor_spec : {M : Type 1} → statement M
+size_corridor_spec =
     tie.close
-    (tie.spec
-    mul-required-for
-    shared-slice-read-required-for
-    required-for-requires
-    mul-count
-    slice-read-count
-    mul-circuit
-    slice-read-circuit
-    circuit-requires
-    next-bank-requires
-    enlarges-requires
-    banked-if-requires
-    keep-bank-requires
-    with-bank-added-requires
-    grow-requires
-    same_length
-    same-length-2
-    same-length-3
-    same-length-4
-    same-length-5
-    returns)
+    (tie.spec mul-required-for shared-slice-read-required-for required-for-requires mul-count slice-read-count mul-circuit slice-read-circuit circuit-requires next-bank-requires enlarges-requires banked-if-requires keep-bank-requires with-bank-added-requires grow-requires same_length same-length-2 same-length-3 same-length-4 same-length-5 returns)

@@ -7,39 +7,39 @@ use Rattle.planning.proofs.Solving.{unit_front, unit_length, unit_angles_are}
 use Rattle.planning.proofs.solve.unit_angles.Statement.{statement}
 use Rattle.planning.proofs.solve.unit_angles.Tie as tie
 
-mul-injection : tie.Need-overflow-mul-injection
+mul-injection : tie.Need-offset_bounds-injection-lead
 mul-injection c = search rules
 
-array-write-injection : tie.Need-array-write-injection
+array-write-injection : tie.Need-bounds-injection-lead
 array-write-injection c = search rules
 
-mul-injection-2 : tie.Need-overflow-mul-injection-2
+mul-injection-2 : tie.Need-offset_bounds-injection-lag
 mul-injection-2 c = search rules
 
-array-write-injection-2 : tie.Need-array-write-injection-2
+array-write-injection-2 : tie.Need-bounds-injection-lag
 array-write-injection-2 c = search rules
 
-sub-angles-from : tie.Need-overflow-sub-angles-from
+sub-angles-from : tie.Need-slice_bounds-angles_from-count
 sub-angles-from c = search rules
 
-part-angles-from-start : tie.Need-slice-bounds-angles-from-start
+part-angles-from-start : tie.Need-slice_bounds-angles_from-start
 part-angles-from-start c = search rules
 
-part-angles-from-end : tie.Need-slice-bounds-angles-from-end
+part-angles-from-end : tie.Need-slice_bounds-angles_from-end
 part-angles-from-end c = search rules
 
-sub-angles-from-2 : tie.Need-overflow-sub-angles-from-2
+sub-angles-from-2 : tie.Need-slice_bounds-angles_from-count-2
 sub-angles-from-2 c = search rules
 
-part-angles-from-start-2 : tie.Need-slice-bounds-angles-from-start-2
+part-angles-from-start-2 : tie.Need-slice_bounds-angles_from-start-2
 part-angles-from-start-2 c = search rules
 
-part-angles-from-end-2 : tie.Need-slice-bounds-angles-from-end-2
+part-angles-from-end-2 : tie.Need-slice_bounds-angles_from-end-2
 part-angles-from-end-2 c = search rules
 
-angles-from-requires : tie.Need-angles-from-requires
+angles-from-requires : tie.Need-angles_from-requires
 angles-from-requires c κs =
-    let s = c.before.before.before.before.before.before.before.before.before.before in
+    let s = c in
     let n = length s.args.phi.now in
     let few = s.requires.0.few_buses in (
       s.requires.0,
@@ -50,30 +50,17 @@ angles-from-requires c κs =
       },
     )
 
-same_length : tie.Need-same-length
+same_length : tie.Need-shape_of-phi
 same_length c = search rules
 
 returns : tie.Need-returns
 returns c =
-    let s = c.before.before.before.before.before.before.before.before.before.before.before.before.before in
+    let s = c in
     let n = length s.args.phi.now in
     let few = s.requires.0.few_buses in
-    unit_angles_are _ n _ _ _ _ _ _ (unit_front 256 n s.args.lead s.args.lag few s.requires.1.0 s.requires.1.1) (front_replicate 256 n nought few) c.before.before.angles-from.ensures
+    unit_angles_are _ n _ _ _ _ _ _ (unit_front 256 n s.args.lead s.args.lag few s.requires.1.0 s.requires.1.1) (front_replicate 256 n nought few) c.angles_from.ensures
 
-pub unit-angles-spec : {M : Type 1} → statement M
-unit-angles-spec =
+pub unit_angles_spec : {M : Type 1} → statement M
+unit_angles_spec =
     tie.close
-    (tie.spec
-    mul-injection
-    array-write-injection
-    mul-injection-2
-    array-write-injection-2
-    sub-angles-from
-    part-angles-from-start
-    part-angles-from-end
-    sub-angles-from-2
-    part-angles-from-start-2
-    part-angles-from-end-2
-    angles-from-requires
-    same_length
-    returns)
+    (tie.spec mul-injection array-write-injection mul-injection-2 array-write-injection-2 sub-angles-from part-angles-from-start part-angles-from-end sub-angles-from-2 part-angles-from-start-2 part-angles-from-end-2 angles-from-requires same_length returns)

@@ -14,7 +14,7 @@ cap-is : (count n : ℕ) (x y : Float) (cap : ℕ) → n ≡ count → x ≡ flo
 cap-is count n x y cap p q r s =
     ap (λ (k : ℕ). max k 1) (s ∙ ap (λ (z : Float). to_unsigned 64 z) (r ∙ ap (λ (z : Float). ceil (times stiffening_batch_share z)) (q ∙ ap (λ (k : ℕ). float k) p)))
 
-corridors-in-requires : tie.Need-corridors-in-requires
+corridors-in-requires : tie.Need-corridors_in-requires
 corridors-in-requires c κs = search rules
 
 float-requires : tie.Need-float-requires
@@ -23,30 +23,24 @@ float-requires c κs = search rules
 ceil-requires : tie.Need-ceil-requires
 ceil-requires c κs = search rules
 
-to-usize-requires : tie.Need-to-usize-requires
+to-usize-requires : tie.Need-to_usize-cap-requires
 to-usize-requires c κs = search rules
 
-returns : tie.Need-returns
+returns : tie.Need-returns-then-cap-lt1
 returns c =
-    let z = c.before.before.before.before.before.before.before.args in
+    let z = c.args in
     let n = counting (λ (k : ℕ). within z.leader.now z.root (get_or z.a.now k 0)) (length z.a.now) in
-    let e : 1 ≡ max c.before.to-usize.result 1 = omega (arith, c.if1.true) in
-    e ∙ cap-is n _ _ _ _ c.before.before.before.before.corridors-in.ensures c.before.before.before.float.ensures c.before.before.ceil.ensures c.before.to-usize.ensures
+    let e : 1 ≡ max c.to_usize-cap.result 1 = omega (arith, c.if-cap-lt1.true) in
+    e ∙ cap-is n _ _ _ _ c.corridors_in.ensures c.float.ensures c.ceil.ensures c.to_usize-cap.ensures
 
-returns-2 : tie.Need-returns-2
+returns-2 : tie.Need-returns-else-cap-lt1
 returns-2 c =
-    let z = c.before.before.before.before.before.before.before.args in
+    let z = c.args in
     let n = counting (λ (k : ℕ). within z.leader.now z.root (get_or z.a.now k 0)) (length z.a.now) in
-    let e : c.before.to-usize.result ≡ max c.before.to-usize.result 1 = omega (arith, c.if1.false) in
-    e ∙ cap-is n _ _ _ _ c.before.before.before.before.corridors-in.ensures c.before.before.before.float.ensures c.before.before.ceil.ensures c.before.to-usize.ensures
+    let e : c.to_usize-cap.result ≡ max c.to_usize-cap.result 1 = omega (arith, c.if-cap-lt1.false) in
+    e ∙ cap-is n _ _ _ _ c.corridors_in.ensures c.float.ensures c.ceil.ensures c.to_usize-cap.ensures
 
-pub batch-cap-spec : {M : Type 1} → statement M
-batch-cap-spec =
+pub batch_cap_spec : {M : Type 1} → statement M
+batch_cap_spec =
     tie.close
-    (tie.spec
-    corridors-in-requires
-    float-requires
-    ceil-requires
-    to-usize-requires
-    returns
-    returns-2)
+    (tie.spec corridors-in-requires float-requires ceil-requires to-usize-requires returns returns-2)

@@ -9,13 +9,10 @@ wide-requires : tie.Need-wide-requires
 wide-requires c κs = search rules
 
 returns : tie.Need-returns
-returns c = let s = c.before.before.before.args in ap (λ (n : ℕ). ltb s.count n && ltb c.before.wide.result s.g.branches) c.before.before.full_at.ensures ∙ ap (λ (n : ℕ). ltb s.count (own_or s.own max_circuits_per_corridor) && ltb n s.g.branches) c.before.wide.ensures
+returns c = let s = c.args in ap (λ (n : ℕ). ltb s.count n && ltb c.wide.result s.g.branches) c.full_at.ensures ∙ ap (λ (n : ℕ). ltb s.count (own_or s.own max_circuits_per_corridor) && ltb n s.g.branches) c.wide.ensures
 
-full-at-requires : tie.Need-full-at-requires
+full-at-requires : tie.Need-full_at-requires
 full-at-requires c κs = search rules
 
-pub has-room-spec : {M : Type 1} → statement M
-has-room-spec = tie.close (tie.spec
-    full-at-requires
-    wide-requires
-    returns)
+pub has_room_spec : {M : Type 1} → statement M
+has_room_spec = tie.close (tie.spec full-at-requires wide-requires returns)

@@ -13,27 +13,27 @@ budget-is : (above n hv branches top : ℕ) (level : List ℕ) → hv ≡ hv_bud
 budget-is above n hv branches top level p q r =
     ap (budget hv branches) r ∙ ap (λ (x : ℕ). budget hv x (stiffen_top above hv level)) q ∙ ap (λ (x : ℕ). budget x (share_of stiffening_branch_budget n) (stiffen_top above x level)) p
 
-cast-n : tie.Need-overflow-cast-n
+cast-n : tie.Need-overflow_cast-n
 cast-n c = search rules
 
-share-of-requires : tie.Need-share-of-requires
+share-of-requires : tie.Need-share_of-hv-requires
 share-of-requires c κs = search rules
 
-share-of-requires-2 : tie.Need-share-of-requires-2
+share-of-requires-2 : tie.Need-share_of-branches-requires
 share-of-requires-2 c κs = search rules
 
-cast-top-of : tie.Need-overflow-cast-top-of
+cast-top-of : tie.Need-overflow_cast-above
 cast-top-of c = search rules
 
-top-of-requires : tie.Need-top-of-requires
+top-of-requires : tie.Need-top_of-top-requires
 top-of-requires c κs = search rules
 
 returns : tie.Need-returns
 returns c =
-    let s = c.before.before.before.before.args in
-    budget-is s.above (length s.level.now) _ _ _ s.level.now c.before.before.share-of.ensures c.before.share-of2.ensures c.top_of.ensures
+    let s = c.args in
+    budget-is s.above (length s.level.now) _ _ _ s.level.now c.share_of-hv.ensures c.share_of-branches.ensures c.top_of-top.ensures
 
-pub limits-of-spec : {M : Type 1} → statement M
-limits-of-spec =
+pub limits_of_spec : {M : Type 1} → statement M
+limits_of_spec =
     tie.close
     (tie.spec cast-n share-of-requires share-of-requires-2 cast-top-of top-of-requires returns)

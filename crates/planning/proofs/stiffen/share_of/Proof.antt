@@ -8,11 +8,11 @@ use Rattle.planning.proofs.stiffen.share_of.Tie as tie
 float-requires : tie.Need-float-requires
 float-requires c κs = search rules
 
-to-usize-requires : tie.Need-to-usize-requires
+to-usize-requires : tie.Need-to_usize-requires
 to-usize-requires c κs = search rules
 
 returns : tie.Need-returns
-returns c = c.to-usize.ensures ∙ ap (λ (x : Float). to_unsigned 64 (times c.before.before.args.share x)) c.before.float.ensures
+returns c = c.to_usize.ensures ∙ ap (λ (x : Float). to_unsigned 64 (times c.args.share x)) c.float.ensures
 
-pub share-of-spec : {M : Type 1} → statement M
-share-of-spec = tie.close (tie.spec float-requires to-usize-requires returns)
+pub share_of_spec : {M : Type 1} → statement M
+share_of_spec = tie.close (tie.spec float-requires to-usize-requires returns)

@@ -5,64 +5,52 @@ use Rattle.planning.proofs.ToppingUp.{gives_refused, gives_plain, gives_topped}
 use Rattle.planning.proofs.top_up.give.Statement.{statement}
 use Rattle.planning.proofs.top_up.give.Tie as tie
 
-economic-dispatch-requires : tie.Need-economic-dispatch-requires
+economic-dispatch-requires : tie.Need-economic_dispatch-requires
 economic-dispatch-requires c κs = search rules
 
-enum-known-f : tie.Need-enum-known-f
+enum-known-f : tie.Need-enum_known-f
 enum-known-f c = search rules
 
 index-requires : tie.Need-index-requires
 index-requires c κs = search rules
 
-same_length : tie.Need-same-length
+same_length : tie.Need-shape_of-mw-in-Refused
 same_length c = search rules
 
-returns : tie.Need-returns
-returns c = gives_refused _ _ _ _ c.before.before.before.before.before.before.before.before.before.before.before.before.before.requires c.before.before.before.before.before.before.economic-dispatch.result _ c.before.before.before.before.before.before.economic-dispatch.ensures _ _ c.before.before.f.given.1 _ c.index.ensures
+returns : tie.Need-returns-in-Refused
+returns c = gives_refused _ _ _ _ c.requires c.economic_dispatch.result _ c.economic_dispatch.ensures _ _ c.in-Refused.is _ c.index.ensures
 
-enum_told : tie.Need-enum-told
+enum_told : tie.Need-enum_told-1
 enum_told c = search rules
 
-tops-up-requires : tie.Need-tops-up-requires
+tops-up-requires : tie.Need-tops_up-requires
 tops-up-requires c κs = search rules
 
-same-length-2 : tie.Need-same-length-2
+same-length-2 : tie.Need-shape_of-mw-then-not-tops_up
 same-length-2 c = search rules
 
-returns-2 : tie.Need-returns-2
-returns-2 c = gives_plain _ _ _ _ c.before.before.before.before.before.before.before.before.before.before.before.before.before.requires c.before.before.before.before.before.before.economic-dispatch.result _ c.before.before.before.before.before.before.economic-dispatch.ensures _ c.before.before.enum_told.given.1 (sym c.before.tops-up.ensures ∙ not-true _ c.if1.true)
+returns-2 : tie.Need-returns-then-not-tops_up
+returns-2 c = gives_plain _ _ _ _ c.requires c.economic_dispatch.result _ c.economic_dispatch.ensures _ c.in-Answered.is (sym c.tops_up.ensures ∙ c.if-not-tops_up.true)
 
-top-up-requires : tie.Need-top-up-requires
+top-up-requires : tie.Need-top_up-requires
 top-up-requires c κs =
-    let p = c.before.before.before.before.before.before.before.before.before.before.before.before.before.before.requires in
+    let p = c.requires in
     let even = p.units.even in
     record {
       few = omega (arith, p.few, even.c1);
       pmax_size = even.pmax ∙ sym even.c1;
-      mw_size = c.before.before.before.before.before.before.before.economic-dispatch.auto.1.1.1.1.1.1.0 ∙ p.room ∙ sym even.c1;
+      mw_size = c.economic_dispatch.auto.mw ∙ p.room ∙ sym even.c1;
     }
 
-same-length-3 : tie.Need-same-length-3
-same-length-3 c = c.before.before.top_up.auto.1.1.1.0 ∙ c.before.before.before.before.before.before.before.before.before.before.economic-dispatch.auto.1.1.1.1.1.1.0
+same-length-3 : tie.Need-shape_of-mw
+same-length-3 c = c.top_up.auto.mw ∙ c.economic_dispatch.auto.mw
 
-returns-3 : tie.Need-returns-3
+returns-3 : tie.Need-returns
 returns-3 c =
-    gives_topped _ _ _ _ c.before.before.before.before.before.before.before.before.before.before.before.before.before.before.before.before.before.requires c.before.before.before.before.before.before.before.before.before.before.economic-dispatch.result _ c.before.before.before.before.before.before.before.before.before.before.economic-dispatch.ensures _ c.before.before.before.before.before.before.enum_told.given.1 (sym c.before.before.before.before.before.tops-up.ensures ∙ not-false _ c.before.before.before.before.if1.false)
-    _ c.before.before.top_up.ensures
+    gives_topped _ _ _ _ c.requires c.economic_dispatch.result _ c.economic_dispatch.ensures _ c.in-Answered.is (sym c.tops_up.ensures ∙ c.if-not-tops_up.false)
+    _ c.top_up.ensures
 
 pub give_spec : {M : Type 1} → statement M
 give_spec =
     tie.close
-    (tie.spec
-    economic-dispatch-requires
-    enum-known-f
-    index-requires
-    same_length
-    returns
-    enum_told
-    tops-up-requires
-    same-length-2
-    returns-2
-    top-up-requires
-    same-length-3
-    returns-3)
+    (tie.spec economic-dispatch-requires enum-known-f index-requires same_length returns enum_told tops-up-requires same-length-2 returns-2 top-up-requires same-length-3 returns-3)

@@ -39,7 +39,7 @@ loop-again c = (omega arith, length-set c.loop-k.to c.loop-k.k _ ∙ c.loop-k.in
 same_length : tie.Need-shape_of-to invariant-loop decreases-loop
 same_length c = search rules
 
-whole : (c : tie.Start invariant-loop decreases-loop) → length c.args.t1 ≡ 256
+whole : (c : tie.Start invariant-loop decreases-loop) → length c.args.from ≡ 256
 whole c = search rules
 
 returns : tie.Need-returns invariant-loop decreases-loop

@@ -39,9 +39,9 @@ loop-again c =
     let l = c.loop-i in (
       omega arith,
       ⊎_elim
-          (λ w. sym (each_yes _ (within c.args.leader.now c.args.root) (omega arith) (eq-eqb _ _ w.0.taken) w.2) ∙ l.invariant.1)
-          (λ w. sym (each_no _ (within c.args.leader.now c.args.root) (omega arith) (ne_eqb _ _ w.0.left) w.1) ∙ l.invariant.1)
-          c.if-leader-i.branch,
+          (λ w. sym (each_yes _ (within c.args.leader.now c.args.root) (omega arith) (eq-eqb _ _ w.if-leader-i.true) w.demand-is) ∙ l.invariant.1)
+          (λ w. sym (each_no _ (within c.args.leader.now c.args.root) (omega arith) (ne_eqb _ _ w.if-leader-i.false) w.demand-is) ∙ l.invariant.1)
+          c.if-leader-i.branch-raw,
     )
 
 returns : tie.Need-returns invariant-loop decreases-loop

@@ -53,9 +53,9 @@ loop-again : tie.Need-loop-i-preserved invariant-loop decreases-loop
 loop-again c =
     let l = c.loop-i in
     ⊎_elim
-    (λ w. rw (w.3, w.4) (grounded_yes _ _ _ l.ground l.count l.i _ _ l.invariant (omega arith) c.wide.ensures w.0.taken w.2.ensures))
-    (λ w. rw (w.1, w.2) (grounded_no _ _ _ l.ground l.count l.i l.invariant (omega arith) (ne_eqb _ _ (λ e. w.0.left (c.wide.ensures ∙ e)))))
-    c.if-wide-i.branch
+    (λ w. rw (w.ground-is, w.count-is) (grounded_yes _ _ _ l.ground l.count l.i _ _ l.invariant (omega arith) c.wide.ensures w.if-wide-i.true w.ground_of.ensures))
+    (λ w. rw (w.ground-is, w.count-is) (grounded_no _ _ _ l.ground l.count l.i l.invariant (omega arith) (ne_eqb _ _ (λ e. w.if-wide-i.false (c.wide.ensures ∙ e)))))
+    c.if-wide-i.branch-raw
 
 same_length : tie.Need-shape_of-ground invariant-loop decreases-loop
 same_length c = c.loop-i.invariant.size ∙ sym c.requires.2

@@ -56,27 +56,27 @@ loop-again c =
     let l = c.loop-k in
     ⊎_elim
     (λ w.
-    rw (w.1, w.2) (
+    rw (w.units-is, w.count-is) (
       omega arith,
       omega arith,
       simp length-set l.invariant.2,
       collect_keep l.units l.count l.k _ _ (omega (arith, c.requires.0.few))
           (ap (λ (r : List ℕ). take l.count l.units ++ r)
           (sym (pass_yes (unit_within (bus_case c.args.bus.now) c.args.leader.now c.args.root) (omega arith)
-          (eq-eqb _ _ (ap (λ (i : ℕ). get_or c.args.leader.now i 0) (sym c.wide-i.ensures) ∙ w.0.taken))))
+          (eq-eqb _ _ (ap (λ (i : ℕ). get_or c.args.leader.now i 0) (sym c.wide-i.ensures) ∙ w.if-leader-i.true))))
           ∙ l.invariant.3),
     ))
     (λ w.
-    rw (w.1, w.2) (
+    rw (w.units-is, w.count-is) (
       omega arith,
       omega arith,
       l.invariant.2,
       ap (λ (r : List ℕ). take l.count l.units ++ r)
           (sym (pass_no (unit_within (bus_case c.args.bus.now) c.args.leader.now c.args.root) (omega arith)
-          (ne_eqb _ _ (λ e. w.0.left (ap (λ (i : ℕ). get_or c.args.leader.now i 0) c.wide-i.ensures ∙ e)))))
+          (ne_eqb _ _ (λ e. w.if-leader-i.false (ap (λ (i : ℕ). get_or c.args.leader.now i 0) c.wide-i.ensures ∙ e)))))
           ∙ l.invariant.3,
     ))
-    c.if-leader-i.branch
+    c.if-leader-i.branch-raw
 
 returns : tie.Need-returns invariant-loop decreases-loop
 returns c =

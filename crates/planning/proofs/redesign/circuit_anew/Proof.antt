@@ -15,10 +15,10 @@ use Rattle.planning.proofs.redesign.circuit_anew.Statement.{statement}
 use Rattle.planning.proofs.redesign.circuit_anew.Tie as tie
 
 -- the fresh bank, from the corridor's lower end
-fresh-here : (s : tie.Start) (e : Ends) (mva : Float) → e ≡ ends_of (ends_for s.args.ladder.now s.args.a.now s.args.b.now) s.args.level.now s.args.k
+fresh_here : (s : tie.Start) (e : Ends) (mva : Float) → e ≡ ends_of (ends_for s.args.ladder.now s.args.a.now s.args.b.now) s.args.level.now s.args.k
     → mva ≡ fresh_bank (at s.args.load.now e.to) (at s.args.gen_at.now e.to) (get_or s.args.shared.now e.to 0)
     → mva ≡ fresh_at (ends_for s.args.ladder.now s.args.a.now s.args.b.now) s.args.level.now s.args.load.now s.args.gen_at.now s.args.shared.now s.args.k
-fresh-here s e mva p q = let z = s.args in fresh_is z.ladder.now z.level.now z.a.now z.b.now z.km.now z.share.now z.sheet.now z.load.now z.gen_at.now z.shared.now z.k e mva _ _ p refl refl q
+fresh_here s e mva p q = let z = s.args in fresh_is z.ladder.now z.level.now z.a.now z.b.now z.km.now z.share.now z.sheet.now z.load.now z.gen_at.now z.shared.now z.k e mva _ _ p refl refl q
 
 ends-of-requires : tie.Need-ends_of-e-requires
 ends-of-requires c κs = let s = c in let z = s.args in ends_fit z.ladder.now z.level.now z.a.now z.b.now z.km.now z.share.now z.sheet.now z.k s.requires.lines s.requires.corridor
@@ -47,7 +47,7 @@ fresh-bank-requires c κs = search rules
 circuit-requires : tie.Need-circuit-fresh-requires
 circuit-requires c κs =
     let s = c in
-    (s.requires.lines, (s.requires.corridor, subst (λ (x : Float). rating_ok x ≡ true) (sym (fresh_at s.before.before.before.before.before.before.before.before.before.before.before.before.before.before.before _ _ c.ends_of-e.ensures c.fresh_bank-mva.ensures)) s.requires.fresh))
+    (s.requires.lines, (s.requires.corridor, subst (λ (x : Float). rating_ok x ≡ true) (sym (fresh_here s.before.before.before.before.before.before.before.before.before.before.before.before.before.before.before _ _ c.ends_of-e.ensures c.fresh_bank-mva.ensures)) s.requires.fresh))
 
 mul-kept-bank : tie.Need-offset_bounds-floors-k
 mul-kept-bank c = let s = c in omega (arith, s.requires.corridor, s.requires.lines.b_size, s.well_formed)
@@ -59,14 +59,14 @@ kept-bank-requires : tie.Need-kept_bank-requires
 kept-bank-requires c κs =
     let s = c in
     let z = s.args in
-    let m = subst (λ (x : Float). rating_ok x ≡ true) (sym (fresh_at s.before.before.before.before.before.before.before.before.before.before.before.before.before.before.before.before.before _ _ c.ends_of-e.ensures c.fresh_bank-mva.ensures)) s.requires.fresh in
+    let m = subst (λ (x : Float). rating_ok x ≡ true) (sym (fresh_here s.before.before.before.before.before.before.before.before.before.before.before.before.before.before.before.before.before _ _ c.ends_of-e.ensures c.fresh_bank-mva.ensures)) s.requires.fresh in
     subst Rated (sym c.circuit-fresh.ensures) (drawn_rated z.ladder.now z.level.now z.a.now z.b.now z.km.now z.share.now z.sheet.now z.k s.requires.lines s.requires.corridor _ m)
 
 returns : tie.Need-returns
 returns c =
     let s = c in
     let z = s.args in
-    anew_is z.ladder.now z.level.now z.a.now z.b.now z.km.now z.share.now z.sheet.now z.load.now z.gen_at.now z.shared.now z.k _ _ _ _ _ (fresh_at s.before.before.before.before.before.before.before.before.before.before.before.before.before.before.before.before.before.before _ _ c.ends_of-e.ensures c.fresh_bank-mva.ensures)
+    anew_is z.ladder.now z.level.now z.a.now z.b.now z.km.now z.share.now z.sheet.now z.load.now z.gen_at.now z.shared.now z.k _ _ _ _ _ (fresh_here s.before.before.before.before.before.before.before.before.before.before.before.before.before.before.before.before.before.before _ _ c.ends_of-e.ensures c.fresh_bank-mva.ensures)
     c.circuit-fresh.ensures c.kept_bank.ensures
 
 pub circuit_anew_spec : {M : Type 1} → statement M

@@ -69,16 +69,6 @@ abbrev decreases-rounds : tie.decreases-rounds
 decreases-rounds mode above budget ladder a b km share cap sheet load bus pmax leader grounds injection circuits₀ banks₀ floors₀ upsized₀ level₀ marks₀ angle₀ flow₀ p₀ left₀ circuits banks floors upsized level marks angle flow p left =
     left
 
--- where the loops stand, each seen from the one inside it
-abbrev start-of : tie.At-rounds invariant-loop decreases-loop invariant-loop2 decreases-loop2 invariant-rounds decreases-rounds → tie.Start invariant-loop decreases-loop invariant-loop2 decreases-loop2 invariant-rounds decreases-rounds
-start-of x = x.before.before.before.before.before.before.before.before.before.before.before.before.before.before.before.before.before.before.before.before.before.before
-
-abbrev round-of : tie.At-loop-k invariant-loop decreases-loop invariant-loop2 decreases-loop2 invariant-rounds decreases-rounds → tie.At-rounds invariant-loop decreases-loop invariant-loop2 decreases-loop2 invariant-rounds decreases-rounds
-round-of x = x.before.before.before.before.before.before.before.before.before.before.before.before.before.before.before.before.before.before.before.before
-
-abbrev sized_of : tie.At-loop-i invariant-loop decreases-loop invariant-loop2 decreases-loop2 invariant-rounds decreases-rounds → tie.At-loop-k invariant-loop decreases-loop invariant-loop2 decreases-loop2 invariant-rounds decreases-rounds
-sized_of x = x.before.before.before.before.before.before.before.before.before.before
-
 rounds-holds :
     tie.Need-rounds-init invariant-loop decreases-loop invariant-loop2 decreases-loop2 invariant-rounds decreases-rounds
 rounds-holds c = (c.requires, refl, λ o target s e. refl)
@@ -109,7 +99,7 @@ peak-state-requires :
     invariant-rounds
     decreases-rounds
 peak-state-requires c κs =
-    let z = (start-of c.before.before.before.before.before.before.before.before).args in
+    let z = c.args in
     let r = c.rounds in
     let f = r.invariant.0 in
     let d = c.draw_edges-e.ensures in
@@ -142,7 +132,7 @@ loop-holds :
     invariant-rounds
     decreases-rounds
 loop-holds c =
-    let z = (start-of c.before.before.before.before.before.before.before.before.before.before.before.before.before.before.before.before.before.before).args in
+    let z = c.args in
     let r = c.rounds in (
       omega arith,
       refl,
@@ -171,20 +161,20 @@ size-corridor-requires :
     invariant-rounds
     decreases-rounds
 size-corridor-requires c κs =
-    let r = (round-of c.before.before.before.before.before.before.before.before).rounds in
+    let r = c.rounds in
     let l = c.loop-k in
-    let z = (start-of (round-of c.before.before.before.before.before.before.before.before)).args in
+    let z = c.args in
     record {
-      lines = subst (λ (x : List ℕ). Lines z.ladder.now x z.a.now z.b.now z.km.now z.share.now z.sheet.now) (sym l.invariant.1) r.inv.0.columns.lines;
+      lines = subst (λ (x : List ℕ). Lines z.ladder.now x z.a.now z.b.now z.km.now z.share.now z.sheet.now) (sym l.invariant.1) r.invariant.0.columns.lines;
       held = l.invariant.3;
       banked = l.invariant.4;
-      capped = r.inv.0.capped;
+      capped = r.invariant.0.capped;
       corridor = c.loop-k-test.true;
-      room = omega (arith, l.invariant.6, c.loop-k-test.true, r.inv.0.tallies.capacity, r.inv.0.tallies.rounds, r.inv.0.columns.few, some_left c.if-left-eq0.false);
+      room = omega (arith, l.invariant.6, c.loop-k-test.true, r.invariant.0.tallies.capacity, r.invariant.0.tallies.rounds, r.invariant.0.columns.few, some_left c.if-left-eq0.false);
     }
 
 add-k : tie.Need-overflow_add-k invariant-loop decreases-loop invariant-loop2 decreases-loop2 invariant-rounds decreases-rounds
-add-k c = omega (arith, c.loop-k-test.true, (round-of c.before.before.before.before.before.before.before.before.before.before.before.before.before.before.before.before.before.before.before).rounds.inv.0.columns.few)
+add-k c = omega (arith, c.loop-k-test.true, c.rounds.invariant.0.columns.few)
 
 raise-marked-requires :
     tie.Need-raise_marked-moved-requires
@@ -195,15 +185,15 @@ raise-marked-requires :
     invariant-rounds
     decreases-rounds
 raise-marked-requires c κs =
-    let r = (round-of c.before.before.before.before.before.before.before.before.before.before.before.before.before.before.before.before.before.before.before.before.before.before.before.before).rounds in
+    let r = c.rounds in
     let l = c.loop-k in
-    let z = (start-of (round-of c.before.before.before.before.before.before.before.before.before.before.before.before.before.before.before.before.before.before.before.before.before.before.before.before)).args in
+    let z = c.args in
     let n = ap (λ (x : List ℕ). length x) l.invariant.1 in (
       record {
-        lines = subst (λ (x : List ℕ). Lines z.ladder.now x z.a.now z.b.now z.km.now z.share.now z.sheet.now) (sym l.invariant.1) r.inv.0.columns.lines;
-        loads = subst (λ (x : List ℕ). Loads x z.load.now) (sym l.invariant.1) r.inv.0.columns.loads;
-        units = r.inv.0.columns.units;
-        few = r.inv.0.columns.few;
+        lines = subst (λ (x : List ℕ). Lines z.ladder.now x z.a.now z.b.now z.km.now z.share.now z.sheet.now) (sym l.invariant.1) r.invariant.0.columns.lines;
+        loads = subst (λ (x : List ℕ). Loads x z.load.now) (sym l.invariant.1) r.invariant.0.columns.loads;
+        units = r.invariant.0.columns.units;
+        few = r.invariant.0.columns.few;
         floor_size = c.size_corridor-t.auto.floors ∙ l.invariant.3.floor_size;
         bank_size = c.size_corridor-t.auto.banks ∙ l.invariant.3.bank_size;
       },
@@ -212,7 +202,7 @@ raise-marked-requires c κs =
 
 add-p-2 :
     tie.Need-overflow_add-p-then-moved-t invariant-loop decreases-loop invariant-loop2 decreases-loop2 invariant-rounds decreases-rounds
-add-p-2 c = omega (arith, c.raise_marked-moved.ensures.few, ap (λ (x : List ℕ). length x) c.loop-k.invariant.1, (round-of c.before.before.before.before.before.before.before.before.before.before.before.before.before.before.before.before.before.before.before.before.before.before.before.before.before.before.before.before.before.before.before.before).rounds.inv.0.columns.loads.few, ap (λ (q : Progress). q.promoted) c.loop-k.invariant.2, (round-of c.before.before.before.before.before.before.before.before.before.before.before.before.before.before.before.before.before.before.before.before.before.before.before.before.before.before.before.before.before.before.before.before).rounds.inv.0.tallies.promoted, (round-of c.before.before.before.before.before.before.before.before.before.before.before.before.before.before.before.before.before.before.before.before.before.before.before.before.before.before.before.before.before.before.before.before).rounds.inv.0.tallies.rounds)
+add-p-2 c = omega (arith, c.raise_marked-moved.ensures.few, ap (λ (x : List ℕ). length x) c.loop-k.invariant.1, c.rounds.invariant.0.columns.loads.few, ap (λ (q : Progress). q.promoted) c.loop-k.invariant.2, c.rounds.invariant.0.tallies.promoted, c.rounds.invariant.0.tallies.rounds)
 
 rounds-less :
     tie.Need-rounds-smaller-then-moved-t invariant-loop decreases-loop invariant-loop2 decreases-loop2 invariant-rounds decreases-rounds
@@ -221,13 +211,13 @@ rounds-less c = omega (arith, some_left c.if-left-eq0.false)
 rounds-again :
     tie.Need-rounds-preserved-then-moved-t invariant-loop decreases-loop invariant-loop2 decreases-loop2 invariant-rounds decreases-rounds
 rounds-again c =
-    let z = (start-of (round-of c.before.before.before.before.before.before.before.before.before.before.before.before.before.before.before.before.before.before.before.before.before.before.before.before.before.before.before.before.before.before.before.before)).args in
-    let r = (round-of c.before.before.before.before.before.before.before.before.before.before.before.before.before.before.before.before.before.before.before.before.before.before.before.before.before.before.before.before.before.before.before.before).rounds in
+    let z = c.args in
+    let r = c.rounds in
     let l = c.loop-k in
     let ln = ap (λ (x : List ℕ). length x) l.invariant.1 in
     let n = c.raise_marked-moved.auto.level ∙ ln in (
       fit_again
-          r.inv.0
+          r.invariant.0
           n
           c.raise_marked-moved.ensures.lines
           (c.size_corridor-t.auto.circuits ∙ l.invariant.3.count_size)
@@ -235,20 +225,20 @@ rounds-again c =
           (c.size_corridor-t.auto.floors ∙ l.invariant.3.floor_size)
           (c.size_corridor-t.auto.upsized ∙ l.invariant.3.upsized_size)
           (c.size_corridor-t.auto.marks ∙ l.invariant.3.mark_size ∙ ln)
-          (c.peak_state.auto.angle ∙ r.inv.0.places.angle_size)
-          (c.peak_state.auto.flow ∙ r.inv.0.places.flow_size)
+          (c.peak_state.auto.angle ∙ r.invariant.0.places.angle_size)
+          (c.peak_state.auto.flow ∙ r.invariant.0.places.flow_size)
           (
           record {
-            few_levels = r.inv.0.tallies.few_levels;
-            rounds = one_less r.p.rounds l.p.rounds r.left (ap (λ (q : Progress). q.rounds) l.invariant.2) r.inv.0.tallies.rounds (some_left c.if-left-eq0.false);
-            promoted = moved_more r.p.rounds l.p.rounds r.p.promoted l.p.promoted _ (length r.level) (length l.level) (ap (λ (q : Progress). q.rounds) l.invariant.2) (ap (λ (q : Progress). q.promoted) l.invariant.2) r.inv.0.tallies.promoted c.raise_marked-moved.ensures.few ln r.inv.0.columns.loads.few;
-            capacity = omega (arith, ap (λ (q : Progress). q.rounds) l.invariant.2, c.size_corridor-t.ensures.bound, l.invariant.6, r.inv.0.tallies.capacity, r.inv.0.columns.few, c.loop-k-test.true);
-            stiffening = still_stiffened r.p.rounds l.p.rounds r.p.stiffening l.p.stiffening (ap (λ (q : Progress). q.rounds) l.invariant.2) (ap (λ (q : Progress). q.stiffening) l.invariant.2) r.inv.0.tallies.stiffening;
+            few_levels = r.invariant.0.tallies.few_levels;
+            rounds = one_less r.p.rounds l.p.rounds r.left (ap (λ (q : Progress). q.rounds) l.invariant.2) r.invariant.0.tallies.rounds (some_left c.if-left-eq0.false);
+            promoted = moved_more r.p.rounds l.p.rounds r.p.promoted l.p.promoted _ (length r.level) (length l.level) (ap (λ (q : Progress). q.rounds) l.invariant.2) (ap (λ (q : Progress). q.promoted) l.invariant.2) r.invariant.0.tallies.promoted c.raise_marked-moved.ensures.few ln r.invariant.0.columns.loads.few;
+            capacity = omega (arith, ap (λ (q : Progress). q.rounds) l.invariant.2, c.size_corridor-t.ensures.bound, l.invariant.6, r.invariant.0.tallies.capacity, r.invariant.0.columns.few, c.loop-k-test.true);
+            stiffening = still_stiffened r.p.rounds l.p.rounds r.p.stiffening l.p.stiffening (ap (λ (q : Progress). q.rounds) l.invariant.2) (ap (λ (q : Progress). q.stiffening) l.invariant.2) r.invariant.0.tallies.stiffening;
           })
           c.raise_marked-moved.ensures.banked
           (c.size_corridor-t.ensures.few l.invariant.5),
-      n ∙ r.inv.1,
-      sized_again z.mode z.above z.ladder.now z.a.now z.b.now z.km.now z.share.now z.cap.now z.sheet.now z.load.now z.bus.now z.pmax.now z.leader.now z.grounds.now z.injection.now (length z.leader.now) l.level r.level r.circuits r.banks r.floors r.upsized r.angle r.p (goes_on z.mode z.above z.ladder.now z.a.now z.b.now z.km.now z.share.now z.cap.now z.sheet.now z.load.now z.bus.now z.pmax.now z.leader.now z.grounds.now z.injection.now (length z.leader.now) z.budget z.level.now z.circuits.now z.banks.now z.floors.now z.upsized.now z.angle.now z.start) r.left (r.left - 1) (omega (arith, some_left c.if-left-eq0.false)) l.invariant.1 (sym r.inv.0.places.leader_size) r.inv.2 _ _ _ c.draw_edges-e.result.from c.draw_edges-e.result.to c.draw_edges-e.result.weight c.draw_edges-e.ensures.0 _ _ r.inv.0.places.angle_size r.inv.0.places.flow_size c.peak_state.ensures c.in-Answered.is _ _ _ _ _ _ _ (omega (arith, c.if-k-a.true)) (left_turn z.mode (length l.level) z.ladder.now l.level z.a.now z.b.now z.km.now z.share.now z.cap.now z.sheet.now _ l.k l.circuits l.banks l.floors l.upsized l.marks l.t _ _ _ _ _ _ c.loop-k-test.true c.size_corridor-t.ensures.sized ∙ l.invariant.7) _ l.invariant.2 _ _ _ c.raise_marked-moved.ensures c.if-moved-t.true,
+      n ∙ r.invariant.1,
+      sized_again z.mode z.above z.ladder.now z.a.now z.b.now z.km.now z.share.now z.cap.now z.sheet.now z.load.now z.bus.now z.pmax.now z.leader.now z.grounds.now z.injection.now (length z.leader.now) l.level r.level r.circuits r.banks r.floors r.upsized r.angle r.p (goes_on z.mode z.above z.ladder.now z.a.now z.b.now z.km.now z.share.now z.cap.now z.sheet.now z.load.now z.bus.now z.pmax.now z.leader.now z.grounds.now z.injection.now (length z.leader.now) z.budget z.level.now z.circuits.now z.banks.now z.floors.now z.upsized.now z.angle.now z.start) r.left (r.left - 1) (omega (arith, some_left c.if-left-eq0.false)) l.invariant.1 (sym r.invariant.0.places.leader_size) r.invariant.2 _ _ _ c.draw_edges-e.result.from c.draw_edges-e.result.to c.draw_edges-e.result.weight c.draw_edges-e.ensures.0 _ _ r.invariant.0.places.angle_size r.invariant.0.places.flow_size c.peak_state.ensures c.in-Answered.is _ _ _ _ _ _ _ (omega (arith, c.if-k-a.true)) (left_turn z.mode (length l.level) z.ladder.now l.level z.a.now z.b.now z.km.now z.share.now z.cap.now z.sheet.now _ l.k l.circuits l.banks l.floors l.upsized l.marks l.t _ _ _ _ _ _ c.loop-k-test.true c.size_corridor-t.ensures.sized ∙ l.invariant.7) _ l.invariant.2 _ _ _ c.raise_marked-moved.ensures c.if-moved-t.true,
     )
 
 promotes-requires :
@@ -280,8 +270,8 @@ loop-again :
     invariant-rounds
     decreases-rounds
 loop-again c =
-    let z = (start-of (round-of c.before.before.before.before.before.before.before.before.before.before.before.before.before.before.before.before.before.before.before.before.before.before.before.before.before.before.before.before.before.before.before.before.before)).args in
-    let r = (round-of c.before.before.before.before.before.before.before.before.before.before.before.before.before.before.before.before.before.before.before.before.before.before.before.before.before.before.before.before.before.before.before.before.before).rounds in
+    let z = c.args in
+    let r = c.rounds in
     let l = c.loop-k in
     let done = nothing_done _ _ c.if-moved-t.false in
     let lv = (c.raise_marked-moved.ensures.still done.0).0 in
@@ -324,8 +314,8 @@ loop-again-2 :
     invariant-rounds
     decreases-rounds
 loop-again-2 c =
-    let z = (start-of (round-of c.before.before.before.before.before.before.before.before.before.before.before.before.before.before.before.before.before.before.before.before)).args in
-    let r = (round-of c.before.before.before.before.before.before.before.before.before.before.before.before.before.before.before.before.before.before.before.before).rounds in
+    let z = c.args in
+    let r = c.rounds in
     let l = c.loop-k in (
       omega (arith, c.loop-k-test.true),
       l.invariant.1,
@@ -353,7 +343,7 @@ limits-of-requires :
     decreases-loop2
     invariant-rounds
     decreases-rounds
-limits-of-requires c κs = (omega (arith, ap (λ (x : List ℕ). length x) c.loop-k.invariant.1, (round-of c.before.before).rounds.inv.0.columns.loads.few), (round-of c.before.before).rounds.inv.0.tallies.few_levels)
+limits-of-requires c κs = (omega (arith, ap (λ (x : List ℕ). length x) c.loop-k.invariant.1, c.rounds.invariant.0.columns.loads.few), c.rounds.invariant.0.tallies.few_levels)
 
 stiffness-from-requires :
     tie.Need-stiffness_from-s-requires
@@ -364,11 +354,11 @@ stiffness-from-requires :
     invariant-rounds
     decreases-rounds
 stiffness-from-requires c κs =
-    let r = (round-of c.before.before.before.before.before.before).rounds in
+    let r = c.rounds in
     let l = c.loop-k in
     let n = ap (λ (x : List ℕ). length x) l.invariant.1 in
-    let m : length l.circuits ≡ length (start-of (round-of c.before.before.before.before.before.before)).args.a.now = l.invariant.3.count_size in
-    (omega (arith, n, r.inv.0.columns.loads.few), l.invariant.3.mark_size, record { few = omega (arith, m, r.inv.0.columns.few); each = λ k h. l.invariant.5 k })
+    let m : length l.circuits ≡ length c.args.a.now = l.invariant.3.count_size in
+    (omega (arith, n, r.invariant.0.columns.loads.few), l.invariant.3.mark_size, record { few = omega (arith, m, r.invariant.0.columns.few); each = λ k h. l.invariant.5 k })
 
 loop2-holds :
     tie.Need-loop-i-init
@@ -379,11 +369,11 @@ loop2-holds :
     invariant-rounds
     decreases-rounds
 loop2-holds c =
-    let r = (round-of c.before.before.before.before.before.before.before.before.before).rounds in
+    let r = c.rounds in
     let l = c.loop-k in
-    let z = (start-of (round-of c.before.before.before.before.before.before.before.before.before)).args in
-    let h : 0 < length r.level = omega (arith, r.inv.0.columns.lines.a_below 0 r.inv.0.some) in
-    let w : 0 < length z.leader.now = omega (arith, h, r.inv.0.places.leader_size) in
+    let z = c.args in
+    let h : 0 < length r.level = omega (arith, r.invariant.0.columns.lines.a_below 0 r.invariant.0.some) in
+    let w : 0 < length z.leader.now = omega (arith, h, r.invariant.0.places.leader_size) in
     (w, refl, refl, (refl, refl, refl, refl, refl), l.invariant.4, l.invariant.5, (omega arith, omega arith, omega arith), λ o target s e. refl)
 
 rounds-less-2 :
@@ -394,7 +384,7 @@ rounds-less-2 :
     decreases-loop2
     invariant-rounds
     decreases-rounds
-rounds-less-2 c = omega (arith, some_left (sized_of c.before).before.before.before.before.before.before.before.before.before.before.before.before.before.before.before.before.before.before.before.if1.left)
+rounds-less-2 c = omega (arith, some_left c.if-left-eq0.false)
 
 rounds-again-2 :
     tie.Need-rounds-preserved
@@ -415,36 +405,36 @@ stiffen-led-requires :
     invariant-rounds
     decreases-rounds
 stiffen-led-requires c κs =
-    let r = (round-of (sized_of c.before.before.before.before.before.before.before.before)).rounds in
-    let l = (sized_of c.before.before.before.before.before.before.before.before).loop in
+    let r = c.rounds in
+    let l = c.loop-k in
     let k = c.loop-i in
-    let z = (start-of (round-of (sized_of c.before.before.before.before.before.before.before.before))).args in
-    let lv = k.invariant.1 ∙ l.inv.1 in
+    let z = c.args in
+    let lv = k.invariant.1 ∙ l.invariant.1 in
     let n = ap (λ (x : List ℕ). length x) lv in
-    let f = r.inv.0 in
-    let d = (sized_of c.before.before.before.before.before.before.before.before).before.before.before.before.before.before.before.before.before.before.before.before.before.before.draw_edges.ensures in
-    let m : length l.circuits ≡ length z.a.now = l.inv.3.count_size in (
+    let f = r.invariant.0 in
+    let d = c.draw_edges-e.ensures in
+    let m : length l.circuits ≡ length z.a.now = l.invariant.3.count_size in (
       record {
         lines = subst (λ (x : List ℕ). Lines z.ladder.now x z.a.now z.b.now z.km.now z.share.now z.sheet.now) (sym lv) f.columns.lines;
         edges = peaked z.ladder.now r.level z.a.now z.b.now z.km.now z.share.now z.sheet.now r.circuits r.banks (drawing_of f) _ _ _ d.0 (length k.level) (length z.a.now) n refl d.1.0 d.1.1 d.1.2;
         few_grounds = f.places.few_grounds;
         ground_below = λ i h. omega (arith, n, f.places.ground_below i h);
         leader_size = f.places.leader_size ∙ sym n;
-        angle_size = (sized_of c.before.before.before.before.before.before.before.before).before.before.before.before.before.before.before.before.before.before.before.peak_state.kept.1.1.1.0 ∙ f.places.angle_size ∙ sym n;
+        angle_size = c.peak_state.auto.angle ∙ f.places.angle_size ∙ sym n;
         capped = f.capped;
-        count_size = k.invariant.3.0 ∙ l.inv.3.count_size;
-        bank_size = k.invariant.3.1 ∙ l.inv.3.bank_size;
-        floor_size = k.invariant.3.2 ∙ l.inv.3.floor_size;
-        upsized_size = k.invariant.3.3 ∙ l.inv.3.upsized_size;
-        mark_size = k.invariant.3.4 ∙ c.stiffness_from-s.auto.marks ∙ l.inv.3.mark_size ∙ ap (λ (x : List ℕ). length x) (sym k.invariant.1);
+        count_size = k.invariant.3.0 ∙ l.invariant.3.count_size;
+        bank_size = k.invariant.3.1 ∙ l.invariant.3.bank_size;
+        floor_size = k.invariant.3.2 ∙ l.invariant.3.floor_size;
+        upsized_size = k.invariant.3.3 ∙ l.invariant.3.upsized_size;
+        mark_size = k.invariant.3.4 ∙ c.stiffness_from-s.auto.marks ∙ l.invariant.3.mark_size ∙ ap (λ (x : List ℕ). length x) (sym k.invariant.1);
         banked = k.invariant.4;
       },
       (
         c.loop-i-test.true,
         record {
-          total = omega (arith, k.invariant.6.0, ap (λ (x : Stiffness). x.total) c.stiffness_from-s.ensures.1, few_sum l.circuits l.inv.5, m, c.loop-i-test.true, f.places.leader_size, f.columns.loads.few, f.columns.few);
-          hv = omega (arith, k.invariant.6.1, ap (λ (x : Stiffness). x.hv) c.stiffness_from-s.ensures.1, few_high l.level c.limits_of-g.result.top, ap (λ (x : List ℕ). length x) l.inv.1, f.columns.loads.few, c.loop-i-test.true, f.places.leader_size, f.columns.loads.few, f.columns.few);
-          stiffening = omega (arith, k.invariant.6.2, ap (λ (x : Stiffness). x.stiffening) c.stiffness_from-s.ensures.1, ap (λ (q : Progress). q.stiffening) l.inv.2, c.loop-i-test.true, f.places.leader_size, f.columns.loads.few, f.columns.few, f.tallies.stiffening, f.tallies.rounds);
+          total = omega (arith, k.invariant.6.0, ap (λ (x : Stiffness). x.total) c.stiffness_from-s.ensures.1, few_sum l.circuits l.invariant.5, m, c.loop-i-test.true, f.places.leader_size, f.columns.loads.few, f.columns.few);
+          hv = omega (arith, k.invariant.6.1, ap (λ (x : Stiffness). x.hv) c.stiffness_from-s.ensures.1, few_high l.level c.limits_of-g.result.top, ap (λ (x : List ℕ). length x) l.invariant.1, f.columns.loads.few, c.loop-i-test.true, f.places.leader_size, f.columns.loads.few, f.columns.few);
+          stiffening = omega (arith, k.invariant.6.2, ap (λ (x : Stiffness). x.stiffening) c.stiffness_from-s.ensures.1, ap (λ (q : Progress). q.stiffening) l.invariant.2, c.loop-i-test.true, f.places.leader_size, f.columns.loads.few, f.columns.few, f.tallies.stiffening, f.tallies.rounds);
         },
       ),
     )
@@ -455,19 +445,19 @@ Dom {A} f = A
 
 -- what is left of the stiffening comes to what all the rounds do
 whole : (c : Dom stiffen-led-requires)
-    → Alike (start-of (round-of (sized_of c.before.before.before.before.before.before.before.before))).args.mode (start-of (round-of (sized_of c.before.before.before.before.before.before.before.before))).args.above (start-of (round-of (sized_of c.before.before.before.before.before.before.before.before))).args.ladder.now (start-of (round-of (sized_of c.before.before.before.before.before.before.before.before))).args.a.now (start-of (round-of (sized_of c.before.before.before.before.before.before.before.before))).args.b.now (start-of (round-of (sized_of c.before.before.before.before.before.before.before.before))).args.km.now (start-of (round-of (sized_of c.before.before.before.before.before.before.before.before))).args.share.now (start-of (round-of (sized_of c.before.before.before.before.before.before.before.before))).args.cap.now (start-of (round-of (sized_of c.before.before.before.before.before.before.before.before))).args.sheet.now (start-of (round-of (sized_of c.before.before.before.before.before.before.before.before))).args.load.now (start-of (round-of (sized_of c.before.before.before.before.before.before.before.before))).args.bus.now (start-of (round-of (sized_of c.before.before.before.before.before.before.before.before))).args.pmax.now (start-of (round-of (sized_of c.before.before.before.before.before.before.before.before))).args.leader.now (start-of (round-of (sized_of c.before.before.before.before.before.before.before.before))).args.grounds.now (start-of (round-of (sized_of c.before.before.before.before.before.before.before.before))).args.injection.now (length (start-of (round-of (sized_of c.before.before.before.before.before.before.before.before))).args.leader.now)
-    (stiffens_on (start-of (round-of (sized_of c.before.before.before.before.before.before.before.before))).args.mode (start-of (round-of (sized_of c.before.before.before.before.before.before.before.before))).args.above (start-of (round-of (sized_of c.before.before.before.before.before.before.before.before))).args.ladder.now (start-of (round-of (sized_of c.before.before.before.before.before.before.before.before))).args.a.now (start-of (round-of (sized_of c.before.before.before.before.before.before.before.before))).args.b.now (start-of (round-of (sized_of c.before.before.before.before.before.before.before.before))).args.km.now (start-of (round-of (sized_of c.before.before.before.before.before.before.before.before))).args.share.now (start-of (round-of (sized_of c.before.before.before.before.before.before.before.before))).args.cap.now (start-of (round-of (sized_of c.before.before.before.before.before.before.before.before))).args.sheet.now (start-of (round-of (sized_of c.before.before.before.before.before.before.before.before))).args.load.now (start-of (round-of (sized_of c.before.before.before.before.before.before.before.before))).args.bus.now (start-of (round-of (sized_of c.before.before.before.before.before.before.before.before))).args.pmax.now (start-of (round-of (sized_of c.before.before.before.before.before.before.before.before))).args.leader.now (start-of (round-of (sized_of c.before.before.before.before.before.before.before.before))).args.grounds.now (start-of (round-of (sized_of c.before.before.before.before.before.before.before.before))).args.injection.now (length (start-of (round-of (sized_of c.before.before.before.before.before.before.before.before))).args.leader.now) ((round-of (sized_of c.before.before.before.before.before.before.before.before)).rounds.left - 1) c.before.before.before.before.before.before.before.before.loop2.level c.before.before.before.before.before.before.before.before.before.before.before.before.before.before.before.Limits-of.result (sized_of c.before.before.before.before.before.before.before.before).before.before.before.before.before.before.before.before.before.before.before.before.before.before.draw_edges.result.from (sized_of c.before.before.before.before.before.before.before.before).before.before.before.before.before.before.before.before.before.before.before.before.before.before.draw_edges.result.to (sized_of c.before.before.before.before.before.before.before.before).before.before.before.before.before.before.before.before.before.before.before.before.before.before.draw_edges.result.weight (sized_of c.before.before.before.before.before.before.before.before).before.before.before.before.before.before.before.before.before.before.before.peak_state.last.1.1.1.0 (sized_of c.before.before.before.before.before.before.before.before).before.before.before.before.before.before.before.before.before.before.before.peak_state.last.1.1.1.1.0 c.before.before.before.before.before.before.before.before.loop2.p (sized_of c.before.before.before.before.before.before.before.before).loop.t c.before.before.before.before.before.before.before.before.loop2.i c.before.before.before.before.before.before.before.before.loop2.circuits c.before.before.before.before.before.before.before.before.loop2.banks c.before.before.before.before.before.before.before.before.loop2.floors c.before.before.before.before.before.before.before.before.loop2.upsized c.before.before.before.before.before.before.before.before.loop2.marks c.before.before.before.before.before.before.before.before.loop2.s)
-    (goes_on (start-of (round-of (sized_of c.before.before.before.before.before.before.before.before))).args.mode (start-of (round-of (sized_of c.before.before.before.before.before.before.before.before))).args.above (start-of (round-of (sized_of c.before.before.before.before.before.before.before.before))).args.ladder.now (start-of (round-of (sized_of c.before.before.before.before.before.before.before.before))).args.a.now (start-of (round-of (sized_of c.before.before.before.before.before.before.before.before))).args.b.now (start-of (round-of (sized_of c.before.before.before.before.before.before.before.before))).args.km.now (start-of (round-of (sized_of c.before.before.before.before.before.before.before.before))).args.share.now (start-of (round-of (sized_of c.before.before.before.before.before.before.before.before))).args.cap.now (start-of (round-of (sized_of c.before.before.before.before.before.before.before.before))).args.sheet.now (start-of (round-of (sized_of c.before.before.before.before.before.before.before.before))).args.load.now (start-of (round-of (sized_of c.before.before.before.before.before.before.before.before))).args.bus.now (start-of (round-of (sized_of c.before.before.before.before.before.before.before.before))).args.pmax.now (start-of (round-of (sized_of c.before.before.before.before.before.before.before.before))).args.leader.now (start-of (round-of (sized_of c.before.before.before.before.before.before.before.before))).args.grounds.now (start-of (round-of (sized_of c.before.before.before.before.before.before.before.before))).args.injection.now (length (start-of (round-of (sized_of c.before.before.before.before.before.before.before.before))).args.leader.now) (start-of (round-of (sized_of c.before.before.before.before.before.before.before.before))).args.budget (start-of (round-of (sized_of c.before.before.before.before.before.before.before.before))).args.level.now (start-of (round-of (sized_of c.before.before.before.before.before.before.before.before))).args.circuits.now (start-of (round-of (sized_of c.before.before.before.before.before.before.before.before))).args.banks.now (start-of (round-of (sized_of c.before.before.before.before.before.before.before.before))).args.floors.now (start-of (round-of (sized_of c.before.before.before.before.before.before.before.before))).args.upsized.now (start-of (round-of (sized_of c.before.before.before.before.before.before.before.before))).args.angle.now (start-of (round-of (sized_of c.before.before.before.before.before.before.before.before))).args.start)
+    → Alike c.args.mode c.args.above c.args.ladder.now c.args.a.now c.args.b.now c.args.km.now c.args.share.now c.args.cap.now c.args.sheet.now c.args.load.now c.args.bus.now c.args.pmax.now c.args.leader.now c.args.grounds.now c.args.injection.now (length c.args.leader.now)
+    (stiffens_on c.args.mode c.args.above c.args.ladder.now c.args.a.now c.args.b.now c.args.km.now c.args.share.now c.args.cap.now c.args.sheet.now c.args.load.now c.args.bus.now c.args.pmax.now c.args.leader.now c.args.grounds.now c.args.injection.now (length c.args.leader.now) (c.rounds.left - 1) c.loop-i.level c.limits_of-g.result c.draw_edges-e.result.from c.draw_edges-e.result.to c.draw_edges-e.result.weight c.peak_state.new.angle c.peak_state.new.flow c.loop-i.p c.loop-k.t c.loop-i.i c.loop-i.circuits c.loop-i.banks c.loop-i.floors c.loop-i.upsized c.loop-i.marks c.loop-i.s)
+    (goes_on c.args.mode c.args.above c.args.ladder.now c.args.a.now c.args.b.now c.args.km.now c.args.share.now c.args.cap.now c.args.sheet.now c.args.load.now c.args.bus.now c.args.pmax.now c.args.leader.now c.args.grounds.now c.args.injection.now (length c.args.leader.now) c.args.budget c.args.level.now c.args.circuits.now c.args.banks.now c.args.floors.now c.args.upsized.now c.args.angle.now c.args.start)
 whole c =
-    alike_trans (start-of (round-of (sized_of c.before.before.before.before.before.before.before.before))).args.mode (start-of (round-of (sized_of c.before.before.before.before.before.before.before.before))).args.above (start-of (round-of (sized_of c.before.before.before.before.before.before.before.before))).args.ladder.now (start-of (round-of (sized_of c.before.before.before.before.before.before.before.before))).args.a.now (start-of (round-of (sized_of c.before.before.before.before.before.before.before.before))).args.b.now (start-of (round-of (sized_of c.before.before.before.before.before.before.before.before))).args.km.now (start-of (round-of (sized_of c.before.before.before.before.before.before.before.before))).args.share.now (start-of (round-of (sized_of c.before.before.before.before.before.before.before.before))).args.cap.now (start-of (round-of (sized_of c.before.before.before.before.before.before.before.before))).args.sheet.now (start-of (round-of (sized_of c.before.before.before.before.before.before.before.before))).args.load.now (start-of (round-of (sized_of c.before.before.before.before.before.before.before.before))).args.bus.now (start-of (round-of (sized_of c.before.before.before.before.before.before.before.before))).args.pmax.now (start-of (round-of (sized_of c.before.before.before.before.before.before.before.before))).args.leader.now (start-of (round-of (sized_of c.before.before.before.before.before.before.before.before))).args.grounds.now (start-of (round-of (sized_of c.before.before.before.before.before.before.before.before))).args.injection.now (length (start-of (round-of (sized_of c.before.before.before.before.before.before.before.before))).args.leader.now)
-    (stiffens_on (start-of (round-of (sized_of c.before.before.before.before.before.before.before.before))).args.mode (start-of (round-of (sized_of c.before.before.before.before.before.before.before.before))).args.above (start-of (round-of (sized_of c.before.before.before.before.before.before.before.before))).args.ladder.now (start-of (round-of (sized_of c.before.before.before.before.before.before.before.before))).args.a.now (start-of (round-of (sized_of c.before.before.before.before.before.before.before.before))).args.b.now (start-of (round-of (sized_of c.before.before.before.before.before.before.before.before))).args.km.now (start-of (round-of (sized_of c.before.before.before.before.before.before.before.before))).args.share.now (start-of (round-of (sized_of c.before.before.before.before.before.before.before.before))).args.cap.now (start-of (round-of (sized_of c.before.before.before.before.before.before.before.before))).args.sheet.now (start-of (round-of (sized_of c.before.before.before.before.before.before.before.before))).args.load.now (start-of (round-of (sized_of c.before.before.before.before.before.before.before.before))).args.bus.now (start-of (round-of (sized_of c.before.before.before.before.before.before.before.before))).args.pmax.now (start-of (round-of (sized_of c.before.before.before.before.before.before.before.before))).args.leader.now (start-of (round-of (sized_of c.before.before.before.before.before.before.before.before))).args.grounds.now (start-of (round-of (sized_of c.before.before.before.before.before.before.before.before))).args.injection.now (length (start-of (round-of (sized_of c.before.before.before.before.before.before.before.before))).args.leader.now) ((round-of (sized_of c.before.before.before.before.before.before.before.before)).rounds.left - 1) c.before.before.before.before.before.before.before.before.loop2.level c.before.before.before.before.before.before.before.before.before.before.before.before.before.before.before.Limits-of.result (sized_of c.before.before.before.before.before.before.before.before).before.before.before.before.before.before.before.before.before.before.before.before.before.before.draw_edges.result.from (sized_of c.before.before.before.before.before.before.before.before).before.before.before.before.before.before.before.before.before.before.before.before.before.before.draw_edges.result.to (sized_of c.before.before.before.before.before.before.before.before).before.before.before.before.before.before.before.before.before.before.before.before.before.before.draw_edges.result.weight (sized_of c.before.before.before.before.before.before.before.before).before.before.before.before.before.before.before.before.before.before.before.peak_state.last.1.1.1.0 (sized_of c.before.before.before.before.before.before.before.before).before.before.before.before.before.before.before.before.before.before.before.peak_state.last.1.1.1.1.0 c.before.before.before.before.before.before.before.before.loop2.p (sized_of c.before.before.before.before.before.before.before.before).loop.t c.before.before.before.before.before.before.before.before.loop2.i c.before.before.before.before.before.before.before.before.loop2.circuits c.before.before.before.before.before.before.before.before.loop2.banks c.before.before.before.before.before.before.before.before.loop2.floors c.before.before.before.before.before.before.before.before.loop2.upsized c.before.before.before.before.before.before.before.before.loop2.marks c.before.before.before.before.before.before.before.before.loop2.s)
-    (stiffens_on (start-of (round-of (sized_of c.before.before.before.before.before.before.before.before))).args.mode (start-of (round-of (sized_of c.before.before.before.before.before.before.before.before))).args.above (start-of (round-of (sized_of c.before.before.before.before.before.before.before.before))).args.ladder.now (start-of (round-of (sized_of c.before.before.before.before.before.before.before.before))).args.a.now (start-of (round-of (sized_of c.before.before.before.before.before.before.before.before))).args.b.now (start-of (round-of (sized_of c.before.before.before.before.before.before.before.before))).args.km.now (start-of (round-of (sized_of c.before.before.before.before.before.before.before.before))).args.share.now (start-of (round-of (sized_of c.before.before.before.before.before.before.before.before))).args.cap.now (start-of (round-of (sized_of c.before.before.before.before.before.before.before.before))).args.sheet.now (start-of (round-of (sized_of c.before.before.before.before.before.before.before.before))).args.load.now (start-of (round-of (sized_of c.before.before.before.before.before.before.before.before))).args.bus.now (start-of (round-of (sized_of c.before.before.before.before.before.before.before.before))).args.pmax.now (start-of (round-of (sized_of c.before.before.before.before.before.before.before.before))).args.leader.now (start-of (round-of (sized_of c.before.before.before.before.before.before.before.before))).args.grounds.now (start-of (round-of (sized_of c.before.before.before.before.before.before.before.before))).args.injection.now (length (start-of (round-of (sized_of c.before.before.before.before.before.before.before.before))).args.leader.now) ((round-of (sized_of c.before.before.before.before.before.before.before.before)).rounds.left - 1) (sized_of c.before.before.before.before.before.before.before.before).loop.level c.before.before.before.before.before.before.before.before.before.before.before.before.before.before.before.Limits-of.result (sized_of c.before.before.before.before.before.before.before.before).before.before.before.before.before.before.before.before.before.before.before.before.before.before.draw_edges.result.from (sized_of c.before.before.before.before.before.before.before.before).before.before.before.before.before.before.before.before.before.before.before.before.before.before.draw_edges.result.to (sized_of c.before.before.before.before.before.before.before.before).before.before.before.before.before.before.before.before.before.before.before.before.before.before.draw_edges.result.weight (sized_of c.before.before.before.before.before.before.before.before).before.before.before.before.before.before.before.before.before.before.before.peak_state.last.1.1.1.0 (sized_of c.before.before.before.before.before.before.before.before).before.before.before.before.before.before.before.before.before.before.before.peak_state.last.1.1.1.1.0 (sized_of c.before.before.before.before.before.before.before.before).loop.p (sized_of c.before.before.before.before.before.before.before.before).loop.t 0 (sized_of c.before.before.before.before.before.before.before.before).loop.circuits (sized_of c.before.before.before.before.before.before.before.before).loop.banks (sized_of c.before.before.before.before.before.before.before.before).loop.floors (sized_of c.before.before.before.before.before.before.before.before).loop.upsized c.before.before.before.before.before.before.before.before.before.before.before.stiffness_from.new.1.1.1.1.0 c.before.before.before.before.before.before.before.before.before.before.before.stiffness_from.result)
-    (goes_on (start-of (round-of (sized_of c.before.before.before.before.before.before.before.before))).args.mode (start-of (round-of (sized_of c.before.before.before.before.before.before.before.before))).args.above (start-of (round-of (sized_of c.before.before.before.before.before.before.before.before))).args.ladder.now (start-of (round-of (sized_of c.before.before.before.before.before.before.before.before))).args.a.now (start-of (round-of (sized_of c.before.before.before.before.before.before.before.before))).args.b.now (start-of (round-of (sized_of c.before.before.before.before.before.before.before.before))).args.km.now (start-of (round-of (sized_of c.before.before.before.before.before.before.before.before))).args.share.now (start-of (round-of (sized_of c.before.before.before.before.before.before.before.before))).args.cap.now (start-of (round-of (sized_of c.before.before.before.before.before.before.before.before))).args.sheet.now (start-of (round-of (sized_of c.before.before.before.before.before.before.before.before))).args.load.now (start-of (round-of (sized_of c.before.before.before.before.before.before.before.before))).args.bus.now (start-of (round-of (sized_of c.before.before.before.before.before.before.before.before))).args.pmax.now (start-of (round-of (sized_of c.before.before.before.before.before.before.before.before))).args.leader.now (start-of (round-of (sized_of c.before.before.before.before.before.before.before.before))).args.grounds.now (start-of (round-of (sized_of c.before.before.before.before.before.before.before.before))).args.injection.now (length (start-of (round-of (sized_of c.before.before.before.before.before.before.before.before))).args.leader.now) (start-of (round-of (sized_of c.before.before.before.before.before.before.before.before))).args.budget (start-of (round-of (sized_of c.before.before.before.before.before.before.before.before))).args.level.now (start-of (round-of (sized_of c.before.before.before.before.before.before.before.before))).args.circuits.now (start-of (round-of (sized_of c.before.before.before.before.before.before.before.before))).args.banks.now (start-of (round-of (sized_of c.before.before.before.before.before.before.before.before))).args.floors.now (start-of (round-of (sized_of c.before.before.before.before.before.before.before.before))).args.upsized.now (start-of (round-of (sized_of c.before.before.before.before.before.before.before.before))).args.angle.now (start-of (round-of (sized_of c.before.before.before.before.before.before.before.before))).args.start)
-    c.before.before.before.before.before.before.before.before.loop2.invariant.7
-    (stiffens (start-of (round-of (sized_of c.before.before.before.before.before.before.before.before))).args.mode (start-of (round-of (sized_of c.before.before.before.before.before.before.before.before))).args.above (start-of (round-of (sized_of c.before.before.before.before.before.before.before.before))).args.ladder.now (start-of (round-of (sized_of c.before.before.before.before.before.before.before.before))).args.a.now (start-of (round-of (sized_of c.before.before.before.before.before.before.before.before))).args.b.now (start-of (round-of (sized_of c.before.before.before.before.before.before.before.before))).args.km.now (start-of (round-of (sized_of c.before.before.before.before.before.before.before.before))).args.share.now (start-of (round-of (sized_of c.before.before.before.before.before.before.before.before))).args.cap.now (start-of (round-of (sized_of c.before.before.before.before.before.before.before.before))).args.sheet.now (start-of (round-of (sized_of c.before.before.before.before.before.before.before.before))).args.load.now (start-of (round-of (sized_of c.before.before.before.before.before.before.before.before))).args.bus.now (start-of (round-of (sized_of c.before.before.before.before.before.before.before.before))).args.pmax.now (start-of (round-of (sized_of c.before.before.before.before.before.before.before.before))).args.leader.now (start-of (round-of (sized_of c.before.before.before.before.before.before.before.before))).args.grounds.now (start-of (round-of (sized_of c.before.before.before.before.before.before.before.before))).args.injection.now (length (start-of (round-of (sized_of c.before.before.before.before.before.before.before.before))).args.leader.now) (sized_of c.before.before.before.before.before.before.before.before).loop.level (round-of (sized_of c.before.before.before.before.before.before.before.before)).rounds.level (round-of (sized_of c.before.before.before.before.before.before.before.before)).rounds.circuits (round-of (sized_of c.before.before.before.before.before.before.before.before)).rounds.banks (round-of (sized_of c.before.before.before.before.before.before.before.before)).rounds.floors (round-of (sized_of c.before.before.before.before.before.before.before.before)).rounds.upsized (round-of (sized_of c.before.before.before.before.before.before.before.before)).rounds.angle (round-of (sized_of c.before.before.before.before.before.before.before.before)).rounds.p
-    (goes_on (start-of (round-of (sized_of c.before.before.before.before.before.before.before.before))).args.mode (start-of (round-of (sized_of c.before.before.before.before.before.before.before.before))).args.above (start-of (round-of (sized_of c.before.before.before.before.before.before.before.before))).args.ladder.now (start-of (round-of (sized_of c.before.before.before.before.before.before.before.before))).args.a.now (start-of (round-of (sized_of c.before.before.before.before.before.before.before.before))).args.b.now (start-of (round-of (sized_of c.before.before.before.before.before.before.before.before))).args.km.now (start-of (round-of (sized_of c.before.before.before.before.before.before.before.before))).args.share.now (start-of (round-of (sized_of c.before.before.before.before.before.before.before.before))).args.cap.now (start-of (round-of (sized_of c.before.before.before.before.before.before.before.before))).args.sheet.now (start-of (round-of (sized_of c.before.before.before.before.before.before.before.before))).args.load.now (start-of (round-of (sized_of c.before.before.before.before.before.before.before.before))).args.bus.now (start-of (round-of (sized_of c.before.before.before.before.before.before.before.before))).args.pmax.now (start-of (round-of (sized_of c.before.before.before.before.before.before.before.before))).args.leader.now (start-of (round-of (sized_of c.before.before.before.before.before.before.before.before))).args.grounds.now (start-of (round-of (sized_of c.before.before.before.before.before.before.before.before))).args.injection.now (length (start-of (round-of (sized_of c.before.before.before.before.before.before.before.before))).args.leader.now) (start-of (round-of (sized_of c.before.before.before.before.before.before.before.before))).args.budget (start-of (round-of (sized_of c.before.before.before.before.before.before.before.before))).args.level.now (start-of (round-of (sized_of c.before.before.before.before.before.before.before.before))).args.circuits.now (start-of (round-of (sized_of c.before.before.before.before.before.before.before.before))).args.banks.now (start-of (round-of (sized_of c.before.before.before.before.before.before.before.before))).args.floors.now (start-of (round-of (sized_of c.before.before.before.before.before.before.before.before))).args.upsized.now (start-of (round-of (sized_of c.before.before.before.before.before.before.before.before))).args.angle.now (start-of (round-of (sized_of c.before.before.before.before.before.before.before.before))).args.start)
-    (round-of (sized_of c.before.before.before.before.before.before.before.before)).rounds.left ((round-of (sized_of c.before.before.before.before.before.before.before.before)).rounds.left - 1) (omega (arith, some_left (sized_of c.before.before.before.before.before.before.before.before).before.before.before.before.before.before.before.before.before.before.before.before.before.before.before.before.before.before.before.if1.left)) (sized_of c.before.before.before.before.before.before.before.before).loop.inv.1 (sym (round-of (sized_of c.before.before.before.before.before.before.before.before)).rounds.inv.0.places.leader_size) (round-of (sized_of c.before.before.before.before.before.before.before.before)).rounds.inv.2 _ _ _ (sized_of c.before.before.before.before.before.before.before.before).before.before.before.before.before.before.before.before.before.before.before.before.before.before.draw_edges.result.from (sized_of c.before.before.before.before.before.before.before.before).before.before.before.before.before.before.before.before.before.before.before.before.before.before.draw_edges.result.to (sized_of c.before.before.before.before.before.before.before.before).before.before.before.before.before.before.before.before.before.before.before.before.before.before.draw_edges.result.weight (sized_of c.before.before.before.before.before.before.before.before).before.before.before.before.before.before.before.before.before.before.before.before.before.before.draw_edges.ensures.0 _ _ (round-of (sized_of c.before.before.before.before.before.before.before.before)).rounds.inv.0.places.angle_size (round-of (sized_of c.before.before.before.before.before.before.before.before)).rounds.inv.0.places.flow_size (sized_of c.before.before.before.before.before.before.before.before).before.before.before.before.before.before.before.before.before.before.before.peak_state.ensures (sized_of c.before.before.before.before.before.before.before.before).before.before.before.before.before.enum_told.given.1 (sized_of c.before.before.before.before.before.before.before.before).loop.circuits (sized_of c.before.before.before.before.before.before.before.before).loop.banks (sized_of c.before.before.before.before.before.before.before.before).loop.floors (sized_of c.before.before.before.before.before.before.before.before).loop.upsized (sized_of c.before.before.before.before.before.before.before.before).loop.marks (sized_of c.before.before.before.before.before.before.before.before).loop.t (sized_of c.before.before.before.before.before.before.before.before).loop.k c.before.before.before.before.before.before.before.before.before.before.before.before.before.before.before.before.before.loop-test.false (sized_of c.before.before.before.before.before.before.before.before).loop.inv.7
-    ((sized_of c.before.before.before.before.before.before.before.before).loop.inv.8 (le_antisymm (sized_of c.before.before.before.before.before.before.before.before).loop.inv.0 c.before.before.before.before.before.before.before.before.before.before.before.before.before.before.before.before.before.loop-test.false)).1 ((sized_of c.before.before.before.before.before.before.before.before).loop.inv.8 (le_antisymm (sized_of c.before.before.before.before.before.before.before.before).loop.inv.0 c.before.before.before.before.before.before.before.before.before.before.before.before.before.before.before.before.before.loop-test.false)).2 ((sized_of c.before.before.before.before.before.before.before.before).loop.inv.8 (le_antisymm (sized_of c.before.before.before.before.before.before.before.before).loop.inv.0 c.before.before.before.before.before.before.before.before.before.before.before.before.before.before.before.before.before.loop-test.false)).0 (sized_of c.before.before.before.before.before.before.before.before).loop.p (sized_of c.before.before.before.before.before.before.before.before).loop.inv.2 c.before.before.before.before.before.before.before.before.before.before.before.before.before.before.before.Limits-of.result _ _ c.before.before.before.before.before.before.before.before.before.before.before.before.before.before.before.Limits-of.ensures c.before.before.before.before.before.before.before.before.before.before.before.stiffness_from.ensures.0 c.before.before.before.before.before.before.before.before.before.before.before.stiffness_from.ensures.1)
+    alike_trans c.args.mode c.args.above c.args.ladder.now c.args.a.now c.args.b.now c.args.km.now c.args.share.now c.args.cap.now c.args.sheet.now c.args.load.now c.args.bus.now c.args.pmax.now c.args.leader.now c.args.grounds.now c.args.injection.now (length c.args.leader.now)
+    (stiffens_on c.args.mode c.args.above c.args.ladder.now c.args.a.now c.args.b.now c.args.km.now c.args.share.now c.args.cap.now c.args.sheet.now c.args.load.now c.args.bus.now c.args.pmax.now c.args.leader.now c.args.grounds.now c.args.injection.now (length c.args.leader.now) (c.rounds.left - 1) c.loop-i.level c.limits_of-g.result c.draw_edges-e.result.from c.draw_edges-e.result.to c.draw_edges-e.result.weight c.peak_state.new.angle c.peak_state.new.flow c.loop-i.p c.loop-k.t c.loop-i.i c.loop-i.circuits c.loop-i.banks c.loop-i.floors c.loop-i.upsized c.loop-i.marks c.loop-i.s)
+    (stiffens_on c.args.mode c.args.above c.args.ladder.now c.args.a.now c.args.b.now c.args.km.now c.args.share.now c.args.cap.now c.args.sheet.now c.args.load.now c.args.bus.now c.args.pmax.now c.args.leader.now c.args.grounds.now c.args.injection.now (length c.args.leader.now) (c.rounds.left - 1) c.loop-k.level c.limits_of-g.result c.draw_edges-e.result.from c.draw_edges-e.result.to c.draw_edges-e.result.weight c.peak_state.new.angle c.peak_state.new.flow c.loop-k.p c.loop-k.t 0 c.loop-k.circuits c.loop-k.banks c.loop-k.floors c.loop-k.upsized c.stiffness_from-s.new.marks c.stiffness_from-s.result)
+    (goes_on c.args.mode c.args.above c.args.ladder.now c.args.a.now c.args.b.now c.args.km.now c.args.share.now c.args.cap.now c.args.sheet.now c.args.load.now c.args.bus.now c.args.pmax.now c.args.leader.now c.args.grounds.now c.args.injection.now (length c.args.leader.now) c.args.budget c.args.level.now c.args.circuits.now c.args.banks.now c.args.floors.now c.args.upsized.now c.args.angle.now c.args.start)
+    c.loop-i.invariant.7
+    (stiffens c.args.mode c.args.above c.args.ladder.now c.args.a.now c.args.b.now c.args.km.now c.args.share.now c.args.cap.now c.args.sheet.now c.args.load.now c.args.bus.now c.args.pmax.now c.args.leader.now c.args.grounds.now c.args.injection.now (length c.args.leader.now) c.loop-k.level c.rounds.level c.rounds.circuits c.rounds.banks c.rounds.floors c.rounds.upsized c.rounds.angle c.rounds.p
+    (goes_on c.args.mode c.args.above c.args.ladder.now c.args.a.now c.args.b.now c.args.km.now c.args.share.now c.args.cap.now c.args.sheet.now c.args.load.now c.args.bus.now c.args.pmax.now c.args.leader.now c.args.grounds.now c.args.injection.now (length c.args.leader.now) c.args.budget c.args.level.now c.args.circuits.now c.args.banks.now c.args.floors.now c.args.upsized.now c.args.angle.now c.args.start)
+    c.rounds.left (c.rounds.left - 1) (omega (arith, some_left c.if-left-eq0.false)) c.loop-k.invariant.1 (sym c.rounds.invariant.0.places.leader_size) c.rounds.invariant.2 _ _ _ c.draw_edges-e.result.from c.draw_edges-e.result.to c.draw_edges-e.result.weight c.draw_edges-e.ensures.0 _ _ c.rounds.invariant.0.places.angle_size c.rounds.invariant.0.places.flow_size c.peak_state.ensures c.in-Answered.is c.loop-k.circuits c.loop-k.banks c.loop-k.floors c.loop-k.upsized c.loop-k.marks c.loop-k.t c.loop-k.k c.loop-k-test.false c.loop-k.invariant.7
+    (c.loop-k.invariant.8 (le_antisymm c.loop-k.invariant.0 c.loop-k-test.false)).1 (c.loop-k.invariant.8 (le_antisymm c.loop-k.invariant.0 c.loop-k-test.false)).2 (c.loop-k.invariant.8 (le_antisymm c.loop-k.invariant.0 c.loop-k-test.false)).0 c.loop-k.p c.loop-k.invariant.2 c.limits_of-g.result _ _ c.limits_of-g.ensures c.stiffness_from-s.ensures.0 c.stiffness_from-s.ensures.1)
 
 enum-known-f-2 :
     tie.Need-enum_known-f-in-Refused-stiffen_led
@@ -484,17 +474,17 @@ enum-known-u :
 enum-known-u c = search rules
 
 add-i : tie.Need-overflow_add-i invariant-loop decreases-loop invariant-loop2 decreases-loop2 invariant-rounds decreases-rounds
-add-i c = omega (arith, c.loop-i-test.true, (round-of (sized_of c.before.before.before.before.before.before.before.before.before.before.before.before.before.before.before.before.before.before.before.before)).rounds.inv.0.places.leader_size, (round-of (sized_of c.before.before.before.before.before.before.before.before.before.before.before.before.before.before.before.before.before.before.before.before)).rounds.inv.0.columns.loads.few)
+add-i c = omega (arith, c.loop-i-test.true, c.rounds.invariant.0.places.leader_size, c.rounds.invariant.0.columns.loads.few)
 
 -- and so it does with this component done
 next : (c : Dom add-i)
-    → Alike (start-of (round-of (sized_of c.before.before.before.before.before.before.before.before.before.before.before.before.before.before.before.before.before.before.before.before.before.before))).args.mode (start-of (round-of (sized_of c.before.before.before.before.before.before.before.before.before.before.before.before.before.before.before.before.before.before.before.before.before.before))).args.above (start-of (round-of (sized_of c.before.before.before.before.before.before.before.before.before.before.before.before.before.before.before.before.before.before.before.before.before.before))).args.ladder.now (start-of (round-of (sized_of c.before.before.before.before.before.before.before.before.before.before.before.before.before.before.before.before.before.before.before.before.before.before))).args.a.now (start-of (round-of (sized_of c.before.before.before.before.before.before.before.before.before.before.before.before.before.before.before.before.before.before.before.before.before.before))).args.b.now (start-of (round-of (sized_of c.before.before.before.before.before.before.before.before.before.before.before.before.before.before.before.before.before.before.before.before.before.before))).args.km.now (start-of (round-of (sized_of c.before.before.before.before.before.before.before.before.before.before.before.before.before.before.before.before.before.before.before.before.before.before))).args.share.now (start-of (round-of (sized_of c.before.before.before.before.before.before.before.before.before.before.before.before.before.before.before.before.before.before.before.before.before.before))).args.cap.now (start-of (round-of (sized_of c.before.before.before.before.before.before.before.before.before.before.before.before.before.before.before.before.before.before.before.before.before.before))).args.sheet.now (start-of (round-of (sized_of c.before.before.before.before.before.before.before.before.before.before.before.before.before.before.before.before.before.before.before.before.before.before))).args.load.now (start-of (round-of (sized_of c.before.before.before.before.before.before.before.before.before.before.before.before.before.before.before.before.before.before.before.before.before.before))).args.bus.now (start-of (round-of (sized_of c.before.before.before.before.before.before.before.before.before.before.before.before.before.before.before.before.before.before.before.before.before.before))).args.pmax.now (start-of (round-of (sized_of c.before.before.before.before.before.before.before.before.before.before.before.before.before.before.before.before.before.before.before.before.before.before))).args.leader.now (start-of (round-of (sized_of c.before.before.before.before.before.before.before.before.before.before.before.before.before.before.before.before.before.before.before.before.before.before))).args.grounds.now (start-of (round-of (sized_of c.before.before.before.before.before.before.before.before.before.before.before.before.before.before.before.before.before.before.before.before.before.before))).args.injection.now (length (start-of (round-of (sized_of c.before.before.before.before.before.before.before.before.before.before.before.before.before.before.before.before.before.before.before.before.before.before))).args.leader.now)
-    (stiffens_on (start-of (round-of (sized_of c.before.before.before.before.before.before.before.before.before.before.before.before.before.before.before.before.before.before.before.before.before.before))).args.mode (start-of (round-of (sized_of c.before.before.before.before.before.before.before.before.before.before.before.before.before.before.before.before.before.before.before.before.before.before))).args.above (start-of (round-of (sized_of c.before.before.before.before.before.before.before.before.before.before.before.before.before.before.before.before.before.before.before.before.before.before))).args.ladder.now (start-of (round-of (sized_of c.before.before.before.before.before.before.before.before.before.before.before.before.before.before.before.before.before.before.before.before.before.before))).args.a.now (start-of (round-of (sized_of c.before.before.before.before.before.before.before.before.before.before.before.before.before.before.before.before.before.before.before.before.before.before))).args.b.now (start-of (round-of (sized_of c.before.before.before.before.before.before.before.before.before.before.before.before.before.before.before.before.before.before.before.before.before.before))).args.km.now (start-of (round-of (sized_of c.before.before.before.before.before.before.before.before.before.before.before.before.before.before.before.before.before.before.before.before.before.before))).args.share.now (start-of (round-of (sized_of c.before.before.before.before.before.before.before.before.before.before.before.before.before.before.before.before.before.before.before.before.before.before))).args.cap.now (start-of (round-of (sized_of c.before.before.before.before.before.before.before.before.before.before.before.before.before.before.before.before.before.before.before.before.before.before))).args.sheet.now (start-of (round-of (sized_of c.before.before.before.before.before.before.before.before.before.before.before.before.before.before.before.before.before.before.before.before.before.before))).args.load.now (start-of (round-of (sized_of c.before.before.before.before.before.before.before.before.before.before.before.before.before.before.before.before.before.before.before.before.before.before))).args.bus.now (start-of (round-of (sized_of c.before.before.before.before.before.before.before.before.before.before.before.before.before.before.before.before.before.before.before.before.before.before))).args.pmax.now (start-of (round-of (sized_of c.before.before.before.before.before.before.before.before.before.before.before.before.before.before.before.before.before.before.before.before.before.before))).args.leader.now (start-of (round-of (sized_of c.before.before.before.before.before.before.before.before.before.before.before.before.before.before.before.before.before.before.before.before.before.before))).args.grounds.now (start-of (round-of (sized_of c.before.before.before.before.before.before.before.before.before.before.before.before.before.before.before.before.before.before.before.before.before.before))).args.injection.now (length (start-of (round-of (sized_of c.before.before.before.before.before.before.before.before.before.before.before.before.before.before.before.before.before.before.before.before.before.before))).args.leader.now) ((round-of (sized_of c.before.before.before.before.before.before.before.before.before.before.before.before.before.before.before.before.before.before.before.before.before.before)).rounds.left - 1) c.before.before.before.before.before.before.before.before.before.before.before.before.before.before.before.before.before.before.before.before.before.before.loop2.level c.before.before.before.before.before.before.before.before.before.before.before.before.before.before.before.before.before.before.before.before.before.before.before.before.before.before.before.before.before.Limits-of.result (sized_of c.before.before.before.before.before.before.before.before.before.before.before.before.before.before.before.before.before.before.before.before.before.before).before.before.before.before.before.before.before.before.before.before.before.before.before.before.draw_edges.result.from (sized_of c.before.before.before.before.before.before.before.before.before.before.before.before.before.before.before.before.before.before.before.before.before.before).before.before.before.before.before.before.before.before.before.before.before.before.before.before.draw_edges.result.to (sized_of c.before.before.before.before.before.before.before.before.before.before.before.before.before.before.before.before.before.before.before.before.before.before).before.before.before.before.before.before.before.before.before.before.before.before.before.before.draw_edges.result.weight (sized_of c.before.before.before.before.before.before.before.before.before.before.before.before.before.before.before.before.before.before.before.before.before.before).before.before.before.before.before.before.before.before.before.before.before.peak_state.last.1.1.1.0 (sized_of c.before.before.before.before.before.before.before.before.before.before.before.before.before.before.before.before.before.before.before.before.before.before).before.before.before.before.before.before.before.before.before.before.before.peak_state.last.1.1.1.1.0 c.before.before.before.before.before.before.before.before.before.before.before.before.before.before.before.before.before.before.before.before.before.before.loop2.p (sized_of c.before.before.before.before.before.before.before.before.before.before.before.before.before.before.before.before.before.before.before.before.before.before).loop.t (c.before.before.before.before.before.before.before.before.before.before.before.before.before.before.before.before.before.before.before.before.before.before.loop2.i + 1) c.before.before.before.before.before.before.before.before.before.before.before.before.before.stiffen_led.new.1.1.1.1.1.1.1.1.1.1.1.1.1.1.1.0 c.before.before.before.before.before.before.before.before.before.before.before.before.before.stiffen_led.new.1.1.1.1.1.1.1.1.1.1.1.1.1.1.1.1.0 c.before.before.before.before.before.before.before.before.before.before.before.before.before.stiffen_led.new.1.1.1.1.1.1.1.1.1.1.1.1.1.1.1.1.1.0 c.before.before.before.before.before.before.before.before.before.before.before.before.before.stiffen_led.new.1.1.1.1.1.1.1.1.1.1.1.1.1.1.1.1.1.1.0 c.before.before.before.before.before.before.before.before.before.before.before.before.before.stiffen_led.new.1.1.1.1.1.1.1.1.1.1.1.1.1.1.1.1.1.1.1.0 c.before.u.given.0.0)
-    (goes_on (start-of (round-of (sized_of c.before.before.before.before.before.before.before.before.before.before.before.before.before.before.before.before.before.before.before.before.before.before))).args.mode (start-of (round-of (sized_of c.before.before.before.before.before.before.before.before.before.before.before.before.before.before.before.before.before.before.before.before.before.before))).args.above (start-of (round-of (sized_of c.before.before.before.before.before.before.before.before.before.before.before.before.before.before.before.before.before.before.before.before.before.before))).args.ladder.now (start-of (round-of (sized_of c.before.before.before.before.before.before.before.before.before.before.before.before.before.before.before.before.before.before.before.before.before.before))).args.a.now (start-of (round-of (sized_of c.before.before.before.before.before.before.before.before.before.before.before.before.before.before.before.before.before.before.before.before.before.before))).args.b.now (start-of (round-of (sized_of c.before.before.before.before.before.before.before.before.before.before.before.before.before.before.before.before.before.before.before.before.before.before))).args.km.now (start-of (round-of (sized_of c.before.before.before.before.before.before.before.before.before.before.before.before.before.before.before.before.before.before.before.before.before.before))).args.share.now (start-of (round-of (sized_of c.before.before.before.before.before.before.before.before.before.before.before.before.before.before.before.before.before.before.before.before.before.before))).args.cap.now (start-of (round-of (sized_of c.before.before.before.before.before.before.before.before.before.before.before.before.before.before.before.before.before.before.before.before.before.before))).args.sheet.now (start-of (round-of (sized_of c.before.before.before.before.before.before.before.before.before.before.before.before.before.before.before.before.before.before.before.before.before.before))).args.load.now (start-of (round-of (sized_of c.before.before.before.before.before.before.before.before.before.before.before.before.before.before.before.before.before.before.before.before.before.before))).args.bus.now (start-of (round-of (sized_of c.before.before.before.before.before.before.before.before.before.before.before.before.before.before.before.before.before.before.before.before.before.before))).args.pmax.now (start-of (round-of (sized_of c.before.before.before.before.before.before.before.before.before.before.before.before.before.before.before.before.before.before.before.before.before.before))).args.leader.now (start-of (round-of (sized_of c.before.before.before.before.before.before.before.before.before.before.before.before.before.before.before.before.before.before.before.before.before.before))).args.grounds.now (start-of (round-of (sized_of c.before.before.before.before.before.before.before.before.before.before.before.before.before.before.before.before.before.before.before.before.before.before))).args.injection.now (length (start-of (round-of (sized_of c.before.before.before.before.before.before.before.before.before.before.before.before.before.before.before.before.before.before.before.before.before.before))).args.leader.now) (start-of (round-of (sized_of c.before.before.before.before.before.before.before.before.before.before.before.before.before.before.before.before.before.before.before.before.before.before))).args.budget (start-of (round-of (sized_of c.before.before.before.before.before.before.before.before.before.before.before.before.before.before.before.before.before.before.before.before.before.before))).args.level.now (start-of (round-of (sized_of c.before.before.before.before.before.before.before.before.before.before.before.before.before.before.before.before.before.before.before.before.before.before))).args.circuits.now (start-of (round-of (sized_of c.before.before.before.before.before.before.before.before.before.before.before.before.before.before.before.before.before.before.before.before.before.before))).args.banks.now (start-of (round-of (sized_of c.before.before.before.before.before.before.before.before.before.before.before.before.before.before.before.before.before.before.before.before.before.before))).args.floors.now (start-of (round-of (sized_of c.before.before.before.before.before.before.before.before.before.before.before.before.before.before.before.before.before.before.before.before.before.before))).args.upsized.now (start-of (round-of (sized_of c.before.before.before.before.before.before.before.before.before.before.before.before.before.before.before.before.before.before.before.before.before.before))).args.angle.now (start-of (round-of (sized_of c.before.before.before.before.before.before.before.before.before.before.before.before.before.before.before.before.before.before.before.before.before.before))).args.start)
+    → Alike c.args.mode c.args.above c.args.ladder.now c.args.a.now c.args.b.now c.args.km.now c.args.share.now c.args.cap.now c.args.sheet.now c.args.load.now c.args.bus.now c.args.pmax.now c.args.leader.now c.args.grounds.now c.args.injection.now (length c.args.leader.now)
+    (stiffens_on c.args.mode c.args.above c.args.ladder.now c.args.a.now c.args.b.now c.args.km.now c.args.share.now c.args.cap.now c.args.sheet.now c.args.load.now c.args.bus.now c.args.pmax.now c.args.leader.now c.args.grounds.now c.args.injection.now (length c.args.leader.now) (c.rounds.left - 1) c.loop-i.level c.limits_of-g.result c.draw_edges-e.result.from c.draw_edges-e.result.to c.draw_edges-e.result.weight c.peak_state.new.angle c.peak_state.new.flow c.loop-i.p c.loop-k.t (c.loop-i.i + 1) c.stiffen_led.new.circuits c.stiffen_led.new.banks c.stiffen_led.new.floors c.stiffen_led.new.upsized c.stiffen_led.new.marks c.in-Going.u)
+    (goes_on c.args.mode c.args.above c.args.ladder.now c.args.a.now c.args.b.now c.args.km.now c.args.share.now c.args.cap.now c.args.sheet.now c.args.load.now c.args.bus.now c.args.pmax.now c.args.leader.now c.args.grounds.now c.args.injection.now (length c.args.leader.now) c.args.budget c.args.level.now c.args.circuits.now c.args.banks.now c.args.floors.now c.args.upsized.now c.args.angle.now c.args.start)
 next c =
-    stiffen_next (start-of (round-of (sized_of c.before.before.before.before.before.before.before.before.before.before.before.before.before.before.before.before.before.before.before.before.before.before))).args.mode (start-of (round-of (sized_of c.before.before.before.before.before.before.before.before.before.before.before.before.before.before.before.before.before.before.before.before.before.before))).args.above (start-of (round-of (sized_of c.before.before.before.before.before.before.before.before.before.before.before.before.before.before.before.before.before.before.before.before.before.before))).args.ladder.now (start-of (round-of (sized_of c.before.before.before.before.before.before.before.before.before.before.before.before.before.before.before.before.before.before.before.before.before.before))).args.a.now (start-of (round-of (sized_of c.before.before.before.before.before.before.before.before.before.before.before.before.before.before.before.before.before.before.before.before.before.before))).args.b.now (start-of (round-of (sized_of c.before.before.before.before.before.before.before.before.before.before.before.before.before.before.before.before.before.before.before.before.before.before))).args.km.now (start-of (round-of (sized_of c.before.before.before.before.before.before.before.before.before.before.before.before.before.before.before.before.before.before.before.before.before.before))).args.share.now (start-of (round-of (sized_of c.before.before.before.before.before.before.before.before.before.before.before.before.before.before.before.before.before.before.before.before.before.before))).args.cap.now (start-of (round-of (sized_of c.before.before.before.before.before.before.before.before.before.before.before.before.before.before.before.before.before.before.before.before.before.before))).args.sheet.now (start-of (round-of (sized_of c.before.before.before.before.before.before.before.before.before.before.before.before.before.before.before.before.before.before.before.before.before.before))).args.load.now (start-of (round-of (sized_of c.before.before.before.before.before.before.before.before.before.before.before.before.before.before.before.before.before.before.before.before.before.before))).args.bus.now (start-of (round-of (sized_of c.before.before.before.before.before.before.before.before.before.before.before.before.before.before.before.before.before.before.before.before.before.before))).args.pmax.now (start-of (round-of (sized_of c.before.before.before.before.before.before.before.before.before.before.before.before.before.before.before.before.before.before.before.before.before.before))).args.leader.now (start-of (round-of (sized_of c.before.before.before.before.before.before.before.before.before.before.before.before.before.before.before.before.before.before.before.before.before.before))).args.grounds.now (start-of (round-of (sized_of c.before.before.before.before.before.before.before.before.before.before.before.before.before.before.before.before.before.before.before.before.before.before))).args.injection.now (length (start-of (round-of (sized_of c.before.before.before.before.before.before.before.before.before.before.before.before.before.before.before.before.before.before.before.before.before.before))).args.leader.now)
-    (goes_on (start-of (round-of (sized_of c.before.before.before.before.before.before.before.before.before.before.before.before.before.before.before.before.before.before.before.before.before.before))).args.mode (start-of (round-of (sized_of c.before.before.before.before.before.before.before.before.before.before.before.before.before.before.before.before.before.before.before.before.before.before))).args.above (start-of (round-of (sized_of c.before.before.before.before.before.before.before.before.before.before.before.before.before.before.before.before.before.before.before.before.before.before))).args.ladder.now (start-of (round-of (sized_of c.before.before.before.before.before.before.before.before.before.before.before.before.before.before.before.before.before.before.before.before.before.before))).args.a.now (start-of (round-of (sized_of c.before.before.before.before.before.before.before.before.before.before.before.before.before.before.before.before.before.before.before.before.before.before))).args.b.now (start-of (round-of (sized_of c.before.before.before.before.before.before.before.before.before.before.before.before.before.before.before.before.before.before.before.before.before.before))).args.km.now (start-of (round-of (sized_of c.before.before.before.before.before.before.before.before.before.before.before.before.before.before.before.before.before.before.before.before.before.before))).args.share.now (start-of (round-of (sized_of c.before.before.before.before.before.before.before.before.before.before.before.before.before.before.before.before.before.before.before.before.before.before))).args.cap.now (start-of (round-of (sized_of c.before.before.before.before.before.before.before.before.before.before.before.before.before.before.before.before.before.before.before.before.before.before))).args.sheet.now (start-of (round-of (sized_of c.before.before.before.before.before.before.before.before.before.before.before.before.before.before.before.before.before.before.before.before.before.before))).args.load.now (start-of (round-of (sized_of c.before.before.before.before.before.before.before.before.before.before.before.before.before.before.before.before.before.before.before.before.before.before))).args.bus.now (start-of (round-of (sized_of c.before.before.before.before.before.before.before.before.before.before.before.before.before.before.before.before.before.before.before.before.before.before))).args.pmax.now (start-of (round-of (sized_of c.before.before.before.before.before.before.before.before.before.before.before.before.before.before.before.before.before.before.before.before.before.before))).args.leader.now (start-of (round-of (sized_of c.before.before.before.before.before.before.before.before.before.before.before.before.before.before.before.before.before.before.before.before.before.before))).args.grounds.now (start-of (round-of (sized_of c.before.before.before.before.before.before.before.before.before.before.before.before.before.before.before.before.before.before.before.before.before.before))).args.injection.now (length (start-of (round-of (sized_of c.before.before.before.before.before.before.before.before.before.before.before.before.before.before.before.before.before.before.before.before.before.before))).args.leader.now) (start-of (round-of (sized_of c.before.before.before.before.before.before.before.before.before.before.before.before.before.before.before.before.before.before.before.before.before.before))).args.budget (start-of (round-of (sized_of c.before.before.before.before.before.before.before.before.before.before.before.before.before.before.before.before.before.before.before.before.before.before))).args.level.now (start-of (round-of (sized_of c.before.before.before.before.before.before.before.before.before.before.before.before.before.before.before.before.before.before.before.before.before.before))).args.circuits.now (start-of (round-of (sized_of c.before.before.before.before.before.before.before.before.before.before.before.before.before.before.before.before.before.before.before.before.before.before))).args.banks.now (start-of (round-of (sized_of c.before.before.before.before.before.before.before.before.before.before.before.before.before.before.before.before.before.before.before.before.before.before))).args.floors.now (start-of (round-of (sized_of c.before.before.before.before.before.before.before.before.before.before.before.before.before.before.before.before.before.before.before.before.before.before))).args.upsized.now (start-of (round-of (sized_of c.before.before.before.before.before.before.before.before.before.before.before.before.before.before.before.before.before.before.before.before.before.before))).args.angle.now (start-of (round-of (sized_of c.before.before.before.before.before.before.before.before.before.before.before.before.before.before.before.before.before.before.before.before.before.before))).args.start)
-    ((round-of (sized_of c.before.before.before.before.before.before.before.before.before.before.before.before.before.before.before.before.before.before.before.before.before.before)).rounds.left - 1) c.before.before.before.before.before.before.before.before.before.before.before.before.before.before.before.before.before.before.before.before.before.before.loop2.level c.before.before.before.before.before.before.before.before.before.before.before.before.before.before.before.before.before.before.before.before.before.before.before.before.before.before.before.before.before.Limits-of.result (sized_of c.before.before.before.before.before.before.before.before.before.before.before.before.before.before.before.before.before.before.before.before.before.before).before.before.before.before.before.before.before.before.before.before.before.before.before.before.draw_edges.result.from (sized_of c.before.before.before.before.before.before.before.before.before.before.before.before.before.before.before.before.before.before.before.before.before.before).before.before.before.before.before.before.before.before.before.before.before.before.before.before.draw_edges.result.to (sized_of c.before.before.before.before.before.before.before.before.before.before.before.before.before.before.before.before.before.before.before.before.before.before).before.before.before.before.before.before.before.before.before.before.before.before.before.before.draw_edges.result.weight (sized_of c.before.before.before.before.before.before.before.before.before.before.before.before.before.before.before.before.before.before.before.before.before.before).before.before.before.before.before.before.before.before.before.before.before.peak_state.last.1.1.1.0 (sized_of c.before.before.before.before.before.before.before.before.before.before.before.before.before.before.before.before.before.before.before.before.before.before).before.before.before.before.before.before.before.before.before.before.before.peak_state.last.1.1.1.1.0 c.before.before.before.before.before.before.before.before.before.before.before.before.before.before.before.before.before.before.before.before.before.before.loop2.p (sized_of c.before.before.before.before.before.before.before.before.before.before.before.before.before.before.before.before.before.before.before.before.before.before).loop.t (ap (λ (x : List ℕ). length x) (c.before.before.before.before.before.before.before.before.before.before.before.before.before.before.before.before.before.before.before.before.before.before.loop2.invariant.1 ∙ (sized_of c.before.before.before.before.before.before.before.before.before.before.before.before.before.before.before.before.before.before.before.before.before.before).loop.inv.1) ∙ sym (round-of (sized_of c.before.before.before.before.before.before.before.before.before.before.before.before.before.before.before.before.before.before.before.before.before.before)).rounds.inv.0.places.leader_size) c.before.before.before.before.before.before.before.before.before.before.before.before.before.before.before.before.before.before.before.before.before.before.loop2.i c.before.before.before.before.before.before.before.before.before.before.before.before.before.before.before.before.before.before.before.before.before.before.loop2.circuits c.before.before.before.before.before.before.before.before.before.before.before.before.before.before.before.before.before.before.before.before.before.before.loop2.banks c.before.before.before.before.before.before.before.before.before.before.before.before.before.before.before.before.before.before.before.before.before.before.loop2.floors c.before.before.before.before.before.before.before.before.before.before.before.before.before.before.before.before.before.before.before.before.before.before.loop2.upsized c.before.before.before.before.before.before.before.before.before.before.before.before.before.before.before.before.before.before.before.before.before.before.loop2.marks c.before.before.before.before.before.before.before.before.before.before.before.before.before.before.before.before.before.before.before.before.before.before.loop2.s (whole c.before.before.before.before.before.before.before.before.before.before.before.before.before.before) c.before.before.before.before.before.before.before.before.before.before.before.before.before.before.before.before.before.before.before.before.before.loop2-test.true c.before.before.before.before.before.before.before.before.before.before.before.before.before.stiffen_led.new.1.1.1.1.1.1.1.1.1.1.1.1.1.1.1.0 c.before.before.before.before.before.before.before.before.before.before.before.before.before.stiffen_led.new.1.1.1.1.1.1.1.1.1.1.1.1.1.1.1.1.0 c.before.before.before.before.before.before.before.before.before.before.before.before.before.stiffen_led.new.1.1.1.1.1.1.1.1.1.1.1.1.1.1.1.1.1.0 c.before.before.before.before.before.before.before.before.before.before.before.before.before.stiffen_led.new.1.1.1.1.1.1.1.1.1.1.1.1.1.1.1.1.1.1.0 c.before.before.before.before.before.before.before.before.before.before.before.before.before.stiffen_led.new.1.1.1.1.1.1.1.1.1.1.1.1.1.1.1.1.1.1.1.0 c.before.before.before.before.before.before.before.before.before.before.before.before.before.stiffen_led.result c.before.before.before.before.before.before.before.before.before.before.before.before.before.stiffen_led.ensures c.before.u.given.0.0 c.before.u.given.1
+    stiffen_next c.args.mode c.args.above c.args.ladder.now c.args.a.now c.args.b.now c.args.km.now c.args.share.now c.args.cap.now c.args.sheet.now c.args.load.now c.args.bus.now c.args.pmax.now c.args.leader.now c.args.grounds.now c.args.injection.now (length c.args.leader.now)
+    (goes_on c.args.mode c.args.above c.args.ladder.now c.args.a.now c.args.b.now c.args.km.now c.args.share.now c.args.cap.now c.args.sheet.now c.args.load.now c.args.bus.now c.args.pmax.now c.args.leader.now c.args.grounds.now c.args.injection.now (length c.args.leader.now) c.args.budget c.args.level.now c.args.circuits.now c.args.banks.now c.args.floors.now c.args.upsized.now c.args.angle.now c.args.start)
+    (c.rounds.left - 1) c.loop-i.level c.limits_of-g.result c.draw_edges-e.result.from c.draw_edges-e.result.to c.draw_edges-e.result.weight c.peak_state.new.angle c.peak_state.new.flow c.loop-i.p c.loop-k.t (ap (λ (x : List ℕ). length x) (c.loop-i.invariant.1 ∙ c.loop-k.invariant.1) ∙ sym c.rounds.invariant.0.places.leader_size) c.loop-i.i c.loop-i.circuits c.loop-i.banks c.loop-i.floors c.loop-i.upsized c.loop-i.marks c.loop-i.s (whole c.before.before.before.before.before.before.before.before.before.before.before.before) c.loop-i-test.true c.stiffen_led.new.circuits c.stiffen_led.new.banks c.stiffen_led.new.floors c.stiffen_led.new.upsized c.stiffen_led.new.marks c.stiffen_led.result c.stiffen_led.ensures c.in-Going.u c.in-Going.is
 
 raise-marked-requires-2 :
     tie.Need-raise_marked-moved-requires-then-i-leader
@@ -505,27 +495,27 @@ raise-marked-requires-2 :
     invariant-rounds
     decreases-rounds
 raise-marked-requires-2 c κs =
-    let z = (start-of (round-of (sized_of c.before.before.before.before.before.before.before.before.before.before.before.before.before.before.before.before.before.before.before.before.before.before.before.before.before))).args in
-    let r = (round-of (sized_of c.before.before.before.before.before.before.before.before.before.before.before.before.before.before.before.before.before.before.before.before.before.before.before.before.before)).rounds in
-    let l = (sized_of c.before.before.before.before.before.before.before.before.before.before.before.before.before.before.before.before.before.before.before.before.before.before.before.before.before).loop in
+    let z = c.args in
+    let r = c.rounds in
+    let l = c.loop-k in
     let k = c.loop-i in
-    let f = r.inv.0 in
-    let lv = k.invariant.1 ∙ l.inv.1 in
+    let f = r.invariant.0 in
+    let lv = k.invariant.1 ∙ l.invariant.1 in
     let ln = ap (λ (x : List ℕ). length x) lv in (
       record {
         lines = subst (λ (x : List ℕ). Lines z.ladder.now x z.a.now z.b.now z.km.now z.share.now z.sheet.now) (sym lv) f.columns.lines;
         loads = subst (λ (x : List ℕ). Loads x z.load.now) (sym lv) f.columns.loads;
         units = f.columns.units;
         few = f.columns.few;
-        floor_size = c.stiffen_led.auto.floors ∙ k.invariant.3.2 ∙ l.inv.3.floor_size;
-        bank_size = c.stiffen_led.auto.banks ∙ k.invariant.3.1 ∙ l.inv.3.bank_size;
+        floor_size = c.stiffen_led.auto.floors ∙ k.invariant.3.2 ∙ l.invariant.3.floor_size;
+        bank_size = c.stiffen_led.auto.banks ∙ k.invariant.3.1 ∙ l.invariant.3.bank_size;
       },
-      (c.stiffen_led.auto.marks ∙ k.invariant.3.4 ∙ c.stiffness_from-s.auto.marks ∙ l.inv.3.mark_size ∙ ap (λ (x : List ℕ). length x) (sym k.invariant.1), c.stiffen_led.ensures.banked),
+      (c.stiffen_led.auto.marks ∙ k.invariant.3.4 ∙ c.stiffness_from-s.auto.marks ∙ l.invariant.3.mark_size ∙ ap (λ (x : List ℕ). length x) (sym k.invariant.1), c.stiffen_led.ensures.banked),
     )
 
 add-p-3 :
     tie.Need-overflow_add-p-then-i-leader invariant-loop decreases-loop invariant-loop2 decreases-loop2 invariant-rounds decreases-rounds
-add-p-3 c = omega (arith, c.raise_marked-moved-then-i-leader.ensures.few, ap (λ (x : List ℕ). length x) (c.loop-i.invariant.1 ∙ (sized_of c.before.before.before.before.before.before.before.before.before.before.before.before.before.before.before.before.before.before.before.before.before.before.before.before.before.before.before.before.before.before.before).loop.inv.1), (round-of (sized_of c.before.before.before.before.before.before.before.before.before.before.before.before.before.before.before.before.before.before.before.before.before.before.before.before.before.before.before.before.before.before.before)).rounds.inv.0.columns.loads.few, ap (λ (q : Progress). q.promoted) (c.loop-i.invariant.2 ∙ (sized_of c.before.before.before.before.before.before.before.before.before.before.before.before.before.before.before.before.before.before.before.before.before.before.before.before.before.before.before.before.before.before.before).loop.inv.2), (round-of (sized_of c.before.before.before.before.before.before.before.before.before.before.before.before.before.before.before.before.before.before.before.before.before.before.before.before.before.before.before.before.before.before.before)).rounds.inv.0.tallies.promoted, (round-of (sized_of c.before.before.before.before.before.before.before.before.before.before.before.before.before.before.before.before.before.before.before.before.before.before.before.before.before.before.before.before.before.before.before)).rounds.inv.0.tallies.rounds)
+add-p-3 c = omega (arith, c.raise_marked-moved-then-i-leader.ensures.few, ap (λ (x : List ℕ). length x) (c.loop-i.invariant.1 ∙ c.loop-k.invariant.1), c.rounds.invariant.0.columns.loads.few, ap (λ (q : Progress). q.promoted) (c.loop-i.invariant.2 ∙ c.loop-k.invariant.2), c.rounds.invariant.0.tallies.promoted, c.rounds.invariant.0.tallies.rounds)
 
 rounds-less-3 :
     tie.Need-rounds-smaller-then-moved-s
@@ -535,7 +525,7 @@ rounds-less-3 :
     decreases-loop2
     invariant-rounds
     decreases-rounds
-rounds-less-3 c = omega (arith, some_left (sized_of c.before.before.before.before.before.before.before.before.before.before.before.before.before.before.before.before.before.before.before.before.before.before.before.before.before.before.before.before.before.before.before.before.before).before.before.before.before.before.before.before.before.before.before.before.before.before.before.before.before.before.before.before.if1.left)
+rounds-less-3 c = omega (arith, some_left c.if-left-eq0.false)
 
 rounds-again-3 :
     tie.Need-rounds-preserved-then-moved-s
@@ -546,13 +536,13 @@ rounds-again-3 :
     invariant-rounds
     decreases-rounds
 rounds-again-3 c =
-    let z = (start-of (round-of (sized_of c.before.before.before.before.before.before.before.before.before.before.before.before.before.before.before.before.before.before.before.before.before.before.before.before.before.before.before.before.before.before.before.before.before))).args in
-    let r = (round-of (sized_of c.before.before.before.before.before.before.before.before.before.before.before.before.before.before.before.before.before.before.before.before.before.before.before.before.before.before.before.before.before.before.before.before.before)).rounds in
-    let l = (sized_of c.before.before.before.before.before.before.before.before.before.before.before.before.before.before.before.before.before.before.before.before.before.before.before.before.before.before.before.before.before.before.before.before.before).loop in
+    let z = c.args in
+    let r = c.rounds in
+    let l = c.loop-k in
     let k = c.loop-i in
-    let f = r.inv.0 in
-    let lv = k.invariant.1 ∙ l.inv.1 in
-    let pv = k.invariant.2 ∙ l.inv.2 in
+    let f = r.invariant.0 in
+    let lv = k.invariant.1 ∙ l.invariant.1 in
+    let pv = k.invariant.2 ∙ l.invariant.2 in
     let ln = ap (λ (x : List ℕ). length x) lv in
     let w = subst (λ (x : Stiffened). Within (length z.a.now) k.s x) c.in-Going.is c.stiffen_led.ensures.bound in
     let n = c.raise_marked-moved-then-i-leader.auto.level ∙ ln in (
@@ -560,27 +550,27 @@ rounds-again-3 c =
           f
           n
           c.raise_marked-moved-then-i-leader.ensures.lines
-          (c.stiffen_led.auto.circuits ∙ k.invariant.3.0 ∙ l.inv.3.count_size)
-          (c.raise_marked-moved-then-i-leader.auto.banks ∙ c.stiffen_led.auto.banks ∙ k.invariant.3.1 ∙ l.inv.3.bank_size)
-          (c.stiffen_led.auto.floors ∙ k.invariant.3.2 ∙ l.inv.3.floor_size)
-          (c.stiffen_led.auto.upsized ∙ k.invariant.3.3 ∙ l.inv.3.upsized_size)
-          (c.stiffen_led.auto.marks ∙ k.invariant.3.4 ∙ c.stiffness_from-s.auto.marks ∙ l.inv.3.mark_size ∙ ap (λ (x : List ℕ). length x) l.inv.1)
-          ((sized_of c.before.before.before.before.before.before.before.before.before.before.before.before.before.before.before.before.before.before.before.before.before.before.before.before.before.before.before.before.before.before.before.before.before).before.before.before.before.before.before.before.before.before.before.before.peak_state.kept.1.1.1.0 ∙ r.inv.0.places.angle_size)
-          ((sized_of c.before.before.before.before.before.before.before.before.before.before.before.before.before.before.before.before.before.before.before.before.before.before.before.before.before.before.before.before.before.before.before.before.before).before.before.before.before.before.before.before.before.before.before.before.peak_state.kept.1.1.1.1.0 ∙ r.inv.0.places.flow_size)
+          (c.stiffen_led.auto.circuits ∙ k.invariant.3.0 ∙ l.invariant.3.count_size)
+          (c.raise_marked-moved-then-i-leader.auto.banks ∙ c.stiffen_led.auto.banks ∙ k.invariant.3.1 ∙ l.invariant.3.bank_size)
+          (c.stiffen_led.auto.floors ∙ k.invariant.3.2 ∙ l.invariant.3.floor_size)
+          (c.stiffen_led.auto.upsized ∙ k.invariant.3.3 ∙ l.invariant.3.upsized_size)
+          (c.stiffen_led.auto.marks ∙ k.invariant.3.4 ∙ c.stiffness_from-s.auto.marks ∙ l.invariant.3.mark_size ∙ ap (λ (x : List ℕ). length x) l.invariant.1)
+          (c.peak_state.auto.angle ∙ r.invariant.0.places.angle_size)
+          (c.peak_state.auto.flow ∙ r.invariant.0.places.flow_size)
           (
           record {
             few_levels = f.tallies.few_levels;
-            rounds = one_less r.p.rounds k.p.rounds r.left (ap (λ (q : Progress). q.rounds) pv) f.tallies.rounds (some_left (sized_of c.before.before.before.before.before.before.before.before.before.before.before.before.before.before.before.before.before.before.before.before.before.before.before.before.before.before.before.before.before.before.before.before.before).before.before.before.before.before.before.before.before.before.before.before.before.before.before.before.before.before.before.before.if1.left);
+            rounds = one_less r.p.rounds k.p.rounds r.left (ap (λ (q : Progress). q.rounds) pv) f.tallies.rounds (some_left c.if-left-eq0.false);
             promoted = moved_more r.p.rounds k.p.rounds r.p.promoted k.p.promoted _ (length r.level) (length k.level) (ap (λ (q : Progress). q.rounds) pv) (ap (λ (q : Progress). q.promoted) pv) f.tallies.promoted c.raise_marked-moved-then-i-leader.ensures.few ln f.columns.loads.few;
-            capacity = sized_more r.p.rounds k.p.rounds r.p.capacity l.t.capacity l.k (length z.a.now) (ap (λ (q : Progress). q.rounds) pv) l.inv.6 l.inv.0 f.columns.few f.tallies.capacity;
-            stiffening = stiffened_more r.p.rounds k.p.rounds r.p.stiffening _ k.s.stiffening _ k.i (length r.level) (length z.leader.now) (length z.a.now) (ap (λ (q : Progress). q.rounds) pv) w.2 k.invariant.6.2 (ap (λ (x : Stiffness). x.stiffening) c.stiffness_from-s.ensures.1 ∙ ap (λ (q : Progress). q.stiffening) l.inv.2) f.tallies.stiffening c.loop-i-test.true f.places.leader_size f.columns.loads.few f.columns.few;
+            capacity = sized_more r.p.rounds k.p.rounds r.p.capacity l.t.capacity l.k (length z.a.now) (ap (λ (q : Progress). q.rounds) pv) l.invariant.6 l.invariant.0 f.columns.few f.tallies.capacity;
+            stiffening = stiffened_more r.p.rounds k.p.rounds r.p.stiffening _ k.s.stiffening _ k.i (length r.level) (length z.leader.now) (length z.a.now) (ap (λ (q : Progress). q.rounds) pv) w.2 k.invariant.6.2 (ap (λ (x : Stiffness). x.stiffening) c.stiffness_from-s.ensures.1 ∙ ap (λ (q : Progress). q.stiffening) l.invariant.2) f.tallies.stiffening c.loop-i-test.true f.places.leader_size f.columns.loads.few f.columns.few;
           })
           c.raise_marked-moved-then-i-leader.ensures.banked
           (c.stiffen_led.ensures.few k.invariant.5),
-      n ∙ r.inv.1,
+      n ∙ r.invariant.1,
       stiffened_again z.mode z.above z.ladder.now z.a.now z.b.now z.km.now z.share.now z.cap.now z.sheet.now z.load.now z.bus.now z.pmax.now z.leader.now z.grounds.now z.injection.now (length z.leader.now)
           (goes_on z.mode z.above z.ladder.now z.a.now z.b.now z.km.now z.share.now z.cap.now z.sheet.now z.load.now z.bus.now z.pmax.now z.leader.now z.grounds.now z.injection.now (length z.leader.now) z.budget z.level.now z.circuits.now z.banks.now z.floors.now z.upsized.now z.angle.now z.start)
-          (r.left - 1) k.level c.limits_of-g.result (sized_of c.before.before.before.before.before.before.before.before.before.before.before.before.before.before.before.before.before.before.before.before.before.before.before.before.before.before.before.before.before.before.before.before.before).before.before.before.before.before.before.before.before.before.before.before.before.before.before.draw_edges.result.from (sized_of c.before.before.before.before.before.before.before.before.before.before.before.before.before.before.before.before.before.before.before.before.before.before.before.before.before.before.before.before.before.before.before.before.before).before.before.before.before.before.before.before.before.before.before.before.before.before.before.draw_edges.result.to (sized_of c.before.before.before.before.before.before.before.before.before.before.before.before.before.before.before.before.before.before.before.before.before.before.before.before.before.before.before.before.before.before.before.before.before).before.before.before.before.before.before.before.before.before.before.before.before.before.before.draw_edges.result.weight (sized_of c.before.before.before.before.before.before.before.before.before.before.before.before.before.before.before.before.before.before.before.before.before.before.before.before.before.before.before.before.before.before.before.before.before).before.before.before.before.before.before.before.before.before.before.before.peak_state.last.1.1.1.0 (sized_of c.before.before.before.before.before.before.before.before.before.before.before.before.before.before.before.before.before.before.before.before.before.before.before.before.before.before.before.before.before.before.before.before.before).before.before.before.before.before.before.before.before.before.before.before.peak_state.last.1.1.1.1.0 k.p l.t (ln ∙ sym f.places.leader_size) (k.i + 1) c.stiffen_led.new.circuits c.stiffen_led.new.banks c.stiffen_led.new.floors c.stiffen_led.new.upsized c.stiffen_led.new.marks c.in-Going.u (next c.before.before.before.before.before.before.before.before.before.before.before.before.before) (omega (arith, c.if-i-leader.true)) (omega (arith, ap (λ (q : Progress). q.rounds) (k.invariant.2 ∙ l.inv.2))) (ap (λ (q : Progress). q.converged) (k.invariant.2 ∙ l.inv.2)) (ap (λ (q : Progress). q.settled) (k.invariant.2 ∙ l.inv.2)) c.raise_marked-moved-then-i-leader.new.level c.raise_marked-moved-then-i-leader.new.banks c.raise_marked-moved-then-i-leader.result c.raise_marked-moved-then-i-leader.ensures c.if-moved-s.true,
+          (r.left - 1) k.level c.limits_of-g.result c.draw_edges-e.result.from c.draw_edges-e.result.to c.draw_edges-e.result.weight c.peak_state.new.angle c.peak_state.new.flow k.p l.t (ln ∙ sym f.places.leader_size) (k.i + 1) c.stiffen_led.new.circuits c.stiffen_led.new.banks c.stiffen_led.new.floors c.stiffen_led.new.upsized c.stiffen_led.new.marks c.in-Going.u (next c.before.before.before.before.before.before.before.before.before.before.before) (omega (arith, c.if-i-leader.true)) (omega (arith, ap (λ (q : Progress). q.rounds) (k.invariant.2 ∙ l.invariant.2))) (ap (λ (q : Progress). q.converged) (k.invariant.2 ∙ l.invariant.2)) (ap (λ (q : Progress). q.settled) (k.invariant.2 ∙ l.invariant.2)) c.raise_marked-moved-then-i-leader.new.level c.raise_marked-moved-then-i-leader.new.banks c.raise_marked-moved-then-i-leader.result c.raise_marked-moved-then-i-leader.ensures c.if-moved-s.true,
     )
 
 loop2-less :
@@ -602,12 +592,12 @@ loop2-again :
     invariant-rounds
     decreases-rounds
 loop2-again c =
-    let z = (start-of (round-of (sized_of c.before.before.before.before.before.before.before.before.before.before.before.before.before.before.before.before.before.before.before.before.before))).args in
-    let r = (round-of (sized_of c.before.before.before.before.before.before.before.before.before.before.before.before.before.before.before.before.before.before.before.before.before)).rounds in
-    let l = (sized_of c.before.before.before.before.before.before.before.before.before.before.before.before.before.before.before.before.before.before.before.before.before).loop in
+    let z = c.args in
+    let r = c.rounds in
+    let l = c.loop-k in
     let k = c.loop-i in
-    let f = r.inv.0 in
-    let lv = k.invariant.1 ∙ l.inv.1 in
+    let f = r.invariant.0 in
+    let lv = k.invariant.1 ∙ l.invariant.1 in
     let ln = ap (λ (x : List ℕ). length x) lv in
     let w = subst (λ (x : Stiffened). Within (length z.a.now) k.s x) c.in-Going.is c.stiffen_led.ensures.bound in (
       omega (arith, c.loop-i-test.true, c.if-i-leader.false),
@@ -618,8 +608,8 @@ loop2-again c =
       c.stiffen_led.ensures.few k.invariant.5,
       (circuits_more _ k.s.total _ (length z.a.now) k.i w.0 k.invariant.6.0 f.columns.few, ends_more _ k.s.hv _ (length z.a.now) k.i w.1 k.invariant.6.1 f.columns.few, circuits_more _ k.s.stiffening _ (length z.a.now) k.i w.2 k.invariant.6.2 f.columns.few),
       stiffen_next z.mode z.above z.ladder.now z.a.now z.b.now z.km.now z.share.now z.cap.now z.sheet.now z.load.now z.bus.now z.pmax.now z.leader.now z.grounds.now z.injection.now (length z.leader.now)
-          (stiffens_on z.mode z.above z.ladder.now z.a.now z.b.now z.km.now z.share.now z.cap.now z.sheet.now z.load.now z.bus.now z.pmax.now z.leader.now z.grounds.now z.injection.now (length z.leader.now) (r.left - 1) l.level c.limits_of-g.result (sized_of c.before.before.before.before.before.before.before.before.before.before.before.before.before.before.before.before.before.before.before.before.before).before.before.before.before.before.before.before.before.before.before.before.before.before.before.draw_edges.result.from (sized_of c.before.before.before.before.before.before.before.before.before.before.before.before.before.before.before.before.before.before.before.before.before).before.before.before.before.before.before.before.before.before.before.before.before.before.before.draw_edges.result.to (sized_of c.before.before.before.before.before.before.before.before.before.before.before.before.before.before.before.before.before.before.before.before.before).before.before.before.before.before.before.before.before.before.before.before.before.before.before.draw_edges.result.weight (sized_of c.before.before.before.before.before.before.before.before.before.before.before.before.before.before.before.before.before.before.before.before.before).before.before.before.before.before.before.before.before.before.before.before.peak_state.last.1.1.1.0 (sized_of c.before.before.before.before.before.before.before.before.before.before.before.before.before.before.before.before.before.before.before.before.before).before.before.before.before.before.before.before.before.before.before.before.peak_state.last.1.1.1.1.0 l.p l.t 0 l.circuits l.banks l.floors l.upsized c.stiffness_from-s.new.marks c.stiffness_from-s.result)
-          (r.left - 1) k.level c.limits_of-g.result (sized_of c.before.before.before.before.before.before.before.before.before.before.before.before.before.before.before.before.before.before.before.before.before).before.before.before.before.before.before.before.before.before.before.before.before.before.before.draw_edges.result.from (sized_of c.before.before.before.before.before.before.before.before.before.before.before.before.before.before.before.before.before.before.before.before.before).before.before.before.before.before.before.before.before.before.before.before.before.before.before.draw_edges.result.to (sized_of c.before.before.before.before.before.before.before.before.before.before.before.before.before.before.before.before.before.before.before.before.before).before.before.before.before.before.before.before.before.before.before.before.before.before.before.draw_edges.result.weight (sized_of c.before.before.before.before.before.before.before.before.before.before.before.before.before.before.before.before.before.before.before.before.before).before.before.before.before.before.before.before.before.before.before.before.peak_state.last.1.1.1.0 (sized_of c.before.before.before.before.before.before.before.before.before.before.before.before.before.before.before.before.before.before.before.before.before).before.before.before.before.before.before.before.before.before.before.before.peak_state.last.1.1.1.1.0 k.p l.t (ln ∙ sym f.places.leader_size) k.i k.circuits k.banks k.floors k.upsized k.marks k.s k.invariant.7 c.loop-i-test.true c.stiffen_led.new.circuits c.stiffen_led.new.banks c.stiffen_led.new.floors c.stiffen_led.new.upsized c.stiffen_led.new.marks c.stiffen_led.result c.stiffen_led.ensures c.in-Going.u c.in-Going.is,
+          (stiffens_on z.mode z.above z.ladder.now z.a.now z.b.now z.km.now z.share.now z.cap.now z.sheet.now z.load.now z.bus.now z.pmax.now z.leader.now z.grounds.now z.injection.now (length z.leader.now) (r.left - 1) l.level c.limits_of-g.result c.draw_edges-e.result.from c.draw_edges-e.result.to c.draw_edges-e.result.weight c.peak_state.new.angle c.peak_state.new.flow l.p l.t 0 l.circuits l.banks l.floors l.upsized c.stiffness_from-s.new.marks c.stiffness_from-s.result)
+          (r.left - 1) k.level c.limits_of-g.result c.draw_edges-e.result.from c.draw_edges-e.result.to c.draw_edges-e.result.weight c.peak_state.new.angle c.peak_state.new.flow k.p l.t (ln ∙ sym f.places.leader_size) k.i k.circuits k.banks k.floors k.upsized k.marks k.s k.invariant.7 c.loop-i-test.true c.stiffen_led.new.circuits c.stiffen_led.new.banks c.stiffen_led.new.floors c.stiffen_led.new.upsized c.stiffen_led.new.marks c.stiffen_led.result c.stiffen_led.ensures c.in-Going.u c.in-Going.is,
     )
 
 same_length :
@@ -630,7 +620,7 @@ same_length :
     decreases-loop2
     invariant-rounds
     decreases-rounds
-same_length c = c.rounds.invariant.0.places.count_size ∙ sym (start-of c.before).pre.places.count_size
+same_length c = c.rounds.invariant.0.places.count_size ∙ sym c.requires.places.count_size
 
 same-length-2 :
     tie.Need-shape_of-banks-then-left-eq0
@@ -640,7 +630,7 @@ same-length-2 :
     decreases-loop2
     invariant-rounds
     decreases-rounds
-same-length-2 c = c.rounds.invariant.0.places.bank_size ∙ sym (start-of c.before).pre.places.bank_size
+same-length-2 c = c.rounds.invariant.0.places.bank_size ∙ sym c.requires.places.bank_size
 
 same-length-3 :
     tie.Need-shape_of-floors-then-left-eq0
@@ -650,7 +640,7 @@ same-length-3 :
     decreases-loop2
     invariant-rounds
     decreases-rounds
-same-length-3 c = c.rounds.invariant.0.places.floor_size ∙ sym (start-of c.before).pre.places.floor_size
+same-length-3 c = c.rounds.invariant.0.places.floor_size ∙ sym c.requires.places.floor_size
 
 same-length-4 :
     tie.Need-shape_of-upsized-then-left-eq0
@@ -660,7 +650,7 @@ same-length-4 :
     decreases-loop2
     invariant-rounds
     decreases-rounds
-same-length-4 c = c.rounds.invariant.0.places.upsized_size ∙ sym (start-of c.before).pre.places.upsized_size
+same-length-4 c = c.rounds.invariant.0.places.upsized_size ∙ sym c.requires.places.upsized_size
 
 same-length-5 :
     tie.Need-shape_of-level-then-left-eq0
@@ -680,7 +670,7 @@ same-length-6 :
     decreases-loop2
     invariant-rounds
     decreases-rounds
-same-length-6 c = c.rounds.invariant.0.places.mark_size ∙ c.rounds.invariant.1 ∙ sym (start-of c.before).pre.places.mark_size
+same-length-6 c = c.rounds.invariant.0.places.mark_size ∙ c.rounds.invariant.1 ∙ sym c.requires.places.mark_size
 
 same-length-7 :
     tie.Need-shape_of-angle-then-left-eq0
@@ -690,7 +680,7 @@ same-length-7 :
     decreases-loop2
     invariant-rounds
     decreases-rounds
-same-length-7 c = c.rounds.invariant.0.places.angle_size ∙ c.rounds.invariant.1 ∙ sym (start-of c.before).pre.places.angle_size
+same-length-7 c = c.rounds.invariant.0.places.angle_size ∙ c.rounds.invariant.1 ∙ sym c.requires.places.angle_size
 
 same-length-8 :
     tie.Need-shape_of-flow-then-left-eq0
@@ -700,15 +690,15 @@ same-length-8 :
     decreases-loop2
     invariant-rounds
     decreases-rounds
-same-length-8 c = c.rounds.invariant.0.places.flow_size ∙ sym (start-of c.before).pre.places.flow_size
+same-length-8 c = c.rounds.invariant.0.places.flow_size ∙ sym c.requires.places.flow_size
 
 returns :
     tie.Need-returns-then-left-eq0 invariant-loop decreases-loop invariant-loop2 decreases-loop2 invariant-rounds decreases-rounds
 returns c =
     let r = c.rounds in
-    let z = (start-of c.before).args in
+    let z = c.args in
     record {
-      ran = λ o target s e caps. ended z.mode z.above z.ladder.now z.a.now z.b.now z.km.now z.share.now z.cap.now z.sheet.now z.load.now z.bus.now z.pmax.now z.leader.now z.grounds.now z.injection.now (length z.leader.now) r.level r.circuits r.banks r.floors r.upsized r.angle r.p (goes_on z.mode z.above z.ladder.now z.a.now z.b.now z.km.now z.share.now z.cap.now z.sheet.now z.load.now z.bus.now z.pmax.now z.leader.now z.grounds.now z.injection.now (length z.leader.now) z.budget z.level.now z.circuits.now z.banks.now z.floors.now z.upsized.now z.angle.now z.start) r.left (omega (arith, c.if-left-eq0.true)) r.invariant.2 o target s ((start-of c.before).pre.places.leader_size ∙ e, caps);
+      ran = λ o target s e caps. ended z.mode z.above z.ladder.now z.a.now z.b.now z.km.now z.share.now z.cap.now z.sheet.now z.load.now z.bus.now z.pmax.now z.leader.now z.grounds.now z.injection.now (length z.leader.now) r.level r.circuits r.banks r.floors r.upsized r.angle r.p (goes_on z.mode z.above z.ladder.now z.a.now z.b.now z.km.now z.share.now z.cap.now z.sheet.now z.load.now z.bus.now z.pmax.now z.leader.now z.grounds.now z.injection.now (length z.leader.now) z.budget z.level.now z.circuits.now z.banks.now z.floors.now z.upsized.now z.angle.now z.start) r.left (omega (arith, c.if-left-eq0.true)) r.invariant.2 o target s (c.requires.places.leader_size ∙ e, caps);
       lines = r.invariant.0.columns.lines;
       banked = r.invariant.0.banked;
       few = r.invariant.0.few;
@@ -716,7 +706,7 @@ returns c =
 
 same-length-9 :
     tie.Need-shape_of-circuits-in-Refused invariant-loop decreases-loop invariant-loop2 decreases-loop2 invariant-rounds decreases-rounds
-same-length-9 c = c.rounds.invariant.0.places.count_size ∙ sym (start-of c.before.before.before.before.before.before.before.before.before.before.before.before.before.before).pre.places.count_size
+same-length-9 c = c.rounds.invariant.0.places.count_size ∙ sym c.requires.places.count_size
 
 same-length-10 :
     tie.Need-shape_of-banks-in-Refused
@@ -726,7 +716,7 @@ same-length-10 :
     decreases-loop2
     invariant-rounds
     decreases-rounds
-same-length-10 c = c.rounds.invariant.0.places.bank_size ∙ sym (start-of c.before.before.before.before.before.before.before.before.before.before.before.before.before.before).pre.places.bank_size
+same-length-10 c = c.rounds.invariant.0.places.bank_size ∙ sym c.requires.places.bank_size
 
 same-length-11 :
     tie.Need-shape_of-floors-in-Refused
@@ -736,7 +726,7 @@ same-length-11 :
     decreases-loop2
     invariant-rounds
     decreases-rounds
-same-length-11 c = c.rounds.invariant.0.places.floor_size ∙ sym (start-of c.before.before.before.before.before.before.before.before.before.before.before.before.before.before).pre.places.floor_size
+same-length-11 c = c.rounds.invariant.0.places.floor_size ∙ sym c.requires.places.floor_size
 
 same-length-12 :
     tie.Need-shape_of-upsized-in-Refused
@@ -746,7 +736,7 @@ same-length-12 :
     decreases-loop2
     invariant-rounds
     decreases-rounds
-same-length-12 c = c.rounds.invariant.0.places.upsized_size ∙ sym (start-of c.before.before.before.before.before.before.before.before.before.before.before.before.before.before).pre.places.upsized_size
+same-length-12 c = c.rounds.invariant.0.places.upsized_size ∙ sym c.requires.places.upsized_size
 
 same-length-13 :
     tie.Need-shape_of-level-in-Refused
@@ -766,7 +756,7 @@ same-length-14 :
     decreases-loop2
     invariant-rounds
     decreases-rounds
-same-length-14 c = c.rounds.invariant.0.places.mark_size ∙ c.rounds.invariant.1 ∙ sym (start-of c.before.before.before.before.before.before.before.before.before.before.before.before.before.before).pre.places.mark_size
+same-length-14 c = c.rounds.invariant.0.places.mark_size ∙ c.rounds.invariant.1 ∙ sym c.requires.places.mark_size
 
 same-length-15 :
     tie.Need-shape_of-angle-in-Refused
@@ -776,7 +766,7 @@ same-length-15 :
     decreases-loop2
     invariant-rounds
     decreases-rounds
-same-length-15 c = c.peak_state.auto.angle ∙ c.rounds.invariant.0.places.angle_size ∙ c.rounds.invariant.1 ∙ sym (start-of c.before.before.before.before.before.before.before.before.before.before.before.before.before.before).pre.places.angle_size
+same-length-15 c = c.peak_state.auto.angle ∙ c.rounds.invariant.0.places.angle_size ∙ c.rounds.invariant.1 ∙ sym c.requires.places.angle_size
 
 same-length-16 :
     tie.Need-shape_of-flow-in-Refused
@@ -786,15 +776,15 @@ same-length-16 :
     decreases-loop2
     invariant-rounds
     decreases-rounds
-same-length-16 c = c.peak_state.auto.flow ∙ c.rounds.invariant.0.places.flow_size ∙ sym (start-of c.before.before.before.before.before.before.before.before.before.before.before.before.before.before).pre.places.flow_size
+same-length-16 c = c.peak_state.auto.flow ∙ c.rounds.invariant.0.places.flow_size ∙ sym c.requires.places.flow_size
 
 returns-2 :
     tie.Need-returns-in-Refused invariant-loop decreases-loop invariant-loop2 decreases-loop2 invariant-rounds decreases-rounds
 returns-2 c =
-    let z = (start-of c.before.before.before.before.before.before.before.before.before.before.before.before.before.before).args in
+    let z = c.args in
     let r = c.rounds in
     record {
-      ran = λ o target s e caps. round_refused z.mode z.above z.ladder.now z.a.now z.b.now z.km.now z.share.now z.cap.now z.sheet.now z.load.now z.bus.now z.pmax.now z.leader.now z.grounds.now z.injection.now (length z.leader.now) r.level r.level r.circuits r.banks r.floors r.upsized r.angle r.p (goes_on z.mode z.above z.ladder.now z.a.now z.b.now z.km.now z.share.now z.cap.now z.sheet.now z.load.now z.bus.now z.pmax.now z.leader.now z.grounds.now z.injection.now (length z.leader.now) z.budget z.level.now z.circuits.now z.banks.now z.floors.now z.upsized.now z.angle.now z.start) r.left (r.left - 1) (omega (arith, some_left c.if-left-eq0.false)) refl (sym r.invariant.0.places.leader_size) r.invariant.2 _ _ _ c.draw_edges-e.result.from c.draw_edges-e.result.to c.draw_edges-e.result.weight c.draw_edges-e.ensures.0 _ _ r.invariant.0.places.angle_size r.invariant.0.places.flow_size c.peak_state.ensures _ c.in-Refused.is o target s ((start-of c.before.before.before.before.before.before.before.before.before.before.before.before.before.before).pre.places.leader_size ∙ e, caps);
+      ran = λ o target s e caps. round_refused z.mode z.above z.ladder.now z.a.now z.b.now z.km.now z.share.now z.cap.now z.sheet.now z.load.now z.bus.now z.pmax.now z.leader.now z.grounds.now z.injection.now (length z.leader.now) r.level r.level r.circuits r.banks r.floors r.upsized r.angle r.p (goes_on z.mode z.above z.ladder.now z.a.now z.b.now z.km.now z.share.now z.cap.now z.sheet.now z.load.now z.bus.now z.pmax.now z.leader.now z.grounds.now z.injection.now (length z.leader.now) z.budget z.level.now z.circuits.now z.banks.now z.floors.now z.upsized.now z.angle.now z.start) r.left (r.left - 1) (omega (arith, some_left c.if-left-eq0.false)) refl (sym r.invariant.0.places.leader_size) r.invariant.2 _ _ _ c.draw_edges-e.result.from c.draw_edges-e.result.to c.draw_edges-e.result.weight c.draw_edges-e.ensures.0 _ _ r.invariant.0.places.angle_size r.invariant.0.places.flow_size c.peak_state.ensures _ c.in-Refused.is o target s (c.requires.places.leader_size ∙ e, caps);
       lines = r.invariant.0.columns.lines;
       banked = r.invariant.0.banked;
       few = r.invariant.0.few;
@@ -808,7 +798,7 @@ same-length-17 :
     decreases-loop2
     invariant-rounds
     decreases-rounds
-same-length-17 c = c.size_corridor-t.auto.circuits ∙ c.loop-k.invariant.3.count_size ∙ sym (start-of (round-of c.before.before.before.before.before.before.before.before.before.before.before.before.before.before.before.before.before.before.before.before.before.before.before.before.before.before.before.before.before.before.before.before.before.before)).pre.places.count_size
+same-length-17 c = c.size_corridor-t.auto.circuits ∙ c.loop-k.invariant.3.count_size ∙ sym c.requires.places.count_size
 
 same-length-18 :
     tie.Need-shape_of-banks-then-not-promotes
@@ -818,7 +808,7 @@ same-length-18 :
     decreases-loop2
     invariant-rounds
     decreases-rounds
-same-length-18 c = c.raise_marked-moved.auto.banks ∙ c.size_corridor-t.auto.banks ∙ c.loop-k.invariant.3.bank_size ∙ sym (start-of (round-of c.before.before.before.before.before.before.before.before.before.before.before.before.before.before.before.before.before.before.before.before.before.before.before.before.before.before.before.before.before.before.before.before.before.before)).pre.places.bank_size
+same-length-18 c = c.raise_marked-moved.auto.banks ∙ c.size_corridor-t.auto.banks ∙ c.loop-k.invariant.3.bank_size ∙ sym c.requires.places.bank_size
 
 same-length-19 :
     tie.Need-shape_of-floors-then-not-promotes
@@ -828,7 +818,7 @@ same-length-19 :
     decreases-loop2
     invariant-rounds
     decreases-rounds
-same-length-19 c = c.size_corridor-t.auto.floors ∙ c.loop-k.invariant.3.floor_size ∙ sym (start-of (round-of c.before.before.before.before.before.before.before.before.before.before.before.before.before.before.before.before.before.before.before.before.before.before.before.before.before.before.before.before.before.before.before.before.before.before)).pre.places.floor_size
+same-length-19 c = c.size_corridor-t.auto.floors ∙ c.loop-k.invariant.3.floor_size ∙ sym c.requires.places.floor_size
 
 same-length-20 :
     tie.Need-shape_of-upsized-then-not-promotes
@@ -838,7 +828,7 @@ same-length-20 :
     decreases-loop2
     invariant-rounds
     decreases-rounds
-same-length-20 c = c.size_corridor-t.auto.upsized ∙ c.loop-k.invariant.3.upsized_size ∙ sym (start-of (round-of c.before.before.before.before.before.before.before.before.before.before.before.before.before.before.before.before.before.before.before.before.before.before.before.before.before.before.before.before.before.before.before.before.before.before)).pre.places.upsized_size
+same-length-20 c = c.size_corridor-t.auto.upsized ∙ c.loop-k.invariant.3.upsized_size ∙ sym c.requires.places.upsized_size
 
 same-length-21 :
     tie.Need-shape_of-level-then-not-promotes
@@ -848,7 +838,7 @@ same-length-21 :
     decreases-loop2
     invariant-rounds
     decreases-rounds
-same-length-21 c = c.raise_marked-moved.auto.level ∙ ap (λ (x : List ℕ). length x) c.loop-k.invariant.1 ∙ (round-of c.before.before.before.before.before.before.before.before.before.before.before.before.before.before.before.before.before.before.before.before.before.before.before.before.before.before.before.before.before.before.before.before.before.before).rounds.inv.1
+same-length-21 c = c.raise_marked-moved.auto.level ∙ ap (λ (x : List ℕ). length x) c.loop-k.invariant.1 ∙ c.rounds.invariant.1
 
 same-length-22 :
     tie.Need-shape_of-marks-then-not-promotes
@@ -858,7 +848,7 @@ same-length-22 :
     decreases-loop2
     invariant-rounds
     decreases-rounds
-same-length-22 c = c.size_corridor-t.auto.marks ∙ c.loop-k.invariant.3.mark_size ∙ ap (λ (x : List ℕ). length x) c.loop-k.invariant.1 ∙ (round-of c.before.before.before.before.before.before.before.before.before.before.before.before.before.before.before.before.before.before.before.before.before.before.before.before.before.before.before.before.before.before.before.before.before.before).rounds.inv.1 ∙ sym (start-of (round-of c.before.before.before.before.before.before.before.before.before.before.before.before.before.before.before.before.before.before.before.before.before.before.before.before.before.before.before.before.before.before.before.before.before.before)).pre.places.mark_size
+same-length-22 c = c.size_corridor-t.auto.marks ∙ c.loop-k.invariant.3.mark_size ∙ ap (λ (x : List ℕ). length x) c.loop-k.invariant.1 ∙ c.rounds.invariant.1 ∙ sym c.requires.places.mark_size
 
 same-length-23 :
     tie.Need-shape_of-angle-then-not-promotes
@@ -868,7 +858,7 @@ same-length-23 :
     decreases-loop2
     invariant-rounds
     decreases-rounds
-same-length-23 c = c.peak_state.auto.angle ∙ (round-of c.before.before.before.before.before.before.before.before.before.before.before.before.before.before.before.before.before.before.before.before.before.before.before.before.before.before.before.before.before.before.before.before.before.before).rounds.inv.0.places.angle_size ∙ (round-of c.before.before.before.before.before.before.before.before.before.before.before.before.before.before.before.before.before.before.before.before.before.before.before.before.before.before.before.before.before.before.before.before.before.before).rounds.inv.1 ∙ sym (start-of (round-of c.before.before.before.before.before.before.before.before.before.before.before.before.before.before.before.before.before.before.before.before.before.before.before.before.before.before.before.before.before.before.before.before.before.before)).pre.places.angle_size
+same-length-23 c = c.peak_state.auto.angle ∙ c.rounds.invariant.0.places.angle_size ∙ c.rounds.invariant.1 ∙ sym c.requires.places.angle_size
 
 same-length-24 :
     tie.Need-shape_of-flow-then-not-promotes
@@ -878,16 +868,16 @@ same-length-24 :
     decreases-loop2
     invariant-rounds
     decreases-rounds
-same-length-24 c = c.peak_state.auto.flow ∙ (round-of c.before.before.before.before.before.before.before.before.before.before.before.before.before.before.before.before.before.before.before.before.before.before.before.before.before.before.before.before.before.before.before.before.before.before).rounds.inv.0.places.flow_size ∙ sym (start-of (round-of c.before.before.before.before.before.before.before.before.before.before.before.before.before.before.before.before.before.before.before.before.before.before.before.before.before.before.before.before.before.before.before.before.before.before)).pre.places.flow_size
+same-length-24 c = c.peak_state.auto.flow ∙ c.rounds.invariant.0.places.flow_size ∙ sym c.requires.places.flow_size
 
 returns-3 :
     tie.Need-returns-then-not-promotes invariant-loop decreases-loop invariant-loop2 decreases-loop2 invariant-rounds decreases-rounds
 returns-3 c =
-    let z = (start-of (round-of c.before.before.before.before.before.before.before.before.before.before.before.before.before.before.before.before.before.before.before.before.before.before.before.before.before.before.before.before.before.before.before.before.before.before)).args in
-    let r = (round-of c.before.before.before.before.before.before.before.before.before.before.before.before.before.before.before.before.before.before.before.before.before.before.before.before.before.before.before.before.before.before.before.before.before.before).rounds in
+    let z = c.args in
+    let r = c.rounds in
     let l = c.loop-k in
     record {
-      ran = λ o target s e caps. sized_settled z.mode z.above z.ladder.now z.a.now z.b.now z.km.now z.share.now z.cap.now z.sheet.now z.load.now z.bus.now z.pmax.now z.leader.now z.grounds.now z.injection.now (length z.leader.now) l.level r.level r.circuits r.banks r.floors r.upsized r.angle r.p (goes_on z.mode z.above z.ladder.now z.a.now z.b.now z.km.now z.share.now z.cap.now z.sheet.now z.load.now z.bus.now z.pmax.now z.leader.now z.grounds.now z.injection.now (length z.leader.now) z.budget z.level.now z.circuits.now z.banks.now z.floors.now z.upsized.now z.angle.now z.start) r.left (r.left - 1) (omega (arith, some_left c.if-left-eq0.false)) l.invariant.1 (sym r.inv.0.places.leader_size) r.inv.2 _ _ _ c.draw_edges-e.result.from c.draw_edges-e.result.to c.draw_edges-e.result.weight c.draw_edges-e.ensures.0 _ _ r.inv.0.places.angle_size r.inv.0.places.flow_size c.peak_state.ensures c.in-Answered.is _ _ _ _ _ _ _ (omega (arith, c.if-k-a.true)) (left_turn z.mode (length l.level) z.ladder.now l.level z.a.now z.b.now z.km.now z.share.now z.cap.now z.sheet.now _ l.k l.circuits l.banks l.floors l.upsized l.marks l.t _ _ _ _ _ _ c.loop-k-test.true c.size_corridor-t.ensures.sized ∙ l.invariant.7) _ l.invariant.2 _ _ _ c.raise_marked-moved.ensures c.if-moved-t.false (sym c.promotes.ensures ∙ c.if-not-promotes.true) o target s ((start-of (round-of c.before.before.before.before.before.before.before.before.before.before.before.before.before.before.before.before.before.before.before.before.before.before.before.before.before.before.before.before.before.before.before.before.before.before)).pre.places.leader_size ∙ e, caps);
+      ran = λ o target s e caps. sized_settled z.mode z.above z.ladder.now z.a.now z.b.now z.km.now z.share.now z.cap.now z.sheet.now z.load.now z.bus.now z.pmax.now z.leader.now z.grounds.now z.injection.now (length z.leader.now) l.level r.level r.circuits r.banks r.floors r.upsized r.angle r.p (goes_on z.mode z.above z.ladder.now z.a.now z.b.now z.km.now z.share.now z.cap.now z.sheet.now z.load.now z.bus.now z.pmax.now z.leader.now z.grounds.now z.injection.now (length z.leader.now) z.budget z.level.now z.circuits.now z.banks.now z.floors.now z.upsized.now z.angle.now z.start) r.left (r.left - 1) (omega (arith, some_left c.if-left-eq0.false)) l.invariant.1 (sym r.invariant.0.places.leader_size) r.invariant.2 _ _ _ c.draw_edges-e.result.from c.draw_edges-e.result.to c.draw_edges-e.result.weight c.draw_edges-e.ensures.0 _ _ r.invariant.0.places.angle_size r.invariant.0.places.flow_size c.peak_state.ensures c.in-Answered.is _ _ _ _ _ _ _ (omega (arith, c.if-k-a.true)) (left_turn z.mode (length l.level) z.ladder.now l.level z.a.now z.b.now z.km.now z.share.now z.cap.now z.sheet.now _ l.k l.circuits l.banks l.floors l.upsized l.marks l.t _ _ _ _ _ _ c.loop-k-test.true c.size_corridor-t.ensures.sized ∙ l.invariant.7) _ l.invariant.2 _ _ _ c.raise_marked-moved.ensures c.if-moved-t.false (sym c.promotes.ensures ∙ c.if-not-promotes.true) o target s (c.requires.places.leader_size ∙ e, caps);
       lines = c.raise_marked-moved.ensures.lines;
       banked = c.raise_marked-moved.ensures.banked;
       few = c.size_corridor-t.ensures.few l.invariant.5;
@@ -901,7 +891,7 @@ same-length-25 :
     decreases-loop2
     invariant-rounds
     decreases-rounds
-same-length-25 c = c.stiffen_led.auto.circuits ∙ c.loop-i.invariant.3.0 ∙ (sized_of c.before.before.before.before.before.before.before.before.before.before.before.before.before.before.before.before.before.before.before.before).loop.inv.3.count_size ∙ sym (start-of (round-of (sized_of c.before.before.before.before.before.before.before.before.before.before.before.before.before.before.before.before.before.before.before.before))).pre.places.count_size
+same-length-25 c = c.stiffen_led.auto.circuits ∙ c.loop-i.invariant.3.0 ∙ c.loop-k.invariant.3.count_size ∙ sym c.requires.places.count_size
 
 same-length-26 :
     tie.Need-shape_of-banks-in-Refused-stiffen_led
@@ -911,7 +901,7 @@ same-length-26 :
     decreases-loop2
     invariant-rounds
     decreases-rounds
-same-length-26 c = c.stiffen_led.auto.banks ∙ c.loop-i.invariant.3.1 ∙ (sized_of c.before.before.before.before.before.before.before.before.before.before.before.before.before.before.before.before.before.before.before.before).loop.inv.3.bank_size ∙ sym (start-of (round-of (sized_of c.before.before.before.before.before.before.before.before.before.before.before.before.before.before.before.before.before.before.before.before))).pre.places.bank_size
+same-length-26 c = c.stiffen_led.auto.banks ∙ c.loop-i.invariant.3.1 ∙ c.loop-k.invariant.3.bank_size ∙ sym c.requires.places.bank_size
 
 same-length-27 :
     tie.Need-shape_of-floors-in-Refused-stiffen_led
@@ -921,7 +911,7 @@ same-length-27 :
     decreases-loop2
     invariant-rounds
     decreases-rounds
-same-length-27 c = c.stiffen_led.auto.floors ∙ c.loop-i.invariant.3.2 ∙ (sized_of c.before.before.before.before.before.before.before.before.before.before.before.before.before.before.before.before.before.before.before.before).loop.inv.3.floor_size ∙ sym (start-of (round-of (sized_of c.before.before.before.before.before.before.before.before.before.before.before.before.before.before.before.before.before.before.before.before))).pre.places.floor_size
+same-length-27 c = c.stiffen_led.auto.floors ∙ c.loop-i.invariant.3.2 ∙ c.loop-k.invariant.3.floor_size ∙ sym c.requires.places.floor_size
 
 same-length-28 :
     tie.Need-shape_of-upsized-in-Refused-stiffen_led
@@ -931,7 +921,7 @@ same-length-28 :
     decreases-loop2
     invariant-rounds
     decreases-rounds
-same-length-28 c = c.stiffen_led.auto.upsized ∙ c.loop-i.invariant.3.3 ∙ (sized_of c.before.before.before.before.before.before.before.before.before.before.before.before.before.before.before.before.before.before.before.before).loop.inv.3.upsized_size ∙ sym (start-of (round-of (sized_of c.before.before.before.before.before.before.before.before.before.before.before.before.before.before.before.before.before.before.before.before))).pre.places.upsized_size
+same-length-28 c = c.stiffen_led.auto.upsized ∙ c.loop-i.invariant.3.3 ∙ c.loop-k.invariant.3.upsized_size ∙ sym c.requires.places.upsized_size
 
 same-length-29 :
     tie.Need-shape_of-level-in-Refused-stiffen_led
@@ -941,7 +931,7 @@ same-length-29 :
     decreases-loop2
     invariant-rounds
     decreases-rounds
-same-length-29 c = ap (λ (x : List ℕ). length x) (c.loop-i.invariant.1 ∙ (sized_of c.before.before.before.before.before.before.before.before.before.before.before.before.before.before.before.before.before.before.before.before).loop.inv.1) ∙ (round-of (sized_of c.before.before.before.before.before.before.before.before.before.before.before.before.before.before.before.before.before.before.before.before)).rounds.inv.1
+same-length-29 c = ap (λ (x : List ℕ). length x) (c.loop-i.invariant.1 ∙ c.loop-k.invariant.1) ∙ c.rounds.invariant.1
 
 same-length-30 :
     tie.Need-shape_of-marks-in-Refused-stiffen_led
@@ -951,7 +941,7 @@ same-length-30 :
     decreases-loop2
     invariant-rounds
     decreases-rounds
-same-length-30 c = c.stiffen_led.auto.marks ∙ c.loop-i.invariant.3.4 ∙ c.stiffness_from-s.auto.marks ∙ (sized_of c.before.before.before.before.before.before.before.before.before.before.before.before.before.before.before.before.before.before.before.before).loop.inv.3.mark_size ∙ ap (λ (x : List ℕ). length x) (sized_of c.before.before.before.before.before.before.before.before.before.before.before.before.before.before.before.before.before.before.before.before).loop.inv.1 ∙ (round-of (sized_of c.before.before.before.before.before.before.before.before.before.before.before.before.before.before.before.before.before.before.before.before)).rounds.inv.1 ∙ sym (start-of (round-of (sized_of c.before.before.before.before.before.before.before.before.before.before.before.before.before.before.before.before.before.before.before.before))).pre.places.mark_size
+same-length-30 c = c.stiffen_led.auto.marks ∙ c.loop-i.invariant.3.4 ∙ c.stiffness_from-s.auto.marks ∙ c.loop-k.invariant.3.mark_size ∙ ap (λ (x : List ℕ). length x) c.loop-k.invariant.1 ∙ c.rounds.invariant.1 ∙ sym c.requires.places.mark_size
 
 same-length-31 :
     tie.Need-shape_of-angle-in-Refused-stiffen_led
@@ -961,7 +951,7 @@ same-length-31 :
     decreases-loop2
     invariant-rounds
     decreases-rounds
-same-length-31 c = (sized_of c.before.before.before.before.before.before.before.before.before.before.before.before.before.before.before.before.before.before.before.before).before.before.before.before.before.before.before.before.before.before.before.peak_state.kept.1.1.1.0 ∙ (round-of (sized_of c.before.before.before.before.before.before.before.before.before.before.before.before.before.before.before.before.before.before.before.before)).rounds.inv.0.places.angle_size ∙ (round-of (sized_of c.before.before.before.before.before.before.before.before.before.before.before.before.before.before.before.before.before.before.before.before)).rounds.inv.1 ∙ sym (start-of (round-of (sized_of c.before.before.before.before.before.before.before.before.before.before.before.before.before.before.before.before.before.before.before.before))).pre.places.angle_size
+same-length-31 c = c.peak_state.auto.angle ∙ c.rounds.invariant.0.places.angle_size ∙ c.rounds.invariant.1 ∙ sym c.requires.places.angle_size
 
 same-length-32 :
     tie.Need-shape_of-flow-in-Refused-stiffen_led
@@ -971,22 +961,22 @@ same-length-32 :
     decreases-loop2
     invariant-rounds
     decreases-rounds
-same-length-32 c = (sized_of c.before.before.before.before.before.before.before.before.before.before.before.before.before.before.before.before.before.before.before.before).before.before.before.before.before.before.before.before.before.before.before.peak_state.kept.1.1.1.1.0 ∙ (round-of (sized_of c.before.before.before.before.before.before.before.before.before.before.before.before.before.before.before.before.before.before.before.before)).rounds.inv.0.places.flow_size ∙ sym (start-of (round-of (sized_of c.before.before.before.before.before.before.before.before.before.before.before.before.before.before.before.before.before.before.before.before))).pre.places.flow_size
+same-length-32 c = c.peak_state.auto.flow ∙ c.rounds.invariant.0.places.flow_size ∙ sym c.requires.places.flow_size
 
 returns-4 :
     tie.Need-returns-in-Refused-stiffen_led invariant-loop decreases-loop invariant-loop2 decreases-loop2 invariant-rounds decreases-rounds
 returns-4 c =
-    let z = (start-of (round-of (sized_of c.before.before.before.before.before.before.before.before.before.before.before.before.before.before.before.before.before.before.before.before))).args in
-    let r = (round-of (sized_of c.before.before.before.before.before.before.before.before.before.before.before.before.before.before.before.before.before.before.before.before)).rounds in
-    let l = (sized_of c.before.before.before.before.before.before.before.before.before.before.before.before.before.before.before.before.before.before.before.before).loop in
+    let z = c.args in
+    let r = c.rounds in
+    let l = c.loop-k in
     let k = c.loop-i in
-    let f = r.inv.0 in
-    let lv = k.invariant.1 ∙ l.inv.1 in
+    let f = r.invariant.0 in
+    let lv = k.invariant.1 ∙ l.invariant.1 in
     let ln = ap (λ (x : List ℕ). length x) lv in
     record {
       ran = λ o target s e caps. stiffen_refused z.mode z.above z.ladder.now z.a.now z.b.now z.km.now z.share.now z.cap.now z.sheet.now z.load.now z.bus.now z.pmax.now z.leader.now z.grounds.now z.injection.now (length z.leader.now)
           (goes_on z.mode z.above z.ladder.now z.a.now z.b.now z.km.now z.share.now z.cap.now z.sheet.now z.load.now z.bus.now z.pmax.now z.leader.now z.grounds.now z.injection.now (length z.leader.now) z.budget z.level.now z.circuits.now z.banks.now z.floors.now z.upsized.now z.angle.now z.start)
-          (r.left - 1) k.level c.limits_of-g.result (sized_of c.before.before.before.before.before.before.before.before.before.before.before.before.before.before.before.before.before.before.before.before).before.before.before.before.before.before.before.before.before.before.before.before.before.before.draw_edges.result.from (sized_of c.before.before.before.before.before.before.before.before.before.before.before.before.before.before.before.before.before.before.before.before).before.before.before.before.before.before.before.before.before.before.before.before.before.before.draw_edges.result.to (sized_of c.before.before.before.before.before.before.before.before.before.before.before.before.before.before.before.before.before.before.before.before).before.before.before.before.before.before.before.before.before.before.before.before.before.before.draw_edges.result.weight (sized_of c.before.before.before.before.before.before.before.before.before.before.before.before.before.before.before.before.before.before.before.before).before.before.before.before.before.before.before.before.before.before.before.peak_state.last.1.1.1.0 (sized_of c.before.before.before.before.before.before.before.before.before.before.before.before.before.before.before.before.before.before.before.before).before.before.before.before.before.before.before.before.before.before.before.peak_state.last.1.1.1.1.0 k.p l.t (ln ∙ sym f.places.leader_size) k.i k.circuits k.banks k.floors k.upsized k.marks k.s (whole c.before.before.before.before.before.before.before.before.before.before.before.before) c.loop-i-test.true c.stiffen_led.new.circuits c.stiffen_led.new.banks c.stiffen_led.new.floors c.stiffen_led.new.upsized c.stiffen_led.new.marks c.stiffen_led.result c.stiffen_led.ensures _ c.in-Refused-stiffen_led.is o target s ((start-of (round-of (sized_of c.before.before.before.before.before.before.before.before.before.before.before.before.before.before.before.before.before.before.before.before))).pre.places.leader_size ∙ e, caps);
+          (r.left - 1) k.level c.limits_of-g.result c.draw_edges-e.result.from c.draw_edges-e.result.to c.draw_edges-e.result.weight c.peak_state.new.angle c.peak_state.new.flow k.p l.t (ln ∙ sym f.places.leader_size) k.i k.circuits k.banks k.floors k.upsized k.marks k.s (whole c.before.before.before.before.before.before.before.before.before.before.before.before) c.loop-i-test.true c.stiffen_led.new.circuits c.stiffen_led.new.banks c.stiffen_led.new.floors c.stiffen_led.new.upsized c.stiffen_led.new.marks c.stiffen_led.result c.stiffen_led.ensures _ c.in-Refused-stiffen_led.is o target s (c.requires.places.leader_size ∙ e, caps);
       lines = subst (λ (x : List ℕ). Lines z.ladder.now x z.a.now z.b.now z.km.now z.share.now z.sheet.now) (sym lv) f.columns.lines;
       banked = c.stiffen_led.ensures.banked;
       few = c.stiffen_led.ensures.few k.invariant.5;
@@ -1000,7 +990,7 @@ same-length-33 :
     decreases-loop2
     invariant-rounds
     decreases-rounds
-same-length-33 c = c.stiffen_led.auto.circuits ∙ c.loop-i.invariant.3.0 ∙ (sized_of c.before.before.before.before.before.before.before.before.before.before.before.before.before.before.before.before.before.before.before.before.before.before.before.before.before.before.before.before.before.before.before.before.before.before.before).loop.inv.3.count_size ∙ sym (start-of (round-of (sized_of c.before.before.before.before.before.before.before.before.before.before.before.before.before.before.before.before.before.before.before.before.before.before.before.before.before.before.before.before.before.before.before.before.before.before.before))).pre.places.count_size
+same-length-33 c = c.stiffen_led.auto.circuits ∙ c.loop-i.invariant.3.0 ∙ c.loop-k.invariant.3.count_size ∙ sym c.requires.places.count_size
 
 same-length-34 :
     tie.Need-shape_of-banks-else-moved-s
@@ -1010,7 +1000,7 @@ same-length-34 :
     decreases-loop2
     invariant-rounds
     decreases-rounds
-same-length-34 c = c.raise_marked-moved-then-i-leader.auto.banks ∙ c.stiffen_led.auto.banks ∙ c.loop-i.invariant.3.1 ∙ (sized_of c.before.before.before.before.before.before.before.before.before.before.before.before.before.before.before.before.before.before.before.before.before.before.before.before.before.before.before.before.before.before.before.before.before.before.before).loop.inv.3.bank_size ∙ sym (start-of (round-of (sized_of c.before.before.before.before.before.before.before.before.before.before.before.before.before.before.before.before.before.before.before.before.before.before.before.before.before.before.before.before.before.before.before.before.before.before.before))).pre.places.bank_size
+same-length-34 c = c.raise_marked-moved-then-i-leader.auto.banks ∙ c.stiffen_led.auto.banks ∙ c.loop-i.invariant.3.1 ∙ c.loop-k.invariant.3.bank_size ∙ sym c.requires.places.bank_size
 
 same-length-35 :
     tie.Need-shape_of-floors-else-moved-s
@@ -1020,7 +1010,7 @@ same-length-35 :
     decreases-loop2
     invariant-rounds
     decreases-rounds
-same-length-35 c = c.stiffen_led.auto.floors ∙ c.loop-i.invariant.3.2 ∙ (sized_of c.before.before.before.before.before.before.before.before.before.before.before.before.before.before.before.before.before.before.before.before.before.before.before.before.before.before.before.before.before.before.before.before.before.before.before).loop.inv.3.floor_size ∙ sym (start-of (round-of (sized_of c.before.before.before.before.before.before.before.before.before.before.before.before.before.before.before.before.before.before.before.before.before.before.before.before.before.before.before.before.before.before.before.before.before.before.before))).pre.places.floor_size
+same-length-35 c = c.stiffen_led.auto.floors ∙ c.loop-i.invariant.3.2 ∙ c.loop-k.invariant.3.floor_size ∙ sym c.requires.places.floor_size
 
 same-length-36 :
     tie.Need-shape_of-upsized-else-moved-s
@@ -1030,7 +1020,7 @@ same-length-36 :
     decreases-loop2
     invariant-rounds
     decreases-rounds
-same-length-36 c = c.stiffen_led.auto.upsized ∙ c.loop-i.invariant.3.3 ∙ (sized_of c.before.before.before.before.before.before.before.before.before.before.before.before.before.before.before.before.before.before.before.before.before.before.before.before.before.before.before.before.before.before.before.before.before.before.before).loop.inv.3.upsized_size ∙ sym (start-of (round-of (sized_of c.before.before.before.before.before.before.before.before.before.before.before.before.before.before.before.before.before.before.before.before.before.before.before.before.before.before.before.before.before.before.before.before.before.before.before))).pre.places.upsized_size
+same-length-36 c = c.stiffen_led.auto.upsized ∙ c.loop-i.invariant.3.3 ∙ c.loop-k.invariant.3.upsized_size ∙ sym c.requires.places.upsized_size
 
 same-length-37 :
     tie.Need-shape_of-level-else-moved-s
@@ -1040,7 +1030,7 @@ same-length-37 :
     decreases-loop2
     invariant-rounds
     decreases-rounds
-same-length-37 c = c.raise_marked-moved-then-i-leader.auto.level ∙ ap (λ (x : List ℕ). length x) (c.loop-i.invariant.1 ∙ (sized_of c.before.before.before.before.before.before.before.before.before.before.before.before.before.before.before.before.before.before.before.before.before.before.before.before.before.before.before.before.before.before.before.before.before.before.before).loop.inv.1) ∙ (round-of (sized_of c.before.before.before.before.before.before.before.before.before.before.before.before.before.before.before.before.before.before.before.before.before.before.before.before.before.before.before.before.before.before.before.before.before.before.before)).rounds.inv.1
+same-length-37 c = c.raise_marked-moved-then-i-leader.auto.level ∙ ap (λ (x : List ℕ). length x) (c.loop-i.invariant.1 ∙ c.loop-k.invariant.1) ∙ c.rounds.invariant.1
 
 same-length-38 :
     tie.Need-shape_of-marks-else-moved-s
@@ -1050,7 +1040,7 @@ same-length-38 :
     decreases-loop2
     invariant-rounds
     decreases-rounds
-same-length-38 c = c.stiffen_led.auto.marks ∙ c.loop-i.invariant.3.4 ∙ c.stiffness_from-s.auto.marks ∙ (sized_of c.before.before.before.before.before.before.before.before.before.before.before.before.before.before.before.before.before.before.before.before.before.before.before.before.before.before.before.before.before.before.before.before.before.before.before).loop.inv.3.mark_size ∙ ap (λ (x : List ℕ). length x) (sized_of c.before.before.before.before.before.before.before.before.before.before.before.before.before.before.before.before.before.before.before.before.before.before.before.before.before.before.before.before.before.before.before.before.before.before.before).loop.inv.1 ∙ (round-of (sized_of c.before.before.before.before.before.before.before.before.before.before.before.before.before.before.before.before.before.before.before.before.before.before.before.before.before.before.before.before.before.before.before.before.before.before.before)).rounds.inv.1 ∙ sym (start-of (round-of (sized_of c.before.before.before.before.before.before.before.before.before.before.before.before.before.before.before.before.before.before.before.before.before.before.before.before.before.before.before.before.before.before.before.before.before.before.before))).pre.places.mark_size
+same-length-38 c = c.stiffen_led.auto.marks ∙ c.loop-i.invariant.3.4 ∙ c.stiffness_from-s.auto.marks ∙ c.loop-k.invariant.3.mark_size ∙ ap (λ (x : List ℕ). length x) c.loop-k.invariant.1 ∙ c.rounds.invariant.1 ∙ sym c.requires.places.mark_size
 
 same-length-39 :
     tie.Need-shape_of-angle-else-moved-s
@@ -1060,7 +1050,7 @@ same-length-39 :
     decreases-loop2
     invariant-rounds
     decreases-rounds
-same-length-39 c = (sized_of c.before.before.before.before.before.before.before.before.before.before.before.before.before.before.before.before.before.before.before.before.before.before.before.before.before.before.before.before.before.before.before.before.before.before.before).before.before.before.before.before.before.before.before.before.before.before.peak_state.kept.1.1.1.0 ∙ (round-of (sized_of c.before.before.before.before.before.before.before.before.before.before.before.before.before.before.before.before.before.before.before.before.before.before.before.before.before.before.before.before.before.before.before.before.before.before.before)).rounds.inv.0.places.angle_size ∙ (round-of (sized_of c.before.before.before.before.before.before.before.before.before.before.before.before.before.before.before.before.before.before.before.before.before.before.before.before.before.before.before.before.before.before.before.before.before.before.before)).rounds.inv.1 ∙ sym (start-of (round-of (sized_of c.before.before.before.before.before.before.before.before.before.before.before.before.before.before.before.before.before.before.before.before.before.before.before.before.before.before.before.before.before.before.before.before.before.before.before))).pre.places.angle_size
+same-length-39 c = c.peak_state.auto.angle ∙ c.rounds.invariant.0.places.angle_size ∙ c.rounds.invariant.1 ∙ sym c.requires.places.angle_size
 
 same-length-40 :
     tie.Need-shape_of-flow-else-moved-s
@@ -1070,22 +1060,22 @@ same-length-40 :
     decreases-loop2
     invariant-rounds
     decreases-rounds
-same-length-40 c = (sized_of c.before.before.before.before.before.before.before.before.before.before.before.before.before.before.before.before.before.before.before.before.before.before.before.before.before.before.before.before.before.before.before.before.before.before.before).before.before.before.before.before.before.before.before.before.before.before.peak_state.kept.1.1.1.1.0 ∙ (round-of (sized_of c.before.before.before.before.before.before.before.before.before.before.before.before.before.before.before.before.before.before.before.before.before.before.before.before.before.before.before.before.before.before.before.before.before.before.before)).rounds.inv.0.places.flow_size ∙ sym (start-of (round-of (sized_of c.before.before.before.before.before.before.before.before.before.before.before.before.before.before.before.before.before.before.before.before.before.before.before.before.before.before.before.before.before.before.before.before.before.before.before))).pre.places.flow_size
+same-length-40 c = c.peak_state.auto.flow ∙ c.rounds.invariant.0.places.flow_size ∙ sym c.requires.places.flow_size
 
 returns-5 :
     tie.Need-returns-else-moved-s invariant-loop decreases-loop invariant-loop2 decreases-loop2 invariant-rounds decreases-rounds
 returns-5 c =
-    let z = (start-of (round-of (sized_of c.before.before.before.before.before.before.before.before.before.before.before.before.before.before.before.before.before.before.before.before.before.before.before.before.before.before.before.before.before.before.before.before.before.before.before))).args in
-    let r = (round-of (sized_of c.before.before.before.before.before.before.before.before.before.before.before.before.before.before.before.before.before.before.before.before.before.before.before.before.before.before.before.before.before.before.before.before.before.before.before)).rounds in
-    let l = (sized_of c.before.before.before.before.before.before.before.before.before.before.before.before.before.before.before.before.before.before.before.before.before.before.before.before.before.before.before.before.before.before.before.before.before.before.before).loop in
+    let z = c.args in
+    let r = c.rounds in
+    let l = c.loop-k in
     let k = c.loop-i in
-    let f = r.inv.0 in
-    let lv = k.invariant.1 ∙ l.inv.1 in
+    let f = r.invariant.0 in
+    let lv = k.invariant.1 ∙ l.invariant.1 in
     let ln = ap (λ (x : List ℕ). length x) lv in
     record {
       ran = λ o target s e caps. stiffened_settled z.mode z.above z.ladder.now z.a.now z.b.now z.km.now z.share.now z.cap.now z.sheet.now z.load.now z.bus.now z.pmax.now z.leader.now z.grounds.now z.injection.now (length z.leader.now)
           (goes_on z.mode z.above z.ladder.now z.a.now z.b.now z.km.now z.share.now z.cap.now z.sheet.now z.load.now z.bus.now z.pmax.now z.leader.now z.grounds.now z.injection.now (length z.leader.now) z.budget z.level.now z.circuits.now z.banks.now z.floors.now z.upsized.now z.angle.now z.start)
-          (r.left - 1) k.level c.limits_of-g.result (sized_of c.before.before.before.before.before.before.before.before.before.before.before.before.before.before.before.before.before.before.before.before.before.before.before.before.before.before.before.before.before.before.before.before.before.before.before).before.before.before.before.before.before.before.before.before.before.before.before.before.before.draw_edges.result.from (sized_of c.before.before.before.before.before.before.before.before.before.before.before.before.before.before.before.before.before.before.before.before.before.before.before.before.before.before.before.before.before.before.before.before.before.before.before).before.before.before.before.before.before.before.before.before.before.before.before.before.before.draw_edges.result.to (sized_of c.before.before.before.before.before.before.before.before.before.before.before.before.before.before.before.before.before.before.before.before.before.before.before.before.before.before.before.before.before.before.before.before.before.before.before).before.before.before.before.before.before.before.before.before.before.before.before.before.before.draw_edges.result.weight (sized_of c.before.before.before.before.before.before.before.before.before.before.before.before.before.before.before.before.before.before.before.before.before.before.before.before.before.before.before.before.before.before.before.before.before.before.before).before.before.before.before.before.before.before.before.before.before.before.peak_state.last.1.1.1.0 (sized_of c.before.before.before.before.before.before.before.before.before.before.before.before.before.before.before.before.before.before.before.before.before.before.before.before.before.before.before.before.before.before.before.before.before.before.before).before.before.before.before.before.before.before.before.before.before.before.peak_state.last.1.1.1.1.0 k.p l.t (ln ∙ sym f.places.leader_size) (k.i + 1) c.stiffen_led.new.circuits c.stiffen_led.new.banks c.stiffen_led.new.floors c.stiffen_led.new.upsized c.stiffen_led.new.marks c.in-Going.u (next c.before.before.before.before.before.before.before.before.before.before.before.before.before.before.before) (omega (arith, c.if-i-leader.true)) (omega (arith, ap (λ (q : Progress). q.rounds) (k.invariant.2 ∙ l.inv.2))) (ap (λ (q : Progress). q.converged) (k.invariant.2 ∙ l.inv.2)) (ap (λ (q : Progress). q.settled) (k.invariant.2 ∙ l.inv.2)) c.raise_marked-moved-then-i-leader.new.level c.raise_marked-moved-then-i-leader.new.banks c.raise_marked-moved-then-i-leader.result c.raise_marked-moved-then-i-leader.ensures c.if-moved-s.false o target s ((start-of (round-of (sized_of c.before.before.before.before.before.before.before.before.before.before.before.before.before.before.before.before.before.before.before.before.before.before.before.before.before.before.before.before.before.before.before.before.before.before.before))).pre.places.leader_size ∙ e, caps);
+          (r.left - 1) k.level c.limits_of-g.result c.draw_edges-e.result.from c.draw_edges-e.result.to c.draw_edges-e.result.weight c.peak_state.new.angle c.peak_state.new.flow k.p l.t (ln ∙ sym f.places.leader_size) (k.i + 1) c.stiffen_led.new.circuits c.stiffen_led.new.banks c.stiffen_led.new.floors c.stiffen_led.new.upsized c.stiffen_led.new.marks c.in-Going.u (next c.before.before.before.before.before.before.before.before.before.before.before.before.before) (omega (arith, c.if-i-leader.true)) (omega (arith, ap (λ (q : Progress). q.rounds) (k.invariant.2 ∙ l.invariant.2))) (ap (λ (q : Progress). q.converged) (k.invariant.2 ∙ l.invariant.2)) (ap (λ (q : Progress). q.settled) (k.invariant.2 ∙ l.invariant.2)) c.raise_marked-moved-then-i-leader.new.level c.raise_marked-moved-then-i-leader.new.banks c.raise_marked-moved-then-i-leader.result c.raise_marked-moved-then-i-leader.ensures c.if-moved-s.false o target s (c.requires.places.leader_size ∙ e, caps);
       lines = c.raise_marked-moved-then-i-leader.ensures.lines;
       banked = c.raise_marked-moved-then-i-leader.ensures.banked;
       few = c.stiffen_led.ensures.few k.invariant.5;

@@ -133,6 +133,7 @@ fn even_with(season: Season, corridors: usize) -> bool
     (season.taken == 0) | (corridors == season.corridors)
 }
 
+#[tactic(auto, unfolding(season_defs::specs::Feeding::check_of))]
 fn check(season: Season, corridors: usize, places: usize) -> Answer
     ensures { result ≡ check_of season corridors places }
 {

@@ -1,4 +1,6 @@
 // What the angle solver answers. There is no code here: types, the definition of the solve and its laws.
+#![tactic(auto)]
+
 use refusal::Refusal;
 
 // How a solve ended, with its last figure.

@@ -6,7 +6,7 @@ use mathlib.Core.List.{List}
 use Prim.Native.Nat.{ℕ, ◌<◌, ◌≤◌}
 use native.Mathlib.Omega.{arith}
 use native.Mathlib.Nat.{le_antisymm}
-use borrow.Author.Tests.{eq-eqb, ne_eqb, eqb-false, ltb-true, not-true, not-false}
+use borrow.Author.Tests.{eq-eqb, ne_eqb, eqb-false, ltb-true, not-true}
 use lib.Dec.{eqb, ltb}
 use lib.ListN.{get_or}
 use lib.Ieee.{Float, lt, le}
@@ -23,11 +23,11 @@ pub some_chosen : (best n : ℕ) → best < n → eqb best n ≡ false
 some_chosen best n h = ne_eqb best n (λ e. omega arith)
 
 -- loaded and reached, by a test against a result that is infinity
-pub reached_no : (l d r : Float) → r ≡ infinity → not (lt nought l && lt d r) ≡ true → (lt nought l && lt d infinity) ≡ false
-reached_no l d r e t = ap (λ (x : Float). lt nought l && lt d x) (sym e) ∙ not-true (lt nought l && lt d r) t
+pub reached_no : (l d r : Float) → r ≡ infinity → (lt nought l && lt d r) ≡ false → (lt nought l && lt d infinity) ≡ false
+reached_no l d r e t = ap (λ (x : Float). lt nought l && lt d x) (sym e) ∙ t
 
-pub reached_yes : (l d r : Float) → r ≡ infinity → not (lt nought l && lt d r) ≡ false → (lt nought l && lt d infinity) ≡ true
-reached_yes l d r e t = ap (λ (x : Float). lt nought l && lt d x) (sym e) ∙ not-false (lt nought l && lt d r) t
+pub reached_yes : (l d r : Float) → r ≡ infinity → (lt nought l && lt d r) ≡ true → (lt nought l && lt d infinity) ≡ true
+reached_yes l d r e t = ap (λ (x : Float). lt nought l && lt d x) (sym e) ∙ t
 
 -- ---- a corridor considered
 neither : (p q : Bool) → (not p && not q) ≡ true → (p || q) ≡ false
@@ -47,17 +47,17 @@ module _ (i a b : ℕ) (km : Float) (s : Labels) where
 
   module _ (j : ℕ) (r : Bool) (t : (not (eqb a i) && not (eqb b i)) ≡ false) (e : j ≡ far_end a b i)
       (q : r ≡ shortens (get_or s.mark j 0) (plus (at s.dist i) km) (at s.dist j)) where
-    pub consider_rejected : not r ≡ true → s ≡ considered i a b km s
+    pub consider_rejected : r ≡ false → s ≡ considered i a b km s
     unfolding considered offered
-    consider_rejected u = rw (either (eqb a i) (eqb b i) t, ← e, ← q, not-true r u)
+    consider_rejected u = rw (either (eqb a i) (eqb b i) t, ← e, ← q, u)
 
-    pub consider_taken : not r ≡ false → reached j (plus (at s.dist i) km) (get_or s.from i 0) s ≡ considered i a b km s
+    pub consider_taken : r ≡ true → reached j (plus (at s.dist i) km) (get_or s.from i 0) s ≡ considered i a b km s
     unfolding considered offered
-    consider_taken u = rw (either (eqb a i) (eqb b i) t, ← e, ← q, not-false r u)
+    consider_taken u = rw (either (eqb a i) (eqb b i) t, ← e, ← q, u)
 
 -- a way that is taken is shorter
-pub taken_less : (m : ℕ) (nd d : Float) (r : Bool) → r ≡ shortens m nd d → not r ≡ false → lt nd d ≡ true
-taken_less m nd d r e t = (both (not (eqb m settled)) (lt nd d) (sym e ∙ not-false r t)).1
+pub taken_less : (m : ℕ) (nd d : Float) (r : Bool) → r ≡ shortens m nd d → r ≡ true → lt nd d ≡ true
+taken_less m nd d r e t = (both (not (eqb m settled)) (lt nd d) (sym e ∙ t)).1
 
 -- ---- a corridor that passes
 pub record Ends (n a b : ℕ) (km : Float) : Type 0 where

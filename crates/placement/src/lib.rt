@@ -1,4 +1,6 @@
 // Synchronous condensers for remote load pockets (document 01, module 7; reactive.rs, `place_voltage_support`).
+#![tactic(auto)]
+
 ghost use Rattle.std.specs.Prelude.{◌≡◌};
 ghost use Rattle.placement_defs.specs.Request.{request_of};
 ghost use Rattle.placement_defs.specs.Support.{outcome, placement};

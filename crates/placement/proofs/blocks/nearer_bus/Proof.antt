@@ -7,51 +7,41 @@ use borrow.Author.Rules.{rules}
 use Rattle.placement.proofs.blocks.nearer_bus.Statement.{statement}
 use Rattle.placement.proofs.blocks.nearer_bus.Tie as tie
 
-mul-if1 : tie.Need-overflow-mul-if1
+mul-if1 : tie.Need-offset_bounds-mark-i
 mul-if1 c = search rules
 
-element-copy-out-if1 : tie.Need-element-copy-out-if1
+element-copy-out-if1 : tie.Need-bounds-mark-i
 element-copy-out-if1 c = search rules
 
-returns : tie.Need-returns
+returns : tie.Need-returns-then-mark-i-ne-CANDIDATE
 unfolding nearer
-returns c = rw (ne_eqb _ _ c.if1.true)
+returns c = rw (ne_eqb _ _ c.if-mark-i-ne-CANDIDATE.true)
 
-returns-2 : tie.Need-returns-2
+returns-2 : tie.Need-returns-then-best-n
 unfolding nearer
-returns-2 c = rw (eq-eqb _ _ c.before.if1.false, none_chosen _ _ c.before.before.before.requires.1 c.if2.true)
+returns-2 c = rw (eq-eqb _ _ c.if-mark-i-ne-CANDIDATE.false, none_chosen _ _ c.requires.1 c.if-best-n.true)
 
-mul-if3 : tie.Need-overflow-mul-if3
+mul-if3 : tie.Need-offset_bounds-dist-i
 mul-if3 c = search rules
 
-element-copy-out-if3 : tie.Need-element-copy-out-if3
+element-copy-out-if3 : tie.Need-bounds-dist-i
 element-copy-out-if3 c = search rules
 
-mul-if3-2 : tie.Need-overflow-mul-if3-2
+mul-if3-2 : tie.Need-offset_bounds-dist-best
 mul-if3-2 c = search rules
 
-element-copy-out-if3-2 : tie.Need-element-copy-out-if3-2
+element-copy-out-if3-2 : tie.Need-bounds-dist-best
 element-copy-out-if3-2 c = search rules
 
-returns-3 : tie.Need-returns-3
+returns-3 : tie.Need-returns-then-dist-i
 unfolding nearer
-returns-3 c = rw (eq-eqb _ _ c.before.before.before.before.if1.false, some_chosen _ _ c.before.before.before.if2.false, c.if3.true)
+returns-3 c = rw (eq-eqb _ _ c.if-mark-i-ne-CANDIDATE.false, some_chosen _ _ c.if-best-n.false, c.if-dist-i.true)
 
-returns-4 : tie.Need-returns-4
+returns-4 : tie.Need-returns-else-dist-i
 unfolding nearer
-returns-4 c = rw (eq-eqb _ _ c.before.before.before.before.if1.false, some_chosen _ _ c.before.before.before.if2.false, c.if3.false)
+returns-4 c = rw (eq-eqb _ _ c.if-mark-i-ne-CANDIDATE.false, some_chosen _ _ c.if-best-n.false, c.if-dist-i.false)
 
-pub nearer-bus-spec : {M : Type 1} → statement M
-nearer-bus-spec =
+pub nearer_bus_spec : {M : Type 1} → statement M
+nearer_bus_spec =
     tie.close
-    (tie.spec
-    mul-if1
-    element-copy-out-if1
-    returns
-    returns-2
-    mul-if3
-    element-copy-out-if3
-    mul-if3-2
-    element-copy-out-if3-2
-    returns-3
-    returns-4)
+    (tie.spec mul-if1 element-copy-out-if1 returns returns-2 mul-if3 element-copy-out-if3 mul-if3-2 element-copy-out-if3-2 returns-3 returns-4)

@@ -12,56 +12,45 @@ use borrow.Author.Rules.{rules}
 use Rattle.placement.proofs.check.first_generator.Statement.{statement}
 use Rattle.placement.proofs.check.first_generator.Tie as tie
 
-abbrev invariant-loop : tie.invariant-loop
+abbrev invariant-loop : tie.invariant-loop-i
 invariant-loop n g generators i₀ i = (i ≤ g) × (first (λ k. bus_ok n (get_or generators k 0)) (g - i) i ≡ first_generator generators n g)
 
-abbrev decreases-loop : tie.decreases-loop
+abbrev decreases-loop : tie.decreases-loop-i
 decreases-loop n g generators i₀ i = g - i
 
-loop-holds : tie.Need-loop-init invariant-loop decreases-loop
+loop-holds : tie.Need-loop-i-init invariant-loop decreases-loop
 unfolding first_generator
 loop-holds c = (search rules, first_start _ _)
 
-mul_wide : tie.Need-overflow-mul-wide invariant-loop decreases-loop
+mul_wide : tie.Need-offset_bounds-generators-i invariant-loop decreases-loop
 mul_wide c = search rules
 
-shared-slice-read-wide : tie.Need-shared-slice-read-wide invariant-loop decreases-loop
+shared-slice-read-wide : tie.Need-bounds-generators-i invariant-loop decreases-loop
 shared-slice-read-wide c = search rules
 
 wide-requires : tie.Need-wide-requires invariant-loop decreases-loop
 wide-requires c κs = search rules
 
-returns : tie.Need-returns invariant-loop decreases-loop
+returns : tie.Need-returns-then-wide-n invariant-loop decreases-loop
 returns c =
-    let l = c.before.before.before.before in
-    sym (first_stop _ _ l.loop.i (omega arith) (le-ltb (get_or l.before.before.args.generators.now l.loop.i 0) l.before.before.args.n (omega (arith, c.before.wide.ensures)))) ∙ l.loop.invariant.1
+    let l = c in
+    sym (first_stop _ _ l.loop-i.i (omega arith) (le-ltb (get_or l.args.generators.now l.loop-i.i 0) l.args.n (omega (arith, c.wide.ensures)))) ∙ l.loop-i.invariant.1
 
-add-i : tie.Need-overflow-add-i invariant-loop decreases-loop
+add-i : tie.Need-overflow_add-i invariant-loop decreases-loop
 add-i c = search rules
 
-loop-less : tie.Need-loop-smaller invariant-loop decreases-loop
+loop-less : tie.Need-loop-i-smaller invariant-loop decreases-loop
 loop-less c = search rules
 
-loop-again : tie.Need-loop-preserved invariant-loop decreases-loop
+loop-again : tie.Need-loop-i-preserved invariant-loop decreases-loop
 loop-again c =
-    let l = c.before.before.before.before in
-    (omega arith, sym (first_pass _ _ l.loop.i (omega arith) (lt-ltb (get_or l.before.before.args.generators.now l.loop.i 0) l.before.before.args.n (omega (arith, c.before.wide.ensures)))) ∙ l.loop.invariant.1)
+    let l = c in
+    (omega arith, sym (first_pass _ _ l.loop-i.i (omega arith) (lt-ltb (get_or l.args.generators.now l.loop-i.i 0) l.args.n (omega (arith, c.wide.ensures)))) ∙ l.loop-i.invariant.1)
 
-returns-2 : tie.Need-returns-2 invariant-loop decreases-loop
-returns-2 c = sym (first_end _ _ c.before.loop.i (omega arith)) ∙ c.before.loop.invariant.1
+returns-2 : tie.Need-returns invariant-loop decreases-loop
+returns-2 c = sym (first_end _ _ c.loop-i.i (omega arith)) ∙ c.loop-i.invariant.1
 
-pub first-generator-spec : {M : Type 1} → statement M
-first-generator-spec =
+pub first_generator_spec : {M : Type 1} → statement M
+first_generator_spec =
     tie.close
-    (tie.spec
-    invariant-loop
-    decreases-loop
-    loop-holds
-    mul_wide
-    shared-slice-read-wide
-    wide-requires
-    returns
-    add-i
-    loop-less
-    loop-again
-    returns-2)
+    (tie.spec invariant-loop decreases-loop loop-holds mul_wide shared-slice-read-wide wide-requires returns add-i loop-less loop-again returns-2)

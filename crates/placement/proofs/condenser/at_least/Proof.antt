@@ -3,11 +3,11 @@
 use Rattle.placement.proofs.condenser.at_least.Statement.{statement}
 use Rattle.placement.proofs.condenser.at_least.Tie as tie
 
-returns : tie.Need-returns
-returns c = rw c.if1.true
+returns : tie.Need-returns-then-q
+returns c = rw c.if-q.true
 
-returns-2 : tie.Need-returns-2
-returns-2 c = rw c.if1.false
+returns-2 : tie.Need-returns-else-q
+returns-2 c = rw c.if-q.false
 
-pub at-least-spec : {M : Type 1} → statement M
-at-least-spec = tie.close (tie.spec returns returns-2)
+pub at_least_spec : {M : Type 1} → statement M
+at_least_spec = tie.close (tie.spec returns returns-2)

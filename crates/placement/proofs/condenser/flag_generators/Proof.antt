@@ -11,58 +11,46 @@ use borrow.Author.Rules.{rules}
 use Rattle.placement.proofs.condenser.flag_generators.Statement.{statement}
 use Rattle.placement.proofs.condenser.flag_generators.Tie as tie
 
-abbrev invariant-loop : tie.invariant-loop
+abbrev invariant-loop : tie.invariant-loop-k
 invariant-loop generators sources₀ k₀ sources k = (k ≤ length generators) × (iter (flag generators) (length generators - k) k sources ≡ flagged generators sources₀)
 
-abbrev decreases-loop : tie.decreases-loop
+abbrev decreases-loop : tie.decreases-loop-k
 decreases-loop generators sources₀ k₀ sources k = length generators - k
 
-loop-holds : tie.Need-loop-init invariant-loop decreases-loop
+loop-holds : tie.Need-loop-k-init invariant-loop decreases-loop
 unfolding flagged
 loop-holds c = (search rules, iter_all _ _ _)
 
-mul_wide : tie.Need-overflow-mul-wide invariant-loop decreases-loop
+mul_wide : tie.Need-offset_bounds-generators-k invariant-loop decreases-loop
 mul_wide c = search rules
 
-shared-slice-read-wide : tie.Need-shared-slice-read-wide invariant-loop decreases-loop
+shared-slice-read-wide : tie.Need-bounds-generators-k invariant-loop decreases-loop
 shared-slice-read-wide c = search rules
 
-wide-requires : tie.Need-wide-requires invariant-loop decreases-loop
+wide-requires : tie.Need-wide-bus-requires invariant-loop decreases-loop
 wide-requires c κs = search rules
 
-mul-sources : tie.Need-overflow-mul-sources invariant-loop decreases-loop
-mul-sources c = omega (arith, c.wide.ensures, c.before.before.before.before.before.requires.stand c.before.before.before.loop.k c.before.before.loop-test.true)
+mul-sources : tie.Need-offset_bounds-sources-bus invariant-loop decreases-loop
+mul-sources c = omega (arith, c.wide-bus.ensures, c.requires.stand c.loop-k.k c.loop-k-test.true)
 
-element-write-sources : tie.Need-element-write-sources invariant-loop decreases-loop
-element-write-sources c = omega (arith, c.wide.ensures, c.before.before.before.before.before.requires.stand c.before.before.before.loop.k c.before.before.loop-test.true)
+element-write-sources : tie.Need-bounds-sources-bus invariant-loop decreases-loop
+element-write-sources c = omega (arith, c.wide-bus.ensures, c.requires.stand c.loop-k.k c.loop-k-test.true)
 
-add-k : tie.Need-overflow-add-k invariant-loop decreases-loop
+add-k : tie.Need-overflow_add-k invariant-loop decreases-loop
 add-k c = search rules
 
-loop-less : tie.Need-loop-smaller invariant-loop decreases-loop
+loop-less : tie.Need-loop-k-smaller invariant-loop decreases-loop
 loop-less c = search rules
 
-loop-again : tie.Need-loop-preserved invariant-loop decreases-loop
+loop-again : tie.Need-loop-k-preserved invariant-loop decreases-loop
 loop-again c =
-    let l = c.before.before.before.loop in
-    (omega arith, sym (iter_more _ c.before.before.loop-test.true (ap (λ (t : ℕ). set l.sources t 1) c.wide.ensures)) ∙ l.invariant.1)
+    let l = c.loop-k in
+    (omega arith, sym (iter_more _ c.loop-k-test.true (ap (λ (t : ℕ). set l.sources t 1) c.wide-bus.ensures)) ∙ l.invariant.1)
 
 returns : tie.Need-returns invariant-loop decreases-loop
-returns c = sym (iter_end _ (omega arith)) ∙ c.before.loop.invariant.1
+returns c = sym (iter_end _ (omega arith)) ∙ c.loop-k.invariant.1
 
-pub flag-generators-spec : {M : Type 1} → statement M
-flag-generators-spec =
+pub flag_generators_spec : {M : Type 1} → statement M
+flag_generators_spec =
     tie.close
-    (tie.spec
-    invariant-loop
-    decreases-loop
-    loop-holds
-    mul_wide
-    shared-slice-read-wide
-    wide-requires
-    mul-sources
-    element-write-sources
-    add-k
-    loop-less
-    loop-again
-    returns)
+    (tie.spec invariant-loop decreases-loop loop-holds mul_wide shared-slice-read-wide wide-requires mul-sources element-write-sources add-k loop-less loop-again returns)

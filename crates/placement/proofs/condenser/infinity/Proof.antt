@@ -5,12 +5,12 @@ use borrow.Author.Rules.{rules}
 use Rattle.placement.proofs.condenser.infinity.Statement.{statement}
 use Rattle.placement.proofs.condenser.infinity.Tie as tie
 
-float-from-bits-result : tie.Need-float-from-bits-result
+float-from-bits-result : tie.Need-float_from_bits-result
 unfolding nan_bits
 float-from-bits-result c = tt
 
 returns : tie.Need-returns
 returns c = search rules
 
-pub infinity-spec : {M : Type 1} → statement M
-infinity-spec = tie.close (tie.spec float-from-bits-result returns)
+pub infinity_spec : {M : Type 1} → statement M
+infinity_spec = tie.close (tie.spec float-from-bits-result returns)

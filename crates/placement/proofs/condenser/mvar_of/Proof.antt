@@ -8,15 +8,15 @@ use borrow.Author.Rules.{rules}
 use Rattle.placement.proofs.condenser.mvar_of.Statement.{statement}
 use Rattle.placement.proofs.condenser.mvar_of.Tie as tie
 
-served-by-requires : tie.Need-served-by-requires
-served-by-requires c κs = c.before.before.requires
+served-by-requires : tie.Need-served_by-requires
+served-by-requires c κs = c.requires
 
-at-least-requires : tie.Need-at-least-requires
+at-least-requires : tie.Need-at_least-requires
 at-least-requires c κs = search rules
 
 returns : tie.Need-returns
 unfolding mvar_of
-returns c = c.at_least.ensures ∙ ap (λ (t : Float). greater (times support_share t) least_mvar) c.before.served-by.ensures
+returns c = c.at_least.ensures ∙ ap (λ (t : Float). greater (times support_share t) least_mvar) c.served_by.ensures
 
-pub mvar-of-spec : {M : Type 1} → statement M
-mvar-of-spec = tie.close (tie.spec served-by-requires at-least-requires returns)
+pub mvar_of_spec : {M : Type 1} → statement M
+mvar_of_spec = tie.close (tie.spec served-by-requires at-least-requires returns)

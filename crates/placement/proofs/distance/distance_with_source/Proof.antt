@@ -6,17 +6,17 @@ use borrow.Author.Rules.{rules}
 use Rattle.placement.proofs.distance.distance_with_source.Statement.{statement}
 use Rattle.placement.proofs.distance.distance_with_source.Tie as tie
 
-place-source-requires : tie.Need-place-source-requires
+place-source-requires : tie.Need-place_source-requires
 place-source-requires c κs = search rules
 
 search-requires : tie.Need-search-requires
 search-requires c κs =
-    let p = c.before.before.before.before.before.before.before.before.before.before.requires in
-    let s = c.before.before.before.before.before.before.before.before.before.before.args in
-    (p.0, (p.1.0, numbers_source _ _ _ (labels s.mark.now s.dist.now s.from.now) _ p.0.few p.1.1.1 p.1.1.0 c.before.before.before.place-source.ensures))
+    let p = c.requires in
+    let s = c.args in
+    (p.0, (p.1.0, numbers_source _ _ _ (labels s.mark.now s.dist.now s.from.now) _ p.0.few p.1.1.1 p.1.1.0 c.place_source.ensures))
 
 returns : tie.Need-returns
-returns c = searched_from _ _ _ _ c.before.before.before.before.place-source.ensures c.search.ensures
+returns c = searched_from _ _ _ _ c.place_source.ensures c.search.ensures
 
-pub distance-with-source-spec : {M : Type 1} → statement M
-distance-with-source-spec = tie.close (tie.spec place-source-requires search-requires returns)
+pub distance_with_source_spec : {M : Type 1} → statement M
+distance_with_source_spec = tie.close (tie.spec place-source-requires search-requires returns)

@@ -7,5 +7,5 @@ use Rattle.placement.proofs.distance.shortens_way.Tie as tie
 returns : tie.Need-returns
 returns c = refl
 
-pub shortens-way-spec : {M : Type 1} → statement M
-shortens-way-spec = tie.close (tie.spec returns)
+pub shortens_way_spec : {M : Type 1} → statement M
+shortens_way_spec = tie.close (tie.spec returns)

@@ -9,28 +9,28 @@ use Rattle.casefile.proofs.Moves.{back_length, back_whole}
 use Rattle.casefile.proofs.move_back.Statement.{statement}
 use Rattle.casefile.proofs.move_back.Tie as tie
 
-returns : tie.Need-returns
-returns c = back_length _ _ c.if1.true
+returns : tie.Need-returns-then-out-ne-MOST_BYTES
+returns c = back_length _ _ c.if-out-ne-MOST_BYTES.true
 
-read-as-requires : tie.Need-read-as-requires
+read-as-requires : tie.Need-read_as-read-requires
 read-as-requires c κs = search rules
 
 clear-requires : tie.Need-clear-requires
 clear-requires c κs = search rules
 
-back-by-requires : tie.Need-back-by-requires
+back-by-requires : tie.Need-back_by-requires
 back-by-requires c κs = (
-  ap (λ (x : CaseRead). x.reading) c.before.before.before.before.before.read_as.ensures,
-  c.before.before.before.clear.ensures ∙ ap (λ (n : ℕ). zeros n) c.before.before.before.before.before.before.if1.false,
+  ap (λ (x : CaseRead). x.reading) c.read_as-read.ensures,
+  c.clear.ensures ∙ ap (λ (n : ℕ). zeros n) c.if-out-ne-MOST_BYTES.false,
 )
 
-same_length : tie.Need-same-length
+same_length : tie.Need-shape_of-out
 same_length c = search rules
 
-returns-2 : tie.Need-returns-2
-returns-2 c = back_whole _ _ _ _ c.before.before.before.before.before.before.before.before.before.if1.false c.before.before.before.before.before.before.before.before.read_as.ensures c.before.before.back-by.ensures
+returns-2 : tie.Need-returns
+returns-2 c = back_whole _ _ _ _ c.if-out-ne-MOST_BYTES.false c.read_as-read.ensures c.back_by.ensures
 
-pub move-back-spec : {M : Type 1} → statement M
-move-back-spec =
+pub move_back_spec : {M : Type 1} → statement M
+move_back_spec =
     tie.close
     (tie.spec returns read-as-requires clear-requires back-by-requires same_length returns-2)

@@ -7,15 +7,15 @@ use Rattle.loops.proofs.Bits.{nan_bits_lem, no_nan_bits}
 use Rattle.casefile.proofs.bytes.figure.Statement.{statement}
 use Rattle.casefile.proofs.bytes.figure.Tie as tie
 
-returns : tie.Need-returns
+returns : tie.Need-returns-then-bits-gt-INFINITY
 unfolding div of_bits
-returns c = sym (nan_bits_lem c.before.args.bits c.if1.true)
+returns c = sym (nan_bits_lem c.args.bits c.if-bits-gt-INFINITY.true)
 
-float-from-bits-result : tie.Need-float-from-bits-result
-float-from-bits-result c = no_nan_bits c.before.args.bits c.if1.false
+float-from-bits-result : tie.Need-float_from_bits-result
+float-from-bits-result c = no_nan_bits c.args.bits c.if-bits-gt-INFINITY.false
 
-returns-2 : tie.Need-returns-2
+returns-2 : tie.Need-returns
 returns-2 c = search rules
 
-pub figure-spec : {M : Type 1} → statement M
-figure-spec = tie.close (tie.spec returns float-from-bits-result returns-2)
+pub figure_spec : {M : Type 1} → statement M
+figure_spec = tie.close (tie.spec returns float-from-bits-result returns-2)

@@ -9,8 +9,8 @@ use Rattle.casefile.proofs.columns.end_of.Statement.{statement}
 use Rattle.casefile.proofs.columns.end_of.Tie as tie
 
 -- the length of the record that stands there
-sized : (c : tie.After-size) → c.size.result ≡ size_of (standing c.before.before.before.args.kind c.before.before.before.args.file.now c.before.before.before.args.at)
-sized c = c.size.ensures ∙ ap (λ (k : Kind). size_of k) c.before.standing.ensures
+sized : (c : tie.After-size) → c.size.result ≡ size_of (standing c.args.kind c.args.file.now c.args.at)
+sized c = c.size.ensures ∙ ap (λ (k : Kind). size_of k) c.standing.ensures
 
 standing-requires : tie.Need-standing-requires
 standing-requires c κs = search rules
@@ -18,11 +18,11 @@ standing-requires c κs = search rules
 size-requires : tie.Need-size-requires
 size-requires c κs = search rules
 
-add-result : tie.Need-overflow-add-result
+add-result : tie.Need-overflow_add-result
 add-result c = omega (arith, sized c)
 
 returns : tie.Need-returns
-returns c = ap (λ (n : ℕ). c.before.before.before.args.at + n) (sized c)
+returns c = ap (λ (n : ℕ). c.args.at + n) (sized c)
 
-pub end-of-spec : {M : Type 1} → statement M
-end-of-spec = tie.close (tie.spec standing-requires size-requires add-result returns)
+pub end_of_spec : {M : Type 1} → statement M
+end_of_spec = tie.close (tie.spec standing-requires size-requires add-result returns)

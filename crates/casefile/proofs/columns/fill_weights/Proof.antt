@@ -10,59 +10,48 @@ use Rattle.casefile.specs.Starts.{weight_by}
 use Rattle.casefile.proofs.columns.fill_weights.Statement.{statement}
 use Rattle.casefile.proofs.columns.fill_weights.Tie as tie
 
-abbrev invariant-loop : tie.invariant-loop
+abbrev invariant-loop : tie.invariant-loop-i
 invariant-loop file starts count out₀ i₀ out i =
     (i ≤ length out₀) × (out ≡ filled out₀ (weight_by file starts count) i)
 
-abbrev decreases-loop : tie.decreases-loop
+abbrev decreases-loop : tie.decreases-loop-i
 decreases-loop file starts count out₀ i₀ out i = length out₀ - i
 
 -- the slice keeps its length
-same : (c : tie.At-loop invariant-loop decreases-loop) → length c.loop.out ≡ length c.before.before.before.args.out.now
-same c = fill_length _ _ _ c.loop.i c.loop.invariant.1 c.loop.invariant.0
+same : (c : tie.At-loop-i invariant-loop decreases-loop) → length c.loop-i.out ≡ length c.args.out.now
+same c = fill_length _ _ _ c.loop-i.i c.loop-i.invariant.1 c.loop-i.invariant.0
 
-loop-holds : tie.Need-loop-init invariant-loop decreases-loop
+loop-holds : tie.Need-loop-i-init invariant-loop decreases-loop
 loop-holds c = (omega arith, fill_start _ _)
 
-weight-in-requires : tie.Need-weight-in-requires invariant-loop decreases-loop
-weight-in-requires c κs = c.before.before.before.before.requires
+weight-in-requires : tie.Need-weight_in-requires invariant-loop decreases-loop
+weight-in-requires c κs = c.requires
 
-mul-out : tie.Need-overflow-mul-out invariant-loop decreases-loop
-mul-out c = omega (arith, same c.before.before, c.before.before.before.before.before.well-formed)
+mul-out : tie.Need-offset_bounds-out-i invariant-loop decreases-loop
+mul-out c = omega (arith, same c.before.before, c.well_formed)
 
-slice-write-out : tie.Need-slice-write-out invariant-loop decreases-loop
+slice-write-out : tie.Need-bounds-out-i invariant-loop decreases-loop
 slice-write-out c = omega arith
 
-add-i : tie.Need-overflow-add-i invariant-loop decreases-loop
-add-i c = omega (arith, same c.before.before, c.before.before.before.before.before.well-formed)
+add-i : tie.Need-overflow_add-i invariant-loop decreases-loop
+add-i c = omega (arith, same c.before.before, c.well_formed)
 
-loop-less : tie.Need-loop-smaller invariant-loop decreases-loop
+loop-less : tie.Need-loop-i-smaller invariant-loop decreases-loop
 loop-less c = omega (arith, same c.before.before)
 
-loop-again : tie.Need-loop-preserved invariant-loop decreases-loop
+loop-again : tie.Need-loop-i-preserved invariant-loop decreases-loop
 loop-again c =
-    let l = c.before.before in
-    let h : l.loop.i < length l.before.before.before.args.out.now = omega (arith, same l) in
-    (omega arith, fill_turn _ _ _ l.loop.i _ l.loop.invariant.1 h c.weight-in.ensures)
+    let l = c in
+    let h : l.loop-i.i < length l.args.out.now = omega (arith, same l.before.before) in
+    (omega arith, fill_turn _ _ _ l.loop-i.i _ l.loop-i.invariant.1 h c.weight_in.ensures)
 
-same_length : tie.Need-same-length invariant-loop decreases-loop
+same_length : tie.Need-shape_of-out invariant-loop decreases-loop
 same_length c = same c.before
 
 returns : tie.Need-returns invariant-loop decreases-loop
-returns c = fill_end _ _ _ c.before.loop.i _ refl (omega (arith, same c.before)) c.before.loop.invariant.1
+returns c = fill_end _ _ _ c.loop-i.i _ refl (omega (arith, same c.before)) c.loop-i.invariant.1
 
-pub fill-weights-spec : {M : Type 1} → statement M
-fill-weights-spec =
+pub fill_weights_spec : {M : Type 1} → statement M
+fill_weights_spec =
     tie.close
-    (tie.spec
-    invariant-loop
-    decreases-loop
-    loop-holds
-    weight-in-requires
-    mul-out
-    slice-write-out
-    add-i
-    loop-less
-    loop-again
-    same_length
-    returns)
+    (tie.spec invariant-loop decreases-loop loop-holds weight-in-requires mul-out slice-write-out add-i loop-less loop-again same_length returns)

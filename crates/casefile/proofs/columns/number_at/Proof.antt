@@ -11,30 +11,30 @@ use Rattle.casefile.proofs.Words.{within}
 use Rattle.casefile.proofs.columns.number_at.Statement.{statement}
 use Rattle.casefile.proofs.columns.number_at.Tie as tie
 
-add-reaches : tie.Need-overflow-add-reaches
+add-reaches : tie.Need-overflow_add-offset
 add-reaches c = search rules
 
 reaches-requires : tie.Need-reaches-requires
 reaches-requires c κs = search rules
 
-add-word : tie.Need-overflow-add-word
+add-word : tie.Need-overflow_add-at
 add-word c = search rules
 
 -- the record is so long
-long : (c : tie.Then1) → c.before.before.before.args.offset + c.before.before.before.args.width ≤ size_of (standing c.before.before.before.args.kind c.before.before.before.args.file.now c.before.before.before.args.at)
-long c = leb-true _ _ (sym c.before.reaches.ensures ∙ c.if1.true)
+long : (c : tie.Then-reaches) → c.args.offset + c.args.width ≤ size_of (standing c.args.kind c.args.file.now c.args.at)
+long c = leb-true _ _ (sym c.reaches.ensures ∙ c.if-reaches.true)
 
 word-requires : tie.Need-word-requires
 word-requires c κs = omega (arith, long c)
 
-cast-result : tie.Need-overflow-cast-result
-cast-result c = record { fits = within 4 c.before.before.before.before.args.width c.before.before.before.before.requires.1.1 c.word.ensures.1 }
+cast-result : tie.Need-overflow_cast-result
+cast-result c = record { fits = within 4 c.args.width c.requires.1.1 c.word.ensures.1 }
 
-returns : tie.Need-returns
+returns : tie.Need-returns-then-reaches
 returns c = number_had _ _ _ _ _ _ (long c.before) c.word.ensures.0
 
-returns-2 : tie.Need-returns-2
-returns-2 c = number_not _ _ _ _ _ (leb-false _ _ (sym c.before.reaches.ensures ∙ c.if1.false))
+returns-2 : tie.Need-returns
+returns-2 c = number_not _ _ _ _ _ (leb-false _ _ (sym c.reaches.ensures ∙ c.if-reaches.false))
 
-pub number-at-spec : {M : Type 1} → statement M
-number-at-spec = tie.close (tie.spec add-reaches reaches-requires add-word word-requires cast-result returns returns-2)
+pub number_at_spec : {M : Type 1} → statement M
+number_at_spec = tie.close (tie.spec add-reaches reaches-requires add-word word-requires cast-result returns returns-2)

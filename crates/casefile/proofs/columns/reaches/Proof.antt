@@ -15,10 +15,10 @@ use Rattle.casefile.proofs.columns.reaches.Tie as tie
 size-requires : tie.Need-size-requires
 size-requires c κs = search rules
 
-returns : tie.Need-returns
+returns : tie.Need-returns-then-end-size
 returns c =
-    let a = c.before.before.before.args in
-    sym (le-leb a.end (size_of (standing a.kind a.file.now a.at)) (omega (arith, c.before.size.ensures, standing_least a.kind a.file.now a.at)))
+    let a = c.args in
+    sym (le-leb a.end (size_of (standing a.kind a.file.now a.at)) (omega (arith, c.size.ensures, standing_least a.kind a.file.now a.at)))
 
 standing-requires : tie.Need-standing-requires
 standing-requires c κs = search rules
@@ -26,10 +26,10 @@ standing-requires c κs = search rules
 size-requires-2 : tie.Need-size-requires-2
 size-requires-2 c κs = search rules
 
-returns-2 : tie.Need-returns-2
+returns-2 : tie.Need-returns
 returns-2 c =
-    let a = c.before.before.before.before.before.args in
-    ap (λ (n : ℕ). leb a.end n) (c.size2.ensures ∙ ap (λ (k : Kind). size_of k) c.before.standing.ensures)
+    let a = c.args in
+    ap (λ (n : ℕ). leb a.end n) (c.size-2.ensures ∙ ap (λ (k : Kind). size_of k) c.standing.ensures)
 
-pub reaches-spec : {M : Type 1} → statement M
-reaches-spec = tie.close (tie.spec size-requires returns standing-requires size-requires-2 returns-2)
+pub reaches_spec : {M : Type 1} → statement M
+reaches_spec = tie.close (tie.spec size-requires returns standing-requires size-requires-2 returns-2)

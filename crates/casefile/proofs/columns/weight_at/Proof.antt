@@ -16,12 +16,12 @@ bears-requires : tie.Need-bears-requires
 bears-requires c κs = search rules
 
 -- the whole record is inside the file
-room : (c : tie.Then1) → c.before.before.before.args.at + 19 ≤ length c.before.before.before.args.file.now
+room : (c : tie.Then-bears) → c.args.at + 19 ≤ length c.args.file.now
 room c =
-    let s = c.before.before.before in
-    subst (λ (b : Bool). s.args.at + size_of (cond b WeighedBus Bus) ≤ length s.args.file.now) (sym c.before.bears.ensures ∙ c.if1.true) s.requires
+    let s = c in
+    subst (λ (b : Bool). s.args.at + size_of (cond b WeighedBus Bus) ≤ length s.args.file.now) (sym c.bears.ensures ∙ c.if-bears.true) s.requires
 
-add-word : tie.Need-overflow-add-word
+add-word : tie.Need-overflow_add-at
 add-word c = omega (arith, room c)
 
 word-requires : tie.Need-word-requires
@@ -30,13 +30,13 @@ word-requires c κs = omega (arith, room c)
 figure-requires : tie.Need-figure-requires
 figure-requires c κs = search rules
 
-returns : tie.Need-returns
+returns : tie.Need-returns-then-bears
 unfolding weight_at figure_at
-returns c = simp (sym c.before.before.before.bears.ensures ∙ c.before.before.if1.true, c.figure.ensures, c.before.word.ensures.0)
+returns c = simp (sym c.bears.ensures ∙ c.if-bears.true, c.figure.ensures, c.word.ensures.0)
 
-returns-2 : tie.Need-returns-2
+returns-2 : tie.Need-returns
 unfolding weight_at
-returns-2 c = simp (sym c.before.bears.ensures ∙ c.if1.false)
+returns-2 c = simp (sym c.bears.ensures ∙ c.if-bears.false)
 
-pub weight-at-spec : {M : Type 1} → statement M
-weight-at-spec = tie.close (tie.spec bears-requires add-word word-requires figure-requires returns returns-2)
+pub weight_at_spec : {M : Type 1} → statement M
+weight_at_spec = tie.close (tie.spec bears-requires add-word word-requires figure-requires returns returns-2)

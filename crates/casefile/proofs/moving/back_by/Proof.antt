@@ -14,61 +14,43 @@ use Rattle.casefile.proofs.Moves.{at_buses, small, buses_room, all_weighed, mova
 use Rattle.casefile.proofs.moving.back_by.Statement.{statement}
 use Rattle.casefile.proofs.moving.back_by.Tie as tie
 
--- the file was read
-read : (c : tie.After-said2) → (read_as Weighed c.before.before.before.before.args.file.now).reading ≡ Read c.said2.given.0.0
-read c = sym c.before.before.before.before.requires.0 ∙ c.said2.given.1
-
--- where its buses begin
-place : (c : tie.After-buses-at) → c.buses-at.result ≡ buses_at c.before.before.before.before.before.before.args.file.now c.before.before.said2.given.0.0
-place c = at_buses c.before.before.before.before.before.before.args.file.now c.before.before.said2.given.0.0 c.buses-at.ensures
-
-enum-known-said : tie.Need-enum-known-said
+enum-known-said : tie.Need-enum_known-said
 enum-known-said c = search rules
 
-enum-known-said-2 : tie.Need-enum-known-said-2
+enum-known-said-2 : tie.Need-enum_known-said-in-Read-1
 enum-known-said-2 c = search rules
 
-buses-at-requires : tie.Need-buses-at-requires
-buses-at-requires c κs = small Weighed _ _ (read c.before)
+buses-at-requires : tie.Need-buses_at-at-requires
+buses-at-requires c κs = small Weighed _ _ (sym c.requires.0 ∙ c.in-Read.is)
 
-store-starts-requires : tie.Need-store-starts-requires
+store-starts-requires : tie.Need-store_starts-rest-requires
 store-starts-requires c κs =
-    let r = read c.before.before.before in
-    (subst (λ (p : ℕ). Room Bus c.before.before.before.before.before.before.before.args.file.now p c.before.before.before.said2.given.0.0.buses) (sym (place c.before)) (buses_room Weighed _ _ r), ((small Weighed _ _ r).buses, refl))
+    let r : (read_as Weighed c.args.file.now).reading ≡ Read c.in-Read.h = sym c.requires.0 ∙ c.in-Read.is in
+    (subst (λ (p : ℕ). Room Bus c.args.file.now p c.in-Read.h.buses) (sym (at_buses c.args.file.now c.in-Read.h c.buses_at-at.ensures)) (buses_room Weighed _ _ r), ((small Weighed _ _ r).buses, refl))
 
-first-other-requires : tie.Need-first-other-requires
+first-other-requires : tie.Need-first_other-i-requires
 first-other-requires c κs =
-    let r = read c.before.before.before.before.before in
-    (c.before.store-starts.ensures.0, (subst (λ (p : ℕ). AllWeighed c.before.before.before.before.before.before.before.before.before.args.file.now p c.before.before.before.before.before.said2.given.0.0.buses) (sym (place c.before.before.before)) (all_weighed _ _ r), (small Weighed _ _ r).buses))
+    let r : (read_as Weighed c.args.file.now).reading ≡ Read c.in-Read.h = sym c.requires.0 ∙ c.in-Read.is in
+    (c.store_starts-rest.ensures.0, (subst (λ (p : ℕ). AllWeighed c.args.file.now p c.in-Read.h.buses) (sym (at_buses c.args.file.now c.in-Read.h c.buses_at-at.ensures)) (all_weighed _ _ r), (small Weighed _ _ r).buses))
 
-returns : tie.Need-returns
-returns c = back_weight _ _ _ _ _ c.before.before.before.before.before.before.before.before.said2.given.1 (place c.before.before.before.before.before.before) c.before.before.first-other.ensures c.if1.true c.before.before.before.before.before.before.before.before.before.before.before.before.requires.1
+returns : tie.Need-returns-then-i-h
+returns c = back_weight _ _ _ _ _ c.in-Read.is (at_buses c.args.file.now c.in-Read.h c.buses_at-at.ensures) c.first_other-i.ensures c.if-i-h.true c.requires.1
 
-put-file-requires : tie.Need-put-file-requires
+put-file-requires : tie.Need-put_file-requires
 put-file-requires c κs =
-    let g = c.before.before.before.before.before.before.store-starts.ensures in
-    (movable Weighed _ _ (read c.before.before.before.before.before.before.before.before.before.before) _ (place c.before.before.before.before.before.before.before.before) g.0 g.1, (refl, c.before.before.before.before.before.before.before.before.before.before.before.before.before.before.requires.1))
+    let g = c.store_starts-rest.ensures in
+    (movable Weighed _ _ (sym c.requires.0 ∙ c.in-Read.is) _ (at_buses c.args.file.now c.in-Read.h c.buses_at-at.ensures) g.0 g.1, (refl, c.requires.1))
 
-returns-2 : tie.Need-returns-2
-returns-2 c = back_refused _ _ _ _ c.before.said.given.1 c.before.before.before.before.before.requires.1
+returns-2 : tie.Need-returns-in-Refused
+returns-2 c = back_refused _ _ _ _ c.in-Refused.is c.requires.1
 
-same_length : tie.Need-same-length
+same_length : tie.Need-shape_of-out
 same_length c = search rules
 
-returns-3 : tie.Need-returns-3
-returns-3 c = back_read _ _ _ _ _ c.before.before.before.before.before.before.before.before.before.before.before.before.before.said2.given.1 (place c.before.before.before.before.before.before.before.before.before.before.before) c.before.before.before.before.before.before.before.first-other.ensures c.before.before.before.before.before.if1.false c.before.before.put-file.ensures
+returns-3 : tie.Need-returns-else-i-h
+returns-3 c = back_read _ _ _ _ _ c.in-Read.is (at_buses c.args.file.now c.in-Read.h c.buses_at-at.ensures) c.first_other-i.ensures c.if-i-h.false c.put_file.ensures
 
-pub back-by-spec : {M : Type 1} → statement M
-back-by-spec =
+pub back_by_spec : {M : Type 1} → statement M
+back_by_spec =
     tie.close
-    (tie.spec
-    enum-known-said
-    enum-known-said-2
-    buses-at-requires
-    store-starts-requires
-    first-other-requires
-    returns
-    put-file-requires
-    returns-2
-    same_length
-    returns-3)
+    (tie.spec enum-known-said enum-known-said-2 buses-at-requires store-starts-requires first-other-requires returns put-file-requires returns-2 same_length returns-3)

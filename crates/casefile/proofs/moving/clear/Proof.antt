@@ -9,50 +9,41 @@ use Rattle.loops.proofs.Tab.{fill_start, fill_turn, fill_end, fill_length, tab_r
 use Rattle.casefile.proofs.moving.clear.Statement.{statement}
 use Rattle.casefile.proofs.moving.clear.Tie as tie
 
-abbrev invariant-loop : tie.invariant-loop
+abbrev invariant-loop : tie.invariant-loop-i
 invariant-loop out₀ i₀ out i = (i ≤ length out₀) × (out ≡ filled out₀ (λ j. 0) i)
 
-abbrev decreases-loop : tie.decreases-loop
+abbrev decreases-loop : tie.decreases-loop-i
 decreases-loop out₀ i₀ out i = length out₀ - i
 
 -- the slice keeps its length
-same : (c : tie.At-loop invariant-loop decreases-loop) → length c.loop.out ≡ length c.before.args.out.now
-same c = fill_length _ _ _ c.loop.i c.loop.invariant.1 c.loop.invariant.0
+same : (c : tie.At-loop-i invariant-loop decreases-loop) → length c.loop-i.out ≡ length c.args.out.now
+same c = fill_length _ _ _ c.loop-i.i c.loop-i.invariant.1 c.loop-i.invariant.0
 
-loop-holds : tie.Need-loop-init invariant-loop decreases-loop
+loop-holds : tie.Need-loop-i-init invariant-loop decreases-loop
 loop-holds c = (omega arith, fill_start _ _)
 
-slice-write-out : tie.Need-slice-write-out invariant-loop decreases-loop
+slice-write-out : tie.Need-bounds-out-i invariant-loop decreases-loop
 slice-write-out c = omega arith
 
-add-i : tie.Need-overflow-add-i invariant-loop decreases-loop
-add-i c = omega (arith, same c.before, c.before.before.well-formed)
+add-i : tie.Need-overflow_add-i invariant-loop decreases-loop
+add-i c = omega (arith, same c.before, c.well_formed)
 
-loop-less : tie.Need-loop-smaller invariant-loop decreases-loop
+loop-less : tie.Need-loop-i-smaller invariant-loop decreases-loop
 loop-less c = omega (arith, same c.before)
 
-loop-again : tie.Need-loop-preserved invariant-loop decreases-loop
+loop-again : tie.Need-loop-i-preserved invariant-loop decreases-loop
 loop-again c =
-    let l = c.before in
-    let h : l.loop.i < length l.before.args.out.now = omega (arith, same l) in
-    (omega arith, fill_turn _ _ _ l.loop.i _ l.loop.invariant.1 h refl)
+    let l = c in
+    let h : l.loop-i.i < length l.args.out.now = omega (arith, same l.before) in
+    (omega arith, fill_turn _ _ _ l.loop-i.i _ l.loop-i.invariant.1 h refl)
 
-same_length : tie.Need-same-length invariant-loop decreases-loop
+same_length : tie.Need-shape_of-out invariant-loop decreases-loop
 same_length c = same c.before
 
 returns : tie.Need-returns invariant-loop decreases-loop
-returns c = fill_end _ _ _ c.before.loop.i _ refl (omega (arith, same c.before)) c.before.loop.invariant.1 ∙ tab_replicate _ 0
+returns c = fill_end _ _ _ c.loop-i.i _ refl (omega (arith, same c.before)) c.loop-i.invariant.1 ∙ tab_replicate _ 0
 
 pub clear_spec : {M : Type 1} → statement M
 clear_spec =
     tie.close
-    (tie.spec
-    invariant-loop
-    decreases-loop
-    loop-holds
-    slice-write-out
-    add-i
-    loop-less
-    loop-again
-    same_length
-    returns)
+    (tie.spec invariant-loop decreases-loop loop-holds slice-write-out add-i loop-less loop-again same_length returns)

@@ -15,80 +15,68 @@ use Rattle.casefile.specs.Starts.{Starts}
 use Rattle.casefile.proofs.moving.first_other.Statement.{statement}
 use Rattle.casefile.proofs.moving.first_other.Tie as tie
 
-abbrev invariant-loop : tie.invariant-loop
+abbrev invariant-loop : tie.invariant-loop-i
 invariant-loop file starts at n i₀ i = first (weighs_one file at) (n - i) i ≡ first_other file at n
 
-abbrev decreases-loop : tie.decreases-loop
+abbrev decreases-loop : tie.decreases-loop-i
 decreases-loop file starts at n i₀ i = n - i
 
-abbrev start-of : tie.At-loop invariant-loop decreases-loop → tie.Start invariant-loop decreases-loop
+abbrev start-of : tie.At-loop-i invariant-loop decreases-loop → tie.Start invariant-loop decreases-loop
 start-of c = c.before.before
 
 -- a bus that is left: where it starts, and its weight inside the file
-here : (c : tie.At-loop invariant-loop decreases-loop) → c.loop.i < (start-of c).args.n
-    → get_or (start-of c).args.starts.now c.loop.i 0 ≡ spot Bus (start-of c).args.file.now (start-of c).args.at c.loop.i
+here : (c : tie.At-loop-i invariant-loop decreases-loop) → c.loop-i.i < (start-of c).args.n
+    → get_or (start-of c).args.starts.now c.loop-i.i 0 ≡ spot Bus (start-of c).args.file.now (start-of c).args.at c.loop-i.i
 unfolding Starts
-here c b = (start-of c).requires.0 c.loop.i b
+here c b = (start-of c).requires.0 c.loop-i.i b
 
-inside : (c : tie.At-loop invariant-loop decreases-loop) → c.loop.i < (start-of c).args.n → get_or (start-of c).args.starts.now c.loop.i 0 + 19 ≤ length (start-of c).args.file.now
-inside c b = subst (λ (p : ℕ). p + 19 ≤ length (start-of c).args.file.now) (sym (here c b)) ((start-of c).requires.1.0 c.loop.i b)
+inside : (c : tie.At-loop-i invariant-loop decreases-loop) → c.loop-i.i < (start-of c).args.n → get_or (start-of c).args.starts.now c.loop-i.i 0 + 19 ≤ length (start-of c).args.file.now
+inside c b = subst (λ (p : ℕ). p + 19 ≤ length (start-of c).args.file.now) (sym (here c b)) ((start-of c).requires.1.0 c.loop-i.i b)
 
 -- what was read is the weight
 weight : (c : tie.After-word invariant-loop decreases-loop)
     → c.word.result
-    ≡ field WeighedBus weight_field (spot Bus (start-of c.before.before.before).args.file.now (start-of c.before.before.before).args.at c.before.before.before.loop.i) (start-of c.before.before.before).args.file.now
+    ≡ field WeighedBus weight_field (spot Bus (start-of c.before.before.before.before).args.file.now (start-of c.before.before.before.before).args.at c.loop-i.i) (start-of c.before.before.before.before).args.file.now
 weight c =
-    let l = c.before.before.before in
-    c.word.ensures.0 ∙ ap (λ (p : ℕ). word 8 (p + 11) (start-of l).args.file.now) (here l c.before.before.loop-test.true)
+    let l = c in
+    c.word.ensures.0 ∙ ap (λ (p : ℕ). word 8 (p + 11) (start-of l.before.before.before.before).args.file.now) (here l.before.before.before.before c.loop-i-test.true)
 
-loop-holds : tie.Need-loop-init invariant-loop decreases-loop
+loop-holds : tie.Need-loop-i-init invariant-loop decreases-loop
 unfolding first_other
 loop-holds c = first_start _ _
 
-mul-word : tie.Need-overflow-mul-word invariant-loop decreases-loop
+mul-word : tie.Need-offset_bounds-starts-i invariant-loop decreases-loop
 mul-word c = omega arith
 
-element-copy-out-word : tie.Need-element-copy-out-word invariant-loop decreases-loop
+element-copy-out-word : tie.Need-bounds-starts-i invariant-loop decreases-loop
 element-copy-out-word c = omega arith
 
-add-word : tie.Need-overflow-add-word invariant-loop decreases-loop
-add-word c = omega (arith, inside c.before.before c.before.loop-test.true)
+add-word : tie.Need-overflow_add-starts invariant-loop decreases-loop
+add-word c = omega (arith, inside c.before.before.before c.loop-i-test.true)
 
 word-requires : tie.Need-word-requires invariant-loop decreases-loop
-word-requires c κs = omega (arith, inside c.before.before c.before.loop-test.true)
+word-requires c κs = omega (arith, inside c.before.before.before c.loop-i-test.true)
 
-returns : tie.Need-returns invariant-loop decreases-loop
+returns : tie.Need-returns-then-word-ne-ONE invariant-loop decreases-loop
 returns c =
-    let l = c.before.before.before.before in
-    sym (first_stop _ _ l.loop.i c.before.before.before.loop-test.true (ne_eqb _ _ (λ e. c.if1.true (weight c.before ∙ e)))) ∙ l.loop.invariant
+    let l = c in
+    sym (first_stop _ _ l.loop-i.i c.loop-i-test.true (ne_eqb _ _ (λ e. c.if-word-ne-ONE.true (weight c.before ∙ e)))) ∙ l.loop-i.invariant
 
-add-i : tie.Need-overflow-add-i invariant-loop decreases-loop
+add-i : tie.Need-overflow_add-i invariant-loop decreases-loop
 add-i c = omega arith
 
-loop-less : tie.Need-loop-smaller invariant-loop decreases-loop
+loop-less : tie.Need-loop-i-smaller invariant-loop decreases-loop
 loop-less c = omega arith
 
-loop-again : tie.Need-loop-preserved invariant-loop decreases-loop
+loop-again : tie.Need-loop-i-preserved invariant-loop decreases-loop
 loop-again c =
-    let l = c.before.before.before.before in
-    sym (first_pass _ _ l.loop.i c.before.before.before.loop-test.true (eq-eqb _ _ (sym (weight c.before) ∙ c.if1.false))) ∙ l.loop.invariant
+    let l = c in
+    sym (first_pass _ _ l.loop-i.i c.loop-i-test.true (eq-eqb _ _ (sym (weight c.before) ∙ c.if-word-ne-ONE.false))) ∙ l.loop-i.invariant
 
-returns-2 : tie.Need-returns-2 invariant-loop decreases-loop
-returns-2 c = sym (first_end _ _ c.before.loop.i c.loop-test.false) ∙ c.before.loop.invariant
+returns-2 : tie.Need-returns invariant-loop decreases-loop
+returns-2 c = sym (first_end _ _ c.loop-i.i c.loop-i-test.false) ∙ c.loop-i.invariant
 
-pub first-other-spec : {M : Type 1} → statement M
-first-other-spec =
+pub first_other_spec : {M : Type 1} → statement M
+first_other_spec =
     tie.close
-    (tie.spec
-    invariant-loop
-    decreases-loop
-    loop-holds
-    mul-word
-    element-copy-out-word
-    add-word
-    word-requires
-    returns
-    add-i
-    loop-less
-    loop-again
-    returns-2)
+    (tie.spec invariant-loop decreases-loop loop-holds mul-word element-copy-out-word add-word word-requires returns add-i loop-less loop-again returns-2)

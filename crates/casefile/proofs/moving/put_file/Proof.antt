@@ -19,35 +19,30 @@ buses-fit : (c : tie.Start) → c.args.at + length (buses_as c.args.kind c.args.
 buses-fit c = buses_small c.args.kind c.args.file.now c.args.at c.args.n c.requires.0.early c.requires.0.few c.requires.0.kept
 
 copy-requires : tie.Need-copy-requires
-copy-requires c κs = let s = c.before.before.before in (omega (arith, s.requires.0.inside), omega (arith, s.requires.0.early, size s))
+copy-requires c κs = let s = c in (omega (arith, s.requires.0.inside), omega (arith, s.requires.0.early, size s.before.before.before))
 
-put-buses-requires : tie.Need-put-buses-requires
+put-buses-requires : tie.Need-put_buses-there-requires
 put-buses-requires c κs =
-    let s = c.before.before.before.before.before.before.before in
-    (s.requires.0.stored, (s.requires.0.kept, (s.requires.0.few, (s.requires.1.0, omega (arith, buses-fit s, size s, c.before.before.before.copy.auto.1.1.0)))))
+    let s = c in
+    (s.requires.0.stored, (s.requires.0.kept, (s.requires.0.few, (s.requires.1.0, omega (arith, buses-fit s.before.before.before.before.before.before.before, size s.before.before.before.before.before.before.before, c.copy.auto.out)))))
 
-copy-rest-requires : tie.Need-copy-rest-requires
+copy-rest-requires : tie.Need-copy_rest-requires
 copy-rest-requires c κs =
-    let s = c.before.before.before.before.before.before.before.before.before.before.before in
-    let b = c.before.before.before.put-buses in
-    (s.requires.0.within, omega (arith, buses-fit s, size s, b.ensures.0, c.before.before.before.before.before.before.before.copy.auto.1.1.0, b.auto.1.1.1.1.1.0))
+    let s = c in
+    let b = c.put_buses-there in
+    (s.requires.0.within, omega (arith, buses-fit s.before.before.before.before.before.before.before.before.before.before.before, size s.before.before.before.before.before.before.before.before.before.before.before, b.ensures.0, c.copy.auto.out, b.auto.out))
 
-same_length : tie.Need-same-length
+same_length : tie.Need-shape_of-out
 same_length c = search rules
 
 returns : tie.Need-returns
 returns c =
-    let s = c.before.before.before.before.before.before.before.before.before.before.before.before.before.before in
-    let b = c.before.before.before.before.before.before.put-buses in
+    let s = c in
+    let b = c.put_buses-there in
     file_fitted s.args.kind s.args.file.now s.args.at s.args.n _ _ _ _ _ _ s.requires.1.1 s.requires.0.end b.ensures.0 s.requires.0.inside
-    s.requires.0.within (omega (arith, buses-fit s, b.ensures.0)) c.before.before.before.before.before.before.before.before.before.before.copy.ensures b.ensures.1 c.before.before.copy_rest.ensures
+    s.requires.0.within (omega (arith, buses-fit s.before.before.before.before.before.before.before.before.before.before.before.before.before.before, b.ensures.0)) c.copy.ensures b.ensures.1 c.copy_rest.ensures
 
-pub put-file-spec : {M : Type 1} → statement M
-put-file-spec =
+pub put_file_spec : {M : Type 1} → statement M
+put_file_spec =
     tie.close
-    (tie.spec
-    copy-requires
-    put-buses-requires
-    copy-rest-requires
-    same_length
-    returns)
+    (tie.spec copy-requires put-buses-requires copy-rest-requires same_length returns)

@@ -9,22 +9,19 @@ use Rattle.casefile.proofs.moving.put_weight.Tie as tie
 weighs-requires : tie.Need-weighs-requires
 weighs-requires c κs = search rules
 
-slice-aggregate-copy : tie.Need-slice-aggregate-copy
-slice-aggregate-copy c = search rules
-
 copy-requires : tie.Need-copy-requires
-copy-requires c κs = (omega arith, weight_room c.before.before.before.before.before.args.kind c.before.before.before.before.before.args.to _ (sym c.before.before.before.weighs.ensures ∙ c.before.before.if1.true) c.before.before.before.before.before.requires)
+copy-requires c κs = (omega arith, weight_room c.args.kind c.args.to _ (sym c.weighs.ensures ∙ c.if-weighs.true) c.requires)
 
-same_length : tie.Need-same-length
+same_length : tie.Need-shape_of-out
 same_length c = search rules
 
-returns : tie.Need-returns
-returns c = weight_put _ _ c.before.before.before.before.before.before.before.before.args.kind _ (sym c.before.before.before.before.before.before.weighs.ensures ∙ c.before.before.before.before.before.if1.true) c.before.before.copy.ensures
+returns : tie.Need-returns-then-weighs
+returns c = weight_put _ _ c.args.kind _ (sym c.weighs.ensures ∙ c.if-weighs.true) c.copy.ensures
 
-returns-2 : tie.Need-returns-2
-returns-2 c = no_weight _ c.before.before.before.args.kind _ (sym c.before.weighs.ensures ∙ c.if1.false)
+returns-2 : tie.Need-returns-else-weighs
+returns-2 c = no_weight _ c.args.kind _ (sym c.weighs.ensures ∙ c.if-weighs.false)
 
-pub put-weight-spec : {M : Type 1} → statement M
-put-weight-spec =
+pub put_weight_spec : {M : Type 1} → statement M
+put_weight_spec =
     tie.close
-    (tie.spec weighs-requires slice-aggregate-copy copy-requires same_length returns returns-2)
+    (tie.spec weighs-requires copy-requires same_length returns returns-2)

@@ -6,20 +6,20 @@ use Rattle.casefile_defs.proofs.Records.{unmarked}
 use Rattle.casefile.proofs.record.bears.Statement.{statement}
 use Rattle.casefile.proofs.record.bears.Tie as tie
 
-returns : tie.Need-returns
-returns c = unmarked c.before.before.args.kind c.before.before.args.file.now c.before.before.args.at (omega arith)
+returns : tie.Need-returns-then-file-lt-MARK
+returns c = unmarked c.args.kind c.args.file.now c.args.at (omega arith)
 
-sub-if2 : tie.Need-overflow-sub-if2
+sub-if2 : tie.Need-overflow_sub-file
 sub-if2 c = search rules
 
-returns-2 : tie.Need-returns-2
-returns-2 c = unmarked c.before.before.before.args.kind c.before.before.before.args.file.now c.before.before.before.args.at (omega arith)
+returns-2 : tie.Need-returns-then-file-at
+returns-2 c = unmarked c.args.kind c.args.file.now c.args.at (omega arith)
 
-mark-ok-requires : tie.Need-mark-ok-requires
+mark-ok-requires : tie.Need-mark_ok-requires
 mark-ok-requires c κs = search rules
 
-returns-3 : tie.Need-returns-3
+returns-3 : tie.Need-returns
 returns-3 c = search rules
 
-pub bears-spec : {M : Type 1} → statement M
-bears-spec = tie.close (tie.spec returns sub-if2 returns-2 mark-ok-requires returns-3)
+pub bears_spec : {M : Type 1} → statement M
+bears_spec = tie.close (tie.spec returns sub-if2 returns-2 mark-ok-requires returns-3)

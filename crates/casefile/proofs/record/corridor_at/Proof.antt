@@ -7,11 +7,11 @@ use Rattle.casefile.proofs.record.corridor_at.Tie as tie
 bears-requires : tie.Need-bears-requires
 bears-requires c κs = search rules
 
-returns : tie.Need-returns
-returns c = simp (sym c.before.bears.ensures ∙ c.if1.true)
+returns : tie.Need-returns-then-bears
+returns c = simp (sym c.bears.ensures ∙ c.if-bears.true)
 
-returns-2 : tie.Need-returns-2
-returns-2 c = simp (sym c.before.bears.ensures ∙ c.if1.false)
+returns-2 : tie.Need-returns
+returns-2 c = simp (sym c.bears.ensures ∙ c.if-bears.false)
 
-pub corridor-at-spec : {M : Type 1} → statement M
-corridor-at-spec = tie.close (tie.spec bears-requires returns returns-2)
+pub corridor_at_spec : {M : Type 1} → statement M
+corridor_at_spec = tie.close (tie.spec bears-requires returns returns-2)

@@ -3,79 +3,61 @@ use borrow.Author.Rules.{rules}
 use Rattle.casefile.proofs.record.standing.Statement.{statement}
 use Rattle.casefile.proofs.record.standing.Tie as tie
 
-enum_told : tie.Need-enum-told
+enum_told : tie.Need-enum_told-1
 enum_told c = search rules
 
-enum-told-2 : tie.Need-enum-told-2
+enum-told-2 : tie.Need-enum_told-in-Level
 enum-told-2 c = search rules
 
-enum-told-3 : tie.Need-enum-told-3
+enum-told-3 : tie.Need-enum_told-in-Bus
 enum-told-3 c = search rules
 
-bus-at-requires : tie.Need-bus-at-requires
+bus-at-requires : tie.Need-bus_at-requires
 bus-at-requires c κs = search rules
 
-enum-told-4 : tie.Need-enum-told-4
+enum-told-4 : tie.Need-enum_told-in-Generator
 enum-told-4 c = search rules
 
-enum-told-5 : tie.Need-enum-told-5
+enum-told-5 : tie.Need-enum_told-in-Corridor
 enum-told-5 c = search rules
 
-corridor-at-requires : tie.Need-corridor-at-requires
+corridor-at-requires : tie.Need-corridor_at-requires
 corridor-at-requires c κs = search rules
 
-enum-told-6 : tie.Need-enum-told-6
+enum-told-6 : tie.Need-enum_told-in-Line
 enum-told-6 c = search rules
 
-enum-told-7 : tie.Need-enum-told-7
+enum-told-7 : tie.Need-enum_told-in-CappedCorridor
 enum-told-7 c = search rules
 
-enum-told-8 : tie.Need-enum-told-8
+enum-told-8 : tie.Need-enum_told-in-WeighedBus
 enum-told-8 c = search rules
 
-returns : tie.Need-returns
+returns : tie.Need-returns-in-Head
 returns c = search rules
 
-returns-2 : tie.Need-returns-2
+returns-2 : tie.Need-returns-in-Level
 returns-2 c = search rules
 
-returns-3 : tie.Need-returns-3
-returns-3 c = simp (c.before.enum-told3.given.1, c.bus-at.ensures)
+returns-3 : tie.Need-returns-in-Bus
+returns-3 c = simp (c.in-Bus.is, c.bus_at.ensures)
 
-returns-4 : tie.Need-returns-4
+returns-4 : tie.Need-returns-in-Generator
 returns-4 c = search rules
 
-returns-5 : tie.Need-returns-5
-returns-5 c = simp (c.before.enum-told5.given.1, c.corridor-at.ensures)
+returns-5 : tie.Need-returns-in-Corridor
+returns-5 c = simp (c.in-Corridor.is, c.corridor_at.ensures)
 
-returns-6 : tie.Need-returns-6
+returns-6 : tie.Need-returns-in-Line
 returns-6 c = search rules
 
-returns-7 : tie.Need-returns-7
+returns-7 : tie.Need-returns-in-CappedCorridor
 returns-7 c = search rules
 
-returns-8 : tie.Need-returns-8
+returns-8 : tie.Need-returns-in-WeighedBus
 returns-8 c = search rules
 
-pub standing-spec : {M : Type 1} → statement M
-standing-spec =
+pub standing_spec : {M : Type 1} → statement M
+standing_spec =
     tie.close
-    (tie.spec
-    enum_told
-    enum-told-2
-    enum-told-3
-    bus-at-requires
-    enum-told-4
-    enum-told-5
-    corridor-at-requires
-    enum-told-6
-    enum-told-7
-    enum-told-8
-    returns
-    returns-2
-    returns-3
-    returns-4
-    returns-5
-    returns-6
-    returns-7
-    returns-8)
+    (tie.spec enum_told enum-told-2 enum-told-3 bus-at-requires enum-told-4 enum-told-5 corridor-at-requires enum-told-6 enum-told-7 enum-told-8 returns returns-2 returns-3 returns-4 returns-5 returns-6 returns-7 returns-8)

@@ -8,88 +8,69 @@ use Rattle.casefile.proofs.Looks.{ZeroWords, words_start, words_turn, words_stop
 use Rattle.casefile.proofs.scan.past_words.Statement.{statement}
 use Rattle.casefile.proofs.scan.past_words.Tie as tie
 
-abbrev invariant-loop : tie.invariant-loop
+abbrev invariant-loop : tie.invariant-loop-k
 invariant-loop file at words k₀ k = ZeroWords file at k × ((k ≤ words) × (words ≡ (length file - at) / 8))
 
-abbrev decreases-loop : tie.decreases-loop
+abbrev decreases-loop : tie.decreases-loop-k
 decreases-loop file at words k₀ k = words - k
 
-left-requires : tie.Need-left-requires invariant-loop decreases-loop
+left-requires : tie.Need-left-words-requires invariant-loop decreases-loop
 left-requires c κs = tt
 
-loop-holds : tie.Need-loop-init invariant-loop decreases-loop
-loop-holds c = (words_start _ _, (omega arith, omega (arith, c.left.ensures)))
+loop-holds : tie.Need-loop-k-init invariant-loop decreases-loop
+loop-holds c = (words_start _ _, (omega arith, omega (arith, c.left-words.ensures)))
 
-mul-eight : tie.Need-overflow-mul-eight invariant-loop decreases-loop
+mul-eight : tie.Need-overflow_mul-k invariant-loop decreases-loop
 mul-eight c = omega arith
 
-add_eight : tie.Need-overflow-add-eight invariant-loop decreases-loop
+add_eight : tie.Need-overflow_add-at invariant-loop decreases-loop
 add_eight c = omega arith
 
 eight-requires : tie.Need-eight-requires invariant-loop decreases-loop
 eight-requires c κs = omega arith
 
-mul-came-to : tie.Need-overflow-mul-came-to invariant-loop decreases-loop
+mul-came-to : tie.Need-overflow_mul-k-then-eight-ne0 invariant-loop decreases-loop
 mul-came-to c = omega arith
 
-add-came-to : tie.Need-overflow-add-came-to invariant-loop decreases-loop
+add-came-to : tie.Need-overflow_add-at-then-eight-ne0 invariant-loop decreases-loop
 add-came-to c = omega arith
 
-add-came-to-2 : tie.Need-overflow-add-came-to-2 invariant-loop decreases-loop
+add-came-to-2 : tie.Need-overflow_add-k invariant-loop decreases-loop
 add-came-to-2 c = omega arith
 
-came-to-requires : tie.Need-came-to-requires invariant-loop decreases-loop
+came-to-requires : tie.Need-came_to-requires invariant-loop decreases-loop
 came-to-requires c κs = tt
 
-returns : tie.Need-returns invariant-loop decreases-loop
+returns : tie.Need-returns-then-eight-ne0 invariant-loop decreases-loop
 returns c =
-    let l = c.before.before.before.before in
-    c.came-to.ensures
-    ∙ words_stop _ _ l.loop.k (omega arith) (omega (arith, c.before.before.eight.ensures)) l.loop.invariant.0
+    let l = c in
+    c.came_to.ensures
+    ∙ words_stop _ _ l.loop-k.k (omega arith) (omega (arith, c.eight.ensures)) l.loop-k.invariant.0
 
-add-k : tie.Need-overflow-add-k invariant-loop decreases-loop
+add-k : tie.Need-overflow_add-k-in-loop-k invariant-loop decreases-loop
 add-k c = omega arith
 
-loop-less : tie.Need-loop-smaller invariant-loop decreases-loop
+loop-less : tie.Need-loop-k-smaller invariant-loop decreases-loop
 loop-less c = omega arith
 
-loop-again : tie.Need-loop-preserved invariant-loop decreases-loop
+loop-again : tie.Need-loop-k-preserved invariant-loop decreases-loop
 loop-again c =
-    let l = c.before.before.before in
-    (words_turn _ _ l.loop.k (omega arith) (omega (arith, c.before.eight.ensures)) l.loop.invariant.0, (omega arith, l.loop.invariant.1.1))
+    let l = c in
+    (words_turn _ _ l.loop-k.k (omega arith) (omega (arith, c.eight.ensures)) l.loop-k.invariant.0, (omega arith, l.loop-k.invariant.1.1))
 
-mul-came-to-2 : tie.Need-overflow-mul-came-to-2 invariant-loop decreases-loop
+mul-came-to-2 : tie.Need-overflow_mul-k-2 invariant-loop decreases-loop
 mul-came-to-2 c = omega arith
 
-add-came-to-3 : tie.Need-overflow-add-came-to-3 invariant-loop decreases-loop
+add-came-to-3 : tie.Need-overflow_add-at-2 invariant-loop decreases-loop
 add-came-to-3 c = omega arith
 
-came-to-requires-2 : tie.Need-came-to-requires-2 invariant-loop decreases-loop
+came-to-requires-2 : tie.Need-came_to-requires-2 invariant-loop decreases-loop
 came-to-requires-2 c κs = tt
 
-returns-2 : tie.Need-returns-2 invariant-loop decreases-loop
-returns-2 c = c.came-to2.ensures ∙ words_end _ _ c.before.before.loop.k (omega arith) c.before.before.loop.invariant.0
+returns-2 : tie.Need-returns invariant-loop decreases-loop
+returns-2 c = c.came_to-2.ensures ∙ words_end _ _ c.loop-k.k (omega arith) c.loop-k.invariant.0
 
-pub past-words-spec : {M : Type 1} → statement M
-past-words-spec =
+pub past_words_spec : {M : Type 1} → statement M
+past_words_spec =
     tie.close
-    (tie.spec
-    invariant-loop
-    decreases-loop
-    left-requires
-    loop-holds
-    mul-eight
-    add_eight
-    eight-requires
-    mul-came-to
-    add-came-to
-    add-came-to-2
-    came-to-requires
-    returns
-    add-k
-    loop-less
-    loop-again
-    mul-came-to-2
-    add-came-to-3
-    came-to-requires-2
-    returns-2)
+    (tie.spec invariant-loop decreases-loop left-requires loop-holds mul-eight add_eight eight-requires mul-came-to add-came-to add-came-to-2 came-to-requires returns add-k loop-less loop-again mul-came-to-2 add-came-to-3 came-to-requires-2 returns-2)

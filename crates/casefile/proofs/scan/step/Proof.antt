@@ -5,28 +5,28 @@ use Rattle.casefile_defs.specs.Reading.{stepped}
 use Rattle.casefile.proofs.scan.step.Statement.{statement}
 use Rattle.casefile.proofs.scan.step.Tie as tie
 
-enum_told : tie.Need-enum-told
+enum_told : tie.Need-enum_told-1
 enum_told c = search rules
 
-enum-known-from : tie.Need-enum-known-from
+enum-known-from : tie.Need-enum_known-from
 enum-known-from c = search rules
 
-standing-requires : tie.Need-standing-requires
+standing-requires : tie.Need-standing-stands-requires
 standing-requires c κs = search rules
 
-record-at-requires : tie.Need-record-at-requires
+record-at-requires : tie.Need-record_at-requires
 record-at-requires c κs = search rules
 
 admit-requires : tie.Need-admit-requires
 admit-requires c κs = search rules
 
-returns : tie.Need-returns
+returns : tie.Need-returns-in-Fault
 unfolding stepped
-returns c = simp c.enum_told.given.1
+returns c = simp c.in-Fault.is
 
-returns-2 : tie.Need-returns-2
+returns-2 : tie.Need-returns-in-At
 unfolding stepped
-returns-2 c = simp (c.before.before.before.before.from.given.1, c.admit.ensures, c.before.record-at.ensures, c.before.before.standing.ensures)
+returns-2 c = simp (c.in-At.is, c.admit.ensures, c.record_at.ensures, c.standing-stands.ensures)
 
 pub step_spec : {M : Type 1} → statement M
 step_spec = tie.close (tie.spec enum_told enum-known-from standing-requires record-at-requires admit-requires returns returns-2)

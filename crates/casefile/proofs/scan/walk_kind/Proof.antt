@@ -9,32 +9,32 @@ use Rattle.casefile_defs.specs.Reading.{stepped, walked}
 use Rattle.casefile.proofs.scan.walk_kind.Statement.{statement}
 use Rattle.casefile.proofs.scan.walk_kind.Tie as tie
 
-abbrev invariant-loop : tie.invariant-loop
+abbrev invariant-loop : tie.invariant-loop-r
 invariant-loop file kind weighed start end at₀ r₀ at r = iter (stepped kind weighed file) (end - r) r at ≡ walked kind weighed start end file at₀
 
-abbrev decreases-loop : tie.decreases-loop
+abbrev decreases-loop : tie.decreases-loop-r
 decreases-loop file kind weighed start end at₀ r₀ at r = end - r
 
-loop-holds : tie.Need-loop-init invariant-loop decreases-loop
+loop-holds : tie.Need-loop-r-init invariant-loop decreases-loop
 unfolding walked
 loop-holds c = refl
 
-step-requires : tie.Need-step-requires invariant-loop decreases-loop
+step-requires : tie.Need-step-at-requires invariant-loop decreases-loop
 step-requires c κs = tt
 
-add_r : tie.Need-overflow-add-r invariant-loop decreases-loop
+add_r : tie.Need-overflow_add-r invariant-loop decreases-loop
 add_r c = omega arith
 
-loop-less : tie.Need-loop-smaller invariant-loop decreases-loop
+loop-less : tie.Need-loop-r-smaller invariant-loop decreases-loop
 loop-less c = omega arith
 
-loop-again : tie.Need-loop-preserved invariant-loop decreases-loop
-loop-again c = sym (iter_more _ c.before.loop-test.true c.step.ensures) ∙ c.before.before.loop.invariant
+loop-again : tie.Need-loop-r-preserved invariant-loop decreases-loop
+loop-again c = sym (iter_more _ c.loop-r-test.true c.step-at.ensures) ∙ c.loop-r.invariant
 
 returns : tie.Need-returns invariant-loop decreases-loop
-returns c = sym (iter_end _ c.loop-test.false) ∙ c.before.loop.invariant
+returns c = sym (iter_end _ c.loop-r-test.false) ∙ c.loop-r.invariant
 
-pub walk-kind-spec : {M : Type 1} → statement M
-walk-kind-spec =
+pub walk_kind_spec : {M : Type 1} → statement M
+walk_kind_spec =
     tie.close
     (tie.spec invariant-loop decreases-loop loop-holds step-requires add_r loop-less loop-again returns)

@@ -4,11 +4,11 @@ use borrow.Author.Tests.{eq-eqb, ne_eqb}
 use Rattle.casefile.proofs.tables.basis_of.Statement.{statement}
 use Rattle.casefile.proofs.tables.basis_of.Tie as tie
 
-returns : tie.Need-returns
-returns c = simp (eq-eqb _ _ c.if1.true)
+returns : tie.Need-returns-then-n-eq0
+returns c = simp (eq-eqb _ _ c.if-n-eq0.true)
 
-returns-2 : tie.Need-returns-2
-returns-2 c = simp (ne_eqb _ _ c.if1.false)
+returns-2 : tie.Need-returns
+returns-2 c = simp (ne_eqb _ _ c.if-n-eq0.false)
 
-pub basis-of-spec : {M : Type 1} → statement M
-basis-of-spec = tie.close (tie.spec returns returns-2)
+pub basis_of_spec : {M : Type 1} → statement M
+basis_of_spec = tie.close (tie.spec returns returns-2)

@@ -8,63 +8,49 @@ use Rattle.casefile.proofs.Stored.{whole_stored, within_stored, numbers_stored, 
 use Rattle.casefile.proofs.tables.read_corridors.Statement.{statement}
 use Rattle.casefile.proofs.tables.read_corridors.Tie as tie
 
-store-starts-requires : tie.Need-store-starts-requires
+store-starts-requires : tie.Need-store_starts-end-requires
 store-starts-requires c κs = search rules
 
-fill-numbers-requires : tie.Need-fill-numbers-requires
-fill-numbers-requires c κs = (whole_stored Corridor _ _ _ _ c.before.before.store-starts.ensures.0 c.before.before.before.before.before.before.before.before.before.before.before.requires.0, (c.before.before.before.before.before.before.before.before.before.before.before.requires.1, (omega arith, omega arith)))
+fill-numbers-requires : tie.Need-fill_numbers-requires
+fill-numbers-requires c κs = (whole_stored Corridor _ _ _ _ c.store_starts-end.ensures.0 c.requires.0, (c.requires.1, (omega arith, omega arith)))
 
-fill-numbers-requires-2 : tie.Need-fill-numbers-requires-2
-fill-numbers-requires-2 c κs = (whole_stored Corridor _ _ _ _ c.before.before.before.before.before.before.before.store-starts.ensures.0 c.before.before.before.before.before.before.before.before.before.before.before.before.before.before.before.before.requires.0, (c.before.before.before.before.before.before.before.before.before.before.before.before.before.before.before.before.requires.1, (omega arith, omega arith)))
+fill-numbers-requires-2 : tie.Need-fill_numbers-requires-2
+fill-numbers-requires-2 c κs = (whole_stored Corridor _ _ _ _ c.store_starts-end.ensures.0 c.requires.0, (c.requires.1, (omega arith, omega arith)))
 
-fill-numbers-requires-3 : tie.Need-fill-numbers-requires-3
-fill-numbers-requires-3 c κs = (whole_stored Corridor _ _ _ _ c.before.before.before.before.before.before.before.before.before.before.before.before.store-starts.ensures.0 c.before.before.before.before.before.before.before.before.before.before.before.before.before.before.before.before.before.before.before.before.before.requires.0, (c.before.before.before.before.before.before.before.before.before.before.before.before.before.before.before.before.before.before.before.before.before.requires.1, (omega arith, omega arith)))
+fill-numbers-requires-3 : tie.Need-fill_numbers-requires-3
+fill-numbers-requires-3 c κs = (whole_stored Corridor _ _ _ _ c.store_starts-end.ensures.0 c.requires.0, (c.requires.1, (omega arith, omega arith)))
 
-fill-figures-requires : tie.Need-fill-figures-requires
-fill-figures-requires c κs = (within_stored Corridor _ _ _ _ c.before.before.before.before.before.before.before.before.before.before.before.before.before.before.before.before.before.store-starts.ensures.0 15 (omega arith) c.before.before.before.before.before.before.before.before.before.before.before.before.before.before.before.before.before.before.before.before.before.before.before.before.before.before.requires.0, c.before.before.before.before.before.before.before.before.before.before.before.before.before.before.before.before.before.before.before.before.before.before.before.before.before.before.requires.1)
+fill-figures-requires : tie.Need-fill_figures-requires
+fill-figures-requires c κs = (within_stored Corridor _ _ _ _ c.store_starts-end.ensures.0 15 (omega arith) c.requires.0, c.requires.1)
 
-fill-figures-requires-2 : tie.Need-fill-figures-requires-2
-fill-figures-requires-2 c κs = (within_stored Corridor _ _ _ _ c.before.before.before.before.before.before.before.before.before.before.before.before.before.before.before.before.before.before.before.before.before.before.store-starts.ensures.0 23 (omega arith) c.before.before.before.before.before.before.before.before.before.before.before.before.before.before.before.before.before.before.before.before.before.before.before.before.before.before.before.before.before.before.before.requires.0, c.before.before.before.before.before.before.before.before.before.before.before.before.before.before.before.before.before.before.before.before.before.before.before.before.before.before.before.before.before.before.before.requires.1)
+fill-figures-requires-2 : tie.Need-fill_figures-requires-2
+fill-figures-requires-2 c κs = (within_stored Corridor _ _ _ _ c.store_starts-end.ensures.0 23 (omega arith) c.requires.0, c.requires.1)
 
-fill-numbers-requires-4 : tie.Need-fill-numbers-requires-4
-fill-numbers-requires-4 c κs = (whole_stored Corridor _ _ _ _ c.before.before.before.before.before.before.before.before.before.before.before.before.before.before.before.before.before.before.before.before.before.before.before.before.before.before.before.store-starts.ensures.0 c.before.before.before.before.before.before.before.before.before.before.before.before.before.before.before.before.before.before.before.before.before.before.before.before.before.before.before.before.before.before.before.before.before.before.before.before.requires.0, (c.before.before.before.before.before.before.before.before.before.before.before.before.before.before.before.before.before.before.before.before.before.before.before.before.before.before.before.before.before.before.before.before.before.before.before.before.requires.1, (omega arith, omega arith)))
+fill-numbers-requires-4 : tie.Need-fill_numbers-requires-4
+fill-numbers-requires-4 c κs = (whole_stored Corridor _ _ _ _ c.store_starts-end.ensures.0 c.requires.0, (c.requires.1, (omega arith, omega arith)))
 
-same_length : tie.Need-same-length
-same_length c = c.before.before.before.before.before.before.before.before.before.before.before.before.before.before.before.before.before.before.before.before.before.before.before.before.before.before.before.fill-numbers.auto.1.1.1.1.1.1.0
+same_length : tie.Need-shape_of-a
+same_length c = c.fill_numbers.auto.out
 
-same-length-2 : tie.Need-same-length-2
+same-length-2 : tie.Need-shape_of-b
 same-length-2 c = search rules
 
-same-length-3 : tie.Need-same-length-3
+same-length-3 : tie.Need-shape_of-circuits
 same-length-3 c = search rules
 
-same-length-4 : tie.Need-same-length-4
+same-length-4 : tie.Need-shape_of-length_km
 same-length-4 c = search rules
 
-same-length-5 : tie.Need-same-length-5
+same-length-5 : tie.Need-shape_of-share
 same-length-5 c = search rules
 
-same-length-6 : tie.Need-same-length-6
+same-length-6 : tie.Need-shape_of-cap
 same-length-6 c = search rules
 
 returns : tie.Need-returns
-returns c = (c.before.before.before.before.before.before.before.before.before.before.before.before.before.before.before.before.before.before.before.before.before.before.before.before.before.before.before.fill-numbers.ensures ∙ numbers_stored Corridor _ _ _ _ c.before.before.before.before.before.before.before.before.before.before.before.before.before.before.before.before.before.before.before.before.before.before.before.before.before.before.before.before.before.before.store-starts.ensures.0 2 2 _, (c.before.before.before.before.before.before.before.before.before.before.before.before.before.before.before.before.before.before.before.before.before.before.fill-numbers2.ensures ∙ numbers_stored Corridor _ _ _ _ c.before.before.before.before.before.before.before.before.before.before.before.before.before.before.before.before.before.before.before.before.before.before.before.before.before.before.before.before.before.before.store-starts.ensures.0 4 2 _, (c.before.before.before.before.before.before.before.before.before.before.before.before.before.before.before.before.before.fill-numbers3.ensures ∙ numbers_stored Corridor _ _ _ _ c.before.before.before.before.before.before.before.before.before.before.before.before.before.before.before.before.before.before.before.before.before.before.before.before.before.before.before.before.before.before.store-starts.ensures.0 6 1 _, (c.before.before.before.before.before.before.before.before.before.before.before.before.fill-figures.ensures ∙ figures_stored Corridor _ _ _ _ c.before.before.before.before.before.before.before.before.before.before.before.before.before.before.before.before.before.before.before.before.before.before.before.before.before.before.before.before.before.before.store-starts.ensures.0 7 _, (c.before.before.before.before.before.before.before.fill-figures2.ensures ∙ figures_stored Corridor _ _ _ _ c.before.before.before.before.before.before.before.before.before.before.before.before.before.before.before.before.before.before.before.before.before.before.before.before.before.before.before.before.before.before.store-starts.ensures.0 15 _, (c.before.before.fill-numbers4.ensures ∙ numbers_stored Corridor _ _ _ _ c.before.before.before.before.before.before.before.before.before.before.before.before.before.before.before.before.before.before.before.before.before.before.before.before.before.before.before.before.before.before.store-starts.ensures.0 23 1 _, c.before.before.before.before.before.before.before.before.before.before.before.before.before.before.before.before.before.before.before.before.before.before.before.before.before.before.before.before.before.before.store-starts.ensures.1))))))
+returns c = (c.fill_numbers.ensures ∙ numbers_stored Corridor _ _ _ _ c.store_starts-end.ensures.0 2 2 _, (c.fill_numbers-2.ensures ∙ numbers_stored Corridor _ _ _ _ c.store_starts-end.ensures.0 4 2 _, (c.fill_numbers-3.ensures ∙ numbers_stored Corridor _ _ _ _ c.store_starts-end.ensures.0 6 1 _, (c.fill_figures.ensures ∙ figures_stored Corridor _ _ _ _ c.store_starts-end.ensures.0 7 _, (c.fill_figures-2.ensures ∙ figures_stored Corridor _ _ _ _ c.store_starts-end.ensures.0 15 _, (c.fill_numbers-4.ensures ∙ numbers_stored Corridor _ _ _ _ c.store_starts-end.ensures.0 23 1 _, c.store_starts-end.ensures.1))))))
 
-pub read-corridors-spec : {M : Type 1} → statement M
-read-corridors-spec =
+pub read_corridors_spec : {M : Type 1} → statement M
+read_corridors_spec =
     tie.close
-    (tie.spec
-    store-starts-requires
-    fill-numbers-requires
-    fill-numbers-requires-2
-    fill-numbers-requires-3
-    fill-figures-requires
-    fill-figures-requires-2
-    fill-numbers-requires-4
-    same_length
-    same-length-2
-    same-length-3
-    same-length-4
-    same-length-5
-    same-length-6
-    returns)
+    (tie.spec store-starts-requires fill-numbers-requires fill-numbers-requires-2 fill-numbers-requires-3 fill-figures-requires fill-figures-requires-2 fill-numbers-requires-4 same_length same-length-2 same-length-3 same-length-4 same-length-5 same-length-6 returns)

@@ -8,63 +8,49 @@ use Rattle.casefile.proofs.Stored.{whole_stored, within_stored, numbers_stored, 
 use Rattle.casefile.proofs.tables.read_generators.Statement.{statement}
 use Rattle.casefile.proofs.tables.read_generators.Tie as tie
 
-store-starts-requires : tie.Need-store-starts-requires
+store-starts-requires : tie.Need-store_starts-end-requires
 store-starts-requires c κs = search rules
 
-fill-numbers-requires : tie.Need-fill-numbers-requires
-fill-numbers-requires c κs = (whole_stored Generator _ _ _ _ c.before.before.store-starts.ensures.0 c.before.before.before.before.before.before.before.before.before.before.before.requires.0, (c.before.before.before.before.before.before.before.before.before.before.before.requires.1, (omega arith, omega arith)))
+fill-numbers-requires : tie.Need-fill_numbers-requires
+fill-numbers-requires c κs = (whole_stored Generator _ _ _ _ c.store_starts-end.ensures.0 c.requires.0, (c.requires.1, (omega arith, omega arith)))
 
-fill-numbers-requires-2 : tie.Need-fill-numbers-requires-2
-fill-numbers-requires-2 c κs = (whole_stored Generator _ _ _ _ c.before.before.before.before.before.before.before.store-starts.ensures.0 c.before.before.before.before.before.before.before.before.before.before.before.before.before.before.before.before.requires.0, (c.before.before.before.before.before.before.before.before.before.before.before.before.before.before.before.before.requires.1, (omega arith, omega arith)))
+fill-numbers-requires-2 : tie.Need-fill_numbers-requires-2
+fill-numbers-requires-2 c κs = (whole_stored Generator _ _ _ _ c.store_starts-end.ensures.0 c.requires.0, (c.requires.1, (omega arith, omega arith)))
 
-fill-figures-requires : tie.Need-fill-figures-requires
-fill-figures-requires c κs = (within_stored Generator _ _ _ _ c.before.before.before.before.before.before.before.before.before.before.before.before.store-starts.ensures.0 13 (omega arith) c.before.before.before.before.before.before.before.before.before.before.before.before.before.before.before.before.before.before.before.before.before.requires.0, c.before.before.before.before.before.before.before.before.before.before.before.before.before.before.before.before.before.before.before.before.before.requires.1)
+fill-figures-requires : tie.Need-fill_figures-requires
+fill-figures-requires c κs = (within_stored Generator _ _ _ _ c.store_starts-end.ensures.0 13 (omega arith) c.requires.0, c.requires.1)
 
-fill-figures-requires-2 : tie.Need-fill-figures-requires-2
-fill-figures-requires-2 c κs = (within_stored Generator _ _ _ _ c.before.before.before.before.before.before.before.before.before.before.before.before.before.before.before.before.before.store-starts.ensures.0 21 (omega arith) c.before.before.before.before.before.before.before.before.before.before.before.before.before.before.before.before.before.before.before.before.before.before.before.before.before.before.requires.0, c.before.before.before.before.before.before.before.before.before.before.before.before.before.before.before.before.before.before.before.before.before.before.before.before.before.before.requires.1)
+fill-figures-requires-2 : tie.Need-fill_figures-requires-2
+fill-figures-requires-2 c κs = (within_stored Generator _ _ _ _ c.store_starts-end.ensures.0 21 (omega arith) c.requires.0, c.requires.1)
 
-fill-figures-requires-3 : tie.Need-fill-figures-requires-3
-fill-figures-requires-3 c κs = (within_stored Generator _ _ _ _ c.before.before.before.before.before.before.before.before.before.before.before.before.before.before.before.before.before.before.before.before.before.before.store-starts.ensures.0 29 (omega arith) c.before.before.before.before.before.before.before.before.before.before.before.before.before.before.before.before.before.before.before.before.before.before.before.before.before.before.before.before.before.before.before.requires.0, c.before.before.before.before.before.before.before.before.before.before.before.before.before.before.before.before.before.before.before.before.before.before.before.before.before.before.before.before.before.before.before.requires.1)
+fill-figures-requires-3 : tie.Need-fill_figures-requires-3
+fill-figures-requires-3 c κs = (within_stored Generator _ _ _ _ c.store_starts-end.ensures.0 29 (omega arith) c.requires.0, c.requires.1)
 
-fill-figures-requires-4 : tie.Need-fill-figures-requires-4
-fill-figures-requires-4 c κs = (within_stored Generator _ _ _ _ c.before.before.before.before.before.before.before.before.before.before.before.before.before.before.before.before.before.before.before.before.before.before.before.before.before.before.before.store-starts.ensures.0 37 (omega arith) c.before.before.before.before.before.before.before.before.before.before.before.before.before.before.before.before.before.before.before.before.before.before.before.before.before.before.before.before.before.before.before.before.before.before.before.before.requires.0, c.before.before.before.before.before.before.before.before.before.before.before.before.before.before.before.before.before.before.before.before.before.before.before.before.before.before.before.before.before.before.before.before.before.before.before.before.requires.1)
+fill-figures-requires-4 : tie.Need-fill_figures-requires-4
+fill-figures-requires-4 c κs = (within_stored Generator _ _ _ _ c.store_starts-end.ensures.0 37 (omega arith) c.requires.0, c.requires.1)
 
-same_length : tie.Need-same-length
+same_length : tie.Need-shape_of-generator_bus
 same_length c = search rules
 
-same-length-2 : tie.Need-same-length-2
+same-length-2 : tie.Need-shape_of-slack
 same-length-2 c = search rules
 
-same-length-3 : tie.Need-same-length-3
+same-length-3 : tie.Need-shape_of-pmin
 same-length-3 c = search rules
 
-same-length-4 : tie.Need-same-length-4
+same-length-4 : tie.Need-shape_of-pmax
 same-length-4 c = search rules
 
-same-length-5 : tie.Need-same-length-5
+same-length-5 : tie.Need-shape_of-c1
 same-length-5 c = search rules
 
-same-length-6 : tie.Need-same-length-6
+same-length-6 : tie.Need-shape_of-c2
 same-length-6 c = search rules
 
 returns : tie.Need-returns
-returns c = (c.before.before.before.before.before.before.before.before.before.before.before.before.before.before.before.before.before.before.before.before.before.before.before.before.before.before.before.fill-numbers.ensures ∙ numbers_stored Generator _ _ _ _ c.before.before.before.before.before.before.before.before.before.before.before.before.before.before.before.before.before.before.before.before.before.before.before.before.before.before.before.before.before.before.store-starts.ensures.0 2 2 _, (c.before.before.before.before.before.before.before.before.before.before.before.before.before.before.before.before.before.before.before.before.before.before.fill-numbers2.ensures ∙ numbers_stored Generator _ _ _ _ c.before.before.before.before.before.before.before.before.before.before.before.before.before.before.before.before.before.before.before.before.before.before.before.before.before.before.before.before.before.before.store-starts.ensures.0 4 1 _, (c.before.before.before.before.before.before.before.before.before.before.before.before.before.before.before.before.before.fill-figures.ensures ∙ figures_stored Generator _ _ _ _ c.before.before.before.before.before.before.before.before.before.before.before.before.before.before.before.before.before.before.before.before.before.before.before.before.before.before.before.before.before.before.store-starts.ensures.0 5 _, (c.before.before.before.before.before.before.before.before.before.before.before.before.fill-figures2.ensures ∙ figures_stored Generator _ _ _ _ c.before.before.before.before.before.before.before.before.before.before.before.before.before.before.before.before.before.before.before.before.before.before.before.before.before.before.before.before.before.before.store-starts.ensures.0 13 _, (c.before.before.before.before.before.before.before.fill-figures3.ensures ∙ figures_stored Generator _ _ _ _ c.before.before.before.before.before.before.before.before.before.before.before.before.before.before.before.before.before.before.before.before.before.before.before.before.before.before.before.before.before.before.store-starts.ensures.0 21 _, (c.before.before.fill-figures4.ensures ∙ figures_stored Generator _ _ _ _ c.before.before.before.before.before.before.before.before.before.before.before.before.before.before.before.before.before.before.before.before.before.before.before.before.before.before.before.before.before.before.store-starts.ensures.0 29 _, c.before.before.before.before.before.before.before.before.before.before.before.before.before.before.before.before.before.before.before.before.before.before.before.before.before.before.before.before.before.before.store-starts.ensures.1))))))
+returns c = (c.fill_numbers.ensures ∙ numbers_stored Generator _ _ _ _ c.store_starts-end.ensures.0 2 2 _, (c.fill_numbers-2.ensures ∙ numbers_stored Generator _ _ _ _ c.store_starts-end.ensures.0 4 1 _, (c.fill_figures.ensures ∙ figures_stored Generator _ _ _ _ c.store_starts-end.ensures.0 5 _, (c.fill_figures-2.ensures ∙ figures_stored Generator _ _ _ _ c.store_starts-end.ensures.0 13 _, (c.fill_figures-3.ensures ∙ figures_stored Generator _ _ _ _ c.store_starts-end.ensures.0 21 _, (c.fill_figures-4.ensures ∙ figures_stored Generator _ _ _ _ c.store_starts-end.ensures.0 29 _, c.store_starts-end.ensures.1))))))
 
-pub read-generators-spec : {M : Type 1} → statement M
-read-generators-spec =
+pub read_generators_spec : {M : Type 1} → statement M
+read_generators_spec =
     tie.close
-    (tie.spec
-    store-starts-requires
-    fill-numbers-requires
-    fill-numbers-requires-2
-    fill-figures-requires
-    fill-figures-requires-2
-    fill-figures-requires-3
-    fill-figures-requires-4
-    same_length
-    same-length-2
-    same-length-3
-    same-length-4
-    same-length-5
-    same-length-6
-    returns)
+    (tie.spec store-starts-requires fill-numbers-requires fill-numbers-requires-2 fill-figures-requires fill-figures-requires-2 fill-figures-requires-3 fill-figures-requires-4 same_length same-length-2 same-length-3 same-length-4 same-length-5 same-length-6 returns)

@@ -73,7 +73,7 @@ pub fn put_number(out: &mut [u8], len: usize, x: u64) -> usize
     ensures { result ≤ length out.old }
 {
     let mut digits = [0u8; 20];
-    let n = io::decimal(x, &mut digits);
+    let n = streams::decimal(x, &mut digits);
     let used = put_byte(out, len, b' ');
     put_text(out, used, &digits[..n])
 }

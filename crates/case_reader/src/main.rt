@@ -1,6 +1,8 @@
 // Reads a case file on standard input and prints what was read, a line for each record, or the refusal; and last how many words and bytes were
 // looked at after the records.
 // What is printed is tested, not proved; that the program is safe, ends and prints the places of the records alone is proved.
+#![tactic(auto)]
+
 mod print;
 
 ghost use Rattle.std.specs.Prelude.{◌+◌, ◌<◌, ◌≤◌};
@@ -12,82 +14,89 @@ use casefile_defs::{
 };
 use print::{end_line, figure, mark, number, whole};
 use refusal::Refusal;
+use std::io;
+use std::io::Write;
 
 // One byte more than the largest file, so that a larger one shows.
 const BUFFER: usize = casefile_defs::MOST_BYTES + 1;
 
-fn print_refusal(f: Refusal) {
-    mark(b"RF");
-    whole(f.number());
-    number(f.index());
-    end_line();
+fn print_refusal<W: Write>(to: &mut W, f: Refusal) -> io::Result<()> {
+    mark(to, b"RF")?;
+    whole(to, f.number())?;
+    number(to, f.index())?;
+    end_line(to)
 }
 
-fn print_looks(looks: usize) {
-    mark(b"LK");
-    number(looks);
-    end_line();
+fn print_looks<W: Write>(to: &mut W, looks: usize) -> io::Result<()> {
+    mark(to, b"LK")?;
+    number(to, looks)?;
+    end_line(to)
 }
 
-fn print_header(h: Header) {
+fn print_header<W: Write>(to: &mut W, h: Header) -> io::Result<()> {
     let mode = h.mode;
-    mark(b"HD");
-    whole(mode.number());
-    whole(h.target);
-    number(h.buses);
-    number(h.corridors);
-    number(h.generators);
-    number(h.above);
-    number(h.requested);
-    end_line();
+    mark(to, b"HD")?;
+    whole(to, mode.number())?;
+    whole(to, h.target)?;
+    number(to, h.buses)?;
+    number(to, h.corridors)?;
+    number(to, h.generators)?;
+    number(to, h.above)?;
+    number(to, h.requested)?;
+    end_line(to)
 }
 
-fn print_level(i: usize, ladder: &[f64; MOST_LEVELS])
+fn print_level<W: Write>(to: &mut W, i: usize, ladder: &[f64; MOST_LEVELS]) -> io::Result<()>
     requires { i < most_levels }
 {
-    mark(b"LV");
-    figure(ladder[i]);
-    end_line();
+    mark(to, b"LV")?;
+    figure(to, ladder[i])?;
+    end_line(to)
 }
 
-fn print_levels(count: usize, ladder: &[f64; MOST_LEVELS])
+fn print_levels<W: Write>(to: &mut W, count: usize, ladder: &[f64; MOST_LEVELS]) -> io::Result<()>
     requires { count ≤ most_levels }
 {
     for i in 0..count {
-        print_level(i, ladder);
+        print_level(to, i, ladder)?;
     }
+    Ok(())
 }
 
 // A BU or a BV: both are printed with their weight.
-fn print_bus(
+fn print_bus<W: Write>(
+    to: &mut W,
     i: usize,
     tier: &[u32; MOST_BUSES],
     reading: &[f64; MOST_BUSES],
     weight: &[f64; MOST_BUSES],
-)
+) -> io::Result<()>
     requires { i < most_buses }
 {
-    mark(b"BU");
-    whole(tier[i]);
-    figure(reading[i]);
-    figure(weight[i]);
-    end_line();
+    mark(to, b"BU")?;
+    whole(to, tier[i])?;
+    figure(to, reading[i])?;
+    figure(to, weight[i])?;
+    end_line(to)
 }
 
-fn print_buses(
+fn print_buses<W: Write>(
+    to: &mut W,
     count: usize,
     tier: &[u32; MOST_BUSES],
     reading: &[f64; MOST_BUSES],
     weight: &[f64; MOST_BUSES],
-)
+) -> io::Result<()>
     requires { count ≤ most_buses }
 {
     for i in 0..count {
-        print_bus(i, tier, reading, weight);
+        print_bus(to, i, tier, reading, weight)?;
     }
+    Ok(())
 }
 
-fn print_generator(
+fn print_generator<W: Write>(
+    to: &mut W,
     i: usize,
     bus: &[u32; MOST_GENERATORS],
     slack: &[u32; MOST_GENERATORS],
@@ -95,20 +104,21 @@ fn print_generator(
     pmax: &[f64; MOST_GENERATORS],
     c1: &[f64; MOST_GENERATORS],
     c2: &[f64; MOST_GENERATORS],
-)
+) -> io::Result<()>
     requires { i < most_generators }
 {
-    mark(b"GE");
-    whole(bus[i]);
-    whole(slack[i]);
-    figure(pmin[i]);
-    figure(pmax[i]);
-    figure(c1[i]);
-    figure(c2[i]);
-    end_line();
+    mark(to, b"GE")?;
+    whole(to, bus[i])?;
+    whole(to, slack[i])?;
+    figure(to, pmin[i])?;
+    figure(to, pmax[i])?;
+    figure(to, c1[i])?;
+    figure(to, c2[i])?;
+    end_line(to)
 }
 
-fn print_generators(
+fn print_generators<W: Write>(
+    to: &mut W,
     count: usize,
     bus: &[u32; MOST_GENERATORS],
     slack: &[u32; MOST_GENERATORS],
@@ -116,16 +126,18 @@ fn print_generators(
     pmax: &[f64; MOST_GENERATORS],
     c1: &[f64; MOST_GENERATORS],
     c2: &[f64; MOST_GENERATORS],
-)
+) -> io::Result<()>
     requires { count ≤ most_generators }
 {
     for i in 0..count {
-        print_generator(i, bus, slack, pmin, pmax, c1, c2);
+        print_generator(to, i, bus, slack, pmin, pmax, c1, c2)?;
     }
+    Ok(())
 }
 
 // A CO or a CP: both are printed with their cap.
-fn print_corridor(
+fn print_corridor<W: Write>(
+    to: &mut W,
     i: usize,
     a: &[u32; MOST_CORRIDORS],
     b: &[u32; MOST_CORRIDORS],
@@ -133,20 +145,21 @@ fn print_corridor(
     length_km: &[f64; MOST_CORRIDORS],
     share: &[f64; MOST_CORRIDORS],
     cap: &[u32; MOST_CORRIDORS],
-)
+) -> io::Result<()>
     requires { i < most_corridors }
 {
-    mark(b"CO");
-    whole(a[i]);
-    whole(b[i]);
-    whole(circuits[i]);
-    figure(length_km[i]);
-    figure(share[i]);
-    whole(cap[i]);
-    end_line();
+    mark(to, b"CO")?;
+    whole(to, a[i])?;
+    whole(to, b[i])?;
+    whole(to, circuits[i])?;
+    figure(to, length_km[i])?;
+    figure(to, share[i])?;
+    whole(to, cap[i])?;
+    end_line(to)
 }
 
-fn print_corridors(
+fn print_corridors<W: Write>(
+    to: &mut W,
     count: usize,
     a: &[u32; MOST_CORRIDORS],
     b: &[u32; MOST_CORRIDORS],
@@ -154,12 +167,13 @@ fn print_corridors(
     length_km: &[f64; MOST_CORRIDORS],
     share: &[f64; MOST_CORRIDORS],
     cap: &[u32; MOST_CORRIDORS],
-)
+) -> io::Result<()>
     requires { count ≤ most_corridors }
 {
     for i in 0..count {
-        print_corridor(i, a, b, circuits, length_km, share, cap);
+        print_corridor(to, i, a, b, circuits, length_km, share, cap)?;
     }
+    Ok(())
 }
 
 // The file's number of a basis, which is a figure in the sheet.
@@ -170,39 +184,53 @@ fn basis(x: f64) -> u32 {
     1
 }
 
-fn print_line(row: usize, sheet: &[f64; MOST_SHEET])
+fn print_line<W: Write>(to: &mut W, row: usize, sheet: &[f64; MOST_SHEET]) -> io::Result<()>
     requires { row + row_figures ≤ most_sheet }
 {
-    mark(b"LN");
-    figure(sheet[row]);
-    figure(sheet[row + 1]);
-    figure(sheet[row + 2]);
-    figure(sheet[row + 3]);
-    whole(basis(sheet[row + 4]));
-    end_line();
+    mark(to, b"LN")?;
+    figure(to, sheet[row])?;
+    figure(to, sheet[row + 1])?;
+    figure(to, sheet[row + 2])?;
+    figure(to, sheet[row + 3])?;
+    whole(to, basis(sheet[row + 4]))?;
+    end_line(to)
 }
 
 // A corridor's lines, a level each.
-fn print_rows(corridors: usize, levels: usize, k: usize, sheet: &[f64; MOST_SHEET])
+fn print_rows<W: Write>(
+    to: &mut W,
+    corridors: usize,
+    levels: usize,
+    k: usize,
+    sheet: &[f64; MOST_SHEET],
+) -> io::Result<()>
     requires { (k < corridors) × (corridors ≤ most_corridors) × (levels ≤ most_levels) }
 {
     for level in 0..levels {
-        print_line(sheets::row_place(corridors, k, level), sheet);
+        print_line(to, sheets::row_place(corridors, k, level), sheet)?;
     }
+    Ok(())
 }
 
 // The lines in the file's order, by corridor.
-fn print_lines(corridors: usize, levels: usize, sheet: &[f64; MOST_SHEET])
+fn print_lines<W: Write>(
+    to: &mut W,
+    corridors: usize,
+    levels: usize,
+    sheet: &[f64; MOST_SHEET],
+) -> io::Result<()>
     requires { (corridors ≤ most_corridors) × (levels ≤ most_levels) }
 {
     for k in 0..corridors {
-        print_rows(corridors, levels, k, sheet);
+        print_rows(to, corridors, levels, k, sheet)?;
     }
+    Ok(())
 }
 
-fn main() {
+fn main(rt: HostRuntime) -> io::Result<()> {
+    let mut to = rt.stdout();
     let mut buffer = [0u8; BUFFER];
-    let n = io::read_full(libc::STDIN_FILENO, &mut buffer);
+    let n = streams::read_full(&mut rt.stdin(), &mut buffer)?;
     let mut ladder = [0.0; MOST_LEVELS];
     let mut tier = [0u32; MOST_BUSES];
     let mut reading = [0.0; MOST_BUSES];
@@ -242,16 +270,25 @@ fn main() {
     );
     let said = read.reading;
     match said {
-        Reading::Refused(f) => print_refusal(f),
+        Reading::Refused(f) => print_refusal(&mut to, f)?,
         Reading::Read(h) => {
             let levels = h.above + h.requested;
-            print_header(h);
-            print_levels(levels, &ladder);
-            print_buses(h.buses, &tier, &reading, &weight);
-            print_generators(h.generators, &bus, &slack, &pmin, &pmax, &c1, &c2);
-            print_corridors(h.corridors, &a, &b, &circuits, &length_km, &share, &cap);
-            print_lines(h.corridors, levels, &sheet);
+            print_header(&mut to, h)?;
+            print_levels(&mut to, levels, &ladder)?;
+            print_buses(&mut to, h.buses, &tier, &reading, &weight)?;
+            print_generators(&mut to, h.generators, &bus, &slack, &pmin, &pmax, &c1, &c2)?;
+            print_corridors(
+                &mut to,
+                h.corridors,
+                &a,
+                &b,
+                &circuits,
+                &length_km,
+                &share,
+                &cap,
+            )?;
+            print_lines(&mut to, h.corridors, levels, &sheet)?;
         }
     }
-    print_looks(read.looks);
+    print_looks(&mut to, read.looks)
 }

@@ -1,7 +1,8 @@
-// A line's words on standard output: each field stands behind one space.
+// A line's words: each field stands behind one space.
 ghost use Rattle.std.specs.Prelude.{◌<◌};
 
-use libc::STDOUT_FILENO;
+use std::io;
+use std::io::Write;
 
 // The one pattern under which a NaN is printed.
 const NAN: u64 = 0x7ff8_0000_0000_0000;
@@ -9,25 +10,25 @@ const NAN: u64 = 0x7ff8_0000_0000_0000;
 // The hexadecimal digits of a figure.
 const DIGITS: usize = 16;
 
-pub fn mark(text: &[u8]) {
-    io::write_all(STDOUT_FILENO, text);
+pub fn mark<W: Write>(to: &mut W, text: &[u8]) -> io::Result<()> {
+    to.write_all(text)
 }
 
-pub fn end_line() {
-    io::write_all(STDOUT_FILENO, b"\n");
+pub fn end_line<W: Write>(to: &mut W) -> io::Result<()> {
+    to.write_all(b"\n")
 }
 
-fn decimal(n: u64) {
-    io::write_all(STDOUT_FILENO, b" ");
-    io::print_decimal(STDOUT_FILENO, n);
+fn decimal<W: Write>(to: &mut W, n: u64) -> io::Result<()> {
+    to.write_all(b" ")?;
+    streams::write_decimal(to, n)
 }
 
-pub fn whole(n: u32) {
-    decimal(n as u64);
+pub fn whole<W: Write>(to: &mut W, n: u32) -> io::Result<()> {
+    decimal(to, n as u64)
 }
 
-pub fn number(n: usize) {
-    decimal(n as u64);
+pub fn number<W: Write>(to: &mut W, n: usize) -> io::Result<()> {
+    decimal(to, n as u64)
 }
 
 fn hex_digit(d: u64) -> u8
@@ -40,7 +41,7 @@ fn hex_digit(d: u64) -> u8
 }
 
 // A space and the sixteen digits, the last made first.
-fn bits(x: u64) {
+fn bits<W: Write>(to: &mut W, x: u64) -> io::Result<()> {
     let mut text = [b' '; DIGITS + 1];
     let mut rest = x;
     let mut i = DIGITS;
@@ -49,14 +50,13 @@ fn bits(x: u64) {
         rest = rest / 16;
         i -= 1;
     }
-    io::write_all(STDOUT_FILENO, &text);
+    to.write_all(&text)
 }
 
 // A figure's bits as they were read.
-pub fn figure(x: f64) {
+pub fn figure<W: Write>(to: &mut W, x: f64) -> io::Result<()> {
     if x != x {
-        bits(NAN);
-        return;
+        return bits(to, NAN);
     }
-    bits(f64::to_bits(x));
+    bits(to, f64::to_bits(x))
 }

@@ -1,11 +1,14 @@
 // Writes the case file of a small network: its place, in decimal, comes on standard input. Prints the refusal of a place that there
 // is not, and ?? where the input is no number. The file's bytes are proved (put_small_network); that the number is read rightly
 // and the refusal printed rightly is tested.
+#![tactic(auto)]
+
 mod file;
 
 use file::put_small_network;
-use libc::{STDIN_FILENO, STDOUT_FILENO};
 use refusal::Refusal;
+use std::io;
+use std::io::Write;
 
 // The longest file of a case.
 const MOST_FILE: usize = 60_609;
@@ -21,12 +24,12 @@ pub enum Written {
 }
 
 // RF number index
-fn print_refusal(f: Refusal) {
-    io::write_all(STDOUT_FILENO, b"RF ");
-    io::print_decimal(STDOUT_FILENO, f.number() as u64);
-    io::write_all(STDOUT_FILENO, b" ");
-    io::print_decimal(STDOUT_FILENO, f.index() as u64);
-    io::write_all(STDOUT_FILENO, b"\n");
+fn print_refusal<W: Write>(to: &mut W, f: Refusal) -> io::Result<()> {
+    to.write_all(b"RF ")?;
+    streams::write_decimal(to, f.number() as u64)?;
+    to.write_all(b" ")?;
+    streams::write_decimal(to, f.index() as u64)?;
+    to.write_all(b"\n")
 }
 
 // The place that was asked for, where the input is a number.
@@ -68,25 +71,22 @@ fn wanted_in(text: &[u8]) -> Wanted {
     wanted
 }
 
-fn write_network(place: usize) {
+fn write_network<W: Write>(to: &mut W, place: usize) -> io::Result<()> {
     let mut out = [0u8; MOST_FILE];
     let written = put_small_network(&mut out, place);
     match written {
-        Written::Refused(f) => print_refusal(f),
-        Written::Bytes(n) => {
-            io::write_all(STDOUT_FILENO, &out[0..n]);
-        }
+        Written::Refused(f) => print_refusal(to, f),
+        Written::Bytes(n) => to.write_all(&out[0..n]),
     }
 }
 
-fn main() {
+fn main(rt: HostRuntime) -> io::Result<()> {
+    let mut to = rt.stdout();
     let mut input = [0u8; MOST_DIGITS];
-    let n = io::read_full(STDIN_FILENO, &mut input);
+    let n = streams::read_full(&mut rt.stdin(), &mut input)?;
     let wanted = wanted_in(&input[0..n]);
     match wanted {
-        Wanted::Nothing => {
-            io::write_all(STDOUT_FILENO, b"??\n");
-        }
-        Wanted::Place(place) => write_network(place),
+        Wanted::Nothing => to.write_all(b"??\n"),
+        Wanted::Place(place) => write_network(&mut to, place),
     }
 }

@@ -1,12 +1,15 @@
 // Joins two case files: on standard input comes the first in 65,536 bytes, or in all there are, then the second. Writes the file of the
 // joined case or prints the refusal. What is written is proved (join_files); that the input is cut rightly and the refusal printed rightly
 // is tested.
+#![tactic(auto)]
+
 mod files;
 
 use casefile_defs::MOST_BYTES;
 use files::join_files;
-use libc::{STDIN_FILENO, STDOUT_FILENO};
 use refusal::Refusal;
+use std::io;
+use std::io::Write;
 
 // The longest file of a case.
 const MOST_FILE: usize = 60_609;
@@ -22,29 +25,28 @@ pub enum Written {
 }
 
 // RF number index
-fn print_refusal(f: Refusal) {
-    io::write_all(STDOUT_FILENO, b"RF ");
-    io::print_decimal(STDOUT_FILENO, f.number() as u64);
-    io::write_all(STDOUT_FILENO, b" ");
-    io::print_decimal(STDOUT_FILENO, f.index() as u64);
-    io::write_all(STDOUT_FILENO, b"\n");
+fn print_refusal<W: Write>(to: &mut W, f: Refusal) -> io::Result<()> {
+    to.write_all(b"RF ")?;
+    streams::write_decimal(to, f.number() as u64)?;
+    to.write_all(b" ")?;
+    streams::write_decimal(to, f.index() as u64)?;
+    to.write_all(b"\n")
 }
 
-fn write_joined(first: &[u8], second: &[u8]) {
+fn write_joined<W: Write>(to: &mut W, first: &[u8], second: &[u8]) -> io::Result<()> {
     let mut out = [0u8; MOST_FILE];
     let written = join_files(first, second, &mut out);
     match written {
-        Written::Refused(f) => print_refusal(f),
-        Written::Bytes(n) => {
-            io::write_all(STDOUT_FILENO, &out[0..n]);
-        }
+        Written::Refused(f) => print_refusal(to, f),
+        Written::Bytes(n) => to.write_all(&out[0..n]),
     }
 }
 
-fn main() {
+fn main(rt: HostRuntime) -> io::Result<()> {
+    let mut from = rt.stdin();
     let mut first = [0u8; MOST_BYTES];
-    let n = io::read_full(STDIN_FILENO, &mut first);
+    let n = streams::read_full(&mut from, &mut first)?;
     let mut second = [0u8; MOST_SECOND];
-    let m = io::read_full(STDIN_FILENO, &mut second);
-    write_joined(&first[0..n], &second[0..m]);
+    let m = streams::read_full(&mut from, &mut second)?;
+    write_joined(&mut rt.stdout(), &first[0..n], &second[0..m])
 }

@@ -13,7 +13,7 @@ use lib.ListN.{length, drop, set, length-append}
 use lib.Seq.{append_snoc}
 use lib.Ieee.{Float, binary64, to_bits, eq, ne}
 use lib.Ieee.Compare.{differs_from_itself}
-use Rattle.io.specs.Digits.{hex_digit_ascii, last_digits, IsDigitCount}
+use Rattle.streams.specs.Digits.{hex_digit_ascii, last_digits, IsDigitCount}
 use Rattle.loops.specs.Figures.{nought}
 use Rattle.loops.proofs.Bools.{is}
 use Rattle.plan_defs.specs.Listing.{bits_of}

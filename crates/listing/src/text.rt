@@ -30,7 +30,7 @@ pub fn put_number(out: &mut [u8], len: usize, n: u64) -> usize
     ensures upper_bound { result ≤ len + number_room }
 {
     let mut digits = [0u8; NUMBER_DIGITS];
-    let k = io::decimal(n, &mut digits);
+    let k = streams::decimal(n, &mut digits);
     let used = put_text(out, len, b" ");
     put_text(out, used, &digits[..k])
 }

@@ -1,15 +1,16 @@
-// A line's words on standard output: each field stands behind one space.
-use libc::STDOUT_FILENO;
+// A line's words: each field stands behind one space.
+use std::io;
+use std::io::Write;
 
-pub fn mark(text: &[u8]) {
-    io::write_all(STDOUT_FILENO, text);
+pub fn mark<W: Write>(to: &mut W, text: &[u8]) -> io::Result<()> {
+    to.write_all(text)
 }
 
-pub fn end_line() {
-    io::write_all(STDOUT_FILENO, b"\n");
+pub fn end_line<W: Write>(to: &mut W) -> io::Result<()> {
+    to.write_all(b"\n")
 }
 
-pub fn number(n: u64) {
-    io::write_all(STDOUT_FILENO, b" ");
-    io::print_decimal(STDOUT_FILENO, n);
+pub fn number<W: Write>(to: &mut W, n: u64) -> io::Result<()> {
+    to.write_all(b" ")?;
+    streams::write_decimal(to, n)
 }

@@ -3,10 +3,12 @@ use crate::report::{
     FIGURE, ROOM, Wrong, figures_kept, made, none, say_answered, say_call, say_kept, say_refusal,
 };
 use angles_defs::Angles;
+use std::io;
+use std::io::Write;
 
 const SLICES: usize = 8;
 
-fn call(what: &[u8], buses: usize, wrong: Wrong) {
+fn call<W: Write>(writer: &mut W, what: &[u8], buses: usize, wrong: Wrong) -> io::Result<()> {
     let from = [0u32, 0];
     let to = [1u32, 1];
     let weight = [2.0f64, 1.0];
@@ -28,24 +30,25 @@ fn call(what: &[u8], buses: usize, wrong: Wrong) {
         &mut result[0..made(2, 6, wrong)],
         &mut work[0..made(16, 7, wrong)],
     );
-    say_call(what, wrong);
+    say_call(writer, what, wrong)?;
     match r {
-        Angles::Answered(_) => say_answered(),
-        Angles::Refused(f) => say_refusal(f),
+        Angles::Answered(_) => say_answered(writer)?,
+        Angles::Refused(f) => say_refusal(writer, f)?,
     }
-    say_kept(figures_kept(&result) & figures_kept(&work));
+    say_kept(writer, figures_kept(&result) & figures_kept(&work))
 }
 
 // Every length right; then a count past its bound with these lengths.
-pub fn first() {
-    call(b"angles", 2, none());
-    call(b"angles of 257 buses", 257, none());
+pub fn first<W: Write>(to: &mut W) -> io::Result<()> {
+    call(to, b"angles", 2, none())?;
+    call(to, b"angles of 257 buses", 257, none())
 }
 
 // One slice too short, and too long, where there is such a slice.
-pub fn both(slice: usize) {
+pub fn both<W: Write>(to: &mut W, slice: usize) -> io::Result<()> {
     if slice < SLICES {
-        call(b"angles", 2, Wrong { slice, long: false });
-        call(b"angles", 2, Wrong { slice, long: true });
+        call(to, b"angles", 2, Wrong { slice, long: false })?;
+        call(to, b"angles", 2, Wrong { slice, long: true })?;
     }
+    Ok(())
 }

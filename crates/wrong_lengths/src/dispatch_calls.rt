@@ -3,10 +3,12 @@ use crate::report::{
     FIGURE, ROOM, Wrong, figures_kept, made, none, say_answered, say_call, say_kept, say_refusal,
 };
 use refusal::Answer;
+use std::io;
+use std::io::Write;
 
 const SLICES: usize = 5;
 
-fn call(what: &[u8], units: usize, wrong: Wrong) {
+fn call<W: Write>(to: &mut W, what: &[u8], units: usize, wrong: Wrong) -> io::Result<()> {
     let pmin = [0.0f64, 10.0, 0.0];
     let pmax = [100.0f64, 50.0, 0.0];
     let c1 = [10.0f64, 20.0, 0.0];
@@ -21,24 +23,25 @@ fn call(what: &[u8], units: usize, wrong: Wrong) {
         60.0,
         &mut mw[0..made(2, 4, wrong)],
     );
-    say_call(what, wrong);
+    say_call(to, what, wrong)?;
     match r {
-        Answer::Answered => say_answered(),
-        Answer::Refused(f) => say_refusal(f),
+        Answer::Answered => say_answered(to)?,
+        Answer::Refused(f) => say_refusal(to, f)?,
     }
-    say_kept(figures_kept(&mw));
+    say_kept(to, figures_kept(&mw))
 }
 
 // Every length right; then a count past its bound with these lengths.
-pub fn first() {
-    call(b"dispatch", 2, none());
-    call(b"dispatch of 129 units", 129, none());
+pub fn first<W: Write>(to: &mut W) -> io::Result<()> {
+    call(to, b"dispatch", 2, none())?;
+    call(to, b"dispatch of 129 units", 129, none())
 }
 
 // One slice too short, and too long, where there is such a slice.
-pub fn both(slice: usize) {
+pub fn both<W: Write>(to: &mut W, slice: usize) -> io::Result<()> {
     if slice < SLICES {
-        call(b"dispatch", 2, Wrong { slice, long: false });
-        call(b"dispatch", 2, Wrong { slice, long: true });
+        call(to, b"dispatch", 2, Wrong { slice, long: false })?;
+        call(to, b"dispatch", 2, Wrong { slice, long: true })?;
     }
+    Ok(())
 }

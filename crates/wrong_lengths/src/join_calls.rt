@@ -9,6 +9,8 @@ use casefile_defs::{
     Header, MOST_BUSES, MOST_CORRIDORS, MOST_GENERATORS, MOST_LEVELS, MOST_SHEET, Reading,
 };
 use mode::PlanMode;
+use std::io;
+use std::io::Write;
 
 // The tables of each case, then the joined ones.
 const SLICES: usize = 51;
@@ -34,7 +36,8 @@ fn header(mode: PlanMode, target: u32, buses: usize) -> Header {
 }
 
 // Joins into tables of which at most one has a wrong length.
-fn call_with(
+fn call_with<W: Write>(
+    to: &mut W,
     what: &[u8],
     first: Header,
     first_ladder: &[f64],
@@ -73,7 +76,7 @@ fn call_with(
     second_cap: &[u32],
     second_sheet: &[f64],
     wrong: Wrong,
-) {
+) -> io::Result<()> {
     let mut ladder = [FIGURE; ROOM];
     let mut tier = [MARK; ROOM];
     let mut reading = [FIGURE; ROOM];
@@ -146,16 +149,17 @@ fn call_with(
         &mut cap[0..lent(MOST_CORRIDORS, 49, wrong)],
         &mut sheet[0..lent(MOST_SHEET, 50, wrong)],
     );
-    say_call(what, wrong);
+    say_call(to, what, wrong)?;
     match said {
-        Reading::Read(_) => say_answered(),
-        Reading::Refused(f) => say_refusal(f),
+        Reading::Read(_) => say_answered(to)?,
+        Reading::Refused(f) => say_refusal(to, f)?,
     }
     let buses = marks_kept(&tier) & figures_kept(&reading) & figures_kept(&weight);
     let places = marks_kept(&bus) & marks_kept(&slack);
     let units = figures_kept(&pmin) & figures_kept(&pmax) & figures_kept(&c1) & figures_kept(&c2);
     let ends = marks_kept(&a) & marks_kept(&b) & marks_kept(&circuits) & figures_kept(&km);
     say_kept(
+        to,
         figures_kept(&ladder)
             & buses
             & places
@@ -164,10 +168,16 @@ fn call_with(
             & figures_kept(&share)
             & marks_kept(&cap)
             & figures_kept(&sheet),
-    );
+    )
 }
 
-fn call(what: &[u8], first: Header, second: Header, wrong: Wrong) {
+fn call<W: Write>(
+    to: &mut W,
+    what: &[u8],
+    first: Header,
+    second: Header,
+    wrong: Wrong,
+) -> io::Result<()> {
     let first_ladder = [138.0f64, 69.0];
     let first_tier = [0u32, 0, 0];
     let first_reading = [0.0f64, 25.0, 0.0];
@@ -203,6 +213,7 @@ fn call(what: &[u8], first: Header, second: Header, wrong: Wrong) {
     let second_cap = [0u32, 0];
     let second_sheet = [0.0f64, 0.5, 0.0, 100.0, 0.0, 0.0];
     call_with(
+        to,
         what,
         first,
         &first_ladder[0..made(1, 0, wrong)],
@@ -241,12 +252,12 @@ fn call(what: &[u8], first: Header, second: Header, wrong: Wrong) {
         &second_cap[0..made(1, 32, wrong)],
         &second_sheet[0..made(5, 33, wrong)],
         wrong,
-    );
+    )
 }
 
 // Every length right; a count past its bound with these lengths; then, with a wrong slice too, a target past its bound in the first
 // case, targets past it together, and two modes: the joined tables come before the first case, and that before the second.
-pub fn first() {
+pub fn first<W: Write>(to: &mut W) -> io::Result<()> {
     let l = header(PlanMode::Observe, 0, 2);
     let past = header(PlanMode::Observe, 65537, 2);
     let full = header(PlanMode::Observe, 65536, 2);
@@ -260,32 +271,35 @@ pub fn first() {
         slice: 50,
         long: true,
     };
-    call(b"joining", l, l, none());
+    call(to, b"joining", l, l, none())?;
     call(
+        to,
         b"joining 257 buses",
         header(PlanMode::Observe, 0, 257),
         l,
         none(),
-    );
+    )?;
     call(
+        to,
         b"joining with 257 buses",
         l,
         header(PlanMode::Observe, 0, 257),
         none(),
-    );
-    call(b"joining a target past its bound", past, l, second);
-    call(b"joining a target past its bound", past, l, joined);
-    call(b"joining to a target past its bound", full, one, none());
-    call(b"joining to a target past its bound", full, one, second);
-    call(b"joining two modes", l, serving, none());
-    call(b"joining two modes", l, serving, second);
+    )?;
+    call(to, b"joining a target past its bound", past, l, second)?;
+    call(to, b"joining a target past its bound", past, l, joined)?;
+    call(to, b"joining to a target past its bound", full, one, none())?;
+    call(to, b"joining to a target past its bound", full, one, second)?;
+    call(to, b"joining two modes", l, serving, none())?;
+    call(to, b"joining two modes", l, serving, second)
 }
 
 // One slice too short, and too long, where there is such a slice.
-pub fn both(slice: usize) {
+pub fn both<W: Write>(to: &mut W, slice: usize) -> io::Result<()> {
     if slice < SLICES {
         let l = header(PlanMode::Observe, 0, 2);
-        call(b"joining", l, l, Wrong { slice, long: false });
-        call(b"joining", l, l, Wrong { slice, long: true });
+        call(to, b"joining", l, l, Wrong { slice, long: false })?;
+        call(to, b"joining", l, l, Wrong { slice, long: true })?;
     }
+    Ok(())
 }

@@ -3,10 +3,12 @@ use crate::report::{
     MARK, ROOM, Wrong, made, marks_kept, none, say_answered, say_call, say_kept, say_refusal,
 };
 use refusal::Answer;
+use std::io;
+use std::io::Write;
 
 const SLICES: usize = 3;
 
-fn call(what: &[u8], buses: usize, wrong: Wrong) {
+fn call<W: Write>(to: &mut W, what: &[u8], buses: usize, wrong: Wrong) -> io::Result<()> {
     let a = [0u32, 1, 2];
     let b = [1u32, 2, 0];
     let mut leader = [MARK; ROOM];
@@ -17,24 +19,25 @@ fn call(what: &[u8], buses: usize, wrong: Wrong) {
         &b[0..made(2, 1, wrong)],
         &mut leader[0..made(3, 2, wrong)],
     );
-    say_call(what, wrong);
+    say_call(to, what, wrong)?;
     match r {
-        Answer::Answered => say_answered(),
-        Answer::Refused(f) => say_refusal(f),
+        Answer::Answered => say_answered(to)?,
+        Answer::Refused(f) => say_refusal(to, f)?,
     }
-    say_kept(marks_kept(&leader));
+    say_kept(to, marks_kept(&leader))
 }
 
 // Every length right; then a count past its bound with these lengths.
-pub fn first() {
-    call(b"leaders", 3, none());
-    call(b"leaders of 257 buses", 257, none());
+pub fn first<W: Write>(to: &mut W) -> io::Result<()> {
+    call(to, b"leaders", 3, none())?;
+    call(to, b"leaders of 257 buses", 257, none())
 }
 
 // One slice too short, and too long, where there is such a slice.
-pub fn both(slice: usize) {
+pub fn both<W: Write>(to: &mut W, slice: usize) -> io::Result<()> {
     if slice < SLICES {
-        call(b"leaders", 3, Wrong { slice, long: false });
-        call(b"leaders", 3, Wrong { slice, long: true });
+        call(to, b"leaders", 3, Wrong { slice, long: false })?;
+        call(to, b"leaders", 3, Wrong { slice, long: true })?;
     }
+    Ok(())
 }

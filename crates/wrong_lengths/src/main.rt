@@ -1,6 +1,8 @@
 // Calls each operation with each of its slices one place too short and one too long, which no text can ask for, and prints what
 // it answered and whether the lent arrays kept their contents. Before that each is called with every length right, and with a
 // count past its bound that makes lengths wrong too, or a place past the last: refusal 1 comes before 2, 23 and 24.
+#![tactic(auto)]
+
 mod angles_calls;
 mod dispatch_calls;
 mod join_calls;
@@ -15,42 +17,47 @@ mod season_calls;
 mod sheet_calls;
 mod small_calls;
 
+use std::io;
+use std::io::Write;
+
 // Of joining, which has the most.
 const MOST_SLICES: usize = 51;
 
-fn first() {
-    leaders_calls::first();
-    dispatch_calls::first();
-    angles_calls::first();
-    placement_calls::first();
-    planning_calls::first();
-    preview_calls::first();
-    reading_calls::first();
-    moving_calls::first();
-    sheet_calls::first();
-    season_calls::first();
-    small_calls::first();
-    join_calls::first();
+fn first<W: Write>(to: &mut W) -> io::Result<()> {
+    leaders_calls::first(to)?;
+    dispatch_calls::first(to)?;
+    angles_calls::first(to)?;
+    placement_calls::first(to)?;
+    planning_calls::first(to)?;
+    preview_calls::first(to)?;
+    reading_calls::first(to)?;
+    moving_calls::first(to)?;
+    sheet_calls::first(to)?;
+    season_calls::first(to)?;
+    small_calls::first(to)?;
+    join_calls::first(to)
 }
 
-fn both(slice: usize) {
-    leaders_calls::both(slice);
-    dispatch_calls::both(slice);
-    angles_calls::both(slice);
-    placement_calls::both(slice);
-    planning_calls::both(slice);
-    preview_calls::both(slice);
-    reading_calls::both(slice);
-    moving_calls::both(slice);
-    sheet_calls::both(slice);
-    season_calls::both(slice);
-    small_calls::both(slice);
-    join_calls::both(slice);
+fn both<W: Write>(to: &mut W, slice: usize) -> io::Result<()> {
+    leaders_calls::both(to, slice)?;
+    dispatch_calls::both(to, slice)?;
+    angles_calls::both(to, slice)?;
+    placement_calls::both(to, slice)?;
+    planning_calls::both(to, slice)?;
+    preview_calls::both(to, slice)?;
+    reading_calls::both(to, slice)?;
+    moving_calls::both(to, slice)?;
+    sheet_calls::both(to, slice)?;
+    season_calls::both(to, slice)?;
+    small_calls::both(to, slice)?;
+    join_calls::both(to, slice)
 }
 
-fn main() {
-    first();
+fn main(rt: HostRuntime) -> io::Result<()> {
+    let mut to = rt.stdout();
+    first(&mut to)?;
     for slice in 0..MOST_SLICES {
-        both(slice);
+        both(&mut to, slice)?;
     }
+    Ok(())
 }

@@ -4,10 +4,12 @@ use crate::report::{
     say_kept, say_refusal,
 };
 use placement_defs::Placement;
+use std::io;
+use std::io::Write;
 
 const SLICES: usize = 8;
 
-fn call(what: &[u8], buses: usize, wrong: Wrong) {
+fn call<W: Write>(to: &mut W, what: &[u8], buses: usize, wrong: Wrong) -> io::Result<()> {
     let reading = [0.0f64, 0.0, 20.0, 0.0];
     let weight = [1.0f64, 1.0, 2.0, 1.0];
     let a = [0u32, 1, 0];
@@ -29,24 +31,25 @@ fn call(what: &[u8], buses: usize, wrong: Wrong) {
         &mut at[0..made(3, 6, wrong)],
         &mut mvar[0..made(3, 7, wrong)],
     );
-    say_call(what, wrong);
+    say_call(to, what, wrong)?;
     match r {
-        Placement::Placed(_) => say_answered(),
-        Placement::Refused(f) => say_refusal(f),
+        Placement::Placed(_) => say_answered(to)?,
+        Placement::Refused(f) => say_refusal(to, f)?,
     }
-    say_kept(marks_kept(&at) & figures_kept(&mvar));
+    say_kept(to, marks_kept(&at) & figures_kept(&mvar))
 }
 
 // Every length right; then a count past its bound with these lengths.
-pub fn first() {
-    call(b"placement", 3, none());
-    call(b"placement of 257 buses", 257, none());
+pub fn first<W: Write>(to: &mut W) -> io::Result<()> {
+    call(to, b"placement", 3, none())?;
+    call(to, b"placement of 257 buses", 257, none())
 }
 
 // One slice too short, and too long, where there is such a slice.
-pub fn both(slice: usize) {
+pub fn both<W: Write>(to: &mut W, slice: usize) -> io::Result<()> {
     if slice < SLICES {
-        call(b"placement", 3, Wrong { slice, long: false });
-        call(b"placement", 3, Wrong { slice, long: true });
+        call(to, b"placement", 3, Wrong { slice, long: false })?;
+        call(to, b"placement", 3, Wrong { slice, long: true })?;
     }
+    Ok(())
 }

@@ -7,6 +7,8 @@ use crate::report::{
 };
 use mode::PlanMode;
 use plan_defs::Planned;
+use std::io;
+use std::io::Write;
 
 const SLICES: usize = 30;
 
@@ -21,7 +23,7 @@ fn lent(right: usize, place: usize, wrong: Wrong) -> usize
     made(right, place, wrong)
 }
 
-fn call(what: &[u8], buses: usize, wrong: Wrong) {
+fn call<W: Write>(to: &mut W, what: &[u8], buses: usize, wrong: Wrong) -> io::Result<()> {
     let ladder = [230.0f64, 138.0, 69.0];
     let tier = [0u32, 0, 0];
     let reading = [0.0f64, 25.0, 0.0];
@@ -91,10 +93,10 @@ fn call(what: &[u8], buses: usize, wrong: Wrong) {
         &mut figures[0..lent(WORK, 28, wrong)],
         &mut counts[0..lent(WORK, 29, wrong)],
     );
-    say_call(what, wrong);
+    say_call(to, what, wrong)?;
     match r {
-        Planned::Answered(_) => say_answered(),
-        Planned::Refused(f) => say_refusal(f),
+        Planned::Answered(_) => say_answered(to)?,
+        Planned::Refused(f) => say_refusal(to, f)?,
     }
     let plan = marks_kept(&circuits)
         & figures_kept(&flow)
@@ -103,19 +105,23 @@ fn call(what: &[u8], buses: usize, wrong: Wrong) {
     let filling = marks_kept(&before) & marks_kept(&order) & marks_kept(&kept_cap);
     let buses_kept = figures_kept(&angle) & marks_kept(&level) & marks_kept(&ground);
     let work = figures_kept(&figures) & marks_kept(&counts);
-    say_kept(plan & filling & buses_kept & figures_kept(&added) & work);
+    say_kept(
+        to,
+        plan & filling & buses_kept & figures_kept(&added) & work,
+    )
 }
 
 // Every length right; then a count past its bound with these lengths.
-pub fn first() {
-    call(b"planning", 2, none());
-    call(b"planning of 257 buses", 257, none());
+pub fn first<W: Write>(to: &mut W) -> io::Result<()> {
+    call(to, b"planning", 2, none())?;
+    call(to, b"planning of 257 buses", 257, none())
 }
 
 // One slice too short, and too long, where there is such a slice.
-pub fn both(slice: usize) {
+pub fn both<W: Write>(to: &mut W, slice: usize) -> io::Result<()> {
     if slice < SLICES {
-        call(b"planning", 2, Wrong { slice, long: false });
-        call(b"planning", 2, Wrong { slice, long: true });
+        call(to, b"planning", 2, Wrong { slice, long: false })?;
+        call(to, b"planning", 2, Wrong { slice, long: true })?;
     }
+    Ok(())
 }

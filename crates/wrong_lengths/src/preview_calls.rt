@@ -4,10 +4,12 @@ use crate::report::{
 };
 use mode::PlanMode;
 use refusal::Answer;
+use std::io;
+use std::io::Write;
 
 const SLICES: usize = 4;
 
-fn call(what: &[u8], corridors: usize, wrong: Wrong) {
+fn call<W: Write>(to: &mut W, what: &[u8], corridors: usize, wrong: Wrong) -> io::Result<()> {
     let before = [1u32, 2, 1];
     let order = [1u32, 0, 2];
     let cap = [0u32, 3, 0];
@@ -21,24 +23,25 @@ fn call(what: &[u8], corridors: usize, wrong: Wrong) {
         &cap[0..made(2, 2, wrong)],
         &mut circuits[0..made(2, 3, wrong)],
     );
-    say_call(what, wrong);
+    say_call(to, what, wrong)?;
     match r {
-        Answer::Answered => say_answered(),
-        Answer::Refused(f) => say_refusal(f),
+        Answer::Answered => say_answered(to)?,
+        Answer::Refused(f) => say_refusal(to, f)?,
     }
-    say_kept(marks_kept(&circuits));
+    say_kept(to, marks_kept(&circuits))
 }
 
 // Every length right; then a count past its bound with these lengths.
-pub fn first() {
-    call(b"preview", 2, none());
-    call(b"preview of 257 corridors", 257, none());
+pub fn first<W: Write>(to: &mut W) -> io::Result<()> {
+    call(to, b"preview", 2, none())?;
+    call(to, b"preview of 257 corridors", 257, none())
 }
 
 // One slice too short, and too long, where there is such a slice.
-pub fn both(slice: usize) {
+pub fn both<W: Write>(to: &mut W, slice: usize) -> io::Result<()> {
     if slice < SLICES {
-        call(b"preview", 2, Wrong { slice, long: false });
-        call(b"preview", 2, Wrong { slice, long: true });
+        call(to, b"preview", 2, Wrong { slice, long: false })?;
+        call(to, b"preview", 2, Wrong { slice, long: true })?;
     }
+    Ok(())
 }

@@ -6,11 +6,13 @@ use crate::report::{
 use casefile_defs::{
     MOST_BUSES, MOST_CORRIDORS, MOST_GENERATORS, MOST_LEVELS, MOST_SHEET, Reading,
 };
+use std::io;
+use std::io::Write;
 
 // The tables.
 const SLICES: usize = 17;
 
-fn call(what: &[u8], file: &[u8], wrong: Wrong) {
+fn call<W: Write>(to: &mut W, what: &[u8], file: &[u8], wrong: Wrong) -> io::Result<()> {
     let mut ladder = [FIGURE; ROOM];
     let mut tier = [MARK; ROOM];
     let mut reading = [FIGURE; ROOM];
@@ -48,17 +50,18 @@ fn call(what: &[u8], file: &[u8], wrong: Wrong) {
         &mut cap[0..made(MOST_CORRIDORS, 15, wrong)],
         &mut sheet[0..made(MOST_SHEET, 16, wrong)],
     );
-    say_call(what, wrong);
+    say_call(to, what, wrong)?;
     let said = read.reading;
     match said {
-        Reading::Read(_) => say_answered(),
-        Reading::Refused(f) => say_refusal(f),
+        Reading::Read(_) => say_answered(to)?,
+        Reading::Refused(f) => say_refusal(to, f)?,
     }
     let buses = marks_kept(&tier) & figures_kept(&reading) & figures_kept(&weight);
     let places = marks_kept(&bus) & marks_kept(&slack);
     let units = figures_kept(&pmin) & figures_kept(&pmax) & figures_kept(&c1) & figures_kept(&c2);
     let ends = marks_kept(&a) & marks_kept(&b) & marks_kept(&circuits) & figures_kept(&km);
     say_kept(
+        to,
         figures_kept(&ladder)
             & buses
             & places
@@ -67,32 +70,34 @@ fn call(what: &[u8], file: &[u8], wrong: Wrong) {
             & figures_kept(&share)
             & marks_kept(&cap)
             & figures_kept(&sheet),
-    );
+    )
 }
 
 // Every length right; then a header whose count is past its bound, with these lengths and with a wrong one.
-pub fn first() {
+pub fn first<W: Write>(to: &mut W) -> io::Result<()> {
     let file =
         b"HD\x02\x00\x00\x00\x00\x00\x00\x00\x00\x00\x00\x00\x01LV\x00\x00\x00\x00\x00\x40\x61\x40";
     let past = b"HD\x02\x00\x00\x00\x00\x01\x01\x00\x00\x00\x00\x00\x01";
-    call(b"reading", file, none());
-    call(b"reading of 257 buses", past, none());
+    call(to, b"reading", file, none())?;
+    call(to, b"reading of 257 buses", past, none())?;
     call(
+        to,
         b"reading of 257 buses",
         past,
         Wrong {
             slice: 0,
             long: false,
         },
-    );
+    )
 }
 
 // One slice too short, and too long, where there is such a slice.
-pub fn both(slice: usize) {
+pub fn both<W: Write>(to: &mut W, slice: usize) -> io::Result<()> {
     if slice < SLICES {
         let file =
             b"HD\x02\x00\x00\x00\x00\x00\x00\x00\x00\x00\x00\x00\x01LV\x00\x00\x00\x00\x00\x40\x61\x40";
-        call(b"reading", file, Wrong { slice, long: false });
-        call(b"reading", file, Wrong { slice, long: true });
+        call(to, b"reading", file, Wrong { slice, long: false })?;
+        call(to, b"reading", file, Wrong { slice, long: true })?;
     }
+    Ok(())
 }

@@ -1,8 +1,9 @@
 // What is wrong with a call, and one line for each.
 ghost use Rattle.std.specs.Prelude.{◌+◌, ◌≤◌};
 
-use libc::STDOUT_FILENO;
 use refusal::Refusal;
+use std::io;
+use std::io::Write;
 
 // The places of every lent array, one more than the longest slice has.
 pub const ROOM: usize = casefile_defs::MOST_SHEET + 1;
@@ -50,47 +51,47 @@ pub fn made(right: usize, place: usize, wrong: Wrong) -> usize
     right - 1
 }
 
-fn say_number(n: u64) {
-    io::write_all(STDOUT_FILENO, b" ");
-    io::print_decimal(STDOUT_FILENO, n);
+fn say_number<W: Write>(to: &mut W, n: u64) -> io::Result<()> {
+    to.write_all(b" ")?;
+    streams::write_decimal(to, n)
 }
 
 // The call: what it is of, and what is wrong.
-pub fn say_call(what: &[u8], wrong: Wrong) {
-    io::write_all(STDOUT_FILENO, what);
+pub fn say_call<W: Write>(to: &mut W, what: &[u8], wrong: Wrong) -> io::Result<()> {
+    to.write_all(what)?;
     if wrong.slice < NO_SLICE {
-        io::write_all(STDOUT_FILENO, b", slice");
-        say_number(wrong.slice as u64);
+        to.write_all(b", slice")?;
+        say_number(to, wrong.slice as u64)?;
         if wrong.long {
-            io::write_all(STDOUT_FILENO, b" long");
-        } else {
-            io::write_all(STDOUT_FILENO, b" short");
+            return to.write_all(b" long");
         }
+        return to.write_all(b" short");
     }
+    Ok(())
 }
 
 // Of an operation that hands a part of a slice back: how many figures that has.
-pub fn say_figures(count: usize) {
-    io::write_all(STDOUT_FILENO, b":");
-    say_number(count as u64);
-    io::write_all(STDOUT_FILENO, b" figures\n");
+pub fn say_figures<W: Write>(to: &mut W, count: usize) -> io::Result<()> {
+    to.write_all(b":")?;
+    say_number(to, count as u64)?;
+    to.write_all(b" figures\n")
 }
 
-pub fn say_answered() {
-    io::write_all(STDOUT_FILENO, b": OK");
+pub fn say_answered<W: Write>(to: &mut W) -> io::Result<()> {
+    to.write_all(b": OK")
 }
 
-pub fn say_refusal(f: Refusal) {
-    io::write_all(STDOUT_FILENO, b": RF");
-    say_number(f.number() as u64);
-    say_number(f.index() as u64);
+pub fn say_refusal<W: Write>(to: &mut W, f: Refusal) -> io::Result<()> {
+    to.write_all(b": RF")?;
+    say_number(to, f.number() as u64)?;
+    say_number(to, f.index() as u64)
 }
 
-pub fn say_kept(kept: bool) {
+pub fn say_kept<W: Write>(to: &mut W, kept: bool) -> io::Result<()> {
     if kept {
-        io::write_all(STDOUT_FILENO, b", kept\n");
+        to.write_all(b", kept\n")
     } else {
-        io::write_all(STDOUT_FILENO, b", changed\n");
+        to.write_all(b", changed\n")
     }
 }
 

@@ -3,6 +3,8 @@ use crate::report::{MARK, ROOM, Wrong, made, none, say_answered, say_call, say_k
 use plan_defs::CorridorPlan;
 use refusal::Answer;
 use season_defs::Season;
+use std::io;
+use std::io::Write;
 
 const SLICES: usize = 1;
 
@@ -35,7 +37,7 @@ fn is_empty(season: Season) -> bool {
         & (season.total[0] == 0)
 }
 
-fn call(what: &[u8], corridors: usize, wrong: Wrong) {
+fn call<W: Write>(to: &mut W, what: &[u8], corridors: usize, wrong: Wrong) -> io::Result<()> {
     let circuits = [MARK; ROOM];
     let fed = season::add_plan(
         season::begin(),
@@ -43,26 +45,27 @@ fn call(what: &[u8], corridors: usize, wrong: Wrong) {
         corridors,
         &circuits[0..made(2, 0, wrong)],
     );
-    say_call(what, wrong);
+    say_call(to, what, wrong)?;
     let said = fed.said;
     match said {
-        Answer::Answered => say_answered(),
-        Answer::Refused(f) => say_refusal(f),
+        Answer::Answered => say_answered(to)?,
+        Answer::Refused(f) => say_refusal(to, f)?,
     }
     let then = fed.season;
-    say_kept(is_empty(then));
+    say_kept(to, is_empty(then))
 }
 
 // Every length right; then a count past its bound with these lengths.
-pub fn first() {
-    call(b"season", 2, none());
-    call(b"season of 257 corridors", 257, none());
+pub fn first<W: Write>(to: &mut W) -> io::Result<()> {
+    call(to, b"season", 2, none())?;
+    call(to, b"season of 257 corridors", 257, none())
 }
 
 // One slice too short, and too long, where there is such a slice.
-pub fn both(slice: usize) {
+pub fn both<W: Write>(to: &mut W, slice: usize) -> io::Result<()> {
     if slice < SLICES {
-        call(b"season", 2, Wrong { slice, long: false });
-        call(b"season", 2, Wrong { slice, long: true });
+        call(to, b"season", 2, Wrong { slice, long: false })?;
+        call(to, b"season", 2, Wrong { slice, long: true })?;
     }
+    Ok(())
 }

@@ -4,6 +4,8 @@ use crate::report::{
     say_refusal,
 };
 use refusal::Answer;
+use std::io;
+use std::io::Write;
 
 const SLICES: usize = 4;
 
@@ -11,7 +13,7 @@ const ROWS_SLICES: usize = 2;
 
 const LAID_SLICES: usize = 2;
 
-fn call(what: &[u8], corridors: usize, wrong: Wrong) {
+fn call<W: Write>(to: &mut W, what: &[u8], corridors: usize, wrong: Wrong) -> io::Result<()> {
     let ladder = [345.0f64, 138.0, 69.0];
     let km = [100.0f64, 50.0];
     let spread = [1.5f64, 1.0];
@@ -24,15 +26,15 @@ fn call(what: &[u8], corridors: usize, wrong: Wrong) {
         &spread[0..made(1, 2, wrong)],
         &mut sheet[0..made(10, 3, wrong)],
     );
-    say_call(what, wrong);
+    say_call(to, what, wrong)?;
     match r {
-        Answer::Answered => say_answered(),
-        Answer::Refused(f) => say_refusal(f),
+        Answer::Answered => say_answered(to)?,
+        Answer::Refused(f) => say_refusal(to, f)?,
     }
-    say_kept(figures_kept(&sheet));
+    say_kept(to, figures_kept(&sheet))
 }
 
-fn call_rows(what: &[u8], corridors: usize, wrong: Wrong) {
+fn call_rows<W: Write>(to: &mut W, what: &[u8], corridors: usize, wrong: Wrong) -> io::Result<()> {
     let surveyed = [FIGURE; ROOM];
     let worked = [FIGURE; ROOM];
     let rows = line_sheet::corridor_rows(
@@ -43,11 +45,11 @@ fn call_rows(what: &[u8], corridors: usize, wrong: Wrong) {
         &surveyed[0..made(5, 0, wrong)],
         &worked[0..made(10, 1, wrong)],
     );
-    say_call(what, wrong);
-    say_figures(rows.len());
+    say_call(to, what, wrong)?;
+    say_figures(to, rows.len())
 }
 
-fn call_laid(what: &[u8], corridors: usize, wrong: Wrong) {
+fn call_laid<W: Write>(to: &mut W, what: &[u8], corridors: usize, wrong: Wrong) -> io::Result<()> {
     let rows = [1.0; ROOM];
     let mut sheet = [FIGURE; ROOM];
     let r = sheets::lay_out(
@@ -56,36 +58,37 @@ fn call_laid(what: &[u8], corridors: usize, wrong: Wrong) {
         &rows[0..made(10, 0, wrong)],
         &mut sheet[0..made(10, 1, wrong)],
     );
-    say_call(what, wrong);
+    say_call(to, what, wrong)?;
     match r {
-        Answer::Answered => say_answered(),
-        Answer::Refused(f) => say_refusal(f),
+        Answer::Answered => say_answered(to)?,
+        Answer::Refused(f) => say_refusal(to, f)?,
     }
-    say_kept(figures_kept(&sheet));
+    say_kept(to, figures_kept(&sheet))
 }
 
 // Every length right; then a count past its bound with these lengths.
-pub fn first() {
-    call(b"sheet", 1, none());
-    call(b"sheet of 257 corridors", 257, none());
-    call_rows(b"rows", 2, none());
-    call_rows(b"rows of 257 corridors", 257, none());
-    call_laid(b"laid", 2, none());
-    call_laid(b"laid of 257 corridors", 257, none());
+pub fn first<W: Write>(to: &mut W) -> io::Result<()> {
+    call(to, b"sheet", 1, none())?;
+    call(to, b"sheet of 257 corridors", 257, none())?;
+    call_rows(to, b"rows", 2, none())?;
+    call_rows(to, b"rows of 257 corridors", 257, none())?;
+    call_laid(to, b"laid", 2, none())?;
+    call_laid(to, b"laid of 257 corridors", 257, none())
 }
 
 // One slice too short, and too long, where there is such a slice.
-pub fn both(slice: usize) {
+pub fn both<W: Write>(to: &mut W, slice: usize) -> io::Result<()> {
     if slice < SLICES {
-        call(b"sheet", 1, Wrong { slice, long: false });
-        call(b"sheet", 1, Wrong { slice, long: true });
+        call(to, b"sheet", 1, Wrong { slice, long: false })?;
+        call(to, b"sheet", 1, Wrong { slice, long: true })?;
     }
     if slice < ROWS_SLICES {
-        call_rows(b"rows", 2, Wrong { slice, long: false });
-        call_rows(b"rows", 2, Wrong { slice, long: true });
+        call_rows(to, b"rows", 2, Wrong { slice, long: false })?;
+        call_rows(to, b"rows", 2, Wrong { slice, long: true })?;
     }
     if slice < LAID_SLICES {
-        call_laid(b"laid", 2, Wrong { slice, long: false });
-        call_laid(b"laid", 2, Wrong { slice, long: true });
+        call_laid(to, b"laid", 2, Wrong { slice, long: false })?;
+        call_laid(to, b"laid", 2, Wrong { slice, long: true })?;
     }
+    Ok(())
 }

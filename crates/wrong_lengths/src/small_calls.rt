@@ -6,6 +6,8 @@ use crate::report::{
 use casefile_defs::{
     MOST_BUSES, MOST_CORRIDORS, MOST_GENERATORS, MOST_LEVELS, MOST_SHEET, Reading,
 };
+use std::io;
+use std::io::Write;
 
 // The tables.
 const SLICES: usize = 17;
@@ -13,7 +15,7 @@ const SLICES: usize = 17;
 // The last place.
 const LAST: usize = 73;
 
-fn call(what: &[u8], place: usize, wrong: Wrong) {
+fn call<W: Write>(to: &mut W, what: &[u8], place: usize, wrong: Wrong) -> io::Result<()> {
     let mut ladder = [FIGURE; ROOM];
     let mut tier = [MARK; ROOM];
     let mut reading = [FIGURE; ROOM];
@@ -51,16 +53,17 @@ fn call(what: &[u8], place: usize, wrong: Wrong) {
         &mut cap[0..made(MOST_CORRIDORS, 15, wrong)],
         &mut sheet[0..made(MOST_SHEET, 16, wrong)],
     );
-    say_call(what, wrong);
+    say_call(to, what, wrong)?;
     match said {
-        Reading::Read(_) => say_answered(),
-        Reading::Refused(f) => say_refusal(f),
+        Reading::Read(_) => say_answered(to)?,
+        Reading::Refused(f) => say_refusal(to, f)?,
     }
     let buses = marks_kept(&tier) & figures_kept(&reading) & figures_kept(&weight);
     let places = marks_kept(&bus) & marks_kept(&slack);
     let units = figures_kept(&pmin) & figures_kept(&pmax) & figures_kept(&c1) & figures_kept(&c2);
     let ends = marks_kept(&a) & marks_kept(&b) & marks_kept(&circuits) & figures_kept(&km);
     say_kept(
+        to,
         figures_kept(&ladder)
             & buses
             & places
@@ -69,27 +72,29 @@ fn call(what: &[u8], place: usize, wrong: Wrong) {
             & figures_kept(&share)
             & marks_kept(&cap)
             & figures_kept(&sheet),
-    );
+    )
 }
 
 // Every length right; then a place past the last, with these lengths and with a wrong one: refusal 1 comes before 23.
-pub fn first() {
-    call(b"small", LAST, none());
-    call(b"small at 74", LAST + 1, none());
+pub fn first<W: Write>(to: &mut W) -> io::Result<()> {
+    call(to, b"small", LAST, none())?;
+    call(to, b"small at 74", LAST + 1, none())?;
     call(
+        to,
         b"small at 74",
         LAST + 1,
         Wrong {
             slice: 0,
             long: false,
         },
-    );
+    )
 }
 
 // One slice too short, and too long, where there is such a slice.
-pub fn both(slice: usize) {
+pub fn both<W: Write>(to: &mut W, slice: usize) -> io::Result<()> {
     if slice < SLICES {
-        call(b"small", LAST, Wrong { slice, long: false });
-        call(b"small", LAST, Wrong { slice, long: true });
+        call(to, b"small", LAST, Wrong { slice, long: false })?;
+        call(to, b"small", LAST, Wrong { slice, long: true })?;
     }
+    Ok(())
 }

@@ -1,0 +1,3 @@
+-- Lemmas of reading and of a number's text.
+mod Counting
+mod Powers

@@ -1,0 +1,3 @@
+-- What the contracts of reading and of a number's text cite.
+pub mod Counts
+pub mod Digits

@@ -18,7 +18,7 @@ fronts h p =
     let m = h.corridors in
     places_of (take (levels h) p.ladder) (take n p.tier) (take n p.reading) (take n p.weight) (take g p.bus) (take g p.slack) (take g p.pmin) (take g p.pmax)
     (take g p.c1) (take g p.c2) (take m p.a) (take m p.b) (take m p.circuits) (take m p.length_km) (take m p.share) (take m p.cap)
-    (take (lines h * rowFigures) p.sheet)
+    (take (lines h * row_figures) p.sheet)
 
 abbrev pub case_in : Header → Places → Case
 case_in h p = case_as h (fronts h p)

@@ -25,7 +25,7 @@ use Rattle.planned_files.specs.Files.{case_as, case_in, results, plan_of, Filed,
 
 -- ---- parts
 -- the rows of the sheet are places of it
-pub rows_fit : (h : Header) → Small h → lines h * rowFigures ≤ most_sheet
+pub rows_fit : (h : Header) → Small h → lines h * row_figures ≤ most_sheet
 rows_fit h s = let k : lines h ≤ most_corridors * most_levels = mul-le-mul s.corridors s.levels in omega arith
 
 -- what is at most a table's size is a place in it, or its end
@@ -75,8 +75,8 @@ module _ (s : List ℕ) where
     unread {f} g = by_reading (Refused f) g
 
     pub read : {h : Header} → r.reading ≡ Read h
-        → filed h (plan_of (case_as h (parts p (levels h - 0) (h.buses - 0) (h.generators - 0) (h.corridors - 0) (lines h * rowFigures - 0))) h.target) ≡ plan_file s
+        → filed h (plan_of (case_as h (parts p (levels h - 0) (h.buses - 0) (h.generators - 0) (h.corridors - 0) (lines h * row_figures - 0))) h.target) ≡ plan_file s
     read {h} g =
         ap (λ (t : Places). filed h (plan_of (case_as h t) h.target))
-        (same_parts p (sub-zero (levels h)) (sub-zero h.buses) (sub-zero h.generators) (sub-zero h.corridors) (sub-zero (lines h * rowFigures)))
+        (same_parts p (sub-zero (levels h)) (sub-zero h.buses) (sub-zero h.generators) (sub-zero h.corridors) (sub-zero (lines h * row_figures)))
         ∙ by_reading (Read h) g

@@ -30,7 +30,7 @@ case_in h p =
     let m = h.corridors in
     surveyed h.mode n m g h.above h.requested (take (levels h) p.ladder) (take n p.tier) (take n p.reading) (take n p.weight) (take g p.bus) (take g p.slack)
     (take g p.pmin) (take g p.pmax) (take g p.c1) (take g p.c2) (take m p.a) (take m p.b) (take m p.circuits) (take m p.length_km) (take m p.share)
-    (take m p.cap) (take (lines h * rowFigures) p.sheet)
+    (take m p.cap) (take (lines h * row_figures) p.sheet)
 
 -- ---- what is said, and the results; work is none
 abbrev pub results : List ℕ → List Float → List Float → List ℕ → List ℕ → List ℕ → List Float → List Float → List ℕ → List ℕ → List Float → Slices

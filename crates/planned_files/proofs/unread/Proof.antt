@@ -15,5 +15,5 @@ returns c = (
   ),
 )
 
-pub unread-spec : {M : Type 1} → statement M
-unread-spec = tie.close (tie.spec returns)
+pub unread_spec : {M : Type 1} → statement M
+unread_spec = tie.close (tie.spec returns)

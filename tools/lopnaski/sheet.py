@@ -33,7 +33,7 @@ def asked(line):
     try:
         run = subprocess.run([PROGRAM], input=line.encode(), stdout=subprocess.PIPE, check=False)
     except OSError as error:
-        raise Failure("target/bin/answers cannot be run (%s): `rt check answers` proves and builds it" % error.strerror) from None
+        raise Failure("target/bin/answers cannot be run (%s): `tools/build-programs answers` proves and builds it" % error.strerror) from None
     if run.returncode != 0 or not run.stdout.endswith(b"\n"):
         raise Failure("target/bin/answers gave no whole answer")
     return run.stdout.decode("ascii", "replace").split()

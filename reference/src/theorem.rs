@@ -64,14 +64,14 @@ fn happenings(case: &Case, listing: &str, taken: &[u64]) -> String {
 
 fn uses(mode: &str) -> String {
     format!(
-        "use mathlib.Core.List.{{List, [], _∷_}}
-use mathlib.Core.Path.{{_≡_, refl}}
+        "use mathlib.Core.List.{{List, [], ◌∷◌}}
+use mathlib.Core.Path.{{◌≡◌, refl}}
 use lib.ListN.{{length}}
 use lib.Ieee.{{Float}}
-use Rattle·mode.specs.declared.PlanMode.the-variants.{{{mode}}}
-use Rattle·plan_defs.specs.Case.{{Case, rowsOf}}
-use Rattle·plan_defs.specs.Listing.{{listingOf}}
-use Rattle·plan_cases·proofs.proofs.Figures.{{figures, loadBits}}
+use Rattle.mode.specs.declared.PlanMode.TheVariants.{{{mode}}}
+use Rattle.plan_defs.specs.Case.{{Case, rows_of}}
+use Rattle.plan_defs.specs.Listing.{{listing_of}}
+use Rattle.plan_cases.proofs.Figures.{{figures, load_bits}}
 "
     )
 }
@@ -148,7 +148,7 @@ fn given(case: &Case, mode: &str) -> String {
         ("share", figures(ways.iter().map(|c| c.share))),
         ("cap", whole(ways.iter().map(|c| c.cap))),
     ];
-    let rows = format!("rowsOf {} {} sheet", ways.len(), case.ladder.len());
+    let rows = format!("rows_of {} {} sheet", ways.len(), case.ladder.len());
     fields.extend([("figures", "length sheet".to_owned()), ("row", rows)]);
     let mut text = sheet(case);
     for line in print_text(case).lines() {
@@ -164,7 +164,7 @@ fn given(case: &Case, mode: &str) -> String {
 /// That the case's loads are what its readings and weights make.
 fn weighed(case: &Case) -> String {
     let loads = bits(case.buses.iter().map(|bus| bus.load()));
-    format!("\npub weighed : loadBits given ≡ {loads}\nunfolding listingOf\nweighed = refl\n")
+    format!("\npub weighed : load_bits given ≡ {loads}\nunfolding listing_of\nweighed = refl\n")
 }
 
 /// One field of all lines of the listing that have this mark; the mark is field 0.
@@ -175,7 +175,7 @@ fn column<'a>(listing: &'a str, mark: &'a str, place: usize) -> impl Iterator<It
         .map(move |mut fields| fields.nth(place).expect("the listing has this field"))
 }
 
-/// The lists of numbers that `listingOf` gives, from the listing's text.
+/// The lists of numbers that `listing_of` gives, from the listing's text.
 fn lists(listing: &str) -> Vec<String> {
     let row = |text: &str| list(text.split(' ').skip(1).map(str::to_owned));
     if listing.starts_with("RF") {
@@ -200,7 +200,7 @@ fn lists(listing: &str) -> Vec<String> {
 
 /// The theorem and its proof.
 fn listed(case: &Case, listing: &str) -> String {
-    let mut text = format!("\npub listed :\n    listingOf given {}\n", case.target);
+    let mut text = format!("\npub listed :\n    listing_of given {}\n", case.target);
     for (i, list) in lists(listing).iter().enumerate() {
         let before = ["∷", "≡"][usize::from(i == 0)];
         match list.as_str() {
@@ -209,5 +209,5 @@ fn listed(case: &Case, listing: &str) -> String {
         }
         .expect("text grows");
     }
-    text + "    ∷ []\nunfolding listingOf\nlisted = refl\n"
+    text + "    ∷ []\nunfolding listing_of\nlisted = refl\n"
 }

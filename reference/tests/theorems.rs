@@ -55,7 +55,7 @@ fn theorem_of_case_l_has_its_listing() {
     let case = parse_text(CASE_L).expect("it is a case");
     let theorem = theorem(&write_case(&case)).expect("there is a case");
     let statement = "pub listed :
-    listingOf given 0
+    listing_of given 0
     ≡ (2 ∷ 0 ∷ 1 ∷ 0 ∷ 0 ∷ 0 ∷ 0 ∷ 0 ∷ 0 ∷ 0 ∷ [])
     ∷ []
     ∷ (0 ∷ [])
@@ -67,7 +67,7 @@ fn theorem_of_case_l_has_its_listing() {
     ∷ (0x4059_0000_0000_0000 ∷ [])
     ∷ (0x3FE0_0000_0000_0000 ∷ 0x3FD0_0000_0000_0000 ∷ [])
     ∷ []
-unfolding listingOf
+unfolding listing_of
 listed = refl
 ";
     assert!(theorem.ends_with(statement), "{theorem}");

@@ -6,63 +6,46 @@ use mathlib.Core.Path.{◌≡◌}
 use Rattle.answers.proofs.print.put_wholes.Statement.{statement}
 use Rattle.answers.proofs.print.put_wholes.Tie as tie
 
-abbrev invariant-loop : tie.invariant-loop
+abbrev invariant-loop : tie.invariant-loop-i
 invariant-loop out₀ table n used₀ i₀ out used i = (i ≤ n) × (length out ≡ length out₀) × (used ≤ length out)
 
-abbrev decreases-loop : tie.decreases-loop
+abbrev decreases-loop : tie.decreases-loop-i
 decreases-loop out₀ table n used₀ i₀ out used i = n - i
 
-slice-aggregate-put-text : tie.Need-slice-aggregate-put-text invariant-loop decreases-loop
-slice-aggregate-put-text c = search rules
-
-put-text-requires : tie.Need-put-text-requires invariant-loop decreases-loop
+put-text-requires : tie.Need-put_text-used-requires invariant-loop decreases-loop
 put-text-requires c κs = search rules
 
-loop-holds : tie.Need-loop-init invariant-loop decreases-loop
+loop-holds : tie.Need-loop-i-init invariant-loop decreases-loop
 loop-holds c = search rules
 
-mul-long : tie.Need-overflow-mul-long invariant-loop decreases-loop
+mul-long : tie.Need-offset_bounds-table-i invariant-loop decreases-loop
 mul-long c = search rules
 
-element-copy-out-long : tie.Need-element-copy-out-long invariant-loop decreases-loop
+element-copy-out-long : tie.Need-bounds-table-i invariant-loop decreases-loop
 element-copy-out-long c = search rules
 
 long-requires : tie.Need-long-requires invariant-loop decreases-loop
 long-requires c κs = search rules
 
-put-number-requires : tie.Need-put-number-requires invariant-loop decreases-loop
+put-number-requires : tie.Need-put_number-used-requires invariant-loop decreases-loop
 put-number-requires c κs = search rules
 
-add-i : tie.Need-overflow-add-i invariant-loop decreases-loop
+add-i : tie.Need-overflow_add-i invariant-loop decreases-loop
 add-i c = search rules
 
-loop-less : tie.Need-loop-smaller invariant-loop decreases-loop
+loop-less : tie.Need-loop-i-smaller invariant-loop decreases-loop
 loop-less c = search rules
 
-loop-again : tie.Need-loop-preserved invariant-loop decreases-loop
+loop-again : tie.Need-loop-i-preserved invariant-loop decreases-loop
 loop-again c = search rules
 
-same_length : tie.Need-same-length invariant-loop decreases-loop
+same_length : tie.Need-shape_of-out invariant-loop decreases-loop
 same_length c = search rules
 
 returns : tie.Need-returns invariant-loop decreases-loop
 returns c = search rules
 
-pub put-wholes-spec : {M : Type 1} → statement M
-put-wholes-spec =
+pub put_wholes_spec : {M : Type 1} → statement M
+put_wholes_spec =
     tie.close
-    (tie.spec
-    invariant-loop
-    decreases-loop
-    slice-aggregate-put-text
-    put-text-requires
-    loop-holds
-    mul-long
-    element-copy-out-long
-    long-requires
-    put-number-requires
-    add-i
-    loop-less
-    loop-again
-    same_length
-    returns)
+    (tie.spec invariant-loop decreases-loop put-text-requires loop-holds mul-long element-copy-out-long long-requires put-number-requires add-i loop-less loop-again same_length returns)

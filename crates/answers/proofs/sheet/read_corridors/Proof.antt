@@ -7,77 +7,60 @@ use mathlib.Core.Path.{◌≡◌}
 use Rattle.answers.proofs.sheet.read_corridors.Statement.{statement}
 use Rattle.answers.proofs.sheet.read_corridors.Tie as tie
 
-abbrev invariant-loop : tie.invariant-loop
+abbrev invariant-loop : tie.invariant-loop-k
 invariant-loop line corridors km₀ spread₀ s₀ k₀ km spread s k = (k ≤ corridors) × (s.at ≤ length line) × (length km ≡ length km₀) × (length spread ≡ length spread₀)
 
-abbrev decreases-loop : tie.decreases-loop
+abbrev decreases-loop : tie.decreases-loop-k
 decreases-loop line corridors km₀ spread₀ s₀ k₀ km spread s k = corridors - k
 
-loop-holds : tie.Need-loop-init invariant-loop decreases-loop
+loop-holds : tie.Need-loop-k-init invariant-loop decreases-loop
 loop-holds c = search rules
 
-bits-requires : tie.Need-bits-requires invariant-loop decreases-loop
+bits-requires : tie.Need-bits-s-requires invariant-loop decreases-loop
 bits-requires c κs = search rules
 
 figure-requires : tie.Need-figure-requires invariant-loop decreases-loop
 figure-requires c κs = search rules
 
-mul-km : tie.Need-overflow-mul-km invariant-loop decreases-loop
+mul-km : tie.Need-offset_bounds-km-k invariant-loop decreases-loop
 mul-km c = search rules
 
-slice-write-km : tie.Need-slice-write-km invariant-loop decreases-loop
+slice-write-km : tie.Need-bounds-km-k invariant-loop decreases-loop
 slice-write-km c = search rules
 
-bits-requires-2 : tie.Need-bits-requires-2 invariant-loop decreases-loop
+bits-requires-2 : tie.Need-bits-s-requires-in-loop-k invariant-loop decreases-loop
 bits-requires-2 c κs = search rules
 
-figure-requires-2 : tie.Need-figure-requires-2 invariant-loop decreases-loop
+figure-requires-2 : tie.Need-figure-requires-in-loop-k invariant-loop decreases-loop
 figure-requires-2 c κs = search rules
 
-mul-spread : tie.Need-overflow-mul-spread invariant-loop decreases-loop
+mul-spread : tie.Need-offset_bounds-spread-k invariant-loop decreases-loop
 mul-spread c = search rules
 
-slice-write-spread : tie.Need-slice-write-spread invariant-loop decreases-loop
+slice-write-spread : tie.Need-bounds-spread-k invariant-loop decreases-loop
 slice-write-spread c = search rules
 
-add-k : tie.Need-overflow-add-k invariant-loop decreases-loop
+add-k : tie.Need-overflow_add-k invariant-loop decreases-loop
 add-k c = search rules
 
-loop-less : tie.Need-loop-smaller invariant-loop decreases-loop
+loop-less : tie.Need-loop-k-smaller invariant-loop decreases-loop
 loop-less c = search rules
 
-loop-again : tie.Need-loop-preserved invariant-loop decreases-loop
+loop-again : tie.Need-loop-k-preserved invariant-loop decreases-loop
 loop-again c =
-    let l = c.before.before.before.before.before.loop in
-    (omega arith, c.before.bits2.ensures, simp length-set l.invariant.2, simp length-set l.invariant.3)
+    let l = c.loop-k in
+    (omega arith, c.bits-s-in-loop-k.ensures, simp length-set l.invariant.2, simp length-set l.invariant.3)
 
-same_length : tie.Need-same-length invariant-loop decreases-loop
+same_length : tie.Need-shape_of-km invariant-loop decreases-loop
 same_length c = search rules
 
-same-length-2 : tie.Need-same-length-2 invariant-loop decreases-loop
+same-length-2 : tie.Need-shape_of-spread invariant-loop decreases-loop
 same-length-2 c = search rules
 
 returns : tie.Need-returns invariant-loop decreases-loop
 returns c = search rules
 
-pub read-corridors-spec : {M : Type 1} → statement M
-read-corridors-spec =
+pub read_corridors_spec : {M : Type 1} → statement M
+read_corridors_spec =
     tie.close
-    (tie.spec
-    invariant-loop
-    decreases-loop
-    loop-holds
-    bits-requires
-    figure-requires
-    mul-km
-    slice-write-km
-    bits-requires-2
-    figure-requires-2
-    mul-spread
-    slice-write-spread
-    add-k
-    loop-less
-    loop-again
-    same_length
-    same-length-2
-    returns)
+    (tie.spec invariant-loop decreases-loop loop-holds bits-requires figure-requires mul-km slice-write-km bits-requires-2 figure-requires-2 mul-spread slice-write-spread add-k loop-less loop-again same_length same-length-2 returns)

@@ -8,5 +8,5 @@ returns : tie.Need-returns
 unfolding nan_bits
 returns c = refl
 
-pub is-nan-spec : {M : Type 1} → statement M
-is-nan-spec = tie.close (tie.spec returns)
+pub is_nan_spec : {M : Type 1} → statement M
+is_nan_spec = tie.close (tie.spec returns)

@@ -6,55 +6,43 @@ use mathlib.Core.Path.{◌≡◌}
 use Rattle.answers.proofs.text.read_wholes.Statement.{statement}
 use Rattle.answers.proofs.text.read_wholes.Tie as tie
 
-abbrev invariant-loop : tie.invariant-loop
+abbrev invariant-loop : tie.invariant-loop-i
 invariant-loop line n table₀ s₀ i₀ table s i = (i ≤ n) × (s.at ≤ length line) × (length table ≡ length table₀)
 
-abbrev decreases-loop : tie.decreases-loop
+abbrev decreases-loop : tie.decreases-loop-i
 decreases-loop line n table₀ s₀ i₀ table s i = n - i
 
-loop-holds : tie.Need-loop-init invariant-loop decreases-loop
+loop-holds : tie.Need-loop-i-init invariant-loop decreases-loop
 loop-holds c = search rules
 
-whole-requires : tie.Need-whole-requires invariant-loop decreases-loop
+whole-requires : tie.Need-whole-s-requires invariant-loop decreases-loop
 whole-requires c κs = search rules
 
 narrow-requires : tie.Need-narrow-requires invariant-loop decreases-loop
 narrow-requires c κs = search rules
 
-mul-table : tie.Need-overflow-mul-table invariant-loop decreases-loop
+mul-table : tie.Need-offset_bounds-table-i invariant-loop decreases-loop
 mul-table c = search rules
 
-slice-write-table : tie.Need-slice-write-table invariant-loop decreases-loop
+slice-write-table : tie.Need-bounds-table-i invariant-loop decreases-loop
 slice-write-table c = search rules
 
-add-i : tie.Need-overflow-add-i invariant-loop decreases-loop
+add-i : tie.Need-overflow_add-i invariant-loop decreases-loop
 add-i c = search rules
 
-loop-less : tie.Need-loop-smaller invariant-loop decreases-loop
+loop-less : tie.Need-loop-i-smaller invariant-loop decreases-loop
 loop-less c = search rules
 
-loop-again : tie.Need-loop-preserved invariant-loop decreases-loop
+loop-again : tie.Need-loop-i-preserved invariant-loop decreases-loop
 loop-again c = search rules
 
-same_length : tie.Need-same-length invariant-loop decreases-loop
+same_length : tie.Need-shape_of-table invariant-loop decreases-loop
 same_length c = search rules
 
 returns : tie.Need-returns invariant-loop decreases-loop
 returns c = search rules
 
-pub read-wholes-spec : {M : Type 1} → statement M
-read-wholes-spec =
+pub read_wholes_spec : {M : Type 1} → statement M
+read_wholes_spec =
     tie.close
-    (tie.spec
-    invariant-loop
-    decreases-loop
-    loop-holds
-    whole-requires
-    narrow-requires
-    mul-table
-    slice-write-table
-    add-i
-    loop-less
-    loop-again
-    same_length
-    returns)
+    (tie.spec invariant-loop decreases-loop loop-holds whole-requires narrow-requires mul-table slice-write-table add-i loop-less loop-again same_length returns)

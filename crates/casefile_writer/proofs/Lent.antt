@@ -7,7 +7,7 @@ use native.Mathlib.Omega.{arith}
 use lib.Ieee.{Float}
 use lib.ListN.{length, get_or}
 use Rattle.loops.specs.Figures.{at, nought}
-use Rattle.sheets.specs.Sheet.{row_figures, row_place as placeAt}
+use Rattle.sheets.specs.Sheet.{row_figures, row_place as place_at}
 use Rattle.casefile_defs.specs.Reading.{levels, lines, Small}
 use Rattle.casefile_defs.specs.Tables.{Places, basis_field, sizes_ok}
 use Rattle.casefile_defs.specs.declared.Header.{Header}
@@ -58,7 +58,7 @@ module _ (h : Header) (p : Places) (s : Small h) (e : sizes_ok p ≡ true) where
 
   -- line i's place, by corridor and level
   abbrev place_in : ℕ → ℕ
-  place_in i = placeAt h.corridors (i / levels h) (i % levels h)
+  place_in i = place_at h.corridors (i / levels h) (i % levels h)
 
   cell : (i j : ℕ) → i < lines h → j < row_figures → at p.sheet (place_in i + j) ≡ get_or p.sheet (row_place (row_of h i) j) nought
   cell i j b c =

@@ -21,11 +21,11 @@ use Rattle.exports.specs.declared.ReadingSaid.{ReadingSaid}
 use Rattle.exports.specs.declared.AnswerSaid.{AnswerSaid}
 use Rattle.exports.specs.declared.PlacementSaid.{PlacementSaid}
 
-pub angles_told : (a : Angles) (s : AnglesSaid) (x w : List Float) (o : angles.Outcome) → angles.outcome a x w ≡ o → s ≡ angles_said (angles.replyOf a)
+pub angles_told : (a : Angles) (s : AnglesSaid) (x w : List Float) (o : angles.Outcome) → angles.outcome a x w ≡ o → s ≡ angles_said (angles.reply_of a)
     → (s ≡ angles_said o.reply) × ((x ≡ o.result) × (w ≡ o.work))
 angles_told a s x w o e q = (q ∙ ap (λ (p : angles.Outcome). angles_said p.reply) e, (ap (λ (p : angles.Outcome). p.result) e, ap (λ (p : angles.Outcome). p.work) e))
 
-pub reading_told : (r : CaseRead) (s : ReadingSaid) (t : tables.Places) (o : tables.Outcome) → tables.outcome r t ≡ o → s ≡ reading_said (tables.replyOf r.reading) r.looks
+pub reading_told : (r : CaseRead) (s : ReadingSaid) (t : tables.Places) (o : tables.Outcome) → tables.outcome r t ≡ o → s ≡ reading_said (tables.reply_of r.reading) r.looks
     → (s ≡ case_said o) × (t ≡ o.places)
 reading_told r s t o e q = (q ∙ ap (λ (p : tables.Outcome). case_said p) e, ap (λ (p : tables.Outcome). p.places) e)
 
@@ -41,6 +41,6 @@ pub leaders_told : (a : Answer) (s : AnswerSaid) (x : List ℕ) (o : leaders.Out
     → (s ≡ answer_said o.reply) × (x ≡ o.leader)
 leaders_told a s x o e q = (q ∙ ap (λ (p : leaders.Outcome). answer_said p.reply) e, ap (λ (p : leaders.Outcome). p.leader) e)
 
-pub placement_told : (a : Placement) (s : PlacementSaid) (x : List ℕ) (y : List Float) (o : support.Outcome) → support.outcome a x y ≡ o → s ≡ placement_said (support.replyOf a)
+pub placement_told : (a : Placement) (s : PlacementSaid) (x : List ℕ) (y : List Float) (o : support.Outcome) → support.outcome a x y ≡ o → s ≡ placement_said (support.reply_of a)
     → (s ≡ placement_said o.reply) × ((x ≡ o.buses) × (y ≡ o.mvars))
 placement_told a s x y o e q = (q ∙ ap (λ (p : support.Outcome). placement_said p.reply) e, (ap (λ (p : support.Outcome). p.buses) e, ap (λ (p : support.Outcome). p.mvars) e))

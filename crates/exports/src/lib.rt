@@ -194,9 +194,9 @@ pub extern "C" fn lopnaski_place_voltage_support(
     buses: &mut [u32],
     mvars: &mut [f64],
 ) -> PlacementSaid
-    ensures said { result ≡ placement_said (placement (asked.requestOf n m g reading.now weight.now a.now b.now km.now generators.now) buses.old mvars.old).reply }
-    ensures stand { buses.new ≡ (placement (asked.requestOf n m g reading.now weight.now a.now b.now km.now generators.now) buses.old mvars.old).buses }
-    ensures sized { mvars.new ≡ (placement (asked.requestOf n m g reading.now weight.now a.now b.now km.now generators.now) buses.old mvars.old).mvars }
+    ensures said { result ≡ placement_said (placement (asked.request_of n m g reading.now weight.now a.now b.now km.now generators.now) buses.old mvars.old).reply }
+    ensures stand { buses.new ≡ (placement (asked.request_of n m g reading.now weight.now a.now b.now km.now generators.now) buses.old mvars.old).buses }
+    ensures sized { mvars.new ≡ (placement (asked.request_of n m g reading.now weight.now a.now b.now km.now generators.now) buses.old mvars.old).mvars }
 {
     said::placement(placement::place_voltage_support(
         n, m, g, reading, weight, a, b, km, generators, buses, mvars,

@@ -33,7 +33,7 @@ fn ended_figure(ended: Ended) -> f64
 }
 
 fn solved(s: Solution) -> AnglesSaid
-    ensures { result ≡ angles_said (defined.replyOf (Angles.Answered s)) }
+    ensures { result ≡ angles_said (defined.reply_of (Angles.Answered s)) }
 {
     let ended = s.ended;
     AnglesSaid {
@@ -46,7 +46,7 @@ fn solved(s: Solution) -> AnglesSaid
 }
 
 fn not_solved(f: Refusal) -> AnglesSaid
-    ensures { result ≡ angles_said (defined.replyOf (Angles.Refused f)) }
+    ensures { result ≡ angles_said (defined.reply_of (Angles.Refused f)) }
 {
     AnglesSaid {
         refusal: f.number(),
@@ -58,7 +58,7 @@ fn not_solved(f: Refusal) -> AnglesSaid
 }
 
 pub fn angles(a: Angles) -> AnglesSaid
-    ensures { result ≡ angles_said (defined.replyOf a) }
+    ensures { result ≡ angles_said (defined.reply_of a) }
 {
     match a {
         Angles::Answered(s) => solved(s),
@@ -67,7 +67,7 @@ pub fn angles(a: Angles) -> AnglesSaid
 }
 
 fn read(h: Header, looks: usize) -> ReadingSaid
-    ensures { result ≡ reading_said (tables.replyOf (Reading.Read h)) looks }
+    ensures { result ≡ reading_said (tables.reply_of (Reading.Read h)) looks }
 {
     let mode = h.mode;
     ReadingSaid {
@@ -85,7 +85,7 @@ fn read(h: Header, looks: usize) -> ReadingSaid
 }
 
 fn not_read(f: Refusal, looks: usize) -> ReadingSaid
-    ensures { result ≡ reading_said (tables.replyOf (Reading.Refused f)) looks }
+    ensures { result ≡ reading_said (tables.reply_of (Reading.Refused f)) looks }
 {
     ReadingSaid {
         refusal: f.number(),
@@ -102,7 +102,7 @@ fn not_read(f: Refusal, looks: usize) -> ReadingSaid
 }
 
 pub fn reading(r: CaseRead) -> ReadingSaid
-    ensures { result ≡ reading_said (tables.replyOf r.reading) r.looks }
+    ensures { result ≡ reading_said (tables.reply_of r.reading) r.looks }
 {
     let reading = r.reading;
     match reading {
@@ -112,7 +112,7 @@ pub fn reading(r: CaseRead) -> ReadingSaid
 }
 
 fn not_done(f: Refusal) -> AnswerSaid
-    ensures { result ≡ answer_said (replies.replyOf (Answer.Refused f)) }
+    ensures { result ≡ answer_said (replies.reply_of (Answer.Refused f)) }
 {
     AnswerSaid {
         refusal: f.number(),
@@ -121,7 +121,7 @@ fn not_done(f: Refusal) -> AnswerSaid
 }
 
 pub fn answer(a: Answer) -> AnswerSaid
-    ensures { result ≡ answer_said (replies.replyOf a) }
+    ensures { result ≡ answer_said (replies.reply_of a) }
 {
     match a {
         Answer::Answered => AnswerSaid {
@@ -133,7 +133,7 @@ pub fn answer(a: Answer) -> AnswerSaid
 }
 
 fn not_placed(f: Refusal) -> PlacementSaid
-    ensures { result ≡ placement_said (support.replyOf (Placement.Refused f)) }
+    ensures { result ≡ placement_said (support.reply_of (Placement.Refused f)) }
 {
     PlacementSaid {
         refusal: f.number(),
@@ -143,7 +143,7 @@ fn not_placed(f: Refusal) -> PlacementSaid
 }
 
 pub fn placement(p: Placement) -> PlacementSaid
-    ensures { result ≡ placement_said (support.replyOf p) }
+    ensures { result ≡ placement_said (support.reply_of p) }
 {
     match p {
         Placement::Placed(count) => PlacementSaid {

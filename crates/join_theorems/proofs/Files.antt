@@ -15,7 +15,7 @@ use Rattle.loops.specs.Figures.{at, nought}
 use Rattle.loops.specs.Loops.{tab}
 use Rattle.loops.proofs.Bools.{both, and_of}
 use Rattle.loops.proofs.Tab.{length_tab, get_tab}
-use Rattle.sheets.specs.Sheet.{row_figures, row_corridor, row_level, row_place as placeAt}
+use Rattle.sheets.specs.Sheet.{row_figures, row_corridor, row_level, row_place as place_at}
 use Rattle.sheets.proofs.Layouts.{row_level_lem, row_corridor_lem, row_inside}
 use Rattle.casefile_defs.specs.Bounds.{most_levels, most_buses, most_generators, most_corridors, most_sheet}
 use Rattle.casefile_defs.specs.Layout.{Field, u8, u16, up_to, width_of, allowed}
@@ -110,16 +110,16 @@ sheet_past N m n row q h = go (ltb q N) refl
 -- what holds of figure f of each row of the one sheet and of the other holds of each row of the joined one
 module _ (f : ℕ) (inside : f < row_figures) (P : Float → Type 0) where
   row_of : (m n : ℕ) (x : List Float) → length x ≡ row_figures * (m * n) → ((i : ℕ) → i < m * n → P (get_or x (row_place i f) nought))
-      → (k l : ℕ) → k < m → l < n → P (at x (placeAt m k l + f))
+      → (k l : ℕ) → k < m → l < n → P (at x (place_at m k l + f))
   row_of m n x size all k l h q =
       let z = row_inside m n k l h q in
       let i = l * m + k in
-      let e : placeAt m k l + f ≡ row_place i f = omega arith in
+      let e : place_at m k l + f ≡ row_place i f = omega arith in
       subst P (sym (ap (at x) e ∙ within x (row_place i f) nan nought (omega arith))) (all i (omega arith))
 
   module _ (m o n : ℕ) (x y : List Float) (size : length x ≡ row_figures * (m * n)) (other : length y ≡ row_figures * (o * n))
       (low : (i : ℕ) → i < m * n → P (get_or x (row_place i f) nought)) (high : (i : ℕ) → i < o * n → P (get_or y (row_place i f) nought)) where
-    joined_row_lem : (k l : ℕ) → k < m + o → l < n → (b : Bool) → ltb k m ≡ b → P (cond b (at x (placeAt m k l + f)) (at y (placeAt o (k - m) l + f)))
+    joined_row_lem : (k l : ℕ) → k < m + o → l < n → (b : Bool) → ltb k m ≡ b → P (cond b (at x (place_at m k l + f)) (at y (place_at o (k - m) l + f)))
     joined_row_lem k l h q true e = row_of m n x size low k l (ltb-true k m e) q
     joined_row_lem k l h q false e = let z : m ≤ k = ltb-false k m e in row_of o n y other high (k - m) l (omega arith) q
 
@@ -130,10 +130,10 @@ module _ (f : ℕ) (inside : f < row_figures) (P : Float → Type 0) where
         let k = row_corridor (m + o) i in
         let l = row_level (m + o) i in
         subst P
-        (sym (ap (λ (j : ℕ). cond (ltb j ((m + o) * n)) (cond (ltb (row_corridor (m + o) j) m) (at x (placeAt m (row_corridor (m + o) j) (row_level (m + o) j) + row_place i f % row_figures))
-        (at y (placeAt o (row_corridor (m + o) j - m) (row_level (m + o) j) + row_place i f % row_figures))) nought) d
-        ∙ ap (λ (j : ℕ). cond (ltb i ((m + o) * n)) (cond (ltb k m) (at x (placeAt m k l + j)) (at y (placeAt o (k - m) l + j))) nought) e
-        ∙ ap (λ (u : Bool). cond u (cond (ltb k m) (at x (placeAt m k l + f)) (at y (placeAt o (k - m) l + f))) nought) (lt-ltb i ((m + o) * n) b)))
+        (sym (ap (λ (j : ℕ). cond (ltb j ((m + o) * n)) (cond (ltb (row_corridor (m + o) j) m) (at x (place_at m (row_corridor (m + o) j) (row_level (m + o) j) + row_place i f % row_figures))
+        (at y (place_at o (row_corridor (m + o) j - m) (row_level (m + o) j) + row_place i f % row_figures))) nought) d
+        ∙ ap (λ (j : ℕ). cond (ltb i ((m + o) * n)) (cond (ltb k m) (at x (place_at m k l + j)) (at y (place_at o (k - m) l + j))) nought) e
+        ∙ ap (λ (u : Bool). cond u (cond (ltb k m) (at x (place_at m k l + f)) (at y (place_at o (k - m) l + f))) nought) (lt-ltb i ((m + o) * n) b)))
         (joined_row_lem k l (row_corridor_lem (m + o) n i b) (row_level_lem (m + o) n i b) (ltb k m) refl)
 
 -- ---- the joined case

@@ -1,4 +1,6 @@
 // The line office's sheet (document 02, K8), worked out from kV, length and spread after `line_parameters` of branches.rs.
+#![tactic(auto)]
+
 ghost use Rattle.std.specs.Prelude.{◌≡◌};
 ghost use Rattle.line_defs.specs.Rows.{corridor_rows};
 ghost use Rattle.line_defs.specs.Sheet.{outcome, line_sheet, WhereAnswered};

@@ -1,12 +1,13 @@
 -- Worked examples, computed from the definitions: document 01's ★10, and what its rules say of ties, of a bus that no source reaches, of a weight and of refusals.
 -- By evaluation.
 use mathlib.Core.Path.{◌≡◌, refl}
-use mathlib.Core.List.{[], ◌∷◌}
+use mathlib.Core.List.{List, [], ◌∷◌}
 use Prim.Native.Nat.{ℕ}
 use lib.ListN.{replicate}
 use lib.Ieee.{Float, of_bits, round, add, mul, lt, le, eq}
 use Rattle.loops.specs.Figures.{nought, one, two, five, million, decimal}
 use Rattle.loops.specs.Loops.{iter, first, tab}
+use Rattle.loads.specs.Load.{loads_of}
 use Rattle.refusal.specs.declared.Refusal.TheVariants.{Bus, Corridor}
 use Rattle.placement_defs.specs.Request.{request_of, first_load, first_generator, first_corridor, check_of}
 use Rattle.placement_defs.specs.Distance.{seeded, offered, considered, nearer, nearest_to, settle, spread, turn, searched, distances_from}
@@ -48,6 +49,10 @@ pub rules :
     ∷ []
 unfolding iter first tab first_load first_generator first_corridor check_of seeded offered considered nearer nearest_to settle spread turn searched distances_from farther farthest_to if_far next_by next_of join join_next joined served_to mvar_of sized flagged sites_by placed answer_to placement of_bits round add mul lt le eq
 rules = refl
+
+-- What is placed as loads: each reading times its weight. `weights` below computes one, but a wrong figure there ends in no verdict.
+pub loads_weighed : (n m g : ℕ) (reading weight : List Float) (a b : List ℕ) (km : List Float) (generators : List ℕ) → (request_of n m g reading weight a b km generators).loads ≡ loads_of n reading weight
+loads_weighed n m g reading weight a b km generators = refl
 
 -- 20 MW called, with the weight 2, are 40 MW of load: 20 Mvar.
 -- A million MW with the weight 2 are 4, though either is within its bounds, and nothing is touched.

@@ -3,7 +3,7 @@ ghost use Rattle.std.specs.Prelude.{◌≡◌};
 ghost use Rattle.plan_defs.specs.Case.{surveyed};
 ghost use Rattle.plan_defs.specs.Outcome.{slices, outcome, plan_corridors};
 ghost use Rattle.plan_defs.specs.Demand.{AnswerTo};
-ghost use Rattle.plan_defs.specs.Preview.{kept_as, outcome as outcomeOf, preview as previewOf};
+ghost use Rattle.plan_defs.specs.Preview.{kept_as, outcome as outcome_of, preview as preview_of};
 ghost use Rattle.plan_defs.specs.declared.CorridorPlan.{CorridorPlan};
 ghost use Rattle.plan_defs.specs.declared.Planned.TheVariants.{Answered};
 
@@ -166,7 +166,7 @@ pub fn preview_filling(
     cap: &[u32],
     circuits: &mut [u32],
 ) -> Answer
-    ensures { outcomeOf result circuits.new ≡ previewOf (kept_as mode m before.now order.now cap.now) target circuits.old }
+    ensures { outcome_of result circuits.new ≡ preview_of (kept_as mode m before.now order.now cap.now) target circuits.old }
 {
     match preview::check(mode, target, m, before, order, cap, circuits.len()) {
         Answer::Refused(f) => return Answer::Refused(f),

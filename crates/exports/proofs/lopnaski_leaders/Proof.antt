@@ -10,12 +10,12 @@ leaders-requires c κs = search rules
 answer-requires : tie.Need-answer-requires
 answer-requires c κs = search rules
 
-same_length : tie.Need-same-length
+same_length : tie.Need-shape_of-leader
 same_length c = search rules
 
 returns : tie.Need-returns
-returns c = leaders_told c.before.before.before.leaders.result _ _ _ c.before.before.before.leaders.ensures c.answer.ensures
+returns c = leaders_told c.leaders.result _ _ _ c.leaders.ensures c.answer.ensures
 
-pub lopnaski-leaders-spec : {M : Type 1} → statement M
-lopnaski-leaders-spec =
+pub lopnaski_leaders_spec : {M : Type 1} → statement M
+lopnaski_leaders_spec =
     tie.close (tie.spec leaders-requires answer-requires same_length returns)

@@ -38,8 +38,8 @@ the_places o = places_of o.args.ladder.now o.args.tier.now o.args.reading.now o.
 
 abbrev left : tie.After-plan_corridors-planned → Slices
 left c =
-    let r = c.plan_corridors-planned.new.1.1.1.1.1.1.1.1.1.1.1.1.1.1.1.1.1.1.1.1.1.1.1.1 in
-    slices r.0 r.1.0 r.1.1.0 r.1.1.1.0 r.1.1.1.1.0 r.1.1.1.1.1.0 r.1.1.1.1.1.1.0 r.1.1.1.1.1.1.1.0 r.1.1.1.1.1.1.1.1.0 r.1.1.1.1.1.1.1.1.1.0 r.1.1.1.1.1.1.1.1.1.1.0 r.1.1.1.1.1.1.1.1.1.1.1.0 r.1.1.1.1.1.1.1.1.1.1.1.1.0
+    let r = c.plan_corridors-planned.new in
+    slices r.circuits r.flow r.rate r.before r.order r.kept_cap r.mw r.angle r.level r.ground r.added r.figures r.counts
 
 fits : (o : tie.Start) → Fits (case_as o.args.h (the_places o))
 fits o = record { buses = (small o).buses; corridors = (small o).corridors; generators = (small o).generators; above = above-small o; work = work-small o }
@@ -182,34 +182,34 @@ returns c =
     let p = c in
     let o = from-slices p.before.before.before.before.before.before.before.before.before.before.before.before.before.before in
     let f = fits o in
-    let k = p.plan_corridors-planned.auto.1.1.1.1.1.1.1.1.1.1.1.1.1.1.1.1.1.1.1.1.1.1.1.1 in (
+    let k = p.plan_corridors-planned.auto in (
       filed_planned o.args.h (the_places o) p.plan_corridors-planned.result (left p.before.before.before.before.before.before.before.before.before.before.before.before.before)
-          (back _ most_corridors 0 (left p.before.before.before.before.before.before.before.before.before.before.before.before.before).circuits f.corridors k.0)
-          (back _ most_corridors nought (left p.before.before.before.before.before.before.before.before.before.before.before.before.before).flow f.corridors k.1.0)
-          (back _ most_corridors nought (left p.before.before.before.before.before.before.before.before.before.before.before.before.before).rate f.corridors k.1.1.0)
-          (back _ most_corridors 0 (left p.before.before.before.before.before.before.before.before.before.before.before.before.before).before f.corridors k.1.1.1.0)
-          (back _ most_corridors 0 (left p.before.before.before.before.before.before.before.before.before.before.before.before.before).order f.corridors k.1.1.1.1.0)
-          (back _ most_corridors 0 (left p.before.before.before.before.before.before.before.before.before.before.before.before.before).cap f.corridors k.1.1.1.1.1.0)
-          (back _ most_generators nought (left p.before.before.before.before.before.before.before.before.before.before.before.before.before).mw f.generators k.1.1.1.1.1.1.0)
-          (back _ most_buses nought (left p.before.before.before.before.before.before.before.before.before.before.before.before.before).angle f.buses k.1.1.1.1.1.1.1.0)
-          (back _ most_buses 0 (left p.before.before.before.before.before.before.before.before.before.before.before.before.before).tier f.buses k.1.1.1.1.1.1.1.1.0)
-          (back _ most_buses 0 (left p.before.before.before.before.before.before.before.before.before.before.before.before.before).ground f.buses k.1.1.1.1.1.1.1.1.1.0)
-          (back _ most_levels nought (left p.before.before.before.before.before.before.before.before.before.before.before.before.before).added f.above k.1.1.1.1.1.1.1.1.1.1.0)
+          (back _ most_corridors 0 (left p.before.before.before.before.before.before.before.before.before.before.before.before.before).circuits f.corridors k.circuits)
+          (back _ most_corridors nought (left p.before.before.before.before.before.before.before.before.before.before.before.before.before).flow f.corridors k.flow)
+          (back _ most_corridors nought (left p.before.before.before.before.before.before.before.before.before.before.before.before.before).rate f.corridors k.rate)
+          (back _ most_corridors 0 (left p.before.before.before.before.before.before.before.before.before.before.before.before.before).before f.corridors k.before)
+          (back _ most_corridors 0 (left p.before.before.before.before.before.before.before.before.before.before.before.before.before).order f.corridors k.order)
+          (back _ most_corridors 0 (left p.before.before.before.before.before.before.before.before.before.before.before.before.before).cap f.corridors k.kept_cap)
+          (back _ most_generators nought (left p.before.before.before.before.before.before.before.before.before.before.before.before.before).mw f.generators k.mw)
+          (back _ most_buses nought (left p.before.before.before.before.before.before.before.before.before.before.before.before.before).angle f.buses k.angle)
+          (back _ most_buses 0 (left p.before.before.before.before.before.before.before.before.before.before.before.before.before).tier f.buses k.level)
+          (back _ most_buses 0 (left p.before.before.before.before.before.before.before.before.before.before.before.before.before).ground f.buses k.ground)
+          (back _ most_levels nought (left p.before.before.before.before.before.before.before.before.before.before.before.before.before).added f.above k.added)
           f p.plan_corridors-planned.ensures.0,
       (
         small o,
         record {
-          circuits = back_length _ most_corridors 0 (left p.before.before.before.before.before.before.before.before.before.before.before.before.before).circuits f.corridors k.0;
-          flow = back_length _ most_corridors nought (left p.before.before.before.before.before.before.before.before.before.before.before.before.before).flow f.corridors k.1.0;
-          rate = back_length _ most_corridors nought (left p.before.before.before.before.before.before.before.before.before.before.before.before.before).rate f.corridors k.1.1.0;
-          before = back_length _ most_corridors 0 (left p.before.before.before.before.before.before.before.before.before.before.before.before.before).before f.corridors k.1.1.1.0;
-          order = back_length _ most_corridors 0 (left p.before.before.before.before.before.before.before.before.before.before.before.before.before).order f.corridors k.1.1.1.1.0;
-          cap = back_length _ most_corridors 0 (left p.before.before.before.before.before.before.before.before.before.before.before.before.before).cap f.corridors k.1.1.1.1.1.0;
-          mw = back_length _ most_generators nought (left p.before.before.before.before.before.before.before.before.before.before.before.before.before).mw f.generators k.1.1.1.1.1.1.0;
-          angle = back_length _ most_buses nought (left p.before.before.before.before.before.before.before.before.before.before.before.before.before).angle f.buses k.1.1.1.1.1.1.1.0;
-          tier = back_length _ most_buses 0 (left p.before.before.before.before.before.before.before.before.before.before.before.before.before).tier f.buses k.1.1.1.1.1.1.1.1.0;
-          ground = back_length _ most_buses 0 (left p.before.before.before.before.before.before.before.before.before.before.before.before.before).ground f.buses k.1.1.1.1.1.1.1.1.1.0;
-          added = back_length _ most_levels nought (left p.before.before.before.before.before.before.before.before.before.before.before.before.before).added f.above k.1.1.1.1.1.1.1.1.1.1.0;
+          circuits = back_length _ most_corridors 0 (left p.before.before.before.before.before.before.before.before.before.before.before.before.before).circuits f.corridors k.circuits;
+          flow = back_length _ most_corridors nought (left p.before.before.before.before.before.before.before.before.before.before.before.before.before).flow f.corridors k.flow;
+          rate = back_length _ most_corridors nought (left p.before.before.before.before.before.before.before.before.before.before.before.before.before).rate f.corridors k.rate;
+          before = back_length _ most_corridors 0 (left p.before.before.before.before.before.before.before.before.before.before.before.before.before).before f.corridors k.before;
+          order = back_length _ most_corridors 0 (left p.before.before.before.before.before.before.before.before.before.before.before.before.before).order f.corridors k.order;
+          cap = back_length _ most_corridors 0 (left p.before.before.before.before.before.before.before.before.before.before.before.before.before).cap f.corridors k.kept_cap;
+          mw = back_length _ most_generators nought (left p.before.before.before.before.before.before.before.before.before.before.before.before.before).mw f.generators k.mw;
+          angle = back_length _ most_buses nought (left p.before.before.before.before.before.before.before.before.before.before.before.before.before).angle f.buses k.angle;
+          tier = back_length _ most_buses 0 (left p.before.before.before.before.before.before.before.before.before.before.before.before.before).tier f.buses k.level;
+          ground = back_length _ most_buses 0 (left p.before.before.before.before.before.before.before.before.before.before.before.before.before).ground f.buses k.ground;
+          added = back_length _ most_levels nought (left p.before.before.before.before.before.before.before.before.before.before.before.before.before).added f.above k.added;
         },
       ),
     )

@@ -27,68 +27,68 @@ left c =
     places_of r.ladder r.tier r.reading r.weight r.generator_bus r.slack r.pmin r.pmax r.c1 r.c2 r.a r.b r.circuits r.length_km r.share r.cap r.sheet
 
 -- ---- the places of the code, each from the one after it
-abbrev from-refused : tie.In-Refused-2 → tie.After-read_case-read
-from-refused c = c.before.before.before.before.before.before.before.before.before.before.before.before.before.before.before.before.before.before.before
+abbrev from-refused : tie.In-Refused → tie.After-read_case-read
+from-refused c = c.before.before.before.before.before.before.before.before.before.before.before.before.before.before.before.before.before.before
 
-abbrev from-answered : tie.In-Read-2 → tie.After-read_case-read
-from-answered c = c.before.before.before.before.before.before.before.before.before.before.before.before.before.before.before.before.before.before.before
+abbrev from-answered : tie.In-Read → tie.After-read_case-read
+from-answered c = c.before.before.before.before.before.before.before.before.before.before.before.before.before.before.before.before.before.before
 
-abbrev header-known : tie.After-struct_known-1 → tie.In-Read-2
-header-known c = c.before.before
+abbrev header-known : tie.After-struct_known-1 → tie.In-Read
+header-known c = c.before
 
-abbrev lent-1 : tie.After-plan_case-arg-1 → tie.In-Read-2
+abbrev lent-1 : tie.After-plan_case-arg-1 → tie.In-Read
 lent-1 c = header-known c.before
 
-abbrev lent-2 : tie.After-plan_case-arg-in-Read-1 → tie.In-Read-2
+abbrev lent-2 : tie.After-plan_case-arg-in-Read-1 → tie.In-Read
 lent-2 c = lent-1 c.before
 
-abbrev lent-3 : tie.After-plan_case-arg-in-Read-2-1 → tie.In-Read-2
+abbrev lent-3 : tie.After-plan_case-arg-in-Read-2-1 → tie.In-Read
 lent-3 c = lent-2 c.before
 
-abbrev lent-4 : tie.After-plan_case-arg-in-Read-3-1 → tie.In-Read-2
+abbrev lent-4 : tie.After-plan_case-arg-in-Read-3-1 → tie.In-Read
 lent-4 c = lent-3 c.before
 
-abbrev lent-5 : tie.After-plan_case-arg-in-Read-4-1 → tie.In-Read-2
+abbrev lent-5 : tie.After-plan_case-arg-in-Read-4-1 → tie.In-Read
 lent-5 c = lent-4 c.before
 
-abbrev lent-6 : tie.After-plan_case-arg-in-Read-5-1 → tie.In-Read-2
+abbrev lent-6 : tie.After-plan_case-arg-in-Read-5-1 → tie.In-Read
 lent-6 c = lent-5 c.before
 
-abbrev lent-7 : tie.After-plan_case-arg-in-Read-6-1 → tie.In-Read-2
+abbrev lent-7 : tie.After-plan_case-arg-in-Read-6-1 → tie.In-Read
 lent-7 c = lent-6 c.before
 
-abbrev lent-8 : tie.After-plan_case-arg-in-Read-7-1 → tie.In-Read-2
+abbrev lent-8 : tie.After-plan_case-arg-in-Read-7-1 → tie.In-Read
 lent-8 c = lent-7 c.before
 
-abbrev lent-9 : tie.After-plan_case-arg-in-Read-8-1 → tie.In-Read-2
+abbrev lent-9 : tie.After-plan_case-arg-in-Read-8-1 → tie.In-Read
 lent-9 c = lent-8 c.before
 
-abbrev lent-10 : tie.After-plan_case-arg-in-Read-9-1 → tie.In-Read-2
+abbrev lent-10 : tie.After-plan_case-arg-in-Read-9-1 → tie.In-Read
 lent-10 c = lent-9 c.before
 
-abbrev lent-11 : tie.After-plan_case-arg-in-Read-10-1 → tie.In-Read-2
+abbrev lent-11 : tie.After-plan_case-arg-in-Read-10-1 → tie.In-Read
 lent-11 c = lent-10 c.before
 
-abbrev lent-12 : tie.After-plan_case-arg-in-Read-11-1 → tie.In-Read-2
+abbrev lent-12 : tie.After-plan_case-arg-in-Read-11-1 → tie.In-Read
 lent-12 c = lent-11 c.before
 
-abbrev lent-13 : tie.After-plan_case-arg-in-Read-12-1 → tie.In-Read-2
+abbrev lent-13 : tie.After-plan_case-arg-in-Read-12-1 → tie.In-Read
 lent-13 c = lent-12 c.before
 
-abbrev lent-14 : tie.After-plan_case-arg-in-Read-13-1 → tie.In-Read-2
+abbrev lent-14 : tie.After-plan_case-arg-in-Read-13-1 → tie.In-Read
 lent-14 c = lent-13 c.before
 
-abbrev lent-15 : tie.After-plan_case-arg-in-Read-14-1 → tie.In-Read-2
+abbrev lent-15 : tie.After-plan_case-arg-in-Read-14-1 → tie.In-Read
 lent-15 c = lent-14 c.before
 
-abbrev lent-16 : tie.After-plan_case-arg-in-Read-15-1 → tie.In-Read-2
+abbrev lent-16 : tie.After-plan_case-arg-in-Read-15-1 → tie.In-Read
 lent-16 c = lent-15 c.before
 
-abbrev lent-17 : tie.After-plan_case-arg-in-Read-16-1 → tie.In-Read-2
+abbrev lent-17 : tie.After-plan_case-arg-in-Read-16-1 → tie.In-Read
 lent-17 c = lent-16 c.before
 
-small : (c : tie.In-Read-2) → Small c.said-in-Read-1.given.0.0
-small c = answered_small _ empty (left (from-answered c)) (from-answered c).read_case-read.ensures c.said-in-Read-1.given.1
+small : (c : tie.In-Read) → Small c.in-Read.h
+small c = answered_small _ empty (left (from-answered c)) (from-answered c).read_case-read.ensures c.in-Read.is
 
 slice-aggregate-read-case : tie.Need-slice_bounds-read_case-end
 slice-aggregate-read-case c = search rules
@@ -321,14 +321,14 @@ plan-case-requires c κs = small (lent-17 c)
 returns : tie.Need-returns-in-Refused
 returns c = (
   c.unread.ensures.0
-      ∙ unread _ empty (left (from-refused c.before.before)) empty-sized (from-refused c.before.before).read_case-read.ensures c.in-Refused.is,
+      ∙ unread _ empty (left (from-refused c.before)) empty-sized (from-refused c.before).read_case-read.ensures c.in-Refused.is,
   c.unread.ensures.1,
 )
 
 returns-2 : tie.Need-returns-in-Read
 returns-2 c = (
   c.plan_case.ensures.0
-      ∙ read _ empty (left (from-answered (lent-17 c.before))) empty-sized (from-answered (lent-17 c.before)).read_case-read.ensures (lent-17 c.before).said-in-Read-1.given.1,
+      ∙ read _ empty (left (from-answered (lent-17 c.before))) empty-sized (from-answered (lent-17 c.before)).read_case-read.ensures (lent-17 c.before).in-Read.is,
   c.plan_case.ensures.1,
 )
 

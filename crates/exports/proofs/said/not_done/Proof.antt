@@ -12,5 +12,5 @@ index-requires c κs = search rules
 returns : tie.Need-returns
 returns c = cc
 
-pub not-done-spec : {M : Type 1} → statement M
-not-done-spec = tie.close (tie.spec number-requires index-requires returns)
+pub not_done_spec : {M : Type 1} → statement M
+not_done_spec = tie.close (tie.spec number-requires index-requires returns)

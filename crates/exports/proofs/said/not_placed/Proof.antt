@@ -12,5 +12,5 @@ index-requires c κs = search rules
 returns : tie.Need-returns
 returns c = cc
 
-pub not-placed-spec : {M : Type 1} → statement M
-not-placed-spec = tie.close (tie.spec number-requires index-requires returns)
+pub not_placed_spec : {M : Type 1} → statement M
+not_placed_spec = tie.close (tie.spec number-requires index-requires returns)

@@ -12,5 +12,5 @@ index-requires c κs = search rules
 returns : tie.Need-returns
 returns c = cc
 
-pub not-read-spec : {M : Type 1} → statement M
-not-read-spec = tie.close (tie.spec number-requires index-requires returns)
+pub not_read_spec : {M : Type 1} → statement M
+not_read_spec = tie.close (tie.spec number-requires index-requires returns)

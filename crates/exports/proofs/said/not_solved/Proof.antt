@@ -12,5 +12,5 @@ index-requires c κs = search rules
 returns : tie.Need-returns
 returns c = cc
 
-pub not-solved-spec : {M : Type 1} → statement M
-not-solved-spec = tie.close (tie.spec number-requires index-requires returns)
+pub not_solved_spec : {M : Type 1} → statement M
+not_solved_spec = tie.close (tie.spec number-requires index-requires returns)

@@ -7,21 +7,21 @@ use Rattle.exports.specs.Said.{placement_said}
 use Rattle.exports.proofs.said.placement.Statement.{statement}
 use Rattle.exports.proofs.said.placement.Tie as tie
 
-enum-known-p : tie.Need-enum-known-p
+enum-known-p : tie.Need-enum_known-p
 enum-known-p c = search rules
 
-enum-known-p-2 : tie.Need-enum-known-p-2
+enum-known-p-2 : tie.Need-enum_known-p-in-Refused-1
 enum-known-p-2 c = search rules
 
-not-placed-requires : tie.Need-not-placed-requires
+not-placed-requires : tie.Need-not_placed-requires
 not-placed-requires c κs = search rules
 
-returns : tie.Need-returns
-returns c = sym (ap (λ (x : Placement). placement_said (reply_of x)) c.before.p.given.1)
+returns : tie.Need-returns-in-Placed
+returns c = sym (ap (λ (x : Placement). placement_said (reply_of x)) c.in-Placed.is)
 
-returns-2 : tie.Need-returns-2
-returns-2 c = c.not-placed.ensures ∙ sym (ap (λ (x : Placement). placement_said (reply_of x)) c.before.before.p2.given.1)
+returns-2 : tie.Need-returns-in-Refused
+returns-2 c = c.not_placed.ensures ∙ sym (ap (λ (x : Placement). placement_said (reply_of x)) c.in-Refused.is)
 
-pub placement-spec : {M : Type 1} → statement M
-placement-spec =
+pub placement_spec : {M : Type 1} → statement M
+placement_spec =
     tie.close (tie.spec enum-known-p enum-known-p-2 not-placed-requires returns returns-2)

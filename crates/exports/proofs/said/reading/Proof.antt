@@ -7,25 +7,25 @@ use Rattle.exports.specs.Said.{reading_said}
 use Rattle.exports.proofs.said.reading.Statement.{statement}
 use Rattle.exports.proofs.said.reading.Tie as tie
 
-enum-known-reading : tie.Need-enum-known-reading
+enum-known-reading : tie.Need-enum_known-reading
 enum-known-reading c = search rules
 
 read-requires : tie.Need-read-requires
 read-requires c κs = search rules
 
-enum-known-reading-2 : tie.Need-enum-known-reading-2
+enum-known-reading-2 : tie.Need-enum_known-reading-in-Refused-1
 enum-known-reading-2 c = search rules
 
-not-read-requires : tie.Need-not-read-requires
+not-read-requires : tie.Need-not_read-requires
 not-read-requires c κs = search rules
 
-returns : tie.Need-returns
-returns c = c.read.ensures ∙ sym (ap (λ (r : Reading). reading_said (reply_of r) c.before.before.before.before.args.r.looks) c.before.before.reading.given.1)
+returns : tie.Need-returns-in-Read
+returns c = c.read.ensures ∙ sym (ap (λ (r : Reading). reading_said (reply_of r) c.args.r.looks) c.in-Read.is)
 
-returns-2 : tie.Need-returns-2
-returns-2 c = c.not-read.ensures ∙ sym (ap (λ (r : Reading). reading_said (reply_of r) c.before.before.before.before.args.r.looks) c.before.before.reading2.given.1)
+returns-2 : tie.Need-returns-in-Refused
+returns-2 c = c.not_read.ensures ∙ sym (ap (λ (r : Reading). reading_said (reply_of r) c.args.r.looks) c.in-Refused.is)
 
-pub reading-spec : {M : Type 1} → statement M
-reading-spec =
+pub reading_spec : {M : Type 1} → statement M
+reading_spec =
     tie.close
     (tie.spec enum-known-reading read-requires enum-known-reading-2 not-read-requires returns returns-2)

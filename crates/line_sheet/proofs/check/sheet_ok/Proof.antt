@@ -6,14 +6,14 @@ use Rattle.line_sheet.proofs.Checks.{sheet_is}
 use Rattle.line_sheet.proofs.check.sheet_ok.Statement.{statement}
 use Rattle.line_sheet.proofs.check.sheet_ok.Tie as tie
 
-returns : tie.Need-returns
-returns c = sym (rows_not 5 _ _ c.if1.true)
+returns : tie.Need-returns-then-figures-ne0
+returns c = sym (rows_not 5 _ _ c.if-figures-ne0.true)
 
-is-product-requires : tie.Need-is-product-requires
+is-product-requires : tie.Need-is_product-requires
 is-product-requires c κs = search rules
 
-returns-2 : tie.Need-returns-2
-returns-2 c = c.is-product.ensures ∙ sheet_is c.before.before.args.figures _ _ (omega arith)
+returns-2 : tie.Need-returns
+returns-2 c = c.is_product.ensures ∙ sheet_is c.args.figures _ _ (omega arith)
 
-pub sheet-ok-spec : {M : Type 1} → statement M
-sheet-ok-spec = tie.close (tie.spec returns is-product-requires returns-2)
+pub sheet_ok_spec : {M : Type 1} → statement M
+sheet_ok_spec = tie.close (tie.spec returns is-product-requires returns-2)

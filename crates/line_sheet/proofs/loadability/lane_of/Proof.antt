@@ -5,33 +5,27 @@ use Rattle.line_sheet.specs.Lanes.{lane_of}
 use Rattle.line_sheet.proofs.loadability.lane_of.Statement.{statement}
 use Rattle.line_sheet.proofs.loadability.lane_of.Tie as tie
 
-by-segment-requires : tie.Need-by-segment-requires
+by-segment-requires : tie.Need-by_segment-near-requires
 by-segment-requires c κs = search rules
 
-by-segment-requires-2 : tie.Need-by-segment-requires-2
+by-segment-requires-2 : tie.Need-by_segment-requires
 by-segment-requires-2 c κs = search rules
 
-by-segment-requires-3 : tie.Need-by-segment-requires-3
+by-segment-requires-3 : tie.Need-by_segment-requires-2
 by-segment-requires-3 c κs = search rules
 
-by-segment-requires-4 : tie.Need-by-segment-requires-4
+by-segment-requires-4 : tie.Need-by_segment-requires-3
 by-segment-requires-4 c κs = search rules
 
 start-requires : tie.Need-start-requires
 unfolding segment_of
-start-requires c κs = c.before.before.before.by-segment.ensures
+start-requires c κs = c.by_segment-near.ensures
 
 returns : tie.Need-returns
 unfolding lane_of segment_of
 returns c = cc
 
-pub lane-of-spec : {M : Type 1} → statement M
-lane-of-spec =
+pub lane_of_spec : {M : Type 1} → statement M
+lane_of_spec =
     tie.close
-    (tie.spec
-    by-segment-requires
-    by-segment-requires-2
-    by-segment-requires-3
-    by-segment-requires-4
-    start-requires
-    returns)
+    (tie.spec by-segment-requires by-segment-requires-2 by-segment-requires-3 by-segment-requires-4 start-requires returns)

@@ -7,71 +7,55 @@ use Rattle.line_defs.specs.Loadability.{loadability_of}
 use Rattle.line_sheet.proofs.loadability.loadabilities.Statement.{statement}
 use Rattle.line_sheet.proofs.loadability.loadabilities.Tie as tie
 
-abbrev invariant-loop : tie.invariant-loop
+abbrev invariant-loop : tie.invariant-loop-j
 invariant-loop km k count r₀ j₀ r j = (j ≤ 8) × (length r₀ ≡ 8) × (r ≡ filled r₀ (λ (m : ℕ). loadability_of (at km (k + m))) j)
 
-abbrev decreases-loop : tie.decreases-loop
+abbrev decreases-loop : tie.decreases-loop-j
 decreases-loop km k count r₀ j₀ r j = 8 - j
 
-counts-requires : tie.Need-counts-requires invariant-loop decreases-loop
+counts-requires : tie.Need-counts-count-requires invariant-loop decreases-loop
 counts-requires c κs = search rules
 
-loop-holds : tie.Need-loop-init invariant-loop decreases-loop
+loop-holds : tie.Need-loop-j-init invariant-loop decreases-loop
 loop-holds c = (omega arith, refl, fill_start _ _)
 
-add-rated : tie.Need-overflow-add-rated invariant-loop decreases-loop
+add-rated : tie.Need-overflow_add-k invariant-loop decreases-loop
 add-rated c = search rules
 
-mul-rated : tie.Need-overflow-mul-rated invariant-loop decreases-loop
+mul-rated : tie.Need-offset_bounds-km-k invariant-loop decreases-loop
 mul-rated c = search rules
 
-shared-slice-read-rated : tie.Need-shared-slice-read-rated invariant-loop decreases-loop
+shared-slice-read-rated : tie.Need-bounds-km-k invariant-loop decreases-loop
 shared-slice-read-rated c = search rules
 
-mul-rated-2 : tie.Need-overflow-mul-rated-2 invariant-loop decreases-loop
+mul-rated-2 : tie.Need-offset_bounds-count-j invariant-loop decreases-loop
 mul-rated-2 c = search rules
 
-array-read-rated : tie.Need-array-read-rated invariant-loop decreases-loop
+array-read-rated : tie.Need-bounds-count-j invariant-loop decreases-loop
 array-read-rated c = search rules
 
 rated-requires : tie.Need-rated-requires invariant-loop decreases-loop
-rated-requires c κs = c.before.before.before.counts.ensures c.before.before.loop.j c.before.loop-test.true
+rated-requires c κs = c.counts-count.ensures c.loop-j.j c.loop-j-test.true
 
-mul-r : tie.Need-overflow-mul-r invariant-loop decreases-loop
+mul-r : tie.Need-offset_bounds-r-j invariant-loop decreases-loop
 mul-r c = search rules
 
-array-write-r : tie.Need-array-write-r invariant-loop decreases-loop
+array-write-r : tie.Need-bounds-r-j invariant-loop decreases-loop
 array-write-r c = search rules
 
-add-j : tie.Need-overflow-add-j invariant-loop decreases-loop
+add-j : tie.Need-overflow_add-j invariant-loop decreases-loop
 add-j c = search rules
 
-loop-less : tie.Need-loop-smaller invariant-loop decreases-loop
+loop-less : tie.Need-loop-j-smaller invariant-loop decreases-loop
 loop-less c = search rules
 
-loop-again : tie.Need-loop-preserved invariant-loop decreases-loop
-loop-again c = let l = c.before.before.before.loop in (search rules, refl, fill_turn _ _ _ _ _ l.invariant.2 c.before.before.loop-test.true c.rated.ensures)
+loop-again : tie.Need-loop-j-preserved invariant-loop decreases-loop
+loop-again c = let l = c.loop-j in (search rules, refl, fill_turn _ _ _ _ _ l.invariant.2 c.loop-j-test.true c.rated.ensures)
 
 returns : tie.Need-returns invariant-loop decreases-loop
-returns c = let i = c.before.loop.invariant in fill_end _ _ _ _ 8 i.1 (omega (arith, i.0, c.loop-test.false)) i.2
+returns c = let i = c.loop-j.invariant in fill_end _ _ _ _ 8 i.1 (omega (arith, i.0, c.loop-j-test.false)) i.2
 
-pub loadabilities-spec : {M : Type 1} → statement M
-loadabilities-spec =
+pub loadabilities_spec : {M : Type 1} → statement M
+loadabilities_spec =
     tie.close
-    (tie.spec
-    invariant-loop
-    decreases-loop
-    counts-requires
-    loop-holds
-    add-rated
-    mul-rated
-    shared-slice-read-rated
-    mul-rated-2
-    array-read-rated
-    rated-requires
-    mul-r
-    array-write-r
-    add-j
-    loop-less
-    loop-again
-    returns)
+    (tie.spec invariant-loop decreases-loop counts-requires loop-holds add-rated mul-rated shared-slice-read-rated mul-rated-2 array-read-rated rated-requires mul-r array-write-r add-j loop-less loop-again returns)

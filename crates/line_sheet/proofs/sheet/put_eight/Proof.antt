@@ -8,85 +8,69 @@ use Rattle.line_sheet.proofs.Filling.{Filled, none_filled, more_filled, filled_t
 use Rattle.line_sheet.proofs.sheet.put_eight.Statement.{statement}
 use Rattle.line_sheet.proofs.sheet.put_eight.Tie as tie
 
-abbrev invariant-loop : tie.invariant-loop
+abbrev invariant-loop : tie.invariant-loop-j
 invariant-loop levels corridors k ladder km spread sheet₀ first load j₀ sheet j = (j ≤ 8) × Filled levels corridors ladder km spread k (k + j) sheet₀ sheet
 
-abbrev decreases-loop : tie.decreases-loop
+abbrev decreases-loop : tie.decreases-loop-j
 decreases-loop levels corridors k ladder km spread sheet₀ first load j₀ sheet j = 8 - j
 
-guesses-requires : tie.Need-guesses-requires invariant-loop decreases-loop
-guesses-requires c κs = let s = c.before.before.before.before in let h : s.args.k + 8 ≤ length s.args.spread.now = omega (arith, s.requires.0.spread_length, s.requires.1) in h
+guesses-requires : tie.Need-guesses-first-requires invariant-loop decreases-loop
+guesses-requires c κs = let s = c in let h : s.args.k + 8 ≤ length s.args.spread.now = omega (arith, s.requires.0.spread_length, s.requires.1) in h
 
-loadabilities-requires : tie.Need-loadabilities-requires invariant-loop decreases-loop
-loadabilities-requires c κs = let s = c.before.before.before.before.before in let h : s.args.k + 8 ≤ length s.args.km.now = omega (arith, s.requires.0.km_length, s.requires.1) in h
+loadabilities-requires : tie.Need-loadabilities-load-requires invariant-loop decreases-loop
+loadabilities-requires c κs = let s = c in let h : s.args.k + 8 ≤ length s.args.km.now = omega (arith, s.requires.0.km_length, s.requires.1) in h
 
-loop-holds : tie.Need-loop-init invariant-loop decreases-loop
-loop-holds c = let s = c.before.before.before.before.before.before in (omega arith, none_filled _ _ _ _ _ _ _ _ (omega (arith, s.requires.1)) s.requires.2 (add-zero _))
+loop-holds : tie.Need-loop-j-init invariant-loop decreases-loop
+loop-holds c = let s = c in (omega arith, none_filled _ _ _ _ _ _ _ _ (omega (arith, s.requires.1)) s.requires.2 (add-zero _))
 
-add-put-corridor : tie.Need-overflow-add-put-corridor invariant-loop decreases-loop
-add-put-corridor c = omega (arith, c.before.before.before.before.before.before.before.before.requires.1, c.loop-test.true)
+add-put-corridor : tie.Need-overflow_add-k invariant-loop decreases-loop
+add-put-corridor c = omega (arith, c.requires.1, c.loop-j-test.true)
 
-mul-put-corridor : tie.Need-overflow-mul-put-corridor invariant-loop decreases-loop
+mul-put-corridor : tie.Need-offset_bounds-first-j invariant-loop decreases-loop
 mul-put-corridor c = search rules
 
-array-read-put-corridor : tie.Need-array-read-put-corridor invariant-loop decreases-loop
-array-read-put-corridor c = c.loop-test.true
+array-read-put-corridor : tie.Need-bounds-first-j invariant-loop decreases-loop
+array-read-put-corridor c = c.loop-j-test.true
 
-mul-put-corridor-2 : tie.Need-overflow-mul-put-corridor-2 invariant-loop decreases-loop
+mul-put-corridor-2 : tie.Need-offset_bounds-load-j invariant-loop decreases-loop
 mul-put-corridor-2 c = search rules
 
-array-read-put-corridor-2 : tie.Need-array-read-put-corridor-2 invariant-loop decreases-loop
-array-read-put-corridor-2 c = c.loop-test.true
+array-read-put-corridor-2 : tie.Need-bounds-load-j invariant-loop decreases-loop
+array-read-put-corridor-2 c = c.loop-j-test.true
 
-put-corridor-requires : tie.Need-put-corridor-requires invariant-loop decreases-loop
+put-corridor-requires : tie.Need-put_corridor-requires invariant-loop decreases-loop
 put-corridor-requires c κs =
-    let s = c.before.before.before.before.before.before.before.before.before in
-    let l = c.before.before.loop in
-    let h = c.before.loop-test.true in
-    (s.requires.0, omega (arith, s.requires.1), l.invariant.1.1, ap (λ (z : List Float). at z l.j) c.before.before.before.loadabilities.ensures ∙ get_tab 8 (λ (m : ℕ). loadability_of (at s.args.km.now (s.args.k + m))) l.j nan h)
+    let s = c in
+    let l = c.loop-j in
+    let h = c.loop-j-test.true in
+    (s.requires.0, omega (arith, s.requires.1), l.invariant.1.1, ap (λ (z : List Float). at z l.j) c.loadabilities-load.ensures ∙ get_tab 8 (λ (m : ℕ). loadability_of (at s.args.km.now (s.args.k + m))) l.j nan h)
 
-add-j : tie.Need-overflow-add-j invariant-loop decreases-loop
+add-j : tie.Need-overflow_add-j invariant-loop decreases-loop
 add-j c = search rules
 
-loop-less : tie.Need-loop-smaller invariant-loop decreases-loop
+loop-less : tie.Need-loop-j-smaller invariant-loop decreases-loop
 loop-less c = search rules
 
-loop-again : tie.Need-loop-preserved invariant-loop decreases-loop
+loop-again : tie.Need-loop-j-preserved invariant-loop decreases-loop
 loop-again c =
-    let s = c.before.before.before.before.before.before.before.before.before.before.before.before in
-    let l = c.before.before.before.before.before.loop in
-    let p = c.before.before.put-corridor in (
+    let s = c in
+    let l = c.loop-j in
+    let p = c.put_corridor in (
       search rules,
       more_filled s.args.levels s.args.corridors s.args.ladder.now s.args.km.now s.args.spread.now s.args.k (s.args.k + l.j) _ _ s.args.sheet.now l.sheet _
-          (omega (arith, s.requires.1, c.before.before.before.before.loop-test.true)) p.auto.1.1.1.1.1.1.1.1.0 p.ensures (omega arith) l.invariant.1,
+          (omega (arith, s.requires.1, c.loop-j-test.true)) p.auto.sheet p.ensures (omega arith) l.invariant.1,
     )
 
-same_length : tie.Need-same-length invariant-loop decreases-loop
-same_length c = c.before.loop.invariant.1.1 ∙ sym c.before.before.before.before.before.before.before.before.requires.2
+same_length : tie.Need-shape_of-sheet invariant-loop decreases-loop
+same_length c = c.loop-j.invariant.1.1 ∙ sym c.requires.2
 
 returns : tie.Need-returns invariant-loop decreases-loop
 returns c =
-    let s = c.before.before.before.before.before.before.before.before in
-    let l = c.before.loop in
-    filled_to_lem s.args.levels s.args.corridors s.args.ladder.now s.args.km.now s.args.spread.now s.args.k _ _ s.args.sheet.now _ (omega (arith, l.invariant.0, c.loop-test.false)) l.invariant.1
+    let s = c in
+    let l = c.loop-j in
+    filled_to_lem s.args.levels s.args.corridors s.args.ladder.now s.args.km.now s.args.spread.now s.args.k _ _ s.args.sheet.now _ (omega (arith, l.invariant.0, c.loop-j-test.false)) l.invariant.1
 
-pub put-eight-spec : {M : Type 1} → statement M
-put-eight-spec =
+pub put_eight_spec : {M : Type 1} → statement M
+put_eight_spec =
     tie.close
-    (tie.spec
-    invariant-loop
-    decreases-loop
-    guesses-requires
-    loadabilities-requires
-    loop-holds
-    add-put-corridor
-    mul-put-corridor
-    array-read-put-corridor
-    mul-put-corridor-2
-    array-read-put-corridor-2
-    put-corridor-requires
-    add-j
-    loop-less
-    loop-again
-    same_length
-    returns)
+    (tie.spec invariant-loop decreases-loop guesses-requires loadabilities-requires loop-holds add-put-corridor mul-put-corridor array-read-put-corridor mul-put-corridor-2 array-read-put-corridor-2 put-corridor-requires add-j loop-less loop-again same_length returns)

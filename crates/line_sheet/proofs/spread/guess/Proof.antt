@@ -10,15 +10,15 @@ nearer-requires c κs = search rules
 nearer-requires-2 : tie.Need-nearer-requires-2
 nearer-requires-2 c κs = search rules
 
-float-to-bits-result : tie.Need-float-to-bits-result
-float-to-bits-result c = to_bits_asks _ c.if1.true
+float-to-bits-result : tie.Need-float_to_bits-result
+float-to-bits-result c = to_bits_asks _ c.if-place.true
 
-returns : tie.Need-returns
+returns : tie.Need-returns-then-place
 returns c = search rules
 
-returns-2 : tie.Need-returns-2
+returns-2 : tie.Need-returns
 returns-2 c = search rules
 
-pub guess-spec : {M : Type 1} → statement M
-guess-spec =
+pub guess_spec : {M : Type 1} → statement M
+guess_spec =
     tie.close (tie.spec nearer-requires nearer-requires-2 float-to-bits-result returns returns-2)

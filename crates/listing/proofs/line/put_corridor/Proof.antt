@@ -6,50 +6,34 @@ use Rattle.listing.proofs.Texts.{puts}
 use Rattle.listing.proofs.line.put_corridor.Statement.{statement}
 use Rattle.listing.proofs.line.put_corridor.Tie as tie
 
-slice-aggregate-put-text : tie.Need-slice-aggregate-put-text
-slice-aggregate-put-text c = search rules
-
-put-text-requires : tie.Need-put-text-requires
+put-text-requires : tie.Need-put_text-used-requires
 put-text-requires c κs = search rules
 
-put-number-requires : tie.Need-put-number-requires
+put-number-requires : tie.Need-put_number-used-requires
 put-number-requires c κs = search rules
 
-put-number-requires-2 : tie.Need-put-number-requires-2
+put-number-requires-2 : tie.Need-put_number-used-requires-2
 put-number-requires-2 c κs = search rules
 
-put-figure-requires : tie.Need-put-figure-requires
+put-figure-requires : tie.Need-put_figure-used-requires
 put-figure-requires c κs = search rules
 
-put-figure-requires-2 : tie.Need-put-figure-requires-2
+put-figure-requires-2 : tie.Need-put_figure-used-requires-2
 put-figure-requires-2 c κs = search rules
 
-slice-aggregate-put-text-2 : tie.Need-slice-aggregate-put-text-2
-slice-aggregate-put-text-2 c = search rules
-
-put-text-requires-2 : tie.Need-put-text-requires-2
+put-text-requires-2 : tie.Need-put_text-requires
 put-text-requires-2 c κs = search rules
 
-same_length : tie.Need-same-length
+same_length : tie.Need-shape_of-out
 same_length c = search rules
 
 returns : tie.Need-returns
 unfolding corridor_line
 returns c =
-    let p = puts c.before.before.before.before.before.before.before.before.before.before.before.before.before.before.before.before.before.before.before.before.before.before.before.put-text.ensures (puts c.before.before.before.before.before.before.before.before.before.before.before.before.before.before.before.before.before.before.before.put-number.ensures.0 (puts c.before.before.before.before.before.before.before.before.before.before.before.before.before.before.before.put-number2.ensures.0 (puts c.before.before.before.before.before.before.before.before.before.before.before.put-figure.ensures.0 (puts c.before.before.before.before.before.before.before.put-figure2.ensures.0 c.before.before.put-text2.ensures)))) in
+    let p = puts c.put_text-used.ensures (puts c.put_number-used.ensures.0 (puts c.put_number-used-2.ensures.0 (puts c.put_figure-used.ensures.0 (puts c.put_figure-used-2.ensures.0 c.put_text.ensures)))) in
     (p, omega arith)
 
-pub put-corridor-spec : {M : Type 1} → statement M
-put-corridor-spec =
+pub put_corridor_spec : {M : Type 1} → statement M
+put_corridor_spec =
     tie.close
-    (tie.spec
-    slice-aggregate-put-text
-    put-text-requires
-    put-number-requires
-    put-number-requires-2
-    put-figure-requires
-    put-figure-requires-2
-    slice-aggregate-put-text-2
-    put-text-requires-2
-    same_length
-    returns)
+    (tie.spec put-text-requires put-number-requires put-number-requires-2 put-figure-requires put-figure-requires-2 put-text-requires-2 same_length returns)

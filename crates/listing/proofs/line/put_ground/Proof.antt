@@ -6,38 +6,25 @@ use Rattle.listing.proofs.Texts.{puts}
 use Rattle.listing.proofs.line.put_ground.Statement.{statement}
 use Rattle.listing.proofs.line.put_ground.Tie as tie
 
-slice-aggregate-put-text : tie.Need-slice-aggregate-put-text
-slice-aggregate-put-text c = search rules
-
-put-text-requires : tie.Need-put-text-requires
+put-text-requires : tie.Need-put_text-used-requires
 put-text-requires c κs = search rules
 
-put-number-requires : tie.Need-put-number-requires
+put-number-requires : tie.Need-put_number-used-requires
 put-number-requires c κs = search rules
 
-slice-aggregate-put-text-2 : tie.Need-slice-aggregate-put-text-2
-slice-aggregate-put-text-2 c = search rules
-
-put-text-requires-2 : tie.Need-put-text-requires-2
+put-text-requires-2 : tie.Need-put_text-requires
 put-text-requires-2 c κs = search rules
 
-same_length : tie.Need-same-length
+same_length : tie.Need-shape_of-out
 same_length c = search rules
 
 returns : tie.Need-returns
 unfolding ground_line
 returns c =
-    let p = puts c.before.before.before.before.before.before.before.before.before.before.before.put-text.ensures (puts c.before.before.before.before.before.before.before.put-number.ensures.0 c.before.before.put-text2.ensures) in
+    let p = puts c.put_text-used.ensures (puts c.put_number-used.ensures.0 c.put_text.ensures) in
     (p, omega arith)
 
-pub put-ground-spec : {M : Type 1} → statement M
-put-ground-spec =
+pub put_ground_spec : {M : Type 1} → statement M
+put_ground_spec =
     tie.close
-    (tie.spec
-    slice-aggregate-put-text
-    put-text-requires
-    put-number-requires
-    slice-aggregate-put-text-2
-    put-text-requires-2
-    same_length
-    returns)
+    (tie.spec put-text-requires put-number-requires put-text-requires-2 same_length returns)

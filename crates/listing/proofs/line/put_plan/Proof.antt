@@ -14,10 +14,7 @@ use Rattle.listing.proofs.Texts.{puts, same_text}
 use Rattle.listing.proofs.line.put_plan.Statement.{statement}
 use Rattle.listing.proofs.line.put_plan.Tie as tie
 
-slice-aggregate-put-text : tie.Need-slice-aggregate-put-text
-slice-aggregate-put-text c = search rules
-
-put-text-requires : tie.Need-put-text-requires
+put-text-requires : tie.Need-put_text-used-requires
 put-text-requires c κs = search rules
 
 number-requires : tie.Need-number-requires
@@ -26,19 +23,16 @@ number-requires c κs = search rules
 flag-requires : tie.Need-flag-requires
 flag-requires c κs = search rules
 
-put-three-requires : tie.Need-put-three-requires
+put-three-requires : tie.Need-put_three-used-requires
 put-three-requires c κs = search rules
 
-put-tallies-requires : tie.Need-put-tallies-requires
+put-tallies-requires : tie.Need-put_tallies-used-requires
 put-tallies-requires c κs = search rules
 
-slice-aggregate-put-text-2 : tie.Need-slice-aggregate-put-text-2
-slice-aggregate-put-text-2 c = search rules
-
-put-text-requires-2 : tie.Need-put-text-requires-2
+put-text-requires-2 : tie.Need-put_text-requires
 put-text-requires-2 c κs = search rules
 
-same_length : tie.Need-same-length
+same_length : tie.Need-shape_of-out
 same_length c = search rules
 
 spelt : (mode : PlanMode) (p : CorridorPlan) (m k : ℕ) → m ≡ mode_number mode → k ≡ flag p.converged
@@ -48,21 +42,11 @@ spelt mode p m k e f = rw (e, f) (simp append_assoc)
 
 returns : tie.Need-returns
 returns c =
-    let a = c.before.before.before.before.before.before.before.before.before.before.before.before.before.before.before.before.before.before.before.before.before.args in
-    let p = puts c.before.before.before.before.before.before.before.before.before.before.before.before.before.before.before.before.before.put-text.ensures (puts c.before.before.before.before.before.before.before.before.before.before.before.put_three.ensures.0 (puts c.before.before.before.before.before.before.before.put-tallies.ensures.0 c.before.before.put-text2.ensures)) in
-    (same_text (spelt a.mode a.p _ _ c.before.before.before.before.before.before.before.before.before.before.before.before.before.number.ensures c.before.before.before.before.before.before.before.before.before.before.before.before.flag.ensures) p, omega arith)
+    let a = c.args in
+    let p = puts c.put_text-used.ensures (puts c.put_three-used.ensures.0 (puts c.put_tallies-used.ensures.0 c.put_text.ensures)) in
+    (same_text (spelt a.mode a.p _ _ c.number.ensures c.flag.ensures) p, omega arith)
 
-pub put-plan-spec : {M : Type 1} → statement M
-put-plan-spec =
+pub put_plan_spec : {M : Type 1} → statement M
+put_plan_spec =
     tie.close
-    (tie.spec
-    slice-aggregate-put-text
-    put-text-requires
-    number-requires
-    flag-requires
-    put-three-requires
-    put-tallies-requires
-    slice-aggregate-put-text-2
-    put-text-requires-2
-    same_length
-    returns)
+    (tie.spec put-text-requires number-requires flag-requires put-three-requires put-tallies-requires put-text-requires-2 same_length returns)

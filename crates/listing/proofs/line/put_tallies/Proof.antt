@@ -10,19 +10,19 @@ use Rattle.listing.proofs.Texts.{puts, same_text}
 use Rattle.listing.proofs.line.put_tallies.Statement.{statement}
 use Rattle.listing.proofs.line.put_tallies.Tie as tie
 
-put-three-requires : tie.Need-put-three-requires
+put-three-requires : tie.Need-put_three-used-requires
 put-three-requires c κs = search rules
 
-put-three-requires-2 : tie.Need-put-three-requires-2
+put-three-requires-2 : tie.Need-put_three-used-requires-2
 put-three-requires-2 c κs = search rules
 
-cast-put-number : tie.Need-overflow-cast-put-number
+cast-put-number : tie.Need-overflow_cast-p
 cast-put-number c = search rules
 
-put-number-requires : tie.Need-put-number-requires
+put-number-requires : tie.Need-put_number-requires
 put-number-requires c κs = search rules
 
-same_length : tie.Need-same-length
+same_length : tie.Need-shape_of-out
 same_length c = search rules
 
 joined : (p : CorridorPlan)
@@ -32,16 +32,10 @@ joined p = simp (append_assoc, append-nil)
 
 returns : tie.Need-returns
 returns c =
-    let p = puts c.before.before.before.before.before.before.before.before.before.before.before.put_three.ensures.0 (puts c.before.before.before.before.before.before.before.put-three2.ensures.0 c.before.before.put-number.ensures.0) in
-    (same_text (joined c.before.before.before.before.before.before.before.before.before.before.before.before.before.before.args.p) p, omega arith)
+    let p = puts c.put_three-used.ensures.0 (puts c.put_three-used-2.ensures.0 c.put_number.ensures.0) in
+    (same_text (joined c.args.p) p, omega arith)
 
-pub put-tallies-spec : {M : Type 1} → statement M
-put-tallies-spec =
+pub put_tallies_spec : {M : Type 1} → statement M
+put_tallies_spec =
     tie.close
-    (tie.spec
-    put-three-requires
-    put-three-requires-2
-    cast-put-number
-    put-number-requires
-    same_length
-    returns)
+    (tie.spec put-three-requires put-three-requires-2 cast-put-number put-number-requires same_length returns)

@@ -14,62 +14,51 @@ use Rattle.listing.proofs.table.put_grounds.Tie as tie
 abbrev line : List ℕ → ℕ → List ℕ
 line ground i = ground_line (get_or ground i 0)
 
-abbrev invariant-loop : tie.invariant-loop
+abbrev invariant-loop : tie.invariant-loop-i
 invariant-loop out₀ len ground used₀ i₀ out used i =
     (i ≤ length ground) × (length out ≡ length out₀) × (used ≤ len + line_room * i) × Put out₀ len (lines (line ground) i) out used
 
-abbrev decreases-loop : tie.decreases-loop
+abbrev decreases-loop : tie.decreases-loop-i
 decreases-loop out₀ len ground used₀ i₀ out used i = length ground - i
 
-loop-holds : tie.Need-loop-init invariant-loop decreases-loop
+loop-holds : tie.Need-loop-i-init invariant-loop decreases-loop
 loop-holds c =
-    let a = c.before.before.args in
+    let a = c.args in
     (omega arith, refl, omega arith, none_put a.out.now (line a.ground.now) a.len)
 
-mul-put-ground : tie.Need-overflow-mul-put-ground invariant-loop decreases-loop
+mul-put-ground : tie.Need-offset_bounds-ground-i invariant-loop decreases-loop
 mul-put-ground c = search rules
 
-shared-slice-read-put-ground : tie.Need-shared-slice-read-put-ground invariant-loop decreases-loop
+shared-slice-read-put-ground : tie.Need-bounds-ground-i invariant-loop decreases-loop
 shared-slice-read-put-ground c = search rules
 
-put-ground-requires : tie.Need-put-ground-requires invariant-loop decreases-loop
+put-ground-requires : tie.Need-put_ground-used-requires invariant-loop decreases-loop
 put-ground-requires c κs = search rules
 
-add-i : tie.Need-overflow-add-i invariant-loop decreases-loop
+add-i : tie.Need-overflow_add-i invariant-loop decreases-loop
 add-i c = search rules
 
-loop-less : tie.Need-loop-smaller invariant-loop decreases-loop
+loop-less : tie.Need-loop-i-smaller invariant-loop decreases-loop
 loop-less c = search rules
 
-loop-again : tie.Need-loop-preserved invariant-loop decreases-loop
+loop-again : tie.Need-loop-i-preserved invariant-loop decreases-loop
 loop-again c =
-    let l = c.before.before.before.before.before.before.loop in
-    let a = c.before.before.before.before.before.before.before.before.before.args in
-    let p = one_more_lem (line a.ground.now) l.i l.invariant.3 c.before.before.put-ground.ensures.0 in
-    (omega arith, omega arith, omega (arith, c.before.before.put-ground.ensures.1), p)
+    let l = c.loop-i in
+    let a = c.args in
+    let p = one_more_lem (line a.ground.now) l.i l.invariant.3 c.put_ground-used.ensures.0 in
+    (omega arith, omega arith, omega (arith, c.put_ground-used.ensures.1), p)
 
-same_length : tie.Need-same-length invariant-loop decreases-loop
+same_length : tie.Need-shape_of-out invariant-loop decreases-loop
 same_length c = search rules
 
 returns : tie.Need-returns invariant-loop decreases-loop
 returns c =
-    let l = c.before.loop in
-    let a = c.before.before.before.before.args in
+    let l = c.loop-i in
+    let a = c.args in
     let end : l.i ≡ length a.ground.now = omega arith in
     (all_put (line a.ground.now) l.i (length a.ground.now) end l.invariant.3, omega arith)
 
-pub put-grounds-spec : {M : Type 1} → statement M
-put-grounds-spec =
+pub put_grounds_spec : {M : Type 1} → statement M
+put_grounds_spec =
     tie.close
-    (tie.spec
-    invariant-loop
-    decreases-loop
-    loop-holds
-    mul-put-ground
-    shared-slice-read-put-ground
-    put-ground-requires
-    add-i
-    loop-less
-    loop-again
-    same_length
-    returns)
+    (tie.spec invariant-loop decreases-loop loop-holds mul-put-ground shared-slice-read-put-ground put-ground-requires add-i loop-less loop-again same_length returns)

@@ -10,47 +10,36 @@ use Rattle.listing.proofs.Texts.{puts, same_text}
 use Rattle.listing.proofs.text.put_number.Statement.{statement}
 use Rattle.listing.proofs.text.put_number.Tie as tie
 
-decimal-requires : tie.Need-decimal-requires
+decimal-requires : tie.Need-decimal-k-requires
 decimal-requires c κs = search rules
 
-slice-aggregate-put-text : tie.Need-slice-aggregate-put-text
+slice-aggregate-put-text : tie.Need-slice_bounds-put_text-end-2
 slice-aggregate-put-text c = search rules
 
-put-text-requires : tie.Need-put-text-requires
+put-text-requires : tie.Need-put_text-used-requires
 put-text-requires c κs = search rules
 
-array-share-prefix-digits : tie.Need-array-share-prefix-digits
+array-share-prefix-digits : tie.Need-slice_bounds-digits-end
 array-share-prefix-digits c = search rules
 
-slice-aggregate-put-text-2 : tie.Need-slice-aggregate-put-text-2
-slice-aggregate-put-text-2 c = search rules
-
-put-text-requires-2 : tie.Need-put-text-requires-2
+put-text-requires-2 : tie.Need-put_text-requires
 put-text-requires-2 c κs =
-    let d = c.before.before.before.before.before.before.before.decimal in
-    let n = c.before.before.before.before.before.before.before.before.before.before.args.n in
-    omega (arith, c.before.before.before.before.put-text.ensures.used, d.ensures.0.1, fewest_most n d.result (omega arith) d.ensures.1.0)
+    let d = c.decimal-k in
+    let n = c.args.n in
+    omega (arith, c.put_text-used.ensures.used, d.ensures.0.1, fewest_most n d.result (omega arith) d.ensures.1.0)
 
-same_length : tie.Need-same-length
+same_length : tie.Need-shape_of-out
 same_length c = search rules
 
 returns : tie.Need-returns
 returns c =
-    let d = c.before.before.before.before.before.before.before.before.before.before.decimal in
-    let n = c.before.before.before.before.before.before.before.before.before.before.before.before.before.args.n in
-    let text = ap (λ (l : List ℕ). space ∷ l) d.ensures.1.1 ∙ number_digits n d.result (omega arith) d.ensures.1.0 in
-    let p = same_text text (puts c.before.before.before.before.before.before.before.put-text.ensures c.before.before.put-text2.ensures) in
+    let d = c.decimal-k in
+    let n = c.args.n in
+    let text = ap (λ (l : List ℕ). space ∷ l) d.ensures.1.1.0 ∙ number_digits n d.result (omega arith) d.ensures.1.0 in
+    let p = same_text text (puts c.put_text-used.ensures c.put_text.ensures) in
     (p, omega (arith, p.used, length_number n))
 
-pub put-number-spec : {M : Type 1} → statement M
-put-number-spec =
+pub put_number_spec : {M : Type 1} → statement M
+put_number_spec =
     tie.close
-    (tie.spec
-    decimal-requires
-    slice-aggregate-put-text
-    put-text-requires
-    array-share-prefix-digits
-    slice-aggregate-put-text-2
-    put-text-requires-2
-    same_length
-    returns)
+    (tie.spec decimal-requires put-text-requires array-share-prefix-digits slice-aggregate-put-text put-text-requires-2 same_length returns)

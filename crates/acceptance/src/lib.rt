@@ -1,4 +1,6 @@
 // Acceptance of a case: document 01's refusals 1 to 7 of *Planning*, in order, for every operation that takes a case (document 02).
+#![tactic(auto)]
+
 ghost use Rattle.std.specs.Prelude.{◌≡◌};
 ghost use Rattle.acceptance.specs.Check.{tables_for, counts_in, check_of};
 

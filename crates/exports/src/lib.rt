@@ -1,4 +1,6 @@
 // Operations under C names, for a driver in C or Rust such as bench/: what an operation answers comes back in the fields of a struct.
+#![tactic(auto)]
+
 mod said;
 
 ghost use Rattle.std.specs.Prelude.{◌≡◌};

@@ -1,4 +1,6 @@
 // Two survey districts in one case (document 02, K10): the joined case, in tables lent as for case reading.
+#![tactic(auto)]
+
 ghost use Rattle.std.specs.Prelude.{◌≡◌, ◌≤◌};
 ghost use Rattle.casefile_defs.specs.Bounds.{most_buses};
 ghost use Rattle.casefile_defs.specs.Tables.{places_of};

@@ -2,6 +2,8 @@
 //
 // As in the Rust (`UnionFind`, geom/delaunay.rs) each bus has a parent, and the search for a root shortens the way of those that it
 // passes. There a root is the leader; here a parent is never a higher bus, and a root has its set's leader for its name.
+#![tactic(auto)]
+
 ghost use Rattle.std.specs.Prelude.{cond, ◌≡◌, ◌<◌, ◌≤◌, length};
 ghost use Rattle.leaders.specs.Leaders.{themselves, leaders_of};
 ghost use Rattle.leaders.specs.Operation.{lengths_ok, counts_ok, corridor_ok, Ends, faulty_corridor, check_of, outcome, led_outcome};

@@ -1,4 +1,6 @@
 // A bus's load: the reading that the clerk called, times its weight, rounded once (document 02, K6). Planning and placement check and work it out here.
+#![tactic(auto)]
+
 ghost use Rattle.std.specs.Prelude.{◌≡◌};
 ghost use Rattle.loops.specs.Figures.{at};
 ghost use Rattle.loads.specs.Load.{load_by, loads_of, load_ok};

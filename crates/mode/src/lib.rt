@@ -1,4 +1,6 @@
 // Whether a plan may change the network, and document 01's number for it.
+#![tactic(auto)]
+
 ghost use Rattle.std.specs.Prelude.{◌≡◌};
 ghost use Rattle.mode.specs.Number.{mode_number};
 

@@ -1,1 +1,3 @@
 // The defined plan run on small cases: theorems alone, there is no code here.
+
+#![tactic(auto)]

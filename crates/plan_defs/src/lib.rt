@@ -1,4 +1,6 @@
 // The types that planning and its definition speak of. There is no code here: specs/ has the defined plan, proofs/ its laws.
+#![tactic(auto)]
+
 use refusal::Refusal;
 
 // Where a circuit's rating comes from.

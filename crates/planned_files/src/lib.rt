@@ -1,5 +1,7 @@
 // A case file, read and planned: what the listing, a preview and a season start from. Document 01 lists no such operation; docs/DECISIONS.md says why it
 // is public.
+#![tactic(auto)]
+
 ghost use Rattle.std.specs.Prelude.{◌≡◌, []};
 ghost use Rattle.casefile_defs.specs.Reading.{Small};
 ghost use Rattle.casefile_defs.specs.Tables.{places_of, held as headerOf};

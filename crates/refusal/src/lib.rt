@@ -1,4 +1,6 @@
 // What every operation says of a request that it does not answer, and the documents' number and index for it.
+#![tactic(auto)]
+
 ghost use Rattle.std.specs.Prelude.{◌≡◌};
 ghost use Rattle.refusal.specs.Number.{number_of, index_of};
 

@@ -6,6 +6,8 @@
 // 4. Find the 53 digits of the root, by an approximation in f64 that is checked in whole numbers or,
 //    where the check fails, one at a time, and round by what is left over.
 // 5. Put the halved exponent before them. A carry out of the digits raises it by one.
+#![tactic(auto)]
+
 ghost use Rattle.std.specs.Prelude.{◌≡◌, ◌+◌, ◌*◌, ◌^◌, ◌<◌, ◌≤◌};
 ghost use Rattle.std.specs.Float.{binary64};
 ghost use Rattle.std.specs.Float.Ieee.{to_bits};

@@ -1,4 +1,6 @@
 // Where a row of the line sheet stands, and a sheet by corridor laid out by level (document 02, K11). Nobody else has the formula.
+#![tactic(auto)]
+
 ghost use Rattle.std.specs.Prelude.{◌≡◌, ◌*◌, ◌^◌, ◌<◌, eqb, length};
 ghost use Rattle.loops.specs.Figures.{at};
 ghost use Rattle.sheets.specs.Request.{counts_ok, check_of, Sized, outcome, lay_out};

@@ -5,33 +5,27 @@ use Rattle.seasons.proofs.Planned.{planned_fed}
 use Rattle.seasons.proofs.file.feed_file.Statement.{statement}
 use Rattle.seasons.proofs.file.feed_file.Tie as tie
 
-plan-file-requires : tie.Need-plan-file-requires
+plan-file-requires : tie.Need-plan_file-plan-requires
 plan-file-requires c κs = search rules
 
-sub-feed-planned : tie.Need-overflow-sub-feed-planned
+sub-feed-planned : tie.Need-slice_bounds-feed_planned-count
 sub-feed-planned c = search rules
 
-part-feed-planned-start : tie.Need-slice-bounds-feed-planned-start
+part-feed-planned-start : tie.Need-slice_bounds-feed_planned-start
 part-feed-planned-start c = search rules
 
-part-feed-planned-end : tie.Need-slice-bounds-feed-planned-end
+part-feed-planned-end : tie.Need-slice_bounds-feed_planned-end
 part-feed-planned-end c = search rules
 
-feed-planned-requires : tie.Need-feed-planned-requires
+feed-planned-requires : tie.Need-feed_planned-requires
 feed-planned-requires c κs = search rules
 
 returns : tie.Need-returns
 returns c =
-    let p = c.before.before.before.before.before in
-    c.feed-planned.ensures ∙ planned_fed p.before.before.args.season _ p.plan-file.result p.plan-file.ensures.0
+    let p = c in
+    c.feed_planned.ensures ∙ planned_fed p.args.season _ p.plan_file-plan.result p.plan_file-plan.ensures.0
 
-pub feed-file-spec : {M : Type 1} → statement M
-feed-file-spec =
+pub feed_file_spec : {M : Type 1} → statement M
+feed_file_spec =
     tie.close
-    (tie.spec
-    plan-file-requires
-    sub-feed-planned
-    part-feed-planned-start
-    part-feed-planned-end
-    feed-planned-requires
-    returns)
+    (tie.spec plan-file-requires sub-feed-planned part-feed-planned-start part-feed-planned-end feed-planned-requires returns)

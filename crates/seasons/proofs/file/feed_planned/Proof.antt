@@ -5,22 +5,22 @@ use Rattle.seasons.proofs.Planned.{unplanned, answers}
 use Rattle.seasons.proofs.file.feed_planned.Statement.{statement}
 use Rattle.seasons.proofs.file.feed_planned.Tie as tie
 
-enum-known-planned : tie.Need-enum-known-planned
+enum-known-planned : tie.Need-enum_known-planned
 enum-known-planned c = search rules
 
-enum-known-planned-2 : tie.Need-enum-known-planned-2
+enum-known-planned-2 : tie.Need-enum_known-planned-in-Answered-1
 enum-known-planned-2 c = search rules
 
-add-plan-requires : tie.Need-add-plan-requires
+add-plan-requires : tie.Need-add_plan-requires
 add-plan-requires c κs = search rules
 
-returns : tie.Need-returns
-returns c = unplanned _ _ _ c.before.planned.given.1
+returns : tie.Need-returns-in-Refused
+returns c = unplanned _ _ _ c.in-Refused.is
 
-returns-2 : tie.Need-returns-2
-returns-2 c = c.add-plan.ensures ∙ answers _ _ _ c.before.before.planned2.given.1
+returns-2 : tie.Need-returns-in-Answered
+returns-2 c = c.add_plan.ensures ∙ answers _ _ _ c.in-Answered.is
 
-pub feed-planned-spec : {M : Type 1} → statement M
-feed-planned-spec =
+pub feed_planned_spec : {M : Type 1} → statement M
+feed_planned_spec =
     tie.close
     (tie.spec enum-known-planned enum-known-planned-2 add-plan-requires returns returns-2)

@@ -5,21 +5,17 @@ use Prim.Native.Nat.{ℕ}
 use mathlib.Core.Bool.{true}
 use mathlib.Core.List.{List, [], ◌∷◌, ◌++◌, map}
 use mathlib.Core.Path.{◌≡◌, refl}
-use mathlib.Core.Option.{Option, none, some}
-use lib.ListN.{length, get_or, replicate}
+use lib.ListN.{length, replicate}
 use lib.Ieee.{Float, binary64, of_bits}
 use Rattle.loops.specs.Figures.{nought, half, one, hundred, decimal}
 use Rattle.mode.specs.declared.PlanMode.{PlanMode}
 use Rattle.mode.specs.declared.PlanMode.TheVariants.{Expand, Reinforce, Observe, ExpandServing, ReinforceServing, ObserveServing}
 use Rattle.refusal.specs.Reply.{Reply, answered, refused}
-use Rattle.refusal.specs.Number.{number_of, index_of}
-use Rattle.refusal.specs.declared.Refusal.{Refusal}
 use Rattle.dispatch_defs.specs.Units.{Units, units_of}
 use Rattle.plan_defs.specs.Lists.{each}
-use Rattle.plan_defs.specs.TopUp.{by_cost, top_up, given_by}
+use Rattle.plan_defs.specs.TopUp.{given_by}
 use Rattle.plan_defs.specs.Case.{Case, surveyed, row_of, tops_up}
-use Rattle.plan_defs.specs.Accept.{case_fault}
-use Rattle.plan_defs.specs.Design.{line_of, set_transformer_mva, kept_bank, redesign}
+use Rattle.plan_defs.specs.Design.{line_of, set_transformer_mva, kept_bank}
 use Rattle.plan_defs.specs.Raise.{no_marks, mark_ends, raised_levels, moved_buses}
 use Rattle.plan_defs.specs.Build.{built}
 use Rattle.plan_defs.specs.Fill.{fill}
@@ -37,11 +33,8 @@ abbrev ones : ℕ → List Float
 ones n = replicate n one
 
 -- three buses in a row, at these tiers of four
-abbrev row_in : PlanMode → List ℕ → Case
-row_in mode tiers = surveyed mode 3 2 0 0 4 [] tiers [] [] [] [] [] [] [] [] (0 ∷ 1 ∷ []) (1 ∷ 2 ∷ []) (1 ∷ 1 ∷ []) [] [] [] []
-
 abbrev row : List ℕ → Case
-row tiers = row_in Expand tiers
+row tiers = surveyed Expand 3 2 0 0 4 [] tiers [] [] [] [] [] [] [] [] (0 ∷ 1 ∷ []) (1 ∷ 2 ∷ []) (1 ∷ 1 ∷ []) [] [] [] []
 
 -- Both ends go to the level above the higher one, not each up by one; of two marks the higher level wins.
 abbrev both_marked : List ℕ → List ℕ
@@ -84,18 +77,6 @@ pub floors_kept :
 unfolding listing_of
 floors_kept = refl
 
--- So with corridors designed anew: one from 345 to 138 kV, whose new bank is the least, of 100 MVA.
-abbrev stepped : Case
-stepped =
-    surveyed Expand 2 1 0 0 2 (whole 345 ∷ whole 138 ∷ []) (0 ∷ 1 ∷ []) (nought ∷ nought ∷ []) (ones 2) [] [] [] [] [] [] (0 ∷ []) (1 ∷ []) (1 ∷ []) (whole 10 ∷ []) (one ∷ []) (0 ∷ [])
-    (nought ∷ one ∷ nought ∷ whole 300 ∷ nought ∷ nought ∷ one ∷ nought ∷ whole 300 ∷ nought ∷ [])
-
-pub redesigned :
-    map (λ floor. map bank_of (redesign stepped (0 ∷ 1 ∷ []) (floor ∷ []))) (whole 250 ∷ whole 400 ∷ whole 50 ∷ [])
-    ≡ (bits_of (whole 250) ∷ []) ∷ (bits_of (whole 300) ∷ []) ∷ (bits_of hundred ∷ []) ∷ []
-unfolding listing_of
-redesigned = refl
-
 -- Gains fall, equal ones by index; a batch is the first so many while the sum before is below the excess.
 abbrev gain : ℕ → ℕ → Gain
 gain tenths k = record { gain = decimal tenths 10; corridor = k }
@@ -116,17 +97,10 @@ pub nothing_taken : map filled_to (0 ∷ 4 ∷ 5 ∷ 6 ∷ 7 ∷ 8 ∷ 20 ∷ []
 unfolding listing_of
 nothing_taken = refl
 
--- Of the six modes 0 and 3 fill.
-abbrev modes : List PlanMode
-modes = Expand ∷ Reinforce ∷ Observe ∷ ExpandServing ∷ ReinforceServing ∷ ObserveServing ∷ []
-
-pub modes_filled :
-    map (λ mode. (fill (row_in mode (0 ∷ 0 ∷ 0 ∷ [])) 6 (1 ∷ 0 ∷ []) (3 ∷ 1 ∷ [])).counts) modes
-    ≡ (4 ∷ 2 ∷ []) ∷ (3 ∷ 1 ∷ []) ∷ (3 ∷ 1 ∷ []) ∷ (4 ∷ 2 ∷ []) ∷ (3 ∷ 1 ∷ []) ∷ (3 ∷ 1 ∷ []) ∷ []
-unfolding listing_of
-modes_filled = refl
-
 -- ---- whole cases
+abbrev figures : List ℕ → List Float
+figures bits = map (of_bits binary64) bits
+
 -- Expand: a round adds two circuits, the next finds them enough, and filling adds one to the target. So a plan that copies the circuits with which the case
 -- began lists something else.
 -- HD mode 4 2 1 1 0 1; LV 138; BU 0 0, 0 200; GE 0 1 0 200 20 0.25; CO 0 1 1 10 1; LN 0 0.0625 0 100 0
@@ -142,19 +116,26 @@ pub circuits_added :
 unfolding listing_of
 circuits_added = refl
 
--- 6 at 65 circuits, one above the most that a case may begin with.
-abbrev began : ℕ → Case
-began count = surveyed Expand 2 1 0 0 1 (whole 138 ∷ []) (0 ∷ 0 ∷ []) (nought ∷ nought ∷ []) (ones 2) [] [] [] [] [] [] (0 ∷ []) (1 ∷ []) (count ∷ []) (whole 10 ∷ []) (one ∷ []) (0 ∷ [])
-    (nought ∷ one ∷ nought ∷ hundred ∷ nought ∷ [])
+-- Reinforce: the first round makes a bank larger, the second makes it larger once more, the third finds it enough. So a plan that only counts after the first
+-- round, and one that counts a round too many, each list something else.
+-- HD 1 0 3 2 1 0 2; LV 345, 138; BU 0 0, 1 0, 1 4212.304191654775; GE 0 0 0 4212.304191654775 20 0.01; CO 0 1 7 10 0.5814084460531092, 1 2 1 10 1; LN 0 0.0004378194579937841 0 20000 0, four times
+abbrev reinforced : Case
+reinforced =
+    surveyed Reinforce 3 2 1 0 2 (figures (0x4075_9000_0000_0000 ∷ 0x4061_4000_0000_0000 ∷ [])) (0 ∷ 1 ∷ 1 ∷ []) (figures (0 ∷ 0 ∷ 0x40B0_744D_DF81_18FA ∷ [])) (ones 3)
+    (0 ∷ []) (0 ∷ []) (nought ∷ []) (figures (0x40B0_744D_DF81_18FA ∷ [])) (figures (0x4034_0000_0000_0000 ∷ [])) (figures (0x3F84_7AE1_47AE_147B ∷ []))
+    (0 ∷ 1 ∷ []) (1 ∷ 2 ∷ []) (7 ∷ 1 ∷ []) (whole 10 ∷ whole 10 ∷ []) (figures (0x3FE2_9AE5_E2AD_5233 ∷ 0x3FF0_0000_0000_0000 ∷ []))
+    (0 ∷ 0 ∷ [])
+    (figures
+    (0 ∷ 0x3F3C_B164_40EE_45BD ∷ 0 ∷ 0x40D3_8800_0000_0000 ∷ 0 ∷ 0 ∷ 0x3F3C_B164_40EE_45BD ∷ 0 ∷ 0x40D3_8800_0000_0000 ∷ 0 ∷ 0 ∷ 0x3F3C_B164_40EE_45BD ∷ 0
+    ∷ 0x40D3_8800_0000_0000 ∷ 0 ∷ 0 ∷ 0x3F3C_B164_40EE_45BD ∷ 0 ∷ 0x40D3_8800_0000_0000 ∷ 0 ∷ []))
 
--- a refusal's number and index; nothing where there is none
-abbrev pub refusal_of : Option Refusal → List ℕ
-refusal_of none = []
-refusal_of (some f) = number_of f ∷ index_of f ∷ []
-
-pub begun_with : map (λ count. refusal_of (case_fault (began count) 0)) (0 ∷ 7 ∷ 64 ∷ 65 ∷ []) ≡ [] ∷ [] ∷ [] ∷ (6 ∷ 0 ∷ []) ∷ []
+pub sized_again :
+    listing_of reinforced 0
+    ≡ (1 ∷ 3 ∷ 1 ∷ 0 ∷ 0 ∷ 0 ∷ 0 ∷ 1 ∷ 0 ∷ 0 ∷ []) ∷ [] ∷ (2 ∷ []) ∷ (0 ∷ 1 ∷ 1 ∷ []) ∷ (0x3FB6_1696_8854_E35F ∷ 0x3F92_E288_F4A8_9333 ∷ 0 ∷ [])
+    ∷ (0x40B0_744D_DF81_18FA ∷ []) ∷ (7 ∷ 1 ∷ []) ∷ (0x40B0_744D_DF81_18FA ∷ 0x40B0_744D_DF81_18FC ∷ []) ∷ (0x4085_CD85_65A3_1C54 ∷ 0x40D3_8800_0000_0000 ∷ [])
+    ∷ (0x3FEB_9999_9999_9998 ∷ 0x3FB6_1696_8854_E35F ∷ []) ∷ []
 unfolding listing_of
-begun_with = refl
+sized_again = refl
 
 -- What stood in the lent slices does not matter, work is zero after the answer, and so is what is kept of filling, since the mode does not fill: here every
 -- place is lent with a one.
@@ -203,11 +184,6 @@ pub sample_listed :
     ∷ []
 unfolding listing_of
 sample_listed = refl
-
--- each mode listed as such
-pub modes_listed : map (λ mode. get_or (get_or (lines mode (planned sample)) 0 []) 0 9) modes ≡ 0 ∷ 1 ∷ 2 ∷ 3 ∷ 4 ∷ 5 ∷ []
-unfolding listing_of
-modes_listed = refl
 
 -- ---- what a plan keeps of filling, and its preview
 -- Two corridors beside each other, the second with half the reactance: a round gives it a second circuit, and it is still the more loaded, so it stands first
@@ -283,6 +259,9 @@ units pmax c1 = units_of (replicate (length pmax) nought) pmax c1 (replicate (le
 abbrev given : PlanMode → Units → ℕ → List ℕ
 given mode u demand = map bits_of (given_by (tops_up mode) u (whole demand))
 
+abbrev in_mode3 : List ℕ → List ℕ → ℕ → List ℕ
+in_mode3 pmax c1 demand = given ExpandServing (units (map whole pmax) (map whole c1)) demand
+
 -- Document 01's second example in modes 0 to 2, then in 3 to 5.
 pub second_served :
     map (λ mode. given mode (units (hundred ∷ []) (whole 10 ∷ [])) 50) (Expand ∷ Reinforce ∷ Observe ∷ ExpandServing ∷ ReinforceServing ∷ ObserveServing ∷ [])
@@ -290,45 +269,24 @@ pub second_served :
 unfolding listing_of
 second_served = refl
 
--- The pass by itself, of pmax, c1 and what the dispatch gave.
-abbrev topped_from : List Float → List Float → List Float → ℕ → List ℕ
-topped_from pmax c1 out demand = map bits_of (top_up pmax (whole demand) (by_cost c1) out)
-
-abbrev passed : List ℕ → List ℕ → List ℕ → ℕ → List ℕ
-passed pmax c1 out demand = topped_from (map whole pmax) (map whole c1) (map whole out) demand
-
--- 10, 30, 40, 50, 60 and 100 MW by their bits, written out: a figure that differs is then told apart at once
-abbrev b10 : ℕ
-b10 = 0x4024_0000_0000_0000
-
-abbrev b30 : ℕ
-b30 = 0x403E_0000_0000_0000
-
-abbrev b40 : ℕ
-b40 = 0x4044_0000_0000_0000
-
-abbrev b50 : ℕ
-b50 = 0x4049_0000_0000_0000
-
-abbrev b60 : ℕ
-b60 = 0x404E_0000_0000_0000
-
-abbrev b100 : ℕ
-b100 = 0x4059_0000_0000_0000
-
 -- Two units of equal c1: the lower index first, and then the other, with the difference that is left. A unit at pmax between them in price is passed over.
 -- A demand above all of them leaves each at pmax. None above zero: a demand of 0, and one that the dispatch meets.
 pub topped :
-    passed (50 ∷ 100 ∷ []) (20 ∷ 20 ∷ []) (0 ∷ 0 ∷ []) 30 ∷ passed (50 ∷ 100 ∷ []) (20 ∷ 20 ∷ []) (0 ∷ 0 ∷ []) 90
-    ∷ passed (50 ∷ 60 ∷ 100 ∷ []) (20 ∷ 10 ∷ 20 ∷ []) (0 ∷ 60 ∷ 0 ∷ []) 100 ∷ passed (50 ∷ 60 ∷ 100 ∷ []) (20 ∷ 10 ∷ 20 ∷ []) (0 ∷ 60 ∷ 0 ∷ []) 150
-    ∷ passed (30 ∷ 100 ∷ []) (20 ∷ 10 ∷ []) (30 ∷ 100 ∷ []) 200 ∷ passed (30 ∷ 100 ∷ []) (20 ∷ 10 ∷ []) (0 ∷ 0 ∷ []) 0
-    ∷ passed (30 ∷ 100 ∷ []) (20 ∷ 10 ∷ []) (0 ∷ 100 ∷ []) 100 ∷ []
-    ≡ (b30 ∷ 0 ∷ []) ∷ (b50 ∷ b40 ∷ []) ∷ (b40 ∷ b60 ∷ 0 ∷ []) ∷ (b50 ∷ b60 ∷ b40 ∷ []) ∷ (b30 ∷ b100 ∷ []) ∷ (0 ∷ 0 ∷ []) ∷ (0 ∷ b100 ∷ []) ∷ []
+    in_mode3 (50 ∷ 100 ∷ []) (20 ∷ 20 ∷ []) 30 ∷ in_mode3 (50 ∷ 100 ∷ []) (20 ∷ 20 ∷ []) 90
+    ∷ in_mode3 (50 ∷ 60 ∷ 100 ∷ []) (20 ∷ 10 ∷ 20 ∷ []) 100 ∷ in_mode3 (50 ∷ 60 ∷ 100 ∷ []) (20 ∷ 10 ∷ 20 ∷ []) 150
+    ∷ in_mode3 (30 ∷ 100 ∷ []) (20 ∷ 10 ∷ []) 200 ∷ in_mode3 (30 ∷ 100 ∷ []) (20 ∷ 10 ∷ []) 0 ∷ in_mode3 (30 ∷ 100 ∷ []) (20 ∷ 10 ∷ []) 100 ∷ []
+    ≡ map bits_of (whole 30 ∷ nought ∷ []) ∷ map bits_of (whole 50 ∷ whole 40 ∷ [])
+    ∷ map bits_of (whole 40 ∷ whole 60 ∷ nought ∷ []) ∷ map bits_of (whole 50 ∷ whole 60 ∷ whole 40 ∷ [])
+    ∷ map bits_of (whole 30 ∷ hundred ∷ []) ∷ (0 ∷ 0 ∷ []) ∷ map bits_of (nought ∷ hundred ∷ []) ∷ []
 unfolding listing_of
 topped = refl
 
--- By c1 before index: the third unit, the cheapest, is filled first, and the first, the dearest, takes the rest.
-pub cheapest_first : passed (100 ∷ 100 ∷ 100 ∷ []) (20 ∷ 15 ∷ 10 ∷ []) (0 ∷ 100 ∷ 50 ∷ []) 210 ≡ b10 ∷ b100 ∷ b100 ∷ []
+-- By c1 before index: at the highest price the first unit, the dearest, gives nothing, and the other two stand between their limits. The second takes the gap
+-- up to pmax; the pass then fills the third, which is cheaper than the first, and the first takes the rest.
+abbrev near : Units
+near = units (replicate 3 hundred) (whole 20 ∷ decimal 199_999_999_999 10_000_000_000 ∷ decimal 1_999_999_999_995 100_000_000_000 ∷ [])
+
+pub cheapest_first : given ExpandServing near 210 ≡ map bits_of (whole 10 ∷ hundred ∷ hundred ∷ [])
 unfolding listing_of
 cheapest_first = refl
 
@@ -337,8 +295,31 @@ cheapest_first = refl
 abbrev lost : Float
 lost = of_bits binary64 0x3CE8_0000_0000_0000
 
-pub ends_below :
-    topped_from (hundred ∷ lost ∷ lost ∷ hundred ∷ []) (whole 20 ∷ whole 10 ∷ whole 10 ∷ whole 20 ∷ []) (nought ∷ lost ∷ lost ∷ nought ∷ []) 50
+pub ends_below : given ExpandServing (units (hundred ∷ lost ∷ lost ∷ hundred ∷ []) (whole 20 ∷ whole 10 ∷ whole 10 ∷ whole 20 ∷ [])) 50
     ≡ 0x4048_FFFF_FFFF_FFFF ∷ 0x3CE8_0000_0000_0000 ∷ 0x3CE8_0000_0000_0000 ∷ 0 ∷ []
 unfolding listing_of
 ends_below = refl
+
+-- Case L with c2 = 0, a target of 4 and another mode: mode 3 serves the load, fills as Expand and is listed as 3; mode 0 leaves the unit idle, and the ground
+-- feeds the load; modes 4 and 5 serve it and fill nothing.
+-- HD mode 4 2 1 1 0 1; LV 138; BU 0 0, 0 50; GE 0 1 0 100 20 0; CO 0 1 1 10 1; LN 0 0.5 0 100 0
+abbrev flat_cost : PlanMode → Case
+flat_cost mode =
+    surveyed mode 2 1 1 0 1 (whole 138 ∷ []) (0 ∷ 0 ∷ []) (nought ∷ whole 50 ∷ []) (ones 2) (0 ∷ []) (1 ∷ []) (nought ∷ []) (hundred ∷ []) (whole 20 ∷ []) (nought ∷ [])
+    (0 ∷ []) (1 ∷ []) (1 ∷ []) (whole 10 ∷ []) (one ∷ []) (0 ∷ []) (nought ∷ half ∷ nought ∷ hundred ∷ nought ∷ [])
+
+-- what is listed of its plan, the MW of the unit and the circuits among it
+abbrev flat_listed : ℕ → ℕ → ℕ → Float → ℕ → ℕ → ℕ → ℕ → List (List ℕ)
+flat_listed mode rounds filler mw circuits angle loading spread =
+    (mode ∷ rounds ∷ 1 ∷ 0 ∷ 0 ∷ filler ∷ 0 ∷ 0 ∷ 0 ∷ 0 ∷ []) ∷ [] ∷ (0 ∷ []) ∷ (0 ∷ 0 ∷ []) ∷ (0 ∷ angle ∷ []) ∷ (bits_of mw ∷ []) ∷ (circuits ∷ [])
+    ∷ (bits_of (whole 50) ∷ []) ∷ (bits_of hundred ∷ []) ∷ (loading ∷ spread ∷ []) ∷ []
+
+pub modes_listed :
+    map (λ mode. listing_of (flat_cost mode) 4) (Expand ∷ ExpandServing ∷ ReinforceServing ∷ ObserveServing ∷ [])
+    ≡ flat_listed 0 1 3 nought 4 0xBFB0_0000_0000_0000 0x3FC0_0000_0000_0000 0x3FB0_0000_0000_0000
+    ∷ flat_listed 3 1 3 (whole 50) 4 0xBFB0_0000_0000_0000 0x3FC0_0000_0000_0000 0x3FB0_0000_0000_0000
+    ∷ flat_listed 4 1 0 (whole 50) 1 0xBFD0_0000_0000_0000 0x3FE0_0000_0000_0000 0x3FD0_0000_0000_0000
+    ∷ flat_listed 5 0 0 (whole 50) 1 0xBFD0_0000_0000_0000 0x3FE0_0000_0000_0000 0x3FD0_0000_0000_0000
+    ∷ []
+unfolding listing_of
+modes_listed = refl

@@ -13,4 +13,7 @@ pub mod Opened
 pub mod Examples
 pub mod OwnCaps
 pub mod Weights
+pub mod ExamplesApart
+pub mod OwnCapsApart
+pub mod WeightsApart
 pub mod Rows

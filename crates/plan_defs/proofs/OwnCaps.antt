@@ -1,5 +1,5 @@
--- Worked examples of corridors with a cap of their own (document 02, K5): sizing, the capped count, filling, the refusal, what a plan keeps, stiffening, and the
--- clause of demand 3 about fillers. By evaluation; crates/plan_cases has whole cases.
+-- Worked examples of corridors with a cap of their own (document 02, K5): sizing, the capped count, filling, stiffening, the refusal, and the clause of demand 3
+-- about fillers. By evaluation.
 use Prim.Native.Nat.{ℕ, zero, suc, ◌+◌, ◌≤◌, ◌<◌}
 use mathlib.Core.Bool.{Bool, true, false}
 use mathlib.Core.List.{List, [], ◌∷◌, map}
@@ -11,71 +11,48 @@ use Rattle.loops.specs.Figures.{nought, one, hundred, decimal}
 use Rattle.mode.specs.declared.PlanMode.{PlanMode}
 use Rattle.mode.specs.declared.PlanMode.TheVariants.{Expand, Reinforce, Observe}
 use Rattle.plan_defs.specs.Case.{Case, surveyed, full_at}
-use Rattle.plan_defs.specs.Accept.{case_fault}
-use Rattle.plan_defs.specs.Design.{design_circuits}
 use Rattle.plan_defs.specs.Build.{built}
-use Rattle.plan_defs.specs.Size.{Sizing, size_all}
-use Rattle.plan_defs.specs.Fill.{fill}
-use Rattle.plan_defs.specs.Closing.{capped_of}
 use Rattle.plan_defs.specs.Stiffen.{Budget, Stiffening, stiff, stiffen_one, candidate}
 use Rattle.plan_defs.specs.Demand.{circuits_at, filler_at, Even}
 use Rattle.plan_defs.specs.Plan.{Plan}
-use Rattle.plan_defs.specs.Outcome.{Slices, slices, held, plan_corridors}
-use Rattle.plan_defs.specs.Listing.{flag, listing_of}
-use Rattle.plan_defs.proofs.Examples.{refusal_of, sample}
+use Rattle.plan_defs.specs.Outcome.{Slices, slices, plan_corridors}
+use Rattle.plan_defs.specs.Listing.{listing_of}
 
 abbrev whole : ℕ → Float
 whole n = decimal n 1
 
--- One corridor that needs three circuits for 200 MW.
+-- of a listing PL and the circuits; of a refusal its number and index
+abbrev said : List (List ℕ) → List (List ℕ)
+said l = get_or l 0 [] ∷ get_or l 6 [] ∷ []
+
+-- One corridor that needs three circuits. (The unit gives its pmax, so that nothing is halved to find a price.)
 -- HD mode target 2 1 1 0 1; LV 138; BU 0 0, 0 200; GE 0 1 0 200 20 0.25; CP 0 1 initial 10 1 cap; LN 0 0.0625 0 100 0
 abbrev valley : PlanMode → ℕ → ℕ → Case
 valley mode initial cap =
     surveyed mode 2 1 1 0 1 (whole 138 ∷ []) (0 ∷ 0 ∷ []) (nought ∷ whole 200 ∷ []) (replicate 2 one) (0 ∷ []) (1 ∷ []) (nought ∷ []) (whole 200 ∷ []) (whole 20 ∷ []) (decimal 1 4 ∷ [])
     (0 ∷ []) (1 ∷ []) (initial ∷ []) (whole 10 ∷ []) (one ∷ []) (cap ∷ []) (nought ∷ decimal 1 16 ∷ nought ∷ hundred ∷ nought ∷ [])
 
--- Sizing stops at a cap of 2 and says that more was wanted; with a cap of 6, and with none, it goes to three.
-abbrev at_one_level : List ℕ
-at_one_level = 0 ∷ 0 ∷ []
-
-abbrev sized_to : PlanMode → ℕ → List ℕ
-sized_to mode cap =
-    let c : Case = valley mode 1 cap in
-    let s : Sizing = size_all c at_one_level (whole 200 ∷ []) (built (1 ∷ []) (design_circuits c at_one_level) (nought ∷ []) (0 ∷ [])) 0 in
-    flag s.capped ∷ s.capacity ∷ s.build.circuits
-
-pub caps_sized : sized_to Reinforce 2 ∷ sized_to Expand 2 ∷ sized_to Expand 6 ∷ sized_to Expand 0 ∷ [] ≡ (1 ∷ 1 ∷ 2 ∷ []) ∷ (1 ∷ 1 ∷ 2 ∷ []) ∷ (0 ∷ 2 ∷ 3 ∷ []) ∷ (0 ∷ 2 ∷ 3 ∷ []) ∷ []
+-- Sizing stops at a cap of 2, the plan has not converged and the corridor counts as capped, and filling adds nothing; with a cap of 6 it is sized to 3 and filled
+-- to 6; a count above the cap stays; observing reads no cap; a cap of 7 is refused.
+pub caps_taken :
+    said (listing_of (valley Reinforce 1 2) 0) ∷ said (listing_of (valley Expand 1 2) 4) ∷ said (listing_of (valley Expand 1 6) 8)
+    ∷ said (listing_of (valley Expand 3 2) 4) ∷ said (listing_of (valley Observe 1 2) 4) ∷ said (listing_of (valley Expand 1 7) 4) ∷ []
+    ≡ ((1 ∷ 2 ∷ 0 ∷ 1 ∷ 0 ∷ 0 ∷ 0 ∷ 0 ∷ 0 ∷ 1 ∷ []) ∷ (2 ∷ []) ∷ []) ∷ ((0 ∷ 2 ∷ 0 ∷ 1 ∷ 0 ∷ 0 ∷ 0 ∷ 0 ∷ 0 ∷ 1 ∷ []) ∷ (2 ∷ []) ∷ [])
+    ∷ ((0 ∷ 2 ∷ 1 ∷ 2 ∷ 0 ∷ 3 ∷ 0 ∷ 0 ∷ 0 ∷ 0 ∷ []) ∷ (6 ∷ []) ∷ [])
+    ∷ ((0 ∷ 1 ∷ 1 ∷ 0 ∷ 0 ∷ 0 ∷ 0 ∷ 0 ∷ 0 ∷ 0 ∷ []) ∷ (3 ∷ []) ∷ []) ∷ ((2 ∷ 0 ∷ 1 ∷ 0 ∷ 0 ∷ 0 ∷ 0 ∷ 0 ∷ 1 ∷ 0 ∷ []) ∷ (1 ∷ []) ∷ [])
+    ∷ ((6 ∷ 0 ∷ []) ∷ [] ∷ []) ∷ []
 unfolding listing_of
-caps_sized = refl
-
--- So it counts as capped with two circuits; with a cap of 6, with none, and when observing, it does not.
-abbrev counted_of : PlanMode → ℕ → ℕ
-counted_of mode cap = let c : Case = valley mode 1 cap in capped_of c (design_circuits c at_one_level) (2 ∷ []) (whole 200 ∷ [])
-
-pub caps_counted : counted_of Expand 2 ∷ counted_of Expand 6 ∷ counted_of Expand 0 ∷ counted_of Observe 2 ∷ [] ≡ 1 ∷ 0 ∷ 0 ∷ 0 ∷ []
-unfolding listing_of
-caps_counted = refl
-
--- Filling adds nothing at a cap of 2, goes to a cap of 6, and leaves a count above the cap as it is.
-abbrev filled_from : ℕ → ℕ → List ℕ
-filled_from cap count = (fill (valley Expand 1 cap) 8 (0 ∷ []) (count ∷ [])).counts
-
-pub caps_filled : filled_from 2 2 ∷ filled_from 6 3 ∷ filled_from 0 3 ∷ filled_from 2 3 ∷ [] ≡ (2 ∷ []) ∷ (6 ∷ []) ∷ (4 ∷ []) ∷ (3 ∷ []) ∷ []
-unfolding listing_of
-caps_filled = refl
-
--- A cap of 7 is refused.
-pub caps_accepted : map (λ cap. refusal_of (case_fault (valley Expand 1 cap) 4)) (0 ∷ 1 ∷ 6 ∷ 7 ∷ []) ≡ [] ∷ [] ∷ [] ∷ (6 ∷ 0 ∷ []) ∷ []
-unfolding listing_of
-caps_accepted = refl
+caps_taken = refl
 
 -- The plan record keeps the caps in every mode, also where it keeps zeros of filling; a refusal of the case leaves what was lent.
 abbrev lent : Slices
 lent =
     slices (9 ∷ []) (one ∷ []) (one ∷ []) (9 ∷ []) (9 ∷ []) (9 ∷ []) (one ∷ []) (replicate 2 one) (replicate 2 9) (replicate 2 9) [] (replicate 48 one) (replicate 48 9)
 
-pub caps_kept :
-    (held (valley Expand 3 2) sample).cap ∷ (held (valley Observe 1 2) sample).cap ∷ (plan_corridors (valley Expand 1 7) 4 lent).lent.cap ∷ [] ≡ (2 ∷ []) ∷ (2 ∷ []) ∷ (9 ∷ []) ∷ []
+abbrev kept_by_lem : Case → List ℕ
+kept_by_lem c = (plan_corridors c 4 lent).lent.cap
+
+pub caps_kept : kept_by_lem (valley Expand 3 2) ∷ kept_by_lem (valley Observe 1 2) ∷ kept_by_lem (valley Expand 1 7) ∷ [] ≡ (2 ∷ []) ∷ (2 ∷ []) ∷ (9 ∷ []) ∷ []
 unfolding listing_of
 caps_kept = refl
 

@@ -11,3 +11,4 @@ pub mod Monotone
 pub mod Ceiling
 pub mod CeilingCases
 pub mod Squares
+pub mod Halving

@@ -25,7 +25,7 @@ corridor_place n k level = row_figures * (k * n + level)
 
 -- ---- the row by corridor that is row i by level
 abbrev pub line_of : ℕ → ℕ → ℕ → ℕ
-line_of m n i = row_corridor m i * n + row_level m i
+line_of m n i = i % m * n + i / m
 
 -- and the figure by corridor that is figure p by level
 abbrev pub figure_of : ℕ → ℕ → ℕ → ℕ

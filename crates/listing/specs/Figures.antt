@@ -14,10 +14,10 @@ abbrev pub bits_at : List ℕ → ℕ → ℕ
 bits_at l i = get_or l i (bits_of nan)
 
 abbrev pub columns_text : List ℕ → List ℕ → List ℕ → List ℕ → List ℕ → List ℕ → List ℕ → List ℕ → List ℕ → List ℕ → List ℕ
-columns_text plan added ground tier angle mw circuits flow rate most =
+columns_text plan added grounds tier angle mw circuits flow rate most =
     line 80 76 (map number plan)
     ++ (lines (λ i. line 65 68 (bits_field (bits_at added i) ∷ [])) (length added)
-    ++ (lines (λ i. line 71 82 (number (get_or ground i 0) ∷ [])) (length ground)
+    ++ (lines (λ i. line 71 82 (number (get_or grounds i 0) ∷ [])) (length grounds)
     ++ (lines (λ i. line 66 85 (number i ∷ number (get_or tier i 0) ∷ bits_field (bits_at angle i) ∷ [])) (length angle)
     ++ (lines (λ i. line 71 69 (number i ∷ bits_field (bits_at mw i) ∷ [])) (length mw)
     ++ (lines (λ i. line 67 79 (number i ∷ number (get_or circuits i 0) ∷ bits_field (bits_at flow i) ∷ bits_field (bits_at rate i) ∷ [])) (length circuits)

@@ -17,19 +17,19 @@ use Rattle.listing.specs.Lines.{plan_room, line_room, refusal_line, plan_line, a
 
 -- PL, AD, GR, BU, GE, CO, MX
 abbrev pub listed : PlanMode → CorridorPlan → List Float → List ℕ → List ℕ → List Float → List Float → List ℕ → List Float → List Float → List ℕ
-listed mode p added ground tier angle mw circuits flow rate =
+listed mode p added ground_buses tier angle mw circuits flow rate =
     plan_line mode p
-    ++ (added_lines added ++ (ground_lines ground ++ (bus_lines tier angle ++ (generator_lines mw ++ (corridor_lines circuits flow rate ++ most_line p.loading p.spread)))))
+    ++ (added_lines added ++ (ground_lines ground_buses ++ (bus_lines tier angle ++ (generator_lines mw ++ (corridor_lines circuits flow rate ++ most_line p.loading p.spread)))))
 
 -- what planning says, with the slices that it leaves: of the levels added and the grounds it says how many there are
 unfoldable pub planned_text : PlanMode → Planned → List Float → List ℕ → List ℕ → List Float → List Float → List ℕ → List Float → List Float → List ℕ
-planned_text mode (Refused f) added ground tier angle mw circuits flow rate = refusal_line f
-planned_text mode (Answered p) added ground tier angle mw circuits flow rate =
-    listed mode p (take p.added added) (take p.grounds ground) tier angle mw circuits flow rate
+planned_text mode (Refused f) added ground_buses tier angle mw circuits flow rate = refusal_line f
+planned_text mode (Answered p) added ground_buses tier angle mw circuits flow rate =
+    listed mode p (take p.added added) (take p.grounds ground_buses) tier angle mw circuits flow rate
 
 unfoldable pub Counted : Planned → List Float → List ℕ → Type 0
-Counted (Refused f) added ground = Unit
-Counted (Answered p) added ground = (p.added ≤ length added) × (p.grounds ≤ length ground)
+Counted (Refused f) added ground_buses = Unit
+Counted (Answered p) added ground_buses = (p.added ≤ length added) × (p.grounds ≤ length ground_buses)
 
 -- ---- of the defined plan
 unfoldable pub plan_text : PlanMode → Plan → List ℕ

@@ -67,7 +67,7 @@ closing_of mode cap above led level ds circuits upsized flow theta =
 
 -- ---- the slices that the stages are lent: all but those for what is kept of filling and for the own caps
 abbrev pub lent_to : List ℕ → List Float → List Float → List Float → List Float → List ℕ → List ℕ → List Float → List Float → List ℕ → Slices
-lent_to circuits flow rate mw angle tier ground added figures counts = slices circuits flow rate [] [] [] mw angle tier ground added figures counts
+lent_to circuits flow rate mw angle tier grounds added figures counts = slices circuits flow rate [] [] [] mw angle tier grounds added figures counts
 
 -- with those
 abbrev pub with_kept : List ℕ → List ℕ → List ℕ → Slices → Slices

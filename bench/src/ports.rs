@@ -1,5 +1,6 @@
-//! The proved operations under their C names: each slice is a pointer and a length, each answer a struct. crates/exports has
-//! their contracts. That the declarations here are those of the archive shows only where both sides answer alike.
+//! The proved operations under their C names: each slice is a pointer and a length, each answer a struct. crates/exports_c has
+//! their contracts, crates/exports the structs. That the declarations here are those of the archive shows only where both sides
+//! answer alike.
 
 /// What `dc_angles` answers: the refusal's number and index, or 0 and how the solve ended.
 #[repr(C)]

@@ -1,4 +1,5 @@
 // Operations under C names, for a driver in C or Rust such as bench/: what an operation answers comes back in the fields of a struct.
+// exports_c has their symbols.
 #![tactic(auto)]
 
 mod said;
@@ -65,8 +66,7 @@ pub struct PlacementSaid {
     pub count: usize,
 }
 
-#[unsafe(no_mangle)]
-pub extern "C" fn lopnaski_dc_angles(
+pub fn lopnaski_dc_angles(
     n: usize,
     m: usize,
     k: usize,
@@ -91,8 +91,7 @@ pub extern "C" fn lopnaski_dc_angles(
     ))
 }
 
-#[unsafe(no_mangle)]
-pub extern "C" fn lopnaski_read_case(
+pub fn lopnaski_read_case(
     file: &[u8],
     ladder: &mut [f64],
     tier: &mut [u32],
@@ -137,8 +136,7 @@ pub extern "C" fn lopnaski_read_case(
     ))
 }
 
-#[unsafe(no_mangle)]
-pub extern "C" fn lopnaski_line_sheet(
+pub fn lopnaski_line_sheet(
     levels: usize,
     corridors: usize,
     ladder: &[f64],
@@ -152,8 +150,7 @@ pub extern "C" fn lopnaski_line_sheet(
     said::answer(line_sheet::line_sheet(levels, corridors, ladder, km, spread, sheet))
 }
 
-#[unsafe(no_mangle)]
-pub extern "C" fn lopnaski_economic_dispatch(
+pub fn lopnaski_economic_dispatch(
     units: usize,
     pmin: &[f64],
     pmax: &[f64],
@@ -168,8 +165,7 @@ pub extern "C" fn lopnaski_economic_dispatch(
     said::answer(dispatch::economic_dispatch(units, pmin, pmax, c1, c2, demand, mw))
 }
 
-#[unsafe(no_mangle)]
-pub extern "C" fn lopnaski_leaders(
+pub fn lopnaski_leaders(
     buses: usize,
     corridors: usize,
     a: &[u32],
@@ -182,8 +178,7 @@ pub extern "C" fn lopnaski_leaders(
     said::answer(leaders::leaders(buses, corridors, a, b, leader))
 }
 
-#[unsafe(no_mangle)]
-pub extern "C" fn lopnaski_place_voltage_support(
+pub fn lopnaski_place_voltage_support(
     n: usize,
     m: usize,
     g: usize,

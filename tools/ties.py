@@ -85,54 +85,19 @@ def convert(path,x,fn):
     def ownstep(i,comp):
         o=alike(places[i][2][0])
         return o==alike(comp) or o==alike(re.sub(r"_(holds|lem)$","",comp))
+    def find_step(base,at,comp):
+        """The place of the step comp, at or above the place at; else, since the older Rattle had more steps, the uppermost above base."""
+        j=at
+        while j is not None and not ownstep(j,comp): j=oldparent[j]
+        if j is None:
+            q=base
+            while q is not None:
+                if ownstep(q,comp): j=q
+                q=oldparent[q]
+        return j
     def turn_body(s,var,place,result=None):
         """s: text of a declaration's clauses; var bound to old place"""
         env={var:place}
-        # path tokens
-        def path(m):
-            v=m.group(1); comps=m.group(2)
-            if v not in env or env[v] is None: return m.group(0)
-            cs=re.findall(r"\.((?:"+W+r")|\d+)",comps)
-            i=env[v]; k=0
-            while k<len(cs) and cs[k]=='before':
-                i=oldparent[i] if i is not None else None
-                k+=1
-            if i is None:
-                said.append(f'{v}{comps}: past the start'); return m.group(0)
-            rest=cs[k:]
-            if not rest:
-                # a place: count in new chain
-                return ('PLACE',v,i)
-            j=i
-            # where is the step? own, else up the chain (old flat access?)
-            while j is not None and not ownstep(j,rest[0]) and not (rest[0] in('args','requires','well_formed') ):
-                j=oldparent[j]
-            if rest[0] in ('args','requires','well_formed','utf8','ranges','type_inv'):
-                return v+'.'+'.'.join(rest)
-            if j is None:
-                said.append(f'{v}{comps}: no step {rest[0]} at {places[i][0]}'); return v+'.'+'.'.join(rest)
-            # is place j or a descendant in chain folded so that j's step is a field of an arm?
-            base=env[v]
-            q=base; chain=[]
-            while q is not None: chain.append(q); q=newparent[q]
-            if j in chain:
-                if arms[j]:
-                    for nf,os_,pth in arms[j][2]:
-                        if alike(os_) in (alike(rest[0]),alike(re.sub(r'_(holds|lem)$','',rest[0]))) and rest[1:1+len(pth)]==pth and (pth or len(rest)>0):
-                            return v+'.'+arms[j][0]+'.'+'.'.join([nf]+rest[1+len(pth):])
-                    said.append(f'{v}{comps}: arm {arms[j]} has no such field'); return v+'.'+arms[j][0]+'.'+'.'.join(rest[1:])
-                return v+'.'+'.'.join([esc(places[j][2][1])]+rest[1:])
-            for q in chain:
-                if arms[q]:
-                    # j between q and newparent
-                    z=q;n=arms[q][1]
-                    for _ in range(n):
-                        if z==j:
-                            for nf,os_,pth in arms[q][2]:
-                                if alike(os_) in (alike(rest[0]),alike(re.sub(r'_(holds|lem)$','',rest[0]))) and rest[1:1+len(pth)]==pth:
-                                    return v+'.'+arms[q][0]+'.'+'.'.join([nf]+rest[1+len(pth):])
-                        z=oldparent[z]
-            said.append(f'{v}{comps}: step {rest[0]} is folded away'); return v+'.'+'.'.join([places[j][2][1]]+rest[1:])
         out='';pos=0
         tok=re.compile(r"(?<![\w.'-])("+W+r")((?:\.(?:"+W+r"|\d+))*)|\)((?:\.(?:"+W+r"|\d+))+)")
         hlet=re.compile(r"let ("+W+r") = ("+W+r")\s")
@@ -178,13 +143,7 @@ def convert(path,x,fn):
             if am and am.group(2).split('.')[0] in env and env[am.group(2).split('.')[0]] is not None:
                 b=am.group(2).split('.')[0];e=env[b]
                 base,at=(e[1],e[2]) if isinstance(e,tuple) else (e,e)
-                j=upper(at,am.group(2).count('.before'))
-                while j is not None and not ownstep(j,am.group(3)): j=oldparent[j]
-                if j is None:
-                    q=base
-                    while q is not None:
-                        if ownstep(q,am.group(3)): j=q
-                        q=oldparent[q]
+                j=find_step(base,upper(at,am.group(2).count('.before')),am.group(3))
                 if j is not None: tuples[am.group(1)]=who(j)
             if v in tuples and re.match(r'\.[01](\.[01])*$',m.group(2)):
                 out+='.'.join(autos([v]+m.group(2)[1:].split('.'),0,tuples[v])); pos=m.end(); continue
@@ -203,14 +162,7 @@ def convert(path,x,fn):
             if sm and sm.group(2).split('.')[0] in env and env[sm.group(2).split('.')[0]] is not None:
                 b=sm.group(2).split('.')[0];e=env[b]
                 base,at=(e[1],e[2]) if isinstance(e,tuple) else (e,e)
-                i=upper(at,sm.group(2).count('.before'))
-                j=i
-                while j is not None and not ownstep(j,sm.group(3)): j=oldparent[j]
-                if j is None:
-                    q=base
-                    while q is not None:
-                        if ownstep(q,sm.group(3)): j=q
-                        q=oldparent[q]
+                j=find_step(base,upper(at,sm.group(2).count('.before')),sm.group(3))
                 if j is not None: steps[sm.group(1)]=who(j)
             if v in steps and re.match(r'\.(auto|new|last)\.[01]',m.group(2)):
                 rest=[v]+m.group(2)[1:].split('.')
@@ -218,7 +170,6 @@ def convert(path,x,fn):
             if v in env and m.group(2)!='' or (v in env and env[v] is not None):
                 e=env[v]
                 if isinstance(e,tuple):
-                    env2=dict(env);
                     r=path_from(v,m.group(2),e[1],e[2])
                 else: r=path_from(v,m.group(2),e,e)
                 if isinstance(r,tuple):
@@ -248,14 +199,7 @@ def convert(path,x,fn):
         if not rest: return ('PLACE',v,i)
         rest[0]={'well-formed':'well_formed','type-inv':'type_inv','pre':'requires'}.get(rest[0],rest[0])
         if rest[0] in ('args','requires','well_formed','utf8','ranges','type_inv'): return v+'.'+'.'.join(rest)
-        j=i
-        while j is not None and not ownstep(j,rest[0]): j=oldparent[j]
-        if j is None:
-            # the older Rattle had more steps between: the nearest of that name on the way
-            q=base
-            while q is not None:
-                if ownstep(q,rest[0]): j=q
-                q=oldparent[q]
+        j=find_step(base,i,rest[0])
         if j is None:
             said.append(f'{v}{comps}: no step {rest[0]} at {places[i][0]}'); return v+'.'+'.'.join(rest)
         chain=[];q=base
@@ -296,14 +240,14 @@ def convert(path,x,fn):
             said.append('auto: '+'.'.join(rest)+' '+str(names)); return rest
         return rest[:at+1]+[names[n]]+rest[k+1:]
     answers={} # new need -> local name
-    out=[];drop=set()
+    out=[]
     for b in blocks:
         s='\n'.join(b)
         m=re.search(r"^(?:pub |abbrev )*("+W+r")\s*:\s*tie\.Need-("+W+r")",s,re.M)
         if m:
             n=need_key(needs,m.group(2))
             if n is None:
-                drop.add(m.group(1)); continue
+                continue
             if n in answers: said.append('twice: '+n)
             answers[n]=m.group(1)
             s=s.replace('tie.Need-'+m.group(2),'tie.Need-'+n,1)
@@ -311,7 +255,6 @@ def convert(path,x,fn):
             # clauses
             head,_,body=s.partition('\n')
             # var of the clause
-            def cl(mm): return mm.group(0)
             cm=re.search(r"^"+re.escape(m.group(1))+r"((?:\s+(?:\{[^}]*\}|"+W+r"))*)\s*=",s,re.M)
             if cm:
                 vs=re.findall(W,cm.group(1))

@@ -25,7 +25,14 @@ fn copy(from: &[f64], mw: &mut [f64])
 }
 
 // The dispatch of sound units, or refusal 8.
-fn settle(pmin: &[f64], pmax: &[f64], c1: &[f64], c2: &[f64], demand: f64, mw: &mut [f64]) -> Result<(), Refusal>
+fn settle(
+    pmin: &[f64],
+    pmax: &[f64],
+    c1: &[f64],
+    c2: &[f64],
+    demand: f64,
+    mw: &mut [f64],
+) -> Result<(), Refusal>
     requires { Even (units_of pmin.now pmax.now c1.now c2.now) × (length mw.old ≡ length pmin.now) }
     ensures { outcome result mw.new
         ≡ settled (units_of pmin.now pmax.now c1.now c2.now) demand mw.old }

@@ -151,7 +151,10 @@ fn faulty_corridor(buses: usize, a: &[u32], b: &[u32]) -> Option<usize>
     requires { length b.now ≡ length a.now }
     ensures { result ≡ fault (corridor_ok_at buses a.now b.now) (length a.now) }
 {
-    loops::first_fault(a.len(), |k| corridor_ok(buses, a[k] as usize, b[k] as usize))
+    loops::first_fault(
+        a.len(),
+        |k| corridor_ok(buses, a[k] as usize, b[k] as usize),
+    )
 }
 
 // The refusals, in order.
@@ -173,7 +176,13 @@ fn check(buses: usize, corridors: usize, a: &[u32], b: &[u32], places: usize) ->
 
 // Leaves each bus's leader in `leader`; where the request is refused, `leader` keeps its contents.
 #[tactic(auto, using(crate::proofs::Checks::passes, crate::proofs::Checks::ends_of_lem, crate::proofs::Checks::refused_outcome, crate::proofs::Checks::answered_outcome))]
-pub fn leaders(buses: usize, corridors: usize, a: &[u32], b: &[u32], leader: &mut [u32]) -> Result<(), Refusal>
+pub fn leaders(
+    buses: usize,
+    corridors: usize,
+    a: &[u32],
+    b: &[u32],
+    leader: &mut [u32],
+) -> Result<(), Refusal>
     ensures { outcome result leader.new
         ≡ led_outcome buses corridors a.now b.now leader.old }
 {

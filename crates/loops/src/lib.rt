@@ -1,8 +1,12 @@
-// Definitions and laws of loops, of parts of a slice and of figures, shared by the other crates; and the search that every check makes.
+// Definitions and laws of loops, of parts of a slice and of figures, shared by the other crates; and the few functions that all of them call.
 #![tactic(auto)]
+
+mod figures;
 
 ghost use Rattle.std.specs.Prelude.{◌≡◌, ◌<◌, ℕ, Bool};
 ghost use Rattle.loops.specs.Loops.{fault};
+
+pub use figures::{infinity, is_finite};
 
 // The first index below `count` at which a test fails.
 pub fn first_fault<F: Fn(usize) -> bool>(count: usize, sound: F) -> Option<usize>

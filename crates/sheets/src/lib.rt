@@ -105,7 +105,12 @@ fn fill(corridors: usize, levels: usize, rows: &[f64], sheet: &mut [f64])
 
 // Writes the rows of a sheet by corridor, as the line office has it, to a sheet by level, as the planner has it.
 #[tactic(auto, using(crate::proofs::Operation::is_refused_lem, crate::proofs::Operation::passed, crate::proofs::Operation::is_laid))]
-pub fn lay_out(corridors: usize, levels: usize, rows: &[f64], sheet: &mut [f64]) -> Result<(), Refusal>
+pub fn lay_out(
+    corridors: usize,
+    levels: usize,
+    rows: &[f64],
+    sheet: &mut [f64],
+) -> Result<(), Refusal>
     ensures { outcome result sheet.new ≡ lay_out corridors levels rows.now sheet.old }
 {
     check(corridors, levels, rows.len(), sheet.len())?;

@@ -36,8 +36,8 @@ pub fn answer_angles(mut fields: Fields, out: &mut AnswerLine) -> Result<(), Una
     let mut guess = [0.0; MOST_COUNT];
     fields.fill(&mut guess[..guesses])?;
     fields.end()?;
-    let mut angle = [0.0; MOST_COUNT];
-    let mut work = [0.0; MOST_WORK];
+    let angle = &mut [0.0; MOST_COUNT][..n];
+    let work = &mut [0.0; MOST_WORK][..WORK_PER_BUS * n];
     let solution = match angles::dc_angles(
         n,
         m,
@@ -48,8 +48,8 @@ pub fn answer_angles(mut fields: Fields, out: &mut AnswerLine) -> Result<(), Una
         &injection,
         &grounds,
         &guess[..n],
-        &mut angle[..n],
-        &mut work[..WORK_PER_BUS * n],
+        angle,
+        work,
     ) {
         Angles::Answered(solution) => solution,
         Angles::Refused(refusal) => return Err(refusal.into()),
@@ -57,6 +57,6 @@ pub fn answer_angles(mut fields: Fields, out: &mut AnswerLine) -> Result<(), Una
     out.text("OK");
     out.number(solution.steps);
     put_ended(out, solution.ended);
-    out.fields(&angle[..n]);
+    out.fields(angle);
     Ok(())
 }

@@ -3,7 +3,7 @@ use crate::fields::{Fields, MOST_COUNT, Table, Unanswered, done};
 use crate::line::AnswerLine;
 
 // The limits and costs of the units, a table for each.
-#[derive(Drop)]
+#[derive(Default, Drop)]
 struct Units {
     pmin: Table<f64>,
     pmax: Table<f64>,
@@ -14,12 +14,7 @@ struct Units {
 impl Units {
     // The next n units.
     fn read(fields: &mut Fields, n: usize) -> Result<Units, Unanswered> {
-        let mut units = Units {
-            pmin: Table::new(),
-            pmax: Table::new(),
-            c1: Table::new(),
-            c2: Table::new(),
-        };
+        let mut units = Units::default();
         for _ in 0..n {
             fields.read_to(&mut units.pmin)?;
             fields.read_to(&mut units.pmax)?;
@@ -36,7 +31,7 @@ pub fn answer_dispatch(mut fields: Fields, out: &mut AnswerLine) -> Result<(), U
     let demand = fields.read()?;
     let units = Units::read(&mut fields, u)?;
     fields.end()?;
-    let mut mw = [0.0; MOST_COUNT];
+    let mw = &mut [0.0; MOST_COUNT][..u];
     done(dispatch::economic_dispatch(
         u,
         &units.pmin,
@@ -44,9 +39,9 @@ pub fn answer_dispatch(mut fields: Fields, out: &mut AnswerLine) -> Result<(), U
         &units.c1,
         &units.c2,
         demand,
-        &mut mw[..u],
+        mw,
     ))?;
     out.text("OK");
-    out.fields(&mw[..u]);
+    out.fields(mw);
     Ok(())
 }

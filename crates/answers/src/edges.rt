@@ -1,7 +1,7 @@
 // The edges of a network, a table for each part.
 use crate::fields::{Fields, Table, Unanswered};
 
-#[derive(Drop)]
+#[derive(Default, Drop)]
 pub struct Edges {
     pub a: Table<u32>,
     pub b: Table<u32>,
@@ -11,11 +11,7 @@ pub struct Edges {
 impl Edges {
     // The next m edges: two ends and a figure.
     pub fn read(fields: &mut Fields, m: usize) -> Result<Edges, Unanswered> {
-        let mut edges = Edges {
-            a: Table::new(),
-            b: Table::new(),
-            figure: Table::new(),
-        };
+        let mut edges = Edges::default();
         for _ in 0..m {
             fields.read_to(&mut edges.a)?;
             fields.read_to(&mut edges.b)?;

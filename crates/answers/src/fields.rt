@@ -148,8 +148,8 @@ impl<'a> Fields<'a> {
         Fields { rest: Some(line) }
     }
 
-    // The next field, up to the next space or the end of the line.
-    pub fn next(&mut self) -> Option<&'a [u8]> {
+    // The next field's text, up to the next space or the end of the line.
+    pub fn next_text(&mut self) -> Option<&'a [u8]> {
         let rest = self.rest?;
         match rest.iter().position(|b| *b == SPACE) {
             Some(end) => {
@@ -165,13 +165,13 @@ impl<'a> Fields<'a> {
 
     // What the next field writes.
     pub fn read<T: Field>(&mut self) -> Result<T, Unanswered> {
-        let field = self.next().ok_or(Unanswered::NoRequest)?;
+        let field = self.next_text().ok_or(Unanswered::NoRequest)?;
         T::read(field).ok_or(Unanswered::NoRequest)
     }
 
     // The next field, a count.
     pub fn count(&mut self) -> Result<usize, Unanswered>
-        ensures { IfOk result (λ n. n ≤ 400) }
+        ensures { IfOk result (λ n. n ≤ MOST_COUNT) }
     {
         let n = self.read::<u32>()? as usize;
         if n > MOST_COUNT {

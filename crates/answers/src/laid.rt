@@ -13,14 +13,9 @@ pub fn answer_laid(mut fields: Fields, out: &mut AnswerLine) -> Result<(), Unans
     if places > MOST_FIGURES {
         return Err(Unanswered::NoRequest);
     }
-    let mut sheet = [0.0; MOST_FIGURES];
-    done(sheets::lay_out(
-        corridors,
-        levels,
-        &rows,
-        &mut sheet[..places],
-    ))?;
+    let sheet = &mut [0.0; MOST_FIGURES][..places];
+    done(sheets::lay_out(corridors, levels, &rows, sheet))?;
     out.text("OK");
-    out.fields(&sheet[..places]);
+    out.fields(sheet);
     Ok(())
 }

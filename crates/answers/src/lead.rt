@@ -13,15 +13,9 @@ pub fn answer_leaders(mut fields: Fields, out: &mut AnswerLine) -> Result<(), Un
         fields.read_to(&mut b)?;
     }
     fields.end()?;
-    let mut leader = [0; MOST_COUNT];
-    done(leaders::leaders(
-        buses,
-        corridors,
-        &a,
-        &b,
-        &mut leader[..buses],
-    ))?;
+    let leader = &mut [0; MOST_COUNT][..buses];
+    done(leaders::leaders(buses, corridors, &a, &b, leader))?;
     out.text("OK");
-    out.fields(&leader[..buses]);
+    out.fields(leader);
     Ok(())
 }

@@ -48,8 +48,7 @@ fn answer(line: &[u8], out: &mut AnswerLine) -> Result<(), Unanswered> {
         return Err(Unanswered::NoRequest);
     }
     let mut fields = Fields::of(line);
-    let word = fields.next().ok_or(Unanswered::NoRequest)?;
-    match word {
+    match fields.next_text().ok_or(Unanswered::NoRequest)? {
         b"SQRT" => answer_square_root(fields, out),
         b"IMP" => answer_impedance(fields, out),
         b"LEAD" => answer_leaders(fields, out),

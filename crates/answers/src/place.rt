@@ -14,8 +14,8 @@ pub fn answer_placement(mut fields: Fields, out: &mut AnswerLine) -> Result<(), 
     let corridors = Edges::read(&mut fields, m)?;
     let generators: Table<u32> = fields.table(g)?;
     fields.end()?;
-    let mut buses = [0; MOST_COUNT];
-    let mut mvars = [0.0; MOST_COUNT];
+    let buses = &mut [0; MOST_COUNT][..n];
+    let mvars = &mut [0.0; MOST_COUNT][..n];
     let placed = match placement::place_voltage_support(
         n,
         m,
@@ -26,15 +26,15 @@ pub fn answer_placement(mut fields: Fields, out: &mut AnswerLine) -> Result<(), 
         &corridors.b,
         &corridors.figure,
         &generators,
-        &mut buses[..n],
-        &mut mvars[..n],
+        buses,
+        mvars,
     ) {
         Placement::Placed(placed) => placed,
         Placement::Refused(refusal) => return Err(refusal.into()),
     };
     out.text("OK");
     out.number(placed);
-    for (bus, mvar) in buses.iter().zip(&mvars).take(placed) {
+    for (bus, mvar) in buses.iter().zip(mvars.iter()).take(placed) {
         out.field(*bus);
         out.field(*mvar);
     }

@@ -24,17 +24,9 @@ pub fn answer_preview(mut fields: Fields, out: &mut AnswerLine) -> Result<(), Un
     let cap: Table<u32> = fields.table(m)?;
     let order: Table<u32> = fields.table(m)?;
     fields.end()?;
-    let mut circuits = [0; MOST_COUNT];
-    done(planning::preview_filling(
-        mode,
-        target,
-        m,
-        &before,
-        &order,
-        &cap,
-        &mut circuits[..m],
-    ))?;
+    let circuits = &mut [0; MOST_COUNT][..m];
+    done(planning::preview_filling(mode, target, m, &before, &order, &cap, circuits))?;
     out.text("OK");
-    out.fields(&circuits[..m]);
+    out.fields(circuits);
     Ok(())
 }

@@ -21,8 +21,14 @@ pub fn answer_rows(mut fields: Fields, out: &mut AnswerLine) -> Result<(), Unans
     let surveyed = read_sheet(&mut fields)?;
     let worked = read_sheet(&mut fields)?;
     fields.end()?;
-    let rows =
-        line_sheet::corridor_rows(levels, corridors, surveyed_corridors, k, &surveyed, &worked);
+    let rows = line_sheet::corridor_rows(
+        levels,
+        corridors,
+        surveyed_corridors,
+        k,
+        &surveyed,
+        &worked,
+    );
     out.text("OK");
     out.number(rows.len());
     out.fields(rows);

@@ -25,16 +25,9 @@ pub fn answer_sheet(mut fields: Fields, out: &mut AnswerLine) -> Result<(), Unan
     }
     fields.end()?;
     let figures = ROW * (km.len() * ladder.len());
-    let mut sheet = [0.0; MOST_FIGURES];
-    done(line_sheet::line_sheet(
-        levels,
-        corridors,
-        &ladder,
-        &km,
-        &spread,
-        &mut sheet[..figures],
-    ))?;
+    let sheet = &mut [0.0; MOST_FIGURES][..figures];
+    done(line_sheet::line_sheet(levels, corridors, &ladder, &km, &spread, sheet))?;
     out.text("OK");
-    out.fields(&sheet[..figures]);
+    out.fields(sheet);
     Ok(())
 }

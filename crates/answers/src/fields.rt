@@ -105,7 +105,7 @@ fn digit<const BASE: u64>(b: u8) -> Option<u64>
 }
 
 // The number that digits write.
-#[tactic(auto, using(crate::proofs::Digits::one_more, crate::proofs::Digits::stays_below))]
+#[tactic(auto, using(crate::proofs::Digits::one_more))]
 fn number<const BASE: u64>(digits: &[u8]) -> Option<u64>
     requires { BASE ^ length digits.now ≤ 2 ^ 64 }
     ensures { IfSome result (λ x. x < BASE ^ length digits.now) }

@@ -1,7 +1,7 @@
 // Request LAID.
 use crate::fields::{Fields, Unanswered, done};
 use crate::line::AnswerLine;
-use crate::rows::{MOST_FIGURES, read_sheet};
+use crate::sheet::{MOST_FIGURES, read_sheet};
 
 // LAID corridors levels n figure×n places
 pub fn answer_laid(mut fields: Fields, out: &mut AnswerLine) -> Result<(), Unanswered> {

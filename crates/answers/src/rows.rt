@@ -1,16 +1,7 @@
 // Request ROWS.
 use crate::fields::{Fields, Unanswered};
 use crate::line::AnswerLine;
-use arrayvec::ArrayVec;
-
-// Figures of a sheet that are taken: those of one level and one corridor past their bounds.
-pub const MOST_FIGURES: usize = 7710;
-
-// A sheet behind the number of its figures.
-pub fn read_sheet(fields: &mut Fields) -> Result<ArrayVec<f64, MOST_FIGURES>, Unanswered> {
-    let figures: u32 = fields.read()?;
-    fields.table(figures as usize)
-}
+use crate::sheet::read_sheet;
 
 // ROWS corridors levels surveyed k n figure×n m figure×m
 pub fn answer_rows(mut fields: Fields, out: &mut AnswerLine) -> Result<(), Unanswered> {

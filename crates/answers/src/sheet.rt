@@ -1,7 +1,6 @@
 // Request SHEET.
 use crate::fields::{Fields, Unanswered, done};
 use crate::line::AnswerLine;
-use crate::rows::MOST_FIGURES;
 use arrayvec::ArrayVec;
 
 // Levels and corridors that are taken: one past each bound.
@@ -11,6 +10,15 @@ const MOST_CORRIDORS: usize = 257;
 
 // The figures of a corridor at a level.
 const ROW: usize = 5;
+
+// Figures of a sheet that are taken.
+pub const MOST_FIGURES: usize = ROW * MOST_LEVELS * MOST_CORRIDORS;
+
+// A sheet, behind the number of its figures.
+pub fn read_sheet(fields: &mut Fields) -> Result<ArrayVec<f64, MOST_FIGURES>, Unanswered> {
+    let figures: u32 = fields.read()?;
+    fields.table(figures as usize)
+}
 
 // SHEET levels kv×levels corridors (km spread)×corridors
 pub fn answer_sheet(mut fields: Fields, out: &mut AnswerLine) -> Result<(), Unanswered> {

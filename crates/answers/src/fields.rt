@@ -1,9 +1,11 @@
 // The fields of a request: what stands between its spaces.
 ghost use Rattle.std.specs.Prelude.{◌≡◌, ◌*◌, ◌^◌, ◌≤◌, ◌<◌, length, IfSome, IfOk};
+ghost use Rattle.plan_defs.specs.Listing.{bits_of};
 
 use crate::line::AnswerLine;
 use arrayvec::ArrayVec;
 use refusal::{Answer, Refusal};
+use std::num::{f64_from_bits_with_nan, f64_to_bits_with_nan};
 
 const SPACE: u8 = b' ';
 
@@ -12,11 +14,6 @@ const MOST_DIGITS: usize = 9;
 
 // The hexadecimal digits of a figure.
 const FIGURE_DIGITS: usize = 16;
-
-const SIGN_BIT: u64 = 0x8000_0000_0000_0000;
-
-// Past these come the bits of each NaN, but for the sign.
-const INFINITY_BITS: u64 = 0x7ff0_0000_0000_0000;
 
 // The largest count that is taken, so that one past every bound can be asked.
 pub const MOST_COUNT: usize = 400;
@@ -83,7 +80,7 @@ impl Field for u64 {
 // A figure: its bits. Answers have a zero as plus zero, and every NaN as one.
 impl Field for f64 {
     fn read(field: &[u8]) -> Option<f64> {
-        Some(figure_of(u64::read(field)?))
+        Some(f64_from_bits_with_nan(u64::read(field)?))
     }
 
     fn put(self, out: &mut AnswerLine) {
@@ -118,23 +115,10 @@ fn number<const BASE: u64>(digits: &[u8]) -> Option<u64>
     Some(value)
 }
 
-// The figure with these bits; every NaN is one.
-#[tactic(auto, using(std::proofs::lemmas::Float::not_nan_f64_bits))]
-fn figure_of(bits: u64) -> f64 {
-    if bits % SIGN_BIT > INFINITY_BITS {
-        return f64::NAN;
-    }
-    f64::from_bits(bits)
-}
-
-fn listed_bits(x: f64) -> u64 {
-    if x == 0.0 {
-        return 0;
-    }
-    if x.is_nan() {
-        return 0x7ff8_0000_0000_0000;
-    }
-    x.to_bits()
+fn listed_bits(x: f64) -> u64
+    ensures { result ≡ bits_of x }
+{
+    if x == 0.0 { 0 } else { f64_to_bits_with_nan(x) }
 }
 
 // What of a line is still to be read; `None` once it is read to its end.

@@ -2,7 +2,7 @@
 use crate::edges::Edges;
 use crate::fields::{Fields, MOST_COUNT, Table, Unanswered};
 use crate::line::AnswerLine;
-use angles_defs::{Angles, Ended};
+use angles_defs::Ended;
 
 // The figures of work that the solver is lent for each bus.
 const WORK_PER_BUS: usize = 8;
@@ -38,7 +38,7 @@ pub fn answer_angles(mut fields: Fields, out: &mut AnswerLine) -> Result<(), Una
     fields.end()?;
     let angle = &mut [0.0; MOST_COUNT][..n];
     let work = &mut [0.0; MOST_WORK][..WORK_PER_BUS * n];
-    let solution = match angles::dc_angles(
+    let solution = angles::dc_angles(
         n,
         m,
         g,
@@ -50,10 +50,7 @@ pub fn answer_angles(mut fields: Fields, out: &mut AnswerLine) -> Result<(), Una
         &guess[..n],
         angle,
         work,
-    ) {
-        Angles::Answered(solution) => solution,
-        Angles::Refused(refusal) => return Err(refusal.into()),
-    };
+    )?;
     out.text("OK");
     out.number(solution.steps);
     put_ended(out, solution.ended);

@@ -1,5 +1,5 @@
 // Request DISP.
-use crate::fields::{Fields, MOST_COUNT, Table, Unanswered, done};
+use crate::fields::{Fields, MOST_COUNT, Table, Unanswered};
 use crate::line::AnswerLine;
 
 // The limits and costs of the units, a table for each.
@@ -32,7 +32,7 @@ pub fn answer_dispatch(mut fields: Fields, out: &mut AnswerLine) -> Result<(), U
     let units = Units::read(&mut fields, u)?;
     fields.end()?;
     let mw = &mut [0.0; MOST_COUNT][..u];
-    done(dispatch::economic_dispatch(
+    dispatch::economic_dispatch(
         u,
         &units.pmin,
         &units.pmax,
@@ -40,7 +40,7 @@ pub fn answer_dispatch(mut fields: Fields, out: &mut AnswerLine) -> Result<(), U
         &units.c2,
         demand,
         mw,
-    ))?;
+    )?;
     out.text("OK");
     out.fields(mw);
     Ok(())

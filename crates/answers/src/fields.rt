@@ -4,7 +4,7 @@ ghost use Rattle.plan_defs.specs.Listing.{bits_of};
 
 use crate::line::AnswerLine;
 use arrayvec::ArrayVec;
-use refusal::{Answer, Refusal};
+use refusal::Refusal;
 use std::num::{f64_from_bits_with_nan, f64_to_bits_with_nan};
 
 const SPACE: u8 = b' ';
@@ -31,13 +31,6 @@ pub enum Unanswered {
 impl From<Refusal> for Unanswered {
     fn from(refusal: Refusal) -> Unanswered {
         Unanswered::Refused(refusal)
-    }
-}
-
-pub fn done(answer: Answer) -> Result<(), Unanswered> {
-    match answer {
-        Answer::Answered => Ok(()),
-        Answer::Refused(refusal) => Err(refusal.into()),
     }
 }
 

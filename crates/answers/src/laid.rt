@@ -1,5 +1,5 @@
 // Request LAID.
-use crate::fields::{Fields, Unanswered, done};
+use crate::fields::{Fields, Unanswered};
 use crate::line::AnswerLine;
 use crate::sheet::{MOST_FIGURES, read_sheet};
 
@@ -14,7 +14,7 @@ pub fn answer_laid(mut fields: Fields, out: &mut AnswerLine) -> Result<(), Unans
         return Err(Unanswered::NoRequest);
     }
     let sheet = &mut [0.0; MOST_FIGURES][..places];
-    done(sheets::lay_out(corridors, levels, &rows, sheet))?;
+    sheets::lay_out(corridors, levels, &rows, sheet)?;
     out.text("OK");
     out.fields(sheet);
     Ok(())

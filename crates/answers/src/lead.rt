@@ -1,5 +1,5 @@
 // Request LEAD.
-use crate::fields::{Fields, MOST_COUNT, Table, Unanswered, done};
+use crate::fields::{Fields, MOST_COUNT, Table, Unanswered};
 use crate::line::AnswerLine;
 
 // LEAD n m (a b)×m
@@ -14,7 +14,7 @@ pub fn answer_leaders(mut fields: Fields, out: &mut AnswerLine) -> Result<(), Un
     }
     fields.end()?;
     let leader = &mut [0; MOST_COUNT][..buses];
-    done(leaders::leaders(buses, corridors, &a, &b, leader))?;
+    leaders::leaders(buses, corridors, &a, &b, leader)?;
     out.text("OK");
     out.fields(leader);
     Ok(())

@@ -49,9 +49,7 @@ impl AnswerLine {
         match why {
             Unanswered::NoRequest => self.text("??"),
             Unanswered::Refused(refusal) => {
-                self.text("RF");
-                self.number(refusal.number() as usize);
-                self.number(refusal.index());
+                let _ = write!(self.bytes, "RF {refusal}");
             }
         }
     }

@@ -2,7 +2,6 @@
 use crate::edges::Edges;
 use crate::fields::{Fields, MOST_COUNT, Table, Unanswered};
 use crate::line::AnswerLine;
-use placement_defs::Placement;
 
 // PLACE n m g reading×n weight×n (a b km)×m bus×g
 pub fn answer_placement(mut fields: Fields, out: &mut AnswerLine) -> Result<(), Unanswered> {
@@ -16,7 +15,7 @@ pub fn answer_placement(mut fields: Fields, out: &mut AnswerLine) -> Result<(), 
     fields.end()?;
     let buses = &mut [0; MOST_COUNT][..n];
     let mvars = &mut [0.0; MOST_COUNT][..n];
-    let placed = match placement::place_voltage_support(
+    let placed = placement::place_voltage_support(
         n,
         m,
         g,
@@ -28,10 +27,7 @@ pub fn answer_placement(mut fields: Fields, out: &mut AnswerLine) -> Result<(), 
         &generators,
         buses,
         mvars,
-    ) {
-        Placement::Placed(placed) => placed,
-        Placement::Refused(refusal) => return Err(refusal.into()),
-    };
+    )?;
     out.text("OK");
     out.number(placed);
     for (bus, mvar) in buses.iter().zip(mvars.iter()).take(placed) {

@@ -1,5 +1,5 @@
 // Request PREV.
-use crate::fields::{Fields, MOST_COUNT, Table, Unanswered, done};
+use crate::fields::{Fields, MOST_COUNT, Table, Unanswered};
 use crate::line::AnswerLine;
 use mode::PlanMode;
 
@@ -25,7 +25,7 @@ pub fn answer_preview(mut fields: Fields, out: &mut AnswerLine) -> Result<(), Un
     let order: Table<u32> = fields.table(m)?;
     fields.end()?;
     let circuits = &mut [0; MOST_COUNT][..m];
-    done(planning::preview_filling(mode, target, m, &before, &order, &cap, circuits))?;
+    planning::preview_filling(mode, target, m, &before, &order, &cap, circuits)?;
     out.text("OK");
     out.fields(circuits);
     Ok(())

@@ -1,5 +1,5 @@
 // Request SHEET.
-use crate::fields::{Fields, Unanswered, done};
+use crate::fields::{Fields, Unanswered};
 use crate::line::AnswerLine;
 use arrayvec::ArrayVec;
 
@@ -34,7 +34,7 @@ pub fn answer_sheet(mut fields: Fields, out: &mut AnswerLine) -> Result<(), Unan
     fields.end()?;
     let figures = ROW * (km.len() * ladder.len());
     let sheet = &mut [0.0; MOST_FIGURES][..figures];
-    done(line_sheet::line_sheet(levels, corridors, &ladder, &km, &spread, sheet))?;
+    line_sheet::line_sheet(levels, corridors, &ladder, &km, &spread, sheet)?;
     out.text("OK");
     out.fields(sheet);
     Ok(())

@@ -1,7 +1,6 @@
 // Requests SQRT and IMP, of one figure each.
 use crate::fields::{Fields, Unanswered};
 use crate::line::AnswerLine;
-use impedance::TransformerImpedance;
 
 // SQRT v
 pub fn answer_square_root(mut fields: Fields, out: &mut AnswerLine) -> Result<(), Unanswered> {
@@ -16,10 +15,7 @@ pub fn answer_square_root(mut fields: Fields, out: &mut AnswerLine) -> Result<()
 pub fn answer_impedance(mut fields: Fields, out: &mut AnswerLine) -> Result<(), Unanswered> {
     let mva = fields.read()?;
     fields.end()?;
-    let z = match impedance::transformer_impedance(mva) {
-        TransformerImpedance::Answered(z) => z,
-        TransformerImpedance::Refused(refusal) => return Err(refusal.into()),
-    };
+    let z = impedance::transformer_impedance(mva)?;
     out.text("OK");
     out.field(z.r);
     out.field(z.x);

@@ -5,25 +5,26 @@
 
 mod ang;
 mod disp;
+mod edges;
+mod fields;
 mod laid;
 mod lead;
+mod line;
 mod place;
 mod preview;
-mod print;
 mod rows;
 mod sheet;
 mod single;
-mod text;
-
-ghost use Rattle.std.specs.Prelude.{◌≤◌, ◌<◌, length, IfOk};
 
 use ang::answer_angles;
+use arrayvec::ArrayVec;
 use disp::answer_dispatch;
+use fields::{Fields, Unanswered};
 use laid::answer_laid;
 use lead::answer_leaders;
+use line::AnswerLine;
 use place::answer_placement;
 use preview::answer_preview;
-use print::{put_byte, put_no_request};
 use rows::answer_rows;
 use sheet::answer_sheet;
 use single::{answer_impedance, answer_square_root};
@@ -35,152 +36,85 @@ const LINE_FEED: u8 = b'\n';
 // Every request is shorter: the longest, ROWS with 7,710 figures in each sheet, has 262,204 bytes.
 const MOST_LINE: usize = 300_000;
 
-// Every answer is shorter: the longest, of SHEET or LAID with 256 corridors and 5 levels, has 108,802 bytes.
-const MOST_ANSWER: usize = 131_072;
+// One more than a request may have, so that a longer line is seen to be longer.
+const LINE_ROOM: usize = MOST_LINE + 1;
 
 // How much of the input is read at once.
 const MOST_PIECE: usize = 65_536;
 
-// Whether the line begins with a word.
-fn begins(line: &[u8], word: &[u8]) -> bool {
-    if line.len() < word.len() {
-        return false;
-    }
-    let mut i = 0;
-    while i < word.len() {
-        if line[i] != word[i] {
-            return false;
-        }
-        i += 1;
-    }
-    true
-}
-
-// Puts the answer to one line into `out`, and answers its length. A line longer than every request is none, whatever it
-// begins with.
-fn answer(line: &[u8], out: &mut [u8]) -> usize
-    ensures { result ≤ length out.old }
-{
+// Puts the answer to one line. A line longer than every request is none, whatever it begins with.
+fn answer(line: &[u8], out: &mut AnswerLine) -> Result<(), Unanswered> {
     if line.len() > MOST_LINE {
-        return put_no_request(out);
+        return Err(Unanswered::NoRequest);
     }
-    if begins(line, b"SQRT ") {
-        return answer_square_root(line, out);
+    let mut fields = Fields::of(line);
+    match fields.next_text().ok_or(Unanswered::NoRequest)? {
+        b"SQRT" => answer_square_root(fields, out),
+        b"IMP" => answer_impedance(fields, out),
+        b"LEAD" => answer_leaders(fields, out),
+        b"DISP" => answer_dispatch(fields, out),
+        b"ANG" => answer_angles(fields, out),
+        b"PLACE" => answer_placement(fields, out),
+        b"SHEET" => answer_sheet(fields, out),
+        b"ROWS" => answer_rows(fields, out),
+        b"LAID" => answer_laid(fields, out),
+        b"PREV" => answer_preview(fields, out),
+        _ => Err(Unanswered::NoRequest),
     }
-    if begins(line, b"IMP ") {
-        return answer_impedance(line, out);
-    }
-    if begins(line, b"LEAD ") {
-        return answer_leaders(line, out);
-    }
-    if begins(line, b"DISP ") {
-        return answer_dispatch(line, out);
-    }
-    if begins(line, b"ANG ") {
-        return answer_angles(line, out);
-    }
-    if begins(line, b"PLACE ") {
-        return answer_placement(line, out);
-    }
-    if begins(line, b"SHEET ") {
-        return answer_sheet(line, out);
-    }
-    if begins(line, b"ROWS ") {
-        return answer_rows(line, out);
-    }
-    if begins(line, b"LAID ") {
-        return answer_laid(line, out);
-    }
-    if begins(line, b"PREV ") {
-        return answer_preview(line, out);
-    }
-    put_no_request(out)
 }
 
-fn answer_line<W: Write>(to: &mut W, line: &[u8], out: &mut [u8]) -> io::Result<()> {
-    let used = answer(line, out);
-    let used = put_byte(out, used, LINE_FEED);
-    to.write_all(&out[0..used])
+// Answers the lines of an input as its bytes come.
+#[derive(Drop)]
+struct Answers<'a, W: Write> {
+    to: &'a mut W,
+    // What has come of the line; what it has no room for is left out.
+    line: ArrayVec<u8, LINE_ROOM>,
+    out: AnswerLine,
 }
 
-// One more byte of the input, and how much of `line` is held then. A line feed has the held line answered; what `line` has no
-// room for is left out.
-fn take<W: Write>(
-    to: &mut W,
-    byte: u8,
-    line: &mut [u8],
-    held: usize,
-    out: &mut [u8],
-) -> io::Result<usize>
-    requires { held ≤ length line.old }
-    ensures { IfOk result (λ held. held ≤ length line.old) }
-{
-    if byte == LINE_FEED {
-        answer_line(to, &line[0..held], out)?;
-        return Ok(0);
-    }
-    Ok(put_byte(line, held, byte))
-}
-
-fn take_piece<W: Write>(
-    to: &mut W,
-    piece: &[u8],
-    line: &mut [u8],
-    held: usize,
-    out: &mut [u8],
-) -> io::Result<usize>
-    requires { held ≤ length line.old }
-    ensures { IfOk result (λ held. held ≤ length line.old) }
-{
-    let mut now_held = held;
-    let mut i = 0;
-    while i < piece.len() {
-        now_held = take(to, piece[i], line, now_held, out)?;
-        i += 1;
-    }
-    Ok(now_held)
-}
-
-// Takes the input to its end, and answers how much of `line` is held then. A proved loop has to end and no contract says that
-// an input does, so the pieces are counted down from more than any run reads.
-fn take_input<R: Read, W: Write>(
-    from: &mut R,
-    to: &mut W,
-    line: &mut [u8],
-    out: &mut [u8],
-) -> io::Result<usize>
-    ensures { IfOk result (λ held. held ≤ length line.old) }
-{
-    let mut piece = [0u8; MOST_PIECE];
-    let mut held = 0;
-    let mut pieces_left = u64::MAX;
-    while pieces_left > 0 {
-        let n = from.read(&mut piece)?;
-        if n == 0 {
-            return Ok(held);
+impl<'a, W: Write> Answers<'a, W> {
+    fn answer_line(&mut self) -> io::Result<()> {
+        if let Err(why) = answer(&self.line, &mut self.out) {
+            self.out.unanswered(why);
         }
-        held = take_piece(to, &piece[..n], line, held, out)?;
-        pieces_left -= 1;
+        self.line.clear();
+        self.out.send(self.to)
     }
-    Ok(held)
-}
 
-// Answers every line of the input; a last one without a line feed too, unless it is empty.
-fn answer_input<R: Read, W: Write>(
-    from: &mut R,
-    to: &mut W,
-    line: &mut [u8],
-    out: &mut [u8],
-) -> io::Result<()> {
-    let held = take_input(from, to, line, out)?;
-    if held > 0 {
-        return answer_line(to, &line[0..held], out);
+    fn take(&mut self, piece: &[u8]) -> io::Result<()> {
+        for byte in piece {
+            if *byte == LINE_FEED {
+                self.answer_line()?;
+            } else {
+                let _ = self.line.try_push(*byte);
+            }
+        }
+        Ok(())
     }
-    Ok(())
+
+    // Answers every line of the input; a last one without a line feed too, unless it is empty. A proved loop has to end and no
+    // contract says that an input does, so the pieces are counted, up to more than any run reads.
+    fn answer_input<R: Read>(&mut self, from: &mut R) -> io::Result<()> {
+        let mut piece = [0u8; MOST_PIECE];
+        for _ in 0..u64::MAX {
+            let n = from.read(&mut piece)?;
+            if n == 0 {
+                break;
+            }
+            self.take(&piece[..n])?;
+        }
+        if self.line.is_empty() {
+            return Ok(());
+        }
+        self.answer_line()
+    }
 }
 
 fn main(rt: HostRuntime) -> io::Result<()> {
-    let mut line = [0u8; MOST_LINE + 1];
-    let mut out = [0u8; MOST_ANSWER];
-    answer_input(&mut rt.stdin(), &mut rt.stdout(), &mut line, &mut out)
+    let mut answers = Answers {
+        to: &mut rt.stdout(),
+        line: ArrayVec::new(),
+        out: AnswerLine::new(),
+    };
+    answers.answer_input(&mut rt.stdin())
 }

@@ -1,89 +1,32 @@
 // Request PREV.
-ghost use Rattle.std.specs.Prelude.{◌≤◌, length};
-
-use crate::print::{put_no_request, put_refusal, put_wholes};
-use crate::text::{complete, count, narrow, read_wholes, start, whole};
+use crate::fields::{Fields, MOST_COUNT, Table, Unanswered};
+use crate::line::AnswerLine;
 use mode::PlanMode;
-use refusal::Answer;
 
-// The largest number of a mode.
-const MOST_MODE: u64 = 5;
-
-// The mode of a number up to 5.
-fn mode_of(x: u64) -> PlanMode {
-    if x == 0 {
-        return PlanMode::Expand;
-    }
-    if x == 1 {
-        return PlanMode::Reinforce;
-    }
-    if x == 2 {
-        return PlanMode::Observe;
-    }
-    if x == 3 {
-        return PlanMode::ExpandServing;
-    }
-    if x == 4 {
-        return PlanMode::ReinforceServing;
-    }
-    PlanMode::ObserveServing
-}
-
-// Previews, and puts the answer.
-fn refill(
-    out: &mut [u8],
-    mode: PlanMode,
-    target: u32,
-    m: usize,
-    before: &[u32],
-    order: &[u32],
-    cap: &[u32],
-) -> usize
-    requires { (m ≤ 400) × (m ≤ length before.now) × (m ≤ length order.now) × (m ≤ length cap.now) }
-    ensures { result ≤ length out.old }
-{
-    let mut circuits = [0u32; 400];
-    match planning::preview_filling(
-        mode,
-        target,
-        m,
-        &before[0..m],
-        &order[0..m],
-        &cap[0..m],
-        &mut circuits[0..m],
-    ) {
-        Answer::Answered => put_wholes(out, &circuits, m),
-        Answer::Refused(f) => put_refusal(out, f),
-    }
+fn mode_of(number: u32) -> Option<PlanMode> {
+    Some(match number {
+        0 => PlanMode::Expand,
+        1 => PlanMode::Reinforce,
+        2 => PlanMode::Observe,
+        3 => PlanMode::ExpandServing,
+        4 => PlanMode::ReinforceServing,
+        5 => PlanMode::ObserveServing,
+        _ => return None,
+    })
 }
 
 // PREV mode target m before×m cap×m order×m
-pub fn answer_preview(line: &[u8], out: &mut [u8]) -> usize
-    ensures { result ≤ length out.old }
-{
-    let mode = whole(line, start(line, 4));
-    if mode.value > MOST_MODE {
-        return put_no_request(out);
-    }
-    let target = whole(line, mode);
-    let corridors = count(line, target);
-    let m = corridors.value as usize;
-    let mut before = [0u32; 400];
-    let mut cap = [0u32; 400];
-    let mut order = [0u32; 400];
-    let counts = read_wholes(line, corridors, m, &mut before);
-    let caps = read_wholes(line, counts, m, &mut cap);
-    let last = read_wholes(line, caps, m, &mut order);
-    if !complete(line, last) {
-        return put_no_request(out);
-    }
-    refill(
-        out,
-        mode_of(mode.value),
-        narrow(target.value),
-        m,
-        &before,
-        &order,
-        &cap,
-    )
+pub fn answer_preview(mut fields: Fields, out: &mut AnswerLine) -> Result<(), Unanswered> {
+    let mode = mode_of(fields.read()?).ok_or(Unanswered::NoRequest)?;
+    let target = fields.read()?;
+    let m = fields.count()?;
+    let before: Table<u32> = fields.table(m)?;
+    let cap: Table<u32> = fields.table(m)?;
+    let order: Table<u32> = fields.table(m)?;
+    fields.end()?;
+    let circuits = &mut [0; MOST_COUNT][..m];
+    planning::preview_filling(mode, target, m, &before, &order, &cap, circuits)?;
+    out.text("OK");
+    out.fields(circuits);
+    Ok(())
 }

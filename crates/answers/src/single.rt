@@ -1,36 +1,23 @@
 // Requests SQRT and IMP, of one figure each.
-ghost use Rattle.std.specs.Prelude.{◌≤◌, length};
-
-use crate::print::{put_bits, put_figure, put_no_request, put_refusal, put_text};
-use crate::text::{bits, complete, figure, start};
-use impedance::TransformerImpedance;
+use crate::fields::{Fields, Unanswered};
+use crate::line::AnswerLine;
 
 // SQRT v
-pub fn answer_square_root(line: &[u8], out: &mut [u8]) -> usize
-    ensures { result ≤ length out.old }
-{
-    let v = bits(line, start(line, 4));
-    if !complete(line, v) {
-        return put_no_request(out);
-    }
-    let used = put_text(out, 0, b"OK");
-    put_bits(out, used, root::square_root(v.value))
+pub fn answer_square_root(mut fields: Fields, out: &mut AnswerLine) -> Result<(), Unanswered> {
+    let bits: u64 = fields.read()?;
+    fields.end()?;
+    out.text("OK");
+    out.field(root::square_root(bits));
+    Ok(())
 }
 
 // IMP mva
-pub fn answer_impedance(line: &[u8], out: &mut [u8]) -> usize
-    ensures { result ≤ length out.old }
-{
-    let mva = bits(line, start(line, 3));
-    if !complete(line, mva) {
-        return put_no_request(out);
-    }
-    match impedance::transformer_impedance(figure(mva.value)) {
-        TransformerImpedance::Refused(f) => put_refusal(out, f),
-        TransformerImpedance::Answered(z) => {
-            let used = put_text(out, 0, b"OK");
-            let used = put_figure(out, used, z.r);
-            put_figure(out, used, z.x)
-        }
-    }
+pub fn answer_impedance(mut fields: Fields, out: &mut AnswerLine) -> Result<(), Unanswered> {
+    let mva = fields.read()?;
+    fields.end()?;
+    let z = impedance::transformer_impedance(mva)?;
+    out.text("OK");
+    out.field(z.r);
+    out.field(z.x);
+    Ok(())
 }

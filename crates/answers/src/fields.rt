@@ -1,0 +1,196 @@
+// The fields of a request: what stands between its spaces.
+ghost use Rattle.std.specs.Prelude.{◌≡◌, ◌*◌, ◌^◌, ◌≤◌, ◌<◌, length, IfSome, IfOk};
+ghost use Rattle.plan_defs.specs.Listing.{bits_of};
+
+use crate::line::AnswerLine;
+use arrayvec::ArrayVec;
+use refusal::Refusal;
+use std::num::{f64_from_bits_with_nan, f64_to_bits_with_nan};
+
+const SPACE: u8 = b' ';
+
+// The most digits of a whole number.
+const MOST_DIGITS: usize = 9;
+
+// The hexadecimal digits of a figure.
+const FIGURE_DIGITS: usize = 16;
+
+// The largest count that is taken, so that one past every bound can be asked.
+pub const MOST_COUNT: usize = 400;
+
+// A table that is as long as a count.
+pub type Table<T> = ArrayVec<T, MOST_COUNT>;
+
+// Why a line is not answered with `OK`.
+#[derive(Clone, Copy)]
+pub enum Unanswered {
+    NoRequest,
+    Refused(Refusal),
+}
+
+impl From<Refusal> for Unanswered {
+    fn from(refusal: Refusal) -> Unanswered {
+        Unanswered::Refused(refusal)
+    }
+}
+
+// What one field writes.
+pub trait Field: Copy + Default {
+    fn read(field: &[u8]) -> Option<Self>;
+
+    // Puts a space and the value.
+    fn put(self, out: &mut AnswerLine);
+}
+
+// A whole number, of one to nine decimal digits.
+impl Field for u32 {
+    fn read(field: &[u8]) -> Option<u32> {
+        if field.is_empty() || field.len() > MOST_DIGITS {
+            return None;
+        }
+        Some(number::<10>(field)? as u32)
+    }
+
+    fn put(self, out: &mut AnswerLine) {
+        out.number(self as usize);
+    }
+}
+
+// Bits, as 16 upper-case hexadecimal digits.
+impl Field for u64 {
+    fn read(field: &[u8]) -> Option<u64> {
+        if field.len() != FIGURE_DIGITS {
+            return None;
+        }
+        number::<16>(field)
+    }
+
+    fn put(self, out: &mut AnswerLine) {
+        out.bits(self);
+    }
+}
+
+// A figure: its bits. Answers have a zero as plus zero, and every NaN as one.
+impl Field for f64 {
+    fn read(field: &[u8]) -> Option<f64> {
+        Some(f64_from_bits_with_nan(u64::read(field)?))
+    }
+
+    fn put(self, out: &mut AnswerLine) {
+        out.bits(listed_bits(self));
+    }
+}
+
+// The value of a digit, upper-case past 9.
+fn digit<const BASE: u64>(b: u8) -> Option<u64>
+    ensures { IfSome result (λ d. d < BASE) }
+{
+    let d = match b {
+        b'0'..=b'9' => b - b'0',
+        b'A'..=b'F' => b - b'A' + 10,
+        _ => return None,
+    };
+    let d = u64::from(d);
+    if d < BASE { Some(d) } else { None }
+}
+
+// The number that digits write.
+#[tactic(auto, using(crate::proofs::Digits::one_more))]
+fn number<const BASE: u64>(digits: &[u8]) -> Option<u64>
+    requires { BASE ^ length digits.now ≤ 2 ^ 64 }
+    ensures { IfSome result (λ x. x < BASE ^ length digits.now) }
+{
+    let mut value = 0;
+    for b in digits {
+        let d = digit::<BASE>(*b)?;
+        value = value * BASE + d;
+    }
+    Some(value)
+}
+
+fn listed_bits(x: f64) -> u64
+    ensures { result ≡ bits_of x }
+{
+    if x == 0.0 { 0 } else { f64_to_bits_with_nan(x) }
+}
+
+// What of a line is still to be read; `None` once it is read to its end.
+#[derive(Clone, Copy)]
+pub struct Fields<'a> {
+    rest: Option<&'a [u8]>,
+}
+
+impl<'a> Fields<'a> {
+    pub fn of(line: &'a [u8]) -> Fields<'a> {
+        Fields { rest: Some(line) }
+    }
+
+    // The next field's text, up to the next space or the end of the line.
+    pub fn next_text(&mut self) -> Option<&'a [u8]> {
+        let rest = self.rest?;
+        match rest.iter().position(|b| *b == SPACE) {
+            Some(end) => {
+                self.rest = Some(&rest[end + 1..]);
+                Some(&rest[..end])
+            }
+            None => {
+                self.rest = None;
+                Some(rest)
+            }
+        }
+    }
+
+    // What the next field writes.
+    pub fn read<T: Field>(&mut self) -> Result<T, Unanswered> {
+        let field = self.next_text().ok_or(Unanswered::NoRequest)?;
+        T::read(field).ok_or(Unanswered::NoRequest)
+    }
+
+    // The next field, a count.
+    pub fn count(&mut self) -> Result<usize, Unanswered>
+        ensures { IfOk result (λ n. n ≤ MOST_COUNT) }
+    {
+        let n = self.read::<u32>()? as usize;
+        if n > MOST_COUNT {
+            return Err(Unanswered::NoRequest);
+        }
+        Ok(n)
+    }
+
+    // Reads the next field into a table. One more than the table has room for is no request.
+    pub fn read_to<T: Field, const N: usize>(
+        &mut self,
+        table: &mut ArrayVec<T, N>,
+    ) -> Result<(), Unanswered> {
+        let value = self.read()?;
+        table.try_push(value).map_err(|_| Unanswered::NoRequest)
+    }
+
+    // The next n fields, a table.
+    pub fn table<T: Field, const N: usize>(
+        &mut self,
+        n: usize,
+    ) -> Result<ArrayVec<T, N>, Unanswered> {
+        let mut table = ArrayVec::new();
+        for _ in 0..n {
+            self.read_to(&mut table)?;
+        }
+        Ok(table)
+    }
+
+    // Fills a table with the next fields.
+    pub fn fill<T: Field>(&mut self, table: &mut [T]) -> Result<(), Unanswered> {
+        for x in table {
+            *x = self.read()?;
+        }
+        Ok(())
+    }
+
+    // A line is a request only if it is read to its end.
+    pub fn end(self) -> Result<(), Unanswered> {
+        match self.rest {
+            None => Ok(()),
+            Some(_) => Err(Unanswered::NoRequest),
+        }
+    }
+}

@@ -1,0 +1,64 @@
+// An answer's line.
+use crate::fields::{Field, Unanswered};
+use arrayvec::ArrayVec;
+use std::io;
+use std::io::Write;
+
+// Every answer is shorter: the longest, of SHEET or LAID with 256 corridors and 5 levels, has 108,802 bytes.
+const MOST_ANSWER: usize = 131_072;
+
+// The line as far as it is put together. What would not fit is left out.
+#[derive(Drop)]
+pub struct AnswerLine {
+    bytes: ArrayVec<u8, MOST_ANSWER>,
+}
+
+impl AnswerLine {
+    pub fn new() -> AnswerLine {
+        AnswerLine {
+            bytes: ArrayVec::new(),
+        }
+    }
+
+    pub fn text(&mut self, text: &str) {
+        let _ = self.bytes.write(text.as_bytes());
+    }
+
+    // A space and a decimal number.
+    pub fn number(&mut self, x: usize) {
+        let _ = write!(self.bytes, " {x}");
+    }
+
+    // A space and 16 upper-case hexadecimal digits.
+    pub fn bits(&mut self, x: u64) {
+        let _ = write!(self.bytes, " {x:016X}");
+    }
+
+    pub fn field<T: Field>(&mut self, x: T) {
+        x.put(self);
+    }
+
+    pub fn fields<T: Field>(&mut self, xs: &[T]) {
+        for x in xs {
+            x.put(self);
+        }
+    }
+
+    // The answer to a line that has no `OK`.
+    pub fn unanswered(&mut self, why: Unanswered) {
+        match why {
+            Unanswered::NoRequest => self.text("??"),
+            Unanswered::Refused(refusal) => {
+                let _ = write!(self.bytes, "RF {refusal}");
+            }
+        }
+    }
+
+    // Ends the line and writes it, and is empty then.
+    pub fn send<W: Write>(&mut self, to: &mut W) -> io::Result<()> {
+        self.text("\n");
+        let sent = to.write_all(self.bytes.as_slice());
+        self.bytes.clear();
+        sent
+    }
+}

@@ -27,8 +27,8 @@ fn call(units: usize, wrong: Option<Wrong>) -> Outcome {
 
 // Every length right; then a count past its bound with these lengths.
 pub fn first<W: Write>(to: &mut W) -> io::Result<()> {
-    report(to, "dispatch", None, |wrong| call(2, wrong))?;
-    report(to, "dispatch of 129 units", None, |wrong| call(129, wrong))
+    report(to, "dispatch", None, call(2, None))?;
+    report(to, "dispatch of 129 units", None, call(129, None))
 }
 
 // One slice too short, and too long, where there is such a slice.

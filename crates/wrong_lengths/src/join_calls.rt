@@ -11,6 +11,16 @@ use std::io::Write;
 // The tables of each case, then the joined ones.
 pub const SLICES: usize = 3 * Tables::COUNT;
 
+const L: Header = Header {
+    mode: PlanMode::Observe,
+    target: 0,
+    buses: 2,
+    corridors: 1,
+    generators: 1,
+    above: 0,
+    requested: 1,
+};
+
 // Joins two cases with the tables of case L, of which at most one has a wrong length.
 fn call(first: Header, second: Header, wrong: Option<Wrong>) -> Outcome {
     let ladder = [138.0, 69.0];
@@ -89,28 +99,17 @@ fn call(first: Header, second: Header, wrong: Option<Wrong>) -> Outcome {
     Outcome::new(shim::reading(said), joined.kept())
 }
 
-// Case L's header with another mode, target or count of buses.
-fn header(mode: PlanMode, target: u32, buses: usize) -> Header {
-    Header {
-        mode,
-        target,
-        buses,
-        corridors: 1,
-        generators: 1,
-        above: 0,
-        requested: 1,
-    }
-}
-
 // Every length right; a count past its bound with these lengths; then, with a wrong slice too, a target past its bound in the first
 // case, targets past it together, and two modes: the joined tables come before the first case, and that before the second.
 pub fn first<W: Write>(to: &mut W) -> io::Result<()> {
-    let l = header(PlanMode::Observe, 0, 2);
-    let many = header(PlanMode::Observe, 0, 257);
-    let past = header(PlanMode::Observe, 65537, 2);
-    let full = header(PlanMode::Observe, 65536, 2);
-    let one = header(PlanMode::Observe, 1, 2);
-    let serving = header(PlanMode::ObserveServing, 0, 2);
+    let many = Header { buses: 257, ..L };
+    let past = Header { target: 65537, ..L };
+    let full = Header { target: 65536, ..L };
+    let one = Header { target: 1, ..L };
+    let serving = Header {
+        mode: PlanMode::ObserveServing,
+        ..L
+    };
     let second = Some(Wrong {
         slice: 17,
         off: Off::Short,
@@ -119,36 +118,20 @@ pub fn first<W: Write>(to: &mut W) -> io::Result<()> {
         slice: 50,
         off: Off::Long,
     });
-    report(to, "joining", None, |wrong| call(l, l, wrong))?;
-    report(to, "joining 257 buses", None, |wrong| call(many, l, wrong))?;
-    report(
-        to,
-        "joining with 257 buses",
-        None,
-        |wrong| call(l, many, wrong),
-    )?;
+    report(to, "joining", None, call(L, L, None))?;
+    report(to, "joining 257 buses", None, call(many, L, None))?;
+    report(to, "joining with 257 buses", None, call(L, many, None))?;
     let what = "joining a target past its bound";
-    report(to, what, second, |wrong| call(past, l, wrong))?;
-    report(to, what, joined, |wrong| call(past, l, wrong))?;
+    report(to, what, second, call(past, L, second))?;
+    report(to, what, joined, call(past, L, joined))?;
     let what = "joining to a target past its bound";
-    report(to, what, None, |wrong| call(full, one, wrong))?;
-    report(to, what, second, |wrong| call(full, one, wrong))?;
-    report(
-        to,
-        "joining two modes",
-        None,
-        |wrong| call(l, serving, wrong),
-    )?;
-    report(
-        to,
-        "joining two modes",
-        second,
-        |wrong| call(l, serving, wrong),
-    )
+    report(to, what, None, call(full, one, None))?;
+    report(to, what, second, call(full, one, second))?;
+    report(to, "joining two modes", None, call(L, serving, None))?;
+    report(to, "joining two modes", second, call(L, serving, second))
 }
 
 // One slice too short, and too long, where there is such a slice.
 pub fn both<W: Write>(to: &mut W, slice: usize) -> io::Result<()> {
-    let l = header(PlanMode::Observe, 0, 2);
-    report_wrong(to, "joining", SLICES, slice, |wrong| call(l, l, wrong))
+    report_wrong(to, "joining", SLICES, slice, |wrong| call(L, L, wrong))
 }

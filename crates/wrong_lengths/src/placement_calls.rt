@@ -34,8 +34,8 @@ fn call(buses: usize, wrong: Option<Wrong>) -> Outcome {
 
 // Every length right; then a count past its bound with these lengths.
 pub fn first<W: Write>(to: &mut W) -> io::Result<()> {
-    report(to, "placement", None, |wrong| call(3, wrong))?;
-    report(to, "placement of 257 buses", None, |wrong| call(257, wrong))
+    report(to, "placement", None, call(3, None))?;
+    report(to, "placement of 257 buses", None, call(257, None))
 }
 
 // One slice too short, and too long, where there is such a slice.

@@ -43,9 +43,9 @@ pub fn first<W: Write>(to: &mut W) -> io::Result<()> {
         slice: 0,
         off: Off::Short,
     });
-    report(to, "reading", None, |wrong| call(FILE, wrong))?;
-    report(to, "reading of 257 buses", None, |wrong| call(PAST, wrong))?;
-    report(to, "reading of 257 buses", short, |wrong| call(PAST, wrong))
+    report(to, "reading", None, call(FILE, None))?;
+    report(to, "reading of 257 buses", None, call(PAST, None))?;
+    report(to, "reading of 257 buses", short, call(PAST, short))
 }
 
 // One slice too short, and too long, where there is such a slice.

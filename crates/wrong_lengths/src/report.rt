@@ -39,23 +39,21 @@ impl fmt::Display for Outcome {
     }
 }
 
-// Makes a call and prints what it is, what is wrong with it and what came of it.
-pub fn report<W: Write, F: FnOnce(Option<Wrong>) -> Outcome>(
+// What a call was, what was wrong with it and what came of it.
+pub fn report<W: Write>(
     to: &mut W,
     what: &str,
     wrong: Option<Wrong>,
-    call: F,
-) -> io::Result<()>
-    requires { F.IsAlwaysCallable call }
-{
+    outcome: Outcome,
+) -> io::Result<()> {
     write!(to, "{what}")?;
     if let Some(wrong) = wrong {
         write!(to, ", {wrong}")?;
     }
-    writeln!(to, ": {}", call(wrong))
+    writeln!(to, ": {outcome}")
 }
 
-// The same with one slice too short, and too long, where the operation has such a slice.
+// Makes a call with one slice too short, and too long, where the operation has such a slice.
 pub fn report_wrong<W: Write, F: Fn(Option<Wrong>) -> Outcome + Drop>(
     to: &mut W,
     what: &str,
@@ -66,24 +64,10 @@ pub fn report_wrong<W: Write, F: Fn(Option<Wrong>) -> Outcome + Drop>(
     requires { F.IsAlwaysCallable call }
 {
     if slice < slices {
-        report(
-            to,
-            what,
-            Some(Wrong {
-                slice,
-                off: Off::Short,
-            }),
-            &call,
-        )?;
-        report(
-            to,
-            what,
-            Some(Wrong {
-                slice,
-                off: Off::Long,
-            }),
-            &call,
-        )?;
+        for off in [Off::Short, Off::Long] {
+            let wrong = Some(Wrong { slice, off });
+            report(to, what, wrong, call(wrong))?;
+        }
     }
     Ok(())
 }

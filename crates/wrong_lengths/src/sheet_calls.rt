@@ -55,22 +55,12 @@ fn call_laid(corridors: usize, wrong: Option<Wrong>) -> Outcome {
 
 // Every length right; then a count past its bound with these lengths.
 pub fn first<W: Write>(to: &mut W) -> io::Result<()> {
-    report(to, "sheet", None, |wrong| call(1, wrong))?;
-    report(to, "sheet of 257 corridors", None, |wrong| call(257, wrong))?;
-    report(to, "rows", None, |wrong| call_rows(2, wrong))?;
-    report(
-        to,
-        "rows of 257 corridors",
-        None,
-        |wrong| call_rows(257, wrong),
-    )?;
-    report(to, "laid", None, |wrong| call_laid(2, wrong))?;
-    report(
-        to,
-        "laid of 257 corridors",
-        None,
-        |wrong| call_laid(257, wrong),
-    )
+    report(to, "sheet", None, call(1, None))?;
+    report(to, "sheet of 257 corridors", None, call(257, None))?;
+    report(to, "rows", None, call_rows(2, None))?;
+    report(to, "rows of 257 corridors", None, call_rows(257, None))?;
+    report(to, "laid", None, call_laid(2, None))?;
+    report(to, "laid of 257 corridors", None, call_laid(257, None))
 }
 
 // One slice too short, and too long, where there is such a slice.

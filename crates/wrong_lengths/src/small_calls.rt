@@ -40,9 +40,9 @@ pub fn first<W: Write>(to: &mut W) -> io::Result<()> {
         slice: 0,
         off: Off::Short,
     });
-    report(to, "small", None, |wrong| call(LAST, wrong))?;
-    report(to, "small at 74", None, |wrong| call(LAST + 1, wrong))?;
-    report(to, "small at 74", short, |wrong| call(LAST + 1, wrong))
+    report(to, "small", None, call(LAST, None))?;
+    report(to, "small at 74", None, call(LAST + 1, None))?;
+    report(to, "small at 74", short, call(LAST + 1, short))
 }
 
 // One slice too short, and too long, where there is such a slice.

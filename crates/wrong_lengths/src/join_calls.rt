@@ -21,7 +21,7 @@ const L: Header = Header {
     requested: 1,
 };
 
-// Joins two cases with the tables of case L, of which at most one has a wrong length.
+// Joins two cases with the tables of case L, of which at most one has a wrong length. It is as long as the operation has slices, each lent by a line.
 fn call(first: Header, second: Header, wrong: Option<Wrong>) -> Outcome {
     let ladder = [138.0, 69.0];
     let tier = [0, 0, 0];

@@ -4,7 +4,7 @@ ghost use Rattle.std.specs.Prelude.{◌≤◌, length};
 use std::fmt;
 
 // What is the matter with a slice's length, by one place.
-#[derive(Clone, Copy, PartialEq, Eq)]
+#[derive(Clone, Copy)]
 pub enum Off {
     Short,
     Long,
@@ -20,7 +20,7 @@ impl fmt::Display for Off {
 }
 
 // The slice that has not its length, by its place among the operation's slices from 0.
-#[derive(Clone, Copy, PartialEq, Eq)]
+#[derive(Clone, Copy)]
 pub struct Wrong {
     pub slice: usize,
     pub off: Off,
@@ -34,7 +34,7 @@ impl fmt::Display for Wrong {
     }
 }
 
-// How much of an array of `places` the slice at `place` is.
+// How much of an array of so many places the slice at `place` of the call is.
 fn lent_length(places: usize, place: usize, wrong: Option<Wrong>) -> usize
     requires { 2 ≤ places }
     ensures { result ≤ places }
@@ -62,7 +62,7 @@ pub fn lent_mut<T>(array: &mut [T], place: usize, wrong: Option<Wrong>) -> &mut 
     &mut array[..length]
 }
 
-// What a lent place holds before a call.
+// What each place of a lent array holds before the call.
 pub trait Mark: Copy + PartialEq {
     const MARK: Self;
 }

@@ -11,6 +11,7 @@ const SLICES: usize = 30;
 // The places of a work slice, and one more.
 const WORK: usize = 49;
 
+// As long as the operation has slices, each lent by a line.
 fn call(buses: usize, wrong: Option<Wrong>) -> Outcome {
     let ladder = [230.0, 138.0, 69.0];
     let tier = [0, 0, 0];

@@ -12,14 +12,13 @@ ghost use Rattle.planning.specs.Fill.{designs_for, Drawable, Loaded};
 ghost use Rattle.planning.specs.Close.{corridors_of, levels_for, wider_by, loadings_by, Rated, cap_full, added_at, Closable, closing_of, figures_if, counts_if, is_refused, lent_to, finished};
 
 use crate::design::circuit;
-use crate::figures::{
-    clear_counts, clear_figures, fewer, float, greater, infinity, lesser, magnitude, pick, wide,
-};
+use crate::figures::{clear_counts, clear_figures, fewer, float, greater, infinity, lesser, magnitude, pick, wide};
 use crate::fill::loading;
 use crate::policy::{cap_at, expands};
 use crate::size::PLANNING_UTILISATION;
 use mode::PlanMode;
-use plan_defs::Planned;
+use refusal::Refusal;
+use plan_defs::CorridorPlan;
 
 // A loading above 1, or a need above the circuits there are, counts where it is above by more than this.
 const LOADING_TOLERANCE: f64 = 1e-9;
@@ -308,12 +307,12 @@ fn clear_figures_if(refused: bool, l: &mut [f64])
     }
 }
 
-pub fn is_refused(said: Planned) -> bool
+pub fn is_refused(said: Result<CorridorPlan, Refusal>) -> bool
     ensures { result ≡ is_refused said }
 {
     match said {
-        Planned::Answered(_) => false,
-        Planned::Refused(_) => true,
+        Ok(_) => false,
+        Err(_) => true,
     }
 }
 

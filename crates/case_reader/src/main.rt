@@ -8,7 +8,6 @@ mod figure;
 mod tables;
 
 use case::Case;
-use casefile_defs::Reading;
 use std::io;
 use std::io::Write;
 use tables::Tables;
@@ -42,8 +41,8 @@ fn main(rt: HostRuntime) -> io::Result<()> {
         &mut t.sheet,
     );
     match read.reading {
-        Reading::Read(header) => Case { header, tables: &t }.print(&mut to)?,
-        Reading::Refused(f) => writeln!(to, "RF {} {}", f.number(), f.index())?,
+        Ok(header) => Case { header, tables: &t }.print(&mut to)?,
+        Err(refusal) => writeln!(to, "RF {refusal}")?,
     }
     writeln!(to, "LK {}", read.looks)
 }

@@ -4,7 +4,6 @@
 #![tactic(auto)]
 
 use casefile_defs::MOST_BYTES;
-use refusal::Answer;
 use std::io;
 use std::io::{Read, Write};
 
@@ -16,14 +15,14 @@ fn convert<R: Read, W: Write>(from: &mut R, to: &mut W, direction: u8) -> io::Re
     let mut file = [0; MOST_FILE];
     let n = streams::read_full(from, &mut file)?;
     let mut out = [0; MOST_BYTES];
-    let said = match direction {
+    let moved = match direction {
         b'F' => casefile::move_forward(&file[..n], &mut out),
         b'B' => casefile::move_back(&file[..n], &mut out),
         _ => return to.write_all(b"??\n"),
     };
-    match said {
-        Answer::Answered => to.write_all(&out),
-        Answer::Refused(f) => writeln!(to, "RF {} {}", f.number(), f.index()),
+    match moved {
+        Ok(()) => to.write_all(&out),
+        Err(refusal) => writeln!(to, "RF {refusal}"),
     }
 }
 

@@ -1,7 +1,6 @@
 // Two buses, an edge between them and a ground at the first.
 use crate::lent::{Mark, Wrong, kept, lent, lent_mut};
 use crate::report::{Outcome, report, report_wrong};
-use crate::shim;
 use std::io;
 use std::io::Write;
 
@@ -29,7 +28,7 @@ fn call(buses: usize, wrong: Option<Wrong>) -> Outcome {
         lent_mut(&mut angle, 6, wrong),
         lent_mut(&mut work, 7, wrong),
     );
-    Outcome::new(shim::angles(said), kept(&angle) & kept(&work))
+    Outcome::new(said, kept(&angle) & kept(&work))
 }
 
 // Every length right; then a count past its bound with these lengths.

@@ -1,7 +1,6 @@
 // Two units and a demand between their limits.
 use crate::lent::{Mark, Wrong, kept, lent, lent_mut};
 use crate::report::{Outcome, report, report_wrong};
-use crate::shim;
 use std::io;
 use std::io::Write;
 
@@ -22,7 +21,7 @@ fn call(units: usize, wrong: Option<Wrong>) -> Outcome {
         60.0,
         lent_mut(&mut mw, 4, wrong),
     );
-    Outcome::new(shim::answer(said), kept(&mw))
+    Outcome::new(said, kept(&mw))
 }
 
 // Every length right; then a count past its bound with these lengths.

@@ -1,7 +1,6 @@
 // Case L, with weights, joined with itself.
 use crate::lent::{Off, Wrong, lent, lent_mut};
 use crate::report::{Outcome, report, report_wrong};
-use crate::shim;
 use crate::tables::Tables;
 use casefile_defs::Header;
 use mode::PlanMode;
@@ -96,7 +95,7 @@ fn call(first: Header, second: Header, wrong: Option<Wrong>) -> Outcome {
         lent_mut(&mut joined.cap, 49, wrong),
         lent_mut(&mut joined.sheet, 50, wrong),
     );
-    Outcome::new(shim::reading(said), joined.kept())
+    Outcome::new(said, joined.kept())
 }
 
 // Every length right; a count past its bound with these lengths; then, with a wrong slice too, a target past its bound in the first

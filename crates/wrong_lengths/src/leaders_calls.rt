@@ -1,7 +1,6 @@
 // Three buses and two corridors.
 use crate::lent::{Mark, Wrong, kept, lent, lent_mut};
 use crate::report::{Outcome, report, report_wrong};
-use crate::shim;
 use std::io;
 use std::io::Write;
 
@@ -18,7 +17,7 @@ fn call(buses: usize, wrong: Option<Wrong>) -> Outcome {
         lent(&b, 1, wrong),
         lent_mut(&mut leader, 2, wrong),
     );
-    Outcome::new(shim::answer(said), kept(&leader))
+    Outcome::new(said, kept(&leader))
 }
 
 // Every length right; then a count past its bound with these lengths.

@@ -16,7 +16,6 @@ mod reading_calls;
 mod report;
 mod season_calls;
 mod sheet_calls;
-mod shim;
 mod small_calls;
 mod tables;
 

@@ -1,9 +1,8 @@
 // A case of one level and no bus, which may be moved either way.
 use crate::lent::{Mark, Off, Wrong, kept, lent_mut};
 use crate::report::{Outcome, report};
-use crate::shim;
 use casefile_defs::MOST_BYTES;
-use refusal::Answer;
+use refusal::Refusal;
 use std::io;
 use std::io::Write;
 
@@ -14,7 +13,7 @@ const FILE: &[u8] =
     b"HD\x02\x00\x00\x00\x00\x00\x00\x00\x00\x00\x00\x00\x01LV\x00\x00\x00\x00\x00\x40\x61\x40";
 
 // One of the two operations on a file.
-fn call<F: FnOnce(&[u8], &mut [u8]) -> Answer>(
+fn call<F: FnOnce(&[u8], &mut [u8]) -> Result<(), Refusal>>(
     operation: F,
     file: &[u8],
     wrong: Option<Wrong>,
@@ -23,7 +22,7 @@ fn call<F: FnOnce(&[u8], &mut [u8]) -> Answer>(
 {
     let mut out = [u8::MARK; MOST_BYTES + 1];
     let said = operation(file, lent_mut(&mut out, 0, wrong));
-    Outcome::new(shim::answer(said), kept(&out))
+    Outcome::new(said, kept(&out))
 }
 
 fn report_moves<W: Write>(to: &mut W, wrong: Option<Wrong>) -> io::Result<()> {

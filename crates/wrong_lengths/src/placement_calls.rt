@@ -1,7 +1,6 @@
 // Three buses in a row, the load 120 km from the generator.
 use crate::lent::{Mark, Wrong, kept, lent, lent_mut};
 use crate::report::{Outcome, report, report_wrong};
-use crate::shim;
 use std::io;
 use std::io::Write;
 
@@ -29,7 +28,7 @@ fn call(buses: usize, wrong: Option<Wrong>) -> Outcome {
         lent_mut(&mut at, 6, wrong),
         lent_mut(&mut mvar, 7, wrong),
     );
-    Outcome::new(shim::placement(said), kept(&at) & kept(&mvar))
+    Outcome::new(said, kept(&at) & kept(&mvar))
 }
 
 // Every length right; then a count past its bound with these lengths.

@@ -1,7 +1,6 @@
 // Case L with one level more, above the request.
 use crate::lent::{Mark, Wrong, kept, lent, lent_mut};
 use crate::report::{Outcome, report, report_wrong};
-use crate::shim;
 use mode::PlanMode;
 use std::io;
 use std::io::Write;
@@ -86,10 +85,7 @@ fn call(buses: usize, wrong: Option<Wrong>) -> Outcome {
     let filling = kept(&before) & kept(&order) & kept(&kept_cap);
     let buses_kept = kept(&angle) & kept(&level) & kept(&ground);
     let work = kept(&figures) & kept(&counts);
-    Outcome::new(
-        shim::planned(said),
-        plan & filling & buses_kept & kept(&added) & work,
-    )
+    Outcome::new(said, plan & filling & buses_kept & kept(&added) & work)
 }
 
 // Every length right; then a count past its bound with these lengths.

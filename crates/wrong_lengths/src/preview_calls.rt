@@ -1,7 +1,6 @@
 // What a plan of two corridors keeps, with a target that fills one of them.
 use crate::lent::{Mark, Wrong, kept, lent, lent_mut};
 use crate::report::{Outcome, report, report_wrong};
-use crate::shim;
 use mode::PlanMode;
 use std::io;
 use std::io::Write;
@@ -22,7 +21,7 @@ fn call(corridors: usize, wrong: Option<Wrong>) -> Outcome {
         lent(&cap, 2, wrong),
         lent_mut(&mut circuits, 3, wrong),
     );
-    Outcome::new(shim::answer(said), kept(&circuits))
+    Outcome::new(said, kept(&circuits))
 }
 
 // Every length right; then a count past its bound with these lengths.

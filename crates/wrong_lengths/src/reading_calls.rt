@@ -1,7 +1,6 @@
 // A case of one level and nothing else.
 use crate::lent::{Off, Wrong, lent_mut};
 use crate::report::{Outcome, report, report_wrong};
-use crate::shim;
 use crate::tables::Tables;
 use std::io;
 use std::io::Write;
@@ -34,7 +33,7 @@ fn call(file: &[u8], wrong: Option<Wrong>) -> Outcome {
         lent_mut(&mut t.cap, 15, wrong),
         lent_mut(&mut t.sheet, 16, wrong),
     );
-    Outcome::new(shim::reading(read.reading), t.kept())
+    Outcome::new(read.reading, t.kept())
 }
 
 // Every length right; then a header whose count is past its bound, with these lengths and with a wrong one.

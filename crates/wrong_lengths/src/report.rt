@@ -33,7 +33,7 @@ impl fmt::Display for Outcome {
         };
         match refusal {
             None => write!(f, "OK")?,
-            Some(r) => write!(f, "RF {} {}", r.number(), r.index())?,
+            Some(refusal) => write!(f, "RF {refusal}")?,
         }
         write!(f, ", {}", if kept { "kept" } else { "changed" })
     }

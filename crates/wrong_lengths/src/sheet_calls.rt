@@ -1,7 +1,6 @@
 // Two levels and a corridor of 100 km; the rows of the first of two corridors, which is surveyed; and two corridors' rows at one level, laid out by level.
 use crate::lent::{Mark, Wrong, kept, lent, lent_mut};
 use crate::report::{Outcome, report, report_wrong};
-use crate::shim;
 use std::io;
 use std::io::Write;
 
@@ -24,7 +23,7 @@ fn call(corridors: usize, wrong: Option<Wrong>) -> Outcome {
         lent(&spread, 2, wrong),
         lent_mut(&mut sheet, 3, wrong),
     );
-    Outcome::new(shim::answer(said), kept(&sheet))
+    Outcome::new(said, kept(&sheet))
 }
 
 fn call_rows(corridors: usize, wrong: Option<Wrong>) -> Outcome {
@@ -50,7 +49,7 @@ fn call_laid(corridors: usize, wrong: Option<Wrong>) -> Outcome {
         lent(&rows, 0, wrong),
         lent_mut(&mut sheet, 1, wrong),
     );
-    Outcome::new(shim::answer(said), kept(&sheet))
+    Outcome::new(said, kept(&sheet))
 }
 
 // Every length right; then a count past its bound with these lengths.

@@ -1,7 +1,6 @@
 // The last small network.
 use crate::lent::{Off, Wrong, lent_mut};
 use crate::report::{Outcome, report, report_wrong};
-use crate::shim;
 use crate::tables::Tables;
 use std::io;
 use std::io::Write;
@@ -31,7 +30,7 @@ fn call(place: usize, wrong: Option<Wrong>) -> Outcome {
         lent_mut(&mut t.cap, 15, wrong),
         lent_mut(&mut t.sheet, 16, wrong),
     );
-    Outcome::new(shim::reading(said), t.kept())
+    Outcome::new(said, t.kept())
 }
 
 // Every length right; then a place past the last, with these lengths and with a wrong one: refusal 1 comes before 23.

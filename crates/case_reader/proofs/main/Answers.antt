@@ -3,4 +3,4 @@ use Rattle.casefile_defs.proofs.Callers.{answered_small}
 use Rattle.case_reader.proofs.main.Goals as goal
 
 pub invariant_of-print : goal.invariant_of-print
-invariant_of-print c = record { small = answered_small _ _ _ c.read_case-read.ensures c.in-Read.is }
+invariant_of-print c = record { small = answered_small _ _ _ c.read_case-read.ensures c.in-Ok.is }

@@ -15,7 +15,7 @@ use Rattle.planning.specs.Opening.{stage_of, slack_case, dispatch_case, injectio
 use Rattle.planning.specs.Sound.{Sound}
 use Rattle.planning.specs.Plan.{Opens}
 use Rattle.planning.proofs.Lifting.{grounds_lift, dispatch_lift, injections_lift}
-use Rattle.std.specs.Prelude.{Err, Ok, Result}
+use Rattle.std.specs.Prelude.{Err, Result}
 use Rattle.refusal.specs.Reply.{no_refusal}
 
 module _ (c : Case) (target : ℕ) (s : Sound c target) where

@@ -15,7 +15,7 @@ use Rattle.plan_theorems.proofs.Preview.{sound_of}
 use Rattle.acceptance.specs.Check.{answer_of}
 use Rattle.planning.specs.Fill.{caps_for, Whole, Ranked, Counted}
 use Rattle.planning.specs.Preview.{counts_for, order_for, Refillable}
-use Rattle.std.specs.Prelude.{Err, Ok, Result}
+use Rattle.std.specs.Prelude.{Err, Result}
 use Rattle.refusal.specs.Reply.{no_refusal}
 
 -- ---- the refusals

@@ -23,7 +23,7 @@ use Rattle.planning.specs.Opening.{stage_of, stage_if, bus_case, dispatch_case, 
 use Rattle.planning.proofs.Passing.{pass_few, pass_below}
 use Rattle.loops.proofs.Fronts.{get_map, front_room}
 use Rattle.planning.proofs.Demands.{demand_ok_lem}
-use Rattle.std.specs.Prelude.{Err, Ok, Result}
+use Rattle.std.specs.Prelude.{Err, Result}
 use Rattle.refusal.specs.Reply.{no_refusal}
 
 module _ (led bus : List ℕ) (root : ℕ) where

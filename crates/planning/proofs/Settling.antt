@@ -19,7 +19,7 @@ use Rattle.planning.specs.Close.{levels_for, closing_of}
 use Rattle.planning.specs.Settle.{Settleable, ended_by, closed_from, closed_after, filled_in, filled_from}
 use Rattle.planning.specs.declared.close.Closing.{Closing}
 use Rattle.planning.proofs.Orders.{order_ranked}
-use Rattle.std.specs.Prelude.{Err, Ok, Result}
+use Rattle.std.specs.Prelude.{Err, Result}
 use Rattle.refusal.specs.Reply.{no_refusal}
 
 -- ---- a solve, and what comes after it

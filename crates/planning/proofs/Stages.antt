@@ -6,7 +6,7 @@ use Rattle.plan_defs.specs.Lists.{pass_from, passing}
 use Rattle.plan_defs.specs.Stage.{Stage, stopped, going, onward, each_stage}
 use Rattle.planning.specs.Opening.{stage_of, stage_if}
 use Rattle.planning.proofs.Passing.{pass_start, pass_yes, pass_no, pass_end}
-use Rattle.std.specs.Prelude.{Err, Ok, Result}
+use Rattle.std.specs.Prelude.{Err, Result}
 use Rattle.refusal.specs.Reply.{no_refusal}
 
 module _ {S : Type 0} (f : ℕ → S → Stage S) (p : ℕ → Bool) where

@@ -22,7 +22,7 @@ use Rattle.planning.specs.Opening.{stage_of}
 use Rattle.planning.specs.Solve.{peak_for, solved_of, finite_if, finite_angles, finite_answer, Net, Drawing, Peaked}
 use Rattle.loops.proofs.Fronts.{map_tab}
 use Rattle.planning.proofs.Solving.{drawn_from_below, drawn_to_below}
-use Rattle.std.specs.Prelude.{Err, Ok, Result}
+use Rattle.std.specs.Prelude.{Err, Result}
 use Rattle.refusal.specs.Reply.{no_refusal}
 
 -- ---- a stage that goes on is not one that stops

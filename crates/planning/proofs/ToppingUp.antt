@@ -21,7 +21,7 @@ use Rattle.planning.specs.Opening.{given_if, given_stage}
 use Rattle.plan_defs.proofs.Lists.{All}
 use Rattle.plan_defs.proofs.Inserted.{inserted_below, inserted_length}
 use Rattle.planning.proofs.Insertion.{order_same}
-use Rattle.std.specs.Prelude.{Err, Ok, Result}
+use Rattle.std.specs.Prelude.{Err, Result}
 use Rattle.refusal.specs.Reply.{no_refusal}
 
 -- ---- the order by c1, of the first two keys alike

@@ -12,13 +12,15 @@ ghost use Rattle.planning.specs.Fill.{designs_for, Drawable, Loaded};
 ghost use Rattle.planning.specs.Close.{corridors_of, levels_for, wider_by, loadings_by, Rated, cap_full, added_at, Closable, closing_of, figures_if, counts_if, is_refused, lent_to, finished};
 
 use crate::design::circuit;
-use crate::figures::{clear_counts, clear_figures, fewer, float, greater, infinity, lesser, magnitude, pick, wide};
+use crate::figures::{
+    clear_counts, clear_figures, fewer, float, greater, infinity, lesser, magnitude, pick, wide,
+};
 use crate::fill::loading;
 use crate::policy::{cap_at, expands};
 use crate::size::PLANNING_UTILISATION;
 use mode::PlanMode;
-use refusal::Refusal;
 use plan_defs::CorridorPlan;
+use refusal::Refusal;
 
 // A loading above 1, or a need above the circuits there are, counts where it is above by more than this.
 const LOADING_TOLERANCE: f64 = 1e-9;

@@ -12,9 +12,9 @@ use acceptance::check_case;
 use lent::Places;
 use loads::weigh;
 use mode::PlanMode;
+use plan_defs::CorridorPlan;
 use policy::promotes;
 use refusal::Refusal;
-use plan_defs::CorridorPlan;
 
 mod close;
 mod design;

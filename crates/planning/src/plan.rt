@@ -5,7 +5,10 @@ ghost use Rattle.planning.specs.Plan.{Openable, OpeningDone, rounds_for, start_o
 
 use crate::figures::{clear_counts, clear_figures};
 use crate::fill::{Kept, nothing_kept};
-use crate::opening::{component_leaders, dispatch_components, first_levels, ground_components, injections, lower_bounds};
+use crate::opening::{
+    component_leaders, dispatch_components, first_levels, ground_components, injections,
+    lower_bounds,
+};
 use crate::policy::expands;
 use crate::raises::raises;
 use crate::redesign::redesign;
@@ -138,14 +141,15 @@ fn unplanned(f: Refusal) -> PlanRun
     ensures { result.said ≡ Err f }
 {
     let kept = nothing_kept();
-    PlanRun {
-        said: Err(f),
-        kept,
-    }
+    PlanRun { said: Err(f), kept }
 }
 
 // What planning says of the rounds and of what came after them.
-fn conclude(progress: Progress, grounds: u32, settled: Result<Settlement, Refusal>) -> Result<CorridorPlan, Refusal>
+fn conclude(
+    progress: Progress,
+    grounds: u32,
+    settled: Result<Settlement, Refusal>,
+) -> Result<CorridorPlan, Refusal>
     ensures { result ≡ planned_by progress grounds settled }
 {
     match settled {

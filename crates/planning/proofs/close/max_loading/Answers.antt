@@ -1,4 +1,4 @@
-use Rattle.std.proofs.Common.{◌-◌, ◌<◌, length, sym, ◌∙◌, arith}
+use Rattle.std.proofs.Common.{◌<◌, length, sym, ◌∙◌, arith}
 use Rattle.loops.proofs.Loops.{iter_all, iter_more, iter_end}
 use Rattle.planning.proofs.Closings.{max_start, max_next}
 use Rattle.planning.proofs.close.max_loading.Goals as goal

@@ -1,4 +1,4 @@
-use Rattle.std.proofs.Common.{◌≡◌, ◌-◌, ◌<◌, Bool, cond, length, refl, ap, ◌∙◌, arith}
+use Rattle.std.proofs.Common.{◌≡◌, ◌<◌, Bool, cond, length, refl, ap, ◌∙◌, arith}
 use Rattle.plan_defs.specs.Lists.{count_from, counting}
 use Rattle.planning.proofs.Lists.{count_more}
 use Rattle.planning.proofs.Closings.{count_fits, heavy, heavy_is, overloaded_is}

@@ -1,4 +1,4 @@
-use Rattle.std.proofs.Common.{◌-◌, ◌<◌, length, ap, ◌∙◌, arith, length-set}
+use Rattle.std.proofs.Common.{◌<◌, length, ap, ◌∙◌, arith, length-set}
 use Rattle.loops.proofs.Tab.{fill_start, fill_turn, fill_end}
 use Rattle.plan_defs.specs.declared.CircuitDesign.{CircuitDesign}
 use Rattle.planning.proofs.Closings.{rates_are}

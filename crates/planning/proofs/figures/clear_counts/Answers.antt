@@ -1,4 +1,4 @@
-use Rattle.std.proofs.Common.{◌-◌, refl, ◌∙◌, arith, length-set}
+use Rattle.std.proofs.Common.{refl, ◌∙◌, arith, length-set}
 use Rattle.loops.proofs.Tab.{tab_replicate, fill_start, fill_turn, fill_end}
 use Rattle.planning.proofs.figures.clear_counts.Goals as goal
 

@@ -1,4 +1,4 @@
-use Rattle.std.proofs.Common.{ℕ, ◌-◌, refl, ◌∙◌, arith, length-set}
+use Rattle.std.proofs.Common.{ℕ, refl, ◌∙◌, arith, length-set}
 use lib.ListN.{length-replicate}
 use Rattle.loops.proofs.Tab.{tab_of, fill_start, fill_turn}
 use Rattle.loops.proofs.Fronts.{front_filled}

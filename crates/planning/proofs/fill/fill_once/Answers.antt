@@ -1,4 +1,4 @@
-use Rattle.std.proofs.Common.{ℕ, ◌-◌, ◌^◌, ◌<◌, length, get_or, sym, refl, ap, ◌∙◌, arith, length-set}
+use Rattle.std.proofs.Common.{ℕ, ◌^◌, ◌<◌, length, get_or, sym, refl, ap, ◌∙◌, arith, length-set}
 use Rattle.loops.proofs.Loops.{iter_more, iter_end}
 use Rattle.plan_defs.specs.Case.{full_of}
 use Rattle.plan_defs.specs.Fill.{fill_at}

@@ -1,4 +1,4 @@
-use Rattle.std.proofs.Common.{ℕ, ◌-◌, length, take, sym, refl, ap, ◌∙◌, subst, arith}
+use Rattle.std.proofs.Common.{ℕ, length, take, sym, refl, ap, ◌∙◌, subst, arith}
 use Rattle.plan_defs.specs.Case.{full_of}
 use Rattle.plan_defs.specs.Fill.{fill_once}
 use Rattle.planning.specs.Fill.{filled_as, Ranked}

@@ -1,4 +1,4 @@
-use Rattle.std.proofs.Common.{◌≡◌, ℕ, ◌+◌, ◌-◌, ap, ◌∙◌, arith}
+use Rattle.std.proofs.Common.{◌≡◌, ℕ, ◌+◌, ap, ◌∙◌, arith}
 use Rattle.loops.specs.Loops.{filled}
 use Rattle.planning.specs.Fill.{shifted}
 use Rattle.loops.proofs.Tab.{fill_turn, fill_own}

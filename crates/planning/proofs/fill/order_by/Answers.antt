@@ -1,4 +1,4 @@
-use Rattle.std.proofs.Common.{◌≡◌, ℕ, ◌-◌, ◌<◌, length, take, sym, ap, ◌∙◌, arith}
+use Rattle.std.proofs.Common.{◌≡◌, ℕ, ◌<◌, length, take, sym, ap, ◌∙◌, arith}
 use Rattle.loops.proofs.Loops.{iter_all, iter_more, iter_end}
 use Rattle.planning.specs.Fill.{rank_before, order_by}
 use Rattle.planning.proofs.Insertion.{place_most, insert_is, named_next, ranked_by, none_named}

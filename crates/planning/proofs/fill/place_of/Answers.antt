@@ -1,4 +1,4 @@
-use Rattle.std.proofs.Common.{◌-◌, not, sym, ap, ◌∙◌, arith}
+use Rattle.std.proofs.Common.{not, sym, ap, ◌∙◌, arith}
 use Rattle.loops.proofs.Scan.{first_start, first_pass, first_stop, first_end}
 use Rattle.planning.proofs.fill.place_of.Goals as goal
 

@@ -1,4 +1,4 @@
-use Rattle.std.proofs.Common.{◌-◌, length, sym, ap, ◌∙◌, ⊎_elim, arith, eq-eqb, ne_eqb}
+use Rattle.std.proofs.Common.{length, sym, ap, ◌∙◌, ⊎_elim, arith, eq-eqb, ne_eqb}
 use Rattle.loops.specs.Figures.{at, plus, nought}
 use Rattle.plan_defs.specs.Lists.{each}
 use Rattle.plan_defs.specs.Components.{within}

@@ -1,4 +1,4 @@
-use Rattle.std.proofs.Common.{ℕ, ◌-◌, replicate, sym, ap, ◌∙◌, arith}
+use Rattle.std.proofs.Common.{ℕ, replicate, sym, ap, ◌∙◌, arith}
 use Rattle.loops.specs.Figures.{nought}
 use Rattle.plan_defs.specs.Components.{leads}
 use Rattle.plan_defs.specs.Dispatch.{serve, dispatch_of}

@@ -1,4 +1,4 @@
-use Rattle.std.proofs.Common.{◌-◌, sym, ◌∙◌, ⊎_elim, arith, ne_eqb}
+use Rattle.std.proofs.Common.{sym, ◌∙◌, ⊎_elim, arith, ne_eqb}
 use Rattle.planning.proofs.Grounds.{grounded_start, grounded_yes, grounded_no, grounded_end}
 use Rattle.planning.proofs.opening.ground_components.Goals as goal
 

@@ -1,4 +1,4 @@
-use Rattle.std.proofs.Common.{ℕ, ◌-◌, ◌<◌, not, ◌&&◌, eqb, length, get_or, sym, ap, ◌∙◌, arith, rules}
+use Rattle.std.proofs.Common.{ℕ, ◌<◌, not, ◌&&◌, eqb, length, get_or, sym, ap, ◌∙◌, arith, rules}
 use Rattle.plan_defs.specs.Components.{slack_within, bus_or}
 use Rattle.planning.specs.Opening.{slack_case}
 use Rattle.planning.proofs.Passing.{pass_start, pass_yes, pass_no, pass_end}

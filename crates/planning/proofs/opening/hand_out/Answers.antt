@@ -1,4 +1,4 @@
-use Rattle.std.proofs.Common.{◌-◌, sym, refl, ◌∙◌, arith, length-set}
+use Rattle.std.proofs.Common.{sym, refl, ◌∙◌, arith, length-set}
 use Rattle.loops.proofs.Loops.{iter_more, iter_end}
 use Rattle.planning.proofs.Scattering.{scatter_start, scatter_turn}
 use Rattle.planning.proofs.opening.hand_out.Goals as goal

@@ -1,4 +1,4 @@
-use Rattle.std.proofs.Common.{ℕ, ◌-◌, ◌<◌, length, set, sym, refl, ap, ◌∙◌, arith, length-set, rules}
+use Rattle.std.proofs.Common.{ℕ, ◌<◌, length, set, sym, refl, ap, ◌∙◌, arith, length-set, rules}
 use Rattle.loops.specs.Figures.{at, plus}
 use Rattle.loops.proofs.Loops.{iter_all, iter_more, iter_end}
 use Rattle.planning.proofs.opening.inject.Goals as goal

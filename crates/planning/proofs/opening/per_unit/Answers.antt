@@ -1,4 +1,4 @@
-use Rattle.std.proofs.Common.{◌-◌, refl, ap, arith, length-set}
+use Rattle.std.proofs.Common.{refl, ap, arith, length-set}
 use lib.Ieee.{Float, nan}
 use Rattle.loops.specs.Figures.{over}
 use Rattle.loops.proofs.Tab.{fill_start, fill_turn, fill_end, fill_own}

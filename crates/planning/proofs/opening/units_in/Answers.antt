@@ -1,4 +1,4 @@
-use Rattle.std.proofs.Common.{◌≡◌, ℕ, ◌-◌, ◌<◌, List, [], ◌++◌, length, get_or, take, sym, ap, ◌∙◌, ⊎_elim, append-nil, arith, length-set, rules, eq-eqb, ne_eqb}
+use Rattle.std.proofs.Common.{◌≡◌, ℕ, ◌<◌, List, [], ◌++◌, length, get_or, take, sym, ap, ◌∙◌, ⊎_elim, append-nil, arith, length-set, rules, eq-eqb, ne_eqb}
 use Rattle.loops.proofs.Collect.{collect_keep, collect_count}
 use Rattle.plan_defs.specs.Components.{unit_within, units_in}
 use Rattle.planning.specs.Opening.{bus_case}

@@ -1,4 +1,4 @@
-use Rattle.std.proofs.Common.{◌-◌, refl, arith, length-set}
+use Rattle.std.proofs.Common.{refl, arith, length-set}
 use Rattle.loops.proofs.Tab.{fill_start, fill_turn, fill_end}
 use Rattle.planning.proofs.opening.withdraw.Goals as goal
 

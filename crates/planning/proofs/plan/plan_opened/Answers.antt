@@ -36,9 +36,12 @@ settle-settled-requires c =
     let z = s.args in
     let d = c.redesign in
     let v = c.raises in
-    let w = c.run_rounds in record { settleable = settleable_of z.mode z.target z.above z.ladder.now z.level.now z.a.now z.b.now z.km.now z.share.now z.cap.now z.sheet.now z.load.now z.bus.now z.pmax.now z.leader.now z.grounds.now z.injection.now z.circuits.now z.banks.now z.floors.now z.upsized.now z.marks.now z.angle.now z.flow.now s.requires.plannable z.rate.now z.added.now s.requires.closable
+    let w = c.run_rounds in record {
+      settleable = settleable_of z.mode z.target z.above z.ladder.now z.level.now z.a.now z.b.now z.km.now z.share.now z.cap.now z.sheet.now z.load.now z.bus.now z.pmax.now z.leader.now z.grounds.now z.injection.now z.circuits.now z.banks.now z.floors.now z.upsized.now z.marks.now z.angle.now z.flow.now s.requires.plannable z.rate.now z.added.now s.requires.closable
           w.new.level w.new.circuits w.new.banks w.new.upsized w.new.angle w.new.flow w.ensures.lines w.ensures.banked
-          w.auto.circuits (w.auto.banks ∙ v.auto.banks ∙ d.auto.banks) w.auto.upsized (w.auto.level ∙ v.auto.level) (w.auto.angle ∙ v.auto.angle) (w.auto.flow ∙ v.auto.flow); few = w.ensures.few }
+          w.auto.circuits (w.auto.banks ∙ v.auto.banks ∙ d.auto.banks) w.auto.upsized (w.auto.level ∙ v.auto.level) (w.auto.angle ∙ v.auto.angle) (w.auto.flow ∙ v.auto.flow);
+      few = w.ensures.few;
+    }
 
 pub overflow_cast-grounds : goal.overflow_cast-grounds
 overflow_cast-grounds c =
@@ -111,45 +114,45 @@ returns-in-Err-run_rounds c =
     w.new.level w.new.circuits w.new.banks w.new.floors w.new.upsized w.new.angle w.result w.ensures f.f f.is
     w.new.circuits w.new.level w.new.flow z.rate.now w.new.angle z.added.now c.unplanned-in-Err-run_rounds.result c.unplanned-in-Err-run_rounds.ensures
 
-pub shape_of-circuits-in-Ok : goal.shape_of-circuits-in-Ok
-shape_of-circuits-in-Ok c = c.settle-settled.auto.circuits ∙ c.run_rounds.auto.circuits
+pub shape_of-circuits-in-Ok-run_rounds : goal.shape_of-circuits-in-Ok-run_rounds
+shape_of-circuits-in-Ok-run_rounds c = c.settle-settled.auto.circuits ∙ c.run_rounds.auto.circuits
 
-pub shape_of-banks-in-Ok : goal.shape_of-banks-in-Ok
-shape_of-banks-in-Ok c = c.run_rounds.auto.banks ∙ c.raises.auto.banks ∙ c.redesign.auto.banks
+pub shape_of-banks-in-Ok-run_rounds : goal.shape_of-banks-in-Ok-run_rounds
+shape_of-banks-in-Ok-run_rounds c = c.run_rounds.auto.banks ∙ c.raises.auto.banks ∙ c.redesign.auto.banks
 
-pub shape_of-floors-in-Ok : goal.shape_of-floors-in-Ok
-shape_of-floors-in-Ok c = c.run_rounds.auto.floors
+pub shape_of-floors-in-Ok-run_rounds : goal.shape_of-floors-in-Ok-run_rounds
+shape_of-floors-in-Ok-run_rounds c = c.run_rounds.auto.floors
 
-pub shape_of-upsized-in-Ok : goal.shape_of-upsized-in-Ok
-shape_of-upsized-in-Ok c = c.run_rounds.auto.upsized
+pub shape_of-upsized-in-Ok-run_rounds : goal.shape_of-upsized-in-Ok-run_rounds
+shape_of-upsized-in-Ok-run_rounds c = c.run_rounds.auto.upsized
 
-pub shape_of-level-in-Ok : goal.shape_of-level-in-Ok
-shape_of-level-in-Ok c = c.settle-settled.auto.level ∙ c.run_rounds.auto.level ∙ c.raises.auto.level
+pub shape_of-level-in-Ok-run_rounds : goal.shape_of-level-in-Ok-run_rounds
+shape_of-level-in-Ok-run_rounds c = c.settle-settled.auto.level ∙ c.run_rounds.auto.level ∙ c.raises.auto.level
 
-pub shape_of-marks-in-Ok : goal.shape_of-marks-in-Ok
-shape_of-marks-in-Ok c = c.run_rounds.auto.marks ∙ c.raises.auto.marks
+pub shape_of-marks-in-Ok-run_rounds : goal.shape_of-marks-in-Ok-run_rounds
+shape_of-marks-in-Ok-run_rounds c = c.run_rounds.auto.marks ∙ c.raises.auto.marks
 
-pub shape_of-flow-in-Ok : goal.shape_of-flow-in-Ok
-shape_of-flow-in-Ok c = c.settle-settled.auto.flow ∙ c.run_rounds.auto.flow ∙ c.raises.auto.flow
+pub shape_of-flow-in-Ok-run_rounds : goal.shape_of-flow-in-Ok-run_rounds
+shape_of-flow-in-Ok-run_rounds c = c.settle-settled.auto.flow ∙ c.run_rounds.auto.flow ∙ c.raises.auto.flow
 
 pub shape_of-rate : goal.shape_of-rate
 shape_of-rate c = c.settle-settled.auto.rate
 
-pub shape_of-angle-in-Ok : goal.shape_of-angle-in-Ok
-shape_of-angle-in-Ok c = c.settle-settled.auto.angle ∙ c.run_rounds.auto.angle ∙ c.raises.auto.angle
+pub shape_of-angle-in-Ok-run_rounds : goal.shape_of-angle-in-Ok-run_rounds
+shape_of-angle-in-Ok-run_rounds c = c.settle-settled.auto.angle ∙ c.run_rounds.auto.angle ∙ c.raises.auto.angle
 
 pub shape_of-added : goal.shape_of-added
 shape_of-added c = c.settle-settled.auto.added
 
-pub returns-in-Ok : goal.returns-in-Ok
-returns-in-Ok c =
+pub returns-in-Ok-run_rounds : goal.returns-in-Ok-run_rounds
+returns-in-Ok-run_rounds c =
     let s = c in
     let z = s.args in
     let d = c.redesign in
     let v = c.raises in
     let p = c.in-Ok in
     let w = c.run_rounds in
-    let u = c.in-Ok in
+    let u = c.in-Ok-run_rounds in
     let x = c.settle-settled in
     opened_plan z.mode z.target z.above z.ladder.now z.level.now z.a.now z.b.now z.km.now z.share.now z.cap.now z.sheet.now z.load.now z.bus.now z.pmax.now z.leader.now z.grounds.now z.injection.now z.circuits.now z.banks.now z.floors.now z.upsized.now z.marks.now z.angle.now z.flow.now s.requires.plannable d.new.banks v.new.level v.new.banks v.result v.ensures v.auto.level d.ensures.anew p.promoted p.is
     w.new.level w.new.circuits w.new.banks w.new.floors w.new.upsized w.new.angle w.result w.ensures u.progress u.is

@@ -1,4 +1,4 @@
-use Rattle.std.proofs.Common.{◌-◌, sym, ◌∙◌, arith}
+use Rattle.std.proofs.Common.{sym, ◌∙◌, arith}
 use Rattle.loops.proofs.Scan.{first_start, first_pass, first_stop, first_end}
 use Rattle.planning.proofs.preview.faulty_count.Goals as goal
 

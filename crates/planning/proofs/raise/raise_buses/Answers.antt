@@ -1,4 +1,4 @@
-use Rattle.std.proofs.Common.{◌-◌, refl, le_antisymm, arith, length-set}
+use Rattle.std.proofs.Common.{refl, le_antisymm, arith, length-set}
 use Rattle.loops.proofs.Tab.{fill_start}
 use Rattle.plan_defs.specs.Lists.{count_from}
 use Rattle.planning.proofs.Marks.{goes, stays_filled, stays_counted, moves_filled, moves_counted, raised_levels_lem, raised_count, stay_moves, low_moves}

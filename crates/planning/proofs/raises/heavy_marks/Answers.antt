@@ -1,4 +1,4 @@
-use Rattle.std.proofs.Common.{◌-◌, ◌<◌, length, sym, ◌∙◌, arith}
+use Rattle.std.proofs.Common.{◌<◌, length, sym, ◌∙◌, arith}
 use Rattle.loops.proofs.Loops.{iter_more, iter_end}
 use Rattle.planning.proofs.Heavies.{marks_start}
 use Rattle.planning.proofs.raises.heavy_marks.Goals as goal

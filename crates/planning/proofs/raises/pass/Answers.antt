@@ -5,13 +5,16 @@ use Rattle.planning.proofs.raises.pass.Goals as goal
 
 pub planning_state-requires : goal.planning_state-requires
 planning_state-requires c =
-    let p = c.requires in record { drawing = p.drawing; lent = record {
+    let p = c.requires in record {
+      drawing = p.drawing;
+      lent = record {
         few_grounds = p.lent.few_grounds;
         ground_below = p.lent.ground_below;
         injection_size = p.lent.injection_size;
         angle_size = c.clear_figures.auto.figures ∙ p.lent.angle_size;
         flow_size = p.lent.flow_size;
-      } }
+      };
+    }
 
 pub shape_of-banks-in-Err : goal.shape_of-banks-in-Err
 shape_of-banks-in-Err c = refl
@@ -41,13 +44,16 @@ returns-in-Err c =
 
 pub raise_heavy-moved-requires : goal.raise_heavy-moved-requires
 raise_heavy-moved-requires c =
-    let p = c.requires in record { markable = record {
+    let p = c.requires in record {
+      markable = record {
         lines = p.drawing.lines;
         banked = p.drawing.banks_ok;
         bank_size = p.drawing.bank_size;
         flow_size = c.planning_state.auto.flow ∙ p.lent.flow_size;
         mark_size = p.mark_size;
-      }; redesign_fits = p.redesigns }
+      };
+      redesign_fits = p.redesigns;
+    }
 
 pub shape_of-banks : goal.shape_of-banks
 shape_of-banks c = c.raise_heavy-moved.auto.banks

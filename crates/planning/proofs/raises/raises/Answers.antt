@@ -1,4 +1,4 @@
-use Rattle.std.proofs.Common.{◌-◌, sym, ◌∙◌, arith}
+use Rattle.std.proofs.Common.{sym, ◌∙◌, arith}
 use Rattle.planning.proofs.Promoting.{unpromoted, underway_start, raisable_again, done_last, done_refused, moved_few, done_still, underway_next}
 use Rattle.planning.proofs.raises.raises.Goals as goal
 

@@ -1,4 +1,4 @@
-use Rattle.std.proofs.Common.{◌-◌, ◌<◌, le_antisymm, arith, rules}
+use Rattle.std.proofs.Common.{◌<◌, le_antisymm, arith, rules}
 use Rattle.planning.proofs.Served.{gen_start, gen_turn, gen_end}
 use Rattle.planning.proofs.redesign.generation_at.Goals as goal
 

@@ -1,4 +1,4 @@
-use Rattle.std.proofs.Common.{◌-◌, sym, refl, subst, le_antisymm, arith, rules}
+use Rattle.std.proofs.Common.{sym, refl, subst, le_antisymm, arith, rules}
 use Rattle.loops.proofs.Tab.{fill_start, fill_turn, fill_end, fill_length}
 use Rattle.planning.specs.Design.{Banks}
 use Rattle.planning.specs.Redesign.{redesign_for, bank_anew, banks_anew}

@@ -1,4 +1,4 @@
-use Rattle.std.proofs.Common.{◌-◌, ◌<◌, le_antisymm, arith, rules}
+use Rattle.std.proofs.Common.{◌<◌, le_antisymm, arith, rules}
 use Rattle.planning.proofs.Draws.{end_below}
 use Rattle.planning.proofs.Served.{shared_start, shared_turn, shared_few, shared_end, one_most}
 use Rattle.planning.proofs.redesign.transformer_corridors.Goals as goal

@@ -1,4 +1,4 @@
-use Rattle.std.proofs.Common.{◌-◌, refl, ◌∙◌, arith}
+use Rattle.std.proofs.Common.{refl, ◌∙◌, arith}
 use lib.Ieee.{nan}
 use Rattle.loops.proofs.Tab.{tab_of, fill_start, fill_turn}
 use Rattle.loops.proofs.Fronts.{front_filled}

@@ -1,4 +1,4 @@
-use Rattle.std.proofs.Common.{ℕ, ◌-◌, ◌<◌, length, ap, ◌∙◌, arith, rules}
+use Rattle.std.proofs.Common.{ℕ, ◌<◌, length, ap, ◌∙◌, arith, rules}
 use lib.ListN.{length-replicate}
 use lib.Ieee.{Float}
 use Rattle.loops.specs.Figures.{at, times, nought}
@@ -88,11 +88,14 @@ returns c =
     let l = c.loop-k in
     let D = s.requires in
     let z = length-replicate {A = ℕ} 256 0 in
-    let w = length-replicate {A = Float} 256 nought in record { edges = edges_are (lines_for s.args.ladder.now s.args.a.now s.args.b.now s.args.km.now s.args.share.now s.args.sheet.now) s.args.level.now s.args.banks.now s.args.circuits.now _ _ _
+    let w = length-replicate {A = Float} 256 nought in record {
+      edges = edges_are (lines_for s.args.ladder.now s.args.a.now s.args.b.now s.args.km.now s.args.share.now s.args.sheet.now) s.args.level.now s.args.banks.now s.args.circuits.now _ _ _
           (front_filled _ _ _ l.k _ (omega arith) l.invariant.1)
           (front_filled _ _ _ l.k _ (omega arith) l.invariant.2)
-          (front_filled _ _ _ l.k _ (omega arith) l.invariant.3); sizes = (
+          (front_filled _ _ _ l.k _ (omega arith) l.invariant.3);
+      sizes = (
         fill_length _ _ _ _ l.invariant.1 (omega (arith, l.invariant.0, z, D.few_corridors)) ∙ z,
         fill_length _ _ _ _ l.invariant.2 (omega (arith, l.invariant.0, z, D.few_corridors)) ∙ z,
         fill_length _ _ _ _ l.invariant.3 (omega (arith, l.invariant.0, w, D.few_corridors)) ∙ w,
-      ) }
+      );
+    }

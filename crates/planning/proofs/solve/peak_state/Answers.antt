@@ -25,11 +25,14 @@ slice_bounds-angles_from-end-4 c = front_room _ _ _ c.copy.ensures refl
 
 pub angles_from-requires : goal.angles_from-requires
 angles_from-requires c =
-    let s = c in record { net = front_net (length s.args.angle.now) (length s.args.angle.now) (length s.args.flow.now) s.args.e.from s.args.e.to s.args.e.weight s.args.grounds.now refl s.requires.peaked s.requires.lent.few_grounds s.requires.lent.ground_below; places = record {
+    let s = c in record {
+      net = front_net (length s.args.angle.now) (length s.args.angle.now) (length s.args.flow.now) s.args.e.from s.args.e.to s.args.e.weight s.args.grounds.now refl s.requires.peaked s.requires.lent.few_grounds s.requires.lent.ground_below;
+      places = record {
         injection_size = s.requires.lent.injection_size;
         guess_size = ap length (front_lent (length s.args.angle.now) c.copy.new.guess _ c.copy.ensures);
         angle_size = refl;
-      } }
+      };
+    }
 
 pub shape_of-angle-in-Err : goal.shape_of-angle-in-Err
 shape_of-angle-in-Err c = c.angles_from.auto.angle

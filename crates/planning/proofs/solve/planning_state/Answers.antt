@@ -9,13 +9,16 @@ pub peak_state-requires : goal.peak_state-requires
 peak_state-requires c =
     let s = c in
     let d = c.draw_edges-e.ensures in
-    let f = s.requires.lent in record { peaked = peaked s.args.ladder.now s.args.level.now s.args.a.now s.args.b.now s.args.km.now s.args.share.now s.args.sheet.now s.args.circuits.now s.args.banks.now s.requires.drawing _ _ _ d.edges _ _ f.angle_size f.flow_size d.sizes.0 d.sizes.1 d.sizes.2; lent = record {
+    let f = s.requires.lent in record {
+      peaked = peaked s.args.ladder.now s.args.level.now s.args.a.now s.args.b.now s.args.km.now s.args.share.now s.args.sheet.now s.args.circuits.now s.args.banks.now s.requires.drawing _ _ _ d.edges _ _ f.angle_size f.flow_size d.sizes.0 d.sizes.1 d.sizes.2;
+      lent = record {
         few_grounds = f.few_grounds;
         ground_below = λ g h. subst (λ (n : ℕ). get_or s.args.grounds.now g 0 < n) (sym f.angle_size) (f.ground_below g h);
         injection_size = f.injection_size ∙ sym f.angle_size;
         angle_size = refl;
         flow_size = refl;
-      } }
+      };
+    }
 
 pub shape_of-angle : goal.shape_of-angle
 shape_of-angle c = c.peak_state.auto.angle

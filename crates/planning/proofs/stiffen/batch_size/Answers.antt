@@ -1,4 +1,4 @@
-use Rattle.std.proofs.Common.{◌-◌, sym, refl, ◌∙◌, arith}
+use Rattle.std.proofs.Common.{sym, refl, ◌∙◌, arith}
 use Rattle.planning.proofs.Gains.{take_start, take_turn, take_most, take_covered, take_all_of}
 use Rattle.planning.proofs.stiffen.batch_size.Goals as goal
 

@@ -1,4 +1,4 @@
-use Rattle.std.proofs.Common.{◌-◌, not, sym, ap, ◌∙◌, arith, eq-eqb, ne_eqb}
+use Rattle.std.proofs.Common.{not, sym, ap, ◌∙◌, arith, eq-eqb, ne_eqb}
 use Rattle.loops.proofs.Scan.{first_start, first_pass, first_stop, first_end}
 use Rattle.planning.proofs.stiffen.first_of.Goals as goal
 

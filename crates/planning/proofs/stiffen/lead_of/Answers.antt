@@ -1,4 +1,4 @@
-use Rattle.std.proofs.Common.{◌-◌, length, sym, refl, ◌∙◌, arith}
+use Rattle.std.proofs.Common.{length, sym, refl, ◌∙◌, arith}
 use lib.Ieee.{lt}
 use Rattle.loops.specs.Figures.{at}
 use Rattle.plan_defs.specs.Stiffen.{leader as ahead}

@@ -22,7 +22,8 @@ unit_angles-requires c =
 pub reinforce-requires : goal.reinforce-requires
 reinforce-requires c =
     let s = c in
-    let p = s.requires.stiffenable in record { stiffen_fits = record {
+    let p = s.requires.stiffenable in record {
+      stiffen_fits = record {
         lines = p.lines;
         capped = p.capped;
         count_size = p.count_size;
@@ -31,7 +32,9 @@ reinforce-requires c =
         upsized_size = p.upsized_size;
         mark_size = p.mark_size;
         banked = p.banked;
-      }; leader_len = (p.leader_size, p.angle_size, c.unit_angles.auto.phi ∙ s.requires.phi_len.0, p.edges.drawn.few, s.requires.phi_len.3) }
+      };
+      leader_len = (p.leader_size, p.angle_size, c.unit_angles.auto.phi ∙ s.requires.phi_len.0, p.edges.drawn.few, s.requires.phi_len.3);
+    }
 
 pub shape_of-phi-in-Err : goal.shape_of-phi-in-Err
 shape_of-phi-in-Err c = c.unit_angles.auto.phi

@@ -1,4 +1,4 @@
-use Rattle.std.proofs.Common.{ℕ, ◌-◌, ◌<◌, take, sym, ◌∙◌, subst, arith}
+use Rattle.std.proofs.Common.{ℕ, ◌<◌, take, sym, ◌∙◌, subst, arith}
 use Rattle.loops.proofs.Loops.{iter_all, iter_more, iter_end}
 use Rattle.plan_defs.proofs.Lists.{All}
 use Rattle.planning.specs.Stiffen.{gains_more, gain_next, gain_order}

@@ -1,4 +1,4 @@
-use Rattle.std.proofs.Common.{ℕ, ◌-◌, not, sym, ap, ◌∙◌, arith}
+use Rattle.std.proofs.Common.{ℕ, not, sym, ap, ◌∙◌, arith}
 use lib.Ieee.{lt}
 use Rattle.loops.specs.Figures.{at}
 use Rattle.loops.proofs.Scan.{first_start, first_pass, first_stop, first_end}

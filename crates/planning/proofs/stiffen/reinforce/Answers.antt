@@ -6,7 +6,8 @@ pub choose_batch-taken-requires : goal.choose_batch-taken-requires
 choose_batch-taken-requires c =
     let s = c in
     let p = s.requires.stiffen_fits in
-    let q = s.requires.leader_len in record { gainful = record {
+    let q = s.requires.leader_len in record {
+      gainful = record {
         lines = p.lines;
         leader_size = q.0;
         angle_size = q.1;
@@ -15,7 +16,9 @@ choose_batch-taken-requires c =
         count_size = p.count_size;
         bank_size = p.bank_size;
         banked = p.banked;
-      }; a_len_bound = (q.3, refl) }
+      };
+      a_len_bound = (q.3, refl);
+    }
 
 pub stiffen_batch-requires : goal.stiffen_batch-requires
 stiffen_batch-requires c =

@@ -1,4 +1,4 @@
-use Rattle.std.proofs.Common.{◌≡◌, ℕ, ◌-◌, ◌<◌, ◌≤◌, length, take, refl, ◌∙◌, subst, arith, length-take-le}
+use Rattle.std.proofs.Common.{◌≡◌, ℕ, ◌<◌, ◌≤◌, length, take, refl, ◌∙◌, subst, arith, length-take-le}
 use Rattle.planning.specs.Stiffen.{BatchStiffened}
 use Rattle.planning.proofs.Stiffenings.{batch_start, batch_turn}
 use Rattle.planning.proofs.stiffen.stiffen_batch.Goals as goal
@@ -21,7 +21,8 @@ stiffen_one-t-requires c =
     let w : l.j ≤ length s.args.order.now = omega (arith, h, s.requires.ranked.2, s.requires.ranked.0.few, s.requires.ranked.0.size) in
     let n = length-take-le l.j s.args.order.now w in
     let r = s.requires.ranked.1 in
-    let d = l.invariant.6.bound in record { stiffen_fits = record {
+    let d = l.invariant.6.bound in record {
+      stiffen_fits = record {
         lines = p.lines;
         capped = p.capped;
         count_size = l.invariant.1 ∙ p.count_size;
@@ -30,14 +31,16 @@ stiffen_one-t-requires c =
         upsized_size = l.invariant.4 ∙ p.upsized_size;
         mark_size = l.invariant.5 ∙ p.mark_size;
         banked = l.invariant.6.banked;
-      }; k_in_bounds = (
+      };
+      k_in_bounds = (
         omega (arith, c.wide-k.ensures, s.requires.ranked.0.below l.j h),
         record {
           total = omega (arith, h, n, d.0, r.total);
           hv = omega (arith, h, n, d.1, r.hv);
           stiffening = omega (arith, h, n, d.2, r.stiffening);
         },
-      ) }
+      );
+    }
 
 pub overflow_add-j : goal.overflow_add-j
 overflow_add-j c = omega (arith, c.loop-j-test.true, c.requires.ranked.2, c.requires.ranked.0.few)

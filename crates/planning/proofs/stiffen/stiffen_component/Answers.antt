@@ -29,7 +29,9 @@ narrow-requires c =
     let z = s.args in
     let p = s.requires.stiffenable in
     let r = s.requires.led.1 in
-    let e = c.widened-s.ensures in record { stiffenable = p; phi_len = (
+    let e = c.widened-s.ensures in record {
+      stiffenable = p;
+      phi_len = (
         ap length (front_replicate 256 (length z.level.now) nought p.edges.few_buses) ∙ length-replicate (length z.level.now) nought,
         omega (arith, c.lead_of-lead.ensures.1, p.leader_size),
         omega (arith, c.lag_of-lag.ensures.1, p.leader_size),
@@ -38,7 +40,8 @@ narrow-requires c =
           hv = omega (arith, r.hv, ap (λ (x : Stiffness). x.hv) e);
           stiffening = omega (arith, r.stiffening, ap (λ (x : Stiffness). x.stiffening) e);
         },
-      ) }
+      );
+    }
 
 pub shape_of-circuits : goal.shape_of-circuits
 shape_of-circuits c = c.narrow.auto.circuits

@@ -44,13 +44,16 @@ pub raise_or_add-requires : goal.raise_or_add-requires
 raise_or_add-requires c =
     let s = c in
     let h = s.requires.k_in_bounds.0 in
-    let l = s.requires.stiffen_fits.lines in record { pair_fits = record {
+    let l = s.requires.stiffen_fits.lines in record {
+      pair_fits = record {
         a_size = h;
         b_size = omega (arith, h, l.b_size);
         a_below = l.a_below s.args.k h;
         b_below = l.b_below s.args.k h;
         mark_size = s.requires.stiffen_fits.mark_size;
-      }; k_in_bounds = (omega (arith, h, s.requires.stiffen_fits.count_size), s.requires.stiffen_fits.capped.few s.args.k, s.requires.k_in_bounds.1) }
+      };
+      k_in_bounds = (omega (arith, h, s.requires.stiffen_fits.count_size), s.requires.stiffen_fits.capped.few s.args.k, s.requires.k_in_bounds.1);
+    }
 
 pub shape_of-circuits : goal.shape_of-circuits
 shape_of-circuits c = c.raise_or_add.auto.circuits

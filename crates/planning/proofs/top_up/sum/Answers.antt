@@ -1,6 +1,5 @@
-use Rattle.std.proofs.Common.{◌-◌, refl, le_antisymm, add-one, arith, rules}
+use Rattle.std.proofs.Common.{refl, le_antisymm, add-one, arith, rules}
 use Rattle.loops.specs.Loops.{sum_to}
-use Rattle.loops.specs.Figures.{at}
 use Rattle.planning.proofs.top_up.sum.Goals as goal
 
 pub loop-i-init : goal.loop-i-init

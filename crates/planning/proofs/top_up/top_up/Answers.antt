@@ -1,4 +1,4 @@
-use Rattle.std.proofs.Common.{◌-◌, ◌<◌, length, sym, ap, ◌∙◌, arith, length-set}
+use Rattle.std.proofs.Common.{◌<◌, length, sym, ap, ◌∙◌, arith, length-set}
 use Rattle.loops.specs.Figures.{minus}
 use Rattle.plan_defs.specs.TopUp.{by_cost}
 use Rattle.planning.proofs.ToppingUp.{costs_length, unit_at_lem, pass_start, pass_end, pass_none, pass_last, pass_next}

@@ -48,7 +48,8 @@ impl Case<'_> {
         Ok(())
     }
 
-    // A BU or a BV: both are printed with their weight.
+    // A BU or a BV: both are printed with their weight. By index, as below: the record's fields lie in parallel tables, as case reading
+    // fills them, and ((((bus, slack), pmin), pmax), c1) of nested zips reads no better.
     fn print_buses<W: Write>(&self, to: &mut W) -> io::Result<()> {
         let t = self.tables;
         for i in 0..self.header.buses {

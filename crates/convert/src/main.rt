@@ -4,57 +4,31 @@
 #![tactic(auto)]
 
 use casefile_defs::MOST_BYTES;
-use refusal::{Answer, Refusal};
 use std::io;
 use std::io::{Read, Write};
 
 // One byte more than the largest file, so that a larger one shows.
 const MOST_FILE: usize = MOST_BYTES + 1;
 
-// RF number index
-fn print_refusal<W: Write>(to: &mut W, f: Refusal) -> io::Result<()> {
-    to.write_all(b"RF ")?;
-    streams::write_decimal(to, f.number() as u64)?;
-    to.write_all(b" ")?;
-    streams::write_decimal(to, f.index() as u64)?;
-    to.write_all(b"\n")
-}
-
-fn print_moved<W: Write>(to: &mut W, said: Answer, out: &[u8]) -> io::Result<()> {
-    match said {
-        Answer::Refused(f) => print_refusal(to, f),
-        Answer::Answered => to.write_all(out),
-    }
-}
-
-fn forward<W: Write>(to: &mut W, file: &[u8]) -> io::Result<()> {
-    let mut out = [0u8; MOST_BYTES];
-    let said = casefile::move_forward(file, &mut out);
-    print_moved(to, said, &out)
-}
-
-fn back<W: Write>(to: &mut W, file: &[u8]) -> io::Result<()> {
-    let mut out = [0u8; MOST_BYTES];
-    let said = casefile::move_back(file, &mut out);
-    print_moved(to, said, &out)
-}
-
 // The file that follows, moved.
 fn convert<R: Read, W: Write>(from: &mut R, to: &mut W, direction: u8) -> io::Result<()> {
-    let mut file = [0u8; MOST_FILE];
+    let mut file = [0; MOST_FILE];
     let n = streams::read_full(from, &mut file)?;
-    if direction == b'F' {
-        return forward(to, &file[0..n]);
+    let mut out = [0; MOST_BYTES];
+    let moved = match direction {
+        b'F' => casefile::move_forward(&file[..n], &mut out),
+        b'B' => casefile::move_back(&file[..n], &mut out),
+        _ => return to.write_all(b"??\n"),
+    };
+    match moved {
+        Ok(()) => to.write_all(&out),
+        Err(refusal) => writeln!(to, "RF {refusal}"),
     }
-    if direction == b'B' {
-        return back(to, &file[0..n]);
-    }
-    to.write_all(b"??\n")
 }
 
 fn main(rt: HostRuntime) -> io::Result<()> {
     let mut from = rt.stdin();
-    let mut direction = [0u8; 1];
+    let mut direction = [0; 1];
     streams::read_full(&mut from, &mut direction)?;
     convert(&mut from, &mut rt.stdout(), direction[0])
 }

@@ -1,43 +1,32 @@
 // Three buses and two corridors.
-use crate::report::{
-    MARK, ROOM, Wrong, made, marks_kept, none, say_answered, say_call, say_kept, say_refusal,
-};
-use refusal::Answer;
+use crate::lent::{Mark, Wrong, kept, lent, lent_mut};
+use crate::report::{Outcome, report, report_wrong};
 use std::io;
 use std::io::Write;
 
 const SLICES: usize = 3;
 
-fn call<W: Write>(to: &mut W, what: &[u8], buses: usize, wrong: Wrong) -> io::Result<()> {
-    let a = [0u32, 1, 2];
-    let b = [1u32, 2, 0];
-    let mut leader = [MARK; ROOM];
-    let r = leaders::leaders(
+fn call(buses: usize, wrong: Option<Wrong>) -> Outcome {
+    let a = [0, 1, 2];
+    let b = [1, 2, 0];
+    let mut leader = [u32::MARK; 4];
+    let said = leaders::leaders(
         buses,
         2,
-        &a[0..made(2, 0, wrong)],
-        &b[0..made(2, 1, wrong)],
-        &mut leader[0..made(3, 2, wrong)],
+        lent(&a, 0, wrong),
+        lent(&b, 1, wrong),
+        lent_mut(&mut leader, 2, wrong),
     );
-    say_call(to, what, wrong)?;
-    match r {
-        Answer::Answered => say_answered(to)?,
-        Answer::Refused(f) => say_refusal(to, f)?,
-    }
-    say_kept(to, marks_kept(&leader))
+    Outcome::new(said, kept(&leader))
 }
 
 // Every length right; then a count past its bound with these lengths.
 pub fn first<W: Write>(to: &mut W) -> io::Result<()> {
-    call(to, b"leaders", 3, none())?;
-    call(to, b"leaders of 257 buses", 257, none())
+    report(to, "leaders", None, call(3, None))?;
+    report(to, "leaders of 257 buses", None, call(257, None))
 }
 
 // One slice too short, and too long, where there is such a slice.
 pub fn both<W: Write>(to: &mut W, slice: usize) -> io::Result<()> {
-    if slice < SLICES {
-        call(to, b"leaders", 3, Wrong { slice, long: false })?;
-        call(to, b"leaders", 3, Wrong { slice, long: true })?;
-    }
-    Ok(())
+    report_wrong(to, "leaders", SLICES, slice, |wrong| call(3, wrong))
 }

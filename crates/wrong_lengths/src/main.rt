@@ -7,6 +7,7 @@ mod angles_calls;
 mod dispatch_calls;
 mod join_calls;
 mod leaders_calls;
+mod lent;
 mod moving_calls;
 mod placement_calls;
 mod planning_calls;
@@ -16,12 +17,10 @@ mod report;
 mod season_calls;
 mod sheet_calls;
 mod small_calls;
+mod tables;
 
 use std::io;
 use std::io::Write;
-
-// Of joining, which has the most.
-const MOST_SLICES: usize = 51;
 
 fn first<W: Write>(to: &mut W) -> io::Result<()> {
     leaders_calls::first(to)?;
@@ -56,7 +55,8 @@ fn both<W: Write>(to: &mut W, slice: usize) -> io::Result<()> {
 fn main(rt: HostRuntime) -> io::Result<()> {
     let mut to = rt.stdout();
     first(&mut to)?;
-    for slice in 0..MOST_SLICES {
+    // Joining has the most.
+    for slice in 0..join_calls::SLICES {
         both(&mut to, slice)?;
     }
     Ok(())

@@ -1,65 +1,56 @@
 // A case of one level and no bus, which may be moved either way.
-use crate::report::{
-    BYTE, BYTES, Wrong, bytes_kept, made, none, say_answered, say_call, say_kept, say_refusal,
-};
+use crate::lent::{Mark, Off, Wrong, kept, lent_mut};
+use crate::report::{Outcome, report};
 use casefile_defs::MOST_BYTES;
-use refusal::Answer;
+use refusal::Refusal;
 use std::io;
 use std::io::Write;
 
 // The output.
 const SLICES: usize = 1;
 
-fn say_moved<W: Write>(
-    to: &mut W,
-    what: &[u8],
-    wrong: Wrong,
-    said: Answer,
-    kept: bool,
-) -> io::Result<()> {
-    say_call(to, what, wrong)?;
-    match said {
-        Answer::Answered => say_answered(to)?,
-        Answer::Refused(f) => say_refusal(to, f)?,
-    }
-    say_kept(to, kept)
+const FILE: &[u8] =
+    b"HD\x02\x00\x00\x00\x00\x00\x00\x00\x00\x00\x00\x00\x01LV\x00\x00\x00\x00\x00\x40\x61\x40";
+
+// One of the two operations on a file.
+fn call<F: FnOnce(&[u8], &mut [u8]) -> Result<(), Refusal>>(
+    operation: F,
+    file: &[u8],
+    wrong: Option<Wrong>,
+) -> Outcome
+    requires { F.IsAlwaysCallable operation }
+{
+    let mut out = [u8::MARK; MOST_BYTES + 1];
+    let said = operation(file, lent_mut(&mut out, 0, wrong));
+    Outcome::new(said, kept(&out))
 }
 
-fn call_forward<W: Write>(to: &mut W, what: &[u8], file: &[u8], wrong: Wrong) -> io::Result<()> {
-    let mut out = [BYTE; BYTES];
-    let said = casefile::move_forward(file, &mut out[0..made(MOST_BYTES, 0, wrong)]);
-    say_moved(to, what, wrong, said, bytes_kept(&out))
-}
-
-fn call_back<W: Write>(to: &mut W, what: &[u8], file: &[u8], wrong: Wrong) -> io::Result<()> {
-    let mut out = [BYTE; BYTES];
-    let said = casefile::move_back(file, &mut out[0..made(MOST_BYTES, 0, wrong)]);
-    say_moved(to, what, wrong, said, bytes_kept(&out))
-}
-
-fn call<W: Write>(to: &mut W, wrong: Wrong) -> io::Result<()> {
-    let file =
-        b"HD\x02\x00\x00\x00\x00\x00\x00\x00\x00\x00\x00\x00\x01LV\x00\x00\x00\x00\x00\x40\x61\x40";
-    call_forward(to, b"moving forward", file, wrong)?;
-    call_back(to, b"moving back", file, wrong)
+fn report_moves<W: Write>(to: &mut W, wrong: Option<Wrong>) -> io::Result<()> {
+    let forward = call(casefile::move_forward, FILE, wrong);
+    let back = call(casefile::move_back, FILE, wrong);
+    report(to, "moving forward", wrong, forward)?;
+    report(to, "moving back", wrong, back)
 }
 
 // Every length right; then a file that ends in its header with a wrong length too, where the length is told.
 pub fn first<W: Write>(to: &mut W) -> io::Result<()> {
-    call(to, none())?;
-    let long = Wrong {
+    let long = Some(Wrong {
         slice: 0,
-        long: true,
-    };
-    call_forward(to, b"moving a cut file forward", b"HD", long)?;
-    call_back(to, b"moving a cut file back", b"HD", long)
+        off: Off::Long,
+    });
+    let forward = call(casefile::move_forward, b"HD", long);
+    let back = call(casefile::move_back, b"HD", long);
+    report_moves(to, None)?;
+    report(to, "moving a cut file forward", long, forward)?;
+    report(to, "moving a cut file back", long, back)
 }
 
-// The output too short, and too long.
+// The output too short, and too long: both ways with the one, then both with the other.
 pub fn both<W: Write>(to: &mut W, slice: usize) -> io::Result<()> {
     if slice < SLICES {
-        call(to, Wrong { slice, long: false })?;
-        call(to, Wrong { slice, long: true })?;
+        for off in [Off::Short, Off::Long] {
+            report_moves(to, Some(Wrong { slice, off }))?;
+        }
     }
     Ok(())
 }

@@ -1,130 +1,73 @@
-// What is wrong with a call, and one line for each.
-ghost use Rattle.std.specs.Prelude.{◌+◌, ◌≤◌};
-
+// What is wrong with a call, what came of it, and a line for each.
+use crate::lent::{Off, Wrong};
 use refusal::Refusal;
-use std::io;
 use std::io::Write;
+use std::{fmt, io};
 
-// The places of every lent array, one more than the longest slice has.
-pub const ROOM: usize = casefile_defs::MOST_SHEET + 1;
-
-// The same of arrays of bytes: a file's.
-pub const BYTES: usize = casefile_defs::MOST_BYTES + 1;
-
-// What a lent place holds before a call.
-pub const MARK: u32 = 7;
-
-pub const BYTE: u8 = 7;
-
-pub const FIGURE: f64 = 7.0;
-
-// More than any operation has.
-const NO_SLICE: usize = 99;
-
-// The slice that has not its length, by its place among the operation's slices from 0, and whether it is one place too long
-// or too short.
+// What came of a call.
 #[derive(Clone, Copy)]
-pub struct Wrong {
-    pub slice: usize,
-    pub long: bool,
+pub enum Outcome {
+    // The refusal, if it was one, and whether the lent arrays hold their marks still.
+    Answer {
+        refusal: Option<Refusal>,
+        kept: bool,
+    },
+    // Of an operation that hands a part of a slice back: how many figures that has.
+    Figures(usize),
 }
 
-// No slice is wrong.
-pub fn none() -> Wrong {
-    Wrong {
-        slice: NO_SLICE,
-        long: false,
-    }
-}
-
-// How long to make the slice at a place where `right` is right.
-pub fn made(right: usize, place: usize, wrong: Wrong) -> usize
-    requires { (1 ≤ right) × (right ≤ 65536) }
-    ensures { result ≤ right + 1 }
-{
-    if place != wrong.slice {
-        return right;
-    }
-    if wrong.long {
-        return right + 1;
-    }
-    right - 1
-}
-
-fn say_number<W: Write>(to: &mut W, n: u64) -> io::Result<()> {
-    to.write_all(b" ")?;
-    streams::write_decimal(to, n)
-}
-
-// The call: what it is of, and what is wrong.
-pub fn say_call<W: Write>(to: &mut W, what: &[u8], wrong: Wrong) -> io::Result<()> {
-    to.write_all(what)?;
-    if wrong.slice < NO_SLICE {
-        to.write_all(b", slice")?;
-        say_number(to, wrong.slice as u64)?;
-        if wrong.long {
-            return to.write_all(b" long");
+impl Outcome {
+    pub fn new<T: Drop>(said: Result<T, Refusal>, kept: bool) -> Self {
+        Outcome::Answer {
+            refusal: said.err(),
+            kept,
         }
-        return to.write_all(b" short");
+    }
+}
+
+impl fmt::Display for Outcome {
+    fn fmt<W: fmt::Write>(&self, f: &mut fmt::Formatter<W>) -> fmt::Result {
+        let (refusal, kept) = match *self {
+            Outcome::Figures(count) => return write!(f, "{count} figures"),
+            Outcome::Answer { refusal, kept } => (refusal, kept),
+        };
+        match refusal {
+            None => write!(f, "OK")?,
+            Some(refusal) => write!(f, "RF {refusal}")?,
+        }
+        write!(f, ", {}", if kept { "kept" } else { "changed" })
+    }
+}
+
+// What a call was, what was wrong with it and what came of it.
+pub fn report<W: Write>(
+    to: &mut W,
+    what: &str,
+    wrong: Option<Wrong>,
+    outcome: Outcome,
+) -> io::Result<()> {
+    write!(to, "{what}")?;
+    if let Some(wrong) = wrong {
+        write!(to, ", {wrong}")?;
+    }
+    writeln!(to, ": {outcome}")
+}
+
+// Makes a call with one slice too short, and too long, where the operation has such a slice.
+pub fn report_wrong<W: Write, F: Fn(Option<Wrong>) -> Outcome + Drop>(
+    to: &mut W,
+    what: &str,
+    slices: usize,
+    slice: usize,
+    call: F,
+) -> io::Result<()>
+    requires { F.IsAlwaysCallable call }
+{
+    if slice < slices {
+        for off in [Off::Short, Off::Long] {
+            let wrong = Some(Wrong { slice, off });
+            report(to, what, wrong, call(wrong))?;
+        }
     }
     Ok(())
-}
-
-// Of an operation that hands a part of a slice back: how many figures that has.
-pub fn say_figures<W: Write>(to: &mut W, count: usize) -> io::Result<()> {
-    to.write_all(b":")?;
-    say_number(to, count as u64)?;
-    to.write_all(b" figures\n")
-}
-
-pub fn say_answered<W: Write>(to: &mut W) -> io::Result<()> {
-    to.write_all(b": OK")
-}
-
-pub fn say_refusal<W: Write>(to: &mut W, f: Refusal) -> io::Result<()> {
-    to.write_all(b": RF")?;
-    say_number(to, f.number() as u64)?;
-    say_number(to, f.index() as u64)
-}
-
-pub fn say_kept<W: Write>(to: &mut W, kept: bool) -> io::Result<()> {
-    if kept {
-        to.write_all(b", kept\n")
-    } else {
-        to.write_all(b", changed\n")
-    }
-}
-
-// Whether every place holds the mark still.
-pub fn marks_kept(xs: &[u32; ROOM]) -> bool {
-    let mut i: usize = 0;
-    while i < ROOM {
-        if xs[i] != MARK {
-            return false;
-        }
-        i += 1;
-    }
-    true
-}
-
-pub fn figures_kept(xs: &[f64; ROOM]) -> bool {
-    let mut i: usize = 0;
-    while i < ROOM {
-        if xs[i] != FIGURE {
-            return false;
-        }
-        i += 1;
-    }
-    true
-}
-
-pub fn bytes_kept(xs: &[u8; BYTES]) -> bool {
-    let mut i: usize = 0;
-    while i < BYTES {
-        if xs[i] != BYTE {
-            return false;
-        }
-        i += 1;
-    }
-    true
 }

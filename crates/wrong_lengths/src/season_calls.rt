@@ -1,33 +1,31 @@
 // A plan of two corridors, fed to an empty season. The slice is only read; what must be kept is the season.
-use crate::report::{MARK, ROOM, Wrong, made, none, say_answered, say_call, say_kept, say_refusal};
+use crate::lent::{Mark, Wrong, lent};
+use crate::report::{Outcome, report, report_wrong};
 use plan_defs::CorridorPlan;
-use refusal::Answer;
 use season_defs::Season;
 use std::io;
 use std::io::Write;
 
 const SLICES: usize = 1;
 
-fn plan() -> CorridorPlan {
-    CorridorPlan {
-        rounds: 1,
-        converged: true,
-        capacity: 0,
-        stiffening: 0,
-        filler: 0,
-        promoted: 0,
-        upsized: 0,
-        overloaded: 0,
-        capped: 0,
-        loading: 0.5,
-        spread: 0.0,
-        grounds: 1,
-        added: 0,
-    }
-}
+const PLAN: CorridorPlan = CorridorPlan {
+    rounds: 1,
+    converged: true,
+    capacity: 0,
+    stiffening: 0,
+    filler: 0,
+    promoted: 0,
+    upsized: 0,
+    overloaded: 0,
+    capped: 0,
+    loading: 0.5,
+    spread: 0.0,
+    grounds: 1,
+    added: 0,
+};
 
 // Whether no count or sum of the season has moved, nor the first place of an array.
-fn is_empty(season: Season) -> bool {
+fn is_empty(season: &Season) -> bool {
     (season.taken == 0)
         & (season.corridors == 0)
         & (season.rounds == 0)
@@ -37,35 +35,21 @@ fn is_empty(season: Season) -> bool {
         & (season.total[0] == 0)
 }
 
-fn call<W: Write>(to: &mut W, what: &[u8], corridors: usize, wrong: Wrong) -> io::Result<()> {
-    let circuits = [MARK; ROOM];
-    let fed = season::add_plan(
-        season::begin(),
-        plan(),
-        corridors,
-        &circuits[0..made(2, 0, wrong)],
-    );
-    say_call(to, what, wrong)?;
+fn call(corridors: usize, wrong: Option<Wrong>) -> Outcome {
+    let circuits = [u32::MARK; 3];
+    let fed = season::add_plan(season::begin(), PLAN, corridors, lent(&circuits, 0, wrong));
     let said = fed.said;
-    match said {
-        Answer::Answered => say_answered(to)?,
-        Answer::Refused(f) => say_refusal(to, f)?,
-    }
-    let then = fed.season;
-    say_kept(to, is_empty(then))
+    let season = fed.season;
+    Outcome::new(said, is_empty(&season))
 }
 
 // Every length right; then a count past its bound with these lengths.
 pub fn first<W: Write>(to: &mut W) -> io::Result<()> {
-    call(to, b"season", 2, none())?;
-    call(to, b"season of 257 corridors", 257, none())
+    report(to, "season", None, call(2, None))?;
+    report(to, "season of 257 corridors", None, call(257, None))
 }
 
 // One slice too short, and too long, where there is such a slice.
 pub fn both<W: Write>(to: &mut W, slice: usize) -> io::Result<()> {
-    if slice < SLICES {
-        call(to, b"season", 2, Wrong { slice, long: false })?;
-        call(to, b"season", 2, Wrong { slice, long: true })?;
-    }
-    Ok(())
+    report_wrong(to, "season", SLICES, slice, |wrong| call(2, wrong))
 }

@@ -1,100 +1,50 @@
 // The last small network.
-use crate::report::{
-    FIGURE, MARK, ROOM, Wrong, figures_kept, made, marks_kept, none, say_answered, say_call,
-    say_kept, say_refusal,
-};
-use casefile_defs::{
-    MOST_BUSES, MOST_CORRIDORS, MOST_GENERATORS, MOST_LEVELS, MOST_SHEET, Reading,
-};
+use crate::lent::{Off, Wrong, lent_mut};
+use crate::report::{Outcome, report, report_wrong};
+use crate::tables::Tables;
 use std::io;
 use std::io::Write;
-
-// The tables.
-const SLICES: usize = 17;
 
 // The last place.
 const LAST: usize = 73;
 
-fn call<W: Write>(to: &mut W, what: &[u8], place: usize, wrong: Wrong) -> io::Result<()> {
-    let mut ladder = [FIGURE; ROOM];
-    let mut tier = [MARK; ROOM];
-    let mut reading = [FIGURE; ROOM];
-    let mut weight = [FIGURE; ROOM];
-    let mut bus = [MARK; ROOM];
-    let mut slack = [MARK; ROOM];
-    let mut pmin = [FIGURE; ROOM];
-    let mut pmax = [FIGURE; ROOM];
-    let mut c1 = [FIGURE; ROOM];
-    let mut c2 = [FIGURE; ROOM];
-    let mut a = [MARK; ROOM];
-    let mut b = [MARK; ROOM];
-    let mut circuits = [MARK; ROOM];
-    let mut km = [FIGURE; ROOM];
-    let mut share = [FIGURE; ROOM];
-    let mut cap = [MARK; ROOM];
-    let mut sheet = [FIGURE; ROOM];
+fn call(place: usize, wrong: Option<Wrong>) -> Outcome {
+    let mut t = Tables::marked();
     let said = small::small_network(
         place,
-        &mut ladder[0..made(MOST_LEVELS, 0, wrong)],
-        &mut tier[0..made(MOST_BUSES, 1, wrong)],
-        &mut reading[0..made(MOST_BUSES, 2, wrong)],
-        &mut weight[0..made(MOST_BUSES, 3, wrong)],
-        &mut bus[0..made(MOST_GENERATORS, 4, wrong)],
-        &mut slack[0..made(MOST_GENERATORS, 5, wrong)],
-        &mut pmin[0..made(MOST_GENERATORS, 6, wrong)],
-        &mut pmax[0..made(MOST_GENERATORS, 7, wrong)],
-        &mut c1[0..made(MOST_GENERATORS, 8, wrong)],
-        &mut c2[0..made(MOST_GENERATORS, 9, wrong)],
-        &mut a[0..made(MOST_CORRIDORS, 10, wrong)],
-        &mut b[0..made(MOST_CORRIDORS, 11, wrong)],
-        &mut circuits[0..made(MOST_CORRIDORS, 12, wrong)],
-        &mut km[0..made(MOST_CORRIDORS, 13, wrong)],
-        &mut share[0..made(MOST_CORRIDORS, 14, wrong)],
-        &mut cap[0..made(MOST_CORRIDORS, 15, wrong)],
-        &mut sheet[0..made(MOST_SHEET, 16, wrong)],
+        lent_mut(&mut t.ladder, 0, wrong),
+        lent_mut(&mut t.tier, 1, wrong),
+        lent_mut(&mut t.reading, 2, wrong),
+        lent_mut(&mut t.weight, 3, wrong),
+        lent_mut(&mut t.bus, 4, wrong),
+        lent_mut(&mut t.slack, 5, wrong),
+        lent_mut(&mut t.pmin, 6, wrong),
+        lent_mut(&mut t.pmax, 7, wrong),
+        lent_mut(&mut t.c1, 8, wrong),
+        lent_mut(&mut t.c2, 9, wrong),
+        lent_mut(&mut t.a, 10, wrong),
+        lent_mut(&mut t.b, 11, wrong),
+        lent_mut(&mut t.circuits, 12, wrong),
+        lent_mut(&mut t.km, 13, wrong),
+        lent_mut(&mut t.share, 14, wrong),
+        lent_mut(&mut t.cap, 15, wrong),
+        lent_mut(&mut t.sheet, 16, wrong),
     );
-    say_call(to, what, wrong)?;
-    match said {
-        Reading::Read(_) => say_answered(to)?,
-        Reading::Refused(f) => say_refusal(to, f)?,
-    }
-    let buses = marks_kept(&tier) & figures_kept(&reading) & figures_kept(&weight);
-    let places = marks_kept(&bus) & marks_kept(&slack);
-    let units = figures_kept(&pmin) & figures_kept(&pmax) & figures_kept(&c1) & figures_kept(&c2);
-    let ends = marks_kept(&a) & marks_kept(&b) & marks_kept(&circuits) & figures_kept(&km);
-    say_kept(
-        to,
-        figures_kept(&ladder)
-            & buses
-            & places
-            & units
-            & ends
-            & figures_kept(&share)
-            & marks_kept(&cap)
-            & figures_kept(&sheet),
-    )
+    Outcome::new(said, t.kept())
 }
 
 // Every length right; then a place past the last, with these lengths and with a wrong one: refusal 1 comes before 23.
 pub fn first<W: Write>(to: &mut W) -> io::Result<()> {
-    call(to, b"small", LAST, none())?;
-    call(to, b"small at 74", LAST + 1, none())?;
-    call(
-        to,
-        b"small at 74",
-        LAST + 1,
-        Wrong {
-            slice: 0,
-            long: false,
-        },
-    )
+    let short = Some(Wrong {
+        slice: 0,
+        off: Off::Short,
+    });
+    report(to, "small", None, call(LAST, None))?;
+    report(to, "small at 74", None, call(LAST + 1, None))?;
+    report(to, "small at 74", short, call(LAST + 1, short))
 }
 
 // One slice too short, and too long, where there is such a slice.
 pub fn both<W: Write>(to: &mut W, slice: usize) -> io::Result<()> {
-    if slice < SLICES {
-        call(to, b"small", LAST, Wrong { slice, long: false })?;
-        call(to, b"small", LAST, Wrong { slice, long: true })?;
-    }
-    Ok(())
+    report_wrong(to, "small", Tables::COUNT, slice, |wrong| call(LAST, wrong))
 }

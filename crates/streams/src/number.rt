@@ -47,10 +47,8 @@ fn write_digits(n: u64, k: usize, out: &mut [u8])
     ensures digits { take k out.new ≡ last_digits 10 k n }
     ensures rest { drop k out.new ≡ drop k out.old }
 {
-    let mut i = k;
     let mut rest = n;
-    while i > 0 {
-        i -= 1;
+    for i in (0..k).rev() {
         out[i] = digit_to_ascii(rest % 10);
         rest /= 10;
     }

@@ -11,7 +11,7 @@ ghost use Rattle.case_tables.specs.Tables.{tables_in};
 use casefile_defs::{Header, MOST_BUSES, MOST_CORRIDORS, MOST_GENERATORS, MOST_LEVELS, MOST_SHEET};
 use casefile_writer::put_case_file;
 
-#[derive(Clone, Copy)]
+#[derive(Drop)]
 pub struct Tables {
     pub ladder: [f64; MOST_LEVELS],
     pub tier: [u32; MOST_BUSES],

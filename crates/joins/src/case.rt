@@ -4,7 +4,7 @@ ghost use Rattle.casefile_defs.specs.Reading.{Small};
 use case_tables::Tables;
 use casefile_defs::Header;
 
-#[derive(Clone, Copy)]
+#[derive(Drop)]
 pub struct Case {
     pub header: Header,
     pub tables: Tables,

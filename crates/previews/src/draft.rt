@@ -6,7 +6,7 @@ use casefile_defs::MOST_CORRIDORS;
 use mode::PlanMode;
 
 // In the first places of each array.
-#[derive(Clone, Copy)]
+#[derive(Drop)]
 pub struct Draft {
     pub mode: PlanMode,
     pub corridors: usize,

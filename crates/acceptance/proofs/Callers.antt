@@ -6,11 +6,12 @@ use mathlib.Core.Path.{◌≡◌, refl, ap, ◌∙◌}
 use native.Mathlib.Omega.{arith}
 use Rattle.refusal.specs.declared.Refusal.{Refusal}
 use Rattle.refusal.specs.declared.Refusal.TheVariants.{Length}
-use Rattle.refusal.specs.declared.Answer.TheVariants.{Answered, Refused}
 use Rattle.mode.specs.declared.PlanMode.TheVariants.{Observe}
 use Rattle.plan_defs.specs.Case.{Case, case_with, row_at}
 use Rattle.plan_defs.specs.Accept.{lengths_ok, counts_ok, level_ok, bus_ok, generator_ok, corridor_sound, row_ok, tables_fault, case_fault}
 use Rattle.acceptance.specs.Check.{answer_of, check_of}
+use Rattle.std.specs.Prelude.{Err, Ok}
+use Rattle.refusal.specs.Reply.{no_refusal}
 
 -- a case as it is checked
 abbrev pub tables_of_lem : Case → Case
@@ -31,17 +32,17 @@ module _ (fits : Bool) (c : Case) (target : ℕ) where
   unfolding check_of
   check_is = ap (λ (f : Option Refusal). answer_of (cond fits f (some Length))) any_mode
 
-  pub refused_by_lem : (f : Refusal) → Refused f ≡ check_of fits (tables_of_lem c) target → fault_if ≡ some f
+  pub refused_by_lem : (f : Refusal) → Err f ≡ check_of fits (tables_of_lem c) target → fault_if ≡ some f
   refused_by_lem f e = go fault_if (e ∙ check_is)
     where
-      go : (o : Option Refusal) → Refused f ≡ answer_of o → o ≡ some f
+      go : (o : Option Refusal) → Err f ≡ answer_of o → o ≡ some f
       go none h = let z : ◌≡◌ {A = ℕ} 0 1 = cc in absurd (omega arith)
       go (some g) h = cc
 
-  pub passed_by_lem : Answered ≡ check_of fits (tables_of_lem c) target → (fits ≡ true) × (case_fault c target ≡ none)
+  pub passed_by_lem : no_refusal ≡ check_of fits (tables_of_lem c) target → (fits ≡ true) × (case_fault c target ≡ none)
   passed_by_lem e = go fits (case_fault c target) refl refl (e ∙ check_is)
     where
-      go : (b : Bool) (o : Option Refusal) → fits ≡ b → case_fault c target ≡ o → Answered ≡ answer_of (cond b o (some Length)) → (fits ≡ true) × (case_fault c target ≡ none)
+      go : (b : Bool) (o : Option Refusal) → fits ≡ b → case_fault c target ≡ o → no_refusal ≡ answer_of (cond b o (some Length)) → (fits ≡ true) × (case_fault c target ≡ none)
       go false o p q h = let z : ◌≡◌ {A = ℕ} 0 1 = cc in absurd (omega arith)
       go true (some g) p q h = let z : ◌≡◌ {A = ℕ} 0 1 = cc in absurd (omega arith)
       go true none p q h = (p, q)

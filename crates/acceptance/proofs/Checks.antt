@@ -19,8 +19,6 @@ use Rattle.loops.proofs.Tab.{length_tab, get_tab}
 use Rattle.loads.specs.Load.{weighed, loads_of, load_ok}
 use Rattle.refusal.specs.declared.Refusal.{Refusal}
 use Rattle.refusal.specs.declared.Refusal.TheVariants.{Length, Count, Level, Bus, Generator, Corridor, Row}
-use Rattle.refusal.specs.declared.Answer.{Answer}
-use Rattle.refusal.specs.declared.Answer.TheVariants.{Answered, Refused}
 use Rattle.sheets.specs.Sheet.{row_figures, row_place}
 use Rattle.plan_defs.specs.Constants.{kv_tolerance, most_corridors, most_levels}
 use Rattle.plan_defs.specs.Case.{Case, levels, row_at, row_from, rows_of}
@@ -28,6 +26,8 @@ use Rattle.plan_defs.specs.Accept.{lengths_ok, counts_ok, level_ok, bus_ok, gene
 use Rattle.plan_defs.proofs.Rows.{row_from_lem}
 use Rattle.plan_defs.proofs.Accepted.{Columns, columns_of_lem, counts_of}
 use Rattle.acceptance.specs.Check.{generator_sizes, corridor_sizes, tables_for, ladder_for, buses_for, generators_for, corridors_for, sheet_for, Buses, Generators, Corridors, Sheet, Tables, counts_in, answer_of, check_of}
+use Rattle.std.specs.Prelude.{Err, Ok, Result}
+use Rattle.refusal.specs.Reply.{no_refusal}
 
 -- ---- tests that agree
 pub eqb_same : (a b x y : ℕ) → (a ≡ b → x ≡ y) → (x ≡ y → a ≡ b) → eqb a b ≡ eqb x y
@@ -209,7 +209,7 @@ module _ (n m g above requested : ℕ) (ladder : List Float) (tier : List ℕ) (
     row_at_lem w e = e ∙ ap (λ (x : ℕ). first (row_in x) (m * (above + requested)) 0) (let z : 0 + (above + requested) ≡ above + requested = omega arith in z)
 
     module _ (l : ℕ) (el : l ≡ first (level_ok (ladder_for ladder)) (length ladder) 0) where
-      pub level_refused : l < above + requested → Refused (Level l) ≡ answer_of (tables_fault given)
+      pub level_refused : l < above + requested → Err (Level l) ≡ answer_of (tables_fault given)
       unfolding tables_fault
       level_refused h = sym (ap answer_of (stop_at (level_ok given) Level (above + requested) (after_levels given) l (level_at l el) h))
 
@@ -218,48 +218,48 @@ module _ (n m g above requested : ℕ) (ladder : List Float) (tier : List ℕ) (
         unfolding tables_fault
         past_levels = go_on (level_ok given) Level (above + requested) (after_levels given) l (level_at l el) hl
 
-        pub bus_refused : i < n → Refused (Bus i) ≡ answer_of (tables_fault given)
+        pub bus_refused : i < n → Err (Bus i) ≡ answer_of (tables_fault given)
         bus_refused h = sym (ap answer_of (past_levels ∙ stop_at (bus_ok given) Bus n (after_buses given) i (bus_at i ei) h))
 
         module _ (hi : n ≤ i) (u : ℕ) (eu : u ≡ first (generator_ok (generators_for n bus slack pmin pmax c1 c2)) (length bus) 0) where
           past_buses : tables_fault given ≡ after_buses given
           past_buses = past_levels ∙ go_on (bus_ok given) Bus n (after_buses given) i (bus_at i ei) hi
 
-          pub generator_refused : u < g → Refused (Generator u) ≡ answer_of (tables_fault given)
+          pub generator_refused : u < g → Err (Generator u) ≡ answer_of (tables_fault given)
           generator_refused h = sym (ap answer_of (past_buses ∙ stop_at (generator_ok given) Generator g (after_generators given) u (generator_at u eu) h))
 
           module _ (hu : g ≤ u) (k : ℕ) (ek : k ≡ first (corridor_sound (corridors_for n a b initial km share cap)) (length a) 0) where
             past_generators : tables_fault given ≡ after_generators given
             past_generators = past_buses ∙ go_on (generator_ok given) Generator g (after_generators given) u (generator_at u eu) hu
 
-            pub corridor_refused : k < m → Refused (Corridor k) ≡ answer_of (tables_fault given)
+            pub corridor_refused : k < m → Err (Corridor k) ≡ answer_of (tables_fault given)
             corridor_refused h = sym (ap answer_of (past_generators ∙ stop_at (corridor_sound given) Corridor m (after_corridors given) k (corridor_at_lem k ek) h))
 
             module _ (hk : m ≤ k) (w : ℕ) (ew : w ≡ first (row_ok (sheet_for m (above + requested) sheet)) (m * (above + requested)) 0) where
               past_corridors : tables_fault given ≡ after_corridors given
               past_corridors = past_generators ∙ go_on (corridor_sound given) Corridor m (after_corridors given) k (corridor_at_lem k ek) hk
 
-              pub row_refused : w < m * (above + requested) → Refused (Row w) ≡ answer_of (tables_fault given)
+              pub row_refused : w < m * (above + requested) → Err (Row w) ≡ answer_of (tables_fault given)
               row_refused h = sym (ap answer_of (past_corridors ∙ stop_at (row_ok given) Row (m * (above + requested)) none w (row_at_lem w ew) h))
 
-              pub tables_passed : m * (above + requested) ≤ w → Answered ≡ answer_of (tables_fault given)
+              pub tables_passed : m * (above + requested) ≤ w → no_refusal ≡ answer_of (tables_fault given)
               tables_passed h = sym (ap answer_of (past_corridors ∙ go_on (row_ok given) Row (m * (above + requested)) none w (row_at_lem w ew) h))
 
   -- ---- the whole check
   module _ (target : ℕ) (x fits z : Bool) (ex : x ≡ lengths_ok given) (ez : z ≡ counts_in n m g requested (length ladder) target) where
     -- the answer by whether the slices fit, the lengths and the counts
-    abbrev answer : Bool → Bool → Bool → Answer
+    abbrev answer : Bool → Bool → Bool → Result (Unit {0}) Refusal
     answer v u w = answer_of (cond v (cond u (cond w (tables_fault given) (some Count)) (some Length)) (some Length))
 
     counted : lengths_ok given ≡ true → z ≡ counts_ok given target
     unfolding counts_ok
     counted e = ez ∙ ap (λ (k : ℕ). counts_in n m g requested k target) (columns_of_lem given e).ladder
 
-    pub length_refused : (x && fits) ≡ false → Refused Length ≡ check_of fits given target
+    pub length_refused : (x && fits) ≡ false → Err Length ≡ check_of fits given target
     unfolding check_of case_fault
     length_refused e = go x fits e ex
       where
-        go : (u v : Bool) → (u && v) ≡ false → u ≡ lengths_ok given → Refused Length ≡ answer v (lengths_ok given) (counts_ok given target)
+        go : (u v : Bool) → (u && v) ≡ false → u ≡ lengths_ok given → Err Length ≡ answer v (lengths_ok given) (counts_ok given target)
         go u false q f = refl
         go false true q f = ap (λ (b : Bool). answer true b (counts_ok given target)) f
         go true true q f = let w : ◌≡◌ {A = ℕ} 0 1 = cc in absurd (omega arith)
@@ -274,7 +274,7 @@ module _ (n m g above requested : ℕ) (ladder : List Float) (tier : List ℕ) (
           ap (answer true true) (sym e ∙ counted lengths) ∙ ap (λ (b : Bool). answer true b (counts_ok given target)) (sym lengths)
           ∙ ap (λ (b : Bool). answer b (lengths_ok given) (counts_ok given target)) (sym (both x fits passed).1)
 
-      pub count_refused : z ≡ false → Refused Count ≡ check_of fits given target
+      pub count_refused : z ≡ false → Err Count ≡ check_of fits given target
       count_refused e = decided false e
 
       pub tables_of_lem : z ≡ true → Tables given
@@ -282,5 +282,5 @@ module _ (n m g above requested : ℕ) (ladder : List Float) (tier : List ℕ) (
           let k = counts_of given target (sym (counted lengths) ∙ e) in
           record { lengths = lengths; few_corridors = k.few_corridors; some_level = k.some_level; few_levels = k.few_levels }
 
-      pub tables_answer : (r : Answer) → z ≡ true → r ≡ answer_of (tables_fault given) → r ≡ check_of fits given target
+      pub tables_answer : (r : Result (Unit {0}) Refusal) → z ≡ true → r ≡ answer_of (tables_fault given) → r ≡ check_of fits given target
       tables_answer r e q = q ∙ decided true e

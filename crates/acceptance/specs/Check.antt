@@ -1,15 +1,14 @@
 -- What the contracts cite: document 01's refusals 1 to 7 by the columns that each test reads, and all of them in order.
-use Rattle.std.specs.Prelude.{ℕ, ◌*◌, ◌≤◌, Bool, true, cond, ◌&&◌, List, [], ◌≡◌, leb, eqb, length, Float}
+use Rattle.std.specs.Prelude.{ℕ, ◌*◌, ◌≤◌, Bool, true, cond, ◌&&◌, List, [], ◌≡◌, leb, eqb, length, Float, Err, Ok, Result}
 use Rattle.std.proofs.Math.Option.{Option, none, some}
 use Rattle.refusal.specs.declared.Refusal.{Refusal}
 use Rattle.refusal.specs.declared.Refusal.TheVariants.{Length}
-use Rattle.refusal.specs.declared.Answer.{Answer}
-use Rattle.refusal.specs.declared.Answer.TheVariants.{Answered, Refused}
 use Rattle.mode.specs.declared.PlanMode.TheVariants.{Observe}
 use Rattle.sheets.specs.Sheet.{row_figures}
 use Rattle.plan_defs.specs.Constants.{most_buses, most_corridors, most_generators, most_levels, most_target}
 use Rattle.plan_defs.specs.Case.{Case, surveyed, levels}
 use Rattle.plan_defs.specs.Accept.{lengths_ok, case_fault}
+use Rattle.refusal.specs.Reply.{no_refusal}
 
 -- ---- a case of all tables, which the tests read in any mode; and of one table
 abbrev pub tables_for : ℕ → ℕ → ℕ → ℕ → ℕ → List Float → List ℕ → List Float → List Float → List ℕ → List ℕ → List Float → List Float → List Float → List Float
@@ -79,10 +78,10 @@ pub record Tables (c : Case) : Type 0 where
   pub few_levels : levels c ≤ most_levels
 
 -- ---- all, in order
-abbrev pub answer_of : Option Refusal → Answer
-answer_of none = Answered
-answer_of (some f) = Refused f
+abbrev pub answer_of : Option Refusal → Result (Unit {0}) Refusal
+answer_of none = no_refusal
+answer_of (some f) = Err f
 
 -- `fits`: the slices that the caller itself is lent have their lengths
-unfoldable pub check_of : Bool → Case → ℕ → Answer
+unfoldable pub check_of : Bool → Case → ℕ → Result (Unit {0}) Refusal
 check_of fits c target = answer_of (cond fits (case_fault c target) (some Length))

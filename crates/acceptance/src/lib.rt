@@ -5,7 +5,7 @@ ghost use Rattle.std.specs.Prelude.{◌≡◌};
 ghost use Rattle.acceptance.specs.Check.{tables_for, counts_in, check_of};
 
 use lengths::{corridor_lengths_ok, generator_lengths_ok, is_sum};
-use refusal::{Answer, Refusal};
+use refusal::Refusal;
 use sheets::sheet_ok;
 use tables::check_tables;
 
@@ -57,7 +57,7 @@ pub fn check_case(
     share: &[f64],
     cap: &[u32],
     sheet: &[f64],
-) -> Answer
+) -> Result<(), Refusal>
     ensures { result ≡ check_of fits (tables_for n m g above requested ladder.now tier.now reading.now weight.now bus.now slack.now pmin.now pmax.now c1.now c2.now a.now b.now initial.now km.now share.now cap.now sheet.now) target }
 {
     let levels = is_sum(ladder.len(), above, requested);
@@ -67,10 +67,10 @@ pub fn check_case(
     let rows = sheet_ok(sheet.len(), m, ladder.len());
     let lengths = levels & buses & generators & corridors & rows;
     if !(lengths & fits) {
-        return Answer::Refused(Refusal::Length);
+        return Err(Refusal::Length);
     }
     if !counts_ok(n, m, g, requested, ladder.len(), target) {
-        return Answer::Refused(Refusal::Count);
+        return Err(Refusal::Count);
     }
     check_tables(
         n, m, g, above, requested, ladder, tier, reading, weight, bus, slack, pmin, pmax, c1, c2,

@@ -12,7 +12,7 @@ ghost use Rattle.plan_defs.specs.Accept.{level_ok, bus_ok, generator_ok, corrido
 ghost use Rattle.acceptance.specs.Check.{tables_for, ladder_for, buses_for, generators_for, corridors_for, sheet_for, Buses, Generators, Corridors, Sheet, Tables, answer_of};
 
 use loads::load_ok;
-use refusal::{Answer, Refusal};
+use refusal::Refusal;
 use sheets::row_place;
 
 const MOST_INITIAL: u32 = 64;
@@ -249,30 +249,30 @@ pub fn check_tables(
     share: &[f64],
     cap: &[u32],
     sheet: &[f64],
-) -> Answer
+) -> Result<(), Refusal>
     requires { Tables (tables_for n m g above requested ladder.now tier.now reading.now weight.now bus.now slack.now pmin.now pmax.now c1.now c2.now a.now b.now initial.now km.now share.now cap.now sheet.now) }
     ensures { result ≡ answer_of (tables_fault (tables_for n m g above requested ladder.now tier.now reading.now weight.now bus.now slack.now pmin.now pmax.now c1.now c2.now a.now b.now initial.now km.now share.now cap.now sheet.now)) }
 {
     let levels = above + requested;
     let l = faulty_level(ladder);
     if l < levels {
-        return Answer::Refused(Refusal::Level(l));
+        return Err(Refusal::Level(l));
     }
     let i = faulty_bus(requested, tier, reading, weight);
     if i < n {
-        return Answer::Refused(Refusal::Bus(i));
+        return Err(Refusal::Bus(i));
     }
     let u = faulty_generator(n, bus, slack, pmin, pmax, c1, c2);
     if u < g {
-        return Answer::Refused(Refusal::Generator(u));
+        return Err(Refusal::Generator(u));
     }
     let k = faulty_corridor(n, a, b, initial, km, share, cap);
     if k < m {
-        return Answer::Refused(Refusal::Corridor(k));
+        return Err(Refusal::Corridor(k));
     }
     let w = faulty_row(m, levels, sheet);
     if w < m * levels {
-        return Answer::Refused(Refusal::Row(w));
+        return Err(Refusal::Row(w));
     }
-    Answer::Answered
+    Ok(())
 }

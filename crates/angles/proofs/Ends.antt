@@ -22,10 +22,10 @@ use Rattle.angles_defs.specs.Network.{Edges, zeros, ground, grounded_of, weigh, 
 use Rattle.angles_defs.specs.Solve.{Solved, solve_from, solve}
 use Rattle.angles_defs.specs.Operation.{Request, Outcome, outcome, fault, finite_at, finish_if, finish_at, finish, solve_of, dc_angles}
 use Rattle.angles_defs.specs.declared.Solution.{Solution}
-use Rattle.angles_defs.specs.declared.Angles.TheVariants.{Answered, Refused}
 use Rattle.angles_defs.proofs.Vectors.{length_zeros, length_grounded, length_diag, length_kept}
 use Rattle.angles_defs.proofs.Answers.{Sound}
 use Rattle.angles.specs.Rows.{row, network_in, solved_in, start_rows, HandedOut, EdgesBelow, GroundsBelow}
+use Rattle.std.specs.Prelude.{Err, Ok}
 
 -- ---- the rows are set up
 zero_rows : (n : ℕ) (w₀ w₁ : List Float) → length w₀ ≡ 8 * n → w₁ ≡ put w₀ 0 (zeros (8 * n)) → rows 8 n w₁ ≡ replicate 8 (zeros n)
@@ -110,27 +110,27 @@ module _ (n : ℕ) (E : Edges) (grounds : List ℕ) (injection guess : List Floa
   done : finish_at n (solved_in R₂ s) bus ≡ finish n (solve n E grounds injection guess)
   done = ap (λ (k : ℕ). finish_at n (solved_in R₂ s) k) H.found ∙ ap (λ (o : Solved). finish n o) (solved_by n E grounds injection guess R₁ R₂ s a b)
 
-  pub answer_refused : bus < n → outcome (Refused (NotFinite bus)) y w ≡ finish n (solve n E grounds injection guess)
+  pub answer_refused : bus < n → outcome (Err (NotFinite bus)) y w ≡ finish n (solve n E grounds injection guess)
   unfolding finish_if
   answer_refused l =
       let t : ltb bus n ≡ true = lt-ltb bus n l in
-      ap (λ (u : List Float). outcome (Refused (NotFinite bus)) u w) (H.given ∙ rw t)
-      ∙ ap (λ (u : List Float). outcome (Refused (NotFinite bus)) (zeros n) u) H.cleared
+      ap (λ (u : List Float). outcome (Err (NotFinite bus)) u w) (H.given ∙ rw t)
+      ∙ ap (λ (u : List Float). outcome (Err (NotFinite bus)) (zeros n) u) H.cleared
       ∙ ap (λ (p : Bool). finish_if p n (solved_in R₂ s) bus) (sym t)
       ∙ done
 
-  pub answer_given : n ≤ bus → outcome (Answered s) y w ≡ finish n (solve n E grounds injection guess)
+  pub answer_given : n ≤ bus → outcome (Ok s) y w ≡ finish n (solve n E grounds injection guess)
   unfolding finish_if
   answer_given l =
       let t : ltb bus n ≡ false = le-ltb bus n l in
-      ap (λ (u : List Float). outcome (Answered s) u w) (H.given ∙ rw t)
-      ∙ ap (λ (u : List Float). outcome (Answered s) (row R₂ 3) u) H.cleared
+      ap (λ (u : List Float). outcome (Ok s) u w) (H.given ∙ rw t)
+      ∙ ap (λ (u : List Float). outcome (Ok s) (row R₂ 3) u) H.cleared
       ∙ ap (λ (p : Bool). finish_if p n (solved_in R₂ s) bus) (sym t)
       ∙ done
 
 -- ---- the operation
 module _ (q : Request) (result work : List Float) (f : Option Refusal) (e : f ≡ fault q (length result) (length work)) where
-  pub angles_refused : (x : Refusal) → f ≡ some x → outcome (Refused x) result work ≡ dc_angles q result work
+  pub angles_refused : (x : Refusal) → f ≡ some x → outcome (Err x) result work ≡ dc_angles q result work
   unfolding dc_angles
   angles_refused x h = rw (sym e ∙ h)
 

@@ -4,7 +4,7 @@ ghost use Rattle.loops.specs.Loops.{first};
 ghost use Rattle.angles_defs.specs.Operation.{request_of, lengths_ok, counts_ok, edge_ok, ground_ok, fault};
 ghost use Rattle.angles.specs.Verdicts.{fault_in};
 
-use crate::{Verdict, wide};
+use crate::wide;
 use refusal::Refusal;
 
 // Buses, edges and grounds at most.
@@ -95,25 +95,25 @@ pub fn check(
     guess: &[f64],
     res: usize,
     work: usize,
-) -> Verdict
+) -> Result<(), Refusal>
     ensures { fault_in result
         ≡ fault (request_of n m k from.now to.now weight.now injection.now grounds.now guess.now) res work }
 {
     if !lengths_ok(
         n, m, k, from, to, weight, injection, grounds, guess, res, work,
     ) {
-        return Verdict::Faulty(Refusal::Length);
+        return Err(Refusal::Length);
     }
     if !counts_ok(n, m, k) {
-        return Verdict::Faulty(Refusal::Count);
+        return Err(Refusal::Count);
     }
     let edge = first_edge(n, m, from, to);
     if edge < m {
-        return Verdict::Faulty(Refusal::Edge(edge));
+        return Err(Refusal::Edge(edge));
     }
     let ground = first_ground(n, k, grounds);
     if ground < k {
-        return Verdict::Faulty(Refusal::Ground(ground));
+        return Err(Refusal::Ground(ground));
     }
-    Verdict::Sound
+    Ok(())
 }

@@ -5,7 +5,7 @@
 ghost use Rattle.std.specs.Prelude.{◌≡◌};
 ghost use Rattle.angles_defs.specs.Operation.{request_of, outcome, dc_angles};
 
-use angles_defs::Angles;
+use angles_defs::Solution;
 use refusal::Refusal;
 
 mod check;
@@ -14,13 +14,6 @@ mod operation;
 mod solve;
 mod steps;
 mod vectors;
-
-// What the checks say of a request.
-#[derive(Clone, Copy)]
-enum Verdict {
-    Sound,
-    Faulty(Refusal),
-}
 
 fn wide(x: u32) -> usize
     ensures { result ≡ x }
@@ -43,7 +36,7 @@ pub fn dc_angles(
     guess: &[f64],
     res: &mut [f64],
     work: &mut [f64],
-) -> Angles
+) -> Result<Solution, Refusal>
     ensures { outcome result res.new work.new
         ≡ dc_angles (request_of n m k from.now to.now weight.now injection.now grounds.now guess.now)
         res.old work.old }
@@ -61,8 +54,8 @@ pub fn dc_angles(
         res.len(),
         work.len(),
     ) {
-        Verdict::Faulty(f) => Angles::Refused(f),
-        Verdict::Sound => operation::answer(
+        Err(f) => Err(f),
+        Ok(()) => operation::answer(
             from, to, weight, injection, grounds, guess, res, work, n,
         ),
     }

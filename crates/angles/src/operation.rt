@@ -10,7 +10,7 @@ use crate::network::{add_weights, keep, mark_grounds};
 use crate::solve::solve;
 use crate::steps::{DIAG, GROUNDED, X};
 use crate::vectors::{clear, copy_out, first_not_finite};
-use angles_defs::Angles;
+use angles_defs::Solution;
 use refusal::Refusal;
 
 // The rows of the work slice.
@@ -67,7 +67,7 @@ pub fn answer(
     res: &mut [f64],
     work: &mut [f64],
     n: usize,
-) -> Angles
+) -> Result<Solution, Refusal>
     requires edges_below { EdgesBelow n from.now to.now weight.now }
     requires grounds_below { GroundsBelow n grounds.now }
     requires work_len { (length work.old ≡ 8 * n) × (length res.old ≡ n) × (length injection.now ≡ n) × (length guess.now ≡ n) × (n ≤ 256) }
@@ -78,8 +78,8 @@ pub fn answer(
     let solution = solve(from, to, weight, work, n);
     let bus = hand_out(res, work, n);
     if bus < n {
-        Angles::Refused(Refusal::NotFinite(bus))
+        Err(Refusal::NotFinite(bus))
     } else {
-        Angles::Answered(solution)
+        Ok(solution)
     }
 }

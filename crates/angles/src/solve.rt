@@ -7,9 +7,7 @@ ghost use Rattle.angles_defs.specs.Solve.{go, run, max_iterations, solve_from};
 ghost use Rattle.angles.specs.Rows.{EdgesBelow, row, network_in, state_in, carried_by, judgement, solved_in, SurelyBeyond, Stepped, Begun};
 
 use crate::network::apply;
-use crate::steps::{
-    D, GROUNDED, Q, R, X, Z, angle_step, direction_step, precondition, residual, residual_step,
-};
+use crate::steps::{D, GROUNDED, Q, R, X, Z, angle_step, direction_step, precondition, residual, residual_step};
 use crate::vectors::{clear, copy, dot};
 use angles_defs::{Ended, Solution};
 

@@ -1,5 +1,5 @@
 -- Angles (document 01, "Refusals of each operation, in order", and modules, 5): what `dc_angles` answers, and what it leaves in the slices that it is lent.
-use Rattle.std.specs.Prelude.{ℕ, ◌*◌, Bool, true, false, cond, ◌&&◌, List, eqb, leb, ltb, length, get_or, Float}
+use Rattle.std.specs.Prelude.{ℕ, ◌*◌, Bool, true, false, cond, ◌&&◌, List, eqb, leb, ltb, length, get_or, Float, Err, Ok, Result}
 use Rattle.std.proofs.Math.Option.{Option, none, some}
 use Rattle.loops.specs.Figures.{at, finite}
 use Rattle.loops.specs.Loops.{first}
@@ -9,8 +9,6 @@ use Rattle.refusal.specs.declared.Refusal.TheVariants.{Length, Count, Edge, Grou
 use Rattle.angles_defs.specs.Network.{Edges, edges_of, zeros}
 use Rattle.angles_defs.specs.Solve.{Solved, solve}
 use Rattle.angles_defs.specs.declared.Solution.{Solution}
-use Rattle.angles_defs.specs.declared.Angles.{Angles}
-use Rattle.angles_defs.specs.declared.Angles.TheVariants.{Answered, Refused}
 
 -- ---- what is handed in: n buses, m edges and k grounds, and their tables
 pub record Request : Type 0 where
@@ -73,11 +71,11 @@ pub record Outcome : Type 0 where
   pub result : List Float
   pub work : List Float
 
-abbrev pub reply_of : Angles → Reply Solution
-reply_of (Answered s) = answered s
-reply_of (Refused f) = refused_by f
+abbrev pub reply_of : Result Solution Refusal → Reply Solution
+reply_of (Ok s) = answered s
+reply_of (Err f) = refused_by f
 
-abbrev pub outcome : Angles → List Float → List Float → Outcome
+abbrev pub outcome : Result Solution Refusal → List Float → List Float → Outcome
 outcome a result work = record { reply = reply_of a; result = result; work = work }
 
 -- ---- refusal 9 and the answer: the lowest bus i whose angle is not finite, if that is below n
@@ -88,8 +86,8 @@ abbrev pub solution_of : Solved → Solution
 solution_of o = record { steps = o.steps; ended = o.ended }
 
 unfoldable pub finish_if : Bool → ℕ → Solved → ℕ → Outcome
-finish_if true n o i = outcome (Refused (NotFinite i)) (zeros n) (zeros (work_places n))
-finish_if false n o i = outcome (Answered (solution_of o)) o.x (zeros (work_places n))
+finish_if true n o i = outcome (Err (NotFinite i)) (zeros n) (zeros (work_places n))
+finish_if false n o i = outcome (Ok (solution_of o)) o.x (zeros (work_places n))
 
 abbrev pub finish_at : ℕ → Solved → ℕ → Outcome
 finish_at n o i = finish_if (ltb i n) n o i
@@ -102,7 +100,7 @@ abbrev pub solve_of : Request → Solved
 solve_of q = solve q.n q.edges q.grounds q.injection q.guess
 
 abbrev pub answer_to : Option Refusal → Request → List Float → List Float → Outcome
-answer_to (some f) q result work = outcome (Refused f) result work
+answer_to (some f) q result work = outcome (Err f) result work
 answer_to none q result work = finish q.n (solve_of q)
 
 unfoldable pub dc_angles : Request → List Float → List Float → Outcome

@@ -21,9 +21,3 @@ pub struct Solution {
     pub ended: Ended,
 }
 
-// The answer of `dc_angles`; the angles themselves are in the slice that it is lent.
-#[derive(Clone, Copy)]
-pub enum Angles {
-    Answered(Solution),
-    Refused(Refusal),
-}

@@ -18,9 +18,8 @@ use Rattle.refusal.specs.declared.Refusal.{Refusal}
 use Rattle.refusal.specs.declared.Refusal.TheVariants.{Place}
 use Rattle.casefile_defs.specs.Reading.{Small}
 use Rattle.casefile_defs.specs.Tables.{Places, sizes_ok}
-use Rattle.std.specs.declared.result.Result.TheVariants.{Ok, Err}
+use Rattle.std.specs.Prelude.{Ok, Err}
 use Rattle.casefile_defs.specs.declared.Header.{Header}
-use Rattle.casefile_defs.specs.declared.Reading.TheVariants.{Refused, Read}
 use Rattle.casefile_defs.proofs.Counts.{small_of}
 use Rattle.casefile_defs.proofs.Whole.{sizes}
 use Rattle.casefile_theorems.specs.Cases.{longest}
@@ -38,11 +37,11 @@ use Rattle.small_theorems.proofs.Theorems.{weights_one}
 use Rattle.case_writer.specs.Files.{Wrote}
 
 -- the two ways of tables that are sized
-there : (i : ℕ) (q : Places) → sizes_ok q ≡ true → i < all_places → small_network i q ≡ made (Read (header_at i)) (tables_at i)
+there : (i : ℕ) (q : Places) → sizes_ok q ≡ true → i < all_places → small_network i q ≡ made (Ok (header_at i)) (tables_at i)
 unfolding small_network
 there i q z h = simp (z, lt-ltb i all_places h)
 
-past : (i : ℕ) (q : Places) → sizes_ok q ≡ true → all_places ≤ i → small_network i q ≡ made (Refused Place) q
+past : (i : ℕ) (q : Places) → sizes_ok q ≡ true → all_places ≤ i → small_network i q ≡ made (Err Place) q
 unfolding small_network
 past i q z h = simp (z, le-ltb i all_places h)
 
@@ -64,7 +63,7 @@ pub record Answer (i : ℕ) (h : Header) (p : Places) : Type 0 where
   pub header : h ≡ header_at i
   pub tables : p ≡ tables_at i
 
-pub network_read : (i : ℕ) (q p : Places) {h : Header} → sizes_ok q ≡ true → made (Read h) p ≡ small_network i q → Answer i h p
+pub network_read : (i : ℕ) (q p : Places) {h : Header} → sizes_ok q ≡ true → made (Ok h) p ≡ small_network i q → Answer i h p
 unfolding number_of
 network_read i q p {h} z f =
     elim (dec_lt i all_places) [
@@ -74,7 +73,7 @@ network_read i q p {h} z f =
       | no b ↦ absurd (let v : ◌≡◌ {A = ℕ} 0 23 = ap (λ (m : Made). number_of_lem m.reply) (f ∙ past i q z (omega arith)) in omega arith)
     ]
 
-pub network_refused : (i : ℕ) (q p : Places) (f : Refusal) (before : List ℕ) → sizes_ok q ≡ true → made (Refused f) p ≡ small_network i q → Wrote i before before (Err f)
+pub network_refused : (i : ℕ) (q p : Places) (f : Refusal) (before : List ℕ) → sizes_ok q ≡ true → made (Err f) p ≡ small_network i q → Wrote i before before (Err f)
 unfolding number_of index_of Wrote
 network_refused i q p f before z t =
     elim (dec_lt i all_places) [

@@ -1,7 +1,5 @@
 -- What the program does with a place: the file of its small network, or refusal 23.
-use Rattle.std.specs.Prelude.{ℕ, ◌≤◌, ◌<◌, List, ◌≡◌}
-use Rattle.std.specs.declared.result.Result.{Result}
-use Rattle.std.specs.declared.result.Result.TheVariants.{Ok, Err}
+use Rattle.std.specs.Prelude.{ℕ, ◌≤◌, ◌<◌, List, ◌≡◌, Result, Ok, Err}
 use Rattle.refusal.specs.Number.{number_of, index_of}
 use Rattle.refusal.specs.declared.Refusal.{Refusal}
 use Rattle.casefile_theorems.specs.Cases.{longest}

@@ -4,7 +4,6 @@ ghost use Rattle.casefile_theorems.specs.Cases.{longest};
 ghost use Rattle.case_writer.specs.Files.{Wrote};
 
 use case_tables::Tables;
-use casefile_defs::Reading;
 use refusal::Refusal;
 
 // Puts the file of the small network of a place at the start of out, and answers how long it is.
@@ -13,7 +12,7 @@ pub fn put_small_network(out: &mut [u8], place: usize) -> Result<usize, Refusal>
     ensures { Wrote place out.old out.new result }
 {
     let mut tables = Tables::zeros();
-    let said = small::small_network(
+    let header = small::small_network(
         place,
         &mut tables.ladder,
         &mut tables.tier,
@@ -32,9 +31,6 @@ pub fn put_small_network(out: &mut [u8], place: usize) -> Result<usize, Refusal>
         &mut tables.share,
         &mut tables.cap,
         &mut tables.sheet,
-    );
-    match said {
-        Reading::Refused(f) => Err(f),
-        Reading::Read(h) => Ok(tables.put_file(out, h)),
-    }
+    )?;
+    Ok(tables.put_file(out, header))
 }

@@ -27,7 +27,7 @@ fn wanted_in(text: &[u8]) -> Option<usize> {
 fn write_network<W: Write>(to: &mut W, place: usize) -> io::Result<()> {
     let mut out = [0; MOST_FILE];
     match put_small_network(&mut out, place) {
-        Err(f) => writeln!(to, "RF {} {}", f.number(), f.index()),
+        Err(f) => writeln!(to, "RF {f}"),
         Ok(n) => to.write_all(&out[..n]),
     }
 }

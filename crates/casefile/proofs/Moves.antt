@@ -7,8 +7,6 @@ use borrow.Author.Tests.{eq-eqb, ne_eqb, lt-ltb, le-ltb}
 use native.Mathlib.Omega.{arith}
 use lib.Dec.{ltb}
 use lib.ListN.{length, replicate}
-use Rattle.refusal.specs.declared.Answer.TheVariants.{Answered}
-use Rattle.refusal.specs.declared.Answer.TheVariants.{Refused as Unmoved}
 use Rattle.refusal.specs.declared.Refusal.{Refusal}
 use Rattle.refusal.specs.declared.Refusal.TheVariants.{Length, Weight}
 use Rattle.casefile_defs.specs.Bounds.{most_bytes}
@@ -19,8 +17,6 @@ use Rattle.casefile_defs.specs.Tables.{levels_at, buses_at}
 use Rattle.casefile_defs.specs.declared.Kind.TheVariants.{Level, Bus, WeighedBus}
 use Rattle.casefile_defs.specs.declared.Header.{Header}
 use Rattle.casefile_defs.specs.declared.CaseRead.{CaseRead}
-use Rattle.casefile_defs.specs.declared.Reading.{Reading}
-use Rattle.casefile_defs.specs.declared.Reading.TheVariants.{Refused, Read}
 use Rattle.casefile_defs.specs.declared.Wanted.{Wanted}
 use Rattle.casefile_defs.specs.declared.Wanted.TheVariants.{Plain, Weighed}
 use Rattle.casefile_defs.proofs.Accepted.{Accepted, accepted_as}
@@ -29,6 +25,8 @@ use Rattle.casefile_defs.proofs.Spots.{standing_least}
 use Rattle.casefile.specs.Movable.{Kept, AllWeighed, Movable}
 use Rattle.casefile.specs.Starts.{Room, Starts}
 use Rattle.casefile.proofs.Fitted.{spot_inside}
+use Rattle.std.specs.Prelude.{Err, Ok, Result}
+use Rattle.refusal.specs.Reply.{no_refusal}
 
 -- ---- an answered file: where its buses begin, and that they can be moved
 level_spot : (s : List ℕ) (at i : ℕ) → spot Level s at i ≡ at + i * size_of Level
@@ -39,7 +37,7 @@ level_spot s at (suc i) = omega (arith, level_spot s at i)
 pub at_buses : (s : List ℕ) (h : Header) {at : ℕ} → at ≡ levels_at + levels h * size_of Level → at ≡ buses_at s h
 at_buses s h e = e ∙ sym (level_spot s levels_at (levels h))
 
-module _ (wanted : Wanted) (s : List ℕ) (h : Header) (e : (read_as wanted s).reading ≡ Read h) where
+module _ (wanted : Wanted) (s : List ℕ) (h : Header) (e : (read_as wanted s).reading ≡ Ok h) where
   file : Accepted s h
   file = (accepted_as wanted s h e).0
 
@@ -67,51 +65,51 @@ module _ (wanted : Wanted) (s : List ℕ) (h : Header) (e : (read_as wanted s).r
   }
 
 -- a bus of a file of BV has a weight
-pub all_weighed : (s : List ℕ) (h : Header) → (read_as Weighed s).reading ≡ Read h → AllWeighed s (buses_at s h) h.buses
+pub all_weighed : (s : List ℕ) (h : Header) → (read_as Weighed s).reading ≡ Ok h → AllWeighed s (buses_at s h) h.buses
 unfolding bus_form
 all_weighed s h e i l =
     let w : marked WeighedBus s (spot Bus s (buses_at s h) i) ≡ true = (accepted_as Weighed s h e).1 i l in
     subst (λ (b : Bool). spot Bus s (buses_at s h) i + size_of (cond b WeighedBus Bus) ≤ length s) w (buses_room Weighed s h e i l)
 
 -- ---- the ways
-module _ (s : List ℕ) (r : Reading) (l : List ℕ) where
-  pub forward_refused : (f : Refusal) → r ≡ Refused f → l ≡ replicate most_bytes 0 → moved_as (Unmoved f) l ≡ forward_by s r
+module _ (s : List ℕ) (r : Result Header Refusal) (l : List ℕ) where
+  pub forward_refused : (f : Refusal) → r ≡ Err f → l ≡ replicate most_bytes 0 → moved_as (Err f) l ≡ forward_by s r
   unfolding forward_by
-  forward_refused f e z = ap (λ (x : List ℕ). moved_as (Unmoved f) x) z ∙ sym (ap (λ (x : Reading). forward_by s x) e)
+  forward_refused f e z = ap (λ (x : List ℕ). moved_as (Err f) x) z ∙ sym (ap (λ (x : Result Header Refusal). forward_by s x) e)
 
-  pub forward_read : (h : Header) {at : ℕ} → r ≡ Read h → at ≡ buses_at s h → l ≡ fitted (file_as WeighedBus s at h.buses) → moved_as Answered l ≡ forward_by s r
+  pub forward_read : (h : Header) {at : ℕ} → r ≡ Ok h → at ≡ buses_at s h → l ≡ fitted (file_as WeighedBus s at h.buses) → moved_as no_refusal l ≡ forward_by s r
   unfolding forward_by
   forward_read h e q g =
-      ap (λ (x : List ℕ). moved_as Answered x) (g ∙ ap (λ (m : ℕ). fitted (file_as WeighedBus s m h.buses)) q) ∙ sym (ap (λ (x : Reading). forward_by s x) e)
+      ap (λ (x : List ℕ). moved_as no_refusal x) (g ∙ ap (λ (m : ℕ). fitted (file_as WeighedBus s m h.buses)) q) ∙ sym (ap (λ (x : Result Header Refusal). forward_by s x) e)
 
-  pub back_refused : (f : Refusal) → r ≡ Refused f → l ≡ replicate most_bytes 0 → moved_as (Unmoved f) l ≡ back_by s r
+  pub back_refused : (f : Refusal) → r ≡ Err f → l ≡ replicate most_bytes 0 → moved_as (Err f) l ≡ back_by s r
   unfolding back_by
-  back_refused f e z = ap (λ (x : List ℕ). moved_as (Unmoved f) x) z ∙ sym (ap (λ (x : Reading). back_by s x) e)
+  back_refused f e z = ap (λ (x : List ℕ). moved_as (Err f) x) z ∙ sym (ap (λ (x : Result Header Refusal). back_by s x) e)
 
   -- the test of the weights
-  back_way : (h : Header) (i : ℕ) (b : Bool) → r ≡ Read h → i ≡ first_other s (buses_at s h) h.buses → ltb i h.buses ≡ b → cond b (unmoved (Weight i)) (moved_to Bus s h) ≡ back_by s r
+  back_way : (h : Header) (i : ℕ) (b : Bool) → r ≡ Ok h → i ≡ first_other s (buses_at s h) h.buses → ltb i h.buses ≡ b → cond b (unmoved (Weight i)) (moved_to Bus s h) ≡ back_by s r
   unfolding back_by
   back_way h i b e g q =
       sym
-      (ap (λ (x : Reading). back_by s x) e
+      (ap (λ (x : Result Header Refusal). back_by s x) e
       ∙ ap (λ (m : ℕ). cond (ltb m h.buses) (unmoved (Weight m)) (moved_to Bus s h)) (sym g)
       ∙ ap (λ (x : Bool). cond x (unmoved (Weight i)) (moved_to Bus s h)) q)
 
-  pub back_weight : (h : Header) (i : ℕ) {at : ℕ} → r ≡ Read h → at ≡ buses_at s h → i ≡ first_other s at h.buses → i < h.buses → l ≡ replicate most_bytes 0
-      → moved_as (Unmoved (Weight i)) l ≡ back_by s r
+  pub back_weight : (h : Header) (i : ℕ) {at : ℕ} → r ≡ Ok h → at ≡ buses_at s h → i ≡ first_other s at h.buses → i < h.buses → l ≡ replicate most_bytes 0
+      → moved_as (Err (Weight i)) l ≡ back_by s r
   back_weight h i e q g b z =
-      ap (λ (x : List ℕ). moved_as (Unmoved (Weight i)) x) z
+      ap (λ (x : List ℕ). moved_as (Err (Weight i)) x) z
       ∙ back_way h i true e (g ∙ ap (λ (m : ℕ). first_other s m h.buses) q) (lt-ltb i h.buses b)
 
-  pub back_read : (h : Header) (i : ℕ) {at : ℕ} → r ≡ Read h → at ≡ buses_at s h → i ≡ first_other s at h.buses → h.buses ≤ i
-      → l ≡ fitted (file_as Bus s at h.buses) → moved_as Answered l ≡ back_by s r
+  pub back_read : (h : Header) (i : ℕ) {at : ℕ} → r ≡ Ok h → at ≡ buses_at s h → i ≡ first_other s at h.buses → h.buses ≤ i
+      → l ≡ fitted (file_as Bus s at h.buses) → moved_as no_refusal l ≡ back_by s r
   back_read h i e q g b z =
-      ap (λ (x : List ℕ). moved_as Answered x) (z ∙ ap (λ (m : ℕ). fitted (file_as Bus s m h.buses)) q)
+      ap (λ (x : List ℕ). moved_as no_refusal x) (z ∙ ap (λ (m : ℕ). fitted (file_as Bus s m h.buses)) q)
       ∙ back_way h i false e (g ∙ ap (λ (m : ℕ). first_other s m h.buses) q) (le-ltb i h.buses b)
 
 -- ---- the length of the output first
 module _ (s out : List ℕ) where
-  pub forward_length : (length out ≡ most_bytes → ⊥) → moved_as (Unmoved Length) out ≡ move_forward s out
+  pub forward_length : (length out ≡ most_bytes → ⊥) → moved_as (Err Length) out ≡ move_forward s out
   unfolding move_forward
   forward_length n = simp (ne_eqb (length out) most_bytes n)
 
@@ -119,7 +117,7 @@ module _ (s out : List ℕ) where
   unfolding move_forward
   forward_whole m r e q g = g ∙ ap (λ (x : CaseRead). forward_by s x.reading) q ∙ simp (eq-eqb (length out) most_bytes e)
 
-  pub back_length : (length out ≡ most_bytes → ⊥) → moved_as (Unmoved Length) out ≡ move_back s out
+  pub back_length : (length out ≡ most_bytes → ⊥) → moved_as (Err Length) out ≡ move_back s out
   unfolding move_back
   back_length n = simp (ne_eqb (length out) most_bytes n)
 

@@ -11,10 +11,10 @@ use Rattle.casefile.specs.Starts.{Room}
 use Rattle.casefile_defs.specs.declared.Kind.{Kind}
 use Rattle.casefile_defs.specs.declared.Kind.TheVariants.{Level, Bus, Generator, Corridor, Line}
 use Rattle.casefile_defs.specs.declared.Header.{Header}
-use Rattle.casefile_defs.specs.declared.Reading.{Reading}
-use Rattle.casefile_defs.specs.declared.Reading.TheVariants.{Refused, Read}
 use Rattle.casefile_defs.proofs.Accepted.{Accepted, accepted}
 use Rattle.casefile_defs.proofs.Counts.{small_of}
+use Rattle.std.specs.Prelude.{Err, Ok, Result}
+use Rattle.refusal.specs.declared.Refusal.{Refusal}
 
 pub record Roomy (s : List ℕ) (h : Header) : Type 0 where
   pub small : Small h
@@ -37,10 +37,10 @@ roomy_read s h a = record {
   rows = λ i l. (a.rows i l).room;
 }
 
-roomy_of : (s : List ℕ) (r : Reading) → reading_of s ≡ r → Roomy s (held r)
+roomy_of : (s : List ℕ) (r : Result Header Refusal) → reading_of s ≡ r → Roomy s (held r)
 unfolding held
-roomy_of s (Read h) e = roomy_read s h (accepted s h e)
-roomy_of s (Refused f) e = record {
+roomy_of s (Ok h) e = roomy_read s h (accepted s h e)
+roomy_of s (Err f) e = record {
   small = record { buses = omega arith; corridors = omega arith; generators = omega arith; levels = omega arith; target = omega arith };
   levels = none Level s _;
   buses = none Bus s _;
@@ -49,5 +49,5 @@ roomy_of s (Refused f) e = record {
   rows = none Line s _;
 }
 
-pub roomy : (s : List ℕ) (r : Reading) (h : Header) → r ≡ reading_of s → h ≡ held r → Roomy s h
+pub roomy : (s : List ℕ) (r : Result Header Refusal) (h : Header) → r ≡ reading_of s → h ≡ held r → Roomy s h
 roomy s r h e q = subst (λ (g : Header). Roomy s g) (sym q) (roomy_of s r (sym e))

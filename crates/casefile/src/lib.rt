@@ -5,12 +5,9 @@ ghost use Rattle.std.specs.Prelude.{◌≡◌};
 ghost use Rattle.casefile_defs.specs.Tables.{held, outcome, places_of, read_case};
 ghost use Rattle.casefile_defs.specs.Moving.{moved_as, move_forward, move_back};
 
-use casefile_defs::{
-    CaseRead, Header, MOST_BUSES, MOST_BYTES, MOST_CORRIDORS, MOST_GENERATORS, MOST_LEVELS,
-    MOST_SHEET, Reading, Wanted,
-};
+use casefile_defs::{CaseRead, Header, MOST_BUSES, MOST_BYTES, MOST_CORRIDORS, MOST_GENERATORS, MOST_LEVELS, MOST_SHEET, Wanted};
 use mode::PlanMode;
-use refusal::{Answer, Refusal};
+use refusal::Refusal;
 
 mod bytes;
 mod columns;
@@ -20,12 +17,12 @@ mod scan;
 mod tables;
 
 // The counts that a reading leaves in the tables: none where it is refused.
-fn held(reading: Reading) -> Header
+fn held(reading: Result<Header, Refusal>) -> Header
     ensures { result ≡ held reading }
 {
     match reading {
-        Reading::Read(h) => h,
-        Reading::Refused(_) => Header {
+        Ok(h) => h,
+        Err(_) => Header {
             mode: PlanMode::Expand,
             target: 0,
             buses: 0,
@@ -78,7 +75,7 @@ pub fn read_case(
         & (cap.len() == MOST_CORRIDORS)
         & (sheet.len() == MOST_SHEET);
     if !sized {
-        return scan::said(Reading::Refused(Refusal::Length), 0);
+        return scan::said(Err(Refusal::Length), 0);
     }
     let read = scan::read_as(file, Wanted::Either);
     let said = read.reading;
@@ -113,11 +110,11 @@ pub fn read_case(
 }
 
 // A file of BU as one of BV: each load a reading of weight 1.
-pub fn move_forward(file: &[u8], out: &mut [u8]) -> Answer
+pub fn move_forward(file: &[u8], out: &mut [u8]) -> Result<(), Refusal>
     ensures { moved_as result out.new ≡ move_forward file.now out.old }
 {
     if out.len() != MOST_BYTES {
-        return Answer::Refused(Refusal::Length);
+        return Err(Refusal::Length);
     }
     let read = scan::read_as(file, Wanted::Plain);
     let said = read.reading;
@@ -126,11 +123,11 @@ pub fn move_forward(file: &[u8], out: &mut [u8]) -> Answer
 }
 
 // A file of BV as one of BU, where every weight is 1.
-pub fn move_back(file: &[u8], out: &mut [u8]) -> Answer
+pub fn move_back(file: &[u8], out: &mut [u8]) -> Result<(), Refusal>
     ensures { moved_as result out.new ≡ move_back file.now out.old }
 {
     if out.len() != MOST_BYTES {
-        return Answer::Refused(Refusal::Length);
+        return Err(Refusal::Length);
     }
     let read = scan::read_as(file, Wanted::Weighed);
     let said = read.reading;

@@ -13,8 +13,8 @@ use crate::bytes::word;
 use crate::columns::{MOST_RECORDS, store_starts};
 use crate::record;
 use crate::record::{first_letter, second_letter, size, weighs};
-use casefile_defs::{Header, Kind, Reading, Wanted};
-use refusal::{Answer, Refusal};
+use casefile_defs::{Header, Kind, Wanted};
+use refusal::Refusal;
 
 // The bytes of tier and load, or of tier and reading.
 const CALLED: usize = record::U8 + record::FIGURE;
@@ -164,41 +164,41 @@ fn first_other(file: &[u8], starts: &[usize; MOST_RECORDS], at: usize, n: usize)
 }
 
 // A file that was read with only BU wanted, its loads as readings of weight 1.
-pub fn forward_by(file: &[u8], said: Reading, out: &mut [u8]) -> Answer
+pub fn forward_by(file: &[u8], said: Result<Header, Refusal>, out: &mut [u8]) -> Result<(), Refusal>
     requires read { said ≡ (read_as Wanted.Plain file.now).reading }
     requires clear { out.old ≡ replicate most_bytes 0 }
     ensures { moved_as result out.new ≡ forward_by file.now said }
 {
     match said {
-        Reading::Refused(f) => Answer::Refused(f),
-        Reading::Read(h) => {
+        Err(f) => Err(f),
+        Ok(h) => {
             let at = buses_at(h);
             let mut starts = [0; MOST_RECORDS];
             let rest = store_starts(file, Kind::Bus, at, h.buses, &mut starts);
             put_file(file, &starts, at, h.buses, rest, Kind::WeighedBus, out);
-            Answer::Answered
+            Ok(())
         }
     }
 }
 
 // A file that was read with only BV wanted, where every weight is 1.
-pub fn back_by(file: &[u8], said: Reading, out: &mut [u8]) -> Answer
+pub fn back_by(file: &[u8], said: Result<Header, Refusal>, out: &mut [u8]) -> Result<(), Refusal>
     requires read { said ≡ (read_as Wanted.Weighed file.now).reading }
     requires clear { out.old ≡ replicate most_bytes 0 }
     ensures { moved_as result out.new ≡ back_by file.now said }
 {
     match said {
-        Reading::Refused(f) => Answer::Refused(f),
-        Reading::Read(h) => {
+        Err(f) => Err(f),
+        Ok(h) => {
             let at = buses_at(h);
             let mut starts = [0; MOST_RECORDS];
             let rest = store_starts(file, Kind::Bus, at, h.buses, &mut starts);
             let i = first_other(file, &starts, at, h.buses);
             if i < h.buses {
-                return Answer::Refused(Refusal::Weight(i));
+                return Err(Refusal::Weight(i));
             }
             put_file(file, &starts, at, h.buses, rest, Kind::Bus, out);
-            Answer::Answered
+            Ok(())
         }
     }
 }

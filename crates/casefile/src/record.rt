@@ -4,7 +4,7 @@ ghost use Rattle.casefile_defs.specs.Layout.{size_of, layout_of, codes_ok, marke
 ghost use Rattle.casefile_defs.specs.Reading.{record_at, admitted};
 
 use crate::bytes::word;
-use casefile_defs::{Kind, Walk};
+use casefile_defs::Kind;
 use refusal::Refusal;
 
 // The bytes of a mark, of a u8, a u16 and a u32, and of a figure.
@@ -246,36 +246,36 @@ fn suited(weighed: bool, kind: Kind) -> bool
 }
 
 // A record that is whole, but a BV in a file of BU or a BU in a file of BV, has a wrong mark.
-pub fn admit(weighed: bool, kind: Kind, r: usize, w: Walk) -> Walk
+pub fn admit(weighed: bool, kind: Kind, r: usize, w: Result<usize, Refusal>) -> Result<usize, Refusal>
     ensures { result ≡ admitted weighed kind r w }
 {
     match w {
-        Walk::Fault(_) => w,
-        Walk::At(_) => {
+        Err(_) => w,
+        Ok(_) => {
             if suited(weighed, kind) {
                 return w;
             }
-            Walk::Fault(Refusal::Mark(r))
+            Err(Refusal::Mark(r))
         }
     }
 }
 
 // Record r of the file, at a place: past it, or its first fault.
-pub fn record_at(file: &[u8], kind: Kind, r: usize, at: usize) -> Walk
+pub fn record_at(file: &[u8], kind: Kind, r: usize, at: usize) -> Result<usize, Refusal>
     ensures { result ≡ record_at kind file.now r at }
 {
     let n = size(kind);
     if file.len() < n {
-        return Walk::Fault(Refusal::Cut(r));
+        return Err(Refusal::Cut(r));
     }
     if file.len() - n < at {
-        return Walk::Fault(Refusal::Cut(r));
+        return Err(Refusal::Cut(r));
     }
     if !mark_ok(file, kind, at) {
-        return Walk::Fault(Refusal::Mark(r));
+        return Err(Refusal::Mark(r));
     }
     if !codes_ok(file, kind, at) {
-        return Walk::Fault(Refusal::Code(r));
+        return Err(Refusal::Code(r));
     }
-    Walk::At(at + n)
+    Ok(at + n)
 }

@@ -1,5 +1,5 @@
 // The walk over the file: header and counts, each table's records, and the bytes after the last.
-ghost use Rattle.std.specs.Prelude.{◌≡◌, ◌-◌, ◌<◌, ◌≤◌, length};
+ghost use Rattle.std.specs.Prelude.{◌≡◌, ◌-◌, ◌<◌, ◌≤◌, length, Err, Ok, Result};
 ghost use Rattle.casefile_defs.specs.Layout.{size_of};
 ghost use Rattle.casefile_defs.specs.Reading.{stepped, walked, header_of, mode_of, counts_ok, Small, bus_form, tables_walked, case_read, end_read, body_read, read_as};
 ghost use Rattle.casefile_defs.specs.Looks.{looked_as, looked_at, words_looked, bytes_looked};
@@ -7,7 +7,7 @@ ghost use Rattle.casefile_defs.specs.Looks.{looked_as, looked_at, words_looked, 
 use crate::bytes::{eight, word};
 use crate::record;
 use crate::record::{admit, bears, record_at, standing};
-use casefile_defs::{CaseRead, Header, Kind, Looked, Reading, Walk, Wanted};
+use casefile_defs::{CaseRead, Header, Kind, Looked, Wanted};
 use mode::PlanMode;
 use refusal::Refusal;
 
@@ -17,12 +17,12 @@ const MOST_TARGET: u32 = 65536;
 const WORD: usize = 8;
 
 // A fault is passed on; where a record of a kind is due, the one that stands there is read.
-fn step(file: &[u8], from: Walk, kind: Kind, weighed: bool, r: usize) -> Walk
+fn step(file: &[u8], from: Result<usize, Refusal>, kind: Kind, weighed: bool, r: usize) -> Result<usize, Refusal>
     ensures { result ≡ stepped kind weighed file.now r from }
 {
     match from {
-        Walk::Fault(_) => from,
-        Walk::At(at) => {
+        Err(_) => from,
+        Ok(at) => {
             let stands = standing(file, kind, at);
             admit(weighed, stands, r, record_at(file, stands, r, at))
         }
@@ -30,7 +30,7 @@ fn step(file: &[u8], from: Walk, kind: Kind, weighed: bool, r: usize) -> Walk
 }
 
 // Records start to end - 1, of one kind each.
-fn walk_kind(file: &[u8], from: Walk, kind: Kind, weighed: bool, start: usize, end: usize) -> Walk
+fn walk_kind(file: &[u8], from: Result<usize, Refusal>, kind: Kind, weighed: bool, start: usize, end: usize) -> Result<usize, Refusal>
     ensures { result ≡ walked kind weighed start end file.now from }
 {
     let mut at = from;
@@ -102,17 +102,17 @@ fn counts_ok(h: Header) -> bool
 }
 
 // Whether a file's buses are BV: by the mark of the first.
-fn first_form(file: &[u8], w: Walk) -> bool
+fn first_form(file: &[u8], w: Result<usize, Refusal>) -> bool
     ensures { result ≡ bus_form Wanted.Either file.now w }
 {
     match w {
-        Walk::Fault(_) => false,
-        Walk::At(at) => bears(file, Kind::WeighedBus, at),
+        Err(_) => false,
+        Ok(at) => bears(file, Kind::WeighedBus, at),
     }
 }
 
 // Whether they are to be BV.
-fn bus_form(file: &[u8], wanted: Wanted, w: Walk) -> bool
+fn bus_form(file: &[u8], wanted: Wanted, w: Result<usize, Refusal>) -> bool
     ensures { result ≡ bus_form wanted file.now w }
 {
     match wanted {
@@ -123,7 +123,7 @@ fn bus_form(file: &[u8], wanted: Wanted, w: Walk) -> bool
 }
 
 // The records after the header, table by table.
-fn walk_tables(file: &[u8], h: Header, wanted: Wanted, from: Walk) -> Walk
+fn walk_tables(file: &[u8], h: Header, wanted: Wanted, from: Result<usize, Refusal>) -> Result<usize, Refusal>
     requires { Small h }
     ensures { result ≡ tables_walked wanted h file.now from }
 {
@@ -198,24 +198,24 @@ fn trailing(file: &[u8], at: usize) -> Looked
 }
 
 // A reading with its count: one place that makes the struct, since each more is a proof of its own.
-pub fn said(reading: Reading, looks: usize) -> CaseRead
+pub fn said(reading: Result<Header, Refusal>, looks: usize) -> CaseRead
     ensures { result ≡ case_read reading looks }
 {
     CaseRead { reading, looks }
 }
 
 // What follows the last record: nothing but zeros.
-fn end_read(file: &[u8], h: Header, w: Walk) -> CaseRead
+fn end_read(file: &[u8], h: Header, w: Result<usize, Refusal>) -> CaseRead
     ensures { result ≡ end_read h file.now w }
 {
     match w {
-        Walk::Fault(f) => said(Reading::Refused(f), 0),
-        Walk::At(at) => {
+        Err(f) => said(Err(f), 0),
+        Ok(at) => {
             let t = trailing(file, at);
             if t.at < file.len() {
-                return said(Reading::Refused(Refusal::Trailing(t.at)), t.looks);
+                return said(Err(Refusal::Trailing(t.at)), t.looks);
             }
-            said(Reading::Read(h), t.looks)
+            said(Ok(h), t.looks)
         }
     }
 }
@@ -223,13 +223,13 @@ fn end_read(file: &[u8], h: Header, w: Walk) -> CaseRead
 // What follows a header that stands.
 fn body_read(file: &[u8], wanted: Wanted, at: usize) -> CaseRead
     requires { size_of Kind.Head ≤ length file.now }
-    ensures { result ≡ body_read wanted file.now (Walk.At at) }
+    ensures { result ≡ body_read wanted file.now (Ok at) }
 {
     let h = header_of(file);
     if !counts_ok(h) {
-        return said(Reading::Refused(Refusal::Count), 0);
+        return said(Err(Refusal::Count), 0);
     }
-    let w = walk_tables(file, h, wanted, Walk::At(at));
+    let w = walk_tables(file, h, wanted, Ok(at));
     end_read(file, h, w)
 }
 
@@ -238,11 +238,11 @@ pub fn read_as(file: &[u8], wanted: Wanted) -> CaseRead
     ensures { result ≡ read_as wanted file.now }
 {
     if casefile_defs::MOST_BYTES < file.len() {
-        return said(Reading::Refused(Refusal::FileLength), 0);
+        return said(Err(Refusal::FileLength), 0);
     }
     let w = record_at(file, Kind::Head, 0, 0);
     match w {
-        Walk::Fault(f) => said(Reading::Refused(f), 0),
-        Walk::At(at) => body_read(file, wanted, at),
+        Err(f) => said(Err(f), 0),
+        Ok(at) => body_read(file, wanted, at),
     }
 }

@@ -6,9 +6,7 @@ ghost use Rattle.casefile_defs.specs.Tables.{sheet_in, basis_of, line_figure, nu
 ghost use Rattle.casefile.specs.Starts.{Room};
 
 use crate::bytes::{figure, word};
-use crate::columns::{
-    MOST_RECORDS, fill_figures, fill_numbers, fill_weights, line_at, store_starts,
-};
+use crate::columns::{MOST_RECORDS, fill_figures, fill_numbers, fill_weights, line_at, store_starts};
 use crate::record;
 use casefile_defs::Kind;
 

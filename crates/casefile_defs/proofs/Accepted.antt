@@ -19,14 +19,12 @@ use Rattle.casefile_defs.specs.Tables.{levels_at, buses_at, generators_at, corri
 use Rattle.casefile_defs.specs.declared.Kind.{Kind}
 use Rattle.casefile_defs.specs.declared.Kind.TheVariants.{Head, Level, Bus, Generator, Corridor, Line, WeighedBus}
 use Rattle.casefile_defs.specs.declared.Header.{Header}
-use Rattle.casefile_defs.specs.declared.Walk.{Walk}
-use Rattle.casefile_defs.specs.declared.Walk.TheVariants.{At, Fault}
 use Rattle.casefile_defs.specs.declared.Wanted.{Wanted}
 use Rattle.casefile_defs.specs.declared.Wanted.TheVariants.{Either}
 use Rattle.casefile_defs.specs.declared.CaseRead.{CaseRead}
-use Rattle.casefile_defs.specs.declared.Reading.TheVariants.{Refused, Read}
 use Rattle.casefile_defs.proofs.Records.{Passed, passed, fault_not_at, admitted_at}
 use Rattle.casefile_defs.proofs.Spots.{spot_next}
+use Rattle.std.specs.Prelude.{Err, Ok, Result}
 
 -- n records from a place on where one of kind k is due, each of them passed
 abbrev pub Table : Kind → List ℕ → ℕ → ℕ → Type 0
@@ -41,55 +39,55 @@ module _ (k : Kind) (weighed : Bool) (s : List ℕ) where
   abbrev All : ℕ → ℕ → Type 0
   All at n = (i : ℕ) → i < n → Stood k weighed s (spot k s at i)
 
-  no_fault : (d r : ℕ) (f : Refusal) (next : ℕ) → iter (stepped k weighed s) d r (Fault f) ≡ At next → ⊥
+  no_fault : (d r : ℕ) (f : Refusal) (next : ℕ) → iter (stepped k weighed s) d r (Err f) ≡ Ok next → ⊥
   unfolding stepped
-  no_fault d r f next e = fault_not_at (sym (iter_still (stepped k weighed s) (Fault f) (λ i. refl) d r) ∙ e)
+  no_fault d r f next e = fault_not_at (sym (iter_still (stepped k weighed s) (Err f) (λ i. refl) d r) ∙ e)
 
   put_first : (at d : ℕ) → Stood k weighed s at → All (end_of k s at) d → All at (suc d)
   unfolding spot
   put_first at d p t zero h = p
   put_first at d p t (suc i) h = subst (λ (n : ℕ). Stood k weighed s n) (spot_next k s at i) (t i (le_of_suc-le-suc h))
 
-  Went : ℕ → Walk → ℕ → Type 0
-  Went d (At at) next = All at d × (next ≡ spot k s at d)
-  Went d (Fault f) next = ⊥
+  Went : ℕ → Result ℕ Refusal → ℕ → Type 0
+  Went d (Ok at) next = All at d × (next ≡ spot k s at d)
+  Went d (Err f) next = ⊥
 
-  first_on : (d r at next : ℕ) (w : Walk) → admitted weighed (standing k s at) r (record_at (standing k s at) s r at) ≡ w → Went d w next → Went (suc d) (At at) next
+  first_on : (d r at next : ℕ) (w : Result ℕ Refusal) → admitted weighed (standing k s at) r (record_at (standing k s at) s r at) ≡ w → Went d w next → Went (suc d) (Ok at) next
   unfolding Went
-  first_on d r at next (Fault f) q g = absurd g
-  first_on d r at next (At m) q g =
+  first_on d r at next (Err f) q g = absurd g
+  first_on d r at next (Ok m) q g =
       let a = admitted_at weighed (standing k s at) r m _ q in
       let p = passed (standing k s at) s r at m a.0 in
       let p' : Passed (standing k s at) s at (end_of k s at) = subst (λ (n : ℕ). Passed (standing k s at) s at n) p.past p in
       let t : All (end_of k s at) d = subst (λ (n : ℕ). All n d) p.past g.0 in
       (put_first at d (record { passed = p'; suited = a.1 }) t, g.1 ∙ ap (λ (n : ℕ). spot k s n d) p.past ∙ spot_next k s at d)
 
-  went : (d r : ℕ) (w : Walk) (next : ℕ) → iter (stepped k weighed s) d r w ≡ At next → Went d w next
+  went : (d r : ℕ) (w : Result ℕ Refusal) (next : ℕ) → iter (stepped k weighed s) d r w ≡ Ok next → Went d w next
   unfolding iter stepped spot Went
-  went zero r (At at) next e = ((λ i h. absurd (not-suc-le-zero h)), cc)
-  went zero r (Fault f) next e = no_fault 0 r f next e
-  went (suc d) r (At at) next e =
-      first_on d r at next (stepped k weighed s r (At at)) refl (went d (suc r) (stepped k weighed s r (At at)) next e)
-  went (suc d) r (Fault f) next e = no_fault (suc d) r f next e
+  went zero r (Ok at) next e = ((λ i h. absurd (not-suc-le-zero h)), cc)
+  went zero r (Err f) next e = no_fault 0 r f next e
+  went (suc d) r (Ok at) next e =
+      first_on d r at next (stepped k weighed s r (Ok at)) refl (went d (suc r) (stepped k weighed s r (Ok at)) next e)
+  went (suc d) r (Err f) next e = no_fault (suc d) r f next e
 
   -- a walk that was not refused began at a place and passed every record
-  record Walked (n : ℕ) (w : Walk) (next : ℕ) : Type 0 where
+  record Walked (n : ℕ) (w : Result ℕ Refusal) (next : ℕ) : Type 0 where
     pub at : ℕ
-    pub from : w ≡ At at
+    pub from : w ≡ Ok at
     pub all : All at n
     pub end : next ≡ spot k s at n
 
-  walked_all : (start end n : ℕ) (w : Walk) (next : ℕ) → end - start ≡ n → walked k weighed start end s w ≡ At next → Walked n w next
+  walked_all : (start end n : ℕ) (w : Result ℕ Refusal) (next : ℕ) → end - start ≡ n → walked k weighed start end s w ≡ Ok next → Walked n w next
   unfolding walked Went
-  walked_all start end n (At at) next q e =
-      let g = went (end - start) start (At at) next e in
+  walked_all start end n (Ok at) next q e =
+      let g = went (end - start) start (Ok at) next e in
       record {
         at = at;
         from = refl;
         all = subst (λ (m : ℕ). All at m) q g.0;
         end = g.1 ∙ ap (λ (m : ℕ). spot k s at m) q;
       }
-  walked_all start end n (Fault f) next q e = absurd (no_fault (end - start) start f next e)
+  walked_all start end n (Err f) next q e = absurd (no_fault (end - start) start f next e)
 
 -- one of BU and BV stands in a file of the one or of the other
 one_form : (weighed b : Bool) → suits weighed (cond b WeighedBus Bus) ≡ true → b ≡ weighed
@@ -104,7 +102,7 @@ OneForm s at n = (i : ℕ) → i < n → marked WeighedBus s (spot Bus s at i) �
 
 -- each bus of a file is of the form that is wanted
 abbrev pub AsWanted : Wanted → List ℕ → ℕ → ℕ → Type 0
-AsWanted wanted s at n = (i : ℕ) → i < n → marked WeighedBus s (spot Bus s at i) ≡ bus_form wanted s (At at)
+AsWanted wanted s at n = (i : ℕ) → i < n → marked WeighedBus s (spot Bus s at i) ≡ bus_form wanted s (Ok at)
 
 one_form_of : (wanted : Wanted) (s : List ℕ) (at n : ℕ) → AsWanted wanted s at n → OneForm s at n
 unfolding spot
@@ -142,10 +140,10 @@ moved : (k : Kind) (weighed : Bool) (s : List ℕ) (n : ℕ) {at place : ℕ} �
 unfolding spot
 moved k weighed s n p t = subst (λ (m : ℕ). Table k s m n) p (λ i h. (t i h).passed)
 
-at_same : {m n : ℕ} → At m ≡ At n → m ≡ n
+at_same : {m n : ℕ} → ◌≡◌ {A = Result ℕ Refusal} (Ok m) (Ok n) → m ≡ n
 at_same e = cc
 
-tables_of_lem : (wanted : Wanted) (s : List ℕ) (h : Header) (next : ℕ) → tables_walked wanted h s (At levels_at) ≡ At next → Tables wanted s h next
+tables_of_lem : (wanted : Wanted) (s : List ℕ) (h : Header) (next : ℕ) → tables_walked wanted h s (Ok levels_at) ≡ Ok next → Tables wanted s h next
 unfolding tables_walked
 tables_of_lem wanted s h next e =
     let w₅ = walked_all Line false s (before_lines h) (records_of h) (lines h) _ next (omega arith) e in
@@ -161,7 +159,7 @@ tables_of_lem wanted s h next e =
     record {
       levels = moved Level false s (levels h) p₁ w₁.all;
       buses = moved Bus _ s h.buses p₂ w₂.all;
-      form = subst (λ (m : ℕ). AsWanted wanted s m h.buses) p₂ (λ i l. one_form _ _ (w₂.all i l).suited ∙ ap (λ (w : Walk). bus_form wanted s w) w₂.from);
+      form = subst (λ (m : ℕ). AsWanted wanted s m h.buses) p₂ (λ i l. one_form _ _ (w₂.all i l).suited ∙ ap (λ (w : Result ℕ Refusal). bus_form wanted s w) w₂.from);
       generators = moved Generator false s h.generators p₃ w₃.all;
       corridors = moved Corridor false s h.corridors p₄ w₄.all;
       rows = moved Line false s (lines h) p₅ w₅.all;
@@ -169,43 +167,43 @@ tables_of_lem wanted s h next e =
     }
 
 -- ---- the tests on the way to an answer
-refused_not_read : {f : Refusal} {h : Header} → Refused f ≡ Read h → ⊥
+refused_not_read : {f : Refusal} {h : Header} → Err f ≡ Ok h → ⊥
 refused_not_read e = let v : ◌≡◌ {A = ℕ} 0 1 = cc in omega arith
 
 -- the end of an answered reading, from its test and its walk
-end_by : (s : List ℕ) (h h₀ : Header) (next : ℕ) (z : Bool) (i : ℕ) (f : Refusal) → ltb i (length s) ≡ z → cond z (Refused f) (Read h₀) ≡ Read h
+end_by : (s : List ℕ) (h h₀ : Header) (next : ℕ) (z : Bool) (i : ℕ) (f : Refusal) → ltb i (length s) ≡ z → cond z (Err f) (Ok h₀) ≡ Ok h
     → (h ≡ h₀) × (length s ≤ i)
 end_by s h h₀ next true i f q e = absurd (refused_not_read e)
 end_by s h h₀ next false i f q e = (cc, ltb-false i (length s) q)
 
-pub record Ended (s : List ℕ) (h h₀ : Header) (w : Walk) : Type 0 where
+pub record Ended (s : List ℕ) (h h₀ : Header) (w : Result ℕ Refusal) : Type 0 where
   pub next : ℕ
-  pub walk : w ≡ At next
+  pub walk : w ≡ Ok next
   pub same : h ≡ h₀
   pub zeros : length s ≤ trailing s next
 
-ended : (s : List ℕ) (h h₀ : Header) (w : Walk) → (end_read h₀ s w).reading ≡ Read h → Ended s h h₀ w
+ended : (s : List ℕ) (h h₀ : Header) (w : Result ℕ Refusal) → (end_read h₀ s w).reading ≡ Ok h → Ended s h h₀ w
 unfolding end_read
-ended s h h₀ (Fault f) e = absurd (refused_not_read e)
-ended s h h₀ (At next) e =
+ended s h h₀ (Err f) e = absurd (refused_not_read e)
+ended s h h₀ (Ok next) e =
     let g = end_by s h h₀ next _ (trailing s next) _ refl e in
     record { next = next; walk = refl; same = g.0; zeros = g.1 }
 
-counted : (s : List ℕ) (h : Header) (y : Bool) (r : CaseRead) (f : Refusal) → (cond y r (unread f)).reading ≡ Read h → (y ≡ true) × (r.reading ≡ Read h)
+counted : (s : List ℕ) (h : Header) (y : Bool) (r : CaseRead) (f : Refusal) → (cond y r (unread f)).reading ≡ Ok h → (y ≡ true) × (r.reading ≡ Ok h)
 counted s h true r f e = (refl, e)
 counted s h false r f e = absurd (refused_not_read e)
 
-body_accepted : (wanted : Wanted) (s : List ℕ) (h : Header) (w : Walk) → length s ≤ most_bytes → record_at Head s 0 0 ≡ w → (body_read wanted s w).reading ≡ Read h
+body_accepted : (wanted : Wanted) (s : List ℕ) (h : Header) (w : Result ℕ Refusal) → length s ≤ most_bytes → record_at Head s 0 0 ≡ w → (body_read wanted s w).reading ≡ Ok h
     → Accepted s h × AsWanted wanted s (buses_at s h) h.buses
 unfolding body_read
-body_accepted wanted s h (Fault f) l q e = absurd (refused_not_read e)
-body_accepted wanted s h (At at) l q e =
+body_accepted wanted s h (Err f) l q e = absurd (refused_not_read e)
+body_accepted wanted s h (Ok at) l q e =
     let c = counted s h _ _ _ e in
     let n = ended s h (header_of s) _ c.1 in
     let p = passed Head s 0 0 at q in
     let a : at ≡ levels_at = p.past in
-    let w : tables_walked wanted (header_of s) s (At levels_at) ≡ At n.next = ap (λ (m : ℕ). tables_walked wanted (header_of s) s (At m)) (sym a) ∙ n.walk in
-    let t = tables_of_lem wanted s h n.next (ap (λ (g : Header). tables_walked wanted g s (At levels_at)) n.same ∙ w) in (
+    let w : tables_walked wanted (header_of s) s (Ok levels_at) ≡ Ok n.next = ap (λ (m : ℕ). tables_walked wanted (header_of s) s (Ok m)) (sym a) ∙ n.walk in
+    let t = tables_of_lem wanted s h n.next (ap (λ (g : Header). tables_walked wanted g s (Ok levels_at)) n.same ∙ w) in (
       record {
         short = l;
         header = n.same;
@@ -222,17 +220,17 @@ body_accepted wanted s h (At at) l q e =
       t.form,
     )
 
-whole_by : (s : List ℕ) (h : Header) (x : Bool) (r : CaseRead) (f : Refusal) → ltb most_bytes (length s) ≡ x → (cond x (unread f) r).reading ≡ Read h
-    → (length s ≤ most_bytes) × (r.reading ≡ Read h)
+whole_by : (s : List ℕ) (h : Header) (x : Bool) (r : CaseRead) (f : Refusal) → ltb most_bytes (length s) ≡ x → (cond x (unread f) r).reading ≡ Ok h
+    → (length s ≤ most_bytes) × (r.reading ≡ Ok h)
 whole_by s h true r f q e = absurd (refused_not_read e)
 whole_by s h false r f q e = (ltb-false most_bytes (length s) q, e)
 
 -- a file that is answered, whatever is wanted, is such a file, and its buses are as wanted
-pub accepted_as : (wanted : Wanted) (s : List ℕ) (h : Header) → (read_as wanted s).reading ≡ Read h → Accepted s h × AsWanted wanted s (buses_at s h) h.buses
+pub accepted_as : (wanted : Wanted) (s : List ℕ) (h : Header) → (read_as wanted s).reading ≡ Ok h → Accepted s h × AsWanted wanted s (buses_at s h) h.buses
 unfolding read_as
 accepted_as wanted s h e =
     let g = whole_by s h _ _ _ refl e in
     body_accepted wanted s h (record_at Head s 0 0) g.0 refl g.1
 
-pub accepted : (s : List ℕ) (h : Header) → reading_of s ≡ Read h → Accepted s h
+pub accepted : (s : List ℕ) (h : Header) → reading_of s ≡ Ok h → Accepted s h
 accepted s h e = (accepted_as Either s h e).0

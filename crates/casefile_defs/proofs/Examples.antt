@@ -10,8 +10,6 @@ use lib.Ieee.{Float, binary64, of_bits}
 use Rattle.loops.specs.Figures.{nought, half, one, fifty, hundred}
 use Rattle.loops.specs.Loops.{iter, first, tab}
 use Rattle.loops.specs.Parts.{part}
-use Rattle.refusal.specs.declared.Answer.TheVariants.{Answered}
-use Rattle.refusal.specs.declared.Answer.TheVariants.{Refused as Unmoved}
 use Rattle.refusal.specs.declared.Refusal.TheVariants.{Count, FileLength, Cut, Mark, Code, Trailing, Weight}
 use Rattle.mode.specs.Number.{mode_number}
 use Rattle.mode.specs.declared.PlanMode.TheVariants.{Observe}
@@ -23,7 +21,8 @@ use Rattle.casefile_defs.specs.Tables.{Places, number_at, figure_at, number_in, 
 use Rattle.casefile_defs.specs.declared.Header.{Header}
 use Rattle.casefile_defs.specs.declared.Wanted.TheVariants.{Either, Plain, Weighed}
 use Rattle.casefile_defs.specs.declared.Kind.TheVariants.{Head}
-use Rattle.casefile_defs.specs.declared.Reading.TheVariants.{Refused, Read}
+use Rattle.std.specs.Prelude.{Err, Ok}
+use Rattle.refusal.specs.Reply.{no_refusal}
 
 -- ---- case L, byte by byte: HD 2 0 2 1 1 0 1; LV 138; BU 0 0; BU 0 50; GE 0 1 0 100 20 0.25; CO 0 1 1 10 1; LN 0 0.5 0 100 0
 -- a figure whose first five bytes are zero
@@ -56,7 +55,7 @@ file_l = front_l ++ corridor_l 0x4f ++ line_l
 abbrev header_l : Header
 header_l = record { mode = Observe; target = 0; buses = 2; corridors = 1; generators = 1; above = 0; requested = 1 }
 
-pub case_l : read_of file_l ≡ case_read (Read header_l) 0
+pub case_l : read_of file_l ≡ case_read (Ok header_l) 0
 unfolding read_as body_read end_read tables_walked walked bus_form stepped admitted record_at header_of mode_of mode_number trailing looks_for iter first word little
 case_l = refl
 
@@ -109,7 +108,7 @@ header_two = record { mode = Observe; target = 0; buses = 2; corridors = 2; gene
 -- any cap is read; a CP without its last byte is cut, where a CO of the same length is whole and another mark is wrong; a CP in a bus's place is a wrong mark
 pub capped :
     map read_of (capped_l 2 ∷ capped_l 7 ∷ two_l ∷ take 107 (capped_l 2) ∷ take 107 file_l ∷ set (take 107 file_l) 85 0x51 ∷ set (set file_l 25 0x43) 26 0x50 ∷ [])
-    ≡ case_read (Read header_l) 0 ∷ case_read (Read header_l) 0 ∷ case_read (Read header_two) 0 ∷ map unread (Cut 5 ∷ Cut 6 ∷ Mark 5 ∷ Mark 2 ∷ [])
+    ≡ case_read (Ok header_l) 0 ∷ case_read (Ok header_l) 0 ∷ case_read (Ok header_two) 0 ∷ map unread (Cut 5 ∷ Cut 6 ∷ Mark 5 ∷ Mark 2 ∷ [])
 unfolding read_as body_read end_read tables_walked walked bus_form stepped admitted record_at header_of mode_of mode_number trailing looks_for iter first word little
 capped = refl
 
@@ -153,7 +152,7 @@ buses_l buses = head_l ++ buses ++ generator_l ++ corridor_l 0x4f ++ line_l
 abbrev file_w : List ℕ
 file_w = buses_l (first_l ++ second_l)
 
-pub case_w : read_of file_w ≡ case_read (Read header_l) 0
+pub case_w : read_of file_w ≡ case_read (Ok header_l) 0
 unfolding read_as body_read end_read tables_walked walked bus_form stepped admitted record_at header_of mode_of mode_number trailing looks_for iter first word little
 case_w = refl
 
@@ -192,11 +191,11 @@ one_l = bits 0 0xf0 0x3f
 abbrev forward_l : List ℕ
 forward_l = buses_l (weighed_l 0 (bits 0 0 0) one_l ++ weighed_l 0 (bits 0 0x49 0x40) one_l)
 
-pub moved_forward : forward_by file_l (Read header_l) ≡ moved_as Answered (fitted forward_l)
+pub moved_forward : forward_by file_l (Ok header_l) ≡ moved_as no_refusal (fitted forward_l)
 unfolding forward_by file_as buses_as bus_as part spot
 moved_forward = refl
 
-pub moved_back : back_by forward_l (Read header_l) ≡ moved_as Answered (fitted file_l)
+pub moved_back : back_by forward_l (Ok header_l) ≡ moved_as no_refusal (fitted file_l)
 unfolding back_by first_other file_as buses_as bus_as part spot first word little
 moved_back = refl
 
@@ -208,11 +207,11 @@ unfolding read_as body_read end_read tables_walked walked bus_form stepped admit
 other_form = refl
 
 -- 21 at the lowest bus whose weight is not 1, the output zero; after every refusal of the reading
-pub other_weight : back_by file_w (Read header_l) ∷ back_by (buses_l (second_l ++ first_l)) (Read header_l) ∷ [] ≡ unmoved (Weight 0) ∷ unmoved (Weight 1) ∷ []
+pub other_weight : back_by file_w (Ok header_l) ∷ back_by (buses_l (second_l ++ first_l)) (Ok header_l) ∷ [] ≡ unmoved (Weight 0) ∷ unmoved (Weight 1) ∷ []
 unfolding back_by first_other spot first word little
 other_weight = refl
 
-pub trailing_first : (out : List ℕ) → length out ≡ 65536 → move_back (file_w ++ (7 ∷ [])) out ≡ moved_as (Unmoved (Trailing 158)) (replicate 65536 0)
+pub trailing_first : (out : List ℕ) → length out ≡ 65536 → move_back (file_w ++ (7 ∷ [])) out ≡ moved_as (Err (Trailing 158)) (replicate 65536 0)
 unfolding move_back back_by read_as body_read end_read tables_walked walked bus_form stepped admitted record_at header_of mode_of mode_number trailing looks_for iter first word little
 trailing_first out e = rw e refl
 
@@ -229,7 +228,7 @@ refusals = refl
 -- zeros behind the last record; a byte that is not zero in the third place, as the first of a word, as the last of the second
 pub after_the_last :
     map (λ l. read_of (file_l ++ l)) (replicate 9 0 ∷ (0 ∷ 0 ∷ 7 ∷ []) ∷ (7 ∷ replicate 7 0) ∷ (replicate 15 0 ++ (7 ∷ [])) ∷ [])
-    ≡ case_read (Read header_l) 2 ∷ case_read (Refused (Trailing 144)) 3 ∷ case_read (Refused (Trailing 142)) 2 ∷ case_read (Refused (Trailing 157)) 10 ∷ []
+    ≡ case_read (Ok header_l) 2 ∷ case_read (Err (Trailing 144)) 3 ∷ case_read (Err (Trailing 142)) 2 ∷ case_read (Err (Trailing 157)) 10 ∷ []
 unfolding read_as body_read end_read tables_walked walked bus_form stepped admitted record_at header_of mode_of mode_number trailing looks_for iter first word little
 after_the_last = refl
 

@@ -14,8 +14,7 @@ use Rattle.casefile_defs.specs.Layout.{layout_of, size_of, codes_ok, word, marke
 use Rattle.casefile_defs.specs.Reading.{record_at, admitted}
 use Rattle.casefile_defs.specs.declared.Kind.{Kind}
 use Rattle.casefile_defs.specs.declared.Kind.TheVariants.{Head, Level, Bus, Generator, Corridor, Line, CappedCorridor, WeighedBus}
-use Rattle.casefile_defs.specs.declared.Walk.{Walk}
-use Rattle.casefile_defs.specs.declared.Walk.TheVariants.{At, Fault}
+use Rattle.std.specs.Prelude.{Err, Ok, Result}
 
 and_true : (b : Bool) → b ≡ (b && true)
 and_true true = refl
@@ -55,19 +54,19 @@ unmarked k s at h =
 
 -- ---- the four ways
 module _ (k : Kind) (s : List ℕ) (r at : ℕ) where
-  pub cut_at : length s < at + size_of k → Fault (Cut r) ≡ record_at k s r at
+  pub cut_at : length s < at + size_of k → Err (Cut r) ≡ record_at k s r at
   unfolding record_at
   cut_at h = simp (lt-ltb _ _ h)
 
-  pub mark_at : at + size_of k ≤ length s → marked k s at ≡ false → Fault (Mark r) ≡ record_at k s r at
+  pub mark_at : at + size_of k ≤ length s → marked k s at ≡ false → Err (Mark r) ≡ record_at k s r at
   unfolding record_at
   mark_at h m = simp (le-ltb _ _ h, m)
 
-  pub code_at : at + size_of k ≤ length s → marked k s at ≡ true → codes_ok k s at ≡ false → Fault (Code r) ≡ record_at k s r at
+  pub code_at : at + size_of k ≤ length s → marked k s at ≡ true → codes_ok k s at ≡ false → Err (Code r) ≡ record_at k s r at
   unfolding record_at
   code_at h m a = simp (le-ltb _ _ h, m, a)
 
-  pub good_at : at + size_of k ≤ length s → marked k s at ≡ true → codes_ok k s at ≡ true → At (at + size_of k) ≡ record_at k s r at
+  pub good_at : at + size_of k ≤ length s → marked k s at ≡ true → codes_ok k s at ≡ true → Ok (at + size_of k) ≡ record_at k s r at
   unfolding record_at
   good_at h m a = simp (le-ltb _ _ h, m, a)
 
@@ -78,27 +77,27 @@ pub record Passed (k : Kind) (s : List ℕ) (at next : ℕ) : Type 0 where
   pub bounds : codes_ok k s at ≡ true
   pub past : next ≡ at + size_of k
 
-pub fault_not_at : {f : Refusal} {n : ℕ} → Fault f ≡ At n → ⊥
+pub fault_not_at : {f : Refusal} {n : ℕ} → Err f ≡ Ok n → ⊥
 fault_not_at e = let v : ◌≡◌ {A = ℕ} 0 1 = cc in omega arith
 
 passed_by_lem : (k : Kind) (s : List ℕ) (r at next : ℕ) (x y z : Bool)
     → ltb (length s) (at + size_of k) ≡ x → marked k s at ≡ y → codes_ok k s at ≡ z
-    → cond x (Fault (Cut r)) (cond y (cond z (At (at + size_of k)) (Fault (Code r))) (Fault (Mark r))) ≡ At next → Passed k s at next
+    → cond x (Err (Cut r)) (cond y (cond z (Ok (at + size_of k)) (Err (Code r))) (Err (Mark r))) ≡ Ok next → Passed k s at next
 passed_by_lem k s r at next true y z p q o e = absurd (fault_not_at e)
 passed_by_lem k s r at next false true true p q o e = record { room = ltb-false _ _ p; mark = q; bounds = o; past = cc }
 passed_by_lem k s r at next false true false p q o e = absurd (fault_not_at e)
 passed_by_lem k s r at next false false z p q o e = absurd (fault_not_at e)
 
-pub passed : (k : Kind) (s : List ℕ) (r at next : ℕ) → record_at k s r at ≡ At next → Passed k s at next
+pub passed : (k : Kind) (s : List ℕ) (r at next : ℕ) → record_at k s r at ≡ Ok next → Passed k s at next
 unfolding record_at
 passed k s r at next e = passed_by_lem k s r at next _ _ _ refl refl refl e
 
 -- a record that is admitted is of the file's form
-pub admitted_at : (weighed : Bool) (k : Kind) (r next : ℕ) (w : Walk) → admitted weighed k r w ≡ At next → (w ≡ At next) × (suits weighed k ≡ true)
+pub admitted_at : (weighed : Bool) (k : Kind) (r next : ℕ) (w : Result ℕ Refusal) → admitted weighed k r w ≡ Ok next → (w ≡ Ok next) × (suits weighed k ≡ true)
 unfolding admitted
-admitted_at weighed k r next (Fault f) e = absurd (fault_not_at e)
-admitted_at weighed k r next (At m) e = go (suits weighed k) _ refl e
+admitted_at weighed k r next (Err f) e = absurd (fault_not_at e)
+admitted_at weighed k r next (Ok m) e = go (suits weighed k) _ refl e
   where
-    go : (b : Bool) (f : Refusal) → suits weighed k ≡ b → cond b (At m) (Fault f) ≡ At next → (At m ≡ At next) × (suits weighed k ≡ true)
+    go : (b : Bool) (f : Refusal) → suits weighed k ≡ b → cond b (Ok m) (Err f) ≡ Ok next → ◌≡◌ {A = Result ℕ Refusal} (Ok m) (Ok next) × (suits weighed k ≡ true)
     go true f q e = (e, q)
     go false f q e = absurd (fault_not_at e)

@@ -1,11 +1,8 @@
 -- Document 02's K7: a case file with its buses in the other form, byte by byte, and the two operations whole.
-use Rattle.std.specs.Prelude.{ℕ, zero, suc, ◌+◌, Bool, cond, List, [], ◌∷◌, ◌++◌, ltb, eqb, length, take, drop, replicate}
+use Rattle.std.specs.Prelude.{ℕ, zero, suc, ◌+◌, Bool, cond, List, [], ◌∷◌, ◌++◌, ltb, eqb, length, take, drop, replicate, Err, Ok, Result}
 use Rattle.loops.specs.Loops.{first}
 use Rattle.loops.specs.Parts.{part}
-use Rattle.refusal.specs.Reply.{Reply, reply_of}
-use Rattle.refusal.specs.declared.Answer.{Answer}
-use Rattle.refusal.specs.declared.Answer.TheVariants.{Answered}
-use Rattle.refusal.specs.declared.Answer.TheVariants.{Refused as Unmoved}
+use Rattle.refusal.specs.Reply.{Reply, reply_of, no_refusal}
 use Rattle.refusal.specs.declared.Refusal.{Refusal}
 use Rattle.refusal.specs.declared.Refusal.TheVariants.{Length, Weight}
 use Rattle.casefile_defs.specs.Bounds.{most_bytes}
@@ -15,8 +12,6 @@ use Rattle.casefile_defs.specs.Tables.{buses_at, weight_field}
 use Rattle.casefile_defs.specs.declared.Kind.{Kind}
 use Rattle.casefile_defs.specs.declared.Kind.TheVariants.{Bus, WeighedBus}
 use Rattle.casefile_defs.specs.declared.Header.{Header}
-use Rattle.casefile_defs.specs.declared.Reading.{Reading}
-use Rattle.casefile_defs.specs.declared.Reading.TheVariants.{Refused, Read}
 use Rattle.casefile_defs.specs.declared.Wanted.TheVariants.{Plain, Weighed}
 
 -- ---- a bus's record as one of kind k: the mark; tier and load, or tier and reading, as they stand; and a weight of 1 where the kind has one
@@ -57,23 +52,23 @@ pub record Moved : Type 0 where
   pub reply : Reply (Unit {0})
   pub out : List ℕ
 
-abbrev pub moved_as : Answer → List ℕ → Moved
+abbrev pub moved_as : Result (Unit {0}) Refusal → List ℕ → Moved
 moved_as a l = record { reply = reply_of a; out = l }
 
 -- a refusal but 1 leaves zeros
 abbrev pub unmoved : Refusal → Moved
-unmoved f = moved_as (Unmoved f) (replicate most_bytes 0)
+unmoved f = moved_as (Err f) (replicate most_bytes 0)
 
 abbrev pub moved_to : Kind → List ℕ → Header → Moved
-moved_to k s h = moved_as Answered (fitted (file_as k s (buses_at s h) h.buses))
+moved_to k s h = moved_as no_refusal (fitted (file_as k s (buses_at s h) h.buses))
 
-unfoldable pub forward_by : List ℕ → Reading → Moved
-forward_by s (Refused f) = unmoved f
-forward_by s (Read h) = moved_to WeighedBus s h
+unfoldable pub forward_by : List ℕ → Result Header Refusal → Moved
+forward_by s (Err f) = unmoved f
+forward_by s (Ok h) = moved_to WeighedBus s h
 
 -- 1, then the reading's refusals of a file of BU
 unfoldable pub move_forward : List ℕ → List ℕ → Moved
-move_forward s out = cond (eqb (length out) most_bytes) (forward_by s (read_as Plain s).reading) (moved_as (Unmoved Length) out)
+move_forward s out = cond (eqb (length out) most_bytes) (forward_by s (read_as Plain s).reading) (moved_as (Err Length) out)
 
 -- the first bus whose weight is not 1: by its bits, since one pattern only is 1
 abbrev pub one_bits : ℕ
@@ -85,11 +80,11 @@ weighs_one s at i = eqb (field WeighedBus weight_field (spot Bus s at i) s) one_
 unfoldable pub first_other : List ℕ → ℕ → ℕ → ℕ
 first_other s at n = first (weighs_one s at) n 0
 
-unfoldable pub back_by : List ℕ → Reading → Moved
-back_by s (Refused f) = unmoved f
-back_by s (Read h) =
+unfoldable pub back_by : List ℕ → Result Header Refusal → Moved
+back_by s (Err f) = unmoved f
+back_by s (Ok h) =
     cond (ltb (first_other s (buses_at s h) h.buses) h.buses) (unmoved (Weight (first_other s (buses_at s h) h.buses))) (moved_to Bus s h)
 
 -- 1, then the reading's refusals of a file of BV, then 21
 unfoldable pub move_back : List ℕ → List ℕ → Moved
-move_back s out = cond (eqb (length out) most_bytes) (back_by s (read_as Weighed s).reading) (moved_as (Unmoved Length) out)
+move_back s out = cond (eqb (length out) most_bytes) (back_by s (read_as Weighed s).reading) (moved_as (Err Length) out)

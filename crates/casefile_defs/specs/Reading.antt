@@ -1,5 +1,5 @@
 -- Document 01's "Case reading": the header that a file is read as, or the first refusal, record by record.
-use Rattle.std.specs.Prelude.{ℕ, ◌+◌, ◌-◌, ◌*◌, ◌/◌, ◌%◌, ◌≤◌, min, Bool, true, false, ◌&&◌, cond, List, leb, ltb, eqb, length, get_or}
+use Rattle.std.specs.Prelude.{ℕ, ◌+◌, ◌-◌, ◌*◌, ◌/◌, ◌%◌, ◌≤◌, min, Bool, true, false, ◌&&◌, cond, List, leb, ltb, eqb, length, get_or, Err, Ok, Result}
 use Rattle.loops.specs.Loops.{iter, first}
 use Rattle.refusal.specs.declared.Refusal.{Refusal}
 use Rattle.refusal.specs.declared.Refusal.TheVariants.{Count, FileLength, Cut, Mark, Code, Trailing}
@@ -11,39 +11,35 @@ use Rattle.casefile_defs.specs.Layout.{size_of, codes_ok, field, marked, standin
 use Rattle.casefile_defs.specs.declared.Kind.{Kind}
 use Rattle.casefile_defs.specs.declared.Kind.TheVariants.{Head, Level, Bus, Generator, Corridor, Line, WeighedBus}
 use Rattle.casefile_defs.specs.declared.Header.{Header}
-use Rattle.casefile_defs.specs.declared.Walk.{Walk}
-use Rattle.casefile_defs.specs.declared.Walk.TheVariants.{At, Fault}
 use Rattle.casefile_defs.specs.declared.Wanted.{Wanted}
 use Rattle.casefile_defs.specs.declared.Wanted.TheVariants.{Either, Plain, Weighed}
 use Rattle.casefile_defs.specs.declared.CaseRead.{CaseRead}
-use Rattle.casefile_defs.specs.declared.Reading.{Reading}
-use Rattle.casefile_defs.specs.declared.Reading.TheVariants.{Refused, Read}
 
 -- record r of the file, of kind k, at a place: past it, or what is wrong with it (14, then 15, then 16)
-unfoldable pub record_at : Kind → List ℕ → ℕ → ℕ → Walk
+unfoldable pub record_at : Kind → List ℕ → ℕ → ℕ → Result ℕ Refusal
 record_at k s r at =
     cond (ltb (length s) (at + size_of k))
-    (Fault (Cut r))
-    (cond (marked k s at) (cond (codes_ok k s at) (At (at + size_of k)) (Fault (Code r))) (Fault (Mark r)))
+    (Err (Cut r))
+    (cond (marked k s at) (cond (codes_ok k s at) (Ok (at + size_of k)) (Err (Code r))) (Err (Mark r)))
 
 -- a record that is whole, but a BV in a file of BU or a BU in a file of BV, has a wrong mark (15)
-unfoldable pub admitted : Bool → Kind → ℕ → Walk → Walk
-admitted weighed k r (Fault f) = Fault f
-admitted weighed k r (At next) = cond (suits weighed k) (At next) (Fault (Mark r))
+unfoldable pub admitted : Bool → Kind → ℕ → Result ℕ Refusal → Result ℕ Refusal
+admitted weighed k r (Err f) = Err f
+admitted weighed k r (Ok next) = cond (suits weighed k) (Ok next) (Err (Mark r))
 
 -- a fault is passed on; where a record of kind k is due, the one that stands there is read
-unfoldable pub stepped : Kind → Bool → List ℕ → ℕ → Walk → Walk
-stepped k weighed s r (Fault f) = Fault f
-stepped k weighed s r (At at) = admitted weighed (standing k s at) r (record_at (standing k s at) s r at)
+unfoldable pub stepped : Kind → Bool → List ℕ → ℕ → Result ℕ Refusal → Result ℕ Refusal
+stepped k weighed s r (Err f) = Err f
+stepped k weighed s r (Ok at) = admitted weighed (standing k s at) r (record_at (standing k s at) s r at)
 
 -- records start to end - 1, of kind k each
-unfoldable pub walked : Kind → Bool → ℕ → ℕ → List ℕ → Walk → Walk
+unfoldable pub walked : Kind → Bool → ℕ → ℕ → List ℕ → Result ℕ Refusal → Result ℕ Refusal
 walked k weighed start end s w = iter (stepped k weighed s) (end - start) start w
 
 -- whether a file's buses are to be BV: by the mark of the first, where the levels end, or by what is wanted
-unfoldable pub bus_form : Wanted → List ℕ → Walk → Bool
-bus_form Either s (Fault f) = false
-bus_form Either s (At at) = marked WeighedBus s at
+unfoldable pub bus_form : Wanted → List ℕ → Result ℕ Refusal → Bool
+bus_form Either s (Err f) = false
+bus_form Either s (Ok at) = marked WeighedBus s at
 bus_form Plain s w = false
 bus_form Weighed s w = true
 
@@ -105,11 +101,11 @@ abbrev pub records_of : Header → ℕ
 records_of h = before_lines h + lines h
 
 -- the buses' records, from where the levels end
-abbrev pub buses_walked : Wanted → Header → List ℕ → Walk → Walk
+abbrev pub buses_walked : Wanted → Header → List ℕ → Result ℕ Refusal → Result ℕ Refusal
 buses_walked wanted h s w = walked Bus (bus_form wanted s w) (before_buses h) (before_generators h) s w
 
 -- the tables' records, in order, from where the header ends
-unfoldable pub tables_walked : Wanted → Header → List ℕ → Walk → Walk
+unfoldable pub tables_walked : Wanted → Header → List ℕ → Result ℕ Refusal → Result ℕ Refusal
 tables_walked wanted h s w =
     walked Line false (before_lines h) (records_of h) s
     (walked Corridor false (before_corridors h) (before_lines h) s
@@ -139,22 +135,22 @@ zeros_passed s at = trailing s at - at
 abbrev pub looks : List ℕ → ℕ → ℕ
 looks s at = looks_for (length s - at) (zeros_passed s at)
 
-abbrev pub case_read : Reading → ℕ → CaseRead
+abbrev pub case_read : Result Header Refusal → ℕ → CaseRead
 case_read r n = record { reading = r; looks = n }
 
 -- refused before any trailing byte was looked at
 abbrev pub unread : Refusal → CaseRead
-unread f = case_read (Refused f) 0
+unread f = case_read (Err f) 0
 
 -- after the last record (17)
-unfoldable pub end_read : Header → List ℕ → Walk → CaseRead
-end_read h s (Fault f) = unread f
-end_read h s (At at) = case_read (cond (ltb (trailing s at) (length s)) (Refused (Trailing (trailing s at))) (Read h)) (looks s at)
+unfoldable pub end_read : Header → List ℕ → Result ℕ Refusal → CaseRead
+end_read h s (Err f) = unread f
+end_read h s (Ok at) = case_read (cond (ltb (trailing s at) (length s)) (Err (Trailing (trailing s at))) (Ok h)) (looks s at)
 
 -- after the header (2, then the tables)
-unfoldable pub body_read : Wanted → List ℕ → Walk → CaseRead
-body_read wanted s (Fault f) = unread f
-body_read wanted s (At at) = cond (counts_ok (header_of s)) (end_read (header_of s) s (tables_walked wanted (header_of s) s (At at))) (unread Count)
+unfoldable pub body_read : Wanted → List ℕ → Result ℕ Refusal → CaseRead
+body_read wanted s (Err f) = unread f
+body_read wanted s (Ok at) = cond (counts_ok (header_of s)) (end_read (header_of s) s (tables_walked wanted (header_of s) s (Ok at))) (unread Count)
 
 -- the reading of a file: its header, or the first refusal; and how much of what follows its records was looked at
 unfoldable pub read_as : Wanted → List ℕ → CaseRead
@@ -163,5 +159,5 @@ read_as wanted s = cond (ltb most_bytes (length s)) (unread FileLength) (body_re
 abbrev pub read_of : List ℕ → CaseRead
 read_of s = read_as Either s
 
-abbrev pub reading_of : List ℕ → Reading
+abbrev pub reading_of : List ℕ → Result Header Refusal
 reading_of s = (read_of s).reading

@@ -1,5 +1,5 @@
 -- Document 01's "Case reading": the lent tables, what reading leaves in each of their places, and the operation whole.
-use Rattle.std.specs.Prelude.{ℕ, ◌/◌, ◌%◌, ◌+◌, ◌*◌, Bool, ◌&&◌, cond, List, leb, ltb, eqb, length, Float}
+use Rattle.std.specs.Prelude.{ℕ, ◌/◌, ◌%◌, ◌+◌, ◌*◌, Bool, ◌&&◌, cond, List, leb, ltb, eqb, length, Float, Err, Ok, Result}
 use Rattle.std.specs.Float.{binary64}
 use Rattle.std.specs.Float.Ieee.{of_bits}
 use Rattle.loops.specs.Figures.{nought, one}
@@ -15,8 +15,7 @@ use Rattle.casefile_defs.specs.declared.Kind.{Kind}
 use Rattle.casefile_defs.specs.declared.Kind.TheVariants.{Head, Level, Bus, Generator, Corridor, Line, CappedCorridor, WeighedBus}
 use Rattle.casefile_defs.specs.declared.Header.{Header}
 use Rattle.casefile_defs.specs.declared.CaseRead.{CaseRead}
-use Rattle.casefile_defs.specs.declared.Reading.{Reading}
-use Rattle.casefile_defs.specs.declared.Reading.TheVariants.{Refused, Read}
+use Rattle.refusal.specs.declared.Refusal.{Refusal}
 
 -- the w bytes at distance o in the record at a place where one of kind k is due; 0 where the record that stands there has no such field, as a CO has no cap
 unfoldable pub number_at : Kind → List ℕ → ℕ → ℕ → ℕ → ℕ
@@ -153,9 +152,9 @@ tables_of s h = places_of
     (tab most_sheet (sheet_in s (lines_at s h) h.corridors (levels h)))
 
 -- the counts that a reading leaves in the tables: none where it is refused
-unfoldable pub held : Reading → Header
-held (Refused f) = record { mode = Expand; target = 0; buses = 0; corridors = 0; generators = 0; above = 0; requested = 0 }
-held (Read h) = h
+unfoldable pub held : Result Header Refusal → Header
+held (Err f) = record { mode = Expand; target = 0; buses = 0; corridors = 0; generators = 0; above = 0; requested = 0 }
+held (Ok h) = h
 
 -- each table is lent at its largest size
 unfoldable pub sizes_ok : Places → Bool
@@ -172,9 +171,9 @@ pub record Outcome : Type 0 where
   pub looks : ℕ
   pub places : Places
 
-abbrev pub reply_of : Reading → Reply Header
-reply_of (Read h) = answered h
-reply_of (Refused f) = refused_by f
+abbrev pub reply_of : Result Header Refusal → Reply Header
+reply_of (Ok h) = answered h
+reply_of (Err f) = refused_by f
 
 abbrev pub outcome : CaseRead → Places → Outcome
 outcome r p = record { reply = reply_of r.reading; looks = r.looks; places = p }

@@ -32,17 +32,10 @@ pub struct Header {
     pub requested: usize,
 }
 
-// What case reading answers.
-#[derive(Clone, Copy)]
-pub enum Reading {
-    Read(Header),
-    Refused(Refusal),
-}
-
 // A reading, and how many words of eight bytes and single bytes were looked at after the last record (none where it was refused before).
 #[derive(Clone, Copy)]
 pub struct CaseRead {
-    pub reading: Reading,
+    pub reading: Result<Header, Refusal>,
     pub looks: usize,
 }
 
@@ -65,13 +58,6 @@ pub enum Wanted {
     Either,
     Plain,
     Weighed,
-}
-
-// A walk over the records: the next record's place, or the first fault.
-#[derive(Clone, Copy)]
-pub enum Walk {
-    At(usize),
-    Fault(Refusal),
 }
 
 // How far a test of the trailing bytes came: the place of the next byte, and the words or bytes looked at.

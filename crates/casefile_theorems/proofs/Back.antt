@@ -21,8 +21,6 @@ use Rattle.casefile_defs.specs.Tables.{levels_at, buses_at, generators_at, corri
 use Rattle.casefile_defs.specs.declared.Kind.{Kind}
 use Rattle.casefile_defs.specs.declared.Kind.TheVariants.{Head, Level, Bus, Generator, Corridor, Line, CappedCorridor, WeighedBus}
 use Rattle.casefile_defs.specs.declared.Header.{Header}
-use Rattle.casefile_defs.specs.declared.Walk.TheVariants.{At}
-use Rattle.casefile_defs.specs.declared.Reading.TheVariants.{Read}
 use Rattle.casefile_defs.specs.declared.Wanted.{Wanted}
 use Rattle.casefile_defs.specs.declared.Wanted.TheVariants.{Either}
 use Rattle.casefile_defs.proofs.Accepted.{end_at}
@@ -31,6 +29,7 @@ use Rattle.casefile_defs.proofs.Walks.{tables_walked_lem, end_good, body_end, wh
 use Rattle.casefile_theorems.specs.Writer.{record_bytes, table_bytes, head_row, count_of, Form, form_in, kinds_of, file_with}
 use Rattle.casefile_theorems.proofs.Bytes.{Fine}
 use Rattle.casefile_theorems.proofs.Written.{Stands, stands, length_record, Found, table_spot, table_found, walk_stands, suits_level, suits_bus, suits_generator, suits_corridor, suits_line}
+use Rattle.std.specs.Prelude.{Ok}
 
 -- a header and numbers that a file of a form can hold
 pub record Whole (f : Form) (h : Header) (v : Kind → ℕ → ℕ → ℕ) : Type 0 where
@@ -189,14 +188,14 @@ module _ (f : Form) (h : Header) (v : Kind → ℕ → ℕ → ℕ) (n : ℕ) (g
 
   -- the form is one that is wanted
   abbrev pub Fits : Wanted → Type 0
-  Fits wanted = 0 < h.buses → bus_form wanted padded (At (buses_at padded h)) ≡ f.weighed
+  Fits wanted = 0 < h.buses → bus_form wanted padded (Ok (buses_at padded h)) ≡ f.weighed
 
-  buses_suit : (wanted : Wanted) → Fits wanted → (i : ℕ) → i < h.buses → suits (bus_form wanted padded (At (buses_at padded h))) (kinds_of f Bus i) ≡ true
+  buses_suit : (wanted : Wanted) → Fits wanted → (i : ℕ) → i < h.buses → suits (bus_form wanted padded (Ok (buses_at padded h))) (kinds_of f Bus i) ≡ true
   buses_suit wanted q i b = ap (λ (x : Bool). suits x (kinds_of f Bus i)) (q (omega arith)) ∙ bus_suits f.weighed
 
-  tables_pass : (wanted : Wanted) → Fits wanted → At (end_at padded h) ≡ tables_walked wanted h padded (At levels_at)
+  tables_pass : (wanted : Wanted) → Fits wanted → Ok (end_at padded h) ≡ tables_walked wanted h padded (Ok levels_at)
   tables_pass wanted q =
-      tables_walked_lem wanted h padded (At levels_at) (At (buses_at padded h)) (At (generators_at padded h)) (At (corridors_at padded h)) (At (lines_at padded h)) (At (end_at padded h))
+      tables_walked_lem wanted h padded (Ok levels_at) (Ok (buses_at padded h)) (Ok (generators_at padded h)) (Ok (corridors_at padded h)) (Ok (lines_at padded h)) (Ok (end_at padded h))
       (sym (walk_stands Level (kinds_of f Level) (v Level) padded p₁ _ levels_at (levels h) (λ i b. suits_level) e₁ l₁ (g.rows Level) false (λ i b. refl) 1 (before_buses h) (omega arith)))
       (sym (walk_stands Bus (kinds_of f Bus) (v Bus) padded p₂ _ (buses_at padded h) h.buses (λ i b. suits_bus f.weighed) e₂ l₂ (g.rows Bus) _ (buses_suit wanted q) (before_buses h) (before_generators h) (omega arith)))
       (sym (walk_stands Generator (kinds_of f Generator) (v Generator) padded p₃ _ (generators_at padded h) h.generators (λ i b. suits_generator) e₃ l₃ (g.rows Generator) false (λ i b. refl) (before_generators h) (before_corridors h) (omega arith)))
@@ -230,14 +229,14 @@ module _ (f : Form) (h : Header) (v : Kind → ℕ → ℕ → ℕ) (n : ℕ) (g
       ap (λ (m : ℕ). looks_for m (zeros_passed padded (end_at padded h))) a ∙ ap (λ (m : ℕ). looks_for n m) b
 
   -- the first direction: the padded file of a case is answered, with its header
-  pub read_back : (wanted : Wanted) → Fits wanted → length padded ≤ most_bytes → read_as wanted padded ≡ case_read (Read h) (looks_for n n)
+  pub read_back : (wanted : Wanted) → Fits wanted → length padded ≤ most_bytes → read_as wanted padded ≡ case_read (Ok h) (looks_for n n)
   read_back wanted q short =
       sym
-      (whole_body wanted padded (At levels_at) levels_at (case_read (Read h) (looks padded (end_at padded h))) short (sym (head_stands.goes 0)) refl
-      (body_end wanted padded levels_at h header_back (At (end_at padded h)) (case_read (Read h) (looks padded (end_at padded h))) g.counts (tables_pass wanted q)
-      (end_good h padded (At (end_at padded h)) (end_at padded h) (looked_at padded (end_at padded h)) refl refl nothing)))
-      ∙ ap (λ (m : ℕ). case_read (Read h) m) looks_back
+      (whole_body wanted padded (Ok levels_at) levels_at (case_read (Ok h) (looks padded (end_at padded h))) short (sym (head_stands.goes 0)) refl
+      (body_end wanted padded levels_at h header_back (Ok (end_at padded h)) (case_read (Ok h) (looks padded (end_at padded h))) g.counts (tables_pass wanted q)
+      (end_good h padded (Ok (end_at padded h)) (end_at padded h) (looked_at padded (end_at padded h)) refl refl nothing)))
+      ∙ ap (λ (m : ℕ). case_read (Ok h) m) looks_back
 
-  pub reading_back : length padded ≤ most_bytes → read_of padded ≡ case_read (Read h) (looks_for n n)
+  pub reading_back : length padded ≤ most_bytes → read_of padded ≡ case_read (Ok h) (looks_for n n)
   unfolding bus_form
   reading_back short = read_back Either weighed_back short

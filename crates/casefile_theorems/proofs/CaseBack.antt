@@ -27,7 +27,6 @@ use Rattle.casefile_defs.specs.Tables.{Places, basis_field, basis_of, levels_at,
 use Rattle.casefile_defs.specs.declared.Kind.{Kind}
 use Rattle.casefile_defs.specs.declared.Kind.TheVariants.{Head, Level, Bus, Generator, Corridor, Line, CappedCorridor, WeighedBus}
 use Rattle.casefile_defs.specs.declared.Header.{Header}
-use Rattle.casefile_defs.specs.declared.Reading.TheVariants.{Read}
 use Rattle.casefile_defs.proofs.Counts.{small_of, lines_small}
 use Rattle.casefile_defs.proofs.Whole.{read_whole}
 use Rattle.casefile_theorems.specs.Writer.{head_row, count_of, Form, form_in, kinds_of, file_with, file_of, words_of, bits_at, basis_at, row_place, row_of}
@@ -35,6 +34,7 @@ use Rattle.casefile_theorems.specs.Cases.{Numbers, Figures, Sheet, Case, Legal, 
 use Rattle.casefile_theorems.proofs.Back.{Whole, padded, length_file, weighed_back, capped_back, reading_back}
 use Rattle.casefile_theorems.proofs.Bytes.{Fine}
 use Rattle.casefile_theorems.proofs.Places.{numbers_from, figures_from, weight_from, cap_from, line_from, sheet_from, row_in, places_from, tables_from}
+use Rattle.std.specs.Prelude.{Ok}
 
 -- ---- a case's numbers fit their fields
 bits_small : (x : Float) → T (fits binary64 x) → to_bits binary64 x < 256 ^ 8
@@ -263,10 +263,10 @@ module _ (f : Form) (h : Header) (p : Places) (g : Legal f h p) (c : Case h p) w
 
   -- the first direction, whole: reading the file of a case, followed by zeros, gives the case
   pub case_read_lem : (n : ℕ) (q : Places) → sizes_ok q ≡ true → length (file_of f h p ++ replicate n 0) ≤ most_bytes
-      → read_case (file_of f h p ++ replicate n 0) q ≡ outcome (case_read (Read h) (looks_for n n)) p
+      → read_case (file_of f h p ++ replicate n 0) q ≡ outcome (case_read (Ok h) (looks_for n n)) p
   unfolding held file_of
   case_read_lem n q z l =
       let w = whole_of f h p c in
       sym
-      (read_whole (padded f h (words_of h p) n w) q p (case_read (Read h) (looks_for n n)) h z (sym (reading_back f h (words_of h p) n w l)) refl
+      (read_whole (padded f h (words_of h p) n w) q p (case_read (Ok h) (looks_for n n)) h z (sym (reading_back f h (words_of h p) n w l)) refl
       (sym (tables_from f h (words_of h p) n w ∙ places_back)))

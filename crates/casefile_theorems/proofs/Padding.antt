@@ -16,34 +16,32 @@ use Rattle.casefile_defs.specs.declared.CaseRead.{CaseRead}
 use Rattle.casefile_defs.specs.declared.Kind.TheVariants.{Head}
 use Rattle.casefile_defs.specs.declared.Header.{Header}
 use Rattle.casefile_defs.specs.declared.Wanted.TheVariants.{Either}
-use Rattle.casefile_defs.specs.declared.Reading.{Reading}
-use Rattle.casefile_defs.specs.declared.Reading.TheVariants.{Refused}
-use Rattle.casefile_defs.specs.declared.Walk.{Walk}
-use Rattle.casefile_defs.specs.declared.Walk.TheVariants.{At, Fault}
 use Rattle.casefile_defs.proofs.Trailing.{zeros_among}
 use Rattle.casefile_theorems.specs.Plain.{plain_end, plain_body, plain_reading}
+use Rattle.std.specs.Prelude.{Err, Ok, Result}
+use Rattle.refusal.specs.declared.Refusal.{Refusal}
 
 -- ---- the same reading
 either : (b : Bool) (r r' : CaseRead) → (cond b r r').reading ≡ cond b r.reading r'.reading
 either true r r' = refl
 either false r r' = refl
 
-end_same : (h : Header) (s : List ℕ) (w : Walk) → (end_read h s w).reading ≡ plain_end h s w
+end_same : (h : Header) (s : List ℕ) (w : Result ℕ Refusal) → (end_read h s w).reading ≡ plain_end h s w
 unfolding end_read
-end_same h s (Fault f) = refl
-end_same h s (At at) = refl
+end_same h s (Err f) = refl
+end_same h s (Ok at) = refl
 
-body_same : (s : List ℕ) (w : Walk) → (body_read Either s w).reading ≡ plain_body s w
+body_same : (s : List ℕ) (w : Result ℕ Refusal) → (body_read Either s w).reading ≡ plain_body s w
 unfolding body_read
-body_same s (Fault f) = refl
-body_same s (At at) =
+body_same s (Err f) = refl
+body_same s (Ok at) =
     either (counts_ok (header_of s)) _ _
-    ∙ ap (λ (r : Reading). cond (counts_ok (header_of s)) r (Refused Count)) (end_same (header_of s) s (tables_walked Either (header_of s) s (At at)))
+    ∙ ap (λ (r : Result Header Refusal). cond (counts_ok (header_of s)) r (Err Count)) (end_same (header_of s) s (tables_walked Either (header_of s) s (Ok at)))
 
 same_reading : (s : List ℕ) → reading_of s ≡ plain_reading s
 unfolding read_as
 same_reading s =
-    either (ltb most_bytes (length s)) _ _ ∙ ap (λ (r : Reading). cond (ltb most_bytes (length s)) (Refused FileLength) r) (body_same s (record_at Head s 0 0))
+    either (ltb most_bytes (length s)) _ _ ∙ ap (λ (r : Result Header Refusal). cond (ltb most_bytes (length s)) (Err FileLength) r) (body_same s (record_at Head s 0 0))
 
 told : (b : Bool) (o o' : Outcome) → (cond b o o').reply ≡ cond b o.reply o'.reply
 told true o o' = refl
@@ -52,7 +50,7 @@ told false o o' = refl
 -- what is said of a file, whatever the tables held
 pub same_reply : (s : List ℕ) (q : Places) → (read_case s q).reply ≡ cond (sizes_ok q) (reply_of (plain_reading s)) (refused_by Length)
 unfolding read_case
-same_reply s q = told (sizes_ok q) _ _ ∙ ap (λ (r : Reading). cond (sizes_ok q) (reply_of r) (refused_by Length)) (same_reading s)
+same_reply s q = told (sizes_ok q) _ _ ∙ ap (λ (r : Result Header Refusal). cond (sizes_ok q) (reply_of r) (refused_by Length)) (same_reading s)
 
 -- ---- the count of t bytes behind the records, of which the first z are zero
 -- nothing but zeros: each word, then each byte that is left

@@ -13,10 +13,10 @@ use Rattle.casefile_defs.specs.Layout.{place_of, span_of}
 use Rattle.casefile_defs.specs.Tables.{numbers_of, figures, weights, sheet_in, cap_field, tables_of, held}
 use Rattle.casefile_defs.specs.declared.Kind.{Kind}
 use Rattle.casefile_defs.specs.declared.Kind.TheVariants.{Level, Bus, Generator, Corridor, CappedCorridor}
-use Rattle.casefile_defs.specs.declared.Reading.TheVariants.{Refused}
 use Rattle.casefile_defs.proofs.Spots.{number_past, figure_past, weight_past, sheet_past}
 use Rattle.casefile_defs.proofs.Whole.{tables_same}
 use Rattle.casefile_theorems.specs.Cases.{blank}
+use Rattle.std.specs.Prelude.{Err}
 
 no_numbers : (k l : Kind) (j : ℕ) (s : List ℕ) (at n : ℕ) → replicate n 0 ≡ numbers_of k l j s at 0 n
 no_numbers k l j s at n = sym (tab_replicate n 0) ∙ tab_same n (λ i. 0) _ (λ i h. number_past k s at 0 (place_of l j) (span_of l j) i (omega arith))
@@ -30,10 +30,10 @@ no_weights s at n = sym (tab_replicate n nought) ∙ tab_same n (λ i. nought) _
 no_sheet : (s : List ℕ) (at n : ℕ) → replicate n nought ≡ tab n (sheet_in s at 0 0)
 no_sheet s at n = sym (tab_replicate n nought) ∙ tab_same n (λ i. nought) _ (λ i h. sheet_past s at 0 0 i (omega arith))
 
-pub refused_blank : (s : List ℕ) (f : Refusal) → blank ≡ tables_of s (held (Refused f))
+pub refused_blank : (s : List ℕ) (f : Refusal) → blank ≡ tables_of s (held (Err f))
 unfolding held blank
 refused_blank s f =
-    tables_same s (held (Refused f)) _ _ _ _ _ _ _ _ _ _ _ _ _ _ _ _ _
+    tables_same s (held (Err f)) _ _ _ _ _ _ _ _ _ _ _ _ _ _ _ _ _
     (no_figures_lem Level 0 s _ most_levels)
     (no_numbers Bus Bus 0 s _ most_buses)
     (no_figures_lem Bus 1 s _ most_buses)

@@ -15,8 +15,6 @@ use lib.Seq.{take-append-add}
 use Rattle.loops.specs.Figures.{nought, one}
 use Rattle.loops.proofs.Scan.{pass_all, all_pass}
 use Rattle.loops.proofs.Tab.{tab_same}
-use Rattle.refusal.specs.declared.Answer.TheVariants.{Answered}
-use Rattle.refusal.specs.declared.Answer.TheVariants.{Refused as Unmoved}
 use Rattle.refusal.specs.declared.Refusal.{Refusal}
 use Rattle.refusal.specs.declared.Refusal.TheVariants.{Length, Weight}
 use Rattle.casefile_defs.specs.Bounds.{most_buses, most_bytes}
@@ -28,8 +26,6 @@ use Rattle.casefile_defs.specs.declared.CaseRead.{CaseRead}
 use Rattle.casefile_defs.specs.declared.Kind.{Kind}
 use Rattle.casefile_defs.specs.declared.Kind.TheVariants.{Head, Level, Bus, Generator, Corridor, Line, WeighedBus}
 use Rattle.casefile_defs.specs.declared.Header.{Header}
-use Rattle.casefile_defs.specs.declared.Reading.{Reading}
-use Rattle.casefile_defs.specs.declared.Reading.TheVariants.{Refused, Read}
 use Rattle.casefile_defs.specs.declared.Wanted.{Wanted}
 use Rattle.casefile_defs.specs.declared.Wanted.TheVariants.{Plain, Weighed}
 use Rattle.casefile_defs.proofs.Accepted.{Accepted, accepted_as}
@@ -42,6 +38,8 @@ use Rattle.casefile_theorems.proofs.CaseForth.{files_alike}
 use Rattle.casefile_theorems.proofs.Forth.{words_in, rest_of, written, whole_in}
 use Rattle.casefile_theorems.proofs.Moving.{bus_of, form_row, inform, reworded, whole_moved, moved_file, moved_bytes}
 use Rattle.casefile_theorems.proofs.Places.{figures_from, weight_from, places_from, tables_from}
+use Rattle.std.specs.Prelude.{Err, Ok, Result}
+use Rattle.refusal.specs.Reply.{no_refusal}
 
 abbrev zeros : ℕ → List ℕ
 zeros n = replicate n 0
@@ -137,10 +135,10 @@ module _ (w : Bool) (s : List ℕ) (h : Header) (b : Bytes s) (g : Ones w s h) w
     short : length other ≤ most_bytes
     short = omega (arith, low, length-append (file_with f h v) (zeros m), length_zeros m)
 
-    pub other_read : (wanted : Wanted) → Fits f h v m whole_other wanted → (read_as wanted other).reading ≡ Read h
+    pub other_read : (wanted : Wanted) → Fits f h v m whole_other wanted → (read_as wanted other).reading ≡ Ok h
     other_read wanted q = ap (λ (r : CaseRead). r.reading) (read_back f h v m whole_other wanted q short)
 
-    pub other_reading : reading_of other ≡ Read h
+    pub other_reading : reading_of other ≡ Ok h
     other_reading = ap (λ (r : CaseRead). r.reading) (reading_back f h v m whole_other short)
 
     -- and back
@@ -188,7 +186,7 @@ three_fields x e (suc zero) h = refl
 three_fields x e (suc (suc zero)) h = sym e
 three_fields x e (suc (suc (suc j))) h = absurd (omega arith)
 
-plain_ones : (s : List ℕ) (h : Header) → (read_as Plain s).reading ≡ Read h → Ones false s h
+plain_ones : (s : List ℕ) (h : Header) → (read_as Plain s).reading ≡ Ok h → Ones false s h
 unfolding spot bus_form
 plain_ones s h e =
     let a = accepted_as Plain s h e in
@@ -200,7 +198,7 @@ plain_ones s h e =
       weights = λ i l. ap (λ (b : Bool). weight_from b (words_in s h Bus i weight_field)) (p (omega arith));
     }
 
-weighed_ones : (s : List ℕ) (h : Header) → (read_as Weighed s).reading ≡ Read h → h.buses ≤ first_other s (buses_at s h) h.buses → Ones true s h
+weighed_ones : (s : List ℕ) (h : Header) → (read_as Weighed s).reading ≡ Ok h → h.buses ≤ first_other s (buses_at s h) h.buses → Ones true s h
 unfolding spot bus_form first_other
 weighed_ones s h e o =
     let a = accepted_as Weighed s h e in
@@ -219,54 +217,54 @@ weighed_ones s h e o =
 -- ---- what an answered move says
 pub record Forward (s t : List ℕ) : Type 0 where
   pub header : Header
-  pub read : (read_as Plain s).reading ≡ Read header
+  pub read : (read_as Plain s).reading ≡ Ok header
   pub out : t ≡ fitted (file_as WeighedBus s (buses_at s header) header.buses)
 
 pub record Backward (s t : List ℕ) : Type 0 where
   pub header : Header
-  pub read : (read_as Weighed s).reading ≡ Read header
+  pub read : (read_as Weighed s).reading ≡ Ok header
   pub ones : header.buses ≤ first_other s (buses_at s header) header.buses
   pub out : t ≡ fitted (file_as Bus s (buses_at s header) header.buses)
 
-refused_not_answered : (f : Refusal) (x y : List ℕ) → moved_as (Unmoved f) x ≡ moved_as Answered y → ⊥
+refused_not_answered : (f : Refusal) (x y : List ℕ) → moved_as (Err f) x ≡ moved_as no_refusal y → ⊥
 refused_not_answered f x y e = let g = ap (λ (m : Moved). m.reply) e in let z : ◌≡◌ {A = ℕ} 0 1 = cc in omega arith
 
-out_same : {x y : List ℕ} → moved_as Answered x ≡ moved_as Answered y → y ≡ x
+out_same : {x y : List ℕ} → moved_as no_refusal x ≡ moved_as no_refusal y → y ≡ x
 out_same e = sym (ap (λ (m : Moved). m.out) e)
 
-forward_by_lem : (s out t : List ℕ) (b : Bool) (r : Reading) → (read_as Plain s).reading ≡ r → cond b (forward_by s r) (moved_as (Unmoved Length) out) ≡ moved_as Answered t → Forward s t
+forward_by_lem : (s out t : List ℕ) (b : Bool) (r : Result Header Refusal) → (read_as Plain s).reading ≡ r → cond b (forward_by s r) (moved_as (Err Length) out) ≡ moved_as no_refusal t → Forward s t
 unfolding forward_by
 forward_by_lem s out t false r q e = absurd (refused_not_answered Length out t e)
-forward_by_lem s out t true (Refused f) q e = absurd (refused_not_answered f _ t e)
-forward_by_lem s out t true (Read h) q e = record { header = h; read = q; out = out_same e }
+forward_by_lem s out t true (Err f) q e = absurd (refused_not_answered f _ t e)
+forward_by_lem s out t true (Ok h) q e = record { header = h; read = q; out = out_same e }
 
-forward_answered : (s out t : List ℕ) → move_forward s out ≡ moved_as Answered t → Forward s t
+forward_answered : (s out t : List ℕ) → move_forward s out ≡ moved_as no_refusal t → Forward s t
 unfolding move_forward
 forward_answered s out t e = forward_by_lem s out t (eqb (length out) most_bytes) (read_as Plain s).reading refl e
 
-back_ones : (s t : List ℕ) (h : Header) (c : Bool) → (read_as Weighed s).reading ≡ Read h → ltb (first_other s (buses_at s h) h.buses) h.buses ≡ c
-    → cond c (unmoved (Weight (first_other s (buses_at s h) h.buses))) (moved_to Bus s h) ≡ moved_as Answered t → Backward s t
+back_ones : (s t : List ℕ) (h : Header) (c : Bool) → (read_as Weighed s).reading ≡ Ok h → ltb (first_other s (buses_at s h) h.buses) h.buses ≡ c
+    → cond c (unmoved (Weight (first_other s (buses_at s h) h.buses))) (moved_to Bus s h) ≡ moved_as no_refusal t → Backward s t
 back_ones s t h true q o e = absurd (refused_not_answered (Weight (first_other s (buses_at s h) h.buses)) _ t e)
 back_ones s t h false q o e = record { header = h; read = q; ones = ltb-false _ _ o; out = out_same e }
 
-back_by_lem : (s out t : List ℕ) (b : Bool) (r : Reading) → (read_as Weighed s).reading ≡ r → cond b (back_by s r) (moved_as (Unmoved Length) out) ≡ moved_as Answered t → Backward s t
+back_by_lem : (s out t : List ℕ) (b : Bool) (r : Result Header Refusal) → (read_as Weighed s).reading ≡ r → cond b (back_by s r) (moved_as (Err Length) out) ≡ moved_as no_refusal t → Backward s t
 unfolding back_by
 back_by_lem s out t false r q e = absurd (refused_not_answered Length out t e)
-back_by_lem s out t true (Refused f) q e = absurd (refused_not_answered f _ t e)
-back_by_lem s out t true (Read h) q e = back_ones s t h _ q refl e
+back_by_lem s out t true (Err f) q e = absurd (refused_not_answered f _ t e)
+back_by_lem s out t true (Ok h) q e = back_ones s t h _ q refl e
 
-back_answered : (s out t : List ℕ) → move_back s out ≡ moved_as Answered t → Backward s t
+back_answered : (s out t : List ℕ) → move_back s out ≡ moved_as no_refusal t → Backward s t
 unfolding move_back
 back_answered s out t e = back_by_lem s out t (eqb (length out) most_bytes) (read_as Weighed s).reading refl e
 
 -- ---- the theorems
-back_of : (t out y : List ℕ) (h : Header) → length out ≡ most_bytes → (read_as Weighed t).reading ≡ Read h → h.buses ≤ first_other t (buses_at t h) h.buses
-    → fitted (file_as Bus t (buses_at t h) h.buses) ≡ y → move_back t out ≡ moved_as Answered y
+back_of : (t out y : List ℕ) (h : Header) → length out ≡ most_bytes → (read_as Weighed t).reading ≡ Ok h → h.buses ≤ first_other t (buses_at t h) h.buses
+    → fitted (file_as Bus t (buses_at t h) h.buses) ≡ y → move_back t out ≡ moved_as no_refusal y
 unfolding move_back back_by
 back_of t out y h l r o e = simp (eq-eqb (length out) most_bytes l, r, le-ltb _ _ o, e)
 
-forward_of : (t out y : List ℕ) (h : Header) → length out ≡ most_bytes → (read_as Plain t).reading ≡ Read h → fitted (file_as WeighedBus t (buses_at t h) h.buses) ≡ y
-    → move_forward t out ≡ moved_as Answered y
+forward_of : (t out y : List ℕ) (h : Header) → length out ≡ most_bytes → (read_as Plain t).reading ≡ Ok h → fitted (file_as WeighedBus t (buses_at t h) h.buses) ≡ y
+    → move_forward t out ≡ moved_as no_refusal y
 unfolding move_forward forward_by
 forward_of t out y h l r e = simp (eq-eqb (length out) most_bytes l, r, e)
 
@@ -281,32 +279,32 @@ all_one w s h b g =
     omega arith
 
 -- a BU file moved forward and back is the same bytes, then zeros, padded or not
-pub forward_and_back : (s out out' t : List ℕ) → Bytes s → length out' ≡ most_bytes → move_forward s out ≡ moved_as Answered t
-    → move_back t out' ≡ moved_as Answered (s ++ replicate (most_bytes - length s) 0)
+pub forward_and_back : (s out out' t : List ℕ) → Bytes s → length out' ≡ most_bytes → move_forward s out ≡ moved_as no_refusal t
+    → move_back t out' ≡ moved_as no_refusal (s ++ replicate (most_bytes - length s) 0)
 unfolding bus_form
 forward_and_back s out out' t b l e =
     let a = forward_answered s out t e in
     let h = a.header in
     let g = plain_ones s h a.read in
-    subst (λ (x : List ℕ). move_back x out' ≡ moved_as Answered (s ++ replicate (most_bytes - length s) 0)) (sym (a.out ∙ moved false s h b g true))
+    subst (λ (x : List ℕ). move_back x out' ≡ moved_as no_refusal (s ++ replicate (most_bytes - length s) 0)) (sym (a.out ∙ moved false s h b g true))
     (back_of _ out' _ h l (other_read false s h b g true Weighed (λ c. refl)) (all_one false s h b g) (again false s h b g true))
 
 -- so is a BV file moved back, where that is answered, and forward
-pub back_and_forward : (s out out' t : List ℕ) → Bytes s → length out' ≡ most_bytes → move_back s out ≡ moved_as Answered t
-    → move_forward t out' ≡ moved_as Answered (s ++ replicate (most_bytes - length s) 0)
+pub back_and_forward : (s out out' t : List ℕ) → Bytes s → length out' ≡ most_bytes → move_back s out ≡ moved_as no_refusal t
+    → move_forward t out' ≡ moved_as no_refusal (s ++ replicate (most_bytes - length s) 0)
 unfolding bus_form
 back_and_forward s out out' t b l e =
     let a = back_answered s out t e in
     let h = a.header in
     let g = weighed_ones s h a.read a.ones in
-    subst (λ (x : List ℕ). move_forward x out' ≡ moved_as Answered (s ++ replicate (most_bytes - length s) 0)) (sym (a.out ∙ moved true s h b g false))
+    subst (λ (x : List ℕ). move_forward x out' ≡ moved_as no_refusal (s ++ replicate (most_bytes - length s) 0)) (sym (a.out ∙ moved true s h b g false))
     (forward_of _ out' _ h l (other_read true s h b g false Plain (λ c. refl)) (again true s h b g false))
 
 -- ---- both forms are read alike: with one header, and the same in every place of every table
 pub record Alike (s t : List ℕ) : Type 0 where
   pub header : Header
-  pub first : reading_of s ≡ Read header
-  pub second : reading_of t ≡ Read header
+  pub first : reading_of s ≡ Ok header
+  pub second : reading_of t ≡ Ok header
   pub tables : tables_of t header ≡ tables_of s header
 
 alike : (w u : Bool) (s t : List ℕ) (h : Header) (b : Bytes s) (g : Ones w s h) → t ≡ other w s h b g u → Alike s t
@@ -317,13 +315,13 @@ alike w u s t h b g e = record {
   tables = ap (λ (x : List ℕ). tables_of x h) e ∙ same_tables w s h b g u;
 }
 
-pub forward_alike : (s out t : List ℕ) → Bytes s → move_forward s out ≡ moved_as Answered t → Alike s t
+pub forward_alike : (s out t : List ℕ) → Bytes s → move_forward s out ≡ moved_as no_refusal t → Alike s t
 forward_alike s out t b e =
     let a = forward_answered s out t e in
     let g = plain_ones s a.header a.read in
     alike false true s t a.header b g (a.out ∙ moved false s a.header b g true)
 
-pub back_alike : (s out t : List ℕ) → Bytes s → move_back s out ≡ moved_as Answered t → Alike s t
+pub back_alike : (s out t : List ℕ) → Bytes s → move_back s out ≡ moved_as no_refusal t → Alike s t
 back_alike s out t b e =
     let a = back_answered s out t e in
     let g = weighed_ones s a.header a.read a.ones in

@@ -19,8 +19,6 @@ use Rattle.casefile_defs.specs.Tables.{Places, Outcome, reply_of, outcome, table
 use Rattle.casefile_defs.specs.declared.Kind.{Kind}
 use Rattle.casefile_defs.specs.declared.Kind.TheVariants.{Level, Bus, Generator, Corridor, Line}
 use Rattle.casefile_defs.specs.declared.Header.{Header}
-use Rattle.casefile_defs.specs.declared.Reading.{Reading}
-use Rattle.casefile_defs.specs.declared.Reading.TheVariants.{Refused, Read}
 use Rattle.casefile_defs.proofs.Accepted.{accepted}
 use Rattle.casefile_defs.proofs.Callers.{answered_case}
 use Rattle.casefile_theorems.specs.Writer.{count_of, Form, form_in, kinds_of, file_with, file_of, caps_only, tidy, tidied}
@@ -31,17 +29,18 @@ use Rattle.casefile_theorems.proofs.CaseForth.{files_alike, case_from, legal_fro
 use Rattle.casefile_theorems.proofs.Forth.{words_in, rest_of, written, whole_in, tables_in}
 use Rattle.casefile_theorems.proofs.Places.{places_from}
 use Rattle.casefile_theorems.proofs.Refused.{refused_blank}
+use Rattle.std.specs.Prelude.{Err, Ok, Result}
 
 -- ---- reading the file of a case, and then so many zeros as keep it within a file's length: the case, and the words and bytes of the zeros looked at
 pub case_padded : (f : Form) (h : Header) (p q : Places) (n : ℕ) → Legal f h p → Case h p → sizes_ok q ≡ true → length (file_of f h p ++ replicate n 0) ≤ most_bytes
-    → read_case (file_of f h p ++ replicate n 0) q ≡ outcome (case_read (Read h) (looks_for n n)) p
+    → read_case (file_of f h p ++ replicate n 0) q ≡ outcome (case_read (Ok h) (looks_for n n)) p
 case_padded f h p q n g c z l = case_read_lem f h p g c n q z l
 
 -- without zeros every case's file is short enough (file_short), and nothing is looked at
-pub case_back : (f : Form) (h : Header) (p q : Places) → Legal f h p → Case h p → sizes_ok q ≡ true → read_case (file_of f h p) q ≡ outcome (case_read (Read h) 0) p
+pub case_back : (f : Form) (h : Header) (p q : Places) → Legal f h p → Case h p → sizes_ok q ≡ true → read_case (file_of f h p) q ≡ outcome (case_read (Ok h) 0) p
 unfolding looks_for
 case_back f h p q g c z =
-    subst (λ (s : List ℕ). read_case s q ≡ outcome (case_read (Read h) 0) p) (append-nil (file_of f h p))
+    subst (λ (s : List ℕ). read_case s q ≡ outcome (case_read (Ok h) 0) p) (append-nil (file_of f h p))
     (case_padded f h p q 0 g c z (rw append-nil (omega (arith, file_short f h p c))))
 
 -- every case can be written with CP for the corridors that have a cap, and with BV; with BU where every weight is 1
@@ -60,10 +59,10 @@ pub record Written (s : List ℕ) (h : Header) (p : Places) : Type 0 where
   pub file : s ≡ file_with (form_in s h) h words ++ replicate rest 0
   pub answer : file_of (form_in s h) h p ≡ file_with (form_in s h) h (tidied (form_in s h) words)
 
-pub case_forth : (s : List ℕ) (h : Header) (n : ℕ) (p q : Places) → Bytes s → outcome (case_read (Read h) n) p ≡ read_case s q
+pub case_forth : (s : List ℕ) (h : Header) (n : ℕ) (p q : Places) → Bytes s → outcome (case_read (Ok h) n) p ≡ read_case s q
     → Case h p × Legal (form_in s h) h p × Written s h p
 case_forth s h n p q b e =
-    let a = answered_case s q p {r = case_read (Read h) n} e refl in
+    let a = answered_case s q p {r = case_read (Ok h) n} e refl in
     let c = accepted s h a.reading in
     let w = whole_in s h b c in
     let t : p ≡ places_from (form_in s h) h (words_in s h) = a.places ∙ tables_in s h b c in (
@@ -123,7 +122,7 @@ case_sizes h p c =
       c.sheet.size,
     )
 
-read_same : {h h' : Header} {n n' : ℕ} {p p' : Places} → outcome (case_read (Read h) n) p ≡ outcome (case_read (Read h') n') p' → (h ≡ h') × (p ≡ p')
+read_same : {h h' : Header} {n n' : ℕ} {p p' : Places} → outcome (case_read (Ok h) n) p ≡ outcome (case_read (Ok h') n') p' → (h ≡ h') × (p ≡ p')
 read_same e = (cc (ap (λ (o : Outcome). o.reply) e), ap (λ (o : Outcome). o.places) e)
 
 pub cases_apart : (f f' : Form) (h h' : Header) (p p' : Places) (n n' : ℕ) → Legal f h p → Legal f' h' p' → Case h p → Case h' p'
@@ -151,12 +150,12 @@ cases_apart f f' h h' p p' n n' g g' c c' l e =
     )
 
 -- ---- a refusal of a file, with every table at its size, leaves zeros
-zero_by : (s : List ℕ) (p : Places) (f : Refusal) (r : Reading) → reply_of (Refused f) ≡ reply_of r → p ≡ tables_of s (held r) → p ≡ blank
-zero_by s p f (Read h) g e = absurd (let z : ◌≡◌ {A = ℕ} 0 1 = cc in omega arith)
-zero_by s p f (Refused g) q e = e ∙ sym (refused_blank s g)
+zero_by : (s : List ℕ) (p : Places) (f : Refusal) (r : Result Header Refusal) → reply_of (Err f) ≡ reply_of r → p ≡ tables_of s (held r) → p ≡ blank
+zero_by s p f (Ok h) g e = absurd (let z : ◌≡◌ {A = ℕ} 0 1 = cc in omega arith)
+zero_by s p f (Err g) q e = e ∙ sym (refused_blank s g)
 
-pub refused_zero : (s : List ℕ) (n : ℕ) (p q : Places) (f : Refusal) → sizes_ok q ≡ true → outcome (case_read (Refused f) n) p ≡ read_case s q → p ≡ blank
+pub refused_zero : (s : List ℕ) (n : ℕ) (p q : Places) (f : Refusal) → sizes_ok q ≡ true → outcome (case_read (Err f) n) p ≡ read_case s q → p ≡ blank
 unfolding read_case
 refused_zero s n p q f z e =
-    let d : outcome (case_read (Refused f) n) p ≡ outcome (read_of s) (tables_of s (held (reading_of s))) = simp z at e in
+    let d : outcome (case_read (Err f) n) p ≡ outcome (read_of s) (tables_of s (held (reading_of s))) = simp z at e in
     zero_by s p f (reading_of s) (ap (λ (o : Outcome). o.reply) d) (ap (λ (o : Outcome). o.places) d)

@@ -18,11 +18,11 @@ use Rattle.casefile_defs.specs.Layout.{layout_of, size_of, offset_of, field, spa
 use Rattle.casefile_defs.specs.Reading.{record_at, admitted, stepped, walked}
 use Rattle.casefile_defs.specs.declared.Kind.{Kind}
 use Rattle.casefile_defs.specs.declared.Kind.TheVariants.{Level, Bus, Generator, Corridor, Line, CappedCorridor, WeighedBus}
-use Rattle.casefile_defs.specs.declared.Walk.{Walk}
-use Rattle.casefile_defs.specs.declared.Walk.TheVariants.{At, Fault}
 use Rattle.casefile_defs.proofs.Records.{good_at}
 use Rattle.casefile_theorems.specs.Writer.{field_bytes, record_bytes, table_bytes}
 use Rattle.casefile_theorems.proofs.Bytes.{Fine, field_in, allowed_in, word_in, allowed_in_lem, length_fields, fields_read, allowed_read}
+use Rattle.std.specs.Prelude.{Err, Ok, Result}
+use Rattle.refusal.specs.declared.Refusal.{Refusal}
 
 -- a record's fields at a place are those of what follows its mark
 pub field_in_lem : (k : Kind) (j at : ℕ) (s : List ℕ) → field k j at s ≡ field_in (layout_of k).fields (drop (at + 2) s) j
@@ -39,7 +39,7 @@ length_record k v = let e = length_fields (layout_of k).fields v in omega arith
 pub record Stands (k : Kind) (s : List ℕ) (at : ℕ) (v : ℕ → ℕ) : Type 0 where
   pub room : at + size_of k ≤ length s
   pub mark : marked k s at ≡ true
-  pub goes : (r : ℕ) → record_at k s r at ≡ At (at + size_of k)
+  pub goes : (r : ℕ) → record_at k s r at ≡ Ok (at + size_of k)
   pub holds : (j : ℕ) → j < length (layout_of k).fields → field k j at s ≡ v j
 
 module _ (k : Kind) (s p rest : List ℕ) (v : ℕ → ℕ) (at : ℕ) (e : s ≡ p ++ (record_bytes k v ++ rest)) (l : length p ≡ at) where
@@ -171,26 +171,26 @@ module _ (k : Kind) (ks : ℕ → Kind) (v : ℕ → ℕ → ℕ) (s p rest : Li
 
   -- a walk passes them, where they suit the file's form
   module _ (weighed : Bool) (u : (i : ℕ) → i < n → suits weighed (ks i) ≡ true) where
-    step_on : (i r : ℕ) → i < n → stepped k weighed s r (At (spot k s at i)) ≡ At (spot k s at (suc i))
+    step_on : (i r : ℕ) → i < n → stepped k weighed s r (Ok (spot k s at i)) ≡ Ok (spot k s at (suc i))
     unfolding stepped admitted spot
     step_on i r h =
         let t = table_kind i h in
         ap (λ (x : Kind). admitted weighed x r (record_at x s r (spot k s at i))) t
-        ∙ ap (λ (w : Walk). admitted weighed (ks i) r w) ((table_stands i h).goes r)
-        ∙ ap (λ (b : Bool). cond b (At (spot k s at i + size_of (ks i))) (Fault (Mark r))) (u i h)
-        ∙ ap (λ (x : Kind). At (spot k s at i + size_of x)) (sym t)
+        ∙ ap (λ (w : Result ℕ Refusal). admitted weighed (ks i) r w) ((table_stands i h).goes r)
+        ∙ ap (λ (b : Bool). cond b (Ok (spot k s at i + size_of (ks i))) (Err (Mark r))) (u i h)
+        ∙ ap (λ (x : Kind). Ok (spot k s at i + size_of x)) (sym t)
 
-    walk_on : (d i r : ℕ) → i + d ≤ n → iter (stepped k weighed s) d r (At (spot k s at i)) ≡ At (spot k s at (i + d))
+    walk_on : (d i r : ℕ) → i + d ≤ n → iter (stepped k weighed s) d r (Ok (spot k s at i)) ≡ Ok (spot k s at (i + d))
     unfolding iter
-    walk_on zero i r h = ap (λ (m : ℕ). At (spot k s at m)) (sym (add-zero i))
+    walk_on zero i r h = ap (λ (m : ℕ). Ok (spot k s at m)) (sym (add-zero i))
     walk_on (suc d) i r h =
-        ap (λ (w : Walk). iter (stepped k weighed s) d (suc r) w) (step_on i r (omega arith))
+        ap (λ (w : Result ℕ Refusal). iter (stepped k weighed s) d (suc r) w) (step_on i r (omega arith))
         ∙ walk_on d (suc i) (suc r) (omega arith)
-        ∙ ap (λ (m : ℕ). At (spot k s at m)) (let z : suc i + d ≡ i + suc d = omega arith in z)
+        ∙ ap (λ (m : ℕ). Ok (spot k s at m)) (let z : suc i + d ≡ i + suc d = omega arith in z)
 
-    pub walk_stands : (start end : ℕ) → end - start ≡ n → walked k weighed start end s (At at) ≡ At (spot k s at n)
+    pub walk_stands : (start end : ℕ) → end - start ≡ n → walked k weighed start end s (Ok at) ≡ Ok (spot k s at n)
     unfolding walked spot
     walk_stands start end q =
-        ap (λ (d : ℕ). iter (stepped k weighed s) d start (At at)) q
+        ap (λ (d : ℕ). iter (stepped k weighed s) d start (Ok at)) q
         ∙ walk_on n 0 start (omega arith)
-        ∙ ap (λ (m : ℕ). At (spot k s at m)) (let z : 0 + n ≡ n = omega arith in z)
+        ∙ ap (λ (m : ℕ). Ok (spot k s at m)) (let z : 0 + n ≡ n = omega arith in z)

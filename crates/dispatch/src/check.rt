@@ -5,7 +5,7 @@ ghost use Rattle.dispatch_defs.specs.Dispatch.{infinite_cost};
 ghost use Rattle.dispatch_defs.specs.Operation.{lengths_ok, demand_ok, faulty_unit, check_of};
 
 use crate::unit;
-use refusal::{Answer, Refusal};
+use refusal::Refusal;
 
 const MOST_UNITS: usize = 128;
 
@@ -62,21 +62,21 @@ pub fn check(
     c2: &[f64],
     demand: f64,
     places: usize,
-) -> Answer
+) -> Result<(), Refusal>
     ensures { result ≡ check_of units (units_of pmin.now pmax.now c1.now c2.now) demand places }
 {
     if !lengths_ok(units, pmin.len(), pmax.len(), c1.len(), c2.len(), places) {
-        return Answer::Refused(Refusal::Length);
+        return Err(Refusal::Length);
     }
     if units > MOST_UNITS {
-        return Answer::Refused(Refusal::Count);
+        return Err(Refusal::Count);
     }
     let i = faulty_unit(pmin, pmax, c1, c2);
     if i < pmin.len() {
-        return Answer::Refused(Refusal::Generator(i));
+        return Err(Refusal::Generator(i));
     }
     if !demand_ok(demand) {
-        return Answer::Refused(Refusal::Demand);
+        return Err(Refusal::Demand);
     }
-    Answer::Answered
+    Ok(())
 }

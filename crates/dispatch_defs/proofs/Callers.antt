@@ -10,33 +10,32 @@ use lib.ListN.{length}
 use lib.Ieee.{Float}
 use Rattle.loops.proofs.Bools.{unequal}
 use Rattle.refusal.specs.Number.{number_of, index_of}
-use Rattle.refusal.specs.Reply.{answered, refused, refused_by, reply_of}
+use Rattle.refusal.specs.Reply.{answered, refused, refused_by, reply_of, no_refusal}
 use Rattle.refusal.specs.declared.Refusal.{Refusal}
 use Rattle.refusal.specs.declared.Refusal.TheVariants.{Cost}
-use Rattle.refusal.specs.declared.Answer.{Answer}
-use Rattle.refusal.specs.declared.Answer.TheVariants.{Answered, Refused}
 use Rattle.dispatch_defs.specs.Units.{Units, count}
 use Rattle.dispatch_defs.specs.Dispatch.{economic_dispatch, faulty_cost}
 use Rattle.dispatch_defs.specs.Operation.{check_of, Outcome, outcome, settled_if, settled, dispatched_by, dispatched}
 use Rattle.dispatch_defs.specs.Limits.{Accepted}
 use Rattle.dispatch_defs.proofs.Checks.{accepts}
 use Rattle.dispatch_defs.proofs.Settling.{settled_refused, settled_answered}
+use Rattle.std.specs.Prelude.{Err, Ok, Result}
 
 never : {A : Type 0} (x : A) (k i : ℕ) → answered x ≡ refused k i → ⊥
 never x k i e = unequal cc
 
 module _ (n : ℕ) (u : Units) (d : Float) (mw : List Float) where
   -- ---- an answer is the economic dispatch of the units, whatever the result held
-  answer_any : (old : List Float) (k : Answer) → (dispatched_by k u d mw).reply ≡ answered tt → dispatched_by k u d old ≡ outcome Answered (economic_dispatch u d)
+  answer_any : (old : List Float) (k : Result (Unit {0}) Refusal) → (dispatched_by k u d mw).reply ≡ answered tt → dispatched_by k u d old ≡ outcome no_refusal (economic_dispatch u d)
   unfolding dispatched_by settled settled_if
-  answer_any old (Refused f) h = absurd (never tt (number_of f) (index_of f) (sym h))
-  answer_any old Answered h = go (ltb (faulty_cost u d) (count u)) h
+  answer_any old (Err f) h = absurd (never tt (number_of f) (index_of f) (sym h))
+  answer_any old (Ok tt) h = go (ltb (faulty_cost u d) (count u)) h
     where
-      go : (b : Bool) → (settled_if b u d mw).reply ≡ answered tt → settled_if b u d old ≡ outcome Answered (economic_dispatch u d)
+      go : (b : Bool) → (settled_if b u d mw).reply ≡ answered tt → settled_if b u d old ≡ outcome no_refusal (economic_dispatch u d)
       go true a = absurd (never tt (number_of (Cost (faulty_cost u d))) (index_of (Cost (faulty_cost u d))) (sym a))
       go false a = refl
 
-  pub answer_is : (dispatched n u d mw).reply ≡ answered tt → dispatched n u d mw ≡ outcome Answered (economic_dispatch u d)
+  pub answer_is : (dispatched n u d mw).reply ≡ answered tt → dispatched n u d mw ≡ outcome no_refusal (economic_dispatch u d)
   unfolding dispatched
   answer_is h = answer_any mw (check_of n u d (length mw)) h
 
@@ -53,15 +52,15 @@ module _ (n : ℕ) (u : Units) (d : Float) (mw : List Float) where
     unfolding dispatched dispatched_by
     accepted = rw (accepts n u d (length mw) p)
 
-    pub answers : count u ≤ faulty_cost u d → dispatched n u d mw ≡ outcome Answered (economic_dispatch u d)
+    pub answers : count u ≤ faulty_cost u d → dispatched n u d mw ≡ outcome no_refusal (economic_dispatch u d)
     answers h = accepted ∙ settled_answered u d mw h
 
-    pub refuses : faulty_cost u d < count u → dispatched n u d mw ≡ outcome (Refused (Cost (faulty_cost u d))) mw
+    pub refuses : faulty_cost u d < count u → dispatched n u d mw ≡ outcome (Err (Cost (faulty_cost u d))) mw
     refuses h = accepted ∙ settled_refused u d mw h
 
     -- what the two answers of a call say, as the promise of `economic_dispatch` has it
-    module _ (a : Answer) (out : List Float) (e : outcome a out ≡ dispatched n u d mw) where
-      pub called_answered : a ≡ Answered → (count u ≤ faulty_cost u d) × (out ≡ economic_dispatch u d)
+    module _ (a : Result (Unit {0}) Refusal) (out : List Float) (e : outcome a out ≡ dispatched n u d mw) where
+      pub called_answered : a ≡ no_refusal → (count u ≤ faulty_cost u d) × (out ≡ economic_dispatch u d)
       called_answered h = go (ltb (faulty_cost u d) (count u)) refl
         where
           go : (b : Bool) → ltb (faulty_cost u d) (count u) ≡ b → (count u ≤ faulty_cost u d) × (out ≡ economic_dispatch u d)
@@ -72,7 +71,7 @@ module _ (n : ℕ) (u : Units) (d : Float) (mw : List Float) where
               let l = ltb-false (faulty_cost u d) (count u) q in
               (l, ap (λ (o : Outcome). o.mw) (e ∙ answers l))
 
-      pub called_refused : (f : Refusal) → a ≡ Refused f → (faulty_cost u d < count u) × (number_of f ≡ 8) × (index_of f ≡ faulty_cost u d) × (out ≡ mw)
+      pub called_refused : (f : Refusal) → a ≡ Err f → (faulty_cost u d < count u) × (number_of f ≡ 8) × (index_of f ≡ faulty_cost u d) × (out ≡ mw)
       unfolding number_of index_of
       called_refused f h = go (ltb (faulty_cost u d) (count u)) refl
         where

@@ -10,12 +10,13 @@ use lib.ListN.{length}
 use lib.Ieee.{Float}
 use Rattle.loops.proofs.Bools.{both, and_of, unequal}
 use Rattle.loops.proofs.Scan.{all_pass, pass_all}
-use Rattle.refusal.specs.declared.Answer.TheVariants.{Answered, Refused}
 use Rattle.refusal.specs.declared.Refusal.{Refusal}
 use Rattle.refusal.specs.declared.Refusal.TheVariants.{Length, Count, Generator, Demand}
 use Rattle.dispatch_defs.specs.Units.{Units, Even, count, unit_ok_at}
 use Rattle.dispatch_defs.specs.Operation.{lengths_ok, most_units, demand_ok, faulty_unit, check_of}
 use Rattle.dispatch_defs.specs.Limits.{Accepted}
+use Rattle.std.specs.Prelude.{Err, Ok}
+use Rattle.refusal.specs.Reply.{no_refusal}
 
 -- ---- the lengths
 pub record Lengths (n a b c d e : ℕ) : Type 0 where
@@ -55,41 +56,41 @@ module _ (n : ℕ) (u : Units) (m : ℕ) where
       let l = lengths h in
       record { pmax = l.pmax ∙ sym l.pmin; c1 = l.c1 ∙ sym l.pmin; c2 = l.c2 ∙ sym l.pmin }
 
-never : (f : Refusal) → Refused f ≡ Answered → ⊥
+never : (f : Refusal) → Err f ≡ no_refusal → ⊥
 never f e = unequal cc
 
 module _ (n : ℕ) (u : Units) (d : Float) (m : ℕ) where
   -- ---- the ways out
-  pub check_length : fits n u m ≡ false → Refused Length ≡ check_of n u d m
+  pub check_length : fits n u m ≡ false → Err Length ≡ check_of n u d m
   unfolding check_of
   check_length a = rw a
 
   module _ (a : fits n u m ≡ true) where
-    pub check_count : most_units < n → Refused Count ≡ check_of n u d m
+    pub check_count : most_units < n → Err Count ≡ check_of n u d m
     unfolding check_of
     check_count b = rw (a, lt-leb n most_units b)
 
     module _ (b : n ≤ most_units) (i : ℕ) (e : i ≡ faulty_unit u) where
-      pub check_unit : i < count u → Refused (Generator i) ≡ check_of n u d m
+      pub check_unit : i < count u → Err (Generator i) ≡ check_of n u d m
       unfolding check_of
       check_unit h = rw (a, le-leb n most_units b, ← e, lt-ltb i (count u) h)
 
       module _ (h : count u ≤ i) where
-        pub check_demand : demand_ok d ≡ false → Refused Demand ≡ check_of n u d m
+        pub check_demand : demand_ok d ≡ false → Err Demand ≡ check_of n u d m
         unfolding check_of
         check_demand q = rw (a, le-leb n most_units b, ← e, le-ltb i (count u) h, q)
 
-        pub check_passed : demand_ok d ≡ true → Answered ≡ check_of n u d m
+        pub check_passed : demand_ok d ≡ true → no_refusal ≡ check_of n u d m
         unfolding check_of
         check_passed q = rw (a, le-leb n most_units b, ← e, le-ltb i (count u) h, q)
 
   -- ---- a request that passes, and one that is to pass
-  pub passes : check_of n u d m ≡ Answered → Accepted n u d m
+  pub passes : check_of n u d m ≡ no_refusal → Accepted n u d m
   unfolding check_of faulty_unit
   passes h = at (fits n u m) (leb n most_units) (ltb (faulty_unit u) (count u)) (demand_ok d) refl refl refl refl h
     where
       at : (a b c e : Bool) → fits n u m ≡ a → leb n most_units ≡ b → ltb (faulty_unit u) (count u) ≡ c → demand_ok d ≡ e
-          → cond a (cond b (cond c (Refused (Generator (faulty_unit u))) (cond e Answered (Refused Demand))) (Refused Count)) (Refused Length) ≡ Answered → Accepted n u d m
+          → cond a (cond b (cond c (Err (Generator (faulty_unit u))) (cond e no_refusal (Err Demand))) (Err Count)) (Err Length) ≡ no_refusal → Accepted n u d m
       at true true false true ea eb ec ee h =
           record {
             size = (lengths n u m ea).pmin;
@@ -103,7 +104,7 @@ module _ (n : ℕ) (u : Units) (d : Float) (m : ℕ) where
       at true false c e ea eb ec ee h = absurd (never _ h)
       at false b c e ea eb ec ee h = absurd (never _ h)
 
-  pub accepts : Accepted n u d m → check_of n u d m ≡ Answered
+  pub accepts : Accepted n u d m → check_of n u d m ≡ no_refusal
   unfolding faulty_unit
   accepts p =
       let e = p.units.even in

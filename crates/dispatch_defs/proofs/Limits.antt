@@ -20,8 +20,6 @@ use Rattle.loops.proofs.Order.{lt_of_not_le, real, bounded, bounded_real, right_
 use Rattle.loops.proofs.Signs.{add_real, sub_real}
 use Rattle.loops.proofs.Real.{sum_real, between_bounded}
 use Rattle.refusal.specs.Reply.{answered}
-use Rattle.refusal.specs.declared.Answer.{Answer}
-use Rattle.refusal.specs.declared.Answer.TheVariants.{Answered, Refused}
 use Rattle.dispatch_defs.specs.Units.{Units, count, total, unit_ok_at, cost_ok_at, output_at}
 use Rattle.dispatch_defs.specs.Share.{price_of, outputs, first_free, gap_of, closed_at, closed, shared}
 use Rattle.dispatch_defs.specs.Dispatch.{Standing, most, least, between, standing, dispatch_at, economic_dispatch, infinite_cost, faulty_cost_at, faulty_cost}
@@ -29,6 +27,8 @@ use Rattle.dispatch_defs.specs.Operation.{most_demand, check_of, settled_if, set
 use Rattle.dispatch_defs.specs.Limits.{Within, SoundUnits, Accepted}
 use Rattle.dispatch_defs.proofs.Checks.{passes}
 use Rattle.dispatch_defs.proofs.Prices.{Fit, fit_at, price_real, output_at_inside}
+use Rattle.std.specs.Prelude.{Err, Ok, Result}
+use Rattle.refusal.specs.declared.Refusal.{Refusal}
 
 abbrev Inside : Units → List Float → Type 0
 Inside u out = (i : ℕ) → i < count u → inside (at u.pmin i) (at u.pmax i) (at out i) ≡ true
@@ -181,6 +181,6 @@ within n u d mw h = go (check_of n u d (length mw)) refl h
     settles p false e a =
         dispatch_within u d p.units (right_real nought d (both (le nought d) (le d most_demand) p.demand).0) (ltb-false (faulty_cost u d) (count u) e)
 
-    go : (k : Answer) → check_of n u d (length mw) ≡ k → (dispatched_by k u d mw).reply ≡ answered tt → Within u (dispatched_by k u d mw).mw
-    go (Refused f) e a = absurd (unequal cc)
-    go Answered e a = settles (passes n u d (length mw) e) (ltb (faulty_cost u d) (count u)) refl a
+    go : (k : Result (Unit {0}) Refusal) → check_of n u d (length mw) ≡ k → (dispatched_by k u d mw).reply ≡ answered tt → Within u (dispatched_by k u d mw).mw
+    go (Err f) e a = absurd (unequal cc)
+    go (Ok tt) e a = settles (passes n u d (length mw) e) (ltb (faulty_cost u d) (count u)) refl a

@@ -7,21 +7,21 @@ use mathlib.Core.Path.{◌≡◌, sym, ap, ◌∙◌}
 use borrow.Author.Tests.{lt-ltb, le-ltb}
 use lib.ListN.{length}
 use lib.Ieee.{Float, le}
-use Rattle.refusal.specs.declared.Answer.{Answer}
-use Rattle.refusal.specs.declared.Answer.TheVariants.{Answered, Refused}
 use Rattle.refusal.specs.declared.Refusal.{Refusal}
 use Rattle.refusal.specs.declared.Refusal.TheVariants.{Cost}
 use Rattle.dispatch_defs.specs.Units.{Units, count, total}
 use Rattle.dispatch_defs.specs.Dispatch.{Standing, most, least, between, standing, dispatch_at, economic_dispatch, infinite_cost, faulty_cost_at, faulty_cost}
 use Rattle.dispatch_defs.specs.Operation.{Outcome, outcome, settled_if, settled, check_of, dispatched_by, dispatched}
+use Rattle.std.specs.Prelude.{Err, Ok, Result}
+use Rattle.refusal.specs.Reply.{no_refusal}
 
 -- ---- a cost that is faulty, or none
 module _ (u : Units) (d : Float) (mw : List Float) where
-  pub settled_refused : faulty_cost u d < count u → settled u d mw ≡ outcome (Refused (Cost (faulty_cost u d))) mw
+  pub settled_refused : faulty_cost u d < count u → settled u d mw ≡ outcome (Err (Cost (faulty_cost u d))) mw
   unfolding settled settled_if
   settled_refused h = rw (lt-ltb (faulty_cost u d) (count u) h)
 
-  pub settled_answered : count u ≤ faulty_cost u d → settled u d mw ≡ outcome Answered (economic_dispatch u d)
+  pub settled_answered : count u ≤ faulty_cost u d → settled u d mw ≡ outcome no_refusal (economic_dispatch u d)
   unfolding settled settled_if
   settled_answered h = rw (le-ltb (faulty_cost u d) (count u) h)
 
@@ -41,23 +41,23 @@ module _ (u : Units) (d : Float) where
 
 -- ---- the ways out of `settle`
 module _ (u : Units) (d : Float) (mw : List Float) where
-  pub settle_answered : (s : Standing) (out : List Float) → standing u d ≡ s → count u ≤ faulty_cost_at s u → out ≡ dispatch_at s u d → outcome Answered out ≡ settled u d mw
+  pub settle_answered : (s : Standing) (out : List Float) → standing u d ≡ s → count u ≤ faulty_cost_at s u → out ≡ dispatch_at s u d → outcome no_refusal out ≡ settled u d mw
   unfolding faulty_cost economic_dispatch
   settle_answered s out e h o =
-      ap (λ (x : List Float). outcome Answered x) (o ∙ ap (λ (k : Standing). dispatch_at k u d) (sym e)) ∙ sym (settled_answered u d mw (rw e h))
+      ap (λ (x : List Float). outcome no_refusal x) (o ∙ ap (λ (k : Standing). dispatch_at k u d) (sym e)) ∙ sym (settled_answered u d mw (rw e h))
 
-  pub settle_refused : (i : ℕ) → standing u d ≡ between → i ≡ infinite_cost u → i < count u → outcome (Refused (Cost i)) mw ≡ settled u d mw
+  pub settle_refused : (i : ℕ) → standing u d ≡ between → i ≡ infinite_cost u → i < count u → outcome (Err (Cost i)) mw ≡ settled u d mw
   unfolding faulty_cost faulty_cost_at
   settle_refused i e q h =
       let z : i ≡ faulty_cost u d = q ∙ ap (λ (k : Standing). faulty_cost_at k u) (sym e) in
-      ap (λ (k : ℕ). outcome (Refused (Cost k)) mw) z ∙ sym (settled_refused u d mw (rw (← z) h))
+      ap (λ (k : ℕ). outcome (Err (Cost k)) mw) z ∙ sym (settled_refused u d mw (rw (← z) h))
 
 -- ---- the ways out of `economic_dispatch`
-module _ (n : ℕ) (u : Units) (d : Float) (mw : List Float) (a : Answer) (q : a ≡ check_of n u d (length mw)) where
-  pub dispatch_refused : (f : Refusal) → a ≡ Refused f → outcome (Refused f) mw ≡ dispatched n u d mw
+module _ (n : ℕ) (u : Units) (d : Float) (mw : List Float) (a : Result (Unit {0}) Refusal) (q : a ≡ check_of n u d (length mw)) where
+  pub dispatch_refused : (f : Refusal) → a ≡ Err f → outcome (Err f) mw ≡ dispatched n u d mw
   unfolding dispatched dispatched_by
   dispatch_refused f e = rw (← q, e)
 
-  pub dispatch_settled : (o : Outcome) → a ≡ Answered → o ≡ settled u d mw → o ≡ dispatched n u d mw
+  pub dispatch_settled : (o : Outcome) → a ≡ no_refusal → o ≡ settled u d mw → o ≡ dispatched n u d mw
   unfolding dispatched dispatched_by
   dispatch_settled o e s = s ∙ rw (← q, e)

@@ -1,14 +1,13 @@
 -- Document 01, refusals of *Dispatch*: 1; 2; 5 limits or costs of a unit, and after all units a demand outside 0 to 1e9 (index 0);
 -- 8 demand strictly between the sums and some unit's c1 + 2 · c2 · p not finite at either limit. Slices keep their contents.
-use Rattle.std.specs.Prelude.{ℕ, Bool, true, false, cond, ◌&&◌, List, ltb, leb, eqb, length, Float}
+use Rattle.std.specs.Prelude.{ℕ, Bool, true, false, cond, ◌&&◌, List, ltb, leb, eqb, length, Float, Err, Ok, Result}
 use Rattle.loops.specs.Figures.{nought, billion, inside}
 use Rattle.loops.specs.Loops.{first}
-use Rattle.refusal.specs.Reply.{Reply, reply_of}
+use Rattle.refusal.specs.Reply.{Reply, reply_of, no_refusal}
 use Rattle.refusal.specs.declared.Refusal.TheVariants.{Length, Count, Generator, Demand, Cost}
-use Rattle.refusal.specs.declared.Answer.{Answer}
-use Rattle.refusal.specs.declared.Answer.TheVariants.{Answered, Refused}
 use Rattle.dispatch_defs.specs.Units.{Units, count, unit_ok_at}
 use Rattle.dispatch_defs.specs.Dispatch.{economic_dispatch, faulty_cost}
+use Rattle.refusal.specs.declared.Refusal.{Refusal}
 
 -- ---- 1, 2 and 5. The lengths are those of pmin, pmax, c1, c2 and the result
 abbrev pub lengths_ok : ℕ → ℕ → ℕ → ℕ → ℕ → ℕ → Bool
@@ -27,34 +26,34 @@ demand_ok demand = inside nought most_demand demand
 unfoldable pub faulty_unit : Units → ℕ
 faulty_unit u = first (unit_ok_at u) (count u) 0
 
-unfoldable pub check_of : ℕ → Units → Float → ℕ → Answer
+unfoldable pub check_of : ℕ → Units → Float → ℕ → Result (Unit {0}) Refusal
 check_of units u demand places =
     cond (lengths_ok units (length u.pmin) (length u.pmax) (length u.c1) (length u.c2) places)
     (cond (leb units most_units)
-    (cond (ltb (faulty_unit u) (count u)) (Refused (Generator (faulty_unit u)))
-    (cond (demand_ok demand) Answered (Refused Demand)))
-    (Refused Count))
-    (Refused Length)
+    (cond (ltb (faulty_unit u) (count u)) (Err (Generator (faulty_unit u)))
+    (cond (demand_ok demand) no_refusal (Err Demand)))
+    (Err Count))
+    (Err Length)
 
 -- ---- the answer, and what the result holds then
 pub record Outcome : Type 0 where
   pub reply : Reply (Unit {0})
   pub mw : List Float
 
-abbrev pub outcome : Answer → List Float → Outcome
+abbrev pub outcome : Result (Unit {0}) Refusal → List Float → Outcome
 outcome r mw = record { reply = reply_of r; mw = mw }
 
 -- of a request that 1, 2 and 5 let pass
 unfoldable pub settled_if : Bool → Units → Float → List Float → Outcome
-settled_if true u demand mw = outcome (Refused (Cost (faulty_cost u demand))) mw
-settled_if false u demand mw = outcome Answered (economic_dispatch u demand)
+settled_if true u demand mw = outcome (Err (Cost (faulty_cost u demand))) mw
+settled_if false u demand mw = outcome no_refusal (economic_dispatch u demand)
 
 unfoldable pub settled : Units → Float → List Float → Outcome
 settled u demand mw = settled_if (ltb (faulty_cost u demand) (count u)) u demand mw
 
-unfoldable pub dispatched_by : Answer → Units → Float → List Float → Outcome
-dispatched_by (Refused f) u demand mw = outcome (Refused f) mw
-dispatched_by Answered u demand mw = settled u demand mw
+unfoldable pub dispatched_by : Result (Unit {0}) Refusal → Units → Float → List Float → Outcome
+dispatched_by (Err f) u demand mw = outcome (Err f) mw
+dispatched_by (Ok tt) u demand mw = settled u demand mw
 
 unfoldable pub dispatched : ℕ → Units → Float → List Float → Outcome
 dispatched units u demand mw = dispatched_by (check_of units u demand (length mw)) u demand mw

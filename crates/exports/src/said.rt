@@ -1,5 +1,5 @@
 // Answers as the fields of a struct.
-ghost use Rattle.std.specs.Prelude.{◌≡◌};
+ghost use Rattle.std.specs.Prelude.{◌≡◌, Err, Ok, Result};
 ghost use Rattle.angles_defs.specs.Operation as defined;
 ghost use Rattle.casefile_defs.specs.Tables as tables;
 ghost use Rattle.placement_defs.specs.Support as support;
@@ -7,10 +7,9 @@ ghost use Rattle.refusal.specs.Reply as replies;
 ghost use Rattle.exports.specs.Said.{angles_said, ended_figure, ended_number, reading_said, answer_said, placement_said};
 
 use crate::{AnglesSaid, AnswerSaid, PlacementSaid, ReadingSaid};
-use angles_defs::{Angles, Ended, Solution};
-use casefile_defs::{CaseRead, Header, Reading};
-use placement_defs::Placement;
-use refusal::{Answer, Refusal};
+use angles_defs::{Ended, Solution};
+use casefile_defs::{CaseRead, Header};
+use refusal::Refusal;
 
 fn ended_number(ended: Ended) -> u32
     ensures { result ≡ ended_number ended }
@@ -33,7 +32,7 @@ fn ended_figure(ended: Ended) -> f64
 }
 
 fn solved(s: Solution) -> AnglesSaid
-    ensures { result ≡ angles_said (defined.reply_of (Angles.Answered s)) }
+    ensures { result ≡ angles_said (defined.reply_of (Ok s)) }
 {
     let ended = s.ended;
     AnglesSaid {
@@ -46,7 +45,7 @@ fn solved(s: Solution) -> AnglesSaid
 }
 
 fn not_solved(f: Refusal) -> AnglesSaid
-    ensures { result ≡ angles_said (defined.reply_of (Angles.Refused f)) }
+    ensures { result ≡ angles_said (defined.reply_of (Err f)) }
 {
     AnglesSaid {
         refusal: f.number(),
@@ -57,17 +56,17 @@ fn not_solved(f: Refusal) -> AnglesSaid
     }
 }
 
-pub fn angles(a: Angles) -> AnglesSaid
+pub fn angles(a: Result<Solution, Refusal>) -> AnglesSaid
     ensures { result ≡ angles_said (defined.reply_of a) }
 {
     match a {
-        Angles::Answered(s) => solved(s),
-        Angles::Refused(f) => not_solved(f),
+        Ok(s) => solved(s),
+        Err(f) => not_solved(f),
     }
 }
 
 fn read(h: Header, looks: usize) -> ReadingSaid
-    ensures { result ≡ reading_said (tables.reply_of (Reading.Read h)) looks }
+    ensures { result ≡ reading_said (tables.reply_of (Ok h)) looks }
 {
     let mode = h.mode;
     ReadingSaid {
@@ -85,7 +84,7 @@ fn read(h: Header, looks: usize) -> ReadingSaid
 }
 
 fn not_read(f: Refusal, looks: usize) -> ReadingSaid
-    ensures { result ≡ reading_said (tables.reply_of (Reading.Refused f)) looks }
+    ensures { result ≡ reading_said (tables.reply_of (Err f)) looks }
 {
     ReadingSaid {
         refusal: f.number(),
@@ -106,13 +105,13 @@ pub fn reading(r: CaseRead) -> ReadingSaid
 {
     let reading = r.reading;
     match reading {
-        Reading::Read(h) => read(h, r.looks),
-        Reading::Refused(f) => not_read(f, r.looks),
+        Ok(h) => read(h, r.looks),
+        Err(f) => not_read(f, r.looks),
     }
 }
 
 fn not_done(f: Refusal) -> AnswerSaid
-    ensures { result ≡ answer_said (replies.reply_of (Answer.Refused f)) }
+    ensures { result ≡ answer_said (replies.reply_of (Err f)) }
 {
     AnswerSaid {
         refusal: f.number(),
@@ -120,20 +119,20 @@ fn not_done(f: Refusal) -> AnswerSaid
     }
 }
 
-pub fn answer(a: Answer) -> AnswerSaid
+pub fn answer(a: Result<(), Refusal>) -> AnswerSaid
     ensures { result ≡ answer_said (replies.reply_of a) }
 {
     match a {
-        Answer::Answered => AnswerSaid {
+        Ok(()) => AnswerSaid {
             refusal: 0,
             index: 0,
         },
-        Answer::Refused(f) => not_done(f),
+        Err(f) => not_done(f),
     }
 }
 
 fn not_placed(f: Refusal) -> PlacementSaid
-    ensures { result ≡ placement_said (support.reply_of (Placement.Refused f)) }
+    ensures { result ≡ placement_said (support.reply_of (Err f)) }
 {
     PlacementSaid {
         refusal: f.number(),
@@ -142,15 +141,15 @@ fn not_placed(f: Refusal) -> PlacementSaid
     }
 }
 
-pub fn placement(p: Placement) -> PlacementSaid
+pub fn placement(p: Result<usize, Refusal>) -> PlacementSaid
     ensures { result ≡ placement_said (support.reply_of p) }
 {
     match p {
-        Placement::Placed(count) => PlacementSaid {
+        Ok(count) => PlacementSaid {
             refusal: 0,
             index: 0,
             count: count,
         },
-        Placement::Refused(f) => not_placed(f),
+        Err(f) => not_placed(f),
     }
 }

@@ -6,8 +6,8 @@ use Rattle.refusal.specs.Reply.{answered, refused_by}
 use Rattle.refusal.specs.declared.Refusal.TheVariants.{Rating}
 use Rattle.impedance.specs.Impedance.{impedance_of, rating_ok, reply_of, defined}
 use Rattle.impedance.specs.declared.SeriesImpedance.{SeriesImpedance}
-use Rattle.impedance.specs.declared.TransformerImpedance.{TransformerImpedance}
-use Rattle.impedance.specs.declared.TransformerImpedance.TheVariants.{Answered}
+use Rattle.std.specs.Prelude.{Ok, Result}
+use Rattle.refusal.specs.declared.Refusal.{Refusal}
 
 pub is_answered : (mva : Float) (z : SeriesImpedance) → rating_ok mva ≡ true → z ≡ impedance_of mva → answered z ≡ defined mva
 unfolding defined
@@ -18,6 +18,6 @@ unfolding defined
 is_refused_lem mva e = rw e
 
 -- with a rating above 0 and finite the answer is the defined impedance
-pub answers : (mva : Float) (r : TransformerImpedance) → rating_ok mva ≡ true → reply_of r ≡ defined mva → reply_of r ≡ reply_of (Answered (impedance_of mva))
+pub answers : (mva : Float) (r : Result SeriesImpedance Refusal) → rating_ok mva ≡ true → reply_of r ≡ defined mva → reply_of r ≡ reply_of (Ok (impedance_of mva))
 unfolding defined
 answers mva r e p = p ∙ rw e

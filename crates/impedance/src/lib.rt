@@ -14,12 +14,6 @@ pub struct SeriesImpedance {
     pub x: f64,
 }
 
-#[derive(Clone, Copy)]
-pub enum TransformerImpedance {
-    Answered(SeriesImpedance),
-    Refused(Refusal),
-}
-
 // System base, MVA.
 const BASE_MVA: f64 = 100.0;
 
@@ -67,11 +61,11 @@ fn impedance_of(mva: f64) -> SeriesImpedance
 }
 
 // The impedance of a bank of `mva`. Of a tiny rating it is infinite, and is answered.
-pub fn transformer_impedance(mva: f64) -> TransformerImpedance
+pub fn transformer_impedance(mva: f64) -> Result<SeriesImpedance, Refusal>
     ensures { reply_of result ≡ defined mva }
 {
     if rating_ok(mva) {
-        return TransformerImpedance::Answered(impedance_of(mva));
+        return Ok(impedance_of(mva));
     }
-    TransformerImpedance::Refused(Refusal::Rating)
+    Err(Refusal::Rating)
 }

@@ -10,8 +10,6 @@ use lib.ListN.{length}
 use Rattle.loops.proofs.Bools.{both, unequal}
 use Rattle.refusal.specs.declared.Refusal.{Refusal}
 use Rattle.refusal.specs.declared.Refusal.TheVariants.{Length, Count, Districts}
-use Rattle.refusal.specs.declared.Answer.{Answer}
-use Rattle.refusal.specs.declared.Answer.TheVariants.{Answered, Refused}
 use Rattle.sheets.specs.Sheet.{row_figures}
 use Rattle.casefile_defs.specs.Tables.{Places}
 use Rattle.casefile_defs.specs.declared.Header.{Header}
@@ -23,6 +21,8 @@ use Rattle.join_defs.specs.Districts.{same_ladder, sums_ok, alike, or_else, join
 use Rattle.join_defs.specs.Joining.{case_as}
 use Rattle.join_defs.proofs.Levels.{levels_same}
 use Rattle.join.specs.Joins.{Raises, Rowed, Summed, heads_alike, check_of}
+use Rattle.std.specs.Prelude.{Err, Ok, Result}
+use Rattle.refusal.specs.Reply.{no_refusal}
 
 module _ (fits : Bool) (c : Case) (t : ℕ) (d : Case) (u : ℕ) where
   -- what is left after 1 to 7 of both, and of the first
@@ -32,24 +32,24 @@ module _ (fits : Bool) (c : Case) (t : ℕ) (d : Case) (u : ℕ) where
   abbrev after_first : Option Refusal
   after_first = or_else (case_fault d u) after_both
 
-  pub first_refused : (f : Refusal) → cond fits (case_fault c t) (some Length) ≡ some f → Refused f ≡ check_of fits c t d u
+  pub first_refused : (f : Refusal) → cond fits (case_fault c t) (some Length) ≡ some f → Err f ≡ check_of fits c t d u
   unfolding check_of join_fault
   first_refused f e = go fits (case_fault c t) e
     where
-      go : (b : Bool) (o : Option Refusal) → cond b o (some Length) ≡ some f → Refused f ≡ answer_of (cond b (or_else o after_first) (some Length))
+      go : (b : Bool) (o : Option Refusal) → cond b o (some Length) ≡ some f → Err f ≡ answer_of (cond b (or_else o after_first) (some Length))
       go false o q = ap answer_of (sym q)
       go true none q = absurd (unequal cc)
       go true (some g) q = ap answer_of (sym q)
 
   module _ (passed : (fits ≡ true) × (case_fault c t ≡ none)) where
-    past_first : (a : Answer) → a ≡ answer_of after_first → a ≡ check_of fits c t d u
+    past_first : (a : Result (Unit {0}) Refusal) → a ≡ answer_of after_first → a ≡ check_of fits c t d u
     unfolding check_of join_fault
     past_first a e =
         e ∙ ap (λ (o : Option Refusal). answer_of (or_else o after_first)) (sym passed.1)
         ∙ ap (λ (b : Bool). answer_of (cond b (or_else (case_fault c t) after_first) (some Length))) (sym passed.0)
 
-    pub second_refused : (f : Refusal) → case_fault d u ≡ some f → Refused f ≡ check_of fits c t d u
-    second_refused f e = past_first (Refused f) (ap (λ (o : Option Refusal). answer_of (or_else o after_both)) (sym e))
+    pub second_refused : (f : Refusal) → case_fault d u ≡ some f → Err f ≡ check_of fits c t d u
+    second_refused f e = past_first (Err f) (ap (λ (o : Option Refusal). answer_of (or_else o after_both)) (sym e))
 
     module _ (other : case_fault d u ≡ none) where
       by_tests : (s l : Bool) → sums_ok c t d u ≡ s → alike c d ≡ l → answer_of (cond s (cond l none (some Districts)) (some Count)) ≡ check_of fits c t d u
@@ -59,21 +59,21 @@ module _ (fits : Bool) (c : Case) (t : ℕ) (d : Case) (u : ℕ) where
           ∙ ap (λ (b : Bool). answer_of (cond b (cond (alike c d) none (some Districts)) (some Count))) (sym es)
           ∙ ap (λ (o : Option Refusal). answer_of (or_else o after_both)) (sym other))
 
-      pub sums_refused : sums_ok c t d u ≡ false → Refused Count ≡ check_of fits c t d u
+      pub sums_refused : sums_ok c t d u ≡ false → Err Count ≡ check_of fits c t d u
       sums_refused e = by_tests false (alike c d) e refl
 
-      pub unlike_refused : sums_ok c t d u ≡ true → alike c d ≡ false → Refused Districts ≡ check_of fits c t d u
+      pub unlike_refused : sums_ok c t d u ≡ true → alike c d ≡ false → Err Districts ≡ check_of fits c t d u
       unlike_refused e l = by_tests true false e l
 
-      pub both_passed : sums_ok c t d u ≡ true → alike c d ≡ true → Answered ≡ check_of fits c t d u
+      pub both_passed : sums_ok c t d u ≡ true → alike c d ≡ true → no_refusal ≡ check_of fits c t d u
       both_passed e l = by_tests true true e l
 
   -- ---- what is known by the answer
-  pub refused_is : (f : Refusal) → Refused f ≡ check_of fits c t d u → cond fits (join_fault c t d u) (some Length) ≡ some f
+  pub refused_is : (f : Refusal) → Err f ≡ check_of fits c t d u → cond fits (join_fault c t d u) (some Length) ≡ some f
   unfolding check_of
   refused_is f e = go (cond fits (join_fault c t d u) (some Length)) e
     where
-      go : (o : Option Refusal) → Refused f ≡ answer_of o → o ≡ some f
+      go : (o : Option Refusal) → Err f ≡ answer_of o → o ≡ some f
       go none q = absurd (unequal cc)
       go (some g) q = cc
 
@@ -85,19 +85,19 @@ module _ (fits : Bool) (c : Case) (t : ℕ) (d : Case) (u : ℕ) where
     pub sums : sums_ok c t d u ≡ true
     pub same : alike c d ≡ true
 
-  pub joinable : Answered ≡ check_of fits c t d u → Joinable
+  pub joinable : no_refusal ≡ check_of fits c t d u → Joinable
   unfolding check_of join_fault
   joinable e = go fits (case_fault c t) (case_fault d u) (sums_ok c t d u) refl refl refl refl e
     where
       go : (b : Bool) (o p : Option Refusal) (s : Bool) → fits ≡ b → case_fault c t ≡ o → case_fault d u ≡ p → sums_ok c t d u ≡ s
-          → Answered ≡ answer_of (cond b (or_else o (or_else p (cond s (cond (alike c d) none (some Districts)) (some Count)))) (some Length)) → Joinable
+          → no_refusal ≡ answer_of (cond b (or_else o (or_else p (cond s (cond (alike c d) none (some Districts)) (some Count)))) (some Length)) → Joinable
       go false o p s x y z w q = absurd (unequal cc)
       go true (some f) p s x y z w q = absurd (unequal cc)
       go true none (some f) s x y z w q = absurd (unequal cc)
       go true none none false x y z w q = absurd (unequal cc)
       go true none none true x y z w q = by_same (alike c d) refl q
         where
-          by_same : (l : Bool) → alike c d ≡ l → Answered ≡ answer_of (cond l none (some Districts)) → Joinable
+          by_same : (l : Bool) → alike c d ≡ l → no_refusal ≡ answer_of (cond l none (some Districts)) → Joinable
           by_same false v r = absurd (unequal cc)
           by_same true v r = record { sized = x; free = rw (y, z, w, v); first = y; second = z; sums = w; same = v }
 

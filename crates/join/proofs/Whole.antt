@@ -9,11 +9,9 @@ use lib.ListN.{length}
 use Rattle.loops.proofs.Bools.{unequal}
 use Rattle.refusal.specs.declared.Refusal.{Refusal}
 use Rattle.refusal.specs.declared.Refusal.TheVariants.{Length}
-use Rattle.refusal.specs.declared.Answer.TheVariants.{Refused as Unjoined}
 use Rattle.casefile_defs.specs.Bounds.{most_sheet}
 use Rattle.casefile_defs.specs.Tables.{Places, places_of, sizes_ok}
 use Rattle.casefile_defs.specs.declared.Header.{Header}
-use Rattle.casefile_defs.specs.declared.Reading.TheVariants.{Refused, Read}
 use Rattle.casefile_defs.proofs.Whole.{Sizes, sizes}
 use Rattle.plan_defs.specs.Case.{Case, levels}
 use Rattle.join_defs.specs.Columns.{figures, counts, joined_sheet}
@@ -22,6 +20,7 @@ use Rattle.join_defs.specs.Joining.{case_as, header_of, laid_out, Outcome, outco
 use Rattle.join_defs.proofs.Tables.{sheet_are, filled_tables}
 use Rattle.join.specs.Joins.{headers_of, check_of}
 use Rattle.join.proofs.Refusals.{Joinable, refused_is}
+use Rattle.std.specs.Prelude.{Err, Ok}
 
 pub places_same : {ladder ladder' : List Float} {tier tier' : List ℕ} {reading reading' : List Float} {weight weight' : List Float} {bus bus' : List ℕ} {slack slack' : List ℕ} {pmin pmin' : List Float} {pmax pmax' : List Float} {c1 c1' : List Float} {c2 c2' : List Float} {a a' : List ℕ} {b b' : List ℕ} {circuits circuits' : List ℕ} {length_km lengthKm' : List Float} {share share' : List Float} {cap cap' : List ℕ} {sheet sheet' : List Float}
     → ladder ≡ ladder' → tier ≡ tier' → reading ≡ reading' → weight ≡ weight' → bus ≡ bus' → slack ≡ slack' → pmin ≡ pmin' → pmax ≡ pmax' → c1 ≡ c1' → c2 ≡ c2' → a ≡ a' → b ≡ b' → circuits ≡ circuits' → length_km ≡ lengthKm' → share ≡ share' → cap ≡ cap' → sheet ≡ sheet'
@@ -49,12 +48,12 @@ module _ (h : Header) (p : Places) (k : Header) (q : Places) (out : Places) wher
   joined o = joined_by o (joined_case first second) (h.target + k.target) out
 
   -- ---- a refusal
-  pub refused_whole : (f : Refusal) → Unjoined f ≡ check_of (sizes_ok out) first h.target second k.target → outcome (Refused f) out ≡ join_cases h p k q out
+  pub refused_whole : (f : Refusal) → Err f ≡ check_of (sizes_ok out) first h.target second k.target → outcome (Err f) out ≡ join_cases h p k q out
   unfolding join_cases joined_by
   refused_whole f e =
       go (sizes_ok out) (join_fault first h.target second k.target) (refused_is (sizes_ok out) first h.target second k.target f e)
     where
-      go : (b : Bool) (o : Option Refusal) → cond b o (some Length) ≡ some f → outcome (Refused f) out ≡ cond b (joined o) (outcome (Refused Length) out)
+      go : (b : Bool) (o : Option Refusal) → cond b o (some Length) ≡ some f → outcome (Err f) out ≡ cond b (joined o) (outcome (Err Length) out)
       go false o r = ap joined (sym r)
       go true none r = absurd (unequal cc)
       go true (some g) r = ap joined (sym r)
@@ -92,10 +91,10 @@ module _ (h : Header) (p : Places) (k : Header) (q : Places) (out : Places) wher
   header_is = refl
 
   pub joined_whole : (g : Header) (r : Places) → Joinable (sizes_ok out) first h.target second k.target → g ≡ headers_of h k → r ≡ laid_out (joined_case first second)
-      → outcome (Read g) r ≡ join_cases h p k q out
+      → outcome (Ok g) r ≡ join_cases h p k q out
   unfolding join_cases joined_by
   joined_whole g r j e f =
-      ap (λ (x : Header). outcome (Read x) r) (e ∙ header_is)
-      ∙ ap (λ (y : Places). outcome (Read (header_of (joined_case first second) (h.target + k.target))) y) f
+      ap (λ (x : Header). outcome (Ok x) r) (e ∙ header_is)
+      ∙ ap (λ (y : Places). outcome (Ok (header_of (joined_case first second) (h.target + k.target))) y) f
       ∙ ap joined (sym j.free)
-      ∙ ap (λ (b : Bool). cond b (joined (join_fault first h.target second k.target)) (outcome (Refused Length) out)) (sym j.sized)
+      ∙ ap (λ (b : Bool). cond b (joined (join_fault first h.target second k.target)) (outcome (Err Length) out)) (sym j.sized)

@@ -1,7 +1,6 @@
 -- What the contracts of join's functions cite: the tests that read two headers, the joined header, and the refusals in order.
-use Rattle.std.specs.Prelude.{ℕ, ◌+◌, ◌*◌, ◌^◌, ◌<◌, ◌≤◌, Bool, cond, ◌&&◌, List, ◌≡◌, leb, eqb, length, get_or}
+use Rattle.std.specs.Prelude.{ℕ, ◌+◌, ◌*◌, ◌^◌, ◌<◌, ◌≤◌, Bool, cond, ◌&&◌, List, ◌≡◌, leb, eqb, length, get_or, Result}
 use Rattle.std.proofs.Math.Option.{some}
-use Rattle.refusal.specs.declared.Answer.{Answer}
 use Rattle.refusal.specs.declared.Refusal.TheVariants.{Length}
 use Rattle.mode.specs.Number.{mode_number}
 use Rattle.sheets.specs.Sheet.{row_figures}
@@ -10,6 +9,7 @@ use Rattle.casefile_defs.specs.declared.Header.{Header}
 use Rattle.plan_defs.specs.Case.{Case}
 use Rattle.acceptance.specs.Check.{answer_of}
 use Rattle.join_defs.specs.Districts.{join_fault}
+use Rattle.refusal.specs.declared.Refusal.{Refusal}
 
 -- numbers that fit a u32 when they are raised
 abbrev pub Raises : ℕ → List ℕ → Type 0
@@ -55,5 +55,5 @@ headers_of h k = record {
 }
 
 -- the refusals; `fits`: the joined tables have their sizes
-unfoldable pub check_of : Bool → Case → ℕ → Case → ℕ → Answer
+unfoldable pub check_of : Bool → Case → ℕ → Case → ℕ → Result (Unit {0}) Refusal
 check_of fits c t d u = answer_of (cond fits (join_fault c t d u) (some Length))

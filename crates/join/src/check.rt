@@ -10,7 +10,7 @@ ghost use Rattle.join.specs.Joins.{sums_fit, heads_alike, check_of};
 
 use acceptance::check_case;
 use casefile_defs::{Header, MOST_BUSES, MOST_CORRIDORS, MOST_GENERATORS};
-use refusal::{Answer, Refusal};
+use refusal::Refusal;
 
 const MOST_TARGET: usize = 65536;
 
@@ -110,7 +110,7 @@ pub fn check_both(
     second_share: &[f64],
     second_cap: &[u32],
     second_sheet: &[f64],
-) -> Answer
+) -> Result<(), Refusal>
     ensures { result ≡ check_of fits (case_as first (places_of first_ladder.now first_tier.now first_reading.now first_weight.now first_bus.now first_slack.now first_pmin.now first_pmax.now first_c1.now first_c2.now first_a.now first_b.now first_circuits.now first_length_km.now first_share.now first_cap.now first_sheet.now)) first.target (case_as second (places_of second_ladder.now second_tier.now second_reading.now second_weight.now second_bus.now second_slack.now second_pmin.now second_pmax.now second_c1.now second_c2.now second_a.now second_b.now second_circuits.now second_length_km.now second_share.now second_cap.now second_sheet.now)) second.target }
 {
     match check_case(
@@ -139,8 +139,8 @@ pub fn check_both(
         first_cap,
         first_sheet,
     ) {
-        Answer::Refused(f) => return Answer::Refused(f),
-        Answer::Answered => {}
+        Err(f) => return Err(f),
+        Ok(()) => {}
     }
     match check_case(
         true,
@@ -168,14 +168,14 @@ pub fn check_both(
         second_cap,
         second_sheet,
     ) {
-        Answer::Refused(f) => return Answer::Refused(f),
-        Answer::Answered => {}
+        Err(f) => return Err(f),
+        Ok(()) => {}
     }
     if !sums_ok(first, second) {
-        return Answer::Refused(Refusal::Count);
+        return Err(Refusal::Count);
     }
     if !(alike(first, second) & same_ladder(first_ladder, second_ladder)) {
-        return Answer::Refused(Refusal::Districts);
+        return Err(Refusal::Districts);
     }
-    Answer::Answered
+    Ok(())
 }

@@ -7,12 +7,10 @@ ghost use Rattle.casefile_defs.specs.Tables.{places_of};
 ghost use Rattle.join_defs.specs.Joining.{outcome, join_cases};
 ghost use Rattle.join.specs.Joins.{sizes_by, Summed, headers_of};
 
-use casefile_defs::{
-    Header, MOST_BUSES, MOST_CORRIDORS, MOST_GENERATORS, MOST_LEVELS, MOST_SHEET, Reading,
-};
+use casefile_defs::{Header, MOST_BUSES, MOST_CORRIDORS, MOST_GENERATORS, MOST_LEVELS, MOST_SHEET};
 use check::check_both;
-use refusal::Answer;
 use tables::{put_buses, put_corridors, put_generators};
+use refusal::Refusal;
 
 mod check;
 mod columns;
@@ -139,7 +137,7 @@ pub fn join_cases(
     share: &mut [f64],
     cap: &mut [u32],
     sheet: &mut [f64],
-) -> Reading
+) -> Result<Header, Refusal>
     ensures { outcome result (places_of ladder.new tier.new reading.new weight.new bus.new slack.new pmin.new pmax.new c1.new c2.new a.new b.new circuits.new length_km.new share.new cap.new sheet.new) ≡ join_cases first (places_of first_ladder.now first_tier.now first_reading.now first_weight.now first_bus.now first_slack.now first_pmin.now first_pmax.now first_c1.now first_c2.now first_a.now first_b.now first_circuits.now first_length_km.now first_share.now first_cap.now first_sheet.now) second (places_of second_ladder.now second_tier.now second_reading.now second_weight.now second_bus.now second_slack.now second_pmin.now second_pmax.now second_c1.now second_c2.now second_a.now second_b.now second_circuits.now second_length_km.now second_share.now second_cap.now second_sheet.now) (places_of ladder.old tier.old reading.old weight.old bus.old slack.old pmin.old pmax.old c1.old c2.old a.old b.old circuits.old length_km.old share.old cap.old sheet.old) }
 {
     let sized = sizes_ok(
@@ -200,8 +198,8 @@ pub fn join_cases(
         second_cap,
         second_sheet,
     ) {
-        Answer::Refused(f) => return Reading::Refused(f),
-        Answer::Answered => {}
+        Err(f) => return Err(f),
+        Ok(()) => {}
     }
     let h = joined_header(first, second);
     let n = narrow(first.buses);
@@ -266,5 +264,5 @@ pub fn join_cases(
         cap,
         sheet,
     );
-    Reading::Read(h)
+    Ok(h)
 }

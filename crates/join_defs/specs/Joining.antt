@@ -1,6 +1,6 @@
 -- `join_cases`: two cases in tables of exactly their counts, and the joined tables, lent as for case reading. After 1 for the joined tables come the refusals of
 -- `join_fault`; a refusal touches nothing, an answer fills every place, zero past the counts.
-use Rattle.std.specs.Prelude.{ℕ, ◌+◌, ◌*◌, ◌/◌, ◌%◌, cond, List, [], ◌∷◌, ltb, Float, get_or}
+use Rattle.std.specs.Prelude.{ℕ, ◌+◌, ◌*◌, ◌/◌, ◌%◌, cond, List, [], ◌∷◌, ltb, Float, get_or, Err, Ok, Result}
 use Rattle.std.proofs.Math.Option.{Option, none, some}
 use Rattle.loops.specs.Figures.{at, nought}
 use Rattle.loops.specs.Loops.{tab}
@@ -11,8 +11,6 @@ use Rattle.sheets.specs.Sheet.{row_figures}
 use Rattle.casefile_defs.specs.Bounds.{most_levels, most_buses, most_generators, most_corridors, most_sheet}
 use Rattle.casefile_defs.specs.Tables.{Places, places_of, sizes_ok, reply_of}
 use Rattle.casefile_defs.specs.declared.Header.{Header}
-use Rattle.casefile_defs.specs.declared.Reading.{Reading}
-use Rattle.casefile_defs.specs.declared.Reading.TheVariants.{Refused, Read}
 use Rattle.plan_defs.specs.Case.{Case, Row, surveyed, levels}
 use Rattle.join_defs.specs.Districts.{joined_case, join_fault}
 
@@ -59,16 +57,16 @@ pub record Outcome : Type 0 where
   pub reply : Reply Header
   pub places : Places
 
-abbrev pub outcome : Reading → Places → Outcome
+abbrev pub outcome : Result Header Refusal → Places → Outcome
 outcome r p = record { reply = reply_of r; places = p }
 
 unfoldable pub joined_by : Option Refusal → Case → ℕ → Places → Outcome
-joined_by (some f) c target out = outcome (Refused f) out
-joined_by none c target out = outcome (Read (header_of c target)) (laid_out c)
+joined_by (some f) c target out = outcome (Err f) out
+joined_by none c target out = outcome (Ok (header_of c target)) (laid_out c)
 
 abbrev pub joined_as : Case → ℕ → Case → ℕ → Places → Outcome
 joined_as c t d u out = joined_by (join_fault c t d u) (joined_case c d) (t + u) out
 
 unfoldable pub join_cases : Header → Places → Header → Places → Places → Outcome
 join_cases h p k q out =
-    cond (sizes_ok out) (joined_as (case_as h p) h.target (case_as k q) k.target out) (outcome (Refused Length) out)
+    cond (sizes_ok out) (joined_as (case_as h p) h.target (case_as k q) k.target out) (outcome (Err Length) out)

@@ -25,7 +25,6 @@ use Rattle.refusal.specs.declared.Refusal.TheVariants.{Length}
 use Rattle.casefile_defs.specs.Bounds.{most_levels, most_buses, most_generators, most_corridors, most_sheet}
 use Rattle.casefile_defs.specs.Tables.{Places, places_of, sizes_ok}
 use Rattle.casefile_defs.specs.declared.Header.{Header}
-use Rattle.casefile_defs.specs.declared.Reading.TheVariants.{Read, Refused}
 use Rattle.plan_defs.specs.Case.{Case, Row, row_from, row_if, rows_of, case_with, levels}
 use Rattle.plan_defs.specs.Accept.{case_fault}
 use Rattle.plan_defs.specs.Outcome.{Outcome}
@@ -40,6 +39,7 @@ use Rattle.join_theorems.specs.Calls.{fronts, case_in, Joined}
 use Rattle.join_theorems.proofs.Within.{second_at}
 use Rattle.join_theorems.proofs.Accepted.{Joinable, joinable, all_accepted}
 use Rattle.join_theorems.proofs.Apart.{answers_apart}
+use Rattle.std.specs.Prelude.{Err, Ok}
 
 -- ---- the front of a laid out column is the column
 take_padded : {A : Type 0} (z : A) (N n : ℕ) (l : List A) → length l ≡ n → n ≤ N → take n (padded z N l) ≡ l
@@ -228,7 +228,7 @@ pub record Laid (h k j : Header) (p q r : Places) : Type 0 where
   pub header : j ≡ header_of (joined_case (case_as h p) (case_as k q)) (h.target + k.target)
   pub tables : r ≡ laid_out (joined_case (case_as h p) (case_as k q))
 
-pub laid : (h k j : Header) (p q out r : Places) → outcome (Read j) r ≡ join_cases h p k q out → Laid h k j p q r
+pub laid : (h k j : Header) (p q out r : Places) → outcome (Ok j) r ≡ join_cases h p k q out → Laid h k j p q r
 unfolding join_cases joined_by
 laid h k j p q out r e = go (sizes_ok out) e
   where
@@ -241,16 +241,16 @@ laid h k j p q out r e = go (sizes_ok out) e
     t : ℕ
     t = h.target + k.target
 
-    by : (f : Option Refusal) → join_fault c h.target d k.target ≡ f → outcome (Read j) r ≡ joined_by f (joined_case c d) t out → Laid h k j p q r
+    by : (f : Option Refusal) → join_fault c h.target d k.target ≡ f → outcome (Ok j) r ≡ joined_by f (joined_case c d) t out → Laid h k j p q r
     by (some f) x y = absurd (unequal (cc (ap (λ (o : Made). o.reply) y)))
     by none x y =
         record { joins = joinable c d h.target k.target x; header = cc (ap (λ (o : Made). o.reply) y); tables = ap (λ (o : Made). o.places) y }
 
-    go : (b : Bool) → outcome (Read j) r ≡ cond b (joined_by (join_fault c h.target d k.target) (joined_case c d) t out) (outcome (Refused Length) out) → Laid h k j p q r
+    go : (b : Bool) → outcome (Ok j) r ≡ cond b (joined_by (join_fault c h.target d k.target) (joined_case c d) t out) (outcome (Err Length) out) → Laid h k j p q r
     go true x = by (join_fault c h.target d k.target) refl x
     go false x = absurd (unequal (cc (ap (λ (o : Made). o.reply) x)))
 
-pub joined_answer : (h k j : Header) (p q out r : Places) → outcome (Read j) r ≡ join_cases h p k q out → Joined h k j p q r
+pub joined_answer : (h k j : Header) (p q out r : Places) → outcome (Ok j) r ≡ join_cases h p k q out → Joined h k j p q r
 joined_answer h k j p q out r e =
     let l = laid h k j p q out r e in
     let c = joined_case (case_as h p) (case_as k q) in
@@ -265,7 +265,7 @@ joined_answer h k j p q out r e =
     }
 
 -- ---- the theorem: o and x are what planning of the first case leaves and says, v and y the second's, w and z the joined tables'
-pub calls_apart : (h k j : Header) (p q out r : Places) (o v w : Outcome) (x y z : CorridorPlan) → outcome (Read j) r ≡ join_cases h p k q out
+pub calls_apart : (h k j : Header) (p q out r : Places) (o v w : Outcome) (x y z : CorridorPlan) → outcome (Ok j) r ≡ join_cases h p k q out
     → AnswerTo (case_as h p) h.target o x → AnswerTo (case_as k q) k.target v y → AnswerTo (case_in j r) j.target w z
     → AnswersApart (case_as h p) (case_as k q) o v w x y z
 calls_apart h k j p q out r o v w x y z e a b f =

@@ -22,7 +22,6 @@ use Rattle.casefile_defs.specs.Layout.{Field, u8, u16, up_to, width_of, allowed}
 use Rattle.casefile_defs.specs.Reading.{lines, counts_ok, case_read}
 use Rattle.casefile_defs.specs.Tables.{Places, sizes_ok, basis_field, basis_of, read_case, outcome as readAs}
 use Rattle.casefile_defs.specs.declared.Header.{Header}
-use Rattle.casefile_defs.specs.declared.Reading.TheVariants.{Read}
 use Rattle.casefile_theorems.specs.Writer.{Form, file_of, row_place}
 use Rattle.casefile_theorems.specs.Cases.{Numbers, Figures, Sheet, Case as Filed, Legal}
 use Rattle.casefile_theorems.proofs.Theorems.{case_back}
@@ -38,6 +37,7 @@ use Rattle.join_theorems.specs.Calls.{fronts, case_in}
 use Rattle.join_theorems.proofs.Within.{second_at}
 use Rattle.join_theorems.proofs.Accepted.{Joinable, all_accepted}
 use Rattle.join_theorems.proofs.Calls.{laid}
+use Rattle.std.specs.Prelude.{Ok}
 
 -- ---- a column that is laid out
 padded_at : {A : Type 0} (z : A) (N : ℕ) (l : List A) (i : ℕ) → length l ≤ N → get_or (padded z N l) i z ≡ get_or l i z
@@ -239,12 +239,12 @@ module _ (h k : Header) (p q : Places) (x : Filed h p) (y : Filed k q) (s : Join
       }
 
 -- ---- the theorem: p and q are tables as case reading leaves them, and `join_cases` is lent their fronts
-pub joined_filed : (h k j : Header) (p q out r : Places) → Filed h p → Filed k q → outcome (Read j) r ≡ join_cases h (fronts h p) k (fronts k q) out → Filed j r
+pub joined_filed : (h k j : Header) (p q out r : Places) → Filed h p → Filed k q → outcome (Ok j) r ≡ join_cases h (fronts h p) k (fronts k q) out → Filed j r
 joined_filed h k j p q out r x y e =
     let l = laid h k j (fronts h p) (fronts k q) out r e in
     subst (λ (i : Header). Filed i r) (sym l.header)
     (subst (Filed (header_of (joined_case (case_in h p) (case_in k q)) (h.target + k.target))) (sym l.tables) (filed h k p q x y l.joins))
 
-pub joined_back : (h k j : Header) (p q out r o : Places) (f : Form) → Filed h p → Filed k q → outcome (Read j) r ≡ join_cases h (fronts h p) k (fronts k q) out
-    → Legal f j r → sizes_ok o ≡ true → read_case (file_of f j r) o ≡ readAs (case_read (Read j) 0) r
+pub joined_back : (h k j : Header) (p q out r o : Places) (f : Form) → Filed h p → Filed k q → outcome (Ok j) r ≡ join_cases h (fronts h p) k (fronts k q) out
+    → Legal f j r → sizes_ok o ≡ true → read_case (file_of f j r) o ≡ readAs (case_read (Ok j) 0) r
 joined_back h k j p q out r o f x y e g z = case_back f j r o g (joined_filed h k j p q out r x y e) z

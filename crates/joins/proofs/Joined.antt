@@ -8,7 +8,6 @@ use Rattle.refusal.specs.declared.Refusal.{Refusal}
 use Rattle.casefile_defs.specs.Reading.{Small}
 use Rattle.casefile_defs.specs.Tables.{Places, read_case}
 use Rattle.casefile_defs.specs.declared.Header.{Header}
-use Rattle.casefile_defs.specs.declared.Reading.TheVariants.{Read}
 use Rattle.casefile_theorems.specs.Cases.{blank}
 use Rattle.casefile_writer.specs.Files.{file_in}
 use Rattle.casefile_writer.specs.Put.{Put}
@@ -19,13 +18,13 @@ use Rattle.join_defs.specs.Joining.{case_as, outcome, join_cases}
 use Rattle.join_theorems.specs.Calls.{fronts}
 use Rattle.join_theorems.proofs.Accepted.{all_accepted}
 use Rattle.join_theorems.proofs.Calls.{laid}
-use Rattle.std.specs.declared.result.Result.TheVariants.{Ok, Err}
+use Rattle.std.specs.Prelude.{Ok, Err}
 use Rattle.joins.specs.declared.case.Case.{Case}
 use Rattle.joins.specs.Cases.{IsCase}
 use Rattle.joins.specs.Files.{file_by, join_tables, second_by, join_second, first_by, join_files}
 
 -- ---- a joined case's counts, as writing asks for them
-pub joined_small : (h k j : Header) (p q out r : Places) → outcome (Read j) r ≡ join_cases h p k q out → Small j
+pub joined_small : (h k j : Header) (p q out r : Places) → outcome (Ok j) r ≡ join_cases h p k q out → Small j
 joined_small h k j p q out r e =
     let l = laid h k j p q out r e in
     let t = h.target + k.target in

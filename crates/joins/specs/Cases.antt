@@ -1,7 +1,5 @@
 -- A case as the definitions of reading and joining have it.
-use Rattle.std.specs.Prelude.{◌≡◌}
-use Rattle.std.specs.declared.result.Result.{Result}
-use Rattle.std.specs.declared.result.Result.TheVariants.{Ok, Err}
+use Rattle.std.specs.Prelude.{◌≡◌, Result, Ok, Err}
 use Rattle.refusal.specs.Reply.{Reply, answered, refused_by}
 use Rattle.refusal.specs.declared.Refusal.{Refusal}
 use Rattle.casefile_defs.specs.Tables.{Places, places_of}

@@ -1,8 +1,6 @@
 -- What the program does with two files: reading the first, reading the second, joining the cases; the file of the joined tables, or the first refusal. Tables
 -- are lent as zeros.
-use Rattle.std.specs.Prelude.{ℕ, ◌≤◌, List, ◌≡◌, take}
-use Rattle.std.specs.declared.result.Result.{Result}
-use Rattle.std.specs.declared.result.Result.TheVariants.{Ok, Err}
+use Rattle.std.specs.Prelude.{ℕ, ◌≤◌, List, ◌≡◌, take, Result, Ok, Err}
 use Rattle.refusal.specs.Reply.{Reply, answered, refused, refused_by}
 use Rattle.refusal.specs.declared.Refusal.{Refusal}
 use Rattle.casefile_defs.specs.Tables.{Places, read_case, Outcome as ReadOutcome}

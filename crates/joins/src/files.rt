@@ -11,7 +11,6 @@ ghost use Rattle.joins.specs.Files.{written, Kept, join_files};
 use crate::case::Case;
 use case_tables::Tables;
 use casefile::read_case;
-use casefile_defs::Reading;
 use join::join_cases;
 use refusal::Refusal;
 
@@ -40,10 +39,8 @@ fn read(file: &[u8]) -> Result<Case, Refusal>
         &mut tables.cap,
         &mut tables.sheet,
     );
-    match read.reading {
-        Reading::Refused(f) => Err(f),
-        Reading::Read(header) => Ok(Case { header, tables }),
-    }
+    let header = read.reading?;
+    Ok(Case { header, tables })
 }
 
 // The two cases joined, or the refusal of joining them.
@@ -53,7 +50,7 @@ fn join(first: &Case, second: &Case) -> Result<Case, Refusal>
     let mut tables = Tables::zeros();
     let a = first.fronts();
     let b = second.fronts();
-    let said = join_cases(
+    let header = join_cases(
         first.header,
         a.ladder,
         a.tier,
@@ -107,11 +104,8 @@ fn join(first: &Case, second: &Case) -> Result<Case, Refusal>
         &mut tables.share,
         &mut tables.cap,
         &mut tables.sheet,
-    );
-    match said {
-        Reading::Refused(f) => Err(f),
-        Reading::Read(header) => Ok(Case { header, tables }),
-    }
+    )?;
+    Ok(Case { header, tables })
 }
 
 // The file of the two files' cases joined, at the start of out, and how long it is; or the first refusal, which touches nothing: of reading the first, of

@@ -22,7 +22,7 @@ const MOST_SECOND: usize = MOST_BYTES + 1;
 fn write_joined<W: Write>(to: &mut W, first: &[u8], second: &[u8]) -> io::Result<()> {
     let mut out = [0; MOST_FILE];
     match join_files(first, second, &mut out) {
-        Err(f) => writeln!(to, "RF {} {}", f.number(), f.index()),
+        Err(f) => writeln!(to, "RF {f}"),
         Ok(n) => to.write_all(&out[..n]),
     }
 }

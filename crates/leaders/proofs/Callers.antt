@@ -9,11 +9,12 @@ use borrow.Author.Tests.{eq-eqb, le-leb}
 use lib.ListN.{length}
 use Rattle.loops.proofs.Bools.{and_of}
 use Rattle.loops.proofs.Scan.{pass_all}
-use Rattle.refusal.specs.declared.Answer.{Answer}
-use Rattle.refusal.specs.declared.Answer.TheVariants.{Answered}
 use Rattle.leaders.specs.Leaders.{leaders_of}
 use Rattle.leaders.specs.Operation.{corridor_ok_at, faulty_corridor, check_of, outcome, led_outcome, led_by}
 use Rattle.leaders.proofs.Checks.{passed}
+use Rattle.std.specs.Prelude.{Ok, Result}
+use Rattle.refusal.specs.declared.Refusal.{Refusal}
+use Rattle.refusal.specs.Reply.{no_refusal}
 
 module _ (buses corridors : ℕ) (a b leader : List ℕ) where
   pub record Accepted : Type 0 where
@@ -24,7 +25,7 @@ module _ (buses corridors : ℕ) (a b leader : List ℕ) where
     pub places : length leader ≡ buses
     pub ends : (k : ℕ) → k < corridors → corridor_ok_at buses a b k ≡ true
 
-  accepted : Accepted → Answered ≡ check_of buses corridors a b (length leader)
+  accepted : Accepted → no_refusal ≡ check_of buses corridors a b (length leader)
   unfolding faulty_corridor
   accepted s =
       passed buses corridors a b (length leader) (faulty_corridor buses a b) refl
@@ -33,9 +34,9 @@ module _ (buses corridors : ℕ) (a b leader : List ℕ) where
       (let e : faulty_corridor buses a b ≡ length a = pass_all (corridor_ok_at buses a b) (length a) (λ k h. s.ends k (omega (arith, s.a_length))) in
       omega arith)
 
-  pub answers : Accepted → (r : Answer) (l : List ℕ) → outcome r l ≡ led_outcome buses corridors a b leader → outcome r l ≡ outcome Answered (leaders_of buses a b)
+  pub answers : Accepted → (r : Result (Unit {0}) Refusal) (l : List ℕ) → outcome r l ≡ led_outcome buses corridors a b leader → outcome r l ≡ outcome no_refusal (leaders_of buses a b)
   unfolding led_outcome led_by
   answers s r l e = e ∙ ap (led_by buses a b leader) (sym (accepted s))
 
-  pub holds : Accepted → (r : Answer) (l : List ℕ) → outcome r l ≡ led_outcome buses corridors a b leader → l ≡ leaders_of buses a b
+  pub holds : Accepted → (r : Result (Unit {0}) Refusal) (l : List ℕ) → outcome r l ≡ led_outcome buses corridors a b leader → l ≡ leaders_of buses a b
   holds s r l e = ap (λ o. o.leader) (answers s r l e)

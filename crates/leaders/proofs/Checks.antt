@@ -12,9 +12,10 @@ use Rattle.loops.proofs.Bools.{both, unequal}
 use Rattle.loops.proofs.Scan.{all_pass}
 use Rattle.refusal.specs.declared.Refusal.{Refusal}
 use Rattle.refusal.specs.declared.Refusal.TheVariants.{Length, Count, Corridor}
-use Rattle.refusal.specs.declared.Answer.TheVariants.{Answered, Refused}
 use Rattle.leaders.specs.Leaders.{leaders_of}
 use Rattle.leaders.specs.Operation.{lengths_ok, counts_ok, corridor_ok_at, faulty_corridor, check_of, Ends, outcome, led_by, led_outcome}
+use Rattle.std.specs.Prelude.{Err, Ok}
+use Rattle.refusal.specs.Reply.{no_refusal}
 
 module _ (buses corridors : ℕ) (a b : List ℕ) (places : ℕ) where
   abbrev lengths : Bool
@@ -23,20 +24,20 @@ module _ (buses corridors : ℕ) (a b : List ℕ) (places : ℕ) where
   abbrev counts : Bool
   counts = counts_ok buses corridors
 
-  pub length_refused : lengths ≡ false → Refused Length ≡ check_of buses corridors a b places
+  pub length_refused : lengths ≡ false → Err Length ≡ check_of buses corridors a b places
   unfolding check_of
   length_refused e = rw e
 
-  pub count_refused : lengths ≡ true → counts ≡ false → Refused Count ≡ check_of buses corridors a b places
+  pub count_refused : lengths ≡ true → counts ≡ false → Err Count ≡ check_of buses corridors a b places
   unfolding check_of
   count_refused e f = rw (e, f)
 
   module _ (k : ℕ) (found : k ≡ faulty_corridor buses a b) where
-    pub corridor_refused : lengths ≡ true → counts ≡ true → k < length a → Refused (Corridor k) ≡ check_of buses corridors a b places
+    pub corridor_refused : lengths ≡ true → counts ≡ true → k < length a → Err (Corridor k) ≡ check_of buses corridors a b places
     unfolding check_of
     corridor_refused e f h = rw (e, f, ← found, lt-ltb k (length a) h)
 
-    pub passed : lengths ≡ true → counts ≡ true → length a ≤ k → Answered ≡ check_of buses corridors a b places
+    pub passed : lengths ≡ true → counts ≡ true → length a ≤ k → no_refusal ≡ check_of buses corridors a b places
     unfolding check_of
     passed e f h = rw (e, f, ← found, le-ltb k (length a) h)
 
@@ -68,12 +69,12 @@ module _ (buses corridors : ℕ) (a b : List ℕ) (places : ℕ) where
         ends = record { even = lengths_even buses corridors a b places e; from = λ k l. (two_buses h k l).0; to = λ k l. (two_buses h k l).1 };
       }
 
-  pub passes : Answered ≡ check_of buses corridors a b places → Sound buses a b places
+  pub passes : no_refusal ≡ check_of buses corridors a b places → Sound buses a b places
   unfolding check_of
   passes e = go (lengths buses corridors a b places) (counts buses corridors a b places) (ltb (faulty_corridor buses a b) (length a)) refl refl refl e
     where
       go : (p q r : Bool) → lengths buses corridors a b places ≡ p → counts buses corridors a b places ≡ q → ltb (faulty_corridor buses a b) (length a) ≡ r
-          → Answered ≡ cond p (cond q (cond r (Refused (Corridor (faulty_corridor buses a b))) Answered) (Refused Count)) (Refused Length)
+          → no_refusal ≡ cond p (cond q (cond r (Err (Corridor (faulty_corridor buses a b))) no_refusal) (Err Count)) (Err Length)
           → Sound buses a b places
       go false q r s t u h = absurd (unequal cc)
       go true false r s t u h = absurd (unequal cc)
@@ -89,12 +90,12 @@ ends_more m n a b h e = record { even = e.even; from = λ k l. omega (arith, e.f
 
 -- ---- the outcome of each way
 module _ (buses corridors : ℕ) (a b leader : List ℕ) where
-  pub refused_outcome : (f : Refusal) → Refused f ≡ check_of buses corridors a b (length leader) → outcome (Refused f) leader ≡ led_outcome buses corridors a b leader
+  pub refused_outcome : (f : Refusal) → Err f ≡ check_of buses corridors a b (length leader) → outcome (Err f) leader ≡ led_outcome buses corridors a b leader
   unfolding led_outcome led_by
   refused_outcome f e = ap (led_by buses a b leader) e
 
-  pub answered_outcome : (l : List ℕ) → Answered ≡ check_of buses corridors a b (length leader) → l ≡ leaders_of (length leader) a b
-      → outcome Answered l ≡ led_outcome buses corridors a b leader
+  pub answered_outcome : (l : List ℕ) → no_refusal ≡ check_of buses corridors a b (length leader) → l ≡ leaders_of (length leader) a b
+      → outcome no_refusal l ≡ led_outcome buses corridors a b leader
   unfolding led_outcome led_by
   answered_outcome l e d =
-      ap (outcome Answered) (d ∙ ap (λ (n : ℕ). leaders_of n a b) (passes buses corridors a b (length leader) e).size) ∙ ap (led_by buses a b leader) e
+      ap (outcome no_refusal) (d ∙ ap (λ (n : ℕ). leaders_of n a b) (passes buses corridors a b (length leader) e).size) ∙ ap (led_by buses a b leader) e

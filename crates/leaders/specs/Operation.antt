@@ -1,11 +1,10 @@
 -- Document 01, refusals of *Leaders*: 1 slice length; 2 count; 6 an end not below the buses, or equal ends. Slices keep their contents.
-use Rattle.std.specs.Prelude.{ℕ, ◌<◌, Bool, not, cond, ◌&&◌, List, ◌≡◌, ltb, leb, eqb, length, get_or}
+use Rattle.std.specs.Prelude.{ℕ, ◌<◌, Bool, not, cond, ◌&&◌, List, ◌≡◌, ltb, leb, eqb, length, get_or, Err, Ok, Result}
 use Rattle.loops.specs.Loops.{first}
-use Rattle.refusal.specs.Reply.{Reply, reply_of}
+use Rattle.refusal.specs.Reply.{Reply, reply_of, no_refusal}
 use Rattle.refusal.specs.declared.Refusal.TheVariants.{Length, Count, Corridor}
-use Rattle.refusal.specs.declared.Answer.{Answer}
-use Rattle.refusal.specs.declared.Answer.TheVariants.{Answered, Refused}
 use Rattle.leaders.specs.Leaders.{leaders_of}
+use Rattle.refusal.specs.declared.Refusal.{Refusal}
 
 -- ---- the refusals, by the lengths of the two columns of ends and of the result
 abbrev pub lengths_ok : ℕ → ℕ → ℕ → ℕ → ℕ → Bool
@@ -25,25 +24,25 @@ corridor_ok_at buses a b k = corridor_ok buses (get_or a k 0) (get_or b k 0)
 unfoldable pub faulty_corridor : ℕ → List ℕ → List ℕ → ℕ
 faulty_corridor buses a b = first (corridor_ok_at buses a b) (length a) 0
 
-unfoldable pub check_of : ℕ → ℕ → List ℕ → List ℕ → ℕ → Answer
+unfoldable pub check_of : ℕ → ℕ → List ℕ → List ℕ → ℕ → Result (Unit {0}) Refusal
 check_of buses corridors a b places =
     cond (lengths_ok buses corridors (length a) (length b) places)
     (cond (counts_ok buses corridors)
-    (cond (ltb (faulty_corridor buses a b) (length a)) (Refused (Corridor (faulty_corridor buses a b))) Answered)
-    (Refused Count))
-    (Refused Length)
+    (cond (ltb (faulty_corridor buses a b) (length a)) (Err (Corridor (faulty_corridor buses a b))) no_refusal)
+    (Err Count))
+    (Err Length)
 
 -- ---- the answer, and what the result holds then
 pub record Outcome : Type 0 where
   pub reply : Reply (Unit {0})
   pub leader : List ℕ
 
-abbrev pub outcome : Answer → List ℕ → Outcome
+abbrev pub outcome : Result (Unit {0}) Refusal → List ℕ → Outcome
 outcome r leader = record { reply = reply_of r; leader = leader }
 
-unfoldable pub led_by : ℕ → List ℕ → List ℕ → List ℕ → Answer → Outcome
-led_by buses a b leader Answered = outcome Answered (leaders_of buses a b)
-led_by buses a b leader (Refused f) = outcome (Refused f) leader
+unfoldable pub led_by : ℕ → List ℕ → List ℕ → List ℕ → Result (Unit {0}) Refusal → Outcome
+led_by buses a b leader (Ok tt) = outcome no_refusal (leaders_of buses a b)
+led_by buses a b leader (Err f) = outcome (Err f) leader
 
 unfoldable pub led_outcome : ℕ → ℕ → List ℕ → List ℕ → List ℕ → Outcome
 led_outcome buses corridors a b leader = led_by buses a b leader (check_of buses corridors a b (length leader))

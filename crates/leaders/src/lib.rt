@@ -5,11 +5,12 @@
 #![tactic(auto)]
 
 ghost use Rattle.std.specs.Prelude.{cond, ◌≡◌, ◌<◌, ◌≤◌, length};
+ghost use Rattle.loops.specs.Loops.{fault};
 ghost use Rattle.leaders.specs.Leaders.{themselves, leaders_of};
-ghost use Rattle.leaders.specs.Operation.{lengths_ok, counts_ok, corridor_ok, Ends, faulty_corridor, check_of, outcome, led_outcome};
+ghost use Rattle.leaders.specs.Operation.{lengths_ok, counts_ok, corridor_ok, corridor_ok_at, Ends, faulty_corridor, check_of, outcome, led_outcome};
 ghost use Rattle.leaders.specs.Forest.{Down, Root, Found, Joined, AllJoined, HandedOut};
 
-use refusal::{Answer, Refusal};
+use refusal::Refusal;
 
 // A bus fits a byte.
 const MOST_BUSES: usize = 256;
@@ -145,46 +146,47 @@ fn corridor_ok(buses: usize, a: usize, b: usize) -> bool
     (a < buses) & (b < buses) & !(a == b)
 }
 
-// The first corridor with a wrong end, the number of corridors where there is none.
-fn faulty_corridor(buses: usize, a: &[u32], b: &[u32]) -> usize
+// The first corridor with a wrong end.
+fn faulty_corridor(buses: usize, a: &[u32], b: &[u32]) -> Option<usize>
     requires { length b.now ≡ length a.now }
-    ensures { result ≡ faulty_corridor buses a.now b.now }
+    ensures { result ≡ fault (corridor_ok_at buses a.now b.now) (length a.now) }
 {
-    let mut k = 0;
-    while k < a.len() {
-        if !corridor_ok(buses, wide(a[k]), wide(b[k])) {
-            return k;
-        }
-        k += 1;
-    }
-    k
+    loops::first_fault(
+        a.len(),
+        |k| corridor_ok(buses, a[k] as usize, b[k] as usize),
+    )
 }
 
 // The refusals, in order.
-fn check(buses: usize, corridors: usize, a: &[u32], b: &[u32], places: usize) -> Answer
+#[tactic(auto, using(loops::proofs::Scan::fault_some, loops::proofs::Scan::fault_passed), unfolding(crate::specs::Operation::check_of, crate::specs::Operation::faulty_corridor))]
+fn check(buses: usize, corridors: usize, a: &[u32], b: &[u32], places: usize) -> Result<(), Refusal>
     ensures { result ≡ check_of buses corridors a.now b.now places }
 {
     if !lengths_ok(buses, corridors, a.len(), b.len(), places) {
-        return Answer::Refused(Refusal::Length);
+        return Err(Refusal::Length);
     }
     if !counts_ok(buses, corridors) {
-        return Answer::Refused(Refusal::Count);
+        return Err(Refusal::Count);
     }
-    let k = faulty_corridor(buses, a, b);
-    if k < a.len() {
-        return Answer::Refused(Refusal::Corridor(k));
+    if let Some(k) = faulty_corridor(buses, a, b) {
+        return Err(Refusal::Corridor(k));
     }
-    Answer::Answered
+    Ok(())
 }
 
 // Leaves each bus's leader in `leader`; where the request is refused, `leader` keeps its contents.
-pub fn leaders(buses: usize, corridors: usize, a: &[u32], b: &[u32], leader: &mut [u32]) -> Answer
+#[tactic(auto, using(crate::proofs::Checks::passes, crate::proofs::Checks::ends_of_lem, crate::proofs::Checks::refused_outcome, crate::proofs::Checks::answered_outcome))]
+pub fn leaders(
+    buses: usize,
+    corridors: usize,
+    a: &[u32],
+    b: &[u32],
+    leader: &mut [u32],
+) -> Result<(), Refusal>
     ensures { outcome result leader.new
         ≡ led_outcome buses corridors a.now b.now leader.old }
 {
-    match check(buses, corridors, a, b, leader.len()) {
-        Answer::Refused(f) => return Answer::Refused(f),
-        Answer::Answered => lead(a, b, leader),
-    }
-    Answer::Answered
+    check(buses, corridors, a, b, leader.len())?;
+    lead(a, b, leader);
+    Ok(())
 }

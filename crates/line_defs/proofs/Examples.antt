@@ -7,8 +7,6 @@ use Rattle.loops.specs.Figures.{decimal}
 use Rattle.loops.specs.Loops.{first}
 use Rattle.loops.specs.Parts.{part}
 use Rattle.refusal.specs.declared.Refusal.TheVariants.{Length, Level, Corridor, Spread}
-use Rattle.refusal.specs.declared.Answer.{Answer}
-use Rattle.refusal.specs.declared.Answer.TheVariants.{Answered, Refused}
 use Rattle.root.specs.Root.{root}
 use Rattle.line_defs.specs.Grid.{on_grid}
 use Rattle.line_defs.specs.Spread.{fifth_root, kept_spread}
@@ -18,6 +16,9 @@ use Rattle.line_defs.specs.Row.{class_row, line_row}
 use Rattle.line_defs.specs.Request.{faulty, check_of}
 use Rattle.line_defs.specs.Sheet.{figures_of, row_at, figure_at}
 use Rattle.line_defs.specs.Rows.{sheets_ok, corridor_rows}
+use Rattle.std.specs.Prelude.{Err, Ok, Result}
+use Rattle.refusal.specs.declared.Refusal.{Refusal}
+use Rattle.refusal.specs.Reply.{no_refusal}
 
 abbrev figure : ℕ → Float
 figure b = of_bits binary64 b
@@ -55,7 +56,7 @@ unfolding row_bits
 rows = refl
 
 -- the first refusal in order: one level of 0 kV, a length of -1 km and a spread of 5 in one request, mended one after the other
-abbrev asked : ℕ → Float → Float → Float → Answer
+abbrev asked : ℕ → Float → Float → Float → Result (Unit {0}) Refusal
 asked places kv km s = check_of 1 1 (kv ∷ []) (km ∷ []) (s ∷ []) places
 
 pub refusals :
@@ -65,7 +66,7 @@ pub refusals :
     ∷ asked 5 (decimal 69 1) (decimal 0 1) (decimal 5 1)
     ∷ asked 5 (decimal 69 1) (decimal 0 1) (decimal 4 1)
     ∷ []
-    ≡ Refused Length ∷ Refused (Level 0) ∷ Refused (Corridor 0) ∷ Refused (Spread 0) ∷ Answered ∷ []
+    ≡ Err Length ∷ Err (Level 0) ∷ Err (Corridor 0) ∷ Err (Spread 0) ∷ no_refusal ∷ []
 unfolding check_of faulty first lt le add neg of_bits round
 refusals = refl
 

@@ -1,14 +1,13 @@
 -- K8's refusals: 1 slice length; 2 count; 3 ladder; 6 a corridor's length; "22 when spread is outside 0.25 to 4, after 1, 2, 3 and 6". Document 01: ladder kV in (0, 10,000], each greater than the next plus 1e-6, that sum rounded; length 0 to 10,000 km.
-use Rattle.std.specs.Prelude.{ℕ, ◌+◌, ◌<◌, Bool, true, cond, ◌&&◌, ◌||◌, List, [], ◌∷◌, ◌≡◌, refl, leb, ltb, eqb, length, Float}
+use Rattle.std.specs.Prelude.{ℕ, ◌+◌, ◌<◌, Bool, true, cond, ◌&&◌, ◌||◌, List, [], ◌∷◌, ◌≡◌, refl, leb, ltb, eqb, length, Float, Err, Ok, Result}
 use Rattle.std.specs.Float.{binary64}
 use Rattle.std.specs.Float.Ieee.{of_bits, round, lt, le}
 use Rattle.loops.specs.Figures.{at, plus, nought, ten_thousand, millionth, inside, decimal}
 use Rattle.loops.specs.Loops.{first}
 use Rattle.refusal.specs.declared.Refusal.{Refusal}
 use Rattle.refusal.specs.declared.Refusal.TheVariants.{Length, Count, Level, Corridor, Spread}
-use Rattle.refusal.specs.declared.Answer.{Answer}
-use Rattle.refusal.specs.declared.Answer.TheVariants.{Answered, Refused}
 use Rattle.line_defs.specs.Rows.{counts_ok, sheet_figures}
+use Rattle.refusal.specs.Reply.{no_refusal}
 
 -- ---- 1: ladder, lengths, spreads and the sheet, by their numbers of places
 abbrev pub lengths_ok : ℕ → ℕ → ℕ → ℕ → ℕ → ℕ → Bool
@@ -43,16 +42,16 @@ spread_ok spread k = inside quarter four (at spread k)
 unfoldable pub faulty : (List Float → ℕ → Bool) → List Float → ℕ
 faulty ok l = first (ok l) (length l) 0
 
-abbrev pub fault_in : (List Float → ℕ → Bool) → (ℕ → Refusal) → List Float → Answer → Answer
-fault_in ok fault l next = cond (ltb (faulty ok l) (length l)) (Refused (fault (faulty ok l))) next
+abbrev pub fault_in : (List Float → ℕ → Bool) → (ℕ → Refusal) → List Float → Result (Unit {0}) Refusal → Result (Unit {0}) Refusal
+fault_in ok fault l next = cond (ltb (faulty ok l) (length l)) (Err (fault (faulty ok l))) next
 
-unfoldable pub check_of : ℕ → ℕ → List Float → List Float → List Float → ℕ → Answer
+unfoldable pub check_of : ℕ → ℕ → List Float → List Float → List Float → ℕ → Result (Unit {0}) Refusal
 check_of levels corridors ladder km spread sheet =
     cond (lengths_ok levels corridors (length ladder) (length km) (length spread) sheet)
     (cond (counts_ok levels corridors)
-    (fault_in level_ok Level ladder (fault_in length_ok Corridor km (fault_in spread_ok Spread spread Answered)))
-    (Refused Count))
-    (Refused Length)
+    (fault_in level_ok Level ladder (fault_in length_ok Corridor km (fault_in spread_ok Spread spread no_refusal)))
+    (Err Count))
+    (Err Length)
 
 -- what tables that pass have, as far as the work needs it
 pub record Sound (levels corridors : ℕ) (ladder km spread : List Float) : Type 0 where

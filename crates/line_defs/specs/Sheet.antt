@@ -1,16 +1,15 @@
 -- K8: "Work out the line sheet here": all levels of corridor 0 first, five figures to a row, basis last.
-use Rattle.std.specs.Prelude.{ℕ, ◌/◌, ◌%◌, ◌<◌, List, [], ◌∷◌, length, Float}
+use Rattle.std.specs.Prelude.{ℕ, ◌/◌, ◌%◌, ◌<◌, List, [], ◌∷◌, length, Float, Err, Ok, Result}
 use Rattle.loops.specs.Figures.{at}
 use Rattle.loops.specs.Loops.{tab}
-use Rattle.refusal.specs.Reply.{Reply, reply_of}
-use Rattle.refusal.specs.declared.Answer.{Answer}
-use Rattle.refusal.specs.declared.Answer.TheVariants.{Answered, Refused}
+use Rattle.refusal.specs.Reply.{Reply, reply_of, no_refusal}
 use Rattle.line_defs.specs.declared.Row.{Row}
 use Rattle.line_defs.specs.Rows.{row_figures, sheet_figures}
 use Rattle.line_defs.specs.Row.{line_row}
 use Rattle.line_defs.specs.Spread.{kept_spread, PowerWithin}
 use Rattle.line_defs.specs.Loadability.{loadability_of, Loadable}
 use Rattle.line_defs.specs.Request.{check_of}
+use Rattle.refusal.specs.declared.Refusal.{Refusal}
 
 -- the row of corridor k at level l
 unfoldable pub row_at : List Float → List Float → List Float → ℕ → ℕ → Row
@@ -32,12 +31,12 @@ pub record Outcome : Type 0 where
   pub reply : Reply (Unit {0})
   pub sheet : List Float
 
-abbrev pub outcome : Answer → List Float → Outcome
+abbrev pub outcome : Result (Unit {0}) Refusal → List Float → Outcome
 outcome r sheet = record { reply = reply_of r; sheet = sheet }
 
-unfoldable pub worked_by : ℕ → ℕ → List Float → List Float → List Float → List Float → Answer → Outcome
-worked_by levels corridors ladder km spread sheet Answered = outcome Answered (sheet_of levels corridors ladder km spread)
-worked_by levels corridors ladder km spread sheet (Refused f) = outcome (Refused f) sheet
+unfoldable pub worked_by : ℕ → ℕ → List Float → List Float → List Float → List Float → Result (Unit {0}) Refusal → Outcome
+worked_by levels corridors ladder km spread sheet (Ok tt) = outcome no_refusal (sheet_of levels corridors ladder km spread)
+worked_by levels corridors ladder km spread sheet (Err f) = outcome (Err f) sheet
 
 unfoldable pub line_sheet : ℕ → ℕ → List Float → List Float → List Float → List Float → Outcome
 line_sheet levels corridors ladder km spread sheet =
@@ -48,6 +47,6 @@ pub record Within (corridors : ℕ) (km spread : List Float) : Type 0 where
   pub powers : (k : ℕ) → k < corridors → PowerWithin (at spread k) (kept_spread (at spread k))
   pub loads : (k : ℕ) → k < corridors → Loadable (at km k) (loadability_of (at km k))
 
-abbrev pub WhereAnswered : Answer → ℕ → List Float → List Float → Type 0
-WhereAnswered Answered corridors km spread = Within corridors km spread
-WhereAnswered (Refused f) corridors km spread = Unit
+abbrev pub WhereAnswered : Result (Unit {0}) Refusal → ℕ → List Float → List Float → Type 0
+WhereAnswered (Ok tt) corridors km spread = Within corridors km spread
+WhereAnswered (Err f) corridors km spread = Unit

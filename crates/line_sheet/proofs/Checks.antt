@@ -9,11 +9,11 @@ use Rattle.loops.proofs.Products.{rows_are}
 use Rattle.loops.proofs.Scan.{all_pass}
 use Rattle.refusal.specs.declared.Refusal.{Refusal}
 use Rattle.refusal.specs.declared.Refusal.TheVariants.{Length, Count, Level, Corridor, Spread as Width}
-use Rattle.refusal.specs.declared.Answer.{Answer}
-use Rattle.refusal.specs.declared.Answer.TheVariants.{Answered, Refused}
 use Rattle.line_defs.specs.Bounds.{Spread}
 use Rattle.line_defs.specs.Rows.{counts_ok, sheet_figures}
 use Rattle.line_defs.specs.Request.{lengths_ok, level_ok, length_ok, spread_ok, quarter, four, faulty, fault_in, check_of, Sound}
+use Rattle.std.specs.Prelude.{Err, Ok, Result}
+use Rattle.refusal.specs.Reply.{no_refusal}
 
 pub sheet_is : (figures levels corridors : ℕ) → figures % 5 ≡ 0 → eqb (figures / 5) (corridors * levels) ≡ eqb figures (sheet_figures levels corridors)
 sheet_is figures levels corridors e = rows_are 5 figures (corridors * levels) e (λ e. let z : ◌≡◌ {A = ℕ} 5 0 = e in omega arith)
@@ -57,13 +57,13 @@ spread_of_lem s e =
     most n d h = omega arith
 
 -- ---- the check, passed
-passed_fault : (ok : List Float → ℕ → Bool) (fault : ℕ → Refusal) (l : List Float) (next : Answer) → fault_in ok fault l next ≡ Answered → (length l ≤ faulty ok l) × (next ≡ Answered)
+passed_fault : (ok : List Float → ℕ → Bool) (fault : ℕ → Refusal) (l : List Float) (next : Result (Unit {0}) Refusal) → fault_in ok fault l next ≡ no_refusal → (length l ≤ faulty ok l) × (next ≡ no_refusal)
 passed_fault ok fault l next e = go (ltb (faulty ok l) (length l)) refl e
   where
-    go : (b : Bool) → ltb (faulty ok l) (length l) ≡ b → cond b (Refused (fault (faulty ok l))) next ≡ Answered → (length l ≤ faulty ok l) × (next ≡ Answered)
+    go : (b : Bool) → ltb (faulty ok l) (length l) ≡ b → cond b (Err (fault (faulty ok l))) next ≡ no_refusal → (length l ≤ faulty ok l) × (next ≡ no_refusal)
     go true f g = absurd (apart g)
       where
-        apart : Refused (fault (faulty ok l)) ≡ Answered → ⊥
+        apart : Err (fault (faulty ok l)) ≡ no_refusal → ⊥
         apart g = unequal cc
     go false f g = (ltb-false (faulty ok l) (length l) f, g)
 
@@ -75,12 +75,12 @@ pub record Passed (levels corridors : ℕ) (ladder km spread : List Float) (shee
   pub sound : Sound levels corridors ladder km spread
   pub sheet_length : sheet ≡ sheet_figures levels corridors
 
-pub passed : (levels corridors : ℕ) (ladder km spread : List Float) (sheet : ℕ) → check_of levels corridors ladder km spread sheet ≡ Answered → Passed levels corridors ladder km spread sheet
+pub passed : (levels corridors : ℕ) (ladder km spread : List Float) (sheet : ℕ) → check_of levels corridors ladder km spread sheet ≡ no_refusal → Passed levels corridors ladder km spread sheet
 unfolding check_of
 passed levels corridors ladder km spread sheet e = lengths (lengths_ok levels corridors (length ladder) (length km) (length spread) sheet) (counts_ok levels corridors) refl refl e
   where
     lengths : (a b : Bool) → lengths_ok levels corridors (length ladder) (length km) (length spread) sheet ≡ a → counts_ok levels corridors ≡ b
-        → cond a (cond b (fault_in level_ok Level ladder (fault_in length_ok Corridor km (fault_in spread_ok Width spread Answered))) (Refused Count)) (Refused Length) ≡ Answered
+        → cond a (cond b (fault_in level_ok Level ladder (fault_in length_ok Corridor km (fault_in spread_ok Width spread no_refusal))) (Err Count)) (Err Length) ≡ no_refusal
         → Passed levels corridors ladder km spread sheet
     lengths false b p q r = absurd (unequal cc)
     lengths true false p q r = absurd (unequal cc)
@@ -105,34 +105,34 @@ passed levels corridors ladder km spread sheet e = lengths (lengths_ok levels co
 
 -- ---- the check by its tests
 module _ (levels corridors : ℕ) (ladder km spread : List Float) (sheet : ℕ) where
-  abbrev Result : Answer → Type 0
-  Result a = a ≡ check_of levels corridors ladder km spread sheet
+  abbrev Checked : Result (Unit {0}) Refusal → Type 0
+  Checked a = a ≡ check_of levels corridors ladder km spread sheet
 
   abbrev Lengths : Bool → Type 0
   Lengths b = lengths_ok levels corridors (length ladder) (length km) (length spread) sheet ≡ b
 
-  pub not_lengths : Lengths false → Result (Refused Length)
+  pub not_lengths : Lengths false → Checked (Err Length)
   unfolding check_of
   not_lengths a = rw a
 
-  pub not_counts : Lengths true → counts_ok levels corridors ≡ false → Result (Refused Count)
+  pub not_counts : Lengths true → counts_ok levels corridors ≡ false → Checked (Err Count)
   unfolding check_of
   not_counts a b = rw (a, b)
 
-  pub bad_level : (i : ℕ) → Lengths true → counts_ok levels corridors ≡ true → i ≡ faulty level_ok ladder → i < length ladder → Result (Refused (Level i))
+  pub bad_level : (i : ℕ) → Lengths true → counts_ok levels corridors ≡ true → i ≡ faulty level_ok ladder → i < length ladder → Checked (Err (Level i))
   unfolding check_of
   bad_level i a b e h = rw (a, b, ← e, lt-ltb i (length ladder) h)
 
-  pub bad_length : (i j : ℕ) → Lengths true → counts_ok levels corridors ≡ true → i ≡ faulty level_ok ladder → length ladder ≤ i → j ≡ faulty length_ok km → j < length km → Result (Refused (Corridor j))
+  pub bad_length : (i j : ℕ) → Lengths true → counts_ok levels corridors ≡ true → i ≡ faulty level_ok ladder → length ladder ≤ i → j ≡ faulty length_ok km → j < length km → Checked (Err (Corridor j))
   unfolding check_of
   bad_length i j a b e h f g = rw (a, b, ← e, le-ltb i (length ladder) h, ← f, lt-ltb j (length km) g)
 
   pub bad_spread : (i j k : ℕ) → Lengths true → counts_ok levels corridors ≡ true → i ≡ faulty level_ok ladder → length ladder ≤ i → j ≡ faulty length_ok km → length km ≤ j
-      → k ≡ faulty spread_ok spread → k < length spread → Result (Refused (Width k))
+      → k ≡ faulty spread_ok spread → k < length spread → Checked (Err (Width k))
   unfolding check_of
   bad_spread i j k a b e h f g l m = rw (a, b, ← e, le-ltb i (length ladder) h, ← f, le-ltb j (length km) g, ← l, lt-ltb k (length spread) m)
 
   pub all_sound : (i j k : ℕ) → Lengths true → counts_ok levels corridors ≡ true → i ≡ faulty level_ok ladder → length ladder ≤ i → j ≡ faulty length_ok km → length km ≤ j
-      → k ≡ faulty spread_ok spread → length spread ≤ k → Result Answered
+      → k ≡ faulty spread_ok spread → length spread ≤ k → Checked no_refusal
   unfolding check_of
   all_sound i j k a b e h f g l m = rw (a, b, ← e, le-ltb i (length ladder) h, ← f, le-ltb j (length km) g, ← l, le-ltb k (length spread) m)

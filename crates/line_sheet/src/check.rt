@@ -5,7 +5,7 @@ ghost use Rattle.line_defs.specs.Rows.{sheet_figures};
 ghost use Rattle.line_defs.specs.Request.{lengths_ok, level_ok, length_ok, spread_ok, faulty, check_of};
 
 use crate::rows::{ROW_FIGURES, counts_ok};
-use refusal::{Answer, Refusal};
+use refusal::Refusal;
 
 const MOST_KV: f64 = 10000.0;
 
@@ -120,7 +120,7 @@ pub fn check(
     km: &[f64],
     spread: &[f64],
     sheet: usize,
-) -> Answer
+) -> Result<(), Refusal>
     ensures { result ≡ check_of levels corridors ladder.now km.now spread.now sheet }
 {
     if !lengths_ok(
@@ -131,22 +131,22 @@ pub fn check(
         spread.len(),
         sheet,
     ) {
-        return Answer::Refused(Refusal::Length);
+        return Err(Refusal::Length);
     }
     if !counts_ok(levels, corridors) {
-        return Answer::Refused(Refusal::Count);
+        return Err(Refusal::Count);
     }
     let level = faulty_level(ladder);
     if level < ladder.len() {
-        return Answer::Refused(Refusal::Level(level));
+        return Err(Refusal::Level(level));
     }
     let length = faulty_length(km);
     if length < km.len() {
-        return Answer::Refused(Refusal::Corridor(length));
+        return Err(Refusal::Corridor(length));
     }
     let width = faulty_spread(spread);
     if width < spread.len() {
-        return Answer::Refused(Refusal::Spread(width));
+        return Err(Refusal::Spread(width));
     }
-    Answer::Answered
+    Ok(())
 }

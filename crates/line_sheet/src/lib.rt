@@ -6,7 +6,7 @@ ghost use Rattle.line_defs.specs.Rows.{corridor_rows};
 ghost use Rattle.line_defs.specs.Sheet.{outcome, line_sheet, WhereAnswered};
 
 use crate::rows::{ROW_FIGURES, sheets_ok};
-use refusal::Answer;
+use refusal::Refusal;
 
 mod check;
 mod figures;
@@ -21,6 +21,7 @@ mod wide;
 
 // Writes a row for each corridor and level: r, x, b, rate, basis (0 thermal, 1 loadability), all levels of corridor 0 first. Reads
 // the levels' kV, and each corridor's length in km and impedance spread.
+#[tactic(auto, using(crate::proofs::Checks::passed, crate::proofs::Operation::is_refused_lem, crate::proofs::Operation::is_worked, crate::proofs::Operation::within))]
 pub fn line_sheet(
     levels: usize,
     corridors: usize,
@@ -28,17 +29,13 @@ pub fn line_sheet(
     km: &[f64],
     spread: &[f64],
     sheet: &mut [f64],
-) -> Answer
+) -> Result<(), Refusal>
     ensures sheet_after { outcome result sheet.new ≡ line_sheet levels corridors ladder.now km.now spread.now sheet.old }
     ensures bounds { WhereAnswered result corridors km.now spread.now }
 {
-    match check::check(levels, corridors, ladder, km, spread, sheet.len()) {
-        Answer::Refused(f) => Answer::Refused(f),
-        Answer::Answered => {
-            sheet::fill(levels, corridors, ladder, km, spread, sheet);
-            Answer::Answered
-        }
-    }
+    check::check(levels, corridors, ladder, km, spread, sheet.len())?;
+        sheet::fill(levels, corridors, ladder, km, spread, sheet);
+    Ok(())
 }
 
 // The rows of corridor k, all its levels: a part of the surveyed sheet where that has them, which holds the rows of the first

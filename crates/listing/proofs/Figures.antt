@@ -16,13 +16,13 @@ use Rattle.plan_defs.specs.declared.CircuitDesign.{CircuitDesign}
 use Rattle.casefile_defs.specs.Reading.{reading_of}
 use Rattle.casefile_defs.specs.Tables.{tables_of}
 use Rattle.casefile_defs.specs.declared.Header.{Header}
-use Rattle.casefile_defs.specs.declared.Reading.{Reading}
-use Rattle.casefile_defs.specs.declared.Reading.TheVariants.{Read}
 use Rattle.listing.specs.Text.{number, figure}
 use Rattle.listing.specs.Lines.{line, lines, refusal_line, plan_line, added_line, added_lines, ground_line, ground_lines, bus_line, bus_lines, generator_line, generator_lines, corridor_line, corridor_lines, most_line}
 use Rattle.planned_files.specs.Files.{case_in}
 use Rattle.listing.specs.Listing.{plan_text, ending_text, read_text, file_text}
 use Rattle.listing.specs.Figures.{bits_field, bits_at, figures_text}
+use Rattle.std.specs.Prelude.{Ok, Result}
+use Rattle.refusal.specs.declared.Refusal.{Refusal}
 
 lines_same : (f g : ℕ → List ℕ) → ((i : ℕ) → f i ≡ g i) → (n : ℕ) → lines f n ≡ lines g n
 unfolding lines
@@ -95,6 +95,6 @@ unfolding listing_of
 case_listing c target = one_listing c.mode (ending_of c target)
 
 -- and of a file that holds a case
-pub file_listing : (s : List ℕ) (h : Header) → reading_of s ≡ Read h → file_text s ≡ figures_text (listing_of (case_in h (tables_of s h)) h.target)
+pub file_listing : (s : List ℕ) (h : Header) → reading_of s ≡ Ok h → file_text s ≡ figures_text (listing_of (case_in h (tables_of s h)) h.target)
 unfolding file_text
-file_listing s h e = ap (λ (r : Reading). read_text s r) e ∙ case_listing (case_in h (tables_of s h)) h.target
+file_listing s h e = ap (λ (r : Result Header Refusal). read_text s r) e ∙ case_listing (case_in h (tables_of s h)) h.target

@@ -3,14 +3,16 @@
 use mathlib.Core.List.{List}
 use mathlib.Core.Path.{◌≡◌, sym, ap, ◌∙◌}
 use Prim.Native.Nat.{ℕ}
-use Rattle.refusal.specs.declared.Answer.TheVariants.{Answered}
 use Rattle.casefile_defs.specs.Moving.{moved_as, move_forward, move_back}
 use Rattle.casefile_defs.specs.Tables.{Places, held}
-use Rattle.casefile_defs.specs.declared.Reading.{Reading}
 use Rattle.casefile_theorems.proofs.Bytes.{Bytes}
 use Rattle.casefile_theorems.proofs.RoundTrip.{Alike, forward_alike, back_alike}
 use Rattle.planned_files.specs.Files.{filed, case_in, plan_of, plan_read, plan_file}
 use Rattle.listing.specs.Listing.{case_text, read_text, file_text}
+use Rattle.std.specs.Prelude.{Ok, Result}
+use Rattle.casefile_defs.specs.declared.Header.{Header}
+use Rattle.refusal.specs.declared.Refusal.{Refusal}
+use Rattle.refusal.specs.Reply.{no_refusal}
 
 pub record Same (s t : List ℕ) : Type 0 where
   pub plan : plan_file t ≡ plan_file s
@@ -20,14 +22,14 @@ same : (s t : List ℕ) → Alike s t → Same s t
 unfolding plan_file file_text held
 same s t a = record {
   plan =
-      ap (λ (r : Reading). filed (held r) (plan_read t r)) a.second
+      ap (λ (r : Result Header Refusal). filed (held r) (plan_read t r)) a.second
       ∙ ap (λ (p : Places). filed a.header (plan_of (case_in a.header p) a.header.target)) a.tables
-      ∙ sym (ap (λ (r : Reading). filed (held r) (plan_read s r)) a.first);
-  text = ap (λ (r : Reading). read_text t r) a.second ∙ ap (λ (p : Places). case_text a.header p) a.tables ∙ sym (ap (λ (r : Reading). read_text s r) a.first);
+      ∙ sym (ap (λ (r : Result Header Refusal). filed (held r) (plan_read s r)) a.first);
+  text = ap (λ (r : Result Header Refusal). read_text t r) a.second ∙ ap (λ (p : Places). case_text a.header p) a.tables ∙ sym (ap (λ (r : Result Header Refusal). read_text s r) a.first);
 }
 
-pub forward_same : (s out t : List ℕ) → Bytes s → move_forward s out ≡ moved_as Answered t → Same s t
+pub forward_same : (s out t : List ℕ) → Bytes s → move_forward s out ≡ moved_as no_refusal t → Same s t
 forward_same s out t b e = same s t (forward_alike s out t b e)
 
-pub back_same : (s out t : List ℕ) → Bytes s → move_back s out ≡ moved_as Answered t → Same s t
+pub back_same : (s out t : List ℕ) → Bytes s → move_back s out ≡ moved_as no_refusal t → Same s t
 back_same s out t b e = same s t (back_alike s out t b e)

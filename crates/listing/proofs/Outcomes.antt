@@ -15,21 +15,17 @@ use Rattle.plan_defs.specs.Case.{Case}
 use Rattle.plan_defs.specs.Plan.{Ending, unaccepted, unanswered, planned, ending_of}
 use Rattle.plan_defs.specs.Outcome.{Slices, held, summary, up_to, cleared, Outcome, outcome, outcome_by}
 use Rattle.plan_defs.specs.declared.CorridorPlan.{CorridorPlan}
-use Rattle.plan_defs.specs.declared.Planned.{Planned}
-use Rattle.plan_defs.specs.declared.Planned.TheVariants.{Answered, Refused}
 use Rattle.casefile_defs.specs.Bounds.{most_levels}
 use Rattle.casefile_defs.specs.Reading.{Small, reading_of}
 use Rattle.casefile_defs.specs.Tables.{tables_of}
 use Rattle.casefile_defs.specs.Tables.{held as headerOf}
 use Rattle.casefile_defs.specs.declared.Header.{Header}
-use Rattle.casefile_defs.specs.declared.Reading.{Reading}
-use Rattle.casefile_defs.specs.declared.Reading.TheVariants.{Read}
-use Rattle.casefile_defs.specs.declared.Reading.TheVariants.{Refused as Unread}
 use Rattle.planned_files.specs.Files.{case_in, Filed, plan_read, plan_file, filed_of}
 use Rattle.planned_files.specs.declared.PlannedFile.{PlannedFile}
 use Rattle.listing.specs.Text.{number}
 use Rattle.listing.specs.Lines.{line, refusal_line}
 use Rattle.listing.specs.Listing.{listed, planned_text, Counted, plan_text, ending_text, read_text, file_text, room_for, most_text}
+use Rattle.std.specs.Prelude.{Err, Ok, Result}
 
 -- ---- the text of what is said and left
 abbrev reply_text : PlanMode → Reply CorridorPlan → List Float → List ℕ → List ℕ → List Float → List Float → List ℕ → List Float → List Float → List ℕ
@@ -52,10 +48,10 @@ ending_text_lem mode (unanswered f) c s = refl
 ending_text_lem mode (planned p) c s = rw (front c.buses 0 p.grounds, front c.above nought p.added)
 
 -- ---- of a file
-read_text_lem : (s : List ℕ) (r : Reading) → outcome_text (headerOf r).mode (plan_read s r) ≡ read_text s r
+read_text_lem : (s : List ℕ) (r : Result Header Refusal) → outcome_text (headerOf r).mode (plan_read s r) ≡ read_text s r
 unfolding headerOf refusal_line
-read_text_lem s (Unread f) = refl
-read_text_lem s (Read h) =
+read_text_lem s (Err f) = refl
+read_text_lem s (Ok h) =
     let c = case_in h (tables_of s h) in
     ending_text_lem h.mode (ending_of c h.target) c (cleared c)
 
@@ -63,11 +59,11 @@ file_text_lem : (s : List ℕ) → outcome_text (plan_file s).header.mode (plan_
 unfolding plan_file file_text
 file_text_lem s = read_text_lem s (reading_of s)
 
-said_text : (mode : PlanMode) (r : Planned) (l : Slices)
+said_text : (mode : PlanMode) (r : Result CorridorPlan Refusal) (l : Slices)
     → planned_text mode r l.added l.ground l.tier l.angle l.mw l.circuits l.flow l.rate ≡ outcome_text mode (outcome r l)
 unfolding planned_text refusal_line
-said_text mode (Answered p) l = refl
-said_text mode (Refused f) l = refl
+said_text mode (Ok p) l = refl
+said_text mode (Err f) l = refl
 
 -- ---- an answer's counts
 abbrev Within : Reply CorridorPlan → List Float → List ℕ → Type 0
@@ -84,9 +80,9 @@ ending_holds (unanswered f) c s = tt
 ending_holds (planned p) c s =
     (omega (arith, length-append p.added (replicate (c.above - length p.added) nought)), omega (arith, length-append p.grounds (replicate (c.buses - length p.grounds) 0)))
 
-read_holds : (s : List ℕ) (r : Reading) → Holds (plan_read s r)
-read_holds s (Unread f) = tt
-read_holds s (Read h) =
+read_holds : (s : List ℕ) (r : Result Header Refusal) → Holds (plan_read s r)
+read_holds s (Err f) = tt
+read_holds s (Ok h) =
     let c = case_in h (tables_of s h) in
     ending_holds (ending_of c h.target) c (cleared c)
 
@@ -94,10 +90,10 @@ file_holds : (s : List ℕ) → Holds (plan_file s).plan
 unfolding plan_file
 file_holds s = read_holds s (reading_of s)
 
-said_counted : (r : Planned) (l : Slices) → Holds (outcome r l) → Counted r l.added l.ground
+said_counted : (r : Result CorridorPlan Refusal) (l : Slices) → Holds (outcome r l) → Counted r l.added l.ground
 unfolding Counted
-said_counted (Refused f) l w = tt
-said_counted (Answered p) l w = w
+said_counted (Err f) l w = tt
+said_counted (Ok p) l w = w
 
 few : {A : Type 0} (n k : ℕ) (xs : List A) → n ≤ k → length (take (n - 0) xs) ≤ k
 few n k xs h = omega (arith, length-take (n - 0) xs)
@@ -133,20 +129,20 @@ pub same_places : {A B : Type 0} (n k : ℕ) (xs : List A) (ys : List B) → len
 same_places n k xs ys e f = length-take n xs ∙ ap (min n) (e ∙ sym f) ∙ sym (length-take n ys)
 
 -- ---- by what was said
-pub counts_there : (r : Planned) {p : CorridorPlan} (added : List Float) (ground : List ℕ) → Counted r added ground → r ≡ Answered p → (p.added ≤ length added) × (p.grounds ≤ length ground)
+pub counts_there : (r : Result CorridorPlan Refusal) {p : CorridorPlan} (added : List Float) (ground : List ℕ) → Counted r added ground → r ≡ Ok p → (p.added ≤ length added) × (p.grounds ≤ length ground)
 unfolding Counted
-counts_there r added ground h e = subst (λ (x : Planned). Counted x added ground) e h
+counts_there r added ground h e = subst (λ (x : Result CorridorPlan Refusal). Counted x added ground) e h
 
 module _ (mode : PlanMode) (added : List Float) (ground tier : List ℕ) (angle mw : List Float) (circuits : List ℕ) (flow rate : List Float) where
-  pub refused_text : {r : Planned} {f : Refusal} → r ≡ Refused f → refusal_line f ≡ planned_text mode r added ground tier angle mw circuits flow rate
+  pub refused_text : {r : (Result CorridorPlan Refusal)} {f : Refusal} → r ≡ Err f → refusal_line f ≡ planned_text mode r added ground tier angle mw circuits flow rate
   unfolding planned_text
-  refused_text e = sym (ap (λ (x : Planned). planned_text mode x added ground tier angle mw circuits flow rate) e)
+  refused_text e = sym (ap (λ (x : Result CorridorPlan Refusal). planned_text mode x added ground tier angle mw circuits flow rate) e)
 
   -- a part is lent by its end less its start, which is 0
-  pub answered_text : {r : Planned} {p : CorridorPlan} → r ≡ Answered p
+  pub answered_text : {r : (Result CorridorPlan Refusal)} {p : CorridorPlan} → r ≡ Ok p
       → listed mode p (take (p.added - 0) added) (take (p.grounds - 0) ground) tier angle mw circuits flow rate ≡ planned_text mode r added ground tier angle mw circuits flow rate
   unfolding planned_text
   answered_text {r} {p} e =
       let k : p.added - 0 ≡ p.added = omega arith in
       let g : p.grounds - 0 ≡ p.grounds = omega arith in
-      rw (k, g) (sym (ap (λ (x : Planned). planned_text mode x added ground tier angle mw circuits flow rate) e))
+      rw (k, g) (sym (ap (λ (x : Result CorridorPlan Refusal). planned_text mode x added ground tier angle mw circuits flow rate) e))

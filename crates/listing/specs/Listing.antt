@@ -1,19 +1,15 @@
 -- The whole text of the program: of a plan, of how planning a case ends, and of a case file.
-use Rattle.std.specs.Prelude.{ℕ, ◌+◌, ◌*◌, ◌≤◌, List, map, ◌++◌, length, take, Float}
+use Rattle.std.specs.Prelude.{ℕ, ◌+◌, ◌*◌, ◌≤◌, List, map, ◌++◌, length, take, Float, Err, Ok, Result}
 use Rattle.mode.specs.declared.PlanMode.{PlanMode}
 use Rattle.plan_defs.specs.Plan.{Plan, Ending, unaccepted, unanswered, planned, ending_of}
 use Rattle.plan_defs.specs.Outcome.{summary}
 use Rattle.plan_defs.specs.declared.CorridorPlan.{CorridorPlan}
-use Rattle.plan_defs.specs.declared.Planned.{Planned}
-use Rattle.plan_defs.specs.declared.Planned.TheVariants.{Answered, Refused}
 use Rattle.casefile_defs.specs.Reading.{reading_of}
 use Rattle.casefile_defs.specs.Tables.{Places, tables_of}
 use Rattle.casefile_defs.specs.declared.Header.{Header}
-use Rattle.casefile_defs.specs.declared.Reading.{Reading}
-use Rattle.casefile_defs.specs.declared.Reading.TheVariants.{Read}
-use Rattle.casefile_defs.specs.declared.Reading.TheVariants.{Refused as Unread}
 use Rattle.planned_files.specs.Files.{case_in}
 use Rattle.listing.specs.Lines.{plan_room, line_room, refusal_line, plan_line, added_lines, ground_lines, bus_lines, generator_lines, corridor_lines, most_line}
+use Rattle.refusal.specs.declared.Refusal.{Refusal}
 
 -- PL, AD, GR, BU, GE, CO, MX
 abbrev pub listed : PlanMode → CorridorPlan → List Float → List ℕ → List ℕ → List Float → List Float → List ℕ → List Float → List Float → List ℕ
@@ -22,14 +18,14 @@ listed mode p added ground_buses tier angle mw circuits flow rate =
     ++ (added_lines added ++ (ground_lines ground_buses ++ (bus_lines tier angle ++ (generator_lines mw ++ (corridor_lines circuits flow rate ++ most_line p.loading p.spread)))))
 
 -- what planning says, with the slices that it leaves: of the levels added and the grounds it says how many there are
-unfoldable pub planned_text : PlanMode → Planned → List Float → List ℕ → List ℕ → List Float → List Float → List ℕ → List Float → List Float → List ℕ
-planned_text mode (Refused f) added ground_buses tier angle mw circuits flow rate = refusal_line f
-planned_text mode (Answered p) added ground_buses tier angle mw circuits flow rate =
+unfoldable pub planned_text : PlanMode → Result CorridorPlan Refusal → List Float → List ℕ → List ℕ → List Float → List Float → List ℕ → List Float → List Float → List ℕ
+planned_text mode (Err f) added ground_buses tier angle mw circuits flow rate = refusal_line f
+planned_text mode (Ok p) added ground_buses tier angle mw circuits flow rate =
     listed mode p (take p.added added) (take p.grounds ground_buses) tier angle mw circuits flow rate
 
-unfoldable pub Counted : Planned → List Float → List ℕ → Type 0
-Counted (Refused f) added ground_buses = Unit
-Counted (Answered p) added ground_buses = (p.added ≤ length added) × (p.grounds ≤ length ground_buses)
+unfoldable pub Counted : Result CorridorPlan Refusal → List Float → List ℕ → Type 0
+Counted (Err f) added ground_buses = Unit
+Counted (Ok p) added ground_buses = (p.added ≤ length added) × (p.grounds ≤ length ground_buses)
 
 -- ---- of the defined plan
 unfoldable pub plan_text : PlanMode → Plan → List ℕ
@@ -46,9 +42,9 @@ ending_text mode (planned p) = plan_text mode p
 abbrev pub case_text : Header → Places → List ℕ
 case_text h p = ending_text h.mode (ending_of (case_in h p) h.target)
 
-abbrev pub read_text : List ℕ → Reading → List ℕ
-read_text s (Unread f) = refusal_line f
-read_text s (Read h) = case_text h (tables_of s h)
+abbrev pub read_text : List ℕ → Result Header Refusal → List ℕ
+read_text s (Err f) = refusal_line f
+read_text s (Ok h) = case_text h (tables_of s h)
 
 -- what the program prints of a file
 unfoldable pub file_text : List ℕ → List ℕ

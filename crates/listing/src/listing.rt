@@ -6,7 +6,8 @@ ghost use Rattle.listing.specs.Listing.{listed, planned_text, Counted, room_for}
 use crate::line::{put_most, put_plan, put_refusal};
 use crate::table::{put_buses, put_corridors, put_generators, put_grounds, put_levels};
 use mode::PlanMode;
-use plan_defs::{CorridorPlan, Planned};
+use plan_defs::CorridorPlan;
+use refusal::Refusal;
 
 fn put_listing(
     out: &mut [u8],
@@ -39,7 +40,7 @@ fn put_listing(
 pub fn put_answer(
     out: &mut [u8],
     mode: PlanMode,
-    planned: Planned,
+    planned: Result<CorridorPlan, Refusal>,
     added: &[f64],
     ground: &[u32],
     tier: &[u32],
@@ -56,8 +57,8 @@ pub fn put_answer(
     ensures upper_bound { result ≤ length out.old }
 {
     match planned {
-        Planned::Refused(f) => put_refusal(out, 0, f),
-        Planned::Answered(p) => {
+        Err(f) => put_refusal(out, 0, f),
+        Ok(p) => {
             let levels = p.added as usize;
             let grounds = p.grounds as usize;
             put_listing(

@@ -3,10 +3,14 @@ use Prim.Native.Nat.{ℕ, zero, suc, ◌+◌, ◌-◌, ◌<◌, ◌≤◌, zero-
 use mathlib.Core.Bool.{Bool, true, false, cond}
 use mathlib.Core.Logic.{⊎_elim}
 use mathlib.Core.Path.{◌≡◌, refl, sym, ap, ◌∙◌}
-use native.Mathlib.Nat.{sub-zero, eq-or-lt_of_le}
+use native.Mathlib.Nat.{sub-zero, eq-or-lt_of_le, le_refl}
 use native.Mathlib.Numerals.{add-one}
 use native.Mathlib.Omega.{arith}
-use Rattle.loops.specs.Loops.{first}
+use borrow.Author.Tests.{lt-ltb, le-ltb, ltb-true, ltb-false}
+use lib.Dec.{ltb}
+use Rattle.loops.proofs.Bools.{unequal}
+use Rattle.std.specs.Prelude.{Some, None}
+use Rattle.loops.specs.Loops.{first, fault}
 use Rattle.loops.proofs.Loops.{gap, none}
 
 -- ---- the start, a turn and the end of the loop
@@ -50,3 +54,41 @@ passed ok (suc k) i h =
 
 pub pass_all : (ok : ℕ → Bool) (n : ℕ) → ((j : ℕ) → j < n → ok j ≡ true) → first ok n 0 ≡ n
 pass_all ok n h = passed ok n 0 (λ j l b. h j (omega arith)) ∙ omega arith
+
+-- ---- the search as an answer
+found : (ok : ℕ → Bool) (k i j : ℕ) → ((m : ℕ) → i ≤ m → m < j → ok m ≡ true) → i ≤ j → j < i + k → ok j ≡ false → first ok k i ≡ j
+unfolding first
+found ok zero i j h l r e = absurd (omega arith)
+found ok (suc k) i j h l r e = ⊎_elim
+    (λ q. ap (λ (b : Bool). cond b (first ok k (suc i)) i) (ap ok q ∙ e) ∙ q)
+    (λ lt. ap (λ (b : Bool). cond b (first ok k (suc i)) i) (h i (omega arith) lt) ∙ found ok k (suc i) j (λ m a b. h m (omega arith) b) (omega arith) (omega arith) e)
+    (eq-or-lt_of_le l)
+
+pub fault_at : (ok : ℕ → Bool) (n i : ℕ) → ((j : ℕ) → j < i → ok j ≡ true) → i < n → ok i ≡ false → Some i ≡ fault ok n
+unfolding fault
+fault_at ok n i h l e =
+    let at : first ok n 0 ≡ i = found ok n 0 i (λ m a b. h m b) zero-le (omega arith) e in
+    rw (at, lt-ltb i n l)
+
+pub fault_none : (ok : ℕ → Bool) (n : ℕ) → ((j : ℕ) → j < n → ok j ≡ true) → None ≡ fault ok n
+unfolding fault
+fault_none ok n h =
+    let at : first ok n 0 ≡ n = pass_all ok n h in
+    rw (at, le-ltb n n (le_refl n))
+
+-- what the answer says of the search
+pub fault_some : (ok : ℕ → Bool) (n k : ℕ) → Some k ≡ fault ok n → (k ≡ first ok n 0) × (k < n)
+unfolding fault
+fault_some ok n k e = go (ltb (first ok n 0) n) refl e
+  where
+    go : (b : Bool) → ltb (first ok n 0) n ≡ b → Some k ≡ cond b (Some (first ok n 0)) None → (k ≡ first ok n 0) × (k < n)
+    go true q h = let same : k ≡ first ok n 0 = cc in (same, omega (arith, ltb-true (first ok n 0) n q))
+    go false q h = absurd (unequal cc)
+
+pub fault_passed : (ok : ℕ → Bool) (n : ℕ) → None ≡ fault ok n → n ≤ first ok n 0
+unfolding fault
+fault_passed ok n e = go (ltb (first ok n 0) n) refl e
+  where
+    go : (b : Bool) → ltb (first ok n 0) n ≡ b → None ≡ cond b (Some (first ok n 0)) None → n ≤ first ok n 0
+    go true q h = absurd (unequal cc)
+    go false q h = ltb-false (first ok n 0) n q

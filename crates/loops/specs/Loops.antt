@@ -1,5 +1,5 @@
 -- Loops over a range of indices, as functions.
-use Rattle.std.specs.Prelude.{ℕ, zero, suc, Bool, cond, List, [], ◌∷◌, ◌++◌, drop, Float}
+use Rattle.std.specs.Prelude.{ℕ, zero, suc, Bool, cond, ltb, Some, None, Option, List, [], ◌∷◌, ◌++◌, drop, Float}
 use Rattle.loops.specs.Figures.{plus, nought, lesser, greater, infinity, minus_infinity}
 
 -- s, put through f i, f (i + 1), .., of d turns
@@ -11,6 +11,10 @@ iter f (suc d) i s = iter f d (suc i) (f i s)
 unfoldable pub first : (ℕ → Bool) → ℕ → ℕ → ℕ
 first ok zero i = i
 first ok (suc k) i = cond (ok i) (first ok k (suc i)) i
+
+-- the same of the indices below n, as an answer: none where the test passes at each
+unfoldable pub fault : (ℕ → Bool) → ℕ → Option ℕ
+fault ok n = cond (ltb (first ok n 0) n) (Some (first ok n 0)) None
 
 -- f 0, f 1, .., f (n - 1)
 unfoldable pub tab {ℓ} : {A : Type ℓ} → ℕ → (ℕ → A) → List A

@@ -9,14 +9,14 @@ use lib.Ieee.{Float}
 use Rattle.refusal.specs.Reply.{answered}
 use Rattle.placement_defs.specs.Request.{Request, check_of}
 use Rattle.placement_defs.specs.Support.{answer_to, placement}
-use Rattle.placement_defs.specs.declared.Verdict.{Verdict}
-use Rattle.placement_defs.specs.declared.Verdict.TheVariants.{Sound, Faulty}
 use Rattle.placement.proofs.Checks.{Passed, passed}
+use Rattle.std.specs.Prelude.{Err, Ok, Result}
+use Rattle.refusal.specs.declared.Refusal.{Refusal}
 
 pub accepted : (k : Request) (buses : List ℕ) (mvars : List Float) (count : ℕ) → (placement k buses mvars).reply ≡ answered count → Passed k (length buses) (length mvars)
 unfolding placement answer_to
 accepted k buses mvars count e = go (check_of k (length buses) (length mvars)) refl e
   where
-    go : (v : Verdict) → check_of k (length buses) (length mvars) ≡ v → (answer_to v k buses mvars).reply ≡ answered count → Passed k (length buses) (length mvars)
-    go Sound p q = passed k (length buses) (length mvars) (sym p)
-    go (Faulty f) p q = let z : ◌≡◌ {A = ℕ} 0 1 = cc in absurd (omega arith)
+    go : (v : Result (Unit {0}) Refusal) → check_of k (length buses) (length mvars) ≡ v → (answer_to v k buses mvars).reply ≡ answered count → Passed k (length buses) (length mvars)
+    go (Ok tt) p q = passed k (length buses) (length mvars) (sym p)
+    go (Err f) p q = let z : ◌≡◌ {A = ℕ} 0 1 = cc in absurd (omega arith)

@@ -11,8 +11,9 @@ use Rattle.loops.proofs.Bools.{both}
 use Rattle.loops.proofs.Scan.{all_pass}
 use Rattle.refusal.specs.declared.Refusal.TheVariants.{Length, Count, Bus, Generator, Corridor}
 use Rattle.placement_defs.specs.Request.{Request, Net, Units, lengths_ok, counts_ok, bus_ok, corridor_at, first_load, first_generator, first_corridor, faulty_row, check_of}
-use Rattle.placement_defs.specs.declared.Verdict.{Verdict}
-use Rattle.placement_defs.specs.declared.Verdict.TheVariants.{Sound, Faulty}
+use Rattle.std.specs.Prelude.{Err, Ok, Result}
+use Rattle.refusal.specs.declared.Refusal.{Refusal}
+use Rattle.refusal.specs.Reply.{no_refusal}
 
 -- ---- every slice has its length
 pub record Lengths (k : Request) (b₁ b₂ : ℕ) : Type 0 where
@@ -58,11 +59,11 @@ pub record Passed (k : Request) (buses mvars : ℕ) : Type 0 where
   pub net : Net k.n k.m k.a k.b k.km
   pub units : Units k.n k.generators
 
-only : (b : Bool) (x y : Verdict) → cond b x y ≡ Sound → (y ≡ Sound → ⊥) → (b ≡ true) × (x ≡ Sound)
+only : (b : Bool) (x y : Result (Unit {0}) Refusal) → cond b x y ≡ no_refusal → (y ≡ no_refusal → ⊥) → (b ≡ true) × (x ≡ no_refusal)
 only true x y e n = (refl, e)
 only false x y e n = absurd (n e)
 
-after : (b : Bool) (x y : Verdict) → cond b x y ≡ Sound → (x ≡ Sound → ⊥) → (b ≡ false) × (y ≡ Sound)
+after : (b : Bool) (x y : Result (Unit {0}) Refusal) → cond b x y ≡ no_refusal → (x ≡ no_refusal → ⊥) → (b ≡ false) × (y ≡ no_refusal)
 after true x y e n = absurd (n e)
 after false x y e n = (refl, e)
 
@@ -75,7 +76,7 @@ stand : (k : Request) → length k.generators ≡ k.g → k.g ≤ first_generato
 unfolding first_generator
 stand k q h c l = ltb-true (get_or k.generators c 0) k.n (all_pass (λ i. bus_ok k.n (get_or k.generators i 0)) k.g h c (omega arith))
 
-pub passed : (k : Request) (buses mvars : ℕ) → Sound ≡ check_of k buses mvars → Passed k buses mvars
+pub passed : (k : Request) (buses mvars : ℕ) → no_refusal ≡ check_of k buses mvars → Passed k buses mvars
 unfolding check_of
 passed k buses mvars e =
     let n = k.n in
@@ -84,15 +85,15 @@ passed k buses mvars e =
     let load = first_load k.reading k.weight n in
     let gen = first_generator k.generators n g in
     let cor = first_corridor k.a k.b k.km n m in
-    let c5 = faulty_row Corridor cor m Sound in
+    let c5 = faulty_row Corridor cor m no_refusal in
     let c4 = faulty_row Generator gen g c5 in
     let c3 = faulty_row Bus load n c4 in
-    let c2 = cond (counts_ok n m g) c3 (Faulty Count) in
-    let h1 = only (lengths_ok k buses mvars) c2 (Faulty Length) (sym e) (λ q. let z : ◌≡◌ {A = ℕ} 0 1 = cc in omega arith) in
-    let h2 = only (counts_ok n m g) c3 (Faulty Count) h1.1 (λ q. let z : ◌≡◌ {A = ℕ} 0 1 = cc in omega arith) in
-    let h3 = after (ltb load n) (Faulty (Bus load)) c4 h2.1 (λ q. let z : ◌≡◌ {A = ℕ} 0 1 = cc in omega arith) in
-    let h4 = after (ltb gen g) (Faulty (Generator gen)) c5 h3.1 (λ q. let z : ◌≡◌ {A = ℕ} 0 1 = cc in omega arith) in
-    let h5 = after (ltb cor m) (Faulty (Corridor cor)) Sound h4.1 (λ q. let z : ◌≡◌ {A = ℕ} 0 1 = cc in omega arith) in
+    let c2 = cond (counts_ok n m g) c3 (Err Count) in
+    let h1 = only (lengths_ok k buses mvars) c2 (Err Length) (sym e) (λ q. let z : ◌≡◌ {A = ℕ} 0 1 = cc in omega arith) in
+    let h2 = only (counts_ok n m g) c3 (Err Count) h1.1 (λ q. let z : ◌≡◌ {A = ℕ} 0 1 = cc in omega arith) in
+    let h3 = after (ltb load n) (Err (Bus load)) c4 h2.1 (λ q. let z : ◌≡◌ {A = ℕ} 0 1 = cc in omega arith) in
+    let h4 = after (ltb gen g) (Err (Generator gen)) c5 h3.1 (λ q. let z : ◌≡◌ {A = ℕ} 0 1 = cc in omega arith) in
+    let h5 = after (ltb cor m) (Err (Corridor cor)) no_refusal h4.1 (λ q. let z : ◌≡◌ {A = ℕ} 0 1 = cc in omega arith) in
     let l = lengths_of k buses mvars h1.0 in
     let counts = both (leb n 256) (leb m 256) (both (leb n 256 && leb m 256) (leb g 128) h2.0).0 in
     record {

@@ -15,10 +15,9 @@ use Rattle.placement_defs.specs.Distance.{Labels, labels, Network, network, rest
 use Rattle.placement_defs.specs.Support.{farthest_to, if_far, next_by, next_of, Sites, sites, join, join_next, joined, size_at, sized, flag, flagged, sites_by, placed, Outcome, outcome, network_of, answer_to, placement}
 use Rattle.placement.specs.Stages.{Joined, Placing}
 use Rattle.placement.proofs.Turns.{blank_start}
-use Rattle.placement_defs.specs.declared.Placement.TheVariants.{Placed, Refused}
 use Rattle.refusal.specs.declared.Refusal.{Refusal}
-use Rattle.placement_defs.specs.declared.Verdict.{Verdict}
-use Rattle.placement_defs.specs.declared.Verdict.TheVariants.{Sound, Faulty}
+use Rattle.std.specs.Prelude.{Err, Ok, Result}
+use Rattle.refusal.specs.Reply.{no_refusal}
 
 pub next_is : (n : ℕ) (loads dist : List Float) (i r : ℕ) → i ≡ farthest_to n loads dist n → r ≡ if_far n dist i → r ≡ next_by n loads dist
 unfolding next_by
@@ -65,8 +64,8 @@ placed_is n m loads a b km generators buses₀ buses₁ buses₂ sources₁ sour
     let f' : mvars₁ ≡ replicate n nought = f ∙ ap (λ (t : ℕ). replicate t nought) q in
     let s : sites sources₂ buses₂ count ≡ joined w loads (sites (flagged generators (replicate 256 0)) (replicate n 0) 0) =
     j.all ∙ ap (λ (t : List ℕ). joined w loads (sites t buses₁ 0)) g ∙ ap (λ (t : List ℕ). joined w loads (sites (flagged generators (replicate 256 0)) t 0)) e' in
-    ap (λ (t : List Float). outcome (Placed count) buses₂ t) (z ∙ ap (λ (t : List Float). sized w loads sources₂ buses₂ count t) f')
-    ∙ ap (λ (t : Sites). outcome (Placed t.count) t.buses (sized w loads t.sources t.buses t.count (replicate n nought))) s
+    ap (λ (t : List Float). outcome (Ok count) buses₂ t) (z ∙ ap (λ (t : List Float). sized w loads sources₂ buses₂ count t) f')
+    ∙ ap (λ (t : Sites). outcome (Ok t.count) t.buses (sized w loads t.sources t.buses t.count (replicate n nought))) s
 
 pub flagged_length : (generators l : List ℕ) → length l ≡ 256 → length (flagged generators l) ≡ 256
 unfolding flagged
@@ -76,11 +75,11 @@ pub units_wide : (n : ℕ) (generators : List ℕ) → n ≤ 256 → Units n gen
 units_wide n generators h u = record { stand = λ k l. omega (arith, u.stand k l) }
 
 -- ---- the answer, from the verdict
-module _ (k : Request) (buses : List ℕ) (mvars : List Float) (v : Verdict) (e : v ≡ check_of k (length buses) (length mvars)) where
-  pub refused_is : (f : Refusal) → v ≡ Faulty f → outcome (Refused f) buses mvars ≡ placement k buses mvars
+module _ (k : Request) (buses : List ℕ) (mvars : List Float) (v : Result (Unit {0}) Refusal) (e : v ≡ check_of k (length buses) (length mvars)) where
+  pub refused_is : (f : Refusal) → v ≡ Err f → outcome (Err f) buses mvars ≡ placement k buses mvars
   unfolding placement answer_to
-  refused_is f q = ap (λ (t : Verdict). answer_to t k buses mvars) (sym q ∙ e)
+  refused_is f q = ap (λ (t : Result (Unit {0}) Refusal). answer_to t k buses mvars) (sym q ∙ e)
 
-  pub done_is : (o : Outcome) → v ≡ Sound → o ≡ placed (network_of k) k.loads k.generators → o ≡ placement k buses mvars
+  pub done_is : (o : Outcome) → v ≡ no_refusal → o ≡ placed (network_of k) k.loads k.generators → o ≡ placement k buses mvars
   unfolding placement answer_to
-  done_is o q p = p ∙ ap (λ (t : Verdict). answer_to t k buses mvars) (sym q ∙ e)
+  done_is o q p = p ∙ ap (λ (t : Result (Unit {0}) Refusal). answer_to t k buses mvars) (sym q ∙ e)

@@ -1,8 +1,7 @@
 -- What the two stages of placing leave.
-use Rattle.std.specs.Prelude.{◌≡◌, List, ℕ, ◌≤◌, length, Float}
+use Rattle.std.specs.Prelude.{◌≡◌, List, ℕ, ◌≤◌, length, Float, Ok}
 use Rattle.placement_defs.specs.Distance.{Network, network}
 use Rattle.placement_defs.specs.Support.{sites, joined, outcome, placed}
-use Rattle.placement_defs.specs.declared.Placement.TheVariants.{Placed}
 
 -- n readings and their weights
 pub record Called (n : ℕ) (reading weight : List Float) : Type 0 where
@@ -15,4 +14,4 @@ pub record Joined (w : Network) (loads : List Float) (sources₀ buses₀ source
 
 abbrev pub Placing : ℕ → ℕ → List Float → List ℕ → List ℕ → List Float → List ℕ → ℕ → List ℕ → List Float → Type 0
 Placing n m loads a b km generators count buses mvars =
-    outcome (Placed count) buses mvars ≡ placed (network n m a b km) loads generators
+    outcome (Ok count) buses mvars ≡ placed (network n m a b km) loads generators

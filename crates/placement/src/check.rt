@@ -3,7 +3,6 @@ ghost use Rattle.std.specs.Prelude.{◌≡◌, length};
 ghost use Rattle.placement_defs.specs.Request.{request_of, lengths_ok, counts_ok, corridor_ok, first_load, first_generator, first_corridor, check_of};
 
 use crate::{MOST_BUSES, wide};
-use placement_defs::Verdict;
 use refusal::Refusal;
 
 const MOST_CORRIDORS: usize = 256;
@@ -107,26 +106,26 @@ pub fn check(
     generators: &[u32],
     buses: usize,
     mvars: usize,
-) -> Verdict
+) -> Result<(), Refusal>
     ensures { result ≡ check_of (request_of n m g reading.now weight.now a.now b.now km.now generators.now) buses mvars }
 {
     if !lengths_ok(n, m, g, reading, weight, a, b, km, generators, buses, mvars) {
-        return Verdict::Faulty(Refusal::Length);
+        return Err(Refusal::Length);
     }
     if !counts_ok(n, m, g) {
-        return Verdict::Faulty(Refusal::Count);
+        return Err(Refusal::Count);
     }
     let load = first_load(n, reading, weight);
     if load < n {
-        return Verdict::Faulty(Refusal::Bus(load));
+        return Err(Refusal::Bus(load));
     }
     let generator = first_generator(n, g, generators);
     if generator < g {
-        return Verdict::Faulty(Refusal::Generator(generator));
+        return Err(Refusal::Generator(generator));
     }
     let corridor = first_corridor(n, m, a, b, km);
     if corridor < m {
-        return Verdict::Faulty(Refusal::Corridor(corridor));
+        return Err(Refusal::Corridor(corridor));
     }
-    Verdict::Sound
+    Ok(())
 }

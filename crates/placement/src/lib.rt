@@ -4,8 +4,8 @@
 ghost use Rattle.std.specs.Prelude.{◌≡◌};
 ghost use Rattle.placement_defs.specs.Request.{request_of};
 ghost use Rattle.placement_defs.specs.Support.{outcome, placement};
+use refusal::Refusal;
 
-use placement_defs::{Placement, Verdict};
 
 mod blocks;
 mod check;
@@ -54,7 +54,7 @@ pub fn place_voltage_support(
     generators: &[u32],
     buses: &mut [u32],
     mvars: &mut [f64],
-) -> Placement
+) -> Result<usize, Refusal>
     ensures { outcome result buses.new mvars.new
         ≡ placement (request_of n m g reading.now weight.now a.now b.now km.now generators.now) buses.old mvars.old }
 {
@@ -71,10 +71,10 @@ pub fn place_voltage_support(
         buses.len(),
         mvars.len(),
     ) {
-        Verdict::Faulty(f) => Placement::Refused(f),
-        Verdict::Sound => {
+        Err(f) => Err(f),
+        Ok(()) => {
             let count = condenser::place(n, m, reading, weight, a, b, km, generators, buses, mvars);
-            Placement::Placed(count)
+            Ok(count)
         }
     }
 }

@@ -12,7 +12,7 @@ use Rattle.refusal.specs.declared.Refusal.TheVariants.{Bus, Corridor}
 use Rattle.placement_defs.specs.Request.{request_of, first_load, first_generator, first_corridor, check_of}
 use Rattle.placement_defs.specs.Distance.{seeded, offered, considered, nearer, nearest_to, settle, spread, turn, searched, distances_from}
 use Rattle.placement_defs.specs.Support.{farther, farthest_to, if_far, next_by, next_of, join, join_next, joined, served_to, mvar_of, sized, flagged, sites_by, placed, answer_to, placement, Outcome, outcome}
-use Rattle.placement_defs.specs.declared.Placement.TheVariants.{Placed, Refused}
+use Rattle.std.specs.Prelude.{Err, Ok}
 
 abbrev whole : ℕ → Float
 whole n = decimal n 1
@@ -25,9 +25,9 @@ star10 km mw =
 -- 50 + 50 km: no condenser. 60 + 60 km: one at the load's bus; 8 MW gives 5 Mvar, 40 MW gives 20.
 pub star_10 :
     star10 (whole 50) (whole 8) ∷ star10 (whole 60) (whole 8) ∷ star10 (whole 60) (whole 40) ∷ []
-    ≡ outcome (Placed 0) (0 ∷ 0 ∷ 0 ∷ []) (nought ∷ nought ∷ nought ∷ [])
-    ∷ outcome (Placed 1) (2 ∷ 0 ∷ 0 ∷ []) (five ∷ nought ∷ nought ∷ [])
-    ∷ outcome (Placed 1) (2 ∷ 0 ∷ 0 ∷ []) (whole 20 ∷ nought ∷ nought ∷ [])
+    ≡ outcome (Ok 0) (0 ∷ 0 ∷ 0 ∷ []) (nought ∷ nought ∷ nought ∷ [])
+    ∷ outcome (Ok 1) (2 ∷ 0 ∷ 0 ∷ []) (five ∷ nought ∷ nought ∷ [])
+    ∷ outcome (Ok 1) (2 ∷ 0 ∷ 0 ∷ []) (whole 20 ∷ nought ∷ nought ∷ [])
     ∷ []
 unfolding iter first tab first_load first_generator first_corridor check_of seeded offered considered nearer nearest_to settle spread turn searched distances_from farther farthest_to if_far next_by next_of join join_next joined served_to mvar_of sized flagged sites_by placed answer_to placement of_bits round add mul lt le eq
 star_10 = refl
@@ -42,10 +42,10 @@ pub rules :
     ∷ placement (request_of 3 3 1 (nought ∷ whole 40 ∷ whole 8 ∷ []) (replicate 3 one) (0 ∷ 1 ∷ 0 ∷ []) (1 ∷ 2 ∷ 2 ∷ []) (whole 60 ∷ whole 60 ∷ whole 101 ∷ []) (0 ∷ [])) (7 ∷ 7 ∷ 7 ∷ []) (five ∷ five ∷ five ∷ [])
     ∷ placement (request_of 2 2 0 (nought ∷ nought ∷ []) (replicate 2 one) (0 ∷ 1 ∷ []) (1 ∷ 1 ∷ []) (five ∷ five ∷ []) []) (7 ∷ 7 ∷ []) (five ∷ five ∷ [])
     ∷ []
-    ≡ outcome (Placed 1) (1 ∷ 0 ∷ 0 ∷ []) (whole 24 ∷ nought ∷ nought ∷ [])
-    ∷ outcome (Placed 0) (0 ∷ 0 ∷ []) (nought ∷ nought ∷ [])
-    ∷ outcome (Placed 1) (2 ∷ 0 ∷ 0 ∷ []) (five ∷ nought ∷ nought ∷ [])
-    ∷ outcome (Refused (Corridor 1)) (7 ∷ 7 ∷ []) (five ∷ five ∷ [])
+    ≡ outcome (Ok 1) (1 ∷ 0 ∷ 0 ∷ []) (whole 24 ∷ nought ∷ nought ∷ [])
+    ∷ outcome (Ok 0) (0 ∷ 0 ∷ []) (nought ∷ nought ∷ [])
+    ∷ outcome (Ok 1) (2 ∷ 0 ∷ 0 ∷ []) (five ∷ nought ∷ nought ∷ [])
+    ∷ outcome (Err (Corridor 1)) (7 ∷ 7 ∷ []) (five ∷ five ∷ [])
     ∷ []
 unfolding iter first tab first_load first_generator first_corridor check_of seeded offered considered nearer nearest_to settle spread turn searched distances_from farther farthest_to if_far next_by next_of join join_next joined served_to mvar_of sized flagged sites_by placed answer_to placement of_bits round add mul lt le eq
 rules = refl
@@ -60,8 +60,8 @@ pub weights :
     placement (request_of 2 1 1 (nought ∷ whole 20 ∷ []) (one ∷ two ∷ []) (0 ∷ []) (1 ∷ []) (whole 101 ∷ []) (0 ∷ [])) (7 ∷ 7 ∷ []) (five ∷ five ∷ [])
     ∷ placement (request_of 2 1 1 (nought ∷ million ∷ []) (one ∷ two ∷ []) (0 ∷ []) (1 ∷ []) (whole 101 ∷ []) (0 ∷ [])) (7 ∷ 7 ∷ []) (five ∷ five ∷ [])
     ∷ []
-    ≡ outcome (Placed 1) (1 ∷ 0 ∷ []) (whole 20 ∷ nought ∷ [])
-    ∷ outcome (Refused (Bus 1)) (7 ∷ 7 ∷ []) (five ∷ five ∷ [])
+    ≡ outcome (Ok 1) (1 ∷ 0 ∷ []) (whole 20 ∷ nought ∷ [])
+    ∷ outcome (Err (Bus 1)) (7 ∷ 7 ∷ []) (five ∷ five ∷ [])
     ∷ []
 unfolding iter first tab first_load first_generator first_corridor check_of seeded offered considered nearer nearest_to settle spread turn searched distances_from farther farthest_to if_far next_by next_of join join_next joined served_to mvar_of sized flagged sites_by placed answer_to placement of_bits round add mul lt le eq
 weights = refl

@@ -1,12 +1,11 @@
 -- What placement is asked, and its refusals 1, 2, 4, 5 and 6 in their order (document 01, "Placement").
-use Rattle.std.specs.Prelude.{◌≡◌, List, Bool, true, not, cond, ◌&&◌, ℕ, ◌≤◌, ◌<◌, eqb, leb, ltb, length, get_or, Float}
+use Rattle.std.specs.Prelude.{◌≡◌, List, Bool, true, not, cond, ◌&&◌, ℕ, ◌≤◌, ◌<◌, eqb, leb, ltb, length, get_or, Float, Err, Ok, Result}
 use Rattle.loops.specs.Figures.{at, inside, nought, ten_thousand}
 use Rattle.loops.specs.Loops.{first}
 use Rattle.loads.specs.Load.{weighed, loads_of, load_ok}
 use Rattle.refusal.specs.declared.Refusal.{Refusal}
 use Rattle.refusal.specs.declared.Refusal.TheVariants.{Length, Count, Bus, Generator, Corridor}
-use Rattle.placement_defs.specs.declared.Verdict.{Verdict}
-use Rattle.placement_defs.specs.declared.Verdict.TheVariants.{Sound, Faulty}
+use Rattle.refusal.specs.Reply.{no_refusal}
 
 -- document 01's bounds of the counts
 abbrev pub most_buses : ℕ
@@ -72,18 +71,18 @@ unfoldable pub first_corridor : List ℕ → List ℕ → List Float → ℕ →
 first_corridor a b km n m = first (corridor_at n a b km) m 0
 
 -- where row i of a table of n is faulty, that is the verdict
-abbrev pub faulty_row : (ℕ → Refusal) → ℕ → ℕ → Verdict → Verdict
-faulty_row fault i n next = cond (ltb i n) (Faulty (fault i)) next
+abbrev pub faulty_row : (ℕ → Refusal) → ℕ → ℕ → Result (Unit {0}) Refusal → Result (Unit {0}) Refusal
+faulty_row fault i n next = cond (ltb i n) (Err (fault i)) next
 
-unfoldable pub check_of : Request → ℕ → ℕ → Verdict
+unfoldable pub check_of : Request → ℕ → ℕ → Result (Unit {0}) Refusal
 check_of k buses mvars =
     cond (lengths_ok k buses mvars)
     (cond (counts_ok k.n k.m k.g)
     (faulty_row Bus (first_load k.reading k.weight k.n) k.n
     (faulty_row Generator (first_generator k.generators k.n k.g) k.g
-    (faulty_row Corridor (first_corridor k.a k.b k.km k.n k.m) k.m Sound)))
-    (Faulty Count))
-    (Faulty Length)
+    (faulty_row Corridor (first_corridor k.a k.b k.km k.n k.m) k.m no_refusal)))
+    (Err Count))
+    (Err Length)
 
 -- what a request that passes has
 pub record Net (n m : ℕ) (a b : List ℕ) (km : List Float) : Type 0 where

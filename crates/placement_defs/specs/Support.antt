@@ -1,16 +1,13 @@
 -- Voltage support (reactive.rs, `place_voltage_support`): while a loaded bus lies more than 100 km from the nearest source, the farthest
 -- joins the sources with a condenser; then each condenser is sized by the loads that lie nearest to it.
-use Rattle.std.specs.Prelude.{List, cond, ◌&&◌, ◌||◌, ℕ, zero, suc, ◌+◌, eqb, ltb, length, get_or, set, replicate, Float}
+use Rattle.std.specs.Prelude.{List, cond, ◌&&◌, ◌||◌, ℕ, zero, suc, ◌+◌, eqb, ltb, length, get_or, set, replicate, Float, Err, Ok, Result}
 use Rattle.std.specs.Float.Ieee.{lt}
 use Rattle.loops.specs.Figures.{at, plus, times, greater, nought, half, five, hundred, infinity}
 use Rattle.loops.specs.Loops.{iter}
 use Rattle.refusal.specs.Reply.{Reply, answered, refused_by}
 use Rattle.placement_defs.specs.Request.{most_buses, Request, check_of}
 use Rattle.placement_defs.specs.Distance.{Network, network, distances}
-use Rattle.placement_defs.specs.declared.Verdict.{Verdict}
-use Rattle.placement_defs.specs.declared.Verdict.TheVariants.{Sound, Faulty}
-use Rattle.placement_defs.specs.declared.Placement.{Placement}
-use Rattle.placement_defs.specs.declared.Placement.TheVariants.{Placed, Refused}
+use Rattle.refusal.specs.declared.Refusal.{Refusal}
 
 -- a load farther than this from every source gets a condenser
 abbrev pub support_km : Float
@@ -88,9 +85,9 @@ unfoldable pub flagged : List ℕ → List ℕ → List ℕ
 flagged generators l = iter (flag generators) (length generators) 0 l
 
 -- how many condensers, or document 01's number and index of a refusal
-abbrev pub reply_of : Placement → Reply ℕ
-reply_of (Placed count) = answered count
-reply_of (Refused f) = refused_by f
+abbrev pub reply_of : Result ℕ Refusal → Reply ℕ
+reply_of (Ok count) = answered count
+reply_of (Err f) = refused_by f
 
 -- the reply, and what the result slices hold then
 pub record Outcome : Type 0 where
@@ -98,7 +95,7 @@ pub record Outcome : Type 0 where
   pub buses : List ℕ
   pub mvars : List Float
 
-abbrev pub outcome : Placement → List ℕ → List Float → Outcome
+abbrev pub outcome : Result ℕ Refusal → List ℕ → List Float → Outcome
 outcome r buses mvars = record { reply = reply_of r; buses = buses; mvars = mvars }
 
 abbrev pub network_of : Request → Network
@@ -111,15 +108,15 @@ sites_by w loads generators = joined w loads (sites (flagged generators (replica
 unfoldable pub placed : Network → List Float → List ℕ → Outcome
 placed w loads generators =
     let s = sites_by w loads generators in
-    outcome (Placed s.count) s.buses (sized w loads s.sources s.buses s.count (replicate w.n nought))
+    outcome (Ok s.count) s.buses (sized w loads s.sources s.buses s.count (replicate w.n nought))
 
 abbrev pub sites_of : Request → Sites
 sites_of k = sites_by (network_of k) k.loads k.generators
 
 -- a refusal touches nothing
-unfoldable pub answer_to : Verdict → Request → List ℕ → List Float → Outcome
-answer_to Sound k buses mvars = placed (network_of k) k.loads k.generators
-answer_to (Faulty f) k buses mvars = outcome (Refused f) buses mvars
+unfoldable pub answer_to : Result (Unit {0}) Refusal → Request → List ℕ → List Float → Outcome
+answer_to (Ok tt) k buses mvars = placed (network_of k) k.loads k.generators
+answer_to (Err f) k buses mvars = outcome (Err f) buses mvars
 
 -- the operation, from the result slices that it is lent
 unfoldable pub placement : Request → List ℕ → List Float → Outcome

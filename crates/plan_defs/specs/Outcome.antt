@@ -1,6 +1,6 @@
 -- What `plan_corridors` says, and what every place of each slice that it is lent holds then (document 01, refusals of *Planning*):
 -- 1 to 7 touch nothing; after 8 or 9 all result and work places are zero; after an answer, work is zero.
-use Rattle.std.specs.Prelude.{ℕ, ◌+◌, ◌-◌, ◌*◌, Bool, true, false, ◌&&◌, List, map, ◌++◌, eqb, length, replicate, Float}
+use Rattle.std.specs.Prelude.{ℕ, ◌+◌, ◌-◌, ◌*◌, Bool, true, false, ◌&&◌, List, map, ◌++◌, eqb, length, replicate, Float, Err, Ok, Result}
 use Rattle.loops.specs.Figures.{nought}
 use Rattle.refusal.specs.Reply.{Reply, answered, refused_by}
 use Rattle.refusal.specs.declared.Refusal.TheVariants.{Length}
@@ -8,8 +8,7 @@ use Rattle.plan_defs.specs.Constants.{work_rows}
 use Rattle.plan_defs.specs.Case.{Case, promote}
 use Rattle.plan_defs.specs.Plan.{Plan, Ending, unaccepted, unanswered, planned, ending_of}
 use Rattle.plan_defs.specs.declared.CorridorPlan.{CorridorPlan}
-use Rattle.plan_defs.specs.declared.Planned.{Planned}
-use Rattle.plan_defs.specs.declared.Planned.TheVariants.{Answered, Refused}
+use Rattle.refusal.specs.declared.Refusal.{Refusal}
 
 -- ---- the slices that planning is lent
 pub record Slices : Type 0 where
@@ -118,22 +117,22 @@ pub record Outcome : Type 0 where
   pub reply : Reply CorridorPlan
   pub lent : Slices
 
-abbrev pub reply_of : Planned → Reply CorridorPlan
-reply_of (Answered s) = answered s
-reply_of (Refused f) = refused_by f
+abbrev pub reply_of : Result CorridorPlan Refusal → Reply CorridorPlan
+reply_of (Ok s) = answered s
+reply_of (Err f) = refused_by f
 
-abbrev pub outcome : Planned → Slices → Outcome
+abbrev pub outcome : Result CorridorPlan Refusal → Slices → Outcome
 outcome r s = record { reply = reply_of r; lent = s }
 
 unfoldable pub outcome_by : Ending → Case → Slices → Outcome
-outcome_by (unaccepted f) c s = outcome (Refused f) s
-outcome_by (unanswered f) c s = outcome (Refused f) (cleared c)
-outcome_by (planned p) c s = outcome (Answered (summary p)) (held c p)
+outcome_by (unaccepted f) c s = outcome (Err f) s
+outcome_by (unanswered f) c s = outcome (Err f) (cleared c)
+outcome_by (planned p) c s = outcome (Ok (summary p)) (held c p)
 
 -- a slice of the wrong length is 1, before all else
 abbrev pub outcome_if : Bool → Case → ℕ → Slices → Outcome
 outcome_if true c target s = outcome_by (ending_of c target) c s
-outcome_if false c target s = outcome (Refused Length) s
+outcome_if false c target s = outcome (Err Length) s
 
 unfoldable pub plan_corridors : Case → ℕ → Slices → Outcome
 plan_corridors c target s = outcome_if (slices_ok c s) c target s

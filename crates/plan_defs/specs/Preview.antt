@@ -2,15 +2,13 @@
 -- filling, the filling order and the corridors' own caps that the plan keeps. Refusals, in order, which touch nothing: 1; 2; 18 the mode does not fill;
 -- 6 a kept count is outside 1 to 64 or a cap above 6 (index: the corridor); 30 the order does not name each corridor once (index: the first place that
 -- names none, or one again).
-use Rattle.std.specs.Prelude.{ℕ, Bool, not, cond, ◌&&◌, List, leb, ltb, eqb, length, get_or}
+use Rattle.std.specs.Prelude.{ℕ, Bool, not, cond, ◌&&◌, List, leb, ltb, eqb, length, get_or, Err, Ok, Result}
 use Rattle.std.proofs.Math.Option.{Option, none, some}
 use Rattle.loops.specs.Loops.{first}
 use Rattle.mode.specs.declared.PlanMode.{PlanMode}
-use Rattle.refusal.specs.Reply.{Reply, reply_of}
+use Rattle.refusal.specs.Reply.{Reply, reply_of, no_refusal}
 use Rattle.refusal.specs.declared.Refusal.{Refusal}
 use Rattle.refusal.specs.declared.Refusal.TheVariants.{Length, Count, Corridor, Mode, Order}
-use Rattle.refusal.specs.declared.Answer.{Answer}
-use Rattle.refusal.specs.declared.Answer.TheVariants.{Answered, Refused}
 use Rattle.plan_defs.specs.Constants.{most_corridors, most_target, most_initial, most_cap}
 use Rattle.plan_defs.specs.Case.{promote, full_of}
 use Rattle.plan_defs.specs.Accept.{first_fault}
@@ -66,12 +64,12 @@ pub record Outcome : Type 0 where
   pub reply : Reply (Unit {0})
   pub circuits : List ℕ
 
-abbrev pub outcome : Answer → List ℕ → Outcome
+abbrev pub outcome : Result (Unit {0}) Refusal → List ℕ → Outcome
 outcome r circuits = record { reply = reply_of r; circuits = circuits }
 
 abbrev pub preview_by : Option Refusal → Kept → ℕ → List ℕ → Outcome
-preview_by (some f) p target lent = outcome (Refused f) lent
-preview_by none p target lent = outcome Answered (refilled p target)
+preview_by (some f) p target lent = outcome (Err f) lent
+preview_by none p target lent = outcome no_refusal (refilled p target)
 
 unfoldable pub preview : Kept → ℕ → List ℕ → Outcome
 preview p target lent = preview_by (preview_fault p target (length lent)) p target lent

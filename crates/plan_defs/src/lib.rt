@@ -80,8 +80,3 @@ pub struct CorridorPlan {
     pub added: u32,
 }
 
-#[derive(Clone, Copy)]
-pub enum Planned {
-    Answered(CorridorPlan),
-    Refused(Refusal),
-}

@@ -16,7 +16,6 @@ use Rattle.loops.proofs.Bools.{both, and_of}
 use Rattle.loops.proofs.Scan.{all_pass, pass_all}
 use Rattle.refusal.specs.declared.Refusal.{Refusal}
 use Rattle.refusal.specs.declared.Refusal.TheVariants.{Length, Count, Corridor, Mode, Order}
-use Rattle.refusal.specs.declared.Answer.TheVariants.{Answered}
 use Rattle.plan_defs.specs.Constants.{most_corridors, most_target, most_initial, most_cap}
 use Rattle.plan_defs.specs.Case.{Case, promote, lower_bound, full_at}
 use Rattle.plan_defs.specs.Accept.{first_fault}
@@ -34,6 +33,8 @@ use Rattle.plan_theorems.proofs.Ranking.{order_once, order_past}
 use Rattle.plan_theorems.proofs.Cursor.{full_few, order_length}
 use Rattle.plan_theorems.proofs.Naming.{Apart, Below, once_below, once_apart, names_each}
 use Rattle.plan_theorems.proofs.Larger.{Origin, answer_of_lem, origin, refill}
+use Rattle.std.specs.Prelude.{Ok}
+use Rattle.refusal.specs.Reply.{no_refusal}
 
 -- ---- a preview that is not refused
 pub record Sound (p : Kept) (target places : ℕ) : Type 0 where
@@ -166,7 +167,7 @@ module _ (c : Case) (fills : promote c.mode ≡ true) where
   refill_is u p = ap (λ (b : Bool). (filled_if b (full_at c) u p.order (unfilled p.before)).counts) fills
 
   pub previews : (t u : ℕ) (p q : Plan) → ending_of c t ≡ planned p → ending_of c u ≡ planned q → (lent : List ℕ) → length lent ≡ c.corridors
-      → preview (kept_by_lem p) u lent ≡ outcome Answered q.circuits
+      → preview (kept_by_lem p) u lent ≡ outcome no_refusal q.circuits
   unfolding preview
   previews t u p q e f lent n =
       let o = origin c t p e in
@@ -175,12 +176,12 @@ module _ (c : Case) (fills : promote c.mode ≡ true) where
       let s = plan_sound t u p ok o.0 d o.1 in
       ap (λ (k : ℕ). preview_by (preview_fault (kept_by_lem p) u k) (kept_by_lem p) u lent) n
       ∙ ap (λ (x : Option Refusal). preview_by x (kept_by_lem p) u lent) (passes_all (kept_by_lem p) u c.corridors s)
-      ∙ ap (outcome Answered) (sym (refill c t u p q e f ∙ refill_is u p))
+      ∙ ap (outcome no_refusal) (sym (refill c t u p q e f ∙ refill_is u p))
 
 -- the same of what two calls of planning answer and leave: in the terms of their promise
 pub preview_answers : (c : Case) (t u : ℕ) (o v : Outcome) (x y : CorridorPlan) → promote c.mode ≡ true → AnswerTo c t o x → AnswerTo c u v y
     → (lent : List ℕ) → length lent ≡ c.corridors
-    → preview (kept_as c.mode c.corridors o.lent.before o.lent.order o.lent.cap) u lent ≡ outcome Answered v.lent.circuits
+    → preview (kept_as c.mode c.corridors o.lent.before o.lent.order o.lent.cap) u lent ≡ outcome no_refusal v.lent.circuits
 unfolding held
 preview_answers c t u o v x y fills a b lent n =
     let p = a.plan in
@@ -194,4 +195,4 @@ preview_answers c t u o v x y fills a b lent n =
     ∙ ap (λ (l : List ℕ). preview (kept_as c.mode c.corridors p.before l o.lent.cap) u lent) f
     ∙ ap (λ (l : List ℕ). preview (kept_as c.mode c.corridors p.before p.order l) u lent) w
     ∙ previews c fills t u p q a.ending b.ending lent n
-    ∙ ap (outcome Answered) (sym g)
+    ∙ ap (outcome no_refusal) (sym g)

@@ -19,9 +19,8 @@ use Rattle.casefile_defs.specs.Tables.{Outcome as ReadOutcome}
 use Rattle.casefile_defs.specs.Tables.{outcome as read-outcome}
 use Rattle.casefile_defs.specs.declared.CaseRead.{CaseRead}
 use Rattle.casefile_defs.specs.declared.Header.{Header}
-use Rattle.casefile_defs.specs.declared.Reading.{Reading}
-use Rattle.casefile_defs.specs.declared.Reading.TheVariants.{Refused, Read}
 use Rattle.planned_files.specs.Files.{case_as, case_in, results, plan_of, Filed, filed, plan_read, plan_file}
+use Rattle.std.specs.Prelude.{Err, Ok, Result}
 
 -- ---- parts
 -- the rows of the sheet are places of it
@@ -55,10 +54,10 @@ module _ (s : List ℕ) where
   abbrev filed_out : ReadOutcome → Filed
   filed_out o = filed_reply o.reply o.places
 
-  reading_filed : (r : Reading) → filed_reply (reply_of r) (tables_of s (headerOf r)) ≡ filed (headerOf r) (plan_read s r)
+  reading_filed : (r : Result Header Refusal) → filed_reply (reply_of r) (tables_of s (headerOf r)) ≡ filed (headerOf r) (plan_read s r)
   unfolding headerOf
-  reading_filed (Refused f) = refl
-  reading_filed (Read h) = refl
+  reading_filed (Err f) = refl
+  reading_filed (Ok h) = refl
 
   file_filed : (q : Places) → sizes_ok q ≡ true → filed_out (read_case s q) ≡ plan_file s
   unfolding read_case plan_file
@@ -67,16 +66,16 @@ module _ (s : List ℕ) where
       ∙ reading_filed (reading_of s)
 
   module _ (q p : Places) (z : sizes_ok q ≡ true) {r : CaseRead} (e : read-outcome r p ≡ read_case s q) where
-    by_reading : (x : Reading) → r.reading ≡ x → filed_reply (reply_of x) p ≡ plan_file s
-    by_reading x g = ap (λ (x : Reading). filed_reply (reply_of x) p) (sym g) ∙ ap filed_out e ∙ file_filed q z
+    by_reading : (x : Result Header Refusal) → r.reading ≡ x → filed_reply (reply_of x) p ≡ plan_file s
+    by_reading x g = ap (λ (x : Result Header Refusal). filed_reply (reply_of x) p) (sym g) ∙ ap filed_out e ∙ file_filed q z
 
-    pub unread : {f : Refusal} → r.reading ≡ Refused f → filed (headerOf (Refused f)) (plan_read [] (Refused f)) ≡ plan_file s
+    pub unread : {f : Refusal} → r.reading ≡ Err f → filed (headerOf (Err f)) (plan_read [] (Err f)) ≡ plan_file s
     unfolding headerOf
-    unread {f} g = by_reading (Refused f) g
+    unread {f} g = by_reading (Err f) g
 
-    pub read : {h : Header} → r.reading ≡ Read h
+    pub read : {h : Header} → r.reading ≡ Ok h
         → filed h (plan_of (case_as h (parts p (levels h - 0) (h.buses - 0) (h.generators - 0) (h.corridors - 0) (lines h * row_figures - 0))) h.target) ≡ plan_file s
     read {h} g =
         ap (λ (t : Places). filed h (plan_of (case_as h t) h.target))
         (same_parts p (sub-zero (levels h)) (sub-zero h.buses) (sub-zero h.generators) (sub-zero h.corridors) (sub-zero (lines h * row_figures)))
-        ∙ by_reading (Read h) g
+        ∙ by_reading (Ok h) g

@@ -14,9 +14,11 @@ use Rattle.casefile_defs.specs.declared.Header.{Header}
 use Rattle.casefile_defs.specs.Bounds.{most_buses, most_corridors, most_generators, most_levels}
 use Rattle.plan_defs.specs.Case.{Case}
 use Rattle.plan_defs.specs.Outcome.{Slices, slices, work_places, cleared, outcome, outcome_if, plan_corridors}
-use Rattle.plan_defs.specs.declared.Planned.{Planned}
 use Rattle.plan_theorems.proofs.Outcomes.{lengths_ok_lem, cleared_lengths}
 use Rattle.planned_files.specs.Files.{case_as, results, results_of, plan_of, filed}
+use Rattle.std.specs.Prelude.{Result}
+use Rattle.plan_defs.specs.declared.CorridorPlan.{CorridorPlan}
+use Rattle.refusal.specs.declared.Refusal.{Refusal}
 
 -- ---- parts of arrays
 -- the first n places of an array that is zero, as a part is lent
@@ -67,7 +69,7 @@ lent_cleared c f =
       front_replicate {A = ℕ} most_work (work_places c) 0 f.work,
     )
 
-as_planned : (c : Case) (target : ℕ) (l : Slices) (r : Planned) → Fits c → outcome r l ≡ plan_corridors c target (lent c) → results_of (outcome r l) ≡ plan_of c target
+as_planned : (c : Case) (target : ℕ) (l : Slices) (r : Result CorridorPlan Refusal) → Fits c → outcome r l ≡ plan_corridors c target (lent c) → results_of (outcome r l) ≡ plan_of c target
 unfolding plan_corridors
 as_planned c target l r f e =
     ap results_of
@@ -76,12 +78,12 @@ as_planned c target l r f e =
     ∙ ap (λ (b : Bool). outcome_if b c target (cleared c)) (lengths_ok_lem c (cleared c) (cleared_lengths c)))
 
 -- ---- the arrays, by what came back in the first places of each
-same_results : {a₀ a : List ℕ} {b₀ b c₀ c : List Float} {d₀ d e₀ e f₀ f : List ℕ} {g₀ g h₀ h : List Float} {i₀ i j₀ j : List ℕ} {k₀ k : List Float} (r : Planned)
+same_results : {a₀ a : List ℕ} {b₀ b c₀ c : List Float} {d₀ d e₀ e f₀ f : List ℕ} {g₀ g h₀ h : List Float} {i₀ i j₀ j : List ℕ} {k₀ k : List Float} (r : Result CorridorPlan Refusal)
     → a₀ ≡ a → b₀ ≡ b → c₀ ≡ c → d₀ ≡ d → e₀ ≡ e → f₀ ≡ f → g₀ ≡ g → h₀ ≡ h → i₀ ≡ i → j₀ ≡ j → k₀ ≡ k
     → outcome r (results a₀ b₀ c₀ d₀ e₀ f₀ g₀ h₀ i₀ j₀ k₀) ≡ outcome r (results a b c d e f g h i j k)
 same_results r p1 p2 p3 p4 p5 p6 p7 p8 p9 p10 p11 = cc
 
-pub filed_planned : {a₀ : List ℕ} {b₀ c₀ : List Float} {d₀ e₀ f₀ : List ℕ} {g₀ h₀ : List Float} {i₀ j₀ : List ℕ} {k₀ : List Float} (h : Header) (p : Places) (r : Planned) (l : Slices)
+pub filed_planned : {a₀ : List ℕ} {b₀ c₀ : List Float} {d₀ e₀ f₀ : List ℕ} {g₀ h₀ : List Float} {i₀ j₀ : List ℕ} {k₀ : List Float} (h : Header) (p : Places) (r : Result CorridorPlan Refusal) (l : Slices)
     → a₀ ≡ l.circuits → b₀ ≡ l.flow → c₀ ≡ l.rate → d₀ ≡ l.before → e₀ ≡ l.order → f₀ ≡ l.cap → g₀ ≡ l.mw → h₀ ≡ l.angle → i₀ ≡ l.tier → j₀ ≡ l.ground → k₀ ≡ l.added
     → Fits (case_as h p) → outcome r l ≡ plan_corridors (case_as h p) h.target (lent (case_as h p))
     → filed h (outcome r (results a₀ b₀ c₀ d₀ e₀ f₀ g₀ h₀ i₀ j₀ k₀)) ≡ filed h (plan_of (case_as h p) h.target)

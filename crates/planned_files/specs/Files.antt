@@ -1,19 +1,16 @@
 -- A case file that is read and planned: its header, what planning says of its case and what it leaves in each result slice. A file that reading refuses has no
 -- records, and that refusal is what is said of it.
-use Rattle.std.specs.Prelude.{ℕ, ◌*◌, List, [], ◌≡◌, length, take, Float}
+use Rattle.std.specs.Prelude.{ℕ, ◌*◌, List, [], ◌≡◌, length, take, Float, Err, Ok, Result}
 use Rattle.casefile_defs.specs.Bounds.{most_levels, most_buses, most_generators, most_corridors, row_figures}
 use Rattle.casefile_defs.specs.Reading.{levels, lines, reading_of}
 use Rattle.casefile_defs.specs.Tables.{Places, tables_of}
 use Rattle.casefile_defs.specs.Tables.{held as headerOf}
 use Rattle.casefile_defs.specs.declared.Header.{Header}
-use Rattle.casefile_defs.specs.declared.Reading.{Reading}
-use Rattle.casefile_defs.specs.declared.Reading.TheVariants.{Read}
-use Rattle.casefile_defs.specs.declared.Reading.TheVariants.{Refused as Unread}
 use Rattle.plan_defs.specs.Case.{Case, surveyed}
 use Rattle.plan_defs.specs.Plan.{ending_of}
 use Rattle.plan_defs.specs.Outcome.{Slices, slices, cleared, Outcome, outcome, outcome_by}
-use Rattle.plan_defs.specs.declared.Planned.TheVariants.{Refused}
 use Rattle.planned_files.specs.declared.PlannedFile.{PlannedFile}
+use Rattle.refusal.specs.declared.Refusal.{Refusal}
 
 -- ---- the case that tables hold
 -- in tables of the header's counts
@@ -56,9 +53,9 @@ pub record Filed : Type 0 where
 abbrev pub filed : Header → Outcome → Filed
 filed h o = record { header = h; plan = o }
 
-abbrev pub plan_read : List ℕ → Reading → Outcome
-plan_read s (Unread f) = outcome (Refused f) (results [] [] [] [] [] [] [] [] [] [] [])
-plan_read s (Read h) = plan_of (case_in h (tables_of s h)) h.target
+abbrev pub plan_read : List ℕ → Result Header Refusal → Outcome
+plan_read s (Err f) = outcome (Err f) (results [] [] [] [] [] [] [] [] [] [] [])
+plan_read s (Ok h) = plan_of (case_in h (tables_of s h)) h.target
 
 unfoldable pub plan_file : List ℕ → Filed
 plan_file s = filed (headerOf (reading_of s)) (plan_read s (reading_of s))

@@ -2,20 +2,16 @@
 // is public.
 #![tactic(auto)]
 
-ghost use Rattle.std.specs.Prelude.{◌≡◌, []};
+ghost use Rattle.std.specs.Prelude.{◌≡◌, [], Err, Ok, Result};
 ghost use Rattle.casefile_defs.specs.Reading.{Small};
 ghost use Rattle.casefile_defs.specs.Tables.{places_of, held as headerOf};
-ghost use Rattle.casefile_defs.specs.declared.Reading.TheVariants.{Refused as Unread};
 ghost use Rattle.planned_files.specs.Files.{case_as, plan_of, filed, plan_read, plan_file, filed_of, Sized};
 
-use casefile_defs::{
-    Header, MOST_BUSES, MOST_CORRIDORS, MOST_GENERATORS, MOST_LEVELS, MOST_SHEET, ROW_FIGURES,
-    Reading,
-};
+use casefile_defs::{Header, MOST_BUSES, MOST_CORRIDORS, MOST_GENERATORS, MOST_LEVELS, MOST_SHEET, ROW_FIGURES};
 use mode::PlanMode;
-use plan_defs::Planned;
 use planning::plan_corridors;
 use refusal::Refusal;
+use plan_defs::CorridorPlan;
 
 // The places of a work slice for each bus, corridor and generator.
 const WORK_ROWS: usize = 12;
@@ -26,7 +22,7 @@ const MOST_WORK: usize = WORK_ROWS * (MOST_BUSES + MOST_CORRIDORS + MOST_GENERAT
 #[derive(Clone, Copy)]
 pub struct PlannedFile {
     pub header: Header,
-    pub planned: Planned,
+    pub planned: Result<CorridorPlan, Refusal>,
     pub circuits: [u32; MOST_CORRIDORS],
     pub flow: [f64; MOST_CORRIDORS],
     pub rate: [f64; MOST_CORRIDORS],
@@ -42,7 +38,7 @@ pub struct PlannedFile {
 
 // A file that reading refuses.
 fn unread(f: Refusal) -> PlannedFile
-    ensures planned { filed_of result ≡ filed (headerOf (Unread f)) (plan_read [] (Unread f)) }
+    ensures planned { filed_of result ≡ filed (headerOf (Err f)) (plan_read [] (Err f)) }
     ensures small { Small result.header }
     ensures sized { Sized result }
 {
@@ -56,7 +52,7 @@ fn unread(f: Refusal) -> PlannedFile
             above: 0,
             requested: 0,
         },
-        planned: Planned::Refused(f),
+        planned: Err(f),
         circuits: [0u32; MOST_CORRIDORS],
         flow: [0.0; MOST_CORRIDORS],
         rate: [0.0; MOST_CORRIDORS],
@@ -217,8 +213,8 @@ pub fn plan_file(file: &[u8]) -> PlannedFile
     );
     let said = read.reading;
     match said {
-        Reading::Refused(f) => unread(f),
-        Reading::Read(h) => {
+        Err(f) => unread(f),
+        Ok(h) => {
             let n = h.buses;
             let m = h.corridors;
             let g = h.generators;

@@ -7,8 +7,6 @@ use Rattle.loops.proofs.Rows.{row_fits}
 use Rattle.refusal.specs.declared.Refusal.{Refusal}
 use Rattle.impedance.specs.Impedance.{impedance_of, rating_ok, reply_of, defined}
 use Rattle.impedance.specs.declared.SeriesImpedance.{SeriesImpedance}
-use Rattle.impedance.specs.declared.TransformerImpedance.{TransformerImpedance}
-use Rattle.impedance.specs.declared.TransformerImpedance.TheVariants.{Answered, Refused}
 use Rattle.impedance.proofs.Operation.{answers}
 use Rattle.sheets.specs.Sheet.{row_figures, row_place}
 use Rattle.plan_defs.specs.Case.{Case, Row, levels, level_of, higher_a, from_of, to_of, kv_high, row_at, row_from, rows_of}
@@ -17,18 +15,19 @@ use Rattle.plan_defs.specs.declared.CircuitDesign.{CircuitDesign}
 use Rattle.plan_defs.proofs.Rows.{row_from_lem}
 use Rattle.planning.specs.Design.{lines_for, ends_for, Lines, EndsFit, LineFits, ends_of, line_between}
 use Rattle.planning.specs.declared.design.Ends.{Ends}
+use Rattle.std.specs.Prelude.{Err, Ok, Result}
 
 -- ---- the impedance of a sound rating
-module _ (mva : Float) (r : TransformerImpedance) (ok : rating_ok mva ≡ true) (is : reply_of r ≡ defined mva) where
-  pub never_refused : (f : Refusal) → r ≡ Refused f → ⊥
+module _ (mva : Float) (r : Result SeriesImpedance Refusal) (ok : rating_ok mva ≡ true) (is : reply_of r ≡ defined mva) where
+  pub never_refused : (f : Refusal) → r ≡ Err f → ⊥
   never_refused f e =
-      let p : reply_of (Refused f) ≡ reply_of (Answered (impedance_of mva)) = ap reply_of (sym e) ∙ answers mva r ok is in
+      let p : reply_of (Err f) ≡ reply_of (Ok (impedance_of mva)) = ap reply_of (sym e) ∙ answers mva r ok is in
       let z : ◌≡◌ {A = ℕ} 0 1 = cc in
       omega arith
 
-  pub answered_by : (z : SeriesImpedance) → r ≡ Answered z → z ≡ impedance_of mva
+  pub answered_by : (z : SeriesImpedance) → r ≡ Ok z → z ≡ impedance_of mva
   answered_by z e =
-      let p : reply_of (Answered z) ≡ reply_of (Answered (impedance_of mva)) = ap reply_of (sym e) ∙ answers mva r ok is in
+      let p : reply_of (Ok z) ≡ reply_of (Ok (impedance_of mva)) = ap reply_of (sym e) ∙ answers mva r ok is in
       cc
 
 -- ---- the ends

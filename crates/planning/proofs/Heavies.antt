@@ -7,8 +7,6 @@ use Rattle.loops.specs.Loops.{iter}
 use Rattle.loops.proofs.Loops.{iter_all}
 use Rattle.loops.proofs.Places.{iter_same}
 use Rattle.refusal.specs.declared.Refusal.{Refusal}
-use Rattle.refusal.specs.declared.Answer.{Answer}
-use Rattle.refusal.specs.declared.Answer.TheVariants.{Answered, Refused}
 use Rattle.mode.specs.declared.PlanMode.{PlanMode}
 use Rattle.angles_defs.specs.Network.{zeros}
 use Rattle.plan_defs.specs.Case.{Case, levels}
@@ -25,11 +23,12 @@ use Rattle.planning.specs.Solve.{peak_for, solved_of}
 use Rattle.planning.specs.Sound.{Sound}
 use Rattle.planning.specs.Rounds.{Redrawn}
 use Rattle.planning.specs.Raises.{heavy_for, pass_for, raised_of, passed_as, HeavyRaised}
-use Rattle.planning.specs.declared.raises.Raised.TheVariants.{Promoted}
 use Rattle.planning.proofs.Draws.{Laid, drawn_lifts}
 use Rattle.planning.proofs.Builds.{drawn_at, drawn_all_lifts}
 use Rattle.planning.proofs.Redesigns.{redesign_is, banks_lift}
 use Rattle.planning.proofs.Marks.{mark_lifts, none_raised, lines_raised}
+use Rattle.std.specs.Prelude.{Err, Ok, Result}
+use Rattle.refusal.specs.Reply.{no_refusal}
 
 -- ---- one corridor's marks, and the loop over all
 module _ (ladder : List Float) (level a b : List ℕ) (km share sheet banks flow : List Float) where
@@ -108,7 +107,7 @@ heavy_raised ladder level a b km share sheet load bus pmax flow floors banks lev
 
 -- ---- a pass
 module _ (ladder : List Float) (level a b : List ℕ) (km share sheet load : List Float) (bus : List ℕ) (pmax : List Float) (grounds : List ℕ) (injection : List Float)
-    (circuits : List ℕ) (banks angle₀ : List Float) (n : ℕ) (cleared : angle₀ ≡ zeros n) (size : n ≡ length level) (r : Answer) (angle flow : List Float)
+    (circuits : List ℕ) (banks angle₀ : List Float) (n : ℕ) (cleared : angle₀ ≡ zeros n) (size : n ≡ length level) (r : Result (Unit {0}) Refusal) (angle flow : List Float)
     (told : solved_of r (edges_for (drawn_all (lines_for ladder a b km share sheet) level banks) circuits) angle flow
     ≡ planning_state (peak_for (length level) grounds injection) (drawn_all (lines_for ladder a b km share sheet) level banks) circuits angle₀)
     (o : Case) (mode : PlanMode) (target : ℕ) (s : Sound (pass_for o mode ladder a b km share sheet load bus pmax) target) (buses : length level ≡ o.buses) (d promoted : ℕ) where
@@ -134,13 +133,13 @@ module _ (ladder : List Float) (level a b : List ℕ) (km share sheet load : Lis
       ∙ ap (λ (x : List Float). planning_state (peak_for (length level) grounds injection) (drawn_all C level banks) circuits x) (cleared ∙ ap (λ (i : ℕ). zeros i) size)
       ∙ ap (λ (i : ℕ). planning_state (peak_for i grounds injection) (drawn_all C level banks) circuits (zeros i)) buses
 
-  pub pass_refused : (f : Refusal) → r ≡ Refused f → stopped f ≡ passes (suc d) C P circuits before
+  pub pass_refused : (f : Refusal) → r ≡ Err f → stopped f ≡ passes (suc d) C P circuits before
   unfolding passes
   pass_refused f e =
-      ap (λ (x : Answer). onward (solved_of x (edges_for (drawn_all lines level banks) circuits) angle flow) next) (sym e)
+      ap (λ (x : Result (Unit {0}) Refusal). onward (solved_of x (edges_for (drawn_all lines level banks) circuits) angle flow) next) (sym e)
       ∙ ap (λ (x : Stage PlanningCase). onward x next) (told ∙ state_is)
 
-  module _ (answered : r ≡ Answered) (floors : List Float) (unset : floors ≡ zeros (length a)) (level' : List ℕ) (banks' : List Float) (moved : ℕ) (marks : List ℕ)
+  module _ (answered : r ≡ no_refusal) (floors : List Float) (unset : floors ≡ zeros (length a)) (level' : List ℕ) (banks' : List Float) (moved : ℕ) (marks : List ℕ)
       (w : HeavyRaised ladder level a b km share sheet load bus pmax flow floors banks level' banks' moved marks) where
     marks_is : marks ≡ heavy_marks C before flow
     marks_is = w.marks_are ∙ marks_lift C sheet refl level banks flow s.a_size s.ladder_size buses promoted
@@ -150,7 +149,7 @@ module _ (ladder : List Float) (level a b : List ℕ) (km share sheet load : Lis
     pass_is =
         ap (λ (m : ℕ). passed_by m C before marks (passes d C P circuits)) w.count
         ∙ ap (λ (x : List ℕ). pass_marked C before x (passes d C P circuits)) marks_is
-        ∙ ap (λ (x : Answer). onward (solved_of x (edges_for (drawn_all lines level banks) circuits) angle flow) next) (sym answered)
+        ∙ ap (λ (x : Result (Unit {0}) Refusal). onward (solved_of x (edges_for (drawn_all lines level banks) circuits) angle flow) next) (sym answered)
         ∙ ap (λ (x : Stage PlanningCase). onward x next) (told ∙ state_is)
 
     anew_is : (moved ≡ 0 → ⊥) → drawn_all C level' banks' ≡ redesign C (raised_levels level marks) (zeros o.corridors)
@@ -162,7 +161,7 @@ module _ (ladder : List Float) (level a b : List ℕ) (km share sheet load : Lis
         ∙ sym (redesign_is C level' (zeros o.corridors))
         ∙ ap (λ (x : List ℕ). redesign C x (zeros o.corridors)) w.levels
 
-    goes_on_lem : (m : ℕ) → moved ≡ m → passed_as (Promoted m) d C P circuits level' banks' promoted ≡ passed_by m C before marks (passes d C P circuits)
+    goes_on_lem : (m : ℕ) → moved ≡ m → passed_as (Ok m) d C P circuits level' banks' promoted ≡ passed_by m C before marks (passes d C P circuits)
     goes_on_lem zero e =
         ap (λ (x : List ℕ). going (raised_of C x banks' promoted)) (w.levels ∙ none_raised level marks (sym w.count ∙ e))
         ∙ ap (λ (x : List Float). going (raised_of C level x promoted)) (w.kept e)
@@ -171,5 +170,5 @@ module _ (ladder : List Float) (level a b : List ℕ) (km share sheet load : Lis
         ap (λ (x : List CircuitDesign). passes d C P circuits (record { level = level'; designs = x; promoted = promoted + suc m })) (anew_is moves)
         ∙ ap (λ (x : List ℕ). passes d C P circuits (record { level = x; designs = redesign C (raised_levels level marks) (zeros o.corridors); promoted = promoted + suc m })) w.levels
 
-    pub pass_going : passed_as (Promoted moved) d C P circuits level' banks' promoted ≡ passes (suc d) C P circuits before
+    pub pass_going : passed_as (Ok moved) d C P circuits level' banks' promoted ≡ passes (suc d) C P circuits before
     pass_going = goes_on_lem moved refl ∙ pass_is

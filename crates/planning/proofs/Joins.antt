@@ -24,8 +24,6 @@ use Rattle.plan_defs.specs.Solve.{Peak, PlanningCase, planning_state}
 use Rattle.plan_defs.specs.Fill.{fill}
 use Rattle.plan_defs.specs.Plan.{Plan, Opened, Ready, peak_of, opened_with, opening, settled, ready_of, plan_of, closing, plan_for}
 use Rattle.plan_defs.specs.Outcome.{Slices, up_to}
-use Rattle.plan_defs.specs.declared.Planned.{Planned}
-use Rattle.plan_defs.specs.declared.Planned.TheVariants.{Refused}
 use Rattle.plan_defs.proofs.Stages.{On, on_onward}
 use Rattle.plan_defs.proofs.Rising.{risen_first}
 use Rattle.plan_defs.proofs.Opened.{Done, done}
@@ -37,11 +35,11 @@ use Rattle.planning.specs.Rounds.{Columns}
 use Rattle.planning.specs.Sound.{Sound, Lengths}
 use Rattle.planning.specs.Plan.{Openable, Opens, OpenedAs, OpeningDone, Plannable, OpenedPlan, PlannedAs, whole_case, WholeAs, PlanDone, Lendable}
 use Rattle.planning.specs.declared.plan.PlanRun.{PlanRun}
-use Rattle.planning.specs.declared.plan.Opening.{Opening}
-use Rattle.planning.specs.declared.plan.Opening.TheVariants.{Refused as Unopened, Opened as Begun}
 use Rattle.planning.proofs.Grounds.{grounds_few, grounds_below, grounds_lent}
 use Rattle.planning.proofs.Draws.{Laid}
 use Rattle.planning.proofs.Sounds.{lines_of}
+use Rattle.std.specs.Prelude.{Err, Ok, Result}
+use Rattle.plan_defs.specs.declared.CorridorPlan.{CorridorPlan}
 
 -- ---- a unit's most is not below zero, since its least is not
 truth : (b : Bool) → T b → b ≡ true
@@ -204,7 +202,7 @@ module _ (c : Case) (target : ℕ) (s : Sound c target) where
           let z : going mw ≡ going r.mw = sym e ∙ d.dispatched in
           ((let y : mw ≡ r.mw = cc in y), sym (ap (λ (p : Peak). p.grounds) d.peak ∙ ap (grounds_of c) d.led))
 
-  whole_by : (r : Planned) (before order circuits : List ℕ) (flow rate mw angle : List Float) (tier ground : List ℕ) (added : List Float) (t : Stage Plan)
+  whole_by : (r : Result CorridorPlan Refusal) (before order circuits : List ℕ) (flow rate mw angle : List Float) (tier ground : List ℕ) (added : List Float) (t : Stage Plan)
       → On (OpeningOf mw) t → ground ≡ up_to c.buses 0 (grounds_of c (component c)) → PlannedAs r before order circuits tier flow rate angle added c t
       → WholeAs r before order circuits flow rate mw angle tier ground added c t
   whole_by r before order circuits flow rate mw angle tier ground added (stopped f) k g h = h
@@ -275,21 +273,21 @@ module _ (mode : PlanMode) (target above : ℕ) (ladder : List Float) (tier : Li
         }
 
     -- after the opening
-    module _ (leader' : List ℕ) (injection' : List Float) (ground' : List ℕ) (mw' : List Float) (level' circuits' : List ℕ) (r : Opening)
+    module _ (leader' : List ℕ) (injection' : List Float) (ground' : List ℕ) (mw' : List Float) (level' circuits' : List ℕ) (r : Result ℕ Refusal)
         (w : OpeningDone mode above tier load bus slack pmin pmax c1 c2 a b initial leader' injection' ground' mw' level' circuits' r) where
-      pub stages_refused : (f : Refusal) → r ≡ Unopened f → (circuits'' : List ℕ) (flow'' rate'' mw'' angle'' : List Float) (level'' ground'' : List ℕ) (added'' : List Float) (x : PlanRun) → x.said ≡ Refused f
+      pub stages_refused : (f : Refusal) → r ≡ Err f → (circuits'' : List ℕ) (flow'' rate'' mw'' angle'' : List Float) (level'' ground'' : List ℕ) (added'' : List Float) (x : PlanRun) → x.said ≡ Err f
           → DoneAfter circuits'' flow'' rate'' mw'' angle'' level'' ground'' added'' x
       stages_refused f q circuits'' flow'' rate'' mw'' angle'' level'' ground'' added'' x j =
           record {
             plan = λ o s.
-                let e = subst (λ (x : Opening). OpenedAs x (C o) leader' injection' ground' mw' level' circuits') q (w.opens (C o) target s) in
+                let e = subst (λ (x : Result ℕ Refusal). OpenedAs x (C o) leader' injection' ground' mw' level' circuits') q (w.opens (C o) target s) in
                 subst (WholeAs x.said (take (length a) x.kept.before) (take (length a) x.kept.order) circuits'' flow'' rate'' mw'' angle'' level'' ground'' added'' (C o))
                 (sym (unopened (C o) target s f e)) j;
           }
 
-      module _ (count : ℕ) (q : r ≡ Begun count) (e : length leader' ≡ length (fresh {A = ℕ} (length tier) 0)) where
+      module _ (count : ℕ) (q : r ≡ Ok count) (e : length leader' ≡ length (fresh {A = ℕ} (length tier) 0)) where
         opens_by : (o : Case) → Sound (C o) target → Opens (C o) leader' injection' count ground' mw' level' circuits'
-        opens_by o s = subst (λ (x : Opening). OpenedAs x (C o) leader' injection' ground' mw' level' circuits') q (w.opens (C o) target s)
+        opens_by o s = subst (λ (x : Result ℕ Refusal). OpenedAs x (C o) leader' injection' ground' mw' level' circuits') q (w.opens (C o) target s)
 
         pub count_of : length ground' ≡ length ground → count ≤ length ground'
         count_of f =

@@ -5,8 +5,6 @@ use native.Mathlib.Nat.{sub-zero}
 use lib.Ieee.{Float, le}
 use Rattle.loops.specs.Figures.{at, minus, nought}
 use Rattle.refusal.specs.declared.Refusal.{Refusal}
-use Rattle.refusal.specs.declared.Answer.{Answer}
-use Rattle.refusal.specs.declared.Answer.TheVariants.{Answered, Refused as Declined}
 use Rattle.angles_defs.specs.Network.{edges_of, zeros}
 use Rattle.angles_defs.specs.Solve.{solve}
 use Rattle.plan_defs.specs.Constants.{max_angle_spread_rad, stiffening_rounds}
@@ -21,12 +19,12 @@ use Rattle.planning.specs.Whole.{with_lines}
 use Rattle.planning.specs.Stiffen.{budget_for, stiff_of, round_of, Within, LedStiffened, Stepped, reinforce_step, narrow_step, component_step, lead_of, lag_of}
 use Rattle.planning.specs.declared.stiffen.Limits.{Limits}
 use Rattle.planning.specs.declared.stiffen.Stiffness.{Stiffness}
-use Rattle.planning.specs.declared.stiffen.Stiffened.{Stiffened}
-use Rattle.planning.specs.declared.stiffen.Stiffened.TheVariants.{Refused, Going}
+use Rattle.std.specs.Prelude.{Err, Ok, Result}
+use Rattle.refusal.specs.Reply.{no_refusal}
 
 -- ---- the component, by what the solve answers
 module _ (root lead lag : ℕ) (excess : Float) (g : Limits) (ladder : List Float) (level a b : List ℕ) (km share : List Float) (cap : List ℕ) (sheet : List Float) (leader grounds from to : List ℕ) (weight angle : List Float)
-    (circuits : List ℕ) (banks floors : List Float) (upsized marks : List ℕ) (t : Stiffness) (n : ℕ) (phi : List Float) (r : Answer) (pn : n ≡ length level)
+    (circuits : List ℕ) (banks floors : List Float) (upsized marks : List ℕ) (t : Stiffness) (n : ℕ) (phi : List Float) (r : Result (Unit {0}) Refusal) (pn : n ≡ length level)
     (pa : stage_of r phi
     ≡ finite_angles (solve n (edges_of (take (length a - 0) from) (take (length a - 0) to) (take (length a - 0) weight)) grounds (unit_at n lead lag) (zeros n)).x) where
   abbrev step : Case → List Float → List Float → Stiffening → Stage Stiffening
@@ -48,29 +46,29 @@ module _ (root lead lag : ℕ) (excess : Float) (g : Limits) (ladder : List Floa
         ap (λ (y : Stage (List Float)). onward y next) (pa ∙ ap (λ (k : ℕ). finite_angles (X k n)) (sub-zero (length a)) ∙ ap (λ (i : ℕ). finite_angles (X (length a) i)) e)
         ∙ by_angles (all_finite (X (length a) c.buses)) (X (length a) c.buses)
 
-  pub narrowed_refused : (f : Refusal) → r ≡ Declined f → Banks banks
-      → Stepped step ladder level a b km share cap sheet circuits banks floors upsized marks t circuits banks floors upsized marks (Refused f)
+  pub narrowed_refused : (f : Refusal) → r ≡ Err f → Banks banks
+      → Stepped step ladder level a b km share cap sheet circuits banks floors upsized marks t circuits banks floors upsized marks (Err f)
   narrowed_refused f h banked =
       record {
         stiffened = λ o injection flows w e.
             let c = with_lines o ladder a b km share sheet in
             let s = stiff_of c level circuits banks floors upsized marks t in
-            ap (λ (x : Answer). onward (stage_of x phi) (next c injection flows s)) (sym h) ∙ answer_is c injection flows s (pn ∙ e);
+            ap (λ (x : Result (Unit {0}) Refusal). onward (stage_of x phi) (next c injection flows s)) (sym h) ∙ answer_is c injection flows s (pn ∙ e);
         banked = banked;
         few = λ f. f;
         bound = tt;
       }
 
-  pub narrowed_answered : (circuits' : List ℕ) (banks' floors' : List Float) (upsized' marks' : List ℕ) (t' : Stiffness) → r ≡ Answered
-      → Stepped (reinforce_step root excess g level leader angle phi) ladder level a b km share cap sheet circuits banks floors upsized marks t circuits' banks' floors' upsized' marks' (Going t')
-      → Stepped step ladder level a b km share cap sheet circuits banks floors upsized marks t circuits' banks' floors' upsized' marks' (Going t')
+  pub narrowed_answered : (circuits' : List ℕ) (banks' floors' : List Float) (upsized' marks' : List ℕ) (t' : Stiffness) → r ≡ no_refusal
+      → Stepped (reinforce_step root excess g level leader angle phi) ladder level a b km share cap sheet circuits banks floors upsized marks t circuits' banks' floors' upsized' marks' (Ok t')
+      → Stepped step ladder level a b km share cap sheet circuits banks floors upsized marks t circuits' banks' floors' upsized' marks' (Ok t')
   narrowed_answered circuits' banks' floors' upsized' marks' t' h q =
       record {
         stiffened = λ o injection flows w e.
             let c = with_lines o ladder a b km share sheet in
             let s = stiff_of c level circuits banks floors upsized marks t in
             q.stiffened o injection flows w e
-            ∙ ap (λ (x : Answer). onward (stage_of x phi) (next c injection flows s)) (sym h)
+            ∙ ap (λ (x : Result (Unit {0}) Refusal). onward (stage_of x phi) (next c injection flows s)) (sym h)
             ∙ answer_is c injection flows s (pn ∙ e);
         banked = q.banked;
         few = q.few;
@@ -101,7 +99,7 @@ module _ (root round : ℕ) (g : Limits) (ladder : List Float) (level a b : List
         ∙ ap (λ (i : ℕ). between_buses c P leader level round (budget_for g) v root (lead_of leader angle root) i s) pg
 
     pub component_narrow : le excess nought ≡ true → Banks banks
-        → Stepped whole ladder level a b km share cap sheet circuits banks floors upsized marks t circuits banks floors upsized marks (Going t)
+        → Stepped whole ladder level a b km share cap sheet circuits banks floors upsized marks t circuits banks floors upsized marks (Ok t)
     component_narrow h banked =
         record {
           stiffened = λ o injection flows w e.
@@ -128,7 +126,7 @@ module _ (root round : ℕ) (g : Limits) (ladder : List Float) (level a b : List
           ∙ component_is c injection flows s
 
       pub component_late : stiffening_rounds < round → Banks banks
-          → Stepped whole ladder level a b km share cap sheet circuits banks floors upsized marks t circuits banks floors upsized marks (Going u)
+          → Stepped whole ladder level a b km share cap sheet circuits banks floors upsized marks t circuits banks floors upsized marks (Ok u)
       component_late q banked =
           let d = ap (λ (x : Stiffness). x.total) pu in
           let e = ap (λ (x : Stiffness). x.hv) pu in
@@ -142,11 +140,11 @@ module _ (root round : ℕ) (g : Limits) (ladder : List Float) (level a b : List
             bound = (omega arith, omega arith, omega arith);
           }
 
-      within_as : (m : ℕ) (r : Stiffened) → Within m (widened_to t) r → Within m t r
-      within_as m (Refused f) w = tt
-      within_as m (Going x) w = w
+      within_as : (m : ℕ) (r : Result Stiffness Refusal) → Within m (widened_to t) r → Within m t r
+      within_as m (Err f) w = tt
+      within_as m (Ok x) w = w
 
-      pub component_narrowed : round ≤ stiffening_rounds → (circuits' : List ℕ) (banks' floors' : List Float) (upsized' marks' : List ℕ) (r : Stiffened)
+      pub component_narrowed : round ≤ stiffening_rounds → (circuits' : List ℕ) (banks' floors' : List Float) (upsized' marks' : List ℕ) (r : Result Stiffness Refusal)
           → Stepped (narrow_step root lead lag excess g level leader grounds (length a) from to weight angle) ladder level a b km share cap sheet circuits banks floors upsized marks u circuits' banks' floors' upsized' marks' r
           → Stepped whole ladder level a b km share cap sheet circuits banks floors upsized marks t circuits' banks' floors' upsized' marks' r
       component_narrowed q circuits' banks' floors' upsized' marks' r z =
@@ -162,7 +160,7 @@ module _ (root round : ℕ) (g : Limits) (ladder : List Float) (level a b : List
           }
 
   -- ---- the component that a bus leads, where it leads one
-  pub led_leads : (circuits' : List ℕ) (banks' floors' : List Float) (upsized' marks' : List ℕ) (r : Stiffened) → get_or leader root 0 ≡ root
+  pub led_leads : (circuits' : List ℕ) (banks' floors' : List Float) (upsized' marks' : List ℕ) (r : Result Stiffness Refusal) → get_or leader root 0 ≡ root
       → Stepped whole ladder level a b km share cap sheet circuits banks floors upsized marks t circuits' banks' floors' upsized' marks' r
       → LedStiffened root round g ladder level a b km share cap sheet leader grounds from to weight angle circuits banks floors upsized marks t circuits' banks' floors' upsized' marks' r
   led_leads circuits' banks' floors' upsized' marks' r h z =
@@ -178,7 +176,7 @@ module _ (root round : ℕ) (g : Limits) (ladder : List Float) (level a b : List
       }
 
   pub led_not : (get_or leader root 0 ≡ root → ⊥) → Banks banks
-      → LedStiffened root round g ladder level a b km share cap sheet leader grounds from to weight angle circuits banks floors upsized marks t circuits banks floors upsized marks (Going t)
+      → LedStiffened root round g ladder level a b km share cap sheet leader grounds from to weight angle circuits banks floors upsized marks t circuits banks floors upsized marks (Ok t)
   led_not h banked =
       record {
         stiffened = λ o target injection flows sound n caps.

@@ -3,8 +3,6 @@ use Rattle.std.proofs.Common.{◌≡◌, ℕ, ◌≤◌, Bool, true, false, not,
 use mathlib.Core.Option.{Option}
 use lib.Ieee.{Float}
 use Rattle.refusal.specs.declared.Refusal.{Refusal}
-use Rattle.refusal.specs.declared.Answer.{Answer}
-use Rattle.refusal.specs.declared.Answer.TheVariants.{Answered as Accepted, Refused as Unaccepted}
 use Rattle.plan_defs.specs.Stage.{Stage, stopped, going}
 use Rattle.plan_defs.specs.Constants.{most_buses, most_corridors}
 use Rattle.plan_defs.specs.Case.{Case, Row, rows_of, case_with, promote, levels}
@@ -12,8 +10,6 @@ use Rattle.plan_defs.specs.Plan.{Plan, ending_on, ending_by, ending_of, plan_for
 use Rattle.plan_defs.specs.Outcome.{Slices, slices_ok, cleared, kept_if, kept_of, held, summary, Outcome, reply_of, outcome, outcome_by, outcome_if, plan_corridors}
 use Rattle.plan_defs.specs.Demand.{AnswerTo}
 use Rattle.plan_defs.specs.declared.CorridorPlan.{CorridorPlan}
-use Rattle.plan_defs.specs.declared.Planned.{Planned}
-use Rattle.plan_defs.specs.declared.Planned.TheVariants.{Answered, Refused}
 use Rattle.acceptance.specs.Check.{check_of}
 use Rattle.acceptance.proofs.Callers.{tables_of_lem, passed_by_lem}
 use Rattle.plan_theorems.proofs.Dispatched.{Binary}
@@ -25,13 +21,15 @@ use Rattle.planning.specs.declared.plan.PlanRun.{PlanRun}
 use Rattle.planning.proofs.Draws.{Laid}
 use Rattle.planning.proofs.Liftings.{finished_refused, finished_answered}
 use Rattle.planning.proofs.Sounds.{sound, lengths_of, kept_lengths, refused_outcome}
+use Rattle.std.specs.Prelude.{Err, Ok, Result}
+use Rattle.refusal.specs.Reply.{no_refusal}
 
 module _ (c : Case) (target : ℕ) (s : Slices) where
   -- ---- what is promised: the defined outcome, and of an answer demand 3
-  abbrev Ends : Planned → Slices → Type 0
-  Ends r out = (outcome r out ≡ plan_corridors c target s) × ((x : CorridorPlan) → r ≡ Answered x → AnswerTo c target (outcome r out) x)
+  abbrev Ends : Result CorridorPlan Refusal → Slices → Type 0
+  Ends r out = (outcome r out ≡ plan_corridors c target s) × ((x : CorridorPlan) → r ≡ Ok x → AnswerTo c target (outcome r out) x)
 
-  ends_by : Binary c → (r : Planned) (out : Slices) → outcome r out ≡ plan_corridors c target s → Ends r out
+  ends_by : Binary c → (r : Result CorridorPlan Refusal) (out : Slices) → outcome r out ≡ plan_corridors c target s → Ends r out
   ends_by binary r out e = (
     e,
     λ x q. subst (λ (y : Outcome). AnswerTo c target y x) (sym e) (answer_to_lem c target binary s x (ap (λ (y : Outcome). y.reply) (sym e) ∙ ap reply_of q)),
@@ -47,10 +45,10 @@ module _ (c : Case) (target : ℕ) (s : Slices) where
   relaid_is sheet laid figures = ap (λ (n : ℕ). with_rows n (rows_of c.corridors (levels c) sheet)) figures ∙ ap (with_rows c.figures) laid
 
   -- 1 to 7
-  pub ends_unaccepted : Binary c → (f : Refusal) → Unaccepted f ≡ check_of (slices_ok c s) (tables_of_lem c) target → Ends (Refused f) s
-  ends_unaccepted binary f e = ends_by binary (Refused f) s (refused_outcome c target s f e)
+  pub ends_unaccepted : Binary c → (f : Refusal) → Err f ≡ check_of (slices_ok c s) (tables_of_lem c) target → Ends (Err f) s
+  ends_unaccepted binary f e = ends_by binary (Err f) s (refused_outcome c target s f e)
 
-  module _ (ok : Accepted ≡ check_of (slices_ok c s) (tables_of_lem c) target) where
+  module _ (ok : no_refusal ≡ check_of (slices_ok c s) (tables_of_lem c) target) where
     is_sound : Sound c target
     is_sound = sound c target (passed_by_lem (slices_ok c s) c target ok).1
 
@@ -117,53 +115,53 @@ module _ (c : Case) (target : ℕ) (s : Slices) where
       none = replicate c.corridors 0
 
       -- 8 and 9
-      refused_by_lem : (f : Refusal) → r.said ≡ Refused f → (t : Stage Plan) → Whole t
-          → outcome (Refused f) (with_kept none none none (finished true lent)) ≡ outcome_by (ending_on t) c s
+      refused_by_lem : (f : Refusal) → r.said ≡ Err f → (t : Stage Plan) → Whole t
+          → outcome (Err f) (with_kept none none none (finished true lent)) ≡ outcome_by (ending_on t) c s
       unfolding outcome_by
       refused_by_lem f q (stopped g) h =
-          let z : Refused f ≡ Refused g = sym q ∙ h in
-          ap (λ (x : Slices). outcome (Refused f) x) (finished_refused c lent size) ∙ ap (λ (x : Planned). outcome x (cleared c)) z
-      refused_by_lem f q (going p) h = let y : Refused f ≡ Answered (summary p) = sym q ∙ h.holds.said in let z : ◌≡◌ {A = ℕ} 0 1 = cc in absurd (omega arith)
+          let z : Err f ≡ Err g = sym q ∙ h in
+          ap (λ (x : Slices). outcome (Err f) x) (finished_refused c lent size) ∙ ap (λ (x : Result CorridorPlan Refusal). outcome x (cleared c)) z
+      refused_by_lem f q (going p) h = let y : Err f ≡ Ok (summary p) = sym q ∙ h.holds.said in let z : ◌≡◌ {A = ℕ} 0 1 = cc in absurd (omega arith)
 
-      ends_refused : Binary c → (f : Refusal) → r.said ≡ Refused f → out ≡ finished true lent → before ≡ none → order ≡ none → caps ≡ none
-          → Ends (Refused f) (with_kept before order caps out)
+      ends_refused : Binary c → (f : Refusal) → r.said ≡ Err f → out ≡ finished true lent → before ≡ none → order ≡ none → caps ≡ none
+          → Ends (Err f) (with_kept before order caps out)
       ends_refused binary f q e u v w =
-          ends_by binary (Refused f) (with_kept before order caps out)
-          (ap (λ (x : Slices). outcome (Refused f) (with_kept before order caps x)) e
-          ∙ ap (λ (l : List ℕ). outcome (Refused f) (with_kept l order caps (finished true lent))) u
-          ∙ ap (λ (l : List ℕ). outcome (Refused f) (with_kept none l caps (finished true lent))) v
-          ∙ ap (λ (l : List ℕ). outcome (Refused f) (with_kept none none l (finished true lent))) w
+          ends_by binary (Err f) (with_kept before order caps out)
+          (ap (λ (x : Slices). outcome (Err f) (with_kept before order caps x)) e
+          ∙ ap (λ (l : List ℕ). outcome (Err f) (with_kept l order caps (finished true lent))) u
+          ∙ ap (λ (l : List ℕ). outcome (Err f) (with_kept none l caps (finished true lent))) v
+          ∙ ap (λ (l : List ℕ). outcome (Err f) (with_kept none none l (finished true lent))) w
           ∙ refused_by_lem f q (plan_for c target) whole ∙ ends)
 
       -- an answer
       abbrev kept_front : List ℕ → List ℕ
       kept_front l = kept_of c (front l)
 
-      answered_by : (x : CorridorPlan) → r.said ≡ Answered x → (t : Stage Plan) → Whole t
-          → outcome (Answered x) (with_kept (kept_front r.kept.before) (kept_front r.kept.order) c.cap (finished false lent)) ≡ outcome_by (ending_on t) c s
+      answered_by : (x : CorridorPlan) → r.said ≡ Ok x → (t : Stage Plan) → Whole t
+          → outcome (Ok x) (with_kept (kept_front r.kept.before) (kept_front r.kept.order) c.cap (finished false lent)) ≡ outcome_by (ending_on t) c s
       unfolding outcome_by
-      answered_by x q (stopped g) h = let y : Answered x ≡ Refused g = sym q ∙ h in let z : ◌≡◌ {A = ℕ} 0 1 = cc in absurd (omega arith)
+      answered_by x q (stopped g) h = let y : Ok x ≡ Err g = sym q ∙ h in let z : ◌≡◌ {A = ℕ} 0 1 = cc in absurd (omega arith)
       answered_by x q (going p) h =
-          let y : Answered x ≡ Answered (summary p) = sym q ∙ h.holds.said in
-          ap (λ (l : List ℕ). outcome (Answered x) (with_kept (kept_of c l) (kept_front r.kept.order) c.cap (finished false lent))) h.holds.before_are
-          ∙ ap (λ (l : List ℕ). outcome (Answered x) (with_kept (kept_of c p.before) (kept_of c l) c.cap (finished false lent))) h.holds.order_is
-          ∙ ap (λ (u : Slices). outcome (Answered x) u)
+          let y : Ok x ≡ Ok (summary p) = sym q ∙ h.holds.said in
+          ap (λ (l : List ℕ). outcome (Ok x) (with_kept (kept_of c l) (kept_front r.kept.order) c.cap (finished false lent))) h.holds.before_are
+          ∙ ap (λ (l : List ℕ). outcome (Ok x) (with_kept (kept_of c p.before) (kept_of c l) c.cap (finished false lent))) h.holds.order_is
+          ∙ ap (λ (u : Slices). outcome (Ok x) u)
           (finished_answered c lent p size.figures size.counts h.holds.circuits_are h.holds.flows_are h.holds.rates_are h.mw_is h.holds.angles_are
           h.holds.tiers_are h.grounds_are h.holds.added_are)
-          ∙ ap (λ (u : Planned). outcome u (held c p)) y
+          ∙ ap (λ (u : Result CorridorPlan Refusal). outcome u (held c p)) y
 
-      ends_answered : Binary c → (x : CorridorPlan) → r.said ≡ Answered x → out ≡ finished false lent → before ≡ kept_front r.kept.before → order ≡ kept_front r.kept.order → caps ≡ c.cap
-          → Ends (Answered x) (with_kept before order caps out)
+      ends_answered : Binary c → (x : CorridorPlan) → r.said ≡ Ok x → out ≡ finished false lent → before ≡ kept_front r.kept.before → order ≡ kept_front r.kept.order → caps ≡ c.cap
+          → Ends (Ok x) (with_kept before order caps out)
       ends_answered binary x q e u v w =
-          ends_by binary (Answered x) (with_kept before order caps out)
-          (ap (λ (o : Slices). outcome (Answered x) (with_kept before order caps o)) e
-          ∙ ap (λ (l : List ℕ). outcome (Answered x) (with_kept l order caps (finished false lent))) u
-          ∙ ap (λ (l : List ℕ). outcome (Answered x) (with_kept (kept_front r.kept.before) l caps (finished false lent))) v
-          ∙ ap (λ (l : List ℕ). outcome (Answered x) (with_kept (kept_front r.kept.before) (kept_front r.kept.order) l (finished false lent))) w
+          ends_by binary (Ok x) (with_kept before order caps out)
+          (ap (λ (o : Slices). outcome (Ok x) (with_kept before order caps o)) e
+          ∙ ap (λ (l : List ℕ). outcome (Ok x) (with_kept l order caps (finished false lent))) u
+          ∙ ap (λ (l : List ℕ). outcome (Ok x) (with_kept (kept_front r.kept.before) l caps (finished false lent))) v
+          ∙ ap (λ (l : List ℕ). outcome (Ok x) (with_kept (kept_front r.kept.before) (kept_front r.kept.order) l (finished false lent))) w
           ∙ answered_by x q (plan_for c target) whole ∙ ends)
 
       -- by what planning says
-      abbrev kept_as : Planned → List ℕ → List ℕ
+      abbrev kept_as : Result CorridorPlan Refusal → List ℕ → List ℕ
       kept_as y l = kept_if (promote c.mode && not (is_refused y)) c.corridors (front l)
 
       and_false : (b : Bool) → (b && false) ≡ false
@@ -174,19 +172,19 @@ module _ (c : Case) (target : ℕ) (s : Slices) where
       and_true true = refl
       and_true false = refl
 
-      ends_as : Binary c → (y : Planned) → r.said ≡ y → out ≡ finished (is_refused y) lent → before ≡ kept_as y r.kept.before → order ≡ kept_as y r.kept.order
+      ends_as : Binary c → (y : Result CorridorPlan Refusal) → r.said ≡ y → out ≡ finished (is_refused y) lent → before ≡ kept_as y r.kept.before → order ≡ kept_as y r.kept.order
           → caps ≡ kept_if (not (is_refused y)) c.corridors c.cap → Ends y (with_kept before order caps out)
-      ends_as binary (Refused f) q e u v w =
+      ends_as binary (Err f) q e u v w =
           let zeroed : (l : List ℕ) → kept_if (promote c.mode && false) c.corridors l ≡ none =
           λ l. ap (λ (b : Bool). kept_if b c.corridors l) (and_false (promote c.mode)) in
           ends_refused binary f q e (u ∙ zeroed (front r.kept.before)) (v ∙ zeroed (front r.kept.order)) w
-      ends_as binary (Answered x) q e u v w =
+      ends_as binary (Ok x) q e u v w =
           let all : (l : List ℕ) → kept_if (promote c.mode && true) c.corridors l ≡ kept_of c l =
           λ l. ap (λ (b : Bool). kept_if b c.corridors l) (and_true (promote c.mode)) in
           ends_answered binary x q e (u ∙ all (front r.kept.before)) (v ∙ all (front r.kept.order)) w
 
   -- the same by what the check answers, and by what the stages leave, each slice as long as it was, what is cleared, and what is kept
-  module _ (x : Answer) (k : x ≡ check_of (slices_ok c s) (tables_of_lem c) target) (q : x ≡ Accepted) where
+  module _ (x : Result (Unit {0}) Refusal) (k : x ≡ check_of (slices_ok c s) (tables_of_lem c) target) (q : x ≡ no_refusal) where
     -- the places lent for what is kept are those of the corridors, which the arrays have
     pub kept_fits : (length s.before ≤ most_corridors) × (length s.order ≤ most_corridors) × (length s.cap ≤ most_corridors)
     kept_fits =

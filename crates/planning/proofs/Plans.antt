@@ -18,8 +18,6 @@ use Rattle.plan_defs.specs.Fill.{fill}
 use Rattle.plan_defs.specs.Plan.{Plan, Opened, Ready, first_raised, first_draft, opened_with, ready_with, settled_to, settled, plan_of, closing}
 use Rattle.plan_defs.specs.Outcome.{summary}
 use Rattle.plan_defs.specs.declared.CircuitDesign.{CircuitDesign}
-use Rattle.plan_defs.specs.declared.Planned.{Planned}
-use Rattle.plan_defs.specs.declared.Planned.TheVariants.{Answered, Refused}
 use Rattle.plan_defs.proofs.Stages.{On}
 use Rattle.plan_defs.proofs.Rising.{risen_first}
 use Rattle.planning.specs.Design.{Lines, Banks}
@@ -31,16 +29,14 @@ use Rattle.planning.specs.Rounds.{rounds_case, draft_of, ran_as, RoundsFit, Roun
 use Rattle.planning.specs.Settle.{settlement_of, SettledAs, Settleable, Settles}
 use Rattle.planning.specs.Sound.{Sound}
 use Rattle.planning.specs.Plan.{rounds_for, start_of, Runnable, RanAll, plan_by, planned_by, PlannedAs, Plannable, OpenedPlan}
-use Rattle.planning.specs.declared.raises.Raised.{Raised as Raising}
-use Rattle.planning.specs.declared.raises.Raised.TheVariants.{Refused as Unraised, Promoted}
 use Rattle.planning.specs.declared.rounds.Progress.{Progress}
-use Rattle.planning.specs.declared.rounds.Rounds.{Rounds}
-use Rattle.planning.specs.declared.rounds.Rounds.TheVariants.{Refused as Unrun, Ran}
 use Rattle.planning.specs.declared.fill.Kept.{Kept}
 use Rattle.planning.specs.declared.plan.PlanRun.{PlanRun}
-use Rattle.planning.specs.declared.settle.Settled.{Settled}
 use Rattle.planning.specs.declared.settle.Settling.{Settling}
 use Rattle.planning.proofs.Redesigns.{redesign_is, banks_lift, first_design}
+use Rattle.std.specs.Prelude.{Err, Ok, Result}
+use Rattle.plan_defs.specs.declared.CorridorPlan.{CorridorPlan}
+use Rattle.planning.specs.declared.settle.Settlement.{Settlement}
 
 -- ---- how many rounds
 not_zero : (m : ℕ) → eqb (suc m) 0 ≡ false
@@ -124,7 +120,7 @@ module _ (mode : PlanMode) (above promoted : ℕ) (ladder : List Float) (level a
     all_of = ap (rounds C P leader budget) starts ∙ all_rounds_lem C P leader budget _ (g ∙ ap (rounds_for mode) s.a_size)
 
   pub ran_none : budget ≡ 0
-      → RanAll mode above promoted ladder level a b km share cap sheet load bus pmax leader grounds injection circuits banks floors upsized level circuits banks floors upsized cold (Ran start)
+      → RanAll mode above promoted ladder level a b km share cap sheet load bus pmax leader grounds injection circuits banks floors upsized level circuits banks floors upsized cold (Ok start)
   ran_none z =
       record {
         ran = λ o target s n caps. no_rounds_lem (C o target s n) (P o target s n) leader budget (draft_of (C o target s n) level circuits banks floors upsized cold start) z ∙ all_of o target s n;
@@ -133,7 +129,7 @@ module _ (mode : PlanMode) (above promoted : ℕ) (ladder : List Float) (level a
         few = h.few;
       }
 
-  pub ran_some : (level' circuits' : List ℕ) (banks' floors' : List Float) (upsized' : List ℕ) (angle' : List Float) (r : Rounds)
+  pub ran_some : (level' circuits' : List ℕ) (banks' floors' : List Float) (upsized' : List ℕ) (angle' : List Float) (r : Result Progress Refusal)
       → RoundsRun mode above budget start ladder level a b km share cap sheet load bus pmax leader grounds injection circuits banks floors upsized cold level' circuits' banks' floors' upsized' angle' r
       → RanAll mode above promoted ladder level a b km share cap sheet load bus pmax leader grounds injection circuits banks floors upsized level' circuits' banks' floors' upsized' angle' r
   ran_some level' circuits' banks' floors' upsized' angle' r w =
@@ -163,12 +159,12 @@ module _ (c : Case) (target : ℕ) (o : Opened) (level circuits : List ℕ) (ban
           said_then (ready_with c o S v) refl refl (planning_state o.peak S.build.designs (fill c target (ready_with c o S v).order circuits).counts (zeros c.buses))
 
 module _ (p : Progress) (gs : ℕ) (before order circuits tier : List ℕ) (flow rate angle added : List Float) (c : Case) where
-  planned_as : (x : Settled) (q : Planned) (t : Stage Plan) → On (λ y. summary y ≡ plan_by p gs (settlement_of y)) t → SettledAs x before order circuits tier flow rate angle added c t
+  planned_as : (x : Result Settlement Refusal) (q : Result CorridorPlan Refusal) (t : Stage Plan) → On (λ y. summary y ≡ plan_by p gs (settlement_of y)) t → SettledAs x before order circuits tier flow rate angle added c t
       → q ≡ planned_by p gs x → PlannedAs q before order circuits tier flow rate angle added c t
   planned_as x q (stopped f) u h e = e ∙ ap (planned_by p gs) h
   planned_as x q (going y) u h e =
       record {
-        said = e ∙ ap (planned_by p gs) h.said ∙ ap Answered (sym u);
+        said = e ∙ ap (planned_by p gs) h.said ∙ ap Ok (sym u);
         before_are = h.before_are;
         order_is = h.order_is;
         circuits_are = h.circuits_are;
@@ -269,9 +265,9 @@ module _ (mode : PlanMode) (target above : ℕ) (ladder : List Float) (level a b
       }
 
   -- after the raises
-  module _ (banks₁ : List Float) (level' : List ℕ) (banks' : List Float) (r : Raising)
+  module _ (banks₁ : List Float) (level' : List ℕ) (banks' : List Float) (r : Result ℕ Refusal)
       (w : RaisesDone mode ladder level a b km share sheet load bus pmax grounds injection circuits banks₁ level' banks' r) (size : length level' ≡ length level) where
-    pub runnable_of : (promoted : ℕ) → r ≡ Promoted promoted → above ≤ most_levels → (marks' : List ℕ) (angle' flow' : List Float) → length banks' ≡ length banks
+    pub runnable_of : (promoted : ℕ) → r ≡ Ok promoted → above ≤ most_levels → (marks' : List ℕ) (angle' flow' : List Float) → length banks' ≡ length banks
         → length marks' ≡ length marks → length angle' ≡ length angle → length flow' ≡ length flow
         → Runnable above promoted ladder level' a b km share cap sheet load bus pmax leader grounds injection circuits banks' floors upsized marks' angle' flow'
     runnable_of promoted q low marks' angle' flow' e₁ e₂ e₃ e₄ =
@@ -340,7 +336,7 @@ module _ (mode : PlanMode) (target above : ℕ) (ladder : List Float) (level a b
             go (stopped f) = refl
             go (going t) = refl
 
-      pub opened_refused : (f : Refusal) → r ≡ Unraised f → (circuits'' level'' : List ℕ) (flow'' rate'' angle'' added'' : List Float) (i : PlanRun) → i.said ≡ Refused f
+      pub opened_refused : (f : Refusal) → r ≡ Err f → (circuits'' level'' : List ℕ) (flow'' rate'' angle'' added'' : List Float) (i : PlanRun) → i.said ≡ Err f
           → OpenedPlan mode target above ladder level a b km share cap sheet load bus pmax leader grounds injection circuits upsized circuits'' level'' flow'' rate'' angle'' added'' i
       opened_refused f q circuits'' level'' flow'' rate'' angle'' added'' i j =
           record {
@@ -348,13 +344,13 @@ module _ (mode : PlanMode) (target above : ℕ) (ladder : List Float) (level a b
                 let c = E o mw s l e in
                 let P = Q o mw s l e in
                 let z : onward (opened_with c leader mw P) (settled c) ≡ stopped f = opened_is o mw s l e
-                ∙ ap (λ (x : Raising). onward (raised_as x c level' banks') (λ t. settled c (opened_for c leader mw P t))) q in
+                ∙ ap (λ (x : Result ℕ Refusal). onward (raised_as x c level' banks') (λ t. settled c (opened_for c leader mw P t))) q in
                 subst (PlannedAs i.said (take (length a) i.kept.before) (take (length a) i.kept.order) circuits'' level'' flow'' rate'' angle'' added'' c)
                 (sym (ap (λ (t : Stage Ready). onward t (closing c target)) z)) j;
           }
 
       -- after the rounds
-      module _ (promoted : ℕ) (q : r ≡ Promoted promoted) (level'' circuits'' : List ℕ) (banks'' floors'' : List Float) (upsized'' : List ℕ) (angle'' : List Float) (x : Rounds)
+      module _ (promoted : ℕ) (q : r ≡ Ok promoted) (level'' circuits'' : List ℕ) (banks'' floors'' : List Float) (upsized'' : List ℕ) (angle'' : List Float) (x : Result Progress Refusal)
           (v : RanAll mode above promoted ladder level' a b km share cap sheet load bus pmax leader grounds injection circuits banks' floors upsized
           level'' circuits'' banks'' floors'' upsized'' angle'' x) where
         module _ (o : Case) (mw : List Float) (s : Sound (rounds_case o mode above ladder a b km share sheet load bus pmax) target)
@@ -376,22 +372,22 @@ module _ (mode : PlanMode) (target above : ℕ) (ladder : List Float) (level a b
           unfolding settled
           settled_is =
               opened_is o mw s l e
-              ∙ ap (λ (y : Raising). onward (raised_as y D level' banks') (λ t. settled D (opened_for D leader mw (Q o mw s l e) t))) q
+              ∙ ap (λ (y : Result ℕ Refusal). onward (raised_as y D level' banks') (λ t. settled D (opened_for D leader mw (Q o mw s l e) t))) q
               ∙ ap (λ (t : Stage Draft). onward t (settled_to D O)) (sym ran_is)
 
-        pub opened_unrun : (f : Refusal) → x ≡ Unrun f → (circuits''' level''' : List ℕ) (flow''' rate''' angle''' added''' : List Float) (i : PlanRun) → i.said ≡ Refused f
+        pub opened_unrun : (f : Refusal) → x ≡ Err f → (circuits''' level''' : List ℕ) (flow''' rate''' angle''' added''' : List Float) (i : PlanRun) → i.said ≡ Err f
             → OpenedPlan mode target above ladder level a b km share cap sheet load bus pmax leader grounds injection circuits upsized circuits''' level''' flow''' rate''' angle''' added''' i
         opened_unrun f u circuits''' level''' flow''' rate''' angle''' added''' i j =
             record {
               plan = λ o mw s l e g caps.
                   let c = D o mw s l e g caps in
                   let z : onward (opened_with c leader mw (Q o mw s l e)) (settled c) ≡ stopped f = settled_is o mw s l e g caps
-                  ∙ ap (λ (y : Rounds). onward (ran_as y c level'' circuits'' banks'' floors'' upsized'' angle'') (settled_to c (O o mw s l e g caps))) u in
+                  ∙ ap (λ (y : Result Progress Refusal). onward (ran_as y c level'' circuits'' banks'' floors'' upsized'' angle'') (settled_to c (O o mw s l e g caps))) u in
                   subst (PlannedAs i.said (take (length a) i.kept.before) (take (length a) i.kept.order) circuits''' level''' flow''' rate''' angle''' added''' c)
                   (sym (ap (λ (t : Stage Ready). onward t (closing c target)) z)) j;
             }
 
-        pub opened_plan : (p : Progress) → x ≡ Ran p → (circuits''' level''' : List ℕ) (flow''' rate''' angle''' added''' : List Float) (y : Settling)
+        pub opened_plan : (p : Progress) → x ≡ Ok p → (circuits''' level''' : List ℕ) (flow''' rate''' angle''' added''' : List Float) (y : Settling)
             → Settles mode target above ladder a b km share cap sheet leader grounds injection banks'' upsized'' circuits'' level'' circuits''' level''' flow''' rate''' angle''' added''' y
             → length level'' ≡ length level' → (i : PlanRun) → i.said ≡ planned_by p (length grounds) y.settled → i.kept ≡ y.kept
             → OpenedPlan mode target above ladder level a b km share cap sheet load bus pmax leader grounds injection circuits upsized circuits''' level''' flow''' rate''' angle''' added''' i
@@ -402,7 +398,7 @@ module _ (mode : PlanMode) (target above : ℕ) (ladder : List Float) (level a b
                   let O' = O o mw s l e g caps in
                   let S' = draft_of c level'' circuits'' banks'' floors'' upsized'' angle'' p in
                   let z : onward (opened_with c leader mw (Q o mw s l e)) (settled c) ≡ settled_to c O' S' = settled_is o mw s l e g caps
-                  ∙ ap (λ (t : Rounds). onward (ran_as t c level'' circuits'' banks'' floors'' upsized'' angle'') (settled_to c O')) u in
+                  ∙ ap (λ (t : Result Progress Refusal). onward (ran_as t c level'' circuits'' banks'' floors'' upsized'' angle'') (settled_to c O')) u in
                   let t = onward (settled_to c O' S') (closing c target) in
                   subst (PlannedAs i.said (take (length a) i.kept.before) (take (length a) i.kept.order) circuits''' level''' flow''' rate''' angle''' added''' c)
                   (sym (ap (λ (t : Stage Ready). onward t (closing c target)) z))

@@ -7,8 +7,6 @@ use Rattle.loops.proofs.Bools.{both}
 use Rattle.mode.specs.declared.PlanMode.{PlanMode}
 use Rattle.refusal.specs.declared.Refusal.{Refusal}
 use Rattle.refusal.specs.declared.Refusal.TheVariants.{Length, Count, Corridor, Mode, Order}
-use Rattle.refusal.specs.declared.Answer.{Answer}
-use Rattle.refusal.specs.declared.Answer.TheVariants.{Answered, Refused}
 use Rattle.plan_defs.specs.Constants.{most_corridors}
 use Rattle.plan_defs.specs.Case.{promote, full_of, full_at}
 use Rattle.plan_defs.specs.Fill.{unfilled, filled_if, fill}
@@ -17,10 +15,12 @@ use Rattle.plan_theorems.proofs.Preview.{sound_of}
 use Rattle.acceptance.specs.Check.{answer_of}
 use Rattle.planning.specs.Fill.{caps_for, Whole, Ranked, Counted}
 use Rattle.planning.specs.Preview.{counts_for, order_for, Refillable}
+use Rattle.std.specs.Prelude.{Err, Result}
+use Rattle.refusal.specs.Reply.{no_refusal}
 
 -- ---- the refusals
 module _ (p : Kept) (target places : ℕ) where
-  abbrev judged : Bool → Bool → Bool → Option Refusal → Answer
+  abbrev judged : Bool → Bool → Bool → Option Refusal → Result (Unit {0}) Refusal
   judged a b d o = answer_of (cond a (cond b (cond d o (some Mode)) (some Count)) (some Length))
 
   by_tests : (a b d : Bool) → lengths_ok p places ≡ a → counts_ok p target ≡ b → promote p.mode ≡ d → judged a b d (kept_fault p) ≡ answer_of (preview_fault p target places)
@@ -31,13 +31,13 @@ module _ (p : Kept) (target places : ℕ) where
       ∙ ap (λ (t : Bool). judged a t (promote p.mode) (kept_fault p)) y
       ∙ ap (λ (t : Bool). judged a b t (kept_fault p)) z)
 
-  pub refused_length : lengths_ok p places ≡ false → Refused Length ≡ answer_of (preview_fault p target places)
+  pub refused_length : lengths_ok p places ≡ false → Err Length ≡ answer_of (preview_fault p target places)
   refused_length x = by_tests false (counts_ok p target) (promote p.mode) x refl refl
 
-  pub refused_count : lengths_ok p places ≡ true → counts_ok p target ≡ false → Refused Count ≡ answer_of (preview_fault p target places)
+  pub refused_count : lengths_ok p places ≡ true → counts_ok p target ≡ false → Err Count ≡ answer_of (preview_fault p target places)
   refused_count x y = by_tests true false (promote p.mode) x y refl
 
-  pub refused_mode : lengths_ok p places ≡ true → counts_ok p target ≡ true → promote p.mode ≡ false → Refused Mode ≡ answer_of (preview_fault p target places)
+  pub refused_mode : lengths_ok p places ≡ true → counts_ok p target ≡ true → promote p.mode ≡ false → Err Mode ≡ answer_of (preview_fault p target places)
   refused_mode x y z = by_tests true true false x y z
 
   module _ (x : lengths_ok p places ≡ true) (y : counts_ok p target ≡ true) (z : promote p.mode ≡ true) where
@@ -50,7 +50,7 @@ module _ (p : Kept) (target places : ℕ) where
     by_scans k j u v =
         ap (λ (i : ℕ). answer_of (kept i j)) u ∙ ap (λ (i : ℕ). answer_of (kept (first (count_ok p) p.corridors 0) i)) v ∙ by_tests true true true x y z
 
-    pub refused_corridor : (k : ℕ) → k ≡ first (count_ok p) p.corridors 0 → k < p.corridors → Refused (Corridor k) ≡ answer_of (preview_fault p target places)
+    pub refused_corridor : (k : ℕ) → k ≡ first (count_ok p) p.corridors 0 → k < p.corridors → Err (Corridor k) ≡ answer_of (preview_fault p target places)
     refused_corridor k u h =
         let j = first (place_ok p) p.corridors 0 in
         ap (λ (b : Bool). answer_of (cond b (some (Corridor k)) (cond (ltb j p.corridors) (some (Order j)) none))) (sym (lt-ltb k p.corridors h)) ∙ by_scans k j u refl
@@ -60,10 +60,10 @@ module _ (p : Kept) (target places : ℕ) where
       passed_counts =
           ap (λ (b : Bool). answer_of (cond b (some (Corridor k)) (cond (ltb j p.corridors) (some (Order j)) none))) (sym (le-ltb k p.corridors h)) ∙ by_scans k j u v
 
-      pub refused_order : j < p.corridors → Refused (Order j) ≡ answer_of (preview_fault p target places)
+      pub refused_order : j < p.corridors → Err (Order j) ≡ answer_of (preview_fault p target places)
       refused_order q = ap (λ (b : Bool). answer_of (cond b (some (Order j)) none)) (sym (lt-ltb j p.corridors q)) ∙ passed_counts
 
-      pub passed_all : p.corridors ≤ j → Answered ≡ answer_of (preview_fault p target places)
+      pub passed_all : p.corridors ≤ j → no_refusal ≡ answer_of (preview_fault p target places)
       passed_all q = ap (λ (b : Bool). answer_of (cond b (some (Order j)) none)) (sym (le-ltb j p.corridors q)) ∙ passed_counts
 
 -- ---- the scans, over as many places as there are corridors
@@ -89,19 +89,19 @@ module _ (mode : PlanMode) (m places : ℕ) (before order cap : List ℕ) (x : l
 
 -- ---- what is said of the check
 module _ (p : Kept) (target : ℕ) (lent : List ℕ) where
-  fault_of : (f : Refusal) (o : Option Refusal) → Refused f ≡ answer_of o → o ≡ some f
+  fault_of : (f : Refusal) (o : Option Refusal) → Err f ≡ answer_of o → o ≡ some f
   fault_of f (some g) e = let z : f ≡ g = cc in ap some (sym z)
   fault_of f none e = let z : ◌≡◌ {A = ℕ} 0 1 = cc in absurd (omega arith)
 
-  none_of : (o : Option Refusal) → Answered ≡ answer_of o → o ≡ none
+  none_of : (o : Option Refusal) → no_refusal ≡ answer_of o → o ≡ none
   none_of (some g) e = let z : ◌≡◌ {A = ℕ} 0 1 = cc in absurd (omega arith)
   none_of none e = refl
 
-  pub preview_refused : (x : Answer) → x ≡ answer_of (preview_fault p target (length lent)) → (f : Refusal) → x ≡ Refused f → outcome (Refused f) lent ≡ preview p target lent
+  pub preview_refused : (x : Result (Unit {0}) Refusal) → x ≡ answer_of (preview_fault p target (length lent)) → (f : Refusal) → x ≡ Err f → outcome (Err f) lent ≡ preview p target lent
   unfolding preview
   preview_refused x e f q = sym (ap (λ (o : Option Refusal). preview_by o p target lent) (fault_of f (preview_fault p target (length lent)) (sym q ∙ e)))
 
-  module _ (x : Answer) (e : x ≡ answer_of (preview_fault p target (length lent))) (q : x ≡ Answered) where
+  module _ (x : Result (Unit {0}) Refusal) (e : x ≡ answer_of (preview_fault p target (length lent))) (q : x ≡ no_refusal) where
     passes : preview_fault p target (length lent) ≡ none
     passes = none_of (preview_fault p target (length lent)) (sym q ∙ e)
 
@@ -119,9 +119,9 @@ module _ (p : Kept) (target : ℕ) (lent : List ℕ) where
           },
         )
 
-    pub preview_answered : (circuits : List ℕ) → circuits ≡ refilled p target → outcome Answered circuits ≡ preview p target lent
+    pub preview_answered : (circuits : List ℕ) → circuits ≡ refilled p target → outcome no_refusal circuits ≡ preview p target lent
     unfolding preview
-    preview_answered circuits h = ap (outcome Answered) h ∙ sym (ap (λ (o : Option Refusal). preview_by o p target lent) passes)
+    preview_answered circuits h = ap (outcome no_refusal) h ∙ sym (ap (λ (o : Option Refusal). preview_by o p target lent) passes)
 
 -- ---- filling anew
 module _ (mode : PlanMode) (target : ℕ) (before order cap lent all ahead circuits : List ℕ) (fills : promote mode ≡ true) (h : Refillable before order cap lent)

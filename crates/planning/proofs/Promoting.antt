@@ -14,15 +14,14 @@ use Rattle.planning.specs.Design.{Lines, Banks}
 use Rattle.planning.specs.Solve.{peak_for}
 use Rattle.planning.specs.Sound.{Sound}
 use Rattle.planning.specs.Raises.{pass_for, raised_of, passed_as, Within, Raisable, Passed, RaisesDone}
-use Rattle.planning.specs.declared.raises.Raised.{Raised as Answer}
-use Rattle.planning.specs.declared.raises.Raised.TheVariants.{Refused, Promoted}
+use Rattle.std.specs.Prelude.{Err, Ok, Result}
 
 -- ---- a pass that moved none ends them, any other goes on
 module _ (d : ℕ) (c : Case) (P : Peak) (circuits level : List ℕ) (banks : List Float) (promoted : ℕ) where
-  none_moved : (m : ℕ) → m ≡ 0 → passed_as (Promoted m) d c P circuits level banks promoted ≡ going (raised_of c level banks promoted)
-  none_moved m e = ap (λ (i : ℕ). passed_as (Promoted i) d c P circuits level banks promoted) e
+  none_moved : (m : ℕ) → m ≡ 0 → passed_as (Ok m) d c P circuits level banks promoted ≡ going (raised_of c level banks promoted)
+  none_moved m e = ap (λ (i : ℕ). passed_as (Ok i) d c P circuits level banks promoted) e
 
-  some_moved : (m : ℕ) → (m ≡ 0 → ⊥) → passed_as (Promoted m) d c P circuits level banks promoted ≡ passes d c P circuits (raised_of c level banks (promoted + m))
+  some_moved : (m : ℕ) → (m ≡ 0 → ⊥) → passed_as (Ok m) d c P circuits level banks promoted ≡ passes d c P circuits (raised_of c level banks (promoted + m))
   some_moved zero e = absurd (e refl)
   some_moved (suc m) e = refl
 
@@ -37,7 +36,7 @@ module _ (ladder : List Float) (a b : List ℕ) (km share sheet load : List Floa
   abbrev Begun : Type 0
   Begun = Raisable ladder level₀ a b km share sheet load bus pmax grounds injection circuits floors banks₀ marks₀ angle₀ flow₀
 
-  abbrev Done : PlanMode → List ℕ → List Float → Answer → Type 0
+  abbrev Done : PlanMode → List ℕ → List Float → Result ℕ Refusal → Type 0
   Done mode level banks r = RaisesDone mode ladder level₀ a b km share sheet load bus pmax grounds injection circuits banks₀ level banks r
 
   -- ---- where the loop stands
@@ -78,7 +77,7 @@ module _ (ladder : List Float) (a b : List ℕ) (km share sheet load : List Floa
       ap (λ (n : ℕ). passes (pass_count t n) (C o mode) (P o) circuits (raised_of (C o mode) level₀ banks₀ 0)) sound.ladder_size
       ∙ ap (λ (x : Bool). passes (pass_count x (levels (C o mode))) (C o mode) (P o) circuits (raised_of (C o mode) level₀ banks₀ 0)) (sym e)
 
-  pub unpromoted : (mode : PlanMode) → promote mode ≡ false → Begun → Done mode level₀ banks₀ (Promoted 0)
+  pub unpromoted : (mode : PlanMode) → promote mode ≡ false → Begun → Done mode level₀ banks₀ (Ok 0)
   unfolding passes
   unpromoted mode e p =
       record {
@@ -135,7 +134,7 @@ module _ (ladder : List Float) (a b : List ℕ) (km share sheet load : List Floa
     left_is mode e o target sound n = u.left o mode target sound n ∙ all_passes mode true e o target sound
 
     -- ---- the end: no pass is left
-    pub done_last : (mode : PlanMode) → promote mode ≡ true → length ladder ≤ turn → Done mode level banks (Promoted promoted)
+    pub done_last : (mode : PlanMode) → promote mode ≡ true → length ladder ≤ turn → Done mode level banks (Ok promoted)
     unfolding passes
     done_last mode t h =
         record {
@@ -147,35 +146,35 @@ module _ (ladder : List Float) (a b : List ℕ) (km share sheet load : List Floa
         }
 
     -- ---- one pass more
-    module _ (h : turn < length ladder) (banks' : List Float) (level' : List ℕ) (r : Answer)
+    module _ (h : turn < length ladder) (banks' : List Float) (level' : List ℕ) (r : Result ℕ Refusal)
         (w : Passed ladder level a b km share sheet load bus pmax grounds injection circuits banks level' banks' r) where
-      passed_is : (r' : Answer) → r ≡ r' → (o : Case) (mode : PlanMode) (target : ℕ) → Sound (C o mode) target → length level₀ ≡ o.buses
+      passed_is : (r' : Result ℕ Refusal) → r ≡ r' → (o : Case) (mode : PlanMode) (target : ℕ) → Sound (C o mode) target → length level₀ ≡ o.buses
           → passed_as r' (length ladder - (turn + 1)) (C o mode) (P o) circuits level' banks' promoted
           ≡ passes (length ladder - turn) (C o mode) (P o) circuits (raised_of (C o mode) level banks promoted)
       passed_is r' e o mode target sound n =
-          ap (λ (x : Answer). passed_as x (length ladder - (turn + 1)) (C o mode) (P o) circuits level' banks' promoted) (sym e)
+          ap (λ (x : Result ℕ Refusal). passed_as x (length ladder - (turn + 1)) (C o mode) (P o) circuits level' banks' promoted) (sym e)
           ∙ w.passed o mode target sound (u.level_size ∙ n) (length ladder - (turn + 1)) promoted
           ∙ ap (λ (d : ℕ). passes d (C o mode) (P o) circuits (raised_of (C o mode) level banks promoted)) (sym (gap (length ladder) turn h))
 
-      pub done_refused : (mode : PlanMode) → promote mode ≡ true → (f : Refusal) → r ≡ Refused f → Done mode level' banks' (Refused f)
+      pub done_refused : (mode : PlanMode) → promote mode ≡ true → (f : Refusal) → r ≡ Err f → Done mode level' banks' (Err f)
       done_refused mode t f e =
           record {
-            raised = λ o target sound n. passed_is (Refused f) e o mode target sound n ∙ left_is mode t o target sound n;
+            raised = λ o target sound n. passed_is (Err f) e o mode target sound n ∙ left_is mode t o target sound n;
             lines = w.lines;
             banked = w.banked;
             bound = tt;
           }
 
-      module _ (m : ℕ) (e : r ≡ Promoted m) where
+      module _ (m : ℕ) (e : r ≡ Ok m) where
         pub moved_few : m ≤ most_buses
-        moved_few = subst (λ (x : Answer). Within most_buses x) e w.bound
+        moved_few = subst (λ (x : Result ℕ Refusal). Within most_buses x) e w.bound
 
-        pub done_still : (mode : PlanMode) → promote mode ≡ true → m ≡ 0 → Done mode level' banks' (Promoted promoted)
+        pub done_still : (mode : PlanMode) → promote mode ≡ true → m ≡ 0 → Done mode level' banks' (Ok promoted)
         done_still mode t z =
             record {
               raised = λ o target sound n.
                   sym (none_moved (length ladder - (turn + 1)) (C o mode) (P o) circuits level' banks' promoted m z)
-                  ∙ passed_is (Promoted m) e o mode target sound n
+                  ∙ passed_is (Ok m) e o mode target sound n
                   ∙ left_is mode t o target sound n;
               lines = w.lines;
               banked = w.banked;
@@ -198,6 +197,6 @@ module _ (ladder : List Float) (a b : List ℕ) (km share sheet load : List Floa
               bound = omega (arith, u.bound, moved_few);
               left = λ o mode target sound n.
                   sym (some_moved (length ladder - (turn + 1)) (C o mode) (P o) circuits level' banks' promoted m z)
-                  ∙ passed_is (Promoted m) e o mode target sound n
+                  ∙ passed_is (Ok m) e o mode target sound n
                   ∙ u.left o mode target sound n;
             }

@@ -20,11 +20,11 @@ use Rattle.planning.specs.Whole.{with_lines}
 use Rattle.planning.specs.Stiffen.{budget_for, stiff_of, candidate_at, gain_if, gain_at, gain_order, gain_for, BatchStiffened, Chosen, Stepped, reinforce_step}
 use Rattle.planning.specs.declared.stiffen.Limits.{Limits}
 use Rattle.planning.specs.declared.stiffen.Stiffness.{Stiffness}
-use Rattle.planning.specs.declared.stiffen.Stiffened.TheVariants.{Going}
 use Rattle.planning.proofs.Builds.{drawn_all_lifts}
 use Rattle.planning.proofs.Orders.{filled_at}
 use Rattle.planning.proofs.Stiffenings.{room_lifts}
 use Rattle.planning.proofs.Gains.{gains_are}
+use Rattle.std.specs.Prelude.{Ok}
 
 module _ (root : ℕ) (excess : Float) (g : Limits) (ladder : List Float) (level a b : List ℕ) (km share : List Float) (cap : List ℕ) (sheet : List Float) (leader : List ℕ) (angle phi : List Float)
     (circuits : List ℕ) (banks : List Float) (t : Stiffness) (pc : length circuits ≡ length a) (none gain : List Float) (order : List ℕ) (count most taken : ℕ)
@@ -77,7 +77,7 @@ pub reinforced : (root : ℕ) (excess : Float) (g : Limits) (ladder : List Float
     (circuits' : List ℕ) (banks' floors' : List Float) (upsized' marks' : List ℕ) (t' : Stiffness)
     → Chosen root excess g ladder level a b km share cap sheet leader angle phi circuits banks t order taken
     → BatchStiffened (take taken order) g ladder level a b km share cap sheet circuits banks floors upsized marks t circuits' banks' floors' upsized' marks' t'
-    → Stepped (reinforce_step root excess g level leader angle phi) ladder level a b km share cap sheet circuits banks floors upsized marks t circuits' banks' floors' upsized' marks' (Going t')
+    → Stepped (reinforce_step root excess g level leader angle phi) ladder level a b km share cap sheet circuits banks floors upsized marks t circuits' banks' floors' upsized' marks' (Ok t')
 reinforced root excess g ladder level a b km share cap sheet leader angle phi circuits banks floors upsized marks t order taken circuits' banks' floors' upsized' marks' t' k r =
     let h = k.few in
     let w : taken ≤ length order = omega (arith, k.few, k.ranked.few, k.ranked.size) in

@@ -4,8 +4,6 @@ use Rattle.std.proofs.Common.{◌≡◌, ℕ, zero, suc, ◌+◌, ◌-◌, ◌*�
 use lib.Ieee.{Float}
 use Rattle.loops.proofs.Bools.{no, or_left}
 use Rattle.refusal.specs.declared.Refusal.{Refusal}
-use Rattle.refusal.specs.declared.Answer.{Answer}
-use Rattle.refusal.specs.declared.Answer.TheVariants.{Answered, Refused}
 use Rattle.mode.specs.declared.PlanMode.{PlanMode}
 use Rattle.angles_defs.specs.Network.{Edges, edges_of}
 use Rattle.plan_defs.specs.Constants.{stiffening_branch_budget}
@@ -30,8 +28,6 @@ use Rattle.planning.specs.Rounds.{rounds_case, draft_of, Redrawn}
 use Rattle.planning.specs.declared.size.Tally.{Tally}
 use Rattle.planning.specs.declared.stiffen.Limits.{Limits}
 use Rattle.planning.specs.declared.stiffen.Stiffness.{Stiffness}
-use Rattle.planning.specs.declared.stiffen.Stiffened.{Stiffened}
-use Rattle.planning.specs.declared.stiffen.Stiffened.TheVariants.{Refused as Unstiffened, Going}
 use Rattle.planning.specs.declared.rounds.Progress.{Progress}
 use Rattle.planning.proofs.Lists.{count_most}
 use Rattle.planning.proofs.Builds.{drawn_all_lifts}
@@ -40,6 +36,8 @@ use Rattle.planning.proofs.States.{state_of}
 use Rattle.planning.proofs.Corridors.{left, left_end, size_lifts}
 use Rattle.planning.proofs.Stages.{stage_step, stage_end}
 use Rattle.planning.proofs.Passing.{pass_start}
+use Rattle.std.specs.Prelude.{Err, Ok, Result}
+use Rattle.refusal.specs.Reply.{no_refusal}
 
 onward_same : {S T : Type 0} (st : Stage S) (f g : S → Stage T) → ((s : S) → f s ≡ g s) → onward st f ≡ onward st g
 onward_same (stopped r) f g e = refl
@@ -139,7 +137,7 @@ module _ (mode : PlanMode) (above : ℕ) (ladder : List Float) (a b : List ℕ) 
 
   -- ---- a round: it begins with d + 1 left, and is solved
   module _ (level first circuits : List ℕ) (banks floors : List Float) (upsized : List ℕ) (angle : List Float) (p : Progress) (W : Case → Stage Draft) (d' d : ℕ) (some : d' ≡ suc d) (kept : level ≡ first)
-      (size₀ : length first ≡ n) (whole₀ : Alike (goes_on d' first circuits banks floors upsized angle p) W) (theta flow : List Float) (r : Answer)
+      (size₀ : length first ≡ n) (whole₀ : Alike (goes_on d' first circuits banks floors upsized angle p) W) (theta flow : List Float) (r : Result (Unit {0}) Refusal)
       (from to : List ℕ) (weight : List Float)
       (edges : edges_of (take (length a) from) (take (length a) to) (take (length a) weight) ≡ edges_for (drawn_all (lines_for ladder a b km share sheet) first banks) circuits)
       (angles flows : ℕ) (angle_size : angles ≡ length first) (flow_size : flows ≡ length a)
@@ -180,22 +178,22 @@ module _ (mode : PlanMode) (above : ℕ) (ladder : List Float) (a b : List ℕ) 
     unfolding rounds
     begun o target s e = ap (λ (m : ℕ). rounds (C o) (P o) leader m (S o)) (sym some) ∙ whole o target s e
 
-    pub round_refused : (f : Refusal) → r ≡ Refused f → Alike (λ o. stopped f) W
+    pub round_refused : (f : Refusal) → r ≡ Err f → Alike (λ o. stopped f) W
     unfolding one_round
     round_refused f q o target s e =
         let z : stopped f ≡ planning_state (P o) (drawn_all (C o) level banks) circuits angle =
-        ap (λ (x : Answer). solved_of x (Solved o).edges theta flow) (sym q) ∙ lifted o target s e in
+        ap (λ (x : Result (Unit {0}) Refusal). solved_of x (Solved o).edges theta flow) (sym q) ∙ lifted o target s e in
         ap (λ (st : Stage PlanningCase). then d o (onward st (λ v. sized_to (C o) (P o) leader (S o) v (size_all (C o) level v.flows (S o).build p.capacity)))) z ∙ begun o target s e
 
-    round_solved : r ≡ Answered → Alike (λ o. then d o (sized_to (C o) (P o) leader (S o) (Solved o) (size_all (C o) level flow (S o).build p.capacity))) W
+    round_solved : r ≡ no_refusal → Alike (λ o. then d o (sized_to (C o) (P o) leader (S o) (Solved o) (size_all (C o) level flow (S o).build p.capacity))) W
     unfolding one_round
     round_solved q o target s e =
         let z : going (Solved o) ≡ planning_state (P o) (drawn_all (C o) level banks) circuits angle =
-        ap (λ (x : Answer). solved_of x (Solved o).edges theta flow) (sym q) ∙ lifted o target s e in
+        ap (λ (x : Result (Unit {0}) Refusal). solved_of x (Solved o).edges theta flow) (sym q) ∙ lifted o target s e in
         ap (λ (st : Stage PlanningCase). then d o (onward st (λ v. sized_to (C o) (P o) leader (S o) v (size_all (C o) level v.flows (S o).build p.capacity)))) z ∙ begun o target s e
 
     -- ---- every corridor is sized
-    module _ (q : r ≡ Answered) (circuits' : List ℕ) (banks' floors' : List Float) (upsized' marks' : List ℕ) (t : Tally) (k : ℕ) (all : length a ≤ k)
+    module _ (q : r ≡ no_refusal) (circuits' : List ℕ) (banks' floors' : List Float) (upsized' marks' : List ℕ) (t : Tally) (k : ℕ) (all : length a ≤ k)
         (sized : left mode (length level) ladder level a b km share cap sheet flow k circuits' banks' floors' upsized' marks' t
         ≡ size_all (size_for mode (length level) ladder a b km share cap sheet) level flow (build_of (size_for mode (length level) ladder a b km share cap sheet) level circuits banks floors upsized) p.capacity) where
       abbrev Z : Case → Sizing
@@ -325,7 +323,7 @@ module _ (mode : PlanMode) (above : ℕ) (ladder : List Float) (a b : List ℕ) 
   module _ (W : Case → Stage Draft) (d : ℕ) (level : List ℕ) (g : Limits) (from to : List ℕ) (weight theta flow : List Float) (p : Progress) (t : Tally) (size : length level ≡ n)
       (i : ℕ) (circuits : List ℕ) (banks floors : List Float) (upsized marks : List ℕ) (s : Stiffness)
       (whole : Alike (stiffens_on d level g from to weight theta flow p t i circuits banks floors upsized marks s) W) where
-    module _ (more : i < length leader) (circuits' : List ℕ) (banks' floors' : List Float) (upsized' marks' : List ℕ) (r : Stiffened)
+    module _ (more : i < length leader) (circuits' : List ℕ) (banks' floors' : List Float) (upsized' marks' : List ℕ) (r : Result Stiffness Refusal)
         (led : LedStiffened i p.rounds g ladder level a b km share cap sheet leader grounds from to weight theta circuits banks floors upsized marks s circuits' banks' floors' upsized' marks' r) where
       stepped : (o : Case) (target : ℕ) → Sound (C o) target → Fits o
           → then d o (onward (onward (stiffened_as r (C o) level circuits' banks' floors' upsized' marks') (each_stage (component level p.rounds g from to weight theta flow o) (pass_from (leads leader) (length leader - (i + 1)) (i + 1)))) (closes level theta p t o))
@@ -337,15 +335,15 @@ module _ (mode : PlanMode) (above : ℕ) (ladder : List Float) (a b : List ℕ) 
           (stiffened_as r (C o) level circuits' banks' floors' upsized' marks') (led.stiffened (with_units o mode above load bus pmax) target injection flow sound (size ∙ e.0) e.1))
           ∙ whole o target sound e
 
-      pub stiffen_refused : (f : Refusal) → r ≡ Unstiffened f → Alike (λ o. stopped f) W
+      pub stiffen_refused : (f : Refusal) → r ≡ Err f → Alike (λ o. stopped f) W
       stiffen_refused f q o target sound e =
-          ap (λ (x : Stiffened). then d o (onward (onward (stiffened_as x (C o) level circuits' banks' floors' upsized' marks') (each_stage (component level p.rounds g from to weight theta flow o) (pass_from (leads leader) (length leader - (i + 1)) (i + 1)))) (closes level theta p t o)))
+          ap (λ (x : Result Stiffness Refusal). then d o (onward (onward (stiffened_as x (C o) level circuits' banks' floors' upsized' marks') (each_stage (component level p.rounds g from to weight theta flow o) (pass_from (leads leader) (length leader - (i + 1)) (i + 1)))) (closes level theta p t o)))
           (sym q) ∙ stepped o target sound e
 
-      pub stiffen_next : (s' : Stiffness) → r ≡ Going s' → Alike (stiffens_on d level g from to weight theta flow p t (i + 1) circuits' banks' floors' upsized' marks' s') W
+      pub stiffen_next : (s' : Stiffness) → r ≡ Ok s' → Alike (stiffens_on d level g from to weight theta flow p t (i + 1) circuits' banks' floors' upsized' marks' s') W
       unfolding stiffens_on
       stiffen_next s' q o target sound e =
-          ap (λ (x : Stiffened). then d o (onward (onward (stiffened_as x (C o) level circuits' banks' floors' upsized' marks') (each_stage (component level p.rounds g from to weight theta flow o) (pass_from (leads leader) (length leader - (i + 1)) (i + 1)))) (closes level theta p t o)))
+          ap (λ (x : Result Stiffness Refusal). then d o (onward (onward (stiffened_as x (C o) level circuits' banks' floors' upsized' marks') (each_stage (component level p.rounds g from to weight theta flow o) (pass_from (leads leader) (length leader - (i + 1)) (i + 1)))) (closes level theta p t o)))
           (sym q) ∙ stepped o target sound e
 
     -- ---- after the last of them: a raise, then anything else that was done, leads to another round

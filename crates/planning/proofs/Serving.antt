@@ -8,8 +8,6 @@ use Rattle.loops.specs.Figures.{at}
 use Rattle.refusal.specs.Number.{index_of}
 use Rattle.refusal.specs.declared.Refusal.{Refusal}
 use Rattle.refusal.specs.declared.Refusal.TheVariants.{Cost}
-use Rattle.refusal.specs.declared.Answer.{Answer}
-use Rattle.refusal.specs.declared.Answer.TheVariants.{Answered, Refused}
 use Rattle.mode.specs.declared.PlanMode.{PlanMode}
 use Rattle.dispatch_defs.specs.Units.{Units, count, units_of}
 use Rattle.dispatch_defs.specs.Dispatch.{faulty_cost}
@@ -25,6 +23,8 @@ use Rattle.planning.specs.Opening.{stage_of, stage_if, bus_case, dispatch_case, 
 use Rattle.planning.proofs.Passing.{pass_few, pass_below}
 use Rattle.loops.proofs.Fronts.{get_map, front_room}
 use Rattle.planning.proofs.Demands.{demand_ok_lem}
+use Rattle.std.specs.Prelude.{Err, Result}
+use Rattle.refusal.specs.Reply.{no_refusal}
 
 module _ (led bus : List ℕ) (root : ℕ) where
   abbrev units : List ℕ
@@ -85,13 +85,13 @@ module _ (mode : PlanMode) (led : List ℕ) (load : List Float) (bus : List ℕ)
       handed_as (ltb (faulty_cost table demand) (count table)) (tops_up mode) own table demand mw
       ∙ ap (λ (n : ℕ). served_if (ltb (faulty_cost table demand) n) (tops_up mode) own table demand (faulty_cost table demand) mw) (length-map own (at pmin))
 
-  module _ (a : Answer) (out mw : List Float) (e : stage_of a out ≡ given_stage (tops_up mode) table demand) where
-    serve_answered : a ≡ Answered → going (scatter own out mw) ≡ serve case led root mw
-    serve_answered h = ap (λ (x : Answer). handed own mw (stage_of x out)) (sym h) ∙ ap (handed own mw) e ∙ is_handed mw
+  module _ (a : Result (Unit {0}) Refusal) (out mw : List Float) (e : stage_of a out ≡ given_stage (tops_up mode) table demand) where
+    serve_answered : a ≡ no_refusal → going (scatter own out mw) ≡ serve case led root mw
+    serve_answered h = ap (λ (x : Result (Unit {0}) Refusal). handed own mw (stage_of x out)) (sym h) ∙ ap (handed own mw) e ∙ is_handed mw
 
-    serve_refused : (f : Refusal) → a ≡ Refused f → (index_of f < length own) × (stopped (Cost (get_or own (index_of f) 0)) ≡ serve case led root mw)
+    serve_refused : (f : Refusal) → a ≡ Err f → (index_of f < length own) × (stopped (Cost (get_or own (index_of f) 0)) ≡ serve case led root mw)
     serve_refused f h =
-        let g : stopped f ≡ given_stage (tops_up mode) table demand = ap (λ (x : Answer). stage_of x out) (sym h) ∙ e in
+        let g : stopped f ≡ given_stage (tops_up mode) table demand = ap (λ (x : Result (Unit {0}) Refusal). stage_of x out) (sym h) ∙ e in
         (omega (arith, refused_below (tops_up mode) table demand f g, length-map own (at pmin)), ap (handed own mw) g ∙ is_handed mw)
 
 -- ---- a call on the front of the columns picked
@@ -147,16 +147,16 @@ module _ (mode : PlanMode) (led : List ℕ) (load : List Float) (bus : List ℕ)
           demand = subst (λ (x : Float). demand_ok x ≡ true) (sym pd) (demand_ok_lem led load L root);
         })
 
-    module _ (a : Answer) (out : List Float) (e : stage_of a out ≡ given_stage (tops_up mode) lent d) where
+    module _ (a : Result (Unit {0}) Refusal) (out : List Float) (e : stage_of a out ≡ given_stage (tops_up mode) lent d) where
       call : stage_of a out ≡ given_stage (tops_up mode) all (demand mode led load bus pmin pmax c1 c2 root)
       call = e ∙ ap (λ (u : Units). given_stage (tops_up mode) u d) lent_is ∙ ap (given_stage (tops_up mode) all) pd
 
-      pub refused_index : (f : Refusal) → a ≡ Refused f → (j : ℕ) → j ≡ index_of f → j < most_generators
+      pub refused_index : (f : Refusal) → a ≡ Err f → (j : ℕ) → j ≡ index_of f → j < most_generators
       refused_index f h j q =
           let r = (serve_refused mode led load bus pmin pmax c1 c2 root a out [] call f h).0 in
           omega (arith, r, q, units_few led bus root, F.few)
 
-      pub refused_stage : (f : Refusal) → a ≡ Refused f → (j k : ℕ) → j ≡ index_of f → k ≡ get_or ks j 0 → (mw : List Float)
+      pub refused_stage : (f : Refusal) → a ≡ Err f → (j k : ℕ) → j ≡ index_of f → k ≡ get_or ks j 0 → (mw : List Float)
           → stopped (Cost k) ≡ serve (dispatch_case mode load bus pmin pmax c1 c2) led root mw
       refused_stage f h j k q w mw =
           let r = serve_refused mode led load bus pmin pmax c1 c2 root a out mw call f h in
@@ -165,7 +165,7 @@ module _ (mode : PlanMode) (led : List ℕ) (load : List Float) (bus : List ℕ)
           ∙ ap (λ (i : ℕ). stopped (Cost (get_or (units_in (bus_case bus) led root) i 0))) q
           ∙ r.1
 
-      pub answered_stage : a ≡ Answered → (whole mw mw' : List Float) → take size whole ≡ out → mw' ≡ scatter (take size ks) (take size whole) mw
+      pub answered_stage : a ≡ no_refusal → (whole mw mw' : List Float) → take size whole ≡ out → mw' ≡ scatter (take size ks) (take size whole) mw
           → going mw' ≡ serve (dispatch_case mode load bus pmin pmax c1 c2) led root mw
       answered_stage h whole mw mw' t w =
           ap going (w ∙ ap (λ (y : List Float). scatter (take size ks) y mw) t ∙ ap (λ (u : List ℕ). scatter u out mw) pk)

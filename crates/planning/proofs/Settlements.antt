@@ -20,11 +20,11 @@ use Rattle.planning.specs.Fill.{designs_for}
 use Rattle.planning.specs.Sound.{Sound}
 use Rattle.planning.specs.Whole.{with_lines, with_units}
 use Rattle.planning.specs.Settle.{Ended, ended_of, ended_by, closed_after, filled_from, settled_from, settlement_of, SettledAs, Settles}
-use Rattle.planning.specs.declared.settle.Settled.{Settled}
 use Rattle.planning.specs.declared.settle.Settling.{Settling}
-use Rattle.planning.specs.declared.settle.Settled.TheVariants.{Refused, Closed}
 use Rattle.planning.proofs.Draws.{Laid}
 use Rattle.planning.proofs.Liftings.{designs_lift, fill_lifts, closing_lifts, tiers_lift, added_lifts}
+use Rattle.std.specs.Prelude.{Err, Ok, Result}
+use Rattle.planning.specs.declared.settle.Settlement.{Settlement}
 
 -- ---- a plan as the slices hold it
 abbrev ended_for : ℕ → Plan → Ended
@@ -48,14 +48,14 @@ never : {S : Type 0} (f : Refusal) (s : S) → stopped f ≡ going s → ⊥
 never f s e = let z : ◌≡◌ {A = ℕ} 0 1 = cc in omega arith
 
 module _ (before order circuits tier : List ℕ) (flow rate angle added : List Float) (c : Case) where
-  settled_as : (r : Settled) (t : Stage Plan) → ended_of r before order circuits tier flow rate angle added ≡ ended_on c.above t → SettledAs r before order circuits tier flow rate angle added c t
-  settled_as (Refused f) (stopped g) e = let z : f ≡ g = cc in ap Refused z
-  settled_as (Refused f) (going q) e = absurd (never f (ended_for c.above q) e)
-  settled_as (Closed s) (stopped g) e = absurd (never g _ (sym e))
-  settled_as (Closed s) (going q) e =
+  settled_as : (r : Result Settlement Refusal) (t : Stage Plan) → ended_of r before order circuits tier flow rate angle added ≡ ended_on c.above t → SettledAs r before order circuits tier flow rate angle added c t
+  settled_as (Err f) (stopped g) e = let z : f ≡ g = cc in ap Err z
+  settled_as (Err f) (going q) e = absurd (never f (ended_for c.above q) e)
+  settled_as (Ok s) (stopped g) e = absurd (never g _ (sym e))
+  settled_as (Ok s) (going q) e =
       let z : record { settlement = s; before = before; order = order; circuits = circuits; tier = tier; flow = flow; rate = rate; angle = angle; added = added } ≡ ended_for c.above q = cc in
       record {
-        said = ap (λ (x : Ended). Closed x.settlement) z;
+        said = ap (λ (x : Ended). Ok x.settlement) z;
         before_are = ap (λ (x : Ended). x.before) z;
         order_is = ap (λ (x : Ended). x.order) z;
         circuits_are = ap (λ (x : Ended). x.circuits) z;
@@ -157,10 +157,10 @@ settles mode target above ladder a b km share cap sheet leader grounds injection
     }
 
 pub settles_refused : (mode : PlanMode) (target above : ℕ) (ladder : List Float) (a b : List ℕ) (km share : List Float) (cap : List ℕ) (sheet : List Float) (leader grounds : List ℕ) (injection banks : List Float)
-    (upsized circuits level circuits' level' : List ℕ) (flow' rate' angle' added' : List Float) (r : Settling) (f : Refusal) → r.settled ≡ Refused f
+    (upsized circuits level circuits' level' : List ℕ) (flow' rate' angle' added' : List Float) (r : Settling) (f : Refusal) → r.settled ≡ Err f
     → stopped f
     ≡ settled_from mode cap above leader ladder level (designs_for ladder level a b km share sheet banks) upsized (peak_for (length level) grounds injection) target (length a) circuits
     → Settles mode target above ladder a b km share cap sheet leader grounds injection banks upsized circuits level circuits' level' flow' rate' angle' added' r
 settles_refused mode target above ladder a b km share cap sheet leader grounds injection banks upsized circuits level circuits' level' flow' rate' angle' added' r f q e =
     settles mode target above ladder a b km share cap sheet leader grounds injection banks upsized circuits level circuits' level' flow' rate' angle' added' r
-    (ap (λ (x : Settled). ended_of x (take (length a) r.kept.before) (take (length a) r.kept.order) circuits' level' flow' rate' angle' added') q ∙ e)
+    (ap (λ (x : Result Settlement Refusal). ended_of x (take (length a) r.kept.before) (take (length a) r.kept.order) circuits' level' flow' rate' angle' added') q ∙ e)

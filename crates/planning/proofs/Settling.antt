@@ -5,8 +5,6 @@ use lib.Ieee.{Float}
 use Rattle.loops.specs.Figures.{nought}
 use Rattle.mode.specs.declared.PlanMode.{PlanMode}
 use Rattle.refusal.specs.declared.Refusal.{Refusal}
-use Rattle.refusal.specs.declared.Answer.{Answer}
-use Rattle.refusal.specs.declared.Answer.TheVariants.{Answered, Refused}
 use Rattle.angles_defs.specs.Network.{Edges, zeros}
 use Rattle.plan_defs.specs.Stage.{Stage, stopped, going, onward}
 use Rattle.plan_defs.specs.Solve.{Peak, PlanningCase, planning_state}
@@ -21,15 +19,17 @@ use Rattle.planning.specs.Close.{levels_for, closing_of}
 use Rattle.planning.specs.Settle.{Settleable, ended_by, closed_from, closed_after, filled_in, filled_from}
 use Rattle.planning.specs.declared.close.Closing.{Closing}
 use Rattle.planning.proofs.Orders.{order_ranked}
+use Rattle.std.specs.Prelude.{Err, Result}
+use Rattle.refusal.specs.Reply.{no_refusal}
 
 -- ---- a solve, and what comes after it
-pub solved_refused : {T : Type 0} (next : PlanningCase → Stage T) (X : Stage PlanningCase) (r : Answer) (E : Edges) (x y : List Float) (f : Refusal)
-    → solved_of r E x y ≡ X → r ≡ Refused f → stopped f ≡ onward X next
-solved_refused next X r E x y f e q = ap (λ (a : Answer). onward (solved_of a E x y) next) (sym q) ∙ ap (λ (t : Stage PlanningCase). onward t next) e
+pub solved_refused : {T : Type 0} (next : PlanningCase → Stage T) (X : Stage PlanningCase) (r : Result (Unit {0}) Refusal) (E : Edges) (x y : List Float) (f : Refusal)
+    → solved_of r E x y ≡ X → r ≡ Err f → stopped f ≡ onward X next
+solved_refused next X r E x y f e q = ap (λ (a : Result (Unit {0}) Refusal). onward (solved_of a E x y) next) (sym q) ∙ ap (λ (t : Stage PlanningCase). onward t next) e
 
-pub solved_answered : {T : Type 0} (next : PlanningCase → Stage T) (X : Stage PlanningCase) (r : Answer) (E : Edges) (x y : List Float)
-    → solved_of r E x y ≡ X → r ≡ Answered → next (record { edges = E; theta = x; flows = y }) ≡ onward X next
-solved_answered next X r E x y e q = ap (λ (a : Answer). onward (solved_of a E x y) next) (sym q) ∙ ap (λ (t : Stage PlanningCase). onward t next) e
+pub solved_answered : {T : Type 0} (next : PlanningCase → Stage T) (X : Stage PlanningCase) (r : Result (Unit {0}) Refusal) (E : Edges) (x y : List Float)
+    → solved_of r E x y ≡ X → r ≡ no_refusal → next (record { edges = E; theta = x; flows = y }) ≡ onward X next
+solved_answered next X r E x y e q = ap (λ (a : Result (Unit {0}) Refusal). onward (solved_of a E x y) next) (sym q) ∙ ap (λ (t : Stage PlanningCase). onward t next) e
 
 -- ---- slices of the same lengths
 module _ (n m : ℕ) (injection : List Float) (grounds : List ℕ) (angle flow angle' flow' : List Float) where
@@ -95,8 +95,8 @@ module _ (above : ℕ) (ladder : List Float) (level a b : List ℕ) (km share : 
 
 -- ---- the stages by columns, as calls say them
 module _ (mode : PlanMode) (cap : List ℕ) (above : ℕ) (led : List ℕ) (ladder : List Float) (level : List ℕ) (ds : List CircuitDesign) (upsized : List ℕ) (P : Peak) where
-  pub closed_answered : (filler : ℕ) (before order circuits tier : List ℕ) (flow rate angle added : List Float) (c : Closing) (r : Answer) (E : Edges)
-      → solved_of r E angle flow ≡ planning_state P ds circuits (zeros P.n) → r ≡ Answered
+  pub closed_answered : (filler : ℕ) (before order circuits tier : List ℕ) (flow rate angle added : List Float) (c : Closing) (r : Result (Unit {0}) Refusal) (E : Edges)
+      → solved_of r E angle flow ≡ planning_state P ds circuits (zeros P.n) → r ≡ no_refusal
       → c ≡ closing_of mode cap above led level ds circuits upsized flow angle → rate ≡ map (λ (d : CircuitDesign). d.rate_a) ds → tier ≡ tiers_of (levels_for above ladder) level
       → added ≡ up_to above nought (added_of (levels_for above ladder) level)
       → going (record { settlement = record { filler = filler; closing = c }; before = before; order = order; circuits = circuits; tier = tier; flow = flow; rate = rate; angle = angle; added = added })

@@ -17,8 +17,6 @@ use Rattle.angles_defs.specs.Network.{Edges, edges_of, zeros}
 use Rattle.angles_defs.specs.Solve.{Solved, solve}
 use Rattle.angles_defs.specs.Operation.{Request, request_of, Outcome, outcome, work_places, most, finite_at, finish_if, solve_of, dc_angles}
 use Rattle.angles_defs.specs.declared.Solution.{Solution}
-use Rattle.angles_defs.specs.declared.Angles.{Angles}
-use Rattle.angles_defs.specs.declared.Angles.TheVariants.{Answered as Found, Refused as Declined}
 use Rattle.angles_defs.proofs.Answers.{Sound, of_request}
 use Rattle.angles_defs.proofs.Solves.{solve_places}
 use Rattle.plan_defs.specs.Case.{Case, from_of, to_of}
@@ -33,22 +31,23 @@ use Rattle.planning.specs.Design.{lines_for, Lines}
 use Rattle.planning.specs.Solve.{finite_if, finite_angles, Net, Places}
 use Rattle.planning.proofs.Draws.{ends_fit, from_below, to_below}
 use Rattle.loops.proofs.Fronts.{map_tab, front_replicate}
+use Rattle.std.specs.Prelude.{Err, Ok, Result}
 
 -- ---- angles
 never : {A : Type 0} (x : A) (k i : ℕ) → answered x ≡ refused k i → ⊥
 never x k i e = let z : ◌≡◌ {A = ℕ} 0 1 = cc in omega arith
 
 -- what angles alone say
-abbrev pub angle_stage : Angles → List Float → Stage (List Float)
-angle_stage (Found s) y = going y
-angle_stage (Declined f) y = stopped (NotFinite 0)
+abbrev pub angle_stage : Result Solution Refusal → List Float → Stage (List Float)
+angle_stage (Ok s) y = going y
+angle_stage (Err f) y = stopped (NotFinite 0)
 
-finished : (b : Bool) (n : ℕ) (o : Solved) (i : ℕ) (r : Angles) (y w : List Float) → outcome r y w ≡ finish_if b n o i → angle_stage r y ≡ finite_if (not b) o.x
+finished : (b : Bool) (n : ℕ) (o : Solved) (i : ℕ) (r : Result Solution Refusal) (y w : List Float) → outcome r y w ≡ finish_if b n o i → angle_stage r y ≡ finite_if (not b) o.x
 unfolding finish_if
-finished true n o i (Found s) y w e = absurd (never s (number_of (NotFinite i)) (index_of (NotFinite i)) (ap (λ (z : Outcome). z.reply) e))
-finished true n o i (Declined f) y w e = refl
-finished false n o i (Found s) y w e = ap going (ap (λ (z : Outcome). z.result) e)
-finished false n o i (Declined f) y w e = absurd (never _ (number_of f) (index_of f) (sym (ap (λ (z : Outcome). z.reply) e)))
+finished true n o i (Ok s) y w e = absurd (never s (number_of (NotFinite i)) (index_of (NotFinite i)) (ap (λ (z : Outcome). z.reply) e))
+finished true n o i (Err f) y w e = refl
+finished false n o i (Ok s) y w e = ap going (ap (λ (z : Outcome). z.result) e)
+finished false n o i (Err f) y w e = absurd (never _ (number_of f) (index_of f) (sym (ap (λ (z : Outcome). z.reply) e)))
 
 flip : (i n : ℕ) → leb n i ≡ not (ltb i n)
 flip i n = go (ltb i n) refl
@@ -57,7 +56,7 @@ flip i n = go (ltb i n) refl
     go true e = lt-leb n i (ltb-true i n e)
     go false e = le-leb n i (ltb-false i n e)
 
-pub angles_stage : (q : Request) (result work : List Float) → Sound q (length result) (length work) → (r : Angles) (y w : List Float)
+pub angles_stage : (q : Request) (result work : List Float) → Sound q (length result) (length work) → (r : Result Solution Refusal) (y w : List Float)
     → outcome r y w ≡ dc_angles q result work → angle_stage r y ≡ finite_angles (solve_of q).x
 unfolding all_finite
 angles_stage q result work S r y w e =
@@ -139,12 +138,12 @@ module _ (c : Case) (level : List ℕ) (banks : List Float) (circuits : List ℕ
       ∙ ap (λ (l : List Float). edges_of (map (λ (d : CircuitDesign). d.from) ds) (map (λ (d : CircuitDesign). d.to) ds) l) w
 
 -- ---- what a call of `dc_angles` says
-module _ (q : Request) (result work : List Float) (S : Sound q (length result) (length work)) (r : Angles) (y w : List Float) (e : outcome r y w ≡ dc_angles q result work) where
-  pub angles_refused : (f : Refusal) → r ≡ Declined f → stopped (NotFinite 0) ≡ finite_angles (solve_of q).x
-  angles_refused f h = ap (λ (a : Angles). angle_stage a y) (sym h) ∙ angles_stage q result work S r y w e
+module _ (q : Request) (result work : List Float) (S : Sound q (length result) (length work)) (r : Result Solution Refusal) (y w : List Float) (e : outcome r y w ≡ dc_angles q result work) where
+  pub angles_refused : (f : Refusal) → r ≡ Err f → stopped (NotFinite 0) ≡ finite_angles (solve_of q).x
+  angles_refused f h = ap (λ (a : Result Solution Refusal). angle_stage a y) (sym h) ∙ angles_stage q result work S r y w e
 
-  pub angles_answered : (s : Solution) → r ≡ Found s → going y ≡ finite_angles (solve_of q).x
-  angles_answered s h = ap (λ (a : Angles). angle_stage a y) (sym h) ∙ angles_stage q result work S r y w e
+  pub angles_answered : (s : Solution) → r ≡ Ok s → going y ≡ finite_angles (solve_of q).x
+  angles_answered s h = ap (λ (a : Result Solution Refusal). angle_stage a y) (sym h) ∙ angles_stage q result work S r y w e
 
 -- ---- the ends of a drawn corridor are buses
 module _ (ladder : List Float) (level a b : List ℕ) (km share sheet : List Float) (k : ℕ) (mva : Float) (lines : Lines ladder level a b km share sheet) (h : k < length a) where

@@ -8,8 +8,6 @@ use Rattle.loops.specs.Figures.{at, plus, nought, one, half, ten_thousand, milli
 use Rattle.loops.proofs.Bools.{both}
 use Rattle.refusal.specs.declared.Refusal.{Refusal}
 use Rattle.refusal.specs.declared.Refusal.TheVariants.{Length}
-use Rattle.refusal.specs.declared.Answer.{Answer}
-use Rattle.refusal.specs.declared.Answer.TheVariants.{Refused}
 use Rattle.impedance.specs.Impedance.{rating_ok}
 use Rattle.leaders.specs.Operation.{corridor_ok}
 use Rattle.sheets.specs.Sheet.{row_figures}
@@ -18,7 +16,6 @@ use Rattle.plan_defs.specs.Case.{Case, levels, kv_of, end_a, end_b, own_cap, Row
 use Rattle.plan_defs.specs.Accept.{level_ok, generator_ok, corridor_sound, case_fault}
 use Rattle.plan_defs.specs.Plan.{ending_of}
 use Rattle.plan_defs.specs.Outcome.{Slices, slices_ok, outcome, outcome_if, outcome_by, plan_corridors}
-use Rattle.plan_defs.specs.declared.Planned.TheVariants.{Refused as Unplanned}
 use Rattle.plan_defs.proofs.Accepted.{Accepted, accepted, end_a_lem, end_b_lem, bus_below, unit_ok_lem, tier_below, load_inside, initial_few, cap_few, row_inside, row_sound_lem}
 use Rattle.plan_defs.proofs.Rows.{row_from_lem}
 use Rattle.plan_theorems.proofs.Outcomes.{lengths_of as all-lengths}
@@ -30,6 +27,7 @@ use Rattle.planning.specs.Sound.{Sound, Lengths}
 use Rattle.planning.specs.declared.lent.Places.{Places}
 use Rattle.planning.proofs.Draws.{Laid}
 use Rattle.planning.proofs.Ratings.{sheet_rating}
+use Rattle.std.specs.Prelude.{Err, Result}
 
 -- ---- what the tests of one row say
 module _ (c : Case) (target : ℕ) (ok : Accepted c target) where
@@ -163,18 +161,18 @@ places_of s =
 -- ---- the check
 module _ (c : Case) (target : ℕ) (s : Slices) where
   -- with 1 of the lent slices as the definition tests it
-  pub checked : (x : Answer) (fits : Bool) → fits ≡ places_ok c.buses c.corridors c.generators c.above (places_of s)
+  pub checked : (x : Result (Unit {0}) Refusal) (fits : Bool) → fits ≡ places_ok c.buses c.corridors c.generators c.above (places_of s)
       → x ≡ check_of fits (tables_of_lem c) target → x ≡ check_of (slices_ok c s) (tables_of_lem c) target
   unfolding slices_ok
   checked x fits e k = k ∙ ap (λ (b : Bool). check_of b (tables_of_lem c) target) e
 
   -- a refusal is the defined one, with every slice as it was
-  pub refused_outcome : (f : Refusal) → Refused f ≡ check_of (slices_ok c s) (tables_of_lem c) target → outcome (Unplanned f) s ≡ plan_corridors c target s
+  pub refused_outcome : (f : Refusal) → Err f ≡ check_of (slices_ok c s) (tables_of_lem c) target → outcome (Err f) s ≡ plan_corridors c target s
   unfolding plan_corridors ending_of outcome_by
   refused_outcome f e = go (slices_ok c s) (case_fault c target) refl refl (refused_by_lem (slices_ok c s) c target f e)
     where
       go : (b : Bool) (o : Option Refusal) → slices_ok c s ≡ b → case_fault c target ≡ o → cond b o (some Length) ≡ some f
-          → outcome (Unplanned f) s ≡ outcome_if (slices_ok c s) c target s
+          → outcome (Err f) s ≡ outcome_if (slices_ok c s) c target s
       go false o p q h = let z : f ≡ Length = cc in rw (p, z)
       go true (some g) p q h = let z : f ≡ g = cc in rw (p, q, z)
       go true none p q h = let z : ◌≡◌ {A = ℕ} 0 1 = cc in absurd (omega arith)

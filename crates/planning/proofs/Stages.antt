@@ -2,12 +2,12 @@
 use Rattle.std.proofs.Common.{◌≡◌, ℕ, ◌+◌, ◌-◌, ◌<◌, ◌≤◌, Bool, true, false, List, sym, refl, ap, ◌∙◌}
 use lib.Ieee.{Float}
 use Rattle.refusal.specs.declared.Refusal.{Refusal}
-use Rattle.refusal.specs.declared.Answer.{Answer}
-use Rattle.refusal.specs.declared.Answer.TheVariants.{Answered, Refused}
 use Rattle.plan_defs.specs.Lists.{pass_from, passing}
 use Rattle.plan_defs.specs.Stage.{Stage, stopped, going, onward, each_stage}
 use Rattle.planning.specs.Opening.{stage_of, stage_if}
 use Rattle.planning.proofs.Passing.{pass_start, pass_yes, pass_no, pass_end}
+use Rattle.std.specs.Prelude.{Err, Result}
+use Rattle.refusal.specs.Reply.{no_refusal}
 
 module _ {S : Type 0} (f : ℕ → S → Stage S) (p : ℕ → Bool) where
   abbrev rest : ℕ → ℕ → S → Stage S
@@ -34,9 +34,9 @@ module _ (f : ℕ → List Float → Stage (List Float)) (p : ℕ → Bool) (n :
   pub stage_start : (s t : List Float) → s ≡ t → each_stage f (pass_from p (n - 0) 0) s ≡ each_stage f (passing p n) t
   stage_start s t e = ap (each_stage f (pass_from p (n - 0) 0)) e ∙ ap (λ (ks : List ℕ). each_stage f ks t) (pass_start p n)
 
-  module _ (i : ℕ) (h : i < n) (s y : List Float) (r : Answer) (e : stage_of r y ≡ stage_if (p i) (f i s) s) where
-    pub stage_stopped : (why : Refusal) → r ≡ Refused why → stopped why ≡ each_stage f (pass_from p (n - i) i) s
-    stage_stopped why q = ap (λ (x : Answer). onward (stage_of x y) (rest f p n (i + 1))) (sym q) ∙ stage_step f p n i h s (stage_of r y) e
+  module _ (i : ℕ) (h : i < n) (s y : List Float) (r : Result (Unit {0}) Refusal) (e : stage_of r y ≡ stage_if (p i) (f i s) s) where
+    pub stage_stopped : (why : Refusal) → r ≡ Err why → stopped why ≡ each_stage f (pass_from p (n - i) i) s
+    stage_stopped why q = ap (λ (x : Result (Unit {0}) Refusal). onward (stage_of x y) (rest f p n (i + 1))) (sym q) ∙ stage_step f p n i h s (stage_of r y) e
 
-    pub stage_going : r ≡ Answered → each_stage f (pass_from p (n - (i + 1)) (i + 1)) y ≡ each_stage f (pass_from p (n - i) i) s
-    stage_going q = ap (λ (x : Answer). onward (stage_of x y) (rest f p n (i + 1))) (sym q) ∙ stage_step f p n i h s (stage_of r y) e
+    pub stage_going : r ≡ no_refusal → each_stage f (pass_from p (n - (i + 1)) (i + 1)) y ≡ each_stage f (pass_from p (n - i) i) s
+    stage_going q = ap (λ (x : Result (Unit {0}) Refusal). onward (stage_of x y) (rest f p n (i + 1))) (sym q) ∙ stage_step f p n i h s (stage_of r y) e

@@ -8,8 +8,6 @@ use Rattle.loops.specs.Loops.{tab}
 use Rattle.loops.proofs.Tab.{get_tab}
 use Rattle.refusal.specs.declared.Refusal.{Refusal}
 use Rattle.refusal.specs.declared.Refusal.TheVariants.{NotFinite}
-use Rattle.refusal.specs.declared.Answer.{Answer}
-use Rattle.refusal.specs.declared.Answer.TheVariants.{Answered, Refused}
 use Rattle.angles_defs.specs.Network.{Edges, edges_of}
 use Rattle.angles_defs.specs.Operation.{most}
 use Rattle.angles_defs.specs.Solve.{solve}
@@ -24,22 +22,24 @@ use Rattle.planning.specs.Opening.{stage_of}
 use Rattle.planning.specs.Solve.{peak_for, solved_of, finite_if, finite_angles, finite_answer, Net, Drawing, Peaked}
 use Rattle.loops.proofs.Fronts.{map_tab}
 use Rattle.planning.proofs.Solving.{drawn_from_below, drawn_to_below}
+use Rattle.std.specs.Prelude.{Err, Result}
+use Rattle.refusal.specs.Reply.{no_refusal}
 
 -- ---- a stage that goes on is not one that stops
 no_stage : {S : Type 0} (f : Refusal) (s : S) → stopped f ≡ going s → ⊥
 no_stage f s e = let z : ◌≡◌ {A = ℕ} 0 1 = cc in omega arith
 
 -- ---- what an answer says of the angles x, as `finite_angles` has it
-module _ (r : Answer) (y x : List Float) (e : stage_of r y ≡ finite_angles x) where
-  pub finite_answered : r ≡ Answered → (y ≡ x) × (all_finite x ≡ true)
-  finite_answered h = go (all_finite x) refl (ap (λ (a : Answer). stage_of a y) (sym h) ∙ e)
+module _ (r : Result (Unit {0}) Refusal) (y x : List Float) (e : stage_of r y ≡ finite_angles x) where
+  pub finite_answered : r ≡ no_refusal → (y ≡ x) × (all_finite x ≡ true)
+  finite_answered h = go (all_finite x) refl (ap (λ (a : Result (Unit {0}) Refusal). stage_of a y) (sym h) ∙ e)
     where
       go : (t : Bool) → all_finite x ≡ t → going y ≡ finite_if t x → (y ≡ x) × (all_finite x ≡ true)
       go true p q = (cc, p)
       go false p q = absurd (no_stage (NotFinite 0) y (sym q))
 
-  pub finite_refused : (f : Refusal) → r ≡ Refused f → (f ≡ NotFinite 0) × (all_finite x ≡ false)
-  finite_refused f h = go (all_finite x) refl (ap (λ (a : Answer). stage_of a y) (sym h) ∙ e)
+  pub finite_refused : (f : Refusal) → r ≡ Err f → (f ≡ NotFinite 0) × (all_finite x ≡ false)
+  finite_refused f h = go (all_finite x) refl (ap (λ (a : Result (Unit {0}) Refusal). stage_of a y) (sym h) ∙ e)
     where
       go : (t : Bool) → all_finite x ≡ t → stopped f ≡ finite_if t x → (f ≡ NotFinite 0) × (all_finite x ≡ false)
       go true p q = absurd (no_stage f x q)
@@ -107,7 +107,7 @@ module _ (ladder : List Float) (level a b : List ℕ) (km share sheet : List Flo
 
   -- ---- what is solved on the drawn edges is the defined planning state
   pub state_of : (from to : List ℕ) (weight : List Float) → edges_of (take (length a) from) (take (length a) to) (take (length a) weight) ≡ edges
-      → (n m : ℕ) → n ≡ length level → m ≡ length a → (grounds : List ℕ) (injection angle : List Float) (r : Answer) (theta flows : List Float)
+      → (n m : ℕ) → n ≡ length level → m ≡ length a → (grounds : List ℕ) (injection angle : List Float) (r : Result (Unit {0}) Refusal) (theta flows : List Float)
       → solved_of r (edges_of (take m from) (take m to) (take m weight)) theta flows
       ≡ planning_on (peak_for n grounds injection) (edges_of (take m from) (take m to) (take m weight)) angle
       → solved_of r edges theta flows ≡ planning_state (peak_for (length level) grounds injection) designs circuits angle
@@ -144,7 +144,7 @@ front_net n n' m from to weight grounds e h gs gb =
     }
 
 -- ---- a peak's angles and flows, by what the solve answers
-module _ (m : ℕ) (from to : List ℕ) (weight : List Float) (grounds : List ℕ) (injection angle guess : List Float) (same : take (length angle) guess ≡ angle) (r : Answer) (y : List Float)
+module _ (m : ℕ) (from to : List ℕ) (weight : List Float) (grounds : List ℕ) (injection angle guess : List Float) (same : take (length angle) guess ≡ angle) (r : Result (Unit {0}) Refusal) (y : List Float)
     (told : stage_of r y
     ≡ finite_angles (solve (length angle) (edges_of (take (m - 0) from) (take (m - 0) to) (take (m - 0) weight)) grounds injection (take (length angle - 0) guess)).x) where
   abbrev front : Edges
@@ -163,7 +163,7 @@ module _ (m : ℕ) (from to : List ℕ) (weight : List Float) (grounds : List �
       ∙ ap (λ (n : ℕ). finite_angles (solve (length angle) front grounds injection (take n guess)).x) (sub-zero (length angle))
       ∙ ap (λ (g : List Float). finite_angles (solve (length angle) front grounds injection g).x) same
 
-  pub peak_refused : (f : Refusal) → r ≡ Refused f → stopped f ≡ planning_on (peak_for (length angle) grounds injection) front angle
+  pub peak_refused : (f : Refusal) → r ≡ Err f → stopped f ≡ planning_on (peak_for (length angle) grounds injection) front angle
   peak_refused f h =
       let p = finite_refused r y theta defined f h in
       ap stopped p.0 ∙ ap (λ (t : Bool). if_finite (t && all_finite (flows_of front theta)) (state theta)) (sym p.1)
@@ -172,11 +172,11 @@ module _ (m : ℕ) (from to : List ℕ) (weight : List Float) (grounds : List �
   tested true x = refl
   tested false x = refl
 
-  pub peak_answered : r ≡ Answered → (flows : List Float) → flows ≡ flows_of front y → (s : Answer) → s ≡ finite_answer (all_finite flows)
+  pub peak_answered : r ≡ no_refusal → (flows : List Float) → flows ≡ flows_of front y → (s : Result (Unit {0}) Refusal) → s ≡ finite_answer (all_finite flows)
       → solved_of s front y flows ≡ planning_on (peak_for (length angle) grounds injection) front angle
   peak_answered h flows q s w =
       let o = finite_answered r y theta defined h in
-      ap (λ (x : Answer). solved_of x front y flows) w
+      ap (λ (x : Result (Unit {0}) Refusal). solved_of x front y flows) w
       ∙ ap (λ (l : List Float). solved_of (finite_answer (all_finite l)) front y l) q
       ∙ ap (λ (x : List Float). solved_of (finite_answer (all_finite (flows_of front x))) front x (flows_of front x)) o.0
       ∙ tested (all_finite (flows_of front theta)) theta

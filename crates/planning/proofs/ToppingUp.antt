@@ -7,8 +7,6 @@ use Rattle.loops.specs.Figures.{at, nought}
 use Rattle.refusal.specs.Number.{index_of}
 use Rattle.refusal.specs.declared.Refusal.{Refusal}
 use Rattle.refusal.specs.declared.Refusal.TheVariants.{Cost}
-use Rattle.refusal.specs.declared.Answer.{Answer}
-use Rattle.refusal.specs.declared.Answer.TheVariants.{Answered, Refused}
 use Rattle.dispatch_defs.specs.Units.{Units, count}
 use Rattle.dispatch_defs.specs.Share.{gap_of}
 use Rattle.dispatch_defs.specs.Dispatch.{faulty_cost}
@@ -23,6 +21,8 @@ use Rattle.planning.specs.Opening.{given_if, given_stage}
 use Rattle.plan_defs.proofs.Lists.{All}
 use Rattle.plan_defs.proofs.Inserted.{inserted_below, inserted_length}
 use Rattle.planning.proofs.Insertion.{order_same}
+use Rattle.std.specs.Prelude.{Err, Result}
+use Rattle.refusal.specs.Reply.{no_refusal}
 
 -- ---- the order by c1, of the first two keys alike
 no_less : lt nought nought ≡ false
@@ -98,22 +98,22 @@ module _ (pmax : List Float) (demand : Float) (ks : List ℕ) (j k : ℕ) (h : j
     pass_next f = goes false f
 
 -- ---- the dispatch, and the pass after it
-module _ (n : ℕ) (u : Units) (d : Float) (old : List Float) (p : Accepted n u d (length old)) (a : Answer) (out : List Float) (e : outcome a out ≡ dispatched n u d old)
+module _ (n : ℕ) (u : Units) (d : Float) (old : List Float) (p : Accepted n u d (length old)) (a : Result (Unit {0}) Refusal) (out : List Float) (e : outcome a out ≡ dispatched n u d old)
     (tops : Bool) where
-  pub gives_refused : (f : Refusal) → a ≡ Refused f → (i : ℕ) → i ≡ index_of f → stopped (Cost i) ≡ given_stage tops u d
+  pub gives_refused : (f : Refusal) → a ≡ Err f → (i : ℕ) → i ≡ index_of f → stopped (Cost i) ≡ given_stage tops u d
   gives_refused f h i w =
       let q = called_refused n u d old p a out e f h in
       ap (λ (k : ℕ). stopped (Cost k)) (w ∙ q.2) ∙ ap (λ (b : Bool). given_if b tops u d) (sym (lt-ltb (faulty_cost u d) (count u) q.0))
 
-  answered_as : a ≡ Answered → going (given_by tops u d) ≡ given_stage tops u d
+  answered_as : a ≡ no_refusal → going (given_by tops u d) ≡ given_stage tops u d
   answered_as h =
       let q = called_answered n u d old p a out e h in
       ap (λ (b : Bool). given_if b tops u d) (sym (le-ltb (faulty_cost u d) (count u) q.0))
 
-  pub gives_plain : a ≡ Answered → tops ≡ false → going out ≡ given_stage tops u d
+  pub gives_plain : a ≡ no_refusal → tops ≡ false → going out ≡ given_stage tops u d
   gives_plain h t =
       ap going ((called_answered n u d old p a out e h).1 ∙ ap (λ (b : Bool). given_by b u d) (sym t)) ∙ answered_as h
 
-  pub gives_topped : a ≡ Answered → tops ≡ true → (mw : List Float) → mw ≡ top_up u.pmax d (by_cost u.c1) out → going mw ≡ given_stage tops u d
+  pub gives_topped : a ≡ no_refusal → tops ≡ true → (mw : List Float) → mw ≡ top_up u.pmax d (by_cost u.c1) out → going mw ≡ given_stage tops u d
   gives_topped h t mw w =
       ap going (w ∙ ap (top_up u.pmax d (by_cost u.c1)) (called_answered n u d old p a out e h).1 ∙ ap (λ (b : Bool). given_by b u d) (sym t)) ∙ answered_as h

@@ -1,5 +1,5 @@
 -- What the contracts of module close cite: the closing figures by the columns that each reads, and the slices as planning leaves them.
-use Rattle.std.specs.Prelude.{◌≡◌, ℕ, ◌+◌, ◌-◌, ◌≤◌, Bool, true, false, cond, ◌&&◌, List, [], map, length, replicate, nat_le, nat_lt, slice_index, Float}
+use Rattle.std.specs.Prelude.{◌≡◌, ℕ, ◌+◌, ◌-◌, ◌≤◌, Bool, true, false, cond, ◌&&◌, List, [], map, length, replicate, nat_le, nat_lt, slice_index, Float, Err, Ok, Result}
 use Rattle.std.specs.Float.Ieee.{lt}
 use Rattle.loops.specs.Figures.{at, float, plus, nought, greater}
 use Rattle.loops.specs.Loops.{tab}
@@ -12,9 +12,9 @@ use Rattle.plan_defs.specs.Closing.{least_of, need_of, max_loading, overloaded_o
 use Rattle.plan_defs.specs.Components.{leads, members}
 use Rattle.plan_defs.specs.Outcome.{Slices, slices}
 use Rattle.plan_defs.specs.declared.CircuitDesign.{CircuitDesign}
-use Rattle.plan_defs.specs.declared.Planned.{Planned}
-use Rattle.plan_defs.specs.declared.Planned.TheVariants.{Answered, Refused}
 use Rattle.planning.specs.declared.close.Closing.{Closing}
+use Rattle.plan_defs.specs.declared.CorridorPlan.{CorridorPlan}
+use Rattle.refusal.specs.declared.Refusal.{Refusal}
 
 -- ---- a case that has a mode, a number of corridors and their own caps alone, and one that has the levels alone
 abbrev pub corridors_of : PlanMode → ℕ → List ℕ → Case
@@ -81,9 +81,9 @@ figures_if refused l = cond refused (replicate (length l) nought) l
 abbrev pub counts_if : Bool → List ℕ → List ℕ
 counts_if refused l = cond refused (replicate (length l) 0) l
 
-abbrev pub is_refused : Planned → Bool
-is_refused (Answered p) = false
-is_refused (Refused f) = true
+abbrev pub is_refused : Result CorridorPlan Refusal → Bool
+is_refused (Ok p) = false
+is_refused (Err f) = true
 
 abbrev pub finished : Bool → Slices → Slices
 finished refused s =

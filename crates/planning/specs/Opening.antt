@@ -1,9 +1,7 @@
 -- The opening of a plan over slices: the columns of a case that it reads, and what an answer with the slice that it fills stands for.
-use Rattle.std.specs.Prelude.{◌≡◌, ℕ, ◌<◌, ◌≤◌, Bool, true, false, List, [], length, nat_lt, slice_index, Float}
+use Rattle.std.specs.Prelude.{◌≡◌, ℕ, ◌<◌, ◌≤◌, Bool, true, false, List, [], length, nat_lt, slice_index, Float, Err, Ok, Result}
 use Rattle.loops.specs.Figures.{at, nought, million, inside}
 use Rattle.refusal.specs.declared.Refusal.TheVariants.{Cost}
-use Rattle.refusal.specs.declared.Answer.{Answer}
-use Rattle.refusal.specs.declared.Answer.TheVariants.{Answered, Refused}
 use Rattle.mode.specs.declared.PlanMode.{PlanMode}
 use Rattle.mode.specs.declared.PlanMode.TheVariants.{Observe}
 use Rattle.leaders.specs.Operation.{corridor_ok_at}
@@ -13,11 +11,12 @@ use Rattle.plan_defs.specs.Constants.{most_buses, most_corridors, most_generator
 use Rattle.plan_defs.specs.Stage.{Stage, stopped, going}
 use Rattle.plan_defs.specs.Case.{Case, case_of}
 use Rattle.plan_defs.specs.TopUp.{given_by}
+use Rattle.refusal.specs.declared.Refusal.{Refusal}
 
 -- ---- an answer and the slice that it fills
-abbrev pub stage_of : Answer → List Float → Stage (List Float)
-stage_of Answered l = going l
-stage_of (Refused f) l = stopped f
+abbrev pub stage_of : Result (Unit {0}) Refusal → List Float → Stage (List Float)
+stage_of (Ok tt) l = going l
+stage_of (Err f) l = stopped f
 
 -- a stage that runs or is passed over
 abbrev pub stage_if : {S : Type 0} → Bool → Stage S → S → Stage S

@@ -1,6 +1,6 @@
 -- What the contracts of module plan cite: the opening, the rounds where there are any, and the stages joined, each as the defined stage of a whole case.
 -- What is asked of columns is that some sound case has them.
-use Rattle.std.specs.Prelude.{◌≡◌, ℕ, ◌*◌, ◌≤◌, cond, not, ◌&&◌, ◌||◌, List, map, length, take, replicate, ◌==◌, Float}
+use Rattle.std.specs.Prelude.{◌≡◌, ℕ, ◌*◌, ◌≤◌, cond, not, ◌&&◌, ◌||◌, List, map, length, take, replicate, ◌==◌, Float, Err, Ok, Result}
 use Rattle.loops.specs.Figures.{nought}
 use Rattle.mode.specs.declared.PlanMode.{PlanMode}
 use Rattle.angles_defs.specs.Network.{zeros}
@@ -13,21 +13,15 @@ use Rattle.plan_defs.specs.Rounds.{all_rounds}
 use Rattle.plan_defs.specs.Plan.{Plan, opened_with, settled, closing, plan_for}
 use Rattle.plan_defs.specs.Outcome.{Slices, up_to, summary}
 use Rattle.plan_defs.specs.declared.CorridorPlan.{CorridorPlan}
-use Rattle.plan_defs.specs.declared.Planned.{Planned}
-use Rattle.plan_defs.specs.declared.Planned.TheVariants.{Answered, Refused}
 use Rattle.planning.specs.Design.{Lines, Banks}
 use Rattle.planning.specs.Size.{Few, Capped}
 use Rattle.planning.specs.Solve.{peak_for}
 use Rattle.planning.specs.Rounds.{rounds_case, draft_of, ran_as, Columns, Places}
 use Rattle.planning.specs.Sound.{Sound, Lengths}
 use Rattle.planning.specs.declared.rounds.Progress.{Progress}
-use Rattle.planning.specs.declared.rounds.Rounds.{Rounds}
 use Rattle.planning.specs.declared.settle.Settlement.{Settlement}
-use Rattle.planning.specs.declared.settle.Settled.{Settled}
-use Rattle.planning.specs.declared.settle.Settled.TheVariants.{Refused as Unsettled, Closed}
 use Rattle.planning.specs.declared.plan.PlanRun.{PlanRun}
-use Rattle.planning.specs.declared.plan.Opening.{Opening}
-use Rattle.planning.specs.declared.plan.Opening.TheVariants.{Refused as Unopened, Opened as Begun}
+use Rattle.refusal.specs.declared.Refusal.{Refusal}
 
 -- ---- the opening: any case with the mode and the columns that it reads
 abbrev pub open_case : Case → PlanMode → ℕ → List ℕ → List Float → List ℕ → List ℕ → List Float → List Float → List Float → List Float → List ℕ → List ℕ → List ℕ → Case
@@ -56,12 +50,12 @@ pub record Opens (c : Case) (leader : List ℕ) (injection : List Float) (count 
   pub levels_are : level ≡ first_levels c
   pub circuits_are : circuits ≡ lower_bounds c
 
-abbrev pub OpenedAs : Opening → Case → List ℕ → List Float → List ℕ → List Float → List ℕ → List ℕ → Type 0
-OpenedAs (Unopened f) c leader injection ground mw level circuits = dispatch_of c (component c) ≡ stopped f
-OpenedAs (Begun count) c leader injection ground mw level circuits = Opens c leader injection count ground mw level circuits
+abbrev pub OpenedAs : Result ℕ Refusal → Case → List ℕ → List Float → List ℕ → List Float → List ℕ → List ℕ → Type 0
+OpenedAs (Err f) c leader injection ground mw level circuits = dispatch_of c (component c) ≡ stopped f
+OpenedAs (Ok count) c leader injection ground mw level circuits = Opens c leader injection count ground mw level circuits
 
 pub record OpeningDone (mode : PlanMode) (above : ℕ) (tier : List ℕ) (load : List Float) (bus slack : List ℕ) (pmin pmax c1 c2 : List Float) (a b initial : List ℕ)
-    (leader : List ℕ) (injection : List Float) (ground : List ℕ) (mw : List Float) (level circuits : List ℕ) (r : Opening) : Type 0 where
+    (leader : List ℕ) (injection : List Float) (ground : List ℕ) (mw : List Float) (level circuits : List ℕ) (r : Result ℕ Refusal) : Type 0 where
   pub opens : (o : Case) (target : ℕ) → Sound (open_case o mode above tier load bus slack pmin pmax c1 c2 a b initial) target
       → OpenedAs r (open_case o mode above tier load bus slack pmin pmax c1 c2 a b initial) leader injection ground mw level circuits
 
@@ -84,7 +78,7 @@ pub record Runnable (above promoted : ℕ) (ladder : List Float) (level a b : Li
 
 pub record RanAll (mode : PlanMode) (above promoted : ℕ) (ladder : List Float) (level a b : List ℕ) (km share : List Float) (cap : List ℕ) (sheet load : List Float) (bus : List ℕ) (pmax : List Float)
     (leader grounds : List ℕ) (injection : List Float) (circuits : List ℕ) (banks floors : List Float) (upsized : List ℕ)
-    (level' circuits' : List ℕ) (banks' floors' : List Float) (upsized' : List ℕ) (angle' : List Float) (r : Rounds) : Type 0 where
+    (level' circuits' : List ℕ) (banks' floors' : List Float) (upsized' : List ℕ) (angle' : List Float) (r : Result Progress Refusal) : Type 0 where
   pub ran : (o : Case) (target : ℕ) → Sound (rounds_case o mode above ladder a b km share sheet load bus pmax) target → length level ≡ o.buses → o.cap ≡ cap
       → ran_as r (rounds_case o mode above ladder a b km share sheet load bus pmax) level' circuits' banks' floors' upsized' angle'
       ≡ all_rounds (rounds_case o mode above ladder a b km share sheet load bus pmax) (peak_for o.buses grounds injection) leader
@@ -112,13 +106,13 @@ plan_by p grounds s =
       added = s.closing.added;
     }
 
-abbrev pub planned_by : Progress → ℕ → Settled → Planned
-planned_by p grounds (Unsettled f) = Refused f
-planned_by p grounds (Closed s) = Answered (plan_by p grounds s)
+abbrev pub planned_by : Progress → ℕ → Result Settlement Refusal → Result CorridorPlan Refusal
+planned_by p grounds (Err f) = Err f
+planned_by p grounds (Ok s) = Ok (plan_by p grounds s)
 
 -- of a plan, with the slices that it fills after the opening
-pub record Holds (r : Planned) (before order circuits tier : List ℕ) (flow rate angle added : List Float) (above : ℕ) (q : Plan) : Type 0 where
-  pub said : r ≡ Answered (summary q)
+pub record Holds (r : Result CorridorPlan Refusal) (before order circuits tier : List ℕ) (flow rate angle added : List Float) (above : ℕ) (q : Plan) : Type 0 where
+  pub said : r ≡ Ok (summary q)
   pub before_are : before ≡ q.before
   pub order_is : order ≡ q.order
   pub circuits_are : circuits ≡ q.circuits
@@ -128,8 +122,8 @@ pub record Holds (r : Planned) (before order circuits tier : List ℕ) (flow rat
   pub angles_are : angle ≡ q.angle
   pub added_are : added ≡ up_to above nought q.added
 
-abbrev pub PlannedAs : Planned → List ℕ → List ℕ → List ℕ → List ℕ → List Float → List Float → List Float → List Float → Case → Stage Plan → Type 0
-PlannedAs r before order circuits tier flow rate angle added c (stopped f) = r ≡ Refused f
+abbrev pub PlannedAs : Result CorridorPlan Refusal → List ℕ → List ℕ → List ℕ → List ℕ → List Float → List Float → List Float → List Float → Case → Stage Plan → Type 0
+PlannedAs r before order circuits tier flow rate angle added c (stopped f) = r ≡ Err f
 PlannedAs r before order circuits tier flow rate angle added c (going q) = Holds r before order circuits tier flow rate angle added c.above q
 
 -- ---- from the opening on
@@ -157,13 +151,13 @@ whole_case o mode above ladder tier load bus slack pmin pmax c1 c2 a b initial k
     case_of mode o.buses o.corridors o.generators above o.requested ladder tier o.reading o.weight load bus slack pmin pmax c1 c2 a b initial km share cap sheet
 
 -- the slices of a plan, with those that the opening fills
-pub record HoldsAll (r : Planned) (before order circuits : List ℕ) (flow rate mw angle : List Float) (tier ground : List ℕ) (added : List Float) (c : Case) (q : Plan) : Type 0 where
+pub record HoldsAll (r : Result CorridorPlan Refusal) (before order circuits : List ℕ) (flow rate mw angle : List Float) (tier ground : List ℕ) (added : List Float) (c : Case) (q : Plan) : Type 0 where
   pub holds : Holds r before order circuits tier flow rate angle added c.above q
   pub mw_is : mw ≡ q.mw
   pub grounds_are : ground ≡ up_to c.buses 0 q.grounds
 
-abbrev pub WholeAs : Planned → List ℕ → List ℕ → List ℕ → List Float → List Float → List Float → List Float → List ℕ → List ℕ → List Float → Case → Stage Plan → Type 0
-WholeAs r before order circuits flow rate mw angle tier ground added c (stopped f) = r ≡ Refused f
+abbrev pub WholeAs : Result CorridorPlan Refusal → List ℕ → List ℕ → List ℕ → List Float → List Float → List Float → List Float → List ℕ → List ℕ → List Float → Case → Stage Plan → Type 0
+WholeAs r before order circuits flow rate mw angle tier ground added c (stopped f) = r ≡ Err f
 WholeAs r before order circuits flow rate mw angle tier ground added c (going q) = HoldsAll r before order circuits flow rate mw angle tier ground added c q
 
 pub record PlanDone (mode : PlanMode) (target above : ℕ) (ladder : List Float) (tier : List ℕ) (load : List Float) (bus slack : List ℕ) (pmin pmax c1 c2 : List Float) (a b initial : List ℕ)

@@ -1,5 +1,5 @@
 -- What the contracts of module raises cite: the columns that the marks read, as a case; the state that the slices stand for; and what a pass, and all of them, ask and do.
-use Rattle.std.specs.Prelude.{◌≡◌, ℕ, zero, suc, ◌+◌, ◌*◌, ◌≤◌, List, [], length, ◌≢◌, Float}
+use Rattle.std.specs.Prelude.{◌≡◌, ℕ, zero, suc, ◌+◌, ◌*◌, ◌≤◌, List, [], length, ◌≢◌, Float, Err, Ok, Result}
 use Rattle.mode.specs.declared.PlanMode.{PlanMode}
 use Rattle.mode.specs.declared.PlanMode.TheVariants.{Observe}
 use Rattle.angles_defs.specs.Network.{zeros}
@@ -15,8 +15,7 @@ use Rattle.planning.specs.Size.{size_for}
 use Rattle.planning.specs.Solve.{peak_for, Drawing, Lent}
 use Rattle.planning.specs.Sound.{Sound}
 use Rattle.planning.specs.Whole.{with_lines, with_units}
-use Rattle.planning.specs.declared.raises.Raised.{Raised as Answer}
-use Rattle.planning.specs.declared.raises.Raised.TheVariants.{Refused, Promoted}
+use Rattle.refusal.specs.declared.Refusal.{Refusal}
 
 -- ---- cases: of which the marks read these columns only, with a place for each of n buses; and a whole one with the columns that a pass reads
 abbrev pub heavy_for : ℕ → List Float → List ℕ → List ℕ → List Float → List Float → List Float → Case
@@ -29,15 +28,15 @@ pass_for o mode ladder a b km share sheet load bus pmax = with_lines (with_units
 abbrev pub raised_of : Case → List ℕ → List Float → ℕ → Raised
 raised_of c level banks promoted = record { level = level; designs = drawn_all c level banks; promoted = promoted }
 
-abbrev pub raised_as : Answer → Case → List ℕ → List Float → Stage Raised
-raised_as (Refused f) c level banks = stopped f
-raised_as (Promoted promoted) c level banks = going (raised_of c level banks promoted)
+abbrev pub raised_as : Result ℕ Refusal → Case → List ℕ → List Float → Stage Raised
+raised_as (Err f) c level banks = stopped f
+raised_as (Ok promoted) c level banks = going (raised_of c level banks promoted)
 
 -- what follows one pass, of which the answer says how many buses it moved: d more at most, or none where it moved none
-abbrev pub passed_as : Answer → ℕ → Case → Peak → List ℕ → List ℕ → List Float → ℕ → Stage Raised
-passed_as (Refused f) d c P circuits level banks promoted = stopped f
-passed_as (Promoted zero) d c P circuits level banks promoted = going (raised_of c level banks promoted)
-passed_as (Promoted (suc m)) d c P circuits level banks promoted = passes d c P circuits (raised_of c level banks (promoted + suc m))
+abbrev pub passed_as : Result ℕ Refusal → ℕ → Case → Peak → List ℕ → List ℕ → List Float → ℕ → Stage Raised
+passed_as (Err f) d c P circuits level banks promoted = stopped f
+passed_as (Ok zero) d c P circuits level banks promoted = going (raised_of c level banks promoted)
+passed_as (Ok (suc m)) d c P circuits level banks promoted = passes d c P circuits (raised_of c level banks (promoted + suc m))
 
 -- ---- marks: what one corridor's, and all of them, ask
 pub record Markable (ladder : List Float) (level a b : List ℕ) (km share sheet banks flow : List Float) (marks : List ℕ) : Type 0 where
@@ -68,13 +67,13 @@ pub record Raisable (ladder : List Float) (level a b : List ℕ) (km share sheet
   pub few_levels : length ladder ≤ most_levels
 
 -- at most so many buses
-abbrev pub Within : ℕ → Answer → Type 0
-Within n (Refused f) = Unit
-Within n (Promoted promoted) = promoted ≤ n
+abbrev pub Within : ℕ → Result ℕ Refusal → Type 0
+Within n (Err f) = Unit
+Within n (Ok promoted) = promoted ≤ n
 
 -- ---- what a pass does
 pub record Passed (ladder : List Float) (level a b : List ℕ) (km share sheet load : List Float) (bus : List ℕ) (pmax : List Float) (grounds : List ℕ) (injection : List Float)
-    (circuits : List ℕ) (banks : List Float) (level' : List ℕ) (banks' : List Float) (r : Answer) : Type 0 where
+    (circuits : List ℕ) (banks : List Float) (level' : List ℕ) (banks' : List Float) (r : Result ℕ Refusal) : Type 0 where
   pub passed : (o : Case) (mode : PlanMode) (target : ℕ) → Sound (pass_for o mode ladder a b km share sheet load bus pmax) target → length level ≡ o.buses → (d promoted : ℕ)
       → passed_as r d (pass_for o mode ladder a b km share sheet load bus pmax) (peak_for o.buses grounds injection) circuits level' banks' promoted
       ≡ passes (suc d) (pass_for o mode ladder a b km share sheet load bus pmax) (peak_for o.buses grounds injection) circuits
@@ -85,7 +84,7 @@ pub record Passed (ladder : List Float) (level a b : List ℕ) (km share sheet l
 
 -- ---- and all of them
 pub record RaisesDone (mode : PlanMode) (ladder : List Float) (level a b : List ℕ) (km share sheet load : List Float) (bus : List ℕ) (pmax : List Float) (grounds : List ℕ)
-    (injection : List Float) (circuits : List ℕ) (banks : List Float) (level' : List ℕ) (banks' : List Float) (r : Answer) : Type 0 where
+    (injection : List Float) (circuits : List ℕ) (banks : List Float) (level' : List ℕ) (banks' : List Float) (r : Result ℕ Refusal) : Type 0 where
   pub raised : (o : Case) (target : ℕ) → Sound (pass_for o mode ladder a b km share sheet load bus pmax) target → length level ≡ o.buses
       → raised_as r (pass_for o mode ladder a b km share sheet load bus pmax) level' banks'
       ≡ raises (pass_for o mode ladder a b km share sheet load bus pmax) (peak_for o.buses grounds injection) circuits

@@ -1,5 +1,5 @@
 -- What the contracts of module rounds cite: the draft that the slices stand for, what the rounds ask of them, and what they leave.
-use Rattle.std.specs.Prelude.{◌≡◌, ℕ, suc, ◌+◌, ◌*◌, ◌<◌, ◌≤◌, List, length, slice_index, Float}
+use Rattle.std.specs.Prelude.{◌≡◌, ℕ, suc, ◌+◌, ◌*◌, ◌<◌, ◌≤◌, List, length, slice_index, Float, Err, Ok, Result}
 use Rattle.mode.specs.declared.PlanMode.{PlanMode}
 use Rattle.plan_defs.specs.Constants.{most_buses, most_corridors, most_levels, planning_max_rounds}
 use Rattle.plan_defs.specs.Case.{Case}
@@ -14,8 +14,7 @@ use Rattle.planning.specs.Solve.{peak_for}
 use Rattle.planning.specs.Sound.{Sound}
 use Rattle.planning.specs.Whole.{with_lines, with_units}
 use Rattle.planning.specs.declared.rounds.Progress.{Progress}
-use Rattle.planning.specs.declared.rounds.Rounds.{Rounds}
-use Rattle.planning.specs.declared.rounds.Rounds.TheVariants.{Refused, Ran}
+use Rattle.refusal.specs.declared.Refusal.{Refusal}
 
 -- ---- any case with the columns that the rounds read
 abbrev pub rounds_case : Case → PlanMode → ℕ → List Float → List ℕ → List ℕ → List Float → List Float → List Float → List Float → List ℕ → List Float → Case
@@ -26,9 +25,9 @@ abbrev pub draft_of : Case → List ℕ → List ℕ → List Float → List Flo
 draft_of c level circuits banks floors upsized angle p =
     draft level (build_of c level circuits banks floors upsized) angle p.rounds p.promoted p.capacity p.stiffening p.converged p.settled
 
-abbrev pub ran_as : Rounds → Case → List ℕ → List ℕ → List Float → List Float → List ℕ → List Float → Stage Draft
-ran_as (Refused f) c level circuits banks floors upsized angle = stopped f
-ran_as (Ran p) c level circuits banks floors upsized angle = going (draft_of c level circuits banks floors upsized angle p)
+abbrev pub ran_as : Result Progress Refusal → Case → List ℕ → List ℕ → List Float → List Float → List ℕ → List Float → Stage Draft
+ran_as (Err f) c level circuits banks floors upsized angle = stopped f
+ran_as (Ok p) c level circuits banks floors upsized angle = going (draft_of c level circuits banks floors upsized angle p)
 
 -- ---- a raise of the marked buses: where one moved, every corridor has a bank anew
 pub record Redrawn (ladder : List Float) (level a b : List ℕ) (km share sheet load : List Float) (bus : List ℕ) (pmax : List Float) (marks : List ℕ) (floors banks : List Float)
@@ -82,7 +81,7 @@ pub record RoundsFit (above budget : ℕ) (start : Progress) (ladder : List Floa
 -- ---- what they leave
 pub record RoundsRun (mode : PlanMode) (above budget : ℕ) (start : Progress) (ladder : List Float) (level a b : List ℕ) (km share : List Float) (cap : List ℕ) (sheet load : List Float) (bus : List ℕ) (pmax : List Float)
     (leader grounds : List ℕ) (injection : List Float) (circuits : List ℕ) (banks floors : List Float) (upsized : List ℕ) (angle : List Float)
-    (level' circuits' : List ℕ) (banks' floors' : List Float) (upsized' : List ℕ) (angle' : List Float) (r : Rounds) : Type 0 where
+    (level' circuits' : List ℕ) (banks' floors' : List Float) (upsized' : List ℕ) (angle' : List Float) (r : Result Progress Refusal) : Type 0 where
   pub ran : (o : Case) (target : ℕ) → Sound (rounds_case o mode above ladder a b km share sheet load bus pmax) target → length level ≡ o.buses → o.cap ≡ cap
       → ran_as r (rounds_case o mode above ladder a b km share sheet load bus pmax) level' circuits' banks' floors' upsized' angle'
       ≡ rounds (rounds_case o mode above ladder a b km share sheet load bus pmax) (peak_for o.buses grounds injection) leader budget

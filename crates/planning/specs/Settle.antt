@@ -1,6 +1,6 @@
 -- What the contracts of module settle cite: how planning ends after the rounds, by the columns that its stages read, and what they must be;
 -- and the defined stages of a whole case.
-use Rattle.std.specs.Prelude.{◌≡◌, ℕ, List, map, length, take, Float}
+use Rattle.std.specs.Prelude.{◌≡◌, ℕ, List, map, length, take, Float, Err, Ok, Result}
 use Rattle.loops.specs.Figures.{nought}
 use Rattle.mode.specs.declared.PlanMode.{PlanMode}
 use Rattle.angles_defs.specs.Network.{zeros}
@@ -20,9 +20,8 @@ use Rattle.planning.specs.Close.{levels_for, Closable, closing_of}
 use Rattle.planning.specs.Sound.{Sound}
 use Rattle.planning.specs.Whole.{with_lines, with_units}
 use Rattle.planning.specs.declared.settle.Settlement.{Settlement}
-use Rattle.planning.specs.declared.settle.Settled.{Settled}
 use Rattle.planning.specs.declared.settle.Settling.{Settling}
-use Rattle.planning.specs.declared.settle.Settled.TheVariants.{Refused, Closed}
+use Rattle.refusal.specs.declared.Refusal.{Refusal}
 
 -- ---- what it asks of the columns
 pub record Settleable (above : ℕ) (ladder : List Float) (level a b : List ℕ) (km share : List Float) (cap : List ℕ) (sheet : List Float) (leader grounds : List ℕ) (injection banks : List Float)
@@ -44,9 +43,9 @@ pub record Ended : Type 0 where
   pub angle : List Float
   pub added : List Float
 
-abbrev pub ended_of : Settled → List ℕ → List ℕ → List ℕ → List ℕ → List Float → List Float → List Float → List Float → Stage Ended
-ended_of (Refused f) before order circuits tier flow rate angle added = stopped f
-ended_of (Closed s) before order circuits tier flow rate angle added =
+abbrev pub ended_of : Result Settlement Refusal → List ℕ → List ℕ → List ℕ → List ℕ → List Float → List Float → List Float → List Float → Stage Ended
+ended_of (Err f) before order circuits tier flow rate angle added = stopped f
+ended_of (Ok s) before order circuits tier flow rate angle added =
     going (record { settlement = s; before = before; order = order; circuits = circuits; tier = tier; flow = flow; rate = rate; angle = angle; added = added })
 
 -- ---- the stages, by columns: after filling, and from the order on
@@ -97,8 +96,8 @@ settlement_of q =
     }
 
 -- said of a plan, with its slices
-pub record Held (r : Settled) (before order circuits tier : List ℕ) (flow rate angle added : List Float) (above : ℕ) (q : Plan) : Type 0 where
-  pub said : r ≡ Closed (settlement_of q)
+pub record Held (r : Result Settlement Refusal) (before order circuits tier : List ℕ) (flow rate angle added : List Float) (above : ℕ) (q : Plan) : Type 0 where
+  pub said : r ≡ Ok (settlement_of q)
   pub before_are : before ≡ q.before
   pub order_is : order ≡ q.order
   pub circuits_are : circuits ≡ q.circuits
@@ -108,8 +107,8 @@ pub record Held (r : Settled) (before order circuits tier : List ℕ) (flow rate
   pub angles_are : angle ≡ q.angle
   pub added_are : added ≡ up_to above nought q.added
 
-abbrev pub SettledAs : Settled → List ℕ → List ℕ → List ℕ → List ℕ → List Float → List Float → List Float → List Float → Case → Stage Plan → Type 0
-SettledAs r before order circuits tier flow rate angle added c (stopped f) = r ≡ Refused f
+abbrev pub SettledAs : Result Settlement Refusal → List ℕ → List ℕ → List ℕ → List ℕ → List Float → List Float → List Float → List Float → Case → Stage Plan → Type 0
+SettledAs r before order circuits tier flow rate angle added c (stopped f) = r ≡ Err f
 SettledAs r before order circuits tier flow rate angle added c (going q) = Held r before order circuits tier flow rate angle added c.above q
 
 -- of any case with these columns, whose draft the slices stand for

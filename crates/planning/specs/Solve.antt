@@ -1,21 +1,21 @@
 -- Every solve of a plan over slices: what its answer, with the slices that it fills, stands for; and what it asks of them.
-use Rattle.std.specs.Prelude.{◌≡◌, ℕ, ◌<◌, ◌≤◌, Bool, true, false, List, length, slice_index, Float}
+use Rattle.std.specs.Prelude.{◌≡◌, ℕ, ◌<◌, ◌≤◌, Bool, true, false, List, length, slice_index, Float, Err, Ok, Result}
 use Rattle.refusal.specs.declared.Refusal.TheVariants.{NotFinite}
-use Rattle.refusal.specs.declared.Answer.{Answer}
-use Rattle.refusal.specs.declared.Answer.TheVariants.{Answered, Refused}
 use Rattle.angles_defs.specs.Network.{Edges}
 use Rattle.angles_defs.specs.Operation.{most}
 use Rattle.plan_defs.specs.Stage.{Stage, stopped, going}
 use Rattle.plan_defs.specs.Solve.{Peak, PlanningCase, all_finite}
 use Rattle.planning.specs.Design.{Lines, Banks}
+use Rattle.refusal.specs.declared.Refusal.{Refusal}
+use Rattle.refusal.specs.Reply.{no_refusal}
 
 abbrev pub peak_for : ℕ → List ℕ → List Float → Peak
 peak_for n grounds injection = record { n = n; grounds = grounds; injection = injection }
 
 -- ---- an answer with the angles and the flows, of these edges
-abbrev pub solved_of : Answer → Edges → List Float → List Float → Stage PlanningCase
-solved_of Answered E theta flows = going (record { edges = E; theta = theta; flows = flows })
-solved_of (Refused f) E theta flows = stopped f
+abbrev pub solved_of : Result (Unit {0}) Refusal → Edges → List Float → List Float → Stage PlanningCase
+solved_of (Ok tt) E theta flows = going (record { edges = E; theta = theta; flows = flows })
+solved_of (Err f) E theta flows = stopped f
 
 -- ---- angles alone: all finite, or 9
 abbrev pub finite_if : Bool → List Float → Stage (List Float)
@@ -60,9 +60,9 @@ pub record Lent (n m : ℕ) (injection : List Float) (grounds : List ℕ) (angle
   pub flow_size : length flow ≡ m
 
 -- ---- a test of all figures, as an answer
-abbrev pub finite_answer : Bool → Answer
-finite_answer true = Answered
-finite_answer false = Refused (NotFinite 0)
+abbrev pub finite_answer : Bool → Result (Unit {0}) Refusal
+finite_answer true = no_refusal
+finite_answer false = Err (NotFinite 0)
 
 -- ---- m edges between n buses at the front of three lists
 pub record Drawn (n m : ℕ) (from to : List ℕ) : Type 0 where

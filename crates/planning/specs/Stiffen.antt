@@ -1,5 +1,5 @@
 -- What the contracts of module stiffen cite: the state that the slices stand for, what a component asks of them, and what it does to them.
-use Rattle.std.specs.Prelude.{◌≡◌, ℕ, ◌+◌, ◌*◌, ◌<◌, ◌≤◌, Bool, true, false, ◌&&◌, ◌||◌, List, [], length, take, nat_lt, slice_index, slice_index_or, Float}
+use Rattle.std.specs.Prelude.{◌≡◌, ℕ, ◌+◌, ◌*◌, ◌<◌, ◌≤◌, Bool, true, false, ◌&&◌, ◌||◌, List, [], length, take, nat_lt, slice_index, slice_index_or, Float, Err, Ok, Result}
 use Rattle.std.specs.Float.Ieee.{lt}
 use Rattle.loops.specs.Figures.{at, nought}
 use Rattle.loops.specs.Loops.{iter}
@@ -27,8 +27,7 @@ use Rattle.planning.specs.Sound.{Sound}
 use Rattle.planning.specs.Whole.{with_lines}
 use Rattle.planning.specs.declared.stiffen.Limits.{Limits}
 use Rattle.planning.specs.declared.stiffen.Stiffness.{Stiffness}
-use Rattle.planning.specs.declared.stiffen.Stiffened.{Stiffened}
-use Rattle.planning.specs.declared.stiffen.Stiffened.TheVariants.{Refused, Going}
+use Rattle.refusal.specs.declared.Refusal.{Refusal}
 
 -- ---- the budgets, and the state that slices stand for
 abbrev pub budget_for : Limits → Budget
@@ -38,9 +37,9 @@ abbrev pub stiff_of : Case → List ℕ → List ℕ → List Float → List Flo
 stiff_of c level circuits banks floors upsized marks t =
     stiff (build_of c level circuits banks floors upsized) marks t.total t.hv t.stiffening t.wide t.stiffened
 
-abbrev pub stiffened_as : Stiffened → Case → List ℕ → List ℕ → List Float → List Float → List ℕ → List ℕ → Stage Stiffening
-stiffened_as (Refused f) c level circuits banks floors upsized marks = stopped f
-stiffened_as (Going t) c level circuits banks floors upsized marks = going (stiff_of c level circuits banks floors upsized marks t)
+abbrev pub stiffened_as : Result Stiffness Refusal → Case → List ℕ → List ℕ → List Float → List Float → List ℕ → List ℕ → Stage Stiffening
+stiffened_as (Err f) c level circuits banks floors upsized marks = stopped f
+stiffened_as (Ok t) c level circuits banks floors upsized marks = going (stiff_of c level circuits banks floors upsized marks t)
 
 -- ---- the round's solve: the m edges at the front of three lists, the angles, and flows, which stiffening does not read
 abbrev pub round_of : ℕ → List ℕ → List ℕ → List Float → List Float → List Float → PlanningCase
@@ -70,13 +69,13 @@ pub record Room (m : ℕ) (t : Stiffness) : Type 0 where
   pub stiffening : t.stiffening + m ≤ largest_count
 
 -- ---- what the component that bus i leads, where it leads one, does to the slices
-abbrev pub Within : ℕ → Stiffness → Stiffened → Type 0
-Within m t (Refused f) = Unit
-Within m t (Going u) = (u.total ≤ t.total + m) × (u.hv ≤ t.hv + 2 * m) × (u.stiffening ≤ t.stiffening + m)
+abbrev pub Within : ℕ → Stiffness → Result Stiffness Refusal → Type 0
+Within m t (Err f) = Unit
+Within m t (Ok u) = (u.total ≤ t.total + m) × (u.hv ≤ t.hv + 2 * m) × (u.stiffening ≤ t.stiffening + m)
 
 pub record LedStiffened (i round : ℕ) (g : Limits) (ladder : List Float) (level a b : List ℕ) (km share : List Float) (cap : List ℕ) (sheet : List Float) (leader grounds from to : List ℕ) (weight angle : List Float)
     (circuits : List ℕ) (banks floors : List Float) (upsized marks : List ℕ) (t : Stiffness)
-    (circuits' : List ℕ) (banks' floors' : List Float) (upsized' marks' : List ℕ) (r : Stiffened) : Type 0 where
+    (circuits' : List ℕ) (banks' floors' : List Float) (upsized' marks' : List ℕ) (r : Result Stiffness Refusal) : Type 0 where
   pub stiffened : (o : Case) (target : ℕ) (injection flows : List Float) → Sound (with_lines o ladder a b km share sheet) target → length level ≡ o.buses → o.cap ≡ cap
       → stiffened_as r (with_lines o ladder a b km share sheet) level circuits' banks' floors' upsized' marks'
       ≡ stage_if (leads leader i)
@@ -111,7 +110,7 @@ pub record Strengthened (g : Limits) (own : ℕ) (level a b : List ℕ) (k : ℕ
       ≡ stiffen_by false (raisable g t.hv level a b k) (room_for g own (slice_index circuits k) t.total) (pairs_for a b) level (budget_for g) k
       (stiff_over designs floors upsized circuits marks t)
   pub few : Few circuits → Few circuits'
-  pub bound : Within 1 t (Going t')
+  pub bound : Within 1 t (Ok t')
 
 -- a case of these columns has as many corridors and levels as they, and these caps
 abbrev pub Fitting : Case → List Float → List ℕ → List ℕ → Type 0
@@ -138,7 +137,7 @@ pub record BatchStiffened (ks : List ℕ) (g : Limits) (ladder : List Float) (le
       (stiff_of (with_lines o ladder a b km share sheet) level circuits banks floors upsized marks t)
   pub banked : Banks banks'
   pub few : Few circuits → Few circuits'
-  pub bound : Within (length ks) t (Going t')
+  pub bound : Within (length ks) t (Ok t')
 
 -- ---- gains: of a candidate what one more circuit gives, of any other 0
 pub record Gainful (ladder : List Float) (level a b : List ℕ) (km share : List Float) (cap : List ℕ) (sheet : List Float) (leader : List ℕ) (angle phi : List Float) (circuits : List ℕ) (banks : List Float) : Type 0 where
@@ -193,7 +192,7 @@ pub record Chosen (root : ℕ) (excess : Float) (g : Limits) (ladder : List Floa
 -- ---- what a step of a stiffening does to the slices, of any case with these columns, whatever the injections and the flows are
 pub record Stepped (step : Case → List Float → List Float → Stiffening → Stage Stiffening) (ladder : List Float) (level a b : List ℕ) (km share : List Float) (cap : List ℕ) (sheet : List Float)
     (circuits : List ℕ) (banks floors : List Float) (upsized marks : List ℕ) (t : Stiffness)
-    (circuits' : List ℕ) (banks' floors' : List Float) (upsized' marks' : List ℕ) (r : Stiffened) : Type 0 where
+    (circuits' : List ℕ) (banks' floors' : List Float) (upsized' marks' : List ℕ) (r : Result Stiffness Refusal) : Type 0 where
   pub stiffened : (o : Case) (injection flows : List Float) → Fitting o ladder a cap → length level ≡ o.buses
       → stiffened_as r (with_lines o ladder a b km share sheet) level circuits' banks' floors' upsized' marks'
       ≡ step (with_lines o ladder a b km share sheet) injection flows (stiff_of (with_lines o ladder a b km share sheet) level circuits banks floors upsized marks t)

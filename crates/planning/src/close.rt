@@ -19,7 +19,8 @@ use crate::fill::loading;
 use crate::policy::{cap_at, expands};
 use crate::size::PLANNING_UTILISATION;
 use mode::PlanMode;
-use plan_defs::Planned;
+use plan_defs::CorridorPlan;
+use refusal::Refusal;
 
 // A loading above 1, or a need above the circuits there are, counts where it is above by more than this.
 const LOADING_TOLERANCE: f64 = 1e-9;
@@ -308,12 +309,12 @@ fn clear_figures_if(refused: bool, l: &mut [f64])
     }
 }
 
-pub fn is_refused(said: Planned) -> bool
+pub fn is_refused(said: Result<CorridorPlan, Refusal>) -> bool
     ensures { result ≡ is_refused said }
 {
     match said {
-        Planned::Answered(_) => false,
-        Planned::Refused(_) => true,
+        Ok(_) => false,
+        Err(_) => true,
     }
 }
 

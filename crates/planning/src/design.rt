@@ -9,7 +9,7 @@ ghost use Rattle.plan_defs.specs.Design.{basis_of, line_of, bank_basis, with_ban
 ghost use Rattle.planning.specs.Design.{lines_for, ends_for, Lines, EndsFit, LineFits, ends_of, line_between};
 
 use crate::figures::{choose, magnitude, pick, wide};
-use impedance::{SeriesImpedance, TransformerImpedance};
+use impedance::SeriesImpedance;
 use plan_defs::{CircuitDesign, RatingBasis};
 use sheets::row_place;
 
@@ -107,7 +107,7 @@ pub fn set_transformer_mva(d: CircuitDesign, mva: f64) -> CircuitDesign
     ensures { result ≡ set_transformer_mva d mva }
 {
     let answer = impedance::transformer_impedance(mva);
-    let TransformerImpedance::Answered(z) = answer else {
+    let Ok(z) = answer else {
         return d;
     };
     with_bank(d, mva, z)

@@ -1,21 +1,20 @@
 // Planning of a transmission network's corridors, after `plan_corridors` of planning.rs (document 01, *Planning*).
 #![tactic(auto)]
 
-ghost use Rattle.std.specs.Prelude.{◌≡◌};
+ghost use Rattle.std.specs.Prelude.{◌≡◌, Err, Ok, Result};
 ghost use Rattle.plan_defs.specs.Case.{surveyed};
 ghost use Rattle.plan_defs.specs.Outcome.{slices, outcome, plan_corridors};
 ghost use Rattle.plan_defs.specs.Demand.{AnswerTo};
 ghost use Rattle.plan_defs.specs.Preview.{kept_as, outcome as outcome_of, preview as preview_of};
 ghost use Rattle.plan_defs.specs.declared.CorridorPlan.{CorridorPlan};
-ghost use Rattle.plan_defs.specs.declared.Planned.TheVariants.{Answered};
 
 use acceptance::check_case;
 use lent::Places;
 use loads::weigh;
 use mode::PlanMode;
-use plan_defs::Planned;
+use plan_defs::CorridorPlan;
 use policy::promotes;
-use refusal::Answer;
+use refusal::Refusal;
 
 mod close;
 mod design;
@@ -79,11 +78,11 @@ pub fn plan_corridors(
     added: &mut [f64],
     figures: &mut [f64],
     counts: &mut [u32],
-) -> Planned
+) -> Result<CorridorPlan, Refusal>
     ensures plan { outcome result (slices circuits.new flow.new rate.new before.new order.new kept_cap.new mw.new angle.new level.new ground.new added.new figures.new counts.new)
         ≡ plan_corridors (surveyed mode n m g above requested ladder.now tier.now reading.now weight.now bus.now slack.now pmin.now pmax.now c1.now c2.now a.now b.now initial.now km.now share.now cap.now sheet.now) target
         (slices circuits.old flow.old rate.old before.old order.old kept_cap.old mw.old angle.old level.old ground.old added.old figures.old counts.old) }
-    ensures demand { (x : CorridorPlan) → result ≡ Answered x → AnswerTo (surveyed mode n m g above requested ladder.now tier.now reading.now weight.now bus.now slack.now pmin.now pmax.now c1.now c2.now a.now b.now initial.now km.now share.now cap.now sheet.now) target
+    ensures demand { (x : CorridorPlan) → result ≡ Ok x → AnswerTo (surveyed mode n m g above requested ladder.now tier.now reading.now weight.now bus.now slack.now pmin.now pmax.now c1.now c2.now a.now b.now initial.now km.now share.now cap.now sheet.now) target
         (outcome result (slices circuits.new flow.new rate.new before.new order.new kept_cap.new mw.new angle.new level.new ground.new added.new figures.new counts.new)) x }
 {
     let places = Places {
@@ -106,8 +105,8 @@ pub fn plan_corridors(
         fits, target, n, m, g, above, requested, ladder, tier, reading, weight, bus, slack, pmin,
         pmax, c1, c2, a, b, initial, km, share, cap, sheet,
     ) {
-        Answer::Refused(f) => return Planned::Refused(f),
-        Answer::Answered => {}
+        Err(f) => return Err(f),
+        Ok(()) => {}
     }
     let load = weigh(reading, weight);
     let ran = plan::run(
@@ -167,13 +166,13 @@ pub fn preview_filling(
     order: &[u32],
     cap: &[u32],
     circuits: &mut [u32],
-) -> Answer
+) -> Result<(), Refusal>
     ensures { outcome_of result circuits.new ≡ preview_of (kept_as mode m before.now order.now cap.now) target circuits.old }
 {
     match preview::check(mode, target, m, before, order, cap, circuits.len()) {
-        Answer::Refused(f) => return Answer::Refused(f),
-        Answer::Answered => {}
+        Err(f) => return Err(f),
+        Ok(()) => {}
     }
     preview::refill(mode, target, before, order, cap, circuits);
-    Answer::Answered
+    Ok(())
 }

@@ -16,7 +16,7 @@ use crate::figures::{clear_counts, clear_figures, more, wide};
 use crate::solve::BASE_MVA;
 use crate::top_up::give;
 use mode::PlanMode;
-use refusal::{Answer, Refusal};
+use refusal::Refusal;
 
 // ---- components and grounds
 // Each bus's leader.
@@ -24,7 +24,8 @@ pub fn component_leaders(n: usize, m: usize, a: &[u32], b: &[u32], leader: &mut 
     requires { Joined n m a.now b.now leader.old }
     ensures { leader.new ≡ leaders_of n a.now b.now }
 {
-    leaders::leaders(n, m, a, b, leader);
+    // A case's corridors are sound, so there is no refusal.
+    let _ = leaders::leaders(n, m, a, b, leader);
 }
 
 // The ground of a component: the bus of its first slack unit, else its leader.
@@ -137,7 +138,7 @@ fn serve(
     c1: &[f64],
     c2: &[f64],
     mw: &mut [f64],
-) -> Answer
+) -> Result<(), Refusal>
     requires { Fleet (length leader.now) bus.now × Costs bus.now pmin.now pmax.now c1.now c2.now × Loads leader.now load.now × (length mw.old ≡ length bus.now) }
     ensures { stage_of result mw.new
         ≡ serve (dispatch_case mode load.now bus.now pmin.now pmax.now c1.now c2.now)
@@ -164,13 +165,13 @@ fn serve(
         &quadratic[0..count],
         &mut out[0..count],
     ) {
-        Answer::Refused(f) => {
+        Err(f) => {
             let j = f.index();
-            return Answer::Refused(Refusal::Cost(wide(units[j])));
+            return Err(Refusal::Cost(wide(units[j])));
         }
-        Answer::Answered => hand_out(&units, count, &out, mw),
+        Ok(()) => hand_out(&units, count, &out, mw),
     }
-    Answer::Answered
+    Ok(())
 }
 
 // The component that bus i leads, where it leads one.
@@ -185,7 +186,7 @@ fn serve_led(
     c1: &[f64],
     c2: &[f64],
     mw: &mut [f64],
-) -> Answer
+) -> Result<(), Refusal>
     requires { (i < length leader.now) × Fleet (length leader.now) bus.now × Costs bus.now pmin.now pmax.now c1.now c2.now
         × Loads leader.now load.now × (length mw.old ≡ length bus.now) }
     ensures { stage_of result mw.new
@@ -197,7 +198,7 @@ fn serve_led(
     if wide(leader[i]) == i {
         return serve(mode, leader[i], leader, load, bus, pmin, pmax, c1, c2, mw);
     }
-    Answer::Answered
+    Ok(())
 }
 
 // What each generator gives, MW, component by component with ascending leader; or the first refusal 8.
@@ -211,7 +212,7 @@ pub fn dispatch_components(
     c1: &[f64],
     c2: &[f64],
     mw: &mut [f64],
-) -> Answer
+) -> Result<(), Refusal>
     requires { Fleet (length leader.now) bus.now × Costs bus.now pmin.now pmax.now c1.now c2.now × Loads leader.now load.now × (length mw.old ≡ length bus.now) }
     ensures { stage_of result mw.new
         ≡ dispatch_of (dispatch_case mode load.now bus.now pmin.now pmax.now c1.now c2.now)
@@ -221,11 +222,11 @@ pub fn dispatch_components(
     let mut i = 0;
     while i < leader.len() {
         match serve_led(mode, i, leader, load, bus, pmin, pmax, c1, c2, mw) {
-            Answer::Refused(f) => return Answer::Refused(f),
-            Answer::Answered => i += 1,
+            Err(f) => return Err(f),
+            Ok(()) => i += 1,
         }
     }
-    Answer::Answered
+    Ok(())
 }
 
 // ---- injections

@@ -1,6 +1,5 @@
 // `plan_corridors` of planning.rs, stage by stage: the opening, the raises before the rounds, the rounds, and what comes after them.
-ghost use Rattle.std.specs.Prelude.{◌≡◌};
-ghost use Rattle.plan_defs.specs.declared.Planned.TheVariants.{Refused};
+ghost use Rattle.std.specs.Prelude.{◌≡◌, Err, Ok, Result};
 ghost use Rattle.planning.specs.Close.{Closable, lent_to};
 ghost use Rattle.planning.specs.Plan.{Openable, OpeningDone, rounds_for, start_of, Runnable, RanAll, planned_by, Plannable, OpenedPlan, PlanDone, Lendable};
 
@@ -11,22 +10,15 @@ use crate::opening::{
     lower_bounds,
 };
 use crate::policy::expands;
-use crate::raises::{Raised, raises};
+use crate::raises::raises;
 use crate::redesign::redesign;
-use crate::rounds::{Progress, Rounds, size_rounds};
-use crate::settle::{Settled, Settling, settle};
+use crate::rounds::{Progress, size_rounds};
+use crate::settle::{Settlement, Settling, settle};
 use mode::PlanMode;
-use plan_defs::{CorridorPlan, Planned};
-use refusal::{Answer, Refusal};
+use plan_defs::CorridorPlan;
+use refusal::Refusal;
 
 const PLANNING_MAX_ROUNDS: u32 = 64;
-
-// How many grounds there are; or refusal 8.
-#[derive(Clone, Copy)]
-pub enum Opening {
-    Refused(Refusal),
-    Opened(usize),
-}
 
 // Each bus's leader and injection, the grounds, the dispatch, and the levels and the circuits that planning starts from.
 fn open(
@@ -49,7 +41,7 @@ fn open(
     mw: &mut [f64],
     level: &mut [u32],
     circuits: &mut [u32],
-) -> Opening
+) -> Result<usize, Refusal>
     requires { Openable mode above tier.now load.now bus.now slack.now pmin.now pmax.now c1.now c2.now a.now b.now initial.now leader.old injection.old ground.old mw.old level.old circuits.old }
     ensures { OpeningDone mode above tier.now load.now bus.now slack.now pmin.now pmax.now c1.now c2.now a.now b.now initial.now
         leader.new injection.new ground.new mw.new level.new circuits.new result }
@@ -57,13 +49,13 @@ fn open(
     component_leaders(tier.len(), a.len(), a, b, leader);
     let count = ground_components(leader, bus, slack, ground);
     match dispatch_components(mode, leader, load, bus, pmin, pmax, c1, c2, mw) {
-        Answer::Refused(f) => return Opening::Refused(f),
-        Answer::Answered => {}
+        Err(f) => return Err(f),
+        Ok(()) => {}
     }
     injections(load, bus, mw, injection);
     first_levels(above, tier, level);
     lower_bounds(initial, circuits);
-    Opening::Opened(count)
+    Ok(count)
 }
 
 // ---- the rounds
@@ -118,7 +110,7 @@ fn run_rounds(
     marks: &mut [u32],
     angle: &mut [f64],
     flow: &mut [f64],
-) -> Rounds
+) -> Result<Progress, Refusal>
     requires { Runnable above promoted ladder.now level.old a.now b.now km.now share.now cap.now sheet.now load.now bus.now pmax.now leader.now grounds.now injection.now circuits.old banks.old floors.old upsized.old marks.old angle.old flow.old }
     ensures { RanAll mode above promoted ladder.now level.old a.now b.now km.now share.now cap.now sheet.now load.now bus.now pmax.now leader.now grounds.now injection.now
         circuits.old banks.old floors.old upsized.old
@@ -128,7 +120,7 @@ fn run_rounds(
     let start = first_progress(mode, a.len(), promoted);
     let budget = rounds_to_run(mode, a.len());
     if budget == 0 {
-        return Rounds::Ran(start);
+        return Ok(start);
     }
     size_rounds(
         mode, above, budget, start, ladder, a, b, km, share, cap, sheet, load, bus, pmax, leader,
@@ -140,28 +132,29 @@ fn run_rounds(
 // What planning says, with what the plan keeps of filling.
 #[derive(Clone, Copy)]
 pub struct PlanRun {
-    pub said: Planned,
+    pub said: Result<CorridorPlan, Refusal>,
     pub kept: Kept,
 }
 
 // Refusals 8 and 9.
 fn unplanned(f: Refusal) -> PlanRun
-    ensures { result.said ≡ Refused f }
+    ensures { result.said ≡ Err f }
 {
     let kept = nothing_kept();
-    PlanRun {
-        said: Planned::Refused(f),
-        kept,
-    }
+    PlanRun { said: Err(f), kept }
 }
 
 // What planning says of the rounds and of what came after them.
-fn conclude(progress: Progress, grounds: u32, settled: Settled) -> Planned
+fn conclude(
+    progress: Progress,
+    grounds: u32,
+    settled: Result<Settlement, Refusal>,
+) -> Result<CorridorPlan, Refusal>
     ensures { result ≡ planned_by progress grounds settled }
 {
     match settled {
-        Settled::Refused(f) => Planned::Refused(f),
-        Settled::Closed(s) => Planned::Answered(CorridorPlan {
+        Err(f) => Err(f),
+        Ok(s) => Ok(CorridorPlan {
             rounds: progress.rounds,
             converged: progress.converged,
             capacity: progress.capacity,
@@ -231,13 +224,13 @@ fn plan_opened(
         mode, ladder, a, b, km, share, sheet, load, bus, pmax, grounds, injection, circuits,
         floors, banks, level, marks, angle, flow,
     ) {
-        Raised::Refused(f) => unplanned(f),
-        Raised::Promoted(promoted) => match run_rounds(
+        Err(f) => unplanned(f),
+        Ok(promoted) => match run_rounds(
             mode, above, promoted, ladder, a, b, km, share, cap, sheet, load, bus, pmax, leader,
             grounds, injection, circuits, banks, floors, upsized, level, marks, angle, flow,
         ) {
-            Rounds::Refused(f) => unplanned(f),
-            Rounds::Ran(progress) => {
+            Err(f) => unplanned(f),
+            Ok(progress) => {
                 let settled = settle(
                     mode, target, above, ladder, a, b, km, share, cap, sheet, leader, grounds,
                     injection, banks, upsized, circuits, level, flow, rate, angle, added,
@@ -314,8 +307,8 @@ pub fn run(
         level,
         circuits,
     ) {
-        Opening::Refused(f) => unplanned(f),
-        Opening::Opened(count) => plan_opened(
+        Err(f) => unplanned(f),
+        Ok(count) => plan_opened(
             mode,
             target,
             above,

@@ -12,7 +12,7 @@ use crate::figures::wide;
 use crate::fill::{copied, fill};
 use crate::policy::promotes;
 use mode::PlanMode;
-use refusal::{Answer, Refusal};
+use refusal::Refusal;
 
 const MOST_CORRIDORS: usize = 256;
 
@@ -74,27 +74,27 @@ pub fn check(
     order: &[u32],
     cap: &[u32],
     places: usize,
-) -> Answer
+) -> Result<(), Refusal>
     ensures { result ≡ answer_of (preview_fault (kept_as mode m before.now order.now cap.now) target places) }
 {
     if !((before.len() == m) & ((order.len() == m) & ((cap.len() == m) & (places == m)))) {
-        return Answer::Refused(Refusal::Length);
+        return Err(Refusal::Length);
     }
     if !((m <= MOST_CORRIDORS) & (target <= MOST_TARGET)) {
-        return Answer::Refused(Refusal::Count);
+        return Err(Refusal::Count);
     }
     if !promotes(mode) {
-        return Answer::Refused(Refusal::Mode);
+        return Err(Refusal::Mode);
     }
     let k = faulty_count(before, cap);
     if k < m {
-        return Answer::Refused(Refusal::Corridor(k));
+        return Err(Refusal::Corridor(k));
     }
     let j = faulty_place(order);
     if j < m {
-        return Answer::Refused(Refusal::Order(j));
+        return Err(Refusal::Order(j));
     }
-    Answer::Answered
+    Ok(())
 }
 
 // ---- the circuits for a target

@@ -14,14 +14,7 @@ use crate::size::{PLANNING_UTILISATION, UPGRADE_CIRCUITS};
 use crate::solve::planning_state;
 use mode::PlanMode;
 use plan_defs::CircuitDesign;
-use refusal::{Answer, Refusal};
-
-// How many buses were raised; or refusal 9.
-#[derive(Clone, Copy)]
-pub enum Raised {
-    Refused(Refusal),
-    Promoted(u32),
-}
+use refusal::Refusal;
 
 // ---- marks
 fn too_heavy(d: CircuitDesign, flow: f64) -> bool
@@ -132,7 +125,7 @@ fn pass(
     marks: &mut [u32],
     angle: &mut [f64],
     flow: &mut [f64],
-) -> Raised
+) -> Result<u32, Refusal>
     requires { Raisable ladder.now level.old a.now b.now km.now share.now sheet.now load.now bus.now pmax.now grounds.now injection.now
         circuits.now floors.now banks.old marks.old angle.old flow.old }
     ensures { Passed ladder.now level.old a.now b.now km.now share.now sheet.now
@@ -143,13 +136,13 @@ fn pass(
     match planning_state(
         ladder, level, a, b, km, share, sheet, circuits, banks, injection, grounds, angle, flow,
     ) {
-        Answer::Refused(f) => return Raised::Refused(f),
-        Answer::Answered => {}
+        Err(f) => return Err(f),
+        Ok(()) => {}
     }
     let moved = raise_heavy(
         ladder, a, b, km, share, sheet, load, bus, pmax, flow, floors, banks, level, marks,
     );
-    Raised::Promoted(moved)
+    Ok(moved)
 }
 
 // One pass less than there are levels, at most; none where the mode does not promote.
@@ -173,7 +166,7 @@ pub fn raises(
     marks: &mut [u32],
     angle: &mut [f64],
     flow: &mut [f64],
-) -> Raised
+) -> Result<u32, Refusal>
     requires { Raisable ladder.now level.old a.now b.now km.now share.now sheet.now load.now bus.now pmax.now grounds.now injection.now
         circuits.now floors.now banks.old marks.old angle.old flow.old }
     ensures { RaisesDone mode ladder.now level.old a.now b.now km.now share.now sheet.now
@@ -181,7 +174,7 @@ pub fn raises(
         level.new banks.new result }
 {
     if !promotes(mode) {
-        return Raised::Promoted(0);
+        return Ok(0);
     }
     let mut promoted = 0;
     let mut turn = 1;
@@ -190,8 +183,8 @@ pub fn raises(
             ladder, a, b, km, share, sheet, load, bus, pmax, grounds, injection, circuits, floors,
             banks, level, marks, angle, flow,
         ) {
-            Raised::Refused(f) => return Raised::Refused(f),
-            Raised::Promoted(moved) => {
+            Err(f) => return Err(f),
+            Ok(moved) => {
                 if moved == 0 {
                     break;
                 }
@@ -200,5 +193,5 @@ pub fn raises(
             }
         }
     }
-    Raised::Promoted(promoted)
+    Ok(promoted)
 }

@@ -11,9 +11,9 @@ use crate::raise::raise_buses;
 use crate::redesign::redesign;
 use crate::size::{Tally, size_corridor};
 use crate::solve::{draw_edges, peak_state};
-use crate::stiffen::{Stiffened, limits_of, stiffen_led, stiffness_from};
+use crate::stiffen::{limits_of, stiffen_led, stiffness_from};
 use mode::PlanMode;
-use refusal::{Answer, Refusal};
+use refusal::Refusal;
 
 // How far the rounds have come.
 #[derive(Clone, Copy)]
@@ -28,13 +28,6 @@ pub struct Progress {
     pub converged: bool,
     // Whether the last round led to no other, or none was to run.
     pub settled: bool,
-}
-
-// How they ended.
-#[derive(Clone, Copy)]
-pub enum Rounds {
-    Refused(Refusal),
-    Ran(Progress),
 }
 
 // Raises the marked buses, and designs every corridor anew where one moved; how many did.
@@ -94,7 +87,7 @@ pub fn size_rounds(
     marks: &mut [u32],
     angle: &mut [f64],
     flow: &mut [f64],
-) -> Rounds
+) -> Result<Progress, Refusal>
     requires { RoundsFit above budget start ladder.now level.old a.now b.now km.now share.now cap.now sheet.now load.now bus.now pmax.now leader.now grounds.now injection.now circuits.old banks.old floors.old upsized.old marks.old angle.old flow.old }
     ensures { RoundsRun mode above budget start ladder.now level.old a.now b.now km.now share.now cap.now sheet.now load.now bus.now pmax.now leader.now grounds.now injection.now
         circuits.old banks.old floors.old upsized.old angle.old
@@ -104,7 +97,7 @@ pub fn size_rounds(
     let mut left = budget;
     'rounds: loop {
         if left == 0 {
-            break 'rounds Rounds::Ran(p);
+            break 'rounds Ok(p);
         }
         left -= 1;
         p.rounds += 1;
@@ -112,8 +105,8 @@ pub fn size_rounds(
         p.settled = false;
         let e = draw_edges(ladder, level, a, b, km, share, sheet, circuits, banks);
         match peak_state(e, injection, grounds, angle, flow) {
-            Answer::Refused(f) => break 'rounds Rounds::Refused(f),
-            Answer::Answered => {}
+            Err(f) => break 'rounds Err(f),
+            Ok(()) => {}
         }
         clear_counts(marks);
         let mut t = Tally {
@@ -142,7 +135,7 @@ pub fn size_rounds(
                     p.capacity = t.capacity;
                     p.converged = !t.capped;
                     p.settled = true;
-                    break 'rounds Rounds::Ran(p);
+                    break 'rounds Ok(p);
                 }
             }
         }
@@ -154,8 +147,8 @@ pub fn size_rounds(
                 i, p.rounds, g, ladder, level, a, b, km, share, cap, sheet, leader, grounds, e,
                 angle, circuits, banks, floors, upsized, marks, s,
             ) {
-                Stiffened::Refused(f) => break 'rounds Rounds::Refused(f),
-                Stiffened::Going(u) => s = u,
+                Err(f) => break 'rounds Err(f),
+                Ok(u) => s = u,
             }
             i += 1;
             // Only the last component can say what follows: the raises of all are made together.
@@ -171,7 +164,7 @@ pub fn size_rounds(
                 }
                 p.converged = !s.wide & !t.capped;
                 p.settled = true;
-                break 'rounds Rounds::Ran(p);
+                break 'rounds Ok(p);
             }
         }
     }

@@ -1,10 +1,9 @@
 // All of planning after the rounds: a solve, the filling, the solve after it, and the closing figures. Both solves start from zero.
-ghost use Rattle.std.specs.Prelude.{◌≡◌, ℕ, List, length, take};
+ghost use Rattle.std.specs.Prelude.{◌≡◌, ℕ, List, length, take, Err, Ok, Result};
 ghost use Rattle.angles_defs.specs.Network.{zeros};
 ghost use Rattle.plan_defs.specs.Solve.{edges_for, planning_state};
 ghost use Rattle.planning.specs.Solve.{peak_for, solved_of, Drawing, Lent};
 ghost use Rattle.planning.specs.Fill.{designs_for, Whole};
-ghost use Rattle.planning.specs.declared.settle.Settled.TheVariants.{Refused};
 ghost use Rattle.planning.specs.Size.{Few};
 ghost use Rattle.planning.specs.Settle.{ended_of, closed_from, filled_from, Settleable, Settles};
 
@@ -13,7 +12,7 @@ use crate::figures::clear_figures;
 use crate::fill::{Kept, fill, fill_order, keep, nothing_kept};
 use crate::solve::planning_state;
 use mode::PlanMode;
-use refusal::{Answer, Refusal};
+use refusal::Refusal;
 
 // The circuits that filling added, and the closing figures.
 #[derive(Clone, Copy)]
@@ -22,16 +21,10 @@ pub struct Settlement {
     pub closing: Closing,
 }
 
-#[derive(Clone, Copy)]
-pub enum Settled {
-    Refused(Refusal),
-    Closed(Settlement),
-}
-
 // With what the plan keeps of filling.
 #[derive(Clone, Copy)]
 pub struct Settling {
-    pub settled: Settled,
+    pub settled: Result<Settlement, Refusal>,
     pub kept: Kept,
 }
 
@@ -50,7 +43,7 @@ fn solve_from_zero(
     grounds: &[u32],
     angle: &mut [f64],
     flow: &mut [f64],
-) -> Answer
+) -> Result<(), Refusal>
     requires drawing { Drawing ladder.now level.now a.now b.now km.now share.now sheet.now circuits.now banks.now }
     requires lent { Lent (length level.now) (length a.now) injection.now grounds.now angle.old flow.old }
     ensures { solved_of result
@@ -89,7 +82,7 @@ fn close_up(
     rate: &mut [f64],
     angle: &mut [f64],
     added: &mut [f64],
-) -> Settled
+) -> Result<Settlement, Refusal>
     requires { Settleable above ladder.now level.old a.now b.now km.now share.now cap.now sheet.now leader.now grounds.now injection.now banks.now upsized.now circuits.now flow.old rate.old angle.old added.old }
     ensures { (before order : List ℕ) → ended_of result before order circuits.now level.new flow.new rate.new angle.new added.new
         ≡ closed_from mode cap.now above leader.now ladder.now level.old
@@ -99,14 +92,14 @@ fn close_up(
     match solve_from_zero(
         ladder, level, a, b, km, share, sheet, circuits, banks, injection, grounds, angle, flow,
     ) {
-        Answer::Refused(f) => return Settled::Refused(f),
-        Answer::Answered => {}
+        Err(f) => return Err(f),
+        Ok(()) => {}
     }
     let closing = close(
         mode, above, ladder, a, b, km, share, cap, sheet, leader, banks, circuits, upsized, flow,
         angle, level, rate, added,
     );
-    Settled::Closed(Settlement { filler, closing })
+    Ok(Settlement { filler, closing })
 }
 
 // From the flows before filling: the order, the filling, and what comes after it.
@@ -155,11 +148,11 @@ fn fill_up(
 
 // Refusal 9 of the solve before filling.
 fn unsettled(f: Refusal) -> Settling
-    ensures { (result.settled ≡ Refused f) × Whole result.kept.before × Whole result.kept.order }
+    ensures { (result.settled ≡ Err f) × Whole result.kept.before × Whole result.kept.order }
 {
     let kept = nothing_kept();
     Settling {
-        settled: Settled::Refused(f),
+        settled: Err(f),
         kept,
     }
 }
@@ -196,8 +189,8 @@ pub fn settle(
     match solve_from_zero(
         ladder, level, a, b, km, share, sheet, circuits, banks, injection, grounds, angle, flow,
     ) {
-        Answer::Refused(f) => unsettled(f),
-        Answer::Answered => fill_up(
+        Err(f) => unsettled(f),
+        Ok(()) => fill_up(
             mode, target, above, ladder, a, b, km, share, cap, sheet, leader, grounds, injection,
             banks, upsized, circuits, level, flow, rate, angle, added,
         ),

@@ -14,9 +14,8 @@ ghost use Rattle.planning.specs.Solve.{peak_for, solved_of, finite_angles, finit
 
 use crate::design::circuit;
 use crate::figures::{float, is_finite, wide};
-use angles_defs::Angles;
 use plan_defs::CircuitDesign;
-use refusal::{Answer, Refusal};
+use refusal::Refusal;
 
 // The system base, MVA.
 pub const BASE_MVA: f64 = 100.0;
@@ -80,7 +79,7 @@ fn angles_from(
     grounds: &[u32],
     guess: &[f64],
     angle: &mut [f64],
-) -> Answer
+) -> Result<(), Refusal>
     requires net { Net (length angle.old) from.now to.now weight.now grounds.now }
     requires places { Places (length angle.old) injection.now guess.now angle.old }
     ensures { stage_of result angle.new
@@ -101,8 +100,8 @@ fn angles_from(
         angle,
         &mut work[0..SOLVER_ROWS * n],
     ) {
-        Angles::Refused(_) => Answer::Refused(Refusal::NotFinite(0)),
-        Angles::Answered(_) => Answer::Answered,
+        Err(_) => Err(Refusal::NotFinite(0)),
+        Ok(_) => Ok(()),
     }
 }
 
@@ -115,7 +114,7 @@ pub fn unit_angles(
     lead: usize,
     lag: usize,
     phi: &mut [f64],
-) -> Answer
+) -> Result<(), Refusal>
     requires net { Net (length phi.old) from.now to.now weight.now grounds.now }
     requires lead_in_bounds { (lead < length phi.old) × (lag < length phi.old) }
     ensures { stage_of result phi.new
@@ -174,13 +173,13 @@ fn all_finite(figures: &[f64]) -> bool
     true
 }
 
-fn finite_flows(flow: &[f64]) -> Answer
+fn finite_flows(flow: &[f64]) -> Result<(), Refusal>
     ensures { result ≡ finite_answer (all_finite flow.now) }
 {
     if all_finite(flow) {
-        return Answer::Answered;
+        return Ok(());
     }
-    Answer::Refused(Refusal::NotFinite(0))
+    Err(Refusal::NotFinite(0))
 }
 
 // ---- planning_state
@@ -202,7 +201,7 @@ pub fn peak_state(
     grounds: &[u32],
     angle: &mut [f64],
     flow: &mut [f64],
-) -> Answer
+) -> Result<(), Refusal>
     requires peaked { Peaked (length angle.old) (length flow.old) e.from e.to e.weight }
     requires lent { Lent (length angle.old) (length flow.old) injection.now grounds.now angle.old flow.old }
     ensures { solved_of result (edges_of (take (length flow.old) e.from) (take (length flow.old) e.to) (take (length flow.old) e.weight))
@@ -226,8 +225,8 @@ pub fn peak_state(
         &guess[0..n],
         angle,
     ) {
-        Answer::Refused(f) => return Answer::Refused(f),
-        Answer::Answered => corridor_flows(&from, &to, &weight, angle, flow),
+        Err(f) => return Err(f),
+        Ok(()) => corridor_flows(&from, &to, &weight, angle, flow),
     }
     finite_flows(flow)
 }
@@ -247,7 +246,7 @@ pub fn planning_state(
     grounds: &[u32],
     angle: &mut [f64],
     flow: &mut [f64],
-) -> Answer
+) -> Result<(), Refusal>
     requires drawing { Drawing ladder.now level.now a.now b.now km.now share.now sheet.now circuits.now banks.now }
     requires lent { Lent (length level.now) (length a.now) injection.now grounds.now angle.old flow.old }
     ensures { solved_of result

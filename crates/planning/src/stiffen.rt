@@ -1,5 +1,5 @@
 // Stiffening: each component whose angles are spread too wide, after the second loop of a round of `plan_corridors`.
-ghost use Rattle.std.specs.Prelude.{◌≡◌, ℕ, ◌+◌, ◌<◌, ◌≤◌, true, false, not, [], ◌∷◌, map, length, take, slice_index};
+ghost use Rattle.std.specs.Prelude.{◌≡◌, ℕ, ◌+◌, ◌<◌, ◌≤◌, true, false, not, [], ◌∷◌, map, length, take, slice_index, Err, Ok, Result};
 ghost use Rattle.loops.specs.Figures.{nought};
 ghost use Rattle.loops.specs.Loops.{first, filled};
 ghost use Rattle.plan_defs.specs.Constants.{most_buses, most_corridors, most_levels, most_cap, stiffening_branch_budget};
@@ -10,7 +10,6 @@ ghost use Rattle.plan_defs.specs.Stiffen.{at_or_above, share_of, hv_budget, stif
 ghost use Rattle.planning.specs.Fill.{Counted, Ranked, Whole, place_of};
 ghost use Rattle.planning.specs.Raise.{largest_count, pairs_for, PairFits};
 ghost use Rattle.planning.specs.Stiffen.{budget_for, Stiffenable, Room, LedStiffened, raisable, room_for, reckoned, Strengthened, StiffenFits, BatchStiffened, Gainful, candidate_at, gain_at, gains_more, gain_next, gain_order, gain_for, Chosen, Stepped, reinforce_step, narrow_step, component_step, Led, lead_of, lag_of};
-ghost use Rattle.planning.specs.declared.stiffen.Stiffened.TheVariants.{Going};
 
 use crate::design::{circuit, set_transformer_mva};
 use crate::figures::{ceil, choose, clear_counts, fewer, float, one_if, to_usize, wide};
@@ -20,7 +19,7 @@ use crate::raise::{mark_raise_to, raise_of};
 use crate::size::{bank_below, keep_bank};
 use crate::solve::{Edges, susceptance, unit_angles};
 use plan_defs::{CircuitDesign, Raise};
-use refusal::{Answer, Refusal};
+use refusal::Refusal;
 
 // The share of buses at or above the top, and circuits for each bus, up to which stiffening goes.
 const STIFFENING_HV_SHARE: f64 = 0.35;
@@ -55,13 +54,6 @@ pub struct Stiffness {
     // Whether a component was too wide, and whether anything was done.
     pub wide: bool,
     pub stiffened: bool,
-}
-
-// How a component ended.
-#[derive(Clone, Copy)]
-pub enum Stiffened {
-    Refused(Refusal),
-    Going(Stiffness),
 }
 
 // ---- budgets
@@ -549,7 +541,7 @@ fn reinforce(
     ensures { Stepped (reinforce_step root excess g level.now leader.now angle.now phi.now)
         ladder.now level.now a.now b.now km.now share.now cap.now sheet.now
         circuits.old banks.old floors.old upsized.old marks.old t
-        circuits.new banks.new floors.new upsized.new marks.new (Going result) }
+        circuits.new banks.new floors.new upsized.new marks.new (Ok result) }
 {
     let mut order = [0u32; 256];
     let taken = choose_batch(
@@ -639,7 +631,7 @@ fn narrow(
     upsized: &mut [u32],
     marks: &mut [u32],
     t: Stiffness,
-) -> Stiffened
+) -> Result<Stiffness, Refusal>
     requires stiffenable { Stiffenable ladder.now level.now a.now b.now km.now share.now cap.now sheet.now leader.now grounds.now e.from e.to e.weight angle.now circuits.old banks.old floors.old upsized.old marks.old }
     requires phi_len { (length phi.old ≡ length level.now) × (lead < length level.now) × (lag < length level.now) × Room (length a.now) t }
     ensures { Stepped (narrow_step root lead lag excess g level.now leader.now grounds.now (length a.now) e.from e.to e.weight angle.now)
@@ -660,8 +652,8 @@ fn narrow(
         lag,
         phi,
     ) {
-        Answer::Refused(f) => Stiffened::Refused(f),
-        Answer::Answered => Stiffened::Going(reinforce(
+        Err(f) => Err(f),
+        Ok(()) => Ok(reinforce(
             root, excess, g, ladder, level, a, b, km, share, cap, sheet, leader, angle, phi,
             circuits, banks, floors, upsized, marks, t,
         )),
@@ -703,7 +695,7 @@ fn stiffen_component(
     upsized: &mut [u32],
     marks: &mut [u32],
     t: Stiffness,
-) -> Stiffened
+) -> Result<Stiffness, Refusal>
     requires stiffenable { Stiffenable ladder.now level.now a.now b.now km.now share.now cap.now sheet.now leader.now grounds.now e.from e.to e.weight angle.now circuits.old banks.old floors.old upsized.old marks.old }
     requires led { Led root leader.now angle.now × Room (length a.now) t }
     ensures { Stepped (component_step root round g level.now leader.now grounds.now (length a.now) e.from e.to e.weight angle.now)
@@ -715,11 +707,11 @@ fn stiffen_component(
     let lag = lag_of(leader, angle, root);
     let excess = angle[lead] - angle[lag] - MAX_ANGLE_SPREAD_RAD;
     if excess <= 0.0 {
-        return Stiffened::Going(t);
+        return Ok(t);
     }
     let s = widened(t);
     if round > STIFFENING_ROUNDS {
-        return Stiffened::Going(s);
+        return Ok(s);
     }
     let mut phi = [0.0; 256];
     narrow(
@@ -773,7 +765,7 @@ pub fn stiffen_led(
     upsized: &mut [u32],
     marks: &mut [u32],
     t: Stiffness,
-) -> Stiffened
+) -> Result<Stiffness, Refusal>
     requires stiffenable { Stiffenable ladder.now level.now a.now b.now km.now share.now cap.now sheet.now leader.now grounds.now e.from e.to e.weight angle.now circuits.old banks.old floors.old upsized.old marks.old }
     requires i_in_bounds { (i < length leader.now) × Room (length a.now) t }
     ensures { LedStiffened i round g ladder.now level.now a.now b.now km.now share.now cap.now sheet.now leader.now grounds.now e.from e.to e.weight angle.now
@@ -786,5 +778,5 @@ pub fn stiffen_led(
             circuits, banks, floors, upsized, marks, t,
         );
     }
-    Stiffened::Going(t)
+    Ok(t)
 }

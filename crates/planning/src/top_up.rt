@@ -13,7 +13,7 @@ use crate::figures::{lesser, wide};
 use crate::fill::order_by;
 use crate::policy::tops_up;
 use mode::PlanMode;
-use refusal::{Answer, Refusal};
+use refusal::Refusal;
 
 // By index, as the dispatch adds.
 fn sum(mw: &[f64]) -> f64
@@ -69,17 +69,17 @@ pub fn give(
     c1: &[f64],
     c2: &[f64],
     mw: &mut [f64],
-) -> Answer
+) -> Result<(), Refusal>
     requires { Accepted (length pmin.now) (units_of pmin.now pmax.now c1.now c2.now) demand (length mw.old) }
     ensures { stage_of result mw.new ≡ given_stage (tops_up mode) (units_of pmin.now pmax.now c1.now c2.now) demand }
 {
     match dispatch::economic_dispatch(pmin.len(), pmin, pmax, c1, c2, demand, mw) {
-        Answer::Refused(f) => return Answer::Refused(Refusal::Cost(f.index())),
-        Answer::Answered => {}
+        Err(f) => return Err(Refusal::Cost(f.index())),
+        Ok(()) => {}
     }
     if !tops_up(mode) {
-        return Answer::Answered;
+        return Ok(());
     }
     top_up(demand, pmax, c1, mw);
-    Answer::Answered
+    Ok(())
 }

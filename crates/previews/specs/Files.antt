@@ -1,8 +1,6 @@
 -- What becomes of a case file that is previewed: it is read and planned, and what its plan keeps of filling is held for every target, or the first of the
 -- two that refuses the file decides.
-use Rattle.std.specs.Prelude.{ℕ, List, take, replicate}
-use Rattle.std.specs.declared.result.Result.{Result}
-use Rattle.std.specs.declared.result.Result.TheVariants.{Ok, Err}
+use Rattle.std.specs.Prelude.{ℕ, List, take, replicate, Result, Ok, Err}
 use Rattle.refusal.specs.Reply.{Reply, answered, refused_by}
 use Rattle.refusal.specs.declared.Refusal.{Refusal}
 use Rattle.plan_defs.specs.Case.{Case}
@@ -11,9 +9,7 @@ use Rattle.plan_defs.specs.Outcome.{kept_of}
 use Rattle.plan_defs.specs.Preview.{Kept, kept_as, Outcome}
 use Rattle.casefile_defs.specs.Reading.{reading_of}
 use Rattle.casefile_defs.specs.Tables.{tables_of}
-use Rattle.casefile_defs.specs.declared.Reading.{Reading}
-use Rattle.casefile_defs.specs.declared.Reading.TheVariants.{Read}
-use Rattle.casefile_defs.specs.declared.Reading.TheVariants.{Refused as Unread}
+use Rattle.casefile_defs.specs.declared.Header.{Header}
 use Rattle.planned_files.specs.Files.{case_in}
 use Rattle.previews.specs.declared.draft.Draft.{Draft}
 
@@ -37,9 +33,9 @@ kept_by c (unanswered f) = refused_by f
 kept_by c (planned p) = answered (kept_as c.mode c.corridors (kept_of c p.before) (kept_of c p.order) c.cap)
 
 -- ---- of the file
-abbrev pub kept_read : List ℕ → Reading → Reply Kept
-kept_read file (Unread f) = refused_by f
-kept_read file (Read h) =
+abbrev pub kept_read : List ℕ → Result Header Refusal → Reply Kept
+kept_read file (Err f) = refused_by f
+kept_read file (Ok h) =
     let c = case_in h (tables_of file h) in
     kept_by c (ending_of c h.target)
 

@@ -5,27 +5,24 @@ ghost use Rattle.previews.specs.Files.{kept_in, draft_of, kept_file, filled};
 
 use crate::draft::Draft;
 use casefile_defs::MOST_CORRIDORS;
-use plan_defs::Planned;
 use planned_files::plan_file;
 use planning::preview_filling;
-use refusal::{Answer, Refusal};
+use refusal::Refusal;
 
 // A case file: what its plan keeps, or its refusal by reading or by planning.
 pub fn draft_file(file: &[u8]) -> Result<Draft, Refusal>
     ensures { draft_of result ≡ kept_file file.now }
 {
     let plan = plan_file(file);
+    plan.planned?;
     let (before, order, cap) = (plan.before, plan.order, plan.cap);
-    match plan.planned {
-        Planned::Refused(f) => Err(f),
-        Planned::Answered(_) => Ok(Draft {
-            mode: plan.header.mode,
-            corridors: plan.header.corridors,
-            before,
-            order,
-            cap,
-        }),
-    }
+    Ok(Draft {
+        mode: plan.header.mode,
+        corridors: plan.header.corridors,
+        before,
+        order,
+        cap,
+    })
 }
 
 impl Draft {
@@ -35,7 +32,7 @@ impl Draft {
     {
         let m = self.corridors;
         let mut circuits = [0; MOST_CORRIDORS];
-        let said = preview_filling(
+        preview_filling(
             self.mode,
             target,
             m,
@@ -43,10 +40,7 @@ impl Draft {
             &self.order[..m],
             &self.cap[..m],
             &mut circuits[..m],
-        );
-        match said {
-            Answer::Refused(f) => Err(f),
-            Answer::Answered => Ok(circuits),
-        }
+        )?;
+        Ok(circuits)
     }
 }

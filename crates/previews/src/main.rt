@@ -35,16 +35,11 @@ fn read_draft<R: Read>(from: &mut R) -> io::Result<Result<Draft, Refusal>> {
 }
 
 // ---- printing
-// RF number index
-fn print_refusal<W: Write>(to: &mut W, f: Refusal) -> io::Result<()> {
-    writeln!(to, "RF {} {}", f.number(), f.index())
-}
-
-// PV target, then CO index circuits for each corridor, or the refusal
+// PV target, then CO index circuits for each corridor, or RF number index
 fn print_preview<W: Write>(to: &mut W, draft: &Draft, target: u32) -> io::Result<()> {
     writeln!(to, "PV {target}")?;
     match draft.preview(target) {
-        Err(f) => print_refusal(to, f),
+        Err(f) => writeln!(to, "RF {f}"),
         Ok(circuits) => {
             for (k, n) in circuits[..draft.corridors].iter().enumerate() {
                 writeln!(to, "CO {k} {n}")?;
@@ -69,7 +64,7 @@ fn main(rt: HostRuntime) -> io::Result<()> {
     let mut from = rt.stdin();
     let mut to = rt.stdout();
     match read_draft(&mut from)? {
-        Err(f) => print_refusal(&mut to, f),
+        Err(f) => writeln!(to, "RF {f}"),
         Ok(draft) => preview_targets(&mut from, &mut to, &draft),
     }
 }

@@ -4,8 +4,11 @@
 ghost use Rattle.std.specs.Prelude.{◌≡◌};
 ghost use Rattle.refusal.specs.Number.{number_of, index_of};
 
+use std::error::Error;
+use std::fmt;
+
 // What is wrong with a request. A number is the lowest faulty index.
-#[derive(Clone, Copy)]
+#[derive(Clone, Copy, Debug, PartialEq, Eq)]
 pub enum Refusal {
     // A slice has not its length.
     Length,
@@ -62,6 +65,7 @@ pub enum Refusal {
 }
 
 impl Refusal {
+    #[tactic(auto, unfolding(crate::specs::Number::number_of))]
     pub fn number(self) -> u32
         ensures { result ≡ number_of self }
     {
@@ -96,6 +100,7 @@ impl Refusal {
     }
 
     // The lowest faulty index, 0 where the documents name none.
+    #[tactic(auto, unfolding(crate::specs::Number::index_of))]
     pub fn index(self) -> usize
         ensures { result ≡ index_of self }
     {
@@ -130,9 +135,11 @@ impl Refusal {
     }
 }
 
-// The answer of an operation whose results are all in the slices that it is lent.
-#[derive(Clone, Copy)]
-pub enum Answer {
-    Answered,
-    Refused(Refusal),
+// The documents' number and index.
+impl fmt::Display for Refusal {
+    fn fmt<W: fmt::Write>(&self, f: &mut fmt::Formatter<W>) -> fmt::Result {
+        write!(f, "{} {}", self.number(), self.index())
+    }
 }
+
+impl Error for Refusal {}

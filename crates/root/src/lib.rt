@@ -11,7 +11,7 @@
 ghost use Rattle.std.specs.Prelude.{◌≡◌, ◌+◌, ◌*◌, ◌^◌, ◌<◌, ◌≤◌};
 ghost use Rattle.std.specs.Float.{binary64};
 ghost use Rattle.std.specs.Float.Ieee.{to_bits};
-ghost use Rattle.root.specs.Root.{closest_root, round_root, root_bits};
+ghost use Rattle.root.specs.Root.{closest_root, root, round_root, root_bits};
 
 // The binary digits of a number.
 const DIGITS: u64 = 53;
@@ -157,4 +157,14 @@ pub fn square_root(bits: u64) -> u64
     } else {
         root_of_number(bits % HIDDEN_BIT + HIDDEN_BIT, bits / HIDDEN_BIT + NORMAL)
     }
+}
+
+// The square root of a figure.
+pub fn sqrt(x: f64) -> f64
+    ensures { result ≡ root x }
+{
+    if 0.0 <= x {
+        return f64::from_bits(square_root(f64::to_bits(x)));
+    }
+    0.0 / 0.0
 }

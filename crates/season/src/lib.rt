@@ -7,7 +7,7 @@ ghost use Rattle.season_defs.specs.Plans.{counted};
 ghost use Rattle.season_defs.specs.Feeding.{most_plans, most_corridors, begun, draft_of, even_with, check_of, sum64, updated, with_plan, fed_of, feed, within, corridor_figures, season_figures};
 
 use plan_defs::CorridorPlan;
-use refusal::{Answer, Refusal};
+use refusal::Refusal;
 use season_defs::{CorridorFigures, Fed, MOST_CORRIDORS, MOST_PLANS, Ratio, Season, SeasonFigures};
 
 // ---- fractions
@@ -134,22 +134,22 @@ fn even_with(season: Season, corridors: usize) -> bool
 }
 
 #[tactic(auto, unfolding(season_defs::specs::Feeding::check_of))]
-fn check(season: Season, corridors: usize, places: usize) -> Answer
+fn check(season: Season, corridors: usize, places: usize) -> Result<(), Refusal>
     ensures { result ≡ check_of season corridors places }
 {
     if places != corridors {
-        return Answer::Refused(Refusal::Length);
+        return Err(Refusal::Length);
     }
     if corridors > MOST_CORRIDORS {
-        return Answer::Refused(Refusal::Count);
+        return Err(Refusal::Count);
     }
     if !even_with(season, corridors) {
-        return Answer::Refused(Refusal::Uneven);
+        return Err(Refusal::Uneven);
     }
     if season.taken >= MOST_PLANS {
-        return Answer::Refused(Refusal::SeasonFull);
+        return Err(Refusal::SeasonFull);
     }
-    Answer::Answered
+    Ok(())
 }
 
 // ---- the operations
@@ -176,12 +176,12 @@ pub fn add_plan(season: Season, plan: CorridorPlan, corridors: usize, circuits: 
     ensures { fed_of result ≡ feed season (draft_of plan corridors circuits.now) }
 {
     match check(season, corridors, circuits.len()) {
-        Answer::Refused(f) => Fed {
-            said: Answer::Refused(f),
+        Err(f) => Fed {
+            said: Err(f),
             season,
         },
-        Answer::Answered => Fed {
-            said: Answer::Answered,
+        Ok(()) => Fed {
+            said: Ok(()),
             season: with_plan(season, plan, corridors, circuits),
         },
     }

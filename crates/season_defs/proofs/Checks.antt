@@ -7,27 +7,28 @@ use lib.Dec.{eqb, leb, ltb}
 use Rattle.loops.proofs.Bools.{unequal}
 use Rattle.refusal.specs.declared.Refusal.{Refusal}
 use Rattle.refusal.specs.declared.Refusal.TheVariants.{Length, Count, Uneven, SeasonFull}
-use Rattle.refusal.specs.declared.Answer.TheVariants.{Answered, Refused}
 use Rattle.season_defs.specs.Plans.{Draft}
 use Rattle.season_defs.specs.Feeding.{most_plans, most_corridors, even_with, check_of, with_plan, outcome, fed_by, feed, said}
 use Rattle.season_defs.specs.declared.Season.{Season}
+use Rattle.std.specs.Prelude.{Err, Ok}
+use Rattle.refusal.specs.Reply.{no_refusal}
 
 module _ (s : Season) (corridors places : ℕ) where
-  pub length_refused : (places ≡ corridors → ⊥) → check_of s corridors places ≡ Refused Length
+  pub length_refused : (places ≡ corridors → ⊥) → check_of s corridors places ≡ Err Length
   unfolding check_of
   length_refused h = rw (ne_eqb places corridors h)
 
   module _ (size : places ≡ corridors) where
-    pub count_refused : most_corridors < corridors → check_of s corridors places ≡ Refused Count
+    pub count_refused : most_corridors < corridors → check_of s corridors places ≡ Err Count
     unfolding check_of
     count_refused h = rw (eq-eqb places corridors size, lt-leb corridors most_corridors h)
 
     module _ (few : corridors ≤ most_corridors) where
-      pub uneven_refused : even_with s corridors ≡ false → check_of s corridors places ≡ Refused Uneven
+      pub uneven_refused : even_with s corridors ≡ false → check_of s corridors places ≡ Err Uneven
       unfolding check_of
       uneven_refused e = rw (eq-eqb places corridors size, le-leb corridors most_corridors few, e)
 
-      pub full_refused : even_with s corridors ≡ true → most_plans ≤ s.taken → check_of s corridors places ≡ Refused SeasonFull
+      pub full_refused : even_with s corridors ≡ true → most_plans ≤ s.taken → check_of s corridors places ≡ Err SeasonFull
       unfolding check_of
       full_refused e h = rw (eq-eqb places corridors size, le-leb corridors most_corridors few, e, le-ltb s.taken most_plans h)
 
@@ -37,13 +38,13 @@ pub record Passed (s : Season) (corridors places : ℕ) : Type 0 where
   pub even : even_with s corridors ≡ true
   pub room : s.taken < most_plans
 
--- a plan of which Answered is said
-pub passed : (s : Season) (corridors places : ℕ) → check_of s corridors places ≡ Answered → Passed s corridors places
+-- a plan of which no_refusal is said
+pub passed : (s : Season) (corridors places : ℕ) → check_of s corridors places ≡ no_refusal → Passed s corridors places
 unfolding check_of
 passed s corridors places e = go (eqb places corridors) (leb corridors most_corridors) (even_with s corridors) (ltb s.taken most_plans) refl refl refl refl e
   where
     go : (a b c d : Bool) → eqb places corridors ≡ a → leb corridors most_corridors ≡ b → even_with s corridors ≡ c → ltb s.taken most_plans ≡ d
-        → cond a (cond b (cond c (cond d Answered (Refused SeasonFull)) (Refused Uneven)) (Refused Count)) (Refused Length) ≡ Answered
+        → cond a (cond b (cond c (cond d no_refusal (Err SeasonFull)) (Err Uneven)) (Err Count)) (Err Length) ≡ no_refusal
         → Passed s corridors places
     go false b c d p q r t h = absurd (unequal cc)
     go true false c d p q r t h = absurd (unequal cc)
@@ -51,15 +52,15 @@ passed s corridors places e = go (eqb places corridors) (leb corridors most_corr
     go true true true false p q r t h = absurd (unequal cc)
     go true true true true p q r t h = record { size = eqb-true _ _ p; few = leb-true _ _ q; even = r; room = ltb-true _ _ t }
 
-pub passes : (s : Season) (corridors places : ℕ) → Passed s corridors places → check_of s corridors places ≡ Answered
+pub passes : (s : Season) (corridors places : ℕ) → Passed s corridors places → check_of s corridors places ≡ no_refusal
 unfolding check_of
 passes s corridors places p = rw (eq-eqb places corridors p.size, le-leb corridors most_corridors p.few, p.even, lt-ltb s.taken most_plans p.room)
 
 -- ---- the season then
-pub fed_taken : (s : Season) (p : Draft) → said s p ≡ Answered → feed s p ≡ outcome Answered (with_plan s p)
+pub fed_taken : (s : Season) (p : Draft) → said s p ≡ no_refusal → feed s p ≡ outcome no_refusal (with_plan s p)
 unfolding feed fed_by
 fed_taken s p e = ap (fed_by s p) e
 
-pub fed_refused : (s : Season) (p : Draft) (f : Refusal) → said s p ≡ Refused f → feed s p ≡ outcome (Refused f) s
+pub fed_refused : (s : Season) (p : Draft) (f : Refusal) → said s p ≡ Err f → feed s p ≡ outcome (Err f) s
 unfolding feed fed_by
 fed_refused s p f e = ap (fed_by s p) e

@@ -12,8 +12,6 @@ use lib.ListN.{length, get_or}
 use Rattle.loops.specs.Loops.{tab}
 use Rattle.loops.proofs.Bools.{either, or_right}
 use Rattle.loops.proofs.Tab.{get_tab}
-use Rattle.refusal.specs.declared.Answer.{Answer}
-use Rattle.refusal.specs.declared.Answer.TheVariants.{Answered, Refused}
 use Rattle.season_defs.specs.Terms.{lowest}
 use Rattle.season_defs.specs.Plans.{Draft, total, greatest, least, least_from, mean, circuits_at, column, figures_at, figures_over, Reordered, none, keep, swap, then}
 use Rattle.season_defs.specs.Feeding.{most_plans, most_corridors, largest, begun, even_with, with_plan, Outcome, no_figures, corridor_figures, season_figures, said, after, fed_all, taken_if, taken, AllTaken, Held, AllHeld, Alike}
@@ -21,6 +19,9 @@ use Rattle.season_defs.specs.declared.Season.{Season}
 use Rattle.season_defs.proofs.Checks.{Passed, passed, passes, fed_taken, fed_refused}
 use Rattle.season_defs.proofs.Order.{same, back, to_front, same_length, first_anywhere, same_at, same_over}
 use Rattle.season_defs.proofs.Taking.{corridors_of_lem, season_of, none_taken, column_more, column_past, mapped_length, one_more_lem}
+use Rattle.std.specs.Prelude.{Err, Ok, Result}
+use Rattle.refusal.specs.declared.Refusal.{Refusal}
+use Rattle.refusal.specs.Reply.{no_refusal}
 
 -- ---- plans of n corridors each
 pub record Sound (n : ℕ) (p : Draft) : Type 0 where
@@ -122,7 +123,7 @@ more_good p (q ∷ qs) g h e = go (either _ _ e.even)
           few = let r = e.room in omega arith;
         }
 
-go_on : (s : Season) (p : Draft) (qs : List Draft) → s ≡ season_of qs → Good qs → Held p → said s p ≡ Answered → (after s p ≡ season_of (p ∷ qs)) × Good (p ∷ qs)
+go_on : (s : Season) (p : Draft) (qs : List Draft) → s ≡ season_of qs → Good qs → Held p → said s p ≡ no_refusal → (after s p ≡ season_of (p ∷ qs)) × Good (p ∷ qs)
 go_on s p qs e g h a =
     let c = passed (season_of qs) p.corridors (length p.circuits) (ap (λ (z : Season). said z p) (sym e) ∙ a) in (
       ap (λ (o : Outcome). o.season) (fed_taken s p a) ∙ ap (λ (z : Season). with_plan z p) e ∙ one_more_lem p qs c.size c.few (h, all_held _ qs g.sound) (room_of c),
@@ -137,9 +138,9 @@ abbrev Follows : List Draft → Season → List Draft → Type 0
 Follows ps s qs = (fed_all s ps ≡ season_of (taken s qs ps)) × Good (taken s qs ps)
 
 follow : (p : Draft) (ps : List Draft) (s : Season) (qs : List Draft) → s ≡ season_of qs → Good qs → Held p
-    → ((t : Season) (rs : List Draft) → t ≡ season_of rs → Good rs → Follows ps t rs) → (a : Answer) → said s p ≡ a → Follows ps (after s p) (taken_if a p qs)
-follow p ps s qs e g h next Answered a = let n = go_on s p qs e g h a in next (after s p) (p ∷ qs) n.0 n.1
-follow p ps s qs e g h next (Refused f) a = next (after s p) qs (ap (λ (o : Outcome). o.season) (fed_refused s p f a) ∙ e) g
+    → ((t : Season) (rs : List Draft) → t ≡ season_of rs → Good rs → Follows ps t rs) → (a : Result (Unit {0}) Refusal) → said s p ≡ a → Follows ps (after s p) (taken_if a p qs)
+follow p ps s qs e g h next (Ok tt) a = let n = go_on s p qs e g h a in next (after s p) (p ∷ qs) n.0 n.1
+follow p ps s qs e g h next (Err f) a = next (after s p) qs (ap (λ (o : Outcome). o.season) (fed_refused s p f a) ∙ e) g
 
 follows : (ps : List Draft) (s : Season) (qs : List Draft) → s ≡ season_of qs → Good qs → AllHeld ps → Follows ps s qs
 unfolding fed_all taken
@@ -165,7 +166,7 @@ reordered : (ps : List Draft) (s : Season) (qs : List Draft) → AllTaken s ps �
 unfolding taken
 reordered [] s qs h = same qs
 reordered (p ∷ ps) s qs h =
-    subst (λ (a : Answer). Reordered (taken (after s p) (taken_if a p qs) ps) (p ∷ (ps ++ qs))) (sym h.0)
+    subst (λ (a : Result (Unit {0}) Refusal). Reordered (taken (after s p) (taken_if a p qs) ps) (p ∷ (ps ++ qs))) (sym h.0)
     (then (reordered ps (after s p) (p ∷ qs) h.1) (to_front p ps qs))
 
 sound_too : (n : ℕ) {ps qs : List Draft} → Reordered ps qs → AllSound n ps → AllSound n qs
@@ -182,7 +183,7 @@ even_with_lem n p (q ∷ qs) h g = or_right (eqb (suc (length qs)) 0) _ (eq-eqb 
 all_taken : (n : ℕ) (ps qs : List Draft) (s : Season) → s ≡ season_of qs → AllSound n ps → AllSound n qs → Good qs → length ps + length qs ≤ most_plans → AllTaken s ps
 all_taken n [] qs s e h g k l = tt
 all_taken n (p ∷ ps) qs s e h g k l =
-    let a : said s p ≡ Answered = ap (λ (z : Season). said z p) e ∙ passes (season_of qs) p.corridors (length p.circuits) (record { size = h.0.size; few = h.0.few; even = even_with_lem n p qs h.0 g; room = room_left }) in
+    let a : said s p ≡ no_refusal = ap (λ (z : Season). said z p) e ∙ passes (season_of qs) p.corridors (length p.circuits) (record { size = h.0.size; few = h.0.few; even = even_with_lem n p qs h.0 g; room = room_left }) in
     let t = go_on s p qs e k h.0.held a in
     (a, all_taken n ps (p ∷ qs) (after s p) t.0 h.1 (h.0, g) t.1 (omega arith))
   where

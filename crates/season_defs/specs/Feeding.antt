@@ -1,11 +1,9 @@
 -- The operations on a season (document 02, K3), of every season and plan that may be handed in. A sum is taken as 64 bits hold it; that none
 -- wraps for a season that was fed is part of the theorem on its figures.
-use Rattle.std.specs.Prelude.{ℕ, ◌+◌, ◌%◌, ◌^◌, ◌≤◌, min, max, Bool, cond, ◌&&◌, ◌||◌, List, [], ◌∷◌, ◌≡◌, eqb, leb, ltb, length, get_or, replicate}
+use Rattle.std.specs.Prelude.{ℕ, ◌+◌, ◌%◌, ◌^◌, ◌≤◌, min, max, Bool, cond, ◌&&◌, ◌||◌, List, [], ◌∷◌, ◌≡◌, eqb, leb, ltb, length, get_or, replicate, Err, Ok, Result}
 use Rattle.loops.specs.Loops.{filled}
-use Rattle.refusal.specs.Reply.{Reply, reply_of}
+use Rattle.refusal.specs.Reply.{Reply, reply_of, no_refusal}
 use Rattle.refusal.specs.declared.Refusal.TheVariants.{Length, Count, Uneven, SeasonFull}
-use Rattle.refusal.specs.declared.Answer.{Answer}
-use Rattle.refusal.specs.declared.Answer.TheVariants.{Answered, Refused}
 use Rattle.plan_defs.specs.declared.CorridorPlan.{CorridorPlan}
 use Rattle.season_defs.specs.Terms.{lowest}
 use Rattle.season_defs.specs.Plans.{Draft, circuits_at, counted}
@@ -13,6 +11,7 @@ use Rattle.season_defs.specs.declared.Season.{Season}
 use Rattle.season_defs.specs.declared.Fed.{Fed}
 use Rattle.season_defs.specs.declared.CorridorFigures.{CorridorFigures}
 use Rattle.season_defs.specs.declared.SeasonFigures.{SeasonFigures}
+use Rattle.refusal.specs.declared.Refusal.{Refusal}
 
 abbrev pub most_plans : ℕ
 most_plans = 4096
@@ -47,13 +46,13 @@ abbrev pub even_with : Season → ℕ → Bool
 even_with s corridors = eqb s.taken 0 || eqb corridors s.corridors
 
 -- 1, 2, 19, 20, by the corridors that the plan is said to have and the places of its circuits
-unfoldable pub check_of : Season → ℕ → ℕ → Answer
+unfoldable pub check_of : Season → ℕ → ℕ → Result (Unit {0}) Refusal
 check_of s corridors places =
     cond (eqb places corridors)
     (cond (leb corridors most_corridors)
-    (cond (even_with s corridors) (cond (ltb s.taken most_plans) Answered (Refused SeasonFull)) (Refused Uneven))
-    (Refused Count))
-    (Refused Length)
+    (cond (even_with s corridors) (cond (ltb s.taken most_plans) no_refusal (Err SeasonFull)) (Err Uneven))
+    (Err Count))
+    (Err Length)
 
 abbrev pub sum64 : ℕ → ℕ → ℕ
 sum64 a b = (a + b) % 2 ^ 64
@@ -79,15 +78,15 @@ pub record Outcome : Type 0 where
   pub reply : Reply (Unit {0})
   pub season : Season
 
-abbrev pub outcome : Answer → Season → Outcome
+abbrev pub outcome : Result (Unit {0}) Refusal → Season → Outcome
 outcome a s = record { reply = reply_of a; season = s }
 
 abbrev pub fed_of : Fed → Outcome
 fed_of f = outcome f.said f.season
 
-unfoldable pub fed_by : Season → Draft → Answer → Outcome
-fed_by s p Answered = outcome Answered (with_plan s p)
-fed_by s p (Refused f) = outcome (Refused f) s
+unfoldable pub fed_by : Season → Draft → Result (Unit {0}) Refusal → Outcome
+fed_by s p (Ok tt) = outcome no_refusal (with_plan s p)
+fed_by s p (Err f) = outcome (Err f) s
 
 unfoldable pub feed : Season → Draft → Outcome
 feed s p = fed_by s p (check_of s p.corridors (length p.circuits))
@@ -112,7 +111,7 @@ unfoldable pub season_figures : Season → SeasonFigures
 season_figures s = record { plans = s.taken; rounds = lowest s.rounds s.taken; converged = lowest s.converged s.taken }
 
 -- ---- a list of plans, fed in its order
-abbrev pub said : Season → Draft → Answer
+abbrev pub said : Season → Draft → Result (Unit {0}) Refusal
 said s p = check_of s p.corridors (length p.circuits)
 
 abbrev pub after : Season → Draft → Season
@@ -122,10 +121,10 @@ unfoldable pub fed_all : Season → List Draft → Season
 fed_all s [] = s
 fed_all s (p ∷ ps) = fed_all (after s p) ps
 
--- the plans taken: those of which `Answered` was said, the last one first, before those taken already
-abbrev pub taken_if : Answer → Draft → List Draft → List Draft
-taken_if Answered p qs = p ∷ qs
-taken_if (Refused f) p qs = qs
+-- the plans taken: those of which `no_refusal` was said, the last one first, before those taken already
+abbrev pub taken_if : Result (Unit {0}) Refusal → Draft → List Draft → List Draft
+taken_if (Ok tt) p qs = p ∷ qs
+taken_if (Err f) p qs = qs
 
 unfoldable pub taken : Season → List Draft → List Draft → List Draft
 taken s qs [] = qs
@@ -134,7 +133,7 @@ taken s qs (p ∷ ps) = taken (after s p) (taken_if (said s p) p qs) ps
 -- none is refused
 abbrev pub AllTaken : Season → List Draft → Type 0
 AllTaken s [] = Unit
-AllTaken s (p ∷ ps) = (said s p ≡ Answered) × AllTaken (after s p) ps
+AllTaken s (p ∷ ps) = (said s p ≡ no_refusal) × AllTaken (after s p) ps
 
 -- a plan's counts are of 32 bits, as every plan's that can be handed in
 pub record Held (p : Draft) : Type 0 where

@@ -1,7 +1,7 @@
 // The types of a season of plans (document 02, K3). There is no code here: specs/ has its definitions, proofs/ its theorems.
 #![tactic(auto)]
 
-use refusal::Answer;
+use refusal::Refusal;
 
 // The most plans that a season takes, and the most corridors of a plan.
 pub const MOST_PLANS: u32 = 4_096;
@@ -26,7 +26,7 @@ pub struct Season {
 // What is said of a plan that was fed, and the season then.
 #[derive(Clone, Copy)]
 pub struct Fed {
-    pub said: Answer,
+    pub said: Result<(), Refusal>,
     pub season: Season,
 }
 

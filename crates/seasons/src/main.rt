@@ -23,7 +23,7 @@ fn feed_all<R: Read, W: Write>(from: &mut R, to: &mut W) -> io::Result<Season> {
             break;
         }
         if let Err(f) = feed_file(&mut season, &file[..n]) {
-            writeln!(to, "RF {place} {} {}", f.number(), f.index())?;
+            writeln!(to, "RF {place} {f}")?;
         }
         if n < MOST_BYTES {
             break;

@@ -6,9 +6,10 @@ use lib.Ieee.{Float}
 use Rattle.loops.specs.Figures.{float}
 use Rattle.loops.specs.Loops.{tab}
 use Rattle.refusal.specs.declared.Refusal.TheVariants.{Length, Count}
-use Rattle.refusal.specs.declared.Answer.TheVariants.{Answered, Refused}
 use Rattle.sheets.specs.Request.{check_of}
 use Rattle.sheets.specs.Sheet.{by_level}
+use Rattle.std.specs.Prelude.{Err, Ok}
+use Rattle.refusal.specs.Reply.{no_refusal}
 
 abbrev row : ℕ → List Float
 row t = float (10 * t) ∷ float (10 * t + 1) ∷ float (10 * t + 2) ∷ float (10 * t + 3) ∷ float (10 * t + 4) ∷ []
@@ -19,6 +20,6 @@ laid = refl
 
 answers :
     check_of 256 5 6_400 6_400 ∷ check_of 0 1 0 0 ∷ check_of 257 1 1_285 1_285 ∷ check_of 1 6 30 30 ∷ check_of 1 0 0 0 ∷ check_of 1 6 30 29 ∷ check_of 3 2 29 30 ∷ []
-    ≡ Answered ∷ Answered ∷ Refused Count ∷ Refused Count ∷ Refused Count ∷ Refused Length ∷ Refused Length ∷ []
+    ≡ no_refusal ∷ no_refusal ∷ Err Count ∷ Err Count ∷ Err Count ∷ Err Length ∷ Err Length ∷ []
 unfolding check_of
 answers = refl

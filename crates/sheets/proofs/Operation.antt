@@ -14,33 +14,34 @@ use Rattle.loops.proofs.Tab.{fill_end}
 use Rattle.loops.proofs.Bools.{both, unequal}
 use Rattle.refusal.specs.declared.Refusal.{Refusal}
 use Rattle.refusal.specs.declared.Refusal.TheVariants.{Length, Count}
-use Rattle.refusal.specs.declared.Answer.TheVariants.{Answered, Refused}
 use Rattle.sheets.specs.Request.{lengths_ok, counts_ok, check_of, Sized, outcome, laid_by, lay_out}
 use Rattle.sheets.specs.Sheet.{row_figures, line_of, figure_of, by_level}
 use Rattle.sheets.proofs.Layouts.{some_row, line_inside}
+use Rattle.std.specs.Prelude.{Err, Ok}
+use Rattle.refusal.specs.Reply.{no_refusal}
 
 -- ---- the check
 pub both_tests : {a b c d : Bool} → a ≡ c → b ≡ d → (a && b) ≡ (c && d)
 both_tests e f = λ i. e i && f i
 
 module _ (m n size to : ℕ) where
-  pub not_lengths : lengths_ok m n size to ≡ false → Refused Length ≡ check_of m n size to
+  pub not_lengths : lengths_ok m n size to ≡ false → Err Length ≡ check_of m n size to
   unfolding check_of
   not_lengths a = rw a
 
-  pub not_counts : lengths_ok m n size to ≡ true → counts_ok m n ≡ false → Refused Count ≡ check_of m n size to
+  pub not_counts : lengths_ok m n size to ≡ true → counts_ok m n ≡ false → Err Count ≡ check_of m n size to
   unfolding check_of
   not_counts a b = rw (a, b)
 
-  pub all_sound : lengths_ok m n size to ≡ true → counts_ok m n ≡ true → Answered ≡ check_of m n size to
+  pub all_sound : lengths_ok m n size to ≡ true → counts_ok m n ≡ true → no_refusal ≡ check_of m n size to
   unfolding check_of
   all_sound a b = rw (a, b)
 
-  pub passed : check_of m n size to ≡ Answered → Sized m n size to
+  pub passed : check_of m n size to ≡ no_refusal → Sized m n size to
   unfolding check_of
   passed e = go (lengths_ok m n size to) (counts_ok m n) refl refl e
     where
-      go : (a b : Bool) → lengths_ok m n size to ≡ a → counts_ok m n ≡ b → cond a (cond b Answered (Refused Count)) (Refused Length) ≡ Answered → Sized m n size to
+      go : (a b : Bool) → lengths_ok m n size to ≡ a → counts_ok m n ≡ b → cond a (cond b no_refusal (Err Count)) (Err Length) ≡ no_refusal → Sized m n size to
       go false b p q r = absurd (unequal cc)
       go true false p q r = absurd (unequal cc)
       go true true p q r =
@@ -61,10 +62,10 @@ all_filled m n rows sheet w p s e h = fill_end sheet w _ p (row_figures * (m * n
 
 -- ---- the operation
 module _ (m n : ℕ) (rows sheet : List Float) where
-  pub is_refused_lem : (f : Refusal) → check_of m n (length rows) (length sheet) ≡ Refused f → outcome (Refused f) sheet ≡ lay_out m n rows sheet
+  pub is_refused_lem : (f : Refusal) → check_of m n (length rows) (length sheet) ≡ Err f → outcome (Err f) sheet ≡ lay_out m n rows sheet
   unfolding lay_out laid_by
   is_refused_lem f e = rw e
 
-  pub is_laid : (s : List Float) → check_of m n (length rows) (length sheet) ≡ Answered → s ≡ by_level m n rows → outcome Answered s ≡ lay_out m n rows sheet
+  pub is_laid : (s : List Float) → check_of m n (length rows) (length sheet) ≡ no_refusal → s ≡ by_level m n rows → outcome no_refusal s ≡ lay_out m n rows sheet
   unfolding lay_out laid_by
   is_laid s e h = rw (e, h)

@@ -1,10 +1,9 @@
 -- K11: a caller lays the rows of a sheet by corridor out by level. Refusals of document 01: 1, a sheet has not its length; 2, a count is outside its bounds. A refusal touches nothing.
-use Rattle.std.specs.Prelude.{ℕ, ◌*◌, Bool, cond, ◌&&◌, List, ◌≡◌, eqb, leb, length, Float}
-use Rattle.refusal.specs.Reply.{Reply, reply_of}
+use Rattle.std.specs.Prelude.{ℕ, ◌*◌, Bool, cond, ◌&&◌, List, ◌≡◌, eqb, leb, length, Float, Err, Ok, Result}
+use Rattle.refusal.specs.Reply.{Reply, reply_of, no_refusal}
 use Rattle.refusal.specs.declared.Refusal.TheVariants.{Length, Count}
-use Rattle.refusal.specs.declared.Answer.{Answer}
-use Rattle.refusal.specs.declared.Answer.TheVariants.{Answered, Refused}
 use Rattle.sheets.specs.Sheet.{row_figures, by_level}
+use Rattle.refusal.specs.declared.Refusal.{Refusal}
 
 -- ---- 1: the sheet by corridor, and the one to write
 abbrev pub lengths_ok : ℕ → ℕ → ℕ → ℕ → Bool
@@ -20,8 +19,8 @@ most_levels = 5
 abbrev pub counts_ok : ℕ → ℕ → Bool
 counts_ok m n = leb 1 n && leb n most_levels && leb m most_corridors
 
-unfoldable pub check_of : ℕ → ℕ → ℕ → ℕ → Answer
-check_of m n from to = cond (lengths_ok m n from to) (cond (counts_ok m n) Answered (Refused Count)) (Refused Length)
+unfoldable pub check_of : ℕ → ℕ → ℕ → ℕ → Result (Unit {0}) Refusal
+check_of m n from to = cond (lengths_ok m n from to) (cond (counts_ok m n) no_refusal (Err Count)) (Err Length)
 
 -- what two sheets that pass have
 pub record Sized (m n from to : ℕ) : Type 0 where
@@ -33,12 +32,12 @@ pub record Outcome : Type 0 where
   pub reply : Reply (Unit {0})
   pub sheet : List Float
 
-abbrev pub outcome : Answer → List Float → Outcome
+abbrev pub outcome : Result (Unit {0}) Refusal → List Float → Outcome
 outcome r sheet = record { reply = reply_of r; sheet = sheet }
 
-unfoldable pub laid_by : ℕ → ℕ → List Float → List Float → Answer → Outcome
-laid_by m n from sheet Answered = outcome Answered (by_level m n from)
-laid_by m n from sheet (Refused f) = outcome (Refused f) sheet
+unfoldable pub laid_by : ℕ → ℕ → List Float → List Float → Result (Unit {0}) Refusal → Outcome
+laid_by m n from sheet (Ok tt) = outcome no_refusal (by_level m n from)
+laid_by m n from sheet (Err f) = outcome (Err f) sheet
 
 unfoldable pub lay_out : ℕ → ℕ → List Float → List Float → Outcome
 lay_out m n from sheet = laid_by m n from sheet (check_of m n (length from) (length sheet))

@@ -6,7 +6,7 @@ ghost use Rattle.loops.specs.Figures.{at};
 ghost use Rattle.sheets.specs.Request.{counts_ok, check_of, Sized, outcome, lay_out};
 ghost use Rattle.sheets.specs.Sheet.{row_figures, row_place, row_corridor, row_level, line_of, figure_of, by_level};
 
-use refusal::{Answer, Refusal};
+use refusal::Refusal;
 
 // Figures of a row: r, x, b, rate, basis.
 const ROW_FIGURES: usize = 5;
@@ -72,16 +72,16 @@ fn counts_ok(corridors: usize, levels: usize) -> bool
     (1 <= levels) & (levels <= MOST_LEVELS) & (corridors <= MOST_CORRIDORS)
 }
 
-fn check(corridors: usize, levels: usize, from: usize, to: usize) -> Answer
+fn check(corridors: usize, levels: usize, from: usize, to: usize) -> Result<(), Refusal>
     ensures { result ≡ check_of corridors levels from to }
 {
     if !(sheet_ok(from, corridors, levels) & sheet_ok(to, corridors, levels)) {
-        return Answer::Refused(Refusal::Length);
+        return Err(Refusal::Length);
     }
     if !counts_ok(corridors, levels) {
-        return Answer::Refused(Refusal::Count);
+        return Err(Refusal::Count);
     }
-    Answer::Answered
+    Ok(())
 }
 
 fn figure_at(corridors: usize, levels: usize, rows: &[f64], p: usize) -> f64
@@ -104,14 +104,16 @@ fn fill(corridors: usize, levels: usize, rows: &[f64], sheet: &mut [f64])
 }
 
 // Writes the rows of a sheet by corridor, as the line office has it, to a sheet by level, as the planner has it.
-pub fn lay_out(corridors: usize, levels: usize, rows: &[f64], sheet: &mut [f64]) -> Answer
+#[tactic(auto, using(crate::proofs::Operation::is_refused_lem, crate::proofs::Operation::passed, crate::proofs::Operation::is_laid))]
+pub fn lay_out(
+    corridors: usize,
+    levels: usize,
+    rows: &[f64],
+    sheet: &mut [f64],
+) -> Result<(), Refusal>
     ensures { outcome result sheet.new ≡ lay_out corridors levels rows.now sheet.old }
 {
-    match check(corridors, levels, rows.len(), sheet.len()) {
-        Answer::Refused(f) => Answer::Refused(f),
-        Answer::Answered => {
-            fill(corridors, levels, rows, sheet);
-            Answer::Answered
-        }
-    }
+    check(corridors, levels, rows.len(), sheet.len())?;
+    fill(corridors, levels, rows, sheet);
+    Ok(())
 }

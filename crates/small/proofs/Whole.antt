@@ -13,12 +13,12 @@ use Rattle.refusal.specs.declared.Refusal.TheVariants.{Length, Place}
 use Rattle.casefile_defs.specs.Bounds.{most_levels, most_buses, most_generators, most_corridors, most_sheet, row_figures}
 use Rattle.casefile_defs.specs.Tables.{Places, places_of, sizes_ok}
 use Rattle.casefile_defs.specs.declared.Header.{Header}
-use Rattle.casefile_defs.specs.declared.Reading.TheVariants.{Refused, Read}
 use Rattle.small.specs.declared.order.Shape.{Shape}
 use Rattle.small.specs.Networks.{numbered, all_places, buses_at, number_at, network_at}
 use Rattle.small.specs.Tables.{kv, ten, twenty, quarter, corridors_of, header_of, columns_of, laid_out, header_at, tables_at, made, small_network}
 use Rattle.small.specs.Columns.{counts, figures, sheet_at, shape_at, corridor_count, last_pair, first_pair, second_pair, lower_end, upper_end, lowest_load, counted, header_for}
 use Rattle.small.proofs.Filled.{column_of, equal_three, sheet_column, buses_few, loads_front, ends}
+use Rattle.std.specs.Prelude.{Err, Ok}
 
 -- a column, in a table of known size, of a place as it was taken apart
 pub sized : {A : Type 0} (f : ℕ → Shape → List A) {n n' : ℕ} {s s' : Shape} {x : List A} → n ≡ n' → s ≡ s' → x ≡ f n s → x ≡ f n' s'
@@ -79,16 +79,16 @@ module _ (i : ℕ) (h : i < all_places) where
   unfolding header_of network_at numbered shape_at
   header_made = ap (λ (n : ℕ). counted (buses_at i) n) (ends i h).count
 
-  pub made_whole : (p q : Places) {s : Shape} {g : Header} → sizes_ok p ≡ true → s ≡ shape_at i → g ≡ header_for s → q ≡ tables_at i → made (Read g) q ≡ small_network i p
+  pub made_whole : (p q : Places) {s : Shape} {g : Header} → sizes_ok p ≡ true → s ≡ shape_at i → g ≡ header_for s → q ≡ tables_at i → made (Ok g) q ≡ small_network i p
   unfolding small_network
   made_whole p q {s} {g} z e f t =
       let v : g ≡ header_at i = f ∙ ap (λ (u : Shape). header_for u) e ∙ header_made in
       simp (z, lt-ltb i all_places h, v, t)
 
-pub lengths_refused : (i : ℕ) (p : Places) → sizes_ok p ≡ false → made (Refused Length) p ≡ small_network i p
+pub lengths_refused : (i : ℕ) (p : Places) → sizes_ok p ≡ false → made (Err Length) p ≡ small_network i p
 unfolding small_network
 lengths_refused i p e = simp e
 
-pub place_refused : (i : ℕ) (p : Places) → sizes_ok p ≡ true → all_places ≤ i → made (Refused Place) p ≡ small_network i p
+pub place_refused : (i : ℕ) (p : Places) → sizes_ok p ≡ true → all_places ≤ i → made (Err Place) p ≡ small_network i p
 unfolding small_network
 place_refused i p e h = simp (e, le-ltb i all_places h)

@@ -1,5 +1,5 @@
 -- The tables of a small network, lent as for case reading, and the operation whole. What the request does not name is as in document 01's case L.
-use Rattle.std.specs.Prelude.{ℕ, ◌*◌, ◌%◌, Bool, true, false, cond, List, [], ◌∷◌, map, ◌≡◌, refl, ltb, Float, length, get_or, replicate}
+use Rattle.std.specs.Prelude.{ℕ, ◌*◌, ◌%◌, Bool, true, false, cond, List, [], ◌∷◌, map, ◌≡◌, refl, ltb, Float, length, get_or, replicate, Err, Ok, Result}
 use Rattle.std.specs.Float.{binary64}
 use Rattle.std.specs.Float.Ieee.{of_bits, round}
 use Rattle.loops.specs.Figures.{nought, half, one, hundred, decimal}
@@ -10,9 +10,8 @@ use Rattle.mode.specs.declared.PlanMode.TheVariants.{Observe}
 use Rattle.casefile_defs.specs.Bounds.{most_levels, most_buses, most_generators, most_corridors, most_sheet, row_figures}
 use Rattle.casefile_defs.specs.Tables.{Places, places_of, sizes_ok, reply_of}
 use Rattle.casefile_defs.specs.declared.Header.{Header}
-use Rattle.casefile_defs.specs.declared.Reading.{Reading}
-use Rattle.casefile_defs.specs.declared.Reading.TheVariants.{Refused, Read}
 use Rattle.small.specs.Networks.{Network, pairs, network_at, all_places}
+use Rattle.refusal.specs.declared.Refusal.{Refusal}
 
 -- ---- figures: the level's kV; a corridor's km, and a load in MW; the generator's costs
 abbrev pub kv : Float
@@ -89,9 +88,9 @@ pub record Made : Type 0 where
   pub reply : Reply Header
   pub places : Places
 
-abbrev pub made : Reading → Places → Made
+abbrev pub made : Result Header Refusal → Places → Made
 made r p = record { reply = reply_of r; places = p }
 
 unfoldable pub small_network : ℕ → Places → Made
 small_network i p =
-    cond (sizes_ok p) (cond (ltb i all_places) (made (Read (header_at i)) (tables_at i)) (made (Refused Place) p)) (made (Refused Length) p)
+    cond (sizes_ok p) (cond (ltb i all_places) (made (Ok (header_at i)) (tables_at i)) (made (Err Place) p)) (made (Err Length) p)

@@ -5,9 +5,7 @@ ghost use Rattle.std.specs.Prelude.{◌≡◌};
 ghost use Rattle.casefile_defs.specs.Tables.{places_of};
 ghost use Rattle.small.specs.Tables.{made, small_network};
 
-use casefile_defs::{
-    MOST_BUSES, MOST_CORRIDORS, MOST_GENERATORS, MOST_LEVELS, MOST_SHEET, Reading,
-};
+use casefile_defs::{Header, MOST_BUSES, MOST_CORRIDORS, MOST_GENERATORS, MOST_LEVELS, MOST_SHEET};
 use refusal::Refusal;
 
 mod columns;
@@ -38,7 +36,7 @@ pub fn small_network(
     share: &mut [f64],
     cap: &mut [u32],
     sheet: &mut [f64],
-) -> Reading
+) -> Result<Header, Refusal>
     ensures { made result (places_of ladder.new tier.new reading.new weight.new generator_bus.new slack.new pmin.new pmax.new c1.new c2.new a.new b.new circuits.new length_km.new share.new cap.new sheet.new) ≡ small_network place (places_of ladder.old tier.old reading.old weight.old generator_bus.old slack.old pmin.old pmax.old c1.old c2.old a.old b.old circuits.old length_km.old share.old cap.old sheet.old) }
 {
     let sized = (ladder.len() == MOST_LEVELS)
@@ -59,14 +57,14 @@ pub fn small_network(
         & (cap.len() == MOST_CORRIDORS)
         & (sheet.len() == MOST_SHEET);
     if !sized {
-        return Reading::Refused(Refusal::Length);
+        return Err(Refusal::Length);
     }
     if PLACES <= place {
-        return Reading::Refused(Refusal::Place);
+        return Err(Refusal::Place);
     }
     let s = order::network_at(place);
     tables::put_buses(s, ladder, tier, reading, weight);
     tables::put_generator(generator_bus, slack, pmin, pmax, c1, c2);
     tables::put_corridors(s, a, b, circuits, length_km, share, cap, sheet);
-    Reading::Read(tables::header_of(s))
+    Ok(tables::header_of(s))
 }

@@ -28,12 +28,12 @@ answer-requires : tie.Need-answer-requires
 answer-requires c κs =
     let s = c in
     let q = request s.before.before.before.before.before.before.before.before.before.before.before.before in
-    let S = sound_of q (length s.args.res.now) (length s.args.work.now) (sym c.check.ensures ∙ ap fault_in c.in-Sound.is) in
+    let S = sound_of q (length s.args.res.now) (length s.args.work.now) (sym c.check.ensures ∙ ap fault_in c.in-Ok.is) in
     let L = S.lengths in
     (sound_edges q _ _ S, (sound_grounds q _ _ S, (L.work, L.result, L.injection, L.guess, S.buses)))
 
-returns : tie.Need-returns-in-Faulty
-returns c = angles_refused (request c.before.before.before.before.before.before.before.before.before.before) _ _ _ c.check.ensures _ (ap fault_in c.in-Faulty.is)
+returns : tie.Need-returns-in-Err
+returns c = angles_refused (request c.before.before.before.before.before.before.before.before.before.before) _ _ _ c.check.ensures _ (ap fault_in c.in-Err.is)
 
 same_length : tie.Need-shape_of-res
 same_length c = search rules
@@ -41,8 +41,8 @@ same_length c = search rules
 same-length-2 : tie.Need-shape_of-work
 same-length-2 c = search rules
 
-returns-2 : tie.Need-returns-in-Sound
-returns-2 c = angles_answered (request c.before.before.before.before.before.before.before.before.before.before.before.before.before.before.before.before.before) _ _ _ c.check.ensures _ (ap fault_in c.in-Sound.is) c.answer.ensures
+returns-2 : tie.Need-returns-in-Ok
+returns-2 c = angles_answered (request c.before.before.before.before.before.before.before.before.before.before.before.before.before.before.before.before.before) _ _ _ c.check.ensures _ (ap fault_in c.in-Ok.is) c.answer.ensures
 
 pub dc_angles_spec : {M : Type 1} → statement M
 dc_angles_spec =

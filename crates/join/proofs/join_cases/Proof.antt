@@ -36,9 +36,9 @@ answer-is c =
     c.check_both.ensures
     ∙ ap (λ (b : Bool). check_of b (case_as o.args.first (first_at o)) o.args.first.target (case_as o.args.second (secondAt o)) o.args.second.target) c.sizes_ok-sized.ensures
 
-passed : (c : tie.In-Answered) → let o = start-of c.before in
+passed : (c : tie.In-Ok) → let o = start-of c.before in
     Joinable (sizes_ok (lent o)) (case_as o.args.first (first_at o)) o.args.first.target (case_as o.args.second (secondAt o)) o.args.second.target
-passed c = joinable _ _ _ _ _ (sym c.in-Answered.is ∙ answer-is c.before)
+passed c = joinable _ _ _ _ _ (sym c.in-Ok.is ∙ answer-is c.before)
 
 -- ---- the places of the code, each from the one after it
 abbrev generators-put : tie.After-put_corridors → tie.After-put_generators
@@ -58,7 +58,7 @@ may-raise c =
     raised (sizes_ok (lent o)) o.args.first (first_at o) o.args.second (secondAt o) (passed t.before.before) _ c.narrow-n.ensures
 
 -- the sheets have the rows of one count of levels
-rows_are : (c : tie.In-Answered) → let o = start-of c.before in
+rows_are : (c : tie.In-Ok) → let o = start-of c.before in
     Rowed o.args.first.corridors o.args.second.corridors (levels (case_as o.args.first (first_at o))) (length (first_at o).sheet) (length (secondAt o).sheet)
 rows_are c = let o = start-of c.before in rowed (sizes_ok (lent o)) o.args.first (first_at o) o.args.second (secondAt o) (passed c)
 
@@ -71,11 +71,11 @@ check-both-requires c κs = search rules
 enum-known-f : tie.Need-enum_known-f
 enum-known-f c = search rules
 
-returns : tie.Need-returns-in-Refused
+returns : tie.Need-returns-in-Err
 returns c =
     let k = c in
     let o = start-of k.before in
-    refused_whole o.args.first (first_at o) o.args.second (secondAt o) (lent o) _ (sym c.in-Refused.is ∙ answer-is k.before)
+    refused_whole o.args.first (first_at o) o.args.second (secondAt o) (lent o) _ (sym c.in-Err.is ∙ answer-is k.before)
 
 enum_told : tie.Need-enum_told-1
 enum_told c = search rules

@@ -21,29 +21,29 @@ abbrev secondAt : tie.Start → Places
 secondAt o = let z = o.args in places_of z.second_ladder.now z.second_tier.now z.second_reading.now z.second_weight.now z.second_bus.now z.second_slack.now z.second_pmin.now z.second_pmax.now z.second_c1.now z.second_c2.now z.second_a.now z.second_b.now z.second_circuits.now z.second_length_km.now z.second_share.now z.second_cap.now z.second_sheet.now
 
 -- ---- the places of the code, each from the one after it
-abbrev first-told : tie.After-check_case-2 → tie.In-Answered
+abbrev first-told : tie.After-check_case-2 → tie.In-Ok
 first-told c = c.before
 
-abbrev second-told : tie.After-sums_ok → tie.In-Answered-check_case
+abbrev second-told : tie.After-sums_ok → tie.In-Ok-check_case
 second-told c = c.before
 
 abbrev start-of : tie.After-check_case → tie.Start
 start-of c = c.before.before.before.before.before.before.before.before.before.before.before.before.before.before.before.before.before.before.before.before.before.before.before.before.before.before.before.before.before.before.before.before.before.before.before
 
 -- the first case passes, and the second
-first-passed : (c : tie.In-Answered) → let o = start-of c.before in
+first-passed : (c : tie.In-Ok) → let o = start-of c.before in
     (o.args.fits ≡ true) × (case_fault (case_as o.args.first (first_at o)) o.args.first.target ≡ none)
 first-passed c =
     let k = c in
     let o = start-of k.before in
-    passed_by_lem o.args.fits (case_as o.args.first (first_at o)) o.args.first.target (sym c.in-Answered.is ∙ k.check_case.ensures)
+    passed_by_lem o.args.fits (case_as o.args.first (first_at o)) o.args.first.target (sym c.in-Ok.is ∙ k.check_case.ensures)
 
-second-passed : (c : tie.In-Answered-check_case) → let o = start-of (first-told c.before).before in
+second-passed : (c : tie.In-Ok-check_case) → let o = start-of (first-told c.before).before in
     case_fault (case_as o.args.second (secondAt o)) o.args.second.target ≡ none
 second-passed c =
     let k = c in
     let o = start-of (first-told k.before).before in
-    (passed_by_lem true (case_as o.args.second (secondAt o)) o.args.second.target (sym c.in-Answered-check_case.is ∙ k.check_case-2.ensures)).1
+    (passed_by_lem true (case_as o.args.second (secondAt o)) o.args.second.target (sym c.in-Ok-check_case.is ∙ k.check_case-2.ensures)).1
 
 check-case-requires : tie.Need-check_case-requires
 check-case-requires c κs = search rules
@@ -51,13 +51,13 @@ check-case-requires c κs = search rules
 enum-known-f : tie.Need-enum_known-f
 enum-known-f c = search rules
 
-returns : tie.Need-returns-in-Refused
+returns : tie.Need-returns-in-Err
 returns c =
     let k = c in
     let o = start-of k.before in
     let z = o.args in
     first_refused z.fits (case_as z.first (first_at o)) z.first.target (case_as z.second (secondAt o)) z.second.target _
-    (refused_by_lem z.fits (case_as z.first (first_at o)) z.first.target _ (sym c.in-Refused.is ∙ k.check_case.ensures))
+    (refused_by_lem z.fits (case_as z.first (first_at o)) z.first.target _ (sym c.in-Err.is ∙ k.check_case.ensures))
 
 enum_told : tie.Need-enum_told-1
 enum_told c = search rules
@@ -65,18 +65,18 @@ enum_told c = search rules
 check-case-requires-2 : tie.Need-check_case-requires-2
 check-case-requires-2 c κs = search rules
 
-enum-known-f-2 : tie.Need-enum_known-f-in-Refused-check_case-2
+enum-known-f-2 : tie.Need-enum_known-f-in-Err-check_case-2
 enum-known-f-2 c = search rules
 
-returns-2 : tie.Need-returns-in-Refused-check_case
+returns-2 : tie.Need-returns-in-Err-check_case
 returns-2 c =
     let k = c in
     let o = start-of (first-told k.before).before in
     let z = o.args in
     second_refused z.fits (case_as z.first (first_at o)) z.first.target (case_as z.second (secondAt o)) z.second.target (first-passed (first-told k.before)) _
-    (refused_by_lem true (case_as z.second (secondAt o)) z.second.target _ (sym c.in-Refused-check_case.is ∙ k.check_case-2.ensures))
+    (refused_by_lem true (case_as z.second (secondAt o)) z.second.target _ (sym c.in-Err-check_case.is ∙ k.check_case-2.ensures))
 
-enum-told-2 : tie.Need-enum_told-in-Answered-check_case
+enum-told-2 : tie.Need-enum_told-in-Ok-check_case
 enum-told-2 c = search rules
 
 sums-ok-requires : tie.Need-sums_ok-requires

@@ -2,7 +2,6 @@
 -- Of the rounds: what is left of them from here comes to what all of them do. Inside a round: the sizing of the corridors passed, then the stiffening of the
 -- components passed, each held against its definition from the loop's start; the last corridor, and the last component or a refusal, lead out of the round by name.
 use Rattle.std.proofs.Common.{◌≡◌, ℕ, ◌+◌, ◌-◌, ◌*◌, ◌<◌, ◌≤◌, true, false, List, length, sym, refl, ap, ◌∙◌, subst, le_antisymm, arith, rules}
-use borrow.Author.Tests.{not-true, not-false}
 use Rattle.plan_defs.specs.Case.{promote}
 use Rattle.plan_defs.specs.Raise.{moved_buses}
 use Rattle.plan_defs.specs.Build.{build_of}
@@ -19,9 +18,10 @@ use Rattle.planning.proofs.Redrawing.{still_none}
 use Rattle.planning.proofs.Corridors.{left as to-size, left_start, left_turn}
 use Rattle.planning.proofs.Rounding.{Alike, alike_trans, few_sum, few_high, goes_on, stiffens_on, round_refused, sized_again, nothing_done, still_sized, sized_settled, stiffens, stiffen_refused, stiffen_next, stiffened_again, stiffened_settled, ended}
 use Rattle.planning.proofs.Turns.{some_left, one_less, moved_more, sized_more, stiffened_more, still_stiffened, circuits_more, ends_more, fit_again, drawing_of, lent_of}
-use Rattle.planning.specs.declared.stiffen.Stiffened.{Stiffened}
 use Rattle.planning.proofs.rounds.size_rounds.Statement.{statement}
 use Rattle.planning.proofs.rounds.size_rounds.Tie as tie
+use Rattle.std.specs.Prelude.{Result}
+use Rattle.refusal.specs.declared.Refusal.{Refusal}
 
 abbrev invariant-loop : tie.invariant-loop-k
 invariant-loop mode above budget ladder a b km share cap sheet load bus pmax leader grounds injection circuits₀ banks₀ floors₀ upsized₀ level₀ marks₀ angle flow p₀ left e t₀ k₀ circuits banks floors upsized level marks p t k =
@@ -238,7 +238,7 @@ rounds-again c =
           c.raise_marked-moved.ensures.banked
           (c.size_corridor-t.ensures.few l.invariant.5),
       n ∙ r.invariant.1,
-      sized_again z.mode z.above z.ladder.now z.a.now z.b.now z.km.now z.share.now z.cap.now z.sheet.now z.load.now z.bus.now z.pmax.now z.leader.now z.grounds.now z.injection.now (length z.leader.now) l.level r.level r.circuits r.banks r.floors r.upsized r.angle r.p (goes_on z.mode z.above z.ladder.now z.a.now z.b.now z.km.now z.share.now z.cap.now z.sheet.now z.load.now z.bus.now z.pmax.now z.leader.now z.grounds.now z.injection.now (length z.leader.now) z.budget z.level.now z.circuits.now z.banks.now z.floors.now z.upsized.now z.angle.now z.start) r.left (r.left - 1) (omega (arith, some_left c.if-left-eq0.false)) l.invariant.1 (sym r.invariant.0.places.leader_size) r.invariant.2 _ _ _ c.draw_edges-e.result.from c.draw_edges-e.result.to c.draw_edges-e.result.weight c.draw_edges-e.ensures.0 _ _ r.invariant.0.places.angle_size r.invariant.0.places.flow_size c.peak_state.ensures c.in-Answered.is _ _ _ _ _ _ _ (omega (arith, c.if-k-a.true)) (left_turn z.mode (length l.level) z.ladder.now l.level z.a.now z.b.now z.km.now z.share.now z.cap.now z.sheet.now _ l.k l.circuits l.banks l.floors l.upsized l.marks l.t _ _ _ _ _ _ c.loop-k-test.true c.size_corridor-t.ensures.sized ∙ l.invariant.7) _ l.invariant.2 _ _ _ c.raise_marked-moved.ensures c.if-moved-t.true,
+      sized_again z.mode z.above z.ladder.now z.a.now z.b.now z.km.now z.share.now z.cap.now z.sheet.now z.load.now z.bus.now z.pmax.now z.leader.now z.grounds.now z.injection.now (length z.leader.now) l.level r.level r.circuits r.banks r.floors r.upsized r.angle r.p (goes_on z.mode z.above z.ladder.now z.a.now z.b.now z.km.now z.share.now z.cap.now z.sheet.now z.load.now z.bus.now z.pmax.now z.leader.now z.grounds.now z.injection.now (length z.leader.now) z.budget z.level.now z.circuits.now z.banks.now z.floors.now z.upsized.now z.angle.now z.start) r.left (r.left - 1) (omega (arith, some_left c.if-left-eq0.false)) l.invariant.1 (sym r.invariant.0.places.leader_size) r.invariant.2 _ _ _ c.draw_edges-e.result.from c.draw_edges-e.result.to c.draw_edges-e.result.weight c.draw_edges-e.ensures.0 _ _ r.invariant.0.places.angle_size r.invariant.0.places.flow_size c.peak_state.ensures c.in-Ok.is _ _ _ _ _ _ _ (omega (arith, c.if-k-a.true)) (left_turn z.mode (length l.level) z.ladder.now l.level z.a.now z.b.now z.km.now z.share.now z.cap.now z.sheet.now _ l.k l.circuits l.banks l.floors l.upsized l.marks l.t _ _ _ _ _ _ c.loop-k-test.true c.size_corridor-t.ensures.sized ∙ l.invariant.7) _ l.invariant.2 _ _ _ c.raise_marked-moved.ensures c.if-moved-t.true,
     )
 
 promotes-requires :
@@ -456,11 +456,11 @@ whole c =
     c.loop-i.invariant.7
     (stiffens c.args.mode c.args.above c.args.ladder.now c.args.a.now c.args.b.now c.args.km.now c.args.share.now c.args.cap.now c.args.sheet.now c.args.load.now c.args.bus.now c.args.pmax.now c.args.leader.now c.args.grounds.now c.args.injection.now (length c.args.leader.now) c.loop-k.level c.rounds.level c.rounds.circuits c.rounds.banks c.rounds.floors c.rounds.upsized c.rounds.angle c.rounds.p
     (goes_on c.args.mode c.args.above c.args.ladder.now c.args.a.now c.args.b.now c.args.km.now c.args.share.now c.args.cap.now c.args.sheet.now c.args.load.now c.args.bus.now c.args.pmax.now c.args.leader.now c.args.grounds.now c.args.injection.now (length c.args.leader.now) c.args.budget c.args.level.now c.args.circuits.now c.args.banks.now c.args.floors.now c.args.upsized.now c.args.angle.now c.args.start)
-    c.rounds.left (c.rounds.left - 1) (omega (arith, some_left c.if-left-eq0.false)) c.loop-k.invariant.1 (sym c.rounds.invariant.0.places.leader_size) c.rounds.invariant.2 _ _ _ c.draw_edges-e.result.from c.draw_edges-e.result.to c.draw_edges-e.result.weight c.draw_edges-e.ensures.0 _ _ c.rounds.invariant.0.places.angle_size c.rounds.invariant.0.places.flow_size c.peak_state.ensures c.in-Answered.is c.loop-k.circuits c.loop-k.banks c.loop-k.floors c.loop-k.upsized c.loop-k.marks c.loop-k.t c.loop-k.k c.loop-k-test.false c.loop-k.invariant.7
+    c.rounds.left (c.rounds.left - 1) (omega (arith, some_left c.if-left-eq0.false)) c.loop-k.invariant.1 (sym c.rounds.invariant.0.places.leader_size) c.rounds.invariant.2 _ _ _ c.draw_edges-e.result.from c.draw_edges-e.result.to c.draw_edges-e.result.weight c.draw_edges-e.ensures.0 _ _ c.rounds.invariant.0.places.angle_size c.rounds.invariant.0.places.flow_size c.peak_state.ensures c.in-Ok.is c.loop-k.circuits c.loop-k.banks c.loop-k.floors c.loop-k.upsized c.loop-k.marks c.loop-k.t c.loop-k.k c.loop-k-test.false c.loop-k.invariant.7
     (c.loop-k.invariant.8 (le_antisymm c.loop-k.invariant.0 c.loop-k-test.false)).1 (c.loop-k.invariant.8 (le_antisymm c.loop-k.invariant.0 c.loop-k-test.false)).2 (c.loop-k.invariant.8 (le_antisymm c.loop-k.invariant.0 c.loop-k-test.false)).0 c.loop-k.p c.loop-k.invariant.2 c.limits_of-g.result _ _ c.limits_of-g.ensures c.stiffness_from-s.ensures.0 c.stiffness_from-s.ensures.1)
 
 enum-known-f-2 :
-    tie.Need-enum_known-f-in-Refused-stiffen_led
+    tie.Need-enum_known-f-in-Err-stiffen_led
     invariant-loop
     decreases-loop
     invariant-loop2
@@ -479,12 +479,12 @@ add-i c = omega (arith, c.loop-i-test.true, c.rounds.invariant.0.places.leader_s
 -- and so it does with this component done
 next : (c : Dom add-i)
     → Alike c.args.mode c.args.above c.args.ladder.now c.args.a.now c.args.b.now c.args.km.now c.args.share.now c.args.cap.now c.args.sheet.now c.args.load.now c.args.bus.now c.args.pmax.now c.args.leader.now c.args.grounds.now c.args.injection.now (length c.args.leader.now)
-    (stiffens_on c.args.mode c.args.above c.args.ladder.now c.args.a.now c.args.b.now c.args.km.now c.args.share.now c.args.cap.now c.args.sheet.now c.args.load.now c.args.bus.now c.args.pmax.now c.args.leader.now c.args.grounds.now c.args.injection.now (length c.args.leader.now) (c.rounds.left - 1) c.loop-i.level c.limits_of-g.result c.draw_edges-e.result.from c.draw_edges-e.result.to c.draw_edges-e.result.weight c.peak_state.new.angle c.peak_state.new.flow c.loop-i.p c.loop-k.t (c.loop-i.i + 1) c.stiffen_led.new.circuits c.stiffen_led.new.banks c.stiffen_led.new.floors c.stiffen_led.new.upsized c.stiffen_led.new.marks c.in-Going.u)
+    (stiffens_on c.args.mode c.args.above c.args.ladder.now c.args.a.now c.args.b.now c.args.km.now c.args.share.now c.args.cap.now c.args.sheet.now c.args.load.now c.args.bus.now c.args.pmax.now c.args.leader.now c.args.grounds.now c.args.injection.now (length c.args.leader.now) (c.rounds.left - 1) c.loop-i.level c.limits_of-g.result c.draw_edges-e.result.from c.draw_edges-e.result.to c.draw_edges-e.result.weight c.peak_state.new.angle c.peak_state.new.flow c.loop-i.p c.loop-k.t (c.loop-i.i + 1) c.stiffen_led.new.circuits c.stiffen_led.new.banks c.stiffen_led.new.floors c.stiffen_led.new.upsized c.stiffen_led.new.marks c.in-Ok-stiffen_led.u)
     (goes_on c.args.mode c.args.above c.args.ladder.now c.args.a.now c.args.b.now c.args.km.now c.args.share.now c.args.cap.now c.args.sheet.now c.args.load.now c.args.bus.now c.args.pmax.now c.args.leader.now c.args.grounds.now c.args.injection.now (length c.args.leader.now) c.args.budget c.args.level.now c.args.circuits.now c.args.banks.now c.args.floors.now c.args.upsized.now c.args.angle.now c.args.start)
 next c =
     stiffen_next c.args.mode c.args.above c.args.ladder.now c.args.a.now c.args.b.now c.args.km.now c.args.share.now c.args.cap.now c.args.sheet.now c.args.load.now c.args.bus.now c.args.pmax.now c.args.leader.now c.args.grounds.now c.args.injection.now (length c.args.leader.now)
     (goes_on c.args.mode c.args.above c.args.ladder.now c.args.a.now c.args.b.now c.args.km.now c.args.share.now c.args.cap.now c.args.sheet.now c.args.load.now c.args.bus.now c.args.pmax.now c.args.leader.now c.args.grounds.now c.args.injection.now (length c.args.leader.now) c.args.budget c.args.level.now c.args.circuits.now c.args.banks.now c.args.floors.now c.args.upsized.now c.args.angle.now c.args.start)
-    (c.rounds.left - 1) c.loop-i.level c.limits_of-g.result c.draw_edges-e.result.from c.draw_edges-e.result.to c.draw_edges-e.result.weight c.peak_state.new.angle c.peak_state.new.flow c.loop-i.p c.loop-k.t (ap (λ (x : List ℕ). length x) (c.loop-i.invariant.1 ∙ c.loop-k.invariant.1) ∙ sym c.rounds.invariant.0.places.leader_size) c.loop-i.i c.loop-i.circuits c.loop-i.banks c.loop-i.floors c.loop-i.upsized c.loop-i.marks c.loop-i.s (whole c.before.before.before.before.before.before.before.before.before.before.before.before) c.loop-i-test.true c.stiffen_led.new.circuits c.stiffen_led.new.banks c.stiffen_led.new.floors c.stiffen_led.new.upsized c.stiffen_led.new.marks c.stiffen_led.result c.stiffen_led.ensures c.in-Going.u c.in-Going.is
+    (c.rounds.left - 1) c.loop-i.level c.limits_of-g.result c.draw_edges-e.result.from c.draw_edges-e.result.to c.draw_edges-e.result.weight c.peak_state.new.angle c.peak_state.new.flow c.loop-i.p c.loop-k.t (ap (λ (x : List ℕ). length x) (c.loop-i.invariant.1 ∙ c.loop-k.invariant.1) ∙ sym c.rounds.invariant.0.places.leader_size) c.loop-i.i c.loop-i.circuits c.loop-i.banks c.loop-i.floors c.loop-i.upsized c.loop-i.marks c.loop-i.s (whole c.before.before.before.before.before.before.before.before.before.before.before.before) c.loop-i-test.true c.stiffen_led.new.circuits c.stiffen_led.new.banks c.stiffen_led.new.floors c.stiffen_led.new.upsized c.stiffen_led.new.marks c.stiffen_led.result c.stiffen_led.ensures c.in-Ok-stiffen_led.u c.in-Ok-stiffen_led.is
 
 raise-marked-requires-2 :
     tie.Need-raise_marked-moved-requires-then-i-leader
@@ -544,7 +544,7 @@ rounds-again-3 c =
     let lv = k.invariant.1 ∙ l.invariant.1 in
     let pv = k.invariant.2 ∙ l.invariant.2 in
     let ln = ap (λ (x : List ℕ). length x) lv in
-    let w = subst (λ (x : Stiffened). Within (length z.a.now) k.s x) c.in-Going.is c.stiffen_led.ensures.bound in
+    let w = subst (λ (x : Result Stiffness Refusal). Within (length z.a.now) k.s x) c.in-Ok-stiffen_led.is c.stiffen_led.ensures.bound in
     let n = c.raise_marked-moved-then-i-leader.auto.level ∙ ln in (
       fit_again
           f
@@ -570,7 +570,7 @@ rounds-again-3 c =
       n ∙ r.invariant.1,
       stiffened_again z.mode z.above z.ladder.now z.a.now z.b.now z.km.now z.share.now z.cap.now z.sheet.now z.load.now z.bus.now z.pmax.now z.leader.now z.grounds.now z.injection.now (length z.leader.now)
           (goes_on z.mode z.above z.ladder.now z.a.now z.b.now z.km.now z.share.now z.cap.now z.sheet.now z.load.now z.bus.now z.pmax.now z.leader.now z.grounds.now z.injection.now (length z.leader.now) z.budget z.level.now z.circuits.now z.banks.now z.floors.now z.upsized.now z.angle.now z.start)
-          (r.left - 1) k.level c.limits_of-g.result c.draw_edges-e.result.from c.draw_edges-e.result.to c.draw_edges-e.result.weight c.peak_state.new.angle c.peak_state.new.flow k.p l.t (ln ∙ sym f.places.leader_size) (k.i + 1) c.stiffen_led.new.circuits c.stiffen_led.new.banks c.stiffen_led.new.floors c.stiffen_led.new.upsized c.stiffen_led.new.marks c.in-Going.u (next c.before.before.before.before.before.before.before.before.before.before.before) (omega (arith, c.if-i-leader.true)) (omega (arith, ap (λ (q : Progress). q.rounds) (k.invariant.2 ∙ l.invariant.2))) (ap (λ (q : Progress). q.converged) (k.invariant.2 ∙ l.invariant.2)) (ap (λ (q : Progress). q.settled) (k.invariant.2 ∙ l.invariant.2)) c.raise_marked-moved-then-i-leader.new.level c.raise_marked-moved-then-i-leader.new.banks c.raise_marked-moved-then-i-leader.result c.raise_marked-moved-then-i-leader.ensures c.if-moved-s.true,
+          (r.left - 1) k.level c.limits_of-g.result c.draw_edges-e.result.from c.draw_edges-e.result.to c.draw_edges-e.result.weight c.peak_state.new.angle c.peak_state.new.flow k.p l.t (ln ∙ sym f.places.leader_size) (k.i + 1) c.stiffen_led.new.circuits c.stiffen_led.new.banks c.stiffen_led.new.floors c.stiffen_led.new.upsized c.stiffen_led.new.marks c.in-Ok-stiffen_led.u (next c.before.before.before.before.before.before.before.before.before.before.before) (omega (arith, c.if-i-leader.true)) (omega (arith, ap (λ (q : Progress). q.rounds) (k.invariant.2 ∙ l.invariant.2))) (ap (λ (q : Progress). q.converged) (k.invariant.2 ∙ l.invariant.2)) (ap (λ (q : Progress). q.settled) (k.invariant.2 ∙ l.invariant.2)) c.raise_marked-moved-then-i-leader.new.level c.raise_marked-moved-then-i-leader.new.banks c.raise_marked-moved-then-i-leader.result c.raise_marked-moved-then-i-leader.ensures c.if-moved-s.true,
     )
 
 loop2-less :
@@ -599,7 +599,7 @@ loop2-again c =
     let f = r.invariant.0 in
     let lv = k.invariant.1 ∙ l.invariant.1 in
     let ln = ap (λ (x : List ℕ). length x) lv in
-    let w = subst (λ (x : Stiffened). Within (length z.a.now) k.s x) c.in-Going.is c.stiffen_led.ensures.bound in (
+    let w = subst (λ (x : Result Stiffness Refusal). Within (length z.a.now) k.s x) c.in-Ok-stiffen_led.is c.stiffen_led.ensures.bound in (
       omega (arith, c.loop-i-test.true, c.if-i-leader.false),
       k.invariant.1,
       k.invariant.2,
@@ -609,7 +609,7 @@ loop2-again c =
       (circuits_more _ k.s.total _ (length z.a.now) k.i w.0 k.invariant.6.0 f.columns.few, ends_more _ k.s.hv _ (length z.a.now) k.i w.1 k.invariant.6.1 f.columns.few, circuits_more _ k.s.stiffening _ (length z.a.now) k.i w.2 k.invariant.6.2 f.columns.few),
       stiffen_next z.mode z.above z.ladder.now z.a.now z.b.now z.km.now z.share.now z.cap.now z.sheet.now z.load.now z.bus.now z.pmax.now z.leader.now z.grounds.now z.injection.now (length z.leader.now)
           (stiffens_on z.mode z.above z.ladder.now z.a.now z.b.now z.km.now z.share.now z.cap.now z.sheet.now z.load.now z.bus.now z.pmax.now z.leader.now z.grounds.now z.injection.now (length z.leader.now) (r.left - 1) l.level c.limits_of-g.result c.draw_edges-e.result.from c.draw_edges-e.result.to c.draw_edges-e.result.weight c.peak_state.new.angle c.peak_state.new.flow l.p l.t 0 l.circuits l.banks l.floors l.upsized c.stiffness_from-s.new.marks c.stiffness_from-s.result)
-          (r.left - 1) k.level c.limits_of-g.result c.draw_edges-e.result.from c.draw_edges-e.result.to c.draw_edges-e.result.weight c.peak_state.new.angle c.peak_state.new.flow k.p l.t (ln ∙ sym f.places.leader_size) k.i k.circuits k.banks k.floors k.upsized k.marks k.s k.invariant.7 c.loop-i-test.true c.stiffen_led.new.circuits c.stiffen_led.new.banks c.stiffen_led.new.floors c.stiffen_led.new.upsized c.stiffen_led.new.marks c.stiffen_led.result c.stiffen_led.ensures c.in-Going.u c.in-Going.is,
+          (r.left - 1) k.level c.limits_of-g.result c.draw_edges-e.result.from c.draw_edges-e.result.to c.draw_edges-e.result.weight c.peak_state.new.angle c.peak_state.new.flow k.p l.t (ln ∙ sym f.places.leader_size) k.i k.circuits k.banks k.floors k.upsized k.marks k.s k.invariant.7 c.loop-i-test.true c.stiffen_led.new.circuits c.stiffen_led.new.banks c.stiffen_led.new.floors c.stiffen_led.new.upsized c.stiffen_led.new.marks c.stiffen_led.result c.stiffen_led.ensures c.in-Ok-stiffen_led.u c.in-Ok-stiffen_led.is,
     )
 
 same_length :
@@ -705,11 +705,11 @@ returns c =
     }
 
 same-length-9 :
-    tie.Need-shape_of-circuits-in-Refused invariant-loop decreases-loop invariant-loop2 decreases-loop2 invariant-rounds decreases-rounds
+    tie.Need-shape_of-circuits-in-Err invariant-loop decreases-loop invariant-loop2 decreases-loop2 invariant-rounds decreases-rounds
 same-length-9 c = c.rounds.invariant.0.places.count_size ∙ sym c.requires.places.count_size
 
 same-length-10 :
-    tie.Need-shape_of-banks-in-Refused
+    tie.Need-shape_of-banks-in-Err
     invariant-loop
     decreases-loop
     invariant-loop2
@@ -719,7 +719,7 @@ same-length-10 :
 same-length-10 c = c.rounds.invariant.0.places.bank_size ∙ sym c.requires.places.bank_size
 
 same-length-11 :
-    tie.Need-shape_of-floors-in-Refused
+    tie.Need-shape_of-floors-in-Err
     invariant-loop
     decreases-loop
     invariant-loop2
@@ -729,7 +729,7 @@ same-length-11 :
 same-length-11 c = c.rounds.invariant.0.places.floor_size ∙ sym c.requires.places.floor_size
 
 same-length-12 :
-    tie.Need-shape_of-upsized-in-Refused
+    tie.Need-shape_of-upsized-in-Err
     invariant-loop
     decreases-loop
     invariant-loop2
@@ -739,7 +739,7 @@ same-length-12 :
 same-length-12 c = c.rounds.invariant.0.places.upsized_size ∙ sym c.requires.places.upsized_size
 
 same-length-13 :
-    tie.Need-shape_of-level-in-Refused
+    tie.Need-shape_of-level-in-Err
     invariant-loop
     decreases-loop
     invariant-loop2
@@ -749,7 +749,7 @@ same-length-13 :
 same-length-13 c = c.rounds.invariant.1
 
 same-length-14 :
-    tie.Need-shape_of-marks-in-Refused
+    tie.Need-shape_of-marks-in-Err
     invariant-loop
     decreases-loop
     invariant-loop2
@@ -759,7 +759,7 @@ same-length-14 :
 same-length-14 c = c.rounds.invariant.0.places.mark_size ∙ c.rounds.invariant.1 ∙ sym c.requires.places.mark_size
 
 same-length-15 :
-    tie.Need-shape_of-angle-in-Refused
+    tie.Need-shape_of-angle-in-Err
     invariant-loop
     decreases-loop
     invariant-loop2
@@ -769,7 +769,7 @@ same-length-15 :
 same-length-15 c = c.peak_state.auto.angle ∙ c.rounds.invariant.0.places.angle_size ∙ c.rounds.invariant.1 ∙ sym c.requires.places.angle_size
 
 same-length-16 :
-    tie.Need-shape_of-flow-in-Refused
+    tie.Need-shape_of-flow-in-Err
     invariant-loop
     decreases-loop
     invariant-loop2
@@ -779,12 +779,12 @@ same-length-16 :
 same-length-16 c = c.peak_state.auto.flow ∙ c.rounds.invariant.0.places.flow_size ∙ sym c.requires.places.flow_size
 
 returns-2 :
-    tie.Need-returns-in-Refused invariant-loop decreases-loop invariant-loop2 decreases-loop2 invariant-rounds decreases-rounds
+    tie.Need-returns-in-Err invariant-loop decreases-loop invariant-loop2 decreases-loop2 invariant-rounds decreases-rounds
 returns-2 c =
     let z = c.args in
     let r = c.rounds in
     record {
-      ran = λ o target s e caps. round_refused z.mode z.above z.ladder.now z.a.now z.b.now z.km.now z.share.now z.cap.now z.sheet.now z.load.now z.bus.now z.pmax.now z.leader.now z.grounds.now z.injection.now (length z.leader.now) r.level r.level r.circuits r.banks r.floors r.upsized r.angle r.p (goes_on z.mode z.above z.ladder.now z.a.now z.b.now z.km.now z.share.now z.cap.now z.sheet.now z.load.now z.bus.now z.pmax.now z.leader.now z.grounds.now z.injection.now (length z.leader.now) z.budget z.level.now z.circuits.now z.banks.now z.floors.now z.upsized.now z.angle.now z.start) r.left (r.left - 1) (omega (arith, some_left c.if-left-eq0.false)) refl (sym r.invariant.0.places.leader_size) r.invariant.2 _ _ _ c.draw_edges-e.result.from c.draw_edges-e.result.to c.draw_edges-e.result.weight c.draw_edges-e.ensures.0 _ _ r.invariant.0.places.angle_size r.invariant.0.places.flow_size c.peak_state.ensures _ c.in-Refused.is o target s (c.requires.places.leader_size ∙ e, caps);
+      ran = λ o target s e caps. round_refused z.mode z.above z.ladder.now z.a.now z.b.now z.km.now z.share.now z.cap.now z.sheet.now z.load.now z.bus.now z.pmax.now z.leader.now z.grounds.now z.injection.now (length z.leader.now) r.level r.level r.circuits r.banks r.floors r.upsized r.angle r.p (goes_on z.mode z.above z.ladder.now z.a.now z.b.now z.km.now z.share.now z.cap.now z.sheet.now z.load.now z.bus.now z.pmax.now z.leader.now z.grounds.now z.injection.now (length z.leader.now) z.budget z.level.now z.circuits.now z.banks.now z.floors.now z.upsized.now z.angle.now z.start) r.left (r.left - 1) (omega (arith, some_left c.if-left-eq0.false)) refl (sym r.invariant.0.places.leader_size) r.invariant.2 _ _ _ c.draw_edges-e.result.from c.draw_edges-e.result.to c.draw_edges-e.result.weight c.draw_edges-e.ensures.0 _ _ r.invariant.0.places.angle_size r.invariant.0.places.flow_size c.peak_state.ensures _ c.in-Err.is o target s (c.requires.places.leader_size ∙ e, caps);
       lines = r.invariant.0.columns.lines;
       banked = r.invariant.0.banked;
       few = r.invariant.0.few;
@@ -877,14 +877,14 @@ returns-3 c =
     let r = c.rounds in
     let l = c.loop-k in
     record {
-      ran = λ o target s e caps. sized_settled z.mode z.above z.ladder.now z.a.now z.b.now z.km.now z.share.now z.cap.now z.sheet.now z.load.now z.bus.now z.pmax.now z.leader.now z.grounds.now z.injection.now (length z.leader.now) l.level r.level r.circuits r.banks r.floors r.upsized r.angle r.p (goes_on z.mode z.above z.ladder.now z.a.now z.b.now z.km.now z.share.now z.cap.now z.sheet.now z.load.now z.bus.now z.pmax.now z.leader.now z.grounds.now z.injection.now (length z.leader.now) z.budget z.level.now z.circuits.now z.banks.now z.floors.now z.upsized.now z.angle.now z.start) r.left (r.left - 1) (omega (arith, some_left c.if-left-eq0.false)) l.invariant.1 (sym r.invariant.0.places.leader_size) r.invariant.2 _ _ _ c.draw_edges-e.result.from c.draw_edges-e.result.to c.draw_edges-e.result.weight c.draw_edges-e.ensures.0 _ _ r.invariant.0.places.angle_size r.invariant.0.places.flow_size c.peak_state.ensures c.in-Answered.is _ _ _ _ _ _ _ (omega (arith, c.if-k-a.true)) (left_turn z.mode (length l.level) z.ladder.now l.level z.a.now z.b.now z.km.now z.share.now z.cap.now z.sheet.now _ l.k l.circuits l.banks l.floors l.upsized l.marks l.t _ _ _ _ _ _ c.loop-k-test.true c.size_corridor-t.ensures.sized ∙ l.invariant.7) _ l.invariant.2 _ _ _ c.raise_marked-moved.ensures c.if-moved-t.false (sym c.promotes.ensures ∙ c.if-not-promotes.true) o target s (c.requires.places.leader_size ∙ e, caps);
+      ran = λ o target s e caps. sized_settled z.mode z.above z.ladder.now z.a.now z.b.now z.km.now z.share.now z.cap.now z.sheet.now z.load.now z.bus.now z.pmax.now z.leader.now z.grounds.now z.injection.now (length z.leader.now) l.level r.level r.circuits r.banks r.floors r.upsized r.angle r.p (goes_on z.mode z.above z.ladder.now z.a.now z.b.now z.km.now z.share.now z.cap.now z.sheet.now z.load.now z.bus.now z.pmax.now z.leader.now z.grounds.now z.injection.now (length z.leader.now) z.budget z.level.now z.circuits.now z.banks.now z.floors.now z.upsized.now z.angle.now z.start) r.left (r.left - 1) (omega (arith, some_left c.if-left-eq0.false)) l.invariant.1 (sym r.invariant.0.places.leader_size) r.invariant.2 _ _ _ c.draw_edges-e.result.from c.draw_edges-e.result.to c.draw_edges-e.result.weight c.draw_edges-e.ensures.0 _ _ r.invariant.0.places.angle_size r.invariant.0.places.flow_size c.peak_state.ensures c.in-Ok.is _ _ _ _ _ _ _ (omega (arith, c.if-k-a.true)) (left_turn z.mode (length l.level) z.ladder.now l.level z.a.now z.b.now z.km.now z.share.now z.cap.now z.sheet.now _ l.k l.circuits l.banks l.floors l.upsized l.marks l.t _ _ _ _ _ _ c.loop-k-test.true c.size_corridor-t.ensures.sized ∙ l.invariant.7) _ l.invariant.2 _ _ _ c.raise_marked-moved.ensures c.if-moved-t.false (sym c.promotes.ensures ∙ c.if-not-promotes.true) o target s (c.requires.places.leader_size ∙ e, caps);
       lines = c.raise_marked-moved.ensures.lines;
       banked = c.raise_marked-moved.ensures.banked;
       few = c.size_corridor-t.ensures.few l.invariant.5;
     }
 
 same-length-25 :
-    tie.Need-shape_of-circuits-in-Refused-stiffen_led
+    tie.Need-shape_of-circuits-in-Err-stiffen_led
     invariant-loop
     decreases-loop
     invariant-loop2
@@ -894,7 +894,7 @@ same-length-25 :
 same-length-25 c = c.stiffen_led.auto.circuits ∙ c.loop-i.invariant.3.0 ∙ c.loop-k.invariant.3.count_size ∙ sym c.requires.places.count_size
 
 same-length-26 :
-    tie.Need-shape_of-banks-in-Refused-stiffen_led
+    tie.Need-shape_of-banks-in-Err-stiffen_led
     invariant-loop
     decreases-loop
     invariant-loop2
@@ -904,7 +904,7 @@ same-length-26 :
 same-length-26 c = c.stiffen_led.auto.banks ∙ c.loop-i.invariant.3.1 ∙ c.loop-k.invariant.3.bank_size ∙ sym c.requires.places.bank_size
 
 same-length-27 :
-    tie.Need-shape_of-floors-in-Refused-stiffen_led
+    tie.Need-shape_of-floors-in-Err-stiffen_led
     invariant-loop
     decreases-loop
     invariant-loop2
@@ -914,7 +914,7 @@ same-length-27 :
 same-length-27 c = c.stiffen_led.auto.floors ∙ c.loop-i.invariant.3.2 ∙ c.loop-k.invariant.3.floor_size ∙ sym c.requires.places.floor_size
 
 same-length-28 :
-    tie.Need-shape_of-upsized-in-Refused-stiffen_led
+    tie.Need-shape_of-upsized-in-Err-stiffen_led
     invariant-loop
     decreases-loop
     invariant-loop2
@@ -924,7 +924,7 @@ same-length-28 :
 same-length-28 c = c.stiffen_led.auto.upsized ∙ c.loop-i.invariant.3.3 ∙ c.loop-k.invariant.3.upsized_size ∙ sym c.requires.places.upsized_size
 
 same-length-29 :
-    tie.Need-shape_of-level-in-Refused-stiffen_led
+    tie.Need-shape_of-level-in-Err-stiffen_led
     invariant-loop
     decreases-loop
     invariant-loop2
@@ -934,7 +934,7 @@ same-length-29 :
 same-length-29 c = ap (λ (x : List ℕ). length x) (c.loop-i.invariant.1 ∙ c.loop-k.invariant.1) ∙ c.rounds.invariant.1
 
 same-length-30 :
-    tie.Need-shape_of-marks-in-Refused-stiffen_led
+    tie.Need-shape_of-marks-in-Err-stiffen_led
     invariant-loop
     decreases-loop
     invariant-loop2
@@ -944,7 +944,7 @@ same-length-30 :
 same-length-30 c = c.stiffen_led.auto.marks ∙ c.loop-i.invariant.3.4 ∙ c.stiffness_from-s.auto.marks ∙ c.loop-k.invariant.3.mark_size ∙ ap (λ (x : List ℕ). length x) c.loop-k.invariant.1 ∙ c.rounds.invariant.1 ∙ sym c.requires.places.mark_size
 
 same-length-31 :
-    tie.Need-shape_of-angle-in-Refused-stiffen_led
+    tie.Need-shape_of-angle-in-Err-stiffen_led
     invariant-loop
     decreases-loop
     invariant-loop2
@@ -954,7 +954,7 @@ same-length-31 :
 same-length-31 c = c.peak_state.auto.angle ∙ c.rounds.invariant.0.places.angle_size ∙ c.rounds.invariant.1 ∙ sym c.requires.places.angle_size
 
 same-length-32 :
-    tie.Need-shape_of-flow-in-Refused-stiffen_led
+    tie.Need-shape_of-flow-in-Err-stiffen_led
     invariant-loop
     decreases-loop
     invariant-loop2
@@ -964,7 +964,7 @@ same-length-32 :
 same-length-32 c = c.peak_state.auto.flow ∙ c.rounds.invariant.0.places.flow_size ∙ sym c.requires.places.flow_size
 
 returns-4 :
-    tie.Need-returns-in-Refused-stiffen_led invariant-loop decreases-loop invariant-loop2 decreases-loop2 invariant-rounds decreases-rounds
+    tie.Need-returns-in-Err-stiffen_led invariant-loop decreases-loop invariant-loop2 decreases-loop2 invariant-rounds decreases-rounds
 returns-4 c =
     let z = c.args in
     let r = c.rounds in
@@ -976,7 +976,7 @@ returns-4 c =
     record {
       ran = λ o target s e caps. stiffen_refused z.mode z.above z.ladder.now z.a.now z.b.now z.km.now z.share.now z.cap.now z.sheet.now z.load.now z.bus.now z.pmax.now z.leader.now z.grounds.now z.injection.now (length z.leader.now)
           (goes_on z.mode z.above z.ladder.now z.a.now z.b.now z.km.now z.share.now z.cap.now z.sheet.now z.load.now z.bus.now z.pmax.now z.leader.now z.grounds.now z.injection.now (length z.leader.now) z.budget z.level.now z.circuits.now z.banks.now z.floors.now z.upsized.now z.angle.now z.start)
-          (r.left - 1) k.level c.limits_of-g.result c.draw_edges-e.result.from c.draw_edges-e.result.to c.draw_edges-e.result.weight c.peak_state.new.angle c.peak_state.new.flow k.p l.t (ln ∙ sym f.places.leader_size) k.i k.circuits k.banks k.floors k.upsized k.marks k.s (whole c.before.before.before.before.before.before.before.before.before.before.before.before) c.loop-i-test.true c.stiffen_led.new.circuits c.stiffen_led.new.banks c.stiffen_led.new.floors c.stiffen_led.new.upsized c.stiffen_led.new.marks c.stiffen_led.result c.stiffen_led.ensures _ c.in-Refused-stiffen_led.is o target s (c.requires.places.leader_size ∙ e, caps);
+          (r.left - 1) k.level c.limits_of-g.result c.draw_edges-e.result.from c.draw_edges-e.result.to c.draw_edges-e.result.weight c.peak_state.new.angle c.peak_state.new.flow k.p l.t (ln ∙ sym f.places.leader_size) k.i k.circuits k.banks k.floors k.upsized k.marks k.s (whole c.before.before.before.before.before.before.before.before.before.before.before.before) c.loop-i-test.true c.stiffen_led.new.circuits c.stiffen_led.new.banks c.stiffen_led.new.floors c.stiffen_led.new.upsized c.stiffen_led.new.marks c.stiffen_led.result c.stiffen_led.ensures _ c.in-Err-stiffen_led.is o target s (c.requires.places.leader_size ∙ e, caps);
       lines = subst (λ (x : List ℕ). Lines z.ladder.now x z.a.now z.b.now z.km.now z.share.now z.sheet.now) (sym lv) f.columns.lines;
       banked = c.stiffen_led.ensures.banked;
       few = c.stiffen_led.ensures.few k.invariant.5;
@@ -1075,7 +1075,7 @@ returns-5 c =
     record {
       ran = λ o target s e caps. stiffened_settled z.mode z.above z.ladder.now z.a.now z.b.now z.km.now z.share.now z.cap.now z.sheet.now z.load.now z.bus.now z.pmax.now z.leader.now z.grounds.now z.injection.now (length z.leader.now)
           (goes_on z.mode z.above z.ladder.now z.a.now z.b.now z.km.now z.share.now z.cap.now z.sheet.now z.load.now z.bus.now z.pmax.now z.leader.now z.grounds.now z.injection.now (length z.leader.now) z.budget z.level.now z.circuits.now z.banks.now z.floors.now z.upsized.now z.angle.now z.start)
-          (r.left - 1) k.level c.limits_of-g.result c.draw_edges-e.result.from c.draw_edges-e.result.to c.draw_edges-e.result.weight c.peak_state.new.angle c.peak_state.new.flow k.p l.t (ln ∙ sym f.places.leader_size) (k.i + 1) c.stiffen_led.new.circuits c.stiffen_led.new.banks c.stiffen_led.new.floors c.stiffen_led.new.upsized c.stiffen_led.new.marks c.in-Going.u (next c.before.before.before.before.before.before.before.before.before.before.before.before.before) (omega (arith, c.if-i-leader.true)) (omega (arith, ap (λ (q : Progress). q.rounds) (k.invariant.2 ∙ l.invariant.2))) (ap (λ (q : Progress). q.converged) (k.invariant.2 ∙ l.invariant.2)) (ap (λ (q : Progress). q.settled) (k.invariant.2 ∙ l.invariant.2)) c.raise_marked-moved-then-i-leader.new.level c.raise_marked-moved-then-i-leader.new.banks c.raise_marked-moved-then-i-leader.result c.raise_marked-moved-then-i-leader.ensures c.if-moved-s.false o target s (c.requires.places.leader_size ∙ e, caps);
+          (r.left - 1) k.level c.limits_of-g.result c.draw_edges-e.result.from c.draw_edges-e.result.to c.draw_edges-e.result.weight c.peak_state.new.angle c.peak_state.new.flow k.p l.t (ln ∙ sym f.places.leader_size) (k.i + 1) c.stiffen_led.new.circuits c.stiffen_led.new.banks c.stiffen_led.new.floors c.stiffen_led.new.upsized c.stiffen_led.new.marks c.in-Ok-stiffen_led.u (next c.before.before.before.before.before.before.before.before.before.before.before.before.before) (omega (arith, c.if-i-leader.true)) (omega (arith, ap (λ (q : Progress). q.rounds) (k.invariant.2 ∙ l.invariant.2))) (ap (λ (q : Progress). q.converged) (k.invariant.2 ∙ l.invariant.2)) (ap (λ (q : Progress). q.settled) (k.invariant.2 ∙ l.invariant.2)) c.raise_marked-moved-then-i-leader.new.level c.raise_marked-moved-then-i-leader.new.banks c.raise_marked-moved-then-i-leader.result c.raise_marked-moved-then-i-leader.ensures c.if-moved-s.false o target s (c.requires.places.leader_size ∙ e, caps);
       lines = c.raise_marked-moved-then-i-leader.ensures.lines;
       banked = c.raise_marked-moved-then-i-leader.ensures.banked;
       few = c.stiffen_led.ensures.few k.invariant.5;

@@ -1,9 +1,12 @@
 -- What planning says of the file and leaves is what the file's plan keeps (planned_kept).
+use Rattle.std.proofs.lemmas.Result.{err_from_is_err_and}
 use Rattle.previews.proofs.Planned.{planned_kept}
 use Rattle.previews.proofs.file.draft_file.Goals as goal
 
-pub returns-in-Refused : goal.returns-in-Refused
-returns-in-Refused c = planned_kept _ c.plan_file-plan.result c.plan_file-plan.ensures.planned c.in-Refused.is
+pub returns-in_err-planned : goal.returns-in_err-planned
+returns-in_err-planned c =
+    let p = err_from_is_err_and c.from_residual.result c.from_residual.ensures.1 in
+    rw (p.1, p.2) (planned_kept _ c.plan_file-plan.result c.plan_file-plan.ensures.planned c.in_err-planned.was)
 
-pub returns-in-Answered : goal.returns-in-Answered
-returns-in-Answered c = planned_kept _ c.plan_file-plan.result c.plan_file-plan.ensures.planned c.in-Answered.is
+pub returns : goal.returns
+returns c = planned_kept _ c.plan_file-plan.result c.plan_file-plan.ensures.planned c.in_ok-planned.was

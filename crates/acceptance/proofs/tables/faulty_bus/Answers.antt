@@ -1,0 +1,24 @@
+use Prim.Native.Nat.{◌-◌}
+use mathlib.Core.Path.{sym, ◌∙◌}
+use native.Mathlib.Omega.{arith}
+use Rattle.loops.proofs.Scan.{first_start, first_pass, first_stop, first_end}
+use Rattle.acceptance.proofs.Checks.{bus_is}
+use Rattle.acceptance.proofs.tables.faulty_bus.Goals as goal
+
+pub loop-i-init : goal.loop-i-init
+loop-i-init c = (omega arith, first_start _ _)
+
+pub returns-then-not-bus_ok : goal.returns-then-not-bus_ok
+returns-then-not-bus_ok c =
+    let l = c in
+    let z = l.args in
+    sym (first_stop _ _ l.loop-i.i (omega arith) (sym (bus_is z.requested z.tier.now z.reading.now z.weight.now l.loop-i.i _ (omega arith) c.bus_ok.ensures) ∙ c.if-not-bus_ok.true)) ∙ l.loop-i.invariant.1
+
+pub loop-i-preserved : goal.loop-i-preserved
+loop-i-preserved c =
+    let l = c in
+    let z = l.args in
+    (omega arith, sym (first_pass _ _ l.loop-i.i (omega arith) (sym (bus_is z.requested z.tier.now z.reading.now z.weight.now l.loop-i.i _ (omega arith) c.bus_ok.ensures) ∙ c.if-not-bus_ok.false)) ∙ l.loop-i.invariant.1)
+
+pub returns : goal.returns
+returns c = sym (first_end _ _ c.loop-i.i (omega arith)) ∙ c.loop-i.invariant.1

@@ -1,0 +1,13 @@
+use Prim.Native.Nat.{◌-◌, ◌≤◌}
+use mathlib.Core.Path.{◌≡◌}
+use lib.ListN.{length}
+use Rattle.loops.specs.Figures.{nought}
+use Rattle.loops.specs.Loops.{tab}
+use Rattle.loops.specs.Parts.{put}
+use Rattle.angles.proofs.vectors.clear.Given as goal
+
+abbrev pub invariant-loop-i : goal.invariant-loop-i
+invariant-loop-i l = (l.i ≤ l.n) × (length l.w ≡ length l.initial.w) × (l.w ≡ put l.initial.w l.o (tab l.i (λ k. nought)))
+
+abbrev pub decreases-loop-i : goal.decreases-loop-i
+decreases-loop-i l = l.n - l.i

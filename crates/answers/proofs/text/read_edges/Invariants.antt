@@ -1,0 +1,10 @@
+use Prim.Native.Nat.{◌-◌, ◌≤◌}
+use lib.ListN.{length}
+use mathlib.Core.Path.{◌≡◌}
+use Rattle.answers.proofs.text.read_edges.Given as goal
+
+abbrev pub invariant-loop-k : goal.invariant-loop-k
+invariant-loop-k l = (l.k ≤ l.m) × (l.s.at ≤ length l.line) × (length l.a ≡ length l.initial.a) × (length l.b ≡ length l.initial.b) × (length l.w ≡ length l.initial.w)
+
+abbrev pub decreases-loop-k : goal.decreases-loop-k
+decreases-loop-k l = l.m - l.k

@@ -1,0 +1,16 @@
+-- Each return is one way through the definition.
+use Prim.Native.Nat.{ℕ}
+use mathlib.Core.Path.{ap, ◌∙◌}
+use Rattle.casefile_defs.specs.declared.CaseRead.{CaseRead}
+use Rattle.casefile.proofs.Fitted.{zeros}
+use Rattle.casefile.proofs.Moves.{forward_length, forward_whole}
+use Rattle.casefile.proofs.move_forward.Goals as goal
+
+pub returns-then-out-ne-MOST_BYTES : goal.returns-then-out-ne-MOST_BYTES
+returns-then-out-ne-MOST_BYTES c = forward_length _ _ c.if-out-ne-MOST_BYTES.true
+
+pub forward_by-requires : goal.forward_by-requires
+forward_by-requires c = record { read = ap (λ (x : CaseRead). x.reading) c.read_as-read.ensures; clear = c.clear.ensures ∙ ap (λ (n : ℕ). zeros n) c.if-out-ne-MOST_BYTES.false }
+
+pub returns : goal.returns
+returns c = forward_whole _ _ _ _ c.if-out-ne-MOST_BYTES.false c.read_as-read.ensures c.forward_by.ensures

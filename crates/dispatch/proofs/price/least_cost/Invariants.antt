@@ -1,0 +1,13 @@
+-- The invariant: the least of the costs passed.
+use Prim.Native.Nat.{◌-◌, ◌≤◌}
+use mathlib.Core.Path.{◌≡◌}
+use lib.ListN.{length}
+use Rattle.loops.specs.Loops.{least_to}
+use Rattle.dispatch_defs.specs.Units.{cost_at}
+use Rattle.dispatch.proofs.price.least_cost.Given as goal
+
+abbrev pub invariant-loop-i : goal.invariant-loop-i
+invariant-loop-i l = (l.i ≤ length l.p) × (l.least ≡ least_to (cost_at l.p l.c1 l.c2) l.i)
+
+abbrev pub decreases-loop-i : goal.decreases-loop-i
+decreases-loop-i l = length l.p - l.i

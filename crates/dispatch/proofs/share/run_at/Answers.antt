@@ -1,0 +1,21 @@
+use Prim.Native.Nat.{◌-◌}
+use mathlib.Core.Path.{refl}
+use native.Mathlib.Nat.{le_antisymm}
+use native.Mathlib.Omega.{arith}
+use borrow.Author.Rules.{rules}
+use lib.ListN.{length-set}
+use Rattle.loops.proofs.Tab.{fill_start, fill_turn, fill_end}
+use Rattle.dispatch_defs.specs.Units.{output_at}
+use Rattle.dispatch_defs.specs.Share.{outputs}
+use Rattle.dispatch.proofs.share.run_at.Goals as goal
+
+pub loop-i-init : goal.loop-i-init
+loop-i-init c = (search rules, refl, fill_start _ _)
+
+pub loop-i-preserved : goal.loop-i-preserved
+unfolding output_at
+loop-i-preserved c = (omega arith, simp length-set c.loop-i.invariant.1, fill_turn _ _ _ _ _ c.loop-i.invariant.2 (omega arith) c.output.ensures)
+
+pub returns : goal.returns
+unfolding outputs
+returns c = fill_end _ _ _ _ _ (omega arith) (le_antisymm c.loop-i.invariant.0 c.loop-i-test.false) c.loop-i.invariant.2

@@ -1,0 +1,5 @@
+-- Each part is what its call answers.
+use Rattle.dispatch.proofs.unit.output.Goals as goal
+
+pub returns : goal.returns
+returns c = cc

@@ -1,0 +1,10 @@
+use native.Mathlib.Omega.{arith}
+use Rattle.listing.specs.Lines.{added_line}
+use Rattle.listing.proofs.Texts.{puts}
+use Rattle.listing.proofs.line.put_added.Goals as goal
+
+pub returns : goal.returns
+unfolding added_line
+returns c =
+    let p = puts c.put_text-used.ensures (puts c.put_figure-used.ensures.0 c.put_text.ensures) in
+    (p, omega arith)

@@ -1,0 +1,18 @@
+use mathlib.Core.List.{[], ◌∷◌, ◌++◌, append_assoc, append-nil}
+use mathlib.Core.Path.{◌≡◌}
+use native.Mathlib.Omega.{arith}
+use Rattle.plan_defs.specs.declared.CorridorPlan.{CorridorPlan}
+use Rattle.listing.specs.Text.{number}
+use Rattle.listing.specs.Lines.{fields, tallies}
+use Rattle.listing.proofs.Texts.{puts, same_text}
+use Rattle.listing.proofs.line.put_tallies.Goals as goal
+
+joined : (p : CorridorPlan)
+    → fields (number p.capacity ∷ number p.stiffening ∷ number p.filler ∷ []) ++ (fields (number p.promoted ∷ number p.upsized ∷ number p.overloaded ∷ []) ++ number p.capped)
+    ≡ fields (tallies p)
+joined p = simp (append_assoc, append-nil)
+
+pub returns : goal.returns
+returns c =
+    let p = puts c.put_three-used.ensures.0 (puts c.put_three-used-2.ensures.0 c.put_number.ensures.0) in
+    (same_text (joined c.args.p) p, omega arith)

@@ -1,0 +1,13 @@
+use Prim.Native.Nat.{◌+◌, ◌-◌, ◌*◌, ◌≤◌}
+use mathlib.Core.Path.{◌≡◌}
+use lib.ListN.{length}
+use Rattle.listing.specs.Text.{Put}
+use Rattle.listing.specs.Lines.{line_room, lines}
+use Rattle.listing.proofs.table.put_generators.Given as goal
+
+abbrev pub invariant-loop-i : goal.invariant-loop-i
+invariant-loop-i l =
+    (l.i ≤ length l.mw) × (length l.out ≡ length l.initial.out) × (l.used ≤ l.len + line_room * l.i) × Put l.initial.out l.len (lines (line l.mw) l.i) l.out l.used
+
+abbrev pub decreases-loop-i : goal.decreases-loop-i
+decreases-loop-i l = length l.mw - l.i

@@ -1,0 +1,63 @@
+use Rattle.std.proofs.Common.{◌≡◌, ◌<◌, Bool, cond, length, refl, ap, ◌∙◌, arith}
+use Rattle.plan_defs.specs.Closing.{capped_of}
+use Rattle.plan_defs.specs.Lists.{count_from, counting}
+use Rattle.planning.proofs.Lists.{count_more}
+use Rattle.planning.proofs.Closings.{count_fits, capped_in, capped_is}
+use Rattle.planning.proofs.close.capped.Goals as goal
+
+pub loop-k-init : goal.loop-k-init
+unfolding count_from
+loop-k-init c = (omega arith, refl)
+
+pub bounds-banks-k : goal.bounds-banks-k
+bounds-banks-k c = omega (arith, c.requires.loaded.0.drawable.size)
+
+pub circuit-d-requires : goal.circuit-d-requires
+circuit-d-requires c =
+    let s = c in
+    let l = c.loop-k in
+    let h = c.loop-k-test.true in
+    record { lines = s.requires.lines; k_in_bounds = (h, s.requires.loaded.0.drawable.sound l.k (omega (arith, s.requires.loaded.0.drawable.size))) }
+
+pub offset_bounds-circuits-k : goal.offset_bounds-circuits-k
+offset_bounds-circuits-k c = record { fits = omega (arith, c.loop-k-test.true, c.requires.loaded.0.drawable.few) }
+
+pub bounds-circuits-k : goal.bounds-circuits-k
+bounds-circuits-k c = omega (arith, c.loop-k-test.true, c.requires.loaded.0.circuits_size)
+
+pub offset_bounds-flow-k : goal.offset_bounds-flow-k
+offset_bounds-flow-k c = record { fits = omega (arith, c.loop-k-test.true, c.requires.loaded.0.drawable.few) }
+
+pub bounds-flow-k : goal.bounds-flow-k
+bounds-flow-k c = omega (arith, c.loop-k-test.true, c.requires.loaded.0.flow_size)
+
+pub overflow_add-count : goal.overflow_add-count
+overflow_add-count c =
+    let s = c in
+    let l = c.loop-k in
+    record { fits = omega (arith, l.invariant.1, count_fits (capped_in s.args.mode s.args.ladder.now s.args.level.now s.args.a.now s.args.b.now s.args.km.now s.args.share.now s.args.cap.now s.args.sheet.now s.args.banks.now s.args.circuits.now s.args.flow.now) l.k c.one_if-count.result c.one_if-count.ensures.1 (omega (arith, l.invariant.0, s.requires.loaded.0.drawable.few))) }
+
+pub overflow_add-k : goal.overflow_add-k
+overflow_add-k c = record { fits = omega (arith, c.loop-k-test.true, c.requires.loaded.0.drawable.few) }
+
+pub loop-k-smaller : goal.loop-k-smaller
+loop-k-smaller c = omega (arith, c.loop-k-test.true)
+
+pub loop-k-preserved : goal.loop-k-preserved
+loop-k-preserved c =
+    let s = c in
+    let l = c.loop-k in
+    let h : l.k < length s.args.a.now = c.loop-k-test.true in
+    let e : c.one_if-count.result ≡ cond (capped_in s.args.mode s.args.ladder.now s.args.level.now s.args.a.now s.args.b.now s.args.km.now s.args.share.now s.args.cap.now s.args.sheet.now s.args.banks.now s.args.circuits.now s.args.flow.now l.k) 1 0 = c.one_if-count.ensures.0 ∙ ap (λ (t : Bool). cond t 1 0) (c.cap_full.ensures ∙ capped_is s.args.mode s.args.ladder.now s.args.level.now s.args.a.now s.args.b.now s.args.km.now s.args.share.now s.args.cap.now s.args.sheet.now s.args.banks.now s.args.circuits.now s.args.flow.now l.k _ _ h c.circuit-d.ensures c.cap_at-most.ensures.cap) in
+    (omega (arith, h), omega (arith, e, l.invariant.1, count_more (capped_in s.args.mode s.args.ladder.now s.args.level.now s.args.a.now s.args.b.now s.args.km.now s.args.share.now s.args.cap.now s.args.sheet.now s.args.banks.now s.args.circuits.now s.args.flow.now) l.k))
+
+pub returns : goal.returns
+unfolding capped_of
+returns c =
+    let s = c in
+    let l = c.loop-k in
+    let e : l.k ≡ length s.args.a.now = omega (arith, l.invariant.0, c.loop-k-test.false) in
+    l.invariant.1 ∙ ap (counting (capped_in s.args.mode s.args.ladder.now s.args.level.now s.args.a.now s.args.b.now s.args.km.now s.args.share.now s.args.cap.now s.args.sheet.now s.args.banks.now s.args.circuits.now s.args.flow.now)) e
+
+pub offset_bounds-cap-k : goal.offset_bounds-cap-k
+offset_bounds-cap-k c = record { fits = omega (arith, c.loop-k-test.true, c.requires.loaded.0.drawable.few) }

@@ -1,0 +1,5 @@
+-- Both comparisons are with the infinities of the definition.
+use Rattle.planning.proofs.figures.is_finite.Goals as goal
+
+pub returns : goal.returns
+returns c = cc

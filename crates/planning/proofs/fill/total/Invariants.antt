@@ -1,0 +1,11 @@
+-- The invariant: the sum of the counts passed, at most 64 for each.
+use Rattle.std.proofs.Common.{◌≡◌, ◌-◌, ◌*◌, ◌≤◌, length, take}
+use Rattle.plan_defs.specs.Constants.{most_initial}
+use Rattle.plan_defs.specs.Lists.{sum}
+use Rattle.planning.proofs.fill.total.Given as goal
+
+abbrev pub invariant-loop-k : goal.invariant-loop-k
+invariant-loop-k l = (l.k ≤ length l.circuits) × (l.total ≡ sum (take l.k l.circuits)) × (l.total ≤ most_initial * l.k)
+
+abbrev pub decreases-loop-k : goal.decreases-loop-k
+decreases-loop-k l = length l.circuits - l.k

@@ -1,0 +1,22 @@
+use Rattle.std.proofs.Common.{length, sym, ap, ◌∙◌, ⊎_elim, arith, eq-eqb, ne_eqb}
+use Rattle.loops.specs.Figures.{at, plus, nought}
+use Rattle.plan_defs.specs.Lists.{each}
+use Rattle.plan_defs.specs.Components.{within}
+use Rattle.planning.proofs.Passing.{pass_start, each_yes, each_no, each_end}
+use Rattle.planning.proofs.opening.demand_of.Goals as goal
+
+pub loop-i-init : goal.loop-i-init
+loop-i-init c = (omega arith, ap (λ ks. each (λ k s. plus s (at c.args.load.now k)) ks nought) (pass_start (within c.args.leader.now c.args.root) (length c.args.leader.now)))
+
+pub loop-i-preserved : goal.loop-i-preserved
+loop-i-preserved c =
+    let l = c.loop-i in (
+      omega arith,
+      ⊎_elim
+          (λ w. sym (each_yes _ (within c.args.leader.now c.args.root) (omega arith) (eq-eqb _ _ w.if-leader-i.true) w.demand-is) ∙ l.invariant.1)
+          (λ w. sym (each_no _ (within c.args.leader.now c.args.root) (omega arith) (ne_eqb _ _ w.if-leader-i.false) w.demand-is) ∙ l.invariant.1)
+          c.if-leader-i.branch-raw,
+    )
+
+pub returns : goal.returns
+returns c = sym (each_end _ (within c.args.leader.now c.args.root) (omega arith)) ∙ c.loop-i.invariant.1

@@ -1,0 +1,44 @@
+use Rattle.std.proofs.Common.{ℕ, replicate, sym, ap, ◌∙◌, arith}
+use Rattle.loops.specs.Figures.{nought}
+use Rattle.plan_defs.specs.Components.{leads}
+use Rattle.plan_defs.specs.Dispatch.{serve, dispatch_of}
+use Rattle.planning.specs.Opening.{dispatch_case}
+use Rattle.planning.proofs.Stages.{stage_start, stage_stopped, stage_going, stage_end}
+use Rattle.planning.proofs.opening.dispatch_components.Goals as goal
+
+pub loop-i-init : goal.loop-i-init
+unfolding dispatch_of
+loop-i-init c =
+    let s = c in (
+      omega arith,
+      c.clear_figures.auto.figures ∙ s.requires.3,
+      stage_start (serve (dispatch_case c.args.mode c.args.load.now c.args.bus.now c.args.pmin.now c.args.pmax.now c.args.c1.now c.args.c2.now) c.args.leader.now) (leads c.args.leader.now) _ _ _ (c.clear_figures.ensures ∙ ap (λ (n : ℕ). replicate n nought) s.requires.3),
+    )
+
+pub serve_led-requires : goal.serve_led-requires
+serve_led-requires c =
+    let s = c in
+    (omega arith, s.requires.0, s.requires.1, s.requires.2, c.loop-i.invariant.1)
+
+pub returns-in-Err : goal.returns-in-Err
+returns-in-Err c =
+    let s = c in
+    let l = c.loop-i in
+    stage_stopped (serve (dispatch_case s.args.mode s.args.load.now s.args.bus.now s.args.pmin.now s.args.pmax.now s.args.c1.now s.args.c2.now) s.args.leader.now) (leads s.args.leader.now) _ l.i (omega arith) l.mw _ c.serve_led.result c.serve_led.ensures _ c.in-Err.is ∙ l.invariant.2
+
+pub loop-i-preserved : goal.loop-i-preserved
+loop-i-preserved c =
+    let s = c in
+    let l = c.loop-i in (
+      omega arith,
+      c.serve_led.auto.mw ∙ l.invariant.1,
+      stage_going (serve (dispatch_case s.args.mode s.args.load.now s.args.bus.now s.args.pmin.now s.args.pmax.now s.args.c1.now s.args.c2.now) s.args.leader.now) (leads s.args.leader.now) _ l.i (omega arith) l.mw _ c.serve_led.result c.serve_led.ensures c.in-Ok.is ∙ l.invariant.2,
+    )
+
+pub shape_of-mw : goal.shape_of-mw
+shape_of-mw c = c.loop-i.invariant.1 ∙ sym c.requires.3
+
+pub returns : goal.returns
+returns c =
+    let s = c in
+    sym (stage_end (serve (dispatch_case s.args.mode s.args.load.now s.args.bus.now s.args.pmin.now s.args.pmax.now s.args.c1.now s.args.c2.now) s.args.leader.now) (leads s.args.leader.now) _ c.loop-i.i (omega arith) _) ∙ c.loop-i.invariant.2

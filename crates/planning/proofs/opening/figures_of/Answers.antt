@@ -1,0 +1,28 @@
+use Rattle.std.proofs.Common.{◌<◌, length, ap, ◌∙◌, arith, rules}
+use Rattle.loops.specs.Figures.{at}
+use Rattle.loops.proofs.Tab.{fill_start, fill_turn}
+use Rattle.loops.proofs.Fronts.{front_filled, front_map}
+use Rattle.planning.proofs.opening.figures_of.Goals as goal
+
+pub loop-j-init : goal.loop-j-init
+loop-j-init c = (omega arith, fill_start _ _)
+
+pub offset_bounds-column-k : goal.offset_bounds-column-k
+offset_bounds-column-k c = let h : c.wide-k.result < length c.args.column.now = omega (arith, c.wide-k.ensures, c.requires.0.below c.loop-j.j (omega arith)) in search rules
+
+pub bounds-column-k : goal.bounds-column-k
+bounds-column-k c = omega (arith, c.wide-k.ensures, c.requires.0.below c.loop-j.j (omega arith))
+
+pub bounds-chosen-j : goal.bounds-chosen-j
+bounds-chosen-j c = omega (arith, c.requires.0.few)
+
+pub loop-j-preserved : goal.loop-j-preserved
+loop-j-preserved c = (
+  omega arith,
+  fill_turn _ _ _ _ _ c.loop-j.invariant.1 (omega (arith, c.requires.1)) (ap (at c.args.column.now) c.wide-k.ensures),
+)
+
+pub returns : goal.returns
+returns c =
+    front_filled _ _ _ c.loop-j.j c.args.count (omega arith) c.loop-j.invariant.1
+    ∙ front_map (at c.args.column.now) c.args.count c.args.units.now 0 c.requires.0.room

@@ -1,0 +1,15 @@
+use Rattle.std.proofs.Common.{length, ap, ◌∙◌, arith}
+use Rattle.loops.proofs.Tab.{length_tab}
+use Rattle.planning.proofs.Injecting.{injections_are}
+use Rattle.planning.proofs.opening.injections.Goals as goal
+
+pub inject-requires : goal.inject-requires
+inject-requires c =
+    let s = c.requires in
+    let e = ap length c.withdraw.ensures ∙ length_tab _ _ in
+    (record { few = s.0.few; below = λ k h. omega (arith, e, s.0.below k h, s.2) }, s.1)
+
+pub returns : goal.returns
+returns c =
+    injections_are c.args.load.now c.args.bus.now c.args.mw.now _ _ _ c.withdraw.ensures c.inject.ensures
+    (c.inject.auto.injection ∙ ap length c.withdraw.ensures ∙ length_tab _ _) c.per_unit.ensures

@@ -1,0 +1,125 @@
+use Rattle.std.proofs.Common.{length, replicate, ap, ◌∙◌, arith, take_at}
+use lib.ListN.{length-replicate}
+use Rattle.loops.specs.Figures.{at, nought}
+use Rattle.loops.proofs.Fronts.{front_replicate}
+use Rattle.planning.proofs.Serving.{units_few, picked, column_room, asked, refused_index, refused_stage, answered_stage}
+use Rattle.planning.proofs.opening.serve.Goals as goal
+
+pub figures_of-requires : goal.figures_of-requires
+figures_of-requires c =
+    let s = c in
+    let u = c.units_in-count.ensures in
+    (picked s.args.leader.now s.args.bus.now s.args.root s.requires.0 _ _ _ u.count u.kept s.requires.1.pmin_size, omega (arith, u.count, units_few s.args.leader.now s.args.bus.now s.args.root, s.requires.0.few))
+
+pub figures_of-requires-2 : goal.figures_of-requires-2
+figures_of-requires-2 c =
+    let s = c in
+    let u = c.units_in-count.ensures in
+    (picked s.args.leader.now s.args.bus.now s.args.root s.requires.0 _ _ _ u.count u.kept s.requires.1.pmax_size, omega (arith, u.count, units_few s.args.leader.now s.args.bus.now s.args.root, s.requires.0.few))
+
+pub figures_of-requires-3 : goal.figures_of-requires-3
+figures_of-requires-3 c =
+    let s = c in
+    let u = c.units_in-count.ensures in
+    (picked s.args.leader.now s.args.bus.now s.args.root s.requires.0 _ _ _ u.count u.kept s.requires.1.c1_size, omega (arith, u.count, units_few s.args.leader.now s.args.bus.now s.args.root, s.requires.0.few))
+
+pub figures_of-requires-4 : goal.figures_of-requires-4
+figures_of-requires-4 c =
+    let s = c in
+    let u = c.units_in-count.ensures in
+    (picked s.args.leader.now s.args.bus.now s.args.root s.requires.0 _ _ _ u.count u.kept s.requires.1.c2_size, omega (arith, u.count, units_few s.args.leader.now s.args.bus.now s.args.root, s.requires.0.few))
+
+pub demand_of-demand-requires : goal.demand_of-demand-requires
+demand_of-demand-requires c = c.requires.2.size
+
+pub slice_bounds-give-end : goal.slice_bounds-give-end
+slice_bounds-give-end c =
+    let s = c in
+    let u = c.units_in-count.ensures in
+    column_room s.args.mode s.args.leader.now s.args.load.now s.args.bus.now s.args.pmin.now s.args.pmax.now s.args.c1.now s.args.c2.now s.args.root s.requires.0 s.requires.1 s.requires.2 _ _ u.count u.kept (at s.args.pmin.now) _ c.figures_of.ensures
+
+pub slice_bounds-give-end-2 : goal.slice_bounds-give-end-2
+slice_bounds-give-end-2 c =
+    let s = c in
+    let u = c.units_in-count.ensures in
+    column_room s.args.mode s.args.leader.now s.args.load.now s.args.bus.now s.args.pmin.now s.args.pmax.now s.args.c1.now s.args.c2.now s.args.root s.requires.0 s.requires.1 s.requires.2 _ _ u.count u.kept (at s.args.pmax.now) _ c.figures_of-2.ensures
+
+pub slice_bounds-give-end-3 : goal.slice_bounds-give-end-3
+slice_bounds-give-end-3 c =
+    let s = c in
+    let u = c.units_in-count.ensures in
+    column_room s.args.mode s.args.leader.now s.args.load.now s.args.bus.now s.args.pmin.now s.args.pmax.now s.args.c1.now s.args.c2.now s.args.root s.requires.0 s.requires.1 s.requires.2 _ _ u.count u.kept (at s.args.c1.now) _ c.figures_of-3.ensures
+
+pub slice_bounds-give-end-4 : goal.slice_bounds-give-end-4
+slice_bounds-give-end-4 c =
+    let s = c in
+    let u = c.units_in-count.ensures in
+    column_room s.args.mode s.args.leader.now s.args.load.now s.args.bus.now s.args.pmin.now s.args.pmax.now s.args.c1.now s.args.c2.now s.args.root s.requires.0 s.requires.1 s.requires.2 _ _ u.count u.kept (at s.args.c2.now) _ c.figures_of-4.ensures
+
+pub slice_bounds-out-end : goal.slice_bounds-out-end
+slice_bounds-out-end c =
+    let s = c in
+    omega (arith, c.units_in-count.ensures.count, units_few s.args.leader.now s.args.bus.now s.args.root, s.requires.0.few)
+
+pub give-requires : goal.give-requires
+give-requires c =
+    let s = c in
+    let u = c.units_in-count.ensures in
+    asked s.args.mode s.args.leader.now s.args.load.now s.args.bus.now s.args.pmin.now s.args.pmax.now s.args.c1.now s.args.c2.now s.args.root s.requires.0 s.requires.1 s.requires.2
+    _ _ u.count u.kept _ _ _ _
+    c.figures_of.ensures c.figures_of-2.ensures c.figures_of-3.ensures c.figures_of-4.ensures
+    _ c.demand_of-demand.ensures (replicate 128 nought) (omega (arith, u.count, units_few s.args.leader.now s.args.bus.now s.args.root, s.requires.0.few))
+
+pub offset_bounds-units-j : goal.offset_bounds-units-j
+offset_bounds-units-j c =
+    let s = c in
+    let u = c.units_in-count.ensures in
+    omega (
+      arith,
+      refused_index s.args.mode s.args.leader.now s.args.load.now s.args.bus.now s.args.pmin.now s.args.pmax.now s.args.c1.now s.args.c2.now s.args.root s.requires.0 s.requires.1 s.requires.2
+          _ _ u.count u.kept _ _ _ _
+          c.figures_of.ensures c.figures_of-2.ensures c.figures_of-3.ensures c.figures_of-4.ensures
+          _ c.demand_of-demand.ensures
+          c.give.result _ c.give.ensures _ c.in-Err.is c.index-j.result c.index-j.ensures,
+    )
+
+pub bounds-units-j : goal.bounds-units-j
+bounds-units-j c =
+    let s = c in
+    let u = c.units_in-count.ensures in
+    refused_index s.args.mode s.args.leader.now s.args.load.now s.args.bus.now s.args.pmin.now s.args.pmax.now s.args.c1.now s.args.c2.now s.args.root s.requires.0 s.requires.1 s.requires.2
+    _ _ u.count u.kept _ _ _ _
+    c.figures_of.ensures c.figures_of-2.ensures c.figures_of-3.ensures c.figures_of-4.ensures
+    _ c.demand_of-demand.ensures
+    c.give.result _ c.give.ensures _ c.in-Err.is c.index-j.result c.index-j.ensures
+
+pub returns-in-Err : goal.returns-in-Err
+returns-in-Err c =
+    let s = c in
+    let u = c.units_in-count.ensures in
+    refused_stage s.args.mode s.args.leader.now s.args.load.now s.args.bus.now s.args.pmin.now s.args.pmax.now s.args.c1.now s.args.c2.now s.args.root s.requires.0 s.requires.1 s.requires.2
+    _ _ u.count u.kept _ _ _ _
+    c.figures_of.ensures c.figures_of-2.ensures c.figures_of-3.ensures c.figures_of-4.ensures
+    _ c.demand_of-demand.ensures
+    c.give.result _ c.give.ensures _ c.in-Err.is c.index-j.result c.wide.result c.index-j.ensures c.wide.ensures _
+
+pub hand_out-requires : goal.hand_out-requires
+hand_out-requires c =
+    let s = c in
+    let u = c.units_in-count.ensures in
+    (picked s.args.leader.now s.args.bus.now s.args.root s.requires.0 _ _ _ u.count u.kept s.requires.3)
+
+pub shape_of-mw : goal.shape_of-mw
+shape_of-mw c = c.hand_out.auto.mw
+
+pub returns : goal.returns
+returns c =
+    let s = c in
+    let u = c.units_in-count.ensures in
+    answered_stage s.args.mode s.args.leader.now s.args.load.now s.args.bus.now s.args.pmin.now s.args.pmax.now s.args.c1.now s.args.c2.now s.args.root s.requires.0 s.requires.1 s.requires.2
+    _ _ u.count u.kept _ _ _ _
+    c.figures_of.ensures c.figures_of-2.ensures c.figures_of-3.ensures c.figures_of-4.ensures
+    _ c.demand_of-demand.ensures
+    c.give.result _ c.give.ensures c.in-Ok.is _ _ _
+    (take_at _ _ _ (c.give.auto.mw ∙ ap length (front_replicate 128 c.units_in-count.result nought (omega (arith, u.count, units_few s.args.leader.now s.args.bus.now s.args.root, s.requires.0.few))) ∙ length-replicate c.units_in-count.result nought))
+    c.hand_out.ensures

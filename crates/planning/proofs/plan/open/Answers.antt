@@ -1,0 +1,76 @@
+use Rattle.std.proofs.Common.{sym, ◌∙◌}
+use Rattle.planning.proofs.Openings.{joined_by_lem, fleet_by, costs_by, loads_by, above_by, tiers_by, opens_refused, opens_going}
+use Rattle.planning.proofs.plan.open.Goals as goal
+
+pub component_leaders-requires : goal.component_leaders-requires
+component_leaders-requires c =
+    let h = c.requires in
+    joined_by_lem _ h.target h.sound _ h.leader_size
+
+pub ground_components-count-requires : goal.ground_components-count-requires
+ground_components-count-requires c =
+    let h = c.requires in
+    let n = c.component_leaders.auto.leader ∙ h.leader_size in
+    (fleet_by _ h.target h.sound _ n, h.sound.slack_size ∙ sym h.sound.bus_size, h.ground_size ∙ sym n)
+
+pub dispatch_components-requires : goal.dispatch_components-requires
+dispatch_components-requires c =
+    let h = c.requires in
+    let n = c.component_leaders.auto.leader ∙ h.leader_size in
+    (fleet_by _ h.target h.sound _ n, costs_by _ h.target h.sound, loads_by _ h.target h.sound _ n, h.mw_size ∙ sym h.sound.bus_size)
+
+pub shape_of-leader-in-Err : goal.shape_of-leader-in-Err
+shape_of-leader-in-Err c = c.component_leaders.auto.leader
+
+pub shape_of-ground-in-Err : goal.shape_of-ground-in-Err
+shape_of-ground-in-Err c = c.ground_components-count.auto.ground
+
+pub shape_of-mw-in-Err : goal.shape_of-mw-in-Err
+shape_of-mw-in-Err c = c.dispatch_components.auto.mw
+
+pub returns-in-Err : goal.returns-in-Err
+returns-in-Err c =
+    record { opens = λ o target s. opens_refused _ target s _ c.component_leaders.ensures c.dispatch_components.result _ c.dispatch_components.ensures _ c.in-Err.is }
+
+pub injections-requires : goal.injections-requires
+injections-requires c =
+    let h = c.requires in
+    (fleet_by _ h.target h.sound _ h.injection_size, c.dispatch_components.auto.mw ∙ h.mw_size ∙ sym h.sound.bus_size, h.injection_size ∙ sym h.sound.load_size)
+
+pub first_levels-requires : goal.first_levels-requires
+first_levels-requires c =
+    let h = c.requires in
+    (h.level_size ∙ sym h.sound.tier_size, above_by _ h.target h.sound, tiers_by _ h.target h.sound)
+
+pub lower_bounds-requires : goal.lower_bounds-requires
+lower_bounds-requires c =
+    let h = c.requires in
+    h.circuits_size ∙ sym h.sound.circuits_size
+
+pub shape_of-leader : goal.shape_of-leader
+shape_of-leader c = c.component_leaders.auto.leader
+
+pub shape_of-injection : goal.shape_of-injection
+shape_of-injection c = c.injections.auto.injection
+
+pub shape_of-ground : goal.shape_of-ground
+shape_of-ground c = c.ground_components-count.auto.ground
+
+pub shape_of-mw : goal.shape_of-mw
+shape_of-mw c = c.dispatch_components.auto.mw
+
+pub shape_of-level : goal.shape_of-level
+shape_of-level c = c.first_levels.auto.level
+
+pub shape_of-circuits : goal.shape_of-circuits
+shape_of-circuits c = c.lower_bounds.auto.circuits
+
+pub returns : goal.returns
+returns c =
+    let h = c.requires in
+    let g = c.ground_components-count.ensures in
+    record {
+      opens = λ o target s.
+          opens_going _ target s _ c.component_leaders.ensures c.dispatch_components.result _ c.dispatch_components.ensures c.in-Ok.is _ _ _ _ _
+          (c.component_leaders.auto.leader ∙ h.leader_size ∙ sym h.sound.tier_size) g.count g.held c.injections.ensures c.first_levels.ensures c.lower_bounds.ensures;
+    }

@@ -1,0 +1,34 @@
+-- The definition with its test decided.
+use Rattle.std.proofs.Common.{arith}
+use Rattle.planning.proofs.Heavies.{heavy_marked, light_unmarked}
+use Rattle.planning.proofs.raises.mark_heavy.Goals as goal
+
+pub circuit-d-requires : goal.circuit-d-requires
+circuit-d-requires c =
+    let s = c in
+    record { lines = s.requires.0.lines; k_in_bounds = (s.requires.1, s.requires.0.banked s.args.k (omega (arith, s.requires.1, s.requires.0.bank_size))) }
+
+pub mark_raise_to-requires : goal.mark_raise_to-requires
+mark_raise_to-requires c =
+    let s = c in
+    record {
+      a_size = s.requires.1;
+      b_size = omega (arith, s.requires.1, s.requires.0.lines.b_size);
+      a_below = s.requires.0.lines.a_below s.args.k s.requires.1;
+      b_below = s.requires.0.lines.b_below s.args.k s.requires.1;
+      mark_size = s.requires.0.mark_size;
+    }
+
+pub returns-then-too_heavy : goal.returns-then-too_heavy
+returns-then-too_heavy c =
+    let s = c in
+    let z = s.args in
+    heavy_marked z.ladder.now z.level.now z.a.now z.b.now z.km.now z.share.now z.sheet.now z.banks.now z.flow.now z.k s.requires.1
+    c.circuit-d.result c.circuit-d.ensures c.too_heavy.result c.too_heavy.ensures z.marks.now c.if-too_heavy.true _ c.mark_raise_to.ensures.marks
+
+pub returns-else-too_heavy : goal.returns-else-too_heavy
+returns-else-too_heavy c =
+    let s = c in
+    let z = s.args in
+    light_unmarked z.ladder.now z.level.now z.a.now z.b.now z.km.now z.share.now z.sheet.now z.banks.now z.flow.now z.k s.requires.1
+    c.circuit-d.result c.circuit-d.ensures c.too_heavy.result c.too_heavy.ensures z.marks.now c.if-too_heavy.false

@@ -1,0 +1,14 @@
+use Rattle.std.proofs.Common.{◌∙◌}
+use Rattle.planning.proofs.Heavies.{heavy_raised}
+use Rattle.planning.proofs.raises.raise_heavy.Goals as goal
+
+pub raise_marked-requires : goal.raise_marked-requires
+raise_marked-requires c =
+    let s = c in
+    record { redesign_fits = s.requires.redesign_fits; marks_len = (c.heavy_marks.auto.marks ∙ s.requires.markable.mark_size, s.requires.markable.banked) }
+
+pub returns : goal.returns
+returns c =
+    let z = c.args in
+    heavy_raised z.ladder.now z.level.now z.a.now z.b.now z.km.now z.share.now z.sheet.now z.load.now z.bus.now z.pmax.now z.flow.now z.floors.now z.banks.now _ _ _ _
+    c.heavy_marks.ensures c.raise_marked.ensures

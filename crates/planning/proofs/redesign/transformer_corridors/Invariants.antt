@@ -1,0 +1,11 @@
+-- The invariant: each bus has as many as the corridors passed give it.
+use Rattle.std.proofs.Common.{◌≡◌, ◌-◌, ◌≤◌, length}
+use Rattle.loops.specs.Loops.{tab}
+use Rattle.planning.proofs.Served.{shared_to}
+use Rattle.planning.proofs.redesign.transformer_corridors.Given as goal
+
+abbrev pub invariant-loop-k : goal.invariant-loop-k
+invariant-loop-k l = (l.k ≤ length l.a) × (l.shared ≡ tab 256 (shared_to l.ladder l.level l.a l.b l.k))
+
+abbrev pub decreases-loop-k : goal.decreases-loop-k
+decreases-loop-k l = length l.a - l.k

@@ -1,0 +1,50 @@
+use Rattle.std.proofs.Common.{length, refl}
+use Rattle.planning.specs.Solve.{peak_for}
+use Rattle.planning.specs.Fill.{designs_for}
+use Rattle.planning.proofs.Settling.{settleable_again, loaded, solved_refused, closed_answered}
+use Rattle.planning.proofs.settle.close_up.Goals as goal
+
+pub shape_of-level-in-Err : goal.shape_of-level-in-Err
+shape_of-level-in-Err c = refl
+
+pub shape_of-flow-in-Err : goal.shape_of-flow-in-Err
+shape_of-flow-in-Err c = c.solve_from_zero.auto.flow
+
+pub shape_of-angle-in-Err : goal.shape_of-angle-in-Err
+shape_of-angle-in-Err c = c.solve_from_zero.auto.angle
+
+pub returns-in-Err : goal.returns-in-Err
+returns-in-Err c =
+    let v = c.solve_from_zero in
+    λ before order. solved_refused _ _ v.result _ _ _ _ v.ensures c.in-Err.is
+
+pub close-closing-requires : goal.close-closing-requires
+close-closing-requires c =
+    let h = c.requires in
+    let v = c.solve_from_zero in
+    let w = settleable_again _ _ _ _ _ _ _ _ _ _ _ _ _ _ _ _ _ _ _ h _ _ _ refl v.auto.flow v.auto.angle in
+    record { lines = h.drawing.lines; loaded = (loaded _ _ _ _ _ _ _ _ _ _ _ _ _ _ _ _ _ _ _ w, h.cap_size); closable = w.closable }
+
+pub shape_of-level : goal.shape_of-level
+shape_of-level c = c.close-closing.auto.level
+
+pub shape_of-flow : goal.shape_of-flow
+shape_of-flow c = c.solve_from_zero.auto.flow
+
+pub shape_of-rate : goal.shape_of-rate
+shape_of-rate c = c.close-closing.auto.rate
+
+pub shape_of-angle : goal.shape_of-angle
+shape_of-angle c = c.solve_from_zero.auto.angle
+
+pub shape_of-added : goal.shape_of-added
+shape_of-added c = c.close-closing.auto.added
+
+pub returns : goal.returns
+returns c =
+    let z = c.args in
+    let v = c.solve_from_zero in
+    let e = c.close-closing.ensures in
+    λ before order.
+    closed_answered z.mode z.cap.now z.above z.leader.now z.ladder.now z.level.now (designs_for z.ladder.now z.level.now z.a.now z.b.now z.km.now z.share.now z.sheet.now z.banks.now)
+    z.upsized.now (peak_for (length z.level.now) z.grounds.now z.injection.now) z.filler before order z.circuits.now _ _ _ _ _ _ v.result _ v.ensures c.in-Ok.is e.closing e.rate e.tier e.added

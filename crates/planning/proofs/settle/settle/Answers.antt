@@ -1,0 +1,63 @@
+use Rattle.std.proofs.Common.{length, refl, ◌∙◌}
+use Rattle.plan_defs.specs.Solve.{PlanningCase}
+use Rattle.planning.specs.Solve.{peak_for}
+use Rattle.planning.specs.Fill.{designs_for}
+use Rattle.planning.specs.Settle.{filled_from}
+use Rattle.planning.proofs.Settling.{settleable_again, solved_refused, solved_answered}
+use Rattle.planning.proofs.Settlements.{settles, settles_refused}
+use Rattle.planning.proofs.settle.settle.Goals as goal
+
+pub unsettled-requires : goal.unsettled-requires
+unsettled-requires c = tt
+
+pub fill_up-requires : goal.fill_up-requires
+fill_up-requires c =
+    let h = c.requires in
+    let v = c.solve_from_zero.auto in
+    record { settleable = settleable_again _ _ _ _ _ _ _ _ _ _ _ _ _ _ _ _ _ _ _ h.settleable _ _ _ refl v.flow v.angle; few = h.few }
+
+pub shape_of-circuits-in-Err : goal.shape_of-circuits-in-Err
+shape_of-circuits-in-Err c = refl
+
+pub shape_of-level-in-Err : goal.shape_of-level-in-Err
+shape_of-level-in-Err c = refl
+
+pub shape_of-flow-in-Err : goal.shape_of-flow-in-Err
+shape_of-flow-in-Err c = c.solve_from_zero.auto.flow
+
+pub shape_of-angle-in-Err : goal.shape_of-angle-in-Err
+shape_of-angle-in-Err c = c.solve_from_zero.auto.angle
+
+pub returns-in-Err : goal.returns-in-Err
+returns-in-Err c =
+    let v = c.solve_from_zero in
+    settles_refused _ _ _ _ _ _ _ _ _ _ _ _ _ _ _ _ _ _ _ _ _ _ _ c.unsettled.result _ c.unsettled.ensures.0 (solved_refused _ _ v.result _ _ _ _ v.ensures c.in-Err.is)
+
+pub shape_of-circuits-in-Ok : goal.shape_of-circuits-in-Ok
+shape_of-circuits-in-Ok c = c.fill_up.auto.circuits
+
+pub shape_of-level-in-Ok : goal.shape_of-level-in-Ok
+shape_of-level-in-Ok c = c.fill_up.auto.level
+
+pub shape_of-flow-in-Ok : goal.shape_of-flow-in-Ok
+shape_of-flow-in-Ok c = c.fill_up.auto.flow ∙ c.solve_from_zero.auto.flow
+
+pub shape_of-rate : goal.shape_of-rate
+shape_of-rate c = c.fill_up.auto.rate
+
+pub shape_of-angle-in-Ok : goal.shape_of-angle-in-Ok
+shape_of-angle-in-Ok c = c.fill_up.auto.angle ∙ c.solve_from_zero.auto.angle
+
+pub shape_of-added : goal.shape_of-added
+shape_of-added c = c.fill_up.auto.added
+
+pub returns-in-Ok : goal.returns-in-Ok
+returns-in-Ok c =
+    let z = c.args in
+    let v = c.solve_from_zero in
+    let f = c.fill_up in
+    settles z.mode z.target z.above z.ladder.now z.a.now z.b.now z.km.now z.share.now z.cap.now z.sheet.now z.leader.now z.grounds.now z.injection.now z.banks.now z.upsized.now z.circuits.now z.level.now f.new.circuits f.new.level f.new.flow f.new.rate f.new.angle f.new.added f.result
+    (f.ensures
+    ∙ solved_answered
+    (λ (w : PlanningCase). filled_from z.mode z.cap.now z.above z.leader.now z.ladder.now z.level.now (designs_for z.ladder.now z.level.now z.a.now z.b.now z.km.now z.share.now z.sheet.now z.banks.now) z.upsized.now (peak_for (length z.level.now) z.grounds.now z.injection.now) z.target (length z.a.now) z.circuits.now w.flows)
+    _ v.result _ v.new.angle v.new.flow v.ensures c.in-Ok.is)

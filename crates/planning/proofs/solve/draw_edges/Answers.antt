@@ -1,0 +1,101 @@
+use Rattle.std.proofs.Common.{ℕ, ◌<◌, length, ap, ◌∙◌, arith, rules}
+use lib.ListN.{length-replicate}
+use lib.Ieee.{Float}
+use Rattle.loops.specs.Figures.{at, times, nought}
+use Rattle.loops.proofs.Tab.{fill_start, fill_turn, fill_length}
+use Rattle.plan_defs.specs.Design.{drawn}
+use Rattle.plan_defs.specs.Solve.{susceptance}
+use Rattle.plan_defs.specs.declared.CircuitDesign.{CircuitDesign}
+use Rattle.planning.specs.Design.{lines_for}
+use Rattle.loops.proofs.Fronts.{front_filled}
+use Rattle.planning.proofs.Solving.{edges_are, drawn_from_below, drawn_to_below}
+use Rattle.planning.proofs.solve.draw_edges.Goals as goal
+
+pub loop-k-init : goal.loop-k-init
+loop-k-init c = (omega arith, fill_start _ _, fill_start _ _, fill_start _ _)
+
+pub offset_bounds-banks-k : goal.offset_bounds-banks-k
+offset_bounds-banks-k c =
+    let s = c in
+    let h : c.loop-k.k < length s.args.banks.now = omega (arith, s.requires.bank_size) in search rules
+
+pub bounds-banks-k : goal.bounds-banks-k
+bounds-banks-k c = omega (arith, c.requires.bank_size)
+
+pub circuit-d-requires : goal.circuit-d-requires
+circuit-d-requires c = let D = c.requires in record { lines = D.lines; k_in_bounds = (omega arith, D.banks_ok c.loop-k.k (omega (arith, D.bank_size))) }
+
+pub overflow_cast-from : goal.overflow_cast-from
+overflow_cast-from c =
+    let s = c in
+    omega (
+      arith,
+      ap (λ (d : CircuitDesign). d.from) c.circuit-d.ensures,
+      s.requires.few_buses,
+      drawn_from_below s.args.ladder.now s.args.level.now s.args.a.now s.args.b.now s.args.km.now s.args.share.now s.args.sheet.now c.loop-k.k (at s.args.banks.now c.loop-k.k) s.requires.lines (omega arith),
+    )
+
+pub bounds-from-k : goal.bounds-from-k
+bounds-from-k c = omega (arith, c.requires.few_corridors)
+
+pub overflow_cast-to : goal.overflow_cast-to
+overflow_cast-to c =
+    let s = c in
+    omega (
+      arith,
+      ap (λ (d : CircuitDesign). d.to) c.circuit-d.ensures,
+      s.requires.few_buses,
+      drawn_to_below s.args.ladder.now s.args.level.now s.args.a.now s.args.b.now s.args.km.now s.args.share.now s.args.sheet.now c.loop-k.k (at s.args.banks.now c.loop-k.k) s.requires.lines (omega arith),
+    )
+
+pub offset_bounds-to-k : goal.offset_bounds-to-k
+offset_bounds-to-k c = omega (arith, c.loop-k-test.true, c.requires.few_corridors)
+
+pub bounds-to-k : goal.bounds-to-k
+bounds-to-k c = omega (arith, c.requires.few_corridors)
+
+pub offset_bounds-circuits-k : goal.offset_bounds-circuits-k
+offset_bounds-circuits-k c = omega (arith, c.loop-k-test.true, c.requires.few_corridors)
+
+pub bounds-circuits-k : goal.bounds-circuits-k
+bounds-circuits-k c = omega (arith, c.requires.count_size)
+
+pub offset_bounds-weight-k : goal.offset_bounds-weight-k
+offset_bounds-weight-k c = omega (arith, c.loop-k-test.true, c.requires.few_corridors)
+
+pub bounds-weight-k : goal.bounds-weight-k
+bounds-weight-k c = omega (arith, c.requires.few_corridors)
+
+pub overflow_add-k : goal.overflow_add-k
+overflow_add-k c = omega (arith, c.loop-k-test.true, c.requires.few_corridors)
+
+pub loop-k-preserved : goal.loop-k-preserved
+loop-k-preserved c =
+    let l = c.loop-k in
+    let D = c.requires in
+    let d = c.circuit-d.ensures in (
+      omega arith,
+      fill_turn _ _ _ _ _ l.invariant.1 (omega (arith, length-replicate {A = ℕ} 256 0, D.few_corridors)) (ap (λ (x : CircuitDesign). x.from) d),
+      fill_turn _ _ _ _ _ l.invariant.2 (omega (arith, length-replicate {A = ℕ} 256 0, D.few_corridors)) (ap (λ (x : CircuitDesign). x.to) d),
+      fill_turn _ _ _ _ _ l.invariant.3 (omega (arith, length-replicate {A = Float} 256 nought, D.few_corridors))
+          (ap (λ (x : Float). times x c.float.result) (c.susceptance.ensures ∙ ap (λ (x : CircuitDesign). susceptance x) d)
+          ∙ ap (λ (x : Float). times (susceptance (drawn (lines_for c.args.ladder.now c.args.a.now c.args.b.now c.args.km.now c.args.share.now c.args.sheet.now) c.args.level.now l.k (at c.args.banks.now l.k))) x) c.float.ensures),
+    )
+
+pub returns : goal.returns
+returns c =
+    let s = c in
+    let l = c.loop-k in
+    let D = s.requires in
+    let z = length-replicate {A = ℕ} 256 0 in
+    let w = length-replicate {A = Float} 256 nought in record {
+      edges = edges_are (lines_for s.args.ladder.now s.args.a.now s.args.b.now s.args.km.now s.args.share.now s.args.sheet.now) s.args.level.now s.args.banks.now s.args.circuits.now _ _ _
+          (front_filled _ _ _ l.k _ (omega arith) l.invariant.1)
+          (front_filled _ _ _ l.k _ (omega arith) l.invariant.2)
+          (front_filled _ _ _ l.k _ (omega arith) l.invariant.3);
+      sizes = (
+        fill_length _ _ _ _ l.invariant.1 (omega (arith, l.invariant.0, z, D.few_corridors)) ∙ z,
+        fill_length _ _ _ _ l.invariant.2 (omega (arith, l.invariant.0, z, D.few_corridors)) ∙ z,
+        fill_length _ _ _ _ l.invariant.3 (omega (arith, l.invariant.0, w, D.few_corridors)) ∙ w,
+      );
+    }

@@ -1,0 +1,7 @@
+use Rattle.std.proofs.Common.{ap, ◌∙◌}
+use lib.Ieee.{Float, to_unsigned}
+use Rattle.loops.specs.Figures.{times}
+use Rattle.planning.proofs.stiffen.share_of.Goals as goal
+
+pub returns : goal.returns
+returns c = c.to_usize.ensures ∙ ap (λ (x : Float). to_unsigned 64 (times c.args.share x)) c.float.ensures

@@ -1,0 +1,16 @@
+use Rattle.std.proofs.Common.{◌≡◌, ◌-◌, ◌≤◌, length, take}
+use Rattle.planning.specs.Stiffen.{BatchStiffened}
+use Rattle.planning.proofs.stiffen.stiffen_batch.Given as goal
+
+abbrev pub invariant-loop-j : goal.invariant-loop-j
+invariant-loop-j l =
+    (l.j ≤ l.taken)
+    × (length l.circuits ≡ length l.initial.circuits)
+    × (length l.banks ≡ length l.initial.banks)
+    × (length l.floors ≡ length l.initial.floors)
+    × (length l.upsized ≡ length l.initial.upsized)
+    × (length l.marks ≡ length l.initial.marks)
+    × BatchStiffened (take l.j l.order) l.g l.ladder l.level l.a l.b l.km l.share l.cap l.sheet l.initial.circuits l.initial.banks l.initial.floors l.initial.upsized l.initial.marks l.initial.t l.circuits l.banks l.floors l.upsized l.marks l.t
+
+abbrev pub decreases-loop-j : goal.decreases-loop-j
+decreases-loop-j l = l.taken - l.j

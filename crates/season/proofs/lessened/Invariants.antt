@@ -1,0 +1,10 @@
+-- The invariant: the places passed hold the lesser of what they held and the circuits.
+use Rattle.std.proofs.Common.{◌≡◌, ◌-◌, ◌≤◌, min, length, get_or}
+use Rattle.loops.specs.Loops.{filled}
+use Rattle.season.proofs.lessened.Given as goal
+
+abbrev pub invariant-loop-k : goal.invariant-loop-k
+invariant-loop-k l = (l.k ≤ length l.circuits) × (l.all ≡ filled l.least (λ j. min (get_or l.least j 0) (get_or l.circuits j 0)) l.k)
+
+abbrev pub decreases-loop-k : goal.decreases-loop-k
+decreases-loop-k l = length l.circuits - l.k

@@ -42,10 +42,8 @@ fn highest(leader: &[u32], angle: &[f64], root: usize) -> f64
     ensures { result ≡ highest angle.now (members leader.now root) }
 {
     let mut most = -infinity();
-    let mut i = 0;
-    while i < leader.len() {
+    for i in 0..leader.len() {
         most = pick(wide(leader[i]) == root, greater(most, angle[i]), most);
-        i += 1;
     }
     most
 }
@@ -55,10 +53,8 @@ fn lowest(leader: &[u32], angle: &[f64], root: usize) -> f64
     ensures { result ≡ lowest angle.now (members leader.now root) }
 {
     let mut least = infinity();
-    let mut i = 0;
-    while i < leader.len() {
+    for i in 0..leader.len() {
         least = pick(wide(leader[i]) == root, lesser(least, angle[i]), least);
-        i += 1;
     }
     least
 }
@@ -79,10 +75,8 @@ fn spread(leader: &[u32], angle: &[f64]) -> f64
     ensures { result ≡ spread_of leader.now angle.now }
 {
     let mut most = 0.0;
-    let mut i = 0;
-    while i < leader.len() {
+    for i in 0..leader.len() {
         most = wider(leader, angle, i, most);
-        i += 1;
     }
     most
 }
@@ -103,11 +97,9 @@ fn rates(
     requires drawable { Drawable a.now banks.now × (length rate.old ≡ length a.now) }
     ensures { rate.new ≡ map (λ (d : CircuitDesign). d.rate_a) (designs_for ladder.now level.now a.now b.now km.now share.now sheet.now banks.now) }
 {
-    let mut k = 0;
-    while k < rate.len() {
+    for k in 0..rate.len() {
         let d = circuit(ladder, level, a, b, km, share, sheet, k, banks[k]);
         rate[k] = d.rate_a;
-        k += 1;
     }
 }
 
@@ -116,10 +108,8 @@ fn max_loading(circuits: &[u32], flow: &[f64], rate: &[f64]) -> f64
     ensures { result ≡ max_loading (loadings_by circuits.now flow.now rate.now) }
 {
     let mut most = 0.0;
-    let mut k = 0;
-    while k < rate.len() {
+    for k in 0..rate.len() {
         most = greater(most, loading(flow[k], circuits[k], rate[k]));
-        k += 1;
     }
     most
 }
@@ -135,10 +125,8 @@ fn overloaded(circuits: &[u32], flow: &[f64], rate: &[f64]) -> u32
     ensures { result ≡ overloaded_of (loadings_by circuits.now flow.now rate.now) }
 {
     let mut count = 0;
-    let mut k = 0;
-    while k < rate.len() {
+    for k in 0..rate.len() {
         count += one_if(loading(flow[k], circuits[k], rate[k]) > 1.0 + LOADING_TOLERANCE);
-        k += 1;
     }
     count
 }
@@ -170,12 +158,10 @@ fn capped(
     ensures { result ≡ capped_of (corridors_of mode (length a.now) cap.now) (designs_for ladder.now level.now a.now b.now km.now share.now sheet.now banks.now) circuits.now flow.now }
 {
     let mut count = 0;
-    let mut k = 0;
-    while k < a.len() {
+    for k in 0..a.len() {
         let d = circuit(ladder, level, a, b, km, share, sheet, k, banks[k]);
         let most = cap_at(mode, cap[k], d.kv);
         count += one_if(cap_full(mode, most, circuits[k], flow[k], d.rate_a));
-        k += 1;
     }
     count
 }
@@ -185,10 +171,8 @@ fn count_upsized(upsized: &[u32]) -> u32
     ensures { result ≡ upsized_of upsized.now }
 {
     let mut count = 0;
-    let mut k = 0;
-    while k < upsized.len() {
+    for k in 0..upsized.len() {
         count += one_if(1 <= upsized[k]);
-        k += 1;
     }
     count
 }
@@ -200,10 +184,8 @@ fn unused(above: usize, level: &[u32]) -> u32
     ensures { result ≡ least_of above level.now }
 {
     let mut least = above as u32;
-    let mut i = 0;
-    while i < level.len() {
+    for i in 0..level.len() {
         least = fewer(least, level[i]);
-        i += 1;
     }
     least
 }
@@ -213,10 +195,8 @@ fn shift_back(unused: u32, level: &mut [u32])
     requires { (i : ℕ) → i < length level.old → unused ≤ slice_index level.old i }
     ensures { level.new ≡ map (λ (l : ℕ). l - unused) level.old }
 {
-    let mut i = 0;
-    while i < level.len() {
+    for i in 0..level.len() {
         level[i] = level[i] - unused;
-        i += 1;
     }
 }
 
@@ -235,10 +215,8 @@ fn add_levels(ladder: &[f64], above: usize, unused: usize, added: &mut [f64])
     requires { (above ≤ length ladder.now) × (above ≤ most_levels) × (unused ≤ above) × (length added.old ≡ above) }
     ensures { added.new ≡ tab above (added_at ladder.now above unused) }
 {
-    let mut j = 0;
-    while j < added.len() {
+    for j in 0..added.len() {
         added[j] = added_at(ladder, above, unused, j);
-        j += 1;
     }
 }
 
@@ -334,11 +312,7 @@ pub fn copy_front(from: [u32; 256], to: &mut [u32])
     requires { length to.old ≤ most_corridors }
     ensures { to.new ≡ take (length to.old) from }
 {
-    let mut k = 0;
-    while k < to.len() {
-        to[k] = from[k];
-        k += 1;
-    }
+    to.copy_from_slice(&from[..to.len()]);
 }
 
 // After 8 or 9 every result place is zero; work is zero always.

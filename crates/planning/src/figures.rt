@@ -135,19 +135,15 @@ pub fn to_usize(x: f64) -> usize
 pub fn clear_counts(counts: &mut [u32])
     ensures { counts.new ≡ replicate (length counts.old) 0 }
 {
-    let mut i = 0;
-    while i < counts.len() {
+    for i in 0..counts.len() {
         counts[i] = 0;
-        i += 1;
     }
 }
 
 pub fn clear_figures(figures: &mut [f64])
     ensures { figures.new ≡ replicate (length figures.old) nought }
 {
-    let mut i = 0;
-    while i < figures.len() {
+    for i in 0..figures.len() {
         figures[i] = 0.0;
-        i += 1;
     }
 }

@@ -42,11 +42,9 @@ fn rank_loadings(
     requires loaded { Loaded a.now banks.now circuits.now flow.now × Whole out.old }
     ensures { out.new ≡ filled out.old (loading_at (designs_for ladder.now level.now a.now b.now km.now share.now sheet.now banks.now) circuits.now flow.now) (length a.now) }
 {
-    let mut k = 0;
-    while k < a.len() {
+    for k in 0..a.len() {
         let d = circuit(ladder, level, a, b, km, share, sheet, k, banks[k]);
         out[k] = loading(flow[k], circuits[k], d.rate_a);
-        k += 1;
     }
 }
 
@@ -66,11 +64,9 @@ fn rank_kvs(
     requires drawable { Drawable a.now banks.now × Whole out.old }
     ensures { out.new ≡ filled out.old (λ (k : ℕ). (design (designs_for ladder.now level.now a.now b.now km.now share.now sheet.now banks.now) k).kv) (length a.now) }
 {
-    let mut k = 0;
-    while k < a.len() {
+    for k in 0..a.len() {
         let d = circuit(ladder, level, a, b, km, share, sheet, k, banks[k]);
         out[k] = d.kv;
-        k += 1;
     }
 }
 
@@ -128,11 +124,9 @@ pub fn order_by(first: &[f64; 256], second: &[f64; 256], third: &[f64], order: &
     ensures size { Whole order.new }
     ensures order { take (length third.now) order.new ≡ order_by (rank_before first.now second.now third.now) (length third.now) }
 {
-    let mut k = 0;
-    while k < third.len() {
+    for k in 0..third.len() {
         let p = place_of(first, second, third, order, k);
         insert(order, p, k, k);
-        k += 1;
     }
 }
 
@@ -187,10 +181,8 @@ pub fn copied(circuits: &[u32]) -> [u32; 256]
     ensures { (take (length circuits.now) result ≡ circuits.now) × Whole result }
 {
     let mut out = [0u32; 256];
-    let mut k = 0;
-    while k < circuits.len() {
+    for k in 0..circuits.len() {
         out[k] = circuits[k];
-        k += 1;
     }
     out
 }
@@ -221,10 +213,8 @@ pub fn total(circuits: &[u32]) -> u32
     ensures { result ≡ sum circuits.now }
 {
     let mut total = 0;
-    let mut k = 0;
-    while k < circuits.len() {
+    for k in 0..circuits.len() {
         total += circuits[k];
-        k += 1;
     }
     total
 }
@@ -261,15 +251,13 @@ fn fill_once(
 {
     let mut total = t.total;
     let mut filler = t.filler;
-    let mut j = 0;
-    while j < circuits.len() {
+    for j in 0..circuits.len() {
         let k = wide(order[j]);
         let count = circuits[k];
         let more = gain(total, target, full_at(cap[k]), count);
         circuits[k] = count + more;
         total += more;
         filler += more;
-        j += 1;
     }
     Filling { total, filler }
 }
@@ -286,10 +274,8 @@ fn fill_rounds(
     ensures { filled_as circuits.new result ≡ fill_rounds fill_turns (full_of cap.now) target (take (length circuits.old) order.now) (filled_as circuits.old start) }
 {
     let mut t = start;
-    let mut turn = 0;
-    while turn < FILL_TURNS {
+    for turn in 0..FILL_TURNS {
         t = fill_once(target, cap, order, circuits, t);
-        turn += 1;
     }
     t
 }

@@ -33,13 +33,11 @@ fn ground_of(root: u32, leader: &[u32], bus: &[u32], slack: &[u32]) -> u32
     requires { Fleet (length leader.now) bus.now × (length slack.now ≡ length bus.now) }
     ensures { result ≡ ground_of (slack_case bus.now slack.now) leader.now root }
 {
-    let mut k = 0;
-    while k < bus.len() {
+    for k in 0..bus.len() {
         let i = wide(bus[k]);
         if (leader[i] == root) & !(slack[k] == 0) {
             return bus[k];
         }
-        k += 1;
     }
     root
 }
@@ -53,13 +51,11 @@ pub fn ground_components(leader: &[u32], bus: &[u32], slack: &[u32], ground: &mu
 {
     clear_counts(ground);
     let mut count = 0;
-    let mut i = 0;
-    while i < leader.len() {
+    for i in 0..leader.len() {
         if wide(leader[i]) == i {
             ground[count] = ground_of(leader[i], leader, bus, slack);
             count += 1;
         }
-        i += 1;
     }
     count
 }
@@ -72,14 +68,12 @@ fn units_in(root: u32, leader: &[u32], bus: &[u32], units: &mut [u32; 128]) -> u
     ensures kept { take result units.new ≡ units_in (bus_case bus.now) leader.now root }
 {
     let mut count = 0;
-    let mut k = 0;
-    while k < bus.len() {
+    for k in 0..bus.len() {
         let i = wide(bus[k]);
         if leader[i] == root {
             units[count] = k as u32;
             count += 1;
         }
-        k += 1;
     }
     count
 }
@@ -90,12 +84,10 @@ fn demand_of(root: u32, leader: &[u32], load: &[f64]) -> f64
     ensures { result ≡ sum_over (at load.now) (members leader.now root) }
 {
     let mut demand = 0.0;
-    let mut i = 0;
-    while i < leader.len() {
+    for i in 0..leader.len() {
         if leader[i] == root {
             demand = demand + load[i];
         }
-        i += 1;
     }
     demand
 }
@@ -105,11 +97,9 @@ fn figures_of(column: &[f64], units: &[u32; 128], count: usize, chosen: &mut [f6
     requires { Picked units.now count (length column.now) × (count ≤ length chosen.old) }
     ensures { take count chosen.new ≡ map (at column.now) (take count units.now) }
 {
-    let mut j = 0;
-    while j < count {
+    for j in 0..count {
         let k = wide(units[j]);
         chosen[j] = column[k];
-        j += 1;
     }
 }
 
@@ -118,11 +108,9 @@ fn hand_out(units: &[u32; 128], count: usize, out: &[f64; 128], mw: &mut [f64])
     requires { Picked units.now count (length mw.old) }
     ensures { mw.new ≡ scatter (take count units.now) (take count out.now) mw.old }
 {
-    let mut j = 0;
-    while j < count {
+    for j in 0..count {
         let k = wide(units[j]);
         mw[k] = out[j];
-        j += 1;
     }
 }
 
@@ -235,10 +223,8 @@ fn withdraw(load: &[f64], injection: &mut [f64])
     requires { length injection.old ≡ length load.now }
     ensures { injection.new ≡ tab (length load.now) (λ i. neg (at load.now i)) }
 {
-    let mut i = 0;
-    while i < load.len() {
+    for i in 0..load.len() {
         injection[i] = -load[i];
-        i += 1;
     }
 }
 
@@ -248,21 +234,17 @@ fn inject(bus: &[u32], mw: &[f64], injection: &mut [f64])
     ensures { injection.new
         ≡ iter (inject_at (bus_case bus.now) mw.now) (length bus.now) 0 injection.old }
 {
-    let mut k = 0;
-    while k < bus.len() {
+    for k in 0..bus.len() {
         let i = wide(bus[k]);
         injection[i] = injection[i] + mw[k];
-        k += 1;
     }
 }
 
 fn per_unit(injection: &mut [f64])
     ensures { injection.new ≡ tab (length injection.old) (λ i. over (at injection.old i) base_mva) }
 {
-    let mut i = 0;
-    while i < injection.len() {
+    for i in 0..injection.len() {
         injection[i] = injection[i] / BASE_MVA;
-        i += 1;
     }
 }
 
@@ -282,10 +264,8 @@ pub fn lower_bounds(initial: &[u32], circuits: &mut [u32])
     requires { length circuits.old ≡ length initial.now }
     ensures { circuits.new ≡ tab (length initial.now) (λ k. max (slice_index initial.now k) 1) }
 {
-    let mut k = 0;
-    while k < initial.len() {
+    for k in 0..initial.len() {
         circuits[k] = more(initial[k], 1);
-        k += 1;
     }
 }
 
@@ -294,9 +274,7 @@ pub fn first_levels(above: usize, tier: &[u32], level: &mut [u32])
     requires { (length level.old ≡ length tier.now) × (above ≤ most_levels) × ((i : ℕ) → i < length tier.now → slice_index tier.now i < most_levels) }
     ensures { level.new ≡ tab (length tier.now) (λ i. above + slice_index tier.now i) }
 {
-    let mut i = 0;
-    while i < tier.len() {
+    for i in 0..tier.len() {
         level[i] = above as u32 + tier[i];
-        i += 1;
     }
 }

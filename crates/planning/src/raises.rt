@@ -68,10 +68,8 @@ fn heavy_marks(
         level.now banks.now 0) flow.now }
 {
     clear_counts(marks);
-    let mut k = 0;
-    while k < a.len() {
+    for k in 0..a.len() {
         mark_heavy(ladder, level, a, b, km, share, sheet, banks, flow, k, marks);
-        k += 1;
     }
 }
 

@@ -25,11 +25,9 @@ fn generation_at(bus: &[u32], pmax: &[f64], gen_at: &mut [f64; MOST_BUSES])
     requires gen_at_value { gen_at.old ≡ replicate most_buses nought }
     ensures { gen_at.new ≡ tab most_buses (gen_at_bus (units_for bus.now pmax.now)) }
 {
-    let mut k = 0;
-    while k < bus.len() {
+    for k in 0..bus.len() {
         let i = wide(bus[k]);
         gen_at[i] = gen_at[i] + pmax[k];
-        k += 1;
     }
 }
 
@@ -45,12 +43,10 @@ fn transformer_corridors(
     requires shared_value { shared.old ≡ replicate most_buses 0 }
     ensures { shared.new ≡ tab most_buses (transformer_corridors (ends_for ladder.now a.now b.now) level.now) }
 {
-    let mut k = 0;
-    while k < a.len() {
+    for k in 0..a.len() {
         let e = ends_of(ladder, level, a, b, k);
         let lo = e.to;
         shared[lo] = shared[lo] + one_if(e.steps_down);
-        k += 1;
     }
 }
 
@@ -127,12 +123,10 @@ pub fn redesign(
     generation_at(bus, pmax, &mut gen_at);
     let mut shared = [0; MOST_BUSES];
     transformer_corridors(ladder, level, a, b, &mut shared);
-    let mut k = 0;
-    while k < a.len() {
+    for k in 0..a.len() {
         let d = circuit_anew(
             ladder, level, a, b, km, share, sheet, load, &gen_at, &shared, floors, k,
         );
         banks[k] = bank_of(d);
-        k += 1;
     }
 }

@@ -55,13 +55,11 @@ pub fn draw_edges(
     let mut from = [0u32; 256];
     let mut to = [0u32; 256];
     let mut weight = [0.0; 256];
-    let mut k = 0;
-    while k < a.len() {
+    for k in 0..a.len() {
         let d = circuit(ladder, level, a, b, km, share, sheet, k, banks[k]);
         from[k] = d.from as u32;
         to[k] = d.to as u32;
         weight[k] = susceptance(d) * float(circuits[k]);
-        k += 1;
     }
     Edges { from, to, weight }
 }
@@ -151,24 +149,20 @@ fn corridor_flows(
         ≡ flows_of (edges_of (take (length flow.old) from.now) (take (length flow.old) to.now) (take (length flow.old) weight.now))
         angle.now }
 {
-    let mut k = 0;
-    while k < flow.len() {
+    for k in 0..flow.len() {
         let i = wide(from[k]);
         let j = wide(to[k]);
         flow[k] = weight[k] * (angle[i] - angle[j]) * BASE_MVA;
-        k += 1;
     }
 }
 
 fn all_finite(figures: &[f64]) -> bool
     ensures { result ≡ all_finite figures.now }
 {
-    let mut i = 0;
-    while i < figures.len() {
+    for i in 0..figures.len() {
         if !is_finite(figures[i]) {
             return false;
         }
-        i += 1;
     }
     true
 }
@@ -187,10 +181,8 @@ fn copy(angle: &[f64], guess: &mut [f64; 256])
     requires { (length angle.now ≤ most) × (length guess.old ≡ most) }
     ensures { take (length angle.now) guess.new ≡ angle.now }
 {
-    let mut i = 0;
-    while i < angle.len() {
+    for i in 0..angle.len() {
         guess[i] = angle[i];
-        i += 1;
     }
 }
 

@@ -62,10 +62,8 @@ fn at_or_above(level: &[u32], top: u32) -> u32
     ensures { result ≡ at_or_above level.now top }
 {
     let mut count = 0;
-    let mut i = 0;
-    while i < level.len() {
+    for i in 0..level.len() {
         count += one_if(level[i] <= top);
-        i += 1;
     }
     count
 }
@@ -271,14 +269,12 @@ fn stiffen_batch(
         circuits.new banks.new floors.new upsized.new marks.new result }
 {
     let mut t = start;
-    let mut j = 0;
-    while j < taken {
+    for j in 0..taken {
         let k = wide(order[j]);
         t = stiffen_one(
             g, ladder, level, a, b, km, share, cap, sheet, k, circuits, banks, floors, upsized,
             marks, t,
         );
-        j += 1;
     }
     t
 }
@@ -371,13 +367,11 @@ fn gains(
     ensures { gain.new ≡ filled gain.old (gain_at g ladder.now level.now a.now b.now km.now share.now cap.now sheet.now
         leader.now angle.now phi.now circuits.now banks.now t root) (length a.now) }
 {
-    let mut k = 0;
-    while k < a.len() {
+    for k in 0..a.len() {
         gain[k] = gain_at(
             g, ladder, level, a, b, km, share, cap, sheet, leader, angle, phi, circuits, banks, t,
             root, k,
         );
-        k += 1;
     }
 }
 
@@ -418,10 +412,8 @@ fn order_gains(m: usize, gain: &[f64; 256], order: &mut [u32; 256]) -> usize
     ensures order { take result order.new ≡ gain_order gain.now m }
 {
     let mut count = 0;
-    let mut k = 0;
-    while k < m {
+    for k in 0..m {
         count = insert_gain(gain, order, count, k);
-        k += 1;
     }
     count
 }
@@ -459,11 +451,9 @@ fn corridors_in(leader: &[u32], a: &[u32], root: usize) -> u32
     ensures { result ≡ counting (λ (k : ℕ). within leader.now root (slice_index a.now k)) (length a.now) }
 {
     let mut count = 0;
-    let mut k = 0;
-    while k < a.len() {
+    for k in 0..a.len() {
         let i = wide(a[k]);
         count += one_if(wide(leader[i]) == root);
-        k += 1;
     }
     count
 }
@@ -575,14 +565,12 @@ fn lead_of(leader: &[u32], angle: &[f64], root: usize) -> usize
     ensures { (result ≡ lead_of leader.now angle.now root) × (result < length leader.now) }
 {
     let mut best = first_of(leader, root);
-    let mut i = best + 1;
-    while i < leader.len() {
+    for i in best + 1..leader.len() {
         best = choose(
             (wide(leader[i]) == root) & (angle[best] < angle[i]),
             i,
             best,
         );
-        i += 1;
     }
     best
 }
@@ -593,14 +581,12 @@ fn lag_of(leader: &[u32], angle: &[f64], root: usize) -> usize
     ensures { (result ≡ lag_of leader.now angle.now root) × (result < length leader.now) }
 {
     let mut best = first_of(leader, root);
-    let mut i = best + 1;
-    while i < leader.len() {
+    for i in best + 1..leader.len() {
         best = choose(
             (wide(leader[i]) == root) & (angle[i] < angle[best]),
             i,
             best,
         );
-        i += 1;
     }
     best
 }

@@ -20,10 +20,8 @@ fn sum(mw: &[f64]) -> f64
     ensures { result ≡ total mw.now }
 {
     let mut sum = 0.0;
-    let mut i = 0;
-    while i < mw.len() {
+    for i in 0..mw.len() {
         sum = sum + mw[i];
-        i += 1;
     }
     sum
 }
@@ -44,8 +42,7 @@ fn top_up(demand: f64, pmax: &[f64], c1: &[f64], mw: &mut [f64])
 {
     let mut order = [0u32; 256];
     order_costs(c1, &mut order);
-    let mut j = 0;
-    while j < c1.len() {
+    for j in 0..c1.len() {
         let k = wide(order[j]);
         let gap = demand - sum(mw);
         if !(0.0 < gap) {
@@ -56,7 +53,6 @@ fn top_up(demand: f64, pmax: &[f64], c1: &[f64], mw: &mut [f64])
         if served < pmax[k] {
             return;
         }
-        j += 1;
     }
 }
 

@@ -27,67 +27,67 @@ left c =
     places_of r.ladder r.tier r.reading r.weight r.generator_bus r.slack r.pmin r.pmax r.c1 r.c2 r.a r.b r.circuits r.length_km r.share r.cap r.sheet
 
 -- ---- the places of the code, each from the one after it
-abbrev from-refused : tie.In-Refused → tie.After-read_case-read
+abbrev from-refused : tie.In-Err → tie.After-read_case-read
 from-refused c = c.before.before.before.before.before.before.before.before.before.before.before.before.before.before.before.before.before.before
 
-abbrev from-answered : tie.In-Read → tie.After-read_case-read
+abbrev from-answered : tie.In-Ok → tie.After-read_case-read
 from-answered c = c.before.before.before.before.before.before.before.before.before.before.before.before.before.before.before.before.before.before
 
-abbrev header-known : tie.After-struct_known-1 → tie.In-Read
+abbrev header-known : tie.After-struct_known-1 → tie.In-Ok
 header-known c = c.before
 
-abbrev lent-1 : tie.After-plan_case-arg-1 → tie.In-Read
+abbrev lent-1 : tie.After-plan_case-arg-1 → tie.In-Ok
 lent-1 c = header-known c.before
 
-abbrev lent-2 : tie.After-plan_case-arg-in-Ok-1 → tie.In-Read
+abbrev lent-2 : tie.After-plan_case-arg-in-Ok-1 → tie.In-Ok
 lent-2 c = lent-1 c.before
 
-abbrev lent-3 : tie.After-plan_case-arg-in-Ok-2-1 → tie.In-Read
+abbrev lent-3 : tie.After-plan_case-arg-in-Ok-2-1 → tie.In-Ok
 lent-3 c = lent-2 c.before
 
-abbrev lent-4 : tie.After-plan_case-arg-in-Ok-3-1 → tie.In-Read
+abbrev lent-4 : tie.After-plan_case-arg-in-Ok-3-1 → tie.In-Ok
 lent-4 c = lent-3 c.before
 
-abbrev lent-5 : tie.After-plan_case-arg-in-Ok-4-1 → tie.In-Read
+abbrev lent-5 : tie.After-plan_case-arg-in-Ok-4-1 → tie.In-Ok
 lent-5 c = lent-4 c.before
 
-abbrev lent-6 : tie.After-plan_case-arg-in-Ok-5-1 → tie.In-Read
+abbrev lent-6 : tie.After-plan_case-arg-in-Ok-5-1 → tie.In-Ok
 lent-6 c = lent-5 c.before
 
-abbrev lent-7 : tie.After-plan_case-arg-in-Ok-6-1 → tie.In-Read
+abbrev lent-7 : tie.After-plan_case-arg-in-Ok-6-1 → tie.In-Ok
 lent-7 c = lent-6 c.before
 
-abbrev lent-8 : tie.After-plan_case-arg-in-Ok-7-1 → tie.In-Read
+abbrev lent-8 : tie.After-plan_case-arg-in-Ok-7-1 → tie.In-Ok
 lent-8 c = lent-7 c.before
 
-abbrev lent-9 : tie.After-plan_case-arg-in-Ok-8-1 → tie.In-Read
+abbrev lent-9 : tie.After-plan_case-arg-in-Ok-8-1 → tie.In-Ok
 lent-9 c = lent-8 c.before
 
-abbrev lent-10 : tie.After-plan_case-arg-in-Ok-9-1 → tie.In-Read
+abbrev lent-10 : tie.After-plan_case-arg-in-Ok-9-1 → tie.In-Ok
 lent-10 c = lent-9 c.before
 
-abbrev lent-11 : tie.After-plan_case-arg-in-Ok-10-1 → tie.In-Read
+abbrev lent-11 : tie.After-plan_case-arg-in-Ok-10-1 → tie.In-Ok
 lent-11 c = lent-10 c.before
 
-abbrev lent-12 : tie.After-plan_case-arg-in-Ok-11-1 → tie.In-Read
+abbrev lent-12 : tie.After-plan_case-arg-in-Ok-11-1 → tie.In-Ok
 lent-12 c = lent-11 c.before
 
-abbrev lent-13 : tie.After-plan_case-arg-in-Ok-12-1 → tie.In-Read
+abbrev lent-13 : tie.After-plan_case-arg-in-Ok-12-1 → tie.In-Ok
 lent-13 c = lent-12 c.before
 
-abbrev lent-14 : tie.After-plan_case-arg-in-Ok-13-1 → tie.In-Read
+abbrev lent-14 : tie.After-plan_case-arg-in-Ok-13-1 → tie.In-Ok
 lent-14 c = lent-13 c.before
 
-abbrev lent-15 : tie.After-plan_case-arg-in-Ok-14-1 → tie.In-Read
+abbrev lent-15 : tie.After-plan_case-arg-in-Ok-14-1 → tie.In-Ok
 lent-15 c = lent-14 c.before
 
-abbrev lent-16 : tie.After-plan_case-arg-in-Ok-15-1 → tie.In-Read
+abbrev lent-16 : tie.After-plan_case-arg-in-Ok-15-1 → tie.In-Ok
 lent-16 c = lent-15 c.before
 
-abbrev lent-17 : tie.After-plan_case-arg-in-Ok-16-1 → tie.In-Read
+abbrev lent-17 : tie.After-plan_case-arg-in-Ok-16-1 → tie.In-Ok
 lent-17 c = lent-16 c.before
 
-small : (c : tie.In-Read) → Small c.in-Ok.h
+small : (c : tie.In-Ok) → Small c.in-Ok.h
 small c = answered_small _ empty (left (from-answered c)) (from-answered c).read_case-read.ensures c.in-Ok.is
 
 slice-aggregate-read-case : tie.Need-slice_bounds-read_case-end

@@ -5,10 +5,8 @@ use Rattle.planned_files.proofs.unread.Goals as goal
 
 pub returns : goal.returns
 unfolding held
-returns c = (
-  refl,
-  (
-    record { buses = omega arith; corridors = omega arith; generators = omega arith; levels = omega arith; target = omega arith },
-    record { circuits = refl; flow = refl; rate = refl; before = refl; order = refl; cap = refl; mw = refl; angle = refl; tier = refl; ground = refl; added = refl },
-  ),
-)
+returns c = record {
+  planned = refl;
+  small = record { buses = omega arith; corridors = omega arith; generators = omega arith; levels = omega arith; target = omega arith };
+  sized = record { circuits = refl; flow = refl; rate = refl; before = refl; order = refl; cap = refl; mw = refl; angle = refl; tier = refl; ground = refl; added = refl };
+}

@@ -6,5 +6,5 @@ use Rattle.listing.proofs.line.put_added.Goals as goal
 pub returns : goal.returns
 unfolding added_line
 returns c =
-    let p = puts c.put_text-used.ensures (puts c.put_figure-used.ensures.0 c.put_text.ensures) in
-    (p, omega arith)
+    let p = puts c.put_text-used.ensures (puts c.put_figure-used.ensures.put c.put_text.ensures) in
+    record { put = p; upper_bound = omega arith }

@@ -19,5 +19,5 @@ spelt mode p m k e f = rw (e, f) (simp append_assoc)
 pub returns : goal.returns
 returns c =
     let a = c.args in
-    let p = puts c.put_text-used.ensures (puts c.put_three-used.ensures.0 (puts c.put_tallies-used.ensures.0 c.put_text.ensures)) in
-    (same_text (spelt a.mode a.p _ _ c.number.ensures c.flag.ensures) p, omega arith)
+    let p = puts c.put_text-used.ensures (puts c.put_three-used.ensures.put (puts c.put_tallies-used.ensures.put c.put_text.ensures)) in
+    record { put = same_text (spelt a.mode a.p _ _ c.number.ensures c.flag.ensures) p; upper_bound = omega arith }

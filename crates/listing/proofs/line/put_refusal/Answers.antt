@@ -15,5 +15,5 @@ spelt f n i p q = rw (p, q)
 
 pub returns : goal.returns
 returns c =
-    let p = puts c.put_text-used.ensures (puts c.put_number-used.ensures.0 (puts c.put_number-used-2.ensures.0 c.put_text.ensures)) in
-    (same_text (spelt _ _ _ c.number.ensures c.index.ensures) p, omega arith)
+    let p = puts c.put_text-used.ensures (puts c.put_number-used.ensures.put (puts c.put_number-used-2.ensures.put c.put_text.ensures)) in
+    record { put = same_text (spelt _ _ _ c.number.ensures c.index.ensures) p; upper_bound = omega arith }

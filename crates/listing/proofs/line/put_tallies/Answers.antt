@@ -14,5 +14,5 @@ joined p = simp (append_assoc, append-nil)
 
 pub returns : goal.returns
 returns c =
-    let p = puts c.put_three-used.ensures.0 (puts c.put_three-used-2.ensures.0 c.put_number.ensures.0) in
-    (same_text (joined c.args.p) p, omega arith)
+    let p = puts c.put_three-used.ensures.put (puts c.put_three-used-2.ensures.put c.put_number.ensures.put) in
+    record { put = same_text (joined c.args.p) p; upper_bound = omega arith }

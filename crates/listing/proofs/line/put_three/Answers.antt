@@ -9,6 +9,6 @@ use Rattle.listing.proofs.line.put_three.Goals as goal
 pub returns : goal.returns
 returns c =
     let a = c.args in
-    let p = puts c.put_number-used.ensures.0 (puts c.put_number-used-2.ensures.0 c.put_number.ensures.0) in
+    let p = puts c.put_number-used.ensures.put (puts c.put_number-used-2.ensures.put c.put_number.ensures.put) in
     let e : number a.a ++ (number a.b ++ number a.c) ≡ fields (number a.a ∷ number a.b ∷ number a.c ∷ []) = simp append-nil in
-    (same_text e p, omega arith)
+    record { put = same_text e p; upper_bound = omega arith }

@@ -1,16 +1,10 @@
-use Prim.Native.Nat.{ℕ, ◌-◌}
-use mathlib.Core.List.{List}
+use Prim.Native.Nat.{◌-◌}
 use mathlib.Core.Path.{◌≡◌, refl}
 use native.Mathlib.Omega.{arith}
-use lib.ListN.{get_or, length}
-use lib.Ieee.{Float}
-use Rattle.loops.specs.Figures.{at}
-use Rattle.listing.specs.Lines.{corridor_line}
+use lib.ListN.{length}
 use Rattle.listing.proofs.Texts.{none_put, one_more_lem, all_put}
+use Rattle.listing.proofs.table.put_corridors.Invariants.{line}
 use Rattle.listing.proofs.table.put_corridors.Goals as goal
-
-abbrev line : List ℕ → List Float → List Float → ℕ → List ℕ
-line circuits flow rate i = corridor_line i (get_or circuits i 0) (at flow i) (at rate i)
 
 pub loop-i-init : goal.loop-i-init
 loop-i-init c =
@@ -21,12 +15,12 @@ pub loop-i-preserved : goal.loop-i-preserved
 loop-i-preserved c =
     let l = c.loop-i in
     let a = c.args in
-    let p = one_more_lem (line a.circuits.now a.flow.now a.rate.now) l.i l.invariant.3 c.put_corridor-used.ensures.0 in
-    (omega arith, omega arith, omega (arith, c.put_corridor-used.ensures.1), p)
+    let p = one_more_lem (line a.circuits.now a.flow.now a.rate.now) l.i l.invariant.3 c.put_corridor-used.ensures.put in
+    (omega arith, omega arith, omega (arith, c.put_corridor-used.ensures.upper_bound), p)
 
 pub returns : goal.returns
 returns c =
     let l = c.loop-i in
     let a = c.args in
     let end : l.i ≡ length a.circuits.now = omega arith in
-    (all_put (line a.circuits.now a.flow.now a.rate.now) l.i (length a.circuits.now) end l.invariant.3, omega arith)
+    record { put = all_put (line a.circuits.now a.flow.now a.rate.now) l.i (length a.circuits.now) end l.invariant.3; upper_bound = omega arith }

@@ -1,9 +1,15 @@
-use Prim.Native.Nat.{◌+◌, ◌-◌, ◌*◌, ◌≤◌}
+use Prim.Native.Nat.{ℕ, ◌+◌, ◌-◌, ◌*◌, ◌≤◌}
+use mathlib.Core.List.{List}
 use mathlib.Core.Path.{◌≡◌}
-use lib.ListN.{length}
+use lib.ListN.{get_or, length}
+use lib.Ieee.{Float}
+use Rattle.loops.specs.Figures.{at}
 use Rattle.listing.specs.Text.{Put}
-use Rattle.listing.specs.Lines.{line_room, lines}
+use Rattle.listing.specs.Lines.{line_room, lines, corridor_line}
 use Rattle.listing.proofs.table.put_corridors.Given as goal
+
+abbrev pub line : List ℕ → List Float → List Float → ℕ → List ℕ
+line circuits flow rate i = corridor_line i (get_or circuits i 0) (at flow i) (at rate i)
 
 abbrev pub invariant-loop-i : goal.invariant-loop-i
 invariant-loop-i l =

@@ -1,16 +1,10 @@
-use Prim.Native.Nat.{ℕ, ◌-◌}
-use mathlib.Core.List.{List}
+use Prim.Native.Nat.{◌-◌}
 use mathlib.Core.Path.{◌≡◌, refl}
 use native.Mathlib.Omega.{arith}
-use lib.Ieee.{Float}
 use lib.ListN.{length}
-use Rattle.loops.specs.Figures.{at}
-use Rattle.listing.specs.Lines.{generator_line}
 use Rattle.listing.proofs.Texts.{none_put, one_more_lem, all_put}
+use Rattle.listing.proofs.table.put_generators.Invariants.{line}
 use Rattle.listing.proofs.table.put_generators.Goals as goal
-
-abbrev line : List Float → ℕ → List ℕ
-line mw i = generator_line i (at mw i)
 
 pub loop-i-init : goal.loop-i-init
 loop-i-init c =
@@ -21,12 +15,12 @@ pub loop-i-preserved : goal.loop-i-preserved
 loop-i-preserved c =
     let l = c.loop-i in
     let a = c.args in
-    let p = one_more_lem (line a.mw.now) l.i l.invariant.3 c.put_generator-used.ensures.0 in
-    (omega arith, omega arith, omega (arith, c.put_generator-used.ensures.1), p)
+    let p = one_more_lem (line a.mw.now) l.i l.invariant.3 c.put_generator-used.ensures.put in
+    (omega arith, omega arith, omega (arith, c.put_generator-used.ensures.upper_bound), p)
 
 pub returns : goal.returns
 returns c =
     let l = c.loop-i in
     let a = c.args in
     let end : l.i ≡ length a.mw.now = omega arith in
-    (all_put (line a.mw.now) l.i (length a.mw.now) end l.invariant.3, omega arith)
+    record { put = all_put (line a.mw.now) l.i (length a.mw.now) end l.invariant.3; upper_bound = omega arith }

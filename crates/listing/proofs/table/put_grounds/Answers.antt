@@ -1,14 +1,10 @@
-use Prim.Native.Nat.{ℕ, ◌-◌}
-use mathlib.Core.List.{List}
+use Prim.Native.Nat.{◌-◌}
 use mathlib.Core.Path.{◌≡◌, refl}
 use native.Mathlib.Omega.{arith}
-use lib.ListN.{get_or, length}
-use Rattle.listing.specs.Lines.{ground_line}
+use lib.ListN.{length}
 use Rattle.listing.proofs.Texts.{none_put, one_more_lem, all_put}
+use Rattle.listing.proofs.table.put_grounds.Invariants.{line}
 use Rattle.listing.proofs.table.put_grounds.Goals as goal
-
-abbrev line : List ℕ → ℕ → List ℕ
-line ground i = ground_line (get_or ground i 0)
 
 pub loop-i-init : goal.loop-i-init
 loop-i-init c =
@@ -19,12 +15,12 @@ pub loop-i-preserved : goal.loop-i-preserved
 loop-i-preserved c =
     let l = c.loop-i in
     let a = c.args in
-    let p = one_more_lem (line a.ground.now) l.i l.invariant.3 c.put_ground-used.ensures.0 in
-    (omega arith, omega arith, omega (arith, c.put_ground-used.ensures.1), p)
+    let p = one_more_lem (line a.ground.now) l.i l.invariant.3 c.put_ground-used.ensures.put in
+    (omega arith, omega arith, omega (arith, c.put_ground-used.ensures.upper_bound), p)
 
 pub returns : goal.returns
 returns c =
     let l = c.loop-i in
     let a = c.args in
     let end : l.i ≡ length a.ground.now = omega arith in
-    (all_put (line a.ground.now) l.i (length a.ground.now) end l.invariant.3, omega arith)
+    record { put = all_put (line a.ground.now) l.i (length a.ground.now) end l.invariant.3; upper_bound = omega arith }

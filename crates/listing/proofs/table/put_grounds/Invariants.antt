@@ -1,9 +1,13 @@
-use Prim.Native.Nat.{◌+◌, ◌-◌, ◌*◌, ◌≤◌}
+use Prim.Native.Nat.{ℕ, ◌+◌, ◌-◌, ◌*◌, ◌≤◌}
+use mathlib.Core.List.{List}
 use mathlib.Core.Path.{◌≡◌}
-use lib.ListN.{length}
+use lib.ListN.{get_or, length}
 use Rattle.listing.specs.Text.{Put}
-use Rattle.listing.specs.Lines.{line_room, lines}
+use Rattle.listing.specs.Lines.{line_room, lines, ground_line}
 use Rattle.listing.proofs.table.put_grounds.Given as goal
+
+abbrev pub line : List ℕ → ℕ → List ℕ
+line ground i = ground_line (get_or ground i 0)
 
 abbrev pub invariant-loop-i : goal.invariant-loop-i
 invariant-loop-i l =

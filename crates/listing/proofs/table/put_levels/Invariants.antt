@@ -1,9 +1,15 @@
-use Prim.Native.Nat.{◌+◌, ◌-◌, ◌*◌, ◌≤◌}
+use Prim.Native.Nat.{ℕ, ◌+◌, ◌-◌, ◌*◌, ◌≤◌}
+use mathlib.Core.List.{List}
 use mathlib.Core.Path.{◌≡◌}
+use lib.Ieee.{Float}
 use lib.ListN.{length}
+use Rattle.loops.specs.Figures.{at}
 use Rattle.listing.specs.Text.{Put}
-use Rattle.listing.specs.Lines.{line_room, lines}
+use Rattle.listing.specs.Lines.{line_room, lines, added_line}
 use Rattle.listing.proofs.table.put_levels.Given as goal
+
+abbrev pub line : List Float → ℕ → List ℕ
+line added i = added_line (at added i)
 
 abbrev pub invariant-loop-i : goal.invariant-loop-i
 invariant-loop-i l =

@@ -12,4 +12,4 @@ returns c =
     let x = c.args.x in
     let text = ap (λ (l : List ℕ). space ∷ l) (c.hexadecimal.ensures ∙ ap (hexadecimal 16) c.listed_bits.ensures) in
     let p = same_text text (puts c.put_text-used.ensures c.put_text.ensures) in
-    (p, p.used ∙ ap (λ (k : ℕ). c.args.len + k) (length_figure x))
+    record { put = p; value = p.used ∙ ap (λ (k : ℕ). c.args.len + k) (length_figure x) }

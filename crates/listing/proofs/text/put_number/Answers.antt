@@ -11,12 +11,12 @@ pub put_text-requires : goal.put_text-requires
 put_text-requires c =
     let d = c.decimal-k in
     let n = c.args.n in
-    omega (arith, c.put_text-used.ensures.used, d.ensures.0.1, fewest_most n d.result (omega arith) d.ensures.1.0)
+    omega (arith, c.put_text-used.ensures.used, d.ensures.in_bounds.1, fewest_most n d.result (omega arith) d.ensures.len)
 
 pub returns : goal.returns
 returns c =
     let d = c.decimal-k in
     let n = c.args.n in
-    let text = ap (λ (l : List ℕ). space ∷ l) d.ensures.1.1.0 ∙ number_digits n d.result (omega arith) d.ensures.1.0 in
+    let text = ap (λ (l : List ℕ). space ∷ l) d.ensures.digits ∙ number_digits n d.result (omega arith) d.ensures.len in
     let p = same_text text (puts c.put_text-used.ensures c.put_text.ensures) in
-    (p, omega (arith, p.used, length_number n))
+    record { put = p; upper_bound = omega (arith, p.used, length_number n) }

@@ -6,6 +6,3 @@ use Rattle.planning.proofs.close.add_levels.Given as goal
 
 abbrev pub invariant-loop-j : goal.invariant-loop-j
 invariant-loop-j l = (l.j ≤ l.above) × (length l.added ≡ l.above) × (l.added ≡ filled l.initial.added (added_at l.ladder l.above l.unused) l.j)
-
-abbrev pub decreases-loop-j : goal.decreases-loop-j
-decreases-loop-j l = l.above - l.j

@@ -37,12 +37,6 @@ overflow_add-count c =
     let l = c.loop-k in
     record { fits = omega (arith, l.invariant.1, count_fits (capped_in s.args.mode s.args.ladder.now s.args.level.now s.args.a.now s.args.b.now s.args.km.now s.args.share.now s.args.cap.now s.args.sheet.now s.args.banks.now s.args.circuits.now s.args.flow.now) l.k c.one_if-count.result c.one_if-count.ensures.1 (omega (arith, l.invariant.0, s.requires.loaded.0.drawable.few))) }
 
-pub overflow_add-k : goal.overflow_add-k
-overflow_add-k c = record { fits = omega (arith, c.loop-k-test.true, c.requires.loaded.0.drawable.few) }
-
-pub loop-k-smaller : goal.loop-k-smaller
-loop-k-smaller c = omega (arith, c.loop-k-test.true)
-
 pub loop-k-preserved : goal.loop-k-preserved
 loop-k-preserved c =
     let s = c in

@@ -6,6 +6,3 @@ use Rattle.planning.proofs.close.capped.Given as goal
 
 abbrev pub invariant-loop-k : goal.invariant-loop-k
 invariant-loop-k l = (l.k ≤ length l.a) × (l.count ≡ counting (capped_in l.mode l.ladder l.level l.a l.b l.km l.share l.cap l.sheet l.banks l.circuits l.flow) l.k)
-
-abbrev pub decreases-loop-k : goal.decreases-loop-k
-decreases-loop-k l = length l.a - l.k

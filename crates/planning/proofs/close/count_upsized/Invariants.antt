@@ -5,6 +5,3 @@ use Rattle.planning.proofs.close.count_upsized.Given as goal
 
 abbrev pub invariant-loop-k : goal.invariant-loop-k
 invariant-loop-k l = (l.k ≤ length l.upsized) × (l.count ≡ counting (λ (j : ℕ). leb 1 (get_or l.upsized j 0)) l.k)
-
-abbrev pub decreases-loop-k : goal.decreases-loop-k
-decreases-loop-k l = length l.upsized - l.k

@@ -8,6 +8,3 @@ use Rattle.planning.proofs.close.lowest.Given as goal
 
 abbrev pub invariant-loop-i : goal.invariant-loop-i
 invariant-loop-i l = (l.i ≤ length l.leader) × (iter (lower l.leader l.angle l.root) (length l.leader - l.i) l.i l.least ≡ lowest l.angle (members l.leader l.root))
-
-abbrev pub decreases-loop-i : goal.decreases-loop-i
-decreases-loop-i l = length l.leader - l.i

@@ -8,6 +8,3 @@ use Rattle.planning.proofs.close.max_loading.Given as goal
 
 abbrev pub invariant-loop-k : goal.invariant-loop-k
 invariant-loop-k l = (l.k ≤ length l.rate) × (iter (most l.circuits l.flow l.rate) (length l.rate - l.k) l.k l.most ≡ max_loading (loadings_by l.circuits l.flow l.rate))
-
-abbrev pub decreases-loop-k : goal.decreases-loop-k
-decreases-loop-k l = length l.rate - l.k

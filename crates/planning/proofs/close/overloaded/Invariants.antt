@@ -6,6 +6,3 @@ use Rattle.planning.proofs.close.overloaded.Given as goal
 
 abbrev pub invariant-loop-k : goal.invariant-loop-k
 invariant-loop-k l = (l.k ≤ length l.rate) × (l.count ≡ counting (heavy l.circuits l.flow l.rate) l.k)
-
-abbrev pub decreases-loop-k : goal.decreases-loop-k
-decreases-loop-k l = length l.rate - l.k

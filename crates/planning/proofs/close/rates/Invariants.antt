@@ -6,6 +6,3 @@ use Rattle.planning.proofs.close.rates.Given as goal
 
 abbrev pub invariant-loop-k : goal.invariant-loop-k
 invariant-loop-k l = (l.k ≤ length l.a) × (length l.rate ≡ length l.a) × (l.rate ≡ filled l.initial.rate (rate_of l.ladder l.level l.a l.b l.km l.share l.sheet l.banks) l.k)
-
-abbrev pub decreases-loop-k : goal.decreases-loop-k
-decreases-loop-k l = length l.a - l.k

@@ -5,6 +5,3 @@ use Rattle.planning.proofs.close.shift_back.Given as goal
 
 abbrev pub invariant-loop-i : goal.invariant-loop-i
 invariant-loop-i l = (l.i ≤ length l.initial.level) × (length l.level ≡ length l.initial.level) × (l.level ≡ filled l.initial.level (λ (j : ℕ). get_or l.initial.level j 0 - l.unused) l.i)
-
-abbrev pub decreases-loop-i : goal.decreases-loop-i
-decreases-loop-i l = length l.initial.level - l.i

@@ -7,6 +7,3 @@ use Rattle.planning.proofs.close.spread.Given as goal
 
 abbrev pub invariant-loop-i : goal.invariant-loop-i
 invariant-loop-i l = (l.i ≤ length l.leader) × (iter (wider_by l.leader l.angle) (length l.leader - l.i) l.i l.most ≡ spread_of l.leader l.angle)
-
-abbrev pub decreases-loop-i : goal.decreases-loop-i
-decreases-loop-i l = length l.leader - l.i

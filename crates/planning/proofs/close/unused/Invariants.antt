@@ -5,6 +5,3 @@ use Rattle.planning.proofs.close.unused.Given as goal
 
 abbrev pub invariant-loop-i : goal.invariant-loop-i
 invariant-loop-i l = (l.i ≤ length l.level) × (least_of l.least (drop l.i l.level) ≡ least_of l.above l.level)
-
-abbrev pub decreases-loop-i : goal.decreases-loop-i
-decreases-loop-i l = length l.level - l.i

@@ -5,6 +5,3 @@ use Rattle.planning.proofs.figures.clear_figures.Given as goal
 
 abbrev pub invariant-loop-i : goal.invariant-loop-i
 invariant-loop-i l = (l.i ≤ length l.initial.figures) × (length l.figures ≡ length l.initial.figures) × (l.figures ≡ filled l.initial.figures (λ k. nought) l.i)
-
-abbrev pub decreases-loop-i : goal.decreases-loop-i
-decreases-loop-i l = length l.initial.figures - l.i

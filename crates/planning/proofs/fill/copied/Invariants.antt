@@ -4,6 +4,3 @@ use Rattle.planning.proofs.fill.copied.Given as goal
 
 abbrev pub invariant-loop-k : goal.invariant-loop-k
 invariant-loop-k l = (l.k ≤ length l.circuits) × (length l.out ≡ 256) × (length l.initial.out ≡ 256) × (l.out ≡ filled l.initial.out (λ (i : ℕ). get_or l.circuits i 0) l.k)
-
-abbrev pub decreases-loop-k : goal.decreases-loop-k
-decreases-loop-k l = length l.circuits - l.k

@@ -7,6 +7,3 @@ use Rattle.planning.proofs.fill.fill_rounds.Given as goal
 
 abbrev pub invariant-loop-turn : goal.invariant-loop-turn
 invariant-loop-turn l = (length l.circuits ≡ length l.initial.circuits) × (fill_rounds (fill_turns - l.turn) (full_of l.cap) l.target (take (length l.initial.circuits) l.order) (filled_as l.circuits l.t) ≡ fill_rounds fill_turns (full_of l.cap) l.target (take (length l.initial.circuits) l.order) (filled_as l.initial.circuits l.initial.t)) × Tallied l.t
-
-abbrev pub decreases-loop-turn : goal.decreases-loop-turn
-decreases-loop-turn l = fill_turns - l.turn

@@ -8,6 +8,3 @@ use Rattle.planning.proofs.fill.order_by.Given as goal
 
 abbrev pub invariant-loop-k : goal.invariant-loop-k
 invariant-loop-k l = (l.k ≤ length l.third) × Whole l.order × All (λ (j : ℕ). j < length l.third) (take l.k l.order) × (iter (insert_by (rank_before l.first l.second l.third)) (length l.third - l.k) l.k (take l.k l.order) ≡ order_by (rank_before l.first l.second l.third) (length l.third))
-
-abbrev pub decreases-loop-k : goal.decreases-loop-k
-decreases-loop-k l = length l.third - l.k

@@ -7,6 +7,3 @@ use Rattle.planning.proofs.fill.rank_kvs.Given as goal
 
 abbrev pub invariant-loop-k : goal.invariant-loop-k
 invariant-loop-k l = (l.k ≤ length l.a) × (l.out ≡ filled l.initial.out (λ (j : ℕ). (design (designs_for l.ladder l.level l.a l.b l.km l.share l.sheet l.banks) j).kv) l.k)
-
-abbrev pub decreases-loop-k : goal.decreases-loop-k
-decreases-loop-k l = length l.a - l.k

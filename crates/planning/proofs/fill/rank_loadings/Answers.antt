@@ -39,9 +39,6 @@ offset_bounds-out-k c = record { fits = omega (arith, c.loop-k-test.true, c.requ
 pub bounds-out-k : goal.bounds-out-k
 bounds-out-k c = omega (arith, c.requires.loaded.0.drawable.few)
 
-pub overflow_add-k : goal.overflow_add-k
-overflow_add-k c = record { fits = omega (arith, c.loop-k-test.true, c.requires.loaded.0.drawable.few) }
-
 pub loop-k-preserved : goal.loop-k-preserved
 loop-k-preserved c =
     let s = c.args in

@@ -7,6 +7,3 @@ use Rattle.planning.proofs.fill.rank_loadings.Given as goal
 
 abbrev pub invariant-loop-k : goal.invariant-loop-k
 invariant-loop-k l = (l.k ≤ length l.a) × (l.out ≡ filled l.initial.out (loading_at (designs_for l.ladder l.level l.a l.b l.km l.share l.sheet l.banks) l.circuits l.flow) l.k)
-
-abbrev pub decreases-loop-k : goal.decreases-loop-k
-decreases-loop-k l = length l.a - l.k

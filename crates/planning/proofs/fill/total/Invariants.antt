@@ -6,6 +6,3 @@ use Rattle.planning.proofs.fill.total.Given as goal
 
 abbrev pub invariant-loop-k : goal.invariant-loop-k
 invariant-loop-k l = (l.k ≤ length l.circuits) × (l.total ≡ sum (take l.k l.circuits)) × (l.total ≤ most_initial * l.k)
-
-abbrev pub decreases-loop-k : goal.decreases-loop-k
-decreases-loop-k l = length l.circuits - l.k

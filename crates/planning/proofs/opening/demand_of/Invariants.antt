@@ -6,6 +6,3 @@ use Rattle.planning.proofs.opening.demand_of.Given as goal
 
 abbrev pub invariant-loop-i : goal.invariant-loop-i
 invariant-loop-i l = (l.i ≤ length l.leader) × (each (λ k s. plus s (at l.load k)) (pass_from (within l.leader l.root) (length l.leader - l.i) l.i) l.demand ≡ sum_over (at l.load) (members l.leader l.root))
-
-abbrev pub decreases-loop-i : goal.decreases-loop-i
-decreases-loop-i l = length l.leader - l.i

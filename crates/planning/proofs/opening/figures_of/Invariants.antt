@@ -5,6 +5,3 @@ use Rattle.planning.proofs.opening.figures_of.Given as goal
 
 abbrev pub invariant-loop-j : goal.invariant-loop-j
 invariant-loop-j l = (l.j ≤ l.count) × (l.chosen ≡ filled l.initial.chosen (λ i. at l.column (get_or l.units i 0)) l.j)
-
-abbrev pub decreases-loop-j : goal.decreases-loop-j
-decreases-loop-j l = l.count - l.j

@@ -4,6 +4,3 @@ use Rattle.planning.proofs.opening.first_levels.Given as goal
 
 abbrev pub invariant-loop-i : goal.invariant-loop-i
 invariant-loop-i l = (l.i ≤ length l.tier) × (length l.level ≡ length l.tier) × (l.level ≡ filled l.initial.level (λ k. l.above + get_or l.tier k 0) l.i)
-
-abbrev pub decreases-loop-i : goal.decreases-loop-i
-decreases-loop-i l = length l.tier - l.i

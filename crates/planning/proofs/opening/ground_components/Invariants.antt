@@ -4,6 +4,3 @@ use Rattle.planning.proofs.opening.ground_components.Given as goal
 
 abbrev pub invariant-loop-i : goal.invariant-loop-i
 invariant-loop-i l = Grounded l.leader l.bus l.slack l.ground l.count l.i
-
-abbrev pub decreases-loop-i : goal.decreases-loop-i
-decreases-loop-i l = length l.leader - l.i

@@ -6,6 +6,3 @@ use Rattle.planning.proofs.opening.ground_of.Given as goal
 
 abbrev pub invariant-loop-k : goal.invariant-loop-k
 invariant-loop-k l = (l.k ≤ length l.bus) × (bus_or (slack_case l.bus l.slack) l.root (pass_from (slack_within (slack_case l.bus l.slack) l.leader l.root) (length l.bus - l.k) l.k) ≡ ground_of (slack_case l.bus l.slack) l.leader l.root)
-
-abbrev pub decreases-loop-k : goal.decreases-loop-k
-decreases-loop-k l = length l.bus - l.k

@@ -7,6 +7,3 @@ use Rattle.planning.proofs.opening.inject.Given as goal
 abbrev pub invariant-loop-k : goal.invariant-loop-k
 invariant-loop-k l = (l.k ≤ length l.bus) × (length l.injection ≡ length l.initial.injection)
     × (iter (inject_at (bus_case l.bus) l.mw) (length l.bus - l.k) l.k l.injection ≡ iter (inject_at (bus_case l.bus) l.mw) (length l.bus) 0 l.initial.injection)
-
-abbrev pub decreases-loop-k : goal.decreases-loop-k
-decreases-loop-k l = length l.bus - l.k

@@ -4,6 +4,3 @@ use Rattle.planning.proofs.opening.lower_bounds.Given as goal
 
 abbrev pub invariant-loop-k : goal.invariant-loop-k
 invariant-loop-k l = (l.k ≤ length l.fn.initial) × (length l.circuits ≡ length l.fn.initial) × (l.circuits ≡ filled l.initial.circuits (λ j. max (get_or l.fn.initial j 0) 1) l.k)
-
-abbrev pub decreases-loop-k : goal.decreases-loop-k
-decreases-loop-k l = length l.fn.initial - l.k

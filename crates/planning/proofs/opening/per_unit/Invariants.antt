@@ -6,6 +6,3 @@ use Rattle.planning.proofs.opening.per_unit.Given as goal
 
 abbrev pub invariant-loop-i : goal.invariant-loop-i
 invariant-loop-i l = (l.i ≤ length l.initial.injection) × (length l.injection ≡ length l.initial.injection) × (l.injection ≡ filled l.initial.injection (λ k. over (at l.initial.injection k) base_mva) l.i)
-
-abbrev pub decreases-loop-i : goal.decreases-loop-i
-decreases-loop-i l = length l.initial.injection - l.i

@@ -7,6 +7,3 @@ use Rattle.planning.proofs.opening.units_in.Given as goal
 abbrev pub invariant-loop-k : goal.invariant-loop-k
 invariant-loop-k l = (l.k ≤ length l.bus) × (l.count ≤ l.k) × (length l.units ≡ 128)
     × (take l.count l.units ++ pass_from (unit_within (bus_case l.bus) l.leader l.root) (length l.bus - l.k) l.k ≡ units_in (bus_case l.bus) l.leader l.root)
-
-abbrev pub decreases-loop-k : goal.decreases-loop-k
-decreases-loop-k l = length l.bus - l.k

@@ -6,6 +6,3 @@ use Rattle.planning.proofs.opening.withdraw.Given as goal
 
 abbrev pub invariant-loop-i : goal.invariant-loop-i
 invariant-loop-i l = (l.i ≤ length l.load) × (length l.injection ≡ length l.load) × (l.injection ≡ filled l.initial.injection (λ k. neg (at l.load k)) l.i)
-
-abbrev pub decreases-loop-i : goal.decreases-loop-i
-decreases-loop-i l = length l.load - l.i

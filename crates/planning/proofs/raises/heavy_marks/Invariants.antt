@@ -9,6 +9,3 @@ invariant-loop-k l =
     (l.k ≤ length l.a) × (length l.marks ≡ length l.level)
     × (iter (heavy_at (H l.ladder l.level l.a l.b l.km l.share l.sheet l.banks l.flow) (S l.ladder l.level l.a l.b l.km l.share l.sheet l.banks l.flow) l.flow) (length l.a - l.k) l.k l.marks
     ≡ heavy_marks (H l.ladder l.level l.a l.b l.km l.share l.sheet l.banks l.flow) (S l.ladder l.level l.a l.b l.km l.share l.sheet l.banks l.flow) l.flow)
-
-abbrev pub decreases-loop-k : goal.decreases-loop-k
-decreases-loop-k l = length l.a - l.k

@@ -6,6 +6,3 @@ use Rattle.planning.proofs.redesign.generation_at.Given as goal
 
 abbrev pub invariant-loop-k : goal.invariant-loop-k
 invariant-loop-k l = (l.k ≤ length l.bus) × (l.gen_at ≡ tab 256 (gen_to l.bus l.pmax l.k))
-
-abbrev pub decreases-loop-k : goal.decreases-loop-k
-decreases-loop-k l = length l.bus - l.k

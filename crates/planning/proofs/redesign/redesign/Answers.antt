@@ -37,9 +37,6 @@ offset_bounds-banks-k c = omega (arith, c.loop-k-test.true, c.requires.few)
 pub bounds-banks-k : goal.bounds-banks-k
 bounds-banks-k c = omega (arith, c.loop-k-test.true, c.requires.bank_size, fill_length _ _ _ _ c.loop-k.invariant.1 (omega (arith, c.loop-k.invariant.0, c.requires.bank_size)))
 
-pub overflow_add-k : goal.overflow_add-k
-overflow_add-k c = omega (arith, c.loop-k-test.true, c.requires.few)
-
 pub loop-k-preserved : goal.loop-k-preserved
 loop-k-preserved c =
     let s = c in

@@ -6,6 +6,3 @@ use Rattle.planning.proofs.redesign.transformer_corridors.Given as goal
 
 abbrev pub invariant-loop-k : goal.invariant-loop-k
 invariant-loop-k l = (l.k ≤ length l.a) × (l.shared ≡ tab 256 (shared_to l.ladder l.level l.a l.b l.k))
-
-abbrev pub decreases-loop-k : goal.decreases-loop-k
-decreases-loop-k l = length l.a - l.k

@@ -5,6 +5,3 @@ use Rattle.planning.proofs.solve.all_finite.Given as goal
 
 abbrev pub invariant-loop-i : goal.invariant-loop-i
 invariant-loop-i l = (l.i ≤ length l.figures) × (first (finite_at l.figures) (length l.figures - l.i) l.i ≡ first (finite_at l.figures) (length l.figures) 0)
-
-abbrev pub decreases-loop-i : goal.decreases-loop-i
-decreases-loop-i l = length l.figures - l.i

@@ -5,6 +5,3 @@ use Rattle.planning.proofs.solve.copy.Given as goal
 
 abbrev pub invariant-loop-i : goal.invariant-loop-i
 invariant-loop-i l = (l.i ≤ length l.angle) × (l.guess ≡ filled l.initial.guess (at l.angle) l.i)
-
-abbrev pub decreases-loop-i : goal.decreases-loop-i
-decreases-loop-i l = length l.angle - l.i

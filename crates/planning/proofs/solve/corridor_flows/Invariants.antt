@@ -7,6 +7,3 @@ use Rattle.planning.proofs.solve.corridor_flows.Given as goal
 abbrev pub invariant-loop-k : goal.invariant-loop-k
 invariant-loop-k l = (l.k ≤ length l.initial.flow) × (length l.flow ≡ length l.initial.flow)
     × (l.flow ≡ filled l.initial.flow (flow_mw (edges_of (take (length l.initial.flow) l.from) (take (length l.initial.flow) l.to) (take (length l.initial.flow) l.weight)) l.angle) l.k)
-
-abbrev pub decreases-loop-k : goal.decreases-loop-k
-decreases-loop-k l = length l.initial.flow - l.k

@@ -66,9 +66,6 @@ offset_bounds-weight-k c = omega (arith, c.loop-k-test.true, c.requires.few_corr
 pub bounds-weight-k : goal.bounds-weight-k
 bounds-weight-k c = omega (arith, c.requires.few_corridors)
 
-pub overflow_add-k : goal.overflow_add-k
-overflow_add-k c = omega (arith, c.loop-k-test.true, c.requires.few_corridors)
-
 pub loop-k-preserved : goal.loop-k-preserved
 loop-k-preserved c =
     let l = c.loop-k in

@@ -11,6 +11,3 @@ invariant-loop-k l = (l.k ≤ length l.a)
     × (l.from ≡ filled l.initial.from (λ i. (drawn (lines_for l.ladder l.a l.b l.km l.share l.sheet) l.level i (at l.banks i)).from) l.k)
     × (l.to ≡ filled l.initial.to (λ i. (drawn (lines_for l.ladder l.a l.b l.km l.share l.sheet) l.level i (at l.banks i)).to) l.k)
     × (l.weight ≡ filled l.initial.weight (λ i. times (susceptance (drawn (lines_for l.ladder l.a l.b l.km l.share l.sheet) l.level i (at l.banks i))) (float (get_or l.circuits i 0))) l.k)
-
-abbrev pub decreases-loop-k : goal.decreases-loop-k
-decreases-loop-k l = length l.a - l.k

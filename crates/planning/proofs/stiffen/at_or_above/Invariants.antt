@@ -8,6 +8,3 @@ high level top i = leb (get_or level i 0) top
 
 abbrev pub invariant-loop-i : goal.invariant-loop-i
 invariant-loop-i l = (l.i ≤ length l.level) × (l.count ≡ counting (high l.level l.top) l.i)
-
-abbrev pub decreases-loop-i : goal.decreases-loop-i
-decreases-loop-i l = length l.level - l.i

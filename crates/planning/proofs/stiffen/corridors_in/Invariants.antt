@@ -8,6 +8,3 @@ inside leader a root k = within leader root (get_or a k 0)
 
 abbrev pub invariant-loop-k : goal.invariant-loop-k
 invariant-loop-k l = (l.k ≤ length l.a) × (l.count ≡ counting (inside l.leader l.a l.root) l.k)
-
-abbrev pub decreases-loop-k : goal.decreases-loop-k
-decreases-loop-k l = length l.a - l.k

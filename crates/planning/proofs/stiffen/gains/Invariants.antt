@@ -5,6 +5,3 @@ use Rattle.planning.proofs.stiffen.gains.Given as goal
 
 abbrev pub invariant-loop-k : goal.invariant-loop-k
 invariant-loop-k l = (l.k ≤ length l.a) × (l.gain ≡ filled l.initial.gain (gain_at l.g l.ladder l.level l.a l.b l.km l.share l.cap l.sheet l.leader l.angle l.phi l.circuits l.banks l.t l.root) l.k)
-
-abbrev pub decreases-loop-k : goal.decreases-loop-k
-decreases-loop-k l = length l.a - l.k

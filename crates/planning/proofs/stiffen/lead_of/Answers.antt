@@ -5,12 +5,6 @@ use Rattle.plan_defs.specs.Stiffen.{leader as ahead}
 use Rattle.planning.proofs.Leads.{first_here, best_start, best_turn, best_end, best_below}
 use Rattle.planning.proofs.stiffen.lead_of.Goals as goal
 
-pub overflow_add-i : goal.overflow_add-i
-overflow_add-i c =
-    let s = c in
-    let z = s.args in
-    record { fits = omega (arith, first_here z.leader.now z.root s.requires.here s.requires.leads, c.first_of-best.ensures, s.well_formed) }
-
 pub loop-i-init : goal.loop-i-init
 loop-i-init c =
     let s = c in
@@ -36,3 +30,7 @@ returns c =
     let z = s.args in
     let l = c.loop-i in
     (sym (best_end z.leader.now z.root s.requires.here s.requires.leads (ahead z.angle.now) l.i l.best c.loop-i-test.false) ∙ l.invariant.2 s.requires.here s.requires.leads, l.invariant.0)
+
+pub overflow_step-i : goal.overflow_step-i
+overflow_step-i c =
+    record { fits = omega (arith, first_here c.args.leader.now c.args.root c.requires.here c.requires.leads, c.first_of-best.ensures, c.well_formed) }

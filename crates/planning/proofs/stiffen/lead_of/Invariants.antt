@@ -6,6 +6,3 @@ use Rattle.planning.proofs.stiffen.lead_of.Given as goal
 
 abbrev pub invariant-loop-i : goal.invariant-loop-i
 invariant-loop-i l = (l.best < length l.leader) × (l.i ≤ length l.leader) × ((here : l.root < length l.leader) (leads : get_or l.leader l.root 0 ≡ l.root) → left l.leader l.root here leads (ahead l.angle) l.i l.best ≡ lead_of l.leader l.angle l.root)
-
-abbrev pub decreases-loop-i : goal.decreases-loop-i
-decreases-loop-i l = length l.leader - l.i

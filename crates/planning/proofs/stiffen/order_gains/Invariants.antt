@@ -7,6 +7,3 @@ use Rattle.planning.proofs.stiffen.order_gains.Given as goal
 
 abbrev pub invariant-loop-k : goal.invariant-loop-k
 invariant-loop-k l = (l.k ≤ l.m) × (l.count ≤ l.k) × Whole l.order × All (λ (j : ℕ). j < l.m) (take l.count l.order) × (iter (gain_next l.gain) (l.m - l.k) l.k (take l.count l.order) ≡ gain_order l.gain l.m)
-
-abbrev pub decreases-loop-k : goal.decreases-loop-k
-decreases-loop-k l = l.m - l.k

@@ -11,6 +11,3 @@ invariant-loop-j l =
     × (length l.upsized ≡ length l.initial.upsized)
     × (length l.marks ≡ length l.initial.marks)
     × BatchStiffened (take l.j l.order) l.g l.ladder l.level l.a l.b l.km l.share l.cap l.sheet l.initial.circuits l.initial.banks l.initial.floors l.initial.upsized l.initial.marks l.initial.t l.circuits l.banks l.floors l.upsized l.marks l.t
-
-abbrev pub decreases-loop-j : goal.decreases-loop-j
-decreases-loop-j l = l.taken - l.j

@@ -6,6 +6,3 @@ use Rattle.planning.proofs.top_up.sum.Given as goal
 
 abbrev pub invariant-loop-i : goal.invariant-loop-i
 invariant-loop-i l = (l.i ≤ length l.mw) × (l.sum ≡ sum_to (at l.mw) l.i)
-
-abbrev pub decreases-loop-i : goal.decreases-loop-i
-decreases-loop-i l = length l.mw - l.i

@@ -11,6 +11,9 @@ ghost use Rattle.case_tables.specs.Tables.{tables_in};
 use casefile_defs::{Header, MOST_BUSES, MOST_CORRIDORS, MOST_GENERATORS, MOST_LEVELS, MOST_SHEET};
 use casefile_writer::put_case_file;
 
+// The longest file of a case.
+pub const MOST_FILE: usize = 60_609;
+
 #[derive(Drop)]
 pub struct Tables {
     pub ladder: [f64; MOST_LEVELS],

@@ -5,12 +5,10 @@
 
 mod file;
 
+use case_tables::MOST_FILE;
 use file::put_small_network;
 use std::io;
 use std::io::Write;
-
-// The longest file of a case.
-const MOST_FILE: usize = 60_609;
 
 // More digits than are told apart: a number of that many is past every place.
 const MOST_DIGITS: usize = 16;

@@ -7,13 +7,11 @@ mod case;
 mod files;
 mod fronts;
 
+use case_tables::MOST_FILE;
 use casefile_defs::MOST_BYTES;
 use files::join_files;
 use std::io;
 use std::io::Write;
-
-// The longest file of a case.
-const MOST_FILE: usize = 60_609;
 
 // One byte more than the largest file, so that a larger one shows.
 const MOST_SECOND: usize = MOST_BYTES + 1;

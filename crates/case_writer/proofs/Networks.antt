@@ -18,9 +18,8 @@ use Rattle.refusal.specs.declared.Refusal.{Refusal}
 use Rattle.refusal.specs.declared.Refusal.TheVariants.{Place}
 use Rattle.casefile_defs.specs.Reading.{Small}
 use Rattle.casefile_defs.specs.Tables.{Places, sizes_ok}
+use Rattle.std.specs.Prelude.{Ok, Err}
 use Rattle.casefile_defs.specs.declared.Header.{Header}
-use Rattle.casefile_defs.specs.declared.Reading.{Reading}
-use Rattle.casefile_defs.specs.declared.Reading.TheVariants.{Refused, Read}
 use Rattle.casefile_defs.proofs.Counts.{small_of}
 use Rattle.casefile_defs.proofs.Whole.{sizes}
 use Rattle.casefile_theorems.specs.Cases.{longest}
@@ -35,16 +34,14 @@ use Rattle.small.specs.Tables.{padded, laid_out, header_at, tables_at, Made, mad
 use Rattle.small_theorems.specs.Held.{file_at}
 use Rattle.small_theorems.proofs.Accepted.{sound_at}
 use Rattle.small_theorems.proofs.Theorems.{weights_one}
-use Rattle.case_writer.specs.declared.Written.{Written}
-use Rattle.case_writer.specs.declared.Written.TheVariants.{Bytes}
 use Rattle.case_writer.specs.Files.{Wrote}
 
 -- the two ways of tables that are sized
-there : (i : ℕ) (q : Places) → sizes_ok q ≡ true → i < all_places → small_network i q ≡ made (Read (header_at i)) (tables_at i)
+there : (i : ℕ) (q : Places) → sizes_ok q ≡ true → i < all_places → small_network i q ≡ made (Ok (header_at i)) (tables_at i)
 unfolding small_network
 there i q z h = simp (z, lt-ltb i all_places h)
 
-past : (i : ℕ) (q : Places) → sizes_ok q ≡ true → all_places ≤ i → small_network i q ≡ made (Refused Place) q
+past : (i : ℕ) (q : Places) → sizes_ok q ≡ true → all_places ≤ i → small_network i q ≡ made (Err Place) q
 unfolding small_network
 past i q z h = simp (z, le-ltb i all_places h)
 
@@ -66,10 +63,9 @@ pub record Answer (i : ℕ) (h : Header) (p : Places) : Type 0 where
   pub header : h ≡ header_at i
   pub tables : p ≡ tables_at i
 
-pub network_read : (i : ℕ) (q p : Places) {r : Reading} {h : Header} → sizes_ok q ≡ true → made r p ≡ small_network i q → r ≡ Read h → Answer i h p
+pub network_read : (i : ℕ) (q p : Places) {h : Header} → sizes_ok q ≡ true → made (Ok h) p ≡ small_network i q → Answer i h p
 unfolding number_of
-network_read i q p {r} {h} z e g =
-    let f : made (Read h) p ≡ small_network i q = ap (λ (x : Reading). made x p) (sym g) ∙ e in
+network_read i q p {h} z f =
     elim (dec_lt i all_places) [
       | yes b ↦
           let t = f ∙ there i q z b in
@@ -77,11 +73,9 @@ network_read i q p {r} {h} z e g =
       | no b ↦ absurd (let v : ◌≡◌ {A = ℕ} 0 23 = ap (λ (m : Made). number_of_lem m.reply) (f ∙ past i q z (omega arith)) in omega arith)
     ]
 
-pub network_refused : (i : ℕ) (q p : Places) {r : Reading} {f : Refusal} → sizes_ok q ≡ true → made r p ≡ small_network i q → r ≡ Refused f
-    → (all_places ≤ i) × (number_of f ≡ 23) × (index_of f ≡ 0)
-unfolding number_of index_of
-network_refused i q p {r} {f} z e g =
-    let t : made (Refused f) p ≡ small_network i q = ap (λ (x : Reading). made x p) (sym g) ∙ e in
+pub network_refused : (i : ℕ) (q p : Places) (f : Refusal) (before : List ℕ) → sizes_ok q ≡ true → made (Err f) p ≡ small_network i q → Wrote i before before (Err f)
+unfolding number_of index_of Wrote
+network_refused i q p f before z t =
     elim (dec_lt i all_places) [
       | yes b ↦
           let u = t ∙ there i q z b in
@@ -96,12 +90,9 @@ network_refused i q p {r} {f} z e g =
     answers (refused n k) = 1
 
 -- ---- what writing the file asks for
-pub tables_sized : (i : ℕ) → sizes_ok (tables_at i) ≡ true
+tables_sized : (i : ℕ) → sizes_ok (tables_at i) ≡ true
 unfolding sizes_ok laid_out padded
 tables_sized i = simp length_tab
-
-pub sized : (i : ℕ) {h : Header} {p : Places} → Answer i h p → sizes_ok p ≡ true
-sized i a = ap sizes_ok a.tables ∙ tables_sized i
 
 pub small : (i : ℕ) {h : Header} {p : Places} → Answer i h p → Small h
 small i a = subst Small (sym a.header) (small_of (header_at i) (sound_at i a.below).counts)
@@ -120,12 +111,7 @@ unweighed i b =
 unweighed_file : (i : ℕ) → i < all_places → file_in (header_at i) (tables_at i) ≡ file_at i
 unweighed_file i b = ap (λ (t : Bool). file_of (caps_only t (tables_at i)) (header_at i) (tables_at i)) (unweighed i b)
 
-pub wrote_file : (i : ℕ) {h : Header} {p : Places} {before after : List ℕ} {n : ℕ} → Answer i h p → n ≤ longest → Put before 0 (file_in h p) after n → Wrote i before after (Bytes n)
+pub wrote_file : (i : ℕ) {h : Header} {p : Places} {before after : List ℕ} {n : ℕ} → Answer i h p → n ≤ longest → Put before 0 (file_in h p) after n → Wrote i before after (Ok n)
 unfolding Wrote
 wrote_file i {h} {p} a l q =
     (a.below, l, same_bytes (ap (λ (g : Header). file_in g p) a.header ∙ ap (λ (t : Places). file_in (header_at i) t) a.tables ∙ unweighed_file i a.below) q)
-
--- a file that was written is not too long
-pub wrote_size : (i : ℕ) (before after : List ℕ) {w : Written} {n : ℕ} → Wrote i before after w → w ≡ Bytes n → n ≤ longest
-unfolding Wrote
-wrote_size i before after {w} {n} q e = (subst (λ (x : Written). Wrote i before after x) e q).1

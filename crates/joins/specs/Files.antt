@@ -1,15 +1,14 @@
 -- What the program does with two files: reading the first, reading the second, joining the cases; the file of the joined tables, or the first refusal. Tables
 -- are lent as zeros.
-use Rattle.std.specs.Prelude.{ℕ, ◌≤◌, List, ◌≡◌, take}
+use Rattle.std.specs.Prelude.{ℕ, ◌≤◌, List, ◌≡◌, take, Result, Ok, Err}
 use Rattle.refusal.specs.Reply.{Reply, answered, refused, refused_by}
+use Rattle.refusal.specs.declared.Refusal.{Refusal}
 use Rattle.casefile_defs.specs.Tables.{Places, read_case, Outcome as ReadOutcome}
 use Rattle.casefile_defs.specs.declared.Header.{Header}
 use Rattle.casefile_theorems.specs.Cases.{longest, blank}
 use Rattle.casefile_writer.specs.Files.{file_in}
 use Rattle.join_defs.specs.Joining.{Outcome, join_cases}
 use Rattle.join_theorems.specs.Calls.{fronts}
-use Rattle.joins.specs.declared.Written.{Written}
-use Rattle.joins.specs.declared.Written.TheVariants.{Bytes, Refused}
 
 -- ---- the two cases
 -- the file of what joining leaves
@@ -47,11 +46,11 @@ unfoldable pub join_files : List ℕ → List ℕ → Reply (List ℕ)
 join_files s t = first_of t (read_case s blank)
 
 -- ---- in a buffer: so many bytes of it, or a refusal
-abbrev pub written : Written → List ℕ → Reply (List ℕ)
-written (Bytes n) out = answered (take n out)
-written (Refused f) out = refused_by f
+abbrev pub written : Result ℕ Refusal → List ℕ → Reply (List ℕ)
+written (Ok n) out = answered (take n out)
+written (Err f) out = refused_by f
 
 -- a file fits the buffer; a refusal touches nothing
-unfoldable pub Kept : List ℕ → List ℕ → Written → Type 0
-Kept before after (Bytes n) = n ≤ longest
-Kept before after (Refused f) = after ≡ before
+unfoldable pub Kept : List ℕ → List ℕ → Result ℕ Refusal → Type 0
+Kept before after (Ok n) = n ≤ longest
+Kept before after (Err f) = after ≡ before

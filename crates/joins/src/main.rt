@@ -3,50 +3,33 @@
 // is tested.
 #![tactic(auto)]
 
+mod case;
 mod files;
+mod fronts;
 
+use case_tables::MOST_FILE;
 use casefile_defs::MOST_BYTES;
 use files::join_files;
-use refusal::Refusal;
 use std::io;
 use std::io::Write;
-
-// The longest file of a case.
-const MOST_FILE: usize = 60_609;
 
 // One byte more than the largest file, so that a larger one shows.
 const MOST_SECOND: usize = MOST_BYTES + 1;
 
-// What was put into a buffer: so many bytes, or nothing.
-#[derive(Clone, Copy)]
-pub enum Written {
-    Bytes(usize),
-    Refused(Refusal),
-}
-
-// RF number index
-fn print_refusal<W: Write>(to: &mut W, f: Refusal) -> io::Result<()> {
-    to.write_all(b"RF ")?;
-    streams::write_decimal(to, f.number() as u64)?;
-    to.write_all(b" ")?;
-    streams::write_decimal(to, f.index() as u64)?;
-    to.write_all(b"\n")
-}
-
+#[tactic(auto, unfolding(crate::specs::Files::Kept))]
 fn write_joined<W: Write>(to: &mut W, first: &[u8], second: &[u8]) -> io::Result<()> {
-    let mut out = [0u8; MOST_FILE];
-    let written = join_files(first, second, &mut out);
-    match written {
-        Written::Refused(f) => print_refusal(to, f),
-        Written::Bytes(n) => to.write_all(&out[0..n]),
+    let mut out = [0; MOST_FILE];
+    match join_files(first, second, &mut out) {
+        Err(f) => writeln!(to, "RF {f}"),
+        Ok(n) => to.write_all(&out[..n]),
     }
 }
 
 fn main(rt: HostRuntime) -> io::Result<()> {
     let mut from = rt.stdin();
-    let mut first = [0u8; MOST_BYTES];
+    let mut first = [0; MOST_BYTES];
     let n = streams::read_full(&mut from, &mut first)?;
-    let mut second = [0u8; MOST_SECOND];
+    let mut second = [0; MOST_SECOND];
     let m = streams::read_full(&mut from, &mut second)?;
-    write_joined(&mut rt.stdout(), &first[0..n], &second[0..m])
+    write_joined(&mut rt.stdout(), &first[..n], &second[..m])
 }

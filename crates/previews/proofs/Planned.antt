@@ -1,43 +1,36 @@
 -- What planning says of a file and leaves in its slices is what the file's plan keeps; and the parts of arrays that a preview is lent.
-use Prim.Native.Nat.{ℕ, ◌-◌, ◌≤◌}
+use Prim.Native.Nat.{ℕ, ◌≤◌}
 use mathlib.Core.List.{List, ◌++◌}
-use mathlib.Core.Path.{◌≡◌, refl, ap, ◌∙◌}
-use native.Mathlib.Omega.{arith}
-use lib.ListN.{length, take, drop, replicate, length-append}
+use Rattle.std.proofs.Math.Option.{Option, none, some}
+use mathlib.Core.Path.{◌≡◌, refl, sym, ap, subst, ◌∙◌}
+use lib.ListN.{length, take, drop, replicate, length-replicate}
 use native.Mathlib.Nat.{sub-zero}
 use Rattle.loops.proofs.Fronts.{front_replicate}
-use Rattle.refusal.specs.Reply.{Reply, answered, refused}
-use Rattle.refusal.specs.declared.Answer.{Answer}
+use Rattle.refusal.specs.Reply.{Reply, answered, refused, refused_by, no_refusal}
+use Rattle.refusal.specs.declared.Refusal.{Refusal}
 use Rattle.mode.specs.declared.PlanMode.{PlanMode}
+use Rattle.std.specs.Prelude.{Result, Ok, Err}
 use Rattle.plan_defs.specs.Case.{Case}
 use Rattle.plan_defs.specs.Plan.{Ending, unaccepted, unanswered, planned, ending_of}
 use Rattle.plan_defs.specs.Outcome.{Slices, held, cleared, outcome_by}
 use Rattle.plan_defs.specs.Outcome.{Outcome as PlanOutcome}
 use Rattle.plan_defs.specs.Outcome.{outcome as plan-outcome}
-use Rattle.plan_defs.specs.Preview.{Kept, kept_as, outcome, preview}
+use Rattle.plan_defs.specs.Preview.{Kept, kept_as, Outcome, outcome, preview_fault, preview_by, preview}
 use Rattle.plan_defs.specs.declared.CorridorPlan.{CorridorPlan}
-use Rattle.plan_defs.specs.declared.Planned.{Planned}
-use Rattle.plan_defs.specs.declared.Planned.TheVariants.{Answered as Planned-with}
-use Rattle.plan_defs.specs.declared.Planned.TheVariants.{Refused as Unplanned}
 use Rattle.casefile_defs.specs.Bounds.{most_corridors}
 use Rattle.casefile_defs.specs.Reading.{reading_of}
 use Rattle.casefile_defs.specs.Tables.{tables_of}
 use Rattle.casefile_defs.specs.Tables.{held as headerOf}
-use Rattle.casefile_defs.specs.declared.Reading.{Reading}
-use Rattle.casefile_defs.specs.declared.Reading.TheVariants.{Read}
-use Rattle.casefile_defs.specs.declared.Reading.TheVariants.{Refused as Unread}
+use Rattle.casefile_defs.specs.declared.Header.{Header}
 use Rattle.planned_files.specs.Files.{case_in, Filed, filed, plan_read, plan_file, filed_of}
 use Rattle.planned_files.specs.declared.PlannedFile.{PlannedFile}
-use Rattle.planned_files.proofs.Planned.{part_length, back_front}
-use Rattle.previews.specs.Files.{said_of, drafted, kept_by, kept_read, kept_file}
-
--- an array of which the first places came back from a call has room for what was read of it
-pub back_room : {A : Type 0} (n k : ℕ) (ys xs : List A) → n ≤ length ys → n ≤ length (ys ++ drop k xs)
-back_room n k ys xs h = omega (arith, length-append ys (drop k xs))
+use Rattle.planned_files.proofs.Planned.{back_front}
+use Rattle.previews.specs.Files.{filled, kept_by, kept_read, kept_file}
 
 -- ---- what a draft holds
-pub drafted_said : {s : Answer} (r : Planned) (k : Kept) → s ≡ said_of r → drafted s k ≡ drafted (said_of r) k
-drafted_said r k e = ap (λ (x : Answer). drafted x k) e
+abbrev kept_said : Result CorridorPlan Refusal → Kept → Reply Kept
+kept_said (Ok p) k = answered k
+kept_said (Err f) k = refused_by f
 
 -- by what is said, in numbers
 abbrev kept_reply : PlanMode → ℕ → Reply CorridorPlan → List ℕ → List ℕ → List ℕ → Reply Kept
@@ -47,9 +40,9 @@ kept_reply mode m (refused n i) before order cap = refused n i
 abbrev kept_from : PlanMode → ℕ → PlanOutcome → Reply Kept
 kept_from mode m o = kept_reply mode m o.reply o.lent.before o.lent.order o.lent.cap
 
-said : (mode : PlanMode) (m : ℕ) (r : Planned) (l : Slices) → drafted (said_of r) (kept_as mode m l.before l.order l.cap) ≡ kept_from mode m (plan-outcome r l)
-said mode m (Planned-with p) l = refl
-said mode m (Unplanned f) l = refl
+said : (mode : PlanMode) (m : ℕ) (r : Result CorridorPlan Refusal) (l : Slices) → kept_said r (kept_as mode m l.before l.order l.cap) ≡ kept_from mode m (plan-outcome r l)
+said mode m (Ok p) l = refl
+said mode m (Err f) l = refl
 
 ended : (c : Case) (e : Ending) (l : Slices) → kept_from c.mode c.corridors (outcome_by e c l) ≡ kept_by c e
 unfolding outcome_by held
@@ -62,10 +55,10 @@ module _ (file : List ℕ) where
   abbrev kept_filed : Filed → Reply Kept
   kept_filed f = kept_from f.header.mode f.header.corridors f.plan
 
-  read_kept : (r : Reading) → kept_filed (filed (headerOf r) (plan_read file r)) ≡ kept_read file r
+  read_kept : (r : Result Header Refusal) → kept_filed (filed (headerOf r) (plan_read file r)) ≡ kept_read file r
   unfolding headerOf
-  read_kept (Unread f) = refl
-  read_kept (Read h) =
+  read_kept (Err f) = refl
+  read_kept (Ok h) =
       let c = case_in h (tables_of file h) in
       ended c (ending_of c h.target) (cleared c)
 
@@ -73,16 +66,40 @@ module _ (file : List ℕ) where
   unfolding plan_file kept_file
   file_kept = read_kept (reading_of file)
 
-  pub planned_kept : (r : PlannedFile) → filed_of r ≡ plan_file file
-      → drafted (said_of r.planned) (kept_as r.header.mode r.header.corridors (take r.header.corridors r.before) (take r.header.corridors r.order) (take r.header.corridors r.cap)) ≡ kept_file file
-  planned_kept r e = said r.header.mode r.header.corridors r.planned (filed_of r).plan.lent ∙ ap kept_filed e ∙ file_kept
+  abbrev kept_of_file : PlannedFile → Kept
+  kept_of_file r =
+      let m = r.header.corridors in
+      kept_as r.header.mode m (take m r.before) (take m r.order) (take m r.cap)
 
--- ---- a preview: the parts of the draft's arrays that are lent, and the part of the answer's that comes back
-pub previewed : (r : Answer) (mode : PlanMode) (m target : ℕ) (before order cap ys : List ℕ) → m ≤ most_corridors → length ys ≡ length {A = ℕ} (take (m - 0) (replicate most_corridors 0))
-    → outcome r ys ≡ preview (kept_as mode m (take (m - 0) before) (take (m - 0) order) (take (m - 0) cap)) target (take (m - 0) (replicate most_corridors 0))
-    → outcome r (take m (ys ++ drop (m - 0) (replicate most_corridors 0))) ≡ preview (kept_as mode m (take m before) (take m order) (take m cap)) target (replicate m 0)
-previewed r mode m target before order cap ys h n e =
-    ap (outcome r) (back_front m (m - 0) ys (replicate most_corridors 0) (n ∙ part_length m most_corridors 0 h))
-    ∙ e
-    ∙ ap (λ (k : ℕ). preview (kept_as mode m (take k before) (take k order) (take k cap)) target (take (m - 0) (replicate most_corridors 0))) (sub-zero m)
-    ∙ ap (preview (kept_as mode m (take m before) (take m order) (take m cap)) target) (front_replicate most_corridors m 0 h)
+  pub planned_kept : (r : PlannedFile) {q : Result CorridorPlan Refusal} → filed_of r ≡ plan_file file → r.planned ≡ q → kept_said q (kept_of_file r) ≡ kept_file file
+  planned_kept r e is =
+      ap (λ (q : Result CorridorPlan Refusal). kept_said q (kept_of_file r)) (sym is) ∙ said r.header.mode r.header.corridors r.planned (filed_of r).plan.lent ∙ ap kept_filed e
+      ∙ file_kept
+
+-- ---- a preview, into the first places of zeros
+-- a refusal leaves them as they were lent
+refused_by_fault : (x : Option Refusal) (f : Refusal) (p : Kept) (target : ℕ) (lent left : List ℕ) → outcome (Err f) left ≡ preview_by x p target lent
+    → outcome (Err f) lent ≡ preview_by x p target lent
+refused_by_fault none f p target lent left e = let q = ap (λ (o : Outcome). o.reply) e in cc
+refused_by_fault (some g) f p target lent left e = ap (λ (r : Reply (Unit {0})). record { reply = r; circuits = lent }) (ap (λ (o : Outcome). o.reply) e)
+
+refused_lent : (f : Refusal) (p : Kept) (target : ℕ) (lent left : List ℕ) → outcome (Err f) left ≡ preview p target lent → outcome (Err f) lent ≡ preview p target lent
+unfolding preview
+refused_lent f p target lent left e = refused_by_fault (preview_fault p target (length lent)) f p target lent left e
+
+module _ (p : Kept) (m target : ℕ) (left : List ℕ) (few : m ≤ most_corridors) where
+  abbrev zeros : List ℕ
+  zeros = take m (replicate most_corridors 0)
+
+  zeros_are : zeros ≡ replicate m 0
+  zeros_are = ap (λ (k : ℕ). take k (replicate most_corridors 0)) (sym (sub-zero m)) ∙ front_replicate most_corridors m 0 few
+
+  pub refused_filled : (f : Refusal) → outcome (Err f) left ≡ preview p target zeros → filled m (Err f) ≡ preview p target (replicate m 0)
+  refused_filled f e = subst (λ (l : List ℕ). outcome (Err f) l ≡ preview p target l) zeros_are (refused_lent f p target zeros left e)
+
+  pub answered_filled : length left ≡ length zeros → outcome no_refusal left ≡ preview p target zeros
+      → filled m (Ok (left ++ drop m (replicate most_corridors 0))) ≡ preview p target (replicate m 0)
+  answered_filled n e =
+      ap (outcome no_refusal) (back_front m m left (replicate most_corridors 0) (n ∙ ap length zeros_are ∙ length-replicate m 0))
+      ∙ e
+      ∙ ap (preview p target) zeros_are

@@ -1,35 +1,21 @@
 // A case file, read, planned and taken.
 ghost use Rattle.std.specs.Prelude.{◌≡◌};
-ghost use Rattle.season_defs.specs.Feeding.{fed_of};
-ghost use Rattle.seasons.specs.Files.{fed_planned, fed_file};
+ghost use Rattle.season_defs.specs.Feeding.{outcome};
+ghost use Rattle.seasons.specs.Files.{fed_file};
 
-use plan_defs::Planned;
 use planned_files::plan_file;
-use refusal::Answer;
+use refusal::Refusal;
 use season::add_plan;
-use season_defs::{Fed, Season};
+use season_defs::Season;
 
-// What planning says, with the circuits of m corridors that it leaves.
-fn feed_planned(season: Season, planned: Planned, m: usize, circuits: &[u32]) -> Fed
-    ensures { fed_of result ≡ fed_planned season m planned circuits.now }
-{
-    match planned {
-        Planned::Refused(f) => Fed {
-            said: Answer::Refused(f),
-            season,
-        },
-        Planned::Answered(p) => add_plan(season, p, m, circuits),
-    }
-}
-
-// A case file: its plan is taken, or it is refused by reading, by planning or by the season.
-pub fn feed_file(season: Season, file: &[u8]) -> Fed
-    ensures { fed_of result ≡ fed_file season file.now }
+// A case file: its plan is taken, or it is refused by reading, by planning or by the season, which is then as it was.
+pub fn feed_file(season: &mut Season, file: &[u8]) -> Result<(), Refusal>
+    ensures { outcome result season.new ≡ fed_file season.old file.now }
 {
     let plan = plan_file(file);
-    let planned = plan.planned;
-    let circuits = plan.circuits;
-    let h = plan.header;
-    let m = h.corridors;
-    feed_planned(season, planned, m, &circuits[0..m])
+    let planned = plan.planned?;
+    let m = plan.header.corridors;
+    let fed = add_plan(*season, planned, m, &plan.circuits[..m]);
+    *season = fed.season;
+    fed.said
 }

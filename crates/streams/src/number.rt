@@ -19,13 +19,12 @@ pub fn decimal(n: u64, out: &mut [u8; 20]) -> usize
     k
 }
 
-// Writes n's decimal digits, with no line end.
+// Writes n's decimal digits, with no line end: what std writes for {n}, said by the digits' definition.
+#[tactic(auto, using(crate::proofs::Text::written))]
 pub fn write_decimal<W: Write>(to: &mut W, n: u64) -> io::Result<()>
     ensures { OnOk result ((k : ℕ) × IsDigitCount 10 1 n k × Appends (W.contents to.old) (W.contents to.new) (last_digits 10 k n)) }
 {
-    let mut text = [0u8; 20];
-    let k = decimal(n, &mut text);
-    to.write_all(&text[..k])
+    write!(to, "{n}")
 }
 
 // How many decimal digits n takes.
@@ -47,10 +46,8 @@ fn write_digits(n: u64, k: usize, out: &mut [u8])
     ensures digits { take k out.new ≡ last_digits 10 k n }
     ensures rest { drop k out.new ≡ drop k out.old }
 {
-    let mut i = k;
     let mut rest = n;
-    while i > 0 {
-        i -= 1;
+    for i in (0..k).rev() {
         out[i] = digit_to_ascii(rest % 10);
         rest /= 10;
     }

@@ -1,42 +1,18 @@
-use mathlib.Core.Path.{◌≡◌, refl}
-use mathlib.Core.Bool.{true}
-use lib.ListN.{replicate}
-use Rattle.loops.specs.Figures.{nought}
-use Rattle.casefile_defs.specs.Tables.{Places, places_of, sizes_ok}
-use Rattle.case_writer.specs.Files.{Wrote}
-use Rattle.case_writer.proofs.Networks.{network_read, network_refused, small, sized, wrote_file}
+-- What small_network says and leaves is the place's case, or its refusal (network_read, network_refused).
+use Rattle.std.proofs.lemmas.Result.{err_from_is_err_and}
+use Rattle.case_tables.proofs.Sized.{zeros_sized}
+use Rattle.case_writer.proofs.Networks.{network_read, network_refused, small, wrote_file}
 use Rattle.case_writer.proofs.file.put_small_network.Goals as goal
 
--- the tables as they are lent
-abbrev empty : Places
-empty =
-    places_of (replicate 5 nought) (replicate 256 0) (replicate 256 nought) (replicate 256 nought) (replicate 128 0) (replicate 128 0) (replicate 128 nought) (replicate 128 nought) (replicate 128 nought) (replicate 128 nought) (replicate 256 0) (replicate 256 0) (replicate 256 0) (replicate 256 nought) (replicate 256 nought) (replicate 256 0) (replicate 6400 nought)
+pub put_file-requires-clause-small : goal.put_file-requires-clause-small
+put_file-requires-clause-small c = small c.args.place (network_read c.args.place _ _ (zeros_sized _ c.zeros-tables.ensures) c.in_ok-header.ensures)
 
-empty-sized : sizes_ok empty ≡ true
-unfolding sizes_ok
-empty-sized = refl
+pub returns-in_err-header : goal.returns-in_err-header
+returns-in_err-header c =
+    let p = err_from_is_err_and c.from_residual.result c.from_residual.ensures.1 in
+    rw (p.1, p.2) (network_refused c.args.place _ _ _ c.args.out.now (zeros_sized _ c.zeros-tables.ensures) c.in_err-header.ensures)
 
-pub put_case_file-requires : goal.put_case_file-requires
-put_case_file-requires c =
-    let r = c.small_network-said in
-    let o = c in
-    let p = places_of r.new.ladder r.new.tier r.new.reading r.new.weight r.new.generator_bus r.new.slack r.new.pmin r.new.pmax r.new.c1 r.new.c2 r.new.a r.new.b r.new.circuits r.new.length_km r.new.share r.new.cap r.new.sheet in
-    let a = network_read o.args.place empty p empty-sized r.ensures c.in-Read.is in
-    record { longest_in_bounds = o.requires; small = small o.args.place a; sheet_value = sized o.args.place a }
-
-pub returns-in-Refused : goal.returns-in-Refused
-unfolding Wrote
-returns-in-Refused c =
-    let r = c.small_network-said in
-    let o = c in
-    let p = places_of r.new.ladder r.new.tier r.new.reading r.new.weight r.new.generator_bus r.new.slack r.new.pmin r.new.pmax r.new.c1 r.new.c2 r.new.a r.new.b r.new.circuits r.new.length_km r.new.share r.new.cap r.new.sheet in
-    network_refused o.args.place empty p empty-sized r.ensures c.in-Refused.is
-
-pub returns-in-Read : goal.returns-in-Read
-returns-in-Read c =
-    let r = c.small_network-said in
-    let o = c in
-    let p = places_of r.new.ladder r.new.tier r.new.reading r.new.weight r.new.generator_bus r.new.slack r.new.pmin r.new.pmax r.new.c1 r.new.c2 r.new.a r.new.b r.new.circuits r.new.length_km r.new.share r.new.cap r.new.sheet in
-    let a = network_read o.args.place empty p empty-sized r.ensures c.in-Read.is in
-    let put = c.put_case_file.ensures in
-    wrote_file o.args.place a put.size put.put
+pub returns : goal.returns
+returns c =
+    let answer = network_read c.args.place _ _ (zeros_sized _ c.zeros-tables.ensures) c.in_ok-header.ensures in
+    wrote_file c.args.place answer c.put_file.ensures.size c.put_file.ensures.put

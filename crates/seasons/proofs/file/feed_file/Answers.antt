@@ -1,8 +1,13 @@
-use mathlib.Core.Path.{◌∙◌}
+-- What planning says of the file and leaves gives the season that the file gives (planned_fed).
+use Rattle.std.proofs.Common.{◌∙◌}
+use Rattle.std.proofs.lemmas.Result.{err_from_is_err_and}
 use Rattle.seasons.proofs.Planned.{planned_fed}
 use Rattle.seasons.proofs.file.feed_file.Goals as goal
 
+pub returns-in_err-planned : goal.returns-in_err-planned
+returns-in_err-planned c =
+    let p = err_from_is_err_and c.from_residual.result c.from_residual.ensures.1 in
+    rw (p.1, p.2) (planned_fed _ _ c.plan_file-plan.result c.plan_file-plan.ensures.planned c.in_err-planned.was)
+
 pub returns : goal.returns
-returns c =
-    let p = c in
-    c.feed_planned.ensures ∙ planned_fed p.args.season _ p.plan_file-plan.result p.plan_file-plan.ensures.0
+returns c = c.add_plan-fed.ensures ∙ planned_fed _ _ c.plan_file-plan.result c.plan_file-plan.ensures.planned c.in_ok-planned.was

@@ -1,0 +1,2 @@
+-- The sizes of the tables.
+pub mod Sized

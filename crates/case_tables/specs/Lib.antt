@@ -1,0 +1,2 @@
+-- The tables as their definition has them.
+pub mod Tables

@@ -1,0 +1,18 @@
+-- A case as the definitions of reading and joining have it.
+use Rattle.std.specs.Prelude.{◌≡◌, Result, Ok, Err}
+use Rattle.refusal.specs.Reply.{Reply, answered, refused_by}
+use Rattle.refusal.specs.declared.Refusal.{Refusal}
+use Rattle.casefile_defs.specs.Tables.{Places, places_of}
+use Rattle.casefile_defs.specs.declared.Header.{Header}
+use Rattle.case_tables.specs.Tables.{tables_in}
+use Rattle.joins.specs.declared.case.Case.{Case}
+use Rattle.joins.specs.declared.fronts.Fronts.{Fronts}
+
+-- what a call gives where its definition says r and leaves the tables p: a case, or its refusal
+abbrev pub IsCase : Result Case Refusal → Reply Header → Places → Type 0
+IsCase (Ok c) r p = (r ≡ answered c.header) × (p ≡ tables_in c.tables)
+IsCase (Err f) r p = r ≡ refused_by f
+
+abbrev pub lent : Fronts → Places
+lent s =
+    places_of s.ladder.now s.tier.now s.reading.now s.weight.now s.bus.now s.slack.now s.pmin.now s.pmax.now s.c1.now s.c2.now s.a.now s.b.now s.circuits.now s.length_km.now s.share.now s.cap.now s.sheet.now

@@ -24,23 +24,6 @@ module _ (buses corridors : ℕ) (a b : List ℕ) (places : ℕ) where
   abbrev counts : Bool
   counts = counts_ok buses corridors
 
-  pub length_refused : lengths ≡ false → Err Length ≡ check_of buses corridors a b places
-  unfolding check_of
-  length_refused e = rw e
-
-  pub count_refused : lengths ≡ true → counts ≡ false → Err Count ≡ check_of buses corridors a b places
-  unfolding check_of
-  count_refused e f = rw (e, f)
-
-  module _ (k : ℕ) (found : k ≡ faulty_corridor buses a b) where
-    pub corridor_refused : lengths ≡ true → counts ≡ true → k < length a → Err (Corridor k) ≡ check_of buses corridors a b places
-    unfolding check_of
-    corridor_refused e f h = rw (e, f, ← found, lt-ltb k (length a) h)
-
-    pub passed : lengths ≡ true → counts ≡ true → length a ≤ k → no_refusal ≡ check_of buses corridors a b places
-    unfolding check_of
-    passed e f h = rw (e, f, ← found, le-ltb k (length a) h)
-
   -- the two columns of ends are as long
   pub lengths_even : lengths ≡ true → length b ≡ length a
   lengths_even e =

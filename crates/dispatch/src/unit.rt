@@ -4,10 +4,7 @@ ghost use Rattle.loops.specs.Figures.{finite};
 ghost use Rattle.dispatch_defs.specs.Units.{unit_ok, cost_of, output_of};
 
 use crate::figure::{clamp, larger};
-
-const MOST_MW: f64 = 1e6;
-
-const MOST_C1: f64 = 1e6;
+use dispatch_defs::unit_ok;
 
 // What c2 is raised to: without a quadratic cost a price would settle no output.
 const LEAST_C2: f64 = 1e-12;
@@ -24,13 +21,7 @@ impl Unit {
     pub fn is_sound(self) -> bool
         ensures { result ≡ unit_ok self.pmin self.pmax self.c1 self.c2 }
     {
-        0.0 <= self.pmin
-            && self.pmin <= self.pmax
-            && self.pmax <= MOST_MW
-            && 0.0 <= self.c1
-            && self.c1 <= MOST_C1
-            && 0.0 <= self.c2
-            && self.c2 < loops::infinity()
+        unit_ok(self.pmin, self.pmax, self.c1, self.c2)
     }
 
     // The incremental cost at an output of p.

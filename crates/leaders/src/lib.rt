@@ -36,7 +36,8 @@ fn counts_ok(buses: usize, corridors: usize) -> bool
     buses <= 256 && corridors <= 256
 }
 
-fn corridor_ok(buses: usize, a: usize, b: usize) -> bool
+// A corridor's ends are two different buses.
+pub fn corridor_ok(buses: usize, a: usize, b: usize) -> bool
     ensures { result ≡ corridor_ok buses a b }
 {
     a < buses && b < buses && a != b

@@ -1,8 +1,7 @@
 // The tables of a case, and the refusals 2 to 7: the counts, and the rows of one table after another.
-ghost use Rattle.std.specs.Prelude.{cond, ◌≡◌, ◌+◌, ◌*◌, ◌<◌, ◌≤◌, length};
+ghost use Rattle.std.specs.Prelude.{cond, ◌≡◌, ◌+◌, ◌*◌, ◌<◌};
 ghost use Rattle.std.proofs.Math.Option.{some};
 ghost use Rattle.loops.specs.Loops.{fault};
-ghost use Rattle.sheets.specs.Sheet.{row_figures};
 ghost use Rattle.refusal.specs.declared.Refusal.TheVariants.{Count as CountRefusal};
 ghost use Rattle.plan_defs.specs.Case.{levels, row_of};
 ghost use Rattle.plan_defs.specs.Accept.{counts_ok, level_ok, bus_ok, generator_ok, corridor_sound, row_sound, row_ok, tables_fault};

@@ -1,5 +1,5 @@
 // The price at which the units give the demand, by bisection.
-ghost use Rattle.std.specs.Prelude.{false, ◌≡◌};
+ghost use Rattle.std.specs.Prelude.{◌≡◌};
 ghost use Rattle.dispatch_defs.specs.Share.{opening, total_at, halved, narrow, price_of};
 
 use crate::figure::{larger, smaller};

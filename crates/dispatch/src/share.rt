@@ -1,6 +1,5 @@
 // A demand strictly between the limits' sums: the outputs at the price found, and the gap that they leave.
 ghost use Rattle.std.specs.Prelude.{◌&&◌, ◌≡◌, length};
-ghost use Rattle.std.specs.Float.Ieee.{lt};
 ghost use Rattle.loops.specs.Loops.{fault};
 ghost use Rattle.dispatch_defs.specs.Units.{count};
 ghost use Rattle.dispatch_defs.specs.Share.{outputs, stuck_at, closed, shared};

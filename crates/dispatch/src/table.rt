@@ -1,5 +1,5 @@
 // The units by index, and the first of them with a fault.
-ghost use Rattle.std.specs.Prelude.{◌≡◌, ◌<◌, ◌≤◌, length};
+ghost use Rattle.std.specs.Prelude.{◌≡◌, ◌<◌};
 ghost use Rattle.loops.specs.Figures.{at};
 ghost use Rattle.loops.specs.Loops.{fault};
 ghost use Rattle.dispatch_defs.specs.Units.{Units, Even, units_of, count, unit_ok_at, cost_ok_at};

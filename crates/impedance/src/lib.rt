@@ -1,7 +1,7 @@
 // Series impedance of a transformer by its size class (`transformer_impedance` of branches.rs, classes of params.rs).
 #![tactic(auto)]
 
-ghost use Rattle.std.specs.Prelude.{cond, ◌≡◌};
+ghost use Rattle.std.specs.Prelude.{◌≡◌};
 ghost use Rattle.root.specs.Root.{root};
 ghost use Rattle.impedance.specs.Impedance.{by_class, reactance, impedance_of, rating_ok, reply_of, defined};
 

@@ -3,8 +3,7 @@
 
 ghost use Rattle.std.specs.Prelude.{◌≡◌, ◌<◌, ◌≤◌, min, max, length};
 ghost use Rattle.season_defs.specs.Terms.{divisor, lowest};
-ghost use Rattle.season_defs.specs.Plans.{counted};
-ghost use Rattle.season_defs.specs.Feeding.{most_plans, most_corridors, begun, draft_of, even_with, check_of, sum64, updated, with_plan, fed_of, feed, within, corridor_figures, season_figures};
+ghost use Rattle.season_defs.specs.Feeding.{most_plans, most_corridors, begun, draft_of, even_with, check_of, updated, with_plan, fed_of, feed, within, corridor_figures, season_figures};
 
 use plan_defs::CorridorPlan;
 use refusal::Refusal;

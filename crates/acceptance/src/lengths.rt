@@ -1,14 +1,12 @@
-// Refusal 1: the lengths of the tables. The counts are as given, so that a sum of them may not fit: it is asked without it.
+// Refusal 1: the lengths of the columns, table by table.
 ghost use Rattle.std.specs.Prelude.{◌≡◌, ◌+◌, eqb};
 ghost use Rattle.acceptance.specs.Check.{generator_sizes, corridor_sizes};
 
-pub fn is_sum(total: usize, x: usize, y: usize) -> bool
-    ensures { result ≡ eqb total (x + y) }
+// The counts are as given, so that their sum may not fit.
+pub fn levels_ok(levels: usize, above: usize, requested: usize) -> bool
+    ensures { result ≡ eqb levels (above + requested) }
 {
-    if x > total {
-        return false;
-    }
-    total - x == y
+    above.checked_add(requested) == Some(levels)
 }
 
 pub fn generator_lengths_ok(
@@ -22,12 +20,12 @@ pub fn generator_lengths_ok(
 ) -> bool
     ensures { result ≡ generator_sizes g bus.now slack.now pmin.now pmax.now c1.now c2.now }
 {
-    (bus.len() == g)
-        & (slack.len() == g)
-        & (pmin.len() == g)
-        & (pmax.len() == g)
-        & (c1.len() == g)
-        & (c2.len() == g)
+    bus.len() == g
+        && slack.len() == g
+        && pmin.len() == g
+        && pmax.len() == g
+        && c1.len() == g
+        && c2.len() == g
 }
 
 pub fn corridor_lengths_ok(
@@ -41,10 +39,10 @@ pub fn corridor_lengths_ok(
 ) -> bool
     ensures { result ≡ corridor_sizes m a.now b.now initial.now km.now share.now cap.now }
 {
-    (a.len() == m)
-        & (b.len() == m)
-        & (initial.len() == m)
-        & (km.len() == m)
-        & (share.len() == m)
-        & (cap.len() == m)
+    a.len() == m
+        && b.len() == m
+        && initial.len() == m
+        && km.len() == m
+        && share.len() == m
+        && cap.len() == m
 }

@@ -2,33 +2,15 @@
 #![tactic(auto)]
 
 ghost use Rattle.std.specs.Prelude.{◌≡◌};
-ghost use Rattle.acceptance.specs.Check.{tables_for, counts_in, check_of};
+ghost use Rattle.acceptance.specs.Check.{tables_for, check_of};
 
-use lengths::{corridor_lengths_ok, generator_lengths_ok, is_sum};
+use lengths::{corridor_lengths_ok, generator_lengths_ok, levels_ok};
 use refusal::Refusal;
 use sheets::sheet_ok;
-use tables::check_tables;
+use tables::CaseTables;
 
 mod lengths;
 mod tables;
-
-const MOST_BUSES: usize = 256;
-
-const MOST_CORRIDORS: usize = 256;
-
-const MOST_GENERATORS: usize = 128;
-
-const MOST_LEVELS: usize = 5;
-
-const MOST_TARGET: u32 = 65536;
-
-// Refusal 2.
-fn counts_ok(n: usize, m: usize, g: usize, requested: usize, levels: usize, target: u32) -> bool
-    ensures { result ≡ counts_in n m g requested levels target }
-{
-    let tables = (n <= MOST_BUSES) & (m <= MOST_CORRIDORS) & (g <= MOST_GENERATORS);
-    tables & (1 <= requested) & (levels <= MOST_LEVELS) & (target <= MOST_TARGET)
-}
 
 // The first of 1 to 7 that a case of n buses, m corridors and g generators has, in any mode. `fits` says that the slices which the caller
 // itself is lent have their lengths: 1 is one test. A NaN fails every test.
@@ -60,7 +42,7 @@ pub fn check_case(
 ) -> Result<(), Refusal>
     ensures { result ≡ check_of fits (tables_for n m g above requested ladder.now tier.now reading.now weight.now bus.now slack.now pmin.now pmax.now c1.now c2.now a.now b.now initial.now km.now share.now cap.now sheet.now) target }
 {
-    let levels = is_sum(ladder.len(), above, requested);
+    let levels = levels_ok(ladder.len(), above, requested);
     let buses = (tier.len() == n) & (reading.len() == n) & (weight.len() == n);
     let generators = generator_lengths_ok(g, bus, slack, pmin, pmax, c1, c2);
     let corridors = corridor_lengths_ok(m, a, b, initial, km, share, cap);
@@ -69,11 +51,29 @@ pub fn check_case(
     if !(lengths & fits) {
         return Err(Refusal::Length);
     }
-    if !counts_ok(n, m, g, requested, ladder.len(), target) {
-        return Err(Refusal::Count);
-    }
-    check_tables(
-        n, m, g, above, requested, ladder, tier, reading, weight, bus, slack, pmin, pmax, c1, c2,
-        a, b, initial, km, share, cap, sheet,
-    )
+    let case = CaseTables {
+        buses: n,
+        corridors: m,
+        generators: g,
+        above,
+        requested,
+        ladder,
+        tier,
+        reading,
+        weight,
+        bus,
+        slack,
+        pmin,
+        pmax,
+        c1,
+        c2,
+        a,
+        b,
+        initial,
+        km,
+        share,
+        cap,
+        sheet,
+    };
+    case.check(target)
 }

@@ -1,2 +1,2 @@
--- Laws for the functions' proofs; those of the definition stand in dispatch_defs.
-pub mod Sharing
+-- The bisection and the gap of the definition, for the proofs of the code.
+mod Sharing

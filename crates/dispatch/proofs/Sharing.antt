@@ -1,4 +1,4 @@
--- A turn of the bisection, the way the gap goes, and the steps of a demand strictly between the sums.
+-- A turn of the bisection, and the way the gap goes.
 -- Each is what the definition computes to once the tests are known.
 use Prim.Native.Nat.{ℕ, zero, suc, ◌+◌, ◌-◌, ◌<◌, ◌≤◌}
 use mathlib.Core.Bool.{Bool, true, false}
@@ -8,10 +8,9 @@ use borrow.Author.Tests.{lt-ltb, le-ltb}
 use lib.ListN.{length, set}
 use lib.Ieee.{Float}
 use Rattle.loops.specs.Figures.{at, plus, minus, clamped}
-use Rattle.loops.specs.Loops.{least_to, greatest_to}
 use Rattle.loops.proofs.Loops.{gap, none}
-use Rattle.dispatch_defs.specs.Units.{Units, Even, count, total, low_cost, high_cost}
-use Rattle.dispatch_defs.specs.Share.{bracket, opening, halved, narrow, halvings, bisected, price_of, outputs, first_free, closed, shared}
+use Rattle.dispatch_defs.specs.Units.{Units, total}
+use Rattle.dispatch_defs.specs.Share.{halved, narrow, halvings, bisected, first_free, closed}
 use Rattle.dispatch_defs.specs.declared.Bracket.{Bracket}
 
 -- ---- the bisection
@@ -48,14 +47,3 @@ module _ (pmin pmax : List Float) (d : Float) (out : List Float) (i : ℕ) (f : 
   pub closed_none : length pmin ≤ i → out ≡ closed pmin pmax d out
   unfolding closed
   closed_none h = rw (← f, le-ltb i (length pmin) h)
-
--- ---- all steps
-pub sharing : (u : Units) (d lo hi price : Float) (out mw : List Float) → Even u
-    → lo ≡ least_to (low_cost u) (length u.pmin) → hi ≡ greatest_to (high_cost u) (length u.pmax) → price ≡ (bisected u d halvings false (bracket lo hi)).hi
-    → out ≡ outputs u price → mw ≡ closed u.pmin u.pmax d out → mw ≡ shared u d
-unfolding opening price_of shared
-sharing u d lo hi price out mw e a b p o m =
-    m ∙ ap (λ (x : List Float). closed u.pmin u.pmax d x) (o ∙ ap (λ (x : Float). outputs u x) (p ∙ ap (λ (x : Bracket). (bisected u d halvings false x).hi) ends))
-  where
-    ends : bracket lo hi ≡ bracket (least_to (low_cost u) (count u)) (greatest_to (high_cost u) (count u))
-    ends = ap (λ (x : Float). bracket x hi) a ∙ ap (λ (x : Float). bracket (least_to (low_cost u) (count u)) x) (b ∙ ap (λ (n : ℕ). greatest_to (high_cost u) n) e.pmax)

@@ -1,58 +1,40 @@
-// Figures: what Rust's min, max, abs, clamp and sum answer.
-ghost use Rattle.std.specs.Prelude.{cond, ◌≡◌};
-ghost use Rattle.loops.specs.Figures.{infinity, lesser, greater, magnitude, clamped, finite};
+// Figures as the definition has them. Std's own are not taken: `f64::min` and `f64::max` leave open which of two equal zeros they
+// answer, and give a NaN's place to the other figure; `f64::clamp` asks for a low end that is at most the high one.
+ghost use Rattle.std.specs.Prelude.{◌≡◌};
+ghost use Rattle.loops.specs.Figures.{lesser, greater, clamped};
 ghost use Rattle.dispatch_defs.specs.Units.{total};
-
-pub fn pick(first: bool, a: f64, b: f64) -> f64
-    ensures { result ≡ cond first a b }
-{
-    if first { a } else { b }
-}
-
-pub fn infinity() -> f64
-    ensures { result ≡ infinity }
-{
-    f64::from_bits(0x7ff0_0000_0000_0000)
-}
 
 pub fn larger(least: f64, x: f64) -> f64
     ensures { result ≡ greater least x }
 {
-    pick(least < x, x, least)
+    if least < x { x } else { least }
 }
 
 pub fn smaller(most: f64, x: f64) -> f64
     ensures { result ≡ lesser most x }
 {
-    pick(x < most, x, most)
-}
-
-pub fn abs(x: f64) -> f64
-    ensures { result ≡ magnitude x }
-{
-    pick(x < 0.0, -x, x)
+    if x < most { x } else { most }
 }
 
 pub fn clamp(x: f64, lo: f64, hi: f64) -> f64
     ensures { result ≡ clamped lo hi x }
 {
-    pick(x < lo, lo, pick(hi < x, hi, x))
+    if x < lo {
+        lo
+    } else if hi < x {
+        hi
+    } else {
+        x
+    }
 }
 
-pub fn is_finite(x: f64) -> bool
-    ensures { result ≡ finite x }
-{
-    (-infinity() < x) & (x < infinity())
-}
-
+#[tactic(auto, unfolding(loops::specs::Loops::sum_to))]
 pub fn sum(xs: &[f64]) -> f64
     ensures { result ≡ total xs.now }
 {
     let mut sum = 0.0;
-    let mut i = 0;
-    while i < xs.len() {
-        sum = sum + xs[i];
-        i += 1;
+    for x in xs {
+        sum += *x;
     }
     sum
 }

@@ -2,59 +2,45 @@
 #![tactic(auto)]
 
 ghost use Rattle.std.specs.Prelude.{◌≡◌, length};
-ghost use Rattle.dispatch_defs.specs.Units.{units_of, Even};
+ghost use Rattle.dispatch_defs.specs.Units.{units_of, count};
 ghost use Rattle.dispatch_defs.specs.Operation.{outcome, settled, dispatched};
 
+use check::{check, lengths_ok};
+use figure::sum;
 use refusal::Refusal;
+use share::share;
+use table::UnitTable;
 
 mod check;
 mod figure;
 mod price;
 mod share;
+mod table;
 mod unit;
 
-fn copy(from: &[f64], mw: &mut [f64])
-    requires { length mw.old ≡ length from.now }
-    ensures { mw.new ≡ from.now }
-{
-    let mut i = 0;
-    while i < from.len() {
-        mw[i] = from[i];
-        i += 1;
-    }
-}
-
 // The dispatch of sound units, or refusal 8.
-fn settle(
-    pmin: &[f64],
-    pmax: &[f64],
-    c1: &[f64],
-    c2: &[f64],
-    demand: f64,
-    mw: &mut [f64],
-) -> Result<(), Refusal>
-    requires { Even (units_of pmin.now pmax.now c1.now c2.now) × (length mw.old ≡ length pmin.now) }
-    ensures { outcome result mw.new
-        ≡ settled (units_of pmin.now pmax.now c1.now c2.now) demand mw.old }
+#[tactic(auto, using(loops::proofs::Scan::fault_some, loops::proofs::Scan::fault_passed, dispatch_defs::proofs::Settling::settle_answered, dispatch_defs::proofs::Settling::settle_refused, dispatch_defs::proofs::Settling::stands_most, dispatch_defs::proofs::Settling::stands_least, dispatch_defs::proofs::Settling::stands_between), unfolding(dispatch_defs::specs::Dispatch::infinite_cost, dispatch_defs::specs::Dispatch::faulty_cost_at, dispatch_defs::specs::Dispatch::dispatch_at))]
+fn settle(units: &UnitTable, demand: f64, mw: &mut [f64]) -> Result<(), Refusal>
+    requires { length mw.old ≡ count units.now }
+    ensures { outcome result mw.new ≡ settled units.now demand mw.old }
 {
-    if demand >= figure::sum(pmax) {
-        copy(pmax, mw);
+    if demand >= sum(units.pmax) {
+        mw.copy_from_slice(units.pmax);
         return Ok(());
     }
-    if demand <= figure::sum(pmin) {
-        copy(pmin, mw);
+    if demand <= sum(units.pmin) {
+        mw.copy_from_slice(units.pmin);
         return Ok(());
     }
-    let i = check::infinite_cost(pmin, pmax, c1, c2);
-    if i < pmin.len() {
+    if let Some(i) = units.infinite_cost() {
         return Err(Refusal::Cost(i));
     }
-    share::share(pmin, pmax, c1, c2, demand, mw);
+    share(units, demand, mw);
     Ok(())
 }
 
 // Leaves in `mw` what each unit gives of the demand; where the request is refused, `mw` keeps its contents.
-#[tactic(auto, using(dispatch_defs::proofs::Checks::passes, dispatch_defs::proofs::Settling::dispatch_refused, dispatch_defs::proofs::Settling::dispatch_settled))]
+#[tactic(auto, using(dispatch_defs::proofs::Checks::passes, dispatch_defs::proofs::Checks::even, dispatch_defs::proofs::Checks::check_length, dispatch_defs::proofs::Settling::dispatch_refused, dispatch_defs::proofs::Settling::dispatch_settled))]
 pub fn economic_dispatch(
     units: usize,
     pmin: &[f64],
@@ -67,6 +53,10 @@ pub fn economic_dispatch(
     ensures { outcome result mw.new
         ≡ dispatched units (units_of pmin.now pmax.now c1.now c2.now) demand mw.old }
 {
-    check::check(units, pmin, pmax, c1, c2, demand, mw.len())?;
-    settle(pmin, pmax, c1, c2, demand, mw)
+    if !lengths_ok(units, pmin.len(), pmax.len(), c1.len(), c2.len(), mw.len()) {
+        return Err(Refusal::Length);
+    }
+    let table = UnitTable { pmin, pmax, c1, c2 };
+    check(units, &table, demand, mw.len())?;
+    settle(&table, demand, mw)
 }

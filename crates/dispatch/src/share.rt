@@ -1,64 +1,54 @@
 // A demand strictly between the limits' sums: the outputs at the price found, and the gap that they leave.
 ghost use Rattle.std.specs.Prelude.{◌&&◌, ◌≡◌, length};
-ghost use Rattle.std.specs.Float.Ieee.{lt};
-ghost use Rattle.dispatch_defs.specs.Units.{units_of, Even};
-ghost use Rattle.dispatch_defs.specs.Share.{outputs, first_free, closed, shared};
+ghost use Rattle.loops.specs.Loops.{fault};
+ghost use Rattle.dispatch_defs.specs.Units.{count};
+ghost use Rattle.dispatch_defs.specs.Share.{outputs, stuck_at, closed, shared};
 
-use crate::{figure, price, unit};
+use crate::figure::{clamp, sum};
+use crate::price::price;
+use crate::table::UnitTable;
 
 // The outputs at a price.
-fn run_at(pmin: &[f64], pmax: &[f64], c1: &[f64], c2: &[f64], price: f64, mw: &mut [f64])
-    requires { Even (units_of pmin.now pmax.now c1.now c2.now) × (length mw.old ≡ length pmin.now) }
-    ensures { mw.new ≡ outputs (units_of pmin.now pmax.now c1.now c2.now) price }
+#[tactic(auto, using(loops::proofs::Tab::fill_start, loops::proofs::Tab::fill_turn, loops::proofs::Tab::fill_end), unfolding(dispatch_defs::specs::Share::outputs, dispatch_defs::specs::Units::output_at))]
+fn run_at(units: &UnitTable, price: f64, mw: &mut [f64])
+    requires { length mw.old ≡ count units.now }
+    ensures { mw.new ≡ outputs units.now price }
 {
-    let mut i = 0;
-    while i < pmin.len() {
-        mw[i] = unit::output(price, pmin[i], pmax[i], c1[i], c2[i]);
-        i += 1;
+    for (i, output) in mw.iter_mut().enumerate() {
+        *output = units.unit(i).output(price);
     }
 }
 
-fn is_free(pmin: f64, pmax: f64, p: f64) -> bool
-    ensures { result ≡ (lt pmin p && lt p pmax) }
+// The first unit strictly inside its limits.
+fn first_free(units: &UnitTable, out: &[f64]) -> Option<usize>
+    requires { length out.now ≡ count units.now }
+    ensures { result ≡ fault (stuck_at units.now.pmin units.now.pmax out.now) (count units.now) }
 {
-    (p > pmin) & (p < pmax)
-}
-
-// The first unit strictly inside its limits, the number of units where there is none.
-fn first_free(pmin: &[f64], pmax: &[f64], out: &[f64]) -> usize
-    requires { (length pmax.now ≡ length pmin.now) × (length out.now ≡ length pmin.now) }
-    ensures { result ≡ first_free pmin.now pmax.now out.now }
-{
-    let mut i = 0;
-    while i < pmin.len() {
-        if is_free(pmin[i], pmax[i], out[i]) {
-            return i;
-        }
-        i += 1;
-    }
-    i
+    loops::first_fault(units.len(), |i| {
+        let unit = units.unit(i);
+        !(unit.pmin < out[i] && out[i] < unit.pmax)
+    })
 }
 
 // Gives what is left of the demand to the first unit strictly inside its limits, within them.
-fn close_gap(pmin: &[f64], pmax: &[f64], demand: f64, mw: &mut [f64])
-    requires { (length pmax.now ≡ length pmin.now) × (length mw.old ≡ length pmin.now) }
-    ensures { mw.new ≡ closed pmin.now pmax.now demand mw.old }
+#[tactic(auto, using(loops::proofs::Scan::fault_some, loops::proofs::Scan::fault_passed, crate::proofs::Sharing::closed_at_lem, crate::proofs::Sharing::closed_none), unfolding(dispatch_defs::specs::Share::first_free))]
+fn close_gap(units: &UnitTable, demand: f64, mw: &mut [f64])
+    requires { length mw.old ≡ count units.now }
+    ensures { mw.new ≡ closed units.now.pmin units.now.pmax demand mw.old }
 {
-    let gap = demand - figure::sum(mw);
-    let i = first_free(pmin, pmax, mw);
-    if i < pmin.len() {
-        mw[i] = figure::clamp(mw[i] + gap, pmin[i], pmax[i]);
+    let gap = demand - sum(mw);
+    if let Some(i) = first_free(units, mw) {
+        let unit = units.unit(i);
+        mw[i] = clamp(mw[i] + gap, unit.pmin, unit.pmax);
     }
 }
 
 // Leaves in `mw` what each unit gives of a demand strictly between the sums.
-pub fn share(pmin: &[f64], pmax: &[f64], c1: &[f64], c2: &[f64], demand: f64, mw: &mut [f64])
-    requires { Even (units_of pmin.now pmax.now c1.now c2.now) × (length mw.old ≡ length pmin.now) }
-    ensures { mw.new ≡ shared (units_of pmin.now pmax.now c1.now c2.now) demand }
+#[tactic(auto, unfolding(dispatch_defs::specs::Share::shared))]
+pub fn share(units: &UnitTable, demand: f64, mw: &mut [f64])
+    requires { length mw.old ≡ count units.now }
+    ensures { mw.new ≡ shared units.now demand }
 {
-    let lo = price::least_cost(pmin, c1, c2);
-    let hi = price::greatest_cost(pmax, c1, c2);
-    let price = price::bisect(pmin, pmax, c1, c2, demand, lo, hi);
-    run_at(pmin, pmax, c1, c2, price, mw);
-    close_gap(pmin, pmax, demand, mw);
+    run_at(units, price(units, demand), mw);
+    close_gap(units, demand, mw);
 }

@@ -3,48 +3,49 @@ ghost use Rattle.std.specs.Prelude.{◌&&◌, ◌≡◌};
 ghost use Rattle.loops.specs.Figures.{finite};
 ghost use Rattle.dispatch_defs.specs.Units.{unit_ok, cost_of, output_of};
 
-use crate::figure;
-
-const MOST_MW: f64 = 1e6;
-
-const MOST_C1: f64 = 1e6;
+use crate::figure::{clamp, larger};
+use dispatch_defs::unit_ok;
 
 // What c2 is raised to: without a quadratic cost a price would settle no output.
 const LEAST_C2: f64 = 1e-12;
 
-pub fn unit_ok(pmin: f64, pmax: f64, c1: f64, c2: f64) -> bool
-    ensures { result ≡ unit_ok pmin pmax c1 c2 }
-{
-    (0.0 <= pmin)
-        & (pmin <= pmax)
-        & (pmax <= MOST_MW)
-        & (0.0 <= c1)
-        & (c1 <= MOST_C1)
-        & (0.0 <= c2)
-        & (c2 < figure::infinity())
+#[derive(Clone, Copy)]
+pub struct Unit {
+    pub pmin: f64,
+    pub pmax: f64,
+    pub c1: f64,
+    pub c2: f64,
 }
 
-// The incremental cost at an output of p.
-pub fn cost(c1: f64, c2: f64, p: f64) -> f64
-    ensures { result ≡ cost_of c1 c2 p }
-{
-    c1 + 2.0 * c2 * p
-}
+impl Unit {
+    pub fn is_sound(self) -> bool
+        ensures { result ≡ unit_ok self.pmin self.pmax self.c1 self.c2 }
+    {
+        unit_ok(self.pmin, self.pmax, self.c1, self.c2)
+    }
 
-// Is it finite at both limits?
-pub fn cost_ok(pmin: f64, pmax: f64, c1: f64, c2: f64) -> bool
-    ensures { result ≡ (finite (cost_of c1 c2 pmin) && finite (cost_of c1 c2 pmax)) }
-{
-    figure::is_finite(cost(c1, c2, pmin)) & figure::is_finite(cost(c1, c2, pmax))
-}
+    // The incremental cost at an output of p.
+    pub fn cost(self, p: f64) -> f64
+        ensures { result ≡ cost_of self.c1 self.c2 p }
+    {
+        self.c1 + 2.0 * self.c2 * p
+    }
 
-// The output at which the incremental cost is the price, within the limits.
-pub fn output(price: f64, pmin: f64, pmax: f64, c1: f64, c2: f64) -> f64
-    ensures { result ≡ output_of price pmin pmax c1 c2 }
-{
-    figure::clamp(
-        (price - c1) / (2.0 * figure::larger(LEAST_C2, c2)),
-        pmin,
-        pmax,
-    )
+    // Is it finite at both limits?
+    pub fn has_finite_costs(self) -> bool
+        ensures { result ≡ (finite (cost_of self.c1 self.c2 self.pmin) && finite (cost_of self.c1 self.c2 self.pmax)) }
+    {
+        loops::is_finite(self.cost(self.pmin)) && loops::is_finite(self.cost(self.pmax))
+    }
+
+    // The output at which the incremental cost is the price, within the limits.
+    pub fn output(self, price: f64) -> f64
+        ensures { result ≡ output_of price self.pmin self.pmax self.c1 self.c2 }
+    {
+        clamp(
+            (price - self.c1) / (2.0 * larger(LEAST_C2, self.c2)),
+            self.pmin,
+            self.pmax,
+        )
+    }
 }

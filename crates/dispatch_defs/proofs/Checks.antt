@@ -1,10 +1,10 @@
 -- The ways out of `check`, and what a request that passes it has.
 -- Each test is rewritten to the side on which it fell; the four tests together are taken apart once, in `passes`.
-use Prim.Native.Nat.{ℕ, ◌<◌, ◌≤◌}
+use Prim.Native.Nat.{ℕ, ◌≤◌}
 use mathlib.Core.Bool.{Bool, true, false, cond, ◌&&◌}
 use mathlib.Core.Path.{◌≡◌, refl, sym, ◌∙◌}
 use native.Mathlib.Nat.{le_of_eq}
-use borrow.Author.Tests.{eqb-true, eq-eqb, ltb-false, leb-true, lt-ltb, le-ltb, le-leb, lt-leb}
+use borrow.Author.Tests.{eqb-true, eq-eqb, ltb-false, leb-true, le-ltb, le-leb}
 use lib.Dec.{eqb, leb, ltb}
 use lib.ListN.{length}
 use lib.Ieee.{Float}
@@ -15,7 +15,7 @@ use Rattle.refusal.specs.declared.Refusal.TheVariants.{Length, Count, Generator,
 use Rattle.dispatch_defs.specs.Units.{Units, Even, count, unit_ok_at}
 use Rattle.dispatch_defs.specs.Operation.{lengths_ok, most_units, demand_ok, faulty_unit, check_of}
 use Rattle.dispatch_defs.specs.Limits.{Accepted}
-use Rattle.std.specs.Prelude.{Err, Ok}
+use Rattle.std.specs.Prelude.{Err}
 use Rattle.refusal.specs.Reply.{no_refusal}
 
 -- ---- the lengths
@@ -65,24 +65,10 @@ module _ (n : ℕ) (u : Units) (d : Float) (m : ℕ) where
   unfolding check_of
   check_length a = rw a
 
-  module _ (a : fits n u m ≡ true) where
-    pub check_count : most_units < n → Err Count ≡ check_of n u d m
+  module _ (a : fits n u m ≡ true) (b : n ≤ most_units) (i : ℕ) (e : i ≡ faulty_unit u) (h : count u ≤ i) where
+    pub check_passed : demand_ok d ≡ true → no_refusal ≡ check_of n u d m
     unfolding check_of
-    check_count b = rw (a, lt-leb n most_units b)
-
-    module _ (b : n ≤ most_units) (i : ℕ) (e : i ≡ faulty_unit u) where
-      pub check_unit : i < count u → Err (Generator i) ≡ check_of n u d m
-      unfolding check_of
-      check_unit h = rw (a, le-leb n most_units b, ← e, lt-ltb i (count u) h)
-
-      module _ (h : count u ≤ i) where
-        pub check_demand : demand_ok d ≡ false → Err Demand ≡ check_of n u d m
-        unfolding check_of
-        check_demand q = rw (a, le-leb n most_units b, ← e, le-ltb i (count u) h, q)
-
-        pub check_passed : demand_ok d ≡ true → no_refusal ≡ check_of n u d m
-        unfolding check_of
-        check_passed q = rw (a, le-leb n most_units b, ← e, le-ltb i (count u) h, q)
+    check_passed q = rw (a, le-leb n most_units b, ← e, le-ltb i (count u) h, q)
 
   -- ---- a request that passes, and one that is to pass
   pub passes : check_of n u d m ≡ no_refusal → Accepted n u d m

@@ -12,7 +12,7 @@ use Rattle.refusal.specs.declared.Refusal.TheVariants.{Cost}
 use Rattle.dispatch_defs.specs.Units.{Units, count, total}
 use Rattle.dispatch_defs.specs.Dispatch.{Standing, most, least, between, standing, dispatch_at, economic_dispatch, infinite_cost, faulty_cost_at, faulty_cost}
 use Rattle.dispatch_defs.specs.Operation.{Outcome, outcome, settled_if, settled, check_of, dispatched_by, dispatched}
-use Rattle.std.specs.Prelude.{Err, Ok, Result}
+use Rattle.std.specs.Prelude.{Err, Result}
 use Rattle.refusal.specs.Reply.{no_refusal}
 
 -- ---- a cost that is faulty, or none

@@ -1,7 +1,7 @@
 // Series impedance of a transformer by its size class (`transformer_impedance` of branches.rs, classes of params.rs).
 #![tactic(auto)]
 
-ghost use Rattle.std.specs.Prelude.{cond, ◌≡◌};
+ghost use Rattle.std.specs.Prelude.{◌≡◌};
 ghost use Rattle.root.specs.Root.{root};
 ghost use Rattle.impedance.specs.Impedance.{by_class, reactance, impedance_of, rating_ok, reply_of, defined};
 
@@ -17,40 +17,34 @@ pub struct SeriesImpedance {
 // System base, MVA.
 const BASE_MVA: f64 = 100.0;
 
-fn pick(first: bool, a: f64, b: f64) -> f64
-    ensures { result ≡ cond first a b }
-{
-    if first { a } else { b }
-}
-
-fn sqrt(x: f64) -> f64
-    ensures { result ≡ root x }
-{
-    if 0.0 <= x {
-        return f64::from_bits(root::square_root(f64::to_bits(x)));
-    }
-    0.0 / 0.0
-}
-
 // What a transformer of this rating has, of its class: the first with rating at most 100, at most 400, any.
+#[tactic(auto, unfolding(crate::specs::Impedance::by_class))]
 fn by_class(mva: f64, small: f64, medium: f64, large: f64) -> f64
     ensures { result ≡ by_class mva small medium large }
 {
-    pick(mva <= 100.0, small, pick(mva <= 400.0, medium, large))
+    if mva <= 100.0 {
+        small
+    } else if mva <= 400.0 {
+        medium
+    } else {
+        large
+    }
 }
 
 fn rating_ok(mva: f64) -> bool
     ensures { result ≡ rating_ok mva }
 {
-    (0.0 < mva) & (mva < f64::from_bits(0x7ff0_0000_0000_0000))
+    0.0 < mva && mva < loops::infinity()
 }
 
+#[tactic(auto, unfolding(crate::specs::Impedance::reactance))]
 fn reactance(z: f64, x_over_r: f64, mva: f64) -> f64
     ensures { result ≡ reactance z x_over_r mva }
 {
-    z * BASE_MVA / mva / sqrt(1.0 + 1.0 / (x_over_r * x_over_r))
+    z * BASE_MVA / mva / root::sqrt(1.0 + 1.0 / (x_over_r * x_over_r))
 }
 
+#[tactic(auto, unfolding(crate::specs::Impedance::impedance_of))]
 fn impedance_of(mva: f64) -> SeriesImpedance
     ensures { result ≡ impedance_of mva }
 {
@@ -61,11 +55,12 @@ fn impedance_of(mva: f64) -> SeriesImpedance
 }
 
 // The impedance of a bank of `mva`. Of a tiny rating it is infinite, and is answered.
+#[tactic(auto, unfolding(crate::specs::Impedance::defined))]
 pub fn transformer_impedance(mva: f64) -> Result<SeriesImpedance, Refusal>
     ensures { reply_of result ≡ defined mva }
 {
-    if rating_ok(mva) {
-        return Ok(impedance_of(mva));
+    if !rating_ok(mva) {
+        return Err(Refusal::Rating);
     }
-    Err(Refusal::Rating)
+    Ok(impedance_of(mva))
 }

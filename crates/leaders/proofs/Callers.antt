@@ -12,7 +12,7 @@ use Rattle.loops.proofs.Scan.{pass_all}
 use Rattle.leaders.specs.Leaders.{leaders_of}
 use Rattle.leaders.specs.Operation.{corridor_ok_at, faulty_corridor, check_of, outcome, led_outcome, led_by}
 use Rattle.leaders.proofs.Checks.{passed}
-use Rattle.std.specs.Prelude.{Ok, Result}
+use Rattle.std.specs.Prelude.{Result}
 use Rattle.refusal.specs.declared.Refusal.{Refusal}
 use Rattle.refusal.specs.Reply.{no_refusal}
 

@@ -5,7 +5,7 @@ use mathlib.Core.Bool.{Bool, true, false, cond, ◌&&◌}
 use mathlib.Core.List.{List}
 use mathlib.Core.Path.{◌≡◌, refl, sym, ap, ◌∙◌, subst}
 use native.Mathlib.Omega.{arith}
-use borrow.Author.Tests.{eqb-true, ltb-true, ltb-false, leb-true, lt-ltb, le-ltb}
+use borrow.Author.Tests.{eqb-true, ltb-true, ltb-false, leb-true, le-ltb}
 use lib.Dec.{ltb, leb, eqb}
 use lib.ListN.{length, get_or}
 use Rattle.loops.proofs.Bools.{both, unequal}
@@ -14,7 +14,7 @@ use Rattle.refusal.specs.declared.Refusal.{Refusal}
 use Rattle.refusal.specs.declared.Refusal.TheVariants.{Length, Count, Corridor}
 use Rattle.leaders.specs.Leaders.{leaders_of}
 use Rattle.leaders.specs.Operation.{lengths_ok, counts_ok, corridor_ok_at, faulty_corridor, check_of, Ends, outcome, led_by, led_outcome}
-use Rattle.std.specs.Prelude.{Err, Ok}
+use Rattle.std.specs.Prelude.{Err}
 use Rattle.refusal.specs.Reply.{no_refusal}
 
 module _ (buses corridors : ℕ) (a b : List ℕ) (places : ℕ) where
@@ -24,22 +24,9 @@ module _ (buses corridors : ℕ) (a b : List ℕ) (places : ℕ) where
   abbrev counts : Bool
   counts = counts_ok buses corridors
 
-  pub length_refused : lengths ≡ false → Err Length ≡ check_of buses corridors a b places
+  pub passed : (k : ℕ) → k ≡ faulty_corridor buses a b → lengths ≡ true → counts ≡ true → length a ≤ k → no_refusal ≡ check_of buses corridors a b places
   unfolding check_of
-  length_refused e = rw e
-
-  pub count_refused : lengths ≡ true → counts ≡ false → Err Count ≡ check_of buses corridors a b places
-  unfolding check_of
-  count_refused e f = rw (e, f)
-
-  module _ (k : ℕ) (found : k ≡ faulty_corridor buses a b) where
-    pub corridor_refused : lengths ≡ true → counts ≡ true → k < length a → Err (Corridor k) ≡ check_of buses corridors a b places
-    unfolding check_of
-    corridor_refused e f h = rw (e, f, ← found, lt-ltb k (length a) h)
-
-    pub passed : lengths ≡ true → counts ≡ true → length a ≤ k → no_refusal ≡ check_of buses corridors a b places
-    unfolding check_of
-    passed e f h = rw (e, f, ← found, le-ltb k (length a) h)
+  passed k found e f h = rw (e, f, ← found, le-ltb k (length a) h)
 
   -- the two columns of ends are as long
   pub lengths_even : lengths ≡ true → length b ≡ length a

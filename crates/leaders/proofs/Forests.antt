@@ -1,15 +1,12 @@
 -- Laws of forests: at first, after a way is shortened, and after two sets are joined.
 -- A bus that is a root afterwards was one before; so what is said of roots is carried over.
 use Prim.Native.Nat.{ℕ, zero, suc, ◌+◌, ◌<◌, ◌≤◌}
-use mathlib.Core.Bool.{cond}
 use mathlib.Core.List.{List}
 use mathlib.Core.Path.{◌≡◌, refl, sym, ap, ◌∙◌}
 use native.Mathlib.Decide.{ℕ_discrete, dec_lt}
 use native.Mathlib.Nat.{zero-add}
 use native.Mathlib.Numerals.{add-one}
 use native.Mathlib.Omega.{arith}
-use borrow.Author.Tests.{eq-eqb, ne_eqb}
-use lib.Dec.{eqb}
 use lib.ListN.{length, get_or, set, length-set, get_or-eq_default}
 use lib.Seq.{get_or-set_same, get_or-set_other, set_out, ext_get_or}
 use Rattle.loops.specs.Loops.{iter, tab}
@@ -266,29 +263,6 @@ module _ (a b : List ℕ) (p name : List ℕ) where
             λ n l e f. rw (add-one, iter_last (join_at a b) k 0 l, zero-add)
             (J.joins n (iter (join_at a b) k 0 l) (e.from k K) (e.to k K) (g.joins n l e f));
       }
-
--- ---- the leaders handed out
-module _ (n : ℕ) (p name : List ℕ) where
-  -- a root's name is its leader, and another bus's parent has its leader already
-  own : (i : ℕ) (w : List ℕ) (v : ℕ) → i < n → v ≡ cond (eqb (get_or p i 0) i) (get_or name i 0) (get_or w (get_or p i 0) 0) → HandedOut n p name i w
-      → (l : List ℕ) → Forest n p name l → v ≡ get_or l i 0
-  own i w v I e h l f =
-      elim (ℕ_discrete (get_or p i 0) i) [
-        | yes r ↦ e ∙ rw (eq-eqb _ _ r) (f.named i I r)
-        | no r ↦ e ∙ rw (ne_eqb _ _ r) (h l f (get_or p i 0) (omega (arith, f.down i)) ∙ f.same i I)
-      ]
-
-  pub next_handed : (i : ℕ) (w : List ℕ) (v : ℕ) → i < n → length w ≡ n → v ≡ cond (eqb (get_or p i 0) i) (get_or name i 0) (get_or w (get_or p i 0) 0)
-      → HandedOut n p name i w → HandedOut n p name (i + 1) (set w i v)
-  next_handed i w v I e c h l f x X =
-      elim (ℕ_discrete x i) [
-        | no q ↦ get_or-set_other w i x v 0 q ∙ h l f x (omega arith)
-        | yes q ↦
-            ap (λ (k : ℕ). get_or (set w i v) k 0) q
-            ∙ get_or-set_same w i v 0 (omega arith)
-            ∙ own i w v I c h l f
-            ∙ ap (λ (k : ℕ). get_or l k 0) (sym q)
-      ]
 
 -- ---- the stages of leading
 pub led_by_lem : (N n : ℕ) (a b p name w : List ℕ) → n ≤ N → Ends n a b → AllJoined a b (length a) (themselves N) (themselves N) p name → HandedOut n p name n w → length w ≡ n

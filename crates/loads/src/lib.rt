@@ -7,7 +7,7 @@ ghost use Rattle.loads.specs.Load.{load_by, loads_of, load_ok};
 
 const MOST_BUSES: usize = 256;
 
-const MOST_MW: f64 = 1000000.0;
+const MOST_MW: f64 = 1e6;
 
 const MOST_WEIGHT: f64 = 1000.0;
 
@@ -22,30 +22,27 @@ pub fn load_by(reading: f64, weight: f64) -> f64
 pub fn load_ok(reading: f64, weight: f64) -> bool
     ensures { result ≡ load_ok reading weight (load_by reading weight) }
 {
-    let load = reading * weight;
-    ((0.0 <= reading) & (reading <= MOST_MW))
-        & (((0.0 < weight) & (weight <= MOST_WEIGHT)) & ((0.0 <= load) & (load <= MOST_MW)))
+    let load = load_by(reading, weight);
+    (0.0 <= reading && reading <= MOST_MW)
+        && (0.0 < weight && weight <= MOST_WEIGHT)
+        && (0.0 <= load && load <= MOST_MW)
 }
 
 // The figure of a place; a NaN past the table.
 fn figure_at(table: &[f64], i: usize) -> f64
     ensures { result ≡ at table.now i }
 {
-    if i < table.len() {
-        return table[i];
-    }
-    0.0 / 0.0
+    table.get(i).copied().unwrap_or(f64::NAN)
 }
 
 // The buses' loads. The tables may be of any length: past either of them a load is a NaN.
+#[tactic(auto, using(loops::proofs::Tab::fill_start, loops::proofs::Tab::fill_turn, loops::proofs::Tab::fill_end))]
 pub fn weigh(reading: &[f64], weight: &[f64]) -> [f64; MOST_BUSES]
     ensures { result ≡ loads_of 256 reading.now weight.now }
 {
     let mut load = [0.0; MOST_BUSES];
-    let mut i = 0;
-    while i < MOST_BUSES {
-        load[i] = load_by(figure_at(reading, i), figure_at(weight, i));
-        i += 1;
+    for (i, mw) in load.iter_mut().enumerate() {
+        *mw = load_by(figure_at(reading, i), figure_at(weight, i));
     }
     load
 }

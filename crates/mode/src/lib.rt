@@ -2,9 +2,9 @@
 #![tactic(auto)]
 
 ghost use Rattle.std.specs.Prelude.{◌≡◌};
-ghost use Rattle.mode.specs.Number.{mode_number};
+ghost use Rattle.mode.specs.Number.{mode_number, Numbered};
 
-#[derive(Clone, Copy)]
+#[derive(Clone, Copy, Debug, PartialEq, Eq)]
 pub enum PlanMode {
     // Choose voltage levels and circuits.
     Expand,
@@ -18,7 +18,12 @@ pub enum PlanMode {
     ObserveServing,
 }
 
+// A number that no mode has.
+#[derive(Clone, Copy, Debug, PartialEq, Eq)]
+pub struct UnknownMode(pub u64);
+
 impl PlanMode {
+    #[tactic(auto, unfolding(crate::specs::Number::mode_number))]
     pub fn number(self) -> u32
         ensures { result ≡ mode_number self }
     {
@@ -29,6 +34,25 @@ impl PlanMode {
             PlanMode::ExpandServing => 3,
             PlanMode::ReinforceServing => 4,
             PlanMode::ObserveServing => 5,
+        }
+    }
+}
+
+impl TryFrom<u64> for PlanMode {
+    type Error = UnknownMode;
+
+    ghost try_from_gives = { Numbered };
+
+    #[tactic(auto, unfolding(crate::specs::Number::mode_number))]
+    fn try_from(number: u64) -> Result<Self, UnknownMode> {
+        match number {
+            0 => Ok(PlanMode::Expand),
+            1 => Ok(PlanMode::Reinforce),
+            2 => Ok(PlanMode::Observe),
+            3 => Ok(PlanMode::ExpandServing),
+            4 => Ok(PlanMode::ReinforceServing),
+            5 => Ok(PlanMode::ObserveServing),
+            _ => Err(UnknownMode(number)),
         }
     }
 }

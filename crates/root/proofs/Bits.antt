@@ -147,3 +147,10 @@ nan_gives x h = zero_over_zero ∙ sym (no_root x (ap (λ (z : Float). le z x) (
   where
     zero_over_zero : div binary64 (of_bits binary64 0) (of_bits binary64 0) ≡ nan
     zero_over_zero = unfold div of_bits in refl
+
+-- the same, of the NaN by its bits
+pub nan_bits_give : (x : Float) → le (of_bits binary64 0) x ≡ false → of_bits binary64 0x7FF8_0000_0000_0000 ≡ root x
+nan_bits_give x h = nan_by_bits ∙ sym (no_root x (ap (λ (z : Float). le z x) (sym zero_is) ∙ h))
+  where
+    nan_by_bits : of_bits binary64 0x7FF8_0000_0000_0000 ≡ nan
+    nan_by_bits = unfold of_bits in refl

@@ -12,3 +12,4 @@ pub mod Ceiling
 pub mod CeilingCases
 pub mod Squares
 pub mod Halving
+mod Digits

@@ -8,7 +8,7 @@
 // 5. Put the halved exponent before them. A carry out of the digits raises it by one.
 #![tactic(auto)]
 
-ghost use Rattle.std.specs.Prelude.{◌≡◌, ◌+◌, ◌*◌, ◌^◌, ◌<◌, ◌≤◌};
+ghost use Rattle.std.specs.Prelude.{IfSome, ◌≡◌, ◌+◌, ◌*◌, ◌^◌, ◌<◌, ◌≤◌};
 ghost use Rattle.std.specs.Float.{binary64};
 ghost use Rattle.std.specs.Float.Ieee.{to_bits};
 ghost use Rattle.root.specs.Root.{closest_root, root, round_root, root_bits};
@@ -48,48 +48,43 @@ fn approximate_root(s: u64) -> f64 {
     0.5 * y1 + 0.5 * x / y1
 }
 
-// What s * 2^52 leaves over the square of q; u64::MAX where it is below the square, or far above it.
+// What s * 2^52 leaves over the square of q; none where it is below the square, or far above it.
 // With q = h * 2^27 + l the square is (4 * h^2 + h * l / 2^24) * 2^52, and `low` besides.
-fn left_over(s: u64, q: u64) -> u64
+#[tactic(auto, using(crate::proofs::Digits::left_is))]
+fn left_over(s: u64, q: u64) -> Option<u64>
     requires { q < 2 ^ 53 }
-    ensures { result < 2 ^ 63 → q * q + result ≡ s * 2 ^ 52 }
+    ensures { IfSome result (λ rem. q * q + rem ≡ s * 2 ^ 52) }
 {
     let h = q / 0x800_0000;
     let l = q % 0x800_0000;
     let high = h * h * 4 + h * l / 0x100_0000;
     let low = h * l % 0x100_0000 * 0x1000_0000 + l * l;
-    if s < high {
-        return u64::MAX;
+    let left = s.checked_sub(high)?;
+    if left > 255 {
+        return None;
     }
-    if s - high > 255 {
-        return u64::MAX;
-    }
-    if (s - high) * HIDDEN_BIT < low {
-        return u64::MAX;
-    }
-    (s - high) * HIDDEN_BIT - low
+    (left * HIDDEN_BIT).checked_sub(low)
 }
 
 // The root of s * 2^52 to the nearest whole number. Two binary digits of s * 2^52 give one of the
 // root, q. `rem` is what the digits so far leave over the square of q, and `rest` holds those to
 // come, the next two from 2^52 up. There is no tie, since q + 1/2 has no whole square.
+#[tactic(auto, using(crate::proofs::Digits::small, crate::proofs::Digits::small_end))]
 fn root_by_digits(s: u64) -> u64
     requires { s < 2 ^ 54 }
     ensures { result ≡ closest_root (s * 2 ^ 52) }
 {
-    let mut q: u64 = 0;
-    let mut rem: u64 = 0;
-    let mut rest: u64 = s;
-    let mut i: u64 = 0;
-    while i < DIGITS {
+    let mut q = 0;
+    let mut rem = 0;
+    let mut rest = s;
+    for _ in 0..DIGITS {
         rem = rem * 4 + rest / HIDDEN_BIT;
         rest = rest % HIDDEN_BIT * 4;
-        q = q * 2;
+        q *= 2;
         if rem > q * 2 {
-            rem = rem - (q * 2 + 1);
-            q = q + 1;
+            rem -= q * 2 + 1;
+            q += 1;
         }
-        i = i + 1;
     }
     if rem > q { q + 1 } else { q }
 }
@@ -102,16 +97,12 @@ fn closest_root(s: u64) -> u64
 {
     let y = approximate_root(s);
     if y >= 0.0 {
-        let q = f64::to_bits(y) % HIDDEN_BIT + (HIDDEN_BIT - 1);
-        let rem = left_over(s, q);
-        if rem <= q {
-            return q;
-        }
-        if rem <= q * 3 + 2 {
-            return q + 1;
-        }
-        if rem <= q * 5 + 6 {
-            return q + 2;
+        let q = y.to_bits() % HIDDEN_BIT + (HIDDEN_BIT - 1);
+        match left_over(s, q) {
+            Some(rem) if rem <= q => return q,
+            Some(rem) if rem <= q * 3 + 2 => return q + 1,
+            Some(rem) if rem <= q * 5 + 6 => return q + 2,
+            _ => {}
         }
     }
     root_by_digits(s)
@@ -125,11 +116,11 @@ fn root_of_number(s: u64, e: u64) -> u64
     let mut t: u64 = s;
     let mut k: u64 = e;
     while t < HIDDEN_BIT {
-        t = t * 2;
-        k = k - 1;
+        t *= 2;
+        k -= 1;
     }
     if k % 2 == 1 {
-        t = t * 2;
+        t *= 2;
     }
     (k - FRACTION) / 2 * HIDDEN_BIT + closest_root(t)
 }
@@ -137,22 +128,15 @@ fn root_of_number(s: u64, e: u64) -> u64
 // The bit pattern of the square root of the f64 with the bit pattern `bits`: the f64 nearest to the
 // exact root, a tie going to the even one. -0 gives -0; a NaN, and what lies below zero, give
 // 7FF8000000000000.
+#[tactic(auto, using(crate::proofs::Patterns::at_zero, crate::proofs::Patterns::at_minus_zero, crate::proofs::Patterns::at_inf, crate::proofs::Patterns::at_none, crate::proofs::Patterns::at_subnormal, crate::proofs::Patterns::at_normal))]
 pub fn square_root(bits: u64) -> u64
     ensures { result ≡ root_bits bits }
 {
-    if bits == 0 {
-        return bits;
-    }
-    if bits == MINUS_ZERO {
-        return bits;
-    }
-    if bits == INFINITY {
-        return bits;
-    }
-    if bits > INFINITY {
-        return NAN;
-    }
-    if bits < HIDDEN_BIT {
+    if bits == 0 || bits == MINUS_ZERO || bits == INFINITY {
+        bits
+    } else if bits > INFINITY {
+        NAN
+    } else if bits < HIDDEN_BIT {
         root_of_number(bits, SUBNORMAL)
     } else {
         root_of_number(bits % HIDDEN_BIT + HIDDEN_BIT, bits / HIDDEN_BIT + NORMAL)
@@ -164,7 +148,8 @@ pub fn sqrt(x: f64) -> f64
     ensures { result ≡ root x }
 {
     if 0.0 <= x {
-        return f64::from_bits(square_root(f64::to_bits(x)));
+        f64::from_bits(square_root(x.to_bits()))
+    } else {
+        f64::NAN
     }
-    0.0 / 0.0
 }

@@ -3,8 +3,7 @@
 
 ghost use Rattle.std.specs.Prelude.{◌≡◌, ◌<◌, ◌≤◌, min, max, length};
 ghost use Rattle.season_defs.specs.Terms.{divisor, lowest};
-ghost use Rattle.season_defs.specs.Plans.{counted};
-ghost use Rattle.season_defs.specs.Feeding.{most_plans, most_corridors, begun, draft_of, even_with, check_of, sum64, updated, with_plan, fed_of, feed, within, corridor_figures, season_figures};
+ghost use Rattle.season_defs.specs.Feeding.{most_plans, most_corridors, begun, draft_of, even_with, check_of, updated, with_plan, fed_of, feed, within, corridor_figures, season_figures};
 
 use plan_defs::CorridorPlan;
 use refusal::Refusal;
@@ -12,20 +11,20 @@ use season_defs::{CorridorFigures, Fed, MOST_CORRIDORS, MOST_PLANS, Ratio, Seaso
 
 // ---- fractions
 // The greatest common divisor, by Euclid.
+#[tactic(auto, using(season_defs::proofs::Euclid::turned, season_defs::proofs::Euclid::ended))]
 fn common_divisor(a: u64, b: u64) -> u64
     ensures { result ≡ divisor a b }
 {
     let mut x = a;
     let mut y = b;
     while y > 0 {
-        let rest = x % y;
-        x = y;
-        y = rest;
+        (x, y) = (y, x % y);
     }
     x
 }
 
 // a over b in lowest terms; 0 over 1 where b is 0.
+#[tactic(auto, using(season_defs::proofs::Euclid::divisor_pos), unfolding(season_defs::specs::Terms::lowest))]
 fn in_lowest_terms(a: u64, b: u64) -> Ratio
     ensures { result ≡ lowest a b }
 {
@@ -40,86 +39,25 @@ fn in_lowest_terms(a: u64, b: u64) -> Ratio
 }
 
 // ---- one plan more
-fn lesser(x: u32, y: u32) -> u32
-    ensures { result ≡ min x y }
-{
-    if x < y { x } else { y }
-}
-
-fn greater(x: u32, y: u32) -> u32
-    ensures { result ≡ max x y }
-{
-    if x < y { y } else { x }
-}
-
-fn wide(x: u32) -> u64
-    ensures { result ≡ x }
-{
-    x as u64
-}
-
-fn count(b: bool) -> u64
-    ensures { result ≡ counted b }
-{
-    if b { 1 } else { 0 }
-}
-
-// The three arrays with the circuits of one plan more.
-fn lessened(least: [u32; MOST_CORRIDORS], circuits: &[u32]) -> [u32; MOST_CORRIDORS]
-    requires { length circuits.now ≤ most_corridors }
-    ensures { result ≡ updated min least circuits.now }
-{
-    let mut all = least;
-    let mut k = 0;
-    while k < circuits.len() {
-        all[k] = lesser(least[k], circuits[k]);
-        k += 1;
-    }
-    all
-}
-
-fn raised(greatest: [u32; MOST_CORRIDORS], circuits: &[u32]) -> [u32; MOST_CORRIDORS]
-    requires { length circuits.now ≤ most_corridors }
-    ensures { result ≡ updated max greatest circuits.now }
-{
-    let mut all = greatest;
-    let mut k = 0;
-    while k < circuits.len() {
-        all[k] = greater(greatest[k], circuits[k]);
-        k += 1;
-    }
-    all
-}
-
-fn added(total: [u64; MOST_CORRIDORS], circuits: &[u32]) -> [u64; MOST_CORRIDORS]
-    requires { length circuits.now ≤ most_corridors }
-    ensures { result ≡ updated sum64 total circuits.now }
-{
-    let mut all = total;
-    let mut k = 0;
-    while k < circuits.len() {
-        all[k] = std::num::wrapping_add_u64(total[k], wide(circuits[k]));
-        k += 1;
-    }
-    all
-}
-
 // The season with a plan that passes.
+#[tactic(auto, using(loops::proofs::Tab::fill_start, loops::proofs::Tab::fill_turn, loops::proofs::Tab::fill_own), unfolding(season_defs::specs::Feeding::with_plan, season_defs::specs::Feeding::updated))]
 fn with_plan(season: Season, plan: CorridorPlan, corridors: usize, circuits: &[u32]) -> Season
     requires { (season.taken < most_plans) × (length circuits.now ≤ most_corridors) }
     ensures { result ≡ with_plan season (draft_of plan corridors circuits.now) }
 {
-    let least = season.least;
-    let least = lessened(least, circuits);
-    let greatest = season.greatest;
-    let greatest = raised(greatest, circuits);
-    let total = season.total;
-    let total = added(total, circuits);
+    let mut least = season.least;
+    let mut greatest = season.greatest;
+    let mut total = season.total;
+    for (k, count) in circuits.iter().enumerate() {
+        least[k] = least[k].min(*count);
+        greatest[k] = greatest[k].max(*count);
+        total[k] = total[k].wrapping_add(*count as u64);
+    }
     Season {
         taken: season.taken + 1,
         corridors,
-        rounds: std::num::wrapping_add_u64(season.rounds, wide(plan.rounds)),
-        converged: std::num::wrapping_add_u64(season.converged, count(plan.converged)),
+        rounds: season.rounds.wrapping_add(plan.rounds as u64),
+        converged: season.converged.wrapping_add(u64::from(plan.converged)),
         least,
         greatest,
         total,
@@ -130,7 +68,7 @@ fn with_plan(season: Season, plan: CorridorPlan, corridors: usize, circuits: &[u
 fn even_with(season: Season, corridors: usize) -> bool
     ensures { result ≡ even_with season corridors }
 {
-    (season.taken == 0) | (corridors == season.corridors)
+    season.taken == 0 || corridors == season.corridors
 }
 
 #[tactic(auto, unfolding(season_defs::specs::Feeding::check_of))]
@@ -154,24 +92,23 @@ fn check(season: Season, corridors: usize, places: usize) -> Result<(), Refusal>
 
 // ---- the operations
 // A season that has taken no plan.
+#[tactic(auto, unfolding(season_defs::specs::Feeding::begun))]
 pub fn begin() -> Season
     ensures { result ≡ begun }
 {
-    let least = [u32::MAX; MOST_CORRIDORS];
-    let greatest = [0u32; MOST_CORRIDORS];
-    let total = [0u64; MOST_CORRIDORS];
     Season {
         taken: 0,
         corridors: 0,
         rounds: 0,
         converged: 0,
-        least,
-        greatest,
-        total,
+        least: [u32::MAX; MOST_CORRIDORS],
+        greatest: [0; MOST_CORRIDORS],
+        total: [0; MOST_CORRIDORS],
     }
 }
 
 // Takes a plan: its summary and its circuits, as planning leaves them. A refused plan leaves the season as it was.
+#[tactic(auto, using(season_defs::proofs::Checks::passed), unfolding(season_defs::specs::Feeding::feed, season_defs::specs::Feeding::fed_by))]
 pub fn add_plan(season: Season, plan: CorridorPlan, corridors: usize, circuits: &[u32]) -> Fed
     ensures { fed_of result ≡ feed season (draft_of plan corridors circuits.now) }
 {
@@ -190,39 +127,37 @@ pub fn add_plan(season: Season, plan: CorridorPlan, corridors: usize, circuits: 
 fn is_within(season: Season, k: usize) -> bool
     ensures { result ≡ within season k }
 {
-    (0 < season.taken) & (k < season.corridors) & (k < MOST_CORRIDORS)
+    0 < season.taken && k < season.corridors && k < MOST_CORRIDORS
 }
 
 // The figures of corridor k; 0, and 0 over 1, with no plan taken or past the corridors.
+#[tactic(auto, unfolding(season_defs::specs::Feeding::corridor_figures))]
 pub fn corridor_figures(season: Season, k: usize) -> CorridorFigures
     ensures { result ≡ corridor_figures season k }
 {
     if !is_within(season, k) {
-        let mean = Ratio { over: 0, under: 1 };
         return CorridorFigures {
             least: 0,
             greatest: 0,
-            mean,
+            mean: Ratio { over: 0, under: 1 },
         };
     }
-    let mean = in_lowest_terms(season.total[k], wide(season.taken));
     CorridorFigures {
         least: season.least[k],
         greatest: season.greatest[k],
-        mean,
+        mean: in_lowest_terms(season.total[k], season.taken as u64),
     }
 }
 
 // How many plans were taken, their mean rounds and the share that converged.
+#[tactic(auto, unfolding(season_defs::specs::Feeding::season_figures))]
 pub fn season_figures(season: Season) -> SeasonFigures
     ensures { result ≡ season_figures season }
 {
-    let plans = wide(season.taken);
-    let rounds = in_lowest_terms(season.rounds, plans);
-    let converged = in_lowest_terms(season.converged, plans);
+    let plans = season.taken as u64;
     SeasonFigures {
         plans: season.taken,
-        rounds,
-        converged,
+        rounds: in_lowest_terms(season.rounds, plans),
+        converged: in_lowest_terms(season.converged, plans),
     }
 }

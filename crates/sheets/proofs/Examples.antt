@@ -8,7 +8,7 @@ use Rattle.loops.specs.Loops.{tab}
 use Rattle.refusal.specs.declared.Refusal.TheVariants.{Length, Count}
 use Rattle.sheets.specs.Request.{check_of}
 use Rattle.sheets.specs.Sheet.{by_level}
-use Rattle.std.specs.Prelude.{Err, Ok}
+use Rattle.std.specs.Prelude.{Err}
 use Rattle.refusal.specs.Reply.{no_refusal}
 
 abbrev row : ℕ → List Float

@@ -1,6 +1,6 @@
--- The check by its tests, what it passes, and the operation with its check decided. Assumes nothing.
+-- What the check passes, and the operation with its check decided. Assumes nothing.
 use Prim.Native.Nat.{ℕ, ◌*◌, ◌/◌, ◌<◌}
-use mathlib.Core.Bool.{Bool, true, false, cond, ◌&&◌}
+use mathlib.Core.Bool.{Bool, true, false, cond}
 use mathlib.Core.List.{List}
 use mathlib.Core.Path.{◌≡◌, refl, ◌∙◌}
 use native.Mathlib.Omega.{arith}
@@ -17,26 +17,11 @@ use Rattle.refusal.specs.declared.Refusal.TheVariants.{Length, Count}
 use Rattle.sheets.specs.Request.{lengths_ok, counts_ok, check_of, Sized, outcome, laid_by, lay_out}
 use Rattle.sheets.specs.Sheet.{row_figures, line_of, figure_of, by_level}
 use Rattle.sheets.proofs.Layouts.{some_row, line_inside}
-use Rattle.std.specs.Prelude.{Err, Ok}
+use Rattle.std.specs.Prelude.{Err}
 use Rattle.refusal.specs.Reply.{no_refusal}
 
 -- ---- the check
-pub both_tests : {a b c d : Bool} → a ≡ c → b ≡ d → (a && b) ≡ (c && d)
-both_tests e f = λ i. e i && f i
-
 module _ (m n size to : ℕ) where
-  pub not_lengths : lengths_ok m n size to ≡ false → Err Length ≡ check_of m n size to
-  unfolding check_of
-  not_lengths a = rw a
-
-  pub not_counts : lengths_ok m n size to ≡ true → counts_ok m n ≡ false → Err Count ≡ check_of m n size to
-  unfolding check_of
-  not_counts a b = rw (a, b)
-
-  pub all_sound : lengths_ok m n size to ≡ true → counts_ok m n ≡ true → no_refusal ≡ check_of m n size to
-  unfolding check_of
-  all_sound a b = rw (a, b)
-
   pub passed : check_of m n size to ≡ no_refusal → Sized m n size to
   unfolding check_of
   passed e = go (lengths_ok m n size to) (counts_ok m n) refl refl e

@@ -46,36 +46,27 @@ pub fn line_of(corridors: usize, levels: usize, i: usize) -> usize
     row_corridor(corridors, i) * levels + row_level(corridors, i)
 }
 
-// The counts are as given, so that a product of them may not fit: these ask without it.
-fn is_product(total: usize, x: usize, y: usize) -> bool
-    ensures { result ≡ eqb total (x * y) }
-{
-    if x == 0 {
-        return total == 0;
-    }
-    (total / x == y) & (total % x == 0)
-}
-
-// So many figures are the rows of so many corridors and levels.
+// So many figures are the rows of so many corridors and levels. The counts are as given, so that their product may not fit.
 pub fn sheet_ok(figures: usize, corridors: usize, levels: usize) -> bool
     ensures { result ≡ eqb figures (row_figures * (corridors * levels)) }
 {
-    if figures % ROW_FIGURES != 0 {
-        return false;
+    match corridors.checked_mul(levels) {
+        Some(rows) => rows.checked_mul(ROW_FIGURES) == Some(figures),
+        None => false,
     }
-    is_product(figures / ROW_FIGURES, corridors, levels)
 }
 
 fn counts_ok(corridors: usize, levels: usize) -> bool
     ensures { result ≡ counts_ok corridors levels }
 {
-    (1 <= levels) & (levels <= MOST_LEVELS) & (corridors <= MOST_CORRIDORS)
+    1 <= levels && levels <= MOST_LEVELS && corridors <= MOST_CORRIDORS
 }
 
+#[tactic(auto, unfolding(crate::specs::Request::check_of))]
 fn check(corridors: usize, levels: usize, from: usize, to: usize) -> Result<(), Refusal>
     ensures { result ≡ check_of corridors levels from to }
 {
-    if !(sheet_ok(from, corridors, levels) & sheet_ok(to, corridors, levels)) {
+    if !sheet_ok(from, corridors, levels) || !sheet_ok(to, corridors, levels) {
         return Err(Refusal::Length);
     }
     if !counts_ok(corridors, levels) {
@@ -84,6 +75,7 @@ fn check(corridors: usize, levels: usize, from: usize, to: usize) -> Result<(), 
     Ok(())
 }
 
+#[tactic(auto, using(crate::proofs::Operation::line_there))]
 fn figure_at(corridors: usize, levels: usize, rows: &[f64], p: usize) -> f64
     requires { (p < length rows.now) × (length rows.now ≡ row_figures * (corridors * levels)) }
     ensures { result ≡ at rows.now (figure_of corridors levels p) }
@@ -92,14 +84,13 @@ fn figure_at(corridors: usize, levels: usize, rows: &[f64], p: usize) -> f64
     rows[ROW_FIGURES * row + p % ROW_FIGURES]
 }
 
+#[tactic(auto, using(loops::proofs::Tab::fill_start, loops::proofs::Tab::fill_turn))]
 fn fill(corridors: usize, levels: usize, rows: &[f64], sheet: &mut [f64])
     requires { Sized corridors levels (length rows.now) (length sheet.old) }
     ensures { sheet.new ≡ by_level corridors levels rows.now }
 {
-    let mut p = 0;
-    while p < sheet.len() {
-        sheet[p] = figure_at(corridors, levels, rows, p);
-        p += 1;
+    for (p, figure) in sheet.iter_mut().enumerate() {
+        *figure = figure_at(corridors, levels, rows, p);
     }
 }
 

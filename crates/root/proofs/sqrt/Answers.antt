@@ -1,12 +1,9 @@
 -- The laws of `root` carry the promise on bits over to values.
-use mathlib.Core.Path.{sym, subst}
+use Rattle.std.proofs.Common.{sym, subst}
 use lib.Dec.{T}
 use lib.Ieee.{binary64, fits}
-use Rattle.root.proofs.Bits.{to_bits_asks, from_bits_asks, from_bits_gives, nan_gives}
+use Rattle.root.proofs.Bits.{from_bits_asks, from_bits_gives, nan_bits_give}
 use Rattle.root.proofs.sqrt.Goals as goal
-
-pub float_to_bits-x : goal.float_to_bits-x
-float_to_bits-x c = to_bits_asks c.args.x c.if-x.true
 
 pub float_from_bits-result : goal.float_from_bits-result
 float_from_bits-result c =
@@ -18,5 +15,5 @@ returns-then-x c =
     let held : T (fits binary64 c.args.x) = subst T (sym c.well_formed.0.1) tt in
     from_bits_gives c.args.x _ held c.square_root.ensures
 
-pub returns : goal.returns
-returns c = nan_gives c.args.x c.if-x.false
+pub returns-else-x : goal.returns-else-x
+returns-else-x c = nan_bits_give c.args.x c.if-x.false

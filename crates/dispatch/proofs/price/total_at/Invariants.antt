@@ -1,13 +1,8 @@
--- The invariant: the sum so far is that of the outputs passed.
-use Prim.Native.Nat.{◌-◌, ◌≤◌}
-use mathlib.Core.Path.{◌≡◌}
-use lib.ListN.{length}
+-- The invariant: the sum so far is that of the units passed.
+use Rattle.std.proofs.Common.{◌≡◌}
 use Rattle.loops.specs.Loops.{sum_to}
-use Rattle.dispatch_defs.specs.Units.{units_of, output_at}
+use Rattle.dispatch_defs.specs.Units.{output_at}
 use Rattle.dispatch.proofs.price.total_at.Given as goal
 
 abbrev pub invariant-loop-i : goal.invariant-loop-i
-invariant-loop-i l = (l.i ≤ length l.pmin) × (l.sum ≡ sum_to (output_at (units_of l.pmin l.pmax l.c1 l.c2) l.price) l.i)
-
-abbrev pub decreases-loop-i : goal.decreases-loop-i
-decreases-loop-i l = length l.pmin - l.i
+invariant-loop-i l = l.sum ≡ sum_to (output_at l.units l.price) l.i

@@ -1,5 +1,0 @@
--- Each part is what its call answers.
-use Rattle.dispatch.proofs.unit.output.Goals as goal
-
-pub returns : goal.returns
-returns c = cc

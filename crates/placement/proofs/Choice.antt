@@ -28,10 +28,9 @@ farthest_within n loads dist zero h = omega arith
 farthest_within n loads dist (suc i) h = farther_within n loads dist (farthest_to n loads dist i) i (omega arith) (farthest_within n loads dist i (omega arith))
 
 pub farthest_turn : (n : ℕ) (loads dist : List Float) (best r i : ℕ) → i < n → best ≤ n → best ≡ farthest_to n loads dist i → r ≡ farther n loads dist best i
-    → (i + 1 ≤ n) × (r ≤ n) × (r ≡ farthest_to n loads dist (i + 1))
+    → (r ≤ n) × (r ≡ farthest_to n loads dist (i + 1))
 unfolding farthest_to
 farthest_turn n loads dist best r i h k e q = (
-  omega arith,
   rw q (farther_within n loads dist best i h k),
   rw add-one (q ∙ ap (λ (t : ℕ). farther n loads dist t i) e),
 )

@@ -10,7 +10,7 @@ ghost use Rattle.placement.specs.Stages.{Called, Joined, Placing};
 
 use crate::corridors::list_corridors;
 use crate::distance::{NOBODY, REST, distance_to_sources, distance_with_source};
-use crate::{MOST_BUSES, MOST_CORRIDORS, number, wide};
+use crate::{MOST_BUSES, MOST_CORRIDORS};
 
 // A load farther than this from every source gets a condenser: reactive power does not travel far, and voltage control areas span tens to a
 // little over a hundred kilometres (Kundur, Power System Stability and Control, 1994, section 11.2).
@@ -21,13 +21,6 @@ const VOLTAGE_SUPPORT_Q_SHARE: f64 = 0.5;
 
 // The least bank, a small step at 69 to 138 kV (IEEE Std 1036).
 const MIN_SHUNT_BANK_MVAR: f64 = 5.0;
-
-// The distance of a bus that no source reaches.
-fn infinity() -> f64
-    ensures { result ≡ infinity }
-{
-    f64::from_bits(0x7ff0_0000_0000_0000)
-}
 
 // The load of bus i. It is worked out where it is asked for, so that a case of few buses pays for those alone.
 fn load_of(n: usize, reading: &[f64], weight: &[f64], i: usize) -> f64
@@ -50,7 +43,7 @@ fn farther_bus(
     ensures { result ≡ farther n (loads_of n reading.now weight.now) dist.now best i }
 {
     let load = load_of(n, reading, weight, i);
-    if !((0.0 < load) & (dist[i] < infinity())) {
+    if !((0.0 < load) & (dist[i] < loops::infinity())) {
         return best;
     }
     if best >= n {
@@ -65,10 +58,8 @@ fn farthest_bus(n: usize, reading: &[f64], weight: &[f64], dist: &[f64; MOST_BUS
     ensures { result ≡ farthest_to n (loads_of n reading.now weight.now) dist.now n }
 {
     let mut best = n;
-    let mut i = 0;
-    while i < n {
+    for i in 0..n {
         best = farther_bus(n, reading, weight, dist, best, i);
-        i += 1;
     }
     best
 }
@@ -114,7 +105,7 @@ fn join_condensers(
     ensures { Joined (network n m a.now b.now km.now) (loads_of n reading.now weight.now) sources.old buses.old sources.new buses.new result }
 {
     let mut mark = [REST; MOST_BUSES];
-    let mut dist = [infinity(); MOST_BUSES];
+    let mut dist = [loops::infinity(); MOST_BUSES];
     let mut from = [NOBODY; MOST_BUSES];
     distance_to_sources(
         n, m, a, b, km, head, after_a, after_b, sources, &mut mark, &mut dist, &mut from,
@@ -140,7 +131,7 @@ fn join_condensers(
 fn add_load(sum: f64, load: f64, from: u16, bus: u32) -> f64
     ensures { result ≡ added sum load from bus }
 {
-    if number(from) == bus { sum + load } else { sum }
+    if from as u32 == bus { sum + load } else { sum }
 }
 
 // The loads that lie nearest to a bus, added by bus index.
@@ -149,10 +140,8 @@ fn served_by(n: usize, reading: &[f64], weight: &[f64], from: &[u16; MOST_BUSES]
     ensures { result ≡ served_to (loads_of n reading.now weight.now) from.now bus n }
 {
     let mut sum = 0.0;
-    let mut i = 0;
-    while i < n {
+    for i in 0..n {
         sum = add_load(sum, load_of(n, reading, weight, i), from[i], bus);
-        i += 1;
     }
     sum
 }
@@ -202,15 +191,13 @@ fn size_condensers(
         return;
     }
     let mut mark = [REST; MOST_BUSES];
-    let mut dist = [infinity(); MOST_BUSES];
+    let mut dist = [loops::infinity(); MOST_BUSES];
     let mut from = [NOBODY; MOST_BUSES];
     distance_to_sources(
         n, m, a, b, km, head, after_a, after_b, sources, &mut mark, &mut dist, &mut from,
     );
-    let mut k = 0;
-    while k < count {
+    for k in 0..count {
         mvars[k] = mvar_of(n, reading, weight, &from, buses[k]);
-        k += 1;
     }
 }
 
@@ -219,32 +206,8 @@ fn flag_generators(generators: &[u32], sources: &mut [u16; MOST_BUSES])
     requires { Units most_buses generators.now }
     ensures { sources.new ≡ flagged generators.now sources.old }
 {
-    let mut k = 0;
-    while k < generators.len() {
-        let bus = wide(generators[k]);
-        sources[bus] = 1;
-        k += 1;
-    }
-}
-
-// Zero in every place.
-fn clear_buses(buses: &mut [u32])
-    ensures { buses.new ≡ replicate (length buses.old) 0 }
-{
-    let mut i = 0;
-    while i < buses.len() {
-        buses[i] = 0;
-        i += 1;
-    }
-}
-
-fn clear_mvars(mvars: &mut [f64])
-    ensures { mvars.new ≡ replicate (length mvars.old) nought }
-{
-    let mut i = 0;
-    while i < mvars.len() {
-        mvars[i] = 0.0;
-        i += 1;
+    for bus in generators {
+        sources[*bus as usize] = 1;
     }
 }
 
@@ -266,8 +229,8 @@ pub fn place(
     requires called { Called n reading.now weight.now × (length buses.old ≡ n) × (length mvars.old ≡ n) }
     ensures { Placing n m (loads_of n reading.now weight.now) a.now b.now km.now generators.now result buses.new mvars.new }
 {
-    clear_buses(buses);
-    clear_mvars(mvars);
+    buses.fill(0);
+    mvars.fill(0.0);
     let mut sources = [0; MOST_BUSES];
     flag_generators(generators, &mut sources);
     let mut head = [m as u16; MOST_BUSES];

@@ -5,7 +5,7 @@ ghost use Rattle.placement_defs.specs.Request.{most_buses, most_corridors, Net};
 ghost use Rattle.placement_defs.specs.Distance.{network};
 ghost use Rattle.placement.specs.Corridors.{Listed};
 
-use crate::{MOST_BUSES, MOST_CORRIDORS, wide};
+use crate::{MOST_BUSES, MOST_CORRIDORS};
 
 // Puts corridor c before those listed: it is the first at both its ends, and those that were the first come after it.
 fn list_corridor(
@@ -42,11 +42,8 @@ pub fn list_corridors(
     requires listed { Listed (network n m a.now b.now km.now) m head.old after_a.old after_b.old }
     ensures { Listed (network n m a.now b.now km.now) 0 head.new after_a.new after_b.new }
 {
-    let mut left = m;
-    while left > 0 {
-        let c = left - 1;
-        list_corridor(c, wide(a[c]), wide(b[c]), head, after_a, after_b);
-        left = c;
+    for c in (0..m).rev() {
+        list_corridor(c, a[c] as usize, b[c] as usize, head, after_a, after_b);
     }
 }
 

@@ -8,7 +8,7 @@ ghost use Rattle.placement.specs.Blocks.{Numbers, Front};
 
 use crate::blocks::{look_at_blocks, nearest_candidate, reach_bus, settle_bus};
 use crate::corridors::next_corridor;
-use crate::{BLOCKS, MOST_BUSES, MOST_CORRIDORS, index, wide};
+use crate::{BLOCKS, MOST_BUSES, MOST_CORRIDORS};
 
 // The three sets.
 pub const REST: u16 = 0;
@@ -52,10 +52,8 @@ fn place_sources(
     ensures { labels mark.new dist.new from.new
         ≡ iter (seed sources.now) n 0 (labels mark.old dist.old from.old) }
 {
-    let mut i = 0;
-    while i < n {
+    for i in 0..n {
         place_source(i, sources[i], mark, dist, from);
-        i += 1;
     }
 }
 
@@ -129,10 +127,10 @@ fn spread_from(
     ensures front_2 { Front n mark.new dist.new nearest.new }
 {
     settle_bus(n, i, mark, dist, nearest);
-    let mut c = index(head[i]);
+    let mut c = head[i] as usize;
     while c < m {
-        let end = wide(a[c]);
-        consider(n, i, end, wide(b[c]), km[c], mark, dist, from, nearest);
+        let end = a[c] as usize;
+        consider(n, i, end, b[c] as usize, km[c], mark, dist, from, nearest);
         c = next_corridor(end, i, after_a[c], after_b[c]);
     }
 }
@@ -159,8 +157,8 @@ pub fn search(
 {
     let mut nearest = [0; BLOCKS];
     look_at_blocks(n, mark, dist, &mut nearest);
-    let mut k = 0;
-    while k < n {
+    // Each turn settles a bus.
+    for _turn in 0..n {
         let i = nearest_candidate(n, mark, dist, &nearest);
         if i >= n {
             return;
@@ -180,7 +178,6 @@ pub fn search(
             from,
             &mut nearest,
         );
-        k += 1;
     }
 }
 

@@ -6,7 +6,4 @@ use mathlib.Core.Path.{◌≡◌}
 use Rattle.placement.proofs.condenser.farthest_bus.Given as goal
 
 abbrev pub invariant-loop-i : goal.invariant-loop-i
-invariant-loop-i l = (l.i ≤ l.n) × (l.best ≤ l.n) × (l.best ≡ farthest_to l.n (loads_of l.n l.reading l.weight) l.dist l.i)
-
-abbrev pub decreases-loop-i : goal.decreases-loop-i
-decreases-loop-i l = l.n - l.i
+invariant-loop-i l = (l.best ≤ l.n) × (l.best ≡ farthest_to l.n (loads_of l.n l.reading l.weight) l.dist l.i)

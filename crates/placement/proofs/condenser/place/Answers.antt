@@ -19,27 +19,27 @@ pub join_condensers-count-requires : goal.join_condensers-count-requires
 join_condensers-count-requires c =
     let p = c.requires in
     let sources = ap length c.flag_generators.ensures ∙ flagged_length _ _ (length-replicate {A = ℕ} 256 0) in
-    record { net = p.net; listed = c.list_corridors.ensures; called = (p.called.0, sources, c.clear_buses.auto.buses ∙ p.called.1) }
+    record { net = p.net; listed = c.list_corridors.ensures; called = (p.called.0, sources, c.fill.ensures.len ∙ p.called.1) }
 
 pub size_condensers-requires : goal.size_condensers-requires
 size_condensers-requires c =
     let p = c.requires in
     let joined = c.join_condensers-count in
-    record { net = p.net; listed = c.list_corridors.ensures; called = (p.called.0, joined.auto.buses ∙ c.clear_buses.auto.buses ∙ p.called.1, c.clear_mvars.auto.mvars ∙ p.called.2, joined.ensures.few) }
+    record { net = p.net; listed = c.list_corridors.ensures; called = (p.called.0, joined.auto.buses ∙ c.fill.ensures.len ∙ p.called.1, c.fill-2.ensures.len ∙ p.called.2, joined.ensures.few) }
 
 pub shape_of-buses : goal.shape_of-buses
-shape_of-buses c = c.join_condensers-count.auto.buses ∙ c.clear_buses.auto.buses
+shape_of-buses c = c.join_condensers-count.auto.buses ∙ c.fill.ensures.len
 
 pub shape_of-mvars : goal.shape_of-mvars
-shape_of-mvars c = c.size_condensers.auto.mvars ∙ c.clear_mvars.auto.mvars
+shape_of-mvars c = c.size_condensers.auto.mvars ∙ c.fill-2.ensures.len
 
 pub returns : goal.returns
 returns c =
     let start = c in
     let p = start.requires.called in
     placed_is _ _ _ _ _ _ _ start.args.buses.now _ _ _ _ start.args.mvars.now _ _ _ p.1 p.2
-    c.clear_buses.ensures
-    c.clear_mvars.ensures
+    (c.fill.ensures.after (λ y e. e))
+    (c.fill-2.ensures.after (λ y e. e))
     c.flag_generators.ensures
     c.join_condensers-count.ensures
     c.size_condensers.ensures

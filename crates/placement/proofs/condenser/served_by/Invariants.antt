@@ -6,7 +6,4 @@ use mathlib.Core.Path.{◌≡◌}
 use Rattle.placement.proofs.condenser.served_by.Given as goal
 
 abbrev pub invariant-loop-i : goal.invariant-loop-i
-invariant-loop-i l = (l.i ≤ l.n) × (l.sum ≡ served_to (loads_of l.n l.reading l.weight) l.from l.bus l.i)
-
-abbrev pub decreases-loop-i : goal.decreases-loop-i
-decreases-loop-i l = l.n - l.i
+invariant-loop-i l = l.sum ≡ served_to (loads_of l.n l.reading l.weight) l.from l.bus l.i

@@ -9,8 +9,5 @@ use Rattle.placement.proofs.condenser.size_condensers.Given as goal
 
 abbrev pub invariant-loop-k : goal.invariant-loop-k
 invariant-loop-k l =
-    (l.k ≤ l.count) × (length l.mvars ≡ length l.initial.mvars)
+    (length l.mvars ≡ length l.initial.mvars)
     × (iter (size_at (loads_of l.n l.reading l.weight) l.from l.n l.buses) (l.count - l.k) l.k l.mvars ≡ iter (size_at (loads_of l.n l.reading l.weight) l.from l.n l.buses) l.count 0 l.initial.mvars)
-
-abbrev pub decreases-loop-k : goal.decreases-loop-k
-decreases-loop-k l = l.count - l.k

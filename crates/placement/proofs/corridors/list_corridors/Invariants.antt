@@ -1,11 +1,7 @@
--- The invariant: the corridors from `left` on are listed.
-use Prim.Native.Nat.{◌-◌, ◌≤◌}
+-- The invariant: the corridors from c on are listed.
 use Rattle.placement_defs.specs.Distance.{network}
 use Rattle.placement.specs.Corridors.{Listed}
 use Rattle.placement.proofs.corridors.list_corridors.Given as goal
 
-abbrev pub invariant-loop-left : goal.invariant-loop-left
-invariant-loop-left l = (l.left ≤ l.m) × Listed (network l.n l.m l.a l.b l.km) l.left l.head l.after_a l.after_b
-
-abbrev pub decreases-loop-left : goal.decreases-loop-left
-decreases-loop-left l = l.left
+abbrev pub invariant-loop-c : goal.invariant-loop-c
+invariant-loop-c l = Listed (network l.n l.m l.a l.b l.km) l.c l.head l.after_a l.after_b

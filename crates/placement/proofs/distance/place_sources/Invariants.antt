@@ -6,7 +6,4 @@ use mathlib.Core.Path.{◌≡◌}
 use Rattle.placement.proofs.distance.place_sources.Given as goal
 
 abbrev pub invariant-loop-i : goal.invariant-loop-i
-invariant-loop-i l = (l.i ≤ l.n) × (iter (seed l.sources) (l.n - l.i) l.i (labels l.mark l.dist l.from) ≡ iter (seed l.sources) l.n 0 (labels l.initial.mark l.initial.dist l.initial.from))
-
-abbrev pub decreases-loop-i : goal.decreases-loop-i
-decreases-loop-i l = l.n - l.i
+invariant-loop-i l = (iter (seed l.sources) (l.n - l.i) l.i (labels l.mark l.dist l.from) ≡ iter (seed l.sources) l.n 0 (labels l.initial.mark l.initial.dist l.initial.from))

@@ -6,11 +6,7 @@ use Rattle.placement_defs.specs.Distance.{labels, network, turn}
 use Rattle.placement.specs.Blocks.{Front}
 use Rattle.placement.proofs.distance.search.Given as goal
 
-abbrev pub invariant-loop-k : goal.invariant-loop-k
-invariant-loop-k l =
-    (l.k ≤ l.n)
-    × (iter (turn (network l.n l.m l.a l.b l.km)) (l.n - l.k) l.k (labels l.mark l.dist l.from) ≡ iter (turn (network l.n l.m l.a l.b l.km)) l.n 0 (labels l.initial.mark l.initial.dist l.initial.from))
+abbrev pub invariant-loop-turn : goal.invariant-loop-turn
+invariant-loop-turn l =
+    (iter (turn (network l.n l.m l.a l.b l.km)) (l.n - l._turn) l._turn (labels l.mark l.dist l.from) ≡ iter (turn (network l.n l.m l.a l.b l.km)) l.n 0 (labels l.initial.mark l.initial.dist l.initial.from))
     × Front l.n l.mark l.dist l.nearest
-
-abbrev pub decreases-loop-k : goal.decreases-loop-k
-decreases-loop-k l = l.n - l.k

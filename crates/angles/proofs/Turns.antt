@@ -13,7 +13,8 @@ use Rattle.loops.proofs.Parts.{get_part, part_put_apart, length_part, wrote, wro
 use Rattle.loops.proofs.Puts.{set_in_twice}
 use Rattle.angles_defs.specs.Network.{edges_of, Edges, raise, lower, weighed, moved, weigh, carry, scatter, kept, dot, product, zeros}
 use Rattle.angles_defs.proofs.Vectors.{length_zeros, length_scatter, length_kept}
-use Rattle.angles.specs.Rows.{EdgesBelow, weighed_in, moved_in, Wrote}
+use Rattle.angles.specs.Edges.{EdgesBelow}
+use Rattle.angles.specs.Slices.{weighed_in, moved_in, Wrote}
 
 -- a product of two figures that stand in two vectors
 pub product_of : (u v : List Float) (i : ℕ) (a b : Float) → a ≡ at u i → b ≡ at v i → times a b ≡ product u v i

@@ -34,7 +34,7 @@ pub fn line_sheet(
     ensures bounds { WhereAnswered result corridors km.now spread.now }
 {
     check::check(levels, corridors, ladder, km, spread, sheet.len())?;
-        sheet::fill(levels, corridors, ladder, km, spread, sheet);
+    sheet::fill(levels, corridors, ladder, km, spread, sheet);
     Ok(())
 }
 
@@ -51,10 +51,10 @@ pub fn corridor_rows<'a>(
     ensures { result.now ≡ corridor_rows levels corridors count k surveyed.now worked.now }
 {
     if !sheets_ok(levels, corridors, count, surveyed.len(), worked.len()) {
-        return &worked[0..0];
+        return &worked[..0];
     }
     if k >= corridors {
-        return &worked[0..0];
+        return &worked[..0];
     }
     let n = ROW_FIGURES * levels;
     let from = k * n;

@@ -13,7 +13,7 @@ pub loadabilities-load-requires : goal.loadabilities-load-requires
 loadabilities-load-requires c = let s = c in let h : s.args.k + 8 ≤ length s.args.km.now = omega (arith, s.requires.0.km_length, s.requires.1) in h
 
 pub loop-j-init : goal.loop-j-init
-loop-j-init c = let s = c in (omega arith, none_filled _ _ _ _ _ _ _ _ (omega (arith, s.requires.1)) s.requires.2 (add-zero _))
+loop-j-init c = let s = c in none_filled _ _ _ _ _ _ _ _ (omega (arith, s.requires.1)) s.requires.2 (add-zero _)
 
 pub overflow_add-k : goal.overflow_add-k
 overflow_add-k c = omega (arith, c.requires.1, c.loop-j-test.true)
@@ -29,23 +29,20 @@ put_corridor-requires c =
     let s = c in
     let l = c.loop-j in
     let h = c.loop-j-test.true in
-    (s.requires.0, omega (arith, s.requires.1), l.invariant.1.1, ap (λ (z : List Float). at z l.j) c.loadabilities-load.ensures ∙ get_tab 8 (λ (m : ℕ). loadability_of (at s.args.km.now (s.args.k + m))) l.j nan h)
+    (s.requires.0, omega (arith, s.requires.1), l.invariant.1, ap (λ (z : List Float). at z l.j) c.loadabilities-load.ensures ∙ get_tab 8 (λ (m : ℕ). loadability_of (at s.args.km.now (s.args.k + m))) l.j nan h)
 
 pub loop-j-preserved : goal.loop-j-preserved
 loop-j-preserved c =
-    let s = c in
+    let s = c.args in
     let l = c.loop-j in
-    let p = c.put_corridor in (
-      search rules,
-      more_filled s.args.levels s.args.corridors s.args.ladder.now s.args.km.now s.args.spread.now s.args.k (s.args.k + l.j) _ _ s.args.sheet.now l.sheet _
-          (omega (arith, s.requires.1, c.loop-j-test.true)) p.auto.sheet p.ensures (omega arith) l.invariant.1,
-    )
+    let p = c.put_corridor in
+    more_filled s.levels s.corridors s.ladder.now s.km.now s.spread.now s.k (s.k + l.j) _ _ s.sheet.now l.sheet _ (omega (arith, c.requires.1)) p.auto.sheet p.ensures (omega arith) l.invariant
 
 pub shape_of-sheet : goal.shape_of-sheet
-shape_of-sheet c = c.loop-j.invariant.1.1 ∙ sym c.requires.2
+shape_of-sheet c = c.loop-j.invariant.1 ∙ sym c.requires.2
 
 pub returns : goal.returns
 returns c =
     let s = c in
     let l = c.loop-j in
-    filled_to_lem s.args.levels s.args.corridors s.args.ladder.now s.args.km.now s.args.spread.now s.args.k _ _ s.args.sheet.now _ (omega (arith, l.invariant.0, c.loop-j-test.false)) l.invariant.1
+    filled_to_lem s.args.levels s.args.corridors s.args.ladder.now s.args.km.now s.args.spread.now s.args.k _ _ s.args.sheet.now _ (omega arith) l.invariant

@@ -12,7 +12,7 @@ use Rattle.loops.proofs.Scan.{all_pass, fault_some, fault_passed}
 use Rattle.loops.specs.Loops.{first, fault}
 use Rattle.refusal.specs.declared.Refusal.TheVariants.{Length, Count, Bus, Generator, Corridor}
 use Rattle.placement_defs.specs.Request.{Request, Net, Units, lengths_ok, counts_ok, load_at, bus_ok, corridor_at, first_load, first_generator, first_corridor, faulty_row, check_of}
-use Rattle.std.specs.Prelude.{Err, Ok, Result, Some, None}
+use Rattle.std.specs.Prelude.{Err, Result, Some, None}
 use Rattle.refusal.specs.declared.Refusal.{Refusal}
 use Rattle.refusal.specs.Reply.{no_refusal}
 

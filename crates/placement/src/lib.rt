@@ -5,13 +5,15 @@ ghost use Rattle.std.specs.Prelude.{◌≡◌};
 ghost use Rattle.placement_defs.specs.Request.{request_of};
 ghost use Rattle.placement_defs.specs.Support.{outcome, placement};
 
+use crate::network::Network;
 use refusal::Refusal;
 
 mod blocks;
 mod check;
 mod condenser;
-mod corridors;
 mod distance;
+mod labels;
+mod network;
 
 const MOST_BUSES: usize = 256;
 
@@ -53,5 +55,6 @@ pub fn place_voltage_support(
         buses.len(),
         mvars.len(),
     )?;
-    Ok(condenser::place(n, m, reading, weight, a, b, km, generators, buses, mvars))
+    let network = Network::new(n, reading, weight, a, b, km);
+    Ok(condenser::place(&network, generators, buses, mvars))
 }

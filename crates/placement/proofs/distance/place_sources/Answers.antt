@@ -1,8 +1,6 @@
 use Rattle.loops.proofs.Loops.{iter_all, iter_more, iter_end}
-use Prim.Native.Nat.{◌-◌}
 use mathlib.Core.Path.{sym, ◌∙◌}
 use native.Mathlib.Omega.{arith}
-use borrow.Author.Rules.{rules}
 use Rattle.placement.proofs.distance.place_sources.Goals as goal
 
 pub loop-i-init : goal.loop-i-init

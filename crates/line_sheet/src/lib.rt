@@ -19,6 +19,7 @@ mod rows;
 mod sheet;
 mod spread;
 mod tables;
+mod whole;
 mod wide;
 
 // Writes a row for each corridor and level: r, x, b, rate, basis (0 thermal, 1 loadability), all levels of corridor 0 first. Reads

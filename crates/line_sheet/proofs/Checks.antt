@@ -1,22 +1,18 @@
 -- The tests of module check: a product that is asked without being made, a level by its place, and what passes. Assumes nothing.
-use Rattle.std.proofs.Common.{◌≡◌, ℕ, ◌+◌, ◌*◌, ◌/◌, ◌%◌, ◌<◌, ◌≤◌, Bool, true, false, cond, ◌&&◌, ◌||◌, T, eqb, ltb, leb, List, length, sym, refl, ap, arith, ltb-false, le-ltb, lt-ltb, eqb-true, le-leb}
+use Rattle.std.proofs.Common.{◌≡◌, ℕ, ◌+◌, ◌*◌, ◌<◌, ◌≤◌, Bool, true, false, cond, ◌&&◌, ◌||◌, T, eqb, ltb, leb, List, length, sym, refl, ap, arith, ltb-false, eqb-true, le-leb}
 use borrow.Author.Tests.{lt-leb}
 use lib.Ieee.{Float, lt, le, of_bits}
 use lib.Ieee.Positive.{num, den, positive, le→cross, between}
 use Rattle.loops.specs.Figures.{at, plus, nought, ten_thousand, millionth, inside}
 use Rattle.loops.proofs.Bools.{both, and_true, or_left, is, unequal}
-use Rattle.loops.proofs.Products.{rows_are}
 use Rattle.loops.proofs.Scan.{all_pass}
 use Rattle.refusal.specs.declared.Refusal.{Refusal}
 use Rattle.refusal.specs.declared.Refusal.TheVariants.{Length, Count, Level, Corridor, Spread as Width}
 use Rattle.line_defs.specs.Bounds.{Spread}
 use Rattle.line_defs.specs.Rows.{counts_ok, sheet_figures}
 use Rattle.line_defs.specs.Request.{lengths_ok, level_ok, length_ok, spread_ok, quarter, four, faulty, fault_in, check_of, Sound}
-use Rattle.std.specs.Prelude.{Err, Ok, Result}
+use Rattle.std.specs.Prelude.{Err, Result}
 use Rattle.refusal.specs.Reply.{no_refusal}
-
-pub sheet_is : (figures levels corridors : ℕ) → figures % 5 ≡ 0 → eqb (figures / 5) (corridors * levels) ≡ eqb figures (sheet_figures levels corridors)
-sheet_is figures levels corridors e = rows_are 5 figures (corridors * levels) e (λ e. let z : ◌≡◌ {A = ℕ} 5 0 = e in omega arith)
 
 -- ---- a level that is the last, or is above the next
 module _ (ladder : List Float) (i : ℕ) where

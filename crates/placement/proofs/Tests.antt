@@ -3,10 +3,9 @@
 use mathlib.Core.Path.{◌≡◌, refl, sym, ap, ◌∙◌}
 use mathlib.Core.Bool.{Bool, true, false, not, ◌&&◌, ◌||◌}
 use mathlib.Core.List.{List}
-use Prim.Native.Nat.{ℕ, ◌<◌, ◌≤◌}
+use Prim.Native.Nat.{ℕ, ◌<◌}
 use native.Mathlib.Omega.{arith}
-use native.Mathlib.Nat.{le_antisymm}
-use borrow.Author.Tests.{eq-eqb, ne_eqb, eqb-false, ltb-true, not-true}
+use borrow.Author.Tests.{ne_eqb, eqb-false, ltb-true, not-true}
 use lib.Dec.{eqb, ltb}
 use lib.ListN.{get_or}
 use lib.Ieee.{Float, lt, le}
@@ -17,10 +16,7 @@ use Rattle.std.specs.Option.{ForSome}
 use Rattle.placement_defs.specs.Request.{Net, corridor_ok}
 use Rattle.placement_defs.specs.Distance.{Labels, settled, shortens, far_end, considered, offered, reached}
 
--- a choice that is none, and one that is a bus
-pub none_chosen : (best n : ℕ) → best ≤ n → n ≤ best → eqb best n ≡ true
-none_chosen best n h k = eq-eqb best n (le_antisymm h k)
-
+-- a choice that is a bus
 pub some_chosen : (best n : ℕ) → best < n → eqb best n ≡ false
 some_chosen best n h = ne_eqb best n (λ e. omega arith)
 

@@ -1,7 +1,5 @@
-use Rattle.std.proofs.Common.{◌≡◌, true, length, sym, ◌∙◌, arith, rules}
-use borrow.Author.Tests.{not-true, not-false}
-use Rattle.line_defs.specs.Rows.{sheets_ok}
-use Rattle.line_sheet.proofs.Sheets.{Sheets, sheets_of, figures_most, rows_end, no_sheets, no_corridor, of_surveyed, of_worked}
+use Rattle.std.proofs.Common.{sym, ◌∙◌, arith}
+use Rattle.line_sheet.proofs.Sheets.{sheets_of, figures_most, rows_end, no_sheets, no_corridor, of_surveyed, of_worked}
 use Rattle.line_sheet.proofs.corridor_rows.Goals as goal
 
 pub returns-then-not-sheets_ok : goal.returns-then-not-sheets_ok

@@ -1,4 +1,4 @@
-use Rattle.std.proofs.Common.{sym, ◌∙◌, lt-ltb, le-ltb}
+use Rattle.std.proofs.Common.{lt-ltb, le-ltb}
 use Rattle.loops.proofs.Scan.{fault_some, fault_passed}
 use Rattle.line_defs.specs.Request.{faulty, check_of}
 use Rattle.line_sheet.proofs.check.check.Goals as goal

@@ -1,5 +1,4 @@
 use Rattle.std.proofs.Common.{T, sym, ◌∙◌, subst, lit≤}
-use lib.Ieee.{binary64, fits}
 use Rattle.line_defs.proofs.Grids.{steps_ask, steps_give, two_54}
 use Rattle.line_sheet.proofs.grid.steps_of_spread.Goals as goal
 

@@ -1,4 +1,4 @@
-use Rattle.std.proofs.Common.{◌-◌, refl, ⊎_elim, arith}
+use Rattle.std.proofs.Common.{refl, ⊎_elim, arith}
 use Rattle.line_sheet.proofs.Worths.{differ, agree, last_limb, worth_none}
 use Rattle.line_sheet.proofs.limbs.at_most.Goals as goal
 

@@ -1,4 +1,3 @@
-use Rattle.std.proofs.Common.{◌-◌}
 use Rattle.line_sheet.proofs.Worths.{Compared}
 use Rattle.line_sheet.proofs.limbs.at_most.Given as goal
 

@@ -1,4 +1,3 @@
-use Rattle.std.proofs.Common.{◌-◌}
 use Rattle.line_sheet.proofs.Worths.{Powered}
 use Rattle.line_sheet.proofs.limbs.power.Given as goal
 

@@ -1,4 +1,4 @@
-use Rattle.std.proofs.Common.{◌-◌, get_or, refl, arith}
+use Rattle.std.proofs.Common.{get_or, refl, arith}
 use Rattle.line_sheet.proofs.Worths.{column_most, next_column, last_column, first_column}
 use Rattle.line_sheet.proofs.limbs.shifted_sum.Goals as goal
 

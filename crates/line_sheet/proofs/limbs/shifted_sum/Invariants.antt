@@ -1,4 +1,3 @@
-use Rattle.std.proofs.Common.{◌-◌}
 use Rattle.line_sheet.proofs.Worths.{Columns}
 use Rattle.line_sheet.proofs.limbs.shifted_sum.Given as goal
 

@@ -1,4 +1,3 @@
-use Rattle.std.proofs.Common.{◌-◌}
 use Rattle.line_sheet.proofs.Lanes.{on_start, on_turning, on_turn, on_last}
 use Rattle.line_sheet.proofs.loadability.count_of.Goals as goal
 

@@ -1,4 +1,3 @@
-use Rattle.std.proofs.Common.{◌-◌}
 use Rattle.line_sheet.proofs.Lanes.{On}
 use Rattle.line_sheet.proofs.loadability.count_of.Given as goal
 

@@ -1,4 +1,4 @@
-use Rattle.std.proofs.Common.{◌-◌, refl, arith, rules}
+use Rattle.std.proofs.Common.{refl, arith}
 use Rattle.loops.proofs.Tab.{fill_start, fill_turn, fill_end}
 use Rattle.line_sheet.proofs.loadability.loadabilities.Goals as goal
 

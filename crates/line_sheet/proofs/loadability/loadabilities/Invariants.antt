@@ -1,4 +1,4 @@
-use Rattle.std.proofs.Common.{◌≡◌, ℕ, ◌+◌, ◌-◌, ◌≤◌, length}
+use Rattle.std.proofs.Common.{◌≡◌, ℕ, ◌+◌, length}
 use Rattle.loops.specs.Figures.{at}
 use Rattle.loops.specs.Loops.{filled}
 use Rattle.line_defs.specs.Loadability.{loadability_of}

@@ -1,6 +1,6 @@
 use Rattle.line_defs.specs.Bounds.{Knots}
 use Rattle.line_defs.specs.declared.Segment.{Segment}
-use Rattle.std.proofs.Common.{◌≡◌, ℕ, ◌+◌, ◌-◌, ◌*◌, ◌/◌, ◌^◌, ◌<◌, ◌≤◌, sym, ap, le_of_eq, lt_of_le_of_lt, arith, rules}
+use Rattle.std.proofs.Common.{◌≡◌, ℕ, ◌+◌, ◌-◌, ◌*◌, ◌/◌, ◌^◌, ◌<◌, ◌≤◌, sym, ap, le_of_eq, lt_of_le_of_lt, arith}
 use Rattle.line_defs.specs.Loadability.{middle}
 use Rattle.line_defs.proofs.Between.{covers, mid_most}
 use Rattle.line_sheet.proofs.loadability.middle.Goals as goal

@@ -1,4 +1,4 @@
-use Rattle.std.proofs.Common.{ℕ, ◌≡◌, Bool, true, false, not, cond, refl, arith, le-leb}
+use Rattle.std.proofs.Common.{◌≡◌, Bool, true, false, not, cond, refl, arith, le-leb}
 use borrow.Author.Tests.{lt-leb}
 use mir.Val.{bool_byte}
 use Rattle.line_sheet.proofs.Turns.{square_most}

@@ -1,6 +1,5 @@
-use Rattle.std.proofs.Common.{◌≡◌, true, sym, ◌∙◌, arith, le-leb}
-use Rattle.line_defs.specs.Rows.{counts_ok}
-use Rattle.line_sheet.proofs.Sheets.{Counts, counts_of, sheet_most, bad_counts, bad_surveyed, good_counts}
+use Rattle.std.proofs.Common.{sym, ◌∙◌, arith, le-leb}
+use Rattle.line_sheet.proofs.Sheets.{counts_of, sheet_most, bad_counts, bad_surveyed, good_counts}
 use Rattle.line_sheet.proofs.rows.sheets_ok.Goals as goal
 
 pub returns-then-not-counts_ok : goal.returns-then-not-counts_ok

@@ -1,4 +1,4 @@
-use Rattle.std.proofs.Common.{◌-◌, sym, refl, ◌∙◌, arith}
+use Rattle.std.proofs.Common.{sym, refl, ◌∙◌, arith}
 use Rattle.line_sheet.proofs.Sheets.{counts_of}
 use Rattle.line_sheet.proofs.Filling.{none_filled, more_filled, all_filled}
 use Rattle.line_sheet.proofs.sheet.fill.Goals as goal

@@ -1,4 +1,4 @@
-use Rattle.std.proofs.Common.{◌-◌, ◌∙◌, arith}
+use Rattle.std.proofs.Common.{◌∙◌, arith}
 use Rattle.line_sheet.proofs.Checks.{spread_of_lem}
 use Rattle.line_sheet.proofs.Sheets.{rows_small}
 use Rattle.line_sheet.proofs.Filling.{no_rows, row_fits_in, one_row, all_rows}

@@ -1,4 +1,3 @@
-use Rattle.std.proofs.Common.{◌-◌}
 use Rattle.line_sheet.proofs.Filling.{Rows}
 use Rattle.line_sheet.proofs.sheet.put_corridor.Given as goal
 

@@ -1,4 +1,4 @@
-use Rattle.std.proofs.Common.{ℕ, ◌+◌, ◌-◌, ◌≤◌, List, length, sym, ap, ◌∙◌, add-zero, arith, rules}
+use Rattle.std.proofs.Common.{ℕ, ◌+◌, ◌≤◌, List, length, sym, ap, ◌∙◌, add-zero, arith}
 use lib.Ieee.{Float, nan}
 use Rattle.loops.specs.Figures.{at}
 use Rattle.loops.proofs.Tab.{get_tab}

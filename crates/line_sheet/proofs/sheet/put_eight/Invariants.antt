@@ -1,4 +1,4 @@
-use Rattle.std.proofs.Common.{◌+◌, ◌-◌, ◌≤◌}
+use Rattle.std.proofs.Common.{◌+◌}
 use Rattle.line_sheet.proofs.Filling.{Filled}
 use Rattle.line_sheet.proofs.sheet.put_eight.Given as goal
 

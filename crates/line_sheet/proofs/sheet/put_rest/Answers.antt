@@ -1,4 +1,4 @@
-use Rattle.std.proofs.Common.{◌-◌, sym, refl, ◌∙◌, arith, rules}
+use Rattle.std.proofs.Common.{sym, refl, ◌∙◌, arith, rules}
 use Rattle.line_sheet.proofs.Filling.{none_filled, more_filled, filled_to_lem}
 use Rattle.line_sheet.proofs.sheet.put_rest.Goals as goal
 

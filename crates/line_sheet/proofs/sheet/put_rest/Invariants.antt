@@ -1,4 +1,3 @@
-use Rattle.std.proofs.Common.{◌-◌}
 use Rattle.line_sheet.proofs.Filling.{Filled}
 use Rattle.line_sheet.proofs.sheet.put_rest.Given as goal
 

@@ -1,4 +1,4 @@
-use Rattle.std.proofs.Common.{◌-◌, sym, refl, ◌∙◌, arith, lit<}
+use Rattle.std.proofs.Common.{sym, refl, ◌∙◌, arith, lit<}
 use Rattle.line_sheet.proofs.Halving.{cube_fits, fifth_fits, whole_range, upper_part, lower_part, halved}
 use Rattle.line_sheet.proofs.spread.searched.Goals as goal
 

@@ -19,7 +19,7 @@ use Rattle.root.proofs.Correct.{root_positive}
 use Rattle.root.proofs.Monotone.{root_mono}
 use Rattle.root.proofs.Squares.{root_of_above}
 use Rattle.root.proofs.Units.{positive_unsigned, lt_cross}
-use Rattle.angles.specs.Rows.{SurelyBeyond}
+use Rattle.angles.specs.Bounds.{SurelyBeyond}
 
 -- above a positive bound, at most t, which is at most the bound
 clash : (bound r t : Float) → T (positive bound) → T (lt bound r) → T (le bound r) → T (le r t) → T (le t bound) → ⊥

@@ -1,41 +1,46 @@
 -- The operation's beginning and end: the calls that set the rows up, what is handed out, and which requests come to it.
 -- Each call sets one row of what the call before it left; the check's verdict is the definition's.
-use Prim.Native.Nat.{ℕ, ◌*◌, ◌<◌, ◌≤◌}
-use mathlib.Core.Bool.{Bool, true, false}
+use Prim.Native.Nat.{ℕ, ◌*◌}
+use mathlib.Core.Bool.{Bool}
 use mathlib.Core.Path.{◌≡◌, refl, sym, ap, ◌∙◌}
 use mathlib.Core.List.{List, [], ◌∷◌}
-use mathlib.Core.Option.{Option, none, some}
 use native.Mathlib.Omega.{arith}
 use borrow.Author.Tests.{lt-ltb, le-ltb}
-use lib.Dec.{lit<, ltb}
+use Rattle.loops.proofs.Scan.{fault_some, fault_passed}
+use lib.Dec.{lit<}
 use lib.Ieee.{Float, nan}
 use lib.ListN.{length, set, replicate}
 use Rattle.loops.specs.Figures.{nought}
-use Rattle.loops.specs.Loops.{iter, first}
+use Rattle.loops.specs.Loops.{iter, first, fault}
 use Rattle.loops.specs.Parts.{part, put, rows}
 use Rattle.loops.proofs.Tab.{tab_replicate}
-use Rattle.loops.proofs.Parts.{put_whole}
 use Rattle.loops.proofs.Rows.{row_of, rows_wrote, rows_same}
 use Rattle.refusal.specs.declared.Refusal.{Refusal}
 use Rattle.refusal.specs.declared.Refusal.TheVariants.{NotFinite}
 use Rattle.angles_defs.specs.Network.{Edges, zeros, ground, grounded_of, weigh, diag_of, kept}
 use Rattle.angles_defs.specs.Solve.{Solved, solve_from, solve}
-use Rattle.angles_defs.specs.Operation.{Request, Outcome, outcome, fault, finite_at, finish_if, finish_at, finish, solve_of, dc_angles}
+use Rattle.angles_defs.specs.Operation.{Request, Outcome, outcome, check_of, finite_at, finish_if, finish_at, finish, solve_of, dc_angles}
 use Rattle.angles_defs.specs.declared.Solution.{Solution}
-use Rattle.angles_defs.proofs.Vectors.{length_zeros, length_grounded, length_diag, length_kept}
-use Rattle.angles_defs.proofs.Answers.{Sound}
-use Rattle.angles.specs.Rows.{row, network_in, solved_in, start_rows, HandedOut, EdgesBelow, GroundsBelow}
-use Rattle.std.specs.Prelude.{Err, Ok}
+use Rattle.angles_defs.proofs.Vectors.{length_grounded, length_diag, length_kept}
+use Rattle.angles_defs.proofs.Answers.{Sound, sound_of}
+use Rattle.angles.specs.Rows.{row, network_in, solved_in, start_rows, given_or_zeros, HandedOut}
+use Rattle.angles.specs.Edges.{EdgesBelow, GroundsBelow}
+use Rattle.refusal.specs.Reply.{no_refusal}
+use Rattle.std.specs.Prelude.{Err, Ok, Result, Option, Some, None}
+
+-- ---- what was filled with zeros
+zeroed : (w w' : List Float) (k : ℕ) → length w ≡ k → w' ≡ replicate (length w) nought → w' ≡ zeros k
+zeroed w w' k l e = e ∙ ap (λ (j : ℕ). replicate j nought) l
 
 -- ---- the rows are set up
-zero_rows : (n : ℕ) (w₀ w₁ : List Float) → length w₀ ≡ 8 * n → w₁ ≡ put w₀ 0 (zeros (8 * n)) → rows 8 n w₁ ≡ replicate 8 (zeros n)
-zero_rows n w₀ w₁ len e =
-    rows_same nan 8 n nought w₁ (e ∙ put_whole w₀ (zeros (8 * n)) (length_zeros (8 * n) ∙ sym len) ∙ sym (tab_replicate (8 * n) nought))
+zero_rows : (n : ℕ) (w₁ : List Float) → w₁ ≡ zeros (8 * n) → rows 8 n w₁ ≡ replicate 8 (zeros n)
+zero_rows n w₁ e =
+    rows_same nan 8 n nought w₁ (e ∙ sym (tab_replicate (8 * n) nought))
     ∙ ap (replicate 8) (tab_replicate n nought)
 
 pub set_up_calls : (n : ℕ) (E : Edges) (grounds : List ℕ) (injection guess w₀ w₁ w₂ w₃ w₄ w₅ : List Float)
     → length w₀ ≡ 8 * n → length w₁ ≡ length w₀ → length w₂ ≡ length w₁ → length w₃ ≡ length w₂ → length w₄ ≡ length w₃
-    → w₁ ≡ put w₀ 0 (zeros (8 * n))
+    → w₁ ≡ replicate (length w₀) nought
     → w₂ ≡ put w₁ (1 * n) (iter (ground grounds) (length grounds) 0 (part (1 * n) n w₁))
     → w₃ ≡ put w₂ (2 * n) (iter (weigh E) (length E.from) 0 (part (2 * n) n w₂))
     → w₄ ≡ put w₃ 0 (kept n (part (1 * n) n w₃) injection)
@@ -58,7 +63,7 @@ set_up_calls n E grounds injection guess w₀ w₁ w₂ w₃ w₄ w₅ len k₁ 
     x = kept n g guess
 
     R₁ : rows 8 n w₁ ≡ replicate 8 (zeros n)
-    R₁ = zero_rows n w₀ w₁ len e₁
+    R₁ = zero_rows n w₁ (zeroed w₀ w₁ (8 * n) len e₁)
 
     R₂ : rows 8 n w₂ ≡ zeros n ∷ g ∷ zeros n ∷ zeros n ∷ zeros n ∷ zeros n ∷ zeros n ∷ zeros n ∷ []
     R₂ =
@@ -79,24 +84,18 @@ set_up_calls n E grounds injection guess w₀ w₁ w₂ w₃ w₄ w₅ len k₁ 
         (rw (row_of 8 n 1 (1 * n) w₄ refl (lit< tt), l₄, R₃) at e₅)
 
 -- ---- the angles are handed out
-zeroed : (w w' : List Float) (k : ℕ) → length w ≡ k → w' ≡ put w 0 (zeros k) → w' ≡ zeros k
-zeroed w w' k l e = e ∙ put_whole w (zeros k) (length_zeros k ∙ sym l)
-
-module _ (n bus : ℕ) (w w' y y' : List Float) (lw : length w ≡ 8 * n) (ly : length y ≡ n)
-    (e : bus ≡ first (finite_at (part (3 * n) n w)) n 0) (ew : w' ≡ put w 0 (zeros (8 * n))) where
+module _ (n : ℕ) (w w' y y' : List Float) (lw : length w ≡ 8 * n) (ew : w' ≡ replicate (length w) nought) where
   x_row : part (3 * n) n w ≡ row (rows 8 n w) 3
   x_row = row_of 8 n 3 (3 * n) w refl (lit< tt)
 
-  found_in : bus ≡ first (finite_at (row (rows 8 n w) 3)) n 0
-  found_in = e ∙ ap (λ (v : List Float). first (finite_at v) n 0) x_row
+  found_in : (bus : Option ℕ) → bus ≡ fault (finite_at (part (3 * n) n w)) n → bus ≡ fault (finite_at (row (rows 8 n w) 3)) n
+  found_in bus e = e ∙ ap (λ (v : List Float). fault (finite_at v) n) x_row
 
-  pub hand_zeros : bus < n → y' ≡ put y 0 (zeros n) → HandedOut n (row (rows 8 n w) 3) bus y' w'
-  hand_zeros l ey =
-      record { found = found_in; given = zeroed y y' n ly ey ∙ rw (lt-ltb bus n l); cleared = zeroed w w' (8 * n) lw ew }
+  pub hand_zeros : (bus : ℕ) → Some bus ≡ fault (finite_at (part (3 * n) n w)) n → length y ≡ n → y' ≡ replicate (length y) nought → HandedOut n (row (rows 8 n w) 3) (Some bus) y' w'
+  hand_zeros bus e ly ey = record { found = found_in (Some bus) e; given = zeroed y y' n ly ey; cleared = zeroed w w' (8 * n) lw ew }
 
-  pub hand_angles : n ≤ bus → y' ≡ part (3 * n) n w → HandedOut n (row (rows 8 n w) 3) bus y' w'
-  hand_angles l ey =
-      record { found = found_in; given = ey ∙ x_row ∙ rw (le-ltb bus n l); cleared = zeroed w w' (8 * n) lw ew }
+  pub hand_angles : None ≡ fault (finite_at (part (3 * n) n w)) n → y' ≡ part (3 * n) n w → HandedOut n (row (rows 8 n w) 3) None y' w'
+  hand_angles e ey = record { found = found_in None e; given = ey ∙ x_row; cleared = zeroed w w' (8 * n) lw ew }
 
 -- ---- the answer
 solved_by : (n : ℕ) (E : Edges) (grounds : List ℕ) (injection guess : List Float) (R₁ R₂ : List (List Float)) (s : Solution)
@@ -105,49 +104,58 @@ solved_by : (n : ℕ) (E : Edges) (grounds : List ℕ) (injection guess : List F
 unfolding start_rows solve
 solved_by n E grounds injection guess R₁ R₂ s a b = b ∙ ap (λ (R : List (List Float)). solve_from (network_in n E R) (row R 0) (row R 3)) a
 
-module _ (n : ℕ) (E : Edges) (grounds : List ℕ) (injection guess : List Float) (R₁ R₂ : List (List Float)) (s : Solution) (bus : ℕ) (y w : List Float)
+module _ (n : ℕ) (E : Edges) (grounds : List ℕ) (injection guess : List Float) (R₁ R₂ : List (List Float)) (s : Solution) (bus : Option ℕ) (y w : List Float)
     (a : R₁ ≡ start_rows n E grounds injection guess) (b : solved_in R₂ s ≡ solve_from (network_in n E R₁) (row R₁ 0) (row R₁ 3)) (H : HandedOut n (row R₂ 3) bus y w) where
-  done : finish_at n (solved_in R₂ s) bus ≡ finish n (solve n E grounds injection guess)
-  done = ap (λ (k : ℕ). finish_at n (solved_in R₂ s) k) H.found ∙ ap (λ (o : Solved). finish n o) (solved_by n E grounds injection guess R₁ R₂ s a b)
+  done : finish n (solved_in R₂ s) ≡ finish n (solve n E grounds injection guess)
+  done = ap (λ (o : Solved). finish n o) (solved_by n E grounds injection guess R₁ R₂ s a b)
 
-  pub answer_refused : bus < n → outcome (Err (NotFinite bus)) y w ≡ finish n (solve n E grounds injection guess)
+  pub answer_refused : (k : ℕ) → bus ≡ Some k → outcome (Err (NotFinite k)) y w ≡ finish n (solve n E grounds injection guess)
   unfolding finish_if
-  answer_refused l =
-      let t : ltb bus n ≡ true = lt-ltb bus n l in
-      ap (λ (u : List Float). outcome (Err (NotFinite bus)) u w) (H.given ∙ rw t)
-      ∙ ap (λ (u : List Float). outcome (Err (NotFinite bus)) (zeros n) u) H.cleared
-      ∙ ap (λ (p : Bool). finish_if p n (solved_in R₂ s) bus) (sym t)
+  answer_refused k h =
+      let f = fault_some (finite_at (row R₂ 3)) n k (sym h ∙ H.found) in
+      ap (λ (u : List Float). outcome (Err (NotFinite k)) u w) (H.given ∙ ap (given_or_zeros n (row R₂ 3)) h)
+      ∙ ap (λ (u : List Float). outcome (Err (NotFinite k)) (zeros n) u) H.cleared
+      ∙ ap (λ (p : Bool). finish_if p n (solved_in R₂ s) k) (sym (lt-ltb k n f.1))
+      ∙ ap (λ (i : ℕ). finish_at n (solved_in R₂ s) i) f.0
       ∙ done
 
-  pub answer_given : n ≤ bus → outcome (Ok s) y w ≡ finish n (solve n E grounds injection guess)
+  pub answer_given : bus ≡ None → outcome (Ok s) y w ≡ finish n (solve n E grounds injection guess)
   unfolding finish_if
-  answer_given l =
-      let t : ltb bus n ≡ false = le-ltb bus n l in
-      ap (λ (u : List Float). outcome (Ok s) u w) (H.given ∙ rw t)
+  answer_given h =
+      let f = fault_passed (finite_at (row R₂ 3)) n (sym h ∙ H.found) in
+      ap (λ (u : List Float). outcome (Ok s) u w) (H.given ∙ ap (given_or_zeros n (row R₂ 3)) h)
       ∙ ap (λ (u : List Float). outcome (Ok s) (row R₂ 3) u) H.cleared
-      ∙ ap (λ (p : Bool). finish_if p n (solved_in R₂ s) bus) (sym t)
+      ∙ ap (λ (p : Bool). finish_if p n (solved_in R₂ s) (first (finite_at (row R₂ 3)) n 0)) (sym (le-ltb (first (finite_at (row R₂ 3)) n 0) n f))
       ∙ done
 
 -- ---- the operation
-module _ (q : Request) (result work : List Float) (f : Option Refusal) (e : f ≡ fault q (length result) (length work)) where
-  pub angles_refused : (x : Refusal) → f ≡ some x → outcome (Err x) result work ≡ dc_angles q result work
+module _ (q : Request) (result work : List Float) (v : Result (Unit {0}) Refusal) (e : v ≡ check_of q (length result) (length work)) where
+  pub angles_refused : (f : Refusal) → v ≡ Err f → outcome (Err f) result work ≡ dc_angles q result work
   unfolding dc_angles
-  angles_refused x h = rw (sym e ∙ h)
+  angles_refused f h = rw (sym e ∙ h)
 
-  pub angles_answered : (o : Outcome) → f ≡ none → o ≡ finish q.n (solve_of q) → o ≡ dc_angles q result work
+  pub angles_answered : (o : Outcome) → v ≡ no_refusal → o ≡ finish q.n (solve_of q) → o ≡ dc_angles q result work
   unfolding dc_angles
   angles_answered o h d = rw (sym e ∙ h) d
 
 -- what `answer` asks of a request that is not refused
-pub sound_edges : (q : Request) (r w : ℕ) → Sound q r w → EdgesBelow q.n q.edges.from q.edges.to q.edges.weight
-sound_edges q r w S =
+pub record Passed (q : Request) (result work : ℕ) : Type 0 where
+  pub sound : Sound q result work
+  pub edges : EdgesBelow q.n q.edges.from q.edges.to q.edges.weight
+  pub grounds : GroundsBelow q.n q.grounds
+
+pub passed : (q : Request) (result work : ℕ) → no_refusal ≡ check_of q result work → Passed q result work
+passed q result work e =
+    let S = sound_of q result work (sym e) in
     let L = S.lengths in
     record {
-      to_count = L.to ∙ sym L.from;
-      weight_count = L.weight ∙ sym L.from;
-      from_below = λ e l. S.from_below e (rw L.from at l);
-      to_below = λ e l. S.to_below e (rw L.from at l);
+      sound = S;
+      edges =
+          record {
+            to_count = L.to ∙ sym L.from;
+            weight_count = L.weight ∙ sym L.from;
+            from_below = λ e l. S.from_below e (rw L.from at l);
+            to_below = λ e l. S.to_below e (rw L.from at l);
+          };
+      grounds = record { below = λ k l. S.ground_below k (rw L.grounds at l) };
     }
-
-pub sound_grounds : (q : Request) (r w : ℕ) → Sound q r w → GroundsBelow q.n q.grounds
-sound_grounds q r w S = record { below = λ k l. S.ground_below k (rw S.lengths.grounds at l) }

@@ -14,26 +14,25 @@ use Rattle.angles_defs.specs.Network.{Edges, Network, apply, precondition, share
 use Rattle.angles_defs.specs.Solve.{Solved, solved, State, Next, halt, go, step, run, begin, begin_if, judged, descended, solve_from, settled_share, max_iterations}
 use Rattle.angles_defs.specs.declared.Ended.TheVariants.{Settled, NoDescent, StepsSpent}
 use Rattle.angles_defs.specs.declared.Solution.{Solution}
-use Rattle.angles.specs.Rows.{row, network_in, state_in, carried_by, solved_in, next_in, judgement, Stepped, Begun, Preconditioned, Residual, next_r, next_z, ResidualStep, AngleStep, DirectionStep}
+use Rattle.angles.specs.Rows.{row, network_in, state_in, carried_by, solved_in, Iteration, next_in, within, Stepped, Begun, Preconditioned, Residual, next_r, next_z, ResidualStep, AngleStep, DirectionStep}
 use Rattle.angles.specs.declared.steps.Sums.{Sums}
 use Rattle.angles.specs.declared.solve.Carried.{Carried}
-use Rattle.angles.specs.declared.solve.Iteration.{Iteration}
-use Rattle.angles.specs.declared.solve.Iteration.TheVariants.{Ends, Continues}
-use Rattle.angles.specs.declared.solve.Judgement.TheVariants.{Within, Beyond}
+use Rattle.std.specs.declared.ops.ControlFlow.TheVariants.{Break, Continue}
+use Rattle.std.specs.Prelude.{Some, None}
 use Rattle.angles.proofs.Rows.{Set}
 
--- ---- a judgement, read back
-pub within : (v bound norm : Float) → Within norm ≡ judgement v bound → (le v bound ≡ true) × (norm ≡ v)
-within v bound norm h = go (le v bound) refl h
+-- ---- a norm that was judged
+pub near : (v bound norm : Float) → Some norm ≡ within v bound → (le v bound ≡ true) × (norm ≡ v)
+near v bound norm h = go (le v bound) refl h
   where
-    go : (b : Bool) → le v bound ≡ b → Within norm ≡ cond b (Within v) Beyond → (le v bound ≡ true) × (norm ≡ v)
+    go : (b : Bool) → le v bound ≡ b → Some norm ≡ cond b (Some v) None → (le v bound ≡ true) × (norm ≡ v)
     go true e p = (e, cc)
     go false e p = absurd (unequal cc)
 
-pub beyond : (v bound : Float) → Beyond ≡ judgement v bound → le v bound ≡ false
-beyond v bound h = go (le v bound) refl h
+pub far : (v bound : Float) → None ≡ within v bound → le v bound ≡ false
+far v bound h = go (le v bound) refl h
   where
-    go : (b : Bool) → le v bound ≡ b → Beyond ≡ cond b (Within v) Beyond → le v bound ≡ false
+    go : (b : Bool) → le v bound ≡ b → None ≡ cond b (Some v) None → le v bound ≡ false
     go true e p = absurd (unequal cc)
     go false e p = e
 
@@ -68,7 +67,7 @@ module _ (n : ℕ) (E : Edges) (bound : Float) (b g c x r z d q : List Float) wh
   N = network_in n E R₀
 
   module _ (k : Carried) (R₁ : List (List Float)) (dq : Float) (A : Set R₀ R₁ 7 (apply N d) (dot n d (apply N d)) dq) where
-    pub step_none : le dq nought ≡ true → Stepped n E bound R₀ k R₁ (Ends (record { steps = k.steps; ended = NoDescent dq }))
+    pub step_none : le dq nought ≡ true → Stepped n E bound R₀ k R₁ (Break (record { steps = k.steps; ended = NoDescent dq }))
     unfolding step
     step_none h = record { next = cc (A.left, A.answered, h); same = cc A.left }
 
@@ -97,10 +96,10 @@ module _ (n : ℕ) (E : Edges) (bound : Float) (b g c x r z d q : List Float) wh
       erz : sums.rz ≡ dot n r' z'
       erz = M.shared ∙ ap (λ (S : List (List Float)). dot n (next_r n alpha S) (next_z n alpha S)) A.left
 
-      pub step_settled : (R₃ : List (List Float)) (norm : Float) → Within norm ≡ judgement (root sums.rr) bound → AngleStep n alpha R₂ R₃
-          → Stepped n E bound R₀ k R₃ (Ends (record { steps = k.steps + 1; ended = Settled norm }))
+      pub step_settled : (R₃ : List (List Float)) (norm : Float) → Some norm ≡ within (root sums.rr) bound → AngleStep n alpha R₂ R₃
+          → Stepped n E bound R₀ k R₃ (Break (record { steps = k.steps + 1; ended = Settled norm }))
       step_settled R₃ norm j T =
-          let w = within (root sums.rr) bound norm j in
+          let w = near (root sums.rr) bound norm j in
           let e₃ : R₃ ≡ b ∷ g ∷ c ∷ x' ∷ r' ∷ z' ∷ d ∷ y ∷ [] = T.left ∙ ap (λ (S : List (List Float)). set S 3 (along n (row S 3) alpha (row S 6))) e₂ in
           record {
             next =
@@ -109,8 +108,8 @@ module _ (n : ℕ) (E : Edges) (bound : Float) (b g c x r z d q : List Float) wh
             same = ap (λ (S : List (List Float)). network_in n E S) e₃;
           }
 
-      pub step_more : (R₃ : List (List Float)) → Beyond ≡ judgement (root sums.rr) bound → DirectionStep n alpha (over sums.rz k.rz) R₂ R₃
-          → Stepped n E bound R₀ k R₃ (Continues (carried_by sums.rz sums.rr (k.steps + 1)))
+      pub step_more : (R₃ : List (List Float)) → None ≡ within (root sums.rr) bound → DirectionStep n alpha (over sums.rz k.rz) R₂ R₃
+          → Stepped n E bound R₀ k R₃ (Continue (carried_by sums.rz sums.rr (k.steps + 1)))
       step_more R₃ j D =
           let beta : Float = over sums.rz k.rz in
           let e₃ : R₃ ≡ b ∷ g ∷ c ∷ x' ∷ r' ∷ z' ∷ along n z' beta d ∷ y ∷ [] =
@@ -118,19 +117,19 @@ module _ (n : ℕ) (E : Edges) (bound : Float) (b g c x r z d q : List Float) wh
           record {
             next =
                 ap (λ (S : List (List Float)). go (state_in S (carried_by sums.rz sums.rr (k.steps + 1)))) e₃
-                ∙ goes_on_lem N bound (state_in R₀ k) y x' r' z' dq sums.rr sums.rz refl A.answered down refl refl err (beyond (root sums.rr) bound j) refl erz;
+                ∙ goes_on_lem N bound (state_in R₀ k) y x' r' z' dq sums.rr sums.rz refl A.answered down refl refl err (far (root sums.rr) bound j) refl erz;
             same = ap (λ (S : List (List Float)). network_in n E S) e₃;
           }
 
   module _ (R₁ R₂ : List (List Float)) (a rr : Float) (A : Set R₀ R₁ 4 (apply N x) (dot n x (apply N x)) a) (D : Residual n R₁ R₂ rr) where
-    pub begin_stop : (norm : Float) → Within norm ≡ judgement (root rr) bound → Begun n E bound R₀ R₂ (Ends (record { steps = 0; ended = Settled norm }))
+    pub begin_stop : (norm : Float) → Some norm ≡ within (root rr) bound → Begun n E bound R₀ R₂ (Break (record { steps = 0; ended = Settled norm }))
     unfolding begin
     begin_stop norm j =
-        let w = within (root rr) bound norm j in
+        let w = near (root rr) bound norm j in
         record { next = cc (A.left, D.left, D.answered, w.0, w.1); same = cc (A.left, D.left) }
 
-    pub begin_more : (R₃ R₄ : List (List Float)) (rz : Float) → Beyond ≡ judgement (root rr) bound → Preconditioned n R₂ R₃ rz → R₄ ≡ set R₃ 6 (row R₃ 5)
-        → Begun n E bound R₀ R₄ (Continues (carried_by rz rr 0))
+    pub begin_more : (R₃ R₄ : List (List Float)) (rz : Float) → None ≡ within (root rr) bound → Preconditioned n R₂ R₃ rz → R₄ ≡ set R₃ 6 (row R₃ 5)
+        → Begun n E bound R₀ R₄ (Continue (carried_by rz rr 0))
     begin_more R₃ R₄ rz j P C =
         let r' : List Float = less n b (apply N x) in
         let z' : List Float = shares n g c r' in
@@ -142,7 +141,7 @@ module _ (n : ℕ) (E : Edges) (bound : Float) (b g c x r z d q : List Float) wh
         record {
           next =
               ap (λ (S : List (List Float)). go (state_in S (carried_by rz rr 0))) e₄
-              ∙ begins N bound b x r' z' rr rz refl err (beyond (root rr) bound j) refl erz;
+              ∙ begins N bound b x r' z' rr rz refl err (far (root rr) bound j) refl erz;
           same = ap (λ (S : List (List Float)). network_in n E S) e₄;
         }
 
@@ -190,10 +189,10 @@ module _ (n : ℕ) (E : Edges) (bound : Float) (R₀ R : List (List Float)) (k :
         ap (λ (x : Next). run N₀ bound (m - (k.steps + 1)) x) (h ∙ S.next ∙ ap (λ (N : Network). step N bound (state_in R k)) same)
         ∙ sym (run_turn N₀ bound m k.steps (state_in R k) l) ∙ e
 
-    pub iterate_stop : (s : Solution) → i ≡ Ends s → solved_in R' s ≡ total
+    pub iterate_stop : (s : Solution) → i ≡ Break s → solved_in R' s ≡ total
     iterate_stop s h = sym (run_halt N₀ bound (m - (k.steps + 1)) (solved_in R' s)) ∙ left (halt (solved_in R' s)) (ap (next_in R') (sym h))
 
-    module _ (k' : Carried) (h : i ≡ Continues k') where
+    module _ (k' : Carried) (h : i ≡ Continue k') where
       pub iterate_moves : k'.steps ≡ k.steps + 1
       iterate_moves = step_moves (network_in n E R) bound (state_in R k) (state_in R' k') (ap (next_in R') (sym h) ∙ S.next)
 
@@ -231,13 +230,14 @@ module _ (n : ℕ) (E : Edges) (R : List (List Float)) (norm0 : Float) (e : norm
       at false r norm h = cc
 
   module _ (h : eq norm0 nought ≡ false) (R' : List (List Float)) (i : Iteration) (B : Begun n E bound₀ R R' i) where
-    pub solve_stop : (s : Solution) → i ≡ Ends s → solved_in R' s ≡ defined
+    pub solve_stop : (s : Solution) → i ≡ Break s → solved_in R' s ≡ defined
     solve_stop s q = sym (run_halt (network_in n E R) bound₀ (max_iterations n) (solved_in R' s)) ∙ begun h (halt (solved_in R' s)) (ap (next_in R') (sym q) ∙ B.next)
 
-    pub solve_run : (k : Carried) (o : Solved) → i ≡ Continues k → o ≡ run (network_in n E R') bound₀ (max_iterations n) (go (state_in R' (carried_by k.rz k.rr 0))) → o ≡ defined
+    pub solve_begins : (k : Carried) → i ≡ Continue k → k.steps ≡ 0
+    solve_begins k q = begin_moves (state_in R' k) (ap (next_in R') (sym q) ∙ B.next)
+
+    pub solve_run : (k : Carried) (o : Solved) → i ≡ Continue k → o ≡ run (network_in n E R') bound₀ (max_iterations n) (go (state_in R' k)) → o ≡ defined
     solve_run k o q r =
-        let p = ap (next_in R') (sym q) ∙ B.next in
         r
-        ∙ ap (λ (N : Network). run N bound₀ (max_iterations n) (go (state_in R' (carried_by k.rz k.rr 0)))) B.same
-        ∙ ap (λ (m : ℕ). run (network_in n E R) bound₀ (max_iterations n) (go (state_in R' (carried_by k.rz k.rr m)))) (sym (begin_moves (state_in R' k) p))
-        ∙ begun h (go (state_in R' k)) p
+        ∙ ap (λ (N : Network). run N bound₀ (max_iterations n) (go (state_in R' k))) B.same
+        ∙ begun h (go (state_in R' k)) (ap (next_in R') (sym q) ∙ B.next)

@@ -1,5 +1,6 @@
 -- Laws of the solver's code: an edge's turn, the rows, an iteration and the loop, and the operation's beginning and end.
-mod Edges
+mod Parts
+mod Turns
 mod Rows
 mod Beyond
 mod Iterations

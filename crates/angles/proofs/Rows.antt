@@ -14,7 +14,8 @@ use Rattle.loops.proofs.Rows.{length_rows, row_of, rows_wrote}
 use Rattle.root.specs.Root.{root}
 use Rattle.angles_defs.specs.Network.{Edges, scatter, kept, apply, shares, dot, along, back, less, zeros}
 use Rattle.angles_defs.proofs.Vectors.{length_zeros, length_kept, length_shares, length_along, length_back, length_less}
-use Rattle.angles.specs.Rows.{row, network_in, Wrote, Preconditioned, Residual, next_r, next_z, ResidualStep, AngleStep, DirectionStep}
+use Rattle.angles.specs.Slices.{Wrote}
+use Rattle.angles.specs.Rows.{row, network_in, Preconditioned, Residual, next_r, next_z, ResidualStep, AngleStep, DirectionStep}
 use Rattle.angles.specs.declared.steps.Sums.{Sums}
 
 -- row j set to v

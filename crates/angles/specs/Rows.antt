@@ -1,31 +1,16 @@
 -- How the work slice holds a solve: eight rows of n places, in this order: b, grounded, diag, x, r, z, d, q. What each function leaves in them.
-use Rattle.std.specs.Prelude.{ℕ, ◌+◌, ◌<◌, true, false, cond, ◌≡◌, List, [], ◌∷◌, T, ltb, length, get_or, set, Float}
-use Rattle.std.specs.Float.{binary64}
-use Rattle.std.specs.Float.Ieee.{fits, le}
-use Rattle.loops.specs.Figures.{at, minus, times}
-use Rattle.loops.specs.Loops.{first}
-use Rattle.loops.specs.Parts.{put}
+use Rattle.std.specs.Prelude.{ℕ, cond, ◌≡◌, List, [], ◌∷◌, Some, None, Option, get_or, set, Float}
+use Rattle.std.specs.Float.Ieee.{le}
+use Rattle.loops.specs.Loops.{fault}
 use Rattle.root.specs.Root.{root}
-use Rattle.angles_defs.specs.Network.{Edges, Network, grounded_of, diag_of, weighed, moved, kept, shares, dot, along, back, less, zeros}
+use Rattle.angles_defs.specs.Network.{Edges, Network, grounded_of, diag_of, kept, shares, dot, along, back, less, zeros}
 use Rattle.angles_defs.specs.Solve.{Solved, solved, State, Next, halt, go, step, begin}
 use Rattle.angles_defs.specs.Operation.{finite_at, work_places}
 use Rattle.angles_defs.specs.declared.Solution.{Solution}
 use Rattle.angles.specs.declared.steps.Sums.{Sums}
 use Rattle.angles.specs.declared.solve.Carried.{Carried}
-use Rattle.angles.specs.declared.solve.Iteration.{Iteration}
-use Rattle.angles.specs.declared.solve.Iteration.TheVariants.{Ends, Continues}
-use Rattle.angles.specs.declared.solve.Judgement.{Judgement}
-use Rattle.angles.specs.declared.solve.Judgement.TheVariants.{Within, Beyond}
-
--- ---- what is asked of the edges and the grounds: each end, and each ground, is a bus
-pub record EdgesBelow (n : ℕ) (from to : List ℕ) (weight : List Float) : Type 0 where
-  pub to_count : length to ≡ length from
-  pub weight_count : length weight ≡ length from
-  pub from_below : (e : ℕ) → e < length from → get_or from e 0 < n
-  pub to_below : (e : ℕ) → e < length from → get_or to e 0 < n
-
-pub record GroundsBelow (n : ℕ) (grounds : List ℕ) : Type 0 where
-  pub below : (k : ℕ) → k < length grounds → get_or grounds k 0 < n
+use Rattle.std.specs.declared.ops.ControlFlow.{ControlFlow}
+use Rattle.std.specs.declared.ops.ControlFlow.TheVariants.{Break, Continue}
 
 -- ---- the rows
 abbrev pub row : List (List Float) → ℕ → List Float
@@ -45,21 +30,12 @@ carried_by rz rr steps = record { rz = rz; rr = rr; steps = steps }
 abbrev pub solved_in : List (List Float) → Solution → Solved
 solved_in R s = solved (row R 3) s.steps s.ended
 
+abbrev pub Iteration : Type 0
+Iteration = ControlFlow Solution Carried
+
 abbrev pub next_in : List (List Float) → Iteration → Next
-next_in R (Ends s) = halt (solved_in R s)
-next_in R (Continues c) = go (state_in R c)
-
--- ---- the slice: a row from o set to v, and the sum that is answered
-pub record Wrote (w w' : List Float) (o : ℕ) (v : List Float) (sum answer : Float) : Type 0 where
-  pub left : w' ≡ put w o v
-  pub answered : answer ≡ sum
-
--- an edge's weight added, and what it carries at the row x moved, in the row y
-abbrev pub weighed_in : List Float → ℕ → ℕ → Float → ℕ → List Float
-weighed_in w a b weight y = weighed w (y + a) (y + b) weight
-
-abbrev pub moved_in : List Float → ℕ → ℕ → Float → ℕ → ℕ → List Float
-moved_in w a b weight x y = moved w (y + a) (y + b) (times weight (minus (at w (x + a)) (at w (x + b))))
+next_in R (Break s) = halt (solved_in R s)
+next_in R (Continue c) = go (state_in R c)
 
 -- ---- what the parts of an iteration leave and answer
 pub record Preconditioned (n : ℕ) (R R' : List (List Float)) (rz : Float) : Type 0 where
@@ -88,13 +64,9 @@ pub record AngleStep (n : ℕ) (alpha : Float) (R R' : List (List Float)) : Type
 pub record DirectionStep (n : ℕ) (alpha beta : Float) (R R' : List (List Float)) : Type 0 where
   pub left : R' ≡ set (set R 3 (along n (row R 3) alpha (row R 6))) 6 (along n (row R 5) beta (row R 6))
 
--- a norm against the bound
-abbrev pub judgement : Float → Float → Judgement
-judgement norm bound = cond (le norm bound) (Within norm) Beyond
-
--- every square from `beyond` on has a root above the bound
-pub record SurelyBeyond (beyond bound : Float) : Type 0 where
-  pub far : (x : Float) → T (fits binary64 x) → le beyond x ≡ true → le (root x) bound ≡ false
+-- a norm that is within the bound
+abbrev pub within : Float → Float → Option Float
+within norm bound = cond (le norm bound) (Some norm) None
 
 -- ---- an iteration, and what stands before the first: the network stays
 pub record Stepped (n : ℕ) (E : Edges) (bound : Float) (R : List (List Float)) (c : Carried) (R' : List (List Float)) (i : Iteration) : Type 0 where
@@ -110,7 +82,12 @@ unfoldable pub start_rows : ℕ → Edges → List ℕ → List Float → List F
 start_rows n E grounds injection guess =
     kept n (grounded_of n grounds) injection ∷ grounded_of n grounds ∷ diag_of n E ∷ kept n (grounded_of n grounds) guess ∷ zeros n ∷ zeros n ∷ zeros n ∷ zeros n ∷ []
 
-pub record HandedOut (n : ℕ) (x : List Float) (bus : ℕ) (result work : List Float) : Type 0 where
-  pub found : bus ≡ first (finite_at x) n 0
-  pub given : result ≡ cond (ltb bus n) (zeros n) x
+-- the angles, or zeros where a bus has none
+abbrev pub given_or_zeros : ℕ → List Float → Option ℕ → List Float
+given_or_zeros n x (Some bus) = zeros n
+given_or_zeros n x None = x
+
+pub record HandedOut (n : ℕ) (x : List Float) (bus : Option ℕ) (result work : List Float) : Type 0 where
+  pub found : bus ≡ fault (finite_at x) n
+  pub given : result ≡ given_or_zeros n x bus
   pub cleared : work ≡ zeros (work_places n)

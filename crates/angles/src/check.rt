@@ -1,10 +1,8 @@
 // The refusals 1, 2 and 10, in their order.
-ghost use Rattle.std.specs.Prelude.{◌≡◌, ◌&&◌, ltb, length};
-ghost use Rattle.loops.specs.Loops.{first};
-ghost use Rattle.angles_defs.specs.Operation.{request_of, lengths_ok, counts_ok, edge_ok, ground_ok, fault};
-ghost use Rattle.angles.specs.Verdicts.{fault_in};
+ghost use Rattle.std.specs.Prelude.{◌≡◌, length};
+ghost use Rattle.loops.specs.Loops.{fault};
+ghost use Rattle.angles_defs.specs.Operation.{request_of, lengths_ok, counts_ok, edge_ok, ground_ok, check_of};
 
-use crate::wide;
 use refusal::Refusal;
 
 // Buses, edges and grounds at most.
@@ -28,6 +26,7 @@ fn lengths_ok(
 ) -> bool
     ensures { result ≡ lengths_ok (request_of n m k from.now to.now weight.now injection.now grounds.now guess.now) res work }
 {
+    // Of a slice's length the product below fits.
     if injection.len() != n {
         return false;
     }
@@ -46,43 +45,24 @@ fn counts_ok(n: usize, m: usize, k: usize) -> bool
     (n <= MOST) & (m <= MOST) & (k <= MOST)
 }
 
-fn both_below(a: usize, b: usize, n: usize) -> bool
-    ensures { result ≡ ltb a n && ltb b n }
-{
-    (a < n) & (b < n)
-}
-
-// The first edge with an end that is no bus, or m.
-fn first_edge(n: usize, m: usize, from: &[u32], to: &[u32]) -> usize
+// The first edge with an end that is no bus.
+fn faulty_edge(n: usize, m: usize, from: &[u32], to: &[u32]) -> Option<usize>
     requires { (length from.now ≡ m) × (length to.now ≡ m) }
-    ensures { result ≡ first (edge_ok n from.now to.now) m 0 }
+    ensures { result ≡ fault (edge_ok n from.now to.now) m }
 {
-    let mut e = 0;
-    while e < m {
-        if !both_below(wide(from[e]), wide(to[e]), n) {
-            return e;
-        }
-        e += 1;
-    }
-    e
+    loops::first_fault(m, |e| ((from[e] as usize) < n) & ((to[e] as usize) < n))
 }
 
-// The first ground that is no bus, or k.
-fn first_ground(n: usize, k: usize, grounds: &[u32]) -> usize
+// The first ground that is no bus.
+fn faulty_ground(n: usize, k: usize, grounds: &[u32]) -> Option<usize>
     requires { length grounds.now ≡ k }
-    ensures { result ≡ first (ground_ok n grounds.now) k 0 }
+    ensures { result ≡ fault (ground_ok n grounds.now) k }
 {
-    let mut g = 0;
-    while g < k {
-        if wide(grounds[g]) >= n {
-            return g;
-        }
-        g += 1;
-    }
-    g
+    loops::first_fault(k, |g| (grounds[g] as usize) < n)
 }
 
 // The first refusal in order.
+#[tactic(auto, using(angles_defs::proofs::Answers::lengths_of))]
 pub fn check(
     n: usize,
     m: usize,
@@ -96,8 +76,8 @@ pub fn check(
     res: usize,
     work: usize,
 ) -> Result<(), Refusal>
-    ensures { fault_in result
-        ≡ fault (request_of n m k from.now to.now weight.now injection.now grounds.now guess.now) res work }
+    ensures { result
+        ≡ check_of (request_of n m k from.now to.now weight.now injection.now grounds.now guess.now) res work }
 {
     if !lengths_ok(
         n, m, k, from, to, weight, injection, grounds, guess, res, work,
@@ -107,13 +87,11 @@ pub fn check(
     if !counts_ok(n, m, k) {
         return Err(Refusal::Count);
     }
-    let edge = first_edge(n, m, from, to);
-    if edge < m {
-        return Err(Refusal::Edge(edge));
+    if let Some(e) = faulty_edge(n, m, from, to) {
+        return Err(Refusal::Edge(e));
     }
-    let ground = first_ground(n, k, grounds);
-    if ground < k {
-        return Err(Refusal::Ground(ground));
+    if let Some(g) = faulty_ground(n, k, grounds) {
+        return Err(Refusal::Ground(g));
     }
     Ok(())
 }

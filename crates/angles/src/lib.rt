@@ -5,25 +5,23 @@
 ghost use Rattle.std.specs.Prelude.{◌≡◌};
 ghost use Rattle.angles_defs.specs.Operation.{request_of, outcome, dc_angles};
 
+use crate::edges::Edges;
 use angles_defs::Solution;
 use refusal::Refusal;
 
+mod bound;
 mod check;
+mod edges;
 mod network;
 mod operation;
 mod solve;
 mod steps;
 mod vectors;
 
-fn wide(x: u32) -> usize
-    ensures { result ≡ x }
-{
-    x as usize
-}
-
 // The angles at which the flow over each edge, its weight times the difference between its ends, carries the injections to the
 // grounds. Reads n buses, m edges and k grounds, and starts from a guess for each bus (no guess is a guess of zeros). Writes an
 // angle for each bus to `result`, and leaves the 8 × n places of `work` at zero.
+#[tactic(auto, using(crate::proofs::Ends::passed, crate::proofs::Ends::angles_refused, crate::proofs::Ends::angles_answered))]
 pub fn dc_angles(
     n: usize,
     m: usize,
@@ -41,7 +39,7 @@ pub fn dc_angles(
         ≡ dc_angles (request_of n m k from.now to.now weight.now injection.now grounds.now guess.now)
         res.old work.old }
 {
-    match check::check(
+    check::check(
         n,
         m,
         k,
@@ -53,10 +51,12 @@ pub fn dc_angles(
         guess,
         res.len(),
         work.len(),
-    ) {
-        Err(f) => Err(f),
-        Ok(()) => operation::answer(
-            from, to, weight, injection, grounds, guess, res, work, n,
-        ),
-    }
+    )?;
+    let edges = Edges {
+        n,
+        from,
+        to,
+        weight,
+    };
+    operation::answer(&edges, injection, grounds, guess, res, work)
 }

@@ -2,14 +2,19 @@
 ghost use Rattle.std.specs.Prelude.{◌≡◌, ◌*◌, ◌^◌, ◌<◌, ◌≤◌, length};
 ghost use Rattle.loops.specs.Parts.{rows};
 ghost use Rattle.root.specs.Root.{root};
-ghost use Rattle.angles_defs.specs.Network.{edges_of};
 ghost use Rattle.angles_defs.specs.Solve.{go, run, max_iterations, solve_from};
-ghost use Rattle.angles.specs.Rows.{EdgesBelow, row, network_in, state_in, carried_by, judgement, solved_in, SurelyBeyond, Stepped, Begun};
+ghost use Rattle.angles.specs.Slices.{edges_in};
+ghost use Rattle.angles.specs.Rows.{row, network_in, state_in, within, solved_in, Stepped, Begun};
 
+use crate::bound::{Bound, bound_of};
+use crate::edges::Edges;
 use crate::network::apply;
-use crate::steps::{D, GROUNDED, Q, R, X, Z, angle_step, direction_step, precondition, residual, residual_step};
+use crate::steps::{
+    D, GROUNDED, Q, R, X, Z, angle_step, direction_step, precondition, residual, residual_step,
+};
 use crate::vectors::{clear, copy, dot};
 use angles_defs::{Ended, Solution};
+use std::ops::ControlFlow;
 
 // The share of the right side's norm at which the residual's settles the solve.
 const SETTLED_SHARE: f64 = 1e-11;
@@ -22,187 +27,106 @@ struct Carried {
     steps: usize,
 }
 
-// What an iteration comes to.
-#[derive(Clone, Copy)]
-enum Iteration {
-    Ends(Solution),
-    Continues(Carried),
-}
-
-// A residual against the bound, with its norm where it is within.
-#[derive(Clone, Copy)]
-enum Judgement {
-    Within(f64),
-    Beyond,
-}
-
-fn sqrt(x: f64) -> f64
-    ensures { result ≡ root x }
+// The norm of a residual of square rr, where it is within the bound.
+fn judge(rr: f64, bound: Bound) -> Option<f64>
+    ensures { result ≡ within (root rr) bound.bound }
 {
-    if x >= 0.0 {
-        f64::from_bits(root::square_root(f64::to_bits(x)))
+    if bound.beyond <= rr {
+        return None;
+    }
+    let norm = root::sqrt(rr);
+    if norm <= bound.bound {
+        Some(norm)
     } else {
-        0.0 / 0.0
+        None
     }
 }
 
-// A figure from which on every square has a root above the bound, so that the root need not be worked out: the square of twice
-// the bound, where it is above the square of a figure above the bound; a NaN, from which on there is nothing, where those
-// squares underflow or overflow.
-fn surely_beyond(bound: f64) -> f64
-    ensures { SurelyBeyond result bound }
-{
-    let above = 1.5 * bound;
-    let square = 2.0 * bound * (2.0 * bound);
-    if (0.0 < bound) & (bound < above) {
-        if (0.0 < above * above) & (above * above < square) {
-            return square;
-        }
-    }
-    0.0 / 0.0
-}
-
-// Whether a residual of square rr is within the bound.
-fn judge(rr: f64, bound: f64, beyond: f64) -> Judgement
-    requires { SurelyBeyond beyond bound }
-    ensures { result ≡ judgement (root rr) bound }
-{
-    if beyond <= rr {
-        return Judgement::Beyond;
-    }
-    let norm = sqrt(rr);
-    if norm <= bound {
-        Judgement::Within(norm)
-    } else {
-        Judgement::Beyond
-    }
-}
-
+// One iteration: what it hands to the next, or the solution where it ends.
 fn step(
-    from: &[u32],
-    to: &[u32],
-    weight: &[f64],
+    edges: &Edges,
     w: &mut [f64],
-    n: usize,
-    bound: f64,
-    beyond: f64,
+    bound: Bound,
     carried: Carried,
-) -> Iteration
-    requires edges_below { EdgesBelow n from.now to.now weight.now }
-    requires w_len { (length w.old ≡ 8 * n) × (carried.steps < 2 ^ 32) × SurelyBeyond beyond bound }
-    ensures { Stepped n (edges_of from.now to.now weight.now) bound (rows 8 n w.old) carried (rows 8 n w.new) result }
+) -> ControlFlow<Solution, Carried>
+    requires { (length w.old ≡ 8 * edges.now.n) × (carried.steps < 2 ^ 32) }
+    ensures { Stepped edges.now.n (edges_in edges.now) bound.bound (rows 8 edges.now.n w.old) carried (rows 8 edges.now.n w.new) result }
 {
+    let n = edges.n;
     let rz = carried.rz;
     let steps = carried.steps;
-    let dq = apply(from, to, weight, w, n, GROUNDED * n, D * n, Q * n);
+    let dq = apply(edges, w, GROUNDED * n, D * n, Q * n);
     if dq <= 0.0 {
-        return Iteration::Ends(Solution {
+        return ControlFlow::Break(Solution {
             steps,
             ended: Ended::NoDescent(dq),
         });
     }
     let alpha = rz / dq;
     let sums = residual_step(w, n, alpha);
-    let rr = sums.rr;
-    if let Judgement::Within(norm) = judge(rr, bound, beyond) {
+    if let Some(norm) = judge(sums.rr, bound) {
         angle_step(w, n, alpha);
-        return Iteration::Ends(Solution {
+        return ControlFlow::Break(Solution {
             steps: steps + 1,
             ended: Ended::Settled(norm),
         });
     }
-    let rz_next = sums.rz;
-    direction_step(w, n, alpha, rz_next / rz);
-    Iteration::Continues(Carried {
-        rz: rz_next,
-        rr,
+    direction_step(w, n, alpha, sums.rz / rz);
+    ControlFlow::Continue(Carried {
+        rz: sums.rz,
+        rr: sums.rr,
         steps: steps + 1,
     })
 }
 
 // At most 50 iterations for each bus and 100 more.
-fn iterate(
-    from: &[u32],
-    to: &[u32],
-    weight: &[f64],
-    w: &mut [f64],
-    n: usize,
-    bound: f64,
-    beyond: f64,
-    rz0: f64,
-    rr0: f64,
-) -> Solution
-    requires edges_below { EdgesBelow n from.now to.now weight.now }
-    requires w_len { (length w.old ≡ 8 * n) × (n ≤ 256) × SurelyBeyond beyond bound }
-    ensures { solved_in (rows 8 n w.new) result
-        ≡ run (network_in n (edges_of from.now to.now weight.now) (rows 8 n w.old)) bound (max_iterations n)
-        (go (state_in (rows 8 n w.old) (carried_by rz0 rr0 0))) }
+fn iterate(edges: &Edges, w: &mut [f64], bound: Bound, first: Carried) -> Solution
+    requires { (length w.old ≡ 8 * edges.now.n) × (edges.now.n ≤ 256) × (first.steps ≡ 0) }
+    ensures { solved_in (rows 8 edges.now.n w.new) result
+        ≡ run (network_in edges.now.n (edges_in edges.now) (rows 8 edges.now.n w.old)) bound.bound (max_iterations edges.now.n)
+        (go (state_in (rows 8 edges.now.n w.old) first)) }
 {
-    let max_iterations = 50 * n + 100;
-    let mut rz = rz0;
-    let mut rr = rr0;
-    let mut steps = 0;
-    while steps < max_iterations {
-        match step(
-            from,
-            to,
-            weight,
-            w,
-            n,
-            bound,
-            beyond,
-            Carried { rz, rr, steps },
-        ) {
-            Iteration::Ends(solution) => return solution,
-            Iteration::Continues(next) => {
-                rz = next.rz;
-                rr = next.rr;
-                steps = next.steps;
-            }
+    let mut carried = first;
+    for _turn in 0..50 * edges.n + 100 {
+        match step(edges, w, bound, carried) {
+            ControlFlow::Break(solution) => return solution,
+            ControlFlow::Continue(next) => carried = next,
         }
     }
     Solution {
-        steps,
-        ended: Ended::StepsSpent(sqrt(rr)),
+        steps: carried.steps,
+        ended: Ended::StepsSpent(root::sqrt(carried.rr)),
     }
 }
 
 // The first residual and direction.
-fn begin(
-    from: &[u32],
-    to: &[u32],
-    weight: &[f64],
-    w: &mut [f64],
-    n: usize,
-    bound: f64,
-    beyond: f64,
-) -> Iteration
-    requires edges_below { EdgesBelow n from.now to.now weight.now }
-    requires w_len { (length w.old ≡ 8 * n) × SurelyBeyond beyond bound }
-    ensures { Begun n (edges_of from.now to.now weight.now) bound (rows 8 n w.old) (rows 8 n w.new) result }
+fn begin(edges: &Edges, w: &mut [f64], bound: Bound) -> ControlFlow<Solution, Carried>
+    requires { length w.old ≡ 8 * edges.now.n }
+    ensures { Begun edges.now.n (edges_in edges.now) bound.bound (rows 8 edges.now.n w.old) (rows 8 edges.now.n w.new) result }
 {
-    apply(from, to, weight, w, n, GROUNDED * n, X * n, R * n);
+    let n = edges.n;
+    apply(edges, w, GROUNDED * n, X * n, R * n);
     let rr = residual(w, n);
-    if let Judgement::Within(norm) = judge(rr, bound, beyond) {
-        return Iteration::Ends(Solution {
+    if let Some(norm) = judge(rr, bound) {
+        return ControlFlow::Break(Solution {
             steps: 0,
             ended: Ended::Settled(norm),
         });
     }
     let rz = precondition(w, n);
     copy(w, n, Z * n, D * n);
-    Iteration::Continues(Carried { rz, rr, steps: 0 })
+    ControlFlow::Continue(Carried { rz, rr, steps: 0 })
 }
 
 // The solve: zeros where the norm of the right side comes to zero, whatever the guess.
-pub fn solve(from: &[u32], to: &[u32], weight: &[f64], w: &mut [f64], n: usize) -> Solution
-    requires edges_below { EdgesBelow n from.now to.now weight.now }
-    requires w_len { (length w.old ≡ 8 * n) × (n ≤ 256) }
-    ensures { solved_in (rows 8 n w.new) result
-        ≡ solve_from (network_in n (edges_of from.now to.now weight.now) (rows 8 n w.old))
-        (row (rows 8 n w.old) 0) (row (rows 8 n w.old) 3) }
+pub fn solve(edges: &Edges, w: &mut [f64]) -> Solution
+    requires { (length w.old ≡ 8 * edges.now.n) × (edges.now.n ≤ 256) }
+    ensures { solved_in (rows 8 edges.now.n w.new) result
+        ≡ solve_from (network_in edges.now.n (edges_in edges.now) (rows 8 edges.now.n w.old))
+        (row (rows 8 edges.now.n w.old) 0) (row (rows 8 edges.now.n w.old) 3) }
 {
-    let norm0 = sqrt(dot(w, n, 0, 0));
+    let n = edges.n;
+    let norm0 = root::sqrt(dot(w, n, 0, 0));
     if norm0 == 0.0 {
         clear(w, X * n, n);
         return Solution {
@@ -210,12 +134,9 @@ pub fn solve(from: &[u32], to: &[u32], weight: &[f64], w: &mut [f64], n: usize) 
             ended: Ended::Settled(0.0),
         };
     }
-    let bound = SETTLED_SHARE * norm0;
-    let beyond = surely_beyond(bound);
-    match begin(from, to, weight, w, n, bound, beyond) {
-        Iteration::Ends(solution) => solution,
-        Iteration::Continues(first) => {
-            iterate(from, to, weight, w, n, bound, beyond, first.rz, first.rr)
-        }
+    let bound = bound_of(SETTLED_SHARE * norm0);
+    match begin(edges, w, bound) {
+        ControlFlow::Break(solution) => solution,
+        ControlFlow::Continue(first) => iterate(edges, w, bound, first),
     }
 }

@@ -39,13 +39,11 @@ pub fn precondition(w: &mut [f64], n: usize) -> f64
     let r = R * n;
     let z = Z * n;
     let mut rz = 0.0;
-    let mut i = 0;
-    while i < n {
+    for i in 0..n {
         let ri = w[r + i];
         let zi = share(w[grounded + i], w[diag + i], ri);
         w[z + i] = zi;
-        rz = rz + ri * zi;
-        i += 1;
+        rz += ri * zi;
     }
     rz
 }
@@ -57,12 +55,10 @@ pub fn residual(w: &mut [f64], n: usize) -> f64
 {
     let r = R * n;
     let mut rr = 0.0;
-    let mut i = 0;
-    while i < n {
+    for i in 0..n {
         let ri = w[i] - w[r + i];
         w[r + i] = ri;
-        rr = rr + ri * ri;
-        i += 1;
+        rr += ri * ri;
     }
     rr
 }
@@ -86,15 +82,13 @@ pub fn residual_step(w: &mut [f64], n: usize, alpha: f64) -> Sums
     let q = Q * n;
     let mut rr = 0.0;
     let mut rz = 0.0;
-    let mut i = 0;
-    while i < n {
+    for i in 0..n {
         let ri = w[r + i] - alpha * w[q + i];
         let zi = share(w[grounded + i], w[diag + i], ri);
         w[r + i] = ri;
         w[z + i] = zi;
-        rr = rr + ri * ri;
-        rz = rz + ri * zi;
-        i += 1;
+        rr += ri * ri;
+        rz += ri * zi;
     }
     Sums { rr, rz }
 }
@@ -106,10 +100,8 @@ pub fn angle_step(w: &mut [f64], n: usize, alpha: f64)
 {
     let x = X * n;
     let d = D * n;
-    let mut i = 0;
-    while i < n {
-        w[x + i] = w[x + i] + alpha * w[d + i];
-        i += 1;
+    for i in 0..n {
+        w[x + i] += alpha * w[d + i];
     }
 }
 
@@ -121,13 +113,11 @@ pub fn direction_step(w: &mut [f64], n: usize, alpha: f64, beta: f64)
     let x = X * n;
     let z = Z * n;
     let d = D * n;
-    let mut i = 0;
-    while i < n {
+    for i in 0..n {
         let di = w[d + i];
         let xi = w[x + i] + alpha * di;
         let next = w[z + i] + beta * di;
         w[x + i] = xi;
         w[d + i] = next;
-        i += 1;
     }
 }

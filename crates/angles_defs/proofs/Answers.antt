@@ -1,10 +1,10 @@
 -- What a caller may take from `dc_angles`: which requests pass, what an answer holds, and that it depends on nothing but the request.
--- `fault` is taken apart test by test; the angles' laws are the solve's.
+-- `check_of` is taken apart test by test; the angles' laws are the solve's.
 use Prim.Native.Nat.{ℕ, ◌*◌, ◌+◌, ◌<◌, ◌≤◌}
 use mathlib.Core.Bool.{Bool, true, false, cond, ◌&&◌}
 use mathlib.Core.Path.{◌≡◌, refl}
 use mathlib.Core.List.{List}
-use mathlib.Core.Option.{Option, none, some}
+use Rattle.std.specs.Prelude.{Err, Ok, Result}
 use native.Mathlib.Omega.{arith}
 use borrow.Author.Tests.{eqb-true, eq-eqb, leb-true, le-leb, ltb-true, lt-ltb, ltb-false, le-ltb}
 use lib.Dec.{eqb, leb, ltb}
@@ -16,11 +16,11 @@ use Rattle.loops.proofs.Bools.{both, and_of, unequal}
 use Rattle.loops.proofs.Order.{finite_bounded}
 use Rattle.loops.proofs.Scan.{all_pass, pass_all}
 use Rattle.loops.proofs.Zeros.{void_zero}
-use Rattle.refusal.specs.Reply.{Reply, answered, refused}
+use Rattle.refusal.specs.Reply.{Reply, answered, no_refusal, refused}
 use Rattle.refusal.specs.declared.Refusal.{Refusal}
 use Rattle.refusal.specs.declared.Refusal.TheVariants.{Length, Count, Edge, Ground}
 use Rattle.angles_defs.specs.Network.{zeros}
-use Rattle.angles_defs.specs.Operation.{Request, lengths_ok, counts_ok, edge_ok, ground_ok, first_edge, first_ground, fault, finite_at, finish_if, finish, answer_to, solve_of, solution_of, dc_angles, work_places, most, Outcome}
+use Rattle.angles_defs.specs.Operation.{Request, lengths_ok, counts_ok, edge_ok, ground_ok, first_edge, first_ground, check_of, finite_at, finish_if, finish, answer_to, solve_of, solution_of, dc_angles, work_places, most, Outcome}
 use Rattle.angles_defs.specs.declared.Solution.{Solution}
 use Rattle.angles_defs.proofs.Solves.{solve_steps, solve_places, solve_ground}
 
@@ -87,16 +87,16 @@ module _ (q : Request) (result work : ℕ) where
   of_counts n m k = and_of (and_of (le-leb q.n most n) (le-leb q.m most m)) (le-leb q.k most k)
 
   -- a request passes exactly where it is sound
-  pub sound_of : fault q result work ≡ none → Sound q result work
-  unfolding fault
+  pub sound_of : check_of q result work ≡ no_refusal → Sound q result work
+  unfolding check_of
   sound_of h =
       go (lengths_ok q result work) (counts_ok q.n q.m q.k) (ltb (first_edge q) q.m) (ltb (first_ground q) q.k) refl refl refl refl h
     where
-      refused : {f : Refusal} → some f ≡ none → ⊥
+      refused : {f : Refusal} → ◌≡◌ {A = Result (Unit {0}) Refusal} (Err f) no_refusal → ⊥
       refused e = unequal cc
 
       go : (a b c d : Bool) → lengths_ok q result work ≡ a → counts_ok q.n q.m q.k ≡ b → ltb (first_edge q) q.m ≡ c → ltb (first_ground q) q.k ≡ d
-          → cond a (cond b (cond c (some (Edge (first_edge q))) (cond d (some (Ground (first_ground q))) none)) (some Count)) (some Length) ≡ none
+          → cond a (cond b (cond c (Err (Edge (first_edge q))) (cond d (Err (Ground (first_ground q))) no_refusal)) (Err Count)) (Err Length) ≡ no_refusal
           → Sound q result work
       go false b c d ea eb ec ed e = absurd (refused e)
       go true false c d ea eb ec ed e = absurd (refused e)
@@ -118,8 +118,8 @@ module _ (q : Request) (result work : ℕ) where
             ground_below = λ g l. ltb-true _ _ (G g l);
           }
 
-  pub of_sound : Sound q result work → fault q result work ≡ none
-  unfolding fault
+  pub of_sound : Sound q result work → check_of q result work ≡ no_refusal
+  unfolding check_of
   of_sound S =
       rw (of_lengths S.lengths, of_counts S.buses S.edges S.grounds, edges_pass, grounds_pass)
     where
@@ -155,7 +155,7 @@ pub record AnswerTo (q : Request) (s : Solution) (o : Outcome) : Type 0 where
 
 pub answer_to_lem : (q : Request) (result work : List Float) (s : Solution) → (dc_angles q result work).reply ≡ answered s → AnswerTo q s (dc_angles q result work)
 unfolding dc_angles finish_if
-answer_to_lem q result work s h = at_fault (fault q (length result) (length work)) refl h
+answer_to_lem q result work s h = at_verdict (check_of q (length result) (length work)) refl h
   where
     refused_not : (a b : ℕ) → ◌≡◌ {A = Reply Solution} (refused a b) (answered s) → ⊥
     refused_not a b e = unequal cc
@@ -187,6 +187,6 @@ answer_to_lem q result work s h = at_fault (fault q (length result) (length work
           steps = rw is (solve_steps q.n q.edges q.grounds q.injection q.guess);
         }
 
-    at_fault : (f : Option Refusal) → fault q (length result) (length work) ≡ f → (answer_to f q result work).reply ≡ answered s → AnswerTo q s (answer_to f q result work)
-    at_fault (some f) e r = absurd (refused_not _ _ r)
-    at_fault none e r = done (ltb (first (finite_at (solve_of q).x) q.n 0) q.n) refl (sound_of q (length result) (length work) e) r
+    at_verdict : (f : Result (Unit {0}) Refusal) → check_of q (length result) (length work) ≡ f → (answer_to f q result work).reply ≡ answered s → AnswerTo q s (answer_to f q result work)
+    at_verdict (Err f) e r = absurd (refused_not _ _ r)
+    at_verdict (Ok tt) e r = done (ltb (first (finite_at (solve_of q).x) q.n 0) q.n) refl (sound_of q (length result) (length work) e) r

@@ -1,9 +1,8 @@
 -- Angles (document 01, "Refusals of each operation, in order", and modules, 5): what `dc_angles` answers, and what it leaves in the slices that it is lent.
 use Rattle.std.specs.Prelude.{ℕ, ◌*◌, Bool, true, false, cond, ◌&&◌, List, eqb, leb, ltb, length, get_or, Float, Err, Ok, Result}
-use Rattle.std.proofs.Math.Option.{Option, none, some}
 use Rattle.loops.specs.Figures.{at, finite}
 use Rattle.loops.specs.Loops.{first}
-use Rattle.refusal.specs.Reply.{Reply, answered, refused_by}
+use Rattle.refusal.specs.Reply.{Reply, answered, no_refusal, refused_by}
 use Rattle.refusal.specs.declared.Refusal.{Refusal}
 use Rattle.refusal.specs.declared.Refusal.TheVariants.{Length, Count, Edge, Ground, NotFinite}
 use Rattle.angles_defs.specs.Network.{Edges, edges_of, zeros}
@@ -55,15 +54,15 @@ abbrev pub first_ground : Request → ℕ
 first_ground q = first (ground_ok q.n q.grounds) q.k 0
 
 -- the first refusal in order
-unfoldable pub fault : Request → ℕ → ℕ → Option Refusal
-fault q result work =
+unfoldable pub check_of : Request → ℕ → ℕ → Result (Unit {0}) Refusal
+check_of q result work =
     cond (lengths_ok q result work)
     (cond (counts_ok q.n q.m q.k)
-    (cond (ltb (first_edge q) q.m) (some (Edge (first_edge q)))
-    (cond (ltb (first_ground q) q.k) (some (Ground (first_ground q)))
-    none))
-    (some Count))
-    (some Length)
+    (cond (ltb (first_edge q) q.m) (Err (Edge (first_edge q)))
+    (cond (ltb (first_ground q) q.k) (Err (Ground (first_ground q)))
+    no_refusal))
+    (Err Count))
+    (Err Length)
 
 -- ---- what is said, and what the result and the work hold then
 pub record Outcome : Type 0 where
@@ -99,9 +98,9 @@ finish n o = finish_at n o (first (finite_at o.x) n 0)
 abbrev pub solve_of : Request → Solved
 solve_of q = solve q.n q.edges q.grounds q.injection q.guess
 
-abbrev pub answer_to : Option Refusal → Request → List Float → List Float → Outcome
-answer_to (some f) q result work = outcome (Err f) result work
-answer_to none q result work = finish q.n (solve_of q)
+abbrev pub answer_to : Result (Unit {0}) Refusal → Request → List Float → List Float → Outcome
+answer_to (Err f) q result work = outcome (Err f) result work
+answer_to (Ok tt) q result work = finish q.n (solve_of q)
 
 unfoldable pub dc_angles : Request → List Float → List Float → Outcome
-dc_angles q result work = answer_to (fault q (length result) (length work)) q result work
+dc_angles q result work = answer_to (check_of q (length result) (length work)) q result work

@@ -20,4 +20,3 @@ pub struct Solution {
     pub steps: usize,
     pub ended: Ended,
 }
-

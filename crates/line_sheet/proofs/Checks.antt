@@ -1,22 +1,18 @@
 -- The tests of module check: a product that is asked without being made, a level by its place, and what passes. Assumes nothing.
-use Rattle.std.proofs.Common.{◌≡◌, ℕ, ◌+◌, ◌*◌, ◌/◌, ◌%◌, ◌<◌, ◌≤◌, Bool, true, false, cond, ◌&&◌, ◌||◌, T, eqb, ltb, leb, List, length, sym, refl, ap, arith, ltb-false, le-ltb, lt-ltb, eqb-true, le-leb}
+use Rattle.std.proofs.Common.{◌≡◌, ℕ, ◌+◌, ◌*◌, ◌<◌, ◌≤◌, Bool, true, false, cond, ◌&&◌, ◌||◌, T, eqb, ltb, leb, List, length, sym, refl, ap, arith, ltb-false, eqb-true, le-leb}
 use borrow.Author.Tests.{lt-leb}
 use lib.Ieee.{Float, lt, le, of_bits}
 use lib.Ieee.Positive.{num, den, positive, le→cross, between}
 use Rattle.loops.specs.Figures.{at, plus, nought, ten_thousand, millionth, inside}
 use Rattle.loops.proofs.Bools.{both, and_true, or_left, is, unequal}
-use Rattle.loops.proofs.Products.{rows_are}
 use Rattle.loops.proofs.Scan.{all_pass}
 use Rattle.refusal.specs.declared.Refusal.{Refusal}
 use Rattle.refusal.specs.declared.Refusal.TheVariants.{Length, Count, Level, Corridor, Spread as Width}
 use Rattle.line_defs.specs.Bounds.{Spread}
 use Rattle.line_defs.specs.Rows.{counts_ok, sheet_figures}
 use Rattle.line_defs.specs.Request.{lengths_ok, level_ok, length_ok, spread_ok, quarter, four, faulty, fault_in, check_of, Sound}
-use Rattle.std.specs.Prelude.{Err, Ok, Result}
+use Rattle.std.specs.Prelude.{Err, Result}
 use Rattle.refusal.specs.Reply.{no_refusal}
-
-pub sheet_is : (figures levels corridors : ℕ) → figures % 5 ≡ 0 → eqb (figures / 5) (corridors * levels) ≡ eqb figures (sheet_figures levels corridors)
-sheet_is figures levels corridors e = rows_are 5 figures (corridors * levels) e (λ e. let z : ◌≡◌ {A = ℕ} 5 0 = e in omega arith)
 
 -- ---- a level that is the last, or is above the next
 module _ (ladder : List Float) (i : ℕ) where
@@ -102,37 +98,3 @@ passed levels corridors ladder km spread sheet e = lengths (lengths_ok levels co
           };
           sheet_length = eqb-true sheet (sheet_figures levels corridors) x.1;
         }
-
--- ---- the check by its tests
-module _ (levels corridors : ℕ) (ladder km spread : List Float) (sheet : ℕ) where
-  abbrev Checked : Result (Unit {0}) Refusal → Type 0
-  Checked a = a ≡ check_of levels corridors ladder km spread sheet
-
-  abbrev Lengths : Bool → Type 0
-  Lengths b = lengths_ok levels corridors (length ladder) (length km) (length spread) sheet ≡ b
-
-  pub not_lengths : Lengths false → Checked (Err Length)
-  unfolding check_of
-  not_lengths a = rw a
-
-  pub not_counts : Lengths true → counts_ok levels corridors ≡ false → Checked (Err Count)
-  unfolding check_of
-  not_counts a b = rw (a, b)
-
-  pub bad_level : (i : ℕ) → Lengths true → counts_ok levels corridors ≡ true → i ≡ faulty level_ok ladder → i < length ladder → Checked (Err (Level i))
-  unfolding check_of
-  bad_level i a b e h = rw (a, b, ← e, lt-ltb i (length ladder) h)
-
-  pub bad_length : (i j : ℕ) → Lengths true → counts_ok levels corridors ≡ true → i ≡ faulty level_ok ladder → length ladder ≤ i → j ≡ faulty length_ok km → j < length km → Checked (Err (Corridor j))
-  unfolding check_of
-  bad_length i j a b e h f g = rw (a, b, ← e, le-ltb i (length ladder) h, ← f, lt-ltb j (length km) g)
-
-  pub bad_spread : (i j k : ℕ) → Lengths true → counts_ok levels corridors ≡ true → i ≡ faulty level_ok ladder → length ladder ≤ i → j ≡ faulty length_ok km → length km ≤ j
-      → k ≡ faulty spread_ok spread → k < length spread → Checked (Err (Width k))
-  unfolding check_of
-  bad_spread i j k a b e h f g l m = rw (a, b, ← e, le-ltb i (length ladder) h, ← f, le-ltb j (length km) g, ← l, lt-ltb k (length spread) m)
-
-  pub all_sound : (i j k : ℕ) → Lengths true → counts_ok levels corridors ≡ true → i ≡ faulty level_ok ladder → length ladder ≤ i → j ≡ faulty length_ok km → length km ≤ j
-      → k ≡ faulty spread_ok spread → length spread ≤ k → Checked no_refusal
-  unfolding check_of
-  all_sound i j k a b e h f g l m = rw (a, b, ← e, le-ltb i (length ladder) h, ← f, le-ltb j (length km) g, ← l, le-ltb k (length spread) m)

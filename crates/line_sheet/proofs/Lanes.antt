@@ -14,7 +14,7 @@ use Rattle.line_defs.proofs.Between.{started}
 use Rattle.line_defs.proofs.Curve.{on_segment}
 use Rattle.line_sheet.specs.declared.loadability.Lane.{Lane}
 use Rattle.line_sheet.specs.Lanes.{in_knots, start_of, lane_of, Fit, Turning, turned, count_of}
-use Rattle.line_sheet.proofs.Halves.{over_by}
+use Rattle.line_sheet.proofs.Quotients.{over_by}
 use Rattle.line_sheet.proofs.Turns.{Left, square_most, few_digits, one_turn, zero_turn, last_digit}
 
 -- ---- the tests of a length
@@ -159,10 +159,6 @@ count_few km = go 24 0 (lane_of km) refl (lane_on km)
 -- ---- the code's turn
 pub squared_most : (l : Lane) → Start l.near l.far l.left → l.left * l.left / unit ≤ 2 ^ 32
 squared_most l s = omega (arith, square_most l.near l.far l.left s)
-
-pub one_off : (r : ℕ) (b : Bool) (n : ℕ) → r ≡ cond b 0 1 → 0 < n → r ≤ 2 * n
-one_off r true n e h = omega arith
-one_off r false n e h = omega arith
 
 pub turned_is : (l : Lane) (d left r : ℕ) → Fit l → l.left * l.left / unit ≤ 2 ^ 32 → d ≡ l.left * l.left / unit * l.part / 2 ^ 64
     → left ≡ cond (leb l.reach (l.left * l.left / unit)) d (l.left * l.left / unit) → r ≡ cond (leb l.reach (l.left * l.left / unit)) 0 1

@@ -8,7 +8,7 @@ use Rattle.line_defs.specs.Sheet.{sheet_of, outcome, worked_by, line_sheet, With
 use Rattle.line_sheet.proofs.Checks.{spread_of_lem}
 use Rattle.line_defs.proofs.Spreads.{kept_within}
 use Rattle.line_defs.proofs.Curve.{loadable}
-use Rattle.std.specs.Prelude.{Err, Ok}
+use Rattle.std.specs.Prelude.{Err}
 use Rattle.refusal.specs.Reply.{no_refusal}
 
 module _ (levels corridors : ℕ) (ladder km spread sheet : List Float) where

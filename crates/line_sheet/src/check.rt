@@ -1,8 +1,9 @@
 // K8's refusals 1, 2, 3, 6 and 22, in order. They touch nothing.
-ghost use Rattle.std.specs.Prelude.{◌≡◌, ◌*◌, ◌<◌, length, ◌==◌};
-ghost use Rattle.loops.specs.Figures.{inside};
+ghost use Rattle.std.specs.Prelude.{◌≡◌, ◌<◌, length, ◌==◌};
+ghost use Rattle.loops.specs.Figures.{at, inside};
+ghost use Rattle.loops.specs.Loops.{fault};
 ghost use Rattle.line_defs.specs.Rows.{sheet_figures};
-ghost use Rattle.line_defs.specs.Request.{lengths_ok, level_ok, length_ok, spread_ok, faulty, check_of};
+ghost use Rattle.line_defs.specs.Request.{lengths_ok, level_ok, check_of};
 
 use crate::rows::{ROW_FIGURES, counts_ok};
 use refusal::Refusal;
@@ -18,24 +19,14 @@ const LEAST_SPREAD: f64 = 0.25;
 
 const MOST_SPREAD: f64 = 4.0;
 
-// ---- 1. The counts are as given, so that a product of them may not fit: this asks without it
-fn is_product(total: usize, x: usize, y: usize) -> bool
-    ensures { result ≡ (total == x * y) }
-{
-    if x == 0 {
-        return total == 0;
-    }
-    (total / x == y) & (total % x == 0)
-}
-
+// ---- 1. The counts are as given, so that a product of them may not fit
 fn sheet_ok(figures: usize, levels: usize, corridors: usize) -> bool
     ensures { result ≡ (figures == sheet_figures levels corridors) }
 {
-    let rows = figures / ROW_FIGURES;
-    if figures % ROW_FIGURES != 0 {
-        return false;
+    match corridors.checked_mul(levels) {
+        Some(rows) => (figures / ROW_FIGURES == rows) & (figures % ROW_FIGURES == 0),
+        None => false,
     }
-    is_product(rows, corridors, levels)
 }
 
 fn lengths_ok(
@@ -54,7 +45,7 @@ fn lengths_ok(
         & sheet_ok(sheet, levels, corridors)
 }
 
-// ---- 3, 6 and 22: the first place of a table that is not sound, the number of places where all are
+// ---- 3, 6 and 22: the first place of a table that is not sound
 fn level_ok(ladder: &[f64], i: usize) -> bool
     requires { i < length ladder.now }
     ensures { result ≡ level_ok ladder.now i }
@@ -67,49 +58,20 @@ fn level_ok(ladder: &[f64], i: usize) -> bool
     inside & (ladder[i + 1] + KV_TOLERANCE < kv)
 }
 
-fn faulty_level(ladder: &[f64]) -> usize
-    ensures { result ≡ faulty level_ok ladder.now }
+fn faulty_level(ladder: &[f64]) -> Option<usize>
+    ensures { result ≡ fault (level_ok ladder.now) (length ladder.now) }
 {
-    let mut i = 0;
-    while i < ladder.len() {
-        if !level_ok(ladder, i) {
-            return i;
-        }
-        i += 1;
-    }
-    i
+    loops::first_fault(ladder.len(), |i| level_ok(ladder, i))
 }
 
-fn faulty_length(km: &[f64]) -> usize
-    ensures { result ≡ faulty length_ok km.now }
+// The first figure that does not lie from `least` to `most`.
+fn outside(figures: &[f64], least: f64, most: f64) -> Option<usize>
+    ensures { result ≡ fault (λ i. inside least most (at figures.now i)) (length figures.now) }
 {
-    let mut i = 0;
-    while i < km.len() {
-        if !within(km[i], 0.0, MOST_KM) {
-            return i;
-        }
-        i += 1;
-    }
-    i
-}
-
-fn faulty_spread(spread: &[f64]) -> usize
-    ensures { result ≡ faulty spread_ok spread.now }
-{
-    let mut i = 0;
-    while i < spread.len() {
-        if !within(spread[i], LEAST_SPREAD, MOST_SPREAD) {
-            return i;
-        }
-        i += 1;
-    }
-    i
-}
-
-fn within(x: f64, least: f64, most: f64) -> bool
-    ensures { result ≡ inside least most x }
-{
-    (least <= x) & (x <= most)
+    loops::first_fault(
+        figures.len(),
+        |i| (least <= figures[i]) & (figures[i] <= most),
+    )
 }
 
 // The first refusal in order.
@@ -136,17 +98,14 @@ pub fn check(
     if !counts_ok(levels, corridors) {
         return Err(Refusal::Count);
     }
-    let level = faulty_level(ladder);
-    if level < ladder.len() {
-        return Err(Refusal::Level(level));
+    if let Some(i) = faulty_level(ladder) {
+        return Err(Refusal::Level(i));
     }
-    let length = faulty_length(km);
-    if length < km.len() {
-        return Err(Refusal::Corridor(length));
+    if let Some(k) = outside(km, 0.0, MOST_KM) {
+        return Err(Refusal::Corridor(k));
     }
-    let width = faulty_spread(spread);
-    if width < spread.len() {
-        return Err(Refusal::Spread(width));
+    if let Some(k) = outside(spread, LEAST_SPREAD, MOST_SPREAD) {
+        return Err(Refusal::Spread(k));
     }
     Ok(())
 }

@@ -6,6 +6,7 @@ ghost use Rattle.line_defs.specs.Rows.{corridor_rows};
 ghost use Rattle.line_defs.specs.Sheet.{outcome, line_sheet, WhereAnswered};
 
 use crate::rows::{ROW_FIGURES, sheets_ok};
+use crate::tables::Tables;
 use refusal::Refusal;
 
 mod check;
@@ -17,6 +18,8 @@ mod row;
 mod rows;
 mod sheet;
 mod spread;
+mod tables;
+mod whole;
 mod wide;
 
 // Writes a row for each corridor and level: r, x, b, rate, basis (0 thermal, 1 loadability), all levels of corridor 0 first. Reads
@@ -34,7 +37,14 @@ pub fn line_sheet(
     ensures bounds { WhereAnswered result corridors km.now spread.now }
 {
     check::check(levels, corridors, ladder, km, spread, sheet.len())?;
-        sheet::fill(levels, corridors, ladder, km, spread, sheet);
+    let tables = Tables {
+        levels,
+        corridors,
+        ladder,
+        km,
+        spread,
+    };
+    sheet::fill(&tables, sheet);
     Ok(())
 }
 
@@ -51,10 +61,10 @@ pub fn corridor_rows<'a>(
     ensures { result.now ≡ corridor_rows levels corridors count k surveyed.now worked.now }
 {
     if !sheets_ok(levels, corridors, count, surveyed.len(), worked.len()) {
-        return &worked[0..0];
+        return &worked[..0];
     }
     if k >= corridors {
-        return &worked[0..0];
+        return &worked[..0];
     }
     let n = ROW_FIGURES * levels;
     let from = k * n;

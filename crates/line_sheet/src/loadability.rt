@@ -6,7 +6,7 @@ ghost use Rattle.line_defs.specs.Loadability.{by_segment, segment_of, middle, lo
 ghost use Rattle.line_defs.specs.Bounds.{Knots};
 ghost use Rattle.line_sheet.specs.Lanes.{in_knots, start_of, lane_of, Turning, turned, count_of};
 
-use crate::figures::{choose, greater, sqrt};
+use crate::figures::greater;
 use crate::grid::{on_grid, steps_of_length};
 use crate::wide::high;
 use line_defs::Segment;
@@ -30,18 +30,21 @@ pub struct Lane {
 }
 
 // Of five figures the one of the first segment that reaches to km.
+#[tactic(auto, unfolding(line_defs::specs::Loadability::by_segment))]
 fn by_segment(km: f64, a: u64, b: u64, c: u64, d: u64, e: u64) -> u64
     ensures { result ≡ by_segment km a b c d e }
 {
-    choose(
-        km <= 160.0,
-        a,
-        choose(
-            km <= 320.0,
-            b,
-            choose(km <= 480.0, c, choose(km <= 640.0, d, e)),
-        ),
-    )
+    if km <= 160.0 {
+        a
+    } else if km <= 320.0 {
+        b
+    } else if km <= 480.0 {
+        c
+    } else if km <= 640.0 {
+        d
+    } else {
+        e
+    }
 }
 
 fn segment_of(km: f64) -> Segment
@@ -68,9 +71,10 @@ fn start(km: f64, near: u64) -> u64
     ensures { result ≡ start_of km }
 {
     if in_knots(km) {
-        return steps_of_length(km) / (0x1_0000 * near);
+        steps_of_length(km) / (0x1_0000 * near)
+    } else {
+        UNIT
     }
-    UNIT
 }
 
 fn lane_of(km: f64) -> Lane
@@ -78,7 +82,7 @@ fn lane_of(km: f64) -> Lane
 {
     let near = by_segment(km, 80, 160, 320, 480, 640);
     Lane {
-        near: near,
+        near,
         far: by_segment(km, 160, 320, 480, 640, 965),
         reach: by_segment(
             km,
@@ -116,13 +120,11 @@ fn turn(l: Lane) -> Lane
 {
     let w = l.left * l.left / UNIT;
     let divided = high(w, l.part);
+    let reached = w >= l.reach;
     Lane {
-        near: l.near,
-        far: l.far,
-        reach: l.reach,
-        part: l.part,
-        left: choose(w >= l.reach, divided, w),
-        count: 2 * l.count - choose(w >= l.reach, 0, 1),
+        left: if reached { divided } else { w },
+        count: 2 * l.count - !reached as u64,
+        ..l
     }
 }
 
@@ -131,10 +133,8 @@ fn count_of(km: f64) -> u64
     ensures { result ≡ count_of km }
 {
     let mut a = lane_of(km);
-    let mut i: u64 = 0;
-    while i < DIGITS {
+    for _digit in 0..DIGITS {
         a = turn(a);
-        i += 1;
     }
     a.count
 }
@@ -159,7 +159,7 @@ fn rated(km: f64, count: u64) -> f64
     if km <= 965.0 {
         return on_grid(middle(segment_of(km), count));
     }
-    greater(0.6 * sqrt(965.0 / km), 0.4)
+    greater(0.6 * root::sqrt(965.0 / km), 0.4)
 }
 
 pub fn loadability(km: f64) -> f64
@@ -184,8 +184,7 @@ fn counts_of(km: &[f64], k: usize) -> [u64; 8]
     let mut f = lane_at(km, k + 5);
     let mut g = lane_at(km, k + 6);
     let mut h = lane_at(km, k + 7);
-    let mut i: u64 = 0;
-    while i < DIGITS {
+    for _digit in 0..DIGITS {
         a = turn(a);
         b = turn(b);
         c = turn(c);
@@ -194,7 +193,6 @@ fn counts_of(km: &[f64], k: usize) -> [u64; 8]
         f = turn(f);
         g = turn(g);
         h = turn(h);
-        i += 1;
     }
     [
         a.count, b.count, c.count, d.count, e.count, f.count, g.count, h.count,
@@ -206,14 +204,7 @@ fn some_in_knots(km: &[f64], k: usize) -> bool
     requires { k + 8 ≤ length km.now }
     ensures { result ≡ false → (j : ℕ) → j < 8 → in_knots (at km.now (k + j)) ≡ false }
 {
-    let mut j: usize = 0;
-    while j < 8 {
-        if in_knots(km[k + j]) {
-            return true;
-        }
-        j += 1;
-    }
-    false
+    km[k..k + 8].iter().any(|x| in_knots(*x))
 }
 
 // The digits, and 1, where they are asked for.
@@ -234,10 +225,8 @@ pub fn loadabilities(km: &[f64], k: usize) -> [f64; 8]
 {
     let count = counts(km, k);
     let mut r = [0.0f64; 8];
-    let mut j: usize = 0;
-    while j < 8 {
+    for j in 0..8 {
         r[j] = rated(km[k + j], count[j]);
-        j += 1;
     }
     r
 }

@@ -4,7 +4,6 @@ ghost use Rattle.loops.specs.Figures.{at};
 ghost use Rattle.line_defs.specs.Class.{class_of_square, kvs};
 ghost use Rattle.line_defs.specs.Row.{width_of, thermal_of, limit_of, class_row, line_row};
 
-use crate::figures::pick;
 use line_defs::Row;
 
 // The classes by rising kV: kV; r and x, ohm/km; b, microsiemens/km; thermal rating, MVA; surge impedance loading, MW.
@@ -55,7 +54,7 @@ fn width(c: usize, spread: f64, kept: f64) -> f64
     requires { c < 7 }
     ensures { result ≡ width_of c spread kept }
 {
-    pick(KV[c] >= EHV, kept, spread)
+    if KV[c] >= EHV { kept } else { spread }
 }
 
 fn ratio(c: usize, kv: f64) -> f64
@@ -85,12 +84,22 @@ fn class_row(c: usize, z: f64, ratio: f64, km: f64, width: f64, load: f64) -> Ro
 {
     let thermal = thermal(c, ratio);
     let limit = limit(c, ratio, load);
-    Row {
+    // The basis is a figure since the sheet is a table of figures (the C interface).
+    let rated = Row {
         r: R[c] * km * width / z,
         x: X[c] * km * width / z,
         b: B[c] * 1e-6 * km * z,
-        rate: pick(limit < thermal, limit, thermal),
-        basis: pick(limit < thermal, 1.0, 0.0),
+        rate: thermal,
+        basis: 0.0,
+    };
+    if limit < thermal {
+        Row {
+            rate: limit,
+            basis: 1.0,
+            ..rated
+        }
+    } else {
+        rated
     }
 }
 

@@ -18,6 +18,7 @@ pub fn counts_ok(levels: usize, corridors: usize) -> bool
 pub fn sheets_ok(levels: usize, corridors: usize, surveyed: usize, n: usize, m: usize) -> bool
     ensures { result ≡ sheets_ok levels corridors surveyed n m }
 {
+    // Within these bounds the products fit.
     if !counts_ok(levels, corridors) {
         return false;
     }

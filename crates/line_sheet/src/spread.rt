@@ -53,10 +53,8 @@ pub fn guesses(spread: &[f64], k: usize) -> [u64; 8]
     requires { k + 8 ≤ length spread.now }
 {
     let mut r = [0u64; 8];
-    let mut j: usize = 0;
-    while j < 8 {
+    for j in 0..8 {
         r[j] = guess(spread[k + j]);
-        j += 1;
     }
     r
 }
@@ -67,15 +65,12 @@ fn next(lo: u64, hi: u64, guess: u64) -> u64
     ensures { (lo < result) × (result < hi) }
 {
     if guess == lo {
-        return lo + 1;
+        lo + 1
+    } else if (lo < guess) & (guess < hi) {
+        guess
+    } else {
+        (lo + hi) / 2
     }
-    if guess < lo {
-        return (lo + hi) / 2;
-    }
-    if guess < hi {
-        return guess;
-    }
-    (lo + hi) / 2
 }
 
 // Whether r is surely the root: by the upper halves of products, each of which loses less than 1. It says no where the fifth power of r or

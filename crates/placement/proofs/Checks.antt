@@ -1,17 +1,18 @@
 -- What a request that passes the checks has.
 -- The tests are taken apart in their order; where no row of a table is the first faulty one, each row passes.
-use mathlib.Core.Path.{◌≡◌, refl, sym}
+use mathlib.Core.Path.{◌≡◌, refl, sym, ◌∙◌}
 use mathlib.Core.Bool.{Bool, true, false, cond, ◌&&◌}
 use Prim.Native.Nat.{ℕ, ◌<◌, ◌≤◌}
-use borrow.Author.Tests.{eqb-true, leb-true, ltb-true, ltb-false}
+use borrow.Author.Tests.{eqb-true, leb-true, ltb-true, ltb-false, lt-ltb, le-ltb}
 use native.Mathlib.Omega.{arith}
 use lib.Dec.{eqb, ltb, leb}
 use lib.ListN.{length, get_or}
 use Rattle.loops.proofs.Bools.{both}
-use Rattle.loops.proofs.Scan.{all_pass}
+use Rattle.loops.proofs.Scan.{all_pass, fault_some, fault_passed}
+use Rattle.loops.specs.Loops.{first, fault}
 use Rattle.refusal.specs.declared.Refusal.TheVariants.{Length, Count, Bus, Generator, Corridor}
-use Rattle.placement_defs.specs.Request.{Request, Net, Units, lengths_ok, counts_ok, bus_ok, corridor_at, first_load, first_generator, first_corridor, faulty_row, check_of}
-use Rattle.std.specs.Prelude.{Err, Ok, Result}
+use Rattle.placement_defs.specs.Request.{Request, Net, Units, lengths_ok, counts_ok, load_at, bus_ok, corridor_at, first_load, first_generator, first_corridor, faulty_row, check_of}
+use Rattle.std.specs.Prelude.{Err, Result, Some, None}
 use Rattle.refusal.specs.declared.Refusal.{Refusal}
 use Rattle.refusal.specs.Reply.{no_refusal}
 
@@ -58,6 +59,35 @@ pub record Passed (k : Request) (buses mvars : ℕ) : Type 0 where
   pub lengths : Lengths k buses mvars
   pub net : Net k.n k.m k.a k.b k.km
   pub units : Units k.n k.generators
+
+-- ---- a table looked through: its first fault is the verdict, and without one what comes next
+pub row_faulty : (verdict : ℕ → Refusal) (ok : ℕ → Bool) (n k : ℕ) (next : Result (Unit {0}) Refusal) → Some k ≡ fault ok n → Err (verdict k) ≡ faulty_row verdict (first ok n 0) n next
+row_faulty verdict ok n k next e = let f = fault_some ok n k e in rw (← f.0, lt-ltb k n f.1)
+
+pub row_sound : (verdict : ℕ → Refusal) (ok : ℕ → Bool) (n : ℕ) (next : Result (Unit {0}) Refusal) → None ≡ fault ok n → next ≡ faulty_row verdict (first ok n 0) n next
+row_sound verdict ok n next e = rw (le-ltb (first ok n 0) n (fault_passed ok n e))
+
+-- the verdict on tables of the right lengths and counts
+module _ (k : Request) (buses mvars : ℕ) (l : lengths_ok k buses mvars ≡ true) (c : counts_ok k.n k.m k.g ≡ true) where
+  pub bus_refused : (i : ℕ) → Some i ≡ fault (load_at k.reading k.weight) k.n → Err (Bus i) ≡ check_of k buses mvars
+  unfolding check_of first_load
+  bus_refused i e = rw (l, c) (row_faulty Bus (load_at k.reading k.weight) k.n i _ e)
+
+  module _ (sound : None ≡ fault (load_at k.reading k.weight) k.n) where
+    pub generator_refused : (i : ℕ) → Some i ≡ fault (λ i. bus_ok k.n (get_or k.generators i 0)) k.g → Err (Generator i) ≡ check_of k buses mvars
+    unfolding check_of first_load first_generator
+    generator_refused i e = rw (l, c) (row_faulty Generator (λ i. bus_ok k.n (get_or k.generators i 0)) k.g i _ e ∙ row_sound Bus (load_at k.reading k.weight) k.n _ sound)
+
+    module _ (stand : None ≡ fault (λ i. bus_ok k.n (get_or k.generators i 0)) k.g) where
+      pub corridor_refused : (i : ℕ) → Some i ≡ fault (corridor_at k.n k.a k.b k.km) k.m → Err (Corridor i) ≡ check_of k buses mvars
+      unfolding check_of first_load first_generator first_corridor
+      corridor_refused i e =
+          rw (l, c) (row_faulty Corridor (corridor_at k.n k.a k.b k.km) k.m i _ e ∙ row_sound Generator (λ i. bus_ok k.n (get_or k.generators i 0)) k.g _ stand ∙ row_sound Bus (load_at k.reading k.weight) k.n _ sound)
+
+      pub none_refused : None ≡ fault (corridor_at k.n k.a k.b k.km) k.m → no_refusal ≡ check_of k buses mvars
+      unfolding check_of first_load first_generator first_corridor
+      none_refused e =
+          rw (l, c) (row_sound Corridor (corridor_at k.n k.a k.b k.km) k.m _ e ∙ row_sound Generator (λ i. bus_ok k.n (get_or k.generators i 0)) k.g _ stand ∙ row_sound Bus (load_at k.reading k.weight) k.n _ sound)
 
 only : (b : Bool) (x y : Result (Unit {0}) Refusal) → cond b x y ≡ no_refusal → (y ≡ no_refusal → ⊥) → (b ≡ true) × (x ≡ no_refusal)
 only true x y e n = (refl, e)

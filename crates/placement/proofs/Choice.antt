@@ -27,14 +27,9 @@ unfolding farthest_to
 farthest_within n loads dist zero h = omega arith
 farthest_within n loads dist (suc i) h = farther_within n loads dist (farthest_to n loads dist i) i (omega arith) (farthest_within n loads dist i (omega arith))
 
-pub farthest_turn : (n : ℕ) (loads dist : List Float) (best r i : ℕ) → i < n → best ≤ n → best ≡ farthest_to n loads dist i → r ≡ farther n loads dist best i
-    → (i + 1 ≤ n) × (r ≤ n) × (r ≡ farthest_to n loads dist (i + 1))
+pub farthest_turn : (n : ℕ) (loads dist : List Float) (best r i : ℕ) → best ≡ farthest_to n loads dist i → r ≡ farther n loads dist best i → r ≡ farthest_to n loads dist (i + 1)
 unfolding farthest_to
-farthest_turn n loads dist best r i h k e q = (
-  omega arith,
-  rw q (farther_within n loads dist best i h k),
-  rw add-one (q ∙ ap (λ (t : ℕ). farther n loads dist t i) e),
-)
+farthest_turn n loads dist best r i e q = rw add-one (q ∙ ap (λ (t : ℕ). farther n loads dist t i) e)
 
 pub served_turn : (loads : List Float) (from : List ℕ) (bus i : ℕ) (sum r : Float) → sum ≡ served_to loads from bus i
     → r ≡ added sum (at loads i) (get_or from i 0) bus → r ≡ served_to loads from bus (i + 1)

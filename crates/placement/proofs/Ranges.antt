@@ -20,7 +20,10 @@ use Rattle.loops.specs.Loops.{iter}
 use Rattle.loops.proofs.Loops.{iter_carries}
 use Rattle.loops.proofs.Order.{le_of_not_lt, le_of_lt, le_self, left_real, right_real, le_through, lt_not_le}
 use Rattle.placement_defs.specs.Distance.{Labels, rest, candidate, settled, nearer, nearest_to, reached, seeded, seed}
-use Rattle.placement.specs.Blocks.{Before, LeastOf, closer, nearest_with, Numbers, Nearests, Front}
+use Rattle.std.specs.Prelude.{Option, Some, None}
+use Rattle.placement.specs.Choices.{number}
+use Rattle.placement.proofs.Tests.{some_below}
+use Rattle.placement.specs.Blocks.{Before, LeastOf, Chosen, closer, nearest_with, Numbers, Nearests, Front}
 
 -- ---- the order
 through_lt : (x y z : Float) → le x y ≡ true → lt y z ≡ true → lt x z ≡ true
@@ -335,29 +338,31 @@ module _ (n : ℕ) (mark mark' : List ℕ) (dist dist' : List Float) where
       least_reached = choose (ltb b n) (lt nd (at dist' b)) (lt (at dist' b) nd) (ltb j b) refl refl refl refl
 
 -- ---- the nearest of each block
-pub nearests_next : (n : ℕ) (mark : List ℕ) (dist : List Float) (nearest : List ℕ) (k x : ℕ) → length nearest ≡ 16 → k < 16 → Nearests n mark dist nearest k
-    → LeastOf n mark dist (16 * k) (16 * k + 16) x → Nearests n mark dist (set nearest k x) (k + 1)
+pub nearests_next : (n : ℕ) (mark : List ℕ) (dist : List Float) (nearest : List (Option ℕ)) (k : ℕ) (x : Option ℕ) → length nearest ≡ 16 → k < 16 → Nearests n mark dist nearest k
+    → Chosen n mark dist (16 * k) (16 * k + 16) x → Nearests n mark dist (set nearest k x) (k + 1)
 nearests_next n mark dist nearest k x l h p q t lt low =
     elim (ℕ_discrete t k) [
-      | yes e ↦ subst (λ (u : ℕ). LeastOf n mark dist (16 * u) (16 * u + 16) (get_or (set nearest k x) u 0)) (sym e)
-          (subst (λ (u : ℕ). LeastOf n mark dist (16 * k) (16 * k + 16) u) (sym (get_or-set_same nearest k x 0 (omega arith))) q)
-      | no e ↦ subst (λ (u : ℕ). LeastOf n mark dist (16 * t) (16 * t + 16) u) (sym (get_or-set_other nearest k t x 0 e)) (p t (omega arith) low)
+      | yes e ↦ subst (λ (u : ℕ). Chosen n mark dist (16 * u) (16 * u + 16) (get_or (set nearest k x) u None)) (sym e)
+          (subst (λ (u : Option ℕ). Chosen n mark dist (16 * k) (16 * k + 16) u) (sym (get_or-set_same nearest k x None (omega arith))) q)
+      | no e ↦ subst (λ (u : Option ℕ). Chosen n mark dist (16 * t) (16 * t + 16) u) (sym (get_or-set_other nearest k t x None e)) (p t (omega arith) low)
     ]
 
-pub nearests_all : (n : ℕ) (mark : List ℕ) (dist : List Float) (nearest : List ℕ) (k : ℕ) → n ≤ 16 * k → Nearests n mark dist nearest k → Nearests n mark dist nearest 16
+pub nearests_all : (n : ℕ) (mark : List ℕ) (dist : List Float) (nearest : List (Option ℕ)) (k : ℕ) → n ≤ 16 * k → Nearests n mark dist nearest k → Nearests n mark dist nearest 16
 nearests_all n mark dist nearest k h p t lt low = p t (omega arith) low
 
 -- ---- bus j alone was changed, and its block looked at again
-module _ (n : ℕ) (mark mark' : List ℕ) (dist dist' : List Float) (nearest : List ℕ) (j k : ℕ) (lo : 16 * k ≤ j) (hi : j < 16 * k + 16)
+module _ (n : ℕ) (mark mark' : List ℕ) (dist dist' : List Float) (nearest : List (Option ℕ)) (j k : ℕ) (lo : 16 * k ≤ j) (hi : j < 16 * k + 16)
     (marks : (i : ℕ) → (i ≡ j → ⊥) → get_or mark' i 0 ≡ get_or mark i 0) (dists : (i : ℕ) → (i ≡ j → ⊥) → at dist' i ≡ at dist i) where
-  blocks_with : (x : ℕ) → length nearest ≡ 16 → k < 16 → Nearests n mark dist nearest 16 → LeastOf n mark' dist' (16 * k) (16 * k + 16) x → Nearests n mark' dist' (set nearest k x) 16
+  blocks_with : (x : Option ℕ) → length nearest ≡ 16 → k < 16 → Nearests n mark dist nearest 16 → Chosen n mark' dist' (16 * k) (16 * k + 16) x → Nearests n mark' dist' (set nearest k x) 16
   blocks_with x l h p q t lt low =
       elim (ℕ_discrete t k) [
-        | yes e ↦ subst (λ (u : ℕ). LeastOf n mark' dist' (16 * u) (16 * u + 16) (get_or (set nearest k x) u 0)) (sym e)
-            (subst (λ (u : ℕ). LeastOf n mark' dist' (16 * k) (16 * k + 16) u) (sym (get_or-set_same nearest k x 0 (omega arith))) q)
-        | no e ↦ subst (λ (u : ℕ). LeastOf n mark' dist' (16 * t) (16 * t + 16) u) (sym (get_or-set_other nearest k t x 0 e))
-            (least_else n mark mark' dist dist' (16 * t) (16 * t + 16) (get_or nearest t 0)
-            (λ i a b c. let d : i ≡ j → ⊥ = λ z. other i e a b z in (marks i d, dists i d)) (p t lt low))
+        | yes e ↦ subst (λ (u : ℕ). Chosen n mark' dist' (16 * u) (16 * u + 16) (get_or (set nearest k x) u None)) (sym e)
+            (subst (λ (u : Option ℕ). Chosen n mark' dist' (16 * k) (16 * k + 16) u) (sym (get_or-set_same nearest k x None (omega arith))) q)
+        | no e ↦ subst (λ (u : Option ℕ). Chosen n mark' dist' (16 * t) (16 * t + 16) u) (sym (get_or-set_other nearest k t x None e)) (
+          least_else n mark mark' dist dist' (16 * t) (16 * t + 16) (number n (get_or nearest t None))
+              (λ i a b c. let d : i ≡ j → ⊥ = λ z. other i e a b z in (marks i d, dists i d)) (p t lt low).0,
+          (p t lt low).1,
+        )
       ]
     where
       other : (i : ℕ) → (t ≡ k → ⊥) → 16 * t ≤ i → i < 16 * t + 16 → i ≡ j → ⊥
@@ -380,8 +385,8 @@ module _ (n : ℕ) (mark : List ℕ) (dist : List Float) (few : n ≤ 256) where
             ];
       }
 
-  module _ (nearest : List ℕ) (j k : ℕ) (hj : j < n) (lo : 16 * k ≤ j) (hi : j < 16 * k + 16) (r : Front n mark dist nearest) where
-    pub front_settled : (x : ℕ) → LeastOf n (set mark j settled) dist (16 * k) (16 * k + 16) x → Front n (set mark j settled) dist (set nearest k x)
+  module _ (nearest : List (Option ℕ)) (j k : ℕ) (hj : j < n) (lo : 16 * k ≤ j) (hi : j < 16 * k + 16) (r : Front n mark dist nearest) where
+    pub front_settled : (x : Option ℕ) → Chosen n (set mark j settled) dist (16 * k) (16 * k + 16) x → Front n (set mark j settled) dist (set nearest k x)
     front_settled x q =
         record {
           numbers = numbers_marked j settled r.numbers;
@@ -389,8 +394,8 @@ module _ (n : ℕ) (mark : List ℕ) (dist : List Float) (few : n ≤ 256) where
           blocks = blocks_with n mark (set mark j settled) dist dist nearest j k lo hi (λ i d. get_or-set_other mark j i settled 0 d) (λ i d. refl) x r.nearests (omega arith) r.blocks q;
         }
 
-    pub front_reached : (nd : Float) (x : ℕ) → lt nd (at dist j) ≡ true → x ≡ nearest_with n (set dist j nd) (get_or nearest k 0) j nd → Front n (set mark j candidate) (set dist j nd) (set nearest k x)
-    front_reached nd x less e =
+    pub front_reached : (nd : Float) (x : ℕ) → lt nd (at dist j) ≡ true → x < n → x ≡ nearest_with n (set dist j nd) (number n (get_or nearest k None)) j nd → Front n (set mark j candidate) (set dist j nd) (set nearest k (Some x))
+    front_reached nd x less bus e =
         let l1 = r.numbers.marks in
         let l2 = r.numbers.dists in
         let marks : (i : ℕ) → (i ≡ j → ⊥) → get_or (set mark j candidate) i 0 ≡ get_or mark i 0 = λ i d. get_or-set_other mark j i candidate 0 d in
@@ -400,10 +405,12 @@ module _ (n : ℕ) (mark : List ℕ) (dist : List Float) (few : n ≤ 256) where
         let block = r.blocks k (omega arith) (omega arith) in
         record {
           numbers = numbers_reached j candidate nd hj (le_self nd (left_real nd (at dist j) (le_of_lt nd (at dist j) less))) r.numbers;
-          nearests = length-set nearest k x ∙ r.nearests;
-          blocks = blocks_with n mark (set mark j candidate) dist (set dist j nd) nearest j k lo hi marks dists x r.nearests (omega arith) r.blocks
-              (subst (λ (t : ℕ). LeastOf n (set mark j candidate) (set dist j nd) (16 * k) (16 * k + 16) t) (sym e)
-              (least_reached n mark (set mark j candidate) dist (set dist j nd) j nd hj here far less marks dists r.numbers.real (16 * k) (16 * k + 16) (get_or nearest k 0) lo hi block));
+          nearests = length-set nearest k (Some x) ∙ r.nearests;
+          blocks = blocks_with n mark (set mark j candidate) dist (set dist j nd) nearest j k lo hi marks dists (Some x) r.nearests (omega arith) r.blocks (
+            subst (λ (t : ℕ). LeastOf n (set mark j candidate) (set dist j nd) (16 * k) (16 * k + 16) t) (sym e)
+                (least_reached n mark (set mark j candidate) dist (set dist j nd) j nd hj here far less marks dists r.numbers.real (16 * k) (16 * k + 16) (number n (get_or nearest k None)) lo hi block.0),
+            some_below n x bus,
+          );
         }
 
 -- ---- the sources are placed
@@ -433,11 +440,11 @@ numbers_blank n z few e =
     }
 
 -- ---- step 2: the blocks in turn
-module _ (n : ℕ) (mark : List ℕ) (dist : List Float) (nearest : List ℕ) (r : Front n mark dist nearest) where
-  pub closer_turn : (k b x : ℕ) → k < 16 → 16 * k < n → LeastOf n mark dist 0 (16 * k) b → x ≡ closer n dist b (get_or nearest k 0) → LeastOf n mark dist 0 (16 * (k + 1)) x
+module _ (n : ℕ) (mark : List ℕ) (dist : List Float) (nearest : List (Option ℕ)) (r : Front n mark dist nearest) where
+  pub closer_turn : (k b x : ℕ) → k < 16 → 16 * k < n → LeastOf n mark dist 0 (16 * k) b → x ≡ closer n dist b (number n (get_or nearest k None)) → LeastOf n mark dist 0 (16 * (k + 1)) x
   closer_turn k b x h low l e =
       let z : 16 * (k + 1) ≡ 16 * k + 16 = omega arith in
-      rw (e, z) (least_both n mark dist r.numbers 0 (16 * k) (16 * k + 16) b (get_or nearest k 0) (omega arith) (omega arith) l (r.blocks k h low))
+      rw (e, z) (least_both n mark dist r.numbers 0 (16 * k) (16 * k + 16) b (number n (get_or nearest k None)) (omega arith) (omega arith) l (r.blocks k h low).0)
 
   pub nearest_all : (k b : ℕ) → n ≤ 16 * k → LeastOf n mark dist 0 (16 * k) b → b ≡ nearest_to n mark dist n
   nearest_all k b h l = least_nearest n mark dist r.numbers b (least_as n mark dist 0 (16 * k) n b (λ j p q. p) (λ j p q. omega arith) l)

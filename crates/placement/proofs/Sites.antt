@@ -11,17 +11,13 @@ use Rattle.loops.proofs.Loops.{iter_keeps}
 use Rattle.loops.specs.Figures.{infinity, nought}
 use native.Mathlib.Omega.{arith}
 use Rattle.placement_defs.specs.Request.{Request, Units, check_of}
-use Rattle.placement_defs.specs.Distance.{Labels, labels, Network, network, rest, nobody, distances, distances_from}
-use Rattle.placement_defs.specs.Support.{farthest_to, if_far, next_by, next_of, Sites, sites, join, join_next, joined, size_at, sized, flag, flagged, sites_by, placed, Outcome, outcome, network_of, answer_to, placement}
+use Rattle.placement_defs.specs.Distance.{Labels, labels, Network, rest, nobody, distances, distances_from}
+use Rattle.placement_defs.specs.Support.{next_of, Sites, sites, join, join_next, joined, size_at, sized, flag, flagged, sites_by, placed, Outcome, outcome, network_of, answer_to, placement}
 use Rattle.placement.specs.Stages.{Joined, Placing}
 use Rattle.placement.proofs.Turns.{blank_start}
 use Rattle.refusal.specs.declared.Refusal.{Refusal}
 use Rattle.std.specs.Prelude.{Err, Ok, Result}
 use Rattle.refusal.specs.Reply.{no_refusal}
-
-pub next_is : (n : ℕ) (loads dist : List Float) (i r : ℕ) → i ≡ farthest_to n loads dist n → r ≡ if_far n dist i → r ≡ next_by n loads dist
-unfolding next_by
-next_is n loads dist i r f g = g ∙ ap (λ (t : ℕ). if_far n dist t) f
 
 -- ---- a condenser joins
 module _ (w : Network) (loads : List Float) (s : Sites) (i : ℕ) where
@@ -53,19 +49,18 @@ sized_is w loads sources buses mark from dist z count mvars₀ mvars e q f =
     f ∙ ap (λ (l : List ℕ). iter (size_at loads l w.n buses) count 0 mvars₀) d
 
 -- ---- the whole
-pub placed_is : (n m : ℕ) (loads : List Float) (a b : List ℕ) (km : List Float) (generators : List ℕ) (buses₀ buses₁ buses₂ sources₁ sources₂ : List ℕ) (mvars₀ mvars₁ mvars₂ : List Float) (count : ℕ)
-    → length buses₀ ≡ n → length mvars₀ ≡ n → buses₁ ≡ replicate (length buses₀) 0 → mvars₁ ≡ replicate (length mvars₀) nought
-    → sources₁ ≡ flagged generators (replicate 256 0) → Joined (network n m a b km) loads sources₁ buses₁ sources₂ buses₂ count
-    → mvars₂ ≡ sized (network n m a b km) loads sources₂ buses₂ count mvars₁ → Placing n m loads a b km generators count buses₂ mvars₂
+pub placed_is : (w : Network) (loads : List Float) (generators : List ℕ) (buses₀ buses₁ buses₂ sources₁ sources₂ : List ℕ) (mvars₀ mvars₁ mvars₂ : List Float) (count : ℕ)
+    → length buses₀ ≡ w.n → length mvars₀ ≡ w.n → buses₁ ≡ replicate (length buses₀) 0 → mvars₁ ≡ replicate (length mvars₀) nought
+    → sources₁ ≡ flagged generators (replicate 256 0) → Joined w loads sources₁ buses₁ sources₂ buses₂ count
+    → mvars₂ ≡ sized w loads sources₂ buses₂ count mvars₁ → Placing w loads generators count buses₂ mvars₂
 unfolding placed sites_by
-placed_is n m loads a b km generators buses₀ buses₁ buses₂ sources₁ sources₂ mvars₀ mvars₁ mvars₂ count p q e f g j z =
-    let w = network n m a b km in
-    let e' : buses₁ ≡ replicate n 0 = e ∙ ap (λ (t : ℕ). replicate t 0) p in
-    let f' : mvars₁ ≡ replicate n nought = f ∙ ap (λ (t : ℕ). replicate t nought) q in
-    let s : sites sources₂ buses₂ count ≡ joined w loads (sites (flagged generators (replicate 256 0)) (replicate n 0) 0) =
+placed_is w loads generators buses₀ buses₁ buses₂ sources₁ sources₂ mvars₀ mvars₁ mvars₂ count p q e f g j z =
+    let e' : buses₁ ≡ replicate w.n 0 = e ∙ ap (λ (t : ℕ). replicate t 0) p in
+    let f' : mvars₁ ≡ replicate w.n nought = f ∙ ap (λ (t : ℕ). replicate t nought) q in
+    let s : sites sources₂ buses₂ count ≡ joined w loads (sites (flagged generators (replicate 256 0)) (replicate w.n 0) 0) =
     j.all ∙ ap (λ (t : List ℕ). joined w loads (sites t buses₁ 0)) g ∙ ap (λ (t : List ℕ). joined w loads (sites (flagged generators (replicate 256 0)) t 0)) e' in
     ap (λ (t : List Float). outcome (Ok count) buses₂ t) (z ∙ ap (λ (t : List Float). sized w loads sources₂ buses₂ count t) f')
-    ∙ ap (λ (t : Sites). outcome (Ok t.count) t.buses (sized w loads t.sources t.buses t.count (replicate n nought))) s
+    ∙ ap (λ (t : Sites). outcome (Ok t.count) t.buses (sized w loads t.sources t.buses t.count (replicate w.n nought))) s
 
 pub flagged_length : (generators l : List ℕ) → length l ≡ 256 → length (flagged generators l) ≡ 256
 unfolding flagged

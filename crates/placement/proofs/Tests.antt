@@ -3,24 +3,28 @@
 use mathlib.Core.Path.{◌≡◌, refl, sym, ap, ◌∙◌}
 use mathlib.Core.Bool.{Bool, true, false, not, ◌&&◌, ◌||◌}
 use mathlib.Core.List.{List}
-use Prim.Native.Nat.{ℕ, ◌<◌, ◌≤◌}
+use Prim.Native.Nat.{ℕ, ◌<◌}
 use native.Mathlib.Omega.{arith}
-use native.Mathlib.Nat.{le_antisymm}
-use borrow.Author.Tests.{eq-eqb, ne_eqb, eqb-false, ltb-true, not-true}
+use borrow.Author.Tests.{ne_eqb, eqb-false, ltb-true, not-true}
 use lib.Dec.{eqb, ltb}
 use lib.ListN.{get_or}
 use lib.Ieee.{Float, lt, le}
 use Rattle.loops.specs.Figures.{at, plus, inside, nought, ten_thousand, infinity}
-use Rattle.loops.proofs.Bools.{both}
+use Rattle.loops.proofs.Bools.{both, unequal}
+use Rattle.std.specs.Prelude.{Some, None}
+use Rattle.std.specs.Option.{ForSome}
 use Rattle.placement_defs.specs.Request.{Net, corridor_ok}
 use Rattle.placement_defs.specs.Distance.{Labels, settled, shortens, far_end, considered, offered, reached}
 
--- a choice that is none, and one that is a bus
-pub none_chosen : (best n : ℕ) → best ≤ n → n ≤ best → eqb best n ≡ true
-none_chosen best n h k = eq-eqb best n (le_antisymm h k)
-
+-- a choice that is a bus
 pub some_chosen : (best n : ℕ) → best < n → eqb best n ≡ false
 some_chosen best n h = ne_eqb best n (λ e. omega arith)
+
+pub none_below : (n : ℕ) → ForSome {T = ℕ} None (λ b. b < n)
+none_below n b e = absurd (unequal cc)
+
+pub some_below : (n x : ℕ) → x < n → ForSome (Some x) (λ b. b < n)
+some_below n x h b e = let z : x ≡ b = cc in omega arith
 
 -- loaded and reached, by a test against a result that is infinity
 pub reached_no : (l d r : Float) → r ≡ infinity → (lt nought l && lt d r) ≡ false → (lt nought l && lt d infinity) ≡ false

@@ -12,13 +12,12 @@ use borrow.Author.Tests.{eq-eqb, ne_eqb, eqb-true}
 use lib.Dec.{eqb}
 use lib.ListN.{length, get_or, set, length-set}
 use lib.Seq.{get_or-set_same, get_or-set_other}
-use lib.Ieee.{Float}
-use Rattle.loops.specs.Loops.{iter, first}
+use Rattle.loops.specs.Loops.{iter}
 use Rattle.loops.proofs.Bools.{or_left, or_right}
 use Rattle.loops.proofs.Loops.{iter_all, iter_more}
 use Rattle.loops.proofs.Scan.{first_pass, first_stop, first_end}
 use Rattle.placement_defs.specs.Request.{Net}
-use Rattle.placement_defs.specs.Distance.{Network, Labels, labels, settled, considered, corridor, settle, spread}
+use Rattle.placement_defs.specs.Distance.{Network, Labels, considered, corridor, settle, spread}
 use Rattle.placement.specs.Corridors.{ends_at, next_at, Listed}
 use Rattle.placement.proofs.Tests.{net_ends}
 
@@ -194,7 +193,6 @@ module _ (w : Network) (head afterA afterB : List ℕ) (r : Listed w 0 head afte
         let k = next_is w i (c + 1) (omega arith) in
         rw follows (k.within, k.ends, sym (k.skips s') ∙ sym (iter_more (corridor w i) hc q) ∙ z)
 
-pub spread_is : (w : Network) (i : ℕ) (mark mark₀ : List ℕ) (dist : List Float) (from : List ℕ) (t : Labels) → mark₀ ≡ set mark i settled
-    → t ≡ iter (corridor w i) w.m 0 (labels mark₀ dist from) → t ≡ spread w i (labels mark dist from)
-unfolding spread settle
-spread_is w i mark mark₀ dist from t e q = q ∙ ap (λ (l : List ℕ). iter (corridor w i) w.m 0 (labels l dist from)) e
+pub spread_is : (w : Network) (i : ℕ) (s s₀ t : Labels) → s₀ ≡ settle i s → t ≡ iter (corridor w i) w.m 0 s₀ → t ≡ spread w i s
+unfolding spread
+spread_is w i s s₀ t e q = q ∙ ap (λ (u : Labels). iter (corridor w i) w.m 0 u) e

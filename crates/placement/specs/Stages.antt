@@ -1,6 +1,6 @@
 -- What the two stages of placing leave.
 use Rattle.std.specs.Prelude.{◌≡◌, List, ℕ, ◌≤◌, length, Float, Ok}
-use Rattle.placement_defs.specs.Distance.{Network, network}
+use Rattle.placement_defs.specs.Distance.{Network}
 use Rattle.placement_defs.specs.Support.{sites, joined, outcome, placed}
 
 -- n readings and their weights
@@ -12,6 +12,5 @@ pub record Joined (w : Network) (loads : List Float) (sources₀ buses₀ source
   pub all : sites sources buses count ≡ joined w loads (sites sources₀ buses₀ 0)
   pub few : count ≤ w.n
 
-abbrev pub Placing : ℕ → ℕ → List Float → List ℕ → List ℕ → List Float → List ℕ → ℕ → List ℕ → List Float → Type 0
-Placing n m loads a b km generators count buses mvars =
-    outcome (Ok count) buses mvars ≡ placed (network n m a b km) loads generators
+abbrev pub Placing : Network → List Float → List ℕ → ℕ → List ℕ → List Float → Type 0
+Placing w loads generators count buses mvars = outcome (Ok count) buses mvars ≡ placed w loads generators

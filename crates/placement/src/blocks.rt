@@ -1,36 +1,46 @@
 // The candidates by blocks of sixteen buses. The nearest of each block is kept, so that the next bus to settle is found among sixteen, and
 // when it is settled only its own block is looked at again.
-ghost use Rattle.std.specs.Prelude.{◌≡◌, ℕ, ◌+◌, ◌≤◌, ◌<◌, true, length, set};
+ghost use Rattle.std.specs.Prelude.{◌≡◌, ℕ, ◌+◌, ◌≤◌, ◌<◌, ◌||◌, eqb, true, length};
 ghost use Rattle.std.specs.Float.Ieee.{lt};
 ghost use Rattle.loops.specs.Figures.{at};
+ghost use Rattle.std.specs.Option.{ForSome};
 ghost use Rattle.placement_defs.specs.Request.{most_buses};
-ghost use Rattle.placement_defs.specs.Distance.{settled, labels, nearer, nearest_to, reached};
-ghost use Rattle.placement.specs.Blocks.{block_size, most_blocks, LeastOf, closer, nearest_with, Numbers, Front};
+ghost use Rattle.placement_defs.specs.Distance.{nearer, nearest_to, settle, reached};
+ghost use Rattle.placement.specs.Choices.{number};
+ghost use Rattle.placement.specs.Views.{labels_in};
+ghost use Rattle.placement.specs.Blocks.{block_size, most_blocks, Chosen, closer, nearest_with, Numbers, Front};
 
-use crate::distance::{CANDIDATE, SETTLED};
+use crate::labels::{CANDIDATE, Labels, SETTLED};
 use crate::{BLOCKS, MOST_BUSES};
 
 // Buses of a block.
 const BLOCK: usize = 16;
 
-// The better of two choices: i where it is a candidate and none was found before it, or is closer.
-fn nearer_bus(
-    n: usize,
-    mark: &[u16; MOST_BUSES],
-    dist: &[f64; MOST_BUSES],
-    best: usize,
-    i: usize,
-) -> usize
-    requires { (n ≤ most_buses) × (best ≤ n) × (i < n) }
-    ensures { result ≡ nearer n mark.now dist.now best i }
+// Whether bus i is chosen before the best so far.
+fn is_nearer(n: usize, dist: &[f64; MOST_BUSES], best: Option<usize>, i: usize) -> bool
+    requires { (n ≤ most_buses) × (i < n) × ForSome best (λ b. b < n) }
+    ensures { result ≡ (eqb (number n best) n || lt (at dist.now i) (at dist.now (number n best))) }
 {
-    if mark[i] != CANDIDATE {
+    match best {
+        Some(b) => dist[i] < dist[b],
+        None => true,
+    }
+}
+
+// The better of two choices: i where it is a candidate and none was found before it, or is closer.
+fn nearer_bus(n: usize, labels: &Labels, best: Option<usize>, i: usize) -> Option<usize>
+    requires { (n ≤ most_buses) × (i < n) × ForSome best (λ b. b < n) }
+    ensures bus { ForSome result (λ b. b < n) }
+    ensures value { number n result ≡ nearer n labels.now.mark labels.now.dist (number n best) i }
+{
+    if labels.mark[i] != CANDIDATE {
         return best;
     }
-    if best >= n {
-        return i;
+    if is_nearer(n, &labels.dist, best, i) {
+        Some(i)
+    } else {
+        best
     }
-    if dist[i] < dist[best] { i } else { best }
 }
 
 // Where the block that begins at bus lo ends.
@@ -41,112 +51,97 @@ fn block_end(n: usize, lo: usize) -> usize
     if lo + BLOCK < n { lo + BLOCK } else { n }
 }
 
-// The nearest candidate of the block that begins at bus lo, the lowest on a tie, or n.
-fn nearest_in_block(
-    n: usize,
-    mark: &[u16; MOST_BUSES],
-    dist: &[f64; MOST_BUSES],
-    lo: usize,
-) -> usize
+// The nearest candidate of the block that begins at bus lo, the lowest on a tie.
+fn nearest_in_block(n: usize, labels: &Labels, lo: usize) -> Option<usize>
     requires lo_lt_n { (lo < n) × (n ≤ most_buses) }
-    requires numbers { Numbers n mark.now dist.now }
-    ensures { LeastOf n mark.now dist.now lo (lo + block_size) result }
+    requires numbers { Numbers n labels.now.mark labels.now.dist }
+    ensures { Chosen n labels.now.mark labels.now.dist lo (lo + block_size) result }
 {
-    let hi = block_end(n, lo);
-    let mut best = n;
-    let mut i = lo;
-    while i < hi {
-        best = nearer_bus(n, mark, dist, best, i);
-        i += 1;
+    let mut best = None;
+    for i in lo..block_end(n, lo) {
+        best = nearer_bus(n, labels, best, i);
     }
     best
 }
 
 // Looks at every block.
-pub fn look_at_blocks(
-    n: usize,
-    mark: &[u16; MOST_BUSES],
-    dist: &[f64; MOST_BUSES],
-    nearest: &mut [usize; BLOCKS],
-)
+pub fn look_at_blocks(n: usize, labels: &Labels, nearest: &mut [Option<usize>; BLOCKS])
     requires n_le_most_buses { (n ≤ most_buses) × (length nearest.old ≡ most_blocks) }
-    requires numbers { Numbers n mark.now dist.now }
-    ensures { Front n mark.now dist.now nearest.new }
+    requires numbers { Numbers n labels.now.mark labels.now.dist }
+    ensures { Front n labels.now.mark labels.now.dist nearest.new }
 {
-    let mut k = 0;
-    while BLOCK * k < n {
-        nearest[k] = nearest_in_block(n, mark, dist, BLOCK * k);
-        k += 1;
+    for k in 0..n.div_ceil(BLOCK) {
+        nearest[k] = nearest_in_block(n, labels, BLOCK * k);
     }
 }
 
 // The better of two choices: the later one where there is one and none was found before it, or is closer.
-fn closer_bus(n: usize, dist: &[f64; MOST_BUSES], best: usize, x: usize) -> usize
-    requires { (n ≤ most_buses) × (best ≤ n) }
-    ensures { result ≡ closer n dist.now best x }
+fn closer_bus(
+    n: usize,
+    dist: &[f64; MOST_BUSES],
+    best: Option<usize>,
+    later: Option<usize>,
+) -> Option<usize>
+    requires { (n ≤ most_buses) × ForSome best (λ b. b < n) × ForSome later (λ b. b < n) }
+    ensures bus { ForSome result (λ b. b < n) }
+    ensures value { number n result ≡ closer n dist.now (number n best) (number n later) }
 {
-    if x >= n {
+    let Some(x) = later else {
         return best;
+    };
+    if is_nearer(n, dist, best, x) {
+        Some(x)
+    } else {
+        best
     }
-    if best >= n {
-        return x;
-    }
-    if dist[x] < dist[best] { x } else { best }
 }
 
-// Step 2: the candidate of least distance, the lowest on a tie, or n.
+// Step 2: the candidate of least distance, the lowest on a tie.
 pub fn nearest_candidate(
     n: usize,
-    mark: &[u16; MOST_BUSES],
-    dist: &[f64; MOST_BUSES],
-    nearest: &[usize; BLOCKS],
-) -> usize
+    labels: &Labels,
+    nearest: &[Option<usize>; BLOCKS],
+) -> Option<usize>
     requires n_le_most_buses { n ≤ most_buses }
-    requires front { Front n mark.now dist.now nearest.now }
-    ensures { result ≡ nearest_to n mark.now dist.now n }
+    requires front { Front n labels.now.mark labels.now.dist nearest.now }
+    ensures bus { ForSome result (λ b. b < n) }
+    ensures value { number n result ≡ nearest_to n labels.now.mark labels.now.dist n }
 {
-    let mut best = n;
-    let mut k = 0;
-    while BLOCK * k < n {
-        best = closer_bus(n, dist, best, nearest[k]);
-        k += 1;
+    let mut best = None;
+    for k in 0..n.div_ceil(BLOCK) {
+        best = closer_bus(n, &labels.dist, best, nearest[k]);
     }
     best
 }
 
 // Settles bus i.
-pub fn settle_bus(
-    n: usize,
-    i: usize,
-    mark: &mut [u16; MOST_BUSES],
-    dist: &[f64; MOST_BUSES],
-    nearest: &mut [usize; BLOCKS],
-)
+pub fn settle_bus(n: usize, i: usize, labels: &mut Labels, nearest: &mut [Option<usize>; BLOCKS])
     requires n_le_most_buses { (n ≤ most_buses) × (i < n) }
-    requires front { Front n mark.old dist.now nearest.old }
-    ensures mark_after { mark.new ≡ set mark.old i settled }
-    ensures front_2 { Front n mark.new dist.now nearest.new }
+    requires front { Front n labels.old.mark labels.old.dist nearest.old }
+    ensures labels_after { labels_in labels.new ≡ settle i (labels_in labels.old) }
+    ensures front_2 { Front n labels.new.mark labels.new.dist nearest.new }
 {
-    mark[i] = SETTLED;
+    labels.mark[i] = SETTLED;
     let k = i / BLOCK;
-    nearest[k] = nearest_in_block(n, mark, dist, BLOCK * k);
+    nearest[k] = nearest_in_block(n, labels, BLOCK * k);
 }
 
 // The nearest of a block whose nearest was best, after bus j of it came to nd km.
-fn nearest_with(n: usize, dist: &[f64; MOST_BUSES], best: usize, j: usize, nd: f64) -> usize
-    requires { n ≤ most_buses }
-    ensures { result ≡ nearest_with n dist.now best j nd }
+fn nearest_with(n: usize, dist: &[f64; MOST_BUSES], best: Option<usize>, j: usize, nd: f64) -> usize
+    requires { (n ≤ most_buses) × (j < n) × ForSome best (λ b. b < n) }
+    ensures bus { result < n }
+    ensures value { result ≡ nearest_with n dist.now (number n best) j nd }
 {
-    if best >= n {
+    let Some(b) = best else {
+        return j;
+    };
+    if nd < dist[b] {
         return j;
     }
-    if nd < dist[best] {
-        return j;
+    if dist[b] < nd {
+        return b;
     }
-    if dist[best] < nd {
-        return best;
-    }
-    if j < best { j } else { best }
+    if j < b { j } else { b }
 }
 
 // Bus j is reached at nd km, nearer than it was, from the source src.
@@ -155,20 +150,18 @@ pub fn reach_bus(
     j: usize,
     nd: f64,
     src: u16,
-    mark: &mut [u16; MOST_BUSES],
-    dist: &mut [f64; MOST_BUSES],
-    from: &mut [u16; MOST_BUSES],
-    nearest: &mut [usize; BLOCKS],
+    labels: &mut Labels,
+    nearest: &mut [Option<usize>; BLOCKS],
 )
-    requires n_le_most_buses { (n ≤ most_buses) × (j < n) × (lt nd (at dist.old j) ≡ true) }
-    requires front { Front n mark.old dist.old nearest.old }
-    ensures from_after { labels mark.new dist.new from.new
-        ≡ reached j nd src (labels mark.old dist.old from.old) }
-    ensures front_2 { Front n mark.new dist.new nearest.new }
+    requires n_le_most_buses { (n ≤ most_buses) × (j < n) × (lt nd (at labels.old.dist j) ≡ true) }
+    requires front { Front n labels.old.mark labels.old.dist nearest.old }
+    ensures from_after { labels_in labels.new
+        ≡ reached j nd src (labels_in labels.old) }
+    ensures front_2 { Front n labels.new.mark labels.new.dist nearest.new }
 {
-    mark[j] = CANDIDATE;
-    dist[j] = nd;
-    from[j] = src;
+    labels.mark[j] = CANDIDATE;
+    labels.dist[j] = nd;
+    labels.from[j] = src;
     let k = j / BLOCK;
-    nearest[k] = nearest_with(n, dist, nearest[k], j, nd);
+    nearest[k] = Some(nearest_with(n, &labels.dist, nearest[k], j, nd));
 }

@@ -1,8 +1,9 @@
 // Placement's refusals 1, 2, 4, 5 and 6, in their order.
-ghost use Rattle.std.specs.Prelude.{◌≡◌, length};
-ghost use Rattle.placement_defs.specs.Request.{request_of, lengths_ok, counts_ok, corridor_ok, first_load, first_generator, first_corridor, check_of};
+ghost use Rattle.std.specs.Prelude.{◌≡◌, length, get_or};
+ghost use Rattle.loops.specs.Loops.{fault};
+ghost use Rattle.placement_defs.specs.Request.{request_of, lengths_ok, counts_ok, load_at, bus_ok, corridor_ok, corridor_at, check_of};
 
-use crate::{MOST_BUSES, wide};
+use crate::MOST_BUSES;
 use refusal::Refusal;
 
 const MOST_CORRIDORS: usize = 256;
@@ -48,52 +49,32 @@ fn corridor_ok(n: usize, a: usize, b: usize, km: f64) -> bool
     (a < n) & (b < n) & !(a == b) & ((0.0 <= km) & (km <= LONGEST_KM))
 }
 
-// The first bus whose reading, weight or load is out of its bounds, or n.
-fn first_load(n: usize, reading: &[f64], weight: &[f64]) -> usize
+// The first bus whose reading, weight or load is out of its bounds.
+fn faulty_load(n: usize, reading: &[f64], weight: &[f64]) -> Option<usize>
     requires { (length reading.now ≡ n) × (length weight.now ≡ n) }
-    ensures { result ≡ first_load reading.now weight.now n }
+    ensures { result ≡ fault (load_at reading.now weight.now) n }
 {
-    let mut i = 0;
-    while i < n {
-        if !loads::load_ok(reading[i], weight[i]) {
-            return i;
-        }
-        i += 1;
-    }
-    i
+    loops::first_fault(n, |i| loads::load_ok(reading[i], weight[i]))
 }
 
-// The first generator at no bus, or g.
-fn first_generator(n: usize, g: usize, generators: &[u32]) -> usize
+// The first generator at no bus.
+fn faulty_generator(n: usize, g: usize, generators: &[u32]) -> Option<usize>
     requires { length generators.now ≡ g }
-    ensures { result ≡ first_generator generators.now n g }
+    ensures { result ≡ fault (λ i. bus_ok n (get_or generators.now i 0)) g }
 {
-    let mut i = 0;
-    while i < g {
-        if wide(generators[i]) >= n {
-            return i;
-        }
-        i += 1;
-    }
-    i
+    loops::first_fault(g, |i| (generators[i] as usize) < n)
 }
 
-// The first corridor with a wrong end or length, or m.
-fn first_corridor(n: usize, m: usize, a: &[u32], b: &[u32], km: &[f64]) -> usize
+// The first corridor with a wrong end or length.
+fn faulty_corridor(n: usize, m: usize, a: &[u32], b: &[u32], km: &[f64]) -> Option<usize>
     requires { (length a.now ≡ m) × (length b.now ≡ m) × (length km.now ≡ m) }
-    ensures { result ≡ first_corridor a.now b.now km.now n m }
+    ensures { result ≡ fault (corridor_at n a.now b.now km.now) m }
 {
-    let mut c = 0;
-    while c < m {
-        if !corridor_ok(n, wide(a[c]), wide(b[c]), km[c]) {
-            return c;
-        }
-        c += 1;
-    }
-    c
+    loops::first_fault(m, |c| corridor_ok(n, a[c] as usize, b[c] as usize, km[c]))
 }
 
 // The first refusal in order.
+#[tactic(auto, using(crate::proofs::Checks::lengths_of), unfolding(placement_defs::specs::Request::check_of))]
 pub fn check(
     n: usize,
     m: usize,
@@ -115,17 +96,14 @@ pub fn check(
     if !counts_ok(n, m, g) {
         return Err(Refusal::Count);
     }
-    let load = first_load(n, reading, weight);
-    if load < n {
-        return Err(Refusal::Bus(load));
+    if let Some(i) = faulty_load(n, reading, weight) {
+        return Err(Refusal::Bus(i));
     }
-    let generator = first_generator(n, g, generators);
-    if generator < g {
-        return Err(Refusal::Generator(generator));
+    if let Some(k) = faulty_generator(n, g, generators) {
+        return Err(Refusal::Generator(k));
     }
-    let corridor = first_corridor(n, m, a, b, km);
-    if corridor < m {
-        return Err(Refusal::Corridor(corridor));
+    if let Some(c) = faulty_corridor(n, m, a, b, km) {
+        return Err(Refusal::Corridor(c));
     }
     Ok(())
 }

@@ -1,16 +1,16 @@
 // Condensers: where they stand, and how large they are.
-ghost use Rattle.std.specs.Prelude.{◌≡◌, ◌≤◌, ◌<◌, length, replicate};
-ghost use Rattle.placement_defs.specs.Request.{most_buses, Net, Units};
-ghost use Rattle.loops.specs.Figures.{at, infinity, nought, greater};
-ghost use Rattle.loads.specs.Load.{loads_of};
-ghost use Rattle.placement_defs.specs.Distance.{network};
-ghost use Rattle.placement.specs.Corridors.{Listed};
-ghost use Rattle.placement_defs.specs.Support.{farther, farthest_to, if_far, next_by, added, served_to, least_mvar, mvar_of, sized, flagged};
-ghost use Rattle.placement.specs.Stages.{Called, Joined, Placing};
+ghost use Rattle.std.specs.Prelude.{◌≡◌, ◌≤◌, ◌<◌, length};
+ghost use Rattle.std.specs.Option.{ForSome};
+ghost use Rattle.placement_defs.specs.Request.{most_buses, Units};
+ghost use Rattle.placement_defs.specs.Support.{farther, farthest_to, next_by, added, served_to, mvar_of, sized, flagged};
+ghost use Rattle.placement.specs.Choices.{number};
+ghost use Rattle.placement.specs.Stages.{Joined, Placing};
+ghost use Rattle.placement.specs.Views.{network_in, loads_in};
 
-use crate::corridors::list_corridors;
-use crate::distance::{NOBODY, REST, distance_to_sources, distance_with_source};
-use crate::{MOST_BUSES, MOST_CORRIDORS, number, wide};
+use crate::MOST_BUSES;
+use crate::distance::{distance_to_sources, distance_with_source};
+use crate::labels::{Labels, NOBODY, REST};
+use crate::network::Network;
 
 // A load farther than this from every source gets a condenser: reactive power does not travel far, and voltage control areas span tens to a
 // little over a hundred kilometres (Kundur, Power System Stability and Control, 1994, section 11.2).
@@ -22,195 +22,126 @@ const VOLTAGE_SUPPORT_Q_SHARE: f64 = 0.5;
 // The least bank, a small step at 69 to 138 kV (IEEE Std 1036).
 const MIN_SHUNT_BANK_MVAR: f64 = 5.0;
 
-// The distance of a bus that no source reaches.
-fn infinity() -> f64
-    ensures { result ≡ infinity }
-{
-    f64::from_bits(0x7ff0_0000_0000_0000)
-}
-
-// The load of bus i. It is worked out where it is asked for, so that a case of few buses pays for those alone.
-fn load_of(n: usize, reading: &[f64], weight: &[f64], i: usize) -> f64
-    requires { (i < n) × Called n reading.now weight.now }
-    ensures { result ≡ at (loads_of n reading.now weight.now) i }
-{
-    loads::load_by(reading[i], weight[i])
-}
-
 // The better of two choices: i where it is loaded and reached, and none was found before it, or is farther.
 fn farther_bus(
-    n: usize,
-    reading: &[f64],
-    weight: &[f64],
+    network: &Network,
     dist: &[f64; MOST_BUSES],
-    best: usize,
+    best: Option<usize>,
     i: usize,
-) -> usize
-    requires { (n ≤ most_buses) × (best ≤ n) × (i < n) × Called n reading.now weight.now }
-    ensures { result ≡ farther n (loads_of n reading.now weight.now) dist.now best i }
+) -> Option<usize>
+    requires { (i < network.now.n) × ForSome best (λ b. b < network.now.n) }
+    ensures bus { ForSome result (λ b. b < network.now.n) }
+    ensures value { number network.now.n result ≡ farther network.now.n (loads_in network.now) dist.now (number network.now.n best) i }
 {
-    let load = load_of(n, reading, weight, i);
-    if !((0.0 < load) & (dist[i] < infinity())) {
+    if !((0.0 < network.load(i)) & (dist[i] < loops::infinity())) {
         return best;
     }
-    if best >= n {
-        return i;
-    }
-    if dist[i] > dist[best] { i } else { best }
+    let Some(b) = best else {
+        return Some(i);
+    };
+    if dist[i] > dist[b] { Some(i) } else { best }
 }
 
-// The farthest loaded bus that a source reaches, the lowest on a tie, or n.
-fn farthest_bus(n: usize, reading: &[f64], weight: &[f64], dist: &[f64; MOST_BUSES]) -> usize
-    requires { (n ≤ most_buses) × Called n reading.now weight.now }
-    ensures { result ≡ farthest_to n (loads_of n reading.now weight.now) dist.now n }
+// The farthest loaded bus that a source reaches, the lowest on a tie.
+fn farthest_bus(network: &Network, dist: &[f64; MOST_BUSES]) -> Option<usize>
+    ensures bus { ForSome result (λ b. b < network.now.n) }
+    ensures value { number network.now.n result ≡ farthest_to network.now.n (loads_in network.now) dist.now network.now.n }
 {
-    let mut best = n;
-    let mut i = 0;
-    while i < n {
-        best = farther_bus(n, reading, weight, dist, best, i);
-        i += 1;
+    let mut best = None;
+    for i in 0..network.n {
+        best = farther_bus(network, dist, best, i);
     }
     best
 }
 
-// Bus i where it lies more than 100 km away, else n.
-fn if_far(n: usize, dist: &[f64; MOST_BUSES], i: usize) -> usize
-    requires { n ≤ most_buses }
-    ensures { result ≡ if_far n dist.now i }
+// The bus that is to have a condenser next: the farthest, if it lies more than 100 km away.
+fn next_condenser(network: &Network, dist: &[f64; MOST_BUSES]) -> Option<usize>
+    ensures bus { ForSome result (λ b. b < network.now.n) }
+    ensures value { number network.now.n result ≡ next_by network.now.n (loads_in network.now) dist.now }
 {
-    if i >= n {
-        return n;
+    let i = farthest_bus(network, dist)?;
+    if dist[i] > VOLTAGE_SUPPORT_KM {
+        Some(i)
+    } else {
+        None
     }
-    if dist[i] > VOLTAGE_SUPPORT_KM { i } else { n }
-}
-
-// The bus that is to have a condenser next, or n.
-fn next_condenser(n: usize, reading: &[f64], weight: &[f64], dist: &[f64; MOST_BUSES]) -> usize
-    requires { (n ≤ most_buses) × Called n reading.now weight.now }
-    ensures { result ≡ next_by n (loads_of n reading.now weight.now) dist.now }
-{
-    let i = farthest_bus(n, reading, weight, dist);
-    if_far(n, dist, i)
 }
 
 // Joins condensers to the sources while a loaded bus lies far, and writes their buses.
-fn join_condensers(
-    n: usize,
-    m: usize,
-    reading: &[f64],
-    weight: &[f64],
-    a: &[u32],
-    b: &[u32],
-    km: &[f64],
-    head: &[u16; MOST_BUSES],
-    after_a: &[u16; MOST_CORRIDORS],
-    after_b: &[u16; MOST_CORRIDORS],
-    sources: &mut [u16; MOST_BUSES],
-    buses: &mut [u32],
-) -> usize
-    requires net { Net n m a.now b.now km.now }
-    requires listed { Listed (network n m a.now b.now km.now) 0 head.now after_a.now after_b.now }
-    requires called { Called n reading.now weight.now × (length sources.old ≡ most_buses) × (length buses.old ≡ n) }
-    ensures { Joined (network n m a.now b.now km.now) (loads_of n reading.now weight.now) sources.old buses.old sources.new buses.new result }
+fn join_condensers(network: &Network, sources: &mut [u16; MOST_BUSES], buses: &mut [u32]) -> usize
+    requires { (length sources.old ≡ most_buses) × (length buses.old ≡ network.now.n) }
+    ensures { Joined (network_in network.now) (loads_in network.now) sources.old buses.old sources.new buses.new result }
 {
-    let mut mark = [REST; MOST_BUSES];
-    let mut dist = [infinity(); MOST_BUSES];
-    let mut from = [NOBODY; MOST_BUSES];
-    distance_to_sources(
-        n, m, a, b, km, head, after_a, after_b, sources, &mut mark, &mut dist, &mut from,
-    );
-    let mut count = 0;
-    while count < n {
-        let i = next_condenser(n, reading, weight, &dist);
-        if i >= n {
+    let mut labels = Labels {
+        mark: [REST; MOST_BUSES],
+        dist: [loops::infinity(); MOST_BUSES],
+        from: [NOBODY; MOST_BUSES],
+    };
+    distance_to_sources(network, sources, &mut labels);
+    for count in 0..network.n {
+        let Some(i) = next_condenser(network, &labels.dist) else {
             return count;
-        }
+        };
         sources[i] = 1;
         buses[count] = i as u32;
-        mark = [REST; MOST_BUSES];
-        distance_with_source(
-            n, m, a, b, km, head, after_a, after_b, i, &mut mark, &mut dist, &mut from,
-        );
-        count += 1;
+        labels.mark = [REST; MOST_BUSES];
+        distance_with_source(network, i, &mut labels);
     }
-    count
+    network.n
 }
 
 // One more load, where it lies nearest to the bus.
 fn add_load(sum: f64, load: f64, from: u16, bus: u32) -> f64
     ensures { result ≡ added sum load from bus }
 {
-    if number(from) == bus { sum + load } else { sum }
+    if from as u32 == bus { sum + load } else { sum }
 }
 
 // The loads that lie nearest to a bus, added by bus index.
-fn served_by(n: usize, reading: &[f64], weight: &[f64], from: &[u16; MOST_BUSES], bus: u32) -> f64
-    requires { (n ≤ most_buses) × Called n reading.now weight.now }
-    ensures { result ≡ served_to (loads_of n reading.now weight.now) from.now bus n }
+fn served_by(network: &Network, from: &[u16; MOST_BUSES], bus: u32) -> f64
+    ensures { result ≡ served_to (loads_in network.now) from.now bus network.now.n }
 {
     let mut sum = 0.0;
-    let mut i = 0;
-    while i < n {
-        sum = add_load(sum, load_of(n, reading, weight, i), from[i], bus);
-        i += 1;
+    for i in 0..network.n {
+        sum = add_load(sum, network.load(i), from[i], bus);
     }
     sum
 }
 
-// The greater of a figure and the least bank.
-fn at_least(q: f64) -> f64
-    ensures { result ≡ greater q least_mvar }
+// A condenser's size: half of what it serves, or the least bank. `f64::max` would answer the least bank of a NaN.
+fn mvar_of(network: &Network, from: &[u16; MOST_BUSES], bus: u32) -> f64
+    ensures { result ≡ mvar_of (loads_in network.now) from.now network.now.n bus }
 {
-    if q < MIN_SHUNT_BANK_MVAR {
+    let mvar = VOLTAGE_SUPPORT_Q_SHARE * served_by(network, from, bus);
+    if mvar < MIN_SHUNT_BANK_MVAR {
         MIN_SHUNT_BANK_MVAR
     } else {
-        q
+        mvar
     }
-}
-
-// A condenser's size.
-fn mvar_of(n: usize, reading: &[f64], weight: &[f64], from: &[u16; MOST_BUSES], bus: u32) -> f64
-    requires { (n ≤ most_buses) × Called n reading.now weight.now }
-    ensures { result ≡ mvar_of (loads_of n reading.now weight.now) from.now n bus }
-{
-    at_least(VOLTAGE_SUPPORT_Q_SHARE * served_by(n, reading, weight, from, bus))
 }
 
 // Sizes the condensers once all are placed.
 fn size_condensers(
-    n: usize,
-    m: usize,
-    reading: &[f64],
-    weight: &[f64],
-    a: &[u32],
-    b: &[u32],
-    km: &[f64],
-    head: &[u16; MOST_BUSES],
-    after_a: &[u16; MOST_CORRIDORS],
-    after_b: &[u16; MOST_CORRIDORS],
+    network: &Network,
     sources: &[u16; MOST_BUSES],
     count: usize,
     buses: &[u32],
     mvars: &mut [f64],
 )
-    requires net { Net n m a.now b.now km.now }
-    requires listed { Listed (network n m a.now b.now km.now) 0 head.now after_a.now after_b.now }
-    requires called { Called n reading.now weight.now × (length buses.now ≡ n) × (length mvars.old ≡ n) × (count ≤ n) }
-    ensures { mvars.new ≡ sized (network n m a.now b.now km.now) (loads_of n reading.now weight.now) sources.now buses.now count mvars.old }
+    requires { (length buses.now ≡ network.now.n) × (length mvars.old ≡ network.now.n) × (count ≤ network.now.n) }
+    ensures { mvars.new ≡ sized (network_in network.now) (loads_in network.now) sources.now buses.now count mvars.old }
 {
     if count == 0 {
         return;
     }
-    let mut mark = [REST; MOST_BUSES];
-    let mut dist = [infinity(); MOST_BUSES];
-    let mut from = [NOBODY; MOST_BUSES];
-    distance_to_sources(
-        n, m, a, b, km, head, after_a, after_b, sources, &mut mark, &mut dist, &mut from,
-    );
-    let mut k = 0;
-    while k < count {
-        mvars[k] = mvar_of(n, reading, weight, &from, buses[k]);
-        k += 1;
+    let mut labels = Labels {
+        mark: [REST; MOST_BUSES],
+        dist: [loops::infinity(); MOST_BUSES],
+        from: [NOBODY; MOST_BUSES],
+    };
+    distance_to_sources(network, sources, &mut labels);
+    for k in 0..count {
+        mvars[k] = mvar_of(network, &labels.from, buses[k]);
     }
 }
 
@@ -219,77 +150,22 @@ fn flag_generators(generators: &[u32], sources: &mut [u16; MOST_BUSES])
     requires { Units most_buses generators.now }
     ensures { sources.new ≡ flagged generators.now sources.old }
 {
-    let mut k = 0;
-    while k < generators.len() {
-        let bus = wide(generators[k]);
-        sources[bus] = 1;
-        k += 1;
-    }
-}
-
-// Zero in every place.
-fn clear_buses(buses: &mut [u32])
-    ensures { buses.new ≡ replicate (length buses.old) 0 }
-{
-    let mut i = 0;
-    while i < buses.len() {
-        buses[i] = 0;
-        i += 1;
-    }
-}
-
-fn clear_mvars(mvars: &mut [f64])
-    ensures { mvars.new ≡ replicate (length mvars.old) nought }
-{
-    let mut i = 0;
-    while i < mvars.len() {
-        mvars[i] = 0.0;
-        i += 1;
+    for bus in generators {
+        sources[*bus as usize] = 1;
     }
 }
 
 // The condensers of a sound request.
-pub fn place(
-    n: usize,
-    m: usize,
-    reading: &[f64],
-    weight: &[f64],
-    a: &[u32],
-    b: &[u32],
-    km: &[f64],
-    generators: &[u32],
-    buses: &mut [u32],
-    mvars: &mut [f64],
-) -> usize
-    requires net { Net n m a.now b.now km.now }
-    requires units { Units n generators.now }
-    requires called { Called n reading.now weight.now × (length buses.old ≡ n) × (length mvars.old ≡ n) }
-    ensures { Placing n m (loads_of n reading.now weight.now) a.now b.now km.now generators.now result buses.new mvars.new }
+pub fn place(network: &Network, generators: &[u32], buses: &mut [u32], mvars: &mut [f64]) -> usize
+    requires units { Units network.now.n generators.now }
+    requires results { (length buses.old ≡ network.now.n) × (length mvars.old ≡ network.now.n) }
+    ensures { Placing (network_in network.now) (loads_in network.now) generators.now result buses.new mvars.new }
 {
-    clear_buses(buses);
-    clear_mvars(mvars);
+    buses.fill(0);
+    mvars.fill(0.0);
     let mut sources = [0; MOST_BUSES];
     flag_generators(generators, &mut sources);
-    let mut head = [m as u16; MOST_BUSES];
-    let mut after_a = [0; MOST_CORRIDORS];
-    let mut after_b = [0; MOST_CORRIDORS];
-    list_corridors(n, m, a, b, km, &mut head, &mut after_a, &mut after_b);
-    let count = join_condensers(
-        n,
-        m,
-        reading,
-        weight,
-        a,
-        b,
-        km,
-        &head,
-        &after_a,
-        &after_b,
-        &mut sources,
-        buses,
-    );
-    size_condensers(
-        n, m, reading, weight, a, b, km, &head, &after_a, &after_b, &sources, count, buses, mvars,
-    );
+    let count = join_condensers(network, &mut sources, buses);
+    size_condensers(network, &sources, count, buses, mvars);
     count
 }

@@ -1,61 +1,36 @@
 // Corridor-km from every bus to its nearest source by Dijkstra's method. A bus's mark says which of the three sets it is in.
 ghost use Rattle.std.specs.Prelude.{◌≡◌, ◌≤◌, ◌<◌};
 ghost use Rattle.loops.specs.Loops.{iter};
-ghost use Rattle.placement_defs.specs.Request.{most_buses, Net};
-ghost use Rattle.placement_defs.specs.Distance.{labels, network, seeded, seed, shortens, far_end, considered, spread, searched, distances_from};
-ghost use Rattle.placement.specs.Corridors.{Listed};
+ghost use Rattle.placement_defs.specs.Request.{most_buses};
+ghost use Rattle.placement_defs.specs.Distance.{seeded, seed, shortens, far_end, considered, spread, searched, distances_from};
 ghost use Rattle.placement.specs.Blocks.{Numbers, Front};
+ghost use Rattle.placement.specs.Views.{labels_in, network_in};
 
 use crate::blocks::{look_at_blocks, nearest_candidate, reach_bus, settle_bus};
-use crate::corridors::next_corridor;
-use crate::{BLOCKS, MOST_BUSES, MOST_CORRIDORS, index, wide};
-
-// The three sets.
-pub const REST: u16 = 0;
-
-pub const CANDIDATE: u16 = 1;
-
-pub const SETTLED: u16 = 2;
-
-// The source of a bus that none reaches.
-pub const NOBODY: u16 = 256;
+use crate::labels::{CANDIDATE, Labels, SETTLED};
+use crate::network::Network;
+use crate::{BLOCKS, MOST_BUSES};
 
 // A source is a candidate at no distance from itself.
-fn place_source(
-    i: usize,
-    source: u16,
-    mark: &mut [u16; MOST_BUSES],
-    dist: &mut [f64; MOST_BUSES],
-    from: &mut [u16; MOST_BUSES],
-)
+fn place_source(i: usize, source: u16, labels: &mut Labels)
     requires { i < most_buses }
-    ensures { labels mark.new dist.new from.new
-        ≡ seeded i source (labels mark.old dist.old from.old) }
+    ensures { labels_in labels.new ≡ seeded i source (labels_in labels.old) }
 {
     if source == 0 {
         return;
     }
-    mark[i] = CANDIDATE;
-    dist[i] = 0.0;
-    from[i] = i as u16;
+    labels.mark[i] = CANDIDATE;
+    labels.dist[i] = 0.0;
+    labels.from[i] = i as u16;
 }
 
 // The sources, from which the search begins.
-fn place_sources(
-    n: usize,
-    sources: &[u16; MOST_BUSES],
-    mark: &mut [u16; MOST_BUSES],
-    dist: &mut [f64; MOST_BUSES],
-    from: &mut [u16; MOST_BUSES],
-)
+fn place_sources(n: usize, sources: &[u16; MOST_BUSES], labels: &mut Labels)
     requires { n ≤ most_buses }
-    ensures { labels mark.new dist.new from.new
-        ≡ iter (seed sources.now) n 0 (labels mark.old dist.old from.old) }
+    ensures { labels_in labels.new ≡ iter (seed sources.now) n 0 (labels_in labels.old) }
 {
-    let mut i = 0;
-    while i < n {
-        place_source(i, sources[i], mark, dist, from);
-        i += 1;
+    for i in 0..n {
+        place_source(i, sources[i], labels);
     }
 }
 
@@ -81,157 +56,88 @@ fn consider(
     a: usize,
     b: usize,
     km: f64,
-    mark: &mut [u16; MOST_BUSES],
-    dist: &mut [f64; MOST_BUSES],
-    from: &mut [u16; MOST_BUSES],
-    nearest: &mut [usize; BLOCKS],
+    labels: &mut Labels,
+    nearest: &mut [Option<usize>; BLOCKS],
 )
     requires n_le_most_buses { (n ≤ most_buses) × (i < n) × (a < n) × (b < n) }
-    requires front { Front n mark.old dist.old nearest.old }
-    ensures from_after { labels mark.new dist.new from.new
-        ≡ considered i a b km (labels mark.old dist.old from.old) }
-    ensures front_2 { Front n mark.new dist.new nearest.new }
+    requires front { Front n labels.old.mark labels.old.dist nearest.old }
+    ensures from_after { labels_in labels.new ≡ considered i a b km (labels_in labels.old) }
+    ensures front_2 { Front n labels.new.mark labels.new.dist nearest.new }
 {
     if (a != i) & (b != i) {
         return;
     }
     let j = far_end(n, a, b, i);
-    let nd = dist[i] + km;
-    if !shortens_way(mark[j], nd, dist[j]) {
+    let nd = labels.dist[i] + km;
+    if !shortens_way(labels.mark[j], nd, labels.dist[j]) {
         return;
     }
-    let src = from[i];
-    reach_bus(n, j, nd, src, mark, dist, from, nearest);
+    let src = labels.from[i];
+    reach_bus(n, j, nd, src, labels, nearest);
 }
 
 // Settles bus i, and considers its corridors.
 fn spread_from(
-    n: usize,
-    m: usize,
-    a: &[u32],
-    b: &[u32],
-    km: &[f64],
-    head: &[u16; MOST_BUSES],
-    after_a: &[u16; MOST_CORRIDORS],
-    after_b: &[u16; MOST_CORRIDORS],
+    network: &Network,
     i: usize,
-    mark: &mut [u16; MOST_BUSES],
-    dist: &mut [f64; MOST_BUSES],
-    from: &mut [u16; MOST_BUSES],
-    nearest: &mut [usize; BLOCKS],
+    labels: &mut Labels,
+    nearest: &mut [Option<usize>; BLOCKS],
 )
-    requires net { Net n m a.now b.now km.now }
-    requires listed { Listed (network n m a.now b.now km.now) 0 head.now after_a.now after_b.now }
-    requires i_lt_n { i < n }
-    requires front { Front n mark.old dist.old nearest.old }
-    ensures from_after { labels mark.new dist.new from.new
-        ≡ spread (network n m a.now b.now km.now) i (labels mark.old dist.old from.old) }
-    ensures front_2 { Front n mark.new dist.new nearest.new }
+    requires i_lt_n { i < network.now.n }
+    requires front { Front network.now.n labels.old.mark labels.old.dist nearest.old }
+    ensures from_after { labels_in labels.new ≡ spread (network_in network.now) i (labels_in labels.old) }
+    ensures front_2 { Front network.now.n labels.new.mark labels.new.dist nearest.new }
 {
-    settle_bus(n, i, mark, dist, nearest);
-    let mut c = index(head[i]);
-    while c < m {
-        let end = wide(a[c]);
-        consider(n, i, end, wide(b[c]), km[c], mark, dist, from, nearest);
-        c = next_corridor(end, i, after_a[c], after_b[c]);
+    settle_bus(network.n, i, labels, nearest);
+    let mut c = network.head[i] as usize;
+    while c < network.a.len() {
+        consider(
+            network.n,
+            i,
+            network.a[c] as usize,
+            network.b[c] as usize,
+            network.km[c],
+            labels,
+            nearest,
+        );
+        c = network.after(c, i);
     }
 }
 
 // Both steps, until no candidate is left.
-pub fn search(
-    n: usize,
-    m: usize,
-    a: &[u32],
-    b: &[u32],
-    km: &[f64],
-    head: &[u16; MOST_BUSES],
-    after_a: &[u16; MOST_CORRIDORS],
-    after_b: &[u16; MOST_CORRIDORS],
-    mark: &mut [u16; MOST_BUSES],
-    dist: &mut [f64; MOST_BUSES],
-    from: &mut [u16; MOST_BUSES],
-)
-    requires net { Net n m a.now b.now km.now }
-    requires listed { Listed (network n m a.now b.now km.now) 0 head.now after_a.now after_b.now }
-    requires numbers { Numbers n mark.old dist.old }
-    ensures { labels mark.new dist.new from.new
-        ≡ searched (network n m a.now b.now km.now) (labels mark.old dist.old from.old) }
+fn search(network: &Network, labels: &mut Labels)
+    requires { Numbers network.now.n labels.old.mark labels.old.dist }
+    ensures { labels_in labels.new ≡ searched (network_in network.now) (labels_in labels.old) }
 {
-    let mut nearest = [0; BLOCKS];
-    look_at_blocks(n, mark, dist, &mut nearest);
-    let mut k = 0;
-    while k < n {
-        let i = nearest_candidate(n, mark, dist, &nearest);
-        if i >= n {
+    let mut nearest = [None; BLOCKS];
+    look_at_blocks(network.n, labels, &mut nearest);
+    // Each turn settles a bus.
+    for _turn in 0..network.n {
+        let Some(i) = nearest_candidate(network.n, labels, &nearest) else {
             return;
-        }
-        spread_from(
-            n,
-            m,
-            a,
-            b,
-            km,
-            head,
-            after_a,
-            after_b,
-            i,
-            mark,
-            dist,
-            from,
-            &mut nearest,
-        );
-        k += 1;
+        };
+        spread_from(network, i, labels, &mut nearest);
     }
 }
 
 // Corridor-km from every bus to its nearest source, and that source.
-pub fn distance_to_sources(
-    n: usize,
-    m: usize,
-    a: &[u32],
-    b: &[u32],
-    km: &[f64],
-    head: &[u16; MOST_BUSES],
-    after_a: &[u16; MOST_CORRIDORS],
-    after_b: &[u16; MOST_CORRIDORS],
-    sources: &[u16; MOST_BUSES],
-    mark: &mut [u16; MOST_BUSES],
-    dist: &mut [f64; MOST_BUSES],
-    from: &mut [u16; MOST_BUSES],
-)
-    requires net { Net n m a.now b.now km.now }
-    requires listed { Listed (network n m a.now b.now km.now) 0 head.now after_a.now after_b.now }
-    requires numbers { Numbers n mark.old dist.old }
-    ensures { labels mark.new dist.new from.new
-        ≡ distances_from (network n m a.now b.now km.now) sources.now (labels mark.old dist.old from.old) }
+pub fn distance_to_sources(network: &Network, sources: &[u16; MOST_BUSES], labels: &mut Labels)
+    requires { Numbers network.now.n labels.old.mark labels.old.dist }
+    ensures { labels_in labels.new
+        ≡ distances_from (network_in network.now) sources.now (labels_in labels.old) }
 {
-    place_sources(n, sources, mark, dist, from);
-    search(n, m, a, b, km, head, after_a, after_b, mark, dist, from);
+    place_sources(network.n, sources, labels);
+    search(network, labels);
 }
 
 // The distances after bus i has joined the sources, from those before: only the buses that now lie nearer to i are reached again. The
 // distances are those of a search from all sources (proofs/Again); the sources need not be, where two lie equally far.
-pub fn distance_with_source(
-    n: usize,
-    m: usize,
-    a: &[u32],
-    b: &[u32],
-    km: &[f64],
-    head: &[u16; MOST_BUSES],
-    after_a: &[u16; MOST_CORRIDORS],
-    after_b: &[u16; MOST_CORRIDORS],
-    i: usize,
-    mark: &mut [u16; MOST_BUSES],
-    dist: &mut [f64; MOST_BUSES],
-    from: &mut [u16; MOST_BUSES],
-)
-    requires net { Net n m a.now b.now km.now }
-    requires listed { Listed (network n m a.now b.now km.now) 0 head.now after_a.now after_b.now }
-    requires numbers { Numbers n mark.old dist.old }
-    requires i_lt_n { i < n }
-    ensures { labels mark.new dist.new from.new
-        ≡ searched (network n m a.now b.now km.now) (seeded i 1 (labels mark.old dist.old from.old)) }
+pub fn distance_with_source(network: &Network, i: usize, labels: &mut Labels)
+    requires numbers { Numbers network.now.n labels.old.mark labels.old.dist }
+    requires i_lt_n { i < network.now.n }
+    ensures { labels_in labels.new
+        ≡ searched (network_in network.now) (seeded i 1 (labels_in labels.old)) }
 {
-    place_source(i, 1, mark, dist, from);
-    search(n, m, a, b, km, head, after_a, after_b, mark, dist, from);
+    place_source(i, 1, labels);
+    search(network, labels);
 }

@@ -4,14 +4,16 @@
 ghost use Rattle.std.specs.Prelude.{◌≡◌};
 ghost use Rattle.placement_defs.specs.Request.{request_of};
 ghost use Rattle.placement_defs.specs.Support.{outcome, placement};
-use refusal::Refusal;
 
+use crate::network::Network;
+use refusal::Refusal;
 
 mod blocks;
 mod check;
 mod condenser;
-mod corridors;
 mod distance;
+mod labels;
+mod network;
 
 const MOST_BUSES: usize = 256;
 
@@ -20,28 +22,10 @@ const MOST_CORRIDORS: usize = 256;
 // Blocks of sixteen buses.
 const BLOCKS: usize = 16;
 
-fn wide(x: u32) -> usize
-    ensures { result ≡ x }
-{
-    x as usize
-}
-
-fn number(x: u16) -> u32
-    ensures { result ≡ x }
-{
-    x as u32
-}
-
-// A corridor that a list names.
-fn index(x: u16) -> usize
-    ensures { result ≡ x }
-{
-    x as usize
-}
-
 // Puts a condenser at the farthest loaded bus as long as one lies more than 100 km of corridor from the nearest generator or
 // condenser, then sizes each to half the load that lies nearest to it, 5 Mvar at least. A bus's load is its reading times its weight, rounded once.
 // Reads n buses, m corridors and g generators; writes the condensers' buses and Mvar, zero past their count.
+#[tactic(auto, using(crate::proofs::Checks::passed, crate::proofs::Sites::refused_is, crate::proofs::Sites::done_is))]
 pub fn place_voltage_support(
     n: usize,
     m: usize,
@@ -58,7 +42,7 @@ pub fn place_voltage_support(
     ensures { outcome result buses.new mvars.new
         ≡ placement (request_of n m g reading.now weight.now a.now b.now km.now generators.now) buses.old mvars.old }
 {
-    match check::check(
+    check::check(
         n,
         m,
         g,
@@ -70,11 +54,7 @@ pub fn place_voltage_support(
         generators,
         buses.len(),
         mvars.len(),
-    ) {
-        Err(f) => Err(f),
-        Ok(()) => {
-            let count = condenser::place(n, m, reading, weight, a, b, km, generators, buses, mvars);
-            Ok(count)
-        }
-    }
+    )?;
+    let network = Network::new(n, reading, weight, a, b, km);
+    Ok(condenser::place(&network, generators, buses, mvars))
 }

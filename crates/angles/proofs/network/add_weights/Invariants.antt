@@ -1,12 +1,9 @@
-use Prim.Native.Nat.{◌-◌, ◌≤◌}
 use mathlib.Core.Path.{◌≡◌}
 use lib.ListN.{length}
 use Rattle.loops.proofs.Puts.{Turned}
-use Rattle.angles_defs.specs.Network.{edges_of, weigh}
+use Rattle.angles_defs.specs.Network.{weigh}
+use Rattle.angles.specs.Slices.{edges_in}
 use Rattle.angles.proofs.network.add_weights.Given as goal
 
 abbrev pub invariant-loop-e : goal.invariant-loop-e
-invariant-loop-e l = (l.e ≤ length l.from) × (length l.w ≡ length l.initial.w) × Turned (weigh (edges_of l.from l.to l.weight)) l.y l.n (length l.from) l.initial.w l.w l.e
-
-abbrev pub decreases-loop-e : goal.decreases-loop-e
-decreases-loop-e l = length l.from - l.e
+invariant-loop-e l = (length l.w ≡ length l.initial.w) × Turned (weigh (edges_in l.edges)) l.y l.edges.n (length l.edges.from.now) l.initial.w l.w l.e

@@ -1,11 +1,11 @@
-use Rattle.angles.proofs.Edges.{apply_calls}
+use Rattle.angles.proofs.Turns.{apply_calls}
 use borrow.Author.Rules.{rules}
 use Rattle.angles.proofs.network.apply.Goals as goal
 
 pub scatter-requires : goal.scatter-requires
-scatter-requires c = record { edges_below = c.requires.edges_below; n_in_bounds = search rules }
+scatter-requires c = search rules
 
 pub returns : goal.returns
 returns c =
-    let p = c.requires.n_in_bounds in
+    let p = c.requires in
     apply_calls _ _ _ _ _ _ _ _ _ _ p.0 p.1 p.2 p.3 p.4 c.clear.ensures c.scatter.ensures c.ground.ensures

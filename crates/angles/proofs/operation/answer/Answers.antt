@@ -2,12 +2,12 @@ use Rattle.loops.specs.Parts.{rows}
 use Rattle.angles.proofs.Ends.{answer_refused, answer_given}
 use Rattle.angles.proofs.operation.answer.Goals as goal
 
-pub returns-then-bus-n : goal.returns-then-bus-n
-returns-then-bus-n c =
+pub returns-in-Some : goal.returns-in-Some
+returns-in-Some c =
     let t = c.solve-solution in
-    answer_refused _ _ _ _ _ _ (rows 8 c.args.n t.new.w) t.result _ _ _ c.set_up.ensures t.ensures c.hand_out-bus.ensures c.if-bus-n.true
+    answer_refused _ _ _ _ _ _ (rows 8 c.args.edges.now.n t.new.w) t.result _ _ _ c.set_up.ensures t.ensures c.hand_out.ensures _ c.in-Some.is
 
-pub returns-else-bus-n : goal.returns-else-bus-n
-returns-else-bus-n c =
+pub returns-in-None : goal.returns-in-None
+returns-in-None c =
     let t = c.solve-solution in
-    answer_given _ _ _ _ _ _ (rows 8 c.args.n t.new.w) t.result _ _ _ c.set_up.ensures t.ensures c.hand_out-bus.ensures c.if-bus-n.false
+    answer_given _ _ _ _ _ _ (rows 8 c.args.edges.now.n t.new.w) t.result _ _ _ c.set_up.ensures t.ensures c.hand_out.ensures c.in-None.is

@@ -1,14 +1,15 @@
-use Prim.Native.Nat.{◌-◌, ◌≤◌}
+-- What is left of the turns gives what all do, and each has moved x once.
+use Prim.Native.Nat.{◌-◌, ◌*◌}
 use mathlib.Core.Path.{◌≡◌}
 use lib.ListN.{length}
 use Rattle.loops.specs.Parts.{rows}
-use Rattle.angles_defs.specs.Network.{edges_of}
-use Rattle.angles_defs.specs.Solve.{run, go}
-use Rattle.angles.specs.Rows.{network_in, state_in, carried_by}
+use Rattle.angles_defs.specs.Solve.{run, go, max_iterations}
+use Rattle.angles.specs.Slices.{edges_in}
+use Rattle.angles.specs.Rows.{network_in, state_in}
 use Rattle.angles.proofs.solve.iterate.Given as goal
 
-abbrev pub invariant-loop-steps : goal.invariant-loop-steps
-invariant-loop-steps l = (l.steps ≤ l.max_iterations) × (length l.w ≡ length l.initial.w) × (network_in l.n (edges_of l.from l.to l.weight) (rows 8 l.n l.w) ≡ network_in l.n (edges_of l.from l.to l.weight) (rows 8 l.n l.initial.w)) × (run (network_in l.n (edges_of l.from l.to l.weight) (rows 8 l.n l.initial.w)) l.bound (l.max_iterations - l.steps) (go (state_in (rows 8 l.n l.w) (carried_by l.rz l.rr l.steps))) ≡ run (network_in l.n (edges_of l.from l.to l.weight) (rows 8 l.n l.initial.w)) l.bound l.max_iterations (go (state_in (rows 8 l.n l.initial.w) (carried_by l.initial.rz l.initial.rr 0))))
-
-abbrev pub decreases-loop-steps : goal.decreases-loop-steps
-decreases-loop-steps l = l.max_iterations - l.steps
+abbrev pub invariant-loop-turn : goal.invariant-loop-turn
+invariant-loop-turn l =
+    (l.carried.steps ≡ l._turn) × (length l.w ≡ 8 * l.edges.n)
+    × (network_in l.edges.n (edges_in l.edges) (rows 8 l.edges.n l.w) ≡ network_in l.edges.n (edges_in l.edges) (rows 8 l.edges.n l.initial.w))
+    × (run (network_in l.edges.n (edges_in l.edges) (rows 8 l.edges.n l.initial.w)) l.bound.bound (max_iterations l.edges.n - l.carried.steps) (go (state_in (rows 8 l.edges.n l.w) l.carried)) ≡ run (network_in l.edges.n (edges_in l.edges) (rows 8 l.edges.n l.initial.w)) l.bound.bound (max_iterations l.edges.n) (go (state_in (rows 8 l.edges.n l.initial.w) l.fn.first)))

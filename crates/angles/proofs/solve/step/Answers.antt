@@ -1,4 +1,3 @@
-use mathlib.Core.Path.{sym, ◌∙◌}
 use lib.Dec.{lit<}
 use Rattle.loops.specs.Parts.{rows}
 use Rattle.angles.proofs.Rows.{apply_rows}
@@ -7,16 +6,16 @@ use Rattle.angles.proofs.solve.step.Goals as goal
 
 pub returns-then-dq : goal.returns-then-dq
 unfolding rows
-returns-then-dq c = step_none _ _ _ _ _ _ _ _ _ _ _ _ _ _ (apply_rows _ _ _ c.requires.w_len.0 _ 6 7 _ (lit< tt) (lit< tt) c.apply-dq.ensures) c.if-dq.true
+returns-then-dq c = step_none _ _ _ _ _ _ _ _ _ _ _ _ _ _ (apply_rows _ _ _ c.requires.0 _ 6 7 _ (lit< tt) (lit< tt) c.apply-dq.ensures) c.if-dq.true
 
-pub returns-in-Within : goal.returns-in-Within
+pub returns-in-Some : goal.returns-in-Some
 unfolding rows
-returns-in-Within c =
-    step_settled _ _ _ _ _ _ _ _ _ _ _ _ _ _ (apply_rows _ _ _ c.requires.w_len.0 _ 6 7 _ (lit< tt) (lit< tt) c.apply-dq.ensures) _ _ c.if-dq.false
-    c.residual_step-sums.ensures _ _ (sym c.in-Within.is ∙ c.judge.ensures) c.angle_step.ensures
+returns-in-Some c =
+    step_settled _ _ _ _ _ _ _ _ _ _ _ _ _ _ (apply_rows _ _ _ c.requires.0 _ 6 7 _ (lit< tt) (lit< tt) c.apply-dq.ensures) _ _ c.if-dq.false
+    c.residual_step-sums.ensures _ _ c.in-Some.ensures c.angle_step.ensures
 
 pub returns : goal.returns
 unfolding rows
 returns c =
-    step_more _ _ _ _ _ _ _ _ _ _ _ _ _ _ (apply_rows _ _ _ c.requires.w_len.0 _ 6 7 _ (lit< tt) (lit< tt) c.apply-dq.ensures) _ _ c.if-dq.false
-    c.residual_step-sums.ensures _ (sym c.in_default.is ∙ c.judge.ensures) c.direction_step.ensures
+    step_more _ _ _ _ _ _ _ _ _ _ _ _ _ _ (apply_rows _ _ _ c.requires.0 _ 6 7 _ (lit< tt) (lit< tt) c.apply-dq.ensures) _ _ c.if-dq.false
+    c.residual_step-sums.ensures _ c.in_default.ensures c.direction_step.ensures

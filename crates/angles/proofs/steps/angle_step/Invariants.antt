@@ -1,4 +1,3 @@
-use Prim.Native.Nat.{◌-◌, ◌≤◌}
 use mathlib.Core.Path.{◌≡◌}
 use lib.ListN.{length}
 use Rattle.loops.specs.Figures.{at, plus, times}
@@ -7,7 +6,4 @@ use Rattle.loops.specs.Parts.{part, put}
 use Rattle.angles.proofs.steps.angle_step.Given as goal
 
 abbrev pub invariant-loop-i : goal.invariant-loop-i
-invariant-loop-i l = (l.i ≤ l.n) × (length l.w ≡ length l.initial.w) × (l.w ≡ put l.initial.w l.x (tab l.i (λ k. plus (at (part l.x l.n l.initial.w) k) (times l.alpha (at (part l.d l.n l.initial.w) k)))))
-
-abbrev pub decreases-loop-i : goal.decreases-loop-i
-decreases-loop-i l = l.n - l.i
+invariant-loop-i l = (length l.w ≡ length l.initial.w) × (l.w ≡ put l.initial.w l.x (tab l.i (λ k. plus (at (part l.x l.n l.initial.w) k) (times l.alpha (at (part l.d l.n l.initial.w) k)))))

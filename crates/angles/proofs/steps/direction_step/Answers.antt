@@ -1,18 +1,15 @@
-use Prim.Native.Nat.{◌+◌, ◌-◌, ◌*◌, ◌≤◌}
-use mathlib.Core.Path.{refl}
+use Prim.Native.Nat.{◌+◌, ◌*◌, ◌≤◌}
+use mathlib.Core.Path.{◌≡◌, refl}
 use native.Mathlib.Omega.{arith}
-use native.Mathlib.Nat.{le_antisymm}
 use lib.ListN.{length, length-set}
 use lib.Ieee.{nan}
-use Rattle.loops.specs.Figures.{at}
 use Rattle.loops.proofs.Puts.{two_start, two_first, two_second, two_other, two_turn}
 use Rattle.angles_defs.specs.Network.{along}
 use Rattle.angles.proofs.Rows.{direction_step_rows}
-use borrow.Author.Rules.{rules}
 use Rattle.angles.proofs.steps.direction_step.Goals as goal
 
 pub loop-i-init : goal.loop-i-init
-loop-i-init c = (search rules, refl, two_start _ _ _ _ _)
+loop-i-init c = (refl, two_start _ _ _ _ _)
 
 pub bounds-w-d-in-loop-i : goal.bounds-w-d-in-loop-i
 bounds-w-d-in-loop-i c = simp length-set (omega arith)
@@ -24,15 +21,16 @@ loop-i-preserved c =
     let n = s.args.n in
     let w = s.args.w.now in
     let t = c.loop-i-test.true in
-    let e = l.loop-i.invariant.2 in
+    let e = l.loop-i.invariant.1 in
     let hx : 3 * n + n ≤ length w = omega arith in
     let hd : 6 * n + n ≤ length w = omega arith in
     let x = two_first nan _ _ _ _ _ _ _ _ e (omega arith) hx hd t in
     let d = two_second nan _ _ _ _ _ _ _ _ e (omega arith) hx hd t (omega arith) in
     let z = two_other nan _ _ _ _ _ _ _ _ e (omega arith) hx hd t (5 * n) (omega arith) (omega arith) in
-    (omega arith, simp (length-set, length-set) l.loop-i.invariant.1, two_turn nan _ _ _ _ _ _ _ _ e (omega arith) hx hd t _ _ (rw (x, d)) (rw (z, d)))
+    (simp (length-set, length-set) l.loop-i.invariant.0, two_turn nan _ _ _ _ _ _ _ _ e (omega arith) hx hd t _ _ (rw (x, d)) (rw (z, d)))
 
 pub returns : goal.returns
 unfolding along
 returns c =
-    direction_step_rows _ _ _ c.requires _ _ (rw (le_antisymm c.loop-i.invariant.0 c.loop-i-test.false) at c.loop-i.invariant.2)
+    let e : c.loop-i.i ≡ c.args.n = omega arith in
+    direction_step_rows _ _ _ c.requires _ _ (rw e at c.loop-i.invariant.1)

@@ -1,4 +1,3 @@
-use Prim.Native.Nat.{◌-◌, ◌≤◌}
 use mathlib.Core.Path.{◌≡◌}
 use lib.ListN.{length}
 use Rattle.loops.specs.Figures.{at, plus, times}
@@ -8,8 +7,5 @@ use Rattle.angles.proofs.steps.direction_step.Given as goal
 
 abbrev pub invariant-loop-i : goal.invariant-loop-i
 invariant-loop-i l =
-    (l.i ≤ l.n) × (length l.w ≡ length l.initial.w)
+    (length l.w ≡ length l.initial.w)
     × (l.w ≡ put (put l.initial.w l.x (tab l.i (λ k. plus (at (part l.x l.n l.initial.w) k) (times l.alpha (at (part l.d l.n l.initial.w) k))))) l.d (tab l.i (λ k. plus (at (part l.z l.n l.initial.w) k) (times l.beta (at (part l.d l.n l.initial.w) k)))))
-
-abbrev pub decreases-loop-i : goal.decreases-loop-i
-decreases-loop-i l = l.n - l.i

@@ -1,4 +1,3 @@
-use Prim.Native.Nat.{◌-◌, ◌≤◌}
 use mathlib.Core.Path.{◌≡◌}
 use lib.ListN.{length}
 use Rattle.loops.specs.Figures.{at}
@@ -8,7 +7,4 @@ use Rattle.angles_defs.specs.Network.{share_at, shares, product}
 use Rattle.angles.proofs.steps.precondition.Given as goal
 
 abbrev pub invariant-loop-i : goal.invariant-loop-i
-invariant-loop-i l = (l.i ≤ l.n) × (length l.w ≡ length l.initial.w) × (l.w ≡ put l.initial.w l.z (tab l.i (λ k. share_at (at (part l.grounded l.n l.initial.w) k) (at (part l.diag l.n l.initial.w) k) (at (part l.r l.n l.initial.w) k)))) × (l.rz ≡ sum_to (product (part l.r l.n l.initial.w) (shares l.n (part l.grounded l.n l.initial.w) (part l.diag l.n l.initial.w) (part l.r l.n l.initial.w))) l.i)
-
-abbrev pub decreases-loop-i : goal.decreases-loop-i
-decreases-loop-i l = l.n - l.i
+invariant-loop-i l = (length l.w ≡ length l.initial.w) × (l.w ≡ put l.initial.w l.z (tab l.i (λ k. share_at (at (part l.grounded l.n l.initial.w) k) (at (part l.diag l.n l.initial.w) k) (at (part l.r l.n l.initial.w) k)))) × (l.rz ≡ sum_to (product (part l.r l.n l.initial.w) (shares l.n (part l.grounded l.n l.initial.w) (part l.diag l.n l.initial.w) (part l.r l.n l.initial.w))) l.i)

@@ -1,22 +1,20 @@
-use Prim.Native.Nat.{◌+◌, ◌-◌, ◌*◌, ◌≤◌}
+use Prim.Native.Nat.{◌+◌, ◌*◌, ◌≤◌}
 use mathlib.Core.Path.{◌≡◌, refl, sym, ◌∙◌}
 use native.Mathlib.Omega.{arith}
-use native.Mathlib.Nat.{le_antisymm}
 use lib.ListN.{length, length-set}
 use lib.Ieee.{nan}
 use Rattle.loops.specs.Figures.{at, minus, times}
 use Rattle.loops.specs.Parts.{part}
 use Rattle.loops.proofs.Tab.{get_tab}
 use Rattle.loops.proofs.Totals.{sum_start, sum_turn}
-use Rattle.angles.proofs.Edges.{product_of}
+use Rattle.angles.proofs.Turns.{product_of}
 use Rattle.loops.proofs.Puts.{two_start, two_first, two_other, two_turn}
 use Rattle.angles_defs.specs.Network.{back, shares}
 use Rattle.angles.proofs.Rows.{residual_step_rows}
-use borrow.Author.Rules.{rules}
 use Rattle.angles.proofs.steps.residual_step.Goals as goal
 
 pub loop-i-init : goal.loop-i-init
-loop-i-init c = (search rules, refl, two_start _ _ _ _ _, sum_start _, sum_start _)
+loop-i-init c = (refl, two_start _ _ _ _ _, sum_start _, sum_start _)
 
 pub bounds-w-z : goal.bounds-w-z
 bounds-w-z c = simp length-set (omega arith)
@@ -31,7 +29,7 @@ loop-i-preserved c =
     let a = s.args.alpha in
     let i = l.loop-i.i in
     let t = c.loop-i-test.true in
-    let e = l.loop-i.invariant.2 in
+    let e = l.loop-i.invariant.1 in
     let hr : 4 * n + n ≤ length w = omega arith in
     let hz : 5 * n + n ≤ length w = omega arith in
     let r = two_first nan _ _ _ _ _ _ _ _ e (omega arith) hr hz t in
@@ -41,16 +39,15 @@ loop-i-preserved c =
     let v : minus (at l.loop-i.w (4 * n + i)) (times a (at l.loop-i.w (7 * n + i))) ≡ minus (at (part (4 * n) n w) i) (times a (at (part (7 * n) n w) i)) = rw (r, q) in
     let u = v ∙ sym (get_tab n _ i nan t) in
     let z = rw (g, k, u) at c.share-zi.ensures in (
-      omega arith,
-      simp (length-set, length-set) l.loop-i.invariant.1,
+      simp (length-set, length-set) l.loop-i.invariant.0,
       two_turn nan _ _ _ _ _ _ _ _ e (omega arith) hr hz t _ _ v z,
-      sum_turn _ _ _ _ l.loop-i.invariant.3 (product_of (back n (part (4 * n) n w) a (part (7 * n) n w)) (back n (part (4 * n) n w) a (part (7 * n) n w)) i _ _ u u),
-      sum_turn _ _ _ _ l.loop-i.invariant.4
+      sum_turn _ _ _ _ l.loop-i.invariant.2 (product_of (back n (part (4 * n) n w) a (part (7 * n) n w)) (back n (part (4 * n) n w) a (part (7 * n) n w)) i _ _ u u),
+      sum_turn _ _ _ _ l.loop-i.invariant.3
           (product_of (back n (part (4 * n) n w) a (part (7 * n) n w)) (shares n (part (1 * n) n w) (part (2 * n) n w) (back n (part (4 * n) n w) a (part (7 * n) n w))) i _ _ u (z ∙ sym (get_tab n _ i nan t))),
     )
 
 pub returns : goal.returns
 unfolding back shares
 returns c =
-    let e = le_antisymm c.loop-i.invariant.0 c.loop-i-test.false in
-    residual_step_rows _ _ _ c.requires _ _ (rw e at c.loop-i.invariant.2) (rw e at c.loop-i.invariant.3) (rw e at c.loop-i.invariant.4)
+    let e : c.loop-i.i ≡ c.args.n = omega arith in
+    residual_step_rows _ _ _ c.requires _ _ (rw e at c.loop-i.invariant.1) (rw e at c.loop-i.invariant.2) (rw e at c.loop-i.invariant.3)

@@ -1,4 +1,3 @@
-use Prim.Native.Nat.{◌-◌, ◌≤◌}
 use mathlib.Core.Path.{◌≡◌}
 use lib.ListN.{length}
 use Rattle.loops.specs.Figures.{at, minus, times}
@@ -9,11 +8,8 @@ use Rattle.angles.proofs.steps.residual_step.Given as goal
 
 abbrev pub invariant-loop-i : goal.invariant-loop-i
 invariant-loop-i l =
-    (l.i ≤ l.n) × (length l.w ≡ length l.initial.w)
+    (length l.w ≡ length l.initial.w)
     × (l.w ≡ put (put l.initial.w l.r (tab l.i (λ k. minus (at (part l.r l.n l.initial.w) k) (times l.alpha (at (part l.q l.n l.initial.w) k))))) l.z
     (tab l.i (λ k. share_at (at (part l.grounded l.n l.initial.w) k) (at (part l.diag l.n l.initial.w) k) (at (back l.n (part l.r l.n l.initial.w) l.alpha (part l.q l.n l.initial.w)) k))))
     × (l.rr ≡ sum_to (product (back l.n (part l.r l.n l.initial.w) l.alpha (part l.q l.n l.initial.w)) (back l.n (part l.r l.n l.initial.w) l.alpha (part l.q l.n l.initial.w))) l.i)
     × (l.rz ≡ sum_to (product (back l.n (part l.r l.n l.initial.w) l.alpha (part l.q l.n l.initial.w)) (shares l.n (part l.grounded l.n l.initial.w) (part l.diag l.n l.initial.w) (back l.n (part l.r l.n l.initial.w) l.alpha (part l.q l.n l.initial.w)))) l.i)
-
-abbrev pub decreases-loop-i : goal.decreases-loop-i
-decreases-loop-i l = l.n - l.i

@@ -1,20 +1,14 @@
-use Prim.Native.Nat.{◌-◌}
-use mathlib.Core.Path.{refl, ap, ◌∙◌}
-use native.Mathlib.Omega.{arith}
-use native.Mathlib.Nat.{le_antisymm}
-use lib.ListN.{length-set}
+use mathlib.Core.Path.{◌≡◌, ap, ◌∙◌}
+use Prim.Native.Nat.{ℕ}
+use lib.ListN.{replicate, length-replicate}
 use Rattle.loops.specs.Figures.{nought}
 use Rattle.loops.specs.Parts.{put}
-use Rattle.loops.proofs.Tab.{tab_replicate}
-use Rattle.loops.proofs.Parts.{tab_start, tab_turn}
-use borrow.Author.Rules.{rules}
+use Rattle.angles_defs.specs.Network.{zeros}
+use Rattle.angles.proofs.Parts.{put_back, lent_length}
 use Rattle.angles.proofs.vectors.clear.Goals as goal
 
-pub loop-i-init : goal.loop-i-init
-loop-i-init c = (search rules, refl, tab_start _ _ _)
-
-pub loop-i-preserved : goal.loop-i-preserved
-loop-i-preserved c = (omega arith, simp length-set c.loop-i.invariant.1, tab_turn _ _ _ _ _ _ c.loop-i.invariant.2 (omega arith) refl)
-
 pub returns : goal.returns
-returns c = (rw (le_antisymm c.loop-i.invariant.0 c.loop-i-test.false) at c.loop-i.invariant.2) ∙ ap (put _ _) (tab_replicate _ nought)
+returns c =
+    let a = c.args in
+    let filled : c.fill.new.self ≡ zeros a.n = c.fill.ensures.after (λ y e. e) ∙ ap (λ (k : ℕ). replicate k nought) (lent_length a.w.now a.o a.n c.requires) in
+    put_back a.w.now a.o a.n _ (rw filled (length-replicate a.n nought)) ∙ ap (put a.w.now a.o) filled

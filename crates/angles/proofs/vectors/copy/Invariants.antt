@@ -1,4 +1,3 @@
-use Prim.Native.Nat.{◌-◌, ◌≤◌}
 use mathlib.Core.Path.{◌≡◌}
 use lib.ListN.{length}
 use Rattle.loops.specs.Figures.{at}
@@ -7,7 +6,4 @@ use Rattle.loops.specs.Parts.{part, put}
 use Rattle.angles.proofs.vectors.copy.Given as goal
 
 abbrev pub invariant-loop-i : goal.invariant-loop-i
-invariant-loop-i l = (l.i ≤ l.n) × (length l.w ≡ length l.initial.w) × (l.w ≡ put l.initial.w l.d (tab l.i (λ k. at (part l.z l.n l.initial.w) k)))
-
-abbrev pub decreases-loop-i : goal.decreases-loop-i
-decreases-loop-i l = l.n - l.i
+invariant-loop-i l = (length l.w ≡ length l.initial.w) × (l.w ≡ put l.initial.w l.d (tab l.i (λ k. at (part l.z l.n l.initial.w) k)))

@@ -1,4 +1,3 @@
-use Prim.Native.Nat.{◌-◌, ◌≤◌}
 use mathlib.Core.Path.{◌≡◌}
 use Rattle.loops.specs.Loops.{sum_to}
 use Rattle.loops.specs.Parts.{part}
@@ -6,7 +5,4 @@ use Rattle.angles_defs.specs.Network.{product}
 use Rattle.angles.proofs.vectors.dot.Given as goal
 
 abbrev pub invariant-loop-i : goal.invariant-loop-i
-invariant-loop-i l = (l.i ≤ l.n) × (l.sum ≡ sum_to (product (part l.u l.n l.w) (part l.v l.n l.w)) l.i)
-
-abbrev pub decreases-loop-i : goal.decreases-loop-i
-decreases-loop-i l = l.n - l.i
+invariant-loop-i l = (l.sum ≡ sum_to (product (part l.u l.n l.w) (part l.v l.n l.w)) l.i)

@@ -1,21 +1,41 @@
-use Rattle.std.proofs.Common.{sym, ◌∙◌}
-use Rattle.line_sheet.proofs.Checks.{not_lengths, not_counts, bad_level, bad_length, bad_spread, all_sound}
+use Rattle.std.proofs.Common.{lt-ltb, le-ltb}
+use Rattle.loops.proofs.Scan.{fault_some, fault_passed}
+use Rattle.line_defs.specs.Request.{faulty, check_of}
 use Rattle.line_sheet.proofs.check.check.Goals as goal
 
 pub returns-then-not-lengths_ok : goal.returns-then-not-lengths_ok
-returns-then-not-lengths_ok c = let s = c.args in not_lengths s.levels s.corridors s.ladder.now s.km.now s.spread.now s.sheet (sym c.lengths_ok.ensures ∙ c.if-not-lengths_ok.true)
+unfolding check_of
+returns-then-not-lengths_ok c = rw (← c.lengths_ok.ensures, c.if-not-lengths_ok.true)
 
 pub returns-then-not-counts_ok : goal.returns-then-not-counts_ok
-returns-then-not-counts_ok c = let s = c.args in not_counts s.levels s.corridors s.ladder.now s.km.now s.spread.now s.sheet (sym c.lengths_ok.ensures ∙ c.if-not-lengths_ok.false) (sym c.counts_ok.ensures ∙ c.if-not-counts_ok.true)
+unfolding check_of
+returns-then-not-counts_ok c = rw (← c.lengths_ok.ensures, c.if-not-lengths_ok.false, ← c.counts_ok.ensures, c.if-not-counts_ok.true)
 
-pub returns-then-level-ladder : goal.returns-then-level-ladder
-returns-then-level-ladder c = let s = c.args in bad_level s.levels s.corridors s.ladder.now s.km.now s.spread.now s.sheet _ (sym c.lengths_ok.ensures ∙ c.if-not-lengths_ok.false) (sym c.counts_ok.ensures ∙ c.if-not-counts_ok.false) c.faulty_level-level.ensures c.if-level-ladder.true
+pub returns-in-Some : goal.returns-in-Some
+unfolding check_of faulty
+returns-in-Some c =
+    let i = fault_some _ _ _ c.in-Some.ensures in
+    rw (← c.lengths_ok.ensures, c.if-not-lengths_ok.false, ← c.counts_ok.ensures, c.if-not-counts_ok.false, ← i.0, lt-ltb _ _ i.1)
 
-pub returns-then-length-km : goal.returns-then-length-km
-returns-then-length-km c = let s = c.args in bad_length s.levels s.corridors s.ladder.now s.km.now s.spread.now s.sheet _ _ (sym c.lengths_ok.ensures ∙ c.if-not-lengths_ok.false) (sym c.counts_ok.ensures ∙ c.if-not-counts_ok.false) c.faulty_level-level.ensures c.if-level-ladder.false c.faulty_length-length.ensures c.if-length-km.true
+pub returns-in-Some-outside : goal.returns-in-Some-outside
+unfolding check_of faulty
+returns-in-Some-outside c =
+    let i = fault_passed _ _ c.in_default.ensures in
+    let k = fault_some _ _ _ c.in-Some-outside.ensures in
+    rw (← c.lengths_ok.ensures, c.if-not-lengths_ok.false, ← c.counts_ok.ensures, c.if-not-counts_ok.false, le-ltb _ _ i, ← k.0, lt-ltb _ _ k.1)
 
-pub returns-then-width-spread : goal.returns-then-width-spread
-returns-then-width-spread c = let s = c.args in bad_spread s.levels s.corridors s.ladder.now s.km.now s.spread.now s.sheet _ _ _ (sym c.lengths_ok.ensures ∙ c.if-not-lengths_ok.false) (sym c.counts_ok.ensures ∙ c.if-not-counts_ok.false) c.faulty_level-level.ensures c.if-level-ladder.false c.faulty_length-length.ensures c.if-length-km.false c.faulty_spread-width.ensures c.if-width-spread.true
+pub returns-in-Some-outside-2 : goal.returns-in-Some-outside-2
+unfolding check_of faulty
+returns-in-Some-outside-2 c =
+    let i = fault_passed _ _ c.in_default.ensures in
+    let k = fault_passed _ _ c.in_default-outside.ensures in
+    let s = fault_some _ _ _ c.in-Some-outside-2.ensures in
+    rw (← c.lengths_ok.ensures, c.if-not-lengths_ok.false, ← c.counts_ok.ensures, c.if-not-counts_ok.false, le-ltb _ _ i, le-ltb _ _ k, ← s.0, lt-ltb _ _ s.1)
 
 pub returns : goal.returns
-returns c = let s = c.args in all_sound s.levels s.corridors s.ladder.now s.km.now s.spread.now s.sheet _ _ _ (sym c.lengths_ok.ensures ∙ c.if-not-lengths_ok.false) (sym c.counts_ok.ensures ∙ c.if-not-counts_ok.false) c.faulty_level-level.ensures c.if-level-ladder.false c.faulty_length-length.ensures c.if-length-km.false c.faulty_spread-width.ensures c.if-width-spread.false
+unfolding check_of faulty
+returns c =
+    let i = fault_passed _ _ c.in_default.ensures in
+    let k = fault_passed _ _ c.in_default-outside.ensures in
+    let s = fault_passed _ _ c.in_default-outside-2.ensures in
+    rw (← c.lengths_ok.ensures, c.if-not-lengths_ok.false, ← c.counts_ok.ensures, c.if-not-counts_ok.false, le-ltb _ _ i, le-ltb _ _ k, le-ltb _ _ s)

@@ -1,10 +1,5 @@
--- The measure is how many limbs remain.
-use Rattle.std.proofs.Common.{◌-◌}
 use Rattle.line_sheet.proofs.Worths.{Compared}
 use Rattle.line_sheet.proofs.limbs.at_most.Given as goal
 
 abbrev pub invariant-loop-i : goal.invariant-loop-i
-invariant-loop-i l = Compared l.a l.b l.r l.i
-
-abbrev pub decreases-loop-i : goal.decreases-loop-i
-decreases-loop-i l = 6 - l.i
+invariant-loop-i l = Compared l.a.limbs l.b.limbs l.r l.i

@@ -1,21 +1,18 @@
-use Rattle.std.proofs.Common.{◌-◌}
+use Rattle.std.proofs.Common.{arith}
 use Rattle.line_sheet.proofs.Worths.{first_power, power_fits, next_power, last_power}
 use Rattle.line_sheet.proofs.limbs.power.Goals as goal
 
-pub loop-i-init : goal.loop-i-init
-loop-i-init c = first_power c.args.c c.args.n c.args.k c.requires.0
+pub invariant_of-r : goal.invariant_of-r
+invariant_of-r c = record { fit = c.loop-turn.invariant.1 }
+
+pub loop-turn-init : goal.loop-turn-init
+loop-turn-init c = first_power c.args.c c.args.n c.args.k c.requires.0
 
 pub times-r-requires : goal.times-r-requires
-times-r-requires c =
-    let s = c in
-    let l = c.loop-i in
-    (l.invariant.1, power_fits s.args.c s.args.n s.args.k l.i _ _ s.requires.1 c.loop-i-test.true l.invariant.2 s.requires.2)
+times-r-requires c = let s = c.args in power_fits s.c s.n s.k c.loop-turn._turn _ _ c.requires.1 c.loop-turn-test.true c.loop-turn.invariant.2 c.requires.2
 
-pub loop-i-preserved : goal.loop-i-preserved
-loop-i-preserved c =
-    let s = c in
-    let l = c.loop-i in
-    next_power s.args.c s.args.n s.args.k l.r c.times-r.result l.i c.loop-i-test.true c.times-r.ensures.0 c.times-r.ensures.1 l.invariant
+pub loop-turn-preserved : goal.loop-turn-preserved
+loop-turn-preserved c = let s = c.args in next_power s.c s.n s.k c.loop-turn.r.0 c.times-r.result.limbs c.loop-turn._turn c.loop-turn-test.true c.times-r.result.fit c.times-r.ensures c.loop-turn.invariant
 
 pub returns : goal.returns
-returns c = let s = c in last_power s.args.c s.args.n s.args.k c.loop-i.r c.loop-i.i c.loop-i-test.false c.loop-i.invariant
+returns c = let s = c.args in (last_power s.c s.n s.k c.loop-turn.r.0 c.loop-turn._turn (omega arith) c.loop-turn.invariant).1

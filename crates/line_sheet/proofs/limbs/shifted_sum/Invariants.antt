@@ -1,10 +1,5 @@
--- The measure is how many limbs remain.
-use Rattle.std.proofs.Common.{◌-◌}
 use Rattle.line_sheet.proofs.Worths.{Columns}
 use Rattle.line_sheet.proofs.limbs.shifted_sum.Given as goal
 
 abbrev pub invariant-loop-i : goal.invariant-loop-i
-invariant-loop-i l = Columns l.sum l.a l.d l.r l.moved l.carry l.i
-
-abbrev pub decreases-loop-i : goal.decreases-loop-i
-decreases-loop-i l = 6 - l.i
+invariant-loop-i l = Columns l.sum.limbs l.a.limbs l.d l.limbs l.moved l.carry l.i

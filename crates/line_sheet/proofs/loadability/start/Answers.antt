@@ -37,5 +37,5 @@ returns-then-in_knots c =
     ∙ ap (λ (z : ℕ). num s.args.km * unit / (den s.args.km * z)) s.requires
     ∙ start_in s.args.km i
 
-pub returns : goal.returns
-returns c = start_out c.args.km (sym c.in_knots.ensures ∙ c.if-in_knots.false)
+pub returns-else-in_knots : goal.returns-else-in_knots
+returns-else-in_knots c = start_out c.args.km (sym c.in_knots.ensures ∙ c.if-in_knots.false)

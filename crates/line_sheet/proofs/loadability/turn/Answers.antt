@@ -1,18 +1,22 @@
-use Rattle.std.proofs.Common.{◌*◌, ◌/◌, leb, arith}
-use Rattle.line_defs.specs.Loadability.{unit}
+use Rattle.std.proofs.Common.{◌≡◌, Bool, true, false, not, cond, refl, arith, le-leb}
+use borrow.Author.Tests.{lt-leb}
+use mir.Val.{bool_byte}
 use Rattle.line_sheet.proofs.Turns.{square_most}
-use Rattle.line_sheet.proofs.Lanes.{squared_most, one_off, turned_is}
+use Rattle.line_sheet.proofs.Lanes.{squared_most, turned_is}
 use Rattle.line_sheet.proofs.loadability.turn.Goals as goal
+use Rattle.line_sheet.proofs.loadability.turn.Goals.{then-reached, else-reached}
+
+taken_off : (b : Bool) → bool_byte (not b) ≡ cond b 0 1
+taken_off true = refl
+taken_off false = refl
 
 pub overflow_mul-w : goal.overflow_mul-w
 overflow_mul-w c = omega (arith, square_most _ _ _ c.requires.1)
 
-pub overflow_sub-result : goal.overflow_sub-result
-overflow_sub-result c =
-    let s = c in
-    one_off _ (leb s.args.l.reach (s.args.l.left * s.args.l.left / unit)) _ c.choose-2.ensures s.requires.2
-
 pub returns : goal.returns
 returns c =
-    let s = c in
-    turned_is s.args.l _ _ _ s.requires.0 (squared_most s.args.l s.requires.1) c.high-divided.ensures c.choose.ensures c.choose-2.ensures
+    let most = squared_most c.args.l c.requires.1 in
+    elim c.if-reached.branch [
+      | then-reached w ↦ turned_is c.args.l _ _ _ c.requires.0 most c.high-divided.ensures (rw (le-leb _ _ w.if-reached.true) w.result-is) (taken_off _)
+      | else-reached w ↦ turned_is c.args.l _ _ _ c.requires.0 most c.high-divided.ensures (rw (lt-leb _ _ w.if-reached.false) w.result-is) (taken_off _)
+    ]

@@ -4,7 +4,7 @@ use Rattle.line_sheet.proofs.Halving.{Bracket}
 use Rattle.line_sheet.proofs.spread.searched.Given as goal
 
 abbrev pub invariant-loop-hi : goal.invariant-loop-hi
-invariant-loop-hi l = Bracket (worth l.cube) l.lo l.hi
+invariant-loop-hi l = Bracket (worth l.cube.limbs) l.lo l.hi
 
 abbrev pub decreases-loop-hi : goal.decreases-loop-hi
 decreases-loop-hi l = l.hi - l.lo

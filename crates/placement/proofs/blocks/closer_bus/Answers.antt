@@ -1,21 +1,16 @@
--- By its tests; a choice that is none is n.
-use Rattle.placement.specs.Blocks.{closer}
-use Rattle.placement.proofs.Tests.{none_chosen, some_chosen}
+use native.Mathlib.Omega.{arith}
 use borrow.Author.Tests.{lt-ltb, le-ltb}
+use Rattle.placement.specs.Blocks.{closer}
 use Rattle.placement.proofs.blocks.closer_bus.Goals as goal
 
-pub returns-then-x-n : goal.returns-then-x-n
+pub returns-in_default-clause-value : goal.returns-in_default-clause-value
 unfolding closer
-returns-then-x-n c = rw (le-ltb _ _ c.if-x-n.true)
+returns-in_default-clause-value c = rw (c.in_default.is, le-ltb c.args.n c.args.n (omega arith))
 
-pub returns-then-best-n : goal.returns-then-best-n
+pub returns-then-is_nearer-clause-value : goal.returns-then-is_nearer-clause-value
 unfolding closer
-returns-then-best-n c = rw (lt-ltb _ _ c.if-x-n.false, none_chosen _ _ c.requires.1 c.if-best-n.true)
+returns-then-is_nearer-clause-value c = rw (c.in-Some.is, lt-ltb _ _ (c.requires.2 _ c.in-Some.is), ← c.is_nearer.ensures, c.if-is_nearer.true)
 
-pub returns-then-dist-x : goal.returns-then-dist-x
+pub returns-else-is_nearer-clause-value : goal.returns-else-is_nearer-clause-value
 unfolding closer
-returns-then-dist-x c = rw (lt-ltb _ _ c.if-x-n.false, some_chosen _ _ c.if-best-n.false, c.if-dist-x.true)
-
-pub returns-else-dist-x : goal.returns-else-dist-x
-unfolding closer
-returns-else-dist-x c = rw (lt-ltb _ _ c.if-x-n.false, some_chosen _ _ c.if-best-n.false, c.if-dist-x.false)
+returns-else-is_nearer-clause-value c = rw (c.in-Some.is, lt-ltb _ _ (c.requires.2 _ c.in-Some.is), ← c.is_nearer.ensures, c.if-is_nearer.false)

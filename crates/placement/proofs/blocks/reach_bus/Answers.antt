@@ -4,4 +4,4 @@ use Rattle.placement.proofs.Ranges.{front_reached}
 use Rattle.placement.proofs.blocks.reach_bus.Goals as goal
 
 pub returns : goal.returns
-returns c = let p = c.requires in record { from_after = refl; front_2 = front_reached _ _ _ p.n_le_most_buses.0 _ _ _ p.n_le_most_buses.1 (omega arith) (omega arith) p.front _ _ p.n_le_most_buses.2 c.nearest_with.ensures }
+returns c = let p = c.requires in record { from_after = refl; front_2 = front_reached _ _ _ p.n_le_most_buses.0 _ _ _ p.n_le_most_buses.1 (omega arith) (omega arith) p.front _ _ p.n_le_most_buses.2 c.nearest_with.ensures.bus c.nearest_with.ensures.value }

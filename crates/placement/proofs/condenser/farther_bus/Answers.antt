@@ -1,23 +1,21 @@
--- By its three tests; a choice that is none is n.
-use Rattle.placement.proofs.Tests.{reached_no, reached_yes, none_chosen, some_chosen}
+use mathlib.Core.Path.{refl}
+use borrow.Author.Tests.{eq-eqb}
 use Rattle.placement_defs.specs.Support.{farther}
+use Rattle.placement.proofs.Tests.{reached_no, reached_yes, some_chosen}
 use Rattle.placement.proofs.condenser.farther_bus.Goals as goal
 
-pub load_of-load-requires : goal.load_of-load-requires
-load_of-load-requires c = let p = c.requires in (p.2, p.3)
-
-pub returns-then-not-load-dist : goal.returns-then-not-load-dist
+pub returns-then-not-load-dist-clause-value : goal.returns-then-not-load-dist-clause-value
 unfolding farther
-returns-then-not-load-dist c = rw (← c.load_of-load.ensures, reached_no _ _ _ c.infinity.ensures c.if-not-load-dist.true)
+returns-then-not-load-dist-clause-value c = rw (← c.load.ensures, reached_no _ _ _ c.infinity.ensures c.if-not-load-dist.true)
 
-pub returns-then-best-n : goal.returns-then-best-n
+pub returns-in_default-clause-value : goal.returns-in_default-clause-value
 unfolding farther
-returns-then-best-n c = rw (← c.load_of-load.ensures, reached_yes _ _ _ c.infinity.ensures c.if-not-load-dist.false, none_chosen _ _ c.requires.1 c.if-best-n.true)
+returns-in_default-clause-value c = rw (c.in_default.is, ← c.load.ensures, reached_yes _ _ _ c.infinity.ensures c.if-not-load-dist.false, eq-eqb c.args.network.now.n c.args.network.now.n refl)
 
-pub returns-then-dist-i : goal.returns-then-dist-i
+pub returns-then-dist-i-clause-value : goal.returns-then-dist-i-clause-value
 unfolding farther
-returns-then-dist-i c = rw (← c.load_of-load.ensures, reached_yes _ _ _ c.infinity.ensures c.if-not-load-dist.false, some_chosen _ _ c.if-best-n.false, c.if-dist-i.true)
+returns-then-dist-i-clause-value c = rw (c.in-Some.is, ← c.load.ensures, reached_yes _ _ _ c.infinity.ensures c.if-not-load-dist.false, some_chosen _ _ (c.requires.1 _ c.in-Some.is), c.if-dist-i.true)
 
-pub returns-else-dist-i : goal.returns-else-dist-i
+pub returns-else-dist-i-clause-value : goal.returns-else-dist-i-clause-value
 unfolding farther
-returns-else-dist-i c = rw (← c.load_of-load.ensures, reached_yes _ _ _ c.infinity.ensures c.if-not-load-dist.false, some_chosen _ _ c.if-best-n.false, c.if-dist-i.false)
+returns-else-dist-i-clause-value c = rw (c.in-Some.is, ← c.load.ensures, reached_yes _ _ _ c.infinity.ensures c.if-not-load-dist.false, some_chosen _ _ (c.requires.1 _ c.in-Some.is), c.if-dist-i.false)

@@ -1,13 +1,10 @@
--- One equation after the other.
-use lib.Ieee.{Float}
-use Rattle.loops.specs.Figures.{greater, times}
-use Rattle.placement_defs.specs.Support.{support_share, least_mvar, mvar_of}
-use mathlib.Core.Path.{ap, ◌∙◌}
+use Rattle.placement_defs.specs.Support.{mvar_of}
 use Rattle.placement.proofs.condenser.mvar_of.Goals as goal
 
-pub served_by-requires : goal.served_by-requires
-served_by-requires c = c.requires
-
-pub returns : goal.returns
+pub returns-then-mvar : goal.returns-then-mvar
 unfolding mvar_of
-returns c = c.at_least.ensures ∙ ap (λ (t : Float). greater (times support_share t) least_mvar) c.served_by.ensures
+returns-then-mvar c = rw (← c.served_by-mvar.ensures, c.if-mvar.true)
+
+pub returns-else-mvar : goal.returns-else-mvar
+unfolding mvar_of
+returns-else-mvar c = rw (← c.served_by-mvar.ensures, c.if-mvar.false)

@@ -1,21 +1,15 @@
 use Rattle.placement_defs.specs.Support.{served_to}
-use native.Mathlib.Nat.{le_antisymm}
-use Rattle.placement.proofs.Choice.{served_turn}
-use Prim.Native.Nat.{◌-◌}
-use mathlib.Core.Path.{refl}
+use mathlib.Core.Path.{◌≡◌, refl}
 use native.Mathlib.Omega.{arith}
-use borrow.Author.Rules.{rules}
+use Rattle.placement.proofs.Choice.{served_turn}
 use Rattle.placement.proofs.condenser.served_by.Goals as goal
 
 pub loop-i-init : goal.loop-i-init
 unfolding served_to
-loop-i-init c = (search rules, refl)
-
-pub load_of-requires : goal.load_of-requires
-load_of-requires c = (c.loop-i-test.true, c.requires.1)
+loop-i-init c = refl
 
 pub loop-i-preserved : goal.loop-i-preserved
-loop-i-preserved c = (omega arith, served_turn _ _ _ _ _ _ c.loop-i.invariant.1 (rw c.load_of.ensures at c.add_load-sum.ensures))
+loop-i-preserved c = served_turn _ _ _ _ _ _ c.loop-i.invariant (rw c.load.ensures at c.add_load-sum.ensures)
 
 pub returns : goal.returns
-returns c = rw (le_antisymm c.loop-i.invariant.0 c.loop-i-test.false) at c.loop-i.invariant.1
+returns c = let e : c.loop-i.i ≡ c.args.network.now.n = omega arith in rw e at c.loop-i.invariant

@@ -2,41 +2,25 @@ use lib.Ieee.{Float}
 use Rattle.placement.proofs.Ranges.{numbers_blank}
 use Rattle.placement.proofs.Sites.{sized_none, sized_is}
 use Rattle.loops.proofs.Loops.{iter_all, iter_more, iter_end}
-use Prim.Native.Nat.{◌-◌}
 use mathlib.Core.Path.{refl, sym, ap, ◌∙◌}
 use native.Mathlib.Omega.{arith}
 use lib.ListN.{length-set, set}
-use borrow.Author.Rules.{rules}
 use Rattle.placement.proofs.condenser.size_condensers.Goals as goal
 
 pub returns-then-count-eq0 : goal.returns-then-count-eq0
 returns-then-count-eq0 c = sized_none _ _ _ _ _ _ c.if-count-eq0.true
 
 pub distance_to_sources-requires : goal.distance_to_sources-requires
-distance_to_sources-requires c =
-    let p = c.requires in
-    record { net = p.net; listed = p.listed; numbers = numbers_blank _ _ p.net.few c.infinity-dist.ensures }
+distance_to_sources-requires c = numbers_blank _ _ c.args.network.now.net.few c.infinity.ensures
 
 pub loop-k-init : goal.loop-k-init
-loop-k-init c = (search rules, refl, iter_all _ _ _)
-
-pub mvar_of-requires : goal.mvar_of-requires
-mvar_of-requires c = let p = c.requires in (p.net.few, p.called.0)
-
-pub offset_bounds-mvars-k : goal.offset_bounds-mvars-k
-offset_bounds-mvars-k c = let p = c.requires in omega (arith, c.loop-k-test.true, p.net.few, p.called.3)
-
-pub bounds-mvars-k : goal.bounds-mvars-k
-bounds-mvars-k c = let p = c.requires in omega (arith, c.loop-k-test.true, c.loop-k.invariant.1, p.called.2, p.called.3)
+loop-k-init c = (refl, iter_all _ _ _)
 
 pub loop-k-preserved : goal.loop-k-preserved
 loop-k-preserved c =
-    let l = c.loop-k in (
-      omega arith,
-      simp length-set l.invariant.1,
-      sym (iter_more _ c.loop-k-test.true (ap (λ (t : Float). set l.mvars l.k t) c.mvar_of.ensures)) ∙ l.invariant.2,
-    )
+    let l = c.loop-k in
+    (simp length-set l.invariant.0, sym (iter_more _ c.loop-k-test.true (ap (λ (t : Float). set l.mvars l.k t) c.mvar_of.ensures)) ∙ l.invariant.1)
 
 pub returns : goal.returns
 returns c =
-    sized_is _ _ _ _ _ _ _ _ _ _ _ c.infinity-dist.ensures c.distance_to_sources.ensures (sym (iter_end _ (omega arith)) ∙ c.loop-k.invariant.2)
+    sized_is _ _ _ _ _ _ _ _ _ _ _ c.infinity.ensures c.distance_to_sources.ensures (sym (iter_end _ (omega arith)) ∙ c.loop-k.invariant.1)

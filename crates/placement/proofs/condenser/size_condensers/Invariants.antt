@@ -1,16 +1,13 @@
--- The invariant: what is left of the loop gives what the whole does.
-use Rattle.loads.specs.Load.{loads_of}
-use Rattle.placement_defs.specs.Support.{size_at}
-use Rattle.loops.specs.Loops.{iter}
-use Prim.Native.Nat.{◌-◌, ◌≤◌}
+-- What is left of the loop gives what the whole does.
+use Prim.Native.Nat.{◌-◌}
 use mathlib.Core.Path.{◌≡◌}
 use lib.ListN.{length}
+use Rattle.loops.specs.Loops.{iter}
+use Rattle.placement_defs.specs.Support.{size_at}
+use Rattle.placement.specs.Views.{loads_in}
 use Rattle.placement.proofs.condenser.size_condensers.Given as goal
 
 abbrev pub invariant-loop-k : goal.invariant-loop-k
 invariant-loop-k l =
-    (l.k ≤ l.count) × (length l.mvars ≡ length l.initial.mvars)
-    × (iter (size_at (loads_of l.n l.reading l.weight) l.from l.n l.buses) (l.count - l.k) l.k l.mvars ≡ iter (size_at (loads_of l.n l.reading l.weight) l.from l.n l.buses) l.count 0 l.initial.mvars)
-
-abbrev pub decreases-loop-k : goal.decreases-loop-k
-decreases-loop-k l = l.count - l.k
+    (length l.mvars ≡ length l.initial.mvars)
+    × (iter (size_at (loads_in l.network) l.labels.from l.network.n l.buses) (l.count - l.k) l.k l.mvars ≡ iter (size_at (loads_in l.network) l.labels.from l.network.n l.buses) l.count 0 l.initial.mvars)

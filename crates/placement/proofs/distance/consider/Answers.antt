@@ -1,6 +1,6 @@
 use mathlib.Core.Path.{◌∙◌}
 use lib.ListN.{get_or}
-use Rattle.placement_defs.specs.Distance.{labels}
+use Rattle.placement.specs.Views.{labels_in}
 use Rattle.placement.proofs.Tests.{consider_off, consider_rejected, consider_taken, taken_less}
 use Rattle.placement.proofs.distance.consider.Goals as goal
 
@@ -13,10 +13,9 @@ returns-then-not-shortens_way c = record { from_after = consider_rejected _ _ _ 
 pub reach_bus-requires : goal.reach_bus-requires
 reach_bus-requires c =
     let p = c.requires in
-    record { n_le_most_buses = (p.n_le_most_buses.0, c.far_end-j.ensures.upper_bound, taken_less (get_or c.args.mark.now c.far_end-j.result 0) _ _ _ c.shortens_way.ensures c.if-not-shortens_way.false); front = p.front }
+    record { n_le_most_buses = (p.n_le_most_buses.0, c.far_end-j.ensures.upper_bound, taken_less (get_or c.args.labels.now.mark c.far_end-j.result 0) _ _ _ c.shortens_way.ensures c.if-not-shortens_way.false); front = p.front }
 
 pub returns : goal.returns
 returns c =
-    let s = c.args in
     let q = c.reach_bus.ensures in
-    record { from_after = q.from_after ∙ consider_taken _ _ _ _ (labels s.mark.now s.dist.now s.from.now) _ _ c.if-a-i.false c.far_end-j.ensures.value c.shortens_way.ensures c.if-not-shortens_way.false; front_2 = q.front_2 }
+    record { from_after = q.from_after ∙ consider_taken _ _ _ _ (labels_in c.args.labels.now) _ _ c.if-a-i.false c.far_end-j.ensures.value c.shortens_way.ensures c.if-not-shortens_way.false; front_2 = q.front_2 }

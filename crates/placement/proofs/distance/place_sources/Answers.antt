@@ -1,15 +1,13 @@
 use Rattle.loops.proofs.Loops.{iter_all, iter_more, iter_end}
-use Prim.Native.Nat.{◌-◌}
 use mathlib.Core.Path.{sym, ◌∙◌}
 use native.Mathlib.Omega.{arith}
-use borrow.Author.Rules.{rules}
 use Rattle.placement.proofs.distance.place_sources.Goals as goal
 
 pub loop-i-init : goal.loop-i-init
-loop-i-init c = (search rules, iter_all _ _ _)
+loop-i-init c = iter_all _ _ _
 
 pub loop-i-preserved : goal.loop-i-preserved
-loop-i-preserved c = (omega arith, sym (iter_more _ c.loop-i-test.true c.place_source.ensures) ∙ c.loop-i.invariant.1)
+loop-i-preserved c = sym (iter_more _ c.loop-i-test.true c.place_source.ensures) ∙ c.loop-i.invariant
 
 pub returns : goal.returns
-returns c = sym (iter_end _ (omega arith)) ∙ c.loop-i.invariant.1
+returns c = sym (iter_end _ (omega arith)) ∙ c.loop-i.invariant

@@ -1,16 +1,13 @@
--- The invariant: what is left of the loop gives what the whole does, and the nearest of each block is known.
-use Prim.Native.Nat.{◌-◌, ◌≤◌}
+-- What is left of the loop gives what the whole does, and the nearest of each block is known.
+use Prim.Native.Nat.{◌-◌}
 use mathlib.Core.Path.{◌≡◌}
 use Rattle.loops.specs.Loops.{iter}
-use Rattle.placement_defs.specs.Distance.{labels, network, turn}
+use Rattle.placement_defs.specs.Distance.{turn}
 use Rattle.placement.specs.Blocks.{Front}
+use Rattle.placement.specs.Views.{labels_in, network_in}
 use Rattle.placement.proofs.distance.search.Given as goal
 
-abbrev pub invariant-loop-k : goal.invariant-loop-k
-invariant-loop-k l =
-    (l.k ≤ l.n)
-    × (iter (turn (network l.n l.m l.a l.b l.km)) (l.n - l.k) l.k (labels l.mark l.dist l.from) ≡ iter (turn (network l.n l.m l.a l.b l.km)) l.n 0 (labels l.initial.mark l.initial.dist l.initial.from))
-    × Front l.n l.mark l.dist l.nearest
-
-abbrev pub decreases-loop-k : goal.decreases-loop-k
-decreases-loop-k l = l.n - l.k
+abbrev pub invariant-loop-turn : goal.invariant-loop-turn
+invariant-loop-turn l =
+    (iter (turn (network_in l.network)) (l.network.n - l._turn) l._turn (labels_in l.labels) ≡ iter (turn (network_in l.network)) l.network.n 0 (labels_in l.initial.labels))
+    × Front l.network.n l.labels.mark l.labels.dist l.nearest

@@ -1,51 +1,39 @@
-use Prim.Native.Nat.{◌-◌}
 use native.Mathlib.Omega.{arith}
-use mathlib.Core.Path.{sym, ◌∙◌}
+use mathlib.Core.Path.{refl, sym, ◌∙◌}
 use Rattle.loops.proofs.Loops.{iter_end}
+use Rattle.placement.specs.Views.{labels_in}
 use Rattle.placement.proofs.Tests.{net_ends}
 use Rattle.placement.proofs.Walk.{walk_start, walk_farther, walk_next, spread_is}
 use Rattle.placement.proofs.distance.spread_from.Goals as goal
 
 pub settle_bus-requires : goal.settle_bus-requires
-settle_bus-requires c = let p = c.requires in record { n_le_most_buses = (p.net.few, p.i_lt_n); front = p.front }
-
-pub offset_bounds-head-i : goal.offset_bounds-head-i
-offset_bounds-head-i c = let p = c.requires in omega (arith, p.net.few, p.i_lt_n)
-
-pub bounds-head-i : goal.bounds-head-i
-bounds-head-i c = let p = c.requires in omega (arith, p.net.few, p.i_lt_n)
+settle_bus-requires c = record { n_le_most_buses = (c.args.network.now.net.few, c.requires.i_lt_n); front = c.requires.front }
 
 pub loop-c-init : goal.loop-c-init
 loop-c-init c =
-    let p = c.requires in
-    let k = walk_start _ _ _ _ p.listed _ p.i_lt_n _ in
-    let e = c.index-c.ensures in
-    (rw e k.0, rw e k.1, rw e k.2, c.settle_bus.ensures.front_2)
+    let k = walk_start _ _ _ _ c.args.network.now.listed _ c.requires.i_lt_n _ in
+    (k.0, k.1, k.2, c.settle_bus.ensures.front_2)
 
 pub consider-requires : goal.consider-requires
 consider-requires c =
-    let p = c.requires in
-    let l = c.loop-c in
-    let e = net_ends p.net l.c c.loop-c-test.true in
-    record { n_le_most_buses = (p.net.few, p.i_lt_n, omega (arith, e.a_below, c.wide-end.ensures), omega (arith, e.b_below, c.wide.ensures)); front = l.invariant.3 }
+    let net = c.args.network.now.net in
+    let e = net_ends net c.loop-c.c c.loop-c-test.true in
+    record { n_le_most_buses = (net.few, c.requires.i_lt_n, e.a_below, e.b_below); front = c.loop-c.invariant.3 }
 
 pub loop-c-smaller : goal.loop-c-smaller
 loop-c-smaller c =
-    let p = c.requires in
     let l = c.loop-c in
-    let far = walk_farther _ _ _ _ p.listed _ _ _ _ c.loop-c-test.true (l.invariant.1 c.loop-c-test.true) c.wide-end.ensures c.next_corridor-c.ensures in
+    let far = walk_farther _ _ _ _ c.args.network.now.listed _ _ _ _ c.loop-c-test.true (l.invariant.1 c.loop-c-test.true) refl c.after-c.ensures in
     omega arith
 
 pub loop-c-preserved : goal.loop-c-preserved
 loop-c-preserved c =
-    let p = c.requires in
     let l = c.loop-c in
     let h = c.loop-c-test.true in
-    let considered = rw (c.wide-end.ensures, c.wide.ensures) at c.consider.ensures.from_after in
-    let k = walk_next _ _ _ _ p.listed _ _ _ _ h (l.invariant.1 h) c.wide-end.ensures c.next_corridor-c.ensures _ _ _ considered l.invariant.2 in
+    let k = walk_next _ _ _ _ c.args.network.now.listed _ _ _ _ h (l.invariant.1 h) refl c.after-c.ensures _ _ _ c.consider.ensures.from_after l.invariant.2 in
     (k.0, k.1, k.2, c.consider.ensures.front_2)
 
 pub returns : goal.returns
 returns c =
     let l = c.loop-c in
-    record { from_after = spread_is _ _ _ _ _ _ _ c.settle_bus.ensures.mark_after (sym (iter_end _ (omega arith)) ∙ l.invariant.2); front_2 = l.invariant.3 }
+    record { from_after = spread_is _ _ (labels_in c.args.labels.now) _ _ c.settle_bus.ensures.labels_after (sym (iter_end _ (omega arith)) ∙ l.invariant.2); front_2 = l.invariant.3 }

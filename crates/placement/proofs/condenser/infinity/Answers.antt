@@ -1,7 +1,0 @@
--- Its bits are no NaN.
-use lib.Ieee.{nan_bits}
-use Rattle.placement.proofs.condenser.infinity.Goals as goal
-
-pub float_from_bits-result : goal.float_from_bits-result
-unfolding nan_bits
-float_from_bits-result c = tt

@@ -1,0 +1,15 @@
+-- The code's network and labels as the definitions have them.
+use Rattle.std.specs.Prelude.{List, length, Float}
+use Rattle.loads.specs.Load.{loads_of}
+use Rattle.placement_defs.specs.Distance as Distance
+use Rattle.placement.specs.declared.labels.Labels.{Labels}
+use Rattle.placement.specs.declared.network.Network.{Network}
+
+abbrev pub labels_in : Labels → Distance.Labels
+labels_in l = Distance.labels l.mark l.dist l.from
+
+abbrev pub network_in : Network → Distance.Network
+network_in w = Distance.network w.n (length w.a.now) w.a.now w.b.now w.km.now
+
+abbrev pub loads_in : Network → List Float
+loads_in w = loads_of w.n w.reading.now w.weight.now

@@ -1,0 +1,19 @@
+// What a search knows of each bus.
+use crate::MOST_BUSES;
+
+// The definition numbers the three sets, and the source of a bus that none reaches, so the arrays are its lists as they stand.
+pub const REST: u16 = 0;
+
+pub const CANDIDATE: u16 = 1;
+
+pub const SETTLED: u16 = 2;
+
+pub const NOBODY: u16 = 256;
+
+// Of each bus the set that it is in, its distance, and the source that it comes from.
+#[derive(Drop)]
+pub struct Labels {
+    pub mark: [u16; MOST_BUSES],
+    pub dist: [f64; MOST_BUSES],
+    pub from: [u16; MOST_BUSES],
+}

@@ -5,7 +5,10 @@ ghost use Rattle.std.specs.Prelude.{◌≡◌};
 ghost use Rattle.casefile_defs.specs.Tables.{held, outcome, places_of, read_case};
 ghost use Rattle.casefile_defs.specs.Moving.{moved_as, move_forward, move_back};
 
-use casefile_defs::{CaseRead, Header, MOST_BUSES, MOST_BYTES, MOST_CORRIDORS, MOST_GENERATORS, MOST_LEVELS, MOST_SHEET, Wanted};
+use casefile_defs::{
+    CaseRead, Header, MOST_BUSES, MOST_BYTES, MOST_CORRIDORS, MOST_GENERATORS, MOST_LEVELS,
+    MOST_SHEET, Wanted,
+};
 use mode::PlanMode;
 use refusal::Refusal;
 
@@ -17,6 +20,7 @@ mod scan;
 mod tables;
 
 // The counts that a reading leaves in the tables: none where it is refused.
+#[tactic(auto, unfolding(casefile_defs::specs::Tables::held))]
 fn held(reading: Result<Header, Refusal>) -> Header
     ensures { result ≡ held reading }
 {
@@ -75,11 +79,13 @@ pub fn read_case(
         & (cap.len() == MOST_CORRIDORS)
         & (sheet.len() == MOST_SHEET);
     if !sized {
-        return scan::said(Err(Refusal::Length), 0);
+        return CaseRead {
+            reading: Err(Refusal::Length),
+            looks: 0,
+        };
     }
     let read = scan::read_as(file, Wanted::Either);
-    let said = read.reading;
-    let h = held(said);
+    let h = held(read.reading);
     let levels = h.above + h.requested;
     let buses = tables::read_levels(file, record::HEAD_END, levels, ladder);
     let generators = tables::read_buses(file, buses, h.buses, tier, reading, weight);
@@ -116,9 +122,8 @@ pub fn move_forward(file: &[u8], out: &mut [u8]) -> Result<(), Refusal>
     if out.len() != MOST_BYTES {
         return Err(Refusal::Length);
     }
-    let read = scan::read_as(file, Wanted::Plain);
-    let said = read.reading;
-    moving::clear(out);
+    let said = scan::read_as(file, Wanted::Plain).reading;
+    out.fill(0);
     moving::forward_by(file, said, out)
 }
 
@@ -129,8 +134,7 @@ pub fn move_back(file: &[u8], out: &mut [u8]) -> Result<(), Refusal>
     if out.len() != MOST_BYTES {
         return Err(Refusal::Length);
     }
-    let read = scan::read_as(file, Wanted::Weighed);
-    let said = read.reading;
-    moving::clear(out);
+    let said = scan::read_as(file, Wanted::Weighed).reading;
+    out.fill(0);
     moving::back_by(file, said, out)
 }

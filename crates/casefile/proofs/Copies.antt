@@ -12,7 +12,7 @@ use borrow.Rule.Slice.PartMut.{put_mid}
 use lib.ListN.{length, take, drop, length-append, length-take}
 use lib.Seq.{take_at, drop-drop, drop_at}
 use Rattle.loops.specs.Parts.{part, put}
-use Rattle.loops.proofs.Parts.{length_part, length_put, put_none}
+use Rattle.loops.proofs.Parts.{length_part, put_none}
 use Rattle.casefile_defs.specs.Layout.{layout_of, weighs, spot}
 use Rattle.casefile_defs.specs.Moving.{called, mark_of, one_bytes, weight_of, bus_as, buses_as}
 use Rattle.casefile_defs.specs.declared.Kind.{Kind}
@@ -130,6 +130,3 @@ module _ (l : Kind) (s : List ℕ) (at : ℕ) where
       ∙ put_more w₀ at there (buses_as l s at i) (bus_as l s here) q (omega arith)
       ∙ ap (λ (x : ℕ). put w₀ at (buses_as l s at i ++ bus_as l s x)) p
       ∙ ap (λ (x : ℕ). put w₀ at (buses_as l s at x)) (sym (add-one i))
-
-  pub buses_length : (w₀ w : List ℕ) (i : ℕ) → at + length (buses_as l s at i) ≤ length w₀ → w ≡ put w₀ at (buses_as l s at i) → length w ≡ length w₀
-  buses_length w₀ w i h e = ap length e ∙ length_put w₀ at (buses_as l s at i) h

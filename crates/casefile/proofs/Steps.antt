@@ -7,16 +7,14 @@ use borrow.Author.Tests.{lt-ltb, le-ltb}
 use lib.ListN.{length}
 use Rattle.std.specs.Prelude.{Err, Ok}
 use Rattle.refusal.specs.declared.Refusal.{Refusal}
-use Rattle.refusal.specs.declared.Refusal.TheVariants.{Count, FileLength, Mark, Trailing}
+use Rattle.refusal.specs.declared.Refusal.TheVariants.{Count, FileLength, Mark}
 use Rattle.loops.proofs.Loops.{iter_more, iter_end, iter_still}
 use Rattle.casefile_defs.specs.Bounds.{most_bytes}
 use Rattle.casefile_defs.specs.Layout.{standing, suits, weighs}
-use Rattle.casefile_defs.specs.Looks.{looked_at}
-use Rattle.casefile_defs.specs.Reading.{record_at, admitted, stepped, walked, tables_walked, counts_ok, header_of, trailing, case_read, end_read, body_read, read_as}
+use Rattle.casefile_defs.specs.Reading.{record_at, admitted, stepped, walked, tables_walked, counts_ok, header_of, end_read, body_read, read_as}
 use Rattle.casefile_defs.specs.declared.Header.{Header}
 use Rattle.casefile_defs.specs.declared.Kind.{Kind}
 use Rattle.casefile_defs.specs.declared.Kind.TheVariants.{Head}
-use Rattle.casefile_defs.specs.declared.Looked.{Looked}
 use Rattle.casefile_defs.specs.declared.Wanted.{Wanted}
 use Rattle.casefile.specs.Read.{ended}
 
@@ -62,20 +60,6 @@ module _ (k : Kind) (weighed : Bool) (s : List ℕ) where
   pub walk_end : (r end at : ℕ) → end ≤ r → walked k weighed r end s (Ok at) ≡ Ok at
   unfolding walked
   walk_end r end at h = iter_end (stepped k weighed s) h
-
--- ---- after the last record
-module _ (h : Header) (s : List ℕ) (at : ℕ) (t : Looked) where
-  pub end_trailing : t ≡ looked_at s at → t.at < length s → case_read (Err (Trailing t.at)) t.looks ≡ end_read h s (Ok at)
-  unfolding end_read
-  end_trailing e l =
-      let m : trailing s at < length s = rw e at l in
-      ap (λ (x : Looked). case_read (Err (Trailing x.at)) x.looks) e ∙ simp (lt-ltb _ _ m)
-
-  pub end_good : t ≡ looked_at s at → length s ≤ t.at → case_read (Ok h) t.looks ≡ end_read h s (Ok at)
-  unfolding end_read
-  end_good e l =
-      let m : length s ≤ trailing s at = rw e at l in
-      ap (λ (x : Looked). case_read (Ok h) x.looks) e ∙ simp (le-ltb _ _ m)
 
 -- ---- the whole file
 module _ (wanted : Wanted) (s : List ℕ) where

@@ -201,7 +201,7 @@ fn trailing(file: &[u8], at: usize) -> Looked
 }
 
 // What follows the last record, which ends at a place: nothing but zeros.
-#[tactic(auto, using(crate::proofs::Steps::end_trailing, crate::proofs::Steps::end_good))]
+#[tactic(auto, using(casefile_defs::proofs::Walks::end_trailing, casefile_defs::proofs::Walks::end_good))]
 fn end_read(file: &[u8], h: Header, at: usize) -> CaseRead
     ensures { result ≡ end_read h file.now (Ok at) }
 {

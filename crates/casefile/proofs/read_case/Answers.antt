@@ -80,22 +80,20 @@ read_lines-requires c =
     record { room = moved Line _ _ (lines-at c.args.file.now c.held-h.result c.read_corridors-lines.ensures.end e) r.rows; few = omega (arith, lines_small _ r.small) }
 
 pub returns-then-not-sized : goal.returns-then-not-sized
-unfolding sizes_ok
-returns-then-not-sized c = refused_lengths _ _ c.if-not-sized.true
+returns-then-not-sized c = refused_lengths _ _ (sym c.tables_sized-sized.ensures ∙ c.if-not-sized.true)
 
 pub returns : goal.returns
-unfolding sizes_ok
 returns c =
     let s = c.args.file.now in
     let n = c.held-h.result in
-    let z = sizes _ c.if-not-sized.false in
+    let z = sizes _ (sym c.tables_sized-sized.ensures ∙ c.if-not-sized.false) in
     let l = c.read_levels-buses.ensures in
     let b = c.read_buses-generators.ensures in
     let g = c.read_generators-corridors.ensures in
     let e = c.read_corridors-lines.ensures in
     let at-generators = generators-at s n b.end l.end in
     let at-corridors = corridors-at s n g.end at-generators in
-    read_whole _ _ _ _ n c.if-not-sized.false c.read_as-read.ensures c.held-h.ensures
+    read_whole _ _ _ _ n (sym c.tables_sized-sized.ensures ∙ c.if-not-sized.false) c.read_as-read.ensures c.held-h.ensures
     (tables_same s n _ _ _ _ _ _ _ _ _ _ _ _ _ _ _ _ _
     (l.ladder ∙ ap (λ (m : ℕ). figures Level 0 s levels_at (n.above + n.requested) m) z.ladder)
     (column-numbers Bus Bus 0 s n.buses l.end z.tier b.tier)

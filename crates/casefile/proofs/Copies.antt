@@ -1,6 +1,6 @@
 -- Bytes put one part behind the other, and the buses put one by one.
 -- A part put right behind another makes one part (put_more); so each record is three parts, and the table one part more in each turn.
-use Prim.Native.Nat.{ℕ, zero, suc, ◌+◌, ◌*◌, ◌≤◌}
+use Prim.Native.Nat.{ℕ, zero, suc, ◌+◌, ◌-◌, ◌*◌, ◌≤◌}
 use mathlib.Core.Bool.{Bool, true, false, cond}
 use mathlib.Core.List.{List, [], ◌∷◌, ◌++◌, append_assoc}
 use mathlib.Core.Logic.{⊎_elim}
@@ -8,22 +8,23 @@ use mathlib.Core.Path.{◌≡◌, refl, sym, ap, ◌∙◌, subst}
 use native.Mathlib.Nat.{eq-or-lt_of_le}
 use native.Mathlib.Numerals.{add-one}
 use native.Mathlib.Omega.{arith}
-use lib.ListN.{length, get_or, take, drop, length-append, length-take}
+use borrow.Rule.Slice.PartMut.{put_mid}
+use lib.ListN.{length, take, drop, length-append, length-take}
 use lib.Seq.{take_at, drop-drop, drop_at}
-use Rattle.loops.specs.Loops.{tab}
 use Rattle.loops.specs.Parts.{part, put}
-use Rattle.loops.proofs.Tab.{tab_same, tab_of}
-use Rattle.loops.proofs.Parts.{get_part, length_part, length_put, put_none}
+use Rattle.loops.proofs.Parts.{length_part, put_none}
 use Rattle.casefile_defs.specs.Layout.{layout_of, weighs, spot}
 use Rattle.casefile_defs.specs.Moving.{called, mark_of, one_bytes, weight_of, bus_as, buses_as}
 use Rattle.casefile_defs.specs.declared.Kind.{Kind}
 use Rattle.casefile_defs.specs.declared.Kind.TheVariants.{Bus}
 use Rattle.casefile.specs.Movable.{Kept}
 
--- what a copying loop makes
-pub copied : (s : List ℕ) (o n : ℕ) → o + n ≤ length s → tab n (λ j. get_or s (o + j) 0) ≡ part o n s
-copied s o n h =
-    tab_same n _ (λ j. get_or (part o n s) j 0) (λ j b. sym (get_part o n s j 0 b)) ∙ tab_of n (part o n s) 0 (length_part o n s h)
+-- what a copy between two parts makes
+pub put_copied : (w v : List ℕ) (i k : ℕ) → length v ≡ k → put_mid i (i + k - i) w v ≡ put w i v
+unfolding put
+put_copied w v i k e =
+    let z : i + k - i ≡ length v = omega arith in
+    ap (λ (n : ℕ). put_mid i n w v) z ∙ sym (append_assoc (take i w) v (drop (length v) (drop i w))) ∙ ap (λ (x : List ℕ). take i w ++ v ++ x) (drop-drop (length v) i w)
 
 head_length : (w : List ℕ) (o : ℕ) (u : List ℕ) → o ≤ length w → length (take o w ++ u) ≡ o + length u
 head_length w o u h = simp (length-append, length-take) (omega arith)
@@ -129,6 +130,3 @@ module _ (l : Kind) (s : List ℕ) (at : ℕ) where
       ∙ put_more w₀ at there (buses_as l s at i) (bus_as l s here) q (omega arith)
       ∙ ap (λ (x : ℕ). put w₀ at (buses_as l s at i ++ bus_as l s x)) p
       ∙ ap (λ (x : ℕ). put w₀ at (buses_as l s at x)) (sym (add-one i))
-
-  pub buses_length : (w₀ w : List ℕ) (i : ℕ) → at + length (buses_as l s at i) ≤ length w₀ → w ≡ put w₀ at (buses_as l s at i) → length w ≡ length w₀
-  buses_length w₀ w i h e = ap length e ∙ length_put w₀ at (buses_as l s at i) h

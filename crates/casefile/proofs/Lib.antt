@@ -6,3 +6,4 @@ pub mod Stored
 pub mod Copies
 pub mod Fitted
 pub mod Moves
+pub mod Steps

@@ -4,10 +4,12 @@ use Prim.Native.Nat.{ℕ, ◌+◌, ◌-◌, ◌*◌, ◌/◌, ◌%◌, ◌<◌, 
 use mathlib.Core.List.{List}
 use mathlib.Core.Path.{◌≡◌, sym, ap, ◌∙◌}
 use native.Mathlib.Omega.{arith}
-use lib.ListN.{length}
+use borrow.Author.Tests.{eq-eqb, ne_eqb}
+use lib.ListN.{length, get_or}
+use Rattle.loops.proofs.Scan.{first_pass, first_stop, first_end}
 use Rattle.casefile_defs.specs.Layout.{word}
 use Rattle.casefile_defs.specs.Looks.{looked_as, words_looked, bytes_looked, looked_at}
-use Rattle.casefile_defs.specs.Reading.{trailing, looks_for, zeros_passed}
+use Rattle.casefile_defs.specs.Reading.{zero_at, trailing, looks_for, zeros_passed}
 use Rattle.casefile_defs.specs.declared.Looked.{Looked}
 use Rattle.casefile_defs.proofs.Trailing.{trailing_low, trailing_high, trailing_from, word_on, word_stops}
 
@@ -44,16 +46,27 @@ module _ (s : List ℕ) (at : ℕ) where
       let u = trailing_high s (at + 8 * k) in
       words_are k k (omega arith) (omega arith)
 
-  -- ---- the loop over bytes: its two ends
-  pub bytes_stop : (i : ℕ) → i ≡ trailing s at → i < length s → looked_as i (i - at + 1) ≡ bytes_looked s at
-  bytes_stop i e h = let l = trailing_low s at in let m : min (i - at + 1) (length s - at) ≡ i - at + 1 = omega arith in simp (sym e, m)
+  -- ---- the loop over bytes: a turn, and its two ends
+  pub bytes_start : trailing s (at + 0) ≡ trailing s at
+  bytes_start = let e : at + 0 ≡ at = omega arith in ap (λ (p : ℕ). trailing s p) e
 
-  pub bytes_end : (i : ℕ) → i ≡ trailing s at → length s ≤ i → looked_as i (i - at) ≡ bytes_looked s at
-  bytes_end i e h =
-      let l = trailing_low s at in
-      let u = trailing_high s at in
-      let m : min (i - at + 1) (length s - at) ≡ i - at = omega arith in
-      simp (sym e, m)
+  pub bytes_turn : (i : ℕ) → at + i < length s → get_or s (at + i) 0 ≡ 0 → trailing s (at + i) ≡ trailing s at → trailing s (at + (i + 1)) ≡ trailing s at
+  unfolding trailing
+  bytes_turn i h e g =
+      let d : at + (i + 1) ≡ at + i + 1 = omega arith in
+      rw d (sym (first_pass (zero_at s) (length s) (at + i) h (eq-eqb _ _ e)) ∙ g)
+
+  bytes_are : (i n : ℕ) → at + i ≡ trailing s at → min (i + 1) (length s - at) ≡ n → looked_as (at + i) n ≡ bytes_looked s at
+  bytes_are i n e m = let z : at + i - at ≡ i = omega arith in simp (sym e, z, m)
+
+  pub bytes_stop : (i : ℕ) → at + i < length s → (get_or s (at + i) 0 ≡ 0 → ⊥) → trailing s (at + i) ≡ trailing s at → looked_as (at + i) (i + 1) ≡ bytes_looked s at
+  unfolding trailing
+  bytes_stop i h e g =
+      bytes_are i (i + 1) (sym (first_stop (zero_at s) (length s) (at + i) h (ne_eqb _ _ e)) ∙ g) (omega arith)
+
+  pub bytes_end : (i : ℕ) → i ≡ length s - at → trailing s (at + i) ≡ trailing s at → looked_as (at + i) i ≡ bytes_looked s at
+  unfolding trailing
+  bytes_end i e g = bytes_are i i (sym (first_end (zero_at s) (length s) (at + i) (omega arith)) ∙ g) (omega arith)
 
   -- ---- both
   pub both_looked : (w b : Looked) → w ≡ words_looked s at → b ≡ bytes_looked s w.at → looked_as b.at (w.looks + b.looks) ≡ looked_at s at

@@ -9,9 +9,12 @@ use lib.Dec.{ltb}
 use lib.ListN.{length, replicate}
 use Rattle.refusal.specs.declared.Refusal.{Refusal}
 use Rattle.refusal.specs.declared.Refusal.TheVariants.{Length, Weight}
+use Rattle.std.specs.Prelude.{Some, None}
+use Rattle.loops.specs.Loops.{fault}
+use Rattle.loops.proofs.Scan.{fault_some, fault_passed}
 use Rattle.casefile_defs.specs.Bounds.{most_bytes}
 use Rattle.casefile_defs.specs.Layout.{size_of, marked, spot}
-use Rattle.casefile_defs.specs.Moving.{Moved, moved_as, unmoved, moved_to, file_as, fitted, first_other, forward_by, move_forward, back_by, move_back}
+use Rattle.casefile_defs.specs.Moving.{Moved, moved_as, unmoved, moved_to, file_as, fitted, first_other, weighs_one, forward_by, move_forward, back_by, move_back}
 use Rattle.casefile_defs.specs.Reading.{levels, Small, bus_form, read_as}
 use Rattle.casefile_defs.specs.Tables.{levels_at, buses_at}
 use Rattle.casefile_defs.specs.declared.Kind.TheVariants.{Level, Bus, WeighedBus}
@@ -71,20 +74,30 @@ all_weighed s h e i l =
     let w : marked WeighedBus s (spot Bus s (buses_at s h) i) ≡ true = (accepted_as Weighed s h e).1 i l in
     subst (λ (b : Bool). spot Bus s (buses_at s h) i + size_of (cond b WeighedBus Bus) ≤ length s) w (buses_room Weighed s h e i l)
 
+-- ---- the search for a weight that is not 1, by its answer
+module _ (s : List ℕ) (at n : ℕ) where
+  pub other_some : (i : ℕ) → Some i ≡ fault (weighs_one s at) n → (i ≡ first_other s at n) × (i < n)
+  unfolding first_other
+  other_some i e = fault_some (weighs_one s at) n i e
+
+  pub other_none : None ≡ fault (weighs_one s at) n → n ≤ first_other s at n
+  unfolding first_other
+  other_none e = fault_passed (weighs_one s at) n e
+
 -- ---- the ways
 module _ (s : List ℕ) (r : Result Header Refusal) (l : List ℕ) where
-  pub forward_refused : (f : Refusal) → r ≡ Err f → l ≡ replicate most_bytes 0 → moved_as (Err f) l ≡ forward_by s r
+  pub forward_refused : (a : Result (Unit {0}) Refusal) (f : Refusal) → r ≡ Err f → a ≡ Err f → l ≡ replicate most_bytes 0 → moved_as a l ≡ forward_by s r
   unfolding forward_by
-  forward_refused f e z = ap (λ (x : List ℕ). moved_as (Err f) x) z ∙ sym (ap (λ (x : Result Header Refusal). forward_by s x) e)
+  forward_refused a f e g z = ap (λ (x : Result (Unit {0}) Refusal). moved_as x l) g ∙ ap (λ (x : List ℕ). moved_as (Err f) x) z ∙ sym (ap (λ (x : Result Header Refusal). forward_by s x) e)
 
   pub forward_read : (h : Header) {at : ℕ} → r ≡ Ok h → at ≡ buses_at s h → l ≡ fitted (file_as WeighedBus s at h.buses) → moved_as no_refusal l ≡ forward_by s r
   unfolding forward_by
   forward_read h e q g =
       ap (λ (x : List ℕ). moved_as no_refusal x) (g ∙ ap (λ (m : ℕ). fitted (file_as WeighedBus s m h.buses)) q) ∙ sym (ap (λ (x : Result Header Refusal). forward_by s x) e)
 
-  pub back_refused : (f : Refusal) → r ≡ Err f → l ≡ replicate most_bytes 0 → moved_as (Err f) l ≡ back_by s r
+  pub back_refused : (a : Result (Unit {0}) Refusal) (f : Refusal) → r ≡ Err f → a ≡ Err f → l ≡ replicate most_bytes 0 → moved_as a l ≡ back_by s r
   unfolding back_by
-  back_refused f e z = ap (λ (x : List ℕ). moved_as (Err f) x) z ∙ sym (ap (λ (x : Result Header Refusal). back_by s x) e)
+  back_refused a f e g z = ap (λ (x : Result (Unit {0}) Refusal). moved_as x l) g ∙ ap (λ (x : List ℕ). moved_as (Err f) x) z ∙ sym (ap (λ (x : Result Header Refusal). back_by s x) e)
 
   -- the test of the weights
   back_way : (h : Header) (i : ℕ) (b : Bool) → r ≡ Ok h → i ≡ first_other s (buses_at s h) h.buses → ltb i h.buses ≡ b → cond b (unmoved (Weight i)) (moved_to Bus s h) ≡ back_by s r

@@ -24,12 +24,6 @@ word_turn w i at s sum h k l e =
     let z : sum * 256 + get_or s (at + (i - 1)) 0 ≡ word (suc (w - i)) (at + (i - 1)) s = omega arith in
     z ∙ ap (λ (j : ℕ). word j (at + (i - 1)) s) g
 
-pub word_end : (w i at : ℕ) (s : List ℕ) → i ≤ 0 → word (w - i) (at + i) s ≡ word w at s
-word_end w i at s h =
-    let m : w - i ≡ w = omega arith in
-    let n : at + i ≡ at = omega arith in
-    ap (λ (k : ℕ). word k (at + i) s) m ∙ ap (λ (k : ℕ). word w k s) n
-
 -- ---- its size on the way
 grow : (k : ℕ) {x b : ℕ} → x < 256 ^ k → b < 256 → x * 256 + b < 256 ^ suc k
 grow k h l = rw (pow-suc 256 k) (omega arith)
@@ -38,9 +32,6 @@ pub small_turn : (w i : ℕ) {x b : ℕ} → 0 < i → i ≤ w → x < 256 ^ (w 
 small_turn w i {x} {b} h k l m =
     let g : w - (i - 1) ≡ suc (w - i) = omega arith in
     rw g (grow (w - i) l m)
-
-pub small_end : (w i : ℕ) {x : ℕ} → i ≤ 0 → x < 256 ^ (w - i) → x < 256 ^ w
-small_end w i h l = let g : w - i ≡ w = omega arith in rw g at l
 
 -- a number of k bytes is below that of any width of at least as many
 pub within : (w k : ℕ) {x : ℕ} → k ≤ w → x < 256 ^ k → x < 256 ^ w

@@ -24,10 +24,8 @@ pub fn word(file: &[u8], at: usize, width: usize) -> u64
     ensures value { result ≡ word width at file.now }
     ensures small { result < 256 ^ width }
 {
-    let mut sum: u64 = 0;
-    let mut i = width;
-    while 0 < i {
-        i -= 1;
+    let mut sum = 0;
+    for i in (0..width).rev() {
         sum = sum * 256 + file[at + i] as u64;
     }
     sum

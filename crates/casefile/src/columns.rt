@@ -9,6 +9,7 @@ use crate::bytes::{figure, word};
 use crate::record;
 use crate::record::{bears, size, standing};
 use casefile_defs::{Kind, MOST_CORRIDORS};
+use loops::fill_first;
 
 // The most records of a table that is read by their starts: there are as many buses as corridors at most, and fewer levels and generators.
 pub const MOST_RECORDS: usize = MOST_CORRIDORS;
@@ -23,6 +24,7 @@ fn end_of(file: &[u8], kind: Kind, at: usize) -> usize
 
 // Stores where each record of a table starts, the first of which is at a place; answers where the last one ends. So a record's mark is looked at once, and
 // not again for each column.
+#[tactic(auto, using(crate::proofs::Stored::none_stored, crate::proofs::Stored::one_stored, crate::proofs::Stored::first_start, crate::proofs::Stored::next_start))]
 pub fn store_starts(
     file: &[u8],
     kind: Kind,
@@ -36,11 +38,9 @@ pub fn store_starts(
     ensures end { result ≡ spot kind file.now at count }
 {
     let mut here = at;
-    let mut i = 0;
-    while i < count {
+    for i in 0..count {
         starts[i] = here;
         here = end_of(file, kind, here);
-        i += 1;
     }
     here
 }
@@ -65,6 +65,7 @@ fn reaches(file: &[u8], kind: Kind, at: usize, end: usize) -> bool
 }
 
 // A whole number of the record at a place, 0 where the record has none.
+#[tactic(auto, using(casefile_defs::proofs::Spots::number_had, casefile_defs::proofs::Spots::number_not))]
 fn number_at(file: &[u8], kind: Kind, at: usize, offset: usize, width: usize) -> u32
     requires room { end_of kind file.now at ≤ length file.now }
     requires narrow { (offset < 256) × (width ≤ 4) }
@@ -76,45 +77,8 @@ fn number_at(file: &[u8], kind: Kind, at: usize, offset: usize, width: usize) ->
     0
 }
 
-// Place i of a column of whole numbers.
-fn number_in(
-    file: &[u8],
-    kind: Kind,
-    starts: &[usize; MOST_RECORDS],
-    count: usize,
-    offset: usize,
-    width: usize,
-    i: usize,
-) -> u32
-    requires whole { Whole kind file.now starts.now count }
-    requires narrow { (count ≤ 256) × ((offset < 256) × (width ≤ 4)) }
-    ensures { result ≡ number_by kind file.now starts.now count offset width i }
-{
-    if i < count {
-        return number_at(file, kind, starts[i], offset, width);
-    }
-    0
-}
-
-// Place i of a column of figures.
-fn figure_in(
-    file: &[u8],
-    starts: &[usize; MOST_RECORDS],
-    count: usize,
-    offset: usize,
-    i: usize,
-) -> f64
-    requires within { Within file.now starts.now count (offset + 8) }
-    requires few { count ≤ 256 }
-    ensures { result ≡ figure_by file.now starts.now count offset i }
-{
-    if i < count {
-        return figure(word(file, starts[i] + offset, record::FIGURE));
-    }
-    0.0
-}
-
 // The weight of the bus at a place: a BU has weight 1.
+#[tactic(auto, unfolding(casefile_defs::specs::Tables::weight_at, casefile_defs::specs::Tables::figure_at))]
 fn weight_at(file: &[u8], at: usize) -> f64
     requires { end_of Kind.Bus file.now at ≤ length file.now }
     ensures { result ≡ weight_at file.now at }
@@ -123,18 +87,6 @@ fn weight_at(file: &[u8], at: usize) -> f64
         return figure(word(file, at + record::BUS_WEIGHT, record::FIGURE));
     }
     1.0
-}
-
-// Place i of the buses' weights.
-fn weight_in(file: &[u8], starts: &[usize; MOST_RECORDS], count: usize, i: usize) -> f64
-    requires whole { Whole Kind.Bus file.now starts.now count }
-    requires few { count ≤ 256 }
-    ensures { result ≡ weight_by file.now starts.now count i }
-{
-    if i < count {
-        return weight_at(file, starts[i]);
-    }
-    0.0
 }
 
 // Fills a column of whole numbers, with zeros past the records.
@@ -151,11 +103,12 @@ pub fn fill_numbers(
     requires narrow { (count ≤ 256) × ((offset < 256) × (width ≤ 4)) }
     ensures { out.new ≡ tab (length out.old) (number_by kind file.now starts.now count offset width) }
 {
-    let mut i = 0;
-    while i < out.len() {
-        out[i] = number_in(file, kind, starts, count, offset, width, i);
-        i += 1;
-    }
+    fill_first(
+        out,
+        count,
+        0,
+        |i| number_at(file, kind, starts[i], offset, width),
+    );
 }
 
 // Fills a column of figures, with zeros past the records.
@@ -170,11 +123,12 @@ pub fn fill_figures(
     requires few { count ≤ 256 }
     ensures { out.new ≡ tab (length out.old) (figure_by file.now starts.now count offset) }
 {
-    let mut i = 0;
-    while i < out.len() {
-        out[i] = figure_in(file, starts, count, offset, i);
-        i += 1;
-    }
+    fill_first(
+        out,
+        count,
+        0.0,
+        |i| figure(word(file, starts[i] + offset, record::FIGURE)),
+    );
 }
 
 // Fills the buses' weights, with zeros past the records.
@@ -183,9 +137,5 @@ pub fn fill_weights(file: &[u8], starts: &[usize; MOST_RECORDS], count: usize, o
     requires few { count ≤ 256 }
     ensures { out.new ≡ tab (length out.old) (weight_by file.now starts.now count) }
 {
-    let mut i = 0;
-    while i < out.len() {
-        out[i] = weight_in(file, starts, count, i);
-        i += 1;
-    }
+    fill_first(out, count, 0.0, |i| weight_at(file, starts[i]));
 }

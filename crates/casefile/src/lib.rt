@@ -5,7 +5,7 @@ ghost use Rattle.std.specs.Prelude.{◌≡◌};
 ghost use Rattle.casefile_defs.specs.Tables.{held, outcome, places_of, read_case};
 ghost use Rattle.casefile_defs.specs.Moving.{moved_as, move_forward, move_back};
 
-use casefile_defs::{CaseRead, Header, MOST_BUSES, MOST_BYTES, MOST_CORRIDORS, MOST_GENERATORS, MOST_LEVELS, MOST_SHEET, Wanted};
+use casefile_defs::{CaseRead, Header, MOST_BYTES, Wanted, tables_sized};
 use mode::PlanMode;
 use refusal::Refusal;
 
@@ -17,6 +17,7 @@ mod scan;
 mod tables;
 
 // The counts that a reading leaves in the tables: none where it is refused.
+#[tactic(auto, unfolding(casefile_defs::specs::Tables::held))]
 fn held(reading: Result<Header, Refusal>) -> Header
     ensures { result ≡ held reading }
 {
@@ -57,29 +58,33 @@ pub fn read_case(
 ) -> CaseRead
     ensures { outcome result (places_of ladder.new tier.new reading.new weight.new generator_bus.new slack.new pmin.new pmax.new c1.new c2.new a.new b.new circuits.new length_km.new share.new cap.new sheet.new) ≡ read_case file.now (places_of ladder.old tier.old reading.old weight.old generator_bus.old slack.old pmin.old pmax.old c1.old c2.old a.old b.old circuits.old length_km.old share.old cap.old sheet.old) }
 {
-    let sized = (ladder.len() == MOST_LEVELS)
-        & (tier.len() == MOST_BUSES)
-        & (reading.len() == MOST_BUSES)
-        & (weight.len() == MOST_BUSES)
-        & (generator_bus.len() == MOST_GENERATORS)
-        & (slack.len() == MOST_GENERATORS)
-        & (pmin.len() == MOST_GENERATORS)
-        & (pmax.len() == MOST_GENERATORS)
-        & (c1.len() == MOST_GENERATORS)
-        & (c2.len() == MOST_GENERATORS)
-        & (a.len() == MOST_CORRIDORS)
-        & (b.len() == MOST_CORRIDORS)
-        & (circuits.len() == MOST_CORRIDORS)
-        & (length_km.len() == MOST_CORRIDORS)
-        & (share.len() == MOST_CORRIDORS)
-        & (cap.len() == MOST_CORRIDORS)
-        & (sheet.len() == MOST_SHEET);
+    let sized = tables_sized(
+        ladder,
+        tier,
+        reading,
+        weight,
+        generator_bus,
+        slack,
+        pmin,
+        pmax,
+        c1,
+        c2,
+        a,
+        b,
+        circuits,
+        length_km,
+        share,
+        cap,
+        sheet,
+    );
     if !sized {
-        return scan::said(Err(Refusal::Length), 0);
+        return CaseRead {
+            reading: Err(Refusal::Length),
+            looks: 0,
+        };
     }
     let read = scan::read_as(file, Wanted::Either);
-    let said = read.reading;
-    let h = held(said);
+    let h = held(read.reading);
     let levels = h.above + h.requested;
     let buses = tables::read_levels(file, record::HEAD_END, levels, ladder);
     let generators = tables::read_buses(file, buses, h.buses, tier, reading, weight);
@@ -116,9 +121,8 @@ pub fn move_forward(file: &[u8], out: &mut [u8]) -> Result<(), Refusal>
     if out.len() != MOST_BYTES {
         return Err(Refusal::Length);
     }
-    let read = scan::read_as(file, Wanted::Plain);
-    let said = read.reading;
-    moving::clear(out);
+    let said = scan::read_as(file, Wanted::Plain).reading;
+    out.fill(0);
     moving::forward_by(file, said, out)
 }
 
@@ -129,8 +133,7 @@ pub fn move_back(file: &[u8], out: &mut [u8]) -> Result<(), Refusal>
     if out.len() != MOST_BYTES {
         return Err(Refusal::Length);
     }
-    let read = scan::read_as(file, Wanted::Weighed);
-    let said = read.reading;
-    moving::clear(out);
+    let said = scan::read_as(file, Wanted::Weighed).reading;
+    out.fill(0);
     moving::back_by(file, said, out)
 }

@@ -1,9 +1,10 @@
 // Moving a case file into the other form of buses: bytes are copied, and each bus is put anew.
 ghost use Rattle.std.specs.Prelude.{◌≡◌, ◌+◌, ◌-◌, ◌*◌, ◌≤◌, min, length, replicate};
+ghost use Rattle.loops.specs.Loops.{fault};
 ghost use Rattle.loops.specs.Parts.{part, put};
 ghost use Rattle.casefile_defs.specs.Bounds.{most_bytes};
 ghost use Rattle.casefile_defs.specs.Layout.{size_of};
-ghost use Rattle.casefile_defs.specs.Moving.{called_bytes, weight_of, bus_as, buses_as, file_as, fitted, first_other, moved_as, forward_by, back_by};
+ghost use Rattle.casefile_defs.specs.Moving.{called_bytes, weight_of, bus_as, buses_as, file_as, fitted, weighs_one, moved_as, forward_by, back_by};
 ghost use Rattle.casefile_defs.specs.Reading.{Small, levels, read_as};
 ghost use Rattle.casefile_defs.specs.Tables.{levels_at};
 ghost use Rattle.casefile.specs.Starts.{Starts};
@@ -14,45 +15,23 @@ use crate::columns::{MOST_RECORDS, store_starts};
 use crate::record;
 use crate::record::{first_letter, second_letter, size, weighs};
 use casefile_defs::{Header, Kind, Wanted};
+use loops::first_fault;
 use refusal::Refusal;
 
 // The bytes of tier and load, or of tier and reading.
 const CALLED: usize = record::U8 + record::FIGURE;
 
-// The bits of the figure 1.
-const ONE: u64 = 0x3ff0_0000_0000_0000;
+// The bytes of the figure 1, and its bits.
+const WEIGHT_OF_ONE: [u8; record::FIGURE] = [0, 0, 0, 0, 0, 0, 0xf0, 0x3f];
 
-// Zeros everywhere.
-pub fn clear(out: &mut [u8])
-    ensures { out.new ≡ replicate (length out.old) 0 }
-{
-    let mut i = 0;
-    while i < out.len() {
-        out[i] = 0;
-        i += 1;
-    }
-}
+const ONE: u64 = 0x3ff0_0000_0000_0000;
 
 // Copies `count` bytes.
 fn copy(from: &[u8], at: usize, out: &mut [u8], to: usize, count: usize)
     requires { (at + count ≤ length from.now) × (to + count ≤ length out.old) }
     ensures { out.new ≡ put out.old to (part at count from.now) }
 {
-    let mut i = 0;
-    while i < count {
-        out[to + i] = from[at + i];
-        i += 1;
-    }
-}
-
-// The lesser of two numbers.
-fn lesser(a: usize, b: usize) -> usize
-    ensures { result ≡ min a b }
-{
-    if a < b {
-        return a;
-    }
-    b
+    out[to..to + count].copy_from_slice(&from[at..at + count]);
 }
 
 // Copies what follows a place, as much of it as there is room for.
@@ -60,7 +39,7 @@ fn copy_rest(from: &[u8], at: usize, out: &mut [u8], to: usize)
     requires { (at ≤ length from.now) × (to ≤ length out.old) }
     ensures { out.new ≡ put out.old to (part at (min (length from.now - at) (length out.old - to)) from.now) }
 {
-    let count = lesser(from.len() - at, out.len() - to);
+    let count = (from.len() - at).min(out.len() - to);
     copy(from, at, out, to, count);
 }
 
@@ -70,17 +49,12 @@ fn put_weight(kind: Kind, out: &mut [u8], to: usize)
     ensures { out.new ≡ put out.old to (weight_of kind) }
 {
     if weighs(kind) {
-        copy(
-            b"\x00\x00\x00\x00\x00\x00\xf0\x3f",
-            0,
-            out,
-            to,
-            record::FIGURE,
-        );
+        copy(&WEIGHT_OF_ONE, 0, out, to, record::FIGURE);
     }
 }
 
 // A bus's record as one of a kind.
+#[tactic(auto, using(crate::proofs::Copies::bus_put, crate::proofs::Copies::mark_is))]
 fn put_bus(file: &[u8], at: usize, kind: Kind, out: &mut [u8], to: usize)
     requires { (at + (2 + called_bytes) ≤ length file.now) × (to + (2 + called_bytes + length (weight_of kind)) ≤ length out.old) }
     ensures { out.new ≡ put out.old to (bus_as kind file.now at) }
@@ -109,11 +83,9 @@ fn put_buses(
     ensures bytes { out.new ≡ put out.old at (buses_as kind file.now at n) }
 {
     let mut there = at;
-    let mut i = 0;
-    while i < n {
+    for i in 0..n {
         put_bus(file, starts[i], kind, out, there);
         there += size(kind);
-        i += 1;
     }
     there
 }
@@ -147,20 +119,16 @@ fn buses_at(h: Header) -> usize
 }
 
 // The first bus whose weight is not 1.
-fn first_other(file: &[u8], starts: &[usize; MOST_RECORDS], at: usize, n: usize) -> usize
+fn first_other(file: &[u8], starts: &[usize; MOST_RECORDS], at: usize, n: usize) -> Option<usize>
     requires stored { Starts Kind.Bus file.now at n starts.now }
     requires weighed { AllWeighed file.now at n }
     requires few { n ≤ 256 }
-    ensures { result ≡ first_other file.now at n }
+    ensures { result ≡ fault (weighs_one file.now at) n }
 {
-    let mut i = 0;
-    while i < n {
-        if word(file, starts[i] + record::BUS_WEIGHT, record::FIGURE) != ONE {
-            return i;
-        }
-        i += 1;
-    }
-    i
+    first_fault(
+        n,
+        |i| word(file, starts[i] + record::BUS_WEIGHT, record::FIGURE) == ONE,
+    )
 }
 
 // A file that was read with only BU wanted, its loads as readings of weight 1.
@@ -169,16 +137,12 @@ pub fn forward_by(file: &[u8], said: Result<Header, Refusal>, out: &mut [u8]) ->
     requires clear { out.old ≡ replicate most_bytes 0 }
     ensures { moved_as result out.new ≡ forward_by file.now said }
 {
-    match said {
-        Err(f) => Err(f),
-        Ok(h) => {
-            let at = buses_at(h);
-            let mut starts = [0; MOST_RECORDS];
-            let rest = store_starts(file, Kind::Bus, at, h.buses, &mut starts);
-            put_file(file, &starts, at, h.buses, rest, Kind::WeighedBus, out);
-            Ok(())
-        }
-    }
+    let h = said?;
+    let at = buses_at(h);
+    let mut starts = [0; MOST_RECORDS];
+    let rest = store_starts(file, Kind::Bus, at, h.buses, &mut starts);
+    put_file(file, &starts, at, h.buses, rest, Kind::WeighedBus, out);
+    Ok(())
 }
 
 // A file that was read with only BV wanted, where every weight is 1.
@@ -187,18 +151,13 @@ pub fn back_by(file: &[u8], said: Result<Header, Refusal>, out: &mut [u8]) -> Re
     requires clear { out.old ≡ replicate most_bytes 0 }
     ensures { moved_as result out.new ≡ back_by file.now said }
 {
-    match said {
-        Err(f) => Err(f),
-        Ok(h) => {
-            let at = buses_at(h);
-            let mut starts = [0; MOST_RECORDS];
-            let rest = store_starts(file, Kind::Bus, at, h.buses, &mut starts);
-            let i = first_other(file, &starts, at, h.buses);
-            if i < h.buses {
-                return Err(Refusal::Weight(i));
-            }
-            put_file(file, &starts, at, h.buses, rest, Kind::Bus, out);
-            Ok(())
-        }
+    let h = said?;
+    let at = buses_at(h);
+    let mut starts = [0; MOST_RECORDS];
+    let rest = store_starts(file, Kind::Bus, at, h.buses, &mut starts);
+    if let Some(i) = first_other(file, &starts, at, h.buses) {
+        return Err(Refusal::Weight(i));
     }
+    put_file(file, &starts, at, h.buses, rest, Kind::Bus, out);
+    Ok(())
 }

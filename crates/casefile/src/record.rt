@@ -1,7 +1,7 @@
 // One record of the file: where its fields stand, and what can be wrong with it.
 ghost use Rattle.std.specs.Prelude.{◌≡◌, ◌+◌, ◌≤◌, length};
-ghost use Rattle.casefile_defs.specs.Layout.{size_of, layout_of, codes_ok, marked, standing, weighs, suits};
-ghost use Rattle.casefile_defs.specs.Reading.{record_at, admitted};
+ghost use Rattle.casefile_defs.specs.Layout.{size_of, layout_of, codes_ok, marked, standing, weighs};
+ghost use Rattle.casefile_defs.specs.Reading.{record_at};
 
 use crate::bytes::word;
 use casefile_defs::Kind;
@@ -160,13 +160,9 @@ fn codes_ok(file: &[u8], kind: Kind, at: usize) -> bool
 {
     match kind {
         Kind::Head => word(file, at + HEAD_MODE, U8) <= LAST_MODE,
-        Kind::Level => true,
-        Kind::Bus => true,
         Kind::Generator => word(file, at + GENERATOR_SLACK, U8) <= LAST_SLACK,
-        Kind::Corridor => true,
         Kind::Line => word(file, at + LINE_BASIS, U8) <= LAST_BASIS,
-        Kind::CappedCorridor => true,
-        Kind::WeighedBus => true,
+        Kind::Level | Kind::Bus | Kind::Corridor | Kind::CappedCorridor | Kind::WeighedBus => true,
     }
 }
 
@@ -174,48 +170,17 @@ fn codes_ok(file: &[u8], kind: Kind, at: usize) -> bool
 pub fn bears(file: &[u8], kind: Kind, at: usize) -> bool
     ensures { result ≡ marked kind file.now at }
 {
-    if file.len() < MARK {
-        return false;
-    }
-    if file.len() - MARK < at {
-        return false;
-    }
-    mark_ok(file, kind, at)
+    MARK <= file.len() && at <= file.len() - MARK && mark_ok(file, kind, at)
 }
 
-// A CO, or the CP that stands for it.
-fn corridor_at(file: &[u8], at: usize) -> Kind
-    ensures { result ≡ standing Kind.Corridor file.now at }
-{
-    if bears(file, Kind::CappedCorridor, at) {
-        return Kind::CappedCorridor;
-    }
-    Kind::Corridor
-}
-
-// A BU, or the BV that stands for it.
-fn bus_at(file: &[u8], at: usize) -> Kind
-    ensures { result ≡ standing Kind.Bus file.now at }
-{
-    if bears(file, Kind::WeighedBus, at) {
-        return Kind::WeighedBus;
-    }
-    Kind::Bus
-}
-
-// The record that stands at a place where one of a kind is due, by its mark.
+// The record that stands at a place where one of a kind is due, by its mark: a CP for a CO, a BV for a BU.
 pub fn standing(file: &[u8], kind: Kind, at: usize) -> Kind
     ensures { result ≡ standing kind file.now at }
 {
     match kind {
-        Kind::Head => Kind::Head,
-        Kind::Level => Kind::Level,
-        Kind::Bus => bus_at(file, at),
-        Kind::Generator => Kind::Generator,
-        Kind::Corridor => corridor_at(file, at),
-        Kind::Line => Kind::Line,
-        Kind::CappedCorridor => Kind::CappedCorridor,
-        Kind::WeighedBus => Kind::WeighedBus,
+        Kind::Bus if bears(file, Kind::WeighedBus, at) => Kind::WeighedBus,
+        Kind::Corridor if bears(file, Kind::CappedCorridor, at) => Kind::CappedCorridor,
+        _ => kind,
     }
 }
 
@@ -223,52 +188,16 @@ pub fn standing(file: &[u8], kind: Kind, at: usize) -> Kind
 pub fn weighs(kind: Kind) -> bool
     ensures { result ≡ weighs kind }
 {
-    match kind {
-        Kind::Head => false,
-        Kind::Level => false,
-        Kind::Bus => false,
-        Kind::Generator => false,
-        Kind::Corridor => false,
-        Kind::Line => false,
-        Kind::CappedCorridor => false,
-        Kind::WeighedBus => true,
-    }
-}
-
-// Whether a record may stand in a file of BV, or of BU.
-fn suited(weighed: bool, kind: Kind) -> bool
-    ensures { result ≡ suits weighed kind }
-{
-    if weighed {
-        return weighs(kind);
-    }
-    !weighs(kind)
-}
-
-// A record that is whole, but a BV in a file of BU or a BU in a file of BV, has a wrong mark.
-pub fn admit(weighed: bool, kind: Kind, r: usize, w: Result<usize, Refusal>) -> Result<usize, Refusal>
-    ensures { result ≡ admitted weighed kind r w }
-{
-    match w {
-        Err(_) => w,
-        Ok(_) => {
-            if suited(weighed, kind) {
-                return w;
-            }
-            Err(Refusal::Mark(r))
-        }
-    }
+    matches!(kind, Kind::WeighedBus)
 }
 
 // Record r of the file, at a place: past it, or its first fault.
+#[tactic(auto, using(casefile_defs::proofs::Records::cut_at, casefile_defs::proofs::Records::mark_at, casefile_defs::proofs::Records::code_at, casefile_defs::proofs::Records::good_at))]
 pub fn record_at(file: &[u8], kind: Kind, r: usize, at: usize) -> Result<usize, Refusal>
     ensures { result ≡ record_at kind file.now r at }
 {
     let n = size(kind);
-    if file.len() < n {
-        return Err(Refusal::Cut(r));
-    }
-    if file.len() - n < at {
+    if file.len() < n || file.len() - n < at {
         return Err(Refusal::Cut(r));
     }
     if !mark_ok(file, kind, at) {

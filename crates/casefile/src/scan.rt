@@ -1,12 +1,13 @@
 // The walk over the file: header and counts, each table's records, and the bytes after the last.
-ghost use Rattle.std.specs.Prelude.{◌≡◌, ◌-◌, ◌<◌, ◌≤◌, length, Err, Ok, Result};
+ghost use Rattle.std.specs.Prelude.{◌≡◌, ◌<◌, ◌≤◌, length, Ok};
 ghost use Rattle.casefile_defs.specs.Layout.{size_of};
-ghost use Rattle.casefile_defs.specs.Reading.{stepped, walked, header_of, mode_of, counts_ok, Small, bus_form, tables_walked, case_read, end_read, body_read, read_as};
-ghost use Rattle.casefile_defs.specs.Looks.{looked_as, looked_at, words_looked, bytes_looked};
+ghost use Rattle.casefile_defs.specs.Reading.{stepped, walked, header_of, mode_of, counts_ok, Small, bus_form, tables_walked, end_read, read_as};
+ghost use Rattle.casefile_defs.specs.Looks.{looked_at, words_looked, bytes_looked};
+ghost use Rattle.casefile.specs.Read.{ended};
 
 use crate::bytes::{eight, word};
 use crate::record;
-use crate::record::{admit, bears, record_at, standing};
+use crate::record::{bears, record_at, standing, weighs};
 use casefile_defs::{CaseRead, Header, Kind, Looked, Wanted};
 use mode::PlanMode;
 use refusal::Refusal;
@@ -16,52 +17,51 @@ const MOST_TARGET: u32 = 65536;
 // The bytes of a word.
 const WORD: usize = 8;
 
-// A fault is passed on; where a record of a kind is due, the one that stands there is read.
-fn step(file: &[u8], from: Result<usize, Refusal>, kind: Kind, weighed: bool, r: usize) -> Result<usize, Refusal>
-    ensures { result ≡ stepped kind weighed file.now r from }
+// Where a record of a kind is due, the one that stands there is read: past it, or its first fault. A BV in a file of BU, or a BU in a file of BV, has a wrong mark.
+#[tactic(auto, using(crate::proofs::Steps::step_fault, crate::proofs::Steps::step_unsuited, crate::proofs::Steps::step_on))]
+fn step(file: &[u8], at: usize, kind: Kind, weighed: bool, r: usize) -> Result<usize, Refusal>
+    ensures { result ≡ stepped kind weighed file.now r (Ok at) }
 {
-    match from {
-        Err(_) => from,
-        Ok(at) => {
-            let stands = standing(file, kind, at);
-            admit(weighed, stands, r, record_at(file, stands, r, at))
-        }
+    let stands = standing(file, kind, at);
+    let next = record_at(file, stands, r, at)?;
+    if weighs(stands) != weighed {
+        return Err(Refusal::Mark(r));
     }
+    Ok(next)
 }
 
-// Records start to end - 1, of one kind each.
-fn walk_kind(file: &[u8], from: Result<usize, Refusal>, kind: Kind, weighed: bool, start: usize, end: usize) -> Result<usize, Refusal>
-    ensures { result ≡ walked kind weighed start end file.now from }
+// Records start to end - 1, of one kind each: past the last, or the first fault.
+#[tactic(auto, using(crate::proofs::Steps::walk_fault, crate::proofs::Steps::walk_on, crate::proofs::Steps::walk_end))]
+fn walk_kind(
+    file: &[u8],
+    from: usize,
+    kind: Kind,
+    weighed: bool,
+    start: usize,
+    end: usize,
+) -> Result<usize, Refusal>
+    ensures { result ≡ walked kind weighed start end file.now (Ok from) }
 {
     let mut at = from;
-    let mut r = start;
-    while r < end {
-        at = step(file, at, kind, weighed, r);
-        r += 1;
+    for r in start..end {
+        at = step(file, at, kind, weighed, r)?;
     }
-    at
+    Ok(at)
 }
 
 // The mode of a number of at most 5.
+#[tactic(auto, unfolding(casefile_defs::specs::Reading::mode_of, mode::specs::Number::mode_number))]
 fn mode_of(n: u64) -> PlanMode
     ensures { result ≡ mode_of n }
 {
-    if n == 0 {
-        return PlanMode::Expand;
+    match n {
+        0 => PlanMode::Expand,
+        1 => PlanMode::Reinforce,
+        2 => PlanMode::Observe,
+        3 => PlanMode::ExpandServing,
+        4 => PlanMode::ReinforceServing,
+        _ => PlanMode::ObserveServing,
     }
-    if n == 1 {
-        return PlanMode::Reinforce;
-    }
-    if n == 2 {
-        return PlanMode::Observe;
-    }
-    if n == 3 {
-        return PlanMode::ExpandServing;
-    }
-    if n == 4 {
-        return PlanMode::ReinforceServing;
-    }
-    PlanMode::ObserveServing
 }
 
 // The header of a file that is long enough for one.
@@ -101,31 +101,23 @@ fn counts_ok(h: Header) -> bool
         & (h.target <= MOST_TARGET)
 }
 
-// Whether a file's buses are BV: by the mark of the first.
-fn first_form(file: &[u8], w: Result<usize, Refusal>) -> bool
-    ensures { result ≡ bus_form Wanted.Either file.now w }
-{
-    match w {
-        Err(_) => false,
-        Ok(at) => bears(file, Kind::WeighedBus, at),
-    }
-}
-
-// Whether they are to be BV.
-fn bus_form(file: &[u8], wanted: Wanted, w: Result<usize, Refusal>) -> bool
-    ensures { result ≡ bus_form wanted file.now w }
+// Whether a file's buses are to be BV, where the first of them begins at a place: by its mark, or by what is wanted.
+#[tactic(auto, unfolding(casefile_defs::specs::Reading::bus_form))]
+fn bus_form(file: &[u8], wanted: Wanted, at: usize) -> bool
+    ensures { result ≡ bus_form wanted file.now (Ok at) }
 {
     match wanted {
-        Wanted::Either => first_form(file, w),
+        Wanted::Either => bears(file, Kind::WeighedBus, at),
         Wanted::Plain => false,
         Wanted::Weighed => true,
     }
 }
 
 // The records after the header, table by table.
-fn walk_tables(file: &[u8], h: Header, wanted: Wanted, from: Result<usize, Refusal>) -> Result<usize, Refusal>
+#[tactic(auto, using(casefile_defs::proofs::Counts::lines_small, crate::proofs::Steps::walk_stays), unfolding(casefile_defs::specs::Reading::tables_walked))]
+fn walk_tables(file: &[u8], h: Header, wanted: Wanted, from: usize) -> Result<usize, Refusal>
     requires { Small h }
-    ensures { result ≡ tables_walked wanted h file.now from }
+    ensures { result ≡ tables_walked wanted h file.now (Ok from) }
 {
     let levels = h.above + h.requested;
     let buses = 1 + levels;
@@ -133,116 +125,125 @@ fn walk_tables(file: &[u8], h: Header, wanted: Wanted, from: Result<usize, Refus
     let corridors = generators + h.generators;
     let lines = corridors + h.corridors;
     let end = lines + h.corridors * levels;
-    let w1 = walk_kind(file, from, Kind::Level, false, 1, buses);
-    let weighed = bus_form(file, wanted, w1);
-    let w2 = walk_kind(file, w1, Kind::Bus, weighed, buses, generators);
-    let w3 = walk_kind(file, w2, Kind::Generator, false, generators, corridors);
-    let w4 = walk_kind(file, w3, Kind::Corridor, false, corridors, lines);
-    walk_kind(file, w4, Kind::Line, false, lines, end)
-}
-
-fn came_to(at: usize, looks: usize) -> Looked
-    ensures { result ≡ looked_as at looks }
-{
-    Looked { at, looks }
-}
-
-// The bytes from a place on.
-fn left(file: &[u8], at: usize) -> usize
-    ensures { result ≡ length file.now - at }
-{
-    if at < file.len() {
-        return file.len() - at;
-    }
-    0
+    let first_bus = walk_kind(file, from, Kind::Level, false, 1, buses)?;
+    let weighed = bus_form(file, wanted, first_bus);
+    let first_generator = walk_kind(file, first_bus, Kind::Bus, weighed, buses, generators)?;
+    let first_corridor = walk_kind(
+        file,
+        first_generator,
+        Kind::Generator,
+        false,
+        generators,
+        corridors,
+    )?;
+    let first_line = walk_kind(
+        file,
+        first_corridor,
+        Kind::Corridor,
+        false,
+        corridors,
+        lines,
+    )?;
+    walk_kind(file, first_line, Kind::Line, false, lines, end)
 }
 
 // Past the words of zeros from a place on, the word after them looked at too.
+#[tactic(auto, using(crate::proofs::Looks::words_start, crate::proofs::Looks::words_turn, crate::proofs::Looks::words_stop, crate::proofs::Looks::words_end))]
 fn past_words(file: &[u8], at: usize) -> Looked
     ensures { result ≡ words_looked file.now at }
 {
-    let words = left(file, at) / WORD;
-    let mut k = 0;
-    while k < words {
+    let words = file.len().saturating_sub(at) / WORD;
+    for k in 0..words {
         if eight(file, at + WORD * k) != 0 {
-            return came_to(at + WORD * k, k + 1);
+            return Looked {
+                at: at + WORD * k,
+                looks: k + 1,
+            };
         }
-        k += 1;
     }
-    came_to(at + WORD * k, k)
+    Looked {
+        at: at + WORD * words,
+        looks: words,
+    }
 }
 
 // Past the zeros from a place on, byte by byte, the byte after them looked at too.
+#[tactic(auto, using(crate::proofs::Looks::bytes_start, crate::proofs::Looks::bytes_turn, crate::proofs::Looks::bytes_stop, crate::proofs::Looks::bytes_end))]
 fn past_bytes(file: &[u8], at: usize) -> Looked
     ensures { result ≡ bytes_looked file.now at }
 {
-    let mut i = at;
-    let mut looks = 0;
-    while i < file.len() {
-        looks += 1;
-        if file[i] != 0 {
-            return came_to(i, looks);
+    let bytes = file.len().saturating_sub(at);
+    for i in 0..bytes {
+        if file[at + i] != 0 {
+            return Looked {
+                at: at + i,
+                looks: i + 1,
+            };
         }
-        i += 1;
     }
-    came_to(i, looks)
+    Looked {
+        at: at + bytes,
+        looks: bytes,
+    }
 }
 
 // The first byte from a place on that is not zero, by words and then by bytes.
+#[tactic(auto, using(crate::proofs::Looks::both_looked, crate::proofs::Looks::few))]
 fn trailing(file: &[u8], at: usize) -> Looked
     ensures { result ≡ looked_at file.now at }
 {
     let words = past_words(file, at);
     let bytes = past_bytes(file, words.at);
-    came_to(bytes.at, words.looks + bytes.looks)
-}
-
-// A reading with its count: one place that makes the struct, since each more is a proof of its own.
-pub fn said(reading: Result<Header, Refusal>, looks: usize) -> CaseRead
-    ensures { result ≡ case_read reading looks }
-{
-    CaseRead { reading, looks }
-}
-
-// What follows the last record: nothing but zeros.
-fn end_read(file: &[u8], h: Header, w: Result<usize, Refusal>) -> CaseRead
-    ensures { result ≡ end_read h file.now w }
-{
-    match w {
-        Err(f) => said(Err(f), 0),
-        Ok(at) => {
-            let t = trailing(file, at);
-            if t.at < file.len() {
-                return said(Err(Refusal::Trailing(t.at)), t.looks);
-            }
-            said(Ok(h), t.looks)
-        }
+    Looked {
+        at: bytes.at,
+        looks: words.looks + bytes.looks,
     }
 }
 
-// What follows a header that stands.
-fn body_read(file: &[u8], wanted: Wanted, at: usize) -> CaseRead
-    requires { size_of Kind.Head ≤ length file.now }
-    ensures { result ≡ body_read wanted file.now (Ok at) }
+// What follows the last record, which ends at a place: nothing but zeros.
+#[tactic(auto, using(casefile_defs::proofs::Walks::end_trailing, casefile_defs::proofs::Walks::end_good))]
+fn end_read(file: &[u8], h: Header, at: usize) -> CaseRead
+    ensures { result ≡ end_read h file.now (Ok at) }
 {
+    let zeros = trailing(file, at);
+    let reading = if zeros.at < file.len() {
+        Err(Refusal::Trailing(zeros.at))
+    } else {
+        Ok(h)
+    };
+    CaseRead {
+        reading,
+        looks: zeros.looks,
+    }
+}
+
+// The header, and where the last record ends; or the first refusal.
+#[tactic(auto, using(casefile_defs::proofs::Records::passed, casefile_defs::proofs::Counts::small_of, crate::proofs::Steps::read_long, crate::proofs::Steps::read_fault, crate::proofs::Steps::read_count, crate::proofs::Steps::read_tables, crate::proofs::Steps::read_end))]
+fn records_read(file: &[u8], wanted: Wanted) -> Result<(Header, usize), Refusal>
+    ensures { ended file.now result ≡ read_as wanted file.now }
+{
+    if casefile_defs::MOST_BYTES < file.len() {
+        return Err(Refusal::FileLength);
+    }
+    let at = record_at(file, Kind::Head, 0, 0)?;
     let h = header_of(file);
     if !counts_ok(h) {
-        return said(Err(Refusal::Count), 0);
+        return Err(Refusal::Count);
     }
-    let w = walk_tables(file, h, wanted, Ok(at));
-    end_read(file, h, w)
+    let end = walk_tables(file, h, wanted, at)?;
+    Ok((h, end))
 }
 
 // The header, or the first refusal, and the words and bytes looked at after the last record.
+#[tactic(auto, unfolding(crate::specs::Read::ended))]
 pub fn read_as(file: &[u8], wanted: Wanted) -> CaseRead
     ensures { result ≡ read_as wanted file.now }
 {
-    if casefile_defs::MOST_BYTES < file.len() {
-        return said(Err(Refusal::FileLength), 0);
-    }
-    let w = record_at(file, Kind::Head, 0, 0);
-    match w {
-        Err(f) => said(Err(f), 0),
-        Ok(at) => body_read(file, wanted, at),
+    match records_read(file, wanted) {
+        Err(f) => CaseRead {
+            reading: Err(f),
+            looks: 0,
+        },
+        Ok((h, at)) => end_read(file, h, at),
     }
 }

@@ -6,9 +6,12 @@ ghost use Rattle.casefile_defs.specs.Tables.{sheet_in, basis_of, line_figure, nu
 ghost use Rattle.casefile.specs.Starts.{Room};
 
 use crate::bytes::{figure, word};
-use crate::columns::{MOST_RECORDS, fill_figures, fill_numbers, fill_weights, line_at, store_starts};
+use crate::columns::{
+    MOST_RECORDS, fill_figures, fill_numbers, fill_weights, line_at, store_starts,
+};
 use crate::record;
-use casefile_defs::Kind;
+use casefile_defs::{Kind, ROW_FIGURES};
+use loops::fill;
 
 // A line's first fields are figures; the last, its basis, is not.
 const BASIS: usize = 4;
@@ -17,10 +20,7 @@ const BASIS: usize = 4;
 fn basis_of(n: u64) -> f64
     ensures { result ≡ basis_of n }
 {
-    if n == 0 {
-        return 0.0;
-    }
-    1.0
+    if n == 0 { 0.0 } else { 1.0 }
 }
 
 // Figure j of the line record at a place.
@@ -44,10 +44,10 @@ fn sheet_in(file: &[u8], at: usize, corridors: usize, levels: usize, p: usize) -
     requires few { corridors * levels < 2 ^ 64 }
     ensures { result ≡ sheet_in file.now at corridors levels p }
 {
-    let row = p / casefile_defs::ROW_FIGURES;
+    let row = p / ROW_FIGURES;
     if row < corridors * levels {
         let line = sheets::line_of(corridors, levels, row);
-        return line_figure(file, line_at(at, line), p % casefile_defs::ROW_FIGURES);
+        return line_figure(file, line_at(at, line), p % ROW_FIGURES);
     }
     0.0
 }
@@ -217,9 +217,5 @@ pub fn read_lines(file: &[u8], at: usize, corridors: usize, levels: usize, sheet
     requires few { corridors * levels < 2 ^ 64 }
     ensures { sheet.new ≡ tab (length sheet.old) (sheet_in file.now at corridors levels) }
 {
-    let mut p = 0;
-    while p < sheet.len() {
-        sheet[p] = sheet_in(file, at, corridors, levels, p);
-        p += 1;
-    }
+    fill(sheet, |p| sheet_in(file, at, corridors, levels, p));
 }

@@ -27,9 +27,6 @@ pub bounded : (j : Kind) (o m : ℕ) {k : Kind} {v : ℕ} (at : ℕ) (s : List �
 bounded j o m {k} {v} at s f p q =
     ap (λ (x : ℕ). leb x m) q ∙ and_true _ ∙ sym (f at s) ∙ ap (λ (i : Kind). codes_ok i s at) (sym p)
 
-pub size_at_lem : (j : Kind) {k : Kind} → k ≡ j → size_of k ≡ size_of j
-size_at_lem j p = ap (λ (i : Kind). size_of i) p
-
 -- a mark that is cut is none
 no_and : (b : Bool) → (b && false) ≡ false
 no_and true = refl

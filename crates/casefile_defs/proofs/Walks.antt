@@ -7,10 +7,10 @@ use mathlib.Core.List.{List}
 use borrow.Author.Tests.{lt-ltb, le-ltb}
 use lib.ListN.{length}
 use Rattle.refusal.specs.declared.Refusal.{Refusal}
-use Rattle.refusal.specs.declared.Refusal.TheVariants.{Count, FileLength, Trailing}
+use Rattle.refusal.specs.declared.Refusal.TheVariants.{Trailing}
 use Rattle.casefile_defs.specs.Bounds.{most_bytes}
 use Rattle.casefile_defs.specs.Looks.{looked_at}
-use Rattle.casefile_defs.specs.Reading.{record_at, walked, buses_walked, counts_ok, header_of, tables_walked, trailing, case_read, unread, end_read, body_read, read_as, before_buses, before_generators, before_corridors, before_lines, records_of}
+use Rattle.casefile_defs.specs.Reading.{record_at, walked, buses_walked, counts_ok, header_of, tables_walked, trailing, case_read, end_read, body_read, read_as, before_buses, before_generators, before_corridors, before_lines, records_of}
 use Rattle.casefile_defs.specs.declared.Kind.TheVariants.{Head, Level, Generator, Corridor, Line}
 use Rattle.casefile_defs.specs.declared.Header.{Header}
 use Rattle.casefile_defs.specs.declared.Wanted.{Wanted}
@@ -31,10 +31,6 @@ tables_walked_lem wanted h s w w₁ w₂ w₃ w₄ w₅ e₁ e₂ e₃ e₄ e₅
 
 -- ---- after the last record
 module _ (h : Header) (s : List ℕ) (w : Result ℕ Refusal) where
-  pub end_fault : (f : Refusal) → w ≡ Err f → unread f ≡ end_read h s w
-  unfolding end_read
-  end_fault f e = simp e
-
   pub end_trailing : (at : ℕ) (t : Looked) → w ≡ Ok at → t ≡ looked_at s at → t.at < length s → case_read (Err (Trailing t.at)) t.looks ≡ end_read h s w
   unfolding end_read
   end_trailing at t e q l =
@@ -49,24 +45,12 @@ module _ (h : Header) (s : List ℕ) (w : Result ℕ Refusal) where
 
 -- ---- after the header
 module _ (wanted : Wanted) (s : List ℕ) (at : ℕ) (h : Header) (e : h ≡ header_of s) where
-  pub body_counts : counts_ok h ≡ false → unread Count ≡ body_read wanted s (Ok at)
-  unfolding body_read
-  body_counts c = simp (sym e, c)
-
   pub body_end : (w : Result ℕ Refusal) (r : CaseRead) → counts_ok h ≡ true → w ≡ tables_walked wanted h s (Ok at) → r ≡ end_read h s w → r ≡ body_read wanted s (Ok at)
   unfolding body_read
   body_end w r c p q = simp (sym e, c, q, p)
 
 -- ---- the whole file
 module _ (wanted : Wanted) (s : List ℕ) where
-  pub whole_long : most_bytes < length s → unread FileLength ≡ read_as wanted s
-  unfolding read_as
-  whole_long l = simp (lt-ltb _ _ l)
-
-  pub whole_fault : (w : Result ℕ Refusal) (f : Refusal) → length s ≤ most_bytes → w ≡ record_at Head s 0 0 → w ≡ Err f → unread f ≡ read_as wanted s
-  unfolding read_as body_read
-  whole_fault w f l e q = simp (le-ltb _ _ l, sym e, q)
-
   pub whole_body : (w : Result ℕ Refusal) (at : ℕ) (r : CaseRead) → length s ≤ most_bytes → w ≡ record_at Head s 0 0 → w ≡ Ok at → r ≡ body_read wanted s (Ok at) → r ≡ read_as wanted s
   unfolding read_as
   whole_body w at r l e q p = simp (le-ltb _ _ l, sym e, q, p)

@@ -1,5 +1,9 @@
-// The case file's types and bounds. There is no code here: the definition of the file and of its reading, their laws, and worked examples.
+// The case file's types and bounds: the definition of the file and of its reading, their laws, and worked examples. The one piece of code tests that tables have
+// their largest size, as every operation does that fills them.
 #![tactic(auto)]
+
+ghost use Rattle.std.specs.Prelude.{◌≡◌};
+ghost use Rattle.casefile_defs.specs.Tables.{places_of, sizes_ok};
 
 use mode::PlanMode;
 use refusal::Refusal;
@@ -65,4 +69,46 @@ pub enum Wanted {
 pub struct Looked {
     pub at: usize,
     pub looks: usize,
+}
+
+// Whether each table is lent at its largest size.
+#[tactic(auto, unfolding(crate::specs::Tables::sizes_ok))]
+pub fn tables_sized(
+    ladder: &[f64],
+    tier: &[u32],
+    reading: &[f64],
+    weight: &[f64],
+    bus: &[u32],
+    slack: &[u32],
+    pmin: &[f64],
+    pmax: &[f64],
+    c1: &[f64],
+    c2: &[f64],
+    a: &[u32],
+    b: &[u32],
+    circuits: &[u32],
+    length_km: &[f64],
+    share: &[f64],
+    cap: &[u32],
+    sheet: &[f64],
+) -> bool
+    ensures { result ≡ sizes_ok (places_of ladder.now tier.now reading.now weight.now bus.now slack.now pmin.now pmax.now c1.now c2.now a.now b.now circuits.now length_km.now share.now cap.now sheet.now) }
+{
+    (ladder.len() == MOST_LEVELS)
+        & (tier.len() == MOST_BUSES)
+        & (reading.len() == MOST_BUSES)
+        & (weight.len() == MOST_BUSES)
+        & (bus.len() == MOST_GENERATORS)
+        & (slack.len() == MOST_GENERATORS)
+        & (pmin.len() == MOST_GENERATORS)
+        & (pmax.len() == MOST_GENERATORS)
+        & (c1.len() == MOST_GENERATORS)
+        & (c2.len() == MOST_GENERATORS)
+        & (a.len() == MOST_CORRIDORS)
+        & (b.len() == MOST_CORRIDORS)
+        & (circuits.len() == MOST_CORRIDORS)
+        & (length_km.len() == MOST_CORRIDORS)
+        & (share.len() == MOST_CORRIDORS)
+        & (cap.len() == MOST_CORRIDORS)
+        & (sheet.len() == MOST_SHEET)
 }

@@ -6,10 +6,9 @@ use mathlib.Core.Path.{◌≡◌, refl, sym, ap, subst, ◌∙◌}
 use native.Mathlib.Numerals.{add-one}
 use native.Mathlib.Omega.{arith}
 use borrow.Author.Tests.{lt-ltb, le-ltb}
-use lib.Ieee.{Float, binary64, to_bits, ne}
-use lib.Ieee.Compare.{differs_from_itself}
+use lib.Ieee.{Float, binary64, to_bits, is_nan}
 use lib.ListN.{length, take, set, length-append}
-use Rattle.loops.proofs.Bools.{is}
+use Rattle.loops.proofs.Bits.{only_nan}
 use Rattle.casefile_defs.specs.Layout.{layout_of}
 use Rattle.casefile_defs.specs.declared.Kind.{Kind}
 use Rattle.casefile_defs.specs.declared.Kind.TheVariants.{Head, Level, Bus, Generator, Corridor, Line, CappedCorridor, WeighedBus}
@@ -73,10 +72,10 @@ left_more i n e = ap (λ (m : ℕ). m / 256) e ∙ without_more i n ∙ ap (λ (
 pub all_bytes : {b a : List ℕ} {len : ℕ} (i w n : ℕ) → i ≡ w → Put b len (bytes i n) a (len + i) → Put b len (bytes w n) a (len + i)
 all_bytes {b} {a} {len} i w n e p = same_bytes (ap (λ (k : ℕ). bytes k n) e) p
 
--- ---- the bits of a figure that differs from itself
-pub nan_bits : (x : Float) → ne x x ≡ true → to_bits binary64 x ≡ 0x7ff8_0000_0000_0000
+-- ---- the bits of a NaN
+pub nan_bits : (x : Float) → is_nan x ≡ true → to_bits binary64 x ≡ 0x7ff8_0000_0000_0000
 unfolding to_bits
-nan_bits x h = ap (to_bits binary64) (differs_from_itself x (is h))
+nan_bits x h = ap (to_bits binary64) (only_nan x h)
 
 -- ---- a mark
 pub mark_bytes : (k : Kind) → bytes 2 (mark_of k) ≡ (layout_of k).first ∷ (layout_of k).second ∷ []

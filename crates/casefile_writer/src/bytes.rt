@@ -1,5 +1,5 @@
 // Numbers and figures as bytes, put into a lent buffer. Each function takes how much of it is used and answers how much is used then.
-ghost use Rattle.std.specs.Prelude.{cond, ◌≡◌, [], ◌∷◌, ◌+◌, ◌≤◌, length};
+ghost use Rattle.std.specs.Prelude.{◌≡◌, [], ◌∷◌, ◌+◌, ◌≤◌, length};
 ghost use Rattle.std.specs.Float.{binary64};
 ghost use Rattle.std.specs.Float.Ieee.{to_bits};
 ghost use Rattle.casefile_defs.specs.Layout.{layout_of};
@@ -13,26 +13,26 @@ use casefile_defs::Kind;
 const NAN: u64 = 0x7ff8_0000_0000_0000;
 
 // A number of so many bytes, the least significant first.
+#[tactic(auto, using(crate::proofs::Puts::none_put, crate::proofs::Puts::byte_more, crate::proofs::Puts::left_more, crate::proofs::Puts::all_bytes))]
 pub fn put_bytes(out: &mut [u8], len: usize, width: usize, n: u64) -> usize
     requires { len + width ≤ length out.old }
     ensures put { Put out.old len (bytes width n) out.new result }
     ensures size { result ≡ len + width }
 {
     let mut rest = n;
-    let mut i = 0;
-    while i < width {
+    for i in 0..width {
         out[len + i] = (rest % 256) as u8;
         rest /= 256;
-        i += 1;
     }
-    len + i
+    len + width
 }
 
 // The bits of a figure.
+#[tactic(auto, using(crate::proofs::Puts::nan_bits))]
 fn bits_of(x: f64) -> u64
     ensures { result ≡ to_bits binary64 x }
 {
-    if x != x {
+    if x.is_nan() {
         return NAN;
     }
     f64::to_bits(x)
@@ -58,13 +58,7 @@ pub fn put_basis(out: &mut [u8], len: usize, x: f64) -> usize
 fn basis_number(x: f64) -> u64
     ensures { result ≡ basis_number x }
 {
-    pick(x == 0.0, 0, 1)
-}
-
-fn pick(test: bool, x: u64, y: u64) -> u64
-    ensures { result ≡ cond test x y }
-{
-    if test { x } else { y }
+    if x == 0.0 { 0 } else { 1 }
 }
 
 // A record's mark as a number: its two letters, the first the lower byte.

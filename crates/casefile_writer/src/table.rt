@@ -8,8 +8,10 @@ ghost use Rattle.casefile_writer.specs.Words.{only, weighs, bus_kind, corridor_k
 
 use crate::record::{put_bus, put_corridor, put_generator, put_level, put_line};
 use casefile_defs::Kind;
+use loops::first_fault;
 use sheets::row_place;
 
+#[tactic(auto, using(crate::proofs::Puts::no_record, crate::proofs::Puts::one_more_lem, crate::proofs::Puts::all_put))]
 pub fn put_levels(out: &mut [u8], len: usize, count: usize, ladder: &[f64]) -> usize
     requires size_of_in_bounds { len + count * size_of Kind.Level ≤ length out.old }
     requires count_in_bounds { count ≤ length ladder.now }
@@ -17,10 +19,8 @@ pub fn put_levels(out: &mut [u8], len: usize, count: usize, ladder: &[f64]) -> u
     ensures size { result ≡ len + count * size_of Kind.Level }
 {
     let mut used = len;
-    let mut i = 0;
-    while i < count {
+    for i in 0..count {
         used = put_level(out, used, ladder[i]);
-        i += 1;
     }
     used
 }
@@ -30,16 +30,10 @@ pub fn some_weight(count: usize, weight: &[f64]) -> bool
     requires { count ≤ length weight.now }
     ensures { result ≡ weighs weight.now count }
 {
-    let mut i = 0;
-    while i < count {
-        if !(weight[i] == 1.0) {
-            return true;
-        }
-        i += 1;
-    }
-    false
+    first_fault(count, |i| weight[i] == 1.0).is_some()
 }
 
+#[tactic(auto, using(crate::proofs::Puts::no_record, crate::proofs::Puts::one_more_lem, crate::proofs::Puts::all_put))]
 pub fn put_buses(
     out: &mut [u8],
     len: usize,
@@ -57,14 +51,13 @@ pub fn put_buses(
     ensures size { result ≤ len + count * size_of Kind.WeighedBus }
 {
     let mut used = len;
-    let mut i = 0;
-    while i < count {
+    for i in 0..count {
         used = put_bus(out, used, weighed, tier[i], reading[i], weight[i]);
-        i += 1;
     }
     used
 }
 
+#[tactic(auto, using(crate::proofs::Puts::no_record, crate::proofs::Puts::one_more_lem, crate::proofs::Puts::all_put))]
 pub fn put_generators(
     out: &mut [u8],
     len: usize,
@@ -87,14 +80,13 @@ pub fn put_generators(
     ensures size { result ≡ len + count * size_of Kind.Generator }
 {
     let mut used = len;
-    let mut i = 0;
-    while i < count {
+    for i in 0..count {
         used = put_generator(out, used, bus[i], slack[i], pmin[i], pmax[i], c1[i], c2[i]);
-        i += 1;
     }
     used
 }
 
+#[tactic(auto, using(crate::proofs::Puts::no_record, crate::proofs::Puts::one_more_lem, crate::proofs::Puts::all_put))]
 pub fn put_corridors(
     out: &mut [u8],
     len: usize,
@@ -117,8 +109,7 @@ pub fn put_corridors(
     ensures size { result ≤ len + count * size_of Kind.CappedCorridor }
 {
     let mut used = len;
-    let mut i = 0;
-    while i < count {
+    for i in 0..count {
         used = put_corridor(
             out,
             used,
@@ -129,7 +120,6 @@ pub fn put_corridors(
             share[i],
             cap[i],
         );
-        i += 1;
     }
     used
 }
@@ -167,11 +157,9 @@ pub fn put_lines(
 {
     let count = corridors * levels;
     let mut used = len;
-    let mut i = 0;
-    while i < count {
+    for i in 0..count {
         let p = row_place(corridors, i / levels, i % levels);
         used = put_row(out, used, sheet, p);
-        i += 1;
     }
     used
 }

@@ -17,12 +17,28 @@ use Rattle.plan_defs.specs.Case.{Case, levels}
 use Rattle.plan_defs.specs.Accept.{case_fault}
 use Rattle.plan_defs.proofs.Accepted.{Accepted, accepted, bus_below, end_a_lem, end_b_lem}
 use Rattle.acceptance.specs.Check.{answer_of}
+use Rattle.acceptance.specs.Check as one_case
+use Rattle.acceptance.proofs.Callers.{tables_of_lem, refused_by_lem, passed_by_lem}
 use Rattle.join_defs.specs.Districts.{same_ladder, sums_ok, alike, or_else, join_fault}
 use Rattle.join_defs.specs.Joining.{case_as}
 use Rattle.join_defs.proofs.Levels.{levels_same}
 use Rattle.join.specs.Joins.{Raises, Rowed, Summed, heads_alike, check_of}
 use Rattle.std.specs.Prelude.{Err, Ok, Result}
 use Rattle.refusal.specs.Reply.{no_refusal}
+
+-- ---- what the answer to one case says
+pub answered : (fits : Bool) (c : Case) (t : ℕ) (a : Result (Unit {0}) Refusal) → a ≡ one_case.check_of fits (tables_of_lem c) t → a ≡ answer_of (cond fits (case_fault c t) (some Length))
+answered fits c t (Err f) e = ap answer_of (sym (refused_by_lem fits c t f e))
+answered fits c t (Ok u) e = let p = passed_by_lem fits c t e in rw (p.0, p.1) refl
+
+pub fault_is : (o : Option Refusal) (f : Refusal) → Err f ≡ answer_of o → o ≡ some f
+fault_is none f e = absurd (unequal cc)
+fault_is (some g) f e = cc
+
+pub none_is : (b : Bool) (o : Option Refusal) → no_refusal ≡ answer_of (cond b o (some Length)) → (b ≡ true) × (o ≡ none)
+none_is false o e = absurd (unequal cc)
+none_is true (some g) e = absurd (unequal cc)
+none_is true none e = (refl, refl)
 
 module _ (fits : Bool) (c : Case) (t : ℕ) (d : Case) (u : ℕ) where
   -- what is left after 1 to 7 of both, and of the first
@@ -144,6 +160,11 @@ module _ (fits : Bool) (h : Header) (p : Places) (k : Header) (q : Places)
         few_corridors = summed.corridors;
         few_levels = first_ok.counts.few_levels;
       }
+
+-- what passed the check
+pub passed : (fits b : Bool) (h : Header) (p : Places) (k : Header) (q : Places) (a : Result (Unit {0}) Refusal) → a ≡ no_refusal
+    → a ≡ check_of b (case_as h p) h.target (case_as k q) k.target → b ≡ fits → Joinable fits (case_as h p) h.target (case_as k q) k.target
+passed fits b h p k q a e g z = joinable _ _ _ _ _ (sym e ∙ g ∙ ap (λ (x : Bool). check_of x (case_as h p) h.target (case_as k q) k.target) z)
 
 -- 24, the headers and the ladders each tested for themselves
 pub alike_is : (h : Header) (p : Places) (k : Header) (q : Places) (x y : Bool) → x ≡ heads_alike h k → y ≡ same_ladder p.ladder q.ladder

@@ -20,7 +20,7 @@ use Rattle.join_defs.specs.Joining.{case_as, header_of, laid_out, Outcome, outco
 use Rattle.join_defs.proofs.Tables.{sheet_are, filled_tables}
 use Rattle.join.specs.Joins.{headers_of, check_of}
 use Rattle.join.proofs.Refusals.{Joinable, refused_is}
-use Rattle.std.specs.Prelude.{Err, Ok}
+use Rattle.std.specs.Prelude.{Err, Ok, Result}
 
 pub places_same : {ladder ladder' : List Float} {tier tier' : List ℕ} {reading reading' : List Float} {weight weight' : List Float} {bus bus' : List ℕ} {slack slack' : List ℕ} {pmin pmin' : List Float} {pmax pmax' : List Float} {c1 c1' : List Float} {c2 c2' : List Float} {a a' : List ℕ} {b b' : List ℕ} {circuits circuits' : List ℕ} {length_km lengthKm' : List Float} {share share' : List Float} {cap cap' : List ℕ} {sheet sheet' : List Float}
     → ladder ≡ ladder' → tier ≡ tier' → reading ≡ reading' → weight ≡ weight' → bus ≡ bus' → slack ≡ slack' → pmin ≡ pmin' → pmax ≡ pmax' → c1 ≡ c1' → c2 ≡ c2' → a ≡ a' → b ≡ b' → circuits ≡ circuits' → length_km ≡ lengthKm' → share ≡ share' → cap ≡ cap' → sheet ≡ sheet'
@@ -48,7 +48,7 @@ module _ (h : Header) (p : Places) (k : Header) (q : Places) (out : Places) wher
   joined o = joined_by o (joined_case first second) (h.target + k.target) out
 
   -- ---- a refusal
-  pub refused_whole : (f : Refusal) → Err f ≡ check_of (sizes_ok out) first h.target second k.target → outcome (Err f) out ≡ join_cases h p k q out
+  refused_whole : (f : Refusal) → Err f ≡ check_of (sizes_ok out) first h.target second k.target → outcome (Err f) out ≡ join_cases h p k q out
   unfolding join_cases joined_by
   refused_whole f e =
       go (sizes_ok out) (join_fault first h.target second k.target) (refused_is (sizes_ok out) first h.target second k.target f e)
@@ -57,6 +57,11 @@ module _ (h : Header) (p : Places) (k : Header) (q : Places) (out : Places) wher
       go false o r = ap joined (sym r)
       go true none r = absurd (unequal cc)
       go true (some g) r = ap joined (sym r)
+
+  pub refused_as : (b : Bool) (f : Refusal) (a : Result Header Refusal) (r : Result (Unit {0}) Refusal) → a ≡ Err f → r ≡ Err f → r ≡ check_of b first h.target second k.target
+      → b ≡ sizes_ok out → outcome a out ≡ join_cases h p k q out
+  refused_as b f a r e g c z =
+      ap (λ (x : Result Header Refusal). outcome x out) e ∙ refused_whole f (sym g ∙ c ∙ ap (λ (x : Bool). check_of x first h.target second k.target) z)
 
   -- ---- an answer: the tables, column by column, and the header
   tables_by_lem : levels first ≡ levels second → Sizes out → tables_by h.buses h.corridors k.corridors (levels first) p q out ≡ laid_out (joined_case first second)

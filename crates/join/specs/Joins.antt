@@ -1,15 +1,22 @@
 -- What the contracts of join's functions cite: the tests that read two headers, the joined header, and the refusals in order.
-use Rattle.std.specs.Prelude.{ℕ, ◌+◌, ◌*◌, ◌^◌, ◌<◌, ◌≤◌, Bool, cond, ◌&&◌, List, ◌≡◌, leb, eqb, length, get_or, Result}
+use Rattle.std.specs.Prelude.{ℕ, ◌+◌, ◌-◌, ◌*◌, ◌^◌, ◌<◌, ◌≤◌, Bool, cond, ◌&&◌, List, ◌≡◌, leb, ltb, eqb, length, get_or, Result}
 use Rattle.std.proofs.Math.Option.{some}
 use Rattle.refusal.specs.declared.Refusal.TheVariants.{Length}
 use Rattle.mode.specs.Number.{mode_number}
 use Rattle.sheets.specs.Sheet.{row_figures}
-use Rattle.casefile_defs.specs.Bounds.{most_levels, most_buses, most_corridors, most_generators, most_target, most_sheet}
+use Rattle.casefile_defs.specs.Bounds.{most_levels, most_buses, most_corridors, most_generators, most_target}
+use Rattle.casefile_defs.specs.Tables.{Places, places_of}
 use Rattle.casefile_defs.specs.declared.Header.{Header}
 use Rattle.plan_defs.specs.Case.{Case}
 use Rattle.acceptance.specs.Check.{answer_of}
 use Rattle.join_defs.specs.Districts.{join_fault}
+use Rattle.join_defs.specs.Joining.{case_as}
+use Rattle.join.specs.declared.district.District.{District}
 use Rattle.refusal.specs.declared.Refusal.{Refusal}
+
+-- place i of two columns one after the other, and one value past both; d stands for an element that neither has
+abbrev pub either_at : {A : Type 0} → A → A → List A → List A → ℕ → A
+either_at d past x y i = cond (ltb i (length x)) (get_or x i d) (cond (ltb i (length x + length y)) (get_or y (i - length x) d) past)
 
 -- numbers that fit a u32 when they are raised
 abbrev pub Raises : ℕ → List ℕ → Type 0
@@ -22,10 +29,13 @@ pub record Rowed (m o n first second : ℕ) : Type 0 where
   pub few_corridors : m + o ≤ most_corridors
   pub few_levels : n ≤ most_levels
 
--- 1 of the joined tables, by their lengths
-abbrev pub sizes_by : ℕ → ℕ → ℕ → ℕ → ℕ → ℕ → ℕ → ℕ → ℕ → ℕ → ℕ → ℕ → ℕ → ℕ → ℕ → ℕ → ℕ → Bool
-sizes_by ladder tier reading weight bus slack pmin pmax c1 c2 a b circuits length_km share cap sheet =
-    (((((((((((((((eqb ladder most_levels && eqb tier most_buses) && eqb reading most_buses) && eqb weight most_buses) && eqb bus most_generators) && eqb slack most_generators) && eqb pmin most_generators) && eqb pmax most_generators) && eqb c1 most_generators) && eqb c2 most_generators) && eqb a most_corridors) && eqb b most_corridors) && eqb circuits most_corridors) && eqb length_km most_corridors) && eqb share most_corridors) && eqb cap most_corridors) && eqb sheet most_sheet
+-- a district's tables, and its case
+abbrev pub tables_of : District → Places
+tables_of d =
+    places_of d.ladder.now d.tier.now d.reading.now d.weight.now d.bus.now d.slack.now d.pmin.now d.pmax.now d.c1.now d.c2.now d.a.now d.b.now d.circuits.now d.length_km.now d.share.now d.cap.now d.sheet.now
+
+abbrev pub case_of : District → Case
+case_of d = case_as d.header (tables_of d)
 
 -- 2: the sums are within the bounds of one case; as a test, and as facts
 abbrev pub sums_fit : Header → Header → Bool

@@ -2,58 +2,53 @@
 // the second's take turns.
 ghost use Rattle.std.specs.Prelude.{◌≡◌, ◌+◌, ◌<◌, length};
 ghost use Rattle.loops.specs.Figures.{at};
+ghost use Rattle.loops.specs.Loops.{tab};
 ghost use Rattle.sheets.specs.Sheet.{row_place};
-ghost use Rattle.join_defs.specs.Columns.{figure_at, figures, count_at, counts, sheet_at, joined_sheet};
-ghost use Rattle.join.specs.Joins.{Raises, Rowed};
+ghost use Rattle.join_defs.specs.Columns.{count_at, counts, sheet_at, joined_sheet};
+ghost use Rattle.join.specs.Joins.{Raises, Rowed, either_at};
 
 use casefile_defs::ROW_FIGURES;
+use loops::fill;
 use sheets::{row_corridor, row_level, row_place};
 
-fn figure_at(x: &[f64], y: &[f64], i: usize) -> f64
-    ensures { result ≡ figure_at x.now y.now i }
+// Place i of the first's column and then the second's.
+fn either_at<T: Copy>(x: &[T], y: &[T], past: T, i: usize) -> T
+    ensures { (d : T) → result ≡ either_at d past x.now y.now i }
 {
     if i < x.len() {
-        return x[i];
+        x[i]
+    } else if i - x.len() < y.len() {
+        y[i - x.len()]
+    } else {
+        past
     }
-    if i - x.len() < y.len() {
-        return y[i - x.len()];
-    }
-    0.0
 }
 
-// The second's are raised by a number.
+pub fn append<T: Copy>(out: &mut [T], x: &[T], y: &[T], past: T)
+    ensures { (d : T) → out.new ≡ tab (length out.old) (either_at d past x.now y.now) }
+{
+    fill(out, |i| either_at(x, y, past, i));
+}
+
+// Place i where the second's are raised by a number.
 fn count_at(x: &[u32], y: &[u32], by: u32, i: usize) -> u32
     requires { Raises by y.now }
     ensures { result ≡ count_at by x.now y.now i }
 {
     if i < x.len() {
-        return x[i];
-    }
-    if i - x.len() < y.len() {
-        return by + y[i - x.len()];
-    }
-    0
-}
-
-pub fn append_figures(out: &mut [f64], x: &[f64], y: &[f64])
-    ensures { out.new ≡ figures (length out.old) x.now y.now }
-{
-    let mut i = 0;
-    while i < out.len() {
-        out[i] = figure_at(x, y, i);
-        i += 1;
+        x[i]
+    } else if i - x.len() < y.len() {
+        by + y[i - x.len()]
+    } else {
+        0
     }
 }
 
-pub fn append_counts(out: &mut [u32], x: &[u32], y: &[u32], by: u32)
+pub fn append_raised(out: &mut [u32], x: &[u32], y: &[u32], by: u32)
     requires { Raises by y.now }
     ensures { out.new ≡ counts (length out.old) by x.now y.now }
 {
-    let mut i = 0;
-    while i < out.len() {
-        out[i] = count_at(x, y, by, i);
-        i += 1;
-    }
+    fill(out, |i| count_at(x, y, by, i));
 }
 
 // Figure j of the row of a corridor at a level.
@@ -86,9 +81,5 @@ pub fn append_sheet(out: &mut [f64], m: usize, o: usize, n: usize, x: &[f64], y:
     requires { Rowed m o n (length x.now) (length y.now) }
     ensures { out.new ≡ joined_sheet (length out.old) m o n x.now y.now }
 {
-    let mut i = 0;
-    while i < out.len() {
-        out[i] = sheet_at(m, o, n, x, y, i);
-        i += 1;
-    }
+    fill(out, |p| sheet_at(m, o, n, x, y, p));
 }

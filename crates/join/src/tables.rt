@@ -1,55 +1,35 @@
 // Filling the joined tables, kind by kind. The second's generators and corridors name buses that stand after n of the first's.
-ghost use Rattle.std.specs.Prelude.{[], ◌≡◌, length};
+ghost use Rattle.std.specs.Prelude.{[], ◌+◌, ◌≡◌, length};
 ghost use Rattle.join_defs.specs.Columns.{figures, counts, joined_sheet};
 ghost use Rattle.join.specs.Joins.{Raises, Rowed};
 
-use crate::columns::{append_counts, append_figures, append_sheet};
+use crate::columns::{append, append_raised, append_sheet};
+use crate::district::District;
 
 // The ladder is the first's.
-fn put_ladder(first_ladder: &[f64], ladder: &mut [f64])
-    ensures { ladder.new ≡ figures (length ladder.old) first_ladder.now [] }
-{
-    append_figures(ladder, first_ladder, &first_ladder[0..0]);
-}
-
 pub fn put_buses(
-    first_ladder: &[f64],
-    first_tier: &[u32],
-    first_reading: &[f64],
-    first_weight: &[f64],
-    second_tier: &[u32],
-    second_reading: &[f64],
-    second_weight: &[f64],
+    first: &District,
+    second: &District,
     ladder: &mut [f64],
     tier: &mut [u32],
     reading: &mut [f64],
     weight: &mut [f64],
 )
-    ensures ladder { ladder.new ≡ figures (length ladder.old) first_ladder.now [] }
-    ensures tier { tier.new ≡ counts (length tier.old) 0 first_tier.now second_tier.now }
-    ensures reading { reading.new ≡ figures (length reading.old) first_reading.now second_reading.now }
-    ensures weight { weight.new ≡ figures (length weight.old) first_weight.now second_weight.now }
+    ensures ladder { ladder.new ≡ figures (length ladder.old) first.now.ladder.now [] }
+    ensures tier { tier.new ≡ counts (length tier.old) 0 first.now.tier.now second.now.tier.now }
+    ensures reading { reading.new ≡ figures (length reading.old) first.now.reading.now second.now.reading.now }
+    ensures weight { weight.new ≡ figures (length weight.old) first.now.weight.now second.now.weight.now }
 {
-    put_ladder(first_ladder, ladder);
-    append_counts(tier, first_tier, second_tier, 0);
-    append_figures(reading, first_reading, second_reading);
-    append_figures(weight, first_weight, second_weight);
+    append(ladder, first.ladder, &[], 0.0);
+    append(tier, first.tier, second.tier, 0);
+    append(reading, first.reading, second.reading, 0.0);
+    append(weight, first.weight, second.weight, 0.0);
 }
 
 pub fn put_generators(
     n: u32,
-    first_bus: &[u32],
-    first_slack: &[u32],
-    first_pmin: &[f64],
-    first_pmax: &[f64],
-    first_c1: &[f64],
-    first_c2: &[f64],
-    second_bus: &[u32],
-    second_slack: &[u32],
-    second_pmin: &[f64],
-    second_pmax: &[f64],
-    second_c1: &[f64],
-    second_c2: &[f64],
+    first: &District,
+    second: &District,
     bus: &mut [u32],
     slack: &mut [u32],
     pmin: &mut [f64],
@@ -57,42 +37,26 @@ pub fn put_generators(
     c1: &mut [f64],
     c2: &mut [f64],
 )
-    requires { Raises n second_bus.now }
-    ensures bus { bus.new ≡ counts (length bus.old) n first_bus.now second_bus.now }
-    ensures slack { slack.new ≡ counts (length slack.old) 0 first_slack.now second_slack.now }
-    ensures pmin { pmin.new ≡ figures (length pmin.old) first_pmin.now second_pmin.now }
-    ensures pmax { pmax.new ≡ figures (length pmax.old) first_pmax.now second_pmax.now }
-    ensures c1 { c1.new ≡ figures (length c1.old) first_c1.now second_c1.now }
-    ensures c2 { c2.new ≡ figures (length c2.old) first_c2.now second_c2.now }
+    requires { Raises n second.now.bus.now }
+    ensures bus { bus.new ≡ counts (length bus.old) n first.now.bus.now second.now.bus.now }
+    ensures slack { slack.new ≡ counts (length slack.old) 0 first.now.slack.now second.now.slack.now }
+    ensures pmin { pmin.new ≡ figures (length pmin.old) first.now.pmin.now second.now.pmin.now }
+    ensures pmax { pmax.new ≡ figures (length pmax.old) first.now.pmax.now second.now.pmax.now }
+    ensures c1 { c1.new ≡ figures (length c1.old) first.now.c1.now second.now.c1.now }
+    ensures c2 { c2.new ≡ figures (length c2.old) first.now.c2.now second.now.c2.now }
 {
-    append_counts(bus, first_bus, second_bus, n);
-    append_counts(slack, first_slack, second_slack, 0);
-    append_figures(pmin, first_pmin, second_pmin);
-    append_figures(pmax, first_pmax, second_pmax);
-    append_figures(c1, first_c1, second_c1);
-    append_figures(c2, first_c2, second_c2);
+    append_raised(bus, first.bus, second.bus, n);
+    append(slack, first.slack, second.slack, 0);
+    append(pmin, first.pmin, second.pmin, 0.0);
+    append(pmax, first.pmax, second.pmax, 0.0);
+    append(c1, first.c1, second.c1, 0.0);
+    append(c2, first.c2, second.c2, 0.0);
 }
 
-// The first has m corridors and the second o, at so many levels.
 pub fn put_corridors(
     n: u32,
-    m: usize,
-    o: usize,
-    levels: usize,
-    first_a: &[u32],
-    first_b: &[u32],
-    first_circuits: &[u32],
-    first_length_km: &[f64],
-    first_share: &[f64],
-    first_cap: &[u32],
-    first_sheet: &[f64],
-    second_a: &[u32],
-    second_b: &[u32],
-    second_circuits: &[u32],
-    second_length_km: &[f64],
-    second_share: &[f64],
-    second_cap: &[u32],
-    second_sheet: &[f64],
+    first: &District,
+    second: &District,
     a: &mut [u32],
     b: &mut [u32],
     circuits: &mut [u32],
@@ -101,22 +65,30 @@ pub fn put_corridors(
     cap: &mut [u32],
     sheet: &mut [f64],
 )
-    requires raises { Raises n second_a.now }
-    requires raises_2 { Raises n second_b.now }
-    requires rowed { Rowed m o levels (length first_sheet.now) (length second_sheet.now) }
-    ensures a { a.new ≡ counts (length a.old) n first_a.now second_a.now }
-    ensures b { b.new ≡ counts (length b.old) n first_b.now second_b.now }
-    ensures circuits { circuits.new ≡ counts (length circuits.old) 0 first_circuits.now second_circuits.now }
-    ensures length_km { length_km.new ≡ figures (length length_km.old) first_length_km.now second_length_km.now }
-    ensures share { share.new ≡ figures (length share.old) first_share.now second_share.now }
-    ensures cap { cap.new ≡ counts (length cap.old) 0 first_cap.now second_cap.now }
-    ensures sheet { sheet.new ≡ joined_sheet (length sheet.old) m o levels first_sheet.now second_sheet.now }
+    requires raises { Raises n second.now.a.now }
+    requires raises_2 { Raises n second.now.b.now }
+    requires rowed { Rowed first.now.header.corridors second.now.header.corridors (first.now.header.above + first.now.header.requested) (length first.now.sheet.now) (length second.now.sheet.now) }
+    ensures a { a.new ≡ counts (length a.old) n first.now.a.now second.now.a.now }
+    ensures b { b.new ≡ counts (length b.old) n first.now.b.now second.now.b.now }
+    ensures circuits { circuits.new ≡ counts (length circuits.old) 0 first.now.circuits.now second.now.circuits.now }
+    ensures length_km { length_km.new ≡ figures (length length_km.old) first.now.length_km.now second.now.length_km.now }
+    ensures share { share.new ≡ figures (length share.old) first.now.share.now second.now.share.now }
+    ensures cap { cap.new ≡ counts (length cap.old) 0 first.now.cap.now second.now.cap.now }
+    ensures sheet { sheet.new ≡ joined_sheet (length sheet.old) first.now.header.corridors second.now.header.corridors (first.now.header.above + first.now.header.requested) first.now.sheet.now second.now.sheet.now }
 {
-    append_counts(a, first_a, second_a, n);
-    append_counts(b, first_b, second_b, n);
-    append_counts(circuits, first_circuits, second_circuits, 0);
-    append_figures(length_km, first_length_km, second_length_km);
-    append_figures(share, first_share, second_share);
-    append_counts(cap, first_cap, second_cap, 0);
-    append_sheet(sheet, m, o, levels, first_sheet, second_sheet);
+    let levels = first.header.above + first.header.requested;
+    append_raised(a, first.a, second.a, n);
+    append_raised(b, first.b, second.b, n);
+    append(circuits, first.circuits, second.circuits, 0);
+    append(length_km, first.length_km, second.length_km, 0.0);
+    append(share, first.share, second.share, 0.0);
+    append(cap, first.cap, second.cap, 0);
+    append_sheet(
+        sheet,
+        first.header.corridors,
+        second.header.corridors,
+        levels,
+        first.sheet,
+        second.sheet,
+    );
 }

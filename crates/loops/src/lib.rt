@@ -3,8 +3,8 @@
 
 mod figures;
 
-ghost use Rattle.std.specs.Prelude.{◌≡◌, ◌<◌, ℕ, Bool};
-ghost use Rattle.loops.specs.Loops.{fault};
+ghost use Rattle.std.specs.Prelude.{◌≡◌, ◌<◌, ℕ, Bool, cond, ltb, length};
+ghost use Rattle.loops.specs.Loops.{fault, tab};
 
 pub use figures::{infinity, is_finite};
 
@@ -19,4 +19,24 @@ pub fn first_fault<F: Fn(usize) -> bool>(count: usize, sound: F) -> Option<usize
         }
     }
     None
+}
+
+// Fills a slice: each place with what a function gives at its index.
+pub fn fill<T: Copy, F: Fn(usize) -> T>(out: &mut [T], given: F)
+    requires { (i : ℕ) → i < length out.old → F.pre given i }
+    ensures { (f : ℕ → T) → ((i : ℕ) (r : T) → i < length out.old → F.post given i r → r ≡ f i) → out.new ≡ tab (length out.old) f }
+{
+    for i in 0..out.len() {
+        out[i] = given(i);
+    }
+}
+
+// The same of the first `count` places, with one value in the rest.
+pub fn fill_first<T: Copy, F: Fn(usize) -> T>(out: &mut [T], count: usize, rest: T, given: F)
+    requires { (i : ℕ) → i < count → F.pre given i }
+    ensures { (f : ℕ → T) → ((i : ℕ) (r : T) → i < count → F.post given i r → r ≡ f i) → out.new ≡ tab (length out.old) (λ i. cond (ltb i count) (f i) rest) }
+{
+    for i in 0..out.len() {
+        out[i] = if i < count { given(i) } else { rest };
+    }
 }

@@ -1,5 +1,4 @@
 -- Laws of the small networks' tables.
 pub mod Shapes
-pub mod Picks
 pub mod Filled
 pub mod Whole

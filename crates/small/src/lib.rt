@@ -5,12 +5,11 @@ ghost use Rattle.std.specs.Prelude.{◌≡◌};
 ghost use Rattle.casefile_defs.specs.Tables.{places_of};
 ghost use Rattle.small.specs.Tables.{made, small_network};
 
-use casefile_defs::{Header, MOST_BUSES, MOST_CORRIDORS, MOST_GENERATORS, MOST_LEVELS, MOST_SHEET};
+use casefile_defs::{Header, tables_sized};
 use refusal::Refusal;
 
 mod columns;
 mod order;
-mod pick;
 mod tables;
 
 // How many networks there are.
@@ -39,23 +38,25 @@ pub fn small_network(
 ) -> Result<Header, Refusal>
     ensures { made result (places_of ladder.new tier.new reading.new weight.new generator_bus.new slack.new pmin.new pmax.new c1.new c2.new a.new b.new circuits.new length_km.new share.new cap.new sheet.new) ≡ small_network place (places_of ladder.old tier.old reading.old weight.old generator_bus.old slack.old pmin.old pmax.old c1.old c2.old a.old b.old circuits.old length_km.old share.old cap.old sheet.old) }
 {
-    let sized = (ladder.len() == MOST_LEVELS)
-        & (tier.len() == MOST_BUSES)
-        & (reading.len() == MOST_BUSES)
-        & (weight.len() == MOST_BUSES)
-        & (generator_bus.len() == MOST_GENERATORS)
-        & (slack.len() == MOST_GENERATORS)
-        & (pmin.len() == MOST_GENERATORS)
-        & (pmax.len() == MOST_GENERATORS)
-        & (c1.len() == MOST_GENERATORS)
-        & (c2.len() == MOST_GENERATORS)
-        & (a.len() == MOST_CORRIDORS)
-        & (b.len() == MOST_CORRIDORS)
-        & (circuits.len() == MOST_CORRIDORS)
-        & (length_km.len() == MOST_CORRIDORS)
-        & (share.len() == MOST_CORRIDORS)
-        & (cap.len() == MOST_CORRIDORS)
-        & (sheet.len() == MOST_SHEET);
+    let sized = tables_sized(
+        ladder,
+        tier,
+        reading,
+        weight,
+        generator_bus,
+        slack,
+        pmin,
+        pmax,
+        c1,
+        c2,
+        a,
+        b,
+        circuits,
+        length_km,
+        share,
+        cap,
+        sheet,
+    );
     if !sized {
         return Err(Refusal::Length);
     }

@@ -6,9 +6,8 @@ ghost use Rattle.casefile_defs.specs.Bounds.{row_figures};
 ghost use Rattle.small.specs.Tables.{kv, ten, twenty, quarter};
 ghost use Rattle.small.specs.Columns.{counts, figures, sheet_at, corridor_count, last_pair, first_pair, second_pair, lower_end, upper_end, lowest_load, header_for};
 
-use crate::columns::{fill_counts, fill_figures, fill_rows};
+use crate::columns::{fill_among, fill_rows};
 use crate::order::Shape;
-use crate::pick::{pick_count, pick_figure, pick_index};
 use casefile_defs::{Header, ROW_FIGURES};
 use mode::PlanMode;
 
@@ -34,7 +33,7 @@ const LAST_PAIR: usize = 2;
 fn lowest_load(n: usize) -> f64
     ensures { result ≡ lowest_load n }
 {
-    pick_figure(n % 2 == 1, LOAD, 0.0)
+    if n % 2 == 1 { LOAD } else { 0.0 }
 }
 
 fn corridor_count(corridors: usize) -> usize
@@ -48,27 +47,32 @@ fn corridor_count(corridors: usize) -> usize
 fn first_pair(corridors: usize) -> usize
     ensures { result ≡ first_pair corridors }
 {
-    let later = pick_index(corridors / 2 % 2 == 1, 1, LAST_PAIR);
-    pick_index(corridors % 2 == 1, 0, later)
+    if corridors % 2 == 1 {
+        0
+    } else if corridors / 2 % 2 == 1 {
+        1
+    } else {
+        LAST_PAIR
+    }
 }
 
 fn second_pair(corridors: usize) -> usize
     ensures { result ≡ second_pair corridors }
 {
-    pick_index(corridors % 4 == 3, 1, LAST_PAIR)
+    if corridors % 4 == 3 { 1 } else { LAST_PAIR }
 }
 
 // The two buses of a pair.
 fn lower_end(pair: usize) -> u32
     ensures { result ≡ lower_end pair }
 {
-    pick_count(pair < LAST_PAIR, 0, 1)
+    if pair < LAST_PAIR { 0 } else { 1 }
 }
 
 fn upper_end(pair: usize) -> u32
     ensures { result ≡ upper_end pair }
 {
-    pick_count(pair == 0, 1, 2)
+    if pair == 0 { 1 } else { 2 }
 }
 
 pub fn header_of(s: Shape) -> Header
@@ -104,10 +108,10 @@ pub fn put_buses(
     let first = lowest_load(loads);
     let second = lowest_load(loads / 2);
     let third = lowest_load(loads / 2 / 2);
-    fill_figures(ladder, 1, KV, KV, KV);
-    fill_counts(tier, n, 0, 0, 0);
-    fill_figures(reading, n, first, second, third);
-    fill_figures(weight, n, 1.0, 1.0, 1.0);
+    fill_among(ladder, 1, KV, KV, KV, 0.0);
+    fill_among(tier, n, 0, 0, 0, 0);
+    fill_among(reading, n, first, second, third, 0.0);
+    fill_among(weight, n, 1.0, 1.0, 1.0, 0.0);
 }
 
 // The slack generator at bus 0.
@@ -126,12 +130,12 @@ pub fn put_generator(
     ensures c1 { c1.new ≡ figures (length c1.old) 1 twenty twenty twenty }
     ensures c2 { c2.new ≡ figures (length c2.old) 1 quarter quarter quarter }
 {
-    fill_counts(bus, 1, 0, 0, 0);
-    fill_counts(slack, 1, 1, 1, 1);
-    fill_figures(pmin, 1, 0.0, 0.0, 0.0);
-    fill_figures(pmax, 1, PMAX, PMAX, PMAX);
-    fill_figures(c1, 1, C1, C1, C1);
-    fill_figures(c2, 1, C2, C2, C2);
+    fill_among(bus, 1, 0, 0, 0, 0);
+    fill_among(slack, 1, 1, 1, 1, 0);
+    fill_among(pmin, 1, 0.0, 0.0, 0.0, 0.0);
+    fill_among(pmax, 1, PMAX, PMAX, PMAX, 0.0);
+    fill_among(c1, 1, C1, C1, C1, 0.0);
+    fill_among(c2, 1, C2, C2, C2, 0.0);
 }
 
 // The corridors' ends.
@@ -141,19 +145,21 @@ fn put_ends(corridors: usize, m: usize, a: &mut [u32], b: &mut [u32])
 {
     let first = first_pair(corridors);
     let second = second_pair(corridors);
-    fill_counts(
+    fill_among(
         a,
         m,
         lower_end(first),
         lower_end(second),
         lower_end(LAST_PAIR),
+        0,
     );
-    fill_counts(
+    fill_among(
         b,
         m,
         upper_end(first),
         upper_end(second),
         upper_end(LAST_PAIR),
+        0,
     );
 }
 
@@ -179,9 +185,9 @@ pub fn put_corridors(
     let corridors = s.corridors;
     let m = corridor_count(corridors);
     put_ends(corridors, m, a, b);
-    fill_counts(circuits, m, 1, 1, 1);
-    fill_figures(length_km, m, LENGTH, LENGTH, LENGTH);
-    fill_figures(share, m, 1.0, 1.0, 1.0);
-    fill_counts(cap, m, 0, 0, 0);
+    fill_among(circuits, m, 1, 1, 1, 0);
+    fill_among(length_km, m, LENGTH, LENGTH, LENGTH, 0.0);
+    fill_among(share, m, 1.0, 1.0, 1.0, 0.0);
+    fill_among(cap, m, 0, 0, 0, 0);
     fill_rows(sheet, m * ROW_FIGURES);
 }

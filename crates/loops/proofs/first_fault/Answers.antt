@@ -1,4 +1,4 @@
-use Rattle.std.proofs.Common.{sym, arith, rules, ◌∙◌, ◌≡◌, false, true}
+use Rattle.std.proofs.Common.{sym, arith, ◌∙◌}
 use Rattle.loops.proofs.Scan.{fault_at, fault_none}
 use Rattle.loops.proofs.first_fault.Goals as goal
 

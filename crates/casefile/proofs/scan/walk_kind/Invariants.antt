@@ -1,12 +1,8 @@
--- The measure is the number of records left.
-use Prim.Native.Nat.{◌-◌}
-use mathlib.Core.Path.{◌≡◌}
-use Rattle.loops.specs.Loops.{iter}
-use Rattle.casefile_defs.specs.Reading.{stepped, walked}
+-- What is left of the walk comes to what the whole does.
+use Rattle.std.proofs.Common.{◌≡◌}
+use Rattle.std.specs.Prelude.{Ok}
+use Rattle.casefile_defs.specs.Reading.{walked}
 use Rattle.casefile.proofs.scan.walk_kind.Given as goal
 
 abbrev pub invariant-loop-r : goal.invariant-loop-r
-invariant-loop-r l = iter (stepped l.kind l.weighed l.file) (l.end - l.r) l.r l.at ≡ walked l.kind l.weighed l.start l.end l.file l.initial.at
-
-abbrev pub decreases-loop-r : goal.decreases-loop-r
-decreases-loop-r l = l.end - l.r
+invariant-loop-r l = walked l.kind l.weighed l.r l.end l.file (Ok l.at) ≡ walked l.kind l.weighed l.start l.end l.file (Ok l.from)

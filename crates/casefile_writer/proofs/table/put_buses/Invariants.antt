@@ -1,6 +1,4 @@
-use Prim.Native.Nat.{◌+◌, ◌-◌, ◌*◌, ◌≤◌}
-use mathlib.Core.Path.{◌≡◌}
-use lib.ListN.{length}
+use Prim.Native.Nat.{◌+◌, ◌*◌, ◌≤◌}
 use Rattle.casefile_defs.specs.Layout.{size_of}
 use Rattle.casefile_defs.specs.declared.Kind.TheVariants.{WeighedBus}
 use Rattle.casefile_theorems.specs.Writer.{table_bytes}
@@ -9,8 +7,4 @@ use Rattle.casefile_writer.specs.Words.{only, bus_kind, bus_words}
 use Rattle.casefile_writer.proofs.table.put_buses.Given as goal
 
 abbrev pub invariant-loop-i : goal.invariant-loop-i
-invariant-loop-i l =
-    (l.i ≤ l.count) × (length l.out ≡ length l.initial.out) × (l.used ≤ l.len + l.i * size_of WeighedBus) × Put l.initial.out l.len (table_bytes (only (bus_kind l.weighed)) l.i (bus_words l.tier l.reading l.weight)) l.out l.used
-
-abbrev pub decreases-loop-i : goal.decreases-loop-i
-decreases-loop-i l = l.count - l.i
+invariant-loop-i l = record { used : l.used ≤ l.len + l.i * size_of WeighedBus; put : Put l.initial.out l.len (table_bytes (only (bus_kind l.weighed)) l.i (bus_words l.tier l.reading l.weight)) l.out l.used }

@@ -1,6 +1,4 @@
-use Prim.Native.Nat.{◌+◌, ◌-◌, ◌*◌, ◌≤◌}
-use mathlib.Core.Path.{◌≡◌}
-use lib.ListN.{length}
+use Prim.Native.Nat.{◌+◌, ◌*◌, ◌≤◌}
 use Rattle.casefile_defs.specs.Layout.{size_of}
 use Rattle.casefile_defs.specs.declared.Kind.TheVariants.{CappedCorridor}
 use Rattle.casefile_theorems.specs.Writer.{table_bytes}
@@ -9,8 +7,4 @@ use Rattle.casefile_writer.specs.Words.{corridor_kinds, corridor_words}
 use Rattle.casefile_writer.proofs.table.put_corridors.Given as goal
 
 abbrev pub invariant-loop-i : goal.invariant-loop-i
-invariant-loop-i l =
-    (l.i ≤ l.count) × (length l.out ≡ length l.initial.out) × (l.used ≤ l.len + l.i * size_of CappedCorridor) × Put l.initial.out l.len (table_bytes (corridor_kinds l.cap) l.i (corridor_words l.a l.b l.circuits l.length_km l.share l.cap)) l.out l.used
-
-abbrev pub decreases-loop-i : goal.decreases-loop-i
-decreases-loop-i l = l.count - l.i
+invariant-loop-i l = record { used : l.used ≤ l.len + l.i * size_of CappedCorridor; put : Put l.initial.out l.len (table_bytes (corridor_kinds l.cap) l.i (corridor_words l.a l.b l.circuits l.length_km l.share l.cap)) l.out l.used }

@@ -1,4 +1,5 @@
-// What an iteration does to the rows of the work slice w, each in one pass.
+// What an iteration does to the rows of the work slice w, each in one pass. The caller lends the slice (the C interface), so each call
+// asks for its length.
 ghost use Rattle.std.specs.Prelude.{◌≡◌, ◌*◌, length};
 ghost use Rattle.loops.specs.Parts.{rows};
 ghost use Rattle.angles_defs.specs.Network.{share_at};

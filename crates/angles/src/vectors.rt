@@ -26,7 +26,7 @@ pub fn dot(w: &[f64], n: usize, u: usize, v: usize) -> f64
     sum
 }
 
-// d = z
+// d = z, one place at a time: both are rows of one slice, and a slice here has no `copy_within`.
 pub fn copy(w: &mut [f64], n: usize, z: usize, d: usize)
     requires { (z + n ≤ length w.old) × (d + n ≤ length w.old) × Apart z d n }
     ensures { w.new ≡ put w.old d (part z n w.old) }

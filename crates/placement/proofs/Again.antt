@@ -16,7 +16,7 @@ use lib.Ieee.{Float, lt, le}
 use Rattle.loops.specs.Figures.{at, plus, nought, infinity}
 use Rattle.loops.proofs.Sums.{unsigned, plus_unsigned, nought_least, infinity_above, le_refl, lt_alike}
 use Rattle.placement_defs.specs.Request.{Net}
-use Rattle.placement_defs.specs.Distance.{Network, Labels, labels, rest, candidate, settled, reached, seeded, searched, distances, distances_from, nobody}
+use Rattle.placement_defs.specs.Distance.{Network, Labels, labels, rest, candidate, settled, reached, seeded, searched, distances, distances_from, blank}
 use Rattle.placement.specs.Blocks.{Numbers}
 use Rattle.placement_defs.specs.Support.{support_km, farther, farthest_to, if_far, next_by, next_of}
 use Rattle.placement_defs.specs.Chain.{Chain, here, along, Source}
@@ -196,10 +196,9 @@ pub record Known (w : Network) (sources : List ℕ) (dist : List Float) (from : 
   pub ready : Ready w sources (labels mark dist from)
 
 module _ (w : Network) (net : Net w.n w.m w.a w.b w.km) (sources : List ℕ) (mark : List ℕ) (dist : List Float) (from : List ℕ) where
-  pub known_first : (z : Float) → length sources ≡ 256 → z ≡ infinity
-      → labels mark dist from ≡ distances_from w sources (labels (replicate 256 rest) (replicate 256 z) (replicate 256 nobody)) → Known w sources dist from
-  known_first z long e q =
-      record { long = long; mark = mark; ready = subst (λ (s : Labels). Ready w sources s) (sym (blank_start w sources z (labels mark dist from) e q)) (ends w net sources) }
+  pub known_first : (s₀ : Labels) → length sources ≡ 256 → s₀ ≡ blank → labels mark dist from ≡ distances_from w sources s₀ → Known w sources dist from
+  known_first s₀ long e q =
+      record { long = long; mark = mark; ready = subst (λ (s : Labels). Ready w sources s) (sym (blank_start w sources s₀ (labels mark dist from) e q)) (ends w net sources) }
 
   pub known_next : (i : ℕ) (dist₀ : List Float) (from₀ : List ℕ) → i < w.n → Known w sources dist₀ from₀
       → labels mark dist from ≡ searched w (seeded i 1 (labels (replicate 256 rest) dist₀ from₀)) → Known w (set sources i 1) dist from

@@ -12,14 +12,14 @@ use native.Mathlib.Omega.{arith}
 use native.Mathlib.Numerals.{add-one}
 use borrow.Author.Tests.{eqb-true, eqb-false, ltb-true, ltb-false}
 use lib.Dec.{eqb, ltb}
-use lib.ListN.{length, get_or, set, replicate, length-set, length-replicate, get_or-replicate}
+use lib.ListN.{length, get_or, set, length-set, length-replicate, get_or-replicate}
 use lib.Seq.{get_or-set_same, get_or-set_other}
 use lib.Ieee.{Float, nan, of_bits, lt, le}
 use Rattle.loops.specs.Figures.{at, nought, infinity}
 use Rattle.loops.specs.Loops.{iter}
 use Rattle.loops.proofs.Loops.{iter_carries}
 use Rattle.loops.proofs.Order.{le_of_not_lt, le_of_lt, le_self, left_real, right_real, le_through, lt_not_le}
-use Rattle.placement_defs.specs.Distance.{Labels, rest, candidate, settled, nearer, nearest_to, reached, seeded, seed}
+use Rattle.placement_defs.specs.Distance.{Labels, blank, rest, candidate, settled, nearer, nearest_to, reached, seeded, seed}
 use Rattle.std.specs.Prelude.{Option, Some, None}
 use Rattle.placement.specs.Choices.{number}
 use Rattle.placement.proofs.Tests.{some_below}
@@ -431,13 +431,14 @@ numbers_sources n sources s t few r e =
     (iter_carries (seed sources) (λ i u. Numbers n u.mark u.dist) n (λ i u h q. numbers_seeded n i (get_or sources i 0) u few h q) n 0 s (omega arith) r)
 
 -- to start with, all distances are infinite
-pub numbers_blank : (n : ℕ) (z : Float) → n ≤ 256 → z ≡ infinity → Numbers n (replicate 256 rest) (replicate 256 z)
-numbers_blank n z few e =
-    record {
+pub numbers_blank : (n : ℕ) (s : Labels) → n ≤ 256 → s ≡ blank → Numbers n s.mark s.dist
+numbers_blank n s few e =
+    subst (λ (u : Labels). Numbers n u.mark u.dist) (sym e)
+    (record {
       marks = length-replicate 256 rest;
-      dists = length-replicate 256 z;
-      real = λ j h. subst (λ (x : Float). le x x ≡ true) (sym (get_or-replicate 256 j z nan (omega arith) ∙ e)) infinity_self;
-    }
+      dists = length-replicate 256 infinity;
+      real = λ j h. subst (λ (x : Float). le x x ≡ true) (sym (get_or-replicate 256 j infinity nan (omega arith))) infinity_self;
+    })
 
 -- ---- step 2: the blocks in turn
 module _ (n : ℕ) (mark : List ℕ) (dist : List Float) (nearest : List (Option ℕ)) (r : Front n mark dist nearest) where

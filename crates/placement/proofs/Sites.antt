@@ -8,10 +8,10 @@ use lib.ListN.{length, get_or, set, replicate, length-set}
 use lib.Ieee.{Float}
 use Rattle.loops.specs.Loops.{iter}
 use Rattle.loops.proofs.Loops.{iter_keeps}
-use Rattle.loops.specs.Figures.{infinity, nought}
+use Rattle.loops.specs.Figures.{nought}
 use native.Mathlib.Omega.{arith}
 use Rattle.placement_defs.specs.Request.{Request, Units, check_of}
-use Rattle.placement_defs.specs.Distance.{Labels, labels, Network, rest, nobody, distances, distances_from}
+use Rattle.placement_defs.specs.Distance.{Labels, blank, Network, distances, distances_from}
 use Rattle.placement_defs.specs.Support.{next_of, Sites, sites, join, join_next, joined, size_at, sized, flag, flagged, sites_by, placed, Outcome, outcome, network_of, answer_to, placement}
 use Rattle.placement.specs.Stages.{Joined, Placing}
 use Rattle.placement.proofs.Turns.{blank_start}
@@ -40,12 +40,11 @@ pub sized_none : (w : Network) (loads : List Float) (sources buses : List ℕ) (
 unfolding sized iter
 sized_none w loads sources buses count mvars e = rw e
 
-pub sized_is : (w : Network) (loads : List Float) (sources buses mark from : List ℕ) (dist : List Float) (z : Float) (count : ℕ) (mvars₀ mvars : List Float) → z ≡ infinity
-    → labels mark dist from ≡ distances_from w sources (labels (replicate 256 rest) (replicate 256 z) (replicate 256 nobody))
-    → mvars ≡ iter (size_at loads from w.n buses) count 0 mvars₀ → mvars ≡ sized w loads sources buses count mvars₀
+pub sized_is : (w : Network) (loads : List Float) (sources buses : List ℕ) (s₀ s : Labels) (count : ℕ) (mvars₀ mvars : List Float) → s₀ ≡ blank → s ≡ distances_from w sources s₀
+    → mvars ≡ iter (size_at loads s.from w.n buses) count 0 mvars₀ → mvars ≡ sized w loads sources buses count mvars₀
 unfolding sized
-sized_is w loads sources buses mark from dist z count mvars₀ mvars e q f =
-    let d : from ≡ (distances w sources).from = ap (λ (s : Labels). s.from) (blank_start w sources z (labels mark dist from) e q) in
+sized_is w loads sources buses s₀ s count mvars₀ mvars e q f =
+    let d : s.from ≡ (distances w sources).from = ap (λ (u : Labels). u.from) (blank_start w sources s₀ s e q) in
     f ∙ ap (λ (l : List ℕ). iter (size_at loads l w.n buses) count 0 mvars₀) d
 
 -- ---- the whole

@@ -3,12 +3,9 @@
 use mathlib.Core.Path.{◌≡◌, ap, ◌∙◌}
 use Prim.Native.Nat.{ℕ, ◌<◌, ◌≤◌}
 use mathlib.Core.List.{List}
-use lib.ListN.{replicate}
-use lib.Ieee.{Float}
-use Rattle.loops.specs.Figures.{infinity}
 use Rattle.loops.specs.Loops.{iter}
 use borrow.Author.Tests.{lt-ltb, le-ltb}
-use Rattle.placement_defs.specs.Distance.{Labels, labels, Network, rest, nobody, distances, seed, nearest_to, spread, turn, searched, distances_from}
+use Rattle.placement_defs.specs.Distance.{Labels, Network, blank, distances, seed, nearest_to, spread, turn, searched, distances_from}
 
 module _ (w : Network) (s : Labels) (i : ℕ) where
   pub turn_idle : i ≡ nearest_to w.n s.mark s.dist w.n → w.n ≤ i → (k : ℕ) → turn w k s ≡ s
@@ -31,6 +28,5 @@ unfolding distances_from
 distances_from_lem w sources s t x e q = searched_from w (iter (seed sources) w.n 0 s) t x e q
 
 -- the labels that the code begins with are blank
-pub blank_start : (w : Network) (sources : List ℕ) (z : Float) (s : Labels) → z ≡ infinity
-    → s ≡ distances_from w sources (labels (replicate 256 rest) (replicate 256 z) (replicate 256 nobody)) → s ≡ distances w sources
-blank_start w sources z s e q = q ∙ ap (λ (x : Float). distances_from w sources (labels (replicate 256 rest) (replicate 256 x) (replicate 256 nobody))) e
+pub blank_start : (w : Network) (sources : List ℕ) (s₀ s : Labels) → s₀ ≡ blank → s ≡ distances_from w sources s₀ → s ≡ distances w sources
+blank_start w sources s₀ s e q = q ∙ ap (λ (u : Labels). distances_from w sources u) e

@@ -9,7 +9,7 @@ ghost use Rattle.placement.specs.Views.{network_in, loads_in};
 
 use crate::MOST_BUSES;
 use crate::distance::{distance_to_sources, distance_with_source};
-use crate::labels::{Labels, NOBODY, REST};
+use crate::labels::{Labels, REST};
 use crate::network::Network;
 
 // A load farther than this from every source gets a condenser: reactive power does not travel far, and voltage control areas span tens to a
@@ -72,11 +72,7 @@ fn join_condensers(network: &Network, sources: &mut [u16; MOST_BUSES], buses: &m
     requires { (length sources.old ≡ most_buses) × (length buses.old ≡ network.now.n) }
     ensures { Joined (network_in network.now) (loads_in network.now) sources.old buses.old sources.new buses.new result }
 {
-    let mut labels = Labels {
-        mark: [REST; MOST_BUSES],
-        dist: [loops::infinity(); MOST_BUSES],
-        from: [NOBODY; MOST_BUSES],
-    };
+    let mut labels = Labels::blank();
     distance_to_sources(network, sources, &mut labels);
     for count in 0..network.n {
         let Some(i) = next_condenser(network, &labels.dist) else {
@@ -134,18 +130,14 @@ fn size_condensers(
     if count == 0 {
         return;
     }
-    let mut labels = Labels {
-        mark: [REST; MOST_BUSES],
-        dist: [loops::infinity(); MOST_BUSES],
-        from: [NOBODY; MOST_BUSES],
-    };
+    let mut labels = Labels::blank();
     distance_to_sources(network, sources, &mut labels);
     for k in 0..count {
         mvars[k] = mvar_of(network, &labels.from, buses[k]);
     }
 }
 
-// Flags the generators' buses.
+// Flags the generators' buses, by the definition's 1.
 fn flag_generators(generators: &[u32], sources: &mut [u16; MOST_BUSES])
     requires { Units most_buses generators.now }
     ensures { sources.new ≡ flagged generators.now sources.old }

@@ -1,4 +1,7 @@
 // What a search knows of each bus.
+ghost use Rattle.std.specs.Prelude.{◌≡◌};
+ghost use Rattle.placement_defs.specs.Distance.{labels, blank};
+
 use crate::MOST_BUSES;
 
 // The definition numbers the three sets, and the source of a bus that none reaches, so the arrays are its lists as they stand.
@@ -16,4 +19,17 @@ pub struct Labels {
     pub mark: [u16; MOST_BUSES],
     pub dist: [f64; MOST_BUSES],
     pub from: [u16; MOST_BUSES],
+}
+
+impl Labels {
+    // To start with, no bus is reached.
+    pub fn blank() -> Labels
+        ensures { labels result.mark result.dist result.from ≡ blank }
+    {
+        Labels {
+            mark: [REST; MOST_BUSES],
+            dist: [loops::infinity(); MOST_BUSES],
+            from: [NOBODY; MOST_BUSES],
+        }
+    }
 }

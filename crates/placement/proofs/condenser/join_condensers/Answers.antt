@@ -9,10 +9,10 @@ use Rattle.placement.proofs.Ranges.{numbers_blank}
 use Rattle.placement.proofs.condenser.join_condensers.Goals as goal
 
 pub distance_to_sources-requires : goal.distance_to_sources-requires
-distance_to_sources-requires c = numbers_blank _ _ c.args.network.now.net.few c.infinity.ensures
+distance_to_sources-requires c = numbers_blank _ _ c.args.network.now.net.few c.blank-labels.ensures
 
 pub loop-count-init : goal.loop-count-init
-loop-count-init c = (refl, iter_all _ _ _, known_first _ c.args.network.now.net _ _ _ _ _ c.requires.0 c.infinity.ensures c.distance_to_sources.ensures)
+loop-count-init c = (refl, iter_all _ _ _, known_first _ c.args.network.now.net _ _ _ _ _ c.requires.0 c.blank-labels.ensures c.distance_to_sources.ensures)
 
 pub returns-in_default : goal.returns-in_default
 returns-in_default c =

@@ -1,5 +1,6 @@
 use lib.Ieee.{Float}
 use Rattle.placement.proofs.Ranges.{numbers_blank}
+use Rattle.placement.specs.Views.{labels_in}
 use Rattle.placement.proofs.Sites.{sized_none, sized_is}
 use Rattle.loops.proofs.Loops.{iter_all, iter_more, iter_end}
 use mathlib.Core.Path.{refl, sym, ap, ◌∙◌}
@@ -11,7 +12,7 @@ pub returns-then-count-eq0 : goal.returns-then-count-eq0
 returns-then-count-eq0 c = sized_none _ _ _ _ _ _ c.if-count-eq0.true
 
 pub distance_to_sources-requires : goal.distance_to_sources-requires
-distance_to_sources-requires c = numbers_blank _ _ c.args.network.now.net.few c.infinity.ensures
+distance_to_sources-requires c = numbers_blank _ _ c.args.network.now.net.few c.blank-labels.ensures
 
 pub loop-k-init : goal.loop-k-init
 loop-k-init c = (refl, iter_all _ _ _)
@@ -23,4 +24,4 @@ loop-k-preserved c =
 
 pub returns : goal.returns
 returns c =
-    sized_is _ _ _ _ _ _ _ _ _ _ _ c.infinity.ensures c.distance_to_sources.ensures (sym (iter_end _ (omega arith)) ∙ c.loop-k.invariant.1)
+    sized_is _ _ _ _ _ (labels_in c.distance_to_sources.new.labels) _ _ _ c.blank-labels.ensures c.distance_to_sources.ensures (sym (iter_end _ (omega arith)) ∙ c.loop-k.invariant.1)

@@ -22,8 +22,8 @@ use Rattle.sheets.specs.Sheet.{row_figures, row_place}
 use Rattle.plan_defs.specs.Case.{Case, row_from, rows_of}
 use Rattle.plan_defs.specs.Accept.{lengths_ok, counts_ok, tables_fault, case_fault}
 use Rattle.plan_defs.proofs.Rows.{row_from_lem}
-use Rattle.plan_defs.proofs.Accepted.{Columns, columns_of_lem}
-use Rattle.acceptance.specs.Check.{Tables, tabled, generator_sizes, corridor_sizes, answer_of, check_of}
+use Rattle.plan_defs.proofs.Accepted.{columns_of_lem}
+use Rattle.acceptance.specs.Check.{Tables, tabled, Columns, generator_sizes, corridor_sizes, answer_of, check_of}
 use Rattle.std.specs.Prelude.{Err, Result}
 
 -- ---- tests that agree
@@ -92,8 +92,10 @@ module _ (t : Tables) where
       lengths : lengths_ok given ≡ true
       lengths = sym ex ∙ (both x fits passed).0
 
-      pub columns : Columns given
-      columns = columns_of_lem given lengths
+      pub columns : Columns t
+      columns =
+          let k = columns_of_lem given lengths in
+          record { ladder = k.ladder; tier = k.tier; reading = k.reading; weight = k.weight; bus = k.bus; slack = k.slack; pmin = k.pmin; pmax = k.pmax; c1 = k.c1; c2 = k.c2; a = k.a; b = k.b; km = k.km; share = k.share; cap = k.cap; sheet = k.sheet; initial = k.circuits }
 
       pub answered : (r : Result (Unit {0}) Refusal) → r ≡ answer true true (counts_ok given target) → r ≡ check_of fits given target
       unfolding check_of case_fault

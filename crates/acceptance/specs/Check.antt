@@ -1,9 +1,10 @@
 -- What the contracts cite: document 01's refusals 1 to 7 by the columns that each test reads, and all of them in order.
-use Rattle.std.specs.Prelude.{ℕ, Bool, cond, ◌&&◌, List, eqb, length, Float, Err, Result}
+use Rattle.std.specs.Prelude.{ℕ, Bool, cond, ◌&&◌, List, eqb, length, Float, Err, Result, ◌+◌, ◌*◌, ◌≡◌}
 use Rattle.std.proofs.Math.Option.{Option, none, some}
 use Rattle.refusal.specs.declared.Refusal.{Refusal}
 use Rattle.refusal.specs.declared.Refusal.TheVariants.{Length}
 use Rattle.mode.specs.declared.PlanMode.TheVariants.{Observe}
+use Rattle.sheets.specs.Sheet.{row_figures}
 use Rattle.plan_defs.specs.Case.{Case, surveyed}
 use Rattle.plan_defs.specs.Accept.{case_fault}
 use Rattle.refusal.specs.Reply.{no_refusal}
@@ -46,6 +47,26 @@ tables_of buses corridors generators above requested ladder tier reading weight 
 -- the case of them
 abbrev pub tabled : Tables → Case
 tabled t = tables_for t.buses t.corridors t.generators t.above t.requested t.ladder t.tier t.reading t.weight t.bus t.slack t.pmin t.pmax t.c1 t.c2 t.a t.b t.initial t.km t.share t.cap t.sheet
+
+-- each column has its length
+pub record Columns (t : Tables) : Type 0 where
+  pub ladder : length t.ladder ≡ t.above + t.requested
+  pub tier : length t.tier ≡ t.buses
+  pub reading : length t.reading ≡ t.buses
+  pub weight : length t.weight ≡ t.buses
+  pub bus : length t.bus ≡ t.generators
+  pub slack : length t.slack ≡ t.generators
+  pub pmin : length t.pmin ≡ t.generators
+  pub pmax : length t.pmax ≡ t.generators
+  pub c1 : length t.c1 ≡ t.generators
+  pub c2 : length t.c2 ≡ t.generators
+  pub a : length t.a ≡ t.corridors
+  pub b : length t.b ≡ t.corridors
+  pub initial : length t.initial ≡ t.corridors
+  pub km : length t.km ≡ t.corridors
+  pub share : length t.share ≡ t.corridors
+  pub cap : length t.cap ≡ t.corridors
+  pub sheet : length t.sheet ≡ row_figures * (t.corridors * (t.above + t.requested))
 
 -- ---- 1, of the columns of generators and of corridors
 abbrev pub generator_sizes : ℕ → List ℕ → List ℕ → List Float → List Float → List Float → List Float → Bool

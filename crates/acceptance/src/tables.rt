@@ -5,8 +5,7 @@ ghost use Rattle.loops.specs.Loops.{fault};
 ghost use Rattle.refusal.specs.declared.Refusal.TheVariants.{Count as CountRefusal};
 ghost use Rattle.plan_defs.specs.Case.{levels, row_of};
 ghost use Rattle.plan_defs.specs.Accept.{counts_ok, level_ok, bus_ok, generator_ok, corridor_sound, row_sound, row_ok, tables_fault};
-ghost use Rattle.plan_defs.proofs.Accepted.{Columns};
-ghost use Rattle.acceptance.specs.Check.{Tables, tables_of, tabled, answer_of};
+ghost use Rattle.acceptance.specs.Check.{Tables, tables_of, tabled, Columns, answer_of};
 
 use dispatch_defs::unit_ok;
 use leaders::corridor_ok;
@@ -77,7 +76,7 @@ impl<'a> Model for CaseTables<'a> {
 
     ghost view = { λ t. tables_of t.buses t.corridors t.generators t.above t.requested t.ladder.now t.tier.now t.reading.now t.weight.now t.bus.now t.slack.now t.pmin.now t.pmax.now t.c1.now t.c2.now t.a.now t.b.now t.initial.now t.km.now t.share.now t.cap.now t.sheet.now };
 
-    ghost invariant = { λ t. Columns (tabled (tables_of t.buses t.corridors t.generators t.above t.requested t.ladder.now t.tier.now t.reading.now t.weight.now t.bus.now t.slack.now t.pmin.now t.pmax.now t.c1.now t.c2.now t.a.now t.b.now t.initial.now t.km.now t.share.now t.cap.now t.sheet.now)) };
+    ghost invariant = { λ t. Columns (tables_of t.buses t.corridors t.generators t.above t.requested t.ladder.now t.tier.now t.reading.now t.weight.now t.bus.now t.slack.now t.pmin.now t.pmax.now t.c1.now t.c2.now t.a.now t.b.now t.initial.now t.km.now t.share.now t.cap.now t.sheet.now) };
 }
 
 // A slice that is read first is a local: the check then sees that the index fits.

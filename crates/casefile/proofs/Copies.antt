@@ -62,9 +62,6 @@ weight_length l = go (weighs l)
 pub weight_room : (l : Kind) (to n : ℕ) → weighs l ≡ true → to + length (weight_of l) ≤ n → to + 8 ≤ n
 weight_room l to n e h = subst (λ (b : Bool). to + length (cond b one_bytes []) ≤ n) e h
 
-pub mark_is : (l : Kind) (x y : ℕ) → x ≡ (layout_of l).first → y ≡ (layout_of l).second → ◌≡◌ {A = List ℕ} (x ∷ y ∷ []) (mark_of l)
-mark_is l x y e g = simp (e, g)
-
 pub weight_put : (w w₁ : List ℕ) (l : Kind) (to : ℕ) → weighs l ≡ true → w₁ ≡ put w to (part 0 8 one_bytes) → w₁ ≡ put w to (weight_of l)
 unfolding part
 weight_put w w₁ l to e g = g ∙ ap (λ (b : Bool). put w to (cond b one_bytes [])) (sym e)

@@ -13,7 +13,7 @@ ghost use Rattle.casefile.specs.Movable.{Kept, AllWeighed, Movable};
 use crate::bytes::word;
 use crate::columns::{MOST_RECORDS, store_starts};
 use crate::record;
-use crate::record::{first_letter, second_letter, size, weighs};
+use crate::record::{mark, size, weighs};
 use casefile_defs::{Header, Kind, Wanted};
 use loops::first_fault;
 use refusal::Refusal;
@@ -54,13 +54,12 @@ fn put_weight(kind: Kind, out: &mut [u8], to: usize)
 }
 
 // A bus's record as one of a kind.
-#[tactic(auto, using(crate::proofs::Copies::bus_put, crate::proofs::Copies::mark_is))]
+#[tactic(auto, using(crate::proofs::Copies::bus_put))]
 fn put_bus(file: &[u8], at: usize, kind: Kind, out: &mut [u8], to: usize)
     requires { (at + (2 + called_bytes) ≤ length file.now) × (to + (2 + called_bytes + length (weight_of kind)) ≤ length out.old) }
     ensures { out.new ≡ put out.old to (bus_as kind file.now at) }
 {
-    let mark = [first_letter(kind), second_letter(kind)];
-    copy(&mark, 0, out, to, record::MARK);
+    copy(&mark(kind), 0, out, to, record::MARK);
     copy(file, at + record::MARK, out, to + record::MARK, CALLED);
     put_weight(kind, out, to + (record::MARK + CALLED));
 }

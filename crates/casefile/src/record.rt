@@ -1,6 +1,7 @@
 // One record of the file: where its fields stand, and what can be wrong with it.
 ghost use Rattle.std.specs.Prelude.{◌≡◌, ◌+◌, ◌≤◌, length};
 ghost use Rattle.casefile_defs.specs.Layout.{size_of, layout_of, codes_ok, marked, standing, weighs};
+ghost use Rattle.casefile_defs.specs.Moving.{mark_of};
 ghost use Rattle.casefile_defs.specs.Reading.{record_at};
 
 use crate::bytes::word;
@@ -114,34 +115,20 @@ pub fn size(kind: Kind) -> usize
     }
 }
 
-// A mark's two letters.
-pub fn first_letter(kind: Kind) -> u8
-    ensures { result ≡ (layout_of kind).first }
+// A record's mark: two letters.
+#[tactic(auto, unfolding(casefile_defs::specs::Layout::layout_of))]
+pub fn mark(kind: Kind) -> [u8; MARK]
+    ensures { result ≡ mark_of kind }
 {
     match kind {
-        Kind::Head => b'H',
-        Kind::Level => b'L',
-        Kind::Bus => b'B',
-        Kind::Generator => b'G',
-        Kind::Corridor => b'C',
-        Kind::Line => b'L',
-        Kind::CappedCorridor => b'C',
-        Kind::WeighedBus => b'B',
-    }
-}
-
-pub fn second_letter(kind: Kind) -> u8
-    ensures { result ≡ (layout_of kind).second }
-{
-    match kind {
-        Kind::Head => b'D',
-        Kind::Level => b'V',
-        Kind::Bus => b'U',
-        Kind::Generator => b'E',
-        Kind::Corridor => b'O',
-        Kind::Line => b'N',
-        Kind::CappedCorridor => b'P',
-        Kind::WeighedBus => b'V',
+        Kind::Head => *b"HD",
+        Kind::Level => *b"LV",
+        Kind::Bus => *b"BU",
+        Kind::Generator => *b"GE",
+        Kind::Corridor => *b"CO",
+        Kind::Line => *b"LN",
+        Kind::CappedCorridor => *b"CP",
+        Kind::WeighedBus => *b"BV",
     }
 }
 
@@ -150,7 +137,8 @@ fn mark_ok(file: &[u8], kind: Kind, at: usize) -> bool
     requires { at + 2 ≤ length file.now }
     ensures { result ≡ marked kind file.now at }
 {
-    (file[at] == first_letter(kind)) & (file[at + 1] == second_letter(kind))
+    let letters = mark(kind);
+    (file[at] == letters[0]) & (file[at + 1] == letters[1])
 }
 
 // Whether mode, slack or basis of the record at a place is within its bound.

@@ -66,6 +66,7 @@ pub struct PlacementSaid {
     pub count: usize,
 }
 
+#[tactic(auto, using(crate::proofs::Told::angles_told))]
 pub fn lopnaski_dc_angles(
     n: usize,
     m: usize,
@@ -86,11 +87,12 @@ pub fn lopnaski_dc_angles(
     ensures cleared { work.new ≡ (dc_angles (request_of n m k from.now to.now weight.now injection.now grounds.now guess.now)
         res.old work.old).work }
 {
-    said::angles(angles::dc_angles(
+    AnglesSaid::from(angles::dc_angles(
         n, m, k, from, to, weight, injection, grounds, guess, res, work,
     ))
 }
 
+#[tactic(auto, using(crate::proofs::Told::reading_told))]
 pub fn lopnaski_read_case(
     file: &[u8],
     ladder: &mut [f64],
@@ -114,7 +116,7 @@ pub fn lopnaski_read_case(
     ensures said { result ≡ case_said (read_case file.now (places_of ladder.old tier.old reading.old weight.old generator_bus.old slack.old pmin.old pmax.old c1.old c2.old a.old b.old circuits.old length_km.old share.old cap.old sheet.old)) }
     ensures tables { places_of ladder.new tier.new reading.new weight.new generator_bus.new slack.new pmin.new pmax.new c1.new c2.new a.new b.new circuits.new length_km.new share.new cap.new sheet.new ≡ (read_case file.now (places_of ladder.old tier.old reading.old weight.old generator_bus.old slack.old pmin.old pmax.old c1.old c2.old a.old b.old circuits.old length_km.old share.old cap.old sheet.old)).places }
 {
-    said::reading(casefile::read_case(
+    ReadingSaid::from(casefile::read_case(
         file,
         ladder,
         tier,
@@ -136,6 +138,7 @@ pub fn lopnaski_read_case(
     ))
 }
 
+#[tactic(auto, using(crate::proofs::Told::sheet_told))]
 pub fn lopnaski_line_sheet(
     levels: usize,
     corridors: usize,
@@ -147,9 +150,10 @@ pub fn lopnaski_line_sheet(
     ensures said { result ≡ answer_said (line_sheet levels corridors ladder.now km.now spread.now sheet.old).reply }
     ensures rows { sheet.new ≡ (line_sheet levels corridors ladder.now km.now spread.now sheet.old).sheet }
 {
-    said::answer(line_sheet::line_sheet(levels, corridors, ladder, km, spread, sheet))
+    AnswerSaid::from(line_sheet::line_sheet(levels, corridors, ladder, km, spread, sheet))
 }
 
+#[tactic(auto, using(crate::proofs::Told::dispatch_told))]
 pub fn lopnaski_economic_dispatch(
     units: usize,
     pmin: &[f64],
@@ -162,9 +166,10 @@ pub fn lopnaski_economic_dispatch(
     ensures said { result ≡ answer_said (dispatched units (units_of pmin.now pmax.now c1.now c2.now) demand mw.old).reply }
     ensures given { mw.new ≡ (dispatched units (units_of pmin.now pmax.now c1.now c2.now) demand mw.old).mw }
 {
-    said::answer(dispatch::economic_dispatch(units, pmin, pmax, c1, c2, demand, mw))
+    AnswerSaid::from(dispatch::economic_dispatch(units, pmin, pmax, c1, c2, demand, mw))
 }
 
+#[tactic(auto, using(crate::proofs::Told::leaders_told))]
 pub fn lopnaski_leaders(
     buses: usize,
     corridors: usize,
@@ -175,9 +180,10 @@ pub fn lopnaski_leaders(
     ensures said { result ≡ answer_said (led_outcome buses corridors a.now b.now leader.old).reply }
     ensures led { leader.new ≡ (led_outcome buses corridors a.now b.now leader.old).leader }
 {
-    said::answer(leaders::leaders(buses, corridors, a, b, leader))
+    AnswerSaid::from(leaders::leaders(buses, corridors, a, b, leader))
 }
 
+#[tactic(auto, using(crate::proofs::Told::placement_told))]
 pub fn lopnaski_place_voltage_support(
     n: usize,
     m: usize,
@@ -195,7 +201,7 @@ pub fn lopnaski_place_voltage_support(
     ensures stand { buses.new ≡ (placement (asked.request_of n m g reading.now weight.now a.now b.now km.now generators.now) buses.old mvars.old).buses }
     ensures sized { mvars.new ≡ (placement (asked.request_of n m g reading.now weight.now a.now b.now km.now generators.now) buses.old mvars.old).mvars }
 {
-    said::placement(placement::place_voltage_support(
+    PlacementSaid::from(placement::place_voltage_support(
         n, m, g, reading, weight, a, b, km, generators, buses, mvars,
     ))
 }

@@ -1,5 +1,5 @@
 // Answers as the fields of a struct.
-ghost use Rattle.std.specs.Prelude.{◌≡◌, Err, Ok, Result};
+ghost use Rattle.std.specs.Prelude.{◌≡◌};
 ghost use Rattle.angles_defs.specs.Operation as defined;
 ghost use Rattle.casefile_defs.specs.Tables as tables;
 ghost use Rattle.placement_defs.specs.Support as support;
@@ -8,9 +8,10 @@ ghost use Rattle.exports.specs.Said.{angles_said, ended_figure, ended_number, re
 
 use crate::{AnglesSaid, AnswerSaid, PlacementSaid, ReadingSaid};
 use angles_defs::{Ended, Solution};
-use casefile_defs::{CaseRead, Header};
+use casefile_defs::CaseRead;
 use refusal::Refusal;
 
+#[tactic(auto, unfolding(crate::specs::Said::ended_number))]
 fn ended_number(ended: Ended) -> u32
     ensures { result ≡ ended_number ended }
 {
@@ -21,135 +22,103 @@ fn ended_number(ended: Ended) -> u32
     }
 }
 
+#[tactic(auto, unfolding(crate::specs::Said::ended_figure))]
 fn ended_figure(ended: Ended) -> f64
     ensures { result ≡ ended_figure ended }
 {
     match ended {
-        Ended::Settled(x) => x,
-        Ended::NoDescent(x) => x,
-        Ended::StepsSpent(x) => x,
+        Ended::Settled(x) | Ended::NoDescent(x) | Ended::StepsSpent(x) => x,
     }
 }
 
-fn solved(s: Solution) -> AnglesSaid
-    ensures { result ≡ angles_said (defined.reply_of (Ok s)) }
-{
-    let ended = s.ended;
-    AnglesSaid {
-        refusal: 0,
-        index: 0,
-        steps: s.steps,
-        ended: ended_number(ended),
-        figure: ended_figure(ended),
+impl From<Result<Solution, Refusal>> for AnglesSaid {
+    ghost from_gives = { λ a said. said ≡ angles_said (defined.reply_of a) };
+
+    fn from(answer: Result<Solution, Refusal>) -> AnglesSaid {
+        match answer {
+            Ok(s) => AnglesSaid {
+                refusal: 0,
+                index: 0,
+                steps: s.steps,
+                ended: ended_number(s.ended),
+                figure: ended_figure(s.ended),
+            },
+            Err(f) => AnglesSaid {
+                refusal: f.number(),
+                index: f.index(),
+                steps: 0,
+                ended: 0,
+                figure: 0.0,
+            },
+        }
     }
 }
 
-fn not_solved(f: Refusal) -> AnglesSaid
-    ensures { result ≡ angles_said (defined.reply_of (Err f)) }
-{
-    AnglesSaid {
-        refusal: f.number(),
-        index: f.index(),
-        steps: 0,
-        ended: 0,
-        figure: 0.0,
+impl From<CaseRead> for ReadingSaid {
+    ghost from_gives = { λ r said. said ≡ reading_said (tables.reply_of r.reading) r.looks };
+
+    fn from(read: CaseRead) -> ReadingSaid {
+        match read.reading {
+            Ok(h) => ReadingSaid {
+                refusal: 0,
+                index: 0,
+                mode: h.mode.number(),
+                target: h.target,
+                buses: h.buses,
+                corridors: h.corridors,
+                generators: h.generators,
+                above: h.above,
+                requested: h.requested,
+                looks: read.looks,
+            },
+            Err(f) => ReadingSaid {
+                refusal: f.number(),
+                index: f.index(),
+                mode: 0,
+                target: 0,
+                buses: 0,
+                corridors: 0,
+                generators: 0,
+                above: 0,
+                requested: 0,
+                looks: read.looks,
+            },
+        }
     }
 }
 
-pub fn angles(a: Result<Solution, Refusal>) -> AnglesSaid
-    ensures { result ≡ angles_said (defined.reply_of a) }
-{
-    match a {
-        Ok(s) => solved(s),
-        Err(f) => not_solved(f),
+impl From<Result<(), Refusal>> for AnswerSaid {
+    ghost from_gives = { λ a said. said ≡ answer_said (replies.reply_of a) };
+
+    fn from(answer: Result<(), Refusal>) -> AnswerSaid {
+        match answer {
+            Ok(()) => AnswerSaid {
+                refusal: 0,
+                index: 0,
+            },
+            Err(f) => AnswerSaid {
+                refusal: f.number(),
+                index: f.index(),
+            },
+        }
     }
 }
 
-fn read(h: Header, looks: usize) -> ReadingSaid
-    ensures { result ≡ reading_said (tables.reply_of (Ok h)) looks }
-{
-    let mode = h.mode;
-    ReadingSaid {
-        refusal: 0,
-        index: 0,
-        mode: mode.number(),
-        target: h.target,
-        buses: h.buses,
-        corridors: h.corridors,
-        generators: h.generators,
-        above: h.above,
-        requested: h.requested,
-        looks,
-    }
-}
+impl From<Result<usize, Refusal>> for PlacementSaid {
+    ghost from_gives = { λ a said. said ≡ placement_said (support.reply_of a) };
 
-fn not_read(f: Refusal, looks: usize) -> ReadingSaid
-    ensures { result ≡ reading_said (tables.reply_of (Err f)) looks }
-{
-    ReadingSaid {
-        refusal: f.number(),
-        index: f.index(),
-        mode: 0,
-        target: 0,
-        buses: 0,
-        corridors: 0,
-        generators: 0,
-        above: 0,
-        requested: 0,
-        looks,
-    }
-}
-
-pub fn reading(r: CaseRead) -> ReadingSaid
-    ensures { result ≡ reading_said (tables.reply_of r.reading) r.looks }
-{
-    let reading = r.reading;
-    match reading {
-        Ok(h) => read(h, r.looks),
-        Err(f) => not_read(f, r.looks),
-    }
-}
-
-fn not_done(f: Refusal) -> AnswerSaid
-    ensures { result ≡ answer_said (replies.reply_of (Err f)) }
-{
-    AnswerSaid {
-        refusal: f.number(),
-        index: f.index(),
-    }
-}
-
-pub fn answer(a: Result<(), Refusal>) -> AnswerSaid
-    ensures { result ≡ answer_said (replies.reply_of a) }
-{
-    match a {
-        Ok(()) => AnswerSaid {
-            refusal: 0,
-            index: 0,
-        },
-        Err(f) => not_done(f),
-    }
-}
-
-fn not_placed(f: Refusal) -> PlacementSaid
-    ensures { result ≡ placement_said (support.reply_of (Err f)) }
-{
-    PlacementSaid {
-        refusal: f.number(),
-        index: f.index(),
-        count: 0,
-    }
-}
-
-pub fn placement(p: Result<usize, Refusal>) -> PlacementSaid
-    ensures { result ≡ placement_said (support.reply_of p) }
-{
-    match p {
-        Ok(count) => PlacementSaid {
-            refusal: 0,
-            index: 0,
-            count: count,
-        },
-        Err(f) => not_placed(f),
+    fn from(answer: Result<usize, Refusal>) -> PlacementSaid {
+        match answer {
+            Ok(count) => PlacementSaid {
+                refusal: 0,
+                index: 0,
+                count,
+            },
+            Err(f) => PlacementSaid {
+                refusal: f.number(),
+                index: f.index(),
+                count: 0,
+            },
+        }
     }
 }

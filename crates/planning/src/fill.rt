@@ -94,14 +94,11 @@ fn place_of(
     requires { (k < length third.now) × Ranked (length third.now) order.now k }
     ensures { result ≡ place_of (rank_before first.now second.now third.now) order.now k k }
 {
-    let mut j = 0;
-    while j < k {
-        if rank_before(first, second, third, k, wide(order[j])) {
-            return j;
-        }
-        j += 1;
-    }
-    j
+    loops::first_fault(
+        k,
+        |j| !rank_before(first, second, third, k, order[j] as usize),
+    )
+    .unwrap_or(k)
 }
 
 // Puts k into place p of the first `count`, and moves those that follow up by one.

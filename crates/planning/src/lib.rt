@@ -169,10 +169,7 @@ pub fn preview_filling(
 ) -> Result<(), Refusal>
     ensures { outcome_of result circuits.new ≡ preview_of (kept_as mode m before.now order.now cap.now) target circuits.old }
 {
-    match preview::check(mode, target, m, before, order, cap, circuits.len()) {
-        Err(f) => return Err(f),
-        Ok(()) => {}
-    }
+    preview::check(mode, target, m, before, order, cap, circuits.len())?;
     preview::refill(mode, target, before, order, cap, circuits);
     Ok(())
 }

@@ -144,7 +144,7 @@ fn serve(
     figures_of(c1, &units, count, &mut linear);
     figures_of(c2, &units, count, &mut quadratic);
     let demand = demand_of(root, leader, load);
-    match give(
+    if let Err(f) = give(
         mode,
         demand,
         &least[0..count],
@@ -153,12 +153,10 @@ fn serve(
         &quadratic[0..count],
         &mut out[0..count],
     ) {
-        Err(f) => {
-            let j = f.index();
-            return Err(Refusal::Cost(wide(units[j])));
-        }
-        Ok(()) => hand_out(&units, count, &out, mw),
+        let unit = units[f.index()];
+        return Err(Refusal::Cost(unit as usize));
     }
+    hand_out(&units, count, &out, mw);
     Ok(())
 }
 
@@ -207,12 +205,8 @@ pub fn dispatch_components(
         leader.now }
 {
     clear_figures(mw);
-    let mut i = 0;
-    while i < leader.len() {
-        match serve_led(mode, i, leader, load, bus, pmin, pmax, c1, c2, mw) {
-            Err(f) => return Err(f),
-            Ok(()) => i += 1,
-        }
+    for i in 0..leader.len() {
+        serve_led(mode, i, leader, load, bus, pmin, pmax, c1, c2, mw)?;
     }
     Ok(())
 }

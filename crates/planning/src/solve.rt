@@ -208,7 +208,7 @@ pub fn peak_state(
     let weight = e.weight;
     let mut guess = [0.0; 256];
     copy(angle, &mut guess);
-    match angles_from(
+    angles_from(
         &from[0..m],
         &to[0..m],
         &weight[0..m],
@@ -216,10 +216,8 @@ pub fn peak_state(
         grounds,
         &guess[0..n],
         angle,
-    ) {
-        Err(f) => return Err(f),
-        Ok(()) => corridor_flows(&from, &to, &weight, angle, flow),
-    }
+    )?;
+    corridor_flows(&from, &to, &weight, angle, flow);
     finite_flows(flow)
 }
 

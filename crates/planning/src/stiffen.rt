@@ -380,15 +380,7 @@ fn place_of(gain: &[f64; 256], order: &[u32; 256], count: usize, k: usize) -> us
     requires { (k < most_corridors) × Ranked most_corridors order.now count × (count ≤ most_corridors) × Whole gain.now }
     ensures { result ≡ place_of (gains_more gain.now) order.now count k }
 {
-    let mut j = 0;
-    while j < count {
-        let i = wide(order[j]);
-        if gain[i] < gain[k] {
-            return j;
-        }
-        j += 1;
-    }
-    j
+    loops::first_fault(count, |j| !(gain[order[j] as usize] < gain[k])).unwrap_or(count)
 }
 
 // Puts corridor k in its place where it gains; how many there are then.
@@ -431,19 +423,13 @@ fn batch_size(
     ensures batch { take result order.now ≡ batch most nought excess (map (gain_for gain.now) (take count order.now)) }
 {
     let mut covered = 0.0;
-    let mut j = 0;
-    while j < count {
-        if j >= most {
+    for j in 0..count {
+        if j >= most || !(covered < excess) {
             return j;
         }
-        if !(covered < excess) {
-            return j;
-        }
-        let k = wide(order[j]);
-        covered = covered + gain[k];
-        j += 1;
+        covered += gain[order[j] as usize];
     }
-    j
+    count
 }
 
 fn corridors_in(leader: &[u32], a: &[u32], root: usize) -> u32
@@ -549,14 +535,7 @@ fn reinforce(
 fn first_of(leader: &[u32], root: usize) -> usize
     ensures { result ≡ first (λ (i : ℕ). not (within leader.now root i)) (length leader.now) 0 }
 {
-    let mut i = 0;
-    while i < leader.len() {
-        if wide(leader[i]) == root {
-            return i;
-        }
-        i += 1;
-    }
-    i
+    loops::first_fault(leader.len(), |i| leader[i] as usize != root).unwrap_or(leader.len())
 }
 
 // The bus that leads, the lowest on a tie.
@@ -629,7 +608,7 @@ fn narrow(
     let from = e.from;
     let to = e.to;
     let weight = e.weight;
-    match unit_angles(
+    unit_angles(
         &from[0..m],
         &to[0..m],
         &weight[0..m],
@@ -637,13 +616,11 @@ fn narrow(
         lead,
         lag,
         phi,
-    ) {
-        Err(f) => Err(f),
-        Ok(()) => Ok(reinforce(
-            root, excess, g, ladder, level, a, b, km, share, cap, sheet, leader, angle, phi,
-            circuits, banks, floors, upsized, marks, t,
-        )),
-    }
+    )?;
+    Ok(reinforce(
+        root, excess, g, ladder, level, a, b, km, share, cap, sheet, leader, angle, phi, circuits,
+        banks, floors, upsized, marks, t,
+    ))
 }
 
 fn widened(t: Stiffness) -> Stiffness

@@ -69,13 +69,11 @@ pub fn give(
     requires { Accepted (length pmin.now) (units_of pmin.now pmax.now c1.now c2.now) demand (length mw.old) }
     ensures { stage_of result mw.new ≡ given_stage (tops_up mode) (units_of pmin.now pmax.now c1.now c2.now) demand }
 {
-    match dispatch::economic_dispatch(pmin.len(), pmin, pmax, c1, c2, demand, mw) {
-        Err(f) => return Err(Refusal::Cost(f.index())),
-        Ok(()) => {}
+    if let Err(f) = dispatch::economic_dispatch(pmin.len(), pmin, pmax, c1, c2, demand, mw) {
+        return Err(Refusal::Cost(f.index()));
     }
-    if !tops_up(mode) {
-        return Ok(());
+    if tops_up(mode) {
+        top_up(demand, pmax, c1, mw);
     }
-    top_up(demand, pmax, c1, mw);
     Ok(())
 }

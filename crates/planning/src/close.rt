@@ -13,7 +13,7 @@ ghost use Rattle.planning.specs.Close.{corridors_of, levels_for, wider_by, loadi
 
 use crate::design::circuit;
 use crate::figures::{
-    clear_counts, clear_figures, fewer, float, greater, infinity, lesser, magnitude, pick, wide,
+    clear_counts, clear_figures, fewer, float, greater, lesser, magnitude, pick, wide,
 };
 use crate::fill::loading;
 use crate::policy::{cap_at, expands};
@@ -41,7 +41,7 @@ fn highest(leader: &[u32], angle: &[f64], root: usize) -> f64
     requires { length angle.now ≡ length leader.now }
     ensures { result ≡ highest angle.now (members leader.now root) }
 {
-    let mut most = -infinity();
+    let mut most = -loops::infinity();
     for i in 0..leader.len() {
         most = pick(wide(leader[i]) == root, greater(most, angle[i]), most);
     }
@@ -52,7 +52,7 @@ fn lowest(leader: &[u32], angle: &[f64], root: usize) -> f64
     requires { length angle.now ≡ length leader.now }
     ensures { result ≡ lowest angle.now (members leader.now root) }
 {
-    let mut least = infinity();
+    let mut least = loops::infinity();
     for i in 0..leader.len() {
         least = pick(wide(leader[i]) == root, lesser(least, angle[i]), least);
     }

@@ -13,7 +13,7 @@ ghost use Rattle.planning.specs.Design.{lines_for};
 ghost use Rattle.planning.specs.Solve.{peak_for, solved_of, finite_angles, finite_answer, Net, Places, Drawing, Lent, Drawn, Peaked};
 
 use crate::design::circuit;
-use crate::figures::{float, is_finite, wide};
+use crate::figures::{float, wide};
 use plan_defs::CircuitDesign;
 use refusal::Refusal;
 
@@ -160,7 +160,7 @@ fn all_finite(figures: &[f64]) -> bool
     ensures { result ≡ all_finite figures.now }
 {
     for i in 0..figures.len() {
-        if !is_finite(figures[i]) {
+        if !loops::is_finite(figures[i]) {
             return false;
         }
     }

@@ -12,7 +12,7 @@ ghost use Rattle.planning.specs.Raise.{largest_count, pairs_for, PairFits};
 ghost use Rattle.planning.specs.Stiffen.{budget_for, Stiffenable, Room, LedStiffened, raisable, room_for, reckoned, Strengthened, StiffenFits, BatchStiffened, Gainful, candidate_at, gain_at, gains_more, gain_next, gain_order, gain_for, Chosen, Stepped, reinforce_step, narrow_step, component_step, Led, lead_of, lag_of};
 
 use crate::design::{circuit, set_transformer_mva};
-use crate::figures::{ceil, choose, clear_counts, fewer, float, one_if, to_usize, wide};
+use crate::figures::{choose, clear_counts, fewer, float, one_if, wide};
 use crate::fill::{insert, total};
 use crate::policy::full_at;
 use crate::raise::{mark_raise_to, raise_of};
@@ -20,6 +20,7 @@ use crate::size::{bank_below, keep_bank};
 use crate::solve::{Edges, susceptance, unit_angles};
 use plan_defs::{CircuitDesign, Raise};
 use refusal::Refusal;
+use std::num::saturating_f64_to_usize;
 
 // The share of buses at or above the top, and circuits for each bus, up to which stiffening goes.
 const STIFFENING_HV_SHARE: f64 = 0.35;
@@ -72,7 +73,7 @@ fn at_or_above(level: &[u32], top: u32) -> u32
 fn share_of(share: f64, n: u32) -> usize
     ensures { result ≡ share_of share n }
 {
-    to_usize(share * float(n))
+    saturating_f64_to_usize(share * float(n))
 }
 
 // Of the requested levels the highest, until their share of buses is there; then, where there are levels above, the highest of all.
@@ -449,8 +450,8 @@ fn batch_cap(leader: &[u32], a: &[u32], root: usize) -> usize
     requires { (length a.now ≤ most_corridors) × ((k : ℕ) → k < length a.now → slice_index a.now k < length leader.now) }
     ensures { result ≡ batch_cap (pairs_for a.now []) leader.now root }
 {
-    let cap = to_usize(ceil(STIFFENING_BATCH_SHARE * float(corridors_in(leader, a, root))));
-    if cap < 1 { 1 } else { cap }
+    let part = STIFFENING_BATCH_SHARE * float(corridors_in(leader, a, root));
+    saturating_f64_to_usize(part.ceil()).max(1)
 }
 
 // Puts the corridors that narrow a component's spread the most at the front of `order`; as many as cover the excess are taken.

@@ -12,9 +12,7 @@ ghost use Rattle.planning.specs.Fill.{designs_for, Drawable, Loaded};
 ghost use Rattle.planning.specs.Close.{corridors_of, levels_for, wider_by, loadings_by, Rated, cap_full, added_at, Closable, closing_of, figures_if, counts_if, is_refused, lent_to, finished};
 
 use crate::design::circuit;
-use crate::figures::{
-    clear_counts, clear_figures, fewer, float, greater, lesser, magnitude, pick, wide,
-};
+use crate::figures::{clear_counts, clear_figures, fewer, greater, lesser, magnitude, pick};
 use crate::fill::loading;
 use crate::policy::{cap_at, expands};
 use crate::size::PLANNING_UTILISATION;
@@ -43,7 +41,7 @@ fn highest(leader: &[u32], angle: &[f64], root: usize) -> f64
 {
     let mut most = -loops::infinity();
     for i in 0..leader.len() {
-        most = pick(wide(leader[i]) == root, greater(most, angle[i]), most);
+        most = pick(leader[i] as usize == root, greater(most, angle[i]), most);
     }
     most
 }
@@ -54,7 +52,7 @@ fn lowest(leader: &[u32], angle: &[f64], root: usize) -> f64
 {
     let mut least = loops::infinity();
     for i in 0..leader.len() {
-        least = pick(wide(leader[i]) == root, lesser(least, angle[i]), least);
+        least = pick(leader[i] as usize == root, lesser(least, angle[i]), least);
     }
     least
 }
@@ -64,7 +62,7 @@ fn wider(leader: &[u32], angle: &[f64], i: usize, most: f64) -> f64
     requires { (length angle.now ≡ length leader.now) × (i < length leader.now) }
     ensures { result ≡ wider_by leader.now angle.now i most }
 {
-    if wide(leader[i]) == i {
+    if leader[i] as usize == i {
         return greater(most, highest(leader, angle, i) - lowest(leader, angle, i));
     }
     most
@@ -136,7 +134,7 @@ fn cap_full(mode: PlanMode, cap: u32, count: u32, flow: f64, rate: f64) -> bool
     ensures { result ≡ cap_full mode cap count flow rate }
 {
     let need = magnitude(flow) / PLANNING_UTILISATION / rate;
-    expands(mode) & ((cap <= count) & (need > float(count) + LOADING_TOLERANCE))
+    expands(mode) & ((cap <= count) & (need > count as f64 + LOADING_TOLERANCE))
 }
 
 fn capped(
@@ -258,7 +256,7 @@ pub fn close(
     let enlarged = count_upsized(upsized);
     let widest = spread(leader, angle);
     let dropped = unused(above, level);
-    add_levels(ladder, above, wide(dropped), added);
+    add_levels(ladder, above, dropped as usize, added);
     shift_back(dropped, level);
     Closing {
         upsized: enlarged,

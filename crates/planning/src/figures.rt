@@ -1,6 +1,6 @@
 // Figures and counts: what Rust's min, max, abs, ceil and casts answer; and slices of them, cleared.
 ghost use Rattle.std.specs.Prelude.{◌≡◌, ◌-◌, min, max, length, replicate, if◌then◌else◌};
-ghost use Rattle.loops.specs.Figures.{nought, float, lesser, greater, magnitude};
+ghost use Rattle.loops.specs.Figures.{nought, lesser, greater, magnitude};
 
 // ---- choices
 pub fn pick(first: bool, x: f64, y: f64) -> f64
@@ -35,12 +35,6 @@ pub fn magnitude(x: f64) -> f64
 }
 
 // ---- counts
-pub fn wide(n: u32) -> usize
-    ensures { result ≡ n }
-{
-    n as usize
-}
-
 pub fn fewer(m: u32, n: u32) -> u32
     ensures { result ≡ min m n }
 {
@@ -57,12 +51,6 @@ pub fn one_if(test: bool) -> u32
     ensures { result ≡ (if test then 1 else 0) }
 {
     if test { 1 } else { 0 }
-}
-
-pub fn float(n: u32) -> f64
-    ensures { result ≡ float n }
-{
-    n as f64
 }
 
 // ---- slices

@@ -11,7 +11,7 @@ ghost use Rattle.planning.specs.Design.{Lines};
 ghost use Rattle.planning.specs.Fill.{designs_for, Drawable, Loaded, rank_before, order_by, place_of, shifted, Whole, Ranked, filled_as, gain_of, Tallied, Counted, caps_for};
 
 use crate::design::circuit;
-use crate::figures::{float, magnitude, wide};
+use crate::figures::magnitude;
 use crate::policy::{full_at, promotes};
 use mode::PlanMode;
 
@@ -22,7 +22,7 @@ const FILL_TURNS: u32 = 6;
 pub fn loading(flow: f64, count: u32, rate: f64) -> f64
     ensures { result ≡ loading flow count rate }
 {
-    magnitude(flow) / (float(count) * rate)
+    magnitude(flow) / (count as f64 * rate)
 }
 
 fn rank_loadings(
@@ -249,7 +249,7 @@ fn fill_once(
     let mut total = t.total;
     let mut filler = t.filler;
     for j in 0..circuits.len() {
-        let k = wide(order[j]);
+        let k = order[j] as usize;
         let count = circuits[k];
         let more = gain(total, target, full_at(cap[k]), count);
         circuits[k] = count + more;

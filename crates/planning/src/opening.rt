@@ -12,7 +12,7 @@ ghost use Rattle.plan_defs.specs.Lists.{sum_over};
 ghost use Rattle.plan_defs.specs.Outcome.{up_to};
 ghost use Rattle.planning.specs.Opening.{stage_of, stage_if, bus_case, slack_case, dispatch_case, injection_case, Joined, Fleet, Costs, Loads, Picked};
 
-use crate::figures::{clear_counts, clear_figures, more, wide};
+use crate::figures::{clear_counts, clear_figures, more};
 use crate::solve::BASE_MVA;
 use crate::top_up::give;
 use mode::PlanMode;
@@ -34,7 +34,7 @@ fn ground_of(root: u32, leader: &[u32], bus: &[u32], slack: &[u32]) -> u32
     ensures { result ≡ ground_of (slack_case bus.now slack.now) leader.now root }
 {
     for k in 0..bus.len() {
-        let i = wide(bus[k]);
+        let i = bus[k] as usize;
         if (leader[i] == root) & !(slack[k] == 0) {
             return bus[k];
         }
@@ -52,7 +52,7 @@ pub fn ground_components(leader: &[u32], bus: &[u32], slack: &[u32], ground: &mu
     clear_counts(ground);
     let mut count = 0;
     for i in 0..leader.len() {
-        if wide(leader[i]) == i {
+        if leader[i] as usize == i {
             ground[count] = ground_of(leader[i], leader, bus, slack);
             count += 1;
         }
@@ -69,7 +69,7 @@ fn units_in(root: u32, leader: &[u32], bus: &[u32], units: &mut [u32; 128]) -> u
 {
     let mut count = 0;
     for k in 0..bus.len() {
-        let i = wide(bus[k]);
+        let i = bus[k] as usize;
         if leader[i] == root {
             units[count] = k as u32;
             count += 1;
@@ -98,7 +98,7 @@ fn figures_of(column: &[f64], units: &[u32; 128], count: usize, chosen: &mut [f6
     ensures { take count chosen.new ≡ map (at column.now) (take count units.now) }
 {
     for j in 0..count {
-        let k = wide(units[j]);
+        let k = units[j] as usize;
         chosen[j] = column[k];
     }
 }
@@ -109,7 +109,7 @@ fn hand_out(units: &[u32; 128], count: usize, out: &[f64; 128], mw: &mut [f64])
     ensures { mw.new ≡ scatter (take count units.now) (take count out.now) mw.old }
 {
     for j in 0..count {
-        let k = wide(units[j]);
+        let k = units[j] as usize;
         mw[k] = out[j];
     }
 }
@@ -181,7 +181,7 @@ fn serve_led(
         leader.now i mw.old)
         mw.old }
 {
-    if wide(leader[i]) == i {
+    if leader[i] as usize == i {
         return serve(mode, leader[i], leader, load, bus, pmin, pmax, c1, c2, mw);
     }
     Ok(())
@@ -229,7 +229,7 @@ fn inject(bus: &[u32], mw: &[f64], injection: &mut [f64])
         ≡ iter (inject_at (bus_case bus.now) mw.now) (length bus.now) 0 injection.old }
 {
     for k in 0..bus.len() {
-        let i = wide(bus[k]);
+        let i = bus[k] as usize;
         injection[i] = injection[i] + mw[k];
     }
 }

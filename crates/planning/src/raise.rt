@@ -5,7 +5,7 @@ ghost use Rattle.plan_defs.specs.Constants.{most_buses};
 ghost use Rattle.plan_defs.specs.Raise.{raise_of, marked, mark_both, can_raise, mark_if, raised_levels, moved_buses};
 ghost use Rattle.planning.specs.Raise.{largest_count, pairs_for, PairFits};
 
-use crate::figures::{fewer, wide};
+use crate::figures::fewer;
 use plan_defs::Raise;
 
 // ---- marks
@@ -38,8 +38,8 @@ pub fn mark_raise_to(
     ensures marks { marks.new ≡ mark_if (can_raise (pairs_for a.now b.now) level.now top k) (pairs_for a.now b.now) level.now k marks.old }
     ensures answer { result ≡ can_raise (pairs_for a.now b.now) level.now top k }
 {
-    let i = wide(a[k]);
-    let j = wide(b[k]);
+    let i = a[k] as usize;
+    let j = b[k] as usize;
     let tier = fewer(level[i], level[j]);
     if tier <= top {
         return false;

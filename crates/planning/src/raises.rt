@@ -6,7 +6,7 @@ ghost use Rattle.planning.specs.Redesign.{RedesignFits};
 ghost use Rattle.planning.specs.Raises.{heavy_for, raised_of, Markable, HeavyRaised, Raisable, Passed, RaisesDone};
 
 use crate::design::circuit;
-use crate::figures::{clear_counts, clear_figures, float, magnitude};
+use crate::figures::{clear_counts, clear_figures, magnitude};
 use crate::policy::promotes;
 use crate::raise::mark_raise_to;
 use crate::rounds::raise_marked;
@@ -21,7 +21,7 @@ fn too_heavy(d: CircuitDesign, flow: f64) -> bool
     ensures { result ≡ too_heavy d flow }
 {
     let line_capacity = PLANNING_UTILISATION * d.line_rate * d.rate_spread;
-    magnitude(flow) > float(UPGRADE_CIRCUITS) * line_capacity
+    magnitude(flow) > UPGRADE_CIRCUITS as f64 * line_capacity
 }
 
 fn mark_heavy(

@@ -9,7 +9,7 @@ ghost use Rattle.planning.specs.Design.{lines_for, ends_for, Banks, Rated};
 ghost use Rattle.planning.specs.Redesign.{units_for, redesign_for, Units, Corridors, AnewFits, RedesignFits, anew_from, bank_of, fresh_at, banks_anew};
 
 use crate::design::{banked_if, circuit, ends_of};
-use crate::figures::{float, greater, lesser, more, one_if, pick, wide};
+use crate::figures::{greater, lesser, more, one_if, pick};
 use plan_defs::CircuitDesign;
 
 const MOST_BUSES: usize = 256;
@@ -26,7 +26,7 @@ fn generation_at(bus: &[u32], pmax: &[f64], gen_at: &mut [f64; MOST_BUSES])
     ensures { gen_at.new ≡ tab most_buses (gen_at_bus (units_for bus.now pmax.now)) }
 {
     for k in 0..bus.len() {
-        let i = wide(bus[k]);
+        let i = bus[k] as usize;
         gen_at[i] = gen_at[i] + pmax[k];
     }
 }
@@ -54,7 +54,7 @@ fn transformer_corridors(
 fn fresh_bank(load: f64, generation: f64, shared: u32) -> f64
     ensures { result ≡ fresh_bank load generation shared }
 {
-    let served = greater(load, generation) * TRANSFORMER_HEADROOM / float(more(shared, 1));
+    let served = greater(load, generation) * TRANSFORMER_HEADROOM / more(shared, 1) as f64;
     greater(served, TRANSFORMER_MIN_MVA)
 }
 

@@ -8,7 +8,7 @@ ghost use Rattle.planning.specs.Raise.{largest_count, pairs_for, PairFits};
 ghost use Rattle.planning.specs.Size.{size_for, grow_for, set_if, Adds, Grows, CorridorFits, CorridorSized};
 
 use crate::design::{banked_if, circuit};
-use crate::figures::{fewer, float, lesser, magnitude};
+use crate::figures::{fewer, lesser, magnitude};
 use crate::policy::{cap_at, promotes};
 use crate::raise::mark_raise_to;
 use mode::PlanMode;
@@ -44,14 +44,14 @@ fn required_for(flow: f64) -> f64
 fn enough(required: f64, count: u32, d: CircuitDesign) -> bool
     ensures { result ≡ enough required count d }
 {
-    required <= float(count) * d.rate_a
+    required <= count as f64 * d.rate_a
 }
 
 // ---- a larger bank, up to the line
 fn next_bank(required: f64, count: u32, d: CircuitDesign) -> f64
     ensures { result ≡ next_bank required count d }
 {
-    let per_circuit = required / float(count) / d.rate_spread;
+    let per_circuit = required / count as f64 / d.rate_spread;
     let sized = (per_circuit / TRANSFORMER_SIZE_STEP_MVA).ceil() * TRANSFORMER_SIZE_STEP_MVA;
     lesser(sized, d.line_rate)
 }

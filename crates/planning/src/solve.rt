@@ -13,7 +13,6 @@ ghost use Rattle.planning.specs.Design.{lines_for};
 ghost use Rattle.planning.specs.Solve.{peak_for, solved_of, finite_angles, finite_answer, Net, Places, Drawing, Lent, Drawn, Peaked};
 
 use crate::design::circuit;
-use crate::figures::{float, wide};
 use plan_defs::CircuitDesign;
 use refusal::Refusal;
 
@@ -59,7 +58,7 @@ pub fn draw_edges(
         let d = circuit(ladder, level, a, b, km, share, sheet, k, banks[k]);
         from[k] = d.from as u32;
         to[k] = d.to as u32;
-        weight[k] = susceptance(d) * float(circuits[k]);
+        weight[k] = susceptance(d) * circuits[k] as f64;
     }
     Edges { from, to, weight }
 }
@@ -150,8 +149,8 @@ fn corridor_flows(
         angle.now }
 {
     for k in 0..flow.len() {
-        let i = wide(from[k]);
-        let j = wide(to[k]);
+        let i = from[k] as usize;
+        let j = to[k] as usize;
         flow[k] = weight[k] * (angle[i] - angle[j]) * BASE_MVA;
     }
 }

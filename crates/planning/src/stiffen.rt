@@ -12,7 +12,7 @@ ghost use Rattle.planning.specs.Raise.{largest_count, pairs_for, PairFits};
 ghost use Rattle.planning.specs.Stiffen.{budget_for, Stiffenable, Room, LedStiffened, raisable, room_for, reckoned, Strengthened, StiffenFits, BatchStiffened, Gainful, candidate_at, gain_at, gains_more, gain_next, gain_order, gain_for, Chosen, Stepped, reinforce_step, narrow_step, component_step, Led, lead_of, lag_of};
 
 use crate::design::{circuit, set_transformer_mva};
-use crate::figures::{choose, clear_counts, fewer, float, one_if, wide};
+use crate::figures::{choose, clear_counts, fewer, one_if};
 use crate::fill::{insert, total};
 use crate::policy::full_at;
 use crate::raise::{mark_raise_to, raise_of};
@@ -73,7 +73,7 @@ fn at_or_above(level: &[u32], top: u32) -> u32
 fn share_of(share: f64, n: u32) -> usize
     ensures { result ≡ share_of share n }
 {
-    saturating_f64_to_usize(share * float(n))
+    saturating_f64_to_usize(share * n as f64)
 }
 
 // Of the requested levels the highest, until their share of buses is there; then, where there are levels above, the highest of all.
@@ -81,7 +81,7 @@ fn top_of(above: u32, hv: usize, level: &[u32]) -> u32
     requires { length level.now ≤ most_buses }
     ensures { result ≡ stiffen_top above hv level.now }
 {
-    if (above > 0) & (hv <= wide(at_or_above(level, above))) {
+    if (above > 0) & (hv <= at_or_above(level, above) as usize) {
         0
     } else {
         above
@@ -139,7 +139,7 @@ fn arrivals(top: u32, level: &[u32], a: &[u32], b: &[u32], k: usize, marks: &[u3
     requires { PairFits level.now a.now b.now marks.now k }
     ensures { (result ≡ arrival top level.now marks.now (slice_index a.now k) + arrival top level.now marks.now (slice_index b.now k)) × (result ≤ 2) }
 {
-    arrival(top, level, marks, wide(a[k])) + arrival(top, level, marks, wide(b[k]))
+    arrival(top, level, marks, a[k] as usize) + arrival(top, level, marks, b[k] as usize)
 }
 
 // Marks both ends of corridor k for a raise that is within the budget, and answers whether it is.
@@ -156,7 +156,7 @@ fn raises(
     ensures marks { marks.new ≡ mark_if (raisable g hv level.now a.now b.now k) (pairs_for a.now b.now) level.now k marks.old }
     ensures answer { result ≡ raisable g hv level.now a.now b.now k }
 {
-    if wide(hv) < g.hv {
+    if (hv as usize) < g.hv {
         return mark_raise_to(level, a, b, k, g.top, marks);
     }
     false
@@ -165,7 +165,7 @@ fn raises(
 fn has_room(g: Limits, own: u32, count: u32, total: u32) -> bool
     ensures { result ≡ room_for g own count total }
 {
-    (count < full_at(own)) & (wide(total) < g.branches)
+    (count < full_at(own)) & ((total as usize) < g.branches)
 }
 
 fn reckoned(added: u32, arrived: u32, t: Stiffness) -> Stiffness
@@ -271,7 +271,7 @@ fn stiffen_batch(
 {
     let mut t = start;
     for j in 0..taken {
-        let k = wide(order[j]);
+        let k = order[j] as usize;
         t = stiffen_one(
             g, ladder, level, a, b, km, share, cap, sheet, k, circuits, banks, floors, upsized,
             marks, t,
@@ -297,11 +297,11 @@ fn is_candidate(
     requires { PairFits level.now a.now b.now leader.now k × (k < length cap.now) × (k < length circuits.now) }
     ensures { result ≡ candidate_at g leader.now level.now a.now b.now cap.now circuits.now t root k }
 {
-    let i = wide(a[k]);
-    let j = wide(b[k]);
+    let i = a[k] as usize;
+    let j = b[k] as usize;
     let tier = fewer(level[i], level[j]);
     let room = has_room(g, cap[k], circuits[k], t.total);
-    (wide(leader[i]) == root) & (room | ((g.top < tier) & (wide(t.hv) < g.hv)))
+    (leader[i] as usize == root) & (room | ((g.top < tier) & ((t.hv as usize) < g.hv)))
 }
 
 // By how much one more circuit narrows the spread, to first order.
@@ -439,8 +439,8 @@ fn corridors_in(leader: &[u32], a: &[u32], root: usize) -> u32
 {
     let mut count = 0;
     for k in 0..a.len() {
-        let i = wide(a[k]);
-        count += one_if(wide(leader[i]) == root);
+        let i = a[k] as usize;
+        count += one_if(leader[i] as usize == root);
     }
     count
 }
@@ -450,7 +450,7 @@ fn batch_cap(leader: &[u32], a: &[u32], root: usize) -> usize
     requires { (length a.now ≤ most_corridors) × ((k : ℕ) → k < length a.now → slice_index a.now k < length leader.now) }
     ensures { result ≡ batch_cap (pairs_for a.now []) leader.now root }
 {
-    let part = STIFFENING_BATCH_SHARE * float(corridors_in(leader, a, root));
+    let part = STIFFENING_BATCH_SHARE * corridors_in(leader, a, root) as f64;
     saturating_f64_to_usize(part.ceil()).max(1)
 }
 
@@ -547,7 +547,7 @@ fn lead_of(leader: &[u32], angle: &[f64], root: usize) -> usize
     let mut best = first_of(leader, root);
     for i in best + 1..leader.len() {
         best = choose(
-            (wide(leader[i]) == root) & (angle[best] < angle[i]),
+            (leader[i] as usize == root) & (angle[best] < angle[i]),
             i,
             best,
         );
@@ -563,7 +563,7 @@ fn lag_of(leader: &[u32], angle: &[f64], root: usize) -> usize
     let mut best = first_of(leader, root);
     for i in best + 1..leader.len() {
         best = choose(
-            (wide(leader[i]) == root) & (angle[i] < angle[best]),
+            (leader[i] as usize == root) & (angle[i] < angle[best]),
             i,
             best,
         );
@@ -736,7 +736,7 @@ pub fn stiffen_led(
         circuits.old banks.old floors.old upsized.old marks.old t
         circuits.new banks.new floors.new upsized.new marks.new result }
 {
-    if wide(leader[i]) == i {
+    if leader[i] as usize == i {
         return stiffen_component(
             i, round, g, ladder, level, a, b, km, share, cap, sheet, leader, grounds, e, angle,
             circuits, banks, floors, upsized, marks, t,

@@ -9,7 +9,7 @@ ghost use Rattle.plan_defs.specs.TopUp.{by_cost, top_up};
 ghost use Rattle.planning.specs.Fill.{Whole};
 ghost use Rattle.planning.specs.Opening.{stage_of, Priced, given_stage};
 
-use crate::figures::{lesser, wide};
+use crate::figures::lesser;
 use crate::fill::order_by;
 use crate::policy::tops_up;
 use mode::PlanMode;
@@ -43,7 +43,7 @@ fn top_up(demand: f64, pmax: &[f64], c1: &[f64], mw: &mut [f64])
     let mut order = [0u32; 256];
     order_costs(c1, &mut order);
     for j in 0..c1.len() {
-        let k = wide(order[j]);
+        let k = order[j] as usize;
         let gap = demand - sum(mw);
         if !(0.0 < gap) {
             return;

@@ -1,4 +1,4 @@
-use Rattle.std.proofs.Common.{◌≡◌, ℕ, max, length, get_or, ap, ◌∙◌}
+use Rattle.std.proofs.Common.{refl, ◌≡◌, ℕ, max, length, get_or, ap, ◌∙◌}
 use lib.Ieee.{Float, to_unsigned}
 use Rattle.loops.specs.Figures.{float, times}
 use Rattle.root.specs.Ceiling.{ceil}
@@ -17,4 +17,4 @@ pub returns : goal.returns
 returns c =
     let z = c.args in
     let n = counting (λ (k : ℕ). within z.leader.now z.root (get_or z.a.now k 0)) (length z.a.now) in
-    c.max.ensures ∙ cap-is n _ _ _ _ c.corridors_in.ensures c.float-part.ensures (c.ceil.ensures ∙ ceil_is _) c.saturating_f64_to_usize.ensures
+    c.max.ensures ∙ cap-is n _ _ _ _ c.corridors_in.ensures refl (c.ceil.ensures ∙ ceil_is _) c.saturating_f64_to_usize.ensures

@@ -6,7 +6,6 @@ ghost use Rattle.plan_defs.specs.Raise.{raise_of, marked, mark_both, can_raise, 
 ghost use Rattle.planning.specs.Raise.{largest_count, pairs_for, PairFits};
 
 use crate::figures::fewer;
-use plan_defs::Raise;
 
 // ---- marks
 // A mark after a raise to level t: the higher of the two.
@@ -49,13 +48,11 @@ pub fn mark_raise_to(
 }
 
 // ---- raises
-pub fn raise_of(mark: u32) -> Raise
+// The level that a mark asks for.
+pub fn raise_of(mark: u32) -> Option<u32>
     ensures { result ≡ raise_of mark }
 {
-    if mark == 0 {
-        return Raise::Stay;
-    }
-    Raise::To(mark - 1)
+    mark.checked_sub(1)
 }
 
 // Raises each marked bus, and answers how many moved.
@@ -66,14 +63,13 @@ pub fn raise_buses(marks: &[u32], level: &mut [u32]) -> u32
 {
     let mut moved = 0;
     for i in 0..level.len() {
-        let Raise::To(to) = raise_of(marks[i]) else {
+        let Some(to) = raise_of(marks[i]) else {
             continue;
         };
-        if to >= level[i] {
-            continue;
+        if to < level[i] {
+            level[i] = to;
+            moved += 1;
         }
-        level[i] = to;
-        moved += 1;
     }
     moved
 }

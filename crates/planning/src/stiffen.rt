@@ -18,7 +18,7 @@ use crate::policy::full_at;
 use crate::raise::{mark_raise_to, raise_of};
 use crate::size::{bank_below, keep_bank};
 use crate::solve::{Edges, susceptance, unit_angles};
-use plan_defs::{CircuitDesign, Raise};
+use plan_defs::CircuitDesign;
 use refusal::Refusal;
 use std::num::saturating_f64_to_usize;
 
@@ -128,7 +128,7 @@ fn arrival(top: u32, level: &[u32], marks: &[u32], i: usize) -> u32
     requires { (i < length level.now) × (i < length marks.now) }
     ensures { (result ≡ arrival top level.now marks.now i) × (result ≤ 1) }
 {
-    let Raise::To(to) = raise_of(marks[i]) else {
+    let Some(to) = raise_of(marks[i]) else {
         return 0;
     };
     one_if((top < level[i]) & (to <= top))

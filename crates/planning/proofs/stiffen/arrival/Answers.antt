@@ -10,4 +10,4 @@ returns-in_default c =
 pub returns : goal.returns
 returns c =
     let s = c.args in
-    (arrival_goes s.top (get_or s.level.now s.i 0) _ _ (get_or s.marks.now s.i 0) _ c.raise_of.ensures c.in-To.is c.one_if.ensures, arrival_most s.top (get_or s.level.now s.i 0) _ _ _ c.in-To.is c.one_if.ensures)
+    (arrival_goes s.top (get_or s.level.now s.i 0) _ _ (get_or s.marks.now s.i 0) _ c.raise_of.ensures c.in-Some.is c.one_if.ensures, arrival_most s.top (get_or s.level.now s.i 0) _ _ _ c.in-Some.is c.one_if.ensures)

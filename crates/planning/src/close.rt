@@ -12,7 +12,7 @@ ghost use Rattle.planning.specs.Fill.{designs_for, Drawable, Loaded};
 ghost use Rattle.planning.specs.Close.{corridors_of, levels_for, wider_by, loadings_by, Rated, cap_full, added_at, Closable, closing_of, figures_if, counts_if, is_refused, lent_to, finished};
 
 use crate::design::circuit;
-use crate::figures::{clear_counts, clear_figures, fewer, greater, lesser, magnitude, pick};
+use crate::figures::{clear_counts, clear_figures, greater, lesser, magnitude, pick};
 use crate::fill::loading;
 use crate::policy::{cap_at, expands};
 use crate::size::PLANNING_UTILISATION;
@@ -112,19 +112,13 @@ fn max_loading(circuits: &[u32], flow: &[f64], rate: &[f64]) -> f64
     most
 }
 
-fn one_if(counts: bool) -> u32
-    ensures { (result ≡ (if counts then 1 else 0)) × (result ≤ 1) }
-{
-    if counts { 1 } else { 0 }
-}
-
 fn overloaded(circuits: &[u32], flow: &[f64], rate: &[f64]) -> u32
     requires { Rated circuits.now flow.now rate.now }
     ensures { result ≡ overloaded_of (loadings_by circuits.now flow.now rate.now) }
 {
     let mut count = 0;
     for k in 0..rate.len() {
-        count += one_if(loading(flow[k], circuits[k], rate[k]) > 1.0 + LOADING_TOLERANCE);
+        count += u32::from(loading(flow[k], circuits[k], rate[k]) > 1.0 + LOADING_TOLERANCE);
     }
     count
 }
@@ -159,7 +153,7 @@ fn capped(
     for k in 0..a.len() {
         let d = circuit(ladder, level, a, b, km, share, sheet, k, banks[k]);
         let most = cap_at(mode, cap[k], d.kv);
-        count += one_if(cap_full(mode, most, circuits[k], flow[k], d.rate_a));
+        count += u32::from(cap_full(mode, most, circuits[k], flow[k], d.rate_a));
     }
     count
 }
@@ -170,7 +164,7 @@ fn count_upsized(upsized: &[u32]) -> u32
 {
     let mut count = 0;
     for k in 0..upsized.len() {
-        count += one_if(1 <= upsized[k]);
+        count += u32::from(1 <= upsized[k]);
     }
     count
 }
@@ -183,7 +177,7 @@ fn unused(above: usize, level: &[u32]) -> u32
 {
     let mut least = above as u32;
     for i in 0..level.len() {
-        least = fewer(least, level[i]);
+        least = least.min(level[i]);
     }
     least
 }

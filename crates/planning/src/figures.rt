@@ -1,5 +1,5 @@
-// Figures and counts: what Rust's min, max, abs, ceil and casts answer; and slices of them, cleared.
-ghost use Rattle.std.specs.Prelude.{◌≡◌, ◌-◌, min, max, length, replicate, if◌then◌else◌};
+// Figures and counts: what Rust's abs, ceil and casts answer; and slices of them, cleared.
+ghost use Rattle.std.specs.Prelude.{◌≡◌, length, replicate, if◌then◌else◌};
 ghost use Rattle.loops.specs.Figures.{nought, lesser, greater, magnitude};
 
 // ---- choices
@@ -32,25 +32,6 @@ pub fn magnitude(x: f64) -> f64
     ensures { result ≡ magnitude x }
 {
     pick(x < 0.0, -x, x)
-}
-
-// ---- counts
-pub fn fewer(m: u32, n: u32) -> u32
-    ensures { result ≡ min m n }
-{
-    if m < n { m } else { n }
-}
-
-pub fn more(m: u32, n: u32) -> u32
-    ensures { result ≡ max m n }
-{
-    if m < n { n } else { m }
-}
-
-pub fn one_if(test: bool) -> u32
-    ensures { result ≡ (if test then 1 else 0) }
-{
-    if test { 1 } else { 0 }
 }
 
 // ---- slices

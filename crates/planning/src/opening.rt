@@ -12,7 +12,7 @@ ghost use Rattle.plan_defs.specs.Lists.{sum_over};
 ghost use Rattle.plan_defs.specs.Outcome.{up_to};
 ghost use Rattle.planning.specs.Opening.{stage_of, stage_if, bus_case, slack_case, dispatch_case, injection_case, Joined, Fleet, Costs, Loads, Picked};
 
-use crate::figures::{clear_counts, clear_figures, more};
+use crate::figures::{clear_counts, clear_figures};
 use crate::solve::BASE_MVA;
 use crate::top_up::give;
 use mode::PlanMode;
@@ -259,7 +259,7 @@ pub fn lower_bounds(initial: &[u32], circuits: &mut [u32])
     ensures { circuits.new ≡ tab (length initial.now) (λ k. max (slice_index initial.now k) 1) }
 {
     for k in 0..initial.len() {
-        circuits[k] = more(initial[k], 1);
+        circuits[k] = initial[k].max(1);
     }
 }
 

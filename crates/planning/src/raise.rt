@@ -5,7 +5,6 @@ ghost use Rattle.plan_defs.specs.Constants.{most_buses};
 ghost use Rattle.plan_defs.specs.Raise.{raise_of, marked, mark_both, can_raise, mark_if, raised_levels, moved_buses};
 ghost use Rattle.planning.specs.Raise.{largest_count, pairs_for, PairFits};
 
-use crate::figures::fewer;
 
 // ---- marks
 // A mark after a raise to level t: the higher of the two.
@@ -13,7 +12,7 @@ fn marked(mark: u32, t: u32) -> u32
     requires { t < largest_count }
     ensures { result ≡ marked mark t }
 {
-    if mark == 0 { t + 1 } else { fewer(mark, t + 1) }
+    if mark == 0 { t + 1 } else { mark.min(t + 1) }
 }
 
 fn mark_both(t: u32, i: usize, j: usize, marks: &mut [u32])
@@ -39,7 +38,7 @@ pub fn mark_raise_to(
 {
     let i = a[k] as usize;
     let j = b[k] as usize;
-    let tier = fewer(level[i], level[j]);
+    let tier = level[i].min(level[j]);
     if tier <= top {
         return false;
     }

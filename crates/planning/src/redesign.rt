@@ -9,7 +9,7 @@ ghost use Rattle.planning.specs.Design.{lines_for, ends_for, Banks, Rated};
 ghost use Rattle.planning.specs.Redesign.{units_for, redesign_for, Units, Corridors, AnewFits, RedesignFits, anew_from, bank_of, fresh_at, banks_anew};
 
 use crate::design::{banked_if, circuit, ends_of};
-use crate::figures::{greater, lesser, more, one_if, pick};
+use crate::figures::{greater, lesser, pick};
 use plan_defs::CircuitDesign;
 
 const MOST_BUSES: usize = 256;
@@ -46,7 +46,7 @@ fn transformer_corridors(
     for k in 0..a.len() {
         let e = ends_of(ladder, level, a, b, k);
         let lo = e.to;
-        shared[lo] = shared[lo] + one_if(e.steps_down);
+        shared[lo] = shared[lo] + u32::from(e.steps_down);
     }
 }
 
@@ -54,7 +54,7 @@ fn transformer_corridors(
 fn fresh_bank(load: f64, generation: f64, shared: u32) -> f64
     ensures { result ≡ fresh_bank load generation shared }
 {
-    let served = greater(load, generation) * TRANSFORMER_HEADROOM / more(shared, 1) as f64;
+    let served = greater(load, generation) * TRANSFORMER_HEADROOM / shared.max(1) as f64;
     greater(served, TRANSFORMER_MIN_MVA)
 }
 

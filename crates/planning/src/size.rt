@@ -8,7 +8,7 @@ ghost use Rattle.planning.specs.Raise.{largest_count, pairs_for, PairFits};
 ghost use Rattle.planning.specs.Size.{size_for, grow_for, set_if, Adds, Grows, CorridorFits, CorridorSized};
 
 use crate::design::{banked_if, circuit};
-use crate::figures::{fewer, lesser, magnitude};
+use crate::figures::{lesser, magnitude};
 use crate::policy::{cap_at, promotes};
 use crate::raise::mark_raise_to;
 use mode::PlanMode;
@@ -108,7 +108,7 @@ fn add(cap: u32, need: u32, k: usize, circuits: &mut [u32], t: Tally) -> Tally
     ensures { Adds cap need k circuits.old t circuits.new result }
 {
     let count = circuits[k];
-    let most = fewer(need, cap);
+    let most = need.min(cap);
     let capped = t.capped | (cap < need);
     if count < most {
         circuits[k] = most;

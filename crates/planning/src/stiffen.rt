@@ -12,7 +12,7 @@ ghost use Rattle.planning.specs.Raise.{largest_count, pairs_for, PairFits};
 ghost use Rattle.planning.specs.Stiffen.{budget_for, Stiffenable, Room, LedStiffened, raisable, room_for, reckoned, Strengthened, StiffenFits, BatchStiffened, Gainful, candidate_at, gain_at, gains_more, gain_next, gain_order, gain_for, Chosen, Stepped, reinforce_step, narrow_step, component_step, Led, lead_of, lag_of};
 
 use crate::design::{circuit, set_transformer_mva};
-use crate::figures::{choose, clear_counts, fewer, one_if};
+use crate::figures::{choose, clear_counts};
 use crate::fill::{insert, total};
 use crate::policy::full_at;
 use crate::raise::{mark_raise_to, raise_of};
@@ -64,7 +64,7 @@ fn at_or_above(level: &[u32], top: u32) -> u32
 {
     let mut count = 0;
     for i in 0..level.len() {
-        count += one_if(level[i] <= top);
+        count += u32::from(level[i] <= top);
     }
     count
 }
@@ -131,7 +131,7 @@ fn arrival(top: u32, level: &[u32], marks: &[u32], i: usize) -> u32
     let Some(to) = raise_of(marks[i]) else {
         return 0;
     };
-    one_if((top < level[i]) & (to <= top))
+    u32::from((top < level[i]) & (to <= top))
 }
 
 // How many ends of corridor k do.
@@ -299,7 +299,7 @@ fn is_candidate(
 {
     let i = a[k] as usize;
     let j = b[k] as usize;
-    let tier = fewer(level[i], level[j]);
+    let tier = level[i].min(level[j]);
     let room = has_room(g, cap[k], circuits[k], t.total);
     (leader[i] as usize == root) & (room | ((g.top < tier) & ((t.hv as usize) < g.hv)))
 }
@@ -440,7 +440,7 @@ fn corridors_in(leader: &[u32], a: &[u32], root: usize) -> u32
     let mut count = 0;
     for k in 0..a.len() {
         let i = a[k] as usize;
-        count += one_if(leader[i] as usize == root);
+        count += u32::from(leader[i] as usize == root);
     }
     count
 }

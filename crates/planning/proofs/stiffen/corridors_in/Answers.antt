@@ -1,6 +1,7 @@
 use Rattle.std.proofs.Common.{◌≡◌, ℕ, ◌+◌, ◌<◌, cond, eqb, length, get_or, refl, ap, ◌∙◌, arith, rules}
 use Rattle.plan_defs.specs.Lists.{count_from, counting}
 use Rattle.planning.proofs.Lists.{count_more, count_most}
+use Rattle.planning.proofs.Served.{byte_is}
 use Rattle.planning.proofs.stiffen.corridors_in.Invariants.{inside}
 use Rattle.planning.proofs.stiffen.corridors_in.Goals as goal
 
@@ -19,7 +20,7 @@ overflow_add-count c =
     let s = c in
     let l = c.loop-k in
     let p = inside s.args.leader.now s.args.a.now s.args.root in
-    let e : c.one_if-count.result ≡ cond (p l.k) 1 0 = c.one_if-count.ensures ∙ ap (λ (i : ℕ). cond (eqb i s.args.root) 1 0) (ap (λ (i : ℕ). get_or s.args.leader.now i 0) refl) in
+    let e : c.from-count.result ≡ cond (p l.k) 1 0 = (byte_is _ _ c.from-count.ensures) ∙ ap (λ (i : ℕ). cond (eqb i s.args.root) 1 0) (ap (λ (i : ℕ). get_or s.args.leader.now i 0) refl) in
     record { fits = omega (arith, s.requires.0, l.invariant.1, count_more p l.k, count_most p (l.k + 1) 0) }
 
 pub loop-k-preserved : goal.loop-k-preserved
@@ -27,7 +28,7 @@ loop-k-preserved c =
     let s = c in
     let l = c.loop-k in
     let p = inside s.args.leader.now s.args.a.now s.args.root in
-    let e : c.one_if-count.result ≡ cond (p l.k) 1 0 = c.one_if-count.ensures ∙ ap (λ (i : ℕ). cond (eqb i s.args.root) 1 0) (ap (λ (i : ℕ). get_or s.args.leader.now i 0) refl) in
+    let e : c.from-count.result ≡ cond (p l.k) 1 0 = (byte_is _ _ c.from-count.ensures) ∙ ap (λ (i : ℕ). cond (eqb i s.args.root) 1 0) (ap (λ (i : ℕ). get_or s.args.leader.now i 0) refl) in
     (omega arith, omega (arith, l.invariant.1, count_more p l.k))
 
 pub returns : goal.returns

@@ -110,30 +110,10 @@ module _ (p : Kept) (target : ℕ) (lent : List ℕ) where
     preview_answered circuits h = ap (outcome no_refusal) h ∙ sym (ap (λ (o : Option Refusal). preview_by o p target lent) passes)
 
 -- ---- filling anew
-module _ (mode : PlanMode) (target : ℕ) (before order cap lent all ahead circuits : List ℕ) (fills : promote mode ≡ true) (h : Refillable before order cap lent)
-    (a : take (length order) all ≡ order) (w : Whole all) (b : take (length before) ahead ≡ before) (c : circuits ≡ take (length lent) ahead) where
-  is_before : circuits ≡ before
-  is_before = c ∙ ap (λ (n : ℕ). take n ahead) h.circuits_size ∙ b
-
+module _ (mode : PlanMode) (target : ℕ) (before order cap lent all : List ℕ) (fills : promote mode ≡ true) (h : Refillable before order cap lent) (a : take (length order) all ≡ order)
+    (circuits : List ℕ) (c : circuits ≡ before) where
   is_order : take (length circuits) all ≡ order
-  is_order = ap (λ (l : List ℕ). take (length l) all) is_before ∙ ap (λ (n : ℕ). take n all) (sym h.order_size) ∙ a
-
-  pub fills_anew : (Ranked (length circuits) all (length circuits) × (length cap ≡ length circuits)) × Counted circuits
-  fills_anew =
-      subst (λ (l : List ℕ). (Ranked (length l) all (length l) × (length cap ≡ length l)) × Counted l) (sym is_before) (
-        (
-          record {
-            few = h.few;
-            size = w;
-            below = λ j q.
-                let e : get_or (take (length order) all) j 0 ≡ get_or all j 0 = get_or-take (length order) all j 0 (omega (arith, h.order_size)) in
-                let f : get_or (take (length order) all) j 0 ≡ get_or order j 0 = ap (λ (l : List ℕ). get_or l j 0) a in
-                omega (arith, h.named j (omega (arith, h.order_size)));
-          },
-          h.cap_size,
-        ),
-        record { few = h.few; each = h.counts },
-      )
+  is_order = ap (λ (l : List ℕ). take (length l) all) c ∙ ap (λ (n : ℕ). take n all) (sym h.order_size) ∙ a
 
   pub filled_anew : (circuits' : List ℕ) → circuits' ≡ (fill (caps_for mode cap) target (take (length circuits) all) circuits).counts
       → circuits' ≡ refilled (kept_as mode (length before) before order cap) target
@@ -141,7 +121,7 @@ module _ (mode : PlanMode) (target : ℕ) (before order cap lent all ahead circu
   filled_anew circuits' e =
       e
       ∙ ap (λ (l : List ℕ). (fill (caps_for mode cap) target l circuits).counts) is_order
-      ∙ ap (λ (l : List ℕ). (fill (caps_for mode cap) target order l).counts) is_before
+      ∙ ap (λ (l : List ℕ). (fill (caps_for mode cap) target order l).counts) c
       ∙ ap (λ (t : Bool). (filled_if t (full_of cap) target order (unfilled before)).counts) fills
 
 -- the number of corridors is no part of the filling

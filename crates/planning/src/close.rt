@@ -293,18 +293,11 @@ pub fn keep_if(keeps: bool, kept: [u32; 256], to: &mut [u32])
     requires { length to.old ≤ most_corridors }
     ensures { to.new ≡ kept_if keeps (length to.old) (take (length to.old) kept) }
 {
-    clear_counts(to);
     if keeps {
-        copy_front(kept, to);
+        to.copy_from_slice(&kept[..to.len()]);
+    } else {
+        clear_counts(to);
     }
-}
-
-// The front of an array.
-pub fn copy_front(from: [u32; 256], to: &mut [u32])
-    requires { length to.old ≤ most_corridors }
-    ensures { to.new ≡ take (length to.old) from }
-{
-    to.copy_from_slice(&from[..to.len()]);
 }
 
 // After 8 or 9 every result place is zero; work is zero always.

@@ -178,9 +178,7 @@ pub fn copied(circuits: &[u32]) -> [u32; 256]
     ensures { (take (length circuits.now) result ≡ circuits.now) × Whole result }
 {
     let mut out = [0u32; 256];
-    for k in 0..circuits.len() {
-        out[k] = circuits[k];
-    }
+    out[..circuits.len()].copy_from_slice(circuits);
     out
 }
 

@@ -101,13 +101,10 @@ pub fn plan_corridors(
         counts: counts.len(),
     };
     let fits = lent::places_ok(n, m, g, above, places);
-    match check_case(
+    check_case(
         fits, target, n, m, g, above, requested, ladder, tier, reading, weight, bus, slack, pmin,
         pmax, c1, c2, a, b, initial, km, share, cap, sheet,
-    ) {
-        Err(f) => return Err(f),
-        Ok(()) => {}
-    }
+    )?;
     let load = weigh(reading, weight);
     let ran = plan::run(
         mode,

@@ -7,7 +7,6 @@ ghost use Rattle.plan_defs.specs.Preview.{kept_as, count_ok, place_ok, preview_f
 ghost use Rattle.acceptance.specs.Check.{answer_of};
 ghost use Rattle.planning.specs.Preview.{counts_for, order_for, Refillable};
 
-use crate::close::copy_front;
 use crate::fill::{copied, fill};
 use crate::policy::promotes;
 use mode::PlanMode;
@@ -96,7 +95,6 @@ pub fn refill(
     ensures { circuits.new ≡ refilled (kept_as mode (length before.now) before.now order.now cap.now) target }
 {
     let all = copied(order);
-    let first = copied(before);
-    copy_front(first, circuits);
+    circuits.copy_from_slice(before);
     fill(mode, target, cap, &all, circuits);
 }

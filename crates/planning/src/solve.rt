@@ -176,13 +176,12 @@ fn finite_flows(flow: &[f64]) -> Result<(), Refusal>
 }
 
 // ---- planning_state
+// At the front of an array.
 fn copy(angle: &[f64], guess: &mut [f64; 256])
     requires { (length angle.now ≤ most) × (length guess.old ≡ most) }
     ensures { take (length angle.now) guess.new ≡ angle.now }
 {
-    for i in 0..angle.len() {
-        guess[i] = angle[i];
-    }
+    guess[..angle.len()].copy_from_slice(angle);
 }
 
 // The angles and the flows at the peak on these edges, from the angles that `angle` holds; refusal 9 where one of them is not finite.

@@ -71,4 +71,3 @@ pub struct CorridorPlan {
     pub grounds: u32,
     pub added: u32,
 }
-

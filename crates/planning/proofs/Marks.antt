@@ -55,10 +55,6 @@ mark_lifts c level true k marks = refl
 mark_lifts c level false k marks = refl
 
 -- ---- raises
-pub raise_some : (m : ℕ) → (m ≡ 0 → ⊥) → Some (m - 1) ≡ raise_of m
-raise_some zero h = absurd (h refl)
-raise_some (suc t) h = let e : suc t - 1 ≡ t = omega arith in ap Some e
-
 module _ (marks level₀ : List ℕ) where
   -- where bus i goes, and whether it moves
   abbrev pub goes : ℕ → ℕ

@@ -1,6 +1,6 @@
 -- The preview over slices: each refusal is the defined one, what passes can be filled anew, and so filled it is the defined preview.
 -- The tests of the code are those of the definition, in its order; the arrays' fronts are what the plan keeps.
-use Rattle.std.proofs.Common.{◌≡◌, ℕ, ◌<◌, ◌≤◌, Bool, true, false, cond, eqb, ltb, leb, List, length, get_or, take, sym, refl, ap, ◌∙◌, subst, arith, get_or-take, le-ltb, lt-ltb, eqb-true, leb-true}
+use Rattle.std.proofs.Common.{◌≡◌, ℕ, ◌<◌, Bool, true, cond, eqb, ltb, List, length, get_or, take, sym, refl, ap, ◌∙◌, subst, arith, le-ltb, lt-ltb, eqb-true}
 use mathlib.Core.Option.{Option, none, some}
 use Rattle.loops.specs.Loops.{first, fault}
 use Rattle.loops.proofs.Scan.{fault_some, fault_passed}
@@ -8,13 +8,12 @@ use Rattle.loops.proofs.Bools.{both}
 use Rattle.mode.specs.declared.PlanMode.{PlanMode}
 use Rattle.refusal.specs.declared.Refusal.{Refusal}
 use Rattle.refusal.specs.declared.Refusal.TheVariants.{Length, Count, Corridor, Mode, Order}
-use Rattle.plan_defs.specs.Constants.{most_corridors}
 use Rattle.plan_defs.specs.Case.{promote, full_of, full_at}
 use Rattle.plan_defs.specs.Fill.{unfilled, filled_if, fill}
 use Rattle.plan_defs.specs.Preview.{Kept, kept_as, lengths_ok, counts_ok, count_ok, place_ok, kept_fault, preview_fault, refilled, outcome, preview_by, preview}
 use Rattle.plan_theorems.proofs.Preview.{sound_of}
 use Rattle.acceptance.specs.Check.{answer_of}
-use Rattle.planning.specs.Fill.{caps_for, Whole, Ranked, Counted}
+use Rattle.planning.specs.Fill.{caps_for}
 use Rattle.planning.specs.Preview.{counts_for, order_for, Refillable}
 use Rattle.std.specs.Prelude.{Err, Result, Option as Found, Some, None}
 use Rattle.refusal.specs.Reply.{no_refusal}

@@ -14,7 +14,6 @@ use Rattle.dispatch_defs.specs.Dispatch.{faulty_cost}
 use Rattle.dispatch_defs.specs.Operation.{demand_ok}
 use Rattle.dispatch_defs.specs.Limits.{Accepted, SoundUnits}
 use Rattle.plan_defs.specs.Stage.{Stage, stopped, going}
-use Rattle.plan_defs.specs.Constants.{most_generators}
 use Rattle.plan_defs.specs.Lists.{sum_over}
 use Rattle.plan_defs.specs.Case.{Case, tops_up}
 use Rattle.plan_defs.specs.Components.{leads, members, unit_within, units_in}

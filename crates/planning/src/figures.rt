@@ -1,4 +1,4 @@
-// Figures and counts: what Rust's abs, ceil and casts answer; and slices of them, cleared.
+// Figures as the definition compares them; and slices of them, cleared.
 ghost use Rattle.std.specs.Prelude.{◌≡◌, length, replicate, if◌then◌else◌};
 ghost use Rattle.loops.specs.Figures.{nought, lesser, greater, magnitude};
 
@@ -16,6 +16,8 @@ pub fn choose(first: bool, i: usize, j: usize) -> usize
 }
 
 // ---- f64
+// Not f64's own methods: its `min` and `max` pass over a NaN and leave open which of 0 and -0 they give, and its `abs` makes -0 a 0; the
+// definition says each.
 pub fn lesser(x: f64, y: f64) -> f64
     ensures { result ≡ lesser x y }
 {

@@ -5,7 +5,6 @@ ghost use Rattle.plan_defs.specs.Constants.{most_buses};
 ghost use Rattle.plan_defs.specs.Raise.{raise_of, marked, mark_both, can_raise, mark_if, raised_levels, moved_buses};
 ghost use Rattle.planning.specs.Raise.{largest_count, pairs_for, PairFits};
 
-
 // ---- marks
 // A mark after a raise to level t: the higher of the two.
 fn marked(mark: u32, t: u32) -> u32

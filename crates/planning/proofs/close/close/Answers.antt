@@ -1,5 +1,5 @@
 -- Each figure is its function's; the ratings are the designs'.
-use Rattle.std.proofs.Common.{◌∙◌, arith}
+use Rattle.std.proofs.Common.{arith}
 use Rattle.planning.proofs.Closings.{rated_of, closing_is, tiers_are, added_are, least_most, least_each}
 use Rattle.planning.proofs.close.close.Goals as goal
 

@@ -1,5 +1,4 @@
 -- A bus that leads has its component's spread; any other changes nothing.
-use Rattle.std.proofs.Common.{sym, ◌∙◌}
 use Rattle.planning.proofs.Closings.{wider_leads, wider_not}
 use Rattle.planning.proofs.close.wider.Goals as goal
 

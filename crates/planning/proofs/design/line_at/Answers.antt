@@ -1,5 +1,5 @@
 -- The row at the higher end's level. Its place has a product with that level, which omega takes for one figure: the equation of the level goes into it.
-use Rattle.std.proofs.Common.{refl, ℕ, ◌*◌, length, ap, ◌∙◌, arith}
+use Rattle.std.proofs.Common.{refl, ◌∙◌}
 use Rattle.planning.proofs.Draws.{line_is}
 use Rattle.planning.proofs.design.line_at.Goals as goal
 

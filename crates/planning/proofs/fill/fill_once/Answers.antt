@@ -1,7 +1,6 @@
-use Rattle.std.proofs.Common.{ℕ, ◌^◌, ◌<◌, length, get_or, sym, refl, ap, ◌∙◌, arith, length-set}
+use Rattle.std.proofs.Common.{◌^◌, ◌<◌, length, get_or, sym, refl, ◌∙◌, arith, length-set}
 use Rattle.loops.proofs.Loops.{iter_more, iter_end}
 use Rattle.plan_defs.specs.Case.{full_of}
-use Rattle.plan_defs.specs.Fill.{fill_at}
 use Rattle.planning.specs.Fill.{filled_as}
 use Rattle.planning.proofs.Fillings.{total_fits, count_fits, tally, fill_corridor, once_start}
 use Rattle.planning.proofs.fill.fill_once.Goals as goal

@@ -74,32 +74,53 @@ pub offset_bounds-units-index : goal.offset_bounds-units-index
 offset_bounds-units-index c =
     let s = c in
     let u = c.units_in-count.ensures in
-    record { fits = omega (arith, u.count, units_few s.args.leader.now s.args.bus.now s.args.root, s.requires.0.few, refused_index s.args.mode s.args.leader.now s.args.load.now s.args.bus.now s.args.pmin.now s.args.pmax.now s.args.c1.now s.args.c2.now s.args.root s.requires.0 s.requires.1 s.requires.2
-    _ _ u.count u.kept _ _ _ _
-    c.figures_of.ensures c.figures_of-2.ensures c.figures_of-3.ensures c.figures_of-4.ensures
-    _ c.demand_of-demand.ensures
-    c.give.result _ c.give.ensures _ c.in-Err.is c.index.result c.index.ensures) }
+    record {
+      fits = omega (
+        arith,
+        u.count,
+        units_few s.args.leader.now s.args.bus.now s.args.root,
+        s.requires.0.few,
+        refused_index s.args.mode s.args.leader.now s.args.load.now s.args.bus.now s.args.pmin.now s.args.pmax.now s.args.c1.now s.args.c2.now s.args.root s.requires.0 s.requires.1 s.requires.2
+            _ _ u.count u.kept _ _ _ _
+            c.figures_of.ensures c.figures_of-2.ensures c.figures_of-3.ensures c.figures_of-4.ensures
+            _ c.demand_of-demand.ensures
+            c.give.result _ c.give.ensures _ c.in-Err.is c.index.result c.index.ensures,
+      );
+    }
 
 pub bounds-units-index : goal.bounds-units-index
 bounds-units-index c =
     let s = c in
     let u = c.units_in-count.ensures in
-    omega (arith, u.count, units_few s.args.leader.now s.args.bus.now s.args.root, s.requires.0.few, refused_index s.args.mode s.args.leader.now s.args.load.now s.args.bus.now s.args.pmin.now s.args.pmax.now s.args.c1.now s.args.c2.now s.args.root s.requires.0 s.requires.1 s.requires.2
-    _ _ u.count u.kept _ _ _ _
-    c.figures_of.ensures c.figures_of-2.ensures c.figures_of-3.ensures c.figures_of-4.ensures
-    _ c.demand_of-demand.ensures
-    c.give.result _ c.give.ensures _ c.in-Err.is c.index.result c.index.ensures)
+    omega (
+      arith,
+      u.count,
+      units_few s.args.leader.now s.args.bus.now s.args.root,
+      s.requires.0.few,
+      refused_index s.args.mode s.args.leader.now s.args.load.now s.args.bus.now s.args.pmin.now s.args.pmax.now s.args.c1.now s.args.c2.now s.args.root s.requires.0 s.requires.1 s.requires.2
+          _ _ u.count u.kept _ _ _ _
+          c.figures_of.ensures c.figures_of-2.ensures c.figures_of-3.ensures c.figures_of-4.ensures
+          _ c.demand_of-demand.ensures
+          c.give.result _ c.give.ensures _ c.in-Err.is c.index.result c.index.ensures,
+    )
 
 pub overflow_cast-result : goal.overflow_cast-result
 overflow_cast-result c =
     let s = c in
     let u = c.units_in-count.ensures in
     let p = picked s.args.leader.now s.args.bus.now s.args.root s.requires.0 _ _ _ u.count u.kept s.requires.1.pmin_size in
-    record { fits = omega (arith, s.requires.0.few, s.requires.1.pmin_size, p.below c.index.result (refused_index s.args.mode s.args.leader.now s.args.load.now s.args.bus.now s.args.pmin.now s.args.pmax.now s.args.c1.now s.args.c2.now s.args.root s.requires.0 s.requires.1 s.requires.2
-    _ _ u.count u.kept _ _ _ _
-    c.figures_of.ensures c.figures_of-2.ensures c.figures_of-3.ensures c.figures_of-4.ensures
-    _ c.demand_of-demand.ensures
-    c.give.result _ c.give.ensures _ c.in-Err.is c.index.result c.index.ensures)) }
+    record {
+      fits = omega (
+        arith,
+        s.requires.0.few,
+        s.requires.1.pmin_size,
+        p.below c.index.result (refused_index s.args.mode s.args.leader.now s.args.load.now s.args.bus.now s.args.pmin.now s.args.pmax.now s.args.c1.now s.args.c2.now s.args.root s.requires.0 s.requires.1 s.requires.2
+            _ _ u.count u.kept _ _ _ _
+            c.figures_of.ensures c.figures_of-2.ensures c.figures_of-3.ensures c.figures_of-4.ensures
+            _ c.demand_of-demand.ensures
+            c.give.result _ c.give.ensures _ c.in-Err.is c.index.result c.index.ensures),
+      );
+    }
 
 pub returns-in-Err : goal.returns-in-Err
 returns-in-Err c =

@@ -12,10 +12,10 @@ returns-then-corridor-order c =
     let l = c.loop-j in
     let s = l.invariant.named in
     fault_at _ _ l.j l.invariant.passed c.loop-j-test.true (
-      elim c.then-corridor-order.branch [
-        | then-corridor-order-via-then-corridor-order w ↦ past_faulty _ _ _ s _ refl w.if-corridor-order.true
-        | then-corridor-order-via-else-corridor-order+then-named-corridor-ne0 w ↦ again_faulty _ _ _ s _ refl (omega (arith, w.if-corridor-order.false, c.requires)) w.if-named-corridor-ne0.true
-      ]
+    elim c.then-corridor-order.branch [
+      | then-corridor-order-via-then-corridor-order w ↦ past_faulty _ _ _ s _ refl w.if-corridor-order.true
+      | then-corridor-order-via-else-corridor-order+then-named-corridor-ne0 w ↦ again_faulty _ _ _ s _ refl (omega (arith, w.if-corridor-order.false, c.requires)) w.if-named-corridor-ne0.true
+    ]
     )
 
 pub loop-j-preserved : goal.loop-j-preserved

@@ -8,5 +8,5 @@ use Rattle.planning.proofs.preview.faulty_place.Given as goal
 abbrev pub invariant-loop-j : goal.invariant-loop-j
 invariant-loop-j l = record {
   passed : (i : ℕ) → i < l.j → place_ok (order_for l.order) i ≡ true;
-  named : Named l.order l.named l.j
+  named : Named l.order l.named l.j;
 }

@@ -26,20 +26,20 @@ loop-i-preserved c =
     let e = l.invariant.2 in
     elim c.if-to-level.branch [
       | then-to-level w ↦
-        rw (w.level-is, w.moved-is) (
-          simp length-set l.invariant.0,
-          omega arith,
-          moves_filled z.marks.now z.level.now _ _ _ c.loop-i-test.true e p _ c.in-Some.is w.if-to-level.true,
-          moves_counted z.marks.now z.level.now _ _ _ c.loop-i-test.true e p _ c.in-Some.is w.if-to-level.true _ l.invariant.3,
-        )
+          rw (w.level-is, w.moved-is) (
+            simp length-set l.invariant.0,
+            omega arith,
+            moves_filled z.marks.now z.level.now _ _ _ c.loop-i-test.true e p _ c.in-Some.is w.if-to-level.true,
+            moves_counted z.marks.now z.level.now _ _ _ c.loop-i-test.true e p _ c.in-Some.is w.if-to-level.true _ l.invariant.3,
+          )
       | else-to-level w ↦
-        let f = low_moves _ _ _ c.in-Some.is w.if-to-level.false in
-        rw (w.level-is, w.moved-is) (
-          l.invariant.0,
-          omega arith,
-          stays_filled z.marks.now z.level.now _ _ _ c.loop-i-test.true e p f,
-          stays_counted z.marks.now z.level.now _ _ _ c.loop-i-test.true e p _ f l.invariant.3,
-        )
+          let f = low_moves _ _ _ c.in-Some.is w.if-to-level.false in
+          rw (w.level-is, w.moved-is) (
+            l.invariant.0,
+            omega arith,
+            stays_filled z.marks.now z.level.now _ _ _ c.loop-i-test.true e p f,
+            stays_counted z.marks.now z.level.now _ _ _ c.loop-i-test.true e p _ f l.invariant.3,
+          )
     ]
 
 pub returns : goal.returns

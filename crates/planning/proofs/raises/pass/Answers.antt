@@ -1,4 +1,4 @@
-use Rattle.std.proofs.Common.{rules, ◌≡◌, Err, refl, ◌∙◌}
+use Rattle.std.proofs.Common.{rules, ◌≡◌, Err, ◌∙◌}
 use Rattle.planning.proofs.Marks.{moved_within}
 use Rattle.planning.proofs.Heavies.{lines_again, pass_refused, pass_going}
 use Rattle.planning.proofs.raises.pass.Goals as goal

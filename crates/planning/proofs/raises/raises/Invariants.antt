@@ -1,4 +1,3 @@
-use Rattle.std.proofs.Common.{◌-◌, length}
 use Rattle.planning.proofs.Promoting.{Underway}
 use Rattle.planning.proofs.raises.raises.Given as goal
 

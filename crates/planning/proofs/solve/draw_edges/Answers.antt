@@ -1,9 +1,8 @@
-use Rattle.std.proofs.Common.{get_or, refl, ℕ, ◌<◌, length, ap, ◌∙◌, arith, rules}
+use Rattle.std.proofs.Common.{get_or, ℕ, ◌<◌, length, ap, ◌∙◌, arith, rules}
 use lib.ListN.{length-replicate}
 use lib.Ieee.{Float}
 use Rattle.loops.specs.Figures.{float, at, times, nought}
 use Rattle.loops.proofs.Tab.{fill_start, fill_turn, fill_length}
-use Rattle.plan_defs.specs.Design.{drawn}
 use Rattle.plan_defs.specs.Solve.{susceptance}
 use Rattle.plan_defs.specs.declared.CircuitDesign.{CircuitDesign}
 use Rattle.planning.specs.Design.{lines_for}

@@ -11,11 +11,11 @@ returns-then-j-most-clause-batch c =
     let s = c.args in
     let l = c.loop-j in
     sym (
-      elim c.then-j-most.branch [
-        | then-j-most-via-then-j-most w ↦ take_most s.gain.now s.order.now s.count s.most s.excess (omega (arith, c.requires.0.size, c.requires.1)) l.j l.covered w.if-j-most.true
-        | then-j-most-via-else-j-most+then-not-covered-excess w ↦
+    elim c.then-j-most.branch [
+      | then-j-most-via-then-j-most w ↦ take_most s.gain.now s.order.now s.count s.most s.excess (omega (arith, c.requires.0.size, c.requires.1)) l.j l.covered w.if-j-most.true
+      | then-j-most-via-else-j-most+then-not-covered-excess w ↦
           take_covered s.gain.now s.order.now s.count s.most s.excess (omega (arith, c.requires.0.size, c.requires.1)) l.j l.covered c.loop-j-test.true (omega (arith, w.if-j-most.false)) w.if-not-covered-excess.true
-      ]
+    ]
     ) ∙ l.invariant
 
 pub loop-j-preserved : goal.loop-j-preserved

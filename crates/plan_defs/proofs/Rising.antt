@@ -17,8 +17,7 @@ use Rattle.plan_defs.specs.Case.{Case, promote, levels, first_levels}
 use Rattle.plan_defs.specs.Solve.{Peak, planning_state}
 use Rattle.plan_defs.specs.Raise.{no_marks, raise_of, mark_bus, mark_both, raised_to, moves, raised_levels, moved_buses, Raised, heavy_marks, passed_to, passed_by, passes, pass_count, raises}
 use Rattle.plan_defs.specs.Plan.{first_raised}
-use Rattle.plan_defs.specs.declared.Raise.{Raise}
-use Rattle.plan_defs.specs.declared.Raise.TheVariants.{Stay, To}
+use Rattle.std.specs.Prelude.{Option, Some, None}
 use Rattle.plan_defs.proofs.Lists.{counting_next, count_none, sum_tab}
 use Rattle.plan_defs.proofs.Stages.{On, on_onward}
 use Rattle.plan_defs.proofs.Accepted.{Accepted, first_below}
@@ -26,18 +25,18 @@ use Rattle.plan_defs.proofs.Drawn.{Drawn, drawn_first, drawn_again}
 use Rattle.plan_defs.proofs.Solved.{Solved, solved}
 
 -- ---- one bus
-pub raised_le : (l : ℕ) (r : Raise) → raised_to l r ≤ l
-raised_le l Stay = le_refl l
-raised_le l (To t) = go (ltb t l) refl
+pub raised_le : (l : ℕ) (r : Option ℕ) → raised_to l r ≤ l
+raised_le l None = le_refl l
+raised_le l (Some t) = go (ltb t l) refl
   where
     go : (b : Bool) → ltb t l ≡ b → cond b t l ≤ l
     go true e = let z = ltb-true t l e in omega arith
     go false e = le_refl l
 
 -- where it moves it loses a level
-moved_less : (l : ℕ) (r : Raise) → cond (moves l r) 1 0 + raised_to l r ≤ l
-moved_less l Stay = omega arith
-moved_less l (To t) = go (ltb t l) refl
+moved_less : (l : ℕ) (r : Option ℕ) → cond (moves l r) 1 0 + raised_to l r ≤ l
+moved_less l None = omega arith
+moved_less l (Some t) = go (ltb t l) refl
   where
     go : (b : Bool) → ltb t l ≡ b → cond b 1 0 + cond b t l ≤ l
     go true e = let z = ltb-true t l e in omega arith

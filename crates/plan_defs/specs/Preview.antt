@@ -2,7 +2,7 @@
 -- filling, the filling order and the corridors' own caps that the plan keeps. Refusals, in order, which touch nothing: 1; 2; 18 the mode does not fill;
 -- 6 a kept count is outside 1 to 64 or a cap above 6 (index: the corridor); 30 the order does not name each corridor once (index: the first place that
 -- names none, or one again).
-use Rattle.std.specs.Prelude.{ℕ, Bool, not, cond, ◌&&◌, List, leb, ltb, eqb, length, get_or, Err, Ok, Result}
+use Rattle.std.specs.Prelude.{ℕ, Bool, not, cond, ◌&&◌, List, leb, ltb, eqb, length, get_or, Err, Result}
 use Rattle.std.proofs.Math.Option.{Option, none, some}
 use Rattle.loops.specs.Loops.{first}
 use Rattle.mode.specs.declared.PlanMode.{PlanMode}

@@ -1,6 +1,6 @@
 -- Raises: `mark_raise_to`, `raise_buses`, and the raises before the rounds ("1. Voltage class by power and distance" of `plan_corridors`).
 -- A mark at a bus is 0 for none, and t + 1 for a raise to level t. Levels count from the highest, so a raise lowers the number.
-use Rattle.std.specs.Prelude.{ℕ, zero, suc, ◌+◌, ◌-◌, min, Bool, true, false, cond, ◌&&◌, List, ltb, length, get_or, set, replicate, Float}
+use Rattle.std.specs.Prelude.{ℕ, zero, suc, ◌+◌, ◌-◌, min, Bool, true, false, cond, ◌&&◌, List, ltb, length, get_or, set, replicate, Float, Option, Some, None}
 use Rattle.std.specs.Float.Ieee.{lt}
 use Rattle.loops.specs.Figures.{at, two, times, magnitude}
 use Rattle.loops.specs.Loops.{iter, tab}
@@ -11,8 +11,6 @@ use Rattle.plan_defs.specs.Stage.{Stage, going, onward}
 use Rattle.plan_defs.specs.Case.{Case, promote, levels, end_a, end_b}
 use Rattle.plan_defs.specs.Design.{design, redesign}
 use Rattle.plan_defs.specs.Solve.{Peak, planning_state}
-use Rattle.plan_defs.specs.declared.Raise.{Raise}
-use Rattle.plan_defs.specs.declared.Raise.TheVariants.{Stay, To}
 use Rattle.plan_defs.specs.declared.CircuitDesign.{CircuitDesign}
 
 -- ---- marks
@@ -20,9 +18,9 @@ abbrev pub no_marks : ℕ → List ℕ
 no_marks n = replicate n 0
 
 -- a mark's raise, and a mark after a raise to t: the higher of the two
-abbrev pub raise_of : ℕ → Raise
-raise_of zero = Stay
-raise_of (suc t) = To t
+abbrev pub raise_of : ℕ → Option ℕ
+raise_of zero = None
+raise_of (suc t) = Some t
 
 abbrev pub marked : ℕ → ℕ → ℕ
 marked zero t = suc t
@@ -50,13 +48,13 @@ mark_if true c level k marks = mark_ends c level k marks
 mark_if false c level k marks = marks
 
 -- ---- raise_buses: a bus moves where its raise is to a higher level
-abbrev pub raised_to : ℕ → Raise → ℕ
-raised_to l Stay = l
-raised_to l (To t) = cond (ltb t l) t l
+abbrev pub raised_to : ℕ → Option ℕ → ℕ
+raised_to l None = l
+raised_to l (Some t) = cond (ltb t l) t l
 
-abbrev pub moves : ℕ → Raise → Bool
-moves l Stay = false
-moves l (To t) = ltb t l
+abbrev pub moves : ℕ → Option ℕ → Bool
+moves l None = false
+moves l (Some t) = ltb t l
 
 unfoldable pub raised_levels : List ℕ → List ℕ → List ℕ
 raised_levels level marks = tab (length level) (λ i. raised_to (get_or level i 0) (raise_of (get_or marks i 0)))

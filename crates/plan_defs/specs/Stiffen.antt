@@ -1,5 +1,5 @@
 -- Stiffening: each component whose angles are spread too wide, by ascending leader. The second loop of a round of `plan_corridors`, for a mode that promotes.
-use Rattle.std.specs.Prelude.{ℕ, zero, suc, ◌+◌, max, Bool, true, false, cond, ◌&&◌, ◌||◌, List, [], ◌∷◌, ltb, leb, length, get_or, set, Float}
+use Rattle.std.specs.Prelude.{ℕ, zero, suc, ◌+◌, max, Bool, true, false, cond, ◌&&◌, ◌||◌, List, [], ◌∷◌, ltb, leb, length, get_or, set, Float, Option, Some, None}
 use Rattle.std.specs.Float.Ieee.{lt, le, neg, to_unsigned}
 use Rattle.loops.specs.Figures.{at, float, plus, minus, times, nought, one}
 use Rattle.root.specs.Ceiling.{ceil}
@@ -15,8 +15,6 @@ use Rattle.plan_defs.specs.Design.{design}
 use Rattle.plan_defs.specs.Solve.{Peak, PlanningCase, susceptance, all_finite}
 use Rattle.plan_defs.specs.Raise.{no_marks, raise_of, can_raise, mark_ends}
 use Rattle.plan_defs.specs.Build.{Build, count_at, circuit_at, set_bank, set_count, bank_below}
-use Rattle.plan_defs.specs.declared.Raise.{Raise}
-use Rattle.plan_defs.specs.declared.Raise.TheVariants.{Stay, To}
 use Rattle.plan_defs.specs.declared.CircuitDesign.{CircuitDesign}
 
 -- ---- budgets: buses at or above `top`, and circuits in all. `top` is the highest level to raise to: of those requested, until their share of
@@ -67,9 +65,9 @@ stiffen_from level G b stiffening = stiff b (no_marks (length level)) (sum b.cir
 
 -- ---- one corridor: a full bank, else a raise, else a circuit, else nothing
 -- 1 where a bus comes to the top or above
-abbrev pub arrives : ℕ → ℕ → Raise → ℕ
-arrives top l Stay = 0
-arrives top l (To t) = cond (ltb top l && leb t top) 1 0
+abbrev pub arrives : ℕ → ℕ → Option ℕ → ℕ
+arrives top l None = 0
+arrives top l (Some t) = cond (ltb top l && leb t top) 1 0
 
 abbrev pub arrival : ℕ → List ℕ → List ℕ → ℕ → ℕ
 arrival top level marks i = arrives top (get_or level i 0) (raise_of (get_or marks i 0))

@@ -42,14 +42,6 @@ pub struct CircuitDesign {
     pub rate_spread: f64,
 }
 
-// Where a bus is to go.
-#[derive(Clone, Copy)]
-pub enum Raise {
-    Stay,
-    // To this level of the ladder, the highest being 0.
-    To(u32),
-}
-
 // What a sizing round leads to.
 #[derive(Clone, Copy)]
 pub enum RoundEnd {
@@ -79,4 +71,3 @@ pub struct CorridorPlan {
     pub grounds: u32,
     pub added: u32,
 }
-

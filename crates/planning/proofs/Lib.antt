@@ -4,6 +4,7 @@ pub mod Caps
 pub mod Lists
 pub mod Draws
 pub mod Ratings
+pub mod Searches
 pub mod Served
 pub mod Anew
 pub mod Builds

@@ -8,8 +8,7 @@ use Rattle.loops.proofs.Tab.{length_tab, get_tab, tab_same, tab_of, fill_turn, f
 use Rattle.plan_defs.specs.Lists.{counting}
 use Rattle.plan_defs.specs.Case.{Case}
 use Rattle.plan_defs.specs.Raise.{raise_of, marked, mark_bus, mark_both, top_of, can_raise, mark_if, raised_to, moves, raised_levels, moved_buses}
-use Rattle.plan_defs.specs.declared.Raise.{Raise}
-use Rattle.plan_defs.specs.declared.Raise.TheVariants.{Stay, To}
+use Rattle.std.specs.Prelude.{Option, Some, None}
 use Rattle.planning.specs.Design.{Lines}
 use Rattle.planning.specs.Raise.{pairs_for}
 use Rattle.planning.proofs.Lists.{count_more, count_most, count_zero}
@@ -56,10 +55,6 @@ mark_lifts c level true k marks = refl
 mark_lifts c level false k marks = refl
 
 -- ---- raises
-pub raise_some : (m : ℕ) → (m ≡ 0 → ⊥) → To (m - 1) ≡ raise_of m
-raise_some zero h = absurd (h refl)
-raise_some (suc t) h = let e : suc t - 1 ≡ t = omega arith in ap To e
-
 module _ (marks level₀ : List ℕ) where
   -- where bus i goes, and whether it moves
   abbrev pub goes : ℕ → ℕ
@@ -68,7 +63,7 @@ module _ (marks level₀ : List ℕ) where
   abbrev pub moving : ℕ → Bool
   moving i = moves (get_or level₀ i 0) (raise_of (get_or marks i 0))
 
-  module _ (level : List ℕ) (i : ℕ) (r : Raise) (h : i < length level₀) (e : level ≡ filled level₀ goes i) (p : r ≡ raise_of (get_or marks i 0)) where
+  module _ (level : List ℕ) (i : ℕ) (r : Option ℕ) (h : i < length level₀) (e : level ≡ filled level₀ goes i) (p : r ≡ raise_of (get_or marks i 0)) where
     own : get_or level i 0 ≡ get_or level₀ i 0
     own = fill_own level₀ level goes i 0 e h
 
@@ -81,9 +76,9 @@ module _ (marks level₀ : List ℕ) where
     kept_at : moves (get_or level i 0) r ≡ false → get_or level i 0 ≡ raised_to (get_or level i 0) r
     kept_at = go r
       where
-        go : (r : Raise) → moves (get_or level i 0) r ≡ false → get_or level i 0 ≡ raised_to (get_or level i 0) r
-        go Stay f = refl
-        go (To t) f = sym (ap (λ (b : Bool). cond b t (get_or level i 0)) f)
+        go : (r : Option ℕ) → moves (get_or level i 0) r ≡ false → get_or level i 0 ≡ raised_to (get_or level i 0) r
+        go None f = refl
+        go (Some t) f = sym (ap (λ (b : Bool). cond b t (get_or level i 0)) f)
 
     pub stays_filled : moves (get_or level i 0) r ≡ false → level ≡ filled level₀ goes (i + 1)
     stays_filled f = sym (set-get_or level i 0) ∙ fill_turn level₀ level goes i (get_or level i 0) e h (kept_at f ∙ goes_is)
@@ -93,7 +88,7 @@ module _ (marks level₀ : List ℕ) where
         let x = count_more moving i ∙ ap (λ (b : Bool). counting moving i + cond b 1 0) (sym moving_is ∙ f) in
         omega arith
 
-    module _ (t : ℕ) (w : r ≡ To t) (l : t < get_or level i 0) where
+    module _ (t : ℕ) (w : r ≡ Some t) (l : t < get_or level i 0) where
       moves_on : moves (get_or level i 0) r ≡ true
       moves_on = ap (moves (get_or level i 0)) w ∙ lt-ltb t (get_or level i 0) l
 
@@ -123,10 +118,10 @@ module _ (marks level₀ : List ℕ) where
 pub moved_within : (level marks : List ℕ) (n few : ℕ) → n ≡ moved_buses level marks → length level ≤ few → n ≤ few
 moved_within level marks n few e h = omega (arith, e, h, moved_most marks level)
 
-pub stay_moves : (l : ℕ) (r : Raise) → r ≡ Stay → moves l r ≡ false
+pub stay_moves : (l : ℕ) (r : Option ℕ) → r ≡ None → moves l r ≡ false
 stay_moves l r e = ap (moves l) e
 
-pub low_moves : (l t : ℕ) (r : Raise) → r ≡ To t → l ≤ t → moves l r ≡ false
+pub low_moves : (l t : ℕ) (r : Option ℕ) → r ≡ Some t → l ≤ t → moves l r ≡ false
 low_moves l t r e h = ap (moves l) e ∙ le-ltb t l h
 
 -- ---- the levels afterwards: as many, and none lower
@@ -134,9 +129,9 @@ pub raised_length : (level marks : List ℕ) → length (raised_levels level mar
 unfolding raised_levels
 raised_length level marks = length_tab (length level) _
 
-raised_to_most : (l : ℕ) (r : Raise) → raised_to l r ≤ l
-raised_to_most l Stay = omega arith
-raised_to_most l (To t) = go (ltb t l) refl
+raised_to_most : (l : ℕ) (r : Option ℕ) → raised_to l r ≤ l
+raised_to_most l None = omega arith
+raised_to_most l (Some t) = go (ltb t l) refl
   where
     go : (b : Bool) → ltb t l ≡ b → cond b t l ≤ l
     go true e = let h = ltb-true t l e in omega arith
@@ -148,9 +143,9 @@ raised_most level marks i h =
     subst (λ (n : ℕ). n ≤ get_or level i 0) (sym (get_tab (length level) (goes marks level) i 0 h)) (raised_to_most (get_or level i 0) (raise_of (get_or marks i 0)))
 
 -- and the same where none moved
-stays_to : (l : ℕ) (r : Raise) → moves l r ≡ false → raised_to l r ≡ l
-stays_to l Stay e = refl
-stays_to l (To t) e = ap (λ (b : Bool). cond b t l) e
+stays_to : (l : ℕ) (r : Option ℕ) → moves l r ≡ false → raised_to l r ≡ l
+stays_to l None e = refl
+stays_to l (Some t) e = ap (λ (b : Bool). cond b t l) e
 
 pub none_raised : (level marks : List ℕ) → moved_buses level marks ≡ 0 → raised_levels level marks ≡ level
 unfolding moved_buses raised_levels

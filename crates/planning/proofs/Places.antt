@@ -11,6 +11,13 @@ and_no : (a b : Bool) → b ≡ false → (a && b) ≡ false
 and_no true b e = e
 and_no false b e = refl
 
+-- what holds of each index below j and of j
+pub one_more : (ok : ℕ → Bool) (j : ℕ) → ((i : ℕ) → i < j → ok i ≡ true) → ok j ≡ true → (i : ℕ) → i < j + 1 → ok i ≡ true
+one_more ok j h e i l = elim (dec_lt i j) [
+  | yes a ↦ h i a
+  | no a ↦ let t : i ≡ j = omega arith in ap ok t ∙ e
+]
+
 -- of the first j places
 pub record Named (order named : List ℕ) (j : ℕ) : Type 0 where
   pub size : length named ≡ 256

@@ -1,21 +1,21 @@
 -- The preview over slices: each refusal is the defined one, what passes can be filled anew, and so filled it is the defined preview.
 -- The tests of the code are those of the definition, in its order; the arrays' fronts are what the plan keeps.
-use Rattle.std.proofs.Common.{◌≡◌, ℕ, ◌<◌, ◌≤◌, Bool, true, false, cond, eqb, ltb, leb, List, length, get_or, take, sym, refl, ap, ◌∙◌, subst, arith, get_or-take, le-ltb, lt-ltb, eqb-true, leb-true}
+use Rattle.std.proofs.Common.{◌≡◌, ℕ, ◌<◌, Bool, true, cond, eqb, ltb, List, length, get_or, take, sym, refl, ap, ◌∙◌, subst, arith, le-ltb, lt-ltb, eqb-true}
 use mathlib.Core.Option.{Option, none, some}
-use Rattle.loops.specs.Loops.{first}
+use Rattle.loops.specs.Loops.{first, fault}
+use Rattle.loops.proofs.Scan.{fault_some, fault_passed}
 use Rattle.loops.proofs.Bools.{both}
 use Rattle.mode.specs.declared.PlanMode.{PlanMode}
 use Rattle.refusal.specs.declared.Refusal.{Refusal}
 use Rattle.refusal.specs.declared.Refusal.TheVariants.{Length, Count, Corridor, Mode, Order}
-use Rattle.plan_defs.specs.Constants.{most_corridors}
 use Rattle.plan_defs.specs.Case.{promote, full_of, full_at}
 use Rattle.plan_defs.specs.Fill.{unfilled, filled_if, fill}
 use Rattle.plan_defs.specs.Preview.{Kept, kept_as, lengths_ok, counts_ok, count_ok, place_ok, kept_fault, preview_fault, refilled, outcome, preview_by, preview}
 use Rattle.plan_theorems.proofs.Preview.{sound_of}
 use Rattle.acceptance.specs.Check.{answer_of}
-use Rattle.planning.specs.Fill.{caps_for, Whole, Ranked, Counted}
+use Rattle.planning.specs.Fill.{caps_for}
 use Rattle.planning.specs.Preview.{counts_for, order_for, Refillable}
-use Rattle.std.specs.Prelude.{Err, Result}
+use Rattle.std.specs.Prelude.{Err, Result, Option as Found, Some, None}
 use Rattle.refusal.specs.Reply.{no_refusal}
 
 -- ---- the refusals
@@ -31,15 +31,6 @@ module _ (p : Kept) (target places : ℕ) where
       ∙ ap (λ (t : Bool). judged a t (promote p.mode) (kept_fault p)) y
       ∙ ap (λ (t : Bool). judged a b t (kept_fault p)) z)
 
-  pub refused_length : lengths_ok p places ≡ false → Err Length ≡ answer_of (preview_fault p target places)
-  refused_length x = by_tests false (counts_ok p target) (promote p.mode) x refl refl
-
-  pub refused_count : lengths_ok p places ≡ true → counts_ok p target ≡ false → Err Count ≡ answer_of (preview_fault p target places)
-  refused_count x y = by_tests true false (promote p.mode) x y refl
-
-  pub refused_mode : lengths_ok p places ≡ true → counts_ok p target ≡ true → promote p.mode ≡ false → Err Mode ≡ answer_of (preview_fault p target places)
-  refused_mode x y z = by_tests true true false x y z
-
   module _ (x : lengths_ok p places ≡ true) (y : counts_ok p target ≡ true) (z : promote p.mode ≡ true) where
     -- by the first faulty corridor and place
     abbrev kept : ℕ → ℕ → Option Refusal
@@ -50,21 +41,21 @@ module _ (p : Kept) (target places : ℕ) where
     by_scans k j u v =
         ap (λ (i : ℕ). answer_of (kept i j)) u ∙ ap (λ (i : ℕ). answer_of (kept (first (count_ok p) p.corridors 0) i)) v ∙ by_tests true true true x y z
 
-    pub refused_corridor : (k : ℕ) → k ≡ first (count_ok p) p.corridors 0 → k < p.corridors → Err (Corridor k) ≡ answer_of (preview_fault p target places)
-    refused_corridor k u h =
-        let j = first (place_ok p) p.corridors 0 in
-        ap (λ (b : Bool). answer_of (cond b (some (Corridor k)) (cond (ltb j p.corridors) (some (Order j)) none))) (sym (lt-ltb k p.corridors h)) ∙ by_scans k j u refl
+    module _ (u : None ≡ fault (count_ok p) p.corridors) where
+      passed_counts : (j : ℕ) → j ≡ first (place_ok p) p.corridors 0 → answer_of (cond (ltb j p.corridors) (some (Order j)) none) ≡ answer_of (preview_fault p target places)
+      passed_counts j v =
+          let k = first (count_ok p) p.corridors 0 in
+          ap (λ (b : Bool). answer_of (cond b (some (Corridor k)) (cond (ltb j p.corridors) (some (Order j)) none))) (sym (le-ltb k p.corridors (fault_passed (count_ok p) p.corridors u))) ∙ by_scans k j refl v
 
-    module _ (k : ℕ) (u : k ≡ first (count_ok p) p.corridors 0) (h : p.corridors ≤ k) (j : ℕ) (v : j ≡ first (place_ok p) p.corridors 0) where
-      passed_counts : answer_of (cond (ltb j p.corridors) (some (Order j)) none) ≡ answer_of (preview_fault p target places)
-      passed_counts =
-          ap (λ (b : Bool). answer_of (cond b (some (Corridor k)) (cond (ltb j p.corridors) (some (Order j)) none))) (sym (le-ltb k p.corridors h)) ∙ by_scans k j u v
+      pub refused_order : (j : ℕ) → Some j ≡ fault (place_ok p) p.corridors → Err (Order j) ≡ answer_of (preview_fault p target places)
+      refused_order j v =
+          let s = fault_some (place_ok p) p.corridors j v in
+          ap (λ (b : Bool). answer_of (cond b (some (Order j)) none)) (sym (lt-ltb j p.corridors s.1)) ∙ passed_counts j s.0
 
-      pub refused_order : j < p.corridors → Err (Order j) ≡ answer_of (preview_fault p target places)
-      refused_order q = ap (λ (b : Bool). answer_of (cond b (some (Order j)) none)) (sym (lt-ltb j p.corridors q)) ∙ passed_counts
-
-      pub passed_all : p.corridors ≤ j → no_refusal ≡ answer_of (preview_fault p target places)
-      passed_all q = ap (λ (b : Bool). answer_of (cond b (some (Order j)) none)) (sym (le-ltb j p.corridors q)) ∙ passed_counts
+      pub passed_all : None ≡ fault (place_ok p) p.corridors → no_refusal ≡ answer_of (preview_fault p target places)
+      passed_all v =
+          let j = first (place_ok p) p.corridors 0 in
+          ap (λ (b : Bool). answer_of (cond b (some (Order j)) none)) (sym (le-ltb j p.corridors (fault_passed (place_ok p) p.corridors v))) ∙ passed_counts j refl
 
 -- ---- the scans, over as many places as there are corridors
 module _ (mode : PlanMode) (m places : ℕ) (before order cap : List ℕ) (x : lengths_ok (kept_as mode m before order cap) places ≡ true) where
@@ -75,17 +66,11 @@ module _ (mode : PlanMode) (m places : ℕ) (before order cap : List ℕ) (x : l
       let r = both (eqb (length order) m) _ l.1 in
       (eqb-true _ _ l.0, eqb-true _ _ r.0, eqb-true _ _ (both (eqb (length cap) m) _ r.1).0)
 
-  pub caps_sized : length cap ≡ length before
-  caps_sized = sizes.2 ∙ sym sizes.0
+  pub counts_scan : (o : Found ℕ) → o ≡ fault (count_ok (counts_for before cap)) (length before) → o ≡ fault (count_ok (kept_as mode m before order cap)) m
+  counts_scan o e = e ∙ ap (λ (n : ℕ). fault (count_ok (kept_as mode m before order cap)) n) sizes.0
 
-  pub order_few : (target : ℕ) → counts_ok (kept_as mode m before order cap) target ≡ true → length order ≤ most_corridors
-  order_few target y = rw sizes.1 (leb-true m most_corridors (both (leb m most_corridors) _ y).0)
-
-  pub counts_scan : (k : ℕ) → k ≡ first (count_ok (counts_for before cap)) (length before) 0 → k ≡ first (count_ok (kept_as mode m before order cap)) m 0
-  counts_scan k e = e ∙ ap (λ (n : ℕ). first (count_ok (kept_as mode m before order cap)) n 0) sizes.0
-
-  pub places_scan : (j : ℕ) → j ≡ first (place_ok (order_for order)) (length order) 0 → j ≡ first (place_ok (kept_as mode m before order cap)) m 0
-  places_scan j e = e ∙ ap (λ (n : ℕ). first (place_ok (kept_as mode n before order cap)) n 0) sizes.1
+  pub places_scan : (o : Found ℕ) → o ≡ fault (place_ok (order_for order)) (length order) → o ≡ fault (place_ok (kept_as mode m before order cap)) m
+  places_scan o e = e ∙ ap (λ (n : ℕ). fault (place_ok (kept_as mode n before order cap)) n) sizes.1
 
 -- ---- what is said of the check
 module _ (p : Kept) (target : ℕ) (lent : List ℕ) where
@@ -124,30 +109,10 @@ module _ (p : Kept) (target : ℕ) (lent : List ℕ) where
     preview_answered circuits h = ap (outcome no_refusal) h ∙ sym (ap (λ (o : Option Refusal). preview_by o p target lent) passes)
 
 -- ---- filling anew
-module _ (mode : PlanMode) (target : ℕ) (before order cap lent all ahead circuits : List ℕ) (fills : promote mode ≡ true) (h : Refillable before order cap lent)
-    (a : take (length order) all ≡ order) (w : Whole all) (b : take (length before) ahead ≡ before) (c : circuits ≡ take (length lent) ahead) where
-  is_before : circuits ≡ before
-  is_before = c ∙ ap (λ (n : ℕ). take n ahead) h.circuits_size ∙ b
-
+module _ (mode : PlanMode) (target : ℕ) (before order cap lent all : List ℕ) (fills : promote mode ≡ true) (h : Refillable before order cap lent) (a : take (length order) all ≡ order)
+    (circuits : List ℕ) (c : circuits ≡ before) where
   is_order : take (length circuits) all ≡ order
-  is_order = ap (λ (l : List ℕ). take (length l) all) is_before ∙ ap (λ (n : ℕ). take n all) (sym h.order_size) ∙ a
-
-  pub fills_anew : (Ranked (length circuits) all (length circuits) × (length cap ≡ length circuits)) × Counted circuits
-  fills_anew =
-      subst (λ (l : List ℕ). (Ranked (length l) all (length l) × (length cap ≡ length l)) × Counted l) (sym is_before) (
-        (
-          record {
-            few = h.few;
-            size = w;
-            below = λ j q.
-                let e : get_or (take (length order) all) j 0 ≡ get_or all j 0 = get_or-take (length order) all j 0 (omega (arith, h.order_size)) in
-                let f : get_or (take (length order) all) j 0 ≡ get_or order j 0 = ap (λ (l : List ℕ). get_or l j 0) a in
-                omega (arith, h.named j (omega (arith, h.order_size)));
-          },
-          h.cap_size,
-        ),
-        record { few = h.few; each = h.counts },
-      )
+  is_order = ap (λ (l : List ℕ). take (length l) all) c ∙ ap (λ (n : ℕ). take n all) (sym h.order_size) ∙ a
 
   pub filled_anew : (circuits' : List ℕ) → circuits' ≡ (fill (caps_for mode cap) target (take (length circuits) all) circuits).counts
       → circuits' ≡ refilled (kept_as mode (length before) before order cap) target
@@ -155,7 +120,7 @@ module _ (mode : PlanMode) (target : ℕ) (before order cap lent all ahead circu
   filled_anew circuits' e =
       e
       ∙ ap (λ (l : List ℕ). (fill (caps_for mode cap) target l circuits).counts) is_order
-      ∙ ap (λ (l : List ℕ). (fill (caps_for mode cap) target order l).counts) is_before
+      ∙ ap (λ (l : List ℕ). (fill (caps_for mode cap) target order l).counts) c
       ∙ ap (λ (t : Bool). (filled_if t (full_of cap) target order (unfilled before)).counts) fills
 
 -- the number of corridors is no part of the filling

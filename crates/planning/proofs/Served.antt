@@ -1,5 +1,6 @@
 -- What the units at each bus give, and how many corridors step down to it, as the code's two loops add them up.
 -- A turn changes one place of a table, by one more index.
+use mir.Val.{bool_byte}
 use Rattle.std.proofs.Common.{◌≡◌, ℕ, ◌+◌, ◌<◌, ◌≤◌, Bool, true, false, cond, ◌&&◌, eqb, List, length, get_or, set, replicate, sym, refl, ap, ◌∙◌, subst, arith, eq-eqb, ne_eqb}
 use lib.Ieee.{Float, nan}
 use Rattle.loops.specs.Figures.{at, plus, nought}
@@ -106,6 +107,10 @@ module _ (ladder : List Float) (level a b : List ℕ) where
   pub shared_end : (shared : List ℕ) (k : ℕ) → k ≡ length a → shared ≡ tab 256 (shared_to k) → shared ≡ tab 256 (transformer_corridors (ends_for ladder a b) level)
   unfolding transformer_corridors shared_to
   shared_end shared k e g = g ∙ ap (λ (n : ℕ). tab 256 (shared_to n)) e
+
+pub byte_is : (t : Bool) (n : ℕ) → n ≡ bool_byte t → n ≡ cond t 1 0
+byte_is true n e = e
+byte_is false n e = e
 
 pub one_most : (t : Bool) (n : ℕ) → n ≡ cond t 1 0 → n ≤ 1
 one_most true n e = omega arith

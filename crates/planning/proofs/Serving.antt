@@ -14,7 +14,6 @@ use Rattle.dispatch_defs.specs.Dispatch.{faulty_cost}
 use Rattle.dispatch_defs.specs.Operation.{demand_ok}
 use Rattle.dispatch_defs.specs.Limits.{Accepted, SoundUnits}
 use Rattle.plan_defs.specs.Stage.{Stage, stopped, going}
-use Rattle.plan_defs.specs.Constants.{most_generators}
 use Rattle.plan_defs.specs.Lists.{sum_over}
 use Rattle.plan_defs.specs.Case.{Case, tops_up}
 use Rattle.plan_defs.specs.Components.{leads, members, unit_within, units_in}
@@ -151,10 +150,10 @@ module _ (mode : PlanMode) (led : List ℕ) (load : List Float) (bus : List ℕ)
       call : stage_of a out ≡ given_stage (tops_up mode) all (demand mode led load bus pmin pmax c1 c2 root)
       call = e ∙ ap (λ (u : Units). given_stage (tops_up mode) u d) lent_is ∙ ap (given_stage (tops_up mode) all) pd
 
-      pub refused_index : (f : Refusal) → a ≡ Err f → (j : ℕ) → j ≡ index_of f → j < most_generators
+      pub refused_index : (f : Refusal) → a ≡ Err f → (j : ℕ) → j ≡ index_of f → j < size
       refused_index f h j q =
           let r = (serve_refused mode led load bus pmin pmax c1 c2 root a out [] call f h).0 in
-          omega (arith, r, q, units_few led bus root, F.few)
+          omega (arith, r, q, pc)
 
       pub refused_stage : (f : Refusal) → a ≡ Err f → (j k : ℕ) → j ≡ index_of f → k ≡ get_or ks j 0 → (mw : List Float)
           → stopped (Cost k) ≡ serve (dispatch_case mode load bus pmin pmax c1 c2) led root mw

@@ -12,8 +12,7 @@ use Rattle.plan_defs.specs.Design.{set_transformer_mva, drawn, design}
 use Rattle.plan_defs.specs.Build.{Build, built, build_of, set_bank, set_count, bank_below, drawn_all}
 use Rattle.plan_defs.specs.Raise.{raise_of, can_raise, mark_ends, mark_if}
 use Rattle.plan_defs.specs.Stiffen.{Stiffening, stiff, arrives, arrival, stiffen_by, has_room, stiffen_one}
-use Rattle.plan_defs.specs.declared.Raise.{Raise}
-use Rattle.plan_defs.specs.declared.Raise.TheVariants.{Stay, To}
+use Rattle.std.specs.Prelude.{Option, Some, None}
 use Rattle.plan_defs.specs.declared.CircuitDesign.{CircuitDesign}
 use Rattle.plan_defs.proofs.Lists.{each_append}
 use Rattle.plan_defs.proofs.Accepted.{own_few}
@@ -34,13 +33,13 @@ one_most : (b : Bool) → cond b 1 0 ≤ 1
 one_most true = omega arith
 one_most false = omega arith
 
-pub arrival_stays : (top l : ℕ) (r : Raise) (mark : ℕ) → r ≡ raise_of mark → r ≡ Stay → 0 ≡ arrives top l (raise_of mark)
+pub arrival_stays : (top l : ℕ) (r : Option ℕ) (mark : ℕ) → r ≡ raise_of mark → r ≡ None → 0 ≡ arrives top l (raise_of mark)
 arrival_stays top l r mark p e = ap (arrives top l) (sym e ∙ p)
 
-pub arrival_goes : (top l t : ℕ) (r : Raise) (mark n : ℕ) → r ≡ raise_of mark → r ≡ To t → n ≡ cond (ltb top l && leb t top) 1 0 → n ≡ arrives top l (raise_of mark)
+pub arrival_goes : (top l t : ℕ) (r : Option ℕ) (mark n : ℕ) → r ≡ raise_of mark → r ≡ Some t → n ≡ cond (ltb top l && leb t top) 1 0 → n ≡ arrives top l (raise_of mark)
 arrival_goes top l t r mark n p e q = q ∙ ap (arrives top l) (sym e ∙ p)
 
-pub arrival_most : (top l t : ℕ) (r : Raise) (n : ℕ) → r ≡ To t → n ≡ cond (ltb top l && leb t top) 1 0 → n ≤ 1
+pub arrival_most : (top l t : ℕ) (r : Option ℕ) (n : ℕ) → r ≡ Some t → n ≡ cond (ltb top l && leb t top) 1 0 → n ≤ 1
 arrival_most top l t r n e q = omega (arith, one_most (ltb top l && leb t top))
 
 -- ---- a raise within the budget

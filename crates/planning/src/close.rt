@@ -12,9 +12,7 @@ ghost use Rattle.planning.specs.Fill.{designs_for, Drawable, Loaded};
 ghost use Rattle.planning.specs.Close.{corridors_of, levels_for, wider_by, loadings_by, Rated, cap_full, added_at, Closable, closing_of, figures_if, counts_if, is_refused, lent_to, finished};
 
 use crate::design::circuit;
-use crate::figures::{
-    clear_counts, clear_figures, fewer, float, greater, infinity, lesser, magnitude, pick, wide,
-};
+use crate::figures::{clear_counts, clear_figures, greater, lesser, magnitude, pick};
 use crate::fill::loading;
 use crate::policy::{cap_at, expands};
 use crate::size::PLANNING_UTILISATION;
@@ -41,9 +39,9 @@ fn highest(leader: &[u32], angle: &[f64], root: usize) -> f64
     requires { length angle.now ≡ length leader.now }
     ensures { result ≡ highest angle.now (members leader.now root) }
 {
-    let mut most = -infinity();
+    let mut most = -loops::infinity();
     for i in 0..leader.len() {
-        most = pick(wide(leader[i]) == root, greater(most, angle[i]), most);
+        most = pick(leader[i] as usize == root, greater(most, angle[i]), most);
     }
     most
 }
@@ -52,9 +50,9 @@ fn lowest(leader: &[u32], angle: &[f64], root: usize) -> f64
     requires { length angle.now ≡ length leader.now }
     ensures { result ≡ lowest angle.now (members leader.now root) }
 {
-    let mut least = infinity();
+    let mut least = loops::infinity();
     for i in 0..leader.len() {
-        least = pick(wide(leader[i]) == root, lesser(least, angle[i]), least);
+        least = pick(leader[i] as usize == root, lesser(least, angle[i]), least);
     }
     least
 }
@@ -64,7 +62,7 @@ fn wider(leader: &[u32], angle: &[f64], i: usize, most: f64) -> f64
     requires { (length angle.now ≡ length leader.now) × (i < length leader.now) }
     ensures { result ≡ wider_by leader.now angle.now i most }
 {
-    if wide(leader[i]) == i {
+    if leader[i] as usize == i {
         return greater(most, highest(leader, angle, i) - lowest(leader, angle, i));
     }
     most
@@ -114,19 +112,13 @@ fn max_loading(circuits: &[u32], flow: &[f64], rate: &[f64]) -> f64
     most
 }
 
-fn one_if(counts: bool) -> u32
-    ensures { (result ≡ (if counts then 1 else 0)) × (result ≤ 1) }
-{
-    if counts { 1 } else { 0 }
-}
-
 fn overloaded(circuits: &[u32], flow: &[f64], rate: &[f64]) -> u32
     requires { Rated circuits.now flow.now rate.now }
     ensures { result ≡ overloaded_of (loadings_by circuits.now flow.now rate.now) }
 {
     let mut count = 0;
     for k in 0..rate.len() {
-        count += one_if(loading(flow[k], circuits[k], rate[k]) > 1.0 + LOADING_TOLERANCE);
+        count += u32::from(loading(flow[k], circuits[k], rate[k]) > 1.0 + LOADING_TOLERANCE);
     }
     count
 }
@@ -136,7 +128,7 @@ fn cap_full(mode: PlanMode, cap: u32, count: u32, flow: f64, rate: f64) -> bool
     ensures { result ≡ cap_full mode cap count flow rate }
 {
     let need = magnitude(flow) / PLANNING_UTILISATION / rate;
-    expands(mode) & ((cap <= count) & (need > float(count) + LOADING_TOLERANCE))
+    expands(mode) & ((cap <= count) & (need > count as f64 + LOADING_TOLERANCE))
 }
 
 fn capped(
@@ -161,7 +153,7 @@ fn capped(
     for k in 0..a.len() {
         let d = circuit(ladder, level, a, b, km, share, sheet, k, banks[k]);
         let most = cap_at(mode, cap[k], d.kv);
-        count += one_if(cap_full(mode, most, circuits[k], flow[k], d.rate_a));
+        count += u32::from(cap_full(mode, most, circuits[k], flow[k], d.rate_a));
     }
     count
 }
@@ -172,7 +164,7 @@ fn count_upsized(upsized: &[u32]) -> u32
 {
     let mut count = 0;
     for k in 0..upsized.len() {
-        count += one_if(1 <= upsized[k]);
+        count += u32::from(1 <= upsized[k]);
     }
     count
 }
@@ -185,7 +177,7 @@ fn unused(above: usize, level: &[u32]) -> u32
 {
     let mut least = above as u32;
     for i in 0..level.len() {
-        least = fewer(least, level[i]);
+        least = least.min(level[i]);
     }
     least
 }
@@ -258,7 +250,7 @@ pub fn close(
     let enlarged = count_upsized(upsized);
     let widest = spread(leader, angle);
     let dropped = unused(above, level);
-    add_levels(ladder, above, wide(dropped), added);
+    add_levels(ladder, above, dropped as usize, added);
     shift_back(dropped, level);
     Closing {
         upsized: enlarged,
@@ -301,18 +293,11 @@ pub fn keep_if(keeps: bool, kept: [u32; 256], to: &mut [u32])
     requires { length to.old ≤ most_corridors }
     ensures { to.new ≡ kept_if keeps (length to.old) (take (length to.old) kept) }
 {
-    clear_counts(to);
     if keeps {
-        copy_front(kept, to);
+        to.copy_from_slice(&kept[..to.len()]);
+    } else {
+        clear_counts(to);
     }
-}
-
-// The front of an array.
-pub fn copy_front(from: [u32; 256], to: &mut [u32])
-    requires { length to.old ≤ most_corridors }
-    ensures { to.new ≡ take (length to.old) from }
-{
-    to.copy_from_slice(&from[..to.len()]);
 }
 
 // After 8 or 9 every result place is zero; work is zero always.

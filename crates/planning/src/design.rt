@@ -8,7 +8,7 @@ ghost use Rattle.plan_defs.specs.Case.{row_of, row_from};
 ghost use Rattle.plan_defs.specs.Design.{basis_of, line_of, bank_basis, with_bank, set_transformer_mva, banked_by, differ, drawn};
 ghost use Rattle.planning.specs.Design.{lines_for, ends_for, Lines, EndsFit, LineFits, ends_of, line_between};
 
-use crate::figures::{choose, magnitude, pick, wide};
+use crate::figures::{choose, magnitude, pick};
 use impedance::SeriesImpedance;
 use plan_defs::{CircuitDesign, RatingBasis};
 use sheets::row_place;
@@ -137,7 +137,7 @@ fn kv_at(ladder: &[f64], level: &[u32], i: usize) -> f64
     requires { (i < length level.now) × (slice_index level.now i < length ladder.now) }
     ensures { result ≡ at ladder.now (slice_index level.now i) }
 {
-    let l = wide(level[i]);
+    let l = level[i] as usize;
     ladder[l]
 }
 
@@ -151,8 +151,8 @@ pub fn ends_of(ladder: &[f64], level: &[u32], a: &[u32], b: &[u32], k: usize) ->
     requires { EndsFit ladder.now level.now a.now b.now k }
     ensures { result ≡ ends_of (ends_for ladder.now a.now b.now) level.now k }
 {
-    let i = wide(a[k]);
-    let j = wide(b[k]);
+    let i = a[k] as usize;
+    let j = b[k] as usize;
     let kv_a = kv_at(ladder, level, i);
     let kv_b = kv_at(ladder, level, j);
     let from = choose(kv_b <= kv_a, i, j);
@@ -206,7 +206,7 @@ fn line_at(
     requires { LineFits ladder.now level.now km.now share.now sheet.now k from }
     ensures { result ≡ line_between ladder.now level.now km.now share.now sheet.now k from to }
 {
-    let top = wide(level[from]);
+    let top = level[from] as usize;
     // as many corridors as lengths
     let row = row_place(km.len(), k, top);
     line_from(from, to, ladder[top], sheet, row, km[k], share[k])

@@ -11,7 +11,7 @@ ghost use Rattle.planning.specs.Design.{Lines};
 ghost use Rattle.planning.specs.Fill.{designs_for, Drawable, Loaded, rank_before, order_by, place_of, shifted, Whole, Ranked, filled_as, gain_of, Tallied, Counted, caps_for};
 
 use crate::design::circuit;
-use crate::figures::{float, magnitude, wide};
+use crate::figures::magnitude;
 use crate::policy::{full_at, promotes};
 use mode::PlanMode;
 
@@ -22,7 +22,7 @@ const FILL_TURNS: u32 = 6;
 pub fn loading(flow: f64, count: u32, rate: f64) -> f64
     ensures { result ≡ loading flow count rate }
 {
-    magnitude(flow) / (float(count) * rate)
+    magnitude(flow) / (count as f64 * rate)
 }
 
 fn rank_loadings(
@@ -94,14 +94,11 @@ fn place_of(
     requires { (k < length third.now) × Ranked (length third.now) order.now k }
     ensures { result ≡ place_of (rank_before first.now second.now third.now) order.now k k }
 {
-    let mut j = 0;
-    while j < k {
-        if rank_before(first, second, third, k, wide(order[j])) {
-            return j;
-        }
-        j += 1;
-    }
-    j
+    loops::first_fault(
+        k,
+        |j| !rank_before(first, second, third, k, order[j] as usize),
+    )
+    .unwrap_or(k)
 }
 
 // Puts k into place p of the first `count`, and moves those that follow up by one.
@@ -181,9 +178,7 @@ pub fn copied(circuits: &[u32]) -> [u32; 256]
     ensures { (take (length circuits.now) result ≡ circuits.now) × Whole result }
 {
     let mut out = [0u32; 256];
-    for k in 0..circuits.len() {
-        out[k] = circuits[k];
-    }
+    out[..circuits.len()].copy_from_slice(circuits);
     out
 }
 
@@ -252,7 +247,7 @@ fn fill_once(
     let mut total = t.total;
     let mut filler = t.filler;
     for j in 0..circuits.len() {
-        let k = wide(order[j]);
+        let k = order[j] as usize;
         let count = circuits[k];
         let more = gain(total, target, full_at(cap[k]), count);
         circuits[k] = count + more;

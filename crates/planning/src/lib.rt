@@ -101,13 +101,10 @@ pub fn plan_corridors(
         counts: counts.len(),
     };
     let fits = lent::places_ok(n, m, g, above, places);
-    match check_case(
+    check_case(
         fits, target, n, m, g, above, requested, ladder, tier, reading, weight, bus, slack, pmin,
         pmax, c1, c2, a, b, initial, km, share, cap, sheet,
-    ) {
-        Err(f) => return Err(f),
-        Ok(()) => {}
-    }
+    )?;
     let load = weigh(reading, weight);
     let ran = plan::run(
         mode,
@@ -169,10 +166,7 @@ pub fn preview_filling(
 ) -> Result<(), Refusal>
     ensures { outcome_of result circuits.new ≡ preview_of (kept_as mode m before.now order.now cap.now) target circuits.old }
 {
-    match preview::check(mode, target, m, before, order, cap, circuits.len()) {
-        Err(f) => return Err(f),
-        Ok(()) => {}
-    }
+    preview::check(mode, target, m, before, order, cap, circuits.len())?;
     preview::refill(mode, target, before, order, cap, circuits);
     Ok(())
 }

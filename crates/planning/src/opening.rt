@@ -12,7 +12,7 @@ ghost use Rattle.plan_defs.specs.Lists.{sum_over};
 ghost use Rattle.plan_defs.specs.Outcome.{up_to};
 ghost use Rattle.planning.specs.Opening.{stage_of, stage_if, bus_case, slack_case, dispatch_case, injection_case, Joined, Fleet, Costs, Loads, Picked};
 
-use crate::figures::{clear_counts, clear_figures, more, wide};
+use crate::figures::{clear_counts, clear_figures};
 use crate::solve::BASE_MVA;
 use crate::top_up::give;
 use mode::PlanMode;
@@ -34,7 +34,7 @@ fn ground_of(root: u32, leader: &[u32], bus: &[u32], slack: &[u32]) -> u32
     ensures { result ≡ ground_of (slack_case bus.now slack.now) leader.now root }
 {
     for k in 0..bus.len() {
-        let i = wide(bus[k]);
+        let i = bus[k] as usize;
         if (leader[i] == root) & !(slack[k] == 0) {
             return bus[k];
         }
@@ -52,7 +52,7 @@ pub fn ground_components(leader: &[u32], bus: &[u32], slack: &[u32], ground: &mu
     clear_counts(ground);
     let mut count = 0;
     for i in 0..leader.len() {
-        if wide(leader[i]) == i {
+        if leader[i] as usize == i {
             ground[count] = ground_of(leader[i], leader, bus, slack);
             count += 1;
         }
@@ -69,7 +69,7 @@ fn units_in(root: u32, leader: &[u32], bus: &[u32], units: &mut [u32; 128]) -> u
 {
     let mut count = 0;
     for k in 0..bus.len() {
-        let i = wide(bus[k]);
+        let i = bus[k] as usize;
         if leader[i] == root {
             units[count] = k as u32;
             count += 1;
@@ -98,7 +98,7 @@ fn figures_of(column: &[f64], units: &[u32; 128], count: usize, chosen: &mut [f6
     ensures { take count chosen.new ≡ map (at column.now) (take count units.now) }
 {
     for j in 0..count {
-        let k = wide(units[j]);
+        let k = units[j] as usize;
         chosen[j] = column[k];
     }
 }
@@ -109,7 +109,7 @@ fn hand_out(units: &[u32; 128], count: usize, out: &[f64; 128], mw: &mut [f64])
     ensures { mw.new ≡ scatter (take count units.now) (take count out.now) mw.old }
 {
     for j in 0..count {
-        let k = wide(units[j]);
+        let k = units[j] as usize;
         mw[k] = out[j];
     }
 }
@@ -144,7 +144,7 @@ fn serve(
     figures_of(c1, &units, count, &mut linear);
     figures_of(c2, &units, count, &mut quadratic);
     let demand = demand_of(root, leader, load);
-    match give(
+    if let Err(f) = give(
         mode,
         demand,
         &least[0..count],
@@ -153,12 +153,10 @@ fn serve(
         &quadratic[0..count],
         &mut out[0..count],
     ) {
-        Err(f) => {
-            let j = f.index();
-            return Err(Refusal::Cost(wide(units[j])));
-        }
-        Ok(()) => hand_out(&units, count, &out, mw),
+        let unit = units[f.index()];
+        return Err(Refusal::Cost(unit as usize));
     }
+    hand_out(&units, count, &out, mw);
     Ok(())
 }
 
@@ -183,7 +181,7 @@ fn serve_led(
         leader.now i mw.old)
         mw.old }
 {
-    if wide(leader[i]) == i {
+    if leader[i] as usize == i {
         return serve(mode, leader[i], leader, load, bus, pmin, pmax, c1, c2, mw);
     }
     Ok(())
@@ -207,12 +205,8 @@ pub fn dispatch_components(
         leader.now }
 {
     clear_figures(mw);
-    let mut i = 0;
-    while i < leader.len() {
-        match serve_led(mode, i, leader, load, bus, pmin, pmax, c1, c2, mw) {
-            Err(f) => return Err(f),
-            Ok(()) => i += 1,
-        }
+    for i in 0..leader.len() {
+        serve_led(mode, i, leader, load, bus, pmin, pmax, c1, c2, mw)?;
     }
     Ok(())
 }
@@ -235,7 +229,7 @@ fn inject(bus: &[u32], mw: &[f64], injection: &mut [f64])
         ≡ iter (inject_at (bus_case bus.now) mw.now) (length bus.now) 0 injection.old }
 {
     for k in 0..bus.len() {
-        let i = wide(bus[k]);
+        let i = bus[k] as usize;
         injection[i] = injection[i] + mw[k];
     }
 }
@@ -265,7 +259,7 @@ pub fn lower_bounds(initial: &[u32], circuits: &mut [u32])
     ensures { circuits.new ≡ tab (length initial.now) (λ k. max (slice_index initial.now k) 1) }
 {
     for k in 0..initial.len() {
-        circuits[k] = more(initial[k], 1);
+        circuits[k] = initial[k].max(1);
     }
 }
 

@@ -48,10 +48,7 @@ fn open(
 {
     component_leaders(tier.len(), a.len(), a, b, leader);
     let count = ground_components(leader, bus, slack, ground);
-    match dispatch_components(mode, leader, load, bus, pmin, pmax, c1, c2, mw) {
-        Err(f) => return Err(f),
-        Ok(()) => {}
-    }
+    dispatch_components(mode, leader, load, bus, pmin, pmax, c1, c2, mw)?;
     injections(load, bus, mw, injection);
     first_levels(above, tier, level);
     lower_bounds(initial, circuits);
@@ -152,24 +149,22 @@ fn conclude(
 ) -> Result<CorridorPlan, Refusal>
     ensures { result ≡ planned_by progress grounds settled }
 {
-    match settled {
-        Err(f) => Err(f),
-        Ok(s) => Ok(CorridorPlan {
-            rounds: progress.rounds,
-            converged: progress.converged,
-            capacity: progress.capacity,
-            stiffening: progress.stiffening,
-            filler: s.filler,
-            promoted: progress.promoted,
-            upsized: s.closing.upsized,
-            overloaded: s.closing.overloaded,
-            capped: s.closing.capped,
-            loading: s.closing.loading,
-            spread: s.closing.spread,
-            grounds,
-            added: s.closing.added,
-        }),
-    }
+    let s = settled?;
+    Ok(CorridorPlan {
+        rounds: progress.rounds,
+        converged: progress.converged,
+        capacity: progress.capacity,
+        stiffening: progress.stiffening,
+        filler: s.filler,
+        promoted: progress.promoted,
+        upsized: s.closing.upsized,
+        overloaded: s.closing.overloaded,
+        capped: s.closing.capped,
+        loading: s.closing.loading,
+        spread: s.closing.spread,
+        grounds,
+        added: s.closing.added,
+    })
 }
 
 fn concluded(progress: Progress, grounds: u32, s: Settling) -> PlanRun

@@ -1,14 +1,12 @@
 // The preview of a filling (document 02, K1): its refusals, in order, and the circuits for a target from what a plan keeps.
 ghost use Rattle.std.specs.Prelude.{◌≡◌, ◌≤◌, true, ◌&&◌, length, nat_le};
-ghost use Rattle.loops.specs.Loops.{first};
+ghost use Rattle.loops.specs.Loops.{fault};
 ghost use Rattle.plan_defs.specs.Case.{promote};
 ghost use Rattle.plan_defs.specs.Constants.{most_corridors, most_initial, most_cap};
 ghost use Rattle.plan_defs.specs.Preview.{kept_as, count_ok, place_ok, preview_fault, refilled};
 ghost use Rattle.acceptance.specs.Check.{answer_of};
 ghost use Rattle.planning.specs.Preview.{counts_for, order_for, Refillable};
 
-use crate::close::copy_front;
-use crate::figures::wide;
 use crate::fill::{copied, fill};
 use crate::policy::promotes;
 use mode::PlanMode;
@@ -29,43 +27,32 @@ fn count_ok(count: u32, cap: u32) -> bool
     (1 <= count) & ((count <= MOST_INITIAL) & (cap <= MOST_CAP))
 }
 
-fn faulty_count(before: &[u32], cap: &[u32]) -> usize
+fn faulty_count(before: &[u32], cap: &[u32]) -> Option<usize>
     requires { length cap.now ≡ length before.now }
-    ensures { result ≡ first (count_ok (counts_for before.now cap.now)) (length before.now) 0 }
+    ensures { result ≡ fault (count_ok (counts_for before.now cap.now)) (length before.now) }
 {
-    let mut k = 0;
-    while k < before.len() {
-        if !count_ok(before[k], cap[k]) {
-            return k;
-        }
-        k += 1;
-    }
-    k
+    loops::first_fault(before.len(), |k| count_ok(before[k], cap[k]))
 }
 
 // ---- 30: the first place that names no corridor, or one again
 // Of each corridor a place that named it, and 1, is kept, so that each place is looked at once.
-fn faulty_place(order: &[u32]) -> usize
+fn faulty_place(order: &[u32]) -> Option<usize>
     requires { length order.now ≤ most_corridors }
-    ensures { result ≡ first (place_ok (order_for order.now)) (length order.now) 0 }
+    ensures { result ≡ fault (place_ok (order_for order.now)) (length order.now) }
 {
     let mut named = [0u16; MOST_CORRIDORS];
-    let mut j = 0;
-    while j < order.len() {
-        let corridor = wide(order[j]);
-        if corridor >= order.len() {
-            return j;
-        }
-        if named[corridor] != 0 {
-            return j;
+    for j in 0..order.len() {
+        let corridor = order[j] as usize;
+        if corridor >= order.len() || named[corridor] != 0 {
+            return Some(j);
         }
         named[corridor] = (j + 1) as u16;
-        j += 1;
     }
-    j
+    None
 }
 
 // ---- all of them
+#[tactic(auto, using(loops::proofs::Scan::fault_some, loops::proofs::Scan::fault_passed), unfolding(plan_defs::specs::Preview::preview_fault, plan_defs::specs::Preview::kept_fault, plan_defs::specs::Preview::lengths_ok))]
 pub fn check(
     mode: PlanMode,
     target: u32,
@@ -86,12 +73,10 @@ pub fn check(
     if !promotes(mode) {
         return Err(Refusal::Mode);
     }
-    let k = faulty_count(before, cap);
-    if k < m {
+    if let Some(k) = faulty_count(before, cap) {
         return Err(Refusal::Corridor(k));
     }
-    let j = faulty_place(order);
-    if j < m {
+    if let Some(j) = faulty_place(order) {
         return Err(Refusal::Order(j));
     }
     Ok(())
@@ -110,7 +95,6 @@ pub fn refill(
     ensures { circuits.new ≡ refilled (kept_as mode (length before.now) before.now order.now cap.now) target }
 {
     let all = copied(order);
-    let first = copied(before);
-    copy_front(first, circuits);
+    circuits.copy_from_slice(before);
     fill(mode, target, cap, &all, circuits);
 }

@@ -5,16 +5,13 @@ ghost use Rattle.plan_defs.specs.Constants.{most_buses};
 ghost use Rattle.plan_defs.specs.Raise.{raise_of, marked, mark_both, can_raise, mark_if, raised_levels, moved_buses};
 ghost use Rattle.planning.specs.Raise.{largest_count, pairs_for, PairFits};
 
-use crate::figures::{fewer, wide};
-use plan_defs::Raise;
-
 // ---- marks
 // A mark after a raise to level t: the higher of the two.
 fn marked(mark: u32, t: u32) -> u32
     requires { t < largest_count }
     ensures { result ≡ marked mark t }
 {
-    if mark == 0 { t + 1 } else { fewer(mark, t + 1) }
+    if mark == 0 { t + 1 } else { mark.min(t + 1) }
 }
 
 fn mark_both(t: u32, i: usize, j: usize, marks: &mut [u32])
@@ -38,9 +35,9 @@ pub fn mark_raise_to(
     ensures marks { marks.new ≡ mark_if (can_raise (pairs_for a.now b.now) level.now top k) (pairs_for a.now b.now) level.now k marks.old }
     ensures answer { result ≡ can_raise (pairs_for a.now b.now) level.now top k }
 {
-    let i = wide(a[k]);
-    let j = wide(b[k]);
-    let tier = fewer(level[i], level[j]);
+    let i = a[k] as usize;
+    let j = b[k] as usize;
+    let tier = level[i].min(level[j]);
     if tier <= top {
         return false;
     }
@@ -49,13 +46,11 @@ pub fn mark_raise_to(
 }
 
 // ---- raises
-pub fn raise_of(mark: u32) -> Raise
+// The level that a mark asks for.
+pub fn raise_of(mark: u32) -> Option<u32>
     ensures { result ≡ raise_of mark }
 {
-    if mark == 0 {
-        return Raise::Stay;
-    }
-    Raise::To(mark - 1)
+    mark.checked_sub(1)
 }
 
 // Raises each marked bus, and answers how many moved.
@@ -66,14 +61,13 @@ pub fn raise_buses(marks: &[u32], level: &mut [u32]) -> u32
 {
     let mut moved = 0;
     for i in 0..level.len() {
-        let Raise::To(to) = raise_of(marks[i]) else {
+        let Some(to) = raise_of(marks[i]) else {
             continue;
         };
-        if to >= level[i] {
-            continue;
+        if to < level[i] {
+            level[i] = to;
+            moved += 1;
         }
-        level[i] = to;
-        moved += 1;
     }
     moved
 }

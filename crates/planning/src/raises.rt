@@ -6,7 +6,7 @@ ghost use Rattle.planning.specs.Redesign.{RedesignFits};
 ghost use Rattle.planning.specs.Raises.{heavy_for, raised_of, Markable, HeavyRaised, Raisable, Passed, RaisesDone};
 
 use crate::design::circuit;
-use crate::figures::{clear_counts, clear_figures, float, magnitude};
+use crate::figures::{clear_counts, clear_figures, magnitude};
 use crate::policy::promotes;
 use crate::raise::mark_raise_to;
 use crate::rounds::raise_marked;
@@ -21,7 +21,7 @@ fn too_heavy(d: CircuitDesign, flow: f64) -> bool
     ensures { result ≡ too_heavy d flow }
 {
     let line_capacity = PLANNING_UTILISATION * d.line_rate * d.rate_spread;
-    magnitude(flow) > float(UPGRADE_CIRCUITS) * line_capacity
+    magnitude(flow) > UPGRADE_CIRCUITS as f64 * line_capacity
 }
 
 fn mark_heavy(
@@ -131,12 +131,9 @@ fn pass(
         level.new banks.new result }
 {
     clear_figures(angle);
-    match planning_state(
+    planning_state(
         ladder, level, a, b, km, share, sheet, circuits, banks, injection, grounds, angle, flow,
-    ) {
-        Err(f) => return Err(f),
-        Ok(()) => {}
-    }
+    )?;
     let moved = raise_heavy(
         ladder, a, b, km, share, sheet, load, bus, pmax, flow, floors, banks, level, marks,
     );
@@ -175,21 +172,15 @@ pub fn raises(
         return Ok(0);
     }
     let mut promoted = 0;
-    let mut turn = 1;
-    while turn < ladder.len() {
-        match pass(
+    for turn in 1..ladder.len() {
+        let moved = pass(
             ladder, a, b, km, share, sheet, load, bus, pmax, grounds, injection, circuits, floors,
             banks, level, marks, angle, flow,
-        ) {
-            Err(f) => return Err(f),
-            Ok(moved) => {
-                if moved == 0 {
-                    break;
-                }
-                promoted += moved;
-                turn += 1;
-            }
+        )?;
+        if moved == 0 {
+            break;
         }
+        promoted += moved;
     }
     Ok(promoted)
 }

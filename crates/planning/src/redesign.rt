@@ -9,7 +9,7 @@ ghost use Rattle.planning.specs.Design.{lines_for, ends_for, Banks, Rated};
 ghost use Rattle.planning.specs.Redesign.{units_for, redesign_for, Units, Corridors, AnewFits, RedesignFits, anew_from, bank_of, fresh_at, banks_anew};
 
 use crate::design::{banked_if, circuit, ends_of};
-use crate::figures::{float, greater, lesser, more, one_if, pick, wide};
+use crate::figures::{greater, lesser, pick};
 use plan_defs::CircuitDesign;
 
 const MOST_BUSES: usize = 256;
@@ -26,7 +26,7 @@ fn generation_at(bus: &[u32], pmax: &[f64], gen_at: &mut [f64; MOST_BUSES])
     ensures { gen_at.new ≡ tab most_buses (gen_at_bus (units_for bus.now pmax.now)) }
 {
     for k in 0..bus.len() {
-        let i = wide(bus[k]);
+        let i = bus[k] as usize;
         gen_at[i] = gen_at[i] + pmax[k];
     }
 }
@@ -46,7 +46,7 @@ fn transformer_corridors(
     for k in 0..a.len() {
         let e = ends_of(ladder, level, a, b, k);
         let lo = e.to;
-        shared[lo] = shared[lo] + one_if(e.steps_down);
+        shared[lo] = shared[lo] + u32::from(e.steps_down);
     }
 }
 
@@ -54,7 +54,7 @@ fn transformer_corridors(
 fn fresh_bank(load: f64, generation: f64, shared: u32) -> f64
     ensures { result ≡ fresh_bank load generation shared }
 {
-    let served = greater(load, generation) * TRANSFORMER_HEADROOM / float(more(shared, 1));
+    let served = greater(load, generation) * TRANSFORMER_HEADROOM / shared.max(1) as f64;
     greater(served, TRANSFORMER_MIN_MVA)
 }
 

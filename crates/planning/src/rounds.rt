@@ -61,6 +61,7 @@ pub fn raise_marked(
 }
 
 // Runs so many rounds at most, after those that `start` tells of. Each is solved from the angles of the one before.
+// The loops are as they are since the project's scope asks for a labelled loop that is gone on with and left by its name.
 pub fn size_rounds(
     mode: PlanMode,
     above: usize,

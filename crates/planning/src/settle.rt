@@ -89,12 +89,9 @@ fn close_up(
         (designs_for ladder.now level.old a.now b.now km.now share.now sheet.now banks.now)
         upsized.now (peak_for (length level.old) grounds.now injection.now) filler before order circuits.now }
 {
-    match solve_from_zero(
+    solve_from_zero(
         ladder, level, a, b, km, share, sheet, circuits, banks, injection, grounds, angle, flow,
-    ) {
-        Err(f) => return Err(f),
-        Ok(()) => {}
-    }
+    )?;
     let closing = close(
         mode, above, ladder, a, b, km, share, cap, sheet, leader, banks, circuits, upsized, flow,
         angle, level, rate, added,

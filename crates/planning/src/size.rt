@@ -8,11 +8,12 @@ ghost use Rattle.planning.specs.Raise.{largest_count, pairs_for, PairFits};
 ghost use Rattle.planning.specs.Size.{size_for, grow_for, set_if, Adds, Grows, CorridorFits, CorridorSized};
 
 use crate::design::{banked_if, circuit};
-use crate::figures::{ceil, fewer, float, lesser, magnitude, to_u32};
+use crate::figures::{lesser, magnitude};
 use crate::policy::{cap_at, promotes};
 use crate::raise::mark_raise_to;
 use mode::PlanMode;
 use plan_defs::CircuitDesign;
+use std::num::saturating_f64_to_u32;
 
 // The share of a rating that the planning flow may take.
 pub const PLANNING_UTILISATION: f64 = 0.9;
@@ -43,15 +44,15 @@ fn required_for(flow: f64) -> f64
 fn enough(required: f64, count: u32, d: CircuitDesign) -> bool
     ensures { result ≡ enough required count d }
 {
-    required <= float(count) * d.rate_a
+    required <= count as f64 * d.rate_a
 }
 
 // ---- a larger bank, up to the line
 fn next_bank(required: f64, count: u32, d: CircuitDesign) -> f64
     ensures { result ≡ next_bank required count d }
 {
-    let per_circuit = required / float(count) / d.rate_spread;
-    let sized = ceil(per_circuit / TRANSFORMER_SIZE_STEP_MVA) * TRANSFORMER_SIZE_STEP_MVA;
+    let per_circuit = required / count as f64 / d.rate_spread;
+    let sized = (per_circuit / TRANSFORMER_SIZE_STEP_MVA).ceil() * TRANSFORMER_SIZE_STEP_MVA;
     lesser(sized, d.line_rate)
 }
 
@@ -107,7 +108,7 @@ fn add(cap: u32, need: u32, k: usize, circuits: &mut [u32], t: Tally) -> Tally
     ensures { Adds cap need k circuits.old t circuits.new result }
 {
     let count = circuits[k];
-    let most = fewer(need, cap);
+    let most = need.min(cap);
     let capped = t.capped | (cap < need);
     if count < most {
         circuits[k] = most;
@@ -164,7 +165,7 @@ fn grow(
     if enough(required, circuits[k], d) {
         return t;
     }
-    let need = to_u32(ceil(required / d.rate_a));
+    let need = saturating_f64_to_u32((required / d.rate_a).ceil());
     if raises_for(mode, need, level, a, b, k, marks) {
         return t;
     }

@@ -13,7 +13,6 @@ ghost use Rattle.planning.specs.Design.{lines_for};
 ghost use Rattle.planning.specs.Solve.{peak_for, solved_of, finite_angles, finite_answer, Net, Places, Drawing, Lent, Drawn, Peaked};
 
 use crate::design::circuit;
-use crate::figures::{float, is_finite, wide};
 use plan_defs::CircuitDesign;
 use refusal::Refusal;
 
@@ -59,7 +58,7 @@ pub fn draw_edges(
         let d = circuit(ladder, level, a, b, km, share, sheet, k, banks[k]);
         from[k] = d.from as u32;
         to[k] = d.to as u32;
-        weight[k] = susceptance(d) * float(circuits[k]);
+        weight[k] = susceptance(d) * circuits[k] as f64;
     }
     Edges { from, to, weight }
 }
@@ -150,8 +149,8 @@ fn corridor_flows(
         angle.now }
 {
     for k in 0..flow.len() {
-        let i = wide(from[k]);
-        let j = wide(to[k]);
+        let i = from[k] as usize;
+        let j = to[k] as usize;
         flow[k] = weight[k] * (angle[i] - angle[j]) * BASE_MVA;
     }
 }
@@ -160,7 +159,7 @@ fn all_finite(figures: &[f64]) -> bool
     ensures { result ≡ all_finite figures.now }
 {
     for i in 0..figures.len() {
-        if !is_finite(figures[i]) {
+        if !loops::is_finite(figures[i]) {
             return false;
         }
     }
@@ -177,13 +176,12 @@ fn finite_flows(flow: &[f64]) -> Result<(), Refusal>
 }
 
 // ---- planning_state
+// At the front of an array.
 fn copy(angle: &[f64], guess: &mut [f64; 256])
     requires { (length angle.now ≤ most) × (length guess.old ≡ most) }
     ensures { take (length angle.now) guess.new ≡ angle.now }
 {
-    for i in 0..angle.len() {
-        guess[i] = angle[i];
-    }
+    guess[..angle.len()].copy_from_slice(angle);
 }
 
 // The angles and the flows at the peak on these edges, from the angles that `angle` holds; refusal 9 where one of them is not finite.
@@ -208,7 +206,7 @@ pub fn peak_state(
     let weight = e.weight;
     let mut guess = [0.0; 256];
     copy(angle, &mut guess);
-    match angles_from(
+    angles_from(
         &from[0..m],
         &to[0..m],
         &weight[0..m],
@@ -216,10 +214,8 @@ pub fn peak_state(
         grounds,
         &guess[0..n],
         angle,
-    ) {
-        Err(f) => return Err(f),
-        Ok(()) => corridor_flows(&from, &to, &weight, angle, flow),
-    }
+    )?;
+    corridor_flows(&from, &to, &weight, angle, flow);
     finite_flows(flow)
 }
 

@@ -12,14 +12,15 @@ ghost use Rattle.planning.specs.Raise.{largest_count, pairs_for, PairFits};
 ghost use Rattle.planning.specs.Stiffen.{budget_for, Stiffenable, Room, LedStiffened, raisable, room_for, reckoned, Strengthened, StiffenFits, BatchStiffened, Gainful, candidate_at, gain_at, gains_more, gain_next, gain_order, gain_for, Chosen, Stepped, reinforce_step, narrow_step, component_step, Led, lead_of, lag_of};
 
 use crate::design::{circuit, set_transformer_mva};
-use crate::figures::{ceil, choose, clear_counts, fewer, float, one_if, to_usize, wide};
+use crate::figures::{choose, clear_counts};
 use crate::fill::{insert, total};
 use crate::policy::full_at;
 use crate::raise::{mark_raise_to, raise_of};
 use crate::size::{bank_below, keep_bank};
 use crate::solve::{Edges, susceptance, unit_angles};
-use plan_defs::{CircuitDesign, Raise};
+use plan_defs::CircuitDesign;
 use refusal::Refusal;
+use std::num::saturating_f64_to_usize;
 
 // The share of buses at or above the top, and circuits for each bus, up to which stiffening goes.
 const STIFFENING_HV_SHARE: f64 = 0.35;
@@ -63,7 +64,7 @@ fn at_or_above(level: &[u32], top: u32) -> u32
 {
     let mut count = 0;
     for i in 0..level.len() {
-        count += one_if(level[i] <= top);
+        count += u32::from(level[i] <= top);
     }
     count
 }
@@ -72,7 +73,7 @@ fn at_or_above(level: &[u32], top: u32) -> u32
 fn share_of(share: f64, n: u32) -> usize
     ensures { result ≡ share_of share n }
 {
-    to_usize(share * float(n))
+    saturating_f64_to_usize(share * n as f64)
 }
 
 // Of the requested levels the highest, until their share of buses is there; then, where there are levels above, the highest of all.
@@ -80,7 +81,7 @@ fn top_of(above: u32, hv: usize, level: &[u32]) -> u32
     requires { length level.now ≤ most_buses }
     ensures { result ≡ stiffen_top above hv level.now }
 {
-    if (above > 0) & (hv <= wide(at_or_above(level, above))) {
+    if (above > 0) & (hv <= at_or_above(level, above) as usize) {
         0
     } else {
         above
@@ -127,10 +128,10 @@ fn arrival(top: u32, level: &[u32], marks: &[u32], i: usize) -> u32
     requires { (i < length level.now) × (i < length marks.now) }
     ensures { (result ≡ arrival top level.now marks.now i) × (result ≤ 1) }
 {
-    let Raise::To(to) = raise_of(marks[i]) else {
+    let Some(to) = raise_of(marks[i]) else {
         return 0;
     };
-    one_if((top < level[i]) & (to <= top))
+    u32::from((top < level[i]) & (to <= top))
 }
 
 // How many ends of corridor k do.
@@ -138,7 +139,7 @@ fn arrivals(top: u32, level: &[u32], a: &[u32], b: &[u32], k: usize, marks: &[u3
     requires { PairFits level.now a.now b.now marks.now k }
     ensures { (result ≡ arrival top level.now marks.now (slice_index a.now k) + arrival top level.now marks.now (slice_index b.now k)) × (result ≤ 2) }
 {
-    arrival(top, level, marks, wide(a[k])) + arrival(top, level, marks, wide(b[k]))
+    arrival(top, level, marks, a[k] as usize) + arrival(top, level, marks, b[k] as usize)
 }
 
 // Marks both ends of corridor k for a raise that is within the budget, and answers whether it is.
@@ -155,7 +156,7 @@ fn raises(
     ensures marks { marks.new ≡ mark_if (raisable g hv level.now a.now b.now k) (pairs_for a.now b.now) level.now k marks.old }
     ensures answer { result ≡ raisable g hv level.now a.now b.now k }
 {
-    if wide(hv) < g.hv {
+    if (hv as usize) < g.hv {
         return mark_raise_to(level, a, b, k, g.top, marks);
     }
     false
@@ -164,7 +165,7 @@ fn raises(
 fn has_room(g: Limits, own: u32, count: u32, total: u32) -> bool
     ensures { result ≡ room_for g own count total }
 {
-    (count < full_at(own)) & (wide(total) < g.branches)
+    (count < full_at(own)) & ((total as usize) < g.branches)
 }
 
 fn reckoned(added: u32, arrived: u32, t: Stiffness) -> Stiffness
@@ -270,7 +271,7 @@ fn stiffen_batch(
 {
     let mut t = start;
     for j in 0..taken {
-        let k = wide(order[j]);
+        let k = order[j] as usize;
         t = stiffen_one(
             g, ladder, level, a, b, km, share, cap, sheet, k, circuits, banks, floors, upsized,
             marks, t,
@@ -296,11 +297,11 @@ fn is_candidate(
     requires { PairFits level.now a.now b.now leader.now k × (k < length cap.now) × (k < length circuits.now) }
     ensures { result ≡ candidate_at g leader.now level.now a.now b.now cap.now circuits.now t root k }
 {
-    let i = wide(a[k]);
-    let j = wide(b[k]);
-    let tier = fewer(level[i], level[j]);
+    let i = a[k] as usize;
+    let j = b[k] as usize;
+    let tier = level[i].min(level[j]);
     let room = has_room(g, cap[k], circuits[k], t.total);
-    (wide(leader[i]) == root) & (room | ((g.top < tier) & (wide(t.hv) < g.hv)))
+    (leader[i] as usize == root) & (room | ((g.top < tier) & ((t.hv as usize) < g.hv)))
 }
 
 // By how much one more circuit narrows the spread, to first order.
@@ -380,15 +381,7 @@ fn place_of(gain: &[f64; 256], order: &[u32; 256], count: usize, k: usize) -> us
     requires { (k < most_corridors) × Ranked most_corridors order.now count × (count ≤ most_corridors) × Whole gain.now }
     ensures { result ≡ place_of (gains_more gain.now) order.now count k }
 {
-    let mut j = 0;
-    while j < count {
-        let i = wide(order[j]);
-        if gain[i] < gain[k] {
-            return j;
-        }
-        j += 1;
-    }
-    j
+    loops::first_fault(count, |j| !(gain[order[j] as usize] < gain[k])).unwrap_or(count)
 }
 
 // Puts corridor k in its place where it gains; how many there are then.
@@ -431,19 +424,13 @@ fn batch_size(
     ensures batch { take result order.now ≡ batch most nought excess (map (gain_for gain.now) (take count order.now)) }
 {
     let mut covered = 0.0;
-    let mut j = 0;
-    while j < count {
-        if j >= most {
+    for j in 0..count {
+        if j >= most || !(covered < excess) {
             return j;
         }
-        if !(covered < excess) {
-            return j;
-        }
-        let k = wide(order[j]);
-        covered = covered + gain[k];
-        j += 1;
+        covered += gain[order[j] as usize];
     }
-    j
+    count
 }
 
 fn corridors_in(leader: &[u32], a: &[u32], root: usize) -> u32
@@ -452,8 +439,8 @@ fn corridors_in(leader: &[u32], a: &[u32], root: usize) -> u32
 {
     let mut count = 0;
     for k in 0..a.len() {
-        let i = wide(a[k]);
-        count += one_if(wide(leader[i]) == root);
+        let i = a[k] as usize;
+        count += u32::from(leader[i] as usize == root);
     }
     count
 }
@@ -463,8 +450,8 @@ fn batch_cap(leader: &[u32], a: &[u32], root: usize) -> usize
     requires { (length a.now ≤ most_corridors) × ((k : ℕ) → k < length a.now → slice_index a.now k < length leader.now) }
     ensures { result ≡ batch_cap (pairs_for a.now []) leader.now root }
 {
-    let cap = to_usize(ceil(STIFFENING_BATCH_SHARE * float(corridors_in(leader, a, root))));
-    if cap < 1 { 1 } else { cap }
+    let part = STIFFENING_BATCH_SHARE * corridors_in(leader, a, root) as f64;
+    saturating_f64_to_usize(part.ceil()).max(1)
 }
 
 // Puts the corridors that narrow a component's spread the most at the front of `order`; as many as cover the excess are taken.
@@ -549,14 +536,7 @@ fn reinforce(
 fn first_of(leader: &[u32], root: usize) -> usize
     ensures { result ≡ first (λ (i : ℕ). not (within leader.now root i)) (length leader.now) 0 }
 {
-    let mut i = 0;
-    while i < leader.len() {
-        if wide(leader[i]) == root {
-            return i;
-        }
-        i += 1;
-    }
-    i
+    loops::first_fault(leader.len(), |i| leader[i] as usize != root).unwrap_or(leader.len())
 }
 
 // The bus that leads, the lowest on a tie.
@@ -567,7 +547,7 @@ fn lead_of(leader: &[u32], angle: &[f64], root: usize) -> usize
     let mut best = first_of(leader, root);
     for i in best + 1..leader.len() {
         best = choose(
-            (wide(leader[i]) == root) & (angle[best] < angle[i]),
+            (leader[i] as usize == root) & (angle[best] < angle[i]),
             i,
             best,
         );
@@ -583,7 +563,7 @@ fn lag_of(leader: &[u32], angle: &[f64], root: usize) -> usize
     let mut best = first_of(leader, root);
     for i in best + 1..leader.len() {
         best = choose(
-            (wide(leader[i]) == root) & (angle[i] < angle[best]),
+            (leader[i] as usize == root) & (angle[i] < angle[best]),
             i,
             best,
         );
@@ -629,7 +609,7 @@ fn narrow(
     let from = e.from;
     let to = e.to;
     let weight = e.weight;
-    match unit_angles(
+    unit_angles(
         &from[0..m],
         &to[0..m],
         &weight[0..m],
@@ -637,13 +617,11 @@ fn narrow(
         lead,
         lag,
         phi,
-    ) {
-        Err(f) => Err(f),
-        Ok(()) => Ok(reinforce(
-            root, excess, g, ladder, level, a, b, km, share, cap, sheet, leader, angle, phi,
-            circuits, banks, floors, upsized, marks, t,
-        )),
-    }
+    )?;
+    Ok(reinforce(
+        root, excess, g, ladder, level, a, b, km, share, cap, sheet, leader, angle, phi, circuits,
+        banks, floors, upsized, marks, t,
+    ))
 }
 
 fn widened(t: Stiffness) -> Stiffness
@@ -758,7 +736,7 @@ pub fn stiffen_led(
         circuits.old banks.old floors.old upsized.old marks.old t
         circuits.new banks.new floors.new upsized.new marks.new result }
 {
-    if wide(leader[i]) == i {
+    if leader[i] as usize == i {
         return stiffen_component(
             i, round, g, ladder, level, a, b, km, share, cap, sheet, leader, grounds, e, angle,
             circuits, banks, floors, upsized, marks, t,

@@ -9,7 +9,7 @@ ghost use Rattle.plan_defs.specs.TopUp.{by_cost, top_up};
 ghost use Rattle.planning.specs.Fill.{Whole};
 ghost use Rattle.planning.specs.Opening.{stage_of, Priced, given_stage};
 
-use crate::figures::{lesser, wide};
+use crate::figures::lesser;
 use crate::fill::order_by;
 use crate::policy::tops_up;
 use mode::PlanMode;
@@ -43,7 +43,7 @@ fn top_up(demand: f64, pmax: &[f64], c1: &[f64], mw: &mut [f64])
     let mut order = [0u32; 256];
     order_costs(c1, &mut order);
     for j in 0..c1.len() {
-        let k = wide(order[j]);
+        let k = order[j] as usize;
         let gap = demand - sum(mw);
         if !(0.0 < gap) {
             return;
@@ -69,13 +69,11 @@ pub fn give(
     requires { Accepted (length pmin.now) (units_of pmin.now pmax.now c1.now c2.now) demand (length mw.old) }
     ensures { stage_of result mw.new ≡ given_stage (tops_up mode) (units_of pmin.now pmax.now c1.now c2.now) demand }
 {
-    match dispatch::economic_dispatch(pmin.len(), pmin, pmax, c1, c2, demand, mw) {
-        Err(f) => return Err(Refusal::Cost(f.index())),
-        Ok(()) => {}
+    if let Err(f) = dispatch::economic_dispatch(pmin.len(), pmin, pmax, c1, c2, demand, mw) {
+        return Err(Refusal::Cost(f.index()));
     }
-    if !tops_up(mode) {
-        return Ok(());
+    if tops_up(mode) {
+        top_up(demand, pmax, c1, mw);
     }
-    top_up(demand, pmax, c1, mw);
     Ok(())
 }

@@ -1,5 +1,5 @@
 -- The invariant: the places passed hold their level.
-use Rattle.std.proofs.Common.{◌≡◌, ◌-◌, ◌≤◌, length}
+use Rattle.std.proofs.Common.{◌≡◌, ◌≤◌, length}
 use Rattle.loops.specs.Loops.{filled}
 use Rattle.planning.specs.Close.{added_at}
 use Rattle.planning.proofs.close.add_levels.Given as goal

@@ -3,6 +3,7 @@ use Rattle.plan_defs.specs.Closing.{capped_of}
 use Rattle.plan_defs.specs.Lists.{count_from, counting}
 use Rattle.planning.proofs.Lists.{count_more}
 use Rattle.planning.proofs.Closings.{count_fits, capped_in, capped_is}
+use Rattle.planning.proofs.Served.{byte_is, one_most}
 use Rattle.planning.proofs.close.capped.Goals as goal
 
 pub loop-k-init : goal.loop-k-init
@@ -35,14 +36,14 @@ pub overflow_add-count : goal.overflow_add-count
 overflow_add-count c =
     let s = c in
     let l = c.loop-k in
-    record { fits = omega (arith, l.invariant.1, count_fits (capped_in s.args.mode s.args.ladder.now s.args.level.now s.args.a.now s.args.b.now s.args.km.now s.args.share.now s.args.cap.now s.args.sheet.now s.args.banks.now s.args.circuits.now s.args.flow.now) l.k c.one_if-count.result c.one_if-count.ensures.1 (omega (arith, l.invariant.0, s.requires.loaded.0.drawable.few))) }
+    record { fits = omega (arith, l.invariant.1, count_fits (capped_in s.args.mode s.args.ladder.now s.args.level.now s.args.a.now s.args.b.now s.args.km.now s.args.share.now s.args.cap.now s.args.sheet.now s.args.banks.now s.args.circuits.now s.args.flow.now) l.k c.from-count.result (one_most _ _ (byte_is _ _ c.from-count.ensures)) (omega (arith, l.invariant.0, s.requires.loaded.0.drawable.few))) }
 
 pub loop-k-preserved : goal.loop-k-preserved
 loop-k-preserved c =
     let s = c in
     let l = c.loop-k in
     let h : l.k < length s.args.a.now = c.loop-k-test.true in
-    let e : c.one_if-count.result ≡ cond (capped_in s.args.mode s.args.ladder.now s.args.level.now s.args.a.now s.args.b.now s.args.km.now s.args.share.now s.args.cap.now s.args.sheet.now s.args.banks.now s.args.circuits.now s.args.flow.now l.k) 1 0 = c.one_if-count.ensures.0 ∙ ap (λ (t : Bool). cond t 1 0) (c.cap_full.ensures ∙ capped_is s.args.mode s.args.ladder.now s.args.level.now s.args.a.now s.args.b.now s.args.km.now s.args.share.now s.args.cap.now s.args.sheet.now s.args.banks.now s.args.circuits.now s.args.flow.now l.k _ _ h c.circuit-d.ensures c.cap_at-most.ensures.cap) in
+    let e : c.from-count.result ≡ cond (capped_in s.args.mode s.args.ladder.now s.args.level.now s.args.a.now s.args.b.now s.args.km.now s.args.share.now s.args.cap.now s.args.sheet.now s.args.banks.now s.args.circuits.now s.args.flow.now l.k) 1 0 = (byte_is _ _ c.from-count.ensures) ∙ ap (λ (t : Bool). cond t 1 0) (c.cap_full.ensures ∙ capped_is s.args.mode s.args.ladder.now s.args.level.now s.args.a.now s.args.b.now s.args.km.now s.args.share.now s.args.cap.now s.args.sheet.now s.args.banks.now s.args.circuits.now s.args.flow.now l.k _ _ h c.circuit-d.ensures c.cap_at-most.ensures.cap) in
     (omega (arith, h), omega (arith, e, l.invariant.1, count_more (capped_in s.args.mode s.args.ladder.now s.args.level.now s.args.a.now s.args.b.now s.args.km.now s.args.share.now s.args.cap.now s.args.sheet.now s.args.banks.now s.args.circuits.now s.args.flow.now) l.k))
 
 pub returns : goal.returns

@@ -1,5 +1,5 @@
 -- The invariant: those counted among the corridors passed.
-use Rattle.std.proofs.Common.{◌≡◌, ◌-◌, ◌≤◌, length}
+use Rattle.std.proofs.Common.{◌≡◌, ◌≤◌, length}
 use Rattle.plan_defs.specs.Lists.{counting}
 use Rattle.planning.proofs.Closings.{capped_in}
 use Rattle.planning.proofs.close.capped.Given as goal

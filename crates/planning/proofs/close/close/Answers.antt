@@ -1,5 +1,5 @@
 -- Each figure is its function's; the ratings are the designs'.
-use Rattle.std.proofs.Common.{◌∙◌, arith}
+use Rattle.std.proofs.Common.{arith}
 use Rattle.planning.proofs.Closings.{rated_of, closing_is, tiers_are, added_are, least_most, least_each}
 use Rattle.planning.proofs.close.close.Goals as goal
 
@@ -41,7 +41,7 @@ unused-dropped-requires c =
 pub add_levels-requires : goal.add_levels-requires
 add_levels-requires c =
     let s = c in
-    (s.requires.closable.ladder_size, s.requires.closable.few, omega (arith, c.wide.ensures, c.unused-dropped.ensures, least_most s.args.above s.args.level.now), s.requires.closable.added_size)
+    (s.requires.closable.ladder_size, s.requires.closable.few, omega (arith, c.unused-dropped.ensures, least_most s.args.above s.args.level.now), s.requires.closable.added_size)
 
 pub shift_back-requires : goal.shift_back-requires
 shift_back-requires c =
@@ -61,4 +61,4 @@ overflow_sub-result c =
 pub returns : goal.returns
 returns c =
     let s = c in
-    let z = s.args in record { closing = closing_is z.mode z.above z.ladder.now z.leader.now z.level.now z.a.now z.b.now z.km.now z.share.now z.cap.now z.sheet.now z.banks.now z.circuits.now z.upsized.now z.flow.now z.angle.now _ c.rates.ensures _ _ _ _ _ _ c.count_upsized-enlarged.ensures c.overloaded-too_heavy.ensures c.capped-at_cap.ensures c.max_loading-highest_loading.ensures c.spread-widest.ensures c.unused-dropped.ensures; rate = c.rates.ensures; tier = tiers_are z.above z.ladder.now z.level.now _ _ c.shift_back.ensures c.unused-dropped.ensures; added = added_are z.above z.ladder.now z.level.now _ _ s.requires.closable.ladder_size (c.wide.ensures ∙ c.unused-dropped.ensures) c.add_levels.ensures }
+    let z = s.args in record { closing = closing_is z.mode z.above z.ladder.now z.leader.now z.level.now z.a.now z.b.now z.km.now z.share.now z.cap.now z.sheet.now z.banks.now z.circuits.now z.upsized.now z.flow.now z.angle.now _ c.rates.ensures _ _ _ _ _ _ c.count_upsized-enlarged.ensures c.overloaded-too_heavy.ensures c.capped-at_cap.ensures c.max_loading-highest_loading.ensures c.spread-widest.ensures c.unused-dropped.ensures; rate = c.rates.ensures; tier = tiers_are z.above z.ladder.now z.level.now _ _ c.shift_back.ensures c.unused-dropped.ensures; added = added_are z.above z.ladder.now z.level.now _ _ s.requires.closable.ladder_size (c.unused-dropped.ensures) c.add_levels.ensures }

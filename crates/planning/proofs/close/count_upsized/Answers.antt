@@ -3,6 +3,7 @@ use Rattle.plan_defs.specs.Closing.{upsized_of}
 use Rattle.plan_defs.specs.Lists.{count_from, counting}
 use Rattle.planning.proofs.Lists.{count_more}
 use Rattle.planning.proofs.Closings.{count_fits}
+use Rattle.planning.proofs.Served.{byte_is, one_most}
 use Rattle.planning.proofs.close.count_upsized.Goals as goal
 
 pub loop-k-init : goal.loop-k-init
@@ -13,13 +14,13 @@ pub overflow_add-count : goal.overflow_add-count
 overflow_add-count c =
     let s = c in
     let l = c.loop-k in
-    record { fits = omega (arith, l.invariant.1, count_fits (λ (j : ℕ). leb 1 (get_or s.args.upsized.now j 0)) l.k c.one_if-count.result c.one_if-count.ensures.1 (omega (arith, s.requires))) }
+    record { fits = omega (arith, l.invariant.1, count_fits (λ (j : ℕ). leb 1 (get_or s.args.upsized.now j 0)) l.k c.from-count.result (one_most _ _ (byte_is _ _ c.from-count.ensures)) (omega (arith, s.requires))) }
 
 pub loop-k-preserved : goal.loop-k-preserved
 loop-k-preserved c =
     let s = c in
     let l = c.loop-k in
-    (omega arith, omega (arith, l.invariant.1, c.one_if-count.ensures.0, count_more (λ (j : ℕ). leb 1 (get_or s.args.upsized.now j 0)) l.k))
+    (omega arith, omega (arith, l.invariant.1, (byte_is _ _ c.from-count.ensures), count_more (λ (j : ℕ). leb 1 (get_or s.args.upsized.now j 0)) l.k))
 
 pub returns : goal.returns
 unfolding upsized_of

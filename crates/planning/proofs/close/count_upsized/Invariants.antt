@@ -1,5 +1,5 @@
 -- The invariant: those counted among the corridors passed.
-use Rattle.std.proofs.Common.{◌≡◌, ℕ, ◌-◌, ◌≤◌, leb, length, get_or}
+use Rattle.std.proofs.Common.{◌≡◌, ℕ, ◌≤◌, leb, length, get_or}
 use Rattle.plan_defs.specs.Lists.{counting}
 use Rattle.planning.proofs.close.count_upsized.Given as goal
 

@@ -13,7 +13,7 @@ loop-i-init c =
 pub loop-i-preserved : goal.loop-i-preserved
 loop-i-preserved c =
     let l = c.loop-i in
-    (omega arith, sym (iter_more _ c.loop-i-test.true (rw (c.wide.ensures, c.lesser.ensures) at c.pick-least.ensures)) ∙ l.invariant.1)
+    (omega arith, sym (iter_more _ c.loop-i-test.true (rw c.lesser.ensures at c.pick-least.ensures)) ∙ l.invariant.1)
 
 pub returns : goal.returns
 returns c = sym (iter_end _ (omega arith)) ∙ c.loop-i.invariant.1

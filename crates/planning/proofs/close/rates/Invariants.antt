@@ -1,5 +1,5 @@
 -- The invariant: the places passed hold their corridor's rating.
-use Rattle.std.proofs.Common.{◌≡◌, ◌-◌, ◌≤◌, length}
+use Rattle.std.proofs.Common.{◌≡◌, ◌≤◌, length}
 use Rattle.loops.specs.Loops.{filled}
 use Rattle.planning.proofs.Closings.{rate_of}
 use Rattle.planning.proofs.close.rates.Given as goal

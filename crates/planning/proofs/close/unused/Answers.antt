@@ -10,7 +10,7 @@ pub loop-i-preserved : goal.loop-i-preserved
 loop-i-preserved c =
     let s = c.args in
     let l = c.loop-i in
-    (omega arith, ap (λ (n : ℕ). least_of n (drop (l.i + 1) s.level.now)) c.fewer-least.ensures ∙ sym (least_next l.least s.level.now l.i c.loop-i-test.true) ∙ l.invariant.1)
+    (omega arith, ap (λ (n : ℕ). least_of n (drop (l.i + 1) s.level.now)) c.min-least.ensures ∙ sym (least_next l.least s.level.now l.i c.loop-i-test.true) ∙ l.invariant.1)
 
 pub returns : goal.returns
 unfolding least_of

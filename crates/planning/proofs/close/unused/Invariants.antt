@@ -1,5 +1,5 @@
 -- The invariant: the least of what is left, from the least so far, is the least of all.
-use Rattle.std.proofs.Common.{◌≡◌, ◌-◌, ◌≤◌, length, drop}
+use Rattle.std.proofs.Common.{◌≡◌, ◌≤◌, length, drop}
 use Rattle.plan_defs.specs.Closing.{least_of}
 use Rattle.planning.proofs.close.unused.Given as goal
 

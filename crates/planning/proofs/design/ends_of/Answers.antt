@@ -1,22 +1,22 @@
 -- The two kV decide which end is the higher one, and whether they differ.
-use Rattle.std.proofs.Common.{ℕ, ◌<◌, length, sym, subst}
+use Rattle.std.proofs.Common.{refl, ℕ, ◌<◌, length, subst}
 use Rattle.planning.proofs.Draws.{ends_are}
 use Rattle.planning.proofs.design.ends_of.Goals as goal
 
 pub kv_at-kv_a-requires : goal.kv_at-kv_a-requires
 kv_at-kv_a-requires c =
     let s = c in
-    let u = subst (λ (x : ℕ). x < length s.args.level.now) (sym c.wide-i.ensures) s.requires.a_below in
+    let u = subst (λ (x : ℕ). x < length s.args.level.now) refl s.requires.a_below in
     (u, s.requires.level_below _ u)
 
 pub kv_at-kv_b-requires : goal.kv_at-kv_b-requires
 kv_at-kv_b-requires c =
     let s = c in
-    let u = subst (λ (x : ℕ). x < length s.args.level.now) (sym c.wide-j.ensures) s.requires.b_below in
+    let u = subst (λ (x : ℕ). x < length s.args.level.now) refl s.requires.b_below in
     (u, s.requires.level_below _ u)
 
 pub returns : goal.returns
 returns c =
     let z = c.args in
-    ends_are z.ladder.now z.level.now z.a.now z.b.now z.k _ _ _ _ _ _ _ c.wide-i.ensures c.wide-j.ensures c.kv_at-kv_a.ensures
+    ends_are z.ladder.now z.level.now z.a.now z.b.now z.k _ _ _ _ _ _ _ refl refl c.kv_at-kv_a.ensures
     c.kv_at-kv_b.ensures c.choose-from.ensures c.choose-to.ensures c.differ-steps_down.ensures

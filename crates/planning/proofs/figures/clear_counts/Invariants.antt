@@ -1,4 +1,4 @@
-use Rattle.std.proofs.Common.{◌≡◌, ◌-◌, ◌≤◌, length}
+use Rattle.std.proofs.Common.{◌≡◌, ◌≤◌, length}
 use Rattle.loops.specs.Loops.{filled}
 use Rattle.planning.proofs.figures.clear_counts.Given as goal
 

@@ -1,4 +1,4 @@
-use Rattle.std.proofs.Common.{◌≡◌, ◌-◌, ◌≤◌, length}
+use Rattle.std.proofs.Common.{◌≡◌, ◌≤◌, length}
 use Rattle.loops.specs.Figures.{nought}
 use Rattle.loops.specs.Loops.{filled}
 use Rattle.planning.proofs.figures.clear_figures.Given as goal

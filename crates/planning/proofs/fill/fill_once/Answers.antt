@@ -1,7 +1,6 @@
-use Rattle.std.proofs.Common.{ℕ, ◌^◌, ◌<◌, length, get_or, sym, refl, ap, ◌∙◌, arith, length-set}
+use Rattle.std.proofs.Common.{◌^◌, ◌<◌, length, get_or, sym, refl, ◌∙◌, arith, length-set}
 use Rattle.loops.proofs.Loops.{iter_more, iter_end}
 use Rattle.plan_defs.specs.Case.{full_of}
-use Rattle.plan_defs.specs.Fill.{fill_at}
 use Rattle.planning.specs.Fill.{filled_as}
 use Rattle.planning.proofs.Fillings.{total_fits, count_fits, tally, fill_corridor, once_start}
 use Rattle.planning.proofs.fill.fill_once.Goals as goal
@@ -16,34 +15,34 @@ pub bounds-order-j : goal.bounds-order-j
 bounds-order-j c = omega (arith, c.requires.ranked.0.few)
 
 pub offset_bounds-circuits-k : goal.offset_bounds-circuits-k
-offset_bounds-circuits-k c = record { fits = omega (arith, c.wide-k.ensures, c.requires.ranked.0.below c.loop-j.j (omega arith), c.requires.ranked.0.few) }
+offset_bounds-circuits-k c = record { fits = omega (arith, c.requires.ranked.0.below c.loop-j.j (omega arith), c.requires.ranked.0.few) }
 
 pub bounds-circuits-k : goal.bounds-circuits-k
-bounds-circuits-k c = omega (arith, c.wide-k.ensures, c.requires.ranked.0.below c.loop-j.j (omega arith))
+bounds-circuits-k c = omega (arith, c.requires.ranked.0.below c.loop-j.j (omega arith))
 
 pub overflow_add-circuits : goal.overflow_add-circuits
 overflow_add-circuits c =
     let s = c in
     let l = c.loop-j in
-    let x = get_or l.circuits c.wide-k.result 0 in
+    let x = get_or l.circuits (get_or c.args.order.now c.loop-j.j 0) 0 in
     let t : s.args.target < 2 ^ 32 = s.ranges.target.fits in
-    let f : x < 2 ^ 32 = (c.slice_known-in-loop-j-1.given c.wide-k.result).fits in
+    let f : x < 2 ^ 32 = (c.slice_known-in-loop-j-1.given (get_or c.args.order.now c.loop-j.j 0)).fits in
     let m : c.full_at.result < 2 ^ 32 = c.full_at.type_inv in
     record { fits = omega (arith, c.gain-more.ensures, count_fits l.total s.args.target c.full_at.result x l.invariant.3 t m f) }
 
 pub offset_bounds-circuits-k-in-loop-j : goal.offset_bounds-circuits-k-in-loop-j
-offset_bounds-circuits-k-in-loop-j c = record { fits = omega (arith, c.wide-k.ensures, c.requires.ranked.0.below c.loop-j.j (omega arith), c.requires.ranked.0.few) }
+offset_bounds-circuits-k-in-loop-j c = record { fits = omega (arith, c.requires.ranked.0.below c.loop-j.j (omega arith), c.requires.ranked.0.few) }
 
 pub bounds-circuits-k-in-loop-j : goal.bounds-circuits-k-in-loop-j
-bounds-circuits-k-in-loop-j c = omega (arith, c.wide-k.ensures, c.requires.ranked.0.below c.loop-j.j (omega arith))
+bounds-circuits-k-in-loop-j c = omega (arith, c.requires.ranked.0.below c.loop-j.j (omega arith))
 
 pub overflow_add-total : goal.overflow_add-total
 overflow_add-total c =
     let s = c in
     let l = c.loop-j in
-    let x = get_or l.circuits c.wide-k.result 0 in
+    let x = get_or l.circuits (get_or c.args.order.now c.loop-j.j 0) 0 in
     let t : s.args.target < 2 ^ 32 = s.ranges.target.fits in
-    let f : x < 2 ^ 32 = (c.slice_known-in-loop-j-1.given c.wide-k.result).fits in
+    let f : x < 2 ^ 32 = (c.slice_known-in-loop-j-1.given (get_or c.args.order.now c.loop-j.j 0)).fits in
     let m : c.full_at.result < 2 ^ 32 = c.full_at.type_inv in
     record { fits = omega (arith, c.gain-more.ensures, total_fits l.total s.args.target c.full_at.result x l.invariant.3 t m f) }
 
@@ -51,9 +50,9 @@ pub overflow_add-filler : goal.overflow_add-filler
 overflow_add-filler c =
     let s = c in
     let l = c.loop-j in
-    let x = get_or l.circuits c.wide-k.result 0 in
+    let x = get_or l.circuits (get_or c.args.order.now c.loop-j.j 0) 0 in
     let t : s.args.target < 2 ^ 32 = s.ranges.target.fits in
-    let f : x < 2 ^ 32 = (c.slice_known-in-loop-j-1.given c.wide-k.result).fits in
+    let f : x < 2 ^ 32 = (c.slice_known-in-loop-j-1.given (get_or c.args.order.now c.loop-j.j 0)).fits in
     let m : c.full_at.result < 2 ^ 32 = c.full_at.type_inv in
     record { fits = omega (arith, c.gain-more.ensures, total_fits l.total s.args.target c.full_at.result x l.invariant.3 t m f, l.invariant.4) }
 
@@ -61,16 +60,16 @@ pub loop-j-preserved : goal.loop-j-preserved
 loop-j-preserved c =
     let s = c in
     let l = c.loop-j in
-    let x = get_or l.circuits c.wide-k.result 0 in
+    let x = get_or l.circuits (get_or c.args.order.now c.loop-j.j 0) 0 in
     let t : s.args.target < 2 ^ 32 = s.ranges.target.fits in
-    let f : x < 2 ^ 32 = (c.slice_known-in-loop-j-1.given c.wide-k.result).fits in
+    let f : x < 2 ^ 32 = (c.slice_known-in-loop-j-1.given (get_or c.args.order.now c.loop-j.j 0)).fits in
     let m : c.full_at.result < 2 ^ 32 = c.full_at.type_inv in
-    let k = c.wide-k.result in
+    let k = get_or c.args.order.now c.loop-j.j 0 in
     let h : l.j < length s.args.circuits.now = omega (arith, l.invariant.1) in
-    let w : k < length l.circuits = omega (arith, c.wide-k.ensures, c.requires.ranked.0.below c.loop-j.j (omega arith), c.requires.ranked.0.few) in (
+    let w : k < length l.circuits = omega (arith, c.requires.ranked.0.below c.loop-j.j (omega arith), c.requires.ranked.0.few) in (
       omega arith,
       length-set l.circuits k _ ∙ l.invariant.1,
-      sym (iter_more _ {s = filled_as l.circuits (tally l.total l.filler)} h (fill_corridor (full_of s.args.cap.now) s.args.target l.circuits l.total l.filler k _ _ _ w c.full_at.ensures refl c.gain-more.ensures ∙ ap (λ (i : ℕ). fill_at (full_of s.args.cap.now) s.args.target i (filled_as l.circuits (tally l.total l.filler))) c.wide-k.ensures)) ∙ l.invariant.2,
+      sym (iter_more _ {s = filled_as l.circuits (tally l.total l.filler)} h (fill_corridor (full_of s.args.cap.now) s.args.target l.circuits l.total l.filler k _ _ _ w c.full_at.ensures refl c.gain-more.ensures)) ∙ l.invariant.2,
       omega (arith, c.gain-more.ensures, total_fits l.total s.args.target c.full_at.result x l.invariant.3 t m f),
       omega (arith, l.invariant.4),
     )
@@ -81,7 +80,7 @@ returns c =
     record { filled = sym (iter_end _ (omega arith)) ∙ l.invariant.2; tally = record { fits = l.invariant.3; filler = l.invariant.4 } }
 
 pub offset_bounds-cap-k : goal.offset_bounds-cap-k
-offset_bounds-cap-k c = record { fits = omega (arith, c.wide-k.ensures, c.requires.ranked.0.below c.loop-j.j (omega arith), c.requires.ranked.0.few) }
+offset_bounds-cap-k c = record { fits = omega (arith, c.requires.ranked.0.below c.loop-j.j (omega arith), c.requires.ranked.0.few) }
 
 pub bounds-cap-k : goal.bounds-cap-k
-bounds-cap-k c = omega (arith, c.wide-k.ensures, c.requires.ranked.0.below c.loop-j.j (omega arith), c.requires.ranked.1)
+bounds-cap-k c = omega (arith, c.requires.ranked.0.below c.loop-j.j (omega arith), c.requires.ranked.1)

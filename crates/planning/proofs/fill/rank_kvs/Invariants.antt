@@ -1,5 +1,5 @@
 -- The invariant: the places passed hold their corridor's figure.
-use Rattle.std.proofs.Common.{◌≡◌, ℕ, ◌-◌, ◌≤◌, length}
+use Rattle.std.proofs.Common.{◌≡◌, ℕ, ◌≤◌, length}
 use Rattle.loops.specs.Loops.{filled}
 use Rattle.plan_defs.specs.Design.{design}
 use Rattle.planning.specs.Fill.{designs_for}

@@ -1,5 +1,5 @@
 -- The invariant: the places passed hold their corridor's figure.
-use Rattle.std.proofs.Common.{◌≡◌, ◌-◌, ◌≤◌, length}
+use Rattle.std.proofs.Common.{◌≡◌, ◌≤◌, length}
 use Rattle.loops.specs.Loops.{filled}
 use Rattle.plan_defs.specs.Fill.{loading_at}
 use Rattle.planning.specs.Fill.{designs_for}

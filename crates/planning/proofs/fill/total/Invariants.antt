@@ -1,5 +1,5 @@
 -- The invariant: the sum of the counts passed, at most 64 for each.
-use Rattle.std.proofs.Common.{◌≡◌, ◌-◌, ◌*◌, ◌≤◌, length, take}
+use Rattle.std.proofs.Common.{◌≡◌, ◌*◌, ◌≤◌, length, take}
 use Rattle.plan_defs.specs.Constants.{most_initial}
 use Rattle.plan_defs.specs.Lists.{sum}
 use Rattle.planning.proofs.fill.total.Given as goal

@@ -1,4 +1,4 @@
-use Rattle.std.proofs.Common.{ℕ, replicate, sym, ap, ◌∙◌, arith}
+use Rattle.std.proofs.Common.{rules, ◌≡◌, Err, ℕ, replicate, sym, ap, ◌∙◌, arith}
 use Rattle.loops.specs.Figures.{nought}
 use Rattle.plan_defs.specs.Components.{leads}
 use Rattle.plan_defs.specs.Dispatch.{serve, dispatch_of}
@@ -20,11 +20,12 @@ serve_led-requires c =
     let s = c in
     (omega arith, s.requires.0, s.requires.1, s.requires.2, c.loop-i.invariant.1)
 
-pub returns-in-Err : goal.returns-in-Err
-returns-in-Err c =
-    let s = c in
+pub returns-in_err-serve_led : goal.returns-in_err-serve_led
+returns-in_err-serve_led c =
+    let s = c.args in
     let l = c.loop-i in
-    stage_stopped (serve (dispatch_case s.args.mode s.args.load.now s.args.bus.now s.args.pmin.now s.args.pmax.now s.args.c1.now s.args.c2.now) s.args.leader.now) (leads s.args.leader.now) _ l.i (omega arith) l.mw _ c.serve_led.result c.serve_led.ensures _ c.in-Err.is ∙ l.invariant.2
+    let h : c.from_residual.result ≡ Err c.in_err-serve_led.field-0.0 = search rules in
+    rw h (stage_stopped (serve (dispatch_case s.mode s.load.now s.bus.now s.pmin.now s.pmax.now s.c1.now s.c2.now) s.leader.now) (leads s.leader.now) _ l.i (omega arith) l.mw _ c.serve_led.result c.serve_led.ensures _ c.in_err-serve_led.was ∙ l.invariant.2)
 
 pub loop-i-preserved : goal.loop-i-preserved
 loop-i-preserved c =
@@ -32,7 +33,7 @@ loop-i-preserved c =
     let l = c.loop-i in (
       omega arith,
       c.serve_led.auto.mw ∙ l.invariant.1,
-      stage_going (serve (dispatch_case s.args.mode s.args.load.now s.args.bus.now s.args.pmin.now s.args.pmax.now s.args.c1.now s.args.c2.now) s.args.leader.now) (leads s.args.leader.now) _ l.i (omega arith) l.mw _ c.serve_led.result c.serve_led.ensures c.in-Ok.is ∙ l.invariant.2,
+      stage_going (serve (dispatch_case s.args.mode s.args.load.now s.args.bus.now s.args.pmin.now s.args.pmax.now s.args.c1.now s.args.c2.now) s.args.leader.now) (leads s.args.leader.now) _ l.i (omega arith) l.mw _ c.serve_led.result c.serve_led.ensures c.in_ok-serve_led.was ∙ l.invariant.2,
     )
 
 pub shape_of-mw : goal.shape_of-mw

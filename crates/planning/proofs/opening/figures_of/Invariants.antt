@@ -1,4 +1,4 @@
-use Rattle.std.proofs.Common.{◌≡◌, ◌-◌, ◌≤◌, get_or}
+use Rattle.std.proofs.Common.{◌≡◌, ◌≤◌, get_or}
 use Rattle.loops.specs.Figures.{at}
 use Rattle.loops.specs.Loops.{filled}
 use Rattle.planning.proofs.opening.figures_of.Given as goal

@@ -1,4 +1,4 @@
-use Rattle.std.proofs.Common.{sym, ◌∙◌, ⊎_elim, arith, ne_eqb}
+use Rattle.std.proofs.Common.{refl, sym, ◌∙◌, ⊎_elim, arith, ne_eqb}
 use Rattle.planning.proofs.Grounds.{grounded_start, grounded_yes, grounded_no, grounded_end}
 use Rattle.planning.proofs.opening.ground_components.Goals as goal
 
@@ -18,9 +18,9 @@ pub loop-i-preserved : goal.loop-i-preserved
 loop-i-preserved c =
     let l = c.loop-i in
     ⊎_elim
-    (λ w. rw (w.ground-is, w.count-is) (grounded_yes _ _ _ l.ground l.count l.i _ _ l.invariant (omega arith) c.wide.ensures w.if-wide-i.true w.ground_of.ensures))
-    (λ w. rw (w.ground-is, w.count-is) (grounded_no _ _ _ l.ground l.count l.i l.invariant (omega arith) (ne_eqb _ _ (λ e. w.if-wide-i.false (c.wide.ensures ∙ e)))))
-    c.if-wide-i.branch-raw
+    (λ w. rw (w.ground-is, w.count-is) (grounded_yes _ _ _ l.ground l.count l.i _ _ l.invariant (omega arith) refl w.if-leader-i.true w.ground_of.ensures))
+    (λ w. rw (w.ground-is, w.count-is) (grounded_no _ _ _ l.ground l.count l.i l.invariant (omega arith) (ne_eqb _ _ (λ e. w.if-leader-i.false (e)))))
+    c.if-leader-i.branch-raw
 
 pub shape_of-ground : goal.shape_of-ground
 shape_of-ground c = c.loop-i.invariant.size ∙ sym c.requires.2

@@ -1,4 +1,3 @@
-use Rattle.std.proofs.Common.{◌-◌, length}
 use Rattle.planning.proofs.Grounds.{Grounded}
 use Rattle.planning.proofs.opening.ground_components.Given as goal
 

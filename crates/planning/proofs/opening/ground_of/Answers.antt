@@ -1,4 +1,4 @@
-use Rattle.std.proofs.Common.{ℕ, ◌<◌, not, ◌&&◌, eqb, length, get_or, sym, ap, ◌∙◌, arith, rules}
+use Rattle.std.proofs.Common.{refl, ℕ, ◌<◌, not, ◌&&◌, eqb, length, get_or, sym, ap, ◌∙◌, arith, rules}
 use Rattle.plan_defs.specs.Components.{slack_within, bus_or}
 use Rattle.planning.specs.Opening.{slack_case}
 use Rattle.planning.proofs.Passing.{pass_start, pass_yes, pass_no, pass_end}
@@ -8,15 +8,15 @@ pub loop-k-init : goal.loop-k-init
 loop-k-init c = (omega arith, ap (bus_or (slack_case c.args.bus.now c.args.slack.now) c.args.root) (pass_start _ _))
 
 pub offset_bounds-leader-i : goal.offset_bounds-leader-i
-offset_bounds-leader-i c = let h : c.wide-i.result < length c.args.leader.now = omega (arith, c.wide-i.ensures, c.requires.0.below c.loop-k.k (omega arith)) in search rules
+offset_bounds-leader-i c = let h : get_or c.args.bus.now c.loop-k.k 0 < length c.args.leader.now = omega (arith, c.requires.0.below c.loop-k.k (omega arith)) in search rules
 
 pub bounds-leader-i : goal.bounds-leader-i
-bounds-leader-i c = omega (arith, c.wide-i.ensures, c.requires.0.below c.loop-k.k (omega arith))
+bounds-leader-i c = omega (arith, c.requires.0.below c.loop-k.k (omega arith))
 
 pub returns-then-leader-i : goal.returns-then-leader-i
 returns-then-leader-i c =
     ap (bus_or (slack_case c.args.bus.now c.args.slack.now) c.args.root) (sym (pass_yes (slack_within (slack_case c.args.bus.now c.args.slack.now) c.args.leader.now c.args.root) (omega arith)
-    (ap (λ (i : ℕ). eqb (get_or c.args.leader.now i 0) c.args.root && not (eqb (get_or c.args.slack.now c.loop-k.k 0) 0)) (sym c.wide-i.ensures)
+    (ap (λ (i : ℕ). eqb (get_or c.args.leader.now i 0) c.args.root && not (eqb (get_or c.args.slack.now c.loop-k.k 0) 0)) refl
     ∙ c.if-leader-i.true)))
     ∙ c.loop-k.invariant.1
 
@@ -25,7 +25,7 @@ loop-k-preserved c = (
   omega arith,
   ap (bus_or (slack_case c.args.bus.now c.args.slack.now) c.args.root)
       (sym (pass_no (slack_within (slack_case c.args.bus.now c.args.slack.now) c.args.leader.now c.args.root) (omega arith)
-      (ap (λ (i : ℕ). eqb (get_or c.args.leader.now i 0) c.args.root && not (eqb (get_or c.args.slack.now c.loop-k.k 0) 0)) (sym c.wide-i.ensures)
+      (ap (λ (i : ℕ). eqb (get_or c.args.leader.now i 0) c.args.root && not (eqb (get_or c.args.slack.now c.loop-k.k 0) 0)) refl
       ∙ c.if-leader-i.false)))
       ∙ c.loop-k.invariant.1,
 )

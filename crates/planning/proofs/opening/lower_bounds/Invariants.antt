@@ -1,4 +1,4 @@
-use Rattle.std.proofs.Common.{◌≡◌, ◌-◌, ◌≤◌, max, length, get_or}
+use Rattle.std.proofs.Common.{◌≡◌, ◌≤◌, max, length, get_or}
 use Rattle.loops.specs.Loops.{filled}
 use Rattle.planning.proofs.opening.lower_bounds.Given as goal
 

@@ -1,4 +1,4 @@
-use Rattle.std.proofs.Common.{◌≡◌, ◌-◌, ◌≤◌, length}
+use Rattle.std.proofs.Common.{◌≡◌, ◌≤◌, length}
 use Rattle.loops.specs.Figures.{at, over}
 use Rattle.loops.specs.Loops.{filled}
 use Rattle.plan_defs.specs.Constants.{base_mva}

@@ -1,4 +1,4 @@
-use Rattle.std.proofs.Common.{length, replicate, ap, ◌∙◌, arith, take_at}
+use Rattle.std.proofs.Common.{refl, length, replicate, ap, ◌∙◌, arith, take_at}
 use lib.ListN.{length-replicate}
 use Rattle.loops.specs.Figures.{at, nought}
 use Rattle.loops.proofs.Fronts.{front_replicate}
@@ -70,28 +70,57 @@ give-requires c =
     c.figures_of.ensures c.figures_of-2.ensures c.figures_of-3.ensures c.figures_of-4.ensures
     _ c.demand_of-demand.ensures (replicate 128 nought) (omega (arith, u.count, units_few s.args.leader.now s.args.bus.now s.args.root, s.requires.0.few))
 
-pub offset_bounds-units-j : goal.offset_bounds-units-j
-offset_bounds-units-j c =
+pub offset_bounds-units-index : goal.offset_bounds-units-index
+offset_bounds-units-index c =
+    let s = c in
+    let u = c.units_in-count.ensures in
+    record {
+      fits = omega (
+        arith,
+        u.count,
+        units_few s.args.leader.now s.args.bus.now s.args.root,
+        s.requires.0.few,
+        refused_index s.args.mode s.args.leader.now s.args.load.now s.args.bus.now s.args.pmin.now s.args.pmax.now s.args.c1.now s.args.c2.now s.args.root s.requires.0 s.requires.1 s.requires.2
+            _ _ u.count u.kept _ _ _ _
+            c.figures_of.ensures c.figures_of-2.ensures c.figures_of-3.ensures c.figures_of-4.ensures
+            _ c.demand_of-demand.ensures
+            c.give.result _ c.give.ensures _ c.in-Err.is c.index.result c.index.ensures,
+      );
+    }
+
+pub bounds-units-index : goal.bounds-units-index
+bounds-units-index c =
     let s = c in
     let u = c.units_in-count.ensures in
     omega (
       arith,
+      u.count,
+      units_few s.args.leader.now s.args.bus.now s.args.root,
+      s.requires.0.few,
       refused_index s.args.mode s.args.leader.now s.args.load.now s.args.bus.now s.args.pmin.now s.args.pmax.now s.args.c1.now s.args.c2.now s.args.root s.requires.0 s.requires.1 s.requires.2
           _ _ u.count u.kept _ _ _ _
           c.figures_of.ensures c.figures_of-2.ensures c.figures_of-3.ensures c.figures_of-4.ensures
           _ c.demand_of-demand.ensures
-          c.give.result _ c.give.ensures _ c.in-Err.is c.index-j.result c.index-j.ensures,
+          c.give.result _ c.give.ensures _ c.in-Err.is c.index.result c.index.ensures,
     )
 
-pub bounds-units-j : goal.bounds-units-j
-bounds-units-j c =
+pub overflow_cast-result : goal.overflow_cast-result
+overflow_cast-result c =
     let s = c in
     let u = c.units_in-count.ensures in
-    refused_index s.args.mode s.args.leader.now s.args.load.now s.args.bus.now s.args.pmin.now s.args.pmax.now s.args.c1.now s.args.c2.now s.args.root s.requires.0 s.requires.1 s.requires.2
-    _ _ u.count u.kept _ _ _ _
-    c.figures_of.ensures c.figures_of-2.ensures c.figures_of-3.ensures c.figures_of-4.ensures
-    _ c.demand_of-demand.ensures
-    c.give.result _ c.give.ensures _ c.in-Err.is c.index-j.result c.index-j.ensures
+    let p = picked s.args.leader.now s.args.bus.now s.args.root s.requires.0 _ _ _ u.count u.kept s.requires.1.pmin_size in
+    record {
+      fits = omega (
+        arith,
+        s.requires.0.few,
+        s.requires.1.pmin_size,
+        p.below c.index.result (refused_index s.args.mode s.args.leader.now s.args.load.now s.args.bus.now s.args.pmin.now s.args.pmax.now s.args.c1.now s.args.c2.now s.args.root s.requires.0 s.requires.1 s.requires.2
+            _ _ u.count u.kept _ _ _ _
+            c.figures_of.ensures c.figures_of-2.ensures c.figures_of-3.ensures c.figures_of-4.ensures
+            _ c.demand_of-demand.ensures
+            c.give.result _ c.give.ensures _ c.in-Err.is c.index.result c.index.ensures),
+      );
+    }
 
 pub returns-in-Err : goal.returns-in-Err
 returns-in-Err c =
@@ -101,7 +130,7 @@ returns-in-Err c =
     _ _ u.count u.kept _ _ _ _
     c.figures_of.ensures c.figures_of-2.ensures c.figures_of-3.ensures c.figures_of-4.ensures
     _ c.demand_of-demand.ensures
-    c.give.result _ c.give.ensures _ c.in-Err.is c.index-j.result c.wide.result c.index-j.ensures c.wide.ensures _
+    c.give.result _ c.give.ensures _ c.in-Err.is c.index.result _ c.index.ensures refl _
 
 pub hand_out-requires : goal.hand_out-requires
 hand_out-requires c =
@@ -120,6 +149,6 @@ returns c =
     _ _ u.count u.kept _ _ _ _
     c.figures_of.ensures c.figures_of-2.ensures c.figures_of-3.ensures c.figures_of-4.ensures
     _ c.demand_of-demand.ensures
-    c.give.result _ c.give.ensures c.in-Ok.is _ _ _
+    c.give.result _ c.give.ensures c.in_default.is _ _ _
     (take_at _ _ _ (c.give.auto.mw ∙ ap length (front_replicate 128 c.units_in-count.result nought (omega (arith, u.count, units_few s.args.leader.now s.args.bus.now s.args.root, s.requires.0.few))) ∙ length-replicate c.units_in-count.result nought))
     c.hand_out.ensures

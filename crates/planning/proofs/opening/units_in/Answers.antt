@@ -1,4 +1,4 @@
-use Rattle.std.proofs.Common.{◌≡◌, ℕ, ◌<◌, List, [], ◌++◌, length, get_or, take, sym, ap, ◌∙◌, ⊎_elim, append-nil, arith, length-set, rules, eq-eqb, ne_eqb}
+use Rattle.std.proofs.Common.{refl, ◌≡◌, ℕ, ◌<◌, List, [], ◌++◌, length, get_or, take, sym, ap, ◌∙◌, ⊎_elim, append-nil, arith, length-set, rules, eq-eqb, ne_eqb}
 use Rattle.loops.proofs.Collect.{collect_keep, collect_count}
 use Rattle.plan_defs.specs.Components.{unit_within, units_in}
 use Rattle.planning.specs.Opening.{bus_case}
@@ -9,10 +9,10 @@ pub loop-k-init : goal.loop-k-init
 loop-k-init c = (omega arith, omega arith, c.requires.1, pass_start _ _)
 
 pub offset_bounds-leader-i : goal.offset_bounds-leader-i
-offset_bounds-leader-i c = let h : c.wide-i.result < length c.args.leader.now = omega (arith, c.wide-i.ensures, c.requires.0.below c.loop-k.k (omega arith)) in search rules
+offset_bounds-leader-i c = let h : get_or c.args.bus.now c.loop-k.k 0 < length c.args.leader.now = omega (arith, c.requires.0.below c.loop-k.k (omega arith)) in search rules
 
 pub bounds-leader-i : goal.bounds-leader-i
-bounds-leader-i c = omega (arith, c.wide-i.ensures, c.requires.0.below c.loop-k.k (omega arith))
+bounds-leader-i c = omega (arith, c.requires.0.below c.loop-k.k (omega arith))
 
 pub overflow_cast-units : goal.overflow_cast-units
 overflow_cast-units c = omega (arith, c.requires.0.few)
@@ -32,7 +32,7 @@ loop-k-preserved c =
       collect_keep l.units l.count l.k _ _ (omega (arith, c.requires.0.few))
           (ap (λ (r : List ℕ). take l.count l.units ++ r)
           (sym (pass_yes (unit_within (bus_case c.args.bus.now) c.args.leader.now c.args.root) (omega arith)
-          (eq-eqb _ _ (ap (λ (i : ℕ). get_or c.args.leader.now i 0) (sym c.wide-i.ensures) ∙ w.if-leader-i.true))))
+          (eq-eqb _ _ (ap (λ (i : ℕ). get_or c.args.leader.now i 0) refl ∙ w.if-leader-i.true))))
           ∙ l.invariant.3),
     ))
     (λ w.
@@ -42,7 +42,7 @@ loop-k-preserved c =
       l.invariant.2,
       ap (λ (r : List ℕ). take l.count l.units ++ r)
           (sym (pass_no (unit_within (bus_case c.args.bus.now) c.args.leader.now c.args.root) (omega arith)
-          (ne_eqb _ _ (λ e. w.if-leader-i.false (ap (λ (i : ℕ). get_or c.args.leader.now i 0) c.wide-i.ensures ∙ e)))))
+          (ne_eqb _ _ w.if-leader-i.false)))
           ∙ l.invariant.3,
     ))
     c.if-leader-i.branch-raw

@@ -1,4 +1,4 @@
-use Rattle.std.proofs.Common.{◌≡◌, ◌-◌, ◌≤◌, length}
+use Rattle.std.proofs.Common.{◌≡◌, ◌≤◌, length}
 use lib.Ieee.{neg}
 use Rattle.loops.specs.Figures.{at}
 use Rattle.loops.specs.Loops.{filled}

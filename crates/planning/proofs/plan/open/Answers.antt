@@ -1,4 +1,4 @@
-use Rattle.std.proofs.Common.{sym, ◌∙◌}
+use Rattle.std.proofs.Common.{rules, ◌≡◌, Err, sym, ◌∙◌}
 use Rattle.planning.proofs.Openings.{joined_by_lem, fleet_by, costs_by, loads_by, above_by, tiers_by, opens_refused, opens_going}
 use Rattle.planning.proofs.plan.open.Goals as goal
 
@@ -19,18 +19,10 @@ dispatch_components-requires c =
     let n = c.component_leaders.auto.leader ∙ h.leader_size in
     (fleet_by _ h.target h.sound _ n, costs_by _ h.target h.sound, loads_by _ h.target h.sound _ n, h.mw_size ∙ sym h.sound.bus_size)
 
-pub shape_of-leader-in-Err : goal.shape_of-leader-in-Err
-shape_of-leader-in-Err c = c.component_leaders.auto.leader
-
-pub shape_of-ground-in-Err : goal.shape_of-ground-in-Err
-shape_of-ground-in-Err c = c.ground_components-count.auto.ground
-
-pub shape_of-mw-in-Err : goal.shape_of-mw-in-Err
-shape_of-mw-in-Err c = c.dispatch_components.auto.mw
-
-pub returns-in-Err : goal.returns-in-Err
-returns-in-Err c =
-    record { opens = λ o target s. opens_refused _ target s _ c.component_leaders.ensures c.dispatch_components.result _ c.dispatch_components.ensures _ c.in-Err.is }
+pub returns-in_err-dispatch_components : goal.returns-in_err-dispatch_components
+returns-in_err-dispatch_components c =
+    let h : c.from_residual.result ≡ Err c.in_err-dispatch_components.field-0.0 = search rules in
+    rw h (record { opens = λ o target s. opens_refused _ target s _ c.component_leaders.ensures c.dispatch_components.result _ c.dispatch_components.ensures _ c.in_err-dispatch_components.was })
 
 pub injections-requires : goal.injections-requires
 injections-requires c =
@@ -71,6 +63,6 @@ returns c =
     let g = c.ground_components-count.ensures in
     record {
       opens = λ o target s.
-          opens_going _ target s _ c.component_leaders.ensures c.dispatch_components.result _ c.dispatch_components.ensures c.in-Ok.is _ _ _ _ _
+          opens_going _ target s _ c.component_leaders.ensures c.dispatch_components.result _ c.dispatch_components.ensures c.in_ok-dispatch_components.was _ _ _ _ _
           (c.component_leaders.auto.leader ∙ h.leader_size ∙ sym h.sound.tier_size) g.count g.held c.injections.ensures c.first_levels.ensures c.lower_bounds.ensures;
     }

@@ -7,4 +7,4 @@ pub returns-then-mark-eq0 : goal.returns-then-mark-eq0
 returns-then-mark-eq0 c = marked_none _ _ c.if-mark-eq0.true
 
 pub returns-else-mark-eq0 : goal.returns-else-mark-eq0
-returns-else-mark-eq0 c = c.fewer.ensures ∙ marked_some _ _ c.if-mark-eq0.false
+returns-else-mark-eq0 c = c.min.ensures ∙ marked_some _ _ c.if-mark-eq0.false

@@ -1,4 +1,4 @@
-use Rattle.std.proofs.Common.{refl, ◌∙◌}
+use Rattle.std.proofs.Common.{rules, ◌≡◌, Err, ◌∙◌}
 use Rattle.planning.proofs.Marks.{moved_within}
 use Rattle.planning.proofs.Heavies.{lines_again, pass_refused, pass_going}
 use Rattle.planning.proofs.raises.pass.Goals as goal
@@ -16,31 +16,20 @@ planning_state-requires c =
       };
     }
 
-pub shape_of-banks-in-Err : goal.shape_of-banks-in-Err
-shape_of-banks-in-Err c = refl
-
-pub shape_of-level-in-Err : goal.shape_of-level-in-Err
-shape_of-level-in-Err c = refl
-
-pub shape_of-angle-in-Err : goal.shape_of-angle-in-Err
-shape_of-angle-in-Err c = c.planning_state.auto.angle ∙ c.clear_figures.auto.figures
-
-pub shape_of-flow-in-Err : goal.shape_of-flow-in-Err
-shape_of-flow-in-Err c = c.planning_state.auto.flow
-
-pub returns-in-Err : goal.returns-in-Err
-returns-in-Err c =
+pub returns-in_err-planning_state : goal.returns-in_err-planning_state
+returns-in_err-planning_state c =
     let s = c in
     let z = s.args in
-    record {
+    let h : c.from_residual.result ≡ Err c.in_err-planning_state.field-0.0 = search rules in
+    rw h (record {
       passed = λ o mode target w n d promoted.
           pass_refused z.ladder.now z.level.now z.a.now z.b.now z.km.now z.share.now z.sheet.now z.load.now z.bus.now z.pmax.now
           z.grounds.now z.injection.now z.circuits.now z.banks.now _ _ c.clear_figures.ensures s.requires.lent.angle_size
-          c.planning_state.result _ _ c.planning_state.ensures o mode target w n d promoted _ c.in-Err.is;
+          c.planning_state.result _ _ c.planning_state.ensures o mode target w n d promoted _ c.in_err-planning_state.was;
       lines = s.requires.drawing.lines;
       banked = s.requires.drawing.banks_ok;
       bound = tt;
-    }
+    })
 
 pub raise_heavy-moved-requires : goal.raise_heavy-moved-requires
 raise_heavy-moved-requires c =
@@ -80,7 +69,7 @@ returns c =
           pass_going z.ladder.now z.level.now z.a.now z.b.now z.km.now z.share.now z.sheet.now z.load.now z.bus.now z.pmax.now
           z.grounds.now z.injection.now z.circuits.now z.banks.now _ _ c.clear_figures.ensures s.requires.lent.angle_size
           c.planning_state.result _ _ c.planning_state.ensures o mode target w n d promoted
-          c.in-Ok.is z.floors.now s.requires.unset _ _ c.raise_heavy-moved.result _ r;
+          c.in_ok-planning_state.was z.floors.now s.requires.unset _ _ c.raise_heavy-moved.result _ r;
       lines = lines_again z.ladder.now z.level.now z.a.now z.b.now z.km.now z.share.now z.sheet.now _ _ r.levels s.requires.drawing.lines;
       banked = r.banked;
       bound = moved_within z.level.now _ _ 256 r.count s.requires.drawing.few_buses;

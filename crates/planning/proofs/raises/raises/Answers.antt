@@ -1,4 +1,4 @@
-use Rattle.std.proofs.Common.{sym, ◌∙◌, arith}
+use Rattle.std.proofs.Common.{rules, ◌≡◌, Err, sym, ◌∙◌, arith}
 use Rattle.planning.proofs.Promoting.{unpromoted, underway_start, raisable_again, done_last, done_refused, moved_few, done_still, underway_next}
 use Rattle.planning.proofs.raises.raises.Goals as goal
 
@@ -18,35 +18,33 @@ pass-requires c =
     let l = c.loop-turn in
     raisable_again z.ladder.now z.a.now z.b.now z.km.now z.share.now z.sheet.now z.load.now z.bus.now z.pmax.now z.grounds.now z.injection.now z.circuits.now z.floors.now z.banks.now z.level.now z.marks.now z.angle.now z.flow.now l.banks l.level l.marks l.angle l.flow l.promoted l.turn l.invariant c.requires
 
-pub shape_of-banks-in-Err : goal.shape_of-banks-in-Err
-shape_of-banks-in-Err c = c.pass.auto.banks ∙ c.loop-turn.invariant.bank_size
+pub shape_of-banks-in_err-moved : goal.shape_of-banks-in_err-moved
+shape_of-banks-in_err-moved c = c.pass.auto.banks ∙ c.loop-turn.invariant.bank_size
 
-pub shape_of-level-in-Err : goal.shape_of-level-in-Err
-shape_of-level-in-Err c = c.pass.auto.level ∙ c.loop-turn.invariant.level_size
+pub shape_of-level-in_err-moved : goal.shape_of-level-in_err-moved
+shape_of-level-in_err-moved c = c.pass.auto.level ∙ c.loop-turn.invariant.level_size
 
-pub shape_of-marks-in-Err : goal.shape_of-marks-in-Err
-shape_of-marks-in-Err c = c.pass.auto.marks ∙ c.loop-turn.invariant.mark_size
+pub shape_of-marks-in_err-moved : goal.shape_of-marks-in_err-moved
+shape_of-marks-in_err-moved c = c.pass.auto.marks ∙ c.loop-turn.invariant.mark_size
 
-pub shape_of-angle-in-Err : goal.shape_of-angle-in-Err
-shape_of-angle-in-Err c = c.pass.auto.angle ∙ c.loop-turn.invariant.angle_size
+pub shape_of-angle-in_err-moved : goal.shape_of-angle-in_err-moved
+shape_of-angle-in_err-moved c = c.pass.auto.angle ∙ c.loop-turn.invariant.angle_size
 
-pub shape_of-flow-in-Err : goal.shape_of-flow-in-Err
-shape_of-flow-in-Err c = c.pass.auto.flow ∙ c.loop-turn.invariant.flow_size
+pub shape_of-flow-in_err-moved : goal.shape_of-flow-in_err-moved
+shape_of-flow-in_err-moved c = c.pass.auto.flow ∙ c.loop-turn.invariant.flow_size
 
-pub returns-in-Err : goal.returns-in-Err
-returns-in-Err c =
+pub returns-in_err-moved : goal.returns-in_err-moved
+returns-in_err-moved c =
     let z = c.args in
     let l = c.loop-turn in
-    done_refused z.ladder.now z.a.now z.b.now z.km.now z.share.now z.sheet.now z.load.now z.bus.now z.pmax.now z.grounds.now z.injection.now z.circuits.now z.floors.now z.banks.now z.level.now z.marks.now z.angle.now z.flow.now l.banks l.level l.marks l.angle l.flow l.promoted l.turn l.invariant c.loop-turn-test.true _ _ c.pass.result c.pass.ensures z.mode (sym c.promotes.ensures ∙ c.if-not-promotes.false) _ c.in-Err.is
+    let h : c.from_residual.result ≡ Err c.in_err-moved.field-0.0 = search rules in
+    rw h (done_refused z.ladder.now z.a.now z.b.now z.km.now z.share.now z.sheet.now z.load.now z.bus.now z.pmax.now z.grounds.now z.injection.now z.circuits.now z.floors.now z.banks.now z.level.now z.marks.now z.angle.now z.flow.now l.banks l.level l.marks l.angle l.flow l.promoted l.turn l.invariant c.loop-turn-test.true _ _ c.pass.result c.pass.ensures z.mode (sym c.promotes.ensures ∙ c.if-not-promotes.false) _ c.in_err-moved.was)
 
 pub overflow_add-promoted : goal.overflow_add-promoted
 overflow_add-promoted c =
     let z = c.args in
     let l = c.loop-turn in
-    omega (arith, l.invariant.turns, l.invariant.bound, moved_few z.ladder.now z.a.now z.b.now z.km.now z.share.now z.sheet.now z.load.now z.bus.now z.pmax.now z.grounds.now z.injection.now z.circuits.now z.floors.now z.banks.now z.level.now z.marks.now z.angle.now z.flow.now l.banks l.level l.marks l.angle l.flow l.promoted l.turn l.invariant c.loop-turn-test.true _ _ c.pass.result c.pass.ensures c.in-Ok.moved c.in-Ok.is)
-
-pub overflow_add-turn : goal.overflow_add-turn
-overflow_add-turn c = omega (arith, c.loop-turn.invariant.turns)
+    omega (arith, l.invariant.turns, l.invariant.bound, moved_few z.ladder.now z.a.now z.b.now z.km.now z.share.now z.sheet.now z.load.now z.bus.now z.pmax.now z.grounds.now z.injection.now z.circuits.now z.floors.now z.banks.now z.level.now z.marks.now z.angle.now z.flow.now l.banks l.level l.marks l.angle l.flow l.promoted l.turn l.invariant c.loop-turn-test.true _ _ c.pass.result c.pass.ensures c.in_ok-moved.moved c.in_ok-moved.was)
 
 pub loop-turn-smaller : goal.loop-turn-smaller
 loop-turn-smaller c = omega (arith, c.loop-turn-test.true)
@@ -56,7 +54,7 @@ loop-turn-preserved c =
     let z = c.args in
     let l = c.loop-turn in
     let k = c.pass.auto in
-    underway_next z.ladder.now z.a.now z.b.now z.km.now z.share.now z.sheet.now z.load.now z.bus.now z.pmax.now z.grounds.now z.injection.now z.circuits.now z.floors.now z.banks.now z.level.now z.marks.now z.angle.now z.flow.now l.banks l.level l.marks l.angle l.flow l.promoted l.turn l.invariant c.loop-turn-test.true _ _ c.pass.result c.pass.ensures _ c.in-Ok.is c.if-moved-eq0.false c.requires.few_levels _ _ _
+    underway_next z.ladder.now z.a.now z.b.now z.km.now z.share.now z.sheet.now z.load.now z.bus.now z.pmax.now z.grounds.now z.injection.now z.circuits.now z.floors.now z.banks.now z.level.now z.marks.now z.angle.now z.flow.now l.banks l.level l.marks l.angle l.flow l.promoted l.turn l.invariant c.loop-turn-test.true _ _ c.pass.result c.pass.ensures _ c.in_ok-moved.was c.if-moved-eq0.false c.requires.few_levels _ _ _
     k.banks k.level k.marks k.angle k.flow
 
 pub shape_of-banks-after-loop-turn : goal.shape_of-banks-after-loop-turn
@@ -99,4 +97,4 @@ pub returns-then-moved-eq0 : goal.returns-then-moved-eq0
 returns-then-moved-eq0 c =
     let z = c.args in
     let l = c.loop-turn in
-    done_still z.ladder.now z.a.now z.b.now z.km.now z.share.now z.sheet.now z.load.now z.bus.now z.pmax.now z.grounds.now z.injection.now z.circuits.now z.floors.now z.banks.now z.level.now z.marks.now z.angle.now z.flow.now l.banks l.level l.marks l.angle l.flow l.promoted l.turn l.invariant c.loop-turn-test.true _ _ c.pass.result c.pass.ensures _ c.in-Ok.is z.mode (sym c.promotes.ensures ∙ c.if-not-promotes.false) c.if-moved-eq0.true
+    done_still z.ladder.now z.a.now z.b.now z.km.now z.share.now z.sheet.now z.load.now z.bus.now z.pmax.now z.grounds.now z.injection.now z.circuits.now z.floors.now z.banks.now z.level.now z.marks.now z.angle.now z.flow.now l.banks l.level l.marks l.angle l.flow l.promoted l.turn l.invariant c.loop-turn-test.true _ _ c.pass.result c.pass.ensures _ c.in_ok-moved.was z.mode (sym c.promotes.ensures ∙ c.if-not-promotes.false) c.if-moved-eq0.true

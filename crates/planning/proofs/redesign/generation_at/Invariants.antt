@@ -1,5 +1,5 @@
 -- The invariant: each bus has what the units passed give it.
-use Rattle.std.proofs.Common.{◌≡◌, ◌-◌, ◌≤◌, length}
+use Rattle.std.proofs.Common.{◌≡◌, ◌≤◌, length}
 use Rattle.loops.specs.Loops.{tab}
 use Rattle.planning.proofs.Served.{gen_to}
 use Rattle.planning.proofs.redesign.generation_at.Given as goal

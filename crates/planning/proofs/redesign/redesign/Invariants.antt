@@ -1,5 +1,5 @@
 -- The invariant: the corridors passed have their banks anew.
-use Rattle.std.proofs.Common.{◌≡◌, ◌-◌, ◌≤◌, length}
+use Rattle.std.proofs.Common.{◌≡◌, ◌≤◌, length}
 use Rattle.loops.specs.Loops.{filled}
 use Rattle.planning.specs.Redesign.{redesign_for, bank_anew}
 use Rattle.planning.proofs.redesign.redesign.Given as goal

@@ -1,6 +1,6 @@
 use Rattle.std.proofs.Common.{◌<◌, le_antisymm, arith, rules}
 use Rattle.planning.proofs.Draws.{end_below}
-use Rattle.planning.proofs.Served.{shared_start, shared_turn, shared_few, shared_end, one_most}
+use Rattle.planning.proofs.Served.{byte_is, shared_start, shared_turn, shared_few, shared_end, one_most}
 use Rattle.planning.proofs.redesign.transformer_corridors.Goals as goal
 
 pub loop-k-init : goal.loop-k-init
@@ -21,7 +21,7 @@ overflow_add-shared c =
     let z = s.args in
     let l = c.loop-k in
     let h : c.ends_of-e.result.to < 256 = omega (arith, end_below z.ladder.now z.level.now z.a.now z.b.now c.loop-k.k (s.requires.corridors.ends c.loop-k.k c.loop-k-test.true) _ c.ends_of-e.ensures, s.requires.corridors.few_buses) in
-    omega (arith, shared_few z.ladder.now z.level.now z.a.now z.b.now l.shared l.k _ l.invariant.1 h, one_most c.ends_of-e.result.steps_down _ c.one_if.ensures, c.loop-k-test.true, s.requires.corridors.few)
+    omega (arith, shared_few z.ladder.now z.level.now z.a.now z.b.now l.shared l.k _ l.invariant.1 h, one_most c.ends_of-e.result.steps_down _ (byte_is _ _ c.from.ensures), c.loop-k-test.true, s.requires.corridors.few)
 
 pub offset_bounds-shared-lo-in-loop-k : goal.offset_bounds-shared-lo-in-loop-k
 offset_bounds-shared-lo-in-loop-k c = let s = c in let z = s.args in omega (arith, end_below z.ladder.now z.level.now z.a.now z.b.now c.loop-k.k (s.requires.corridors.ends c.loop-k.k c.loop-k-test.true) _ c.ends_of-e.ensures, s.requires.corridors.few_buses)
@@ -35,7 +35,7 @@ loop-k-preserved c =
     let z = s.args in
     let l = c.loop-k in
     let h : c.ends_of-e.result.to < 256 = omega (arith, end_below z.ladder.now z.level.now z.a.now z.b.now c.loop-k.k (s.requires.corridors.ends c.loop-k.k c.loop-k-test.true) _ c.ends_of-e.ensures, s.requires.corridors.few_buses) in
-    (omega arith, shared_turn z.ladder.now z.level.now z.a.now z.b.now l.shared l.k _ _ c.ends_of-e.ensures c.one_if.ensures h l.invariant.1)
+    (omega arith, shared_turn z.ladder.now z.level.now z.a.now z.b.now l.shared l.k _ _ c.ends_of-e.ensures (byte_is _ _ c.from.ensures) h l.invariant.1)
 
 pub returns : goal.returns
 returns c = let z = c.args in shared_end z.ladder.now z.level.now z.a.now z.b.now _ _ (le_antisymm c.loop-k.invariant.0 c.loop-k-test.false) c.loop-k.invariant.1

@@ -1,5 +1,5 @@
 -- The invariant: each bus has as many as the corridors passed give it.
-use Rattle.std.proofs.Common.{◌≡◌, ◌-◌, ◌≤◌, length}
+use Rattle.std.proofs.Common.{◌≡◌, ◌≤◌, length}
 use Rattle.loops.specs.Loops.{tab}
 use Rattle.planning.proofs.Served.{shared_to}
 use Rattle.planning.proofs.redesign.transformer_corridors.Given as goal

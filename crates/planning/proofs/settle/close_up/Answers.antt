@@ -1,22 +1,14 @@
-use Rattle.std.proofs.Common.{length, refl}
+use Rattle.std.proofs.Common.{rules, ◌≡◌, Err, length, refl}
 use Rattle.planning.specs.Solve.{peak_for}
 use Rattle.planning.specs.Fill.{designs_for}
 use Rattle.planning.proofs.Settling.{settleable_again, loaded, solved_refused, closed_answered}
 use Rattle.planning.proofs.settle.close_up.Goals as goal
 
-pub shape_of-level-in-Err : goal.shape_of-level-in-Err
-shape_of-level-in-Err c = refl
-
-pub shape_of-flow-in-Err : goal.shape_of-flow-in-Err
-shape_of-flow-in-Err c = c.solve_from_zero.auto.flow
-
-pub shape_of-angle-in-Err : goal.shape_of-angle-in-Err
-shape_of-angle-in-Err c = c.solve_from_zero.auto.angle
-
-pub returns-in-Err : goal.returns-in-Err
-returns-in-Err c =
+pub returns-in_err-solve_from_zero : goal.returns-in_err-solve_from_zero
+returns-in_err-solve_from_zero c =
     let v = c.solve_from_zero in
-    λ before order. solved_refused _ _ v.result _ _ _ _ v.ensures c.in-Err.is
+    let h : c.from_residual.result ≡ Err c.in_err-solve_from_zero.field-0.0 = search rules in
+    rw h (λ before order. solved_refused _ _ v.result _ _ _ _ v.ensures c.in_err-solve_from_zero.was)
 
 pub close-closing-requires : goal.close-closing-requires
 close-closing-requires c =
@@ -47,4 +39,4 @@ returns c =
     let e = c.close-closing.ensures in
     λ before order.
     closed_answered z.mode z.cap.now z.above z.leader.now z.ladder.now z.level.now (designs_for z.ladder.now z.level.now z.a.now z.b.now z.km.now z.share.now z.sheet.now z.banks.now)
-    z.upsized.now (peak_for (length z.level.now) z.grounds.now z.injection.now) z.filler before order z.circuits.now _ _ _ _ _ _ v.result _ v.ensures c.in-Ok.is e.closing e.rate e.tier e.added
+    z.upsized.now (peak_for (length z.level.now) z.grounds.now z.injection.now) z.filler before order z.circuits.now _ _ _ _ _ _ v.result _ v.ensures c.in_ok-solve_from_zero.was e.closing e.rate e.tier e.added

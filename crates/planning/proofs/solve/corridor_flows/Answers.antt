@@ -1,4 +1,4 @@
-use Rattle.std.proofs.Common.{◌<◌, length, refl, ◌∙◌, arith, length-set, length-take-le, rules}
+use Rattle.std.proofs.Common.{get_or, ◌<◌, length, refl, ◌∙◌, arith, length-set, length-take-le, rules}
 use Rattle.loops.proofs.Tab.{fill_start, fill_turn, fill_end}
 use Rattle.planning.proofs.Solving.{flow_turn, flows_are}
 use Rattle.planning.proofs.solve.corridor_flows.Goals as goal
@@ -16,16 +16,16 @@ pub bounds-weight-k : goal.bounds-weight-k
 bounds-weight-k c = omega (arith, c.requires.few)
 
 pub offset_bounds-angle-i : goal.offset_bounds-angle-i
-offset_bounds-angle-i c = let h : c.wide-i.result < length c.args.angle.now = omega (arith, c.wide-i.ensures, c.requires.from_below c.loop-k.k (omega arith)) in search rules
+offset_bounds-angle-i c = let h : get_or c.args.from.now c.loop-k.k 0 < length c.args.angle.now = omega (arith, c.requires.from_below c.loop-k.k (omega arith)) in search rules
 
 pub bounds-angle-i : goal.bounds-angle-i
-bounds-angle-i c = omega (arith, c.wide-i.ensures, c.requires.from_below c.loop-k.k (omega arith))
+bounds-angle-i c = omega (arith, c.requires.from_below c.loop-k.k (omega arith))
 
 pub offset_bounds-angle-j : goal.offset_bounds-angle-j
-offset_bounds-angle-j c = let h : c.wide-j.result < length c.args.angle.now = omega (arith, c.wide-j.ensures, c.requires.to_below c.loop-k.k (omega arith)) in search rules
+offset_bounds-angle-j c = let h : get_or c.args.to.now c.loop-k.k 0 < length c.args.angle.now = omega (arith, c.requires.to_below c.loop-k.k (omega arith)) in search rules
 
 pub bounds-angle-j : goal.bounds-angle-j
-bounds-angle-j c = omega (arith, c.wide-j.ensures, c.requires.to_below c.loop-k.k (omega arith))
+bounds-angle-j c = omega (arith, c.requires.to_below c.loop-k.k (omega arith))
 
 pub loop-k-preserved : goal.loop-k-preserved
 loop-k-preserved c =
@@ -34,7 +34,7 @@ loop-k-preserved c =
       omega arith,
       simp length-set l.invariant.1,
       fill_turn _ _ _ _ _ l.invariant.2 (omega arith)
-          (flow_turn s.from.now s.to.now s.weight.now s.angle.now (length s.flow.now) l.k _ _ (omega arith) c.wide-i.ensures c.wide-j.ensures),
+          (flow_turn s.from.now s.to.now s.weight.now s.angle.now (length s.flow.now) l.k _ _ (omega arith) refl refl),
     )
 
 pub shape_of-flow : goal.shape_of-flow

@@ -1,4 +1,4 @@
-use Rattle.std.proofs.Common.{◌≡◌, ◌-◌, ◌≤◌, length, take}
+use Rattle.std.proofs.Common.{◌≡◌, ◌≤◌, length, take}
 use Rattle.loops.specs.Loops.{filled}
 use Rattle.angles_defs.specs.Network.{edges_of}
 use Rattle.plan_defs.specs.Solve.{flow_mw}

@@ -1,9 +1,8 @@
-use Rattle.std.proofs.Common.{ℕ, ◌<◌, length, ap, ◌∙◌, arith, rules}
+use Rattle.std.proofs.Common.{get_or, ℕ, ◌<◌, length, ap, ◌∙◌, arith, rules}
 use lib.ListN.{length-replicate}
 use lib.Ieee.{Float}
-use Rattle.loops.specs.Figures.{at, times, nought}
+use Rattle.loops.specs.Figures.{float, at, times, nought}
 use Rattle.loops.proofs.Tab.{fill_start, fill_turn, fill_length}
-use Rattle.plan_defs.specs.Design.{drawn}
 use Rattle.plan_defs.specs.Solve.{susceptance}
 use Rattle.plan_defs.specs.declared.CircuitDesign.{CircuitDesign}
 use Rattle.planning.specs.Design.{lines_for}
@@ -75,8 +74,7 @@ loop-k-preserved c =
       fill_turn _ _ _ _ _ l.invariant.1 (omega (arith, length-replicate {A = ℕ} 256 0, D.few_corridors)) (ap (λ (x : CircuitDesign). x.from) d),
       fill_turn _ _ _ _ _ l.invariant.2 (omega (arith, length-replicate {A = ℕ} 256 0, D.few_corridors)) (ap (λ (x : CircuitDesign). x.to) d),
       fill_turn _ _ _ _ _ l.invariant.3 (omega (arith, length-replicate {A = Float} 256 nought, D.few_corridors))
-          (ap (λ (x : Float). times x c.float.result) (c.susceptance.ensures ∙ ap (λ (x : CircuitDesign). susceptance x) d)
-          ∙ ap (λ (x : Float). times (susceptance (drawn (lines_for c.args.ladder.now c.args.a.now c.args.b.now c.args.km.now c.args.share.now c.args.sheet.now) c.args.level.now l.k (at c.args.banks.now l.k))) x) c.float.ensures),
+          (ap (λ (x : Float). times x (float (get_or c.args.circuits.now l.k 0))) (c.susceptance.ensures ∙ ap (λ (x : CircuitDesign). susceptance x) d)),
     )
 
 pub returns : goal.returns

@@ -1,4 +1,4 @@
-use Rattle.std.proofs.Common.{◌≡◌, ◌-◌, ◌≤◌, length, get_or}
+use Rattle.std.proofs.Common.{◌≡◌, ◌≤◌, length, get_or}
 use Rattle.loops.specs.Figures.{at, float, times}
 use Rattle.loops.specs.Loops.{filled}
 use Rattle.plan_defs.specs.Design.{drawn}

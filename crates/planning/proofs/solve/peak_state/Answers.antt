@@ -1,4 +1,4 @@
-use Rattle.std.proofs.Common.{ℕ, length, sym, refl, ap, subst}
+use Rattle.std.proofs.Common.{rules, ◌≡◌, Err, ℕ, length, sym, refl, ap, subst}
 use Rattle.loops.proofs.Fronts.{front_room, front_lent}
 use Rattle.planning.specs.Solve.{Drawn}
 use Rattle.planning.proofs.States.{front_fits, front_net, peak_refused, peak_answered}
@@ -34,13 +34,11 @@ angles_from-requires c =
       };
     }
 
-pub shape_of-angle-in-Err : goal.shape_of-angle-in-Err
-shape_of-angle-in-Err c = c.angles_from.auto.angle
-
-pub returns-in-Err : goal.returns-in-Err
-returns-in-Err c =
+pub returns-in_err-angles_from : goal.returns-in_err-angles_from
+returns-in_err-angles_from c =
     let s = c in
-    peak_refused (length s.args.flow.now) s.args.e.from s.args.e.to s.args.e.weight s.args.grounds.now s.args.injection.now s.args.angle.now _ c.copy.ensures c.angles_from.result _ c.angles_from.ensures _ c.in-Err.is
+    let h : c.from_residual.result ≡ Err c.in_err-angles_from.field-0.0 = search rules in
+    rw h (peak_refused (length s.args.flow.now) s.args.e.from s.args.e.to s.args.e.weight s.args.grounds.now s.args.injection.now s.args.angle.now _ c.copy.ensures c.angles_from.result _ c.angles_from.ensures _ c.in_err-angles_from.was)
 
 pub corridor_flows-requires : goal.corridor_flows-requires
 corridor_flows-requires c =
@@ -56,5 +54,5 @@ shape_of-flow c = c.corridor_flows.auto.flow
 pub returns : goal.returns
 returns c =
     let s = c in
-    peak_answered (length s.args.flow.now) s.args.e.from s.args.e.to s.args.e.weight s.args.grounds.now s.args.injection.now s.args.angle.now _ c.copy.ensures c.angles_from.result _ c.angles_from.ensures c.in-Ok.is
+    peak_answered (length s.args.flow.now) s.args.e.from s.args.e.to s.args.e.weight s.args.grounds.now s.args.injection.now s.args.angle.now _ c.copy.ensures c.angles_from.result _ c.angles_from.ensures c.in_ok-angles_from.was
     _ c.corridor_flows.ensures c.finite_flows.result c.finite_flows.ensures

@@ -1,6 +1,7 @@
 use Rattle.std.proofs.Common.{◌≡◌, ◌+◌, length, refl, ap, ◌∙◌, arith}
 use Rattle.plan_defs.specs.Lists.{count_from, counting}
 use Rattle.planning.proofs.Lists.{count_more, count_most}
+use Rattle.planning.proofs.Served.{byte_is}
 use Rattle.planning.proofs.stiffen.at_or_above.Invariants.{high}
 use Rattle.planning.proofs.stiffen.at_or_above.Goals as goal
 
@@ -13,13 +14,13 @@ overflow_add-count c =
     let s = c in
     let l = c.loop-i in
     let p = high s.args.level.now s.args.top in
-    record { fits = omega (arith, s.requires, l.invariant.1, c.one_if-count.ensures, count_more p l.i, count_most p (l.i + 1) 0) }
+    record { fits = omega (arith, s.requires, l.invariant.1, (byte_is _ _ c.from-count.ensures), count_more p l.i, count_most p (l.i + 1) 0) }
 
 pub loop-i-preserved : goal.loop-i-preserved
 loop-i-preserved c =
     let s = c in
     let l = c.loop-i in
-    (omega arith, omega (arith, l.invariant.1, c.one_if-count.ensures, count_more (high s.args.level.now s.args.top) l.i))
+    (omega arith, omega (arith, l.invariant.1, (byte_is _ _ c.from-count.ensures), count_more (high s.args.level.now s.args.top) l.i))
 
 pub returns : goal.returns
 returns c =

@@ -1,5 +1,5 @@
 -- The invariant: those counted among the buses passed.
-use Rattle.std.proofs.Common.{◌≡◌, ℕ, ◌-◌, ◌≤◌, Bool, leb, List, length, get_or}
+use Rattle.std.proofs.Common.{◌≡◌, ℕ, ◌≤◌, Bool, leb, List, length, get_or}
 use Rattle.plan_defs.specs.Lists.{counting}
 use Rattle.planning.proofs.stiffen.at_or_above.Given as goal
 

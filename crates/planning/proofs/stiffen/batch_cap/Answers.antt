@@ -1,10 +1,11 @@
-use Rattle.std.proofs.Common.{◌≡◌, ℕ, max, length, get_or, ap, ◌∙◌, arith}
+use Rattle.std.proofs.Common.{refl, ◌≡◌, ℕ, max, length, get_or, ap, ◌∙◌}
 use lib.Ieee.{Float, to_unsigned}
 use Rattle.loops.specs.Figures.{float, times}
 use Rattle.root.specs.Ceiling.{ceil}
 use Rattle.plan_defs.specs.Components.{within}
 use Rattle.plan_defs.specs.Lists.{counting}
 use Rattle.plan_defs.specs.Constants.{stiffening_batch_share}
+use Rattle.planning.proofs.Casts.{ceil_is}
 use Rattle.planning.proofs.stiffen.batch_cap.Goals as goal
 
 cap-is : (count n : ℕ) (x y : Float) (cap : ℕ) → n ≡ count → x ≡ float n → y ≡ ceil (times stiffening_batch_share x) → cap ≡ to_unsigned 64 y
@@ -12,16 +13,8 @@ cap-is : (count n : ℕ) (x y : Float) (cap : ℕ) → n ≡ count → x ≡ flo
 cap-is count n x y cap p q r s =
     ap (λ (k : ℕ). max k 1) (s ∙ ap (λ (z : Float). to_unsigned 64 z) (r ∙ ap (λ (z : Float). ceil (times stiffening_batch_share z)) (q ∙ ap (λ (k : ℕ). float k) p)))
 
-pub returns-then-cap-lt1 : goal.returns-then-cap-lt1
-returns-then-cap-lt1 c =
+pub returns : goal.returns
+returns c =
     let z = c.args in
     let n = counting (λ (k : ℕ). within z.leader.now z.root (get_or z.a.now k 0)) (length z.a.now) in
-    let e : 1 ≡ max c.to_usize-cap.result 1 = omega (arith, c.if-cap-lt1.true) in
-    e ∙ cap-is n _ _ _ _ c.corridors_in.ensures c.float.ensures c.ceil.ensures c.to_usize-cap.ensures
-
-pub returns-else-cap-lt1 : goal.returns-else-cap-lt1
-returns-else-cap-lt1 c =
-    let z = c.args in
-    let n = counting (λ (k : ℕ). within z.leader.now z.root (get_or z.a.now k 0)) (length z.a.now) in
-    let e : c.to_usize-cap.result ≡ max c.to_usize-cap.result 1 = omega (arith, c.if-cap-lt1.false) in
-    e ∙ cap-is n _ _ _ _ c.corridors_in.ensures c.float.ensures c.ceil.ensures c.to_usize-cap.ensures
+    c.max.ensures ∙ cap-is n _ _ _ _ c.corridors_in.ensures refl (c.ceil.ensures ∙ ceil_is _) c.saturating_f64_to_usize.ensures

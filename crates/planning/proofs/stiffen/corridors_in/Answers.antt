@@ -1,6 +1,7 @@
 use Rattle.std.proofs.Common.{◌≡◌, ℕ, ◌+◌, ◌<◌, cond, eqb, length, get_or, refl, ap, ◌∙◌, arith, rules}
 use Rattle.plan_defs.specs.Lists.{count_from, counting}
 use Rattle.planning.proofs.Lists.{count_more, count_most}
+use Rattle.planning.proofs.Served.{byte_is}
 use Rattle.planning.proofs.stiffen.corridors_in.Invariants.{inside}
 use Rattle.planning.proofs.stiffen.corridors_in.Goals as goal
 
@@ -9,17 +10,17 @@ unfolding count_from
 loop-k-init c = (omega arith, refl)
 
 pub offset_bounds-leader-i : goal.offset_bounds-leader-i
-offset_bounds-leader-i c = let h : c.wide-i.result < length c.args.leader.now = omega (arith, c.wide-i.ensures, c.requires.1 c.loop-k.k c.loop-k-test.true) in search rules
+offset_bounds-leader-i c = let h : get_or c.args.a.now c.loop-k.k 0 < length c.args.leader.now = omega (arith, c.requires.1 c.loop-k.k c.loop-k-test.true) in search rules
 
 pub bounds-leader-i : goal.bounds-leader-i
-bounds-leader-i c = omega (arith, c.wide-i.ensures, c.requires.1 c.loop-k.k c.loop-k-test.true)
+bounds-leader-i c = omega (arith, c.requires.1 c.loop-k.k c.loop-k-test.true)
 
 pub overflow_add-count : goal.overflow_add-count
 overflow_add-count c =
     let s = c in
     let l = c.loop-k in
     let p = inside s.args.leader.now s.args.a.now s.args.root in
-    let e : c.one_if-count.result ≡ cond (p l.k) 1 0 = c.one_if-count.ensures ∙ ap (λ (i : ℕ). cond (eqb i s.args.root) 1 0) (c.wide.ensures ∙ ap (λ (i : ℕ). get_or s.args.leader.now i 0) c.wide-i.ensures) in
+    let e : c.from-count.result ≡ cond (p l.k) 1 0 = (byte_is _ _ c.from-count.ensures) ∙ ap (λ (i : ℕ). cond (eqb i s.args.root) 1 0) (ap (λ (i : ℕ). get_or s.args.leader.now i 0) refl) in
     record { fits = omega (arith, s.requires.0, l.invariant.1, count_more p l.k, count_most p (l.k + 1) 0) }
 
 pub loop-k-preserved : goal.loop-k-preserved
@@ -27,7 +28,7 @@ loop-k-preserved c =
     let s = c in
     let l = c.loop-k in
     let p = inside s.args.leader.now s.args.a.now s.args.root in
-    let e : c.one_if-count.result ≡ cond (p l.k) 1 0 = c.one_if-count.ensures ∙ ap (λ (i : ℕ). cond (eqb i s.args.root) 1 0) (c.wide.ensures ∙ ap (λ (i : ℕ). get_or s.args.leader.now i 0) c.wide-i.ensures) in
+    let e : c.from-count.result ≡ cond (p l.k) 1 0 = (byte_is _ _ c.from-count.ensures) ∙ ap (λ (i : ℕ). cond (eqb i s.args.root) 1 0) (ap (λ (i : ℕ). get_or s.args.leader.now i 0) refl) in
     (omega arith, omega (arith, l.invariant.1, count_more p l.k))
 
 pub returns : goal.returns

@@ -1,4 +1,4 @@
-use Rattle.std.proofs.Common.{◌≡◌, ℕ, ◌-◌, ◌≤◌, Bool, List, length, get_or}
+use Rattle.std.proofs.Common.{◌≡◌, ℕ, ◌≤◌, Bool, List, length, get_or}
 use Rattle.plan_defs.specs.Lists.{counting}
 use Rattle.plan_defs.specs.Components.{within}
 use Rattle.planning.proofs.stiffen.corridors_in.Given as goal

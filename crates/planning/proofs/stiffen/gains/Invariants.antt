@@ -1,4 +1,4 @@
-use Rattle.std.proofs.Common.{◌≡◌, ◌-◌, ◌≤◌, length}
+use Rattle.std.proofs.Common.{◌≡◌, ◌≤◌, length}
 use Rattle.loops.specs.Loops.{filled}
 use Rattle.planning.specs.Stiffen.{gain_at}
 use Rattle.planning.proofs.stiffen.gains.Given as goal

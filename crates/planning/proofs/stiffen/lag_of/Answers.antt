@@ -21,7 +21,7 @@ loop-i-preserved c =
     let t = lt (at z.angle.now l.i) (at z.angle.now l.best) in (
       best_below _ z.root l.i l.best _ (length z.leader.now) t c.choose-best.ensures h l.invariant.0,
       omega (arith, h),
-      λ r e. best_turn z.leader.now z.root r e (laggard z.angle.now) l.i l.best _ _ t h c.wide.ensures c.choose-best.ensures refl ∙ l.invariant.2 r e,
+      λ r e. best_turn z.leader.now z.root r e (laggard z.angle.now) l.i l.best _ _ t h refl c.choose-best.ensures refl ∙ l.invariant.2 r e,
     )
 
 pub returns : goal.returns

@@ -1,4 +1,4 @@
-use Rattle.std.proofs.Common.{◌≡◌, ◌-◌, ◌<◌, ◌≤◌, length, get_or}
+use Rattle.std.proofs.Common.{◌≡◌, ◌<◌, ◌≤◌, length, get_or}
 use Rattle.plan_defs.specs.Stiffen.{laggard}
 use Rattle.planning.specs.Stiffen.{lag_of}
 use Rattle.planning.proofs.Leads.{left}

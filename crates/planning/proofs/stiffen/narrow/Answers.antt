@@ -1,4 +1,4 @@
-use Rattle.std.proofs.Common.{length, ◌∙◌, arith}
+use Rattle.std.proofs.Common.{rules, ◌≡◌, Err, length, ◌∙◌, arith}
 use Rattle.planning.proofs.Narrowing.{narrowed_refused, narrowed_answered}
 use Rattle.planning.proofs.States.{front_fits, front_net}
 use Rattle.planning.proofs.stiffen.narrow.Goals as goal
@@ -36,18 +36,16 @@ reinforce-requires c =
       leader_len = (p.leader_size, p.angle_size, c.unit_angles.auto.phi ∙ s.requires.phi_len.0, p.edges.drawn.few, s.requires.phi_len.3);
     }
 
-pub shape_of-phi-in-Err : goal.shape_of-phi-in-Err
-shape_of-phi-in-Err c = c.unit_angles.auto.phi
-
-pub returns-in-Err : goal.returns-in-Err
-returns-in-Err c =
+pub returns-in_err-unit_angles : goal.returns-in_err-unit_angles
+returns-in_err-unit_angles c =
     let s = c in
     let z = s.args in
-    narrowed_refused z.root z.lead z.lag z.excess z.g z.ladder.now z.level.now z.a.now z.b.now z.km.now z.share.now z.cap.now z.sheet.now z.leader.now z.grounds.now z.e.from z.e.to z.e.weight z.angle.now
-    z.circuits.now z.banks.now z.floors.now z.upsized.now z.marks.now z.t _ _ _ s.requires.phi_len.0 c.unit_angles.ensures _ c.in-Err.is s.requires.stiffenable.banked
+    let h : c.from_residual.result ≡ Err c.in_err-unit_angles.field-0.0 = search rules in
+    rw h (narrowed_refused z.root z.lead z.lag z.excess z.g z.ladder.now z.level.now z.a.now z.b.now z.km.now z.share.now z.cap.now z.sheet.now z.leader.now z.grounds.now z.e.from z.e.to z.e.weight z.angle.now
+    z.circuits.now z.banks.now z.floors.now z.upsized.now z.marks.now z.t _ _ _ s.requires.phi_len.0 c.unit_angles.ensures _ c.in_err-unit_angles.was s.requires.stiffenable.banked)
 
-pub shape_of-phi-in-Ok : goal.shape_of-phi-in-Ok
-shape_of-phi-in-Ok c = c.unit_angles.auto.phi
+pub shape_of-phi : goal.shape_of-phi
+shape_of-phi c = c.unit_angles.auto.phi
 
 pub shape_of-circuits : goal.shape_of-circuits
 shape_of-circuits c = c.reinforce.auto.circuits
@@ -64,9 +62,9 @@ shape_of-upsized c = c.reinforce.auto.upsized
 pub shape_of-marks : goal.shape_of-marks
 shape_of-marks c = c.reinforce.auto.marks
 
-pub returns-in-Ok : goal.returns-in-Ok
-returns-in-Ok c =
+pub returns : goal.returns
+returns c =
     let s = c in
     let z = s.args in
     narrowed_answered z.root z.lead z.lag z.excess z.g z.ladder.now z.level.now z.a.now z.b.now z.km.now z.share.now z.cap.now z.sheet.now z.leader.now z.grounds.now z.e.from z.e.to z.e.weight z.angle.now
-    z.circuits.now z.banks.now z.floors.now z.upsized.now z.marks.now z.t _ _ _ s.requires.phi_len.0 c.unit_angles.ensures _ _ _ _ _ _ c.in-Ok.is c.reinforce.ensures
+    z.circuits.now z.banks.now z.floors.now z.upsized.now z.marks.now z.t _ _ _ s.requires.phi_len.0 c.unit_angles.ensures _ _ _ _ _ _ c.in_ok-unit_angles.was c.reinforce.ensures

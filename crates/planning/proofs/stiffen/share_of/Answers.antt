@@ -1,7 +1,7 @@
-use Rattle.std.proofs.Common.{ap, ◌∙◌}
+use Rattle.std.proofs.Common.{refl, ap, ◌∙◌}
 use lib.Ieee.{Float, to_unsigned}
 use Rattle.loops.specs.Figures.{times}
 use Rattle.planning.proofs.stiffen.share_of.Goals as goal
 
 pub returns : goal.returns
-returns c = c.to_usize.ensures ∙ ap (λ (x : Float). to_unsigned 64 (times c.args.share x)) c.float.ensures
+returns c = c.saturating_f64_to_usize.ensures ∙ ap (λ (x : Float). to_unsigned 64 (times c.args.share x)) refl

@@ -33,7 +33,7 @@ stiffen_one-t-requires c =
         banked = l.invariant.6.banked;
       };
       k_in_bounds = (
-        omega (arith, c.wide-k.ensures, s.requires.ranked.0.below l.j h),
+        omega (arith, s.requires.ranked.0.below l.j h),
         record {
           total = omega (arith, h, n, d.0, r.total);
           hv = omega (arith, h, n, d.1, r.hv);
@@ -56,7 +56,7 @@ loop-j-preserved c =
       r.auto.floors ∙ l.invariant.3,
       r.auto.upsized ∙ l.invariant.4,
       r.auto.marks ∙ l.invariant.5,
-      batch_turn z.g z.ladder.now z.level.now z.a.now z.b.now z.km.now z.share.now z.cap.now z.sheet.now z.circuits.now z.banks.now z.floors.now z.upsized.now z.marks.now z.start l.circuits l.banks l.floors l.upsized l.marks l.t _ _ _ _ _ _ z.order.now l.j _ w c.wide-k.ensures l.invariant.6 r.ensures,
+      batch_turn z.g z.ladder.now z.level.now z.a.now z.b.now z.km.now z.share.now z.cap.now z.sheet.now z.circuits.now z.banks.now z.floors.now z.upsized.now z.marks.now z.start l.circuits l.banks l.floors l.upsized l.marks l.t _ _ _ _ _ _ z.order.now l.j _ w refl l.invariant.6 r.ensures,
     )
 
 pub shape_of-circuits : goal.shape_of-circuits

@@ -1,4 +1,4 @@
-use Rattle.std.proofs.Common.{◌≡◌, ◌-◌, ◌≤◌, length, take}
+use Rattle.std.proofs.Common.{◌≡◌, ◌≤◌, length, take}
 use Rattle.planning.specs.Stiffen.{BatchStiffened}
 use Rattle.planning.proofs.stiffen.stiffen_batch.Given as goal
 

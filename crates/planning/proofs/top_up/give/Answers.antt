@@ -5,8 +5,8 @@ use Rattle.planning.proofs.top_up.give.Goals as goal
 pub returns-in-Err : goal.returns-in-Err
 returns-in-Err c = gives_refused _ _ _ _ c.requires c.economic_dispatch.result _ c.economic_dispatch.ensures _ _ c.in-Err.is _ c.index.ensures
 
-pub returns-then-not-tops_up : goal.returns-then-not-tops_up
-returns-then-not-tops_up c = gives_plain _ _ _ _ c.requires c.economic_dispatch.result _ c.economic_dispatch.ensures _ c.in-Ok.is (sym c.tops_up.ensures ∙ c.if-not-tops_up.true)
+pub returns-else-tops_up : goal.returns-else-tops_up
+returns-else-tops_up c = gives_plain _ _ _ _ c.requires c.economic_dispatch.result _ c.economic_dispatch.ensures _ c.in_default.is (sym c.tops_up.ensures ∙ c.if-tops_up.false)
 
 pub top_up-requires : goal.top_up-requires
 top_up-requires c =
@@ -18,10 +18,7 @@ top_up-requires c =
       mw_size = c.economic_dispatch.auto.mw ∙ p.room ∙ sym even.c1;
     }
 
-pub shape_of-mw : goal.shape_of-mw
-shape_of-mw c = c.top_up.auto.mw ∙ c.economic_dispatch.auto.mw
-
-pub returns : goal.returns
-returns c =
-    gives_topped _ _ _ _ c.requires c.economic_dispatch.result _ c.economic_dispatch.ensures _ c.in-Ok.is (sym c.tops_up.ensures ∙ c.if-not-tops_up.false)
+pub returns-then-tops_up : goal.returns-then-tops_up
+returns-then-tops_up c =
+    gives_topped _ _ _ _ c.requires c.economic_dispatch.result _ c.economic_dispatch.ensures _ c.in_default.is (sym c.tops_up.ensures ∙ c.if-tops_up.true)
     _ c.top_up.ensures

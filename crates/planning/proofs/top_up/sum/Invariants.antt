@@ -1,5 +1,5 @@
 -- The invariant: the sum so far is that of the figures passed.
-use Rattle.std.proofs.Common.{◌≡◌, ◌-◌, ◌≤◌, length}
+use Rattle.std.proofs.Common.{◌≡◌, ◌≤◌, length}
 use Rattle.loops.specs.Loops.{sum_to}
 use Rattle.loops.specs.Figures.{at}
 use Rattle.planning.proofs.top_up.sum.Given as goal

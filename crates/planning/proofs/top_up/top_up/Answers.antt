@@ -1,4 +1,4 @@
-use Rattle.std.proofs.Common.{◌<◌, length, sym, ap, ◌∙◌, arith, length-set}
+use Rattle.std.proofs.Common.{refl, ◌<◌, length, sym, ap, ◌∙◌, arith, length-set}
 use Rattle.loops.specs.Figures.{minus}
 use Rattle.plan_defs.specs.TopUp.{by_cost}
 use Rattle.planning.proofs.ToppingUp.{costs_length, unit_at_lem, pass_start, pass_end, pass_none, pass_last, pass_next}
@@ -17,48 +17,48 @@ pub returns-then-not-gap : goal.returns-then-not-gap
 returns-then-not-gap c =
     let l = c.loop-j in
     let z = c.args in
-    let u = unit_at_lem z.c1.now _ c.order_costs.ensures.1 l.j _ c.loop-j-test.true c.wide-k.ensures in
+    let u = unit_at_lem z.c1.now _ c.order_costs.ensures.1 l.j _ c.loop-j-test.true refl in
     let h : l.j < length (by_cost z.c1.now) = omega (arith, costs_length z.c1.now, c.loop-j-test.true) in
     pass_none z.pmax.now z.demand (by_cost z.c1.now) l.j _ h u.0 l.mw _ (ap (minus z.demand) c.sum.ensures) (c.if-not-gap.true) ∙ l.invariant.2
 
 pub offset_bounds-pmax-k : goal.offset_bounds-pmax-k
 offset_bounds-pmax-k c =
-    let u = unit_at_lem c.args.c1.now _ c.order_costs.ensures.1 c.loop-j.j _ c.loop-j-test.true c.wide-k.ensures in
+    let u = unit_at_lem c.args.c1.now _ c.order_costs.ensures.1 c.loop-j.j _ c.loop-j-test.true refl in
     omega (arith, u.1, c.requires.few)
 
 pub bounds-pmax-k : goal.bounds-pmax-k
 bounds-pmax-k c =
-    let u = unit_at_lem c.args.c1.now _ c.order_costs.ensures.1 c.loop-j.j _ c.loop-j-test.true c.wide-k.ensures in
+    let u = unit_at_lem c.args.c1.now _ c.order_costs.ensures.1 c.loop-j.j _ c.loop-j-test.true refl in
     omega (arith, u.1, c.requires.pmax_size)
 
 pub offset_bounds-mw-k : goal.offset_bounds-mw-k
 offset_bounds-mw-k c =
-    let u = unit_at_lem c.args.c1.now _ c.order_costs.ensures.1 c.loop-j.j _ c.loop-j-test.true c.wide-k.ensures in
+    let u = unit_at_lem c.args.c1.now _ c.order_costs.ensures.1 c.loop-j.j _ c.loop-j-test.true refl in
     omega (arith, u.1, c.requires.few)
 
 pub bounds-mw-k : goal.bounds-mw-k
 bounds-mw-k c =
-    let u = unit_at_lem c.args.c1.now _ c.order_costs.ensures.1 c.loop-j.j _ c.loop-j-test.true c.wide-k.ensures in
+    let u = unit_at_lem c.args.c1.now _ c.order_costs.ensures.1 c.loop-j.j _ c.loop-j-test.true refl in
     omega (arith, u.1, c.loop-j.invariant.1)
 
 pub offset_bounds-mw-k-in-loop-j : goal.offset_bounds-mw-k-in-loop-j
 offset_bounds-mw-k-in-loop-j c =
-    let u = unit_at_lem c.args.c1.now _ c.order_costs.ensures.1 c.loop-j.j _ c.loop-j-test.true c.wide-k.ensures in
+    let u = unit_at_lem c.args.c1.now _ c.order_costs.ensures.1 c.loop-j.j _ c.loop-j-test.true refl in
     omega (arith, u.1, c.requires.few)
 
 pub bounds-mw-k-in-loop-j : goal.bounds-mw-k-in-loop-j
 bounds-mw-k-in-loop-j c =
-    let u = unit_at_lem c.args.c1.now _ c.order_costs.ensures.1 c.loop-j.j _ c.loop-j-test.true c.wide-k.ensures in
+    let u = unit_at_lem c.args.c1.now _ c.order_costs.ensures.1 c.loop-j.j _ c.loop-j-test.true refl in
     omega (arith, u.1, c.loop-j.invariant.1)
 
 pub offset_bounds-pmax-k-in-loop-j : goal.offset_bounds-pmax-k-in-loop-j
 offset_bounds-pmax-k-in-loop-j c =
-    let u = unit_at_lem c.args.c1.now _ c.order_costs.ensures.1 c.loop-j.j _ c.loop-j-test.true c.wide-k.ensures in
+    let u = unit_at_lem c.args.c1.now _ c.order_costs.ensures.1 c.loop-j.j _ c.loop-j-test.true refl in
     omega (arith, u.1, c.requires.few)
 
 pub bounds-pmax-k-in-loop-j : goal.bounds-pmax-k-in-loop-j
 bounds-pmax-k-in-loop-j c =
-    let u = unit_at_lem c.args.c1.now _ c.order_costs.ensures.1 c.loop-j.j _ c.loop-j-test.true c.wide-k.ensures in
+    let u = unit_at_lem c.args.c1.now _ c.order_costs.ensures.1 c.loop-j.j _ c.loop-j-test.true refl in
     omega (arith, u.1, c.requires.pmax_size)
 
 pub shape_of-mw-then-served-pmax : goal.shape_of-mw-then-served-pmax
@@ -68,7 +68,7 @@ pub returns-then-served-pmax : goal.returns-then-served-pmax
 returns-then-served-pmax c =
     let l = c.loop-j in
     let z = c.args in
-    let u = unit_at_lem z.c1.now _ c.order_costs.ensures.1 l.j _ c.loop-j-test.true c.wide-k.ensures in
+    let u = unit_at_lem z.c1.now _ c.order_costs.ensures.1 l.j _ c.loop-j-test.true refl in
     let h : l.j < length (by_cost z.c1.now) = omega (arith, costs_length z.c1.now, c.loop-j-test.true) in
     pass_last z.pmax.now z.demand (by_cost z.c1.now) l.j _ h u.0 l.mw _ (ap (minus z.demand) c.sum.ensures) (c.if-not-gap.false) _ c.lesser-served.ensures
     c.if-served-pmax.true ∙ l.invariant.2
@@ -77,7 +77,7 @@ pub loop-j-preserved : goal.loop-j-preserved
 loop-j-preserved c =
     let l = c.loop-j in
     let z = c.args in
-    let u = unit_at_lem z.c1.now _ c.order_costs.ensures.1 l.j _ c.loop-j-test.true c.wide-k.ensures in
+    let u = unit_at_lem z.c1.now _ c.order_costs.ensures.1 l.j _ c.loop-j-test.true refl in
     let h : l.j < length (by_cost z.c1.now) = omega (arith, costs_length z.c1.now, c.loop-j-test.true) in (
       omega (arith, c.loop-j-test.true),
       length-set l.mw _ _ ∙ l.invariant.1,

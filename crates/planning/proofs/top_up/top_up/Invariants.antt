@@ -1,4 +1,4 @@
-use Rattle.std.proofs.Common.{◌≡◌, ◌-◌, ◌≤◌, length, drop}
+use Rattle.std.proofs.Common.{◌≡◌, ◌≤◌, length, drop}
 use Rattle.plan_defs.specs.TopUp.{by_cost, top_up}
 use Rattle.planning.proofs.top_up.top_up.Given as goal
 

@@ -1,5 +1,0 @@
--- Both comparisons are with the infinities of the definition.
-use Rattle.planning.proofs.figures.is_finite.Goals as goal
-
-pub returns : goal.returns
-returns c = cc

@@ -1,5 +1,5 @@
 // The listing of a case file.
-ghost use Rattle.std.specs.Prelude.{◌≡◌, ◌+◌, ◌≤◌, ◌++◌, length};
+ghost use Rattle.std.specs.Prelude.{◌≡◌, ◌+◌, ◌≤◌, [], ◌++◌, length};
 ghost use Rattle.casefile_defs.specs.Reading.{Small};
 ghost use Rattle.planned_files.specs.Files.{Sized};
 ghost use Rattle.listing.specs.Lines.{most_text};
@@ -32,17 +32,16 @@ impl Text {
         );
         self.put_most(p.loading, p.spread)
     }
-}
 
-// The listing of a case file, or its refusal.
-pub fn list_file(file: &[u8]) -> Text
-    ensures { result ≡ file_text file.now }
-{
-    let planned = plan_file(file);
-    let mut text = Text::new();
-    match planned.planned {
-        Err(f) => text.put_refusal(f),
-        Ok(p) => text.put_planned(&planned, p),
+    // The listing of a case file, or its refusal.
+    pub fn put_file(&mut self, file: &[u8])
+        requires { self.old ≡ [] }
+        ensures { self.new ≡ file_text file.now }
+    {
+        let planned = plan_file(file);
+        match planned.planned {
+            Err(f) => self.put_refusal(f),
+            Ok(p) => self.put_planned(&planned, p),
+        }
     }
-    text
 }

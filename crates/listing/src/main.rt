@@ -1,14 +1,14 @@
 // Reads a case file on standard input, plans it and prints the listing, or the refusal. What is printed of what was read is
-// proved (list_file); that reading and writing move these bytes is assumed.
+// proved (Text::put_file); that reading and writing move these bytes is assumed.
 #![tactic(auto)]
 
 mod case;
 mod line;
 mod text;
 
-use case::list_file;
 use std::io;
 use std::io::Write;
+use text::Text;
 
 // One byte more than the largest file, so that a larger one shows.
 const MOST_FILE: usize = casefile_defs::MOST_BYTES + 1;
@@ -16,5 +16,7 @@ const MOST_FILE: usize = casefile_defs::MOST_BYTES + 1;
 fn main(rt: HostRuntime) -> io::Result<()> {
     let mut file = [0u8; MOST_FILE];
     let n = streams::read_full(&mut rt.stdin(), &mut file)?;
-    rt.stdout().write_all(list_file(&file[0..n]).as_slice())
+    let mut text = Text::new();
+    text.put_file(&file[0..n]);
+    rt.stdout().write_all(text.as_slice())
 }

@@ -11,9 +11,8 @@ use borrow.Author.Tests.{lt-ltb, le-ltb}
 use lib.Dec.{ltb}
 use lib.ListN.{length, drop, set, length-append}
 use lib.Seq.{append_snoc}
-use lib.Ieee.{Float, binary64, to_bits, is_nan, eq}
+use lib.Ieee.{Float, to_bits, is_nan, eq}
 use Rattle.streams.specs.Digits.{hex_digit_ascii, last_digits, IsDigitCount}
-use Rattle.loops.specs.Figures.{nought}
 use Rattle.loops.proofs.Bits.{only_nan}
 use Rattle.plan_defs.specs.Listing.{bits_of}
 use Rattle.listing.specs.Text.{space, digit, hexadecimal, decimal, number, figure}
@@ -107,9 +106,3 @@ number_digits n (suc k) digits b f e =
 pub nan_listed : (x : Float) → is_nan x ≡ true → bits_of x ≡ 0x7ff8000000000000
 unfolding to_bits eq
 nan_listed x h = ap bits_of (only_nan x h)
-
-pub listed : (x : Float) → eq x nought ≡ false → to_bits binary64 x ≡ bits_of x
-listed x e = sym (ap (λ (t : Bool). cond t 0 (to_bits binary64 x)) e)
-
-pub zero_listed : (x : Float) → eq x nought ≡ true → 0 ≡ bits_of x
-zero_listed x e = sym (ap (λ (t : Bool). cond t 0 (to_bits binary64 x)) e)

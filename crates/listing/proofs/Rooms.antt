@@ -1,7 +1,6 @@
 -- How many bytes a line takes at most, and a listing.
-use Prim.Native.Nat.{ℕ, zero, suc, ◌+◌, ◌*◌, ◌≤◌}
-use mathlib.Core.Path.{◌≡◌}
-use mathlib.Core.List.{List, ◌++◌}
+use Prim.Native.Nat.{ℕ, zero, suc, ◌*◌, ◌≤◌}
+use mathlib.Core.List.{List}
 use native.Mathlib.Omega.{arith}
 use lib.Ieee.{Float}
 use lib.ListN.{length, get_or, length-append, length-take, take}
@@ -13,7 +12,7 @@ use Rattle.refusal.specs.declared.Refusal.{Refusal}
 use Rattle.plan_defs.specs.Listing.{flag}
 use Rattle.plan_defs.specs.declared.CorridorPlan.{CorridorPlan}
 use Rattle.casefile_defs.specs.Reading.{Small}
-use Rattle.casefile_defs.specs.Bounds.{most_buses, most_generators, most_corridors, most_levels}
+use Rattle.casefile_defs.specs.Bounds.{most_buses, most_levels}
 use Rattle.planned_files.specs.declared.PlannedFile.{PlannedFile}
 use Rattle.listing.specs.Lines.{lines, plan_room, line_room, most_text, refusal_line, plan_line, added_line, ground_line, bus_line, generator_line, corridor_line, most_line}
 use Rattle.listing.specs.Listing.{planned_lines}
@@ -74,11 +73,18 @@ planned_short r p s a g =
     let flow = take r.header.corridors r.flow in
     let rate = take r.header.corridors r.rate in
     simp length-append
-    (omega (arith,
+    (omega (
+      arith,
       plan_short r.header.mode p,
-      lines_short (λ i. added_line (at added i)) (length added) (λ i. added_short _), few _ _ r.added a,
-      lines_short (λ i. ground_line (get_or ground i 0)) (length ground) (λ i. ground_short _), few _ _ r.ground g,
-      lines_short (λ i. bus_line i (get_or tier i 0) (at angle i)) (length angle) (λ i. bus_short _ _ _), few _ _ r.angle s.buses,
-      lines_short (λ i. generator_line i (at mw i)) (length mw) (λ i. generator_short _ _), few _ _ r.mw s.generators,
-      lines_short (λ i. corridor_line i (get_or circuits i 0) (at flow i) (at rate i)) (length circuits) (λ i. corridor_short _ _ _ _), few _ _ r.circuits s.corridors,
-      most_short p.loading p.spread))
+      lines_short (λ i. added_line (at added i)) (length added) (λ i. added_short _),
+      few _ _ r.added a,
+      lines_short (λ i. ground_line (get_or ground i 0)) (length ground) (λ i. ground_short _),
+      few _ _ r.ground g,
+      lines_short (λ i. bus_line i (get_or tier i 0) (at angle i)) (length angle) (λ i. bus_short _ _ _),
+      few _ _ r.angle s.buses,
+      lines_short (λ i. generator_line i (at mw i)) (length mw) (λ i. generator_short _ _),
+      few _ _ r.mw s.generators,
+      lines_short (λ i. corridor_line i (get_or circuits i 0) (at flow i) (at rate i)) (length circuits) (λ i. corridor_short _ _ _ _),
+      few _ _ r.circuits s.corridors,
+      most_short p.loading p.spread,
+    ))

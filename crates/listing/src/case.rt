@@ -7,7 +7,7 @@ ghost use Rattle.listing.specs.Listing.{file_text, planned_lines};
 
 use crate::text::Text;
 use plan_defs::CorridorPlan;
-use planned_files::{plan_file, PlannedFile};
+use planned_files::{PlannedFile, plan_file};
 
 impl Text {
     // PL, AD, GR, BU, GE, CO, MX

@@ -16,7 +16,10 @@ impl Text {
     {
         self.put_line(
             b"RF",
-            &[Field::Number(f.number() as u64), Field::Number(f.index() as u64)],
+            &[
+                Field::Number(f.number() as u64),
+                Field::Number(f.index() as u64),
+            ],
         )
     }
 

@@ -108,7 +108,11 @@ fn hex_digit(d: u64) -> u8
     requires { d < 16 }
     ensures { result ≡ digit d }
 {
-    if d < 10 { b'0' + d as u8 } else { b'A' + (d - 10) as u8 }
+    if d < 10 {
+        b'0' + d as u8
+    } else {
+        b'A' + (d - 10) as u8
+    }
 }
 
 // Sixteen upper-case digits, the last made first.

@@ -4,8 +4,7 @@ use mathlib.Core.Bool.{Bool}
 use mathlib.Core.List.{List, ◌++◌}
 use mathlib.Core.Path.{◌≡◌, sym, ap, subst, ◌∙◌}
 use lib.Ieee.{Float}
-use native.Mathlib.Omega.{arith}
-use lib.ListN.{length, take, drop, replicate, length-append, length-drop, length-replicate}
+use lib.ListN.{length, take, drop, replicate, length-replicate}
 use lib.Seq.{take_at}
 use Rattle.loops.specs.Figures.{nought}
 use Rattle.loops.proofs.Fronts.{front_replicate}
@@ -32,10 +31,6 @@ part_length n k v h = ap length (front_replicate k n v h) ∙ length-replicate n
 -- an array of which the first places came back from a call
 pub back_front : {A : Type 0} (n k : ℕ) (ys xs : List A) → length ys ≡ n → take n (ys ++ drop k xs) ≡ ys
 back_front n k ys xs e = take_at ys (drop k xs) n e
-
-pub back_length : {A : Type 0} (n k : ℕ) (v : A) (ys : List A) → n ≤ k → length ys ≡ length (part n k v) → length (ys ++ drop (n - 0) (replicate k v)) ≡ k
-back_length n k v ys h e =
-    omega (arith, part_length n k v h, length-append ys (drop (n - 0) (replicate k v)), length-drop (n - 0) (replicate k v), length-replicate k v)
 
 -- ---- the slices, as they are lent
 -- room for the work of a case
@@ -110,18 +105,18 @@ module _ (h : Header) (p : Places) (said : Result CorridorPlan Refusal) (l : Sli
   in_zeros : (x : Result CorridorPlan Refusal) → Fits (case_as h p) → Planned (zeros h x)
   in_zeros x f k0 k1 k2 k3 k4 k5 k6 k7 k8 k9 k10 e =
       filed_planned h p said l
-          (back h.corridors most_corridors 0 l.circuits f.corridors k0)
-          (back h.corridors most_corridors nought l.flow f.corridors k1)
-          (back h.corridors most_corridors nought l.rate f.corridors k2)
-          (back h.corridors most_corridors 0 l.before f.corridors k3)
-          (back h.corridors most_corridors 0 l.order f.corridors k4)
-          (back h.corridors most_corridors 0 l.cap f.corridors k5)
-          (back h.generators most_generators nought l.mw f.generators k6)
-          (back h.buses most_buses nought l.angle f.buses k7)
-          (back h.buses most_buses 0 l.tier f.buses k8)
-          (back h.buses most_buses 0 l.ground f.buses k9)
-          (back h.above most_levels nought l.added f.above k10)
-          f e
+      (back h.corridors most_corridors 0 l.circuits f.corridors k0)
+      (back h.corridors most_corridors nought l.flow f.corridors k1)
+      (back h.corridors most_corridors nought l.rate f.corridors k2)
+      (back h.corridors most_corridors 0 l.before f.corridors k3)
+      (back h.corridors most_corridors 0 l.order f.corridors k4)
+      (back h.corridors most_corridors 0 l.cap f.corridors k5)
+      (back h.generators most_generators nought l.mw f.generators k6)
+      (back h.buses most_buses nought l.angle f.buses k7)
+      (back h.buses most_buses 0 l.tier f.buses k8)
+      (back h.buses most_buses 0 l.ground f.buses k9)
+      (back h.above most_levels nought l.added f.above k10)
+      f e
 
   pub planned_in : (r : PlannedFile) (x : Result CorridorPlan Refusal) → r ≡ zeros h x → Fits (case_as h p) → Planned r
   planned_in r x e f = subst Planned (sym e) (in_zeros x f)

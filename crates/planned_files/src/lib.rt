@@ -7,11 +7,13 @@ ghost use Rattle.casefile_defs.specs.Reading.{Small};
 ghost use Rattle.casefile_defs.specs.Tables.{places_of, held as headerOf};
 ghost use Rattle.planned_files.specs.Files.{case_as, plan_of, filed, plan_read, plan_file, filed_of, Sized, zeros};
 
-use casefile_defs::{Header, MOST_BUSES, MOST_CORRIDORS, MOST_GENERATORS, MOST_LEVELS, MOST_SHEET, ROW_FIGURES};
+use casefile_defs::{
+    Header, MOST_BUSES, MOST_CORRIDORS, MOST_GENERATORS, MOST_LEVELS, MOST_SHEET, ROW_FIGURES,
+};
 use mode::PlanMode;
+use plan_defs::CorridorPlan;
 use planning::plan_corridors;
 use refusal::Refusal;
-use plan_defs::CorridorPlan;
 
 // The places of a work slice for each bus, corridor and generator.
 const WORK_ROWS: usize = 12;

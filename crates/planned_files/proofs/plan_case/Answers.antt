@@ -1,4 +1,3 @@
-use Rattle.std.proofs.Common.{Err, Result}
 use native.Mathlib.Omega.{arith}
 use Rattle.casefile_defs.specs.Tables.{Places, places_of}
 use Rattle.plan_defs.specs.Outcome.{Slices, slices}
@@ -15,4 +14,4 @@ returns-clause-planned c =
     let left : Slices = slices r.circuits r.flow r.rate r.before r.order r.kept_cap r.mw r.angle r.level r.ground r.added r.figures r.counts in
     let fits : Fits (case_as a.h p) = record { buses = c.requires.buses; corridors = c.requires.corridors; generators = c.requires.generators; above = omega arith; work = omega arith } in
     planned_in a.h p c.plan_corridors-file.result left c.zeros-file.result _ c.zeros-file.ensures fits
-        k.circuits k.flow k.rate k.before k.order k.kept_cap k.mw k.angle k.level k.ground k.added c.plan_corridors-file.ensures.plan
+    k.circuits k.flow k.rate k.before k.order k.kept_cap k.mw k.angle k.level k.ground k.added c.plan_corridors-file.ensures.plan

@@ -1,6 +1,5 @@
-use Rattle.std.proofs.Common.{◌≡◌, ◌+◌, ◌-◌, ◌++◌, List, ℕ, ap, ◌∙◌, length-set}
+use Rattle.std.proofs.Common.{◌≡◌, ◌+◌, ◌-◌, ◌∙◌, length-set}
 use native.Mathlib.Omega.{arith}
-use lib.ListN.{drop}
 use Rattle.listing.specs.Text.{hexadecimal}
 use Rattle.listing.proofs.Numbers.{moved}
 use Rattle.listing.proofs.text.hexadecimal.Goals as goal

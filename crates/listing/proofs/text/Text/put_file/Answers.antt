@@ -1,4 +1,3 @@
-use Rattle.std.proofs.Common.{◌∙◌}
 use native.Mathlib.Omega.{arith}
 use Rattle.listing.proofs.Rooms.{refusal_short}
 use Rattle.listing.proofs.Outcomes.{levels_there, grounds_there, refused_text, planned_text, room}

@@ -9,7 +9,7 @@ use Rattle.casefile_theorems.proofs.Bytes.{Bytes}
 use Rattle.casefile_theorems.proofs.RoundTrip.{Alike, forward_alike, back_alike}
 use Rattle.planned_files.specs.Files.{filed, case_in, plan_of, plan_read, plan_file}
 use Rattle.listing.specs.Listing.{case_text, read_text, file_text}
-use Rattle.std.specs.Prelude.{Ok, Result}
+use Rattle.std.specs.Prelude.{Result}
 use Rattle.casefile_defs.specs.declared.Header.{Header}
 use Rattle.refusal.specs.declared.Refusal.{Refusal}
 use Rattle.refusal.specs.Reply.{no_refusal}

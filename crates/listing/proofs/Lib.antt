@@ -1,5 +1,6 @@
 pub mod Texts
 pub mod Numbers
+pub mod Rooms
 pub mod Outcomes
 pub mod Examples
 pub mod Figures

@@ -11,11 +11,9 @@ use borrow.Author.Tests.{lt-ltb, le-ltb}
 use lib.Dec.{ltb}
 use lib.ListN.{length, drop, set, length-append}
 use lib.Seq.{append_snoc}
-use lib.Ieee.{Float, binary64, to_bits, eq, ne}
-use lib.Ieee.Compare.{differs_from_itself}
+use lib.Ieee.{Float, to_bits, is_nan, eq}
 use Rattle.streams.specs.Digits.{hex_digit_ascii, last_digits, IsDigitCount}
-use Rattle.loops.specs.Figures.{nought}
-use Rattle.loops.proofs.Bools.{is}
+use Rattle.loops.proofs.Bits.{only_nan}
 use Rattle.plan_defs.specs.Listing.{bits_of}
 use Rattle.listing.specs.Text.{space, digit, hexadecimal, decimal, number, figure}
 
@@ -97,20 +95,14 @@ fewest_most n r b f = elim (dec_le r 20) [
   | no h ↦ absurd (let q : 20 ≤ r - 1 = omega arith in let p : 10 ^ 20 ≤ 10 ^ (r - 1) = pow-le-pow_right (omega arith) q in omega (arith, f.2 (omega arith)))
 ]
 
-pub number_digits : (n r : ℕ) → n < 2 ^ 64 → IsDigitCount 10 1 n r → space ∷ last_digits 10 r n ≡ number n
+pub number_digits : (n r : ℕ) (digits : List ℕ) → n < 2 ^ 64 → IsDigitCount 10 1 n r → digits ≡ last_digits 10 r n → space ∷ digits ≡ number n
 unfolding number
-number_digits n zero b f = absurd (omega arith)
-number_digits n (suc k) b f =
+number_digits n zero digits b f e = absurd (omega arith)
+number_digits n (suc k) digits b f e =
     let s : suc k - 1 ≡ k = omega arith in
-    ap (λ (l : List ℕ). space ∷ l) (decimal_digits 19 k n (omega (arith, fewest_most n (suc k) b f)) f.1 (λ i. rw s at (f.2 (omega arith))))
+    ap (λ (l : List ℕ). space ∷ l) (e ∙ decimal_digits 19 k n (omega (arith, fewest_most n (suc k) b f)) f.1 (λ i. rw s at (f.2 (omega arith))))
 
--- a figure that differs from itself is listed by the one pattern of a NaN
-pub nan_listed : (x : Float) → eq x nought ≡ false → ne x x ≡ true → bits_of x ≡ 0x7ff8000000000000
-unfolding to_bits
-nan_listed x e h = ap (λ (t : Bool). cond t 0 (to_bits binary64 x)) e ∙ ap (to_bits binary64) (differs_from_itself x (is h))
-
-pub listed : (x : Float) → eq x nought ≡ false → to_bits binary64 x ≡ bits_of x
-listed x e = sym (ap (λ (t : Bool). cond t 0 (to_bits binary64 x)) e)
-
-pub zero_listed : (x : Float) → eq x nought ≡ true → 0 ≡ bits_of x
-zero_listed x e = sym (ap (λ (t : Bool). cond t 0 (to_bits binary64 x)) e)
+-- a NaN is listed by its one pattern
+pub nan_listed : (x : Float) → is_nan x ≡ true → bits_of x ≡ 0x7ff8000000000000
+unfolding to_bits eq
+nan_listed x h = ap bits_of (only_nan x h)

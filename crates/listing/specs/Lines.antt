@@ -1,5 +1,5 @@
 -- The text of each line of the listing (document 01, "Case file"), and of the whole listing.
-use Rattle.std.specs.Prelude.{ℕ, zero, suc, List, [], ◌∷◌, ◌++◌, length, get_or, Float}
+use Rattle.std.specs.Prelude.{ℕ, zero, suc, ◌+◌, ◌*◌, List, [], ◌∷◌, ◌++◌, map, length, get_or, Float}
 use Rattle.loops.specs.Figures.{at}
 use Rattle.mode.specs.Number.{mode_number}
 use Rattle.mode.specs.declared.PlanMode.{PlanMode}
@@ -7,13 +7,10 @@ use Rattle.refusal.specs.Number.{number_of, index_of}
 use Rattle.refusal.specs.declared.Refusal.{Refusal}
 use Rattle.plan_defs.specs.Listing.{flag}
 use Rattle.plan_defs.specs.declared.CorridorPlan.{CorridorPlan}
-use Rattle.listing.specs.Text.{line_feed, number, figure}
+use Rattle.listing.specs.Text.{line_feed, number, figure, field}
+use Rattle.listing.specs.declared.text.Field.{Field}
 
--- fields one behind another, and with the line feed behind them
-abbrev pub fields : List (List ℕ) → List ℕ
-fields [] = []
-fields (f ∷ fs) = f ++ fields fs
-
+-- fields one behind another, with the line feed behind them
 abbrev pub ended : List (List ℕ) → List ℕ
 ended [] = line_feed ∷ []
 ended (f ∷ fs) = f ++ ended fs
@@ -21,6 +18,10 @@ ended (f ∷ fs) = f ++ ended fs
 -- a line: the two letters of its mark, its fields, the line feed
 abbrev pub line : ℕ → ℕ → List (List ℕ) → List ℕ
 line a b fs = a ∷ b ∷ ended fs
+
+-- of a mark and fields, as the program puts a line
+abbrev pub line_of : List ℕ → List Field → List ℕ
+line_of mark fs = mark ++ ended (map field fs)
 
 -- RF number index
 unfoldable pub refusal_line : Refusal → List ℕ
@@ -84,3 +85,10 @@ plan_room = 213
 
 abbrev pub line_room : ℕ
 line_room = 79
+
+-- and of the listing with so many lines besides PL: the largest case has five levels, 256 grounds, buses and corridors, 128 generators, and MX
+abbrev pub room_for : ℕ → ℕ
+room_for n = plan_room + line_room * n
+
+abbrev pub most_text : ℕ
+most_text = room_for 902

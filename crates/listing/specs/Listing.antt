@@ -1,5 +1,5 @@
 -- The whole text of the program: of a plan, of how planning a case ends, and of a case file.
-use Rattle.std.specs.Prelude.{ℕ, ◌+◌, ◌*◌, ◌≤◌, List, map, ◌++◌, length, take, Float, Err, Ok, Result}
+use Rattle.std.specs.Prelude.{ℕ, List, map, ◌++◌, take, Float, Err, Ok, Result}
 use Rattle.mode.specs.declared.PlanMode.{PlanMode}
 use Rattle.plan_defs.specs.Plan.{Plan, Ending, unaccepted, unanswered, planned, ending_of}
 use Rattle.plan_defs.specs.Outcome.{summary}
@@ -8,7 +8,8 @@ use Rattle.casefile_defs.specs.Reading.{reading_of}
 use Rattle.casefile_defs.specs.Tables.{Places, tables_of}
 use Rattle.casefile_defs.specs.declared.Header.{Header}
 use Rattle.planned_files.specs.Files.{case_in}
-use Rattle.listing.specs.Lines.{plan_room, line_room, refusal_line, plan_line, added_lines, ground_lines, bus_lines, generator_lines, corridor_lines, most_line}
+use Rattle.planned_files.specs.declared.PlannedFile.{PlannedFile}
+use Rattle.listing.specs.Lines.{refusal_line, plan_line, added_lines, ground_lines, bus_lines, generator_lines, corridor_lines, most_line}
 use Rattle.refusal.specs.declared.Refusal.{Refusal}
 
 -- PL, AD, GR, BU, GE, CO, MX
@@ -17,15 +18,13 @@ listed mode p added ground_buses tier angle mw circuits flow rate =
     plan_line mode p
     ++ (added_lines added ++ (ground_lines ground_buses ++ (bus_lines tier angle ++ (generator_lines mw ++ (corridor_lines circuits flow rate ++ most_line p.loading p.spread)))))
 
--- what planning says, with the slices that it leaves: of the levels added and the grounds it says how many there are
-unfoldable pub planned_text : PlanMode → Result CorridorPlan Refusal → List Float → List ℕ → List ℕ → List Float → List Float → List ℕ → List Float → List Float → List ℕ
-planned_text mode (Err f) added ground_buses tier angle mw circuits flow rate = refusal_line f
-planned_text mode (Ok p) added ground_buses tier angle mw circuits flow rate =
-    listed mode p (take p.added added) (take p.grounds ground_buses) tier angle mw circuits flow rate
-
-unfoldable pub Counted : Result CorridorPlan Refusal → List Float → List ℕ → Type 0
-Counted (Err f) added ground_buses = Unit
-Counted (Ok p) added ground_buses = (p.added ≤ length added) × (p.grounds ≤ length ground_buses)
+-- of a file that was read and planned here, with what planning says of it
+unfoldable pub planned_lines : PlannedFile → CorridorPlan → List ℕ
+planned_lines r p =
+    let n = r.header.buses in
+    let m = r.header.corridors in
+    listed r.header.mode p (take p.added r.added) (take p.grounds r.ground) (take n r.tier) (take n r.angle) (take r.header.generators r.mw)
+    (take m r.circuits) (take m r.flow) (take m r.rate)
 
 -- ---- of the defined plan
 unfoldable pub plan_text : PlanMode → Plan → List ℕ
@@ -49,11 +48,3 @@ read_text s (Ok h) = case_text h (tables_of s h)
 -- what the program prints of a file
 unfoldable pub file_text : List ℕ → List ℕ
 file_text s = read_text s (reading_of s)
-
--- ---- the most bytes of a plan's listing with so many lines besides PL
-abbrev pub room_for : ℕ → ℕ
-room_for n = plan_room + line_room * n
-
--- of the largest case: five levels, 256 grounds, buses and corridors, 128 generators, MX
-abbrev pub most_text : ℕ
-most_text = room_for 902

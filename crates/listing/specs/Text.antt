@@ -1,6 +1,8 @@
--- The text of a field of the listing, in ASCII: document 01, "Case file", last paragraph. And what it means that a text was put into a buffer.
-use Rattle.std.specs.Prelude.{ℕ, zero, suc, ◌+◌, ◌/◌, ◌%◌, cond, List, [], ◌∷◌, ◌++◌, ◌≡◌, ltb, length, take, Float}
+-- The text of a field of the listing, in ASCII: document 01, "Case file", last paragraph.
+use Rattle.std.specs.Prelude.{ℕ, zero, suc, ◌+◌, ◌/◌, ◌%◌, cond, List, [], ◌∷◌, ◌++◌, ltb, Float}
 use Rattle.plan_defs.specs.Listing.{bits_of}
+use Rattle.listing.specs.declared.text.Field.{Field}
+use Rattle.listing.specs.declared.text.Field.TheVariants.{Number, Figure}
 
 abbrev pub space : ℕ
 space = 32
@@ -29,13 +31,7 @@ number n = space ∷ decimal 20 n
 unfoldable pub figure : Float → List ℕ
 figure x = space ∷ hexadecimal 16 (bits_of x)
 
-abbrev pub number_room : ℕ
-number_room = 21
-
-abbrev pub figure_room : ℕ
-figure_room = 17
-
--- ---- behind the first `len` bytes of a buffer, which stand, there is this text; `r` bytes are used then
-pub record Put (before : List ℕ) (len : ℕ) (text after : List ℕ) (r : ℕ) : Type 0 where
-  pub used : r ≡ len + length text
-  pub bytes : take r after ≡ take len before ++ text
+-- a field of a line
+abbrev pub field : Field → List ℕ
+field (Number n) = number n
+field (Figure x) = figure x

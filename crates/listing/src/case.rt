@@ -1,44 +1,47 @@
 // The listing of a case file.
-ghost use Rattle.std.specs.Prelude.{◌≤◌, length};
-ghost use Rattle.listing.specs.Text.{Put};
-ghost use Rattle.listing.specs.Listing.{file_text, most_text};
+ghost use Rattle.std.specs.Prelude.{◌≡◌, ◌+◌, ◌≤◌, [], ◌++◌, length};
+ghost use Rattle.casefile_defs.specs.Reading.{Small};
+ghost use Rattle.planned_files.specs.Files.{Sized};
+ghost use Rattle.listing.specs.Lines.{most_text};
+ghost use Rattle.listing.specs.Listing.{file_text, planned_lines};
 
-use crate::listing::put_answer;
-use planned_files::plan_file;
+use crate::text::Text;
+use plan_defs::CorridorPlan;
+use planned_files::{PlannedFile, plan_file};
 
-// A case file: the listing of its case, or its refusal.
-pub fn put_file(out: &mut [u8], file: &[u8]) -> usize
-    requires { most_text ≤ length out.old }
-    ensures put { Put out.old 0 (file_text file.now) out.new result }
-    ensures upper_bound { result ≤ length out.old }
-{
-    let plan = plan_file(file);
-    let h = plan.header;
-    let mode = h.mode;
-    let n = h.buses;
-    let m = h.corridors;
-    let g = h.generators;
-    let above = h.above;
-    let planned = plan.planned;
-    let added = plan.added;
-    let ground = plan.ground;
-    let tier = plan.tier;
-    let angle = plan.angle;
-    let mw = plan.mw;
-    let circuits = plan.circuits;
-    let flow = plan.flow;
-    let rate = plan.rate;
-    put_answer(
-        out,
-        mode,
-        planned,
-        &added[0..above],
-        &ground[0..n],
-        &tier[0..n],
-        &angle[0..n],
-        &mw[0..g],
-        &circuits[0..m],
-        &flow[0..m],
-        &rate[0..m],
-    )
+impl Text {
+    // PL, AD, GR, BU, GE, CO, MX
+    fn put_planned(&mut self, file: &PlannedFile, p: CorridorPlan)
+        requires room { length self.old + length (planned_lines file.now p) ≤ most_text }
+        requires small { Small file.now.header }
+        requires sized { Sized file.now }
+        requires added { p.added ≤ length file.now.added }
+        requires grounds { p.grounds ≤ length file.now.ground }
+        ensures { self.new ≡ self.old ++ planned_lines file.now p }
+    {
+        let h = file.header;
+        self.put_plan(h.mode, p);
+        self.put_levels(&file.added[..p.added as usize]);
+        self.put_grounds(&file.ground[..p.grounds as usize]);
+        self.put_buses(&file.tier[..h.buses], &file.angle[..h.buses]);
+        self.put_generators(&file.mw[..h.generators]);
+        self.put_corridors(
+            &file.circuits[..h.corridors],
+            &file.flow[..h.corridors],
+            &file.rate[..h.corridors],
+        );
+        self.put_most(p.loading, p.spread)
+    }
+
+    // The listing of a case file, or its refusal.
+    pub fn put_file(&mut self, file: &[u8])
+        requires { self.old ≡ [] }
+        ensures { self.new ≡ file_text file.now }
+    {
+        let planned = plan_file(file);
+        match planned.planned {
+            Err(f) => self.put_refusal(f),
+            Ok(p) => self.put_planned(&planned, p),
+        }
+    }
 }

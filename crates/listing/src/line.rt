@@ -1,144 +1,130 @@
-// The lines of the listing, put into a lent buffer behind what it holds.
-ghost use Rattle.std.specs.Prelude.{◌≡◌, ◌+◌, ◌*◌, ◌≤◌, [], ◌∷◌, length};
-ghost use Rattle.listing.specs.Text.{Put, number, number_room};
-ghost use Rattle.plan_defs.specs.Listing.{flag as Listing·flag};
-ghost use Rattle.listing.specs.Lines.{fields, tallies, plan_room, line_room, refusal_line, plan_line, added_line, ground_line, bus_line, generator_line, corridor_line, most_line};
+// The lines of the listing.
+ghost use Rattle.std.specs.Prelude.{◌≡◌, ◌+◌, ◌≤◌, ◌++◌, length};
+ghost use Rattle.listing.specs.Lines.{refusal_line, plan_line, added_lines, ground_lines, bus_lines, generator_lines, corridor_lines, most_line, most_text};
 
-use crate::text::{put_figure, put_number, put_text};
+use crate::text::{Field, Text};
 use mode::PlanMode;
 use plan_defs::CorridorPlan;
 use refusal::Refusal;
 
-// RF number index
-pub fn put_refusal(out: &mut [u8], len: usize, f: Refusal) -> usize
-    requires { len + line_room ≤ length out.old }
-    ensures put { Put out.old len (refusal_line f) out.new result }
-    ensures upper_bound { result ≤ len + line_room }
-{
-    let used = put_text(out, len, b"RF");
-    let used = put_number(out, used, f.number() as u64);
-    let used = put_number(out, used, f.index() as u64);
-    put_text(out, used, b"\n")
-}
-
-// A truth value as a number.
-fn flag(b: bool) -> u32
-    ensures { result ≡ Listing·flag b }
-{
-    if b {
-        return 1;
+impl Text {
+    // RF number index
+    #[tactic(auto, unfolding(crate::specs::Lines::refusal_line))]
+    pub fn put_refusal(&mut self, f: Refusal)
+        requires { length self.old + length (refusal_line f) ≤ most_text }
+        ensures { self.new ≡ self.old ++ refusal_line f }
+    {
+        self.put_line(
+            b"RF",
+            &[
+                Field::Number(f.number() as u64),
+                Field::Number(f.index() as u64),
+            ],
+        )
     }
-    0
-}
 
-fn put_three(out: &mut [u8], len: usize, a: u32, b: u32, c: u32) -> usize
-    requires { len + 3 * number_room ≤ length out.old }
-    ensures put { Put out.old len (fields (number a ∷ number b ∷ number c ∷ [])) out.new result }
-    ensures upper_bound { result ≤ len + 3 * number_room }
-{
-    let used = put_number(out, len, a as u64);
-    let used = put_number(out, used, b as u64);
-    put_number(out, used, c as u64)
-}
+    // PL mode rounds converged capacity stiffening filler promoted upsized overloaded capped
+    #[tactic(auto, unfolding(crate::specs::Lines::plan_line))]
+    pub fn put_plan(&mut self, mode: PlanMode, p: CorridorPlan)
+        requires { length self.old + length (plan_line mode p) ≤ most_text }
+        ensures { self.new ≡ self.old ++ plan_line mode p }
+    {
+        self.put_line(
+            b"PL",
+            &[
+                Field::Number(mode.number() as u64),
+                Field::Number(p.rounds as u64),
+                Field::Number(p.converged as u64),
+                Field::Number(p.capacity as u64),
+                Field::Number(p.stiffening as u64),
+                Field::Number(p.filler as u64),
+                Field::Number(p.promoted as u64),
+                Field::Number(p.upsized as u64),
+                Field::Number(p.overloaded as u64),
+                Field::Number(p.capped as u64),
+            ],
+        )
+    }
 
-fn put_tallies(out: &mut [u8], len: usize, p: CorridorPlan) -> usize
-    requires { len + 7 * number_room ≤ length out.old }
-    ensures put { Put out.old len (fields (tallies p)) out.new result }
-    ensures upper_bound { result ≤ len + 7 * number_room }
-{
-    let used = put_three(out, len, p.capacity, p.stiffening, p.filler);
-    let used = put_three(out, used, p.promoted, p.upsized, p.overloaded);
-    put_number(out, used, p.capped as u64)
-}
+    // AD kV, for each level added.
+    #[tactic(auto, using(crate::proofs::Texts::one_more), unfolding(crate::specs::Lines::added_line))]
+    pub fn put_levels(&mut self, added: &[f64])
+        requires { length self.old + length (added_lines added.now) ≤ most_text }
+        ensures { self.new ≡ self.old ++ added_lines added.now }
+    {
+        for kv in added {
+            self.put_line(b"AD", &[Field::Figure(*kv)]);
+        }
+    }
 
-// PL mode rounds converged capacity stiffening filler promoted upsized overloaded capped
-pub fn put_plan(out: &mut [u8], len: usize, mode: PlanMode, p: CorridorPlan) -> usize
-    requires { len + plan_room ≤ length out.old }
-    ensures put { Put out.old len (plan_line mode p) out.new result }
-    ensures upper_bound { result ≤ len + plan_room }
-{
-    let used = put_text(out, len, b"PL");
-    let used = put_three(out, used, mode.number(), p.rounds, flag(p.converged));
-    let used = put_tallies(out, used, p);
-    put_text(out, used, b"\n")
-}
+    // GR bus, for each ground.
+    #[tactic(auto, using(crate::proofs::Texts::one_more), unfolding(crate::specs::Lines::ground_line))]
+    pub fn put_grounds(&mut self, ground: &[u32])
+        requires { length self.old + length (ground_lines ground.now) ≤ most_text }
+        ensures { self.new ≡ self.old ++ ground_lines ground.now }
+    {
+        for bus in ground {
+            self.put_line(b"GR", &[Field::Number(*bus as u64)]);
+        }
+    }
 
-// AD kV
-pub fn put_added(out: &mut [u8], len: usize, kv: f64) -> usize
-    requires { len + line_room ≤ length out.old }
-    ensures put { Put out.old len (added_line kv) out.new result }
-    ensures upper_bound { result ≤ len + line_room }
-{
-    let used = put_text(out, len, b"AD");
-    let used = put_figure(out, used, kv);
-    put_text(out, used, b"\n")
-}
+    // BU index tier angle, for each bus.
+    #[tactic(auto, using(crate::proofs::Texts::one_more), unfolding(crate::specs::Lines::bus_line))]
+    pub fn put_buses(&mut self, tier: &[u32], angle: &[f64])
+        requires room { length self.old + length (bus_lines tier.now angle.now) ≤ most_text }
+        requires tier_len { length tier.now ≡ length angle.now }
+        ensures { self.new ≡ self.old ++ bus_lines tier.now angle.now }
+    {
+        for (i, angle) in angle.iter().enumerate() {
+            self.put_line(
+                b"BU",
+                &[
+                    Field::Number(i as u64),
+                    Field::Number(tier[i] as u64),
+                    Field::Figure(*angle),
+                ],
+            );
+        }
+    }
 
-// GR bus
-pub fn put_ground(out: &mut [u8], len: usize, bus: u32) -> usize
-    requires { len + line_room ≤ length out.old }
-    ensures put { Put out.old len (ground_line bus) out.new result }
-    ensures upper_bound { result ≤ len + line_room }
-{
-    let used = put_text(out, len, b"GR");
-    let used = put_number(out, used, bus as u64);
-    put_text(out, used, b"\n")
-}
+    // GE index MW, for each generator.
+    #[tactic(auto, using(crate::proofs::Texts::one_more), unfolding(crate::specs::Lines::generator_line))]
+    pub fn put_generators(&mut self, mw: &[f64])
+        requires { length self.old + length (generator_lines mw.now) ≤ most_text }
+        ensures { self.new ≡ self.old ++ generator_lines mw.now }
+    {
+        for (i, mw) in mw.iter().enumerate() {
+            self.put_line(b"GE", &[Field::Number(i as u64), Field::Figure(*mw)]);
+        }
+    }
 
-// BU index tier angle
-pub fn put_bus(out: &mut [u8], len: usize, i: usize, tier: u32, angle: f64) -> usize
-    requires { len + line_room ≤ length out.old }
-    ensures put { Put out.old len (bus_line i tier angle) out.new result }
-    ensures upper_bound { result ≤ len + line_room }
-{
-    let used = put_text(out, len, b"BU");
-    let used = put_number(out, used, i as u64);
-    let used = put_number(out, used, tier as u64);
-    let used = put_figure(out, used, angle);
-    put_text(out, used, b"\n")
-}
+    // CO index circuits flow rate, for each corridor.
+    #[tactic(auto, using(crate::proofs::Texts::one_more), unfolding(crate::specs::Lines::corridor_line))]
+    pub fn put_corridors(&mut self, circuits: &[u32], flow: &[f64], rate: &[f64])
+        requires room { length self.old + length (corridor_lines circuits.now flow.now rate.now) ≤ most_text }
+        requires flow_len { length flow.now ≡ length circuits.now }
+        requires rate_len { length rate.now ≡ length circuits.now }
+        ensures { self.new ≡ self.old ++ corridor_lines circuits.now flow.now rate.now }
+    {
+        for (i, circuits) in circuits.iter().enumerate() {
+            self.put_line(
+                b"CO",
+                &[
+                    Field::Number(i as u64),
+                    Field::Number(*circuits as u64),
+                    Field::Figure(flow[i]),
+                    Field::Figure(rate[i]),
+                ],
+            );
+        }
+    }
 
-// GE index MW
-pub fn put_generator(out: &mut [u8], len: usize, i: usize, mw: f64) -> usize
-    requires { len + line_room ≤ length out.old }
-    ensures put { Put out.old len (generator_line i mw) out.new result }
-    ensures upper_bound { result ≤ len + line_room }
-{
-    let used = put_text(out, len, b"GE");
-    let used = put_number(out, used, i as u64);
-    let used = put_figure(out, used, mw);
-    put_text(out, used, b"\n")
-}
-
-// CO index circuits flow rate
-pub fn put_corridor(
-    out: &mut [u8],
-    len: usize,
-    i: usize,
-    circuits: u32,
-    flow: f64,
-    rate: f64,
-) -> usize
-    requires { len + line_room ≤ length out.old }
-    ensures put { Put out.old len (corridor_line i circuits flow rate) out.new result }
-    ensures upper_bound { result ≤ len + line_room }
-{
-    let used = put_text(out, len, b"CO");
-    let used = put_number(out, used, i as u64);
-    let used = put_number(out, used, circuits as u64);
-    let used = put_figure(out, used, flow);
-    let used = put_figure(out, used, rate);
-    put_text(out, used, b"\n")
-}
-
-// MX loading spread
-pub fn put_most(out: &mut [u8], len: usize, loading: f64, spread: f64) -> usize
-    requires { len + line_room ≤ length out.old }
-    ensures put { Put out.old len (most_line loading spread) out.new result }
-    ensures upper_bound { result ≤ len + line_room }
-{
-    let used = put_text(out, len, b"MX");
-    let used = put_figure(out, used, loading);
-    let used = put_figure(out, used, spread);
-    put_text(out, used, b"\n")
+    // MX loading spread
+    #[tactic(auto, unfolding(crate::specs::Lines::most_line))]
+    pub fn put_most(&mut self, loading: f64, spread: f64)
+        requires { length self.old + length (most_line loading spread) ≤ most_text }
+        ensures { self.new ≡ self.old ++ most_line loading spread }
+    {
+        self.put_line(b"MX", &[Field::Figure(loading), Field::Figure(spread)])
+    }
 }

@@ -1,7 +1,14 @@
-// Fields of a line, put into a lent buffer. Each function takes how much of it is used and answers how much is used then.
-ghost use Rattle.std.specs.Prelude.{◌≡◌, ◌+◌, ◌<◌, ◌≤◌, length};
-ghost use Rattle.listing.specs.Text.{Put, digit, hexadecimal, number, figure, number_room, figure_room};
+// The text of the listing, in fixed memory. Each method puts something behind what there is.
+ghost use Rattle.std.specs.Prelude.{◌≡◌, ◌+◌, ◌<◌, ◌≤◌, [], ◌++◌, length};
+ghost use Rattle.listing.specs.Text.{hexadecimal, number, figure, field, digit};
+ghost use Rattle.listing.specs.Lines.{line_of, most_text};
 ghost use Rattle.plan_defs.specs.Listing.{bits_of};
+
+use arrayvec::ArrayVec;
+use std::marker::Model;
+
+// PL and 902 other lines at their longest.
+const MOST_TEXT: usize = 213 + 79 * 902;
 
 // The hexadecimal digits of a figure, and the most digits of a number.
 const FIGURE_DIGITS: usize = 16;
@@ -11,49 +18,114 @@ const NUMBER_DIGITS: usize = 20;
 // The one pattern under which a NaN is listed.
 const NAN: u64 = 0x7ff8_0000_0000_0000;
 
-pub fn put_text(out: &mut [u8], len: usize, text: &[u8]) -> usize
-    requires { len + length text.now ≤ length out.old }
-    ensures { Put out.old len text.now out.new result }
-{
-    let mut i = 0;
-    while i < text.len() {
-        out[len + i] = text[i];
-        i += 1;
-    }
-    len + i
+// A field of a line.
+#[derive(Clone, Copy)]
+pub enum Field {
+    Number(u64),
+    Figure(f64),
 }
 
-// A space and a decimal number.
-pub fn put_number(out: &mut [u8], len: usize, n: u64) -> usize
-    requires { len + number_room ≤ length out.old }
-    ensures put { Put out.old len (number n) out.new result }
-    ensures upper_bound { result ≤ len + number_room }
-{
-    let mut digits = [0u8; NUMBER_DIGITS];
-    let k = streams::decimal(n, &mut digits);
-    let used = put_text(out, len, b" ");
-    put_text(out, used, &digits[..k])
+#[derive(Drop)]
+pub struct Text {
+    bytes: ArrayVec<u8, MOST_TEXT>,
+}
+
+impl Model for Text {
+    ghost use Rattle.std.specs.Prelude.{ℕ, List};
+
+    ghost Value = { List ℕ };
+
+    ghost view = { λ t. t.bytes.items };
+}
+
+impl Text {
+    pub fn new() -> Self
+        ensures { result ≡ [] }
+    {
+        Text {
+            bytes: ArrayVec::new(),
+        }
+    }
+
+    pub fn as_slice(&self) -> &[u8]
+        ensures { result.now ≡ self.now }
+    {
+        self.bytes.as_slice()
+    }
+
+    fn put(&mut self, bytes: &[u8])
+        requires { length self.old + length bytes.now ≤ most_text }
+        ensures { self.new ≡ self.old ++ bytes.now }
+    {
+        self.bytes.try_extend_from_slice(bytes).unwrap()
+    }
+
+    // A space and a decimal number.
+    fn put_number(&mut self, n: u64)
+        requires { length self.old + length (number n) ≤ most_text }
+        ensures { self.new ≡ self.old ++ number n }
+    {
+        let mut digits = [0; NUMBER_DIGITS];
+        let count = streams::decimal(n, &mut digits);
+        self.put(b" ");
+        self.put(&digits[..count])
+    }
+
+    // A space and a figure.
+    fn put_figure(&mut self, x: f64)
+        requires { length self.old + length (figure x) ≤ most_text }
+        ensures { self.new ≡ self.old ++ figure x }
+    {
+        let digits = hexadecimal(listed_bits(x));
+        self.put(b" ");
+        self.put(&digits)
+    }
+
+    fn put_field(&mut self, f: Field)
+        requires { length self.old + length (field f) ≤ most_text }
+        ensures { self.new ≡ self.old ++ field f }
+    {
+        match f {
+            Field::Number(n) => self.put_number(n),
+            Field::Figure(x) => self.put_figure(x),
+        }
+    }
+
+    // A line: its mark, its fields, the line feed.
+    pub fn put_line(&mut self, mark: &[u8; 2], fields: &[Field])
+        requires { length self.old + length (line_of mark.now fields.now) ≤ most_text }
+        ensures { self.new ≡ self.old ++ line_of mark.now fields.now }
+    {
+        self.put(mark);
+        for f in fields {
+            self.put_field(*f);
+        }
+        self.put(b"\n")
+    }
 }
 
 fn hex_digit(d: u64) -> u8
     requires { d < 16 }
     ensures { result ≡ digit d }
 {
-    if d < 10 { 48 + d as u8 } else { 55 + d as u8 }
+    if d < 10 {
+        b'0' + d as u8
+    } else {
+        b'A' + (d - 10) as u8
+    }
 }
 
 // Sixteen upper-case digits, the last made first.
-fn hexadecimal(n: u64, digits: &mut [u8])
-    requires { length digits.old ≡ 16 }
-    ensures { digits.new ≡ hexadecimal 16 n }
+fn hexadecimal(n: u64) -> [u8; FIGURE_DIGITS]
+    ensures { result ≡ hexadecimal 16 n }
 {
+    let mut digits = [0; FIGURE_DIGITS];
     let mut rest = n;
-    let mut i = FIGURE_DIGITS;
-    while 0 < i {
-        i -= 1;
-        digits[i] = hex_digit(rest % 16);
+    for i in 0..FIGURE_DIGITS {
+        digits[FIGURE_DIGITS - 1 - i] = hex_digit(rest % 16);
         rest /= 16;
     }
+    digits
 }
 
 // The bits by which a figure is listed: a zero as plus zero, every NaN as one.
@@ -63,20 +135,8 @@ fn listed_bits(x: f64) -> u64
     if x == 0.0 {
         return 0;
     }
-    if x != x {
+    if x.is_nan() {
         return NAN;
     }
-    f64::to_bits(x)
-}
-
-// A space and a figure.
-pub fn put_figure(out: &mut [u8], len: usize, x: f64) -> usize
-    requires { len + figure_room ≤ length out.old }
-    ensures put { Put out.old len (figure x) out.new result }
-    ensures value { result ≡ len + figure_room }
-{
-    let mut digits = [0u8; FIGURE_DIGITS];
-    hexadecimal(listed_bits(x), &mut digits);
-    let used = put_text(out, len, b" ");
-    put_text(out, used, &digits)
+    x.to_bits()
 }

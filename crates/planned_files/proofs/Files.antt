@@ -5,7 +5,8 @@ use mathlib.Core.List.{List, []}
 use mathlib.Core.Path.{◌≡◌, refl, sym, ap, ◌∙◌}
 use native.Mathlib.Nat.{mul-le-mul, sub-zero}
 use native.Mathlib.Omega.{arith}
-use lib.ListN.{take}
+use lib.ListN.{take, replicate}
+use Rattle.loops.specs.Figures.{nought}
 use Rattle.refusal.specs.Reply.{Reply, answered, refused}
 use Rattle.refusal.specs.declared.Refusal.{Refusal}
 use Rattle.refusal.specs.declared.Refusal.TheVariants.{Length}
@@ -79,3 +80,12 @@ module _ (s : List ℕ) where
         ap (λ (t : Places). filed h (plan_of (case_as h t) h.target))
         (same_parts p (sub-zero (levels h)) (sub-zero h.buses) (sub-zero h.generators) (sub-zero h.corridors) (sub-zero (lines h * row_figures)))
         ∙ by_reading (Ok h) g
+
+-- ---- tables of zeros, and as many as are filled
+abbrev pub empty : Places
+empty =
+    places_of (replicate 5 nought) (replicate 256 0) (replicate 256 nought) (replicate 256 nought) (replicate 128 0) (replicate 128 0) (replicate 128 nought) (replicate 128 nought) (replicate 128 nought) (replicate 128 nought) (replicate 256 0) (replicate 256 0) (replicate 256 0) (replicate 256 nought) (replicate 256 nought) (replicate 256 0) (replicate 6400 nought)
+
+pub empty_sized : sizes_ok empty ≡ true
+unfolding sizes_ok
+empty_sized = refl

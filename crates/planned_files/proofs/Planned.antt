@@ -2,10 +2,9 @@
 use Prim.Native.Nat.{ℕ, ◌-◌, ◌≤◌}
 use mathlib.Core.Bool.{Bool}
 use mathlib.Core.List.{List, ◌++◌}
-use mathlib.Core.Path.{◌≡◌, ap, ◌∙◌}
+use mathlib.Core.Path.{◌≡◌, sym, ap, subst, ◌∙◌}
 use lib.Ieee.{Float}
-use native.Mathlib.Omega.{arith}
-use lib.ListN.{length, take, drop, replicate, length-append, length-drop, length-replicate}
+use lib.ListN.{length, take, drop, replicate, length-replicate}
 use lib.Seq.{take_at}
 use Rattle.loops.specs.Figures.{nought}
 use Rattle.loops.proofs.Fronts.{front_replicate}
@@ -15,7 +14,8 @@ use Rattle.casefile_defs.specs.Bounds.{most_buses, most_corridors, most_generato
 use Rattle.plan_defs.specs.Case.{Case}
 use Rattle.plan_defs.specs.Outcome.{Slices, slices, work_places, cleared, outcome, outcome_if, plan_corridors}
 use Rattle.plan_theorems.proofs.Outcomes.{lengths_ok_lem, cleared_lengths}
-use Rattle.planned_files.specs.Files.{case_as, results, results_of, plan_of, filed}
+use Rattle.planned_files.specs.Files.{case_as, results, results_of, plan_of, filed, zeros}
+use Rattle.planned_files.specs.declared.PlannedFile.{PlannedFile}
 use Rattle.std.specs.Prelude.{Result}
 use Rattle.plan_defs.specs.declared.CorridorPlan.{CorridorPlan}
 use Rattle.refusal.specs.declared.Refusal.{Refusal}
@@ -31,10 +31,6 @@ part_length n k v h = ap length (front_replicate k n v h) ∙ length-replicate n
 -- an array of which the first places came back from a call
 pub back_front : {A : Type 0} (n k : ℕ) (ys xs : List A) → length ys ≡ n → take n (ys ++ drop k xs) ≡ ys
 back_front n k ys xs e = take_at ys (drop k xs) n e
-
-pub back_length : {A : Type 0} (n k : ℕ) (v : A) (ys : List A) → n ≤ k → length ys ≡ length (part n k v) → length (ys ++ drop (n - 0) (replicate k v)) ≡ k
-back_length n k v ys h e =
-    omega (arith, part_length n k v h, length-append ys (drop (n - 0) (replicate k v)), length-drop (n - 0) (replicate k v), length-replicate k v)
 
 -- ---- the slices, as they are lent
 -- room for the work of a case
@@ -90,3 +86,37 @@ pub filed_planned : {a₀ : List ℕ} {b₀ c₀ : List Float} {d₀ e₀ f₀ :
 filed_planned h p r l e1 e2 e3 e4 e5 e6 e7 e8 e9 e10 e11 f e =
     ap (filed h)
     (same_results r e1 e2 e3 e4 e5 e6 e7 e8 e9 e10 e11 ∙ as_planned (case_as h p) h.target l r f e)
+
+-- ---- a file whose results were zeros before planning
+back : {A : Type 0} (n k : ℕ) (v : A) (ys : List A) → n ≤ k → length ys ≡ length (part n k v) → take n (ys ++ drop (n - 0) (replicate k v)) ≡ ys
+back n k v ys h e = back_front n (n - 0) ys (replicate k v) (e ∙ part_length n k v h)
+
+module _ (h : Header) (p : Places) (said : Result CorridorPlan Refusal) (l : Slices) where
+  abbrev lent_of : PlannedFile → Slices
+  lent_of r = slices (take (h.corridors - 0) r.circuits) (take (h.corridors - 0) r.flow) (take (h.corridors - 0) r.rate) (take (h.corridors - 0) r.before) (take (h.corridors - 0) r.order) (take (h.corridors - 0) r.cap) (take (h.generators - 0) r.mw) (take (h.buses - 0) r.angle) (take (h.buses - 0) r.tier) (take (h.buses - 0) r.ground) (take (h.above - 0) r.added) (part (work_places (case_as h p)) most_work nought) (part (work_places (case_as h p)) most_work 0)
+
+  abbrev Planned : PlannedFile → Type 0
+  Planned r =
+      length l.circuits ≡ length (take (h.corridors - 0) r.circuits) → length l.flow ≡ length (take (h.corridors - 0) r.flow) → length l.rate ≡ length (take (h.corridors - 0) r.rate) → length l.before ≡ length (take (h.corridors - 0) r.before) → length l.order ≡ length (take (h.corridors - 0) r.order) → length l.cap ≡ length (take (h.corridors - 0) r.cap) → length l.mw ≡ length (take (h.generators - 0) r.mw) → length l.angle ≡ length (take (h.buses - 0) r.angle) → length l.tier ≡ length (take (h.buses - 0) r.tier) → length l.ground ≡ length (take (h.buses - 0) r.ground) → length l.added ≡ length (take (h.above - 0) r.added)
+      → outcome said l ≡ plan_corridors (case_as h p) h.target (lent_of r)
+      → filed r.header (outcome said (results (take r.header.corridors (l.circuits ++ drop (h.corridors - 0) r.circuits)) (take r.header.corridors (l.flow ++ drop (h.corridors - 0) r.flow)) (take r.header.corridors (l.rate ++ drop (h.corridors - 0) r.rate)) (take r.header.corridors (l.before ++ drop (h.corridors - 0) r.before)) (take r.header.corridors (l.order ++ drop (h.corridors - 0) r.order)) (take r.header.corridors (l.cap ++ drop (h.corridors - 0) r.cap)) (take r.header.generators (l.mw ++ drop (h.generators - 0) r.mw)) (take r.header.buses (l.angle ++ drop (h.buses - 0) r.angle)) (take r.header.buses (l.tier ++ drop (h.buses - 0) r.tier)) (take r.header.buses (l.ground ++ drop (h.buses - 0) r.ground)) (take r.header.above (l.added ++ drop (h.above - 0) r.added))))
+      ≡ filed h (plan_of (case_as h p) h.target)
+
+  in_zeros : (x : Result CorridorPlan Refusal) → Fits (case_as h p) → Planned (zeros h x)
+  in_zeros x f k0 k1 k2 k3 k4 k5 k6 k7 k8 k9 k10 e =
+      filed_planned h p said l
+      (back h.corridors most_corridors 0 l.circuits f.corridors k0)
+      (back h.corridors most_corridors nought l.flow f.corridors k1)
+      (back h.corridors most_corridors nought l.rate f.corridors k2)
+      (back h.corridors most_corridors 0 l.before f.corridors k3)
+      (back h.corridors most_corridors 0 l.order f.corridors k4)
+      (back h.corridors most_corridors 0 l.cap f.corridors k5)
+      (back h.generators most_generators nought l.mw f.generators k6)
+      (back h.buses most_buses nought l.angle f.buses k7)
+      (back h.buses most_buses 0 l.tier f.buses k8)
+      (back h.buses most_buses 0 l.ground f.buses k9)
+      (back h.above most_levels nought l.added f.above k10)
+      f e
+
+  pub planned_in : (r : PlannedFile) (x : Result CorridorPlan Refusal) → r ≡ zeros h x → Fits (case_as h p) → Planned r
+  planned_in r x e f = subst Planned (sym e) (in_zeros x f)

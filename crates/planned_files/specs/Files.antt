@@ -1,6 +1,6 @@
 -- A case file that is read and planned: its header, what planning says of its case and what it leaves in each result slice. A file that reading refuses has no
 -- records, and that refusal is what is said of it.
-use Rattle.std.specs.Prelude.{ℕ, ◌*◌, List, [], ◌≡◌, length, take, Float, Err, Ok, Result}
+use Rattle.std.specs.Prelude.{ℕ, ◌*◌, List, [], ◌≡◌, length, take, replicate, Float, Err, Ok, Result}
 use Rattle.casefile_defs.specs.Bounds.{most_levels, most_buses, most_generators, most_corridors, row_figures}
 use Rattle.casefile_defs.specs.Reading.{levels, lines, reading_of}
 use Rattle.casefile_defs.specs.Tables.{Places, tables_of}
@@ -11,6 +11,8 @@ use Rattle.plan_defs.specs.Plan.{ending_of}
 use Rattle.plan_defs.specs.Outcome.{Slices, slices, cleared, Outcome, outcome, outcome_by}
 use Rattle.planned_files.specs.declared.PlannedFile.{PlannedFile}
 use Rattle.refusal.specs.declared.Refusal.{Refusal}
+use Rattle.plan_defs.specs.declared.CorridorPlan.{CorridorPlan}
+use Rattle.loops.specs.Figures.{nought}
 
 -- ---- the case that tables hold
 -- in tables of the header's counts
@@ -83,3 +85,21 @@ pub record Sized (r : PlannedFile) : Type 0 where
   pub tier : length r.tier ≡ most_buses
   pub ground : length r.ground ≡ most_buses
   pub added : length r.added ≡ most_levels
+
+-- a file with a header, of which this is said, and with zeros for results
+abbrev pub zeros : Header → Result CorridorPlan Refusal → PlannedFile
+zeros h said = record {
+  header = h;
+  planned = said;
+  circuits = replicate most_corridors 0;
+  flow = replicate most_corridors nought;
+  rate = replicate most_corridors nought;
+  before = replicate most_corridors 0;
+  order = replicate most_corridors 0;
+  cap = replicate most_corridors 0;
+  mw = replicate most_generators nought;
+  angle = replicate most_buses nought;
+  tier = replicate most_buses 0;
+  ground = replicate most_buses 0;
+  added = replicate most_levels nought;
+}

@@ -5,13 +5,15 @@
 ghost use Rattle.std.specs.Prelude.{◌≡◌, [], Err, Ok, Result};
 ghost use Rattle.casefile_defs.specs.Reading.{Small};
 ghost use Rattle.casefile_defs.specs.Tables.{places_of, held as headerOf};
-ghost use Rattle.planned_files.specs.Files.{case_as, plan_of, filed, plan_read, plan_file, filed_of, Sized};
+ghost use Rattle.planned_files.specs.Files.{case_as, plan_of, filed, plan_read, plan_file, filed_of, Sized, zeros};
 
-use casefile_defs::{Header, MOST_BUSES, MOST_CORRIDORS, MOST_GENERATORS, MOST_LEVELS, MOST_SHEET, ROW_FIGURES};
+use casefile_defs::{
+    Header, MOST_BUSES, MOST_CORRIDORS, MOST_GENERATORS, MOST_LEVELS, MOST_SHEET, ROW_FIGURES,
+};
 use mode::PlanMode;
+use plan_defs::CorridorPlan;
 use planning::plan_corridors;
 use refusal::Refusal;
-use plan_defs::CorridorPlan;
 
 // The places of a work slice for each bus, corridor and generator.
 const WORK_ROWS: usize = 12;
@@ -36,14 +38,34 @@ pub struct PlannedFile {
     pub added: [f64; MOST_LEVELS],
 }
 
-// A file that reading refuses.
-fn unread(f: Refusal) -> PlannedFile
-    ensures planned { filed_of result ≡ filed (headerOf (Err f)) (plan_read [] (Err f)) }
-    ensures small { Small result.header }
-    ensures sized { Sized result }
-{
-    PlannedFile {
-        header: Header {
+impl PlannedFile {
+    fn zeros(header: Header, planned: Result<CorridorPlan, Refusal>) -> PlannedFile
+        ensures { result ≡ zeros header planned }
+    {
+        PlannedFile {
+            header,
+            planned,
+            circuits: [0; MOST_CORRIDORS],
+            flow: [0.0; MOST_CORRIDORS],
+            rate: [0.0; MOST_CORRIDORS],
+            before: [0; MOST_CORRIDORS],
+            order: [0; MOST_CORRIDORS],
+            cap: [0; MOST_CORRIDORS],
+            mw: [0.0; MOST_GENERATORS],
+            angle: [0.0; MOST_BUSES],
+            tier: [0; MOST_BUSES],
+            ground: [0; MOST_BUSES],
+            added: [0.0; MOST_LEVELS],
+        }
+    }
+
+    // A file that reading refuses.
+    fn unread(f: Refusal) -> PlannedFile
+        ensures planned { filed_of result ≡ filed (headerOf (Err f)) (plan_read [] (Err f)) }
+        ensures small { Small result.header }
+        ensures sized { Sized result }
+    {
+        let header = Header {
             mode: PlanMode::Expand,
             target: 0,
             buses: 0,
@@ -51,19 +73,8 @@ fn unread(f: Refusal) -> PlannedFile
             generators: 0,
             above: 0,
             requested: 0,
-        },
-        planned: Err(f),
-        circuits: [0u32; MOST_CORRIDORS],
-        flow: [0.0; MOST_CORRIDORS],
-        rate: [0.0; MOST_CORRIDORS],
-        before: [0u32; MOST_CORRIDORS],
-        order: [0u32; MOST_CORRIDORS],
-        cap: [0u32; MOST_CORRIDORS],
-        mw: [0.0; MOST_GENERATORS],
-        angle: [0.0; MOST_BUSES],
-        tier: [0u32; MOST_BUSES],
-        ground: [0u32; MOST_BUSES],
-        added: [0.0; MOST_LEVELS],
+        };
+        PlannedFile::zeros(header, Err(f))
     }
 }
 
@@ -93,27 +104,17 @@ fn plan_case(
     ensures small { Small result.header }
     ensures sized { Sized result }
 {
-    let mode = h.mode;
     let n = h.buses;
     let m = h.corridors;
     let g = h.generators;
     let above = h.above;
     let work = WORK_ROWS * (n + m + g);
-    let mut circuits = [0u32; MOST_CORRIDORS];
-    let mut flow = [0.0; MOST_CORRIDORS];
-    let mut rate = [0.0; MOST_CORRIDORS];
-    let mut before = [0u32; MOST_CORRIDORS];
-    let mut order = [0u32; MOST_CORRIDORS];
-    let mut kept_cap = [0u32; MOST_CORRIDORS];
-    let mut mw = [0.0; MOST_GENERATORS];
-    let mut angle = [0.0; MOST_BUSES];
-    let mut tiers = [0u32; MOST_BUSES];
-    let mut ground = [0u32; MOST_BUSES];
-    let mut added = [0.0; MOST_LEVELS];
     let mut figures = [0.0; MOST_WORK];
     let mut counts = [0u32; MOST_WORK];
-    let planned = plan_corridors(
-        mode,
+    // What planning says takes the place of this refusal.
+    let mut file = PlannedFile::zeros(h, Err(Refusal::Length));
+    file.planned = plan_corridors(
+        h.mode,
         h.target,
         n,
         m,
@@ -137,35 +138,21 @@ fn plan_case(
         share,
         cap,
         sheet,
-        &mut circuits[0..m],
-        &mut flow[0..m],
-        &mut rate[0..m],
-        &mut before[0..m],
-        &mut order[0..m],
-        &mut kept_cap[0..m],
-        &mut mw[0..g],
-        &mut angle[0..n],
-        &mut tiers[0..n],
-        &mut ground[0..n],
-        &mut added[0..above],
+        &mut file.circuits[0..m],
+        &mut file.flow[0..m],
+        &mut file.rate[0..m],
+        &mut file.before[0..m],
+        &mut file.order[0..m],
+        &mut file.cap[0..m],
+        &mut file.mw[0..g],
+        &mut file.angle[0..n],
+        &mut file.tier[0..n],
+        &mut file.ground[0..n],
+        &mut file.added[0..above],
         &mut figures[0..work],
         &mut counts[0..work],
     );
-    PlannedFile {
-        header: h,
-        planned,
-        circuits,
-        flow,
-        rate,
-        before,
-        order,
-        cap: kept_cap,
-        mw,
-        angle,
-        tier: tiers,
-        ground,
-        added,
-    }
+    file
 }
 
 // Reads a case file and plans its case.
@@ -211,9 +198,8 @@ pub fn plan_file(file: &[u8]) -> PlannedFile
         &mut cap,
         &mut sheet,
     );
-    let said = read.reading;
-    match said {
-        Err(f) => unread(f),
+    match read.reading {
+        Err(f) => PlannedFile::unread(f),
         Ok(h) => {
             let n = h.buses;
             let m = h.corridors;

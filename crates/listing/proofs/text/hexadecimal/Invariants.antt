@@ -1,12 +1,9 @@
-use Prim.Native.Nat.{◌≤◌}
-use mathlib.Core.List.{◌++◌}
-use mathlib.Core.Path.{◌≡◌}
-use lib.ListN.{drop, length}
+use Rattle.std.proofs.Common.{◌≡◌, ◌-◌, ◌++◌, length, drop}
 use Rattle.listing.specs.Text.{hexadecimal}
 use Rattle.listing.proofs.text.hexadecimal.Given as goal
 
 abbrev pub invariant-loop-i : goal.invariant-loop-i
-invariant-loop-i l = (length l.digits ≡ 16) × (l.i ≤ 16) × (hexadecimal l.i l.rest ++ drop l.i l.digits ≡ hexadecimal 16 l.n)
-
-abbrev pub decreases-loop-i : goal.decreases-loop-i
-decreases-loop-i l = l.i
+invariant-loop-i l = record {
+  long : length l.digits ≡ 16;
+  text : hexadecimal (16 - l.i) l.rest ++ drop (16 - l.i) l.digits ≡ hexadecimal 16 l.n;
+}

@@ -3,12 +3,6 @@ ghost use Rattle.std.specs.Prelude.{◌≡◌, length, replicate, if◌then◌el
 ghost use Rattle.loops.specs.Figures.{nought, lesser, greater, magnitude};
 
 // ---- choices
-pub fn pick(first: bool, x: f64, y: f64) -> f64
-    ensures { result ≡ (if first then x else y) }
-{
-    if first { x } else { y }
-}
-
 pub fn choose(first: bool, i: usize, j: usize) -> usize
     ensures { result ≡ (if first then i else j) }
 {

@@ -12,7 +12,7 @@ ghost use Rattle.planning.specs.Fill.{designs_for, Drawable, Loaded};
 ghost use Rattle.planning.specs.Close.{corridors_of, levels_for, wider_by, loadings_by, Rated, cap_full, added_at, Closable, closing_of, figures_if, counts_if, is_refused, lent_to, finished};
 
 use crate::design::circuit;
-use crate::figures::{clear_counts, clear_figures, greater, lesser, magnitude, pick};
+use crate::figures::{clear_counts, clear_figures, greater, lesser, magnitude};
 use crate::fill::loading;
 use crate::policy::{cap_at, expands};
 use crate::size::PLANNING_UTILISATION;
@@ -41,7 +41,9 @@ fn highest(leader: &[u32], angle: &[f64], root: usize) -> f64
 {
     let mut most = -loops::infinity();
     for i in 0..leader.len() {
-        most = pick(leader[i] as usize == root, greater(most, angle[i]), most);
+        if leader[i] as usize == root {
+            most = greater(most, angle[i]);
+        }
     }
     most
 }
@@ -52,7 +54,9 @@ fn lowest(leader: &[u32], angle: &[f64], root: usize) -> f64
 {
     let mut least = loops::infinity();
     for i in 0..leader.len() {
-        least = pick(leader[i] as usize == root, lesser(least, angle[i]), least);
+        if leader[i] as usize == root {
+            least = lesser(least, angle[i]);
+        }
     }
     least
 }

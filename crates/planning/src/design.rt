@@ -8,7 +8,7 @@ ghost use Rattle.plan_defs.specs.Case.{row_of, row_from};
 ghost use Rattle.plan_defs.specs.Design.{basis_of, line_of, bank_basis, with_bank, set_transformer_mva, banked_by, differ, drawn};
 ghost use Rattle.planning.specs.Design.{lines_for, ends_for, Lines, EndsFit, LineFits, ends_of, line_between};
 
-use crate::figures::{choose, magnitude, pick};
+use crate::figures::{choose, lesser, magnitude};
 use impedance::SeriesImpedance;
 use plan_defs::{CircuitDesign, RatingBasis};
 use sheets::row_place;
@@ -79,7 +79,7 @@ fn with_bank(d: CircuitDesign, mva: f64, z: SeriesImpedance) -> CircuitDesign
 {
     let line_rate = d.line_rate;
     let line_basis = d.line_basis;
-    let rate = pick(mva < line_rate, mva, line_rate);
+    let rate = lesser(line_rate, mva);
     let basis = bank_basis(mva, line_rate, line_basis);
     CircuitDesign {
         from: d.from,

@@ -3,12 +3,6 @@ ghost use Rattle.std.specs.Prelude.{◌≡◌, length, replicate, if◌then◌el
 ghost use Rattle.loops.specs.Figures.{nought, lesser, greater, magnitude};
 
 // ---- choices
-pub fn pick(first: bool, x: f64, y: f64) -> f64
-    ensures { result ≡ (if first then x else y) }
-{
-    if first { x } else { y }
-}
-
 pub fn choose(first: bool, i: usize, j: usize) -> usize
     ensures { result ≡ (if first then i else j) }
 {
@@ -21,19 +15,19 @@ pub fn choose(first: bool, i: usize, j: usize) -> usize
 pub fn lesser(x: f64, y: f64) -> f64
     ensures { result ≡ lesser x y }
 {
-    pick(y < x, y, x)
+    if y < x { y } else { x }
 }
 
 pub fn greater(x: f64, y: f64) -> f64
     ensures { result ≡ greater x y }
 {
-    pick(x < y, y, x)
+    if x < y { y } else { x }
 }
 
 pub fn magnitude(x: f64) -> f64
     ensures { result ≡ magnitude x }
 {
-    pick(x < 0.0, -x, x)
+    if x < 0.0 { -x } else { x }
 }
 
 // ---- slices

@@ -9,7 +9,7 @@ ghost use Rattle.planning.specs.Design.{lines_for, ends_for, Banks, Rated};
 ghost use Rattle.planning.specs.Redesign.{units_for, redesign_for, Units, Corridors, AnewFits, RedesignFits, anew_from, bank_of, fresh_at, banks_anew};
 
 use crate::design::{banked_if, circuit, ends_of};
-use crate::figures::{greater, lesser, pick};
+use crate::figures::{greater, lesser};
 use plan_defs::CircuitDesign;
 
 const MOST_BUSES: usize = 256;
@@ -98,7 +98,11 @@ fn circuit_anew(
 fn bank_of(d: CircuitDesign) -> f64
     ensures { result ≡ bank_of d }
 {
-    pick(d.is_transformer, d.transformer_mva, d.line_rate)
+    if d.is_transformer {
+        d.transformer_mva
+    } else {
+        d.line_rate
+    }
 }
 
 pub fn redesign(

@@ -1,9 +1,11 @@
-use Rattle.std.proofs.Common.{length, sym, ap, ◌∙◌, arith}
+use Rattle.std.proofs.Common.{◌≡◌, Bool, cond, eqb, get_or, eq-eqb, ne_eqb, length, sym, ap, ◌∙◌, arith}
 use Rattle.loops.specs.Loops.{iter}
 use Rattle.loops.proofs.Loops.{iter_all, iter_more, iter_end}
 use Rattle.planning.proofs.Closings.{lower, lowest_is}
 use lib.Ieee.{Float}
+use Rattle.loops.specs.Figures.{at, lesser}
 use Rattle.planning.proofs.close.lowest.Goals as goal
+use Rattle.planning.proofs.close.lowest.Goals.{then-leader-i, else-leader-i}
 
 pub loop-i-init : goal.loop-i-init
 loop-i-init c =
@@ -13,7 +15,13 @@ loop-i-init c =
 pub loop-i-preserved : goal.loop-i-preserved
 loop-i-preserved c =
     let l = c.loop-i in
-    (omega arith, sym (iter_more _ c.loop-i-test.true (rw c.lesser.ensures at c.pick-least.ensures)) ∙ l.invariant.1)
+    let z = c.args in
+    let step : c.if-leader-i.least ≡ cond (eqb (get_or z.leader.now l.i 0) z.root) (lesser l.least (at z.angle.now l.i)) l.least =
+    elim c.if-leader-i.branch [
+      | then-leader-i w ↦ w.least-is ∙ w.lesser-least.ensures ∙ ap (λ (b : Bool). cond b (lesser l.least (at z.angle.now l.i)) l.least) (sym (eq-eqb _ _ w.if-leader-i.true))
+      | else-leader-i w ↦ w.least-is ∙ ap (λ (b : Bool). cond b (lesser l.least (at z.angle.now l.i)) l.least) (sym (ne_eqb _ _ w.if-leader-i.false))
+    ] in
+    (omega arith, sym (iter_more _ c.loop-i-test.true step) ∙ l.invariant.1)
 
 pub returns : goal.returns
 returns c = sym (iter_end _ (omega arith)) ∙ c.loop-i.invariant.1

@@ -4,4 +4,4 @@ use Rattle.planning.proofs.design.with_bank.Goals as goal
 
 pub returns : goal.returns
 unfolding with_bank
-returns c = simp (c.pick-rate.ensures, c.bank_basis-basis.ensures)
+returns c = simp (c.lesser-rate.ensures, c.bank_basis-basis.ensures)

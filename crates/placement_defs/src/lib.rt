@@ -2,4 +2,3 @@
 #![tactic(auto)]
 
 use refusal::Refusal;
-

@@ -2,7 +2,7 @@
 use Rattle.std.specs.Prelude.{ℕ, ◌*◌, Bool, true, false, cond, ◌&&◌, List, eqb, leb, ltb, length, get_or, Float, Err, Ok, Result}
 use Rattle.loops.specs.Figures.{at, finite}
 use Rattle.loops.specs.Loops.{first}
-use Rattle.refusal.specs.Reply.{Reply, answered, no_refusal, refused_by}
+use Rattle.refusal.specs.Reply.{Reply, reply_of, no_refusal}
 use Rattle.refusal.specs.declared.Refusal.{Refusal}
 use Rattle.refusal.specs.declared.Refusal.TheVariants.{Length, Count, Edge, Ground, NotFinite}
 use Rattle.angles_defs.specs.Network.{Edges, edges_of, zeros}
@@ -69,10 +69,6 @@ pub record Outcome : Type 0 where
   pub reply : Reply Solution
   pub result : List Float
   pub work : List Float
-
-abbrev pub reply_of : Result Solution Refusal → Reply Solution
-reply_of (Ok s) = answered s
-reply_of (Err f) = refused_by f
 
 abbrev pub outcome : Result Solution Refusal → List Float → List Float → Outcome
 outcome a result work = record { reply = reply_of a; result = result; work = work }

@@ -21,7 +21,7 @@ use Rattle.std.specs.Prelude.{Result}
 use Rattle.angles_defs.specs.declared.Solution.{Solution}
 use Rattle.refusal.specs.declared.Refusal.{Refusal}
 
-pub angles_told : (a : Result Solution Refusal) (s : AnglesSaid) (x w : List Float) (o : angles.Outcome) → angles.outcome a x w ≡ o → s ≡ angles_said (angles.reply_of a)
+pub angles_told : (a : Result Solution Refusal) (s : AnglesSaid) (x w : List Float) (o : angles.Outcome) → angles.outcome a x w ≡ o → s ≡ angles_said (reply_of a)
     → (s ≡ angles_said o.reply) × ((x ≡ o.result) × (w ≡ o.work))
 angles_told a s x w o e q = (q ∙ ap (λ (p : angles.Outcome). angles_said p.reply) e, (ap (λ (p : angles.Outcome). p.result) e, ap (λ (p : angles.Outcome). p.work) e))
 
@@ -41,6 +41,6 @@ pub leaders_told : (a : Result (Unit {0}) Refusal) (s : AnswerSaid) (x : List �
     → (s ≡ answer_said o.reply) × (x ≡ o.leader)
 leaders_told a s x o e q = (q ∙ ap (λ (p : leaders.Outcome). answer_said p.reply) e, ap (λ (p : leaders.Outcome). p.leader) e)
 
-pub placement_told : (a : Result ℕ Refusal) (s : PlacementSaid) (x : List ℕ) (y : List Float) (o : support.Outcome) → support.outcome a x y ≡ o → s ≡ placement_said (support.reply_of a)
+pub placement_told : (a : Result ℕ Refusal) (s : PlacementSaid) (x : List ℕ) (y : List Float) (o : support.Outcome) → support.outcome a x y ≡ o → s ≡ placement_said (reply_of a)
     → (s ≡ placement_said o.reply) × ((x ≡ o.buses) × (y ≡ o.mvars))
 placement_told a s x y o e q = (q ∙ ap (λ (p : support.Outcome). placement_said p.reply) e, (ap (λ (p : support.Outcome). p.buses) e, ap (λ (p : support.Outcome). p.mvars) e))

@@ -1,8 +1,6 @@
 // Answers as the fields of a struct.
 ghost use Rattle.std.specs.Prelude.{◌≡◌};
-ghost use Rattle.angles_defs.specs.Operation as defined;
 ghost use Rattle.casefile_defs.specs.Tables as tables;
-ghost use Rattle.placement_defs.specs.Support as support;
 ghost use Rattle.refusal.specs.Reply as replies;
 ghost use Rattle.exports.specs.Said.{angles_said, ended_figure, ended_number, reading_said, answer_said, placement_said};
 
@@ -32,7 +30,7 @@ fn ended_figure(ended: Ended) -> f64
 }
 
 impl From<Result<Solution, Refusal>> for AnglesSaid {
-    ghost from_gives = { λ a said. said ≡ angles_said (defined.reply_of a) };
+    ghost from_gives = { λ a said. said ≡ angles_said (replies.reply_of a) };
 
     fn from(answer: Result<Solution, Refusal>) -> AnglesSaid {
         match answer {
@@ -105,7 +103,7 @@ impl From<Result<(), Refusal>> for AnswerSaid {
 }
 
 impl From<Result<usize, Refusal>> for PlacementSaid {
-    ghost from_gives = { λ a said. said ≡ placement_said (support.reply_of a) };
+    ghost from_gives = { λ a said. said ≡ placement_said (replies.reply_of a) };
 
     fn from(answer: Result<usize, Refusal>) -> PlacementSaid {
         match answer {

@@ -2,7 +2,8 @@
 use mathlib.Core.Bool.{true}
 use mathlib.Core.Path.{◌≡◌, ◌∙◌}
 use lib.Ieee.{Float}
-use Rattle.impedance.specs.Impedance.{impedance_of, rating_ok, reply_of, defined}
+use Rattle.refusal.specs.Reply.{reply_of}
+use Rattle.impedance.specs.Impedance.{impedance_of, rating_ok, defined}
 use Rattle.impedance.specs.declared.SeriesImpedance.{SeriesImpedance}
 use Rattle.std.specs.Prelude.{Ok, Result}
 use Rattle.refusal.specs.declared.Refusal.{Refusal}

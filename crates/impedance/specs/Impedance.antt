@@ -1,6 +1,6 @@
 -- Document 01, module 3: "Class: first with rating ≤ 100, ≤ 400, any; z 0.12, 0.125, 0.13; X/R 25, 35, 45."
 -- After `transformer_impedance` of branches.rs, operation by operation. Refusal 12: rating not finite or not above 0.
-use Rattle.std.specs.Prelude.{Bool, cond, ◌&&◌, [], ◌∷◌, ◌≡◌, refl, Float, Err, Ok, Result}
+use Rattle.std.specs.Prelude.{Bool, cond, ◌&&◌, [], ◌∷◌, ◌≡◌, refl, Float}
 use Rattle.std.specs.Float.{binary64}
 use Rattle.std.specs.Float.Ieee.{of_bits, round, lt, le}
 use Rattle.loops.specs.Figures.{plus, times, over, nought, one, hundred, four_hundred, infinity, decimal}
@@ -8,7 +8,6 @@ use Rattle.root.specs.Root.{root}
 use Rattle.refusal.specs.Reply.{Reply, answered, refused_by}
 use Rattle.refusal.specs.declared.Refusal.TheVariants.{Rating}
 use Rattle.impedance.specs.declared.SeriesImpedance.{SeriesImpedance}
-use Rattle.refusal.specs.declared.Refusal.{Refusal}
 
 -- ---- constants by their bits, and their decimals
 abbrev pub z1 : Float
@@ -58,10 +57,6 @@ impedance_of mva = let x = reactance (z_of mva) (x_over_r mva) mva in series (ov
 -- ---- the operation
 abbrev pub rating_ok : Float → Bool
 rating_ok mva = lt nought mva && lt mva infinity
-
-abbrev pub reply_of : Result SeriesImpedance Refusal → Reply SeriesImpedance
-reply_of (Ok z) = answered z
-reply_of (Err f) = refused_by f
 
 unfoldable pub defined : Float → Reply SeriesImpedance
 defined mva = cond (rating_ok mva) (answered (impedance_of mva)) (refused_by Rating)

@@ -3,7 +3,8 @@
 
 ghost use Rattle.std.specs.Prelude.{◌≡◌};
 ghost use Rattle.root.specs.Root.{root};
-ghost use Rattle.impedance.specs.Impedance.{by_class, reactance, impedance_of, rating_ok, reply_of, defined};
+ghost use Rattle.refusal.specs.Reply.{reply_of};
+ghost use Rattle.impedance.specs.Impedance.{by_class, reactance, impedance_of, rating_ok, defined};
 
 use refusal::Refusal;
 

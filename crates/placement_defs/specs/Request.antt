@@ -1,5 +1,5 @@
 -- What placement is asked, and its refusals 1, 2, 4, 5 and 6 in their order (document 01, "Placement").
-use Rattle.std.specs.Prelude.{◌≡◌, List, Bool, true, not, cond, ◌&&◌, ℕ, ◌≤◌, ◌<◌, eqb, leb, ltb, length, get_or, Float, Err, Ok, Result}
+use Rattle.std.specs.Prelude.{◌≡◌, List, Bool, true, not, cond, ◌&&◌, ℕ, ◌≤◌, ◌<◌, eqb, leb, ltb, length, get_or, Float, Err, Result}
 use Rattle.loops.specs.Figures.{at, inside, nought, ten_thousand}
 use Rattle.loops.specs.Loops.{first}
 use Rattle.loads.specs.Load.{weighed, loads_of, load_ok}

@@ -4,7 +4,7 @@ use Rattle.std.specs.Prelude.{List, cond, ◌&&◌, ◌||◌, ℕ, zero, suc, �
 use Rattle.std.specs.Float.Ieee.{lt}
 use Rattle.loops.specs.Figures.{at, plus, times, greater, nought, half, five, hundred, infinity}
 use Rattle.loops.specs.Loops.{iter}
-use Rattle.refusal.specs.Reply.{Reply, answered, refused_by}
+use Rattle.refusal.specs.Reply.{Reply, reply_of}
 use Rattle.placement_defs.specs.Request.{most_buses, Request, check_of}
 use Rattle.placement_defs.specs.Distance.{Network, network, distances}
 use Rattle.refusal.specs.declared.Refusal.{Refusal}
@@ -84,12 +84,7 @@ flag generators k l = set l (get_or generators k 0) 1
 unfoldable pub flagged : List ℕ → List ℕ → List ℕ
 flagged generators l = iter (flag generators) (length generators) 0 l
 
--- how many condensers, or document 01's number and index of a refusal
-abbrev pub reply_of : Result ℕ Refusal → Reply ℕ
-reply_of (Ok count) = answered count
-reply_of (Err f) = refused_by f
-
--- the reply, and what the result slices hold then
+-- the reply, which says how many condensers, and what the result slices hold then
 pub record Outcome : Type 0 where
   pub reply : Reply ℕ
   pub buses : List ℕ

@@ -5,7 +5,8 @@ use lib.Ieee.{Float, le}
 use Rattle.loops.specs.Figures.{at}
 use Rattle.loops.proofs.Rows.{row_fits}
 use Rattle.refusal.specs.declared.Refusal.{Refusal}
-use Rattle.impedance.specs.Impedance.{impedance_of, rating_ok, reply_of, defined}
+use Rattle.refusal.specs.Reply.{reply_of}
+use Rattle.impedance.specs.Impedance.{impedance_of, rating_ok, defined}
 use Rattle.impedance.specs.declared.SeriesImpedance.{SeriesImpedance}
 use Rattle.impedance.proofs.Operation.{answers}
 use Rattle.sheets.specs.Sheet.{row_figures, row_place}

@@ -9,7 +9,6 @@ pub mod Middle
 pub mod Correct
 pub mod Monotone
 pub mod Ceiling
-pub mod CeilingCases
 pub mod Squares
 pub mod Halving
 mod Digits

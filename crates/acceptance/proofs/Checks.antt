@@ -1,7 +1,7 @@
 -- Two tests of equality agree where each equation follows from the other; what the rows of the tables have; and the lengths, tested table by table.
 use Prim.Native.Nat.{ℕ, ◌+◌, ◌*◌, ◌/◌, ◌%◌, ◌≤◌, ◌<◌}
-use mathlib.Core.Bool.{Bool, true, false, cond, ◌&&◌, and_assoc}
-use mathlib.Core.List.{List}
+use mathlib.Core.Bool.{Bool, true, false, cond, ◌&&◌, and_assoc, and-true}
+use mathlib.Core.List.{List, [], ◌∷◌}
 use mathlib.Core.Option.{some}
 use mathlib.Core.Path.{◌≡◌, refl, sym, ap, ◌∙◌}
 use native.Mathlib.Nat.{mul_comm, mod-lt, div-lt_iff_lt-mul}
@@ -23,7 +23,7 @@ use Rattle.plan_defs.specs.Case.{Case, row_from, rows_of}
 use Rattle.plan_defs.specs.Accept.{lengths_ok, counts_ok, tables_fault, case_fault}
 use Rattle.plan_defs.proofs.Rows.{row_from_lem}
 use Rattle.plan_defs.proofs.Accepted.{columns_of_lem}
-use Rattle.acceptance.specs.Check.{Tables, tabled, Columns, generator_sizes, corridor_sizes, answer_of, check_of}
+use Rattle.acceptance.specs.Check.{Tables, tabled, Columns, sized, answer_of, check_of}
 use Rattle.std.specs.Prelude.{Err, Result}
 
 -- ---- tests that agree
@@ -58,20 +58,18 @@ module _ (t : Tables) where
   abbrev given : Case
   given = tabled t
 
-  abbrev bus_sizes : Bool
-  bus_sizes = eqb (length t.tier) t.buses && eqb (length t.reading) t.buses && eqb (length t.weight) t.buses
-
   loads_sized : eqb (length (loads_of t.buses t.reading t.weight)) t.buses ≡ true
   loads_sized = eq-eqb _ _ (length_tab t.buses (weighed t.reading t.weight))
 
-  pub lengths_are : (l u k s : Bool) → l ≡ eqb (length t.ladder) (t.above + t.requested) → u ≡ generator_sizes t.generators t.bus t.slack t.pmin t.pmax t.c1 t.c2
-      → k ≡ corridor_sizes t.corridors t.a t.b t.initial t.km t.share t.cap → s ≡ eqb (length t.sheet) (row_figures * (t.corridors * length t.ladder))
-      → (l && bus_sizes && u && k && s) ≡ lengths_ok given
+  pub lengths_are : (l b u k s : Bool) → l ≡ eqb (length t.ladder) (t.above + t.requested) → b ≡ sized t.buses (length t.tier ∷ length t.reading ∷ length t.weight ∷ [])
+      → u ≡ sized t.generators (length t.bus ∷ length t.slack ∷ length t.pmin ∷ length t.pmax ∷ length t.c1 ∷ length t.c2 ∷ [])
+      → k ≡ sized t.corridors (length t.a ∷ length t.b ∷ length t.initial ∷ length t.km ∷ length t.share ∷ length t.cap ∷ [])
+      → s ≡ eqb (length t.sheet) (row_figures * (t.corridors * length t.ladder)) → (l && b && u && k && s) ≡ lengths_ok given
   unfolding lengths_ok
-  lengths_are false u k s el eu ek es = rw (← el)
-  lengths_are true u k s el eu ek es =
+  lengths_are false b u k s el eb eu ek es = rw (← el)
+  lengths_are true b u k s el eb eu ek es =
       let e : length t.ladder ≡ t.above + t.requested = eqb-true _ _ (sym el) in
-      rw (eu, ek, es, loads_sized, ← el, ← e) (simp and_assoc)
+      rw (eb, eu, ek, es, loads_sized, ← el, ← e) (simp (and_assoc, and-true))
 
   -- ---- the whole check
   module _ (target : ℕ) (x fits : Bool) (ex : x ≡ lengths_ok given) where

@@ -1,5 +1,6 @@
 -- What the contracts cite: document 01's refusals 1 to 7 by the columns that each test reads, and all of them in order.
-use Rattle.std.specs.Prelude.{ℕ, Bool, cond, ◌&&◌, List, eqb, length, Float, Err, Result, ◌+◌, ◌*◌, ◌≡◌}
+use Rattle.std.specs.Prelude.{ℕ, Bool, cond, List, eqb, length, Float, Err, Result, ◌+◌, ◌*◌, ◌≡◌}
+use Rattle.std.specs.List.{list_all}
 use Rattle.std.proofs.Math.Option.{Option, none, some}
 use Rattle.refusal.specs.declared.Refusal.{Refusal}
 use Rattle.refusal.specs.declared.Refusal.TheVariants.{Length}
@@ -68,14 +69,9 @@ pub record Columns (t : Tables) : Type 0 where
   pub cap : length t.cap ≡ t.corridors
   pub sheet : length t.sheet ≡ row_figures * (t.corridors * (t.above + t.requested))
 
--- ---- 1, of the columns of generators and of corridors
-abbrev pub generator_sizes : ℕ → List ℕ → List ℕ → List Float → List Float → List Float → List Float → Bool
-generator_sizes g bus slack pmin pmax c1 c2 =
-    eqb (length bus) g && eqb (length slack) g && eqb (length pmin) g && eqb (length pmax) g && eqb (length c1) g && eqb (length c2) g
-
-abbrev pub corridor_sizes : ℕ → List ℕ → List ℕ → List ℕ → List Float → List Float → List ℕ → Bool
-corridor_sizes m a b initial km share cap =
-    eqb (length a) m && eqb (length b) m && eqb (length initial) m && eqb (length km) m && eqb (length share) m && eqb (length cap) m
+-- ---- 1, of the columns of one table, by their lengths
+abbrev pub sized : ℕ → List ℕ → Bool
+sized rows = list_all (λ column. eqb column rows)
 
 -- ---- all, in order
 abbrev pub answer_of : Option Refusal → Result (Unit {0}) Refusal

@@ -4,7 +4,7 @@
 ghost use Rattle.std.specs.Prelude.{◌≡◌};
 ghost use Rattle.acceptance.specs.Check.{tables_for, check_of};
 
-use lengths::{corridor_lengths_ok, generator_lengths_ok, levels_ok};
+use lengths::{levels_ok, sized};
 use refusal::Refusal;
 use sheets::sheet_ok;
 use tables::CaseTables;
@@ -43,9 +43,15 @@ pub fn check_case(
     ensures { result ≡ check_of fits (tables_for n m g above requested ladder.now tier.now reading.now weight.now bus.now slack.now pmin.now pmax.now c1.now c2.now a.now b.now initial.now km.now share.now cap.now sheet.now) target }
 {
     let levels = levels_ok(ladder.len(), above, requested);
-    let buses = (tier.len() == n) & (reading.len() == n) & (weight.len() == n);
-    let generators = generator_lengths_ok(g, bus, slack, pmin, pmax, c1, c2);
-    let corridors = corridor_lengths_ok(m, a, b, initial, km, share, cap);
+    let buses = sized(&[tier.len(), reading.len(), weight.len()], n);
+    let generators = sized(
+        &[bus.len(), slack.len(), pmin.len(), pmax.len(), c1.len(), c2.len()],
+        g,
+    );
+    let corridors = sized(
+        &[a.len(), b.len(), initial.len(), km.len(), share.len(), cap.len()],
+        m,
+    );
     let rows = sheet_ok(sheet.len(), m, ladder.len());
     let lengths = levels & buses & generators & corridors & rows;
     if !(lengths & fits) {

@@ -2,7 +2,7 @@
 -- 1 to 7 touch nothing; after 8 or 9 all result and work places are zero; after an answer, work is zero.
 use Rattle.std.specs.Prelude.{ℕ, ◌+◌, ◌-◌, ◌*◌, Bool, true, false, ◌&&◌, List, map, ◌++◌, eqb, length, replicate, Float, Err, Ok, Result}
 use Rattle.loops.specs.Figures.{nought}
-use Rattle.refusal.specs.Reply.{Reply, answered, refused_by}
+use Rattle.refusal.specs.Reply.{Reply, reply_of}
 use Rattle.refusal.specs.declared.Refusal.TheVariants.{Length}
 use Rattle.plan_defs.specs.Constants.{work_rows}
 use Rattle.plan_defs.specs.Case.{Case, promote}
@@ -116,10 +116,6 @@ summary p =
 pub record Outcome : Type 0 where
   pub reply : Reply CorridorPlan
   pub lent : Slices
-
-abbrev pub reply_of : Result CorridorPlan Refusal → Reply CorridorPlan
-reply_of (Ok s) = answered s
-reply_of (Err f) = refused_by f
 
 abbrev pub outcome : Result CorridorPlan Refusal → Slices → Outcome
 outcome r s = record { reply = reply_of r; lent = s }

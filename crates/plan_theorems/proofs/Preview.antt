@@ -33,7 +33,6 @@ use Rattle.plan_theorems.proofs.Ranking.{order_once, order_past}
 use Rattle.plan_theorems.proofs.Cursor.{full_few, order_length}
 use Rattle.plan_theorems.proofs.Naming.{Apart, Below, once_below, once_apart, names_each}
 use Rattle.plan_theorems.proofs.Larger.{Origin, answer_of_lem, origin, refill}
-use Rattle.std.specs.Prelude.{Ok}
 use Rattle.refusal.specs.Reply.{no_refusal}
 
 -- ---- a preview that is not refused

@@ -7,7 +7,7 @@ use Rattle.plan_defs.specs.Stage.{Stage, stopped, going}
 use Rattle.plan_defs.specs.Constants.{most_buses, most_corridors}
 use Rattle.plan_defs.specs.Case.{Case, Row, rows_of, case_with, promote, levels}
 use Rattle.plan_defs.specs.Plan.{Plan, ending_on, ending_by, ending_of, plan_for}
-use Rattle.plan_defs.specs.Outcome.{Slices, slices_ok, cleared, kept_if, kept_of, held, summary, Outcome, reply_of, outcome, outcome_by, outcome_if, plan_corridors}
+use Rattle.plan_defs.specs.Outcome.{Slices, slices_ok, cleared, kept_if, kept_of, held, summary, Outcome, outcome, outcome_by, outcome_if, plan_corridors}
 use Rattle.plan_defs.specs.Demand.{AnswerTo}
 use Rattle.plan_defs.specs.declared.CorridorPlan.{CorridorPlan}
 use Rattle.acceptance.specs.Check.{check_of}
@@ -22,7 +22,7 @@ use Rattle.planning.proofs.Draws.{Laid}
 use Rattle.planning.proofs.Liftings.{finished_refused, finished_answered}
 use Rattle.planning.proofs.Sounds.{sound, lengths_of, kept_lengths, refused_outcome}
 use Rattle.std.specs.Prelude.{Err, Ok, Result}
-use Rattle.refusal.specs.Reply.{no_refusal}
+use Rattle.refusal.specs.Reply.{reply_of, no_refusal}
 
 module _ (c : Case) (target : ℕ) (s : Slices) where
   -- ---- what is promised: the defined outcome, and of an answer demand 3

@@ -45,11 +45,25 @@ pub fn check_case(
     let levels = levels_ok(ladder.len(), above, requested);
     let buses = sized(&[tier.len(), reading.len(), weight.len()], n);
     let generators = sized(
-        &[bus.len(), slack.len(), pmin.len(), pmax.len(), c1.len(), c2.len()],
+        &[
+            bus.len(),
+            slack.len(),
+            pmin.len(),
+            pmax.len(),
+            c1.len(),
+            c2.len(),
+        ],
         g,
     );
     let corridors = sized(
-        &[a.len(), b.len(), initial.len(), km.len(), share.len(), cap.len()],
+        &[
+            a.len(),
+            b.len(),
+            initial.len(),
+            km.len(),
+            share.len(),
+            cap.len(),
+        ],
         m,
     );
     let rows = sheet_ok(sheet.len(), m, ladder.len());

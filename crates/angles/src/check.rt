@@ -1,9 +1,11 @@
-// The refusals 1, 2 and 10, in their order.
+// What a solve is asked, and the refusals 1, 2 and 10, in their order.
 ghost use Rattle.std.specs.Prelude.{◌≡◌, length};
 ghost use Rattle.loops.specs.Loops.{fault};
+ghost use Rattle.angles_defs.specs.Operation as asked;
 ghost use Rattle.angles_defs.specs.Operation.{request_of, lengths_ok, counts_ok, edge_ok, ground_ok, check_of};
 
 use refusal::Refusal;
+use std::marker::Model;
 
 // Buses, edges and grounds at most.
 const MOST: usize = 256;
@@ -11,87 +13,89 @@ const MOST: usize = 256;
 // The places of the work slice for each bus.
 const ROWS: usize = 8;
 
-fn lengths_ok(
-    n: usize,
-    m: usize,
-    k: usize,
-    from: &[u32],
-    to: &[u32],
-    weight: &[f64],
-    injection: &[f64],
-    grounds: &[u32],
-    guess: &[f64],
-    res: usize,
-    work: usize,
-) -> bool
-    ensures { result ≡ lengths_ok (request_of n m k from.now to.now weight.now injection.now grounds.now guess.now) res work }
-{
-    // Of a slice's length the product below fits.
-    if injection.len() != n {
-        return false;
-    }
-    (from.len() == m)
-        & (to.len() == m)
-        & (weight.len() == m)
-        & (grounds.len() == k)
-        & (guess.len() == n)
-        & (res == n)
-        & (work == ROWS * n)
+// n buses, m edges and k grounds, and a column for each field; a clause sees the definition's request.
+#[derive(Drop)]
+pub struct Request<'a> {
+    pub n: usize,
+    pub m: usize,
+    pub k: usize,
+    pub from: &'a [u32],
+    pub to: &'a [u32],
+    pub weight: &'a [f64],
+    pub injection: &'a [f64],
+    pub grounds: &'a [u32],
+    pub guess: &'a [f64],
 }
 
-fn counts_ok(n: usize, m: usize, k: usize) -> bool
-    ensures { result ≡ counts_ok n m k }
-{
-    (n <= MOST) & (m <= MOST) & (k <= MOST)
+impl<'a> Model for Request<'a> {
+    ghost Value = { asked.Request };
+
+    ghost view = { λ q. request_of q.n q.m q.k q.from.now q.to.now q.weight.now q.injection.now q.grounds.now q.guess.now };
 }
 
-// The first edge with an end that is no bus.
-fn faulty_edge(n: usize, m: usize, from: &[u32], to: &[u32]) -> Option<usize>
-    requires { (length from.now ≡ m) × (length to.now ≡ m) }
-    ensures { result ≡ fault (edge_ok n from.now to.now) m }
-{
-    loops::first_fault(m, |e| ((from[e] as usize) < n) & ((to[e] as usize) < n))
-}
+impl<'a> Request<'a> {
+    // With a result and a work slice of these lengths.
+    fn lengths_ok(&self, res: usize, work: usize) -> bool
+        ensures { result ≡ lengths_ok self.now res work }
+    {
+        // Of a slice's length the product below fits.
+        if self.injection.len() != self.n {
+            return false;
+        }
+        (self.from.len() == self.m)
+            & (self.to.len() == self.m)
+            & (self.weight.len() == self.m)
+            & (self.grounds.len() == self.k)
+            & (self.guess.len() == self.n)
+            & (res == self.n)
+            & (work == ROWS * self.n)
+    }
 
-// The first ground that is no bus.
-fn faulty_ground(n: usize, k: usize, grounds: &[u32]) -> Option<usize>
-    requires { length grounds.now ≡ k }
-    ensures { result ≡ fault (ground_ok n grounds.now) k }
-{
-    loops::first_fault(k, |g| (grounds[g] as usize) < n)
-}
+    fn counts_ok(&self) -> bool
+        ensures { result ≡ counts_ok self.now.n self.now.m self.now.k }
+    {
+        (self.n <= MOST) & (self.m <= MOST) & (self.k <= MOST)
+    }
 
-// The first refusal in order.
-#[tactic(auto, using(angles_defs::proofs::Answers::lengths_of))]
-pub fn check(
-    n: usize,
-    m: usize,
-    k: usize,
-    from: &[u32],
-    to: &[u32],
-    weight: &[f64],
-    injection: &[f64],
-    grounds: &[u32],
-    guess: &[f64],
-    res: usize,
-    work: usize,
-) -> Result<(), Refusal>
-    ensures { result
-        ≡ check_of (request_of n m k from.now to.now weight.now injection.now grounds.now guess.now) res work }
-{
-    if !lengths_ok(
-        n, m, k, from, to, weight, injection, grounds, guess, res, work,
-    ) {
-        return Err(Refusal::Length);
+    // The first edge with an end that is no bus.
+    fn faulty_edge(&self) -> Option<usize>
+        requires { (length self.now.edges.from ≡ self.now.m) × (length self.now.edges.to ≡ self.now.m) }
+        ensures { result ≡ fault (edge_ok self.now.n self.now.edges.from self.now.edges.to) self.now.m }
+    {
+        let from = self.from;
+        let to = self.to;
+        loops::first_fault(
+            self.m,
+            |e| ((from[e] as usize) < self.n) & ((to[e] as usize) < self.n),
+        )
     }
-    if !counts_ok(n, m, k) {
-        return Err(Refusal::Count);
+
+    // The first ground that is no bus.
+    fn faulty_ground(&self) -> Option<usize>
+        requires { length self.now.grounds ≡ self.now.k }
+        ensures { result ≡ fault (ground_ok self.now.n self.now.grounds) self.now.k }
+    {
+        let grounds = self.grounds;
+        loops::first_fault(self.k, |g| (grounds[g] as usize) < self.n)
     }
-    if let Some(e) = faulty_edge(n, m, from, to) {
-        return Err(Refusal::Edge(e));
+
+    // The first refusal in order.
+    #[tactic(auto, using(loops::proofs::Scan::fault_some, loops::proofs::Scan::fault_passed, angles_defs::proofs::Answers::lengths_of), unfolding(angles_defs::specs::Operation::check_of))]
+    pub fn check(&self, res: usize, work: usize) -> Result<(), Refusal>
+        ensures { result ≡ check_of self.now res work }
+    {
+        if !self.lengths_ok(res, work) {
+            return Err(Refusal::Length);
+        }
+        if !self.counts_ok() {
+            return Err(Refusal::Count);
+        }
+        if let Some(e) = self.faulty_edge() {
+            return Err(Refusal::Edge(e));
+        }
+        if let Some(g) = self.faulty_ground() {
+            return Err(Refusal::Ground(g));
+        }
+        Ok(())
     }
-    if let Some(g) = faulty_ground(n, k, grounds) {
-        return Err(Refusal::Ground(g));
-    }
-    Ok(())
 }

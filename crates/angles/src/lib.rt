@@ -5,6 +5,7 @@
 ghost use Rattle.std.specs.Prelude.{◌≡◌};
 ghost use Rattle.angles_defs.specs.Operation.{request_of, outcome, dc_angles};
 
+use crate::check::Request;
 use crate::edges::Edges;
 use angles_defs::Solution;
 use refusal::Refusal;
@@ -39,7 +40,7 @@ pub fn dc_angles(
         ≡ dc_angles (request_of n m k from.now to.now weight.now injection.now grounds.now guess.now)
         res.old work.old }
 {
-    check::check(
+    let request = Request {
         n,
         m,
         k,
@@ -49,9 +50,8 @@ pub fn dc_angles(
         injection,
         grounds,
         guess,
-        res.len(),
-        work.len(),
-    )?;
+    };
+    request.check(res.len(), work.len())?;
     let edges = Edges {
         n,
         from,

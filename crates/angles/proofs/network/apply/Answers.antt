@@ -2,9 +2,6 @@ use Rattle.angles.proofs.Turns.{apply_calls}
 use borrow.Author.Rules.{rules}
 use Rattle.angles.proofs.network.apply.Goals as goal
 
-pub scatter-requires : goal.scatter-requires
-scatter-requires c = search rules
-
 pub returns : goal.returns
 returns c =
     let p = c.requires in

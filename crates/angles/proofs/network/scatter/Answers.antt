@@ -9,13 +9,6 @@ use Rattle.angles.proofs.network.scatter.Goals as goal
 pub loop-e-init : goal.loop-e-init
 loop-e-init c = (refl, turned_start _ _ _ _ _ c.requires.1)
 
-pub carry-requires : goal.carry-requires
-carry-requires c =
-    let l = c in
-    let B = l.args.edges.now.below in
-    let t = c.loop-e-test.true in
-    omega (arith, B.from_below l.loop-e.e t, B.to_below l.loop-e.e t)
-
 pub loop-e-preserved : goal.loop-e-preserved
 loop-e-preserved c =
     let l = c in

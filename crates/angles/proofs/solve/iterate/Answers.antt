@@ -6,12 +6,6 @@ use Rattle.angles.specs.Slices.{edges_in}
 use Rattle.angles.proofs.Iterations.{iterate_stop, iterate_moves, iterate_more, iterate_end}
 use Rattle.angles.proofs.solve.iterate.Goals as goal
 
-pub loop-turn-init : goal.loop-turn-init
-loop-turn-init c = (c.requires.2, c.requires.0, refl, rw (c.requires.2, sub-zero))
-
-pub step-requires : goal.step-requires
-step-requires c = let l = c.loop-turn.invariant in (l.1, omega arith)
-
 pub returns-in-Break : goal.returns-in-Break
 returns-in-Break c =
     let l = c.loop-turn.invariant in

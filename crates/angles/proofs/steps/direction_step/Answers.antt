@@ -11,9 +11,6 @@ use Rattle.angles.proofs.steps.direction_step.Goals as goal
 pub loop-i-init : goal.loop-i-init
 loop-i-init c = (refl, two_start _ _ _ _ _)
 
-pub bounds-w-d-in-loop-i : goal.bounds-w-d-in-loop-i
-bounds-w-d-in-loop-i c = simp length-set (omega arith)
-
 pub loop-i-preserved : goal.loop-i-preserved
 loop-i-preserved c =
     let l = c in

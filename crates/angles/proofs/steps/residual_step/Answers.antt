@@ -16,9 +16,6 @@ use Rattle.angles.proofs.steps.residual_step.Goals as goal
 pub loop-i-init : goal.loop-i-init
 loop-i-init c = (refl, two_start _ _ _ _ _, sum_start _, sum_start _)
 
-pub bounds-w-z : goal.bounds-w-z
-bounds-w-z c = simp length-set (omega arith)
-
 pub loop-i-preserved : goal.loop-i-preserved
 unfolding back shares
 loop-i-preserved c =

@@ -16,6 +16,3 @@ loop-i-preserved c =
     let t = c.loop-i-test.true in
     sum_turn _ _ _ _ c.loop-i.invariant
     (product_of (part a.u a.n a.w.now) (part a.v a.n a.w.now) c.loop-i.i _ _ (sym (get_part a.u a.n a.w.now c.loop-i.i nan t)) (sym (get_part a.v a.n a.w.now c.loop-i.i nan t)))
-
-pub returns : goal.returns
-returns c = let e : c.loop-i.i ≡ c.args.n = omega arith in rw e at c.loop-i.invariant

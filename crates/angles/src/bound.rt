@@ -12,6 +12,7 @@ pub struct Bound {
 
 // With it the root need not be worked out: the square of twice the bound, where it is above the square of a figure above the bound;
 // a NaN, from which on there is nothing, where those squares underflow or overflow.
+#[tactic(auto, using(crate::proofs::Beyond::beyond_nothing))]
 pub fn bound_of(bound: f64) -> Bound
     ensures { result.bound ≡ bound }
 {

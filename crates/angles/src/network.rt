@@ -11,6 +11,7 @@ use crate::edges::Edges;
 use crate::vectors::clear;
 
 // Sets a one at each ground of the row o.
+#[tactic(auto, using(loops::proofs::Puts::turned_end))]
 pub fn mark_grounds(grounds: &[u32], w: &mut [f64], n: usize, o: usize)
     requires grounds_below { GroundsBelow n grounds.now }
     requires n_in_bounds { o + n ≤ length w.old }
@@ -31,6 +32,7 @@ fn add_weight(w: &mut [f64], a: usize, b: usize, weight: f64, y: usize)
 }
 
 // Adds the weight of each edge at both its ends to the row y.
+#[tactic(auto, using(loops::proofs::Puts::turned_end))]
 pub fn add_weights(edges: &Edges, w: &mut [f64], y: usize)
     requires { y + edges.now.n ≤ length w.old }
     ensures { w.new ≡ put w.old y
@@ -55,6 +57,7 @@ fn kept(grounded: f64, v: f64) -> f64
 }
 
 // y = s, or zero at a grounded bus.
+#[tactic(auto, using(loops::proofs::Parts::tab_start), unfolding(angles_defs::specs::Network::kept))]
 pub fn keep(s: &[f64], w: &mut [f64], n: usize, grounded: usize, y: usize)
     requires { (grounded + n ≤ length w.old) × (y + n ≤ length w.old) × Apart grounded y n × (length s.now ≡ n) }
     ensures { w.new ≡ put w.old y (Network.kept n (part grounded n w.old) s.now) }
@@ -75,6 +78,7 @@ fn carry(w: &mut [f64], a: usize, b: usize, weight: f64, x: usize, y: usize)
 }
 
 // Each edge moves what it carries at x.
+#[tactic(auto, using(loops::proofs::Puts::turned_end))]
 fn scatter(edges: &Edges, w: &mut [f64], x: usize, y: usize)
     requires { (x + edges.now.n ≤ length w.old) × (y + edges.now.n ≤ length w.old) × Apart x y edges.now.n }
     ensures { w.new ≡ put w.old y
@@ -93,6 +97,7 @@ fn scatter(edges: &Edges, w: &mut [f64], x: usize, y: usize)
 }
 
 // Zeroes y at each grounded bus, and answers x · y, in one pass.
+#[tactic(auto, using(loops::proofs::Parts::tab_start, loops::proofs::Totals::sum_start), unfolding(angles_defs::specs::Network::kept))]
 fn ground(w: &mut [f64], n: usize, grounded: usize, x: usize, y: usize) -> f64
     requires { (grounded + n ≤ length w.old) × (x + n ≤ length w.old) × (y + n ≤ length w.old) × Apart grounded y n × Apart x y n }
     ensures { Wrote w.old w.new y (Network.kept n (part grounded n w.old) (part y n w.old))

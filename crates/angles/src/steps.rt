@@ -31,6 +31,7 @@ fn share(grounded: f64, diag: f64, r: f64) -> f64
 }
 
 // z = M r; answers r · z.
+#[tactic(auto, using(loops::proofs::Parts::tab_start, loops::proofs::Totals::sum_start))]
 pub fn precondition(w: &mut [f64], n: usize) -> f64
     requires { length w.old ≡ 8 * n }
     ensures { Preconditioned n (rows 8 n w.old) (rows 8 n w.new) result }
@@ -50,6 +51,7 @@ pub fn precondition(w: &mut [f64], n: usize) -> f64
 }
 
 // r = b - r; answers r · r.
+#[tactic(auto, using(loops::proofs::Parts::tab_start, loops::proofs::Totals::sum_start))]
 pub fn residual(w: &mut [f64], n: usize) -> f64
     requires { length w.old ≡ 8 * n }
     ensures { Residual n (rows 8 n w.old) (rows 8 n w.new) result }
@@ -72,6 +74,7 @@ pub struct Sums {
 }
 
 // r -= alpha q, z = M r; answers r · r and r · z, which are added up side by side.
+#[tactic(auto, using(loops::proofs::Parts::tab_start, loops::proofs::Totals::sum_start))]
 pub fn residual_step(w: &mut [f64], n: usize, alpha: f64) -> Sums
     requires { length w.old ≡ 8 * n }
     ensures { ResidualStep n alpha (rows 8 n w.old) (rows 8 n w.new) result }
@@ -95,6 +98,7 @@ pub fn residual_step(w: &mut [f64], n: usize, alpha: f64) -> Sums
 }
 
 // x += alpha d
+#[tactic(auto, using(loops::proofs::Parts::tab_start, crate::proofs::Rows::angle_step_rows), unfolding(angles_defs::specs::Network::along))]
 pub fn angle_step(w: &mut [f64], n: usize, alpha: f64)
     requires { length w.old ≡ 8 * n }
     ensures { AngleStep n alpha (rows 8 n w.old) (rows 8 n w.new) }
@@ -107,6 +111,7 @@ pub fn angle_step(w: &mut [f64], n: usize, alpha: f64)
 }
 
 // x += alpha d, d = z + beta d
+#[tactic(auto, using(loops::proofs::Parts::tab_start))]
 pub fn direction_step(w: &mut [f64], n: usize, alpha: f64, beta: f64)
     requires { length w.old ≡ 8 * n }
     ensures { DirectionStep n alpha beta (rows 8 n w.old) (rows 8 n w.new) }

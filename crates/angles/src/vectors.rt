@@ -7,6 +7,7 @@ ghost use Rattle.angles_defs.specs.Network.{zeros};
 ghost use Rattle.angles_defs.specs.Operation.{finite_at};
 
 // Zeroes the n places from o.
+#[tactic(auto, using(crate::proofs::Parts::put_back, crate::proofs::Parts::lent_length))]
 pub fn clear(w: &mut [f64], o: usize, n: usize)
     requires { o + n ≤ length w.old }
     ensures { w.new ≡ put w.old o (zeros n) }
@@ -15,6 +16,7 @@ pub fn clear(w: &mut [f64], o: usize, n: usize)
 }
 
 // u · v, summed from the left.
+#[tactic(auto, using(loops::proofs::Totals::sum_start, loops::proofs::Totals::sum_turn, crate::proofs::Turns::product_of, loops::proofs::Parts::get_part))]
 pub fn dot(w: &[f64], n: usize, u: usize, v: usize) -> f64
     requires { (u + n ≤ length w.now) × (v + n ≤ length w.now) }
     ensures { result ≡ Network.dot n (part u n w.now) (part v n w.now) }
@@ -27,6 +29,7 @@ pub fn dot(w: &[f64], n: usize, u: usize, v: usize) -> f64
 }
 
 // d = z, one place at a time: both are rows of one slice, and a slice here has no `copy_within`.
+#[tactic(auto, using(loops::proofs::Parts::tab_start))]
 pub fn copy(w: &mut [f64], n: usize, z: usize, d: usize)
     requires { (z + n ≤ length w.old) × (d + n ≤ length w.old) × Apart z d n }
     ensures { w.new ≡ put w.old d (part z n w.old) }
@@ -37,6 +40,7 @@ pub fn copy(w: &mut [f64], n: usize, z: usize, d: usize)
 }
 
 // The first place of x that is not finite.
+#[tactic(auto, using(loops::proofs::Parts::get_part))]
 pub fn not_finite(w: &[f64], n: usize, x: usize) -> Option<usize>
     requires { x + n ≤ length w.now }
     ensures { result ≡ fault (finite_at (part x n w.now)) n }

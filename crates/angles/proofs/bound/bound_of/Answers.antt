@@ -1,7 +1,7 @@
 use lib.Ieee.{binary64}
 use lib.Ieee.Fits.{mul-fits}
 use Rattle.loops.proofs.Bools.{both}
-use Rattle.angles.proofs.Beyond.{beyond_square, beyond_nothing, root_beyond}
+use Rattle.angles.proofs.Beyond.{beyond_square, root_beyond}
 use Rattle.angles.proofs.bound.bound_of.Goals as goal
 
 pub invariant_of-result : goal.invariant_of-result
@@ -9,6 +9,3 @@ invariant_of-result c =
     let b = both _ _ c.if-bound-above.true in
     let s = both _ _ c.if-above-square.true in
     record { sure = beyond_square _ _ (mul-fits binary64 _ _) b.0 (root_beyond _ _ _ (mul-fits binary64 _ _) (mul-fits binary64 _ _) b.0 b.1 s.0 s.1) }
-
-pub invariant_of-result-2 : goal.invariant_of-result-2
-invariant_of-result-2 c = record { sure = beyond_nothing _ }

@@ -1,5 +1,4 @@
 use Rattle.angles.proofs.Turns.{apply_calls}
-use borrow.Author.Rules.{rules}
 use Rattle.angles.proofs.network.apply.Goals as goal
 
 pub returns : goal.returns

@@ -1,17 +1,14 @@
-use mathlib.Core.Path.{◌≡◌, refl, sym, ◌∙◌}
+use mathlib.Core.Path.{sym, ◌∙◌}
 use native.Mathlib.Omega.{arith}
 use lib.ListN.{length-set}
 use lib.Ieee.{nan}
 use Rattle.loops.specs.Parts.{part}
 use Rattle.loops.proofs.Tab.{get_tab}
-use Rattle.loops.proofs.Parts.{tab_start, tab_turn, tab_own, tab_other}
-use Rattle.loops.proofs.Totals.{sum_start, sum_turn}
+use Rattle.loops.proofs.Parts.{tab_turn, tab_own, tab_other}
+use Rattle.loops.proofs.Totals.{sum_turn}
 use Rattle.angles_defs.specs.Network.{kept}
 use Rattle.angles.proofs.Turns.{product_of}
 use Rattle.angles.proofs.network.ground.Goals as goal
-
-pub loop-i-init : goal.loop-i-init
-loop-i-init c = (refl, tab_start _ _ _, sum_start _)
 
 pub loop-i-preserved : goal.loop-i-preserved
 unfolding kept
@@ -27,9 +24,3 @@ loop-i-preserved c =
           (product_of (part a.x a.n a.w.now) (kept a.n (part a.grounded a.n a.w.now) (part a.y a.n a.w.now)) l.loop-i.i _ _
           (tab_other _ _ _ _ _ _ nan _ s.requires.4 l.loop-i.invariant.1 s.requires.2 t) (v ∙ sym (get_tab a.n _ l.loop-i.i nan t))),
     )
-
-pub returns : goal.returns
-unfolding kept
-returns c =
-    let e : c.loop-i.i ≡ c.args.n = omega arith in
-    record { left = rw e at c.loop-i.invariant.1; answered = rw e at c.loop-i.invariant.2 }

@@ -1,13 +1,8 @@
-use mathlib.Core.Path.{◌≡◌, refl}
 use native.Mathlib.Omega.{arith}
 use lib.ListN.{length-set}
 use lib.Ieee.{nan}
-use Rattle.loops.proofs.Parts.{tab_start, tab_turn, tab_other}
-use Rattle.angles_defs.specs.Network.{kept}
+use Rattle.loops.proofs.Parts.{tab_turn, tab_other}
 use Rattle.angles.proofs.network.keep.Goals as goal
-
-pub loop-i-init : goal.loop-i-init
-loop-i-init c = (refl, tab_start _ _ _)
 
 pub loop-i-preserved : goal.loop-i-preserved
 loop-i-preserved c =
@@ -18,8 +13,3 @@ loop-i-preserved c =
       tab_turn _ _ _ _ _ _ l.loop-i.invariant.1 (omega arith)
           (rw (tab_other _ _ _ _ _ _ nan _ s.requires.2 l.loop-i.invariant.1 s.requires.1 t) at c.kept.ensures),
     )
-
-pub returns : goal.returns
-unfolding kept
-returns c =
-    let e : c.loop-i.i ≡ c.args.n = omega arith in rw e at c.loop-i.invariant.1

@@ -2,7 +2,7 @@ use mathlib.Core.Path.{refl}
 use native.Mathlib.Omega.{arith}
 use lib.ListN.{length-set}
 use Rattle.loops.proofs.Parts.{length_part}
-use Rattle.loops.proofs.Puts.{turned_start, turned_turn, turned_end, set_in}
+use Rattle.loops.proofs.Puts.{turned_start, turned_turn, set_in}
 use Rattle.angles.proofs.network.mark_grounds.Goals as goal
 
 pub loop-bus-init : goal.loop-bus-init
@@ -17,6 +17,3 @@ loop-bus-preserved c =
       simp length-set l.invariant.0,
       turned_turn _ _ _ _ _ h _ _ _ l.invariant.0 t (simp length-set (length_part _ _ _ (omega arith))) l.invariant.1 (set_in _ _ _ _ _ (omega arith) b),
     )
-
-pub returns : goal.returns
-returns c = turned_end _ _ _ _ _ c.requires.n_in_bounds _ _ c.loop-bus-test.false c.loop-bus.invariant.1

@@ -2,7 +2,7 @@ use mathlib.Core.Path.{refl, ◌∙◌}
 use native.Mathlib.Omega.{arith}
 use lib.ListN.{length-set}
 use Rattle.loops.proofs.Parts.{length_part}
-use Rattle.loops.proofs.Puts.{turned_start, turned_turn, turned_end}
+use Rattle.loops.proofs.Puts.{turned_start, turned_turn}
 use Rattle.angles.proofs.Turns.{carry_turn}
 use Rattle.angles.proofs.network.scatter.Goals as goal
 
@@ -20,6 +20,3 @@ loop-e-preserved c =
       c.carry.auto.w ∙ k,
       turned_turn _ _ _ _ _ h _ _ _ k t (simp length-set (length_part _ _ _ (omega arith))) l.loop-e.invariant.1 (carry_turn _ _ _ _ s.args.edges.now.below _ t _ _ _ _ _ s.requires.2 s.requires.0 h k l.loop-e.invariant.1.only q),
     )
-
-pub returns : goal.returns
-returns c = turned_end _ _ _ _ _ c.requires.1 _ _ c.loop-e-test.false c.loop-e.invariant.1

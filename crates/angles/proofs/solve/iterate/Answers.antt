@@ -1,5 +1,4 @@
-use mathlib.Core.Path.{refl, ◌∙◌}
-use native.Mathlib.Nat.{sub-zero}
+use mathlib.Core.Path.{◌∙◌}
 use native.Mathlib.Omega.{arith}
 use Rattle.loops.specs.Parts.{rows}
 use Rattle.angles.specs.Slices.{edges_in}

@@ -1,15 +1,12 @@
 use Prim.Native.Nat.{◌+◌, ◌*◌, ◌≤◌}
-use mathlib.Core.Path.{◌≡◌, refl}
+use mathlib.Core.Path.{◌≡◌}
 use native.Mathlib.Omega.{arith}
 use lib.ListN.{length, length-set}
 use lib.Ieee.{nan}
-use Rattle.loops.proofs.Puts.{two_start, two_first, two_second, two_other, two_turn}
+use Rattle.loops.proofs.Puts.{two_first, two_second, two_other, two_turn}
 use Rattle.angles_defs.specs.Network.{along}
 use Rattle.angles.proofs.Rows.{direction_step_rows}
 use Rattle.angles.proofs.steps.direction_step.Goals as goal
-
-pub loop-i-init : goal.loop-i-init
-loop-i-init c = (refl, two_start _ _ _ _ _)
 
 pub loop-i-preserved : goal.loop-i-preserved
 loop-i-preserved c =

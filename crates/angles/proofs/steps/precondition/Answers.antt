@@ -1,19 +1,16 @@
 use Prim.Native.Nat.{◌+◌, ◌*◌, ◌≤◌}
-use mathlib.Core.Path.{◌≡◌, refl, sym, ◌∙◌}
+use mathlib.Core.Path.{◌≡◌, sym, ◌∙◌}
 use native.Mathlib.Omega.{arith}
 use lib.ListN.{length, length-set}
 use lib.Ieee.{nan}
 use Rattle.loops.specs.Parts.{part}
 use Rattle.loops.proofs.Tab.{get_tab}
-use Rattle.loops.proofs.Totals.{sum_start, sum_turn}
+use Rattle.loops.proofs.Totals.{sum_turn}
 use Rattle.angles.proofs.Turns.{product_of}
-use Rattle.loops.proofs.Parts.{tab_start, tab_turn, tab_other}
+use Rattle.loops.proofs.Parts.{tab_turn, tab_other}
 use Rattle.angles_defs.specs.Network.{shares}
 use Rattle.angles.proofs.Rows.{precondition_rows}
 use Rattle.angles.proofs.steps.precondition.Goals as goal
-
-pub loop-i-init : goal.loop-i-init
-loop-i-init c = (refl, tab_start _ _ _, sum_start _)
 
 pub loop-i-preserved : goal.loop-i-preserved
 unfolding shares

@@ -1,5 +1,5 @@
 use Prim.Native.Nat.{ℕ, ◌+◌, ◌*◌, ◌≤◌}
-use mathlib.Core.Path.{◌≡◌, refl, sym, ap, ◌∙◌}
+use mathlib.Core.Path.{◌≡◌, sym, ap, ◌∙◌}
 use native.Mathlib.Omega.{arith}
 use native.Mathlib.Nat.{zero-add}
 use lib.ListN.{length, length-set}
@@ -7,15 +7,12 @@ use lib.Ieee.{nan}
 use Rattle.loops.specs.Figures.{at, minus}
 use Rattle.loops.specs.Parts.{part}
 use Rattle.loops.proofs.Tab.{get_tab}
-use Rattle.loops.proofs.Totals.{sum_start, sum_turn}
+use Rattle.loops.proofs.Totals.{sum_turn}
 use Rattle.angles.proofs.Turns.{product_of}
-use Rattle.loops.proofs.Parts.{tab_start, tab_turn, tab_own, tab_other}
+use Rattle.loops.proofs.Parts.{tab_turn, tab_own, tab_other}
 use Rattle.angles_defs.specs.Network.{less}
 use Rattle.angles.proofs.Rows.{residual_rows}
 use Rattle.angles.proofs.steps.residual.Goals as goal
-
-pub loop-i-init : goal.loop-i-init
-loop-i-init c = (refl, tab_start _ _ _, sum_start _)
 
 pub loop-i-preserved : goal.loop-i-preserved
 unfolding less

@@ -1,20 +1,17 @@
 use Prim.Native.Nat.{◌+◌, ◌*◌, ◌≤◌}
-use mathlib.Core.Path.{◌≡◌, refl, sym, ◌∙◌}
+use mathlib.Core.Path.{◌≡◌, sym, ◌∙◌}
 use native.Mathlib.Omega.{arith}
 use lib.ListN.{length, length-set}
 use lib.Ieee.{nan}
 use Rattle.loops.specs.Figures.{at, minus, times}
 use Rattle.loops.specs.Parts.{part}
 use Rattle.loops.proofs.Tab.{get_tab}
-use Rattle.loops.proofs.Totals.{sum_start, sum_turn}
+use Rattle.loops.proofs.Totals.{sum_turn}
 use Rattle.angles.proofs.Turns.{product_of}
-use Rattle.loops.proofs.Puts.{two_start, two_first, two_other, two_turn}
+use Rattle.loops.proofs.Puts.{two_first, two_other, two_turn}
 use Rattle.angles_defs.specs.Network.{back, shares}
 use Rattle.angles.proofs.Rows.{residual_step_rows}
 use Rattle.angles.proofs.steps.residual_step.Goals as goal
-
-pub loop-i-init : goal.loop-i-init
-loop-i-init c = (refl, two_start _ _ _ _ _, sum_start _, sum_start _)
 
 pub loop-i-preserved : goal.loop-i-preserved
 unfolding back shares

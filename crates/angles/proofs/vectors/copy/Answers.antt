@@ -1,12 +1,9 @@
-use mathlib.Core.Path.{◌≡◌, refl}
+use mathlib.Core.Path.{◌≡◌}
 use native.Mathlib.Omega.{arith}
 use lib.ListN.{length-set}
 use lib.Ieee.{nan}
-use Rattle.loops.proofs.Parts.{tab_start, tab_turn, tab_other, tab_whole, length_part}
+use Rattle.loops.proofs.Parts.{tab_turn, tab_other, tab_whole, length_part}
 use Rattle.angles.proofs.vectors.copy.Goals as goal
-
-pub loop-i-init : goal.loop-i-init
-loop-i-init c = (refl, tab_start _ _ _)
 
 pub loop-i-preserved : goal.loop-i-preserved
 loop-i-preserved c =

@@ -28,15 +28,14 @@ pub fn dot(w: &[f64], n: usize, u: usize, v: usize) -> f64
     sum
 }
 
-// d = z, one place at a time: both are rows of one slice, and a slice here has no `copy_within`.
-#[tactic(auto, using(loops::proofs::Parts::tab_start))]
+// d = z, where z stands before d.
+#[tactic(auto, using(crate::proofs::Parts::copied))]
 pub fn copy(w: &mut [f64], n: usize, z: usize, d: usize)
-    requires { (z + n ≤ length w.old) × (d + n ≤ length w.old) × Apart z d n }
+    requires { (z + n ≤ d) × (d + n ≤ length w.old) }
     ensures { w.new ≡ put w.old d (part z n w.old) }
 {
-    for i in 0..n {
-        w[d + i] = w[z + i];
-    }
+    let (before, from_d) = w.split_at_mut(d);
+    from_d[..n].copy_from_slice(&before[z..z + n]);
 }
 
 // The first place of x that is not finite.

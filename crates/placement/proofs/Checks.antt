@@ -67,27 +67,13 @@ row_faulty verdict ok n k next e = let f = fault_some ok n k e in rw (← f.0, l
 pub row_sound : (verdict : ℕ → Refusal) (ok : ℕ → Bool) (n : ℕ) (next : Result (Unit {0}) Refusal) → None ≡ fault ok n → next ≡ faulty_row verdict (first ok n 0) n next
 row_sound verdict ok n next e = rw (le-ltb (first ok n 0) n (fault_passed ok n e))
 
--- the verdict on tables of the right lengths and counts
-module _ (k : Request) (buses mvars : ℕ) (l : lengths_ok k buses mvars ≡ true) (c : counts_ok k.n k.m k.g ≡ true) where
-  pub bus_refused : (i : ℕ) → Some i ≡ fault (load_at k.reading k.weight) k.n → Err (Bus i) ≡ check_of k buses mvars
-  unfolding check_of first_load
-  bus_refused i e = rw (l, c) (row_faulty Bus (load_at k.reading k.weight) k.n i _ e)
-
-  module _ (sound : None ≡ fault (load_at k.reading k.weight) k.n) where
-    pub generator_refused : (i : ℕ) → Some i ≡ fault (λ i. bus_ok k.n (get_or k.generators i 0)) k.g → Err (Generator i) ≡ check_of k buses mvars
-    unfolding check_of first_load first_generator
-    generator_refused i e = rw (l, c) (row_faulty Generator (λ i. bus_ok k.n (get_or k.generators i 0)) k.g i _ e ∙ row_sound Bus (load_at k.reading k.weight) k.n _ sound)
-
-    module _ (stand : None ≡ fault (λ i. bus_ok k.n (get_or k.generators i 0)) k.g) where
-      pub corridor_refused : (i : ℕ) → Some i ≡ fault (corridor_at k.n k.a k.b k.km) k.m → Err (Corridor i) ≡ check_of k buses mvars
-      unfolding check_of first_load first_generator first_corridor
-      corridor_refused i e =
-          rw (l, c) (row_faulty Corridor (corridor_at k.n k.a k.b k.km) k.m i _ e ∙ row_sound Generator (λ i. bus_ok k.n (get_or k.generators i 0)) k.g _ stand ∙ row_sound Bus (load_at k.reading k.weight) k.n _ sound)
-
-      pub none_refused : None ≡ fault (corridor_at k.n k.a k.b k.km) k.m → no_refusal ≡ check_of k buses mvars
-      unfolding check_of first_load first_generator first_corridor
-      none_refused e =
-          rw (l, c) (row_sound Corridor (corridor_at k.n k.a k.b k.km) k.m _ e ∙ row_sound Generator (λ i. bus_ok k.n (get_or k.generators i 0)) k.g _ stand ∙ row_sound Bus (load_at k.reading k.weight) k.n _ sound)
+-- the verdict on tables of the right lengths and counts where a corridor is the first that is faulty
+module _ (k : Request) (buses mvars : ℕ) (l : lengths_ok k buses mvars ≡ true) (c : counts_ok k.n k.m k.g ≡ true) (sound : None ≡ fault (load_at k.reading k.weight) k.n)
+    (stand : None ≡ fault (λ i. bus_ok k.n (get_or k.generators i 0)) k.g) where
+  pub corridor_refused : (i : ℕ) → Some i ≡ fault (corridor_at k.n k.a k.b k.km) k.m → Err (Corridor i) ≡ check_of k buses mvars
+  unfolding check_of first_load first_generator first_corridor
+  corridor_refused i e =
+      rw (l, c) (row_faulty Corridor (corridor_at k.n k.a k.b k.km) k.m i _ e ∙ row_sound Generator (λ i. bus_ok k.n (get_or k.generators i 0)) k.g _ stand ∙ row_sound Bus (load_at k.reading k.weight) k.n _ sound)
 
 only : (b : Bool) (x y : Result (Unit {0}) Refusal) → cond b x y ≡ no_refusal → (y ≡ no_refusal → ⊥) → (b ≡ true) × (x ≡ no_refusal)
 only true x y e n = (refl, e)

@@ -5,6 +5,7 @@ ghost use Rattle.std.specs.Prelude.{◌≡◌};
 ghost use Rattle.placement_defs.specs.Request.{request_of};
 ghost use Rattle.placement_defs.specs.Support.{outcome, placement};
 
+use crate::check::Request;
 use crate::network::Network;
 use refusal::Refusal;
 
@@ -42,7 +43,7 @@ pub fn place_voltage_support(
     ensures { outcome result buses.new mvars.new
         ≡ placement (request_of n m g reading.now weight.now a.now b.now km.now generators.now) buses.old mvars.old }
 {
-    check::check(
+    let request = Request {
         n,
         m,
         g,
@@ -52,9 +53,8 @@ pub fn place_voltage_support(
         b,
         km,
         generators,
-        buses.len(),
-        mvars.len(),
-    )?;
+    };
+    request.check(buses.len(), mvars.len())?;
     let network = Network::new(n, reading, weight, a, b, km);
     Ok(condenser::place(&network, generators, buses, mvars))
 }

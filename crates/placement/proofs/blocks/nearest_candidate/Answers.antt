@@ -1,10 +1,6 @@
 use native.Mathlib.Omega.{arith}
-use Rattle.placement.proofs.Tests.{none_below}
-use Rattle.placement.proofs.Ranges.{least_none, closer_turn, nearest_all}
+use Rattle.placement.proofs.Ranges.{closer_turn, nearest_all}
 use Rattle.placement.proofs.blocks.nearest_candidate.Goals as goal
-
-pub loop-k-init : goal.loop-k-init
-loop-k-init c = (least_none _ _ _ 0, none_below _)
 
 pub loop-k-preserved : goal.loop-k-preserved
 loop-k-preserved c = (closer_turn _ _ _ _ c.requires.front _ _ _ (omega arith) (omega arith) c.loop-k.invariant.0 c.closer_bus-best.ensures.value, c.closer_bus-best.ensures.bus)

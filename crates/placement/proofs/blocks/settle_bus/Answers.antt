@@ -1,11 +1,8 @@
 use native.Mathlib.Omega.{arith}
 use mathlib.Core.Path.{refl}
 use Rattle.placement_defs.specs.Distance.{settle}
-use Rattle.placement.proofs.Ranges.{numbers_marked, front_settled}
+use Rattle.placement.proofs.Ranges.{front_settled}
 use Rattle.placement.proofs.blocks.settle_bus.Goals as goal
-
-pub nearest_in_block-requires : goal.nearest_in_block-requires
-nearest_in_block-requires c = let p = c.requires in record { lo_lt_n = (omega arith, p.n_le_most_buses.0); numbers = numbers_marked _ _ _ p.n_le_most_buses.0 _ _ p.front.numbers }
 
 pub returns : goal.returns
 unfolding settle

@@ -1,6 +1,5 @@
 use Rattle.placement_defs.specs.Support.{served_to}
-use mathlib.Core.Path.{◌≡◌, refl}
-use native.Mathlib.Omega.{arith}
+use mathlib.Core.Path.{refl}
 use Rattle.placement.proofs.Choice.{served_turn}
 use Rattle.placement.proofs.condenser.served_by.Goals as goal
 
@@ -10,6 +9,3 @@ loop-i-init c = refl
 
 pub loop-i-preserved : goal.loop-i-preserved
 loop-i-preserved c = served_turn _ _ _ _ _ _ c.loop-i.invariant (rw c.load.ensures at c.add_load-sum.ensures)
-
-pub returns : goal.returns
-returns c = let e : c.loop-i.i ≡ c.args.network.now.n = omega arith in rw e at c.loop-i.invariant

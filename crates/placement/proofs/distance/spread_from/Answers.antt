@@ -2,23 +2,13 @@ use native.Mathlib.Omega.{arith}
 use mathlib.Core.Path.{refl, sym, ◌∙◌}
 use Rattle.loops.proofs.Loops.{iter_end}
 use Rattle.placement.specs.Views.{labels_in}
-use Rattle.placement.proofs.Tests.{net_ends}
 use Rattle.placement.proofs.Walk.{walk_start, walk_farther, walk_next, spread_is}
 use Rattle.placement.proofs.distance.spread_from.Goals as goal
-
-pub settle_bus-requires : goal.settle_bus-requires
-settle_bus-requires c = record { n_le_most_buses = (c.args.network.now.net.few, c.requires.i_lt_n); front = c.requires.front }
 
 pub loop-c-init : goal.loop-c-init
 loop-c-init c =
     let k = walk_start _ _ _ _ c.args.network.now.listed _ c.requires.i_lt_n _ in
     (k.0, k.1, k.2, c.settle_bus.ensures.front_2)
-
-pub consider-requires : goal.consider-requires
-consider-requires c =
-    let net = c.args.network.now.net in
-    let e = net_ends net c.loop-c.c c.loop-c-test.true in
-    record { n_le_most_buses = (net.few, c.requires.i_lt_n, e.a_below, e.b_below); front = c.loop-c.invariant.3 }
 
 pub loop-c-smaller : goal.loop-c-smaller
 loop-c-smaller c =

@@ -1,6 +1,6 @@
 use Prim.Native.Nat.{ℕ}
 use native.Mathlib.Omega.{arith}
-use mathlib.Core.Path.{◌≡◌, refl}
+use mathlib.Core.Path.{refl}
 use lib.ListN.{length, length-replicate, get_or-replicate}
 use Rattle.placement.proofs.Walk.{listed_none, listed_turn}
 use Rattle.placement.proofs.network.Network.new.Goals as goal
@@ -15,6 +15,3 @@ pub loop-c-preserved : goal.loop-c-preserved
 loop-c-preserved c =
     let q = c.list_corridor.ensures in
     listed_turn _ c.requires.net _ _ _ _ _ _ _ _ _ (omega arith) c.loop-c.auto.c c.loop-c.invariant refl refl q.head_after q.after_a_after q.after_b_after
-
-pub invariant_of-result : goal.invariant_of-result
-invariant_of-result c = let e : c.loop-c.c ≡ 0 = omega arith in record { called = c.requires.called; net = c.requires.net; listed = rw e at c.loop-c.invariant }

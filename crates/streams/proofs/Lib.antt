@@ -1,4 +1,2 @@
--- Lemmas of reading and of a number's text.
-mod Counting
-mod Powers
+-- A number's text.
 mod Text

@@ -49,6 +49,9 @@ more n ds h d =
 decimal_digits : (n : ℕ) → n < 2 ^ 64 → IsDigits n (decimal n)
 decimal_digits = decimal_by_steps IsDigits one more
 
+pub shown : (n : ℕ) (text : List ℕ) → n < 2 ^ 64 → text ≡ decimal n → IsDigits n text
+shown n text h e = subst (IsDigits n) (sym e) (decimal_digits n h)
+
 pub written : {E : Type 0} (r : Result (Unit {0}) E) (old new : Option (List ℕ)) (n : ℕ) → n < 2 ^ 64 → OnOk r (Appends old new (decimal n))
     → OnOk r ((k : ℕ) × IsDigitCount 10 1 n k × Appends old new (last_digits 10 k n))
 written (Err e) old new n h w = w

@@ -1,16 +1,16 @@
-use native.Mathlib.Omega.{arith}
-use Prim.Native.Nat.{◌≤◌}
-use Rattle.streams.proofs.Counting.{prefix_len_of_le}
-use Rattle.streams.proofs.Powers.{digit_count_le}
+use Rattle.std.proofs.Common.{ℕ, List, ◌++◌, length, take, ap, ◌∙◌, arith}
+use Rattle.std.proofs.Math.Seq.{take-append_seam}
+use borrow.Rule.Slice.PartMut.{post_of}
+use Rattle.streams.proofs.Text.{shown}
 use Rattle.streams.proofs.number.decimal.Goals as goal
-use Rattle.streams.proofs.number.decimal.Goals.{After-digit_count-k}
 
--- twenty digits hold a u64
-count_fits : (c : goal.After-digit_count-k) → c.digit_count-k.result ≤ 20
-count_fits c = digit_count_le 10 1 c.args.n c.digit_count-k.result 20 (omega arith) c.digit_count-k.ensures (omega arith) (omega arith)
+pub returns-clause-len : goal.returns-clause-len
+returns-clause-len c = (shown c.args.n c.as_bytes-digits.result.now (omega arith) (c.as_bytes-digits.ensures.value ∙ c.format.ensures.text)).0
 
-pub write_digits-requires : goal.write_digits-requires
-write_digits-requires c = omega (arith, count_fits (goal.at.write_digits-requires c).After-digit_count-k)
-
-pub returns : goal.returns
-returns c = record { in_bounds = prefix_len_of_le _ _ (omega (arith, count_fits (goal.at.returns c).After-digit_count-k)); len = c.digit_count-k.ensures; digits = c.write_digits.ensures.digits; rest = c.write_digits.ensures.rest }
+pub returns-clause-digits : goal.returns-clause-digits
+returns-clause-digits c =
+    let digits = c.as_bytes-digits.result.now in
+    let rest = post_of 0 (length digits) c.args.out.now in
+    ap (λ (l : List ℕ). take (length digits) (l ++ rest)) c.copy_from_slice.ensures.after
+    ∙ take-append_seam digits rest
+    ∙ (shown c.args.n digits (omega arith) (c.as_bytes-digits.ensures.value ∙ c.format.ensures.text)).1

@@ -1,4 +1,5 @@
 -- Laws that no one function owns.
+pub mod Modes
 pub mod Places
 pub mod Refusals
 pub mod Sheets

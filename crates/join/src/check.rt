@@ -39,7 +39,7 @@ fn same_ladder(x: &[f64], y: &[f64]) -> bool
 fn alike(first: Header, second: Header) -> bool
     ensures { result ≡ heads_alike first second }
 {
-    (first.mode.number() == second.mode.number()) & (first.requested == second.requested)
+    (first.mode == second.mode) & (first.requested == second.requested)
 }
 
 pub fn check_both(fits: bool, first: &District, second: &District) -> Result<(), Refusal>

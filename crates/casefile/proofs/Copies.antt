@@ -20,11 +20,11 @@ use Rattle.casefile_defs.specs.declared.Kind.TheVariants.{Bus}
 use Rattle.casefile.specs.Movable.{Kept}
 
 -- what a copy between two parts makes
-pub put_copied : (w v : List ℕ) (i k : ℕ) → length v ≡ k → put_mid i (i + k - i) w v ≡ put w i v
+pub put_copied : {A : Type 0} (w v : List A) (i k : ℕ) → length v ≡ k → put_mid i (i + k - i) w v ≡ put w i v
 unfolding put
-put_copied w v i k e =
+put_copied {A} w v i k e =
     let z : i + k - i ≡ length v = omega arith in
-    ap (λ (n : ℕ). put_mid i n w v) z ∙ sym (append_assoc (take i w) v (drop (length v) (drop i w))) ∙ ap (λ (x : List ℕ). take i w ++ v ++ x) (drop-drop (length v) i w)
+    ap (λ (n : ℕ). put_mid i n w v) z ∙ sym (append_assoc (take i w) v (drop (length v) (drop i w))) ∙ ap (λ (x : List A). take i w ++ v ++ x) (drop-drop (length v) i w)
 
 head_length : (w : List ℕ) (o : ℕ) (u : List ℕ) → o ≤ length w → length (take o w ++ u) ≡ o + length u
 head_length w o u h = simp (length-append, length-take) (omega arith)

@@ -2,3 +2,4 @@
 pub mod Starts
 pub mod Movable
 pub mod Read
+pub mod Filled

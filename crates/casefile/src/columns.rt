@@ -5,7 +5,7 @@ ghost use Rattle.casefile_defs.specs.Layout.{size_of, standing, end_of, spot};
 ghost use Rattle.casefile_defs.specs.Tables.{number_at, weight_at};
 ghost use Rattle.casefile.specs.Starts.{Room, Starts, Whole, Within, number_by, figure_by, weight_by};
 
-use crate::bytes::{figure, word};
+use crate::bytes::{eight, figure, word};
 use crate::record;
 use crate::record::{bears, size, standing};
 use casefile_defs::{Kind, MOST_CORRIDORS};
@@ -84,7 +84,7 @@ fn weight_at(file: &[u8], at: usize) -> f64
     ensures { result ≡ weight_at file.now at }
 {
     if bears(file, Kind::WeighedBus, at) {
-        return figure(word(file, at + record::BUS_WEIGHT, record::FIGURE));
+        return figure(eight(file, at + record::BUS_WEIGHT));
     }
     1.0
 }
@@ -127,7 +127,7 @@ pub fn fill_figures(
         out,
         count,
         0.0,
-        |i| figure(word(file, starts[i] + offset, record::FIGURE)),
+        |i| figure(eight(file, starts[i] + offset)),
     );
 }
 

@@ -10,7 +10,7 @@ ghost use Rattle.casefile_defs.specs.Tables.{levels_at};
 ghost use Rattle.casefile.specs.Starts.{Starts};
 ghost use Rattle.casefile.specs.Movable.{Kept, AllWeighed, Movable};
 
-use crate::bytes::word;
+use crate::bytes::eight;
 use crate::columns::{MOST_RECORDS, store_starts};
 use crate::record;
 use crate::record::{mark, size, weighs};
@@ -126,7 +126,7 @@ fn first_other(file: &[u8], starts: &[usize; MOST_RECORDS], at: usize, n: usize)
 {
     first_fault(
         n,
-        |i| word(file, starts[i] + record::BUS_WEIGHT, record::FIGURE) == ONE,
+        |i| eight(file, starts[i] + record::BUS_WEIGHT) == ONE,
     )
 }
 

@@ -1,11 +1,14 @@
 // Filling the lent tables, kind by kind, and the line sheet.
 ghost use Rattle.std.specs.Prelude.{◌≡◌, ◌+◌, ◌*◌, ◌^◌, ◌≤◌, ◌<◌, length};
 ghost use Rattle.loops.specs.Loops.{tab};
+ghost use Rattle.loops.specs.Parts.{put};
+ghost use Rattle.sheets.specs.Sheet.{row_figures};
 ghost use Rattle.casefile_defs.specs.Layout.{size_of, spot};
 ghost use Rattle.casefile_defs.specs.Tables.{sheet_in, basis_of, line_figure, numbers, numbers_of, figures, weights, cap_field};
 ghost use Rattle.casefile.specs.Starts.{Room};
+ghost use Rattle.casefile.specs.Filled.{Lines, IsFilled};
 
-use crate::bytes::{figure, word};
+use crate::bytes::{eight, figure, word};
 use crate::columns::{
     MOST_RECORDS, fill_figures, fill_numbers, fill_weights, line_at, store_starts,
 };
@@ -29,27 +32,45 @@ fn line_figure(file: &[u8], at: usize, j: usize) -> f64
     ensures { result ≡ line_figure file.now at j }
 {
     if j < BASIS {
-        return figure(word(
+        return figure(eight(
             file,
             at + (record::LINE_R + record::FIGURE * j),
-            record::FIGURE,
         ));
     }
     basis_of(word(file, at + record::LINE_BASIS, record::U8))
 }
 
-// Place p of the sheet, which has its rows by level where the file has them by corridor.
-fn sheet_in(file: &[u8], at: usize, corridors: usize, levels: usize, p: usize) -> f64
-    requires room { Room Kind.Line file.now at (corridors * levels) }
-    requires few { corridors * levels < 2 ^ 64 }
-    ensures { result ≡ sheet_in file.now at corridors levels p }
+// Puts a line record's figures as a row of the sheet.
+fn put_line(file: &[u8], at: usize, sheet: &mut [f64], to: usize)
+    requires line { at + size_of Kind.Line ≤ length file.now }
+    requires row { to + row_figures ≤ length sheet.old }
+    ensures { sheet.new ≡ put sheet.old to (tab row_figures (line_figure file.now at)) }
 {
-    let row = p / ROW_FIGURES;
-    if row < corridors * levels {
-        let line = sheets::line_of(corridors, levels, row);
-        return line_figure(file, line_at(at, line), p % ROW_FIGURES);
+    fill(&mut sheet[to..to + ROW_FIGURES], |j| line_figure(file, at, j));
+}
+
+// Fills the rows of a level, where those of the levels before it are filled.
+fn fill_level(
+    file: &[u8],
+    at: usize,
+    corridors: usize,
+    levels: usize,
+    level: usize,
+    sheet: &mut [f64],
+)
+    requires lines { Lines file.now at corridors levels (length sheet.old) }
+    requires level { level < levels }
+    requires before { IsFilled file.now at corridors levels (level * corridors) sheet.old }
+    ensures { IsFilled file.now at corridors levels ((level + 1) * corridors) sheet.new }
+{
+    for k in 0..corridors {
+        put_line(
+            file,
+            line_at(at, k * levels + level),
+            sheet,
+            sheets::row_place(corridors, k, level),
+        );
     }
-    0.0
 }
 
 // Fills the ladder. Answers where its records end, as the next three do.
@@ -211,11 +232,13 @@ pub fn read_corridors(
     end
 }
 
-// Fills the sheet.
+// Fills the sheet, which has its rows by level where the file has them by corridor; zeros past them.
 pub fn read_lines(file: &[u8], at: usize, corridors: usize, levels: usize, sheet: &mut [f64])
-    requires room { Room Kind.Line file.now at (corridors * levels) }
-    requires few { corridors * levels < 2 ^ 64 }
+    requires { Lines file.now at corridors levels (length sheet.old) }
     ensures { sheet.new ≡ tab (length sheet.old) (sheet_in file.now at corridors levels) }
 {
-    fill(sheet, |p| sheet_in(file, at, corridors, levels, p));
+    sheet.fill(0.0);
+    for level in 0..levels {
+        fill_level(file, at, corridors, levels, level, sheet);
+    }
 }

@@ -77,7 +77,12 @@ read_lines-requires c =
     let r = (roomy _ _ _ (ap (λ (r : CaseRead). r.reading) c.read_as-read.ensures) c.held-h.ensures) in
     let g = generators-at c.args.file.now c.held-h.result c.read_buses-generators.ensures.end c.read_levels-buses.ensures.end in
     let e = corridors-at c.args.file.now c.held-h.result c.read_generators-corridors.ensures.end g in
-    record { room = moved Line _ _ (lines-at c.args.file.now c.held-h.result c.read_corridors-lines.ensures.end e) r.rows; few = omega (arith, lines_small _ r.small) }
+    let z = sizes _ (sym c.tables_sized-sized.ensures ∙ c.if-not-sized.false) in
+    record {
+      room = moved Line _ _ (lines-at c.args.file.now c.held-h.result c.read_corridors-lines.ensures.end e) r.rows;
+      few = lines_small _ r.small;
+      fits = omega (arith, lines_small _ r.small, z.sheet);
+    }
 
 pub returns-then-not-sized : goal.returns-then-not-sized
 returns-then-not-sized c = refused_lengths _ _ (sym c.tables_sized-sized.ensures ∙ c.if-not-sized.true)

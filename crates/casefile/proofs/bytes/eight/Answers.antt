@@ -1,5 +1,6 @@
-use Rattle.casefile.proofs.Words.{word_pairs}
+use borrow.Author.Rules.{rules}
+use Rattle.casefile.proofs.Words.{eight_bytes}
 use Rattle.casefile.proofs.bytes.eight.Goals as goal
 
 pub returns : goal.returns
-returns c = word_pairs _ _ _ _ _ _ c.requires c.word-a.ensures.value c.word-b.ensures.value c.word-c.ensures.value c.word-d.ensures.value
+returns c = eight_bytes _ _ c.unwrap.result _ c.requires (search rules) c.from_le_bytes.ensures

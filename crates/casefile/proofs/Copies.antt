@@ -2,7 +2,7 @@
 -- A part put right behind another makes one part (put_more); so each record is three parts, and the table one part more in each turn.
 use Prim.Native.Nat.{ℕ, zero, suc, ◌+◌, ◌-◌, ◌*◌, ◌≤◌}
 use mathlib.Core.Bool.{Bool, true, false, cond}
-use mathlib.Core.List.{List, [], ◌∷◌, ◌++◌, append_assoc}
+use mathlib.Core.List.{List, [], ◌++◌, append_assoc}
 use mathlib.Core.Logic.{⊎_elim}
 use mathlib.Core.Path.{◌≡◌, refl, sym, ap, ◌∙◌, subst}
 use native.Mathlib.Nat.{eq-or-lt_of_le}
@@ -13,7 +13,7 @@ use lib.ListN.{length, take, drop, length-append, length-take}
 use lib.Seq.{take_at, drop-drop, drop_at}
 use Rattle.loops.specs.Parts.{part, put}
 use Rattle.loops.proofs.Parts.{length_part, put_none}
-use Rattle.casefile_defs.specs.Layout.{layout_of, weighs, spot}
+use Rattle.casefile_defs.specs.Layout.{weighs, spot}
 use Rattle.casefile_defs.specs.Moving.{called, mark_of, one_bytes, weight_of, bus_as, buses_as}
 use Rattle.casefile_defs.specs.declared.Kind.{Kind}
 use Rattle.casefile_defs.specs.declared.Kind.TheVariants.{Bus}

@@ -15,7 +15,7 @@ use Rattle.casefile_defs.specs.Moving.{weight_of, buses_as, file_as, fitted}
 use Rattle.casefile_defs.specs.declared.Kind.{Kind}
 use Rattle.casefile_defs.specs.declared.Kind.TheVariants.{Bus}
 use Rattle.casefile.specs.Movable.{Kept}
-use Rattle.casefile.specs.Starts.{Room}
+use Rattle.casefile.specs.Records.{Room}
 use Rattle.casefile.proofs.Copies.{put_more, weight_length, length_buses}
 
 abbrev pub zeros : ℕ → List ℕ

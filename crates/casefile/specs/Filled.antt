@@ -7,7 +7,7 @@ use Rattle.casefile_defs.specs.Bounds.{most_corridors, most_levels}
 use Rattle.casefile_defs.specs.Layout.{spot}
 use Rattle.casefile_defs.specs.Tables.{line_figure}
 use Rattle.casefile_defs.specs.declared.Kind.TheVariants.{Line}
-use Rattle.casefile.specs.Starts.{Room}
+use Rattle.casefile.specs.Records.{Room}
 
 -- the lines of m corridors and n levels, and a sheet of so many places
 pub record Lines (s : List ℕ) (at m n places : ℕ) : Type 0 where

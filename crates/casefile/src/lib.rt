@@ -5,7 +5,7 @@ ghost use Rattle.std.specs.Prelude.{◌≡◌};
 ghost use Rattle.casefile_defs.specs.Tables.{held, outcome, places_of, read_case};
 ghost use Rattle.casefile_defs.specs.Moving.{moved_as, move_forward, move_back};
 
-use casefile_defs::{CaseRead, Header, MOST_BYTES, Wanted, tables_sized};
+use casefile_defs::{CaseRead, Header, Kind, Wanted, tables_sized};
 use mode::PlanMode;
 use refusal::Refusal;
 
@@ -115,25 +115,17 @@ pub fn read_case(
 }
 
 // A file of BU as one of BV: each load a reading of weight 1.
+#[tactic(auto, using(crate::proofs::Moves::is_moved_forward))]
 pub fn move_forward(file: &[u8], out: &mut [u8]) -> Result<(), Refusal>
     ensures { moved_as result out.new ≡ move_forward file.now out.old }
 {
-    if out.len() != MOST_BYTES {
-        return Err(Refusal::Length);
-    }
-    let said = scan::read_as(file, Wanted::Plain).reading;
-    out.fill(0);
-    moving::forward_by(file, said, out)
+    moving::moved(file, Wanted::Plain, Kind::WeighedBus, out)
 }
 
 // A file of BV as one of BU, where every weight is 1.
+#[tactic(auto, using(crate::proofs::Moves::is_moved_back))]
 pub fn move_back(file: &[u8], out: &mut [u8]) -> Result<(), Refusal>
     ensures { moved_as result out.new ≡ move_back file.now out.old }
 {
-    if out.len() != MOST_BYTES {
-        return Err(Refusal::Length);
-    }
-    let said = scan::read_as(file, Wanted::Weighed).reading;
-    out.fill(0);
-    moving::back_by(file, said, out)
+    moving::moved(file, Wanted::Weighed, Kind::Bus, out)
 }

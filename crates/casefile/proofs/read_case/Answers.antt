@@ -7,14 +7,14 @@ use native.Mathlib.Omega.{arith}
 use Rattle.loops.specs.Loops.{tab}
 use Rattle.casefile_defs.specs.Layout.{spot}
 use Rattle.casefile_defs.specs.Reading.{levels}
-use Rattle.casefile_defs.specs.Tables.{sizes_ok, numbers_of, figures, weights, sheet_in, cap_field, levels_at, buses_at, generators_at, corridors_at, lines_at}
+use Rattle.casefile_defs.specs.Tables.{numbers_of, figures, weights, sheet_in, cap_field, levels_at, buses_at, generators_at, corridors_at, lines_at}
 use Rattle.casefile_defs.specs.declared.CaseRead.{CaseRead}
 use Rattle.casefile_defs.specs.declared.Header.{Header}
 use Rattle.casefile_defs.specs.declared.Kind.{Kind}
 use Rattle.casefile_defs.specs.declared.Kind.TheVariants.{Level, Bus, Generator, Corridor, Line, CappedCorridor}
 use Rattle.casefile_defs.proofs.Counts.{lines_small}
 use Rattle.casefile_defs.proofs.Whole.{sizes, tables_same, refused_lengths, read_whole}
-use Rattle.casefile.specs.Starts.{Room}
+use Rattle.casefile.specs.Records.{Room}
 use Rattle.casefile.proofs.Rooms.{roomy}
 use Rattle.casefile.proofs.read_case.Goals as goal
 

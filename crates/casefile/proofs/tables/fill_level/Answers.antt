@@ -1,6 +1,5 @@
 -- A row more in each turn (row_turn).
-use Rattle.std.proofs.Common.{arith, ap, ◌∙◌, List, ℕ}
-use lib.Ieee.{Float}
+use Rattle.std.proofs.Common.{arith, ap, ◌∙◌, ℕ}
 use Rattle.loops.specs.Loops.{tab}
 use Rattle.loops.specs.Parts.{put}
 use Rattle.sheets.specs.Sheet.{row_figures}

@@ -1,5 +1,5 @@
 -- The rows of the level so far are filled.
-use Rattle.std.proofs.Common.{◌≡◌, ◌+◌, ◌*◌, length}
+use Rattle.std.proofs.Common.{◌+◌, ◌*◌}
 use Rattle.casefile.specs.Filled.{IsFilled}
 use Rattle.casefile.proofs.tables.fill_level.Given as goal
 

@@ -1,4 +1,4 @@
-use Rattle.std.proofs.Common.{arith, ap, ◌∙◌, rules}
+use Rattle.std.proofs.Common.{arith, rules}
 use Rattle.casefile.proofs.Sheet.{none_filled, all_filled}
 use Rattle.casefile.proofs.tables.read_lines.Goals as goal
 

@@ -1,5 +1,5 @@
 -- The rows of the levels so far are filled.
-use Rattle.std.proofs.Common.{◌≡◌, ◌*◌, length}
+use Rattle.std.proofs.Common.{◌*◌}
 use Rattle.casefile.specs.Filled.{IsFilled}
 use Rattle.casefile.proofs.tables.read_lines.Given as goal
 

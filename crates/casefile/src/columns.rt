@@ -112,6 +112,8 @@ impl<'a> Table<'a> {
     }
 
     // ---- a column, with zeros past the records
+    // in place, where kind and width are known: a call would test them at each record
+    #[inline(always)]
     pub fn fill_numbers(&self, offset: usize, width: usize, out: &mut [u32])
         requires { (offset < 256) × (width ≤ 4) }
         ensures { out.new ≡ tab (length out.old) (number_in self.now.kind self.now.file self.now.at self.now.count offset width) }

@@ -2,7 +2,7 @@
 #![tactic(auto)]
 
 ghost use Rattle.std.specs.Prelude.{◌≡◌};
-ghost use Rattle.casefile_defs.specs.Tables.{held, outcome, places_of, read_case};
+ghost use Rattle.casefile_defs.specs.Tables.{outcome, places_of, read_case};
 ghost use Rattle.casefile_defs.specs.Moving.{moved_as, move_forward, move_back};
 
 use casefile_defs::{CaseRead, Header, Kind, Wanted, tables_sized};
@@ -16,24 +16,16 @@ mod record;
 mod scan;
 mod tables;
 
-// The counts that a reading leaves in the tables: none where it is refused.
-#[tactic(auto, unfolding(casefile_defs::specs::Tables::held))]
-fn held(reading: Result<Header, Refusal>) -> Header
-    ensures { result ≡ held reading }
-{
-    match reading {
-        Ok(h) => h,
-        Err(_) => Header {
-            mode: PlanMode::Expand,
-            target: 0,
-            buses: 0,
-            corridors: 0,
-            generators: 0,
-            above: 0,
-            requested: 0,
-        },
-    }
-}
+// The counts that a refused reading leaves in the tables.
+const NOTHING: Header = Header {
+    mode: PlanMode::Expand,
+    target: 0,
+    buses: 0,
+    corridors: 0,
+    generators: 0,
+    above: 0,
+    requested: 0,
+};
 
 // Reads a case file into the lent tables, each of its largest size.
 pub fn read_case(
@@ -84,7 +76,7 @@ pub fn read_case(
         };
     }
     let read = scan::read_as(file, Wanted::Either);
-    let h = held(read.reading);
+    let h = read.reading.unwrap_or(NOTHING);
     let levels = h.above + h.requested;
     let buses = tables::read_levels(file, record::HEAD_END, levels, ladder);
     let generators = tables::read_buses(file, buses, h.buses, tier, reading, weight);

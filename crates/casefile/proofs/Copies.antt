@@ -4,7 +4,7 @@ use Prim.Native.Nat.{ℕ, zero, suc, ◌+◌, ◌-◌, ◌*◌, ◌≤◌}
 use mathlib.Core.Bool.{Bool, true, false, cond}
 use mathlib.Core.List.{List, [], ◌++◌, append_assoc}
 use mathlib.Core.Logic.{⊎_elim}
-use mathlib.Core.Path.{◌≡◌, refl, sym, ap, ◌∙◌, subst}
+use mathlib.Core.Path.{◌≡◌, refl, sym, ap, ◌∙◌}
 use native.Mathlib.Nat.{eq-or-lt_of_le}
 use native.Mathlib.Numerals.{add-one}
 use native.Mathlib.Omega.{arith}
@@ -59,24 +59,15 @@ weight_length l = go (weighs l)
     go true = omega arith
     go false = omega arith
 
-pub weight_room : (l : Kind) (to n : ℕ) → weighs l ≡ true → to + length (weight_of l) ≤ n → to + 8 ≤ n
-weight_room l to n e h = subst (λ (b : Bool). to + length (cond b one_bytes []) ≤ n) e h
-
-pub weight_put : (w w₁ : List ℕ) (l : Kind) (to : ℕ) → weighs l ≡ true → w₁ ≡ put w to (part 0 8 one_bytes) → w₁ ≡ put w to (weight_of l)
-unfolding part
-weight_put w w₁ l to e g = g ∙ ap (λ (b : Bool). put w to (cond b one_bytes [])) (sym e)
-
-pub no_weight : (w : List ℕ) (l : Kind) (to : ℕ) → weighs l ≡ false → w ≡ put w to (weight_of l)
-no_weight w l to e = sym (put_none w to) ∙ ap (λ (b : Bool). put w to (cond b one_bytes [])) (sym e)
-
-pub bus_put : (l : Kind) (s m w w₁ w₂ w₃ : List ℕ) (at to : ℕ) → at + 11 ≤ length s → to + (11 + length (weight_of l)) ≤ length w → m ≡ mark_of l → w₁ ≡ put w to (part 0 2 m)
-    → w₂ ≡ put w₁ (to + 2) (called s at) → w₃ ≡ put w₂ (to + 11) (weight_of l) → w₃ ≡ put w to (bus_as l s at)
+pub bus_put : (l : Kind) (s m w w₁ w₂ w₃ : List ℕ) (at to : ℕ) → at + 11 ≤ length s → to + (11 + length (weight_of l)) ≤ length w → m ≡ mark_of l → w₁ ≡ put w to m
+    → w₂ ≡ put w₁ (to + 2) (take (at + 2 + 9 - (at + 2)) (drop (at + 2) s)) → w₃ ≡ put w₂ (to + 11) (weight_of l) → w₃ ≡ put w to (bus_as l s at)
 unfolding bus_as part
 bus_put l s m w w₁ w₂ w₃ at to h k q e₁ e₂ e₃ =
     let c : length (called s at) ≡ 9 = length_called s at h in
-    let e : w₁ ≡ put w to (mark_of l) = e₁ ∙ ap (λ (x : List ℕ). put w to (part 0 2 x)) q in
+    let e : w₁ ≡ put w to (mark_of l) = e₁ ∙ ap (λ (x : List ℕ). put w to x) q in
+    let z : at + 2 + 9 - (at + 2) ≡ 9 = omega arith in
     let a : w₂ ≡ put w to (mark_of l ++ called s at) =
-    e₂ ∙ ap (λ (x : List ℕ). put x (to + 2) (called s at)) e ∙ put_more w to (to + 2) (mark_of l) (called s at) refl (omega arith) in
+    e₂ ∙ ap (λ (x : ℕ). put w₁ (to + 2) (take x (drop (at + 2) s))) z ∙ ap (λ (x : List ℕ). put x (to + 2) (called s at)) e ∙ put_more w to (to + 2) (mark_of l) (called s at) refl (omega arith) in
     let n : to + 11 ≡ to + length (mark_of l ++ called s at) = simp length-append (omega arith) in
     e₃
     ∙ ap (λ (x : List ℕ). put x (to + 11) (weight_of l)) a

@@ -21,35 +21,23 @@ use refusal::Refusal;
 const CALLED: usize = record::U8 + record::FIGURE;
 
 // The bytes of the figure 1, and its bits.
-const WEIGHT_OF_ONE: [u8; record::FIGURE] = [0, 0, 0, 0, 0, 0, 0xf0, 0x3f];
+static WEIGHT_OF_ONE: [u8; record::FIGURE] = [0, 0, 0, 0, 0, 0, 0xf0, 0x3f];
 
 const ONE: u64 = 0x3ff0_0000_0000_0000;
 
-// Copies `count` bytes.
-fn copy(from: &[u8], at: usize, out: &mut [u8], to: usize, count: usize)
-    requires { (at + count ≤ length from.now) × (to + count ≤ length out.old) }
-    ensures { out.new ≡ put out.old to (part at count from.now) }
+// Puts a part's bytes at a place.
+fn put_part(part: &[u8], out: &mut [u8], to: usize)
+    requires { to + length part.now ≤ length out.old }
+    ensures { out.new ≡ put out.old to part.now }
 {
-    out[to..to + count].copy_from_slice(&from[at..at + count]);
+    out[to..to + part.len()].copy_from_slice(part);
 }
 
-// Copies what follows a place, as much of it as there is room for.
-fn copy_rest(from: &[u8], at: usize, out: &mut [u8], to: usize)
-    requires { (at ≤ length from.now) × (to ≤ length out.old) }
-    ensures { out.new ≡ put out.old to (part at (min (length from.now - at) (length out.old - to)) from.now) }
+// The bytes of a weight of 1, where a kind has a weight.
+fn weight_of(kind: Kind) -> &'static [u8]
+    ensures { result.now ≡ weight_of kind }
 {
-    let count = (from.len() - at).min(out.len() - to);
-    copy(from, at, out, to, count);
-}
-
-// The weight of 1, where a kind has a weight.
-fn put_weight(kind: Kind, out: &mut [u8], to: usize)
-    requires { to + length (weight_of kind) ≤ length out.old }
-    ensures { out.new ≡ put out.old to (weight_of kind) }
-{
-    if weighs(kind) {
-        copy(&WEIGHT_OF_ONE, 0, out, to, record::FIGURE);
-    }
+    if weighs(kind) { &WEIGHT_OF_ONE } else { &[] }
 }
 
 // A bus's record as one of a kind.
@@ -58,9 +46,10 @@ fn put_bus(file: &[u8], at: usize, kind: Kind, out: &mut [u8], to: usize)
     requires { (at + (2 + called_bytes) ≤ length file.now) × (to + (2 + called_bytes + length (weight_of kind)) ≤ length out.old) }
     ensures { out.new ≡ put out.old to (bus_as kind file.now at) }
 {
-    copy(&mark(kind), 0, out, to, record::MARK);
-    copy(file, at + record::MARK, out, to + record::MARK, CALLED);
-    put_weight(kind, out, to + (record::MARK + CALLED));
+    let called = at + record::MARK;
+    put_part(&mark(kind), out, to);
+    put_part(&file[called..called + CALLED], out, to + record::MARK);
+    put_part(weight_of(kind), out, to + (record::MARK + CALLED));
 }
 
 // A table's buses as records of a kind; where they end in the output.
@@ -87,9 +76,11 @@ fn put_file(buses: &Table, kind: Kind, out: &mut [u8])
     requires clear { out.old ≡ replicate most_bytes 0 }
     ensures { out.new ≡ fitted (file_as kind buses.now.file buses.now.at buses.now.count) }
 {
-    copy(buses.file, 0, out, 0, buses.at);
+    put_part(&buses.file[..buses.at], out, 0);
     let there = put_buses(buses, kind, out);
-    copy_rest(buses.file, buses.end, out, there);
+    let rest = &buses.file[buses.end..];
+    let room = out.len() - there;
+    put_part(&rest[..rest.len().min(room)], out, there);
 }
 
 // Where the buses begin: the levels before them are all of one length.

@@ -1,5 +1,6 @@
 -- The records' starts, stored one after the other.
-use Prim.Native.Nat.{ℕ, ◌+◌, ◌<◌}
+use Prim.Native.Nat.{ℕ, suc, ◌+◌, ◌<◌, ◌≤◌}
+use mathlib.Core.Bool.{Bool, true, false, cond}
 use mathlib.Core.List.{List}
 use mathlib.Core.Path.{◌≡◌, refl, sym, ap, ◌∙◌, subst}
 use native.Mathlib.Decide.{dec_lt}
@@ -8,10 +9,13 @@ use native.Mathlib.Numerals.{add-one}
 use native.Mathlib.Omega.{arith}
 use lib.ListN.{length, get_or, set}
 use lib.Seq.{get_or-set_same, get_or-set_other}
-use Rattle.casefile_defs.specs.Layout.{end_of, spot}
+use Rattle.casefile_defs.specs.Layout.{size_of, marked, standing, end_of, spot, word}
 use Rattle.casefile_defs.specs.declared.Kind.{Kind}
-use Rattle.casefile_defs.specs.declared.Kind.TheVariants.{Bus}
-use Rattle.casefile.specs.Records.{Records, start_of, Starts}
+use Rattle.casefile_defs.specs.Tables.{number_at}
+use Rattle.casefile_defs.specs.declared.Kind.TheVariants.{Bus, Corridor, CappedCorridor}
+use Rattle.casefile_defs.proofs.Spots.{standing_least, number_had, number_not}
+use Rattle.casefile_defs.proofs.Words.{word_none, word_more}
+use Rattle.casefile.specs.Records.{Records, start_of, cap_at, Starts}
 
 module _ (k : Kind) (s : List ℕ) (at : ℕ) where
   -- ---- the loop that stores them: its start, and a turn
@@ -40,3 +44,19 @@ module _ (k : Kind) (s : List ℕ) (at : ℕ) where
 -- a table's record, where buses are due
 pub bus_start : (t : Records) (i x : ℕ) → t.kind ≡ Bus → x ≡ start_of t i → x ≡ spot Bus t.file t.at i
 bus_start t i x b e = e ∙ ap (λ (k : Kind). spot k t.file t.at i) b
+
+-- ---- a number of a record: one that each of its kind has, and a cap
+pub number_there : (k : Kind) (s : List ℕ) (at o w x : ℕ) → o + w ≤ size_of k → x ≡ word w (at + o) s → x ≡ number_at k s at o w
+number_there k s at o w x h e = number_had k s at o w x (omega (arith, standing_least k s at)) e
+
+module _ (s : List ℕ) (at : ℕ) where
+  pub cap_there : (x : ℕ) → marked CappedCorridor s at ≡ true → at + 24 ≤ length s → x ≡ get_or s (at + 23) 0 → x ≡ cap_at s at
+  cap_there x m h e =
+      let r : 24 ≤ size_of (standing Corridor s at) = subst (λ (b : Bool). 24 ≤ size_of (cond b CappedCorridor Corridor)) (sym m) (omega arith) in
+      number_had Corridor s at 23 1 x r
+      (e ∙ (let a : get_or s (at + 23) 0 ≡ word 1 (at + 23) s = omega (arith, word_more 0 (at + 23) s (omega arith), word_none (suc (at + 23)) s) in a))
+
+  pub no_cap : marked CappedCorridor s at ≡ false → 0 ≡ cap_at s at
+  no_cap m =
+      let r : size_of (standing Corridor s at) < 24 = subst (λ (b : Bool). size_of (cond b CappedCorridor Corridor) < 24) (sym m) (omega arith) in
+      number_not Corridor s at 23 1 r

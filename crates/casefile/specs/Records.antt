@@ -1,8 +1,10 @@
 -- The records of a table, which lie one after the other in the file.
 use Rattle.std.specs.Prelude.{ℕ, ◌<◌, ◌≤◌, List, ◌≡◌, length, get_or}
 use Rattle.casefile_defs.specs.Bounds.{most_corridors}
-use Rattle.casefile_defs.specs.Layout.{end_of, spot}
+use Rattle.casefile_defs.specs.Layout.{place_of, span_of, end_of, spot}
+use Rattle.casefile_defs.specs.Tables.{number_at, cap_field}
 use Rattle.casefile_defs.specs.declared.Kind.{Kind}
+use Rattle.casefile_defs.specs.declared.Kind.TheVariants.{Corridor, CappedCorridor}
 
 -- so many records from a place on, where those of a kind are due
 pub record Records : Type 0 where
@@ -17,6 +19,10 @@ records_of k s at n = record { kind = k; file = s; at = at; count = n }
 -- where record i starts
 abbrev pub start_of : Records → ℕ → ℕ
 start_of t i = spot t.kind t.file t.at i
+
+-- the cap of the corridor at a place, 0 where it has none
+abbrev pub cap_at : List ℕ → ℕ → ℕ
+cap_at s at = number_at Corridor s at (place_of CappedCorridor cap_field) (span_of CappedCorridor cap_field)
 
 -- every record is inside the file
 abbrev pub Room : Kind → List ℕ → ℕ → ℕ → Type 0

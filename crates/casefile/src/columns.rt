@@ -1,9 +1,9 @@
 // The records of a table, and its columns: a place for each record, and zeros past them. A column is named by its field's place in the record, a number's by its width too.
-ghost use Rattle.std.specs.Prelude.{◌≡◌, ◌+◌, ◌<◌, ◌≤◌, leb, length};
+ghost use Rattle.std.specs.Prelude.{◌≡◌, ◌+◌, ◌<◌, ◌≤◌, length};
 ghost use Rattle.loops.specs.Loops.{tab};
-ghost use Rattle.casefile_defs.specs.Layout.{size_of, standing, end_of, word};
-ghost use Rattle.casefile_defs.specs.Tables.{number_at, figure_at, weight_at, number_in, figure_in, weight_in};
-ghost use Rattle.casefile.specs.Records.{Records, records_of, start_of, Room, Stored};
+ghost use Rattle.casefile_defs.specs.Layout.{size_of, end_of, word};
+ghost use Rattle.casefile_defs.specs.Tables.{number_at, figure_at, weight_at, number_in, figure_in, numbers_of, weights, cap_field};
+ghost use Rattle.casefile.specs.Records.{Records, records_of, start_of, cap_at, Room, Stored};
 
 use crate::bytes::{eight, figure, word};
 use crate::record;
@@ -86,12 +86,14 @@ impl<'a> Table<'a> {
     }
 
     // ---- a field of record i
+    #[tactic(auto, using(casefile_defs::proofs::Spots::standing_least, crate::proofs::Stored::number_there))]
     fn number(&self, i: usize, offset: usize, width: usize) -> u32
         requires record { i < self.now.count }
-        requires narrow { (offset < 256) × (width ≤ 4) }
+        requires inside { offset + width ≤ size_of self.now.kind }
+        requires narrow { width ≤ 4 }
         ensures { result ≡ number_at self.now.kind self.now.file (start_of self.now i) offset width }
     {
-        number_at(self.file, self.kind, self.start(i), offset, width)
+        word(self.file, self.start(i) + offset, width) as u32
     }
 
     #[tactic(auto, using(casefile_defs::proofs::Spots::standing_least), unfolding(casefile_defs::specs::Tables::figure_at))]
@@ -111,11 +113,18 @@ impl<'a> Table<'a> {
         weight_at(self.file, self.start(i))
     }
 
+    fn cap(&self, i: usize) -> u32
+        requires record { i < self.now.count }
+        requires corridor { self.now.kind ≡ Kind.Corridor }
+        ensures { result ≡ cap_at self.now.file (start_of self.now i) }
+    {
+        cap_at(self.file, self.start(i))
+    }
+
     // ---- a column, with zeros past the records
-    // in place, where kind and width are known: a call would test them at each record
-    #[inline(always)]
     pub fn fill_numbers(&self, offset: usize, width: usize, out: &mut [u32])
-        requires { (offset < 256) × (width ≤ 4) }
+        requires inside { offset + width ≤ size_of self.now.kind }
+        requires narrow { width ≤ 4 }
         ensures { out.new ≡ tab (length out.old) (number_in self.now.kind self.now.file self.now.at self.now.count offset width) }
     {
         fill_first(out, self.count, 0, |i| self.number(i, offset, width));
@@ -130,9 +139,16 @@ impl<'a> Table<'a> {
 
     pub fn fill_weights(&self, out: &mut [f64])
         requires { self.now.kind ≡ Kind.Bus }
-        ensures { out.new ≡ tab (length out.old) (weight_in self.now.file self.now.at self.now.count) }
+        ensures { out.new ≡ weights self.now.file self.now.at self.now.count (length out.old) }
     {
         fill_first(out, self.count, 0.0, |i| self.weight(i));
+    }
+
+    pub fn fill_caps(&self, out: &mut [u32])
+        requires { self.now.kind ≡ Kind.Corridor }
+        ensures { out.new ≡ numbers_of Kind.Corridor Kind.CappedCorridor cap_field self.now.file self.now.at self.now.count (length out.old) }
+    {
+        fill_first(out, self.count, 0, |i| self.cap(i));
     }
 }
 
@@ -142,30 +158,6 @@ fn end_of(file: &[u8], kind: Kind, at: usize) -> usize
     ensures { result ≡ end_of kind file.now at }
 {
     at + size(standing(file, kind, at))
-}
-
-// Whether the record that stands at a place where one of a kind is due has its bytes up to a distance. Its mark is looked at only where the older record ends
-// before that.
-fn reaches(file: &[u8], kind: Kind, at: usize, end: usize) -> bool
-    ensures { result ≡ leb end (size_of (standing kind file.now at)) }
-{
-    if end <= size(kind) {
-        return true;
-    }
-    end <= size(standing(file, kind, at))
-}
-
-// A whole number of the record at a place, 0 where the record has none.
-#[tactic(auto, using(casefile_defs::proofs::Spots::number_had, casefile_defs::proofs::Spots::number_not))]
-fn number_at(file: &[u8], kind: Kind, at: usize, offset: usize, width: usize) -> u32
-    requires room { end_of kind file.now at ≤ length file.now }
-    requires narrow { (offset < 256) × (width ≤ 4) }
-    ensures { result ≡ number_at kind file.now at offset width }
-{
-    if reaches(file, kind, at, offset + width) {
-        return word(file, at + offset, width) as u32;
-    }
-    0
 }
 
 // The weight of the bus at a place: a BU has weight 1.
@@ -178,4 +170,16 @@ fn weight_at(file: &[u8], at: usize) -> f64
         return figure(eight(file, at + record::BUS_WEIGHT));
     }
     1.0
+}
+
+// The cap of the corridor at a place: a CO has none, and 0 stands for it.
+#[tactic(auto, using(crate::proofs::Stored::cap_there, crate::proofs::Stored::no_cap))]
+fn cap_at(file: &[u8], at: usize) -> u32
+    requires { end_of Kind.Corridor file.now at ≤ length file.now }
+    ensures { result ≡ cap_at file.now at }
+{
+    if bears(file, Kind::CappedCorridor, at) {
+        return file[at + record::CORRIDOR_CAP] as u32;
+    }
+    0
 }

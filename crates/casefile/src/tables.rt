@@ -175,7 +175,7 @@ pub fn read_corridors(
     corridors.fill_numbers(record::CORRIDOR_CIRCUITS, record::U8, circuits);
     corridors.fill_figures(record::CORRIDOR_LENGTH, length_km);
     corridors.fill_figures(record::CORRIDOR_SHARE, share);
-    corridors.fill_numbers(record::CORRIDOR_CAP, record::U8, cap);
+    corridors.fill_caps(cap);
     corridors.end()
 }
 

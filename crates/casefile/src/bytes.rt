@@ -23,6 +23,7 @@ pub fn word(file: &[u8], at: usize, width: usize) -> u64
 }
 
 // The number of eight bytes at a place, which the compiler loads at once.
+#[tactic(auto, using(crate::proofs::Words::eight_bytes))]
 pub fn eight(file: &[u8], at: usize) -> u64
     requires { at + 8 ≤ length file.now }
     ensures { result ≡ word 8 at file.now }

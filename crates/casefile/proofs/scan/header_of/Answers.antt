@@ -33,10 +33,8 @@ mode_same : (n : ℕ) (r : Result PlanMode UnknownMode) → Numbered n r → res
 mode_same n (Ok m) e = numbered m ∙ ap (λ (k : ℕ). mode_of k) e
 mode_same n (Err e) h = no_number n h.1
 
-pub returns : goal.returns
-returns c = record {
-  value = header_same _ _ _ _ _ _ _ _ _ (c.unwrap_or-mode.ensures ∙ mode_same _ _ c.try_from.ensures) c.word.ensures.value c.word-target.ensures.value
-      c.word-buses.ensures.value c.word-corridors.ensures.value c.word-generators.ensures.value
-      c.word-above.ensures.value c.word-requested.ensures.value;
-  small = (c.word-above.ensures.small, c.word-requested.ensures.small);
-}
+pub returns-clause-value : goal.returns-clause-value
+returns-clause-value c =
+    header_same _ _ _ _ _ _ _ _ _ (c.unwrap_or-mode.ensures ∙ mode_same _ _ c.try_from.ensures) c.word.ensures.value c.word-target.ensures.value
+    c.word-buses.ensures.value c.word-corridors.ensures.value c.word-generators.ensures.value
+    c.word-above.ensures.value c.word-requested.ensures.value

@@ -2,9 +2,9 @@
 -- A part put right behind another makes one part (put_more); so each record is three parts, and the table one part more in each turn.
 use Prim.Native.Nat.{ℕ, zero, suc, ◌+◌, ◌-◌, ◌*◌, ◌≤◌}
 use mathlib.Core.Bool.{Bool, true, false, cond}
-use mathlib.Core.List.{List, [], ◌∷◌, ◌++◌, append_assoc}
+use mathlib.Core.List.{List, [], ◌++◌, append_assoc}
 use mathlib.Core.Logic.{⊎_elim}
-use mathlib.Core.Path.{◌≡◌, refl, sym, ap, ◌∙◌, subst}
+use mathlib.Core.Path.{◌≡◌, refl, sym, ap, ◌∙◌}
 use native.Mathlib.Nat.{eq-or-lt_of_le}
 use native.Mathlib.Numerals.{add-one}
 use native.Mathlib.Omega.{arith}
@@ -13,18 +13,18 @@ use lib.ListN.{length, take, drop, length-append, length-take}
 use lib.Seq.{take_at, drop-drop, drop_at}
 use Rattle.loops.specs.Parts.{part, put}
 use Rattle.loops.proofs.Parts.{length_part, put_none}
-use Rattle.casefile_defs.specs.Layout.{layout_of, weighs, spot}
+use Rattle.casefile_defs.specs.Layout.{weighs, spot}
 use Rattle.casefile_defs.specs.Moving.{called, mark_of, one_bytes, weight_of, bus_as, buses_as}
 use Rattle.casefile_defs.specs.declared.Kind.{Kind}
 use Rattle.casefile_defs.specs.declared.Kind.TheVariants.{Bus}
 use Rattle.casefile.specs.Movable.{Kept}
 
 -- what a copy between two parts makes
-pub put_copied : (w v : List ℕ) (i k : ℕ) → length v ≡ k → put_mid i (i + k - i) w v ≡ put w i v
+pub put_copied : {A : Type 0} (w v : List A) (i k : ℕ) → length v ≡ k → put_mid i (i + k - i) w v ≡ put w i v
 unfolding put
-put_copied w v i k e =
+put_copied {A} w v i k e =
     let z : i + k - i ≡ length v = omega arith in
-    ap (λ (n : ℕ). put_mid i n w v) z ∙ sym (append_assoc (take i w) v (drop (length v) (drop i w))) ∙ ap (λ (x : List ℕ). take i w ++ v ++ x) (drop-drop (length v) i w)
+    ap (λ (n : ℕ). put_mid i n w v) z ∙ sym (append_assoc (take i w) v (drop (length v) (drop i w))) ∙ ap (λ (x : List A). take i w ++ v ++ x) (drop-drop (length v) i w)
 
 head_length : (w : List ℕ) (o : ℕ) (u : List ℕ) → o ≤ length w → length (take o w ++ u) ≡ o + length u
 head_length w o u h = simp (length-append, length-take) (omega arith)
@@ -59,24 +59,15 @@ weight_length l = go (weighs l)
     go true = omega arith
     go false = omega arith
 
-pub weight_room : (l : Kind) (to n : ℕ) → weighs l ≡ true → to + length (weight_of l) ≤ n → to + 8 ≤ n
-weight_room l to n e h = subst (λ (b : Bool). to + length (cond b one_bytes []) ≤ n) e h
-
-pub weight_put : (w w₁ : List ℕ) (l : Kind) (to : ℕ) → weighs l ≡ true → w₁ ≡ put w to (part 0 8 one_bytes) → w₁ ≡ put w to (weight_of l)
-unfolding part
-weight_put w w₁ l to e g = g ∙ ap (λ (b : Bool). put w to (cond b one_bytes [])) (sym e)
-
-pub no_weight : (w : List ℕ) (l : Kind) (to : ℕ) → weighs l ≡ false → w ≡ put w to (weight_of l)
-no_weight w l to e = sym (put_none w to) ∙ ap (λ (b : Bool). put w to (cond b one_bytes [])) (sym e)
-
-pub bus_put : (l : Kind) (s m w w₁ w₂ w₃ : List ℕ) (at to : ℕ) → at + 11 ≤ length s → to + (11 + length (weight_of l)) ≤ length w → m ≡ mark_of l → w₁ ≡ put w to (part 0 2 m)
-    → w₂ ≡ put w₁ (to + 2) (called s at) → w₃ ≡ put w₂ (to + 11) (weight_of l) → w₃ ≡ put w to (bus_as l s at)
+pub bus_put : (l : Kind) (s m w w₁ w₂ w₃ : List ℕ) (at to : ℕ) → at + 11 ≤ length s → to + (11 + length (weight_of l)) ≤ length w → m ≡ mark_of l → w₁ ≡ put w to m
+    → w₂ ≡ put w₁ (to + 2) (take (at + 2 + 9 - (at + 2)) (drop (at + 2) s)) → w₃ ≡ put w₂ (to + 11) (weight_of l) → w₃ ≡ put w to (bus_as l s at)
 unfolding bus_as part
 bus_put l s m w w₁ w₂ w₃ at to h k q e₁ e₂ e₃ =
     let c : length (called s at) ≡ 9 = length_called s at h in
-    let e : w₁ ≡ put w to (mark_of l) = e₁ ∙ ap (λ (x : List ℕ). put w to (part 0 2 x)) q in
+    let e : w₁ ≡ put w to (mark_of l) = e₁ ∙ ap (λ (x : List ℕ). put w to x) q in
+    let z : at + 2 + 9 - (at + 2) ≡ 9 = omega arith in
     let a : w₂ ≡ put w to (mark_of l ++ called s at) =
-    e₂ ∙ ap (λ (x : List ℕ). put x (to + 2) (called s at)) e ∙ put_more w to (to + 2) (mark_of l) (called s at) refl (omega arith) in
+    e₂ ∙ ap (λ (x : ℕ). put w₁ (to + 2) (take x (drop (at + 2) s))) z ∙ ap (λ (x : List ℕ). put x (to + 2) (called s at)) e ∙ put_more w to (to + 2) (mark_of l) (called s at) refl (omega arith) in
     let n : to + 11 ≡ to + length (mark_of l ++ called s at) = simp length-append (omega arith) in
     e₃
     ∙ ap (λ (x : List ℕ). put x (to + 11) (weight_of l)) a

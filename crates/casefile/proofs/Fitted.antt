@@ -15,7 +15,7 @@ use Rattle.casefile_defs.specs.Moving.{weight_of, buses_as, file_as, fitted}
 use Rattle.casefile_defs.specs.declared.Kind.{Kind}
 use Rattle.casefile_defs.specs.declared.Kind.TheVariants.{Bus}
 use Rattle.casefile.specs.Movable.{Kept}
-use Rattle.casefile.specs.Starts.{Room}
+use Rattle.casefile.specs.Records.{Room}
 use Rattle.casefile.proofs.Copies.{put_more, weight_length, length_buses}
 
 abbrev pub zeros : ℕ → List ℕ
@@ -59,7 +59,7 @@ put_zeros m x = ap (λ (l : List ℕ). x ++ l) (ap (λ (n : ℕ). drop n (zeros 
 module _ (l : Kind) (s : List ℕ) (at n : ℕ) where
   pub file_fitted : (w₀ w₁ w₂ w₃ : List ℕ) (rest there : ℕ) → w₀ ≡ zeros most_bytes → rest ≡ spot Bus s at n → there ≡ at + length (buses_as l s at n)
       → at ≤ length s → rest ≤ length s → there ≤ most_bytes
-      → w₁ ≡ put w₀ 0 (part 0 at s) → w₂ ≡ put w₁ at (buses_as l s at n) → w₃ ≡ put w₂ there (part rest (min (length s - rest) (length w₂ - there)) s)
+      → w₁ ≡ put w₀ 0 (take at s) → w₂ ≡ put w₁ at (buses_as l s at n) → w₃ ≡ put w₂ there (take (min (length (drop rest s)) (length w₂ - there)) (drop rest s))
       → w₃ ≡ fitted (file_as l s at n)
   unfolding fitted file_as part
   file_fitted w₀ w₁ w₂ w₃ rest there z p q a r t e₁ e₂ e₃ =
@@ -74,7 +74,7 @@ module _ (l : Kind) (s : List ℕ) (at n : ℕ) where
       let lu : length (x ++ y) ≡ there = length-append x y ∙ (omega arith) in
       let l₂ : length w₂ ≡ most_bytes = ap length f₁ ∙ length_put w₀ 0 (x ++ y) (omega arith) ∙ lz in
       let c : ℕ = min (length d) (most_bytes - there) in
-      let ec : min (length s - rest) (length w₂ - there) ≡ c = simp (l₂, ld) in
+      let ec : min (length d) (length w₂ - there) ≡ c = simp l₂ in
       let lc : length (take c d) ≡ c = length-take-le c d (omega arith) in
       let f₂ : w₃ ≡ put w₀ 0 ((x ++ y) ++ take c d) =
       e₃

@@ -7,3 +7,4 @@ pub mod Copies
 pub mod Fitted
 pub mod Moves
 pub mod Steps
+pub mod Sheet

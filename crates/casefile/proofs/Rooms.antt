@@ -7,7 +7,7 @@ use native.Mathlib.Nat.{not-suc-le-zero}
 use native.Mathlib.Omega.{arith}
 use Rattle.casefile_defs.specs.Reading.{Small, levels, lines, reading_of}
 use Rattle.casefile_defs.specs.Tables.{levels_at, buses_at, generators_at, corridors_at, lines_at, held}
-use Rattle.casefile.specs.Starts.{Room}
+use Rattle.casefile.specs.Records.{Room}
 use Rattle.casefile_defs.specs.declared.Kind.{Kind}
 use Rattle.casefile_defs.specs.declared.Kind.TheVariants.{Level, Bus, Generator, Corridor, Line}
 use Rattle.casefile_defs.specs.declared.Header.{Header}

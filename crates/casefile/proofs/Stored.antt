@@ -1,5 +1,6 @@
--- The records' starts, stored one after the other, and the columns read by them: the definition's, since a start is where its record is.
-use Prim.Native.Nat.{ℕ, ◌+◌, ◌<◌, ◌≤◌}
+-- The records' starts, stored one after the other.
+use Prim.Native.Nat.{ℕ, suc, ◌+◌, ◌<◌, ◌≤◌}
+use mathlib.Core.Bool.{Bool, true, false, cond}
 use mathlib.Core.List.{List}
 use mathlib.Core.Path.{◌≡◌, refl, sym, ap, ◌∙◌, subst}
 use native.Mathlib.Decide.{dec_lt}
@@ -8,15 +9,13 @@ use native.Mathlib.Numerals.{add-one}
 use native.Mathlib.Omega.{arith}
 use lib.ListN.{length, get_or, set}
 use lib.Seq.{get_or-set_same, get_or-set_other}
-use Rattle.loops.specs.Figures.{nought}
-use Rattle.loops.specs.Loops.{tab}
-use Rattle.loops.proofs.Tab.{tab_same}
-use Rattle.casefile_defs.specs.Layout.{size_of, end_of, spot}
-use Rattle.casefile_defs.specs.Tables.{number_at, figure_at, weight_at, number_in, figure_in, weight_in}
+use Rattle.casefile_defs.specs.Layout.{size_of, marked, standing, end_of, spot, word}
 use Rattle.casefile_defs.specs.declared.Kind.{Kind}
-use Rattle.casefile_defs.specs.declared.Kind.TheVariants.{Bus}
-use Rattle.casefile_defs.proofs.Spots.{standing_least, by_test}
-use Rattle.casefile.specs.Starts.{Room, Starts, Whole, Within, number_by, figure_by, weight_by}
+use Rattle.casefile_defs.specs.Tables.{number_at}
+use Rattle.casefile_defs.specs.declared.Kind.TheVariants.{Bus, Corridor, CappedCorridor}
+use Rattle.casefile_defs.proofs.Spots.{standing_least, number_had, number_not}
+use Rattle.casefile_defs.proofs.Words.{word_none, word_more}
+use Rattle.casefile.specs.Records.{Records, start_of, cap_at, Starts}
 
 module _ (k : Kind) (s : List ℕ) (at : ℕ) where
   -- ---- the loop that stores them: its start, and a turn
@@ -42,24 +41,22 @@ module _ (k : Kind) (s : List ℕ) (at : ℕ) where
   unfolding spot
   next_start i here next e q = q ∙ ap (λ (p : ℕ). end_of k s p) e ∙ ap (λ (m : ℕ). spot k s at m) (sym (add-one i))
 
-  module _ (count : ℕ) (starts : List ℕ) (g : Starts k s at count starts) where
-    -- ---- the records at the stored starts are inside the file
-    pub whole_stored : Room k s at count → Whole k s starts count
-    unfolding Starts
-    whole_stored r i h = subst (λ (p : ℕ). end_of k s p ≤ length s) (sym (g i h)) (r i h)
+-- a table's record, where buses are due
+pub bus_start : (t : Records) (i x : ℕ) → t.kind ≡ Bus → x ≡ start_of t i → x ≡ spot Bus t.file t.at i
+bus_start t i x b e = e ∙ ap (λ (k : Kind). spot k t.file t.at i) b
 
-    pub within_stored : (e : ℕ) → e ≤ size_of k → Room k s at count → Within s starts count e
-    within_stored e l r i h = omega (arith, whole_stored r i h, standing_least k s (get_or starts i 0))
+-- ---- a number of a record: one that each of its kind has, and a cap
+pub number_there : (k : Kind) (s : List ℕ) (at o w x : ℕ) → o + w ≤ size_of k → x ≡ word w (at + o) s → x ≡ number_at k s at o w
+number_there k s at o w x h e = number_had k s at o w x (omega (arith, standing_least k s at)) e
 
-    -- ---- the columns
-    pub numbers_stored : (o w n : ℕ) → tab n (number_by k s starts count o w) ≡ tab n (number_in k s at count o w)
-    unfolding Starts number_by number_in
-    numbers_stored o w n = tab_same n _ _ (λ i h. by_test i count _ _ 0 (λ l. ap (λ (p : ℕ). number_at k s p o w) (g i l)))
+module _ (s : List ℕ) (at : ℕ) where
+  pub cap_there : (x : ℕ) → marked CappedCorridor s at ≡ true → at + 24 ≤ length s → x ≡ get_or s (at + 23) 0 → x ≡ cap_at s at
+  cap_there x m h e =
+      let r : 24 ≤ size_of (standing Corridor s at) = subst (λ (b : Bool). 24 ≤ size_of (cond b CappedCorridor Corridor)) (sym m) (omega arith) in
+      number_had Corridor s at 23 1 x r
+      (e ∙ (let a : get_or s (at + 23) 0 ≡ word 1 (at + 23) s = omega (arith, word_more 0 (at + 23) s (omega arith), word_none (suc (at + 23)) s) in a))
 
-    pub figures_stored : (o n : ℕ) → tab n (figure_by s starts count o) ≡ tab n (figure_in k s at count o)
-    unfolding Starts figure_by figure_in
-    figures_stored o n = tab_same n _ _ (λ i h. by_test i count _ _ nought (λ l. ap (λ (p : ℕ). figure_at s p o) (g i l)))
-
-pub weights_stored : (s : List ℕ) (at count : ℕ) (starts : List ℕ) → Starts Bus s at count starts → (n : ℕ) → tab n (weight_by s starts count) ≡ tab n (weight_in s at count)
-unfolding Starts weight_by weight_in
-weights_stored s at count starts g n = tab_same n _ _ (λ i h. by_test i count _ _ nought (λ l. ap (λ (p : ℕ). weight_at s p) (g i l)))
+  pub no_cap : marked CappedCorridor s at ≡ false → 0 ≡ cap_at s at
+  no_cap m =
+      let r : size_of (standing Corridor s at) < 24 = subst (λ (b : Bool). size_of (cond b CappedCorridor Corridor) < 24) (sym m) (omega arith) in
+      number_not Corridor s at 23 1 r

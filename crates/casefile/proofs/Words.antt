@@ -1,13 +1,16 @@
--- A number of several bytes, read from its most significant byte down, and how large it can be; eight bytes by pairs.
+-- A number of several bytes, read from its most significant byte down, and how large it can be; eight bytes at once.
 -- Each turn is a byte more in front (word_more).
 use Prim.Native.Nat.{ℕ, suc, ◌+◌, ◌-◌, ◌*◌, ◌^◌, ◌<◌, ◌≤◌}
-use mathlib.Core.Path.{◌≡◌, sym, ap, ◌∙◌}
+use mathlib.Core.Path.{◌≡◌, sym, ap, ◌∙◌, subst}
 use mathlib.Core.List.{List}
 use native.Mathlib.Omega.{arith}
 use native.Mathlib.Nat.{pow-suc, pow-le-pow_right}
 use lib.Dec.{lit<}
-use lib.ListN.{length, get_or}
-use Rattle.casefile_defs.specs.Layout.{word}
+use lib.ListN.{length, get_or, take, drop, length-take, length-drop}
+use Rattle.std.specs.Int.{w64, from_le_bytes}
+use Rattle.loops.specs.Loops.{tab}
+use Rattle.loops.proofs.Tab.{tab_of}
+use Rattle.casefile_defs.specs.Layout.{little, word}
 use Rattle.casefile_defs.proofs.Words.{word_none, word_more}
 
 -- ---- the loop of `word`, from the last byte down: its start, a turn, its end
@@ -37,31 +40,14 @@ small_turn w i {x} {b} h k l m =
 pub within : (w k : ℕ) {x : ℕ} → k ≤ w → x < 256 ^ k → x < 256 ^ w
 within w k h l = let m : 256 ^ k ≤ 256 ^ w = pow-le-pow_right (lit< tt) h in omega arith
 
--- ---- eight bytes by pairs: byte by byte both come to the same
-pair : (p : ℕ) (s : List ℕ) → p + 2 ≤ length s → word 2 p s ≡ get_or s p 0 + 256 * get_or s (suc p) 0
-pair p s h =
-    let a : word 2 p s ≡ get_or s p 0 + 256 * word 1 (suc p) s = word_more 1 p s (omega arith) in
-    let b : word 1 (suc p) s ≡ get_or s (suc p) 0 + 256 * word 0 (suc (suc p)) s = word_more 0 (suc p) s (omega arith) in
-    let z : word 0 (suc (suc p)) s ≡ 0 = word_none (suc (suc p)) s in
-    omega arith
+-- ---- eight bytes at once
+little_bytes : (bs : List ℕ) → length bs ≡ 8 → from_le_bytes w64 bs ≡ little bs
+unfolding little tab
+little_bytes bs e = let q : tab 8 (λ i. get_or bs i 0) ≡ bs = tab_of 8 bs 0 e in subst (λ (l : List ℕ). from_le_bytes w64 bs ≡ little l) q (omega arith)
 
--- a pair more in front
-pair_more : (k p : ℕ) (s : List ℕ) → p + 2 ≤ length s → word (suc (suc k)) p s ≡ word 2 p s + 0x10000 * word k (p + 2) s
-pair_more k p s h =
-    let a : word (suc (suc k)) p s ≡ get_or s p 0 + 256 * word (suc k) (suc p) s = word_more (suc k) p s (omega arith) in
-    let b : word (suc k) (suc p) s ≡ get_or s (suc p) 0 + 256 * word k (suc (suc p)) s = word_more k (suc p) s (omega arith) in
-    let n : suc (suc p) ≡ p + 2 = omega arith in
-    let e : word k (suc (suc p)) s ≡ word k (p + 2) s = ap (λ (m : ℕ). word k m s) n in
-    omega (arith, pair p s h)
-
-pub word_pairs : (p a b c d : ℕ) (s : List ℕ) → p + 8 ≤ length s → a ≡ word 2 p s → b ≡ word 2 (p + 2) s → c ≡ word 2 (p + 4) s → d ≡ word 2 (p + 6) s
-    → a + b * 0x10000 + c * 0x100000000 + d * 0x1000000000000 ≡ word 8 p s
-word_pairs p a b c d s h ea eb ec ed =
-    let w₈ : word 8 p s ≡ word 2 p s + 0x10000 * word 6 (p + 2) s = pair_more 6 p s (omega arith) in
-    let w₆ : word 6 (p + 2) s ≡ word 2 (p + 2) s + 0x10000 * word 4 (p + 2 + 2) s = pair_more 4 (p + 2) s (omega arith) in
-    let w₄ : word 4 (p + 2 + 2) s ≡ word 2 (p + 2 + 2) s + 0x10000 * word 2 (p + 2 + 2 + 2) s = pair_more 2 (p + 2 + 2) s (omega arith) in
-    let n₄ : p + 2 + 2 ≡ p + 4 = omega arith in
-    let n₆ : p + 2 + 2 + 2 ≡ p + 6 = omega arith in
-    let e₄ : word 2 (p + 2 + 2) s ≡ word 2 (p + 4) s = ap (λ (m : ℕ). word 2 m s) n₄ in
-    let e₆ : word 2 (p + 2 + 2 + 2) s ≡ word 2 (p + 6) s = ap (λ (m : ℕ). word 2 m s) n₆ in
-    omega arith
+pub eight_bytes : (p : ℕ) (s bs : List ℕ) (n : ℕ) → p + 8 ≤ length s → bs ≡ take (p + 8 - p) (drop p s) → n ≡ from_le_bytes w64 bs → n ≡ word 8 p s
+unfolding word
+eight_bytes p s bs n h e q =
+    let z : p + 8 - p ≡ 8 = omega arith in
+    let b : bs ≡ take 8 (drop p s) = e ∙ ap (λ (k : ℕ). take k (drop p s)) z in
+    q ∙ little_bytes bs (ap length b ∙ simp (length-take, length-drop) (omega arith)) ∙ ap little b

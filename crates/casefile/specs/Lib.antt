@@ -1,4 +1,5 @@
--- What the columns' functions ask and promise of a table's records, and what moving asks of a file.
-pub mod Starts
+-- A table's records, and what moving asks of a file.
+pub mod Records
 pub mod Movable
 pub mod Read
+pub mod Filled

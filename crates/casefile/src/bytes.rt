@@ -4,15 +4,6 @@ ghost use Rattle.std.specs.Float.{binary64};
 ghost use Rattle.std.specs.Float.Ieee.{of_bits};
 ghost use Rattle.casefile_defs.specs.Layout.{word};
 
-// Two bytes, and what the later pairs of eight bytes count for.
-const PAIR: usize = 2;
-
-const SECOND: u64 = 0x1_0000;
-
-const THIRD: u64 = 0x1_0000_0000;
-
-const FOURTH: u64 = 0x1_0000_0000_0000;
-
 // A figure's bits without its sign; above those of infinity they are a NaN's.
 const UNSIGNED: u64 = 0x8000_0000_0000_0000;
 
@@ -31,16 +22,13 @@ pub fn word(file: &[u8], at: usize, width: usize) -> u64
     sum
 }
 
-// The number of eight bytes at a place. By pairs, since of these the compiler makes one load of eight bytes, and of a loop over the bytes none.
+// The number of eight bytes at a place, which the compiler loads at once.
+#[tactic(auto, using(crate::proofs::Words::eight_bytes))]
 pub fn eight(file: &[u8], at: usize) -> u64
     requires { at + 8 ≤ length file.now }
     ensures { result ≡ word 8 at file.now }
 {
-    let a = word(file, at, PAIR);
-    let b = word(file, at + PAIR, PAIR);
-    let c = word(file, at + 2 * PAIR, PAIR);
-    let d = word(file, at + 3 * PAIR, PAIR);
-    a + b * SECOND + c * THIRD + d * FOURTH
+    u64::from_le_bytes(file[at..at + 8].try_into().unwrap())
 }
 
 // The figure of any 64 bits. No float is made from a NaN's bits: every NaN is the same.

@@ -1,18 +1,156 @@
-// Filling a column of a table: a place for each record, and zeros past them. A column is named by its field's place in the record, a number's by its width too.
-ghost use Rattle.std.specs.Prelude.{◌≡◌, ◌+◌, ◌*◌, ◌^◌, ◌<◌, ◌≤◌, leb, length};
+// The records of a table, and its columns: a place for each record, and zeros past them. A column is named by its field's place in the record, a number's by its width too.
+ghost use Rattle.std.specs.Prelude.{◌≡◌, ◌+◌, ◌<◌, ◌≤◌, length};
 ghost use Rattle.loops.specs.Loops.{tab};
-ghost use Rattle.casefile_defs.specs.Layout.{size_of, standing, end_of, spot};
-ghost use Rattle.casefile_defs.specs.Tables.{number_at, weight_at};
-ghost use Rattle.casefile.specs.Starts.{Room, Starts, Whole, Within, number_by, figure_by, weight_by};
+ghost use Rattle.casefile_defs.specs.Layout.{size_of, end_of, word};
+ghost use Rattle.casefile_defs.specs.Tables.{number_at, figure_at, weight_at, number_in, figure_in, numbers_of, weights, cap_field};
+ghost use Rattle.casefile.specs.Records.{Records, records_of, start_of, cap_at, Room, Stored};
 
-use crate::bytes::{figure, word};
+use crate::bytes::{eight, figure, word};
 use crate::record;
 use crate::record::{bears, size, standing};
 use casefile_defs::{Kind, MOST_CORRIDORS};
 use loops::fill_first;
+use std::marker::Model;
 
 // The most records of a table that is read by their starts: there are as many buses as corridors at most, and fewer levels and generators.
-pub const MOST_RECORDS: usize = MOST_CORRIDORS;
+const MOST_RECORDS: usize = MOST_CORRIDORS;
+
+// So many records from a place on, where each of them starts, and where the last one ends. So a record's mark is looked at once, and not again for each
+// column. A clause sees which records they are.
+#[derive(Drop)]
+pub struct Table<'a> {
+    pub file: &'a [u8],
+    pub kind: Kind,
+    pub at: usize,
+    pub count: usize,
+    pub starts: [usize; MOST_RECORDS],
+    pub end: usize,
+}
+
+impl<'a> Model for Table<'a> {
+    ghost Value = { Records };
+
+    ghost view = { λ t. records_of t.kind t.file.now t.at t.count };
+
+    ghost invariant = { λ t. Stored (records_of t.kind t.file.now t.at t.count) t.starts t.end };
+}
+
+impl<'a> Table<'a> {
+    #[tactic(auto, using(crate::proofs::Stored::none_stored, crate::proofs::Stored::first_start))]
+    pub fn new(file: &'a [u8], kind: Kind, at: usize, count: usize) -> Self
+        requires room { Room kind file.now at count }
+        requires few { count ≤ 256 }
+        ensures { result ≡ records_of kind file.now at count }
+    {
+        let mut starts = [0; MOST_RECORDS];
+        let mut end = at;
+        for i in 0..count {
+            starts[i] = end;
+            end = end_of(file, kind, end);
+        }
+        Table {
+            file,
+            kind,
+            at,
+            count,
+            starts,
+            end,
+        }
+    }
+
+    // Where record i starts.
+    #[tactic(auto, unfolding(crate::specs::Records::Starts))]
+    pub fn start(&self, i: usize) -> usize
+        requires { i < self.now.count }
+        ensures place { result ≡ start_of self.now i }
+        ensures whole { end_of self.now.kind self.now.file result ≤ length self.now.file }
+    {
+        let starts = &self.starts;
+        starts[i]
+    }
+
+    // Where the last record ends.
+    pub fn end(&self) -> usize
+        ensures { result ≡ start_of self.now self.now.count }
+    {
+        self.end
+    }
+
+    // The number of eight bytes at a distance into record i.
+    pub fn bits(&self, i: usize, offset: usize) -> u64
+        requires record { i < self.now.count }
+        requires inside { start_of self.now i + offset + 8 ≤ length self.now.file }
+        ensures { result ≡ word 8 (start_of self.now i + offset) self.now.file }
+    {
+        eight(self.file, self.start(i) + offset)
+    }
+
+    // ---- a field of record i
+    #[tactic(auto, using(casefile_defs::proofs::Spots::standing_least, crate::proofs::Stored::number_there))]
+    fn number(&self, i: usize, offset: usize, width: usize) -> u32
+        requires record { i < self.now.count }
+        requires inside { offset + width ≤ size_of self.now.kind }
+        requires narrow { width ≤ 4 }
+        ensures { result ≡ number_at self.now.kind self.now.file (start_of self.now i) offset width }
+    {
+        word(self.file, self.start(i) + offset, width) as u32
+    }
+
+    #[tactic(auto, using(casefile_defs::proofs::Spots::standing_least), unfolding(casefile_defs::specs::Tables::figure_at))]
+    fn figure(&self, i: usize, offset: usize) -> f64
+        requires record { i < self.now.count }
+        requires inside { offset + 8 ≤ size_of self.now.kind }
+        ensures { result ≡ figure_at self.now.file (start_of self.now i) offset }
+    {
+        figure(eight(self.file, self.start(i) + offset))
+    }
+
+    fn weight(&self, i: usize) -> f64
+        requires record { i < self.now.count }
+        requires bus { self.now.kind ≡ Kind.Bus }
+        ensures { result ≡ weight_at self.now.file (start_of self.now i) }
+    {
+        weight_at(self.file, self.start(i))
+    }
+
+    fn cap(&self, i: usize) -> u32
+        requires record { i < self.now.count }
+        requires corridor { self.now.kind ≡ Kind.Corridor }
+        ensures { result ≡ cap_at self.now.file (start_of self.now i) }
+    {
+        cap_at(self.file, self.start(i))
+    }
+
+    // ---- a column, with zeros past the records
+    pub fn fill_numbers(&self, offset: usize, width: usize, out: &mut [u32])
+        requires inside { offset + width ≤ size_of self.now.kind }
+        requires narrow { width ≤ 4 }
+        ensures { out.new ≡ tab (length out.old) (number_in self.now.kind self.now.file self.now.at self.now.count offset width) }
+    {
+        fill_first(out, self.count, 0, |i| self.number(i, offset, width));
+    }
+
+    pub fn fill_figures(&self, offset: usize, out: &mut [f64])
+        requires { offset + 8 ≤ size_of self.now.kind }
+        ensures { out.new ≡ tab (length out.old) (figure_in self.now.kind self.now.file self.now.at self.now.count offset) }
+    {
+        fill_first(out, self.count, 0.0, |i| self.figure(i, offset));
+    }
+
+    pub fn fill_weights(&self, out: &mut [f64])
+        requires { self.now.kind ≡ Kind.Bus }
+        ensures { out.new ≡ weights self.now.file self.now.at self.now.count (length out.old) }
+    {
+        fill_first(out, self.count, 0.0, |i| self.weight(i));
+    }
+
+    pub fn fill_caps(&self, out: &mut [u32])
+        requires { self.now.kind ≡ Kind.Corridor }
+        ensures { out.new ≡ numbers_of Kind.Corridor Kind.CappedCorridor cap_field self.now.file self.now.at self.now.count (length out.old) }
+    {
+        fill_first(out, self.count, 0, |i| self.cap(i));
+    }
+}
 
 // Where the record ends that stands at a place where one of a kind is due.
 fn end_of(file: &[u8], kind: Kind, at: usize) -> usize
@@ -22,61 +160,6 @@ fn end_of(file: &[u8], kind: Kind, at: usize) -> usize
     at + size(standing(file, kind, at))
 }
 
-// Stores where each record of a table starts, the first of which is at a place; answers where the last one ends. So a record's mark is looked at once, and
-// not again for each column.
-#[tactic(auto, using(crate::proofs::Stored::none_stored, crate::proofs::Stored::one_stored, crate::proofs::Stored::first_start, crate::proofs::Stored::next_start))]
-pub fn store_starts(
-    file: &[u8],
-    kind: Kind,
-    at: usize,
-    count: usize,
-    starts: &mut [usize; MOST_RECORDS],
-) -> usize
-    requires room { Room kind file.now at count }
-    requires few { (count ≤ 256) × (length starts.old ≡ 256) }
-    ensures stored { Starts kind file.now at count starts.new }
-    ensures end { result ≡ spot kind file.now at count }
-{
-    let mut here = at;
-    for i in 0..count {
-        starts[i] = here;
-        here = end_of(file, kind, here);
-    }
-    here
-}
-
-// Where a line's record starts: they are all of one length.
-pub fn line_at(at: usize, row: usize) -> usize
-    requires { at + row * size_of Kind.Line < 2 ^ 64 }
-    ensures { result ≡ at + row * size_of Kind.Line }
-{
-    at + row * size(Kind::Line)
-}
-
-// Whether the record that stands at a place where one of a kind is due has its bytes up to a distance. Its mark is looked at only where the older record ends
-// before that.
-fn reaches(file: &[u8], kind: Kind, at: usize, end: usize) -> bool
-    ensures { result ≡ leb end (size_of (standing kind file.now at)) }
-{
-    if end <= size(kind) {
-        return true;
-    }
-    end <= size(standing(file, kind, at))
-}
-
-// A whole number of the record at a place, 0 where the record has none.
-#[tactic(auto, using(casefile_defs::proofs::Spots::number_had, casefile_defs::proofs::Spots::number_not))]
-fn number_at(file: &[u8], kind: Kind, at: usize, offset: usize, width: usize) -> u32
-    requires room { end_of kind file.now at ≤ length file.now }
-    requires narrow { (offset < 256) × (width ≤ 4) }
-    ensures { result ≡ number_at kind file.now at offset width }
-{
-    if reaches(file, kind, at, offset + width) {
-        return word(file, at + offset, width) as u32;
-    }
-    0
-}
-
 // The weight of the bus at a place: a BU has weight 1.
 #[tactic(auto, unfolding(casefile_defs::specs::Tables::weight_at, casefile_defs::specs::Tables::figure_at))]
 fn weight_at(file: &[u8], at: usize) -> f64
@@ -84,58 +167,19 @@ fn weight_at(file: &[u8], at: usize) -> f64
     ensures { result ≡ weight_at file.now at }
 {
     if bears(file, Kind::WeighedBus, at) {
-        return figure(word(file, at + record::BUS_WEIGHT, record::FIGURE));
+        return figure(eight(file, at + record::BUS_WEIGHT));
     }
     1.0
 }
 
-// Fills a column of whole numbers, with zeros past the records.
-pub fn fill_numbers(
-    file: &[u8],
-    kind: Kind,
-    starts: &[usize; MOST_RECORDS],
-    count: usize,
-    offset: usize,
-    width: usize,
-    out: &mut [u32],
-)
-    requires whole { Whole kind file.now starts.now count }
-    requires narrow { (count ≤ 256) × ((offset < 256) × (width ≤ 4)) }
-    ensures { out.new ≡ tab (length out.old) (number_by kind file.now starts.now count offset width) }
+// The cap of the corridor at a place: a CO has none, and 0 stands for it.
+#[tactic(auto, using(crate::proofs::Stored::cap_there, crate::proofs::Stored::no_cap))]
+fn cap_at(file: &[u8], at: usize) -> u32
+    requires { end_of Kind.Corridor file.now at ≤ length file.now }
+    ensures { result ≡ cap_at file.now at }
 {
-    fill_first(
-        out,
-        count,
-        0,
-        |i| number_at(file, kind, starts[i], offset, width),
-    );
-}
-
-// Fills a column of figures, with zeros past the records.
-pub fn fill_figures(
-    file: &[u8],
-    starts: &[usize; MOST_RECORDS],
-    count: usize,
-    offset: usize,
-    out: &mut [f64],
-)
-    requires within { Within file.now starts.now count (offset + 8) }
-    requires few { count ≤ 256 }
-    ensures { out.new ≡ tab (length out.old) (figure_by file.now starts.now count offset) }
-{
-    fill_first(
-        out,
-        count,
-        0.0,
-        |i| figure(word(file, starts[i] + offset, record::FIGURE)),
-    );
-}
-
-// Fills the buses' weights, with zeros past the records.
-pub fn fill_weights(file: &[u8], starts: &[usize; MOST_RECORDS], count: usize, out: &mut [f64])
-    requires whole { Whole Kind.Bus file.now starts.now count }
-    requires few { count ≤ 256 }
-    ensures { out.new ≡ tab (length out.old) (weight_by file.now starts.now count) }
-{
-    fill_first(out, count, 0.0, |i| weight_at(file, starts[i]));
+    if bears(file, Kind::CappedCorridor, at) {
+        return file[at + record::CORRIDOR_CAP] as u32;
+    }
+    0
 }

@@ -2,10 +2,10 @@
 #![tactic(auto)]
 
 ghost use Rattle.std.specs.Prelude.{◌≡◌};
-ghost use Rattle.casefile_defs.specs.Tables.{held, outcome, places_of, read_case};
+ghost use Rattle.casefile_defs.specs.Tables.{outcome, places_of, read_case};
 ghost use Rattle.casefile_defs.specs.Moving.{moved_as, move_forward, move_back};
 
-use casefile_defs::{CaseRead, Header, MOST_BYTES, Wanted, tables_sized};
+use casefile_defs::{CaseRead, Header, Kind, Wanted, tables_sized};
 use mode::PlanMode;
 use refusal::Refusal;
 
@@ -16,24 +16,16 @@ mod record;
 mod scan;
 mod tables;
 
-// The counts that a reading leaves in the tables: none where it is refused.
-#[tactic(auto, unfolding(casefile_defs::specs::Tables::held))]
-fn held(reading: Result<Header, Refusal>) -> Header
-    ensures { result ≡ held reading }
-{
-    match reading {
-        Ok(h) => h,
-        Err(_) => Header {
-            mode: PlanMode::Expand,
-            target: 0,
-            buses: 0,
-            corridors: 0,
-            generators: 0,
-            above: 0,
-            requested: 0,
-        },
-    }
-}
+// The counts that a refused reading leaves in the tables.
+const NOTHING: Header = Header {
+    mode: PlanMode::Expand,
+    target: 0,
+    buses: 0,
+    corridors: 0,
+    generators: 0,
+    above: 0,
+    requested: 0,
+};
 
 // Reads a case file into the lent tables, each of its largest size.
 pub fn read_case(
@@ -84,7 +76,7 @@ pub fn read_case(
         };
     }
     let read = scan::read_as(file, Wanted::Either);
-    let h = held(read.reading);
+    let h = read.reading.unwrap_or(NOTHING);
     let levels = h.above + h.requested;
     let buses = tables::read_levels(file, record::HEAD_END, levels, ladder);
     let generators = tables::read_buses(file, buses, h.buses, tier, reading, weight);
@@ -115,25 +107,17 @@ pub fn read_case(
 }
 
 // A file of BU as one of BV: each load a reading of weight 1.
+#[tactic(auto, using(crate::proofs::Moves::is_moved_forward))]
 pub fn move_forward(file: &[u8], out: &mut [u8]) -> Result<(), Refusal>
     ensures { moved_as result out.new ≡ move_forward file.now out.old }
 {
-    if out.len() != MOST_BYTES {
-        return Err(Refusal::Length);
-    }
-    let said = scan::read_as(file, Wanted::Plain).reading;
-    out.fill(0);
-    moving::forward_by(file, said, out)
+    moving::moved(file, Wanted::Plain, Kind::WeighedBus, out)
 }
 
 // A file of BV as one of BU, where every weight is 1.
+#[tactic(auto, using(crate::proofs::Moves::is_moved_back))]
 pub fn move_back(file: &[u8], out: &mut [u8]) -> Result<(), Refusal>
     ensures { moved_as result out.new ≡ move_back file.now out.old }
 {
-    if out.len() != MOST_BYTES {
-        return Err(Refusal::Length);
-    }
-    let said = scan::read_as(file, Wanted::Weighed).reading;
-    out.fill(0);
-    moving::back_by(file, said, out)
+    moving::moved(file, Wanted::Weighed, Kind::Bus, out)
 }

@@ -1,20 +1,19 @@
 // Moving a case file into the other form of buses: bytes are copied, and each bus is put anew.
-ghost use Rattle.std.specs.Prelude.{◌≡◌, ◌+◌, ◌-◌, ◌*◌, ◌≤◌, min, length, replicate};
+ghost use Rattle.std.specs.Prelude.{◌≡◌, ◌+◌, ◌-◌, ◌*◌, ◌≤◌, false, min, length, replicate};
 ghost use Rattle.loops.specs.Loops.{fault};
 ghost use Rattle.loops.specs.Parts.{part, put};
 ghost use Rattle.casefile_defs.specs.Bounds.{most_bytes};
-ghost use Rattle.casefile_defs.specs.Layout.{size_of};
-ghost use Rattle.casefile_defs.specs.Moving.{called_bytes, weight_of, bus_as, buses_as, file_as, fitted, weighs_one, moved_as, forward_by, back_by};
-ghost use Rattle.casefile_defs.specs.Reading.{Small, levels, read_as};
+ghost use Rattle.casefile_defs.specs.Layout.{size_of, weighs};
+ghost use Rattle.casefile_defs.specs.Moving.{called_bytes, weight_of, bus_as, buses_as, file_as, fitted, moved_as};
+ghost use Rattle.casefile_defs.specs.Reading.{Small, levels};
 ghost use Rattle.casefile_defs.specs.Tables.{levels_at};
-ghost use Rattle.casefile.specs.Starts.{Starts};
-ghost use Rattle.casefile.specs.Movable.{Kept, AllWeighed, Movable};
+ghost use Rattle.casefile.specs.Movable.{Kept, AllWeighed, Movable, keeps, moved_by};
 
-use crate::bytes::word;
-use crate::columns::{MOST_RECORDS, store_starts};
+use crate::columns::Table;
 use crate::record;
 use crate::record::{mark, size, weighs};
-use casefile_defs::{Header, Kind, Wanted};
+use crate::scan::read_as;
+use casefile_defs::{Header, Kind, MOST_BYTES, Wanted};
 use loops::first_fault;
 use refusal::Refusal;
 
@@ -22,35 +21,23 @@ use refusal::Refusal;
 const CALLED: usize = record::U8 + record::FIGURE;
 
 // The bytes of the figure 1, and its bits.
-const WEIGHT_OF_ONE: [u8; record::FIGURE] = [0, 0, 0, 0, 0, 0, 0xf0, 0x3f];
+static WEIGHT_OF_ONE: [u8; record::FIGURE] = [0, 0, 0, 0, 0, 0, 0xf0, 0x3f];
 
 const ONE: u64 = 0x3ff0_0000_0000_0000;
 
-// Copies `count` bytes.
-fn copy(from: &[u8], at: usize, out: &mut [u8], to: usize, count: usize)
-    requires { (at + count ≤ length from.now) × (to + count ≤ length out.old) }
-    ensures { out.new ≡ put out.old to (part at count from.now) }
+// Puts a part's bytes at a place.
+fn put_part(part: &[u8], out: &mut [u8], to: usize)
+    requires { to + length part.now ≤ length out.old }
+    ensures { out.new ≡ put out.old to part.now }
 {
-    out[to..to + count].copy_from_slice(&from[at..at + count]);
+    out[to..to + part.len()].copy_from_slice(part);
 }
 
-// Copies what follows a place, as much of it as there is room for.
-fn copy_rest(from: &[u8], at: usize, out: &mut [u8], to: usize)
-    requires { (at ≤ length from.now) × (to ≤ length out.old) }
-    ensures { out.new ≡ put out.old to (part at (min (length from.now - at) (length out.old - to)) from.now) }
+// The bytes of a weight of 1, where a kind has a weight.
+fn weight_of(kind: Kind) -> &'static [u8]
+    ensures { result.now ≡ weight_of kind }
 {
-    let count = (from.len() - at).min(out.len() - to);
-    copy(from, at, out, to, count);
-}
-
-// The weight of 1, where a kind has a weight.
-fn put_weight(kind: Kind, out: &mut [u8], to: usize)
-    requires { to + length (weight_of kind) ≤ length out.old }
-    ensures { out.new ≡ put out.old to (weight_of kind) }
-{
-    if weighs(kind) {
-        copy(&WEIGHT_OF_ONE, 0, out, to, record::FIGURE);
-    }
+    if weighs(kind) { &WEIGHT_OF_ONE } else { &[] }
 }
 
 // A bus's record as one of a kind.
@@ -59,54 +46,41 @@ fn put_bus(file: &[u8], at: usize, kind: Kind, out: &mut [u8], to: usize)
     requires { (at + (2 + called_bytes) ≤ length file.now) × (to + (2 + called_bytes + length (weight_of kind)) ≤ length out.old) }
     ensures { out.new ≡ put out.old to (bus_as kind file.now at) }
 {
-    copy(&mark(kind), 0, out, to, record::MARK);
-    copy(file, at + record::MARK, out, to + record::MARK, CALLED);
-    put_weight(kind, out, to + (record::MARK + CALLED));
+    let called = at + record::MARK;
+    put_part(&mark(kind), out, to);
+    put_part(&file[called..called + CALLED], out, to + record::MARK);
+    put_part(weight_of(kind), out, to + (record::MARK + CALLED));
 }
 
-// The buses of a file as records of a kind, by their starts; where they end in the output.
-fn put_buses(
-    file: &[u8],
-    starts: &[usize; MOST_RECORDS],
-    at: usize,
-    n: usize,
-    kind: Kind,
-    out: &mut [u8],
-) -> usize
-    requires stored { Starts Kind.Bus file.now at n starts.now }
-    requires kept { Kept file.now at n }
-    requires few { n ≤ 256 }
+// A table's buses as records of a kind; where they end in the output.
+fn put_buses(buses: &Table, kind: Kind, out: &mut [u8]) -> usize
+    requires buses { buses.now.kind ≡ Kind.Bus }
+    requires kept { Kept buses.now.file buses.now.at buses.now.count }
     requires whole { size_of kind ≡ 2 + called_bytes + length (weight_of kind) }
-    requires fits { at + length (buses_as kind file.now at n) ≤ length out.old }
-    ensures end { result ≡ at + length (buses_as kind file.now at n) }
-    ensures bytes { out.new ≡ put out.old at (buses_as kind file.now at n) }
+    requires fits { buses.now.at + length (buses_as kind buses.now.file buses.now.at buses.now.count) ≤ length out.old }
+    ensures end { result ≡ buses.now.at + length (buses_as kind buses.now.file buses.now.at buses.now.count) }
+    ensures bytes { out.new ≡ put out.old buses.now.at (buses_as kind buses.now.file buses.now.at buses.now.count) }
 {
-    let mut there = at;
-    for i in 0..n {
-        put_bus(file, starts[i], kind, out, there);
+    let mut there = buses.at;
+    for i in 0..buses.count {
+        put_bus(buses.file, buses.start(i), kind, out, there);
         there += size(kind);
     }
     there
 }
 
-// A file with its buses as records of a kind, in an output of zeros; what follows the buses begins at `rest`.
-fn put_file(
-    file: &[u8],
-    starts: &[usize; MOST_RECORDS],
-    at: usize,
-    n: usize,
-    rest: usize,
-    kind: Kind,
-    out: &mut [u8],
-)
-    requires movable { Movable file.now starts.now at n rest }
+// The file of a table's buses with them as records of a kind, in an output of zeros.
+fn put_file(buses: &Table, kind: Kind, out: &mut [u8])
+    requires movable { Movable buses.now }
     requires whole { size_of kind ≡ 2 + called_bytes + length (weight_of kind) }
     requires clear { out.old ≡ replicate most_bytes 0 }
-    ensures { out.new ≡ fitted (file_as kind file.now at n) }
+    ensures { out.new ≡ fitted (file_as kind buses.now.file buses.now.at buses.now.count) }
 {
-    copy(file, 0, out, 0, at);
-    let there = put_buses(file, starts, at, n, kind, out);
-    copy_rest(file, rest, out, there);
+    put_part(&buses.file[..buses.at], out, 0);
+    let there = put_buses(buses, kind, out);
+    let rest = &buses.file[buses.end..];
+    let room = out.len() - there;
+    put_part(&rest[..rest.len().min(room)], out, there);
 }
 
 // Where the buses begin: the levels before them are all of one length.
@@ -117,46 +91,39 @@ fn buses_at(h: Header) -> usize
     record::HEAD_END + (h.above + h.requested) * record::LEVEL_END
 }
 
-// The first bus whose weight is not 1.
-fn first_other(file: &[u8], starts: &[usize; MOST_RECORDS], at: usize, n: usize) -> Option<usize>
-    requires stored { Starts Kind.Bus file.now at n starts.now }
-    requires weighed { AllWeighed file.now at n }
-    requires few { n ≤ 256 }
-    ensures { result ≡ fault (weighs_one file.now at) n }
+// The first bus whose weight is lost in a record of a kind: one that is not 1, where the kind has none.
+fn first_lost(buses: &Table, kind: Kind) -> Option<usize>
+    requires buses { buses.now.kind ≡ Kind.Bus }
+    requires weighed { weighs kind ≡ false → AllWeighed buses.now.file buses.now.at buses.now.count }
+    ensures { result ≡ fault (keeps kind buses.now.file buses.now.at) buses.now.count }
 {
     first_fault(
-        n,
-        |i| word(file, starts[i] + record::BUS_WEIGHT, record::FIGURE) == ONE,
+        buses.count,
+        |i| weighs(kind) || buses.bits(i, record::BUS_WEIGHT) == ONE,
     )
 }
 
-// A file that was read with only BU wanted, its loads as readings of weight 1.
-pub fn forward_by(file: &[u8], said: Result<Header, Refusal>, out: &mut [u8]) -> Result<(), Refusal>
-    requires read { said ≡ (read_as Wanted.Plain file.now).reading }
-    requires clear { out.old ≡ replicate most_bytes 0 }
-    ensures { moved_as result out.new ≡ forward_by file.now said }
+// A file in which only one form of buses is wanted, with its buses as records of a kind: of BV, where every weight is 1, or of BU.
+pub fn moved(
+    file: &[u8],
+    wanted: Wanted,
+    kind: Kind,
+    out: &mut [u8],
+) -> Result<(), Refusal>
+    requires whole { size_of kind ≡ 2 + called_bytes + length (weight_of kind) }
+    requires weighed { weighs kind ≡ false → wanted ≡ Wanted.Weighed }
+    ensures { moved_as result out.new ≡ moved_by wanted kind file.now out.old }
 {
+    if out.len() != MOST_BYTES {
+        return Err(Refusal::Length);
+    }
+    let said = read_as(file, wanted).reading;
+    out.fill(0);
     let h = said?;
-    let at = buses_at(h);
-    let mut starts = [0; MOST_RECORDS];
-    let rest = store_starts(file, Kind::Bus, at, h.buses, &mut starts);
-    put_file(file, &starts, at, h.buses, rest, Kind::WeighedBus, out);
-    Ok(())
-}
-
-// A file that was read with only BV wanted, where every weight is 1.
-pub fn back_by(file: &[u8], said: Result<Header, Refusal>, out: &mut [u8]) -> Result<(), Refusal>
-    requires read { said ≡ (read_as Wanted.Weighed file.now).reading }
-    requires clear { out.old ≡ replicate most_bytes 0 }
-    ensures { moved_as result out.new ≡ back_by file.now said }
-{
-    let h = said?;
-    let at = buses_at(h);
-    let mut starts = [0; MOST_RECORDS];
-    let rest = store_starts(file, Kind::Bus, at, h.buses, &mut starts);
-    if let Some(i) = first_other(file, &starts, at, h.buses) {
+    let buses = Table::new(file, Kind::Bus, buses_at(h), h.buses);
+    if let Some(i) = first_lost(&buses, kind) {
         return Err(Refusal::Weight(i));
     }
-    put_file(file, &starts, at, h.buses, rest, Kind::Bus, out);
+    put_file(&buses, kind, out);
     Ok(())
 }

@@ -1,7 +1,7 @@
 // The walk over the file: header and counts, each table's records, and the bytes after the last.
 ghost use Rattle.std.specs.Prelude.{◌≡◌, ◌<◌, ◌≤◌, length, Ok};
 ghost use Rattle.casefile_defs.specs.Layout.{size_of};
-ghost use Rattle.casefile_defs.specs.Reading.{stepped, walked, header_of, mode_of, counts_ok, Small, bus_form, tables_walked, end_read, read_as};
+ghost use Rattle.casefile_defs.specs.Reading.{stepped, walked, header_of, counts_ok, Small, bus_form, tables_walked, end_read, read_as};
 ghost use Rattle.casefile_defs.specs.Looks.{looked_at, words_looked, bytes_looked};
 ghost use Rattle.casefile.specs.Read.{ended};
 
@@ -49,28 +49,15 @@ fn walk_kind(
     Ok(at)
 }
 
-// The mode of a number of at most 5.
-#[tactic(auto, unfolding(casefile_defs::specs::Reading::mode_of, mode::specs::Number::mode_number))]
-fn mode_of(n: u64) -> PlanMode
-    ensures { result ≡ mode_of n }
-{
-    match n {
-        0 => PlanMode::Expand,
-        1 => PlanMode::Reinforce,
-        2 => PlanMode::Observe,
-        3 => PlanMode::ExpandServing,
-        4 => PlanMode::ReinforceServing,
-        _ => PlanMode::ObserveServing,
-    }
-}
-
 // The header of a file that is long enough for one.
 fn header_of(file: &[u8]) -> Header
     requires { size_of Kind.Head ≤ length file.now }
     ensures value { result ≡ header_of file.now }
     ensures small { (result.above < 256) × (result.requested < 256) }
 {
-    let mode = mode_of(word(file, record::HEAD_MODE, record::U8));
+    // a number that no mode has is refused with the record
+    let mode = PlanMode::try_from(word(file, record::HEAD_MODE, record::U8))
+        .unwrap_or(PlanMode::ObserveServing);
     let target = word(file, record::HEAD_TARGET, record::U32) as u32;
     let buses = word(file, record::HEAD_BUSES, record::U16) as usize;
     let corridors = word(file, record::HEAD_CORRIDORS, record::U16) as usize;

@@ -1,15 +1,17 @@
 // Filling the lent tables, kind by kind, and the line sheet.
 ghost use Rattle.std.specs.Prelude.{◌≡◌, ◌+◌, ◌*◌, ◌^◌, ◌≤◌, ◌<◌, length};
 ghost use Rattle.loops.specs.Loops.{tab};
+ghost use Rattle.loops.specs.Parts.{put};
+ghost use Rattle.sheets.specs.Sheet.{row_figures};
 ghost use Rattle.casefile_defs.specs.Layout.{size_of, spot};
 ghost use Rattle.casefile_defs.specs.Tables.{sheet_in, basis_of, line_figure, numbers, numbers_of, figures, weights, cap_field};
-ghost use Rattle.casefile.specs.Starts.{Room};
+ghost use Rattle.casefile.specs.Records.{Room};
+ghost use Rattle.casefile.specs.Filled.{Lines, IsFilled};
 
-use crate::bytes::{figure, word};
-use crate::columns::{
-    MOST_RECORDS, fill_figures, fill_numbers, fill_weights, line_at, store_starts,
-};
+use crate::bytes::{eight, figure, word};
+use crate::columns::Table;
 use crate::record;
+use crate::record::size;
 use casefile_defs::{Kind, ROW_FIGURES};
 use loops::fill;
 
@@ -29,27 +31,53 @@ fn line_figure(file: &[u8], at: usize, j: usize) -> f64
     ensures { result ≡ line_figure file.now at j }
 {
     if j < BASIS {
-        return figure(word(
+        return figure(eight(
             file,
             at + (record::LINE_R + record::FIGURE * j),
-            record::FIGURE,
         ));
     }
     basis_of(word(file, at + record::LINE_BASIS, record::U8))
 }
 
-// Place p of the sheet, which has its rows by level where the file has them by corridor.
-fn sheet_in(file: &[u8], at: usize, corridors: usize, levels: usize, p: usize) -> f64
-    requires room { Room Kind.Line file.now at (corridors * levels) }
-    requires few { corridors * levels < 2 ^ 64 }
-    ensures { result ≡ sheet_in file.now at corridors levels p }
+// Where a line's record starts: they are all of one length.
+fn line_at(at: usize, row: usize) -> usize
+    requires { at + row * size_of Kind.Line < 2 ^ 64 }
+    ensures { result ≡ at + row * size_of Kind.Line }
 {
-    let row = p / ROW_FIGURES;
-    if row < corridors * levels {
-        let line = sheets::line_of(corridors, levels, row);
-        return line_figure(file, line_at(at, line), p % ROW_FIGURES);
+    at + row * size(Kind::Line)
+}
+
+// Puts a line record's figures as a row of the sheet.
+fn put_line(file: &[u8], at: usize, sheet: &mut [f64], to: usize)
+    requires line { at + size_of Kind.Line ≤ length file.now }
+    requires row { to + row_figures ≤ length sheet.old }
+    ensures { sheet.new ≡ put sheet.old to (tab row_figures (line_figure file.now at)) }
+{
+    fill(&mut sheet[to..to + ROW_FIGURES], |j| line_figure(file, at, j));
+}
+
+// Fills the rows of a level, where those of the levels before it are filled.
+fn fill_level(
+    file: &[u8],
+    at: usize,
+    corridors: usize,
+    levels: usize,
+    level: usize,
+    sheet: &mut [f64],
+)
+    requires lines { Lines file.now at corridors levels (length sheet.old) }
+    requires level { level < levels }
+    requires before { IsFilled file.now at corridors levels (level * corridors) sheet.old }
+    ensures { IsFilled file.now at corridors levels ((level + 1) * corridors) sheet.new }
+{
+    for k in 0..corridors {
+        put_line(
+            file,
+            line_at(at, k * levels + level),
+            sheet,
+            sheets::row_place(corridors, k, level),
+        );
     }
-    0.0
 }
 
 // Fills the ladder. Answers where its records end, as the next three do.
@@ -59,10 +87,9 @@ pub fn read_levels(file: &[u8], at: usize, count: usize, ladder: &mut [f64]) -> 
     ensures ladder { ladder.new ≡ figures Kind.Level 0 file.now at count (length ladder.old) }
     ensures end { result ≡ spot Kind.Level file.now at count }
 {
-    let mut starts = [0; MOST_RECORDS];
-    let end = store_starts(file, Kind::Level, at, count, &mut starts);
-    fill_figures(file, &starts, count, record::LEVEL_KV, ladder);
-    end
+    let levels = Table::new(file, Kind::Level, at, count);
+    levels.fill_figures(record::LEVEL_KV, ladder);
+    levels.end()
 }
 
 // Fills the buses' tables.
@@ -81,20 +108,11 @@ pub fn read_buses(
     ensures weight { weight.new ≡ weights file.now at count (length weight.old) }
     ensures end { result ≡ spot Kind.Bus file.now at count }
 {
-    let mut starts = [0; MOST_RECORDS];
-    let end = store_starts(file, Kind::Bus, at, count, &mut starts);
-    fill_numbers(
-        file,
-        Kind::Bus,
-        &starts,
-        count,
-        record::BUS_TIER,
-        record::U8,
-        tier,
-    );
-    fill_figures(file, &starts, count, record::BUS_READING, reading);
-    fill_weights(file, &starts, count, weight);
-    end
+    let buses = Table::new(file, Kind::Bus, at, count);
+    buses.fill_numbers(record::BUS_TIER, record::U8, tier);
+    buses.fill_figures(record::BUS_READING, reading);
+    buses.fill_weights(weight);
+    buses.end()
 }
 
 // Fills the generators' tables.
@@ -119,31 +137,14 @@ pub fn read_generators(
     ensures c2 { c2.new ≡ figures Kind.Generator 5 file.now at count (length c2.old) }
     ensures end { result ≡ spot Kind.Generator file.now at count }
 {
-    let mut starts = [0; MOST_RECORDS];
-    let end = store_starts(file, Kind::Generator, at, count, &mut starts);
-    fill_numbers(
-        file,
-        Kind::Generator,
-        &starts,
-        count,
-        record::GENERATOR_BUS,
-        record::U16,
-        generator_bus,
-    );
-    fill_numbers(
-        file,
-        Kind::Generator,
-        &starts,
-        count,
-        record::GENERATOR_SLACK,
-        record::U8,
-        slack,
-    );
-    fill_figures(file, &starts, count, record::GENERATOR_PMIN, pmin);
-    fill_figures(file, &starts, count, record::GENERATOR_PMAX, pmax);
-    fill_figures(file, &starts, count, record::GENERATOR_C1, c1);
-    fill_figures(file, &starts, count, record::GENERATOR_C2, c2);
-    end
+    let generators = Table::new(file, Kind::Generator, at, count);
+    generators.fill_numbers(record::GENERATOR_BUS, record::U16, generator_bus);
+    generators.fill_numbers(record::GENERATOR_SLACK, record::U8, slack);
+    generators.fill_figures(record::GENERATOR_PMIN, pmin);
+    generators.fill_figures(record::GENERATOR_PMAX, pmax);
+    generators.fill_figures(record::GENERATOR_C1, c1);
+    generators.fill_figures(record::GENERATOR_C2, c2);
+    generators.end()
 }
 
 // Fills the corridors' tables; a CO has no cap, and its place is 0.
@@ -168,54 +169,23 @@ pub fn read_corridors(
     ensures cap { cap.new ≡ numbers_of Kind.Corridor Kind.CappedCorridor cap_field file.now at count (length cap.old) }
     ensures end { result ≡ spot Kind.Corridor file.now at count }
 {
-    let mut starts = [0; MOST_RECORDS];
-    let end = store_starts(file, Kind::Corridor, at, count, &mut starts);
-    fill_numbers(
-        file,
-        Kind::Corridor,
-        &starts,
-        count,
-        record::CORRIDOR_A,
-        record::U16,
-        a,
-    );
-    fill_numbers(
-        file,
-        Kind::Corridor,
-        &starts,
-        count,
-        record::CORRIDOR_B,
-        record::U16,
-        b,
-    );
-    fill_numbers(
-        file,
-        Kind::Corridor,
-        &starts,
-        count,
-        record::CORRIDOR_CIRCUITS,
-        record::U8,
-        circuits,
-    );
-    fill_figures(file, &starts, count, record::CORRIDOR_LENGTH, length_km);
-    fill_figures(file, &starts, count, record::CORRIDOR_SHARE, share);
-    fill_numbers(
-        file,
-        Kind::Corridor,
-        &starts,
-        count,
-        record::CORRIDOR_CAP,
-        record::U8,
-        cap,
-    );
-    end
+    let corridors = Table::new(file, Kind::Corridor, at, count);
+    corridors.fill_numbers(record::CORRIDOR_A, record::U16, a);
+    corridors.fill_numbers(record::CORRIDOR_B, record::U16, b);
+    corridors.fill_numbers(record::CORRIDOR_CIRCUITS, record::U8, circuits);
+    corridors.fill_figures(record::CORRIDOR_LENGTH, length_km);
+    corridors.fill_figures(record::CORRIDOR_SHARE, share);
+    corridors.fill_caps(cap);
+    corridors.end()
 }
 
-// Fills the sheet.
+// Fills the sheet, which has its rows by level where the file has them by corridor; zeros past them.
 pub fn read_lines(file: &[u8], at: usize, corridors: usize, levels: usize, sheet: &mut [f64])
-    requires room { Room Kind.Line file.now at (corridors * levels) }
-    requires few { corridors * levels < 2 ^ 64 }
+    requires { Lines file.now at corridors levels (length sheet.old) }
     ensures { sheet.new ≡ tab (length sheet.old) (sheet_in file.now at corridors levels) }
 {
-    fill(sheet, |p| sheet_in(file, at, corridors, levels, p));
+    sheet.fill(0.0);
+    for level in 0..levels {
+        fill_level(file, at, corridors, levels, level, sheet);
+    }
 }

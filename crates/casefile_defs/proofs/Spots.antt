@@ -1,19 +1,17 @@
 -- The places of a table's records, and the places of a column.
 -- A record's length is that of the one that stands there, so a table's records lie one after the other (spot_next); the rest is one way through each
 -- definition.
-use Prim.Native.Nat.{ℕ, zero, suc, ◌+◌, ◌*◌, ◌/◌, ◌%◌, ◌<◌, ◌≤◌}
+use Prim.Native.Nat.{ℕ, zero, suc, ◌+◌, ◌*◌, ◌/◌, ◌<◌, ◌≤◌}
 use mathlib.Core.Bool.{Bool, true, false, cond}
-use mathlib.Core.Path.{◌≡◌, refl, ap, ◌∙◌}
+use mathlib.Core.Path.{◌≡◌, refl, ap}
 use mathlib.Core.List.{List}
 use native.Mathlib.Omega.{arith}
-use borrow.Author.Tests.{lt-ltb, le-ltb, ltb-true, le-leb, lt-leb}
+use borrow.Author.Tests.{le-ltb, ltb-true, le-leb, lt-leb}
 use lib.Dec.{ltb}
-use lib.Ieee.{Float, binary64, of_bits}
 use Rattle.loops.specs.Figures.{nought}
-use Rattle.sheets.specs.Sheet.{line_of}
 use Rattle.casefile_defs.specs.Bounds.{row_figures}
-use Rattle.casefile_defs.specs.Layout.{size_of, marked, standing, end_of, spot, word, field}
-use Rattle.casefile_defs.specs.Tables.{number_at, number_in, figure_in, weight_in, sheet_in, line_figure, basis_of, basis_field}
+use Rattle.casefile_defs.specs.Layout.{size_of, marked, standing, end_of, spot, word}
+use Rattle.casefile_defs.specs.Tables.{number_at, number_in, figure_in, weight_in, sheet_in}
 use Rattle.casefile_defs.specs.declared.Kind.{Kind}
 use Rattle.casefile_defs.specs.declared.Kind.TheVariants.{Head, Level, Bus, Generator, Corridor, Line, CappedCorridor, WeighedBus}
 
@@ -80,25 +78,7 @@ pub weight_past : (s : List ℕ) (at count i : ℕ) → count ≤ i → nought �
 unfolding weight_in
 weight_past s at count i h = simp (le-ltb _ _ h)
 
--- the first four fields of a line are figures of eight bytes
-pub line_field : (at j : ℕ) (s : List ℕ) → j < basis_field → word 8 (at + (2 + 8 * j)) s ≡ field Line j at s
-line_field at zero s h = refl
-line_field at (suc zero) s h = refl
-line_field at (suc (suc zero)) s h = refl
-line_field at (suc (suc (suc zero))) s h = refl
-line_field at (suc (suc (suc (suc j)))) s h = absurd (omega arith)
-
-pub line_there : (at j x : ℕ) (y : Float) (s : List ℕ) → j < basis_field → x ≡ word 8 (at + (2 + 8 * j)) s → y ≡ of_bits binary64 x → y ≡ line_figure s at j
-line_there at j x y s h e q = q ∙ ap (λ (n : ℕ). of_bits binary64 n) (e ∙ line_field at j s h) ∙ simp (lt-ltb _ _ h)
-
-pub line_basis : (at j x : ℕ) (y : Float) (s : List ℕ) → basis_field ≤ j → x ≡ field Line basis_field at s → y ≡ basis_of x → y ≡ line_figure s at j
-line_basis at j x y s h e q = q ∙ ap (λ (n : ℕ). basis_of n) e ∙ simp (le-ltb _ _ h)
-
-module _ (s : List ℕ) (at m n p : ℕ) where
-  pub sheet_there : (q : ℕ) (y : Float) → p / row_figures < m * n → q ≡ spot Line s at (line_of m n (p / row_figures)) → y ≡ line_figure s q (p % row_figures) → y ≡ sheet_in s at m n p
-  unfolding sheet_in
-  sheet_there q y h e f = f ∙ ap (λ (r : ℕ). line_figure s r (p % row_figures)) e ∙ simp (lt-ltb _ _ h)
-
-  pub sheet_past : m * n ≤ p / row_figures → nought ≡ sheet_in s at m n p
-  unfolding sheet_in
-  sheet_past h = simp (le-ltb _ _ h)
+-- a place of the sheet past the rows
+pub sheet_past : (s : List ℕ) (at m n p : ℕ) → m * n ≤ p / row_figures → nought ≡ sheet_in s at m n p
+unfolding sheet_in
+sheet_past s at m n p h = simp (le-ltb _ _ h)

@@ -5,4 +5,7 @@ use Rattle.casefile_defs.specs.Moving.{buses_as}
 use Rattle.casefile.proofs.moving.put_buses.Given as goal
 
 abbrev pub invariant-loop-i : goal.invariant-loop-i
-invariant-loop-i l = record { there : l.there ≡ l.at + length (buses_as l.kind l.file l.at l.i); bytes : l.out ≡ put l.fn.out l.at (buses_as l.kind l.file l.at l.i) }
+invariant-loop-i l = record {
+  there : l.there ≡ l.buses.at + length (buses_as l.kind l.buses.file l.buses.at l.i);
+  bytes : l.out ≡ put l.fn.out l.buses.at (buses_as l.kind l.buses.file l.buses.at l.i);
+}

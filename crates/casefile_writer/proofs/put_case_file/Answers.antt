@@ -1,4 +1,4 @@
-use Rattle.std.proofs.Common.{ℕ, ◌+◌, ◌*◌, ◌/◌, ◌%◌, ◌∙◌, ◌≡◌, refl, ap, arith, rules, get_or}
+use Rattle.std.proofs.Common.{ℕ, ◌+◌, ◌/◌, ◌%◌, ◌∙◌, arith, rules, get_or}
 use Rattle.loops.specs.Figures.{at}
 use Rattle.sheets.specs.Sheet.{row_place}
 use Rattle.case_tables.specs.Tables.{tables_in}

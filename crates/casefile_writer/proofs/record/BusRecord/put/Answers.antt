@@ -1,6 +1,5 @@
-use Rattle.std.proofs.Common.{◌≡◌, ◌∙◌, refl, sym, ap, List, ℕ, Bool, cond, length, append-nil}
+use Rattle.std.proofs.Common.{◌≡◌, ◌∙◌, refl, ap, length, append-nil}
 use Rattle.casefile_defs.specs.Moving.{mark_of}
-use Rattle.casefile_defs.specs.declared.Kind.{Kind}
 use Rattle.casefile_defs.specs.declared.Kind.TheVariants.{Bus, WeighedBus}
 use Rattle.casefile_theorems.specs.Writer.{record_bytes, field_bytes}
 use Rattle.casefile_writer.specs.Words.{bus_kind}

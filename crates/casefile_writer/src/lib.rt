@@ -1,7 +1,7 @@
 // Writing a case file: the bytes of a case, put into a lent buffer. Document 01 lists no such operation; docs/DECISIONS.md says why it is public.
 #![tactic(auto)]
 
-ghost use Rattle.std.specs.Prelude.{◌≡◌, ◌≤◌, length};
+ghost use Rattle.std.specs.Prelude.{◌≤◌, length};
 ghost use Rattle.casefile_defs.specs.Reading.{Small};
 ghost use Rattle.casefile_theorems.specs.Cases.{longest};
 ghost use Rattle.case_tables.specs.Tables.{tables_in};
@@ -11,8 +11,8 @@ ghost use Rattle.casefile_writer.specs.Put.{Put};
 use bytes::Bytes;
 use case_tables::Tables;
 use casefile_defs::Header;
-use record::{Bus, Corridor, Generator, Level, Record};
-use table::{line_at, some_weight};
+use record::{Level, Record};
+use table::{bus_at, corridor_at, generator_at, line_at, some_weight};
 
 mod bytes;
 mod record;
@@ -33,28 +33,9 @@ pub fn put_case_file(out: &mut [u8], h: Header, t: &Tables) -> usize
     let mut file = Bytes::new(out);
     h.put(&mut file);
     file.put_table(levels, |i| Level { kv: t.ladder[i] });
-    file.put_table(h.buses, |i| Bus {
-        weighed,
-        tier: t.tier[i],
-        reading: t.reading[i],
-        weight: t.weight[i],
-    });
-    file.put_table(h.generators, |i| Generator {
-        bus: t.bus[i],
-        slack: t.slack[i],
-        pmin: t.pmin[i],
-        pmax: t.pmax[i],
-        c1: t.c1[i],
-        c2: t.c2[i],
-    });
-    file.put_table(h.corridors, |i| Corridor {
-        a: t.a[i],
-        b: t.b[i],
-        circuits: t.circuits[i],
-        length_km: t.length_km[i],
-        share: t.share[i],
-        cap: t.cap[i],
-    });
+    file.put_table(h.buses, |i| bus_at(t, weighed, i));
+    file.put_table(h.generators, |i| generator_at(t, i));
+    file.put_table(h.corridors, |i| corridor_at(t, i));
     file.put_table(h.corridors * levels, |i| {
         line_at(&t.sheet, h.corridors, levels, i)
     });

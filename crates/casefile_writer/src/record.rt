@@ -1,7 +1,5 @@
 // The records of a case file: each is a mark of two letters, then its fields.
-ghost use Rattle.std.specs.Prelude.{◌≡◌, ◌∷◌, [], ◌++◌, ◌+◌, ◌≤◌, ℕ, length};
-ghost use Rattle.std.specs.Float.{binary64};
-ghost use Rattle.std.specs.Float.Ieee.{to_bits};
+ghost use Rattle.std.specs.Prelude.{◌≡◌, ◌+◌, ◌≤◌, ℕ, length};
 ghost use Rattle.casefile_defs.specs.Layout.{size_of};
 ghost use Rattle.casefile_defs.specs.Moving.{mark_of};
 ghost use Rattle.casefile_defs.specs.declared.Kind.{Kind};

@@ -1,4 +1,4 @@
-use Rattle.std.proofs.Common.{ℕ, ◌+◌, ◌/◌, ◌%◌, ◌∙◌, arith, rules, get_or}
+use Rattle.std.proofs.Common.{ℕ, ◌+◌, ◌/◌, ◌%◌, ◌∙◌, arith, rules}
 use Rattle.loops.specs.Figures.{at}
 use Rattle.sheets.specs.Sheet.{row_place}
 use Rattle.case_tables.specs.Tables.{tables_in}
@@ -8,11 +8,8 @@ use Rattle.casefile_writer.specs.Words.{words_in}
 use Rattle.casefile_writer.proofs.Lent.{file_lent}
 use Rattle.casefile_writer.proofs.Puts.{grows, whole, same_bytes}
 use Rattle.casefile_writer.specs.declared.record.Level.{Level}
-use Rattle.casefile_writer.specs.declared.record.Bus.{Bus}
-use Rattle.casefile_writer.specs.declared.record.Generator.{Generator}
-use Rattle.casefile_writer.specs.declared.record.Corridor.{Corridor}
 use Rattle.casefile_writer.specs.declared.record.Line.{Line}
-use Rattle.casefile_writer.specs.Rows.{line_at}
+use Rattle.casefile_writer.specs.Rows.{bus_at, generator_at, corridor_at, line_at}
 use Rattle.casefile_writer.proofs.put_case_file.Goals as goal
 
 pub returns-clause-put : goal.returns-clause-put
@@ -20,21 +17,34 @@ unfolding file_with words_in caps_only
 returns-clause-put c =
     let h = c.args.h in
     let t = c.args.t.now in
+    let p = tables_in t in
     let n = h.above + h.requested in
     let level : ℕ → Level = λ (i : ℕ). record { kv = at t.ladder i } in
-    let bus : ℕ → Bus = λ (i : ℕ). record { weighed = c.some_weight-weighed.result; tier = get_or t.tier i 0; reading = at t.reading i; weight = at t.weight i } in
-    let generator : ℕ → Generator = λ (i : ℕ). record { bus = get_or t.bus i 0; slack = get_or t.slack i 0; pmin = at t.pmin i; pmax = at t.pmax i; c1 = at t.c1 i; c2 = at t.c2 i } in
-    let corridor : ℕ → Corridor = λ (i : ℕ). record { a = get_or t.a i 0; b = get_or t.b i 0; circuits = get_or t.circuits i 0; length_km = at t.length_km i; share = at t.share i; cap = get_or t.cap i 0 } in
     let line : ℕ → Line = λ (i : ℕ). line_at t.sheet (row_place h.corridors (i / n) (i % n)) in
     let g =
-        grows c.put.ensures.grown
-        (grows (c.put_table.ensures.grown level (λ i r l h. search rules))
-        (grows (c.put_table-2.ensures.grown bus (λ i r l h. search rules))
-        (grows (c.put_table-3.ensures.grown generator (λ i r l h. search rules))
-        (grows (c.put_table-4.ensures.grown corridor (λ i r l h. search rules)) (c.put_table-5.ensures.grown line (λ i r l h. search rules)))))) in
-    let sized = sizes_true (tables_in t) (record {
-      ladder = omega arith; tier = omega arith; reading = omega arith; weight = omega arith; bus = omega arith; slack = omega arith; pmin = omega arith; pmax = omega arith; c1 = omega arith; c2 = omega arith;
-      a = omega arith; b = omega arith; circuits = omega arith; length_km = omega arith; share = omega arith; cap = omega arith; sheet = omega arith;
+    grows c.put.ensures.grown
+    (grows (c.put_table.ensures.grown level (λ i r l h. search rules))
+    (grows (c.put_table-2.ensures.grown (bus_at p c.some_weight-weighed.result) (λ i r l h. search rules))
+    (grows (c.put_table-3.ensures.grown (generator_at p) (λ i r l h. search rules))
+    (grows (c.put_table-4.ensures.grown (corridor_at p) (λ i r l h. search rules)) (c.put_table-5.ensures.grown line (λ i r l h. search rules)))))) in
+    let sized = sizes_true p (record {
+      ladder = omega arith;
+      tier = omega arith;
+      reading = omega arith;
+      weight = omega arith;
+      bus = omega arith;
+      slack = omega arith;
+      pmin = omega arith;
+      pmax = omega arith;
+      c1 = omega arith;
+      c2 = omega arith;
+      a = omega arith;
+      b = omega arith;
+      circuits = omega arith;
+      length_km = omega arith;
+      share = omega arith;
+      cap = omega arith;
+      sheet = omega arith;
     }) in
     let e = g.buffer ∙ c.new-file.ensures.same_reference in
-    same_bytes (file_lent h (tables_in t) c.requires.small sized c.some_weight-weighed.result c.some_weight-weighed.ensures) (whole g c.new-file.ensures.none c.new-file.ensures.room (search rules) c.len.ensures (search rules))
+    same_bytes (file_lent h p c.requires.small sized c.some_weight-weighed.result c.some_weight-weighed.ensures) (whole g c.new-file.ensures.none c.new-file.ensures.room (search rules) c.len.ensures (search rules))

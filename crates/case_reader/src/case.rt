@@ -5,7 +5,7 @@ ghost use Rattle.casefile_defs.specs.Reading.{Small};
 ghost use Rattle.sheets.specs.Sheet.{row_figures};
 
 use crate::figure::Figure;
-use crate::tables::Tables;
+use case_tables::Tables;
 use casefile_defs::{Header, ROW_FIGURES};
 use std::io;
 use std::io::Write;

@@ -5,12 +5,11 @@
 
 mod case;
 mod figure;
-mod tables;
 
 use case::Case;
+use case_tables::Tables;
 use std::io;
 use std::io::Write;
-use tables::Tables;
 
 // One byte more than the largest file, so that a larger one shows.
 const BUFFER: usize = casefile_defs::MOST_BYTES + 1;
@@ -19,7 +18,7 @@ fn main(rt: HostRuntime) -> io::Result<()> {
     let mut to = rt.stdout();
     let mut buffer = [0u8; BUFFER];
     let n = streams::read_full(&mut rt.stdin(), &mut buffer)?;
-    let mut t = Tables::empty();
+    let mut t = Tables::zeros();
     let read = casefile::read_case(
         &buffer[..n],
         &mut t.ladder,

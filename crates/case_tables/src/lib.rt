@@ -1,18 +1,11 @@
 // The seventeen tables of a case, each with room for the largest: what case reading, joining and the small networks fill, and a file is written from.
 #![tactic(auto)]
 
-ghost use Rattle.std.specs.Prelude.{◌≡◌, ◌≤◌, length};
-ghost use Rattle.casefile_defs.specs.Reading.{Small};
-ghost use Rattle.casefile_theorems.specs.Cases.{longest, blank};
-ghost use Rattle.casefile_writer.specs.Files.{file_in};
-ghost use Rattle.casefile_writer.specs.Put.{Put};
+ghost use Rattle.std.specs.Prelude.{◌≡◌};
+ghost use Rattle.casefile_theorems.specs.Cases.{blank};
 ghost use Rattle.case_tables.specs.Tables.{tables_in};
 
-use casefile_defs::{Header, MOST_BUSES, MOST_CORRIDORS, MOST_GENERATORS, MOST_LEVELS, MOST_SHEET};
-use casefile_writer::put_case_file;
-
-// The longest file of a case.
-pub const MOST_FILE: usize = 60_609;
+use casefile_defs::{MOST_BUSES, MOST_CORRIDORS, MOST_GENERATORS, MOST_LEVELS, MOST_SHEET};
 
 #[derive(Drop)]
 pub struct Tables {
@@ -58,35 +51,5 @@ impl Tables {
             cap: [0; MOST_CORRIDORS],
             sheet: [0.0; MOST_SHEET],
         }
-    }
-
-    // Puts the file of a header's case at the start of out, and answers how long it is.
-    pub fn put_file(&self, out: &mut [u8], header: Header) -> usize
-        requires longest_in_bounds { longest ≤ length out.old }
-        requires small { Small header }
-        ensures put { Put out.old 0 (file_in header (tables_in self.now)) out.new result }
-        ensures size { result ≤ longest }
-    {
-        put_case_file(
-            out,
-            header,
-            &self.ladder,
-            &self.tier,
-            &self.reading,
-            &self.weight,
-            &self.bus,
-            &self.slack,
-            &self.pmin,
-            &self.pmax,
-            &self.c1,
-            &self.c2,
-            &self.a,
-            &self.b,
-            &self.circuits,
-            &self.length_km,
-            &self.share,
-            &self.cap,
-            &self.sheet,
-        )
     }
 }

@@ -5,7 +5,7 @@
 
 mod file;
 
-use case_tables::MOST_FILE;
+use casefile_writer::MOST_FILE;
 use file::put_small_network;
 use std::io;
 use std::io::Write;

@@ -1,11 +1,10 @@
--- The numbers of a record, by the tables that they stand in: those of casefile_theorems' `words_of`, one kind at a time. And a mark as a number of two bytes.
-use Rattle.std.specs.Prelude.{ℕ, ◌+◌, ◌*◌, ◌/◌, ◌%◌, Bool, cond, List, [], ◌∷◌, ltb, Float, get_or}
+-- The numbers of a record, by the tables that they stand in: those of casefile_theorems' `words_of`, one kind at a time.
+use Rattle.std.specs.Prelude.{ℕ, ◌+◌, ◌/◌, ◌%◌, Bool, cond, List, [], ◌∷◌, ltb, Float, get_or}
 use Rattle.std.specs.Float.{binary64}
 use Rattle.std.specs.Float.Ieee.{to_bits, eq}
 use Rattle.loops.specs.Figures.{at, nought, one}
 use Rattle.loops.specs.Loops.{first}
 use Rattle.sheets.specs.Sheet.{row_place}
-use Rattle.casefile_defs.specs.Layout.{layout_of}
 use Rattle.casefile_defs.specs.Reading.{levels}
 use Rattle.casefile_defs.specs.Tables.{Places, basis_field}
 use Rattle.casefile_defs.specs.declared.Header.{Header}
@@ -13,19 +12,12 @@ use Rattle.casefile_defs.specs.declared.Kind.{Kind}
 use Rattle.casefile_defs.specs.declared.Kind.TheVariants.{Head, Level, Bus, Generator, Corridor, Line, CappedCorridor, WeighedBus}
 use Rattle.casefile_theorems.specs.Writer.{row}
 
-abbrev pub mark_of : Kind → ℕ
-mark_of k = (layout_of k).first + 256 * (layout_of k).second
-
 abbrev pub basis_number : Float → ℕ
 basis_number x = cond (eq x nought) 0 1
 
 -- ---- a record's numbers, from its fields
 abbrev pub level_row : Float → ℕ → ℕ
 level_row kv = row (to_bits binary64 kv ∷ [])
-
--- of a bus those that BU and BV have, and all of them
-abbrev pub called_row : ℕ → Float → ℕ → ℕ
-called_row tier reading = row (tier ∷ to_bits binary64 reading ∷ [])
 
 abbrev pub bus_row : ℕ → Float → Float → ℕ → ℕ
 bus_row tier reading weight = row (tier ∷ to_bits binary64 reading ∷ to_bits binary64 weight ∷ [])
@@ -36,13 +28,10 @@ bus_kind weighed = cond weighed WeighedBus Bus
 abbrev pub generator_row : ℕ → ℕ → Float → Float → Float → Float → ℕ → ℕ
 generator_row bus slack pmin pmax c1 c2 = row (bus ∷ slack ∷ to_bits binary64 pmin ∷ to_bits binary64 pmax ∷ to_bits binary64 c1 ∷ to_bits binary64 c2 ∷ [])
 
--- of a corridor those that CO and CP have, and all of them; it is written as CP where it has a cap
-abbrev pub shared_row : ℕ → ℕ → ℕ → Float → Float → ℕ → ℕ
-shared_row a b circuits km share = row (a ∷ b ∷ circuits ∷ to_bits binary64 km ∷ to_bits binary64 share ∷ [])
-
 abbrev pub corridor_row : ℕ → ℕ → ℕ → Float → Float → ℕ → ℕ → ℕ
 corridor_row a b circuits km share cap = row (a ∷ b ∷ circuits ∷ to_bits binary64 km ∷ to_bits binary64 share ∷ cap ∷ [])
 
+-- written as CP where it has a cap
 abbrev pub corridor_kind : ℕ → Kind
 corridor_kind cap = cond (ltb 0 cap) CappedCorridor Corridor
 
@@ -50,13 +39,6 @@ abbrev pub line_row : Float → Float → Float → Float → Float → ℕ → 
 line_row r x b rate basis = row (to_bits binary64 r ∷ to_bits binary64 x ∷ to_bits binary64 b ∷ to_bits binary64 rate ∷ basis_number basis ∷ [])
 
 -- ---- of record i of a table, as its places are read
--- its kind, where all have one, and a corridor's
-abbrev pub only : Kind → ℕ → Kind
-only k i = k
-
-abbrev pub corridor_kinds : List ℕ → ℕ → Kind
-corridor_kinds cap i = corridor_kind (get_or cap i 0)
-
 abbrev pub level_words : List Float → ℕ → ℕ → ℕ
 level_words ladder i = level_row (at ladder i)
 

@@ -1,29 +1,18 @@
-// The tables of a case file, put into a lent buffer behind what it holds: a record for each of the first so many places.
-ghost use Rattle.std.specs.Prelude.{◌≡◌, ◌+◌, ◌*◌, ◌≤◌, length};
-ghost use Rattle.casefile_defs.specs.Bounds.{row_figures};
-ghost use Rattle.casefile_defs.specs.Layout.{size_of};
-ghost use Rattle.casefile_theorems.specs.Writer.{record_bytes, table_bytes};
-ghost use Rattle.casefile_writer.specs.Put.{Put};
-ghost use Rattle.casefile_writer.specs.Words.{only, weighs, bus_kind, corridor_kinds, level_words, bus_words, generator_words, corridor_words, line_from, line_words};
+// The tables of a case file: a record for each of the first so many places.
+ghost use Rattle.std.specs.Prelude.{◌≡◌, ◌+◌, ◌*◌, ◌/◌, ◌%◌, ◌<◌, ◌≤◌, ℕ, length};
+ghost use Rattle.casefile_defs.specs.Bounds.{most_buses, most_generators, most_corridors, row_figures};
+ghost use Rattle.sheets.specs.Sheet.{row_place};
+ghost use Rattle.case_tables.specs.Tables.{tables_in};
+ghost use Rattle.casefile_theorems.specs.Writer.{table_bytes};
+ghost use Rattle.casefile_writer.specs.Grown.{Grown};
+ghost use Rattle.casefile_writer.specs.Rows.{bus_at, generator_at, corridor_at, line_at};
+ghost use Rattle.casefile_writer.specs.Words.{weighs};
 
-use crate::record::{put_bus, put_corridor, put_generator, put_level, put_line};
-use casefile_defs::Kind;
+use crate::bytes::Bytes;
+use crate::record::{Bus, Corridor, Generator, Line, Record};
+use case_tables::Tables;
 use loops::first_fault;
 use sheets::row_place;
-
-#[tactic(auto, using(crate::proofs::Puts::no_record, crate::proofs::Puts::one_more_lem, crate::proofs::Puts::all_put))]
-pub fn put_levels(out: &mut [u8], len: usize, count: usize, ladder: &[f64]) -> usize
-    requires size_of_in_bounds { len + count * size_of Kind.Level ≤ length out.old }
-    requires count_in_bounds { count ≤ length ladder.now }
-    ensures put { Put out.old len (table_bytes (only Kind.Level) count (level_words ladder.now)) out.new result }
-    ensures size { result ≡ len + count * size_of Kind.Level }
-{
-    let mut used = len;
-    for i in 0..count {
-        used = put_level(out, used, ladder[i]);
-    }
-    used
-}
 
 // Whether some weight is not 1, so that the buses are written as BV.
 pub fn some_weight(count: usize, weight: &[f64]) -> bool
@@ -33,133 +22,74 @@ pub fn some_weight(count: usize, weight: &[f64]) -> bool
     first_fault(count, |i| weight[i] == 1.0).is_some()
 }
 
-#[tactic(auto, using(crate::proofs::Puts::no_record, crate::proofs::Puts::one_more_lem, crate::proofs::Puts::all_put))]
-pub fn put_buses(
-    out: &mut [u8],
-    len: usize,
-    count: usize,
-    weighed: bool,
-    tier: &[u32],
-    reading: &[f64],
-    weight: &[f64],
-) -> usize
-    requires size_of_in_bounds { len + count * size_of Kind.WeighedBus ≤ length out.old }
-    requires count_in_bounds { count ≤ length tier.now }
-    requires count_in_bounds_2 { count ≤ length reading.now }
-    requires count_in_bounds_3 { count ≤ length weight.now }
-    ensures put { Put out.old len (table_bytes (only (bus_kind weighed)) count (bus_words tier.now reading.now weight.now)) out.new result }
-    ensures size { result ≤ len + count * size_of Kind.WeighedBus }
-{
-    let mut used = len;
-    for i in 0..count {
-        used = put_bus(out, used, weighed, tier[i], reading[i], weight[i]);
+impl Bytes<'_> {
+    // The record of each place, as a function gives it.
+    pub fn put_table<R: Record, F: Fn(usize) -> R>(&mut self, count: usize, record_at: F)
+        requires callable { (i : ℕ) → i < count → F.pre record_at i }
+        requires fits { self.old.len + count * R.most ≤ length self.old.out.now }
+        ensures grown { (f : ℕ → R) → ((i : ℕ) (r : R) → i < count → F.post record_at i r → r ≡ f i) → let t = table_bytes (λ i. R.kind (f i)) count (λ i. R.fields (f i)) in Grown self.old self.new (length t) t }
+        ensures room { length self.new.out.now ≡ length self.old.out.now }
+        ensures size { self.new.len ≤ self.old.len + count * R.most }
+    {
+        for i in 0..count {
+            record_at(i).put(self);
+        }
     }
-    used
 }
 
-#[tactic(auto, using(crate::proofs::Puts::no_record, crate::proofs::Puts::one_more_lem, crate::proofs::Puts::all_put))]
-pub fn put_generators(
-    out: &mut [u8],
-    len: usize,
-    count: usize,
-    bus: &[u32],
-    slack: &[u32],
-    pmin: &[f64],
-    pmax: &[f64],
-    c1: &[f64],
-    c2: &[f64],
-) -> usize
-    requires size_of_in_bounds { len + count * size_of Kind.Generator ≤ length out.old }
-    requires count_in_bounds { count ≤ length bus.now }
-    requires count_in_bounds_2 { count ≤ length slack.now }
-    requires count_in_bounds_3 { count ≤ length pmin.now }
-    requires count_in_bounds_4 { count ≤ length pmax.now }
-    requires count_in_bounds_5 { count ≤ length c1.now }
-    requires count_in_bounds_6 { count ≤ length c2.now }
-    ensures put { Put out.old len (table_bytes (only Kind.Generator) count (generator_words bus.now slack.now pmin.now pmax.now c1.now c2.now)) out.new result }
-    ensures size { result ≡ len + count * size_of Kind.Generator }
+// Record i of a table.
+pub fn bus_at(t: &Tables, weighed: bool, i: usize) -> Bus
+    requires { i < most_buses }
+    ensures { result ≡ bus_at (tables_in t.now) weighed i }
 {
-    let mut used = len;
-    for i in 0..count {
-        used = put_generator(out, used, bus[i], slack[i], pmin[i], pmax[i], c1[i], c2[i]);
+    Bus {
+        weighed,
+        tier: t.tier[i],
+        reading: t.reading[i],
+        weight: t.weight[i],
     }
-    used
 }
 
-#[tactic(auto, using(crate::proofs::Puts::no_record, crate::proofs::Puts::one_more_lem, crate::proofs::Puts::all_put))]
-pub fn put_corridors(
-    out: &mut [u8],
-    len: usize,
-    count: usize,
-    a: &[u32],
-    b: &[u32],
-    circuits: &[u32],
-    length_km: &[f64],
-    share: &[f64],
-    cap: &[u32],
-) -> usize
-    requires size_of_in_bounds { len + count * size_of Kind.CappedCorridor ≤ length out.old }
-    requires count_in_bounds { count ≤ length a.now }
-    requires count_in_bounds_2 { count ≤ length b.now }
-    requires count_in_bounds_3 { count ≤ length circuits.now }
-    requires count_in_bounds_4 { count ≤ length length_km.now }
-    requires count_in_bounds_5 { count ≤ length share.now }
-    requires count_in_bounds_6 { count ≤ length cap.now }
-    ensures put { Put out.old len (table_bytes (corridor_kinds cap.now) count (corridor_words a.now b.now circuits.now length_km.now share.now cap.now)) out.new result }
-    ensures size { result ≤ len + count * size_of Kind.CappedCorridor }
+pub fn generator_at(t: &Tables, i: usize) -> Generator
+    requires { i < most_generators }
+    ensures { result ≡ generator_at (tables_in t.now) i }
 {
-    let mut used = len;
-    for i in 0..count {
-        used = put_corridor(
-            out,
-            used,
-            a[i],
-            b[i],
-            circuits[i],
-            length_km[i],
-            share[i],
-            cap[i],
-        );
+    Generator {
+        bus: t.bus[i],
+        slack: t.slack[i],
+        pmin: t.pmin[i],
+        pmax: t.pmax[i],
+        c1: t.c1[i],
+        c2: t.c2[i],
     }
-    used
 }
 
-// The row of the sheet that begins at place p.
-fn put_row(out: &mut [u8], len: usize, sheet: &[f64], p: usize) -> usize
-    requires size_of_in_bounds { len + size_of Kind.Line ≤ length out.old }
-    requires row_figures_in_bounds { p + row_figures ≤ length sheet.now }
-    ensures put { Put out.old len (record_bytes Kind.Line (line_from sheet.now p)) out.new result }
-    ensures size { result ≡ len + size_of Kind.Line }
+pub fn corridor_at(t: &Tables, i: usize) -> Corridor
+    requires { i < most_corridors }
+    ensures { result ≡ corridor_at (tables_in t.now) i }
 {
-    put_line(
-        out,
-        len,
-        sheet[p],
-        sheet[p + 1],
-        sheet[p + 2],
-        sheet[p + 3],
-        sheet[p + 4],
-    )
+    Corridor {
+        a: t.a[i],
+        b: t.b[i],
+        circuits: t.circuits[i],
+        length_km: t.length_km[i],
+        share: t.share[i],
+        cap: t.cap[i],
+    }
 }
 
-// The file has its lines by corridor, the sheet its rows by level.
-pub fn put_lines(
-    out: &mut [u8],
-    len: usize,
-    corridors: usize,
-    levels: usize,
-    sheet: &[f64],
-) -> usize
-    requires size_of_in_bounds { len + corridors * levels * size_of Kind.Line ≤ length out.old }
+// Line i of the file, which has its lines by corridor; the sheet has its rows by level.
+pub fn line_at(sheet: &[f64], corridors: usize, levels: usize, i: usize) -> Line
+    requires line_in_bounds { i < corridors * levels }
     requires row_figures_in_bounds { corridors * levels * row_figures ≤ length sheet.now }
-    ensures put { Put out.old len (table_bytes (only Kind.Line) (corridors * levels) (line_words corridors levels sheet.now)) out.new result }
-    ensures size { result ≡ len + corridors * levels * size_of Kind.Line }
+    ensures { result ≡ line_at sheet.now (row_place corridors (i / levels) (i % levels)) }
 {
-    let count = corridors * levels;
-    let mut used = len;
-    for i in 0..count {
-        let p = row_place(corridors, i / levels, i % levels);
-        used = put_row(out, used, sheet, p);
+    let p = row_place(corridors, i / levels, i % levels);
+    Line {
+        r: sheet[p],
+        x: sheet[p + 1],
+        b: sheet[p + 2],
+        rate: sheet[p + 3],
+        basis: sheet[p + 4],
     }
-    used
 }

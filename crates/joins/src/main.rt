@@ -7,8 +7,8 @@ mod case;
 mod files;
 mod fronts;
 
-use case_tables::MOST_FILE;
 use casefile_defs::MOST_BYTES;
+use casefile_writer::MOST_FILE;
 use files::join_files;
 use std::io;
 use std::io::Write;

@@ -1,30 +1,15 @@
--- How the code fills a column: it has at most three records, and each is one of three values. proofs/Filled ties it to the tables of `Tables`.
-use Rattle.std.specs.Prelude.{ℕ, ◌+◌, ◌/◌, ◌%◌, ◌^◌, cond, List, eqb, ltb, Float}
+-- The records of a network as the code works them out. proofs/Filled ties them to the columns of `Tables`.
+use Rattle.std.specs.Prelude.{ℕ, ◌+◌, ◌/◌, ◌%◌, ◌^◌, cond, eqb, ltb, Float}
 use Rattle.loops.specs.Figures.{nought, half, hundred}
-use Rattle.loops.specs.Loops.{tab}
-use Rattle.casefile_defs.specs.Bounds.{row_figures}
 use Rattle.mode.specs.declared.PlanMode.TheVariants.{Observe}
 use Rattle.casefile_defs.specs.declared.Header.{Header}
 use Rattle.small.specs.declared.order.Shape.{Shape}
 use Rattle.small.specs.Networks.{buses_at, number_at}
 use Rattle.small.specs.Tables.{load_of}
 
--- place i of a column of the first n of three values
-abbrev pub among : {A : Type 0} → A → ℕ → A → A → A → ℕ → A
-among zero n x y z i = cond (ltb i n) (cond (eqb i 0) x (cond (eqb i 1) y (cond (eqb i 2) z zero))) zero
-
-abbrev pub counts : ℕ → ℕ → ℕ → ℕ → ℕ → List ℕ
-counts places n x y z = tab places (among 0 n x y z)
-
-abbrev pub figures : ℕ → ℕ → Float → Float → Float → List Float
-figures places n x y z = tab places (among nought n x y z)
-
--- place p of a sheet whose first figures are rows
+-- figure j of a row of the sheet
 abbrev pub row_figure : ℕ → Float
 row_figure j = cond (eqb j 1) half (cond (eqb j 3) hundred nought)
-
-abbrev pub sheet_at : ℕ → ℕ → Float
-sheet_at filled p = cond (ltb p filled) (row_figure (p % row_figures)) nought
 
 -- ---- a place as the code takes it apart: of number k of the networks of b buses, with so many sets of loads for each set of corridors
 abbrev pub shape : ℕ → ℕ → ℕ → Shape
@@ -46,6 +31,10 @@ first_pair c = cond (eqb (c % 2) 1) 0 (cond (eqb (c / 2 % 2) 1) 1 last_pair)
 abbrev pub second_pair : ℕ → ℕ
 second_pair c = cond (eqb (c % 4) 3) 1 last_pair
 
+-- the pair of corridor i
+abbrev pub pair_of : ℕ → ℕ → ℕ
+pair_of c i = cond (eqb i 0) (first_pair c) (cond (eqb i 1) (second_pair c) last_pair)
+
 -- a pair's ends
 abbrev pub lower_end : ℕ → ℕ
 lower_end pair = cond (ltb pair last_pair) 0 1
@@ -56,6 +45,10 @@ upper_end pair = cond (eqb pair 0) 1 2
 -- the load of the bus of a binary number's lowest bit
 abbrev pub lowest_load : ℕ → Float
 lowest_load n = load_of (eqb (n % 2) 1)
+
+-- and of bus i
+abbrev pub load_at : ℕ → ℕ → Float
+load_at n i = cond (eqb i 0) (lowest_load n) (cond (eqb i 1) (lowest_load (n / 2)) (lowest_load (n / 2 / 2)))
 
 -- the header, with so many buses and corridors
 abbrev pub counted : ℕ → ℕ → Header

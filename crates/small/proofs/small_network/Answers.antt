@@ -1,17 +1,13 @@
--- Each column is that of the place; what the parts leave goes to `made_whole`.
-use Prim.Native.Nat.{ℕ, ◌*◌, ◌/◌, ◌<◌}
-use mathlib.Core.Path.{sym, ◌∙◌}
-use native.Mathlib.Omega.{arith}
+-- Each column is filled with the network's records (Filled), so the tables are the place's.
+use Rattle.std.proofs.Common.{ℕ, ◌*◌, ◌%◌, ◌<◌, ◌∙◌, sym, arith, rules}
 use Rattle.loops.specs.Figures.{nought, one, hundred}
-use Rattle.loops.specs.Loops.{tab}
 use Rattle.casefile_defs.specs.Bounds.{row_figures}
-use Rattle.casefile_defs.specs.Tables.{sizes_ok}
 use Rattle.casefile_defs.proofs.Whole.{sizes}
-use Rattle.small.specs.declared.order.Shape.{Shape}
 use Rattle.small.specs.Networks.{all_places}
-use Rattle.small.specs.Tables.{kv, ten, twenty, quarter}
-use Rattle.small.specs.Columns.{counts, figures, sheet_at, corridor_count, last_pair, first_pair, second_pair, lower_end, upper_end, lowest_load}
-use Rattle.small.proofs.Whole.{sized, tables_made, made_whole, lengths_refused, place_refused}
+use Rattle.small.specs.Tables.{kv, ten, twenty, quarter, columns_of, laid_out}
+use Rattle.small.specs.Columns.{pair_of, lower_end, upper_end, load_at, row_figure}
+use Rattle.small.proofs.Filled.{column, single, each_bus, loads, lower, upper, each, rows}
+use Rattle.small.proofs.Whole.{places_same, made_whole, lengths_refused, place_refused}
 use Rattle.small.proofs.small_network.Goals as goal
 
 pub returns-then-not-sized : goal.returns-then-not-sized
@@ -21,30 +17,32 @@ pub returns-then-place-ge-PLACES : goal.returns-then-place-ge-PLACES
 returns-then-place-ge-PLACES c = place_refused _ _ (sym c.tables_sized-sized.ensures ∙ c.if-not-sized.false) (omega (arith, c.if-place-ge-PLACES.true))
 
 pub returns : goal.returns
+unfolding laid_out columns_of
 returns c =
-    let e = c.put_corridors.ensures in
-    let g = c.put_generator.ensures in
-    let b = c.put_buses.ensures in
-    let q = c.network_at-s.ensures in
-    let z = sizes _ (sym c.tables_sized-sized.ensures ∙ c.if-not-sized.false) in
     let i = c.args.place in
+    let s = c.network_at-s.result in
+    let e = c.network_at-s.ensures in
+    let m = c.corridor_count-m.result in
+    let v = c.corridor_count-m.ensures.value in
+    let sized = sym c.tables_sized-sized.ensures ∙ c.if-not-sized.false in
+    let z = sizes _ sized in
     let few : i < all_places = omega (arith, c.if-place-ge-PLACES.false) in
-    made_whole i few _ _ (sym c.tables_sized-sized.ensures ∙ c.if-not-sized.false) q c.header_of.ensures
-    (tables_made i few
-    (sized (λ (n : ℕ) (s : Shape). figures n 1 kv kv kv) z.ladder q b.ladder)
-    (sized (λ (n : ℕ) (s : Shape). counts n s.buses 0 0 0) z.tier q b.tier)
-    (sized (λ (n : ℕ) (s : Shape). figures n s.buses (lowest_load s.loads) (lowest_load (s.loads / 2)) (lowest_load (s.loads / 2 / 2))) z.reading q b.reading)
-    (sized (λ (n : ℕ) (s : Shape). figures n s.buses one one one) z.weight q b.weight)
-    (sized (λ (n : ℕ) (s : Shape). counts n 1 0 0 0) z.bus q g.bus)
-    (sized (λ (n : ℕ) (s : Shape). counts n 1 1 1 1) z.slack q g.slack)
-    (sized (λ (n : ℕ) (s : Shape). figures n 1 nought nought nought) z.pmin q g.pmin)
-    (sized (λ (n : ℕ) (s : Shape). figures n 1 hundred hundred hundred) z.pmax q g.pmax)
-    (sized (λ (n : ℕ) (s : Shape). figures n 1 twenty twenty twenty) z.c1 q g.c1)
-    (sized (λ (n : ℕ) (s : Shape). figures n 1 quarter quarter quarter) z.c2 q g.c2)
-    (sized (λ (n : ℕ) (s : Shape). counts n (corridor_count s.corridors) (lower_end (first_pair s.corridors)) (lower_end (second_pair s.corridors)) (lower_end last_pair)) z.a q e.a)
-    (sized (λ (n : ℕ) (s : Shape). counts n (corridor_count s.corridors) (upper_end (first_pair s.corridors)) (upper_end (second_pair s.corridors)) (upper_end last_pair)) z.b q e.b)
-    (sized (λ (n : ℕ) (s : Shape). counts n (corridor_count s.corridors) 1 1 1) z.circuits q e.circuits)
-    (sized (λ (n : ℕ) (s : Shape). figures n (corridor_count s.corridors) ten ten ten) z.length_km q e.length_km)
-    (sized (λ (n : ℕ) (s : Shape). figures n (corridor_count s.corridors) one one one) z.share q e.share)
-    (sized (λ (n : ℕ) (s : Shape). counts n (corridor_count s.corridors) 0 0 0) z.cap q e.cap)
-    (sized (λ (n : ℕ) (s : Shape). tab n (sheet_at (corridor_count s.corridors * row_figures))) z.sheet q e.sheet))
+    made_whole i _ _ few sized e c.header_of.ensures
+    (places_same
+    (column nought 1 (λ (j : ℕ). kv) z.ladder (single kv) (c.fill_first.ensures (λ (j : ℕ). kv) (λ j r l h. search rules)))
+    (column 0 s.buses (λ (j : ℕ). 0) z.tier (each_bus i few e 0) (c.fill_first-2.ensures (λ (j : ℕ). 0) (λ j r l h. search rules)))
+    (column nought s.buses (load_at s.loads) z.reading (loads i few e) (c.fill_first-3.ensures (load_at s.loads) (λ j r l h. search rules)))
+    (column nought s.buses (λ (j : ℕ). one) z.weight (each_bus i few e one) (c.fill_first-4.ensures (λ (j : ℕ). one) (λ j r l h. search rules)))
+    (column 0 1 (λ (j : ℕ). 0) z.bus (single 0) (c.fill_first-5.ensures (λ (j : ℕ). 0) (λ j r l h. search rules)))
+    (column 0 1 (λ (j : ℕ). 1) z.slack (single 1) (c.fill_first-6.ensures (λ (j : ℕ). 1) (λ j r l h. search rules)))
+    (column nought 1 (λ (j : ℕ). nought) z.pmin (single nought) (c.fill_first-7.ensures (λ (j : ℕ). nought) (λ j r l h. search rules)))
+    (column nought 1 (λ (j : ℕ). hundred) z.pmax (single hundred) (c.fill_first-8.ensures (λ (j : ℕ). hundred) (λ j r l h. search rules)))
+    (column nought 1 (λ (j : ℕ). twenty) z.c1 (single twenty) (c.fill_first-9.ensures (λ (j : ℕ). twenty) (λ j r l h. search rules)))
+    (column nought 1 (λ (j : ℕ). quarter) z.c2 (single quarter) (c.fill_first-10.ensures (λ (j : ℕ). quarter) (λ j r l h. search rules)))
+    (column 0 m (λ (j : ℕ). lower_end (pair_of s.corridors j)) z.a (lower i few e v) (c.fill_first-11.ensures (λ (j : ℕ). lower_end (pair_of s.corridors j)) (λ j r l h. search rules)))
+    (column 0 m (λ (j : ℕ). upper_end (pair_of s.corridors j)) z.b (upper i few e v) (c.fill_first-12.ensures (λ (j : ℕ). upper_end (pair_of s.corridors j)) (λ j r l h. search rules)))
+    (column 0 m (λ (j : ℕ). 1) z.circuits (each i few e v 1) (c.fill_first-13.ensures (λ (j : ℕ). 1) (λ j r l h. search rules)))
+    (column nought m (λ (j : ℕ). ten) z.length_km (each i few e v ten) (c.fill_first-14.ensures (λ (j : ℕ). ten) (λ j r l h. search rules)))
+    (column nought m (λ (j : ℕ). one) z.share (each i few e v one) (c.fill_first-15.ensures (λ (j : ℕ). one) (λ j r l h. search rules)))
+    (column 0 m (λ (j : ℕ). 0) z.cap (each i few e v 0) (c.fill_first-16.ensures (λ (j : ℕ). 0) (λ j r l h. search rules)))
+    (column nought (m * row_figures) (λ (p : ℕ). row_figure (p % row_figures)) z.sheet (rows i few e v) (c.fill_first-17.ensures (λ (p : ℕ). row_figure (p % row_figures)) (λ j r l h. search rules))))

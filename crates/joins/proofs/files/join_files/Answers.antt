@@ -37,10 +37,10 @@ returns-in_err-joined-clause-kept c = let p = err_from_is_err_and c.from_residua
 
 pub returns-clause-said : goal.returns-clause-said
 returns-clause-said c =
-    joined _ _ _ _ c.in_ok-joined.joined c.in_ok-joined.ensures c.put_file.ensures.put
+    joined _ _ _ _ c.in_ok-joined.joined c.in_ok-joined.ensures c.put_case_file.ensures.put
     ∙ sym (second _ _ _ c.in_ok-second.second c.in_ok-second.ensures)
     ∙ sym (first _ _ c.in_ok-first.first c.in_ok-first.ensures)
 
 pub returns-clause-kept : goal.returns-clause-kept
 unfolding Kept
-returns-clause-kept c = c.put_file.ensures.size
+returns-clause-kept c = c.put_case_file.ensures.size

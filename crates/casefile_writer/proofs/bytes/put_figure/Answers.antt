@@ -1,7 +1,0 @@
-use mathlib.Core.Path.{ap}
-use Rattle.casefile_theorems.specs.Writer.{bytes}
-use Rattle.casefile_writer.proofs.Puts.{same_bytes}
-use Rattle.casefile_writer.proofs.bytes.put_figure.Goals as goal
-
-pub returns : goal.returns
-returns c = record { put = same_bytes (ap (bytes 8) c.bits_of.ensures) c.put_bytes.ensures.put; size = c.put_bytes.ensures.size }

@@ -1,5 +1,6 @@
 pub mod Texts
 pub mod Numbers
+pub mod Turns
 pub mod Rooms
 pub mod Outcomes
 pub mod Examples

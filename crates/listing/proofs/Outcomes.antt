@@ -14,12 +14,13 @@ use Rattle.plan_defs.specs.Case.{Case}
 use Rattle.plan_defs.specs.Plan.{Ending, unaccepted, unanswered, planned, ending_of}
 use Rattle.plan_defs.specs.Outcome.{Slices, held, summary, up_to, cleared, Outcome, outcome, outcome_by}
 use Rattle.plan_defs.specs.declared.CorridorPlan.{CorridorPlan}
-use Rattle.casefile_defs.specs.Reading.{Small, reading_of}
+use Rattle.casefile_defs.specs.Bounds.{most_levels, most_buses}
+use Rattle.casefile_defs.specs.Reading.{reading_of}
 use Rattle.casefile_defs.specs.Tables.{tables_of}
 use Rattle.casefile_defs.specs.Tables.{held as headerOf}
 use Rattle.casefile_defs.specs.declared.Header.{Header}
 use Rattle.planned_files.specs.Files.{case_in, Filed, plan_read, plan_file, filed_of}
-use Rattle.planned_files.specs.declared.PlannedFile.{PlannedFile}
+use Rattle.planned_files.specs.declared.file.PlannedFile.{PlannedFile}
 use Rattle.listing.specs.Text.{number}
 use Rattle.listing.specs.Lines.{line, refusal_line, most_text}
 use Rattle.listing.specs.Listing.{listed, planned_lines, plan_text, ending_text, read_text, file_text}
@@ -97,17 +98,17 @@ module _ (s : List ℕ) (r : PlannedFile) (e : filed_of r ≡ plan_file s) where
   counted p =
       subst (λ (x : Result CorridorPlan Refusal). Holds (outcome x (filed_of r).plan.lent)) p (subst (λ (f : Filed). Holds f.plan) (sym e) (file_holds s))
 
-  pub levels_there : {p : CorridorPlan} → r.planned ≡ Ok p → (p.added ≤ r.header.above) × (p.added ≤ length r.added)
-  levels_there q = let h = counted q in (omega (arith, h.0, length-take r.header.above r.added), omega (arith, h.0, length-take r.header.above r.added))
+  pub levels_there : {p : CorridorPlan} → r.planned ≡ Ok p → (p.added ≤ r.header.above) × (p.added ≤ most_levels)
+  levels_there q = let h = counted q in (omega (arith, h.0, length-take r.header.above r.results.added), omega (arith, h.0, length-take r.header.above r.results.added, r.small.levels))
 
-  pub grounds_there : {p : CorridorPlan} → r.planned ≡ Ok p → (p.grounds ≤ r.header.buses) × (p.grounds ≤ length r.ground)
-  grounds_there q = let h = counted q in (omega (arith, h.1, length-take r.header.buses r.ground), omega (arith, h.1, length-take r.header.buses r.ground))
+  pub grounds_there : {p : CorridorPlan} → r.planned ≡ Ok p → (p.grounds ≤ r.header.buses) × (p.grounds ≤ most_buses)
+  grounds_there q = let h = counted q in (omega (arith, h.1, length-take r.header.buses r.results.ground), omega (arith, h.1, length-take r.header.buses r.results.ground, r.small.buses))
 
   pub planned_text : {p : CorridorPlan} → r.planned ≡ Ok p → planned_lines r p ≡ file_text s
   unfolding planned_lines
   planned_text {p} q =
-      rw (← take-take p.added r.header.above r.added (levels_there q).0, ← take-take p.grounds r.header.buses r.ground (grounds_there q).0)
+      rw (← take-take p.added r.header.above r.results.added (levels_there q).0, ← take-take p.grounds r.header.buses r.results.ground (grounds_there q).0)
       (sym (ap (λ (x : Result CorridorPlan Refusal). outcome_text r.header.mode (outcome x (filed_of r).plan.lent)) q) ∙ text_as)
 
-  pub room : {p : CorridorPlan} → Small r.header → r.planned ≡ Ok p → length (planned_lines r p) ≤ most_text
-  room {p} h q = planned_short r p h (omega (arith, (levels_there q).0, h.levels)) (omega (arith, (grounds_there q).0, h.buses))
+  pub room : {p : CorridorPlan} → r.planned ≡ Ok p → length (planned_lines r p) ≤ most_text
+  room {p} q = planned_short r p (levels_there q).1 (grounds_there q).1

@@ -13,7 +13,7 @@ use Rattle.plan_defs.specs.Listing.{flag}
 use Rattle.plan_defs.specs.declared.CorridorPlan.{CorridorPlan}
 use Rattle.casefile_defs.specs.Reading.{Small}
 use Rattle.casefile_defs.specs.Bounds.{most_buses, most_levels}
-use Rattle.planned_files.specs.declared.PlannedFile.{PlannedFile}
+use Rattle.planned_files.specs.declared.file.PlannedFile.{PlannedFile}
 use Rattle.listing.specs.Lines.{lines, plan_room, line_room, most_text, refusal_line, plan_line, added_line, ground_line, bus_line, generator_line, corridor_line, most_line}
 use Rattle.listing.specs.Listing.{planned_lines}
 use Rattle.listing.proofs.Numbers.{length_number, length_figure}
@@ -61,30 +61,31 @@ lines_short f (suc n) h = omega (arith, length-append (lines f n) (f n), lines_s
 few : {A : Type 0} (n k : ℕ) (xs : List A) → n ≤ k → length (take n xs) ≤ k
 few n k xs h = omega (arith, length-take n xs)
 
-pub planned_short : (r : PlannedFile) (p : CorridorPlan) → Small r.header → p.added ≤ most_levels → p.grounds ≤ most_buses → length (planned_lines r p) ≤ most_text
+pub planned_short : (r : PlannedFile) (p : CorridorPlan) → p.added ≤ most_levels → p.grounds ≤ most_buses → length (planned_lines r p) ≤ most_text
 unfolding planned_lines
-planned_short r p s a g =
-    let added = take p.added r.added in
-    let ground = take p.grounds r.ground in
-    let tier = take r.header.buses r.tier in
-    let angle = take r.header.buses r.angle in
-    let mw = take r.header.generators r.mw in
-    let circuits = take r.header.corridors r.circuits in
-    let flow = take r.header.corridors r.flow in
-    let rate = take r.header.corridors r.rate in
+planned_short r p a g =
+    let s = r.small in
+    let added = take p.added r.results.added in
+    let ground = take p.grounds r.results.ground in
+    let tier = take r.header.buses r.results.tier in
+    let angle = take r.header.buses r.results.angle in
+    let mw = take r.header.generators r.results.mw in
+    let circuits = take r.header.corridors r.results.circuits in
+    let flow = take r.header.corridors r.results.flow in
+    let rate = take r.header.corridors r.results.rate in
     simp length-append
     (omega (
       arith,
       plan_short r.header.mode p,
       lines_short (λ i. added_line (at added i)) (length added) (λ i. added_short _),
-      few _ _ r.added a,
+      few _ _ r.results.added a,
       lines_short (λ i. ground_line (get_or ground i 0)) (length ground) (λ i. ground_short _),
-      few _ _ r.ground g,
+      few _ _ r.results.ground g,
       lines_short (λ i. bus_line i (get_or tier i 0) (at angle i)) (length angle) (λ i. bus_short _ _ _),
-      few _ _ r.angle s.buses,
+      few _ _ r.results.angle s.buses,
       lines_short (λ i. generator_line i (at mw i)) (length mw) (λ i. generator_short _ _),
-      few _ _ r.mw s.generators,
+      few _ _ r.results.mw s.generators,
       lines_short (λ i. corridor_line i (get_or circuits i 0) (at flow i) (at rate i)) (length circuits) (λ i. corridor_short _ _ _ _),
-      few _ _ r.circuits s.corridors,
+      few _ _ r.results.circuits s.corridors,
       most_short p.loading p.spread,
     ))

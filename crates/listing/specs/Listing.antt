@@ -8,7 +8,7 @@ use Rattle.casefile_defs.specs.Reading.{reading_of}
 use Rattle.casefile_defs.specs.Tables.{Places, tables_of}
 use Rattle.casefile_defs.specs.declared.Header.{Header}
 use Rattle.planned_files.specs.Files.{case_in}
-use Rattle.planned_files.specs.declared.PlannedFile.{PlannedFile}
+use Rattle.planned_files.specs.declared.file.PlannedFile.{PlannedFile}
 use Rattle.listing.specs.Lines.{refusal_line, plan_line, added_lines, ground_lines, bus_lines, generator_lines, corridor_lines, most_line}
 use Rattle.refusal.specs.declared.Refusal.{Refusal}
 
@@ -23,8 +23,9 @@ unfoldable pub planned_lines : PlannedFile → CorridorPlan → List ℕ
 planned_lines r p =
     let n = r.header.buses in
     let m = r.header.corridors in
-    listed r.header.mode p (take p.added r.added) (take p.grounds r.ground) (take n r.tier) (take n r.angle) (take r.header.generators r.mw)
-    (take m r.circuits) (take m r.flow) (take m r.rate)
+    let s = r.results in
+    listed r.header.mode p (take p.added s.added) (take p.grounds s.ground) (take n s.tier) (take n s.angle) (take r.header.generators s.mw)
+    (take m s.circuits) (take m s.flow) (take m s.rate)
 
 -- ---- of the defined plan
 unfoldable pub plan_text : PlanMode → Plan → List ℕ

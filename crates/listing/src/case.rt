@@ -1,7 +1,6 @@
 // The listing of a case file.
 ghost use Rattle.std.specs.Prelude.{◌≡◌, ◌+◌, ◌≤◌, [], ◌++◌, length};
-ghost use Rattle.casefile_defs.specs.Reading.{Small};
-ghost use Rattle.planned_files.specs.Files.{Sized};
+ghost use Rattle.casefile_defs.specs.Bounds.{most_buses, most_levels};
 ghost use Rattle.listing.specs.Lines.{most_text};
 ghost use Rattle.listing.specs.Listing.{file_text, planned_lines};
 
@@ -13,22 +12,20 @@ impl Text {
     // PL, AD, GR, BU, GE, CO, MX
     fn put_planned(&mut self, file: &PlannedFile, p: CorridorPlan)
         requires room { length self.old + length (planned_lines file.now p) ≤ most_text }
-        requires small { Small file.now.header }
-        requires sized { Sized file.now }
-        requires added { p.added ≤ length file.now.added }
-        requires grounds { p.grounds ≤ length file.now.ground }
+        requires added { p.added ≤ most_levels }
+        requires grounds { p.grounds ≤ most_buses }
         ensures { self.new ≡ self.old ++ planned_lines file.now p }
     {
         let h = file.header;
         self.put_plan(h.mode, p);
-        self.put_levels(&file.added[..p.added as usize]);
-        self.put_grounds(&file.ground[..p.grounds as usize]);
-        self.put_buses(&file.tier[..h.buses], &file.angle[..h.buses]);
-        self.put_generators(&file.mw[..h.generators]);
+        self.put_levels(&file.results.added[..p.added as usize]);
+        self.put_grounds(&file.results.ground[..p.grounds as usize]);
+        self.put_buses(&file.results.tier[..h.buses], &file.results.angle[..h.buses]);
+        self.put_generators(&file.results.mw[..h.generators]);
         self.put_corridors(
-            &file.circuits[..h.corridors],
-            &file.flow[..h.corridors],
-            &file.rate[..h.corridors],
+            &file.results.circuits[..h.corridors],
+            &file.results.flow[..h.corridors],
+            &file.results.rate[..h.corridors],
         );
         self.put_most(p.loading, p.spread)
     }

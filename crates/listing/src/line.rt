@@ -75,12 +75,12 @@ impl Text {
         requires tier_len { length tier.now ≡ length angle.now }
         ensures { self.new ≡ self.old ++ bus_lines tier.now angle.now }
     {
-        for (i, angle) in angle.iter().enumerate() {
+        for (i, (tier, angle)) in tier.iter().zip(angle).enumerate() {
             self.put_line(
                 b"BU",
                 &[
                     Field::Number(i as u64),
-                    Field::Number(tier[i] as u64),
+                    Field::Number(*tier as u64),
                     Field::Figure(*angle),
                 ],
             );
@@ -106,14 +106,15 @@ impl Text {
         requires rate_len { length rate.now ≡ length circuits.now }
         ensures { self.new ≡ self.old ++ corridor_lines circuits.now flow.now rate.now }
     {
-        for (i, circuits) in circuits.iter().enumerate() {
+        let corridors = circuits.iter().zip(flow).zip(rate);
+        for (i, ((circuits, flow), rate)) in corridors.enumerate() {
             self.put_line(
                 b"CO",
                 &[
                     Field::Number(i as u64),
                     Field::Number(*circuits as u64),
-                    Field::Figure(flow[i]),
-                    Field::Figure(rate[i]),
+                    Field::Figure(*flow),
+                    Field::Figure(*rate),
                 ],
             );
         }

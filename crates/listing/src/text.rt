@@ -5,18 +5,15 @@ ghost use Rattle.listing.specs.Lines.{line_of, most_text};
 ghost use Rattle.plan_defs.specs.Listing.{bits_of};
 
 use arrayvec::ArrayVec;
+use itoa::Buffer;
 use std::marker::Model;
+use std::num::f64_to_bits_with_nan;
 
 // PL and 902 other lines at their longest.
 const MOST_TEXT: usize = 213 + 79 * 902;
 
-// The hexadecimal digits of a figure, and the most digits of a number.
+// The hexadecimal digits of a figure.
 const FIGURE_DIGITS: usize = 16;
-
-const NUMBER_DIGITS: usize = 20;
-
-// The one pattern under which a NaN is listed.
-const NAN: u64 = 0x7ff8_0000_0000_0000;
 
 // A field of a line.
 #[derive(Clone, Copy)]
@@ -65,10 +62,9 @@ impl Text {
         requires { length self.old + length (number n) ≤ most_text }
         ensures { self.new ≡ self.old ++ number n }
     {
-        let mut digits = [0; NUMBER_DIGITS];
-        let count = streams::decimal(n, &mut digits);
+        let mut buffer = Buffer::new();
         self.put(b" ");
-        self.put(&digits[..count])
+        self.put(buffer.format(n).as_bytes())
     }
 
     // A space and a figure.
@@ -104,27 +100,14 @@ impl Text {
     }
 }
 
-fn hex_digit(d: u64) -> u8
-    requires { d < 16 }
-    ensures { result ≡ digit d }
-{
-    if d < 10 {
-        b'0' + d as u8
-    } else {
-        b'A' + (d - 10) as u8
-    }
-}
-
-// Sixteen upper-case digits, the last made first.
+// Sixteen upper-case digits.
+#[tactic(auto, using(crate::proofs::Numbers::figure_digits))]
 fn hexadecimal(n: u64) -> [u8; FIGURE_DIGITS]
     ensures { result ≡ hexadecimal 16 n }
 {
     let mut digits = [0; FIGURE_DIGITS];
-    let mut rest = n;
-    for i in 0..FIGURE_DIGITS {
-        digits[FIGURE_DIGITS - 1 - i] = hex_digit(rest % 16);
-        rest /= 16;
-    }
+    hex::encode_to_slice(n.to_be_bytes(), &mut digits).unwrap();
+    digits.make_ascii_uppercase();
     digits
 }
 
@@ -132,11 +115,5 @@ fn hexadecimal(n: u64) -> [u8; FIGURE_DIGITS]
 fn listed_bits(x: f64) -> u64
     ensures { result ≡ bits_of x }
 {
-    if x == 0.0 {
-        return 0;
-    }
-    if x.is_nan() {
-        return NAN;
-    }
-    x.to_bits()
+    if x == 0.0 { 0 } else { f64_to_bits_with_nan(x) }
 }

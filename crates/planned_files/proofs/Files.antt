@@ -1,45 +1,30 @@
 -- What case reading says and leaves in its tables is the file's case, in the parts of the tables that are handed on, or its refusal.
-use Prim.Native.Nat.{ℕ, ◌-◌, ◌*◌, ◌≤◌}
+use Prim.Native.Nat.{ℕ, ◌*◌, ◌≤◌}
 use mathlib.Core.Bool.{Bool, true, cond}
 use mathlib.Core.List.{List, []}
 use mathlib.Core.Path.{◌≡◌, refl, sym, ap, ◌∙◌}
-use native.Mathlib.Nat.{mul-le-mul, sub-zero}
+use native.Mathlib.Nat.{mul-le-mul}
 use native.Mathlib.Omega.{arith}
-use lib.ListN.{take, replicate}
-use Rattle.loops.specs.Figures.{nought}
 use Rattle.refusal.specs.Reply.{Reply, answered, refused}
 use Rattle.refusal.specs.declared.Refusal.{Refusal}
 use Rattle.refusal.specs.declared.Refusal.TheVariants.{Length}
 use Rattle.mode.specs.declared.PlanMode.TheVariants.{Expand}
 use Rattle.casefile_defs.specs.Bounds.{most_levels, most_corridors, most_sheet, row_figures}
-use Rattle.casefile_defs.specs.Reading.{Small, levels, lines, read_of, reading_of}
+use Rattle.casefile_defs.specs.Reading.{Small, lines, read_of, reading_of}
 use Rattle.casefile_defs.specs.Reading.{unread as unread-case}
-use Rattle.casefile_defs.specs.Tables.{Places, places_of, reply_of, tables_of, sizes_ok, read_case}
+use Rattle.casefile_defs.specs.Tables.{Places, reply_of, tables_of, sizes_ok, read_case}
 use Rattle.casefile_defs.specs.Tables.{held as headerOf}
 use Rattle.casefile_defs.specs.Tables.{Outcome as ReadOutcome}
 use Rattle.casefile_defs.specs.Tables.{outcome as read-outcome}
 use Rattle.casefile_defs.specs.declared.CaseRead.{CaseRead}
 use Rattle.casefile_defs.specs.declared.Header.{Header}
-use Rattle.planned_files.specs.Files.{case_as, case_in, results, plan_of, Filed, filed, plan_read, plan_file}
+use Rattle.planned_files.specs.Files.{case_in, results, plan_of, Filed, filed, plan_read, plan_file}
 use Rattle.std.specs.Prelude.{Err, Ok, Result}
 
 -- ---- parts
 -- the rows of the sheet are places of it
 pub rows_fit : (h : Header) → Small h → lines h * row_figures ≤ most_sheet
 rows_fit h s = let k : lines h ≤ most_corridors * most_levels = mul-le-mul s.corridors s.levels in omega arith
-
--- what is at most a table's size is a place in it, or its end
-pub in_table : {n k l : ℕ} → n ≤ k → l ≡ k → n ≤ l
-in_table a e = omega arith
-
--- a part is lent by its end less its start, which is 0
-abbrev pub parts : Places → ℕ → ℕ → ℕ → ℕ → ℕ → Places
-parts p l n g m s =
-    places_of (take l p.ladder) (take n p.tier) (take n p.reading) (take n p.weight) (take g p.bus) (take g p.slack) (take g p.pmin) (take g p.pmax) (take g p.c1)
-    (take g p.c2) (take m p.a) (take m p.b) (take m p.circuits) (take m p.length_km) (take m p.share) (take m p.cap) (take s p.sheet)
-
-same_parts : (p : Places) {l n g m s l₀ n₀ g₀ m₀ s₀ : ℕ} → l ≡ l₀ → n ≡ n₀ → g ≡ g₀ → m ≡ m₀ → s ≡ s₀ → parts p l n g m s ≡ parts p l₀ n₀ g₀ m₀ s₀
-same_parts p a b c d e = cc
 
 -- ---- the file
 -- the header of a file with no records
@@ -74,18 +59,5 @@ module _ (s : List ℕ) where
     unfolding headerOf
     unread {f} g = by_reading (Err f) g
 
-    pub read : {h : Header} → r.reading ≡ Ok h
-        → filed h (plan_of (case_as h (parts p (levels h - 0) (h.buses - 0) (h.generators - 0) (h.corridors - 0) (lines h * row_figures - 0))) h.target) ≡ plan_file s
-    read {h} g =
-        ap (λ (t : Places). filed h (plan_of (case_as h t) h.target))
-        (same_parts p (sub-zero (levels h)) (sub-zero h.buses) (sub-zero h.generators) (sub-zero h.corridors) (sub-zero (lines h * row_figures)))
-        ∙ by_reading (Ok h) g
-
--- ---- tables of zeros, and as many as are filled
-abbrev pub empty : Places
-empty =
-    places_of (replicate 5 nought) (replicate 256 0) (replicate 256 nought) (replicate 256 nought) (replicate 128 0) (replicate 128 0) (replicate 128 nought) (replicate 128 nought) (replicate 128 nought) (replicate 128 nought) (replicate 256 0) (replicate 256 0) (replicate 256 0) (replicate 256 nought) (replicate 256 nought) (replicate 256 0) (replicate 6400 nought)
-
-pub empty_sized : sizes_ok empty ≡ true
-unfolding sizes_ok
-empty_sized = refl
+    pub read : {h : Header} → r.reading ≡ Ok h → filed h (plan_of (case_in h p) h.target) ≡ plan_file s
+    read {h} g = by_reading (Ok h) g

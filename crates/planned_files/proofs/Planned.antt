@@ -14,23 +14,20 @@ use Rattle.casefile_defs.specs.Bounds.{most_buses, most_corridors, most_generato
 use Rattle.plan_defs.specs.Case.{Case}
 use Rattle.plan_defs.specs.Outcome.{Slices, slices, work_places, cleared, outcome, outcome_if, plan_corridors}
 use Rattle.plan_theorems.proofs.Outcomes.{lengths_ok_lem, cleared_lengths}
-use Rattle.planned_files.specs.Files.{case_as, results, results_of, plan_of, filed, zeros}
-use Rattle.planned_files.specs.declared.PlannedFile.{PlannedFile}
+use Rattle.planned_files.specs.Files.{case_in, results, results_of, plan_of, filed, zeros}
+use Rattle.planned_files.specs.declared.file.Results.{Results}
 use Rattle.std.specs.Prelude.{Result}
 use Rattle.plan_defs.specs.declared.CorridorPlan.{CorridorPlan}
 use Rattle.refusal.specs.declared.Refusal.{Refusal}
 
 -- ---- parts of arrays
--- the first n places of an array that is zero, as a part is lent
+-- the first n places of an array of k that hold v each, as they are lent: by their end less their start
 abbrev pub part : {A : Type 0} → ℕ → ℕ → A → List A
 part n k v = take (n - 0) (replicate k v)
 
-pub part_length : {A : Type 0} (n k : ℕ) (v : A) → n ≤ k → length (part n k v) ≡ n
-part_length n k v h = ap length (front_replicate k n v h) ∙ length-replicate n v
-
--- an array of which the first places came back from a call
-pub back_front : {A : Type 0} (n k : ℕ) (ys xs : List A) → length ys ≡ n → take n (ys ++ drop k xs) ≡ ys
-back_front n k ys xs e = take_at ys (drop k xs) n e
+-- and as they come back from a call
+pub back : {A : Type 0} (n k : ℕ) (v : A) (ys : List A) → n ≤ k → length ys ≡ length (part n k v) → take n (ys ++ drop (n - 0) (replicate k v)) ≡ ys
+back n k v ys h e = take_at ys (drop (n - 0) (replicate k v)) n (e ∙ ap length (front_replicate k n v h) ∙ length-replicate n v)
 
 -- ---- the slices, as they are lent
 -- room for the work of a case
@@ -52,7 +49,7 @@ lent c =
     (part m most_corridors 0) (part c.generators most_generators nought) (part n most_buses nought) (part n most_buses 0) (part n most_buses 0) (part c.above most_levels nought)
     (part (work_places c) most_work nought) (part (work_places c) most_work 0)
 
-pub lent_cleared : (c : Case) → Fits c → lent c ≡ cleared c
+lent_cleared : (c : Case) → Fits c → lent c ≡ cleared c
 lent_cleared c f =
     rw (
       front_replicate {A = ℕ} most_corridors c.corridors 0 f.corridors,
@@ -73,38 +70,27 @@ as_planned c target l r f e =
     ∙ ap (plan_corridors c target) (lent_cleared c f)
     ∙ ap (λ (b : Bool). outcome_if b c target (cleared c)) (lengths_ok_lem c (cleared c) (cleared_lengths c)))
 
--- ---- the arrays, by what came back in the first places of each
+-- ---- a file whose results were zeros before planning, by what came back in the first places of each array
 same_results : {a₀ a : List ℕ} {b₀ b c₀ c : List Float} {d₀ d e₀ e f₀ f : List ℕ} {g₀ g h₀ h : List Float} {i₀ i j₀ j : List ℕ} {k₀ k : List Float} (r : Result CorridorPlan Refusal)
     → a₀ ≡ a → b₀ ≡ b → c₀ ≡ c → d₀ ≡ d → e₀ ≡ e → f₀ ≡ f → g₀ ≡ g → h₀ ≡ h → i₀ ≡ i → j₀ ≡ j → k₀ ≡ k
     → outcome r (results a₀ b₀ c₀ d₀ e₀ f₀ g₀ h₀ i₀ j₀ k₀) ≡ outcome r (results a b c d e f g h i j k)
 same_results r p1 p2 p3 p4 p5 p6 p7 p8 p9 p10 p11 = cc
 
-pub filed_planned : {a₀ : List ℕ} {b₀ c₀ : List Float} {d₀ e₀ f₀ : List ℕ} {g₀ h₀ : List Float} {i₀ j₀ : List ℕ} {k₀ : List Float} (h : Header) (p : Places) (r : Result CorridorPlan Refusal) (l : Slices)
-    → a₀ ≡ l.circuits → b₀ ≡ l.flow → c₀ ≡ l.rate → d₀ ≡ l.before → e₀ ≡ l.order → f₀ ≡ l.cap → g₀ ≡ l.mw → h₀ ≡ l.angle → i₀ ≡ l.tier → j₀ ≡ l.ground → k₀ ≡ l.added
-    → Fits (case_as h p) → outcome r l ≡ plan_corridors (case_as h p) h.target (lent (case_as h p))
-    → filed h (outcome r (results a₀ b₀ c₀ d₀ e₀ f₀ g₀ h₀ i₀ j₀ k₀)) ≡ filed h (plan_of (case_as h p) h.target)
-filed_planned h p r l e1 e2 e3 e4 e5 e6 e7 e8 e9 e10 e11 f e =
-    ap (filed h)
-    (same_results r e1 e2 e3 e4 e5 e6 e7 e8 e9 e10 e11 ∙ as_planned (case_as h p) h.target l r f e)
-
--- ---- a file whose results were zeros before planning
-back : {A : Type 0} (n k : ℕ) (v : A) (ys : List A) → n ≤ k → length ys ≡ length (part n k v) → take n (ys ++ drop (n - 0) (replicate k v)) ≡ ys
-back n k v ys h e = back_front n (n - 0) ys (replicate k v) (e ∙ part_length n k v h)
-
 module _ (h : Header) (p : Places) (said : Result CorridorPlan Refusal) (l : Slices) where
-  abbrev lent_of : PlannedFile → Slices
-  lent_of r = slices (take (h.corridors - 0) r.circuits) (take (h.corridors - 0) r.flow) (take (h.corridors - 0) r.rate) (take (h.corridors - 0) r.before) (take (h.corridors - 0) r.order) (take (h.corridors - 0) r.cap) (take (h.generators - 0) r.mw) (take (h.buses - 0) r.angle) (take (h.buses - 0) r.tier) (take (h.buses - 0) r.ground) (take (h.above - 0) r.added) (part (work_places (case_as h p)) most_work nought) (part (work_places (case_as h p)) most_work 0)
+  abbrev lent_of : Results → Slices
+  lent_of r = slices (take (h.corridors - 0) r.circuits) (take (h.corridors - 0) r.flow) (take (h.corridors - 0) r.rate) (take (h.corridors - 0) r.before) (take (h.corridors - 0) r.order) (take (h.corridors - 0) r.cap) (take (h.generators - 0) r.mw) (take (h.buses - 0) r.angle) (take (h.buses - 0) r.tier) (take (h.buses - 0) r.ground) (take (h.above - 0) r.added) (part (work_places (case_in h p)) most_work nought) (part (work_places (case_in h p)) most_work 0)
 
-  abbrev Planned : PlannedFile → Type 0
+  abbrev Planned : Results → Type 0
   Planned r =
       length l.circuits ≡ length (take (h.corridors - 0) r.circuits) → length l.flow ≡ length (take (h.corridors - 0) r.flow) → length l.rate ≡ length (take (h.corridors - 0) r.rate) → length l.before ≡ length (take (h.corridors - 0) r.before) → length l.order ≡ length (take (h.corridors - 0) r.order) → length l.cap ≡ length (take (h.corridors - 0) r.cap) → length l.mw ≡ length (take (h.generators - 0) r.mw) → length l.angle ≡ length (take (h.buses - 0) r.angle) → length l.tier ≡ length (take (h.buses - 0) r.tier) → length l.ground ≡ length (take (h.buses - 0) r.ground) → length l.added ≡ length (take (h.above - 0) r.added)
-      → outcome said l ≡ plan_corridors (case_as h p) h.target (lent_of r)
-      → filed r.header (outcome said (results (take r.header.corridors (l.circuits ++ drop (h.corridors - 0) r.circuits)) (take r.header.corridors (l.flow ++ drop (h.corridors - 0) r.flow)) (take r.header.corridors (l.rate ++ drop (h.corridors - 0) r.rate)) (take r.header.corridors (l.before ++ drop (h.corridors - 0) r.before)) (take r.header.corridors (l.order ++ drop (h.corridors - 0) r.order)) (take r.header.corridors (l.cap ++ drop (h.corridors - 0) r.cap)) (take r.header.generators (l.mw ++ drop (h.generators - 0) r.mw)) (take r.header.buses (l.angle ++ drop (h.buses - 0) r.angle)) (take r.header.buses (l.tier ++ drop (h.buses - 0) r.tier)) (take r.header.buses (l.ground ++ drop (h.buses - 0) r.ground)) (take r.header.above (l.added ++ drop (h.above - 0) r.added))))
-      ≡ filed h (plan_of (case_as h p) h.target)
+      → outcome said l ≡ plan_corridors (case_in h p) h.target (lent_of r)
+      → filed h (outcome said (results (take h.corridors (l.circuits ++ drop (h.corridors - 0) r.circuits)) (take h.corridors (l.flow ++ drop (h.corridors - 0) r.flow)) (take h.corridors (l.rate ++ drop (h.corridors - 0) r.rate)) (take h.corridors (l.before ++ drop (h.corridors - 0) r.before)) (take h.corridors (l.order ++ drop (h.corridors - 0) r.order)) (take h.corridors (l.cap ++ drop (h.corridors - 0) r.cap)) (take h.generators (l.mw ++ drop (h.generators - 0) r.mw)) (take h.buses (l.angle ++ drop (h.buses - 0) r.angle)) (take h.buses (l.tier ++ drop (h.buses - 0) r.tier)) (take h.buses (l.ground ++ drop (h.buses - 0) r.ground)) (take h.above (l.added ++ drop (h.above - 0) r.added))))
+      ≡ filed h (plan_of (case_in h p) h.target)
 
-  in_zeros : (x : Result CorridorPlan Refusal) → Fits (case_as h p) → Planned (zeros h x)
-  in_zeros x f k0 k1 k2 k3 k4 k5 k6 k7 k8 k9 k10 e =
-      filed_planned h p said l
+  in_zeros : Fits (case_in h p) → Planned zeros
+  in_zeros f k0 k1 k2 k3 k4 k5 k6 k7 k8 k9 k10 e =
+      ap (filed h)
+      (same_results said
       (back h.corridors most_corridors 0 l.circuits f.corridors k0)
       (back h.corridors most_corridors nought l.flow f.corridors k1)
       (back h.corridors most_corridors nought l.rate f.corridors k2)
@@ -116,7 +102,7 @@ module _ (h : Header) (p : Places) (said : Result CorridorPlan Refusal) (l : Sli
       (back h.buses most_buses 0 l.tier f.buses k8)
       (back h.buses most_buses 0 l.ground f.buses k9)
       (back h.above most_levels nought l.added f.above k10)
-      f e
+      ∙ as_planned (case_in h p) h.target l said f e)
 
-  pub planned_in : (r : PlannedFile) (x : Result CorridorPlan Refusal) → r ≡ zeros h x → Fits (case_as h p) → Planned r
-  planned_in r x e f = subst Planned (sym e) (in_zeros x f)
+  pub planned_in : (r : Results) → r ≡ zeros → Fits (case_in h p) → Planned r
+  planned_in r e f = subst Planned (sym e) (in_zeros f)

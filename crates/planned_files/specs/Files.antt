@@ -1,6 +1,6 @@
 -- A case file that is read and planned: its header, what planning says of its case and what it leaves in each result slice. A file that reading refuses has no
 -- records, and that refusal is what is said of it.
-use Rattle.std.specs.Prelude.{ℕ, ◌*◌, List, [], ◌≡◌, length, take, replicate, Float, Err, Ok, Result}
+use Rattle.std.specs.Prelude.{ℕ, ◌*◌, List, [], take, replicate, Float, Err, Ok, Result}
 use Rattle.casefile_defs.specs.Bounds.{most_levels, most_buses, most_generators, most_corridors, row_figures}
 use Rattle.casefile_defs.specs.Reading.{levels, lines, reading_of}
 use Rattle.casefile_defs.specs.Tables.{Places, tables_of}
@@ -9,19 +9,13 @@ use Rattle.casefile_defs.specs.declared.Header.{Header}
 use Rattle.plan_defs.specs.Case.{Case, surveyed}
 use Rattle.plan_defs.specs.Plan.{ending_of}
 use Rattle.plan_defs.specs.Outcome.{Slices, slices, cleared, Outcome, outcome, outcome_by}
-use Rattle.planned_files.specs.declared.PlannedFile.{PlannedFile}
+use Rattle.planned_files.specs.declared.file.PlannedFile.{PlannedFile}
+use Rattle.planned_files.specs.declared.file.Results.{Results}
 use Rattle.refusal.specs.declared.Refusal.{Refusal}
-use Rattle.plan_defs.specs.declared.CorridorPlan.{CorridorPlan}
 use Rattle.loops.specs.Figures.{nought}
 
 -- ---- the case that tables hold
--- in tables of the header's counts
-abbrev pub case_as : Header → Places → Case
-case_as h p =
-    surveyed h.mode h.buses h.corridors h.generators h.above h.requested p.ladder p.tier p.reading p.weight p.bus p.slack p.pmin p.pmax
-    p.c1 p.c2 p.a p.b p.circuits p.length_km p.share p.cap p.sheet
-
--- in tables of any size: of each the places of the header's records
+-- of each table the places of the header's records
 abbrev pub case_in : Header → Places → Case
 case_in h p =
     let n = h.buses in
@@ -32,7 +26,7 @@ case_in h p =
     (take m p.cap) (take (lines h * row_figures) p.sheet)
 
 -- ---- what is said, and the results; work is none
-abbrev pub results : List ℕ → List Float → List Float → List ℕ → List ℕ → List ℕ → List Float → List Float → List ℕ → List ℕ → List Float → Slices
+abbrev pub results : (circuits : List ℕ) (flow rate : List Float) (before order cap : List ℕ) (mw angle : List Float) (tier ground : List ℕ) (added : List Float) → Slices
 results circuits flow rate before order cap mw angle tier ground added = slices circuits flow rate before order cap mw angle tier ground added [] []
 
 abbrev pub results_of : Outcome → Outcome
@@ -67,30 +61,14 @@ abbrev pub filed_of : PlannedFile → Filed
 filed_of r =
     let n = r.header.buses in
     let m = r.header.corridors in
+    let s = r.results in
     filed r.header
     (outcome r.planned
-    (results (take m r.circuits) (take m r.flow) (take m r.rate) (take m r.before) (take m r.order) (take m r.cap)
-    (take r.header.generators r.mw) (take n r.angle) (take n r.tier) (take n r.ground) (take r.header.above r.added)))
+    (results (take m s.circuits) (take m s.flow) (take m s.rate) (take m s.before) (take m s.order) (take m s.cap)
+    (take r.header.generators s.mw) (take n s.angle) (take n s.tier) (take n s.ground) (take r.header.above s.added)))
 
--- each array has its largest size, as its type says
-pub record Sized (r : PlannedFile) : Type 0 where
-  pub circuits : length r.circuits ≡ most_corridors
-  pub flow : length r.flow ≡ most_corridors
-  pub rate : length r.rate ≡ most_corridors
-  pub before : length r.before ≡ most_corridors
-  pub order : length r.order ≡ most_corridors
-  pub cap : length r.cap ≡ most_corridors
-  pub mw : length r.mw ≡ most_generators
-  pub angle : length r.angle ≡ most_buses
-  pub tier : length r.tier ≡ most_buses
-  pub ground : length r.ground ≡ most_buses
-  pub added : length r.added ≡ most_levels
-
--- a file with a header, of which this is said, and with zeros for results
-abbrev pub zeros : Header → Result CorridorPlan Refusal → PlannedFile
-zeros h said = record {
-  header = h;
-  planned = said;
+abbrev pub zeros : Results
+zeros = record {
   circuits = replicate most_corridors 0;
   flow = replicate most_corridors nought;
   rate = replicate most_corridors nought;

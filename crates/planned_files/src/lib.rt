@@ -4,14 +4,18 @@
 
 ghost use Rattle.std.specs.Prelude.{◌≡◌, [], Err, Ok, Result};
 ghost use Rattle.casefile_defs.specs.Reading.{Small};
-ghost use Rattle.casefile_defs.specs.Tables.{places_of, held as headerOf};
-ghost use Rattle.planned_files.specs.Files.{case_as, plan_of, filed, plan_read, plan_file, filed_of, Sized, zeros};
+ghost use Rattle.case_tables.specs.Tables.{tables_in};
+ghost use Rattle.casefile_defs.specs.Tables.{held as headerOf};
+ghost use Rattle.planned_files.specs.Files.{case_in, plan_of, filed, plan_read, plan_file, filed_of, zeros};
 
+mod file;
+
+use case_tables::Tables;
 use casefile_defs::{
-    Header, MOST_BUSES, MOST_CORRIDORS, MOST_GENERATORS, MOST_LEVELS, MOST_SHEET, ROW_FIGURES,
+    Header, MOST_BUSES, MOST_CORRIDORS, MOST_GENERATORS, MOST_LEVELS, ROW_FIGURES,
 };
+pub use file::{PlannedFile, Results};
 use mode::PlanMode;
-use plan_defs::CorridorPlan;
 use planning::plan_corridors;
 use refusal::Refusal;
 
@@ -20,31 +24,11 @@ const WORK_ROWS: usize = 12;
 
 const MOST_WORK: usize = WORK_ROWS * (MOST_BUSES + MOST_CORRIDORS + MOST_GENERATORS);
 
-// A file's header, what planning says, and its results in the first places of each array. A file that reading refuses has no records.
-#[derive(Clone, Copy)]
-pub struct PlannedFile {
-    pub header: Header,
-    pub planned: Result<CorridorPlan, Refusal>,
-    pub circuits: [u32; MOST_CORRIDORS],
-    pub flow: [f64; MOST_CORRIDORS],
-    pub rate: [f64; MOST_CORRIDORS],
-    pub before: [u32; MOST_CORRIDORS],
-    pub order: [u32; MOST_CORRIDORS],
-    pub cap: [u32; MOST_CORRIDORS],
-    pub mw: [f64; MOST_GENERATORS],
-    pub angle: [f64; MOST_BUSES],
-    pub tier: [u32; MOST_BUSES],
-    pub ground: [u32; MOST_BUSES],
-    pub added: [f64; MOST_LEVELS],
-}
-
-impl PlannedFile {
-    fn zeros(header: Header, planned: Result<CorridorPlan, Refusal>) -> PlannedFile
-        ensures { result ≡ zeros header planned }
+impl Results {
+    fn zeros() -> Results
+        ensures { result ≡ zeros }
     {
-        PlannedFile {
-            header,
-            planned,
+        Results {
             circuits: [0; MOST_CORRIDORS],
             flow: [0.0; MOST_CORRIDORS],
             rate: [0.0; MOST_CORRIDORS],
@@ -58,62 +42,44 @@ impl PlannedFile {
             added: [0.0; MOST_LEVELS],
         }
     }
+}
 
-    // A file that reading refuses.
-    fn unread(f: Refusal) -> PlannedFile
-        ensures planned { filed_of result ≡ filed (headerOf (Err f)) (plan_read [] (Err f)) }
-        ensures small { Small result.header }
-        ensures sized { Sized result }
-    {
-        let header = Header {
-            mode: PlanMode::Expand,
-            target: 0,
-            buses: 0,
-            corridors: 0,
-            generators: 0,
-            above: 0,
-            requested: 0,
-        };
-        PlannedFile::zeros(header, Err(f))
+// A file that reading refuses.
+fn unread(f: Refusal) -> PlannedFile
+    ensures { filed_of result ≡ filed (headerOf (Err f)) (plan_read [] (Err f)) }
+{
+    let header = Header {
+        mode: PlanMode::Expand,
+        target: 0,
+        buses: 0,
+        corridors: 0,
+        generators: 0,
+        above: 0,
+        requested: 0,
+    };
+    PlannedFile {
+        header,
+        planned: Err(f),
+        results: Results::zeros(),
     }
 }
 
 // A case that was read.
-fn plan_case(
-    h: Header,
-    ladder: &[f64],
-    tier: &[u32],
-    reading: &[f64],
-    weight: &[f64],
-    bus: &[u32],
-    slack: &[u32],
-    pmin: &[f64],
-    pmax: &[f64],
-    c1: &[f64],
-    c2: &[f64],
-    a: &[u32],
-    b: &[u32],
-    initial: &[u32],
-    km: &[f64],
-    share: &[f64],
-    cap: &[u32],
-    sheet: &[f64],
-) -> PlannedFile
+fn plan_case(h: Header, tables: &Tables) -> PlannedFile
     requires { Small h }
-    ensures planned { filed_of result ≡ filed h (plan_of (case_as h (places_of ladder.now tier.now reading.now weight.now bus.now slack.now pmin.now pmax.now c1.now c2.now a.now b.now initial.now km.now share.now cap.now sheet.now)) h.target) }
-    ensures small { Small result.header }
-    ensures sized { Sized result }
+    ensures { filed_of result ≡ filed h (plan_of (case_in h (tables_in tables.now)) h.target) }
 {
     let n = h.buses;
     let m = h.corridors;
     let g = h.generators;
     let above = h.above;
+    let levels = above + h.requested;
+    let rows = m * levels * ROW_FIGURES;
     let work = WORK_ROWS * (n + m + g);
     let mut figures = [0.0; MOST_WORK];
-    let mut counts = [0u32; MOST_WORK];
-    // What planning says takes the place of this refusal.
-    let mut file = PlannedFile::zeros(h, Err(Refusal::Length));
-    file.planned = plan_corridors(
+    let mut counts = [0; MOST_WORK];
+    let mut results = Results::zeros();
+    let planned = plan_corridors(
         h.mode,
         h.target,
         n,
@@ -121,111 +87,71 @@ fn plan_case(
         g,
         above,
         h.requested,
-        ladder,
-        tier,
-        reading,
-        weight,
-        bus,
-        slack,
-        pmin,
-        pmax,
-        c1,
-        c2,
-        a,
-        b,
-        initial,
-        km,
-        share,
-        cap,
-        sheet,
-        &mut file.circuits[0..m],
-        &mut file.flow[0..m],
-        &mut file.rate[0..m],
-        &mut file.before[0..m],
-        &mut file.order[0..m],
-        &mut file.cap[0..m],
-        &mut file.mw[0..g],
-        &mut file.angle[0..n],
-        &mut file.tier[0..n],
-        &mut file.ground[0..n],
-        &mut file.added[0..above],
+        &tables.ladder[..levels],
+        &tables.tier[..n],
+        &tables.reading[..n],
+        &tables.weight[..n],
+        &tables.bus[..g],
+        &tables.slack[..g],
+        &tables.pmin[..g],
+        &tables.pmax[..g],
+        &tables.c1[..g],
+        &tables.c2[..g],
+        &tables.a[..m],
+        &tables.b[..m],
+        &tables.circuits[..m],
+        &tables.length_km[..m],
+        &tables.share[..m],
+        &tables.cap[..m],
+        &tables.sheet[..rows],
+        &mut results.circuits[0..m],
+        &mut results.flow[0..m],
+        &mut results.rate[0..m],
+        &mut results.before[0..m],
+        &mut results.order[0..m],
+        &mut results.cap[0..m],
+        &mut results.mw[0..g],
+        &mut results.angle[0..n],
+        &mut results.tier[0..n],
+        &mut results.ground[0..n],
+        &mut results.added[0..above],
         &mut figures[0..work],
         &mut counts[0..work],
     );
-    file
+    PlannedFile {
+        header: h,
+        planned,
+        results,
+    }
 }
 
 // Reads a case file and plans its case.
 pub fn plan_file(file: &[u8]) -> PlannedFile
-    ensures planned { filed_of result ≡ plan_file file.now }
-    ensures small { Small result.header }
-    ensures sized { Sized result }
+    ensures { filed_of result ≡ plan_file file.now }
 {
-    let mut ladder = [0.0; MOST_LEVELS];
-    let mut tier = [0u32; MOST_BUSES];
-    let mut reading = [0.0; MOST_BUSES];
-    let mut weight = [0.0; MOST_BUSES];
-    let mut bus = [0u32; MOST_GENERATORS];
-    let mut slack = [0u32; MOST_GENERATORS];
-    let mut pmin = [0.0; MOST_GENERATORS];
-    let mut pmax = [0.0; MOST_GENERATORS];
-    let mut c1 = [0.0; MOST_GENERATORS];
-    let mut c2 = [0.0; MOST_GENERATORS];
-    let mut a = [0u32; MOST_CORRIDORS];
-    let mut b = [0u32; MOST_CORRIDORS];
-    let mut initial = [0u32; MOST_CORRIDORS];
-    let mut km = [0.0; MOST_CORRIDORS];
-    let mut share = [0.0; MOST_CORRIDORS];
-    let mut cap = [0u32; MOST_CORRIDORS];
-    let mut sheet = [0.0; MOST_SHEET];
+    let mut tables = Tables::zeros();
     let read = casefile::read_case(
         file,
-        &mut ladder,
-        &mut tier,
-        &mut reading,
-        &mut weight,
-        &mut bus,
-        &mut slack,
-        &mut pmin,
-        &mut pmax,
-        &mut c1,
-        &mut c2,
-        &mut a,
-        &mut b,
-        &mut initial,
-        &mut km,
-        &mut share,
-        &mut cap,
-        &mut sheet,
+        &mut tables.ladder,
+        &mut tables.tier,
+        &mut tables.reading,
+        &mut tables.weight,
+        &mut tables.bus,
+        &mut tables.slack,
+        &mut tables.pmin,
+        &mut tables.pmax,
+        &mut tables.c1,
+        &mut tables.c2,
+        &mut tables.a,
+        &mut tables.b,
+        &mut tables.circuits,
+        &mut tables.length_km,
+        &mut tables.share,
+        &mut tables.cap,
+        &mut tables.sheet,
     );
     match read.reading {
-        Err(f) => PlannedFile::unread(f),
-        Ok(h) => {
-            let n = h.buses;
-            let m = h.corridors;
-            let g = h.generators;
-            let levels = h.above + h.requested;
-            let lines = m * levels * ROW_FIGURES;
-            plan_case(
-                h,
-                &ladder[0..levels],
-                &tier[0..n],
-                &reading[0..n],
-                &weight[0..n],
-                &bus[0..g],
-                &slack[0..g],
-                &pmin[0..g],
-                &pmax[0..g],
-                &c1[0..g],
-                &c2[0..g],
-                &a[0..m],
-                &b[0..m],
-                &initial[0..m],
-                &km[0..m],
-                &share[0..m],
-                &cap[0..m],
-                &sheet[0..lines],
-            )
-        }
+        Err(f) => unread(f),
+        Ok(h) => plan_case(h, &tables),
     }
 }

@@ -4,8 +4,7 @@ use mathlib.Core.List.{List, ◌++◌}
 use Rattle.std.proofs.Math.Option.{Option, none, some}
 use mathlib.Core.Path.{◌≡◌, refl, sym, ap, subst, ◌∙◌}
 use lib.ListN.{length, take, drop, replicate, length-replicate}
-use native.Mathlib.Nat.{sub-zero}
-use Rattle.loops.proofs.Fronts.{front_replicate}
+use Rattle.std.proofs.lemmas.List.{take-replicate}
 use Rattle.refusal.specs.Reply.{Reply, answered, refused, refused_by, no_refusal}
 use Rattle.refusal.specs.declared.Refusal.{Refusal}
 use Rattle.mode.specs.declared.PlanMode.{PlanMode}
@@ -23,8 +22,8 @@ use Rattle.casefile_defs.specs.Tables.{tables_of}
 use Rattle.casefile_defs.specs.Tables.{held as headerOf}
 use Rattle.casefile_defs.specs.declared.Header.{Header}
 use Rattle.planned_files.specs.Files.{case_in, Filed, filed, plan_read, plan_file, filed_of}
-use Rattle.planned_files.specs.declared.PlannedFile.{PlannedFile}
-use Rattle.planned_files.proofs.Planned.{back_front}
+use Rattle.planned_files.specs.declared.file.PlannedFile.{PlannedFile}
+use lib.Seq.{take_at}
 use Rattle.previews.specs.Files.{filled, kept_by, kept_read, kept_file}
 
 -- ---- what a draft holds
@@ -69,7 +68,7 @@ module _ (file : List ℕ) where
   abbrev kept_of_file : PlannedFile → Kept
   kept_of_file r =
       let m = r.header.corridors in
-      kept_as r.header.mode m (take m r.before) (take m r.order) (take m r.cap)
+      kept_as r.header.mode m (take m r.results.before) (take m r.results.order) (take m r.results.cap)
 
   pub planned_kept : (r : PlannedFile) {q : Result CorridorPlan Refusal} → filed_of r ≡ plan_file file → r.planned ≡ q → kept_said q (kept_of_file r) ≡ kept_file file
   planned_kept r e is =
@@ -92,7 +91,7 @@ module _ (p : Kept) (m target : ℕ) (left : List ℕ) (few : m ≤ most_corrido
   zeros = take m (replicate most_corridors 0)
 
   zeros_are : zeros ≡ replicate m 0
-  zeros_are = ap (λ (k : ℕ). take k (replicate most_corridors 0)) (sym (sub-zero m)) ∙ front_replicate most_corridors m 0 few
+  zeros_are = take-replicate m most_corridors 0 few
 
   pub refused_filled : (f : Refusal) → outcome (Err f) left ≡ preview p target zeros → filled m (Err f) ≡ preview p target (replicate m 0)
   refused_filled f e = subst (λ (l : List ℕ). outcome (Err f) l ≡ preview p target l) zeros_are (refused_lent f p target zeros left e)
@@ -100,6 +99,6 @@ module _ (p : Kept) (m target : ℕ) (left : List ℕ) (few : m ≤ most_corrido
   pub answered_filled : length left ≡ length zeros → outcome no_refusal left ≡ preview p target zeros
       → filled m (Ok (left ++ drop m (replicate most_corridors 0))) ≡ preview p target (replicate m 0)
   answered_filled n e =
-      ap (outcome no_refusal) (back_front m m left (replicate most_corridors 0) (n ∙ ap length zeros_are ∙ length-replicate m 0))
+      ap (outcome no_refusal) (take_at left (drop m (replicate most_corridors 0)) m (n ∙ ap length zeros_are ∙ length-replicate m 0))
       ∙ e
       ∙ ap (preview p target) zeros_are

@@ -15,7 +15,7 @@ pub fn draft_file(file: &[u8]) -> Result<Draft, Refusal>
 {
     let plan = plan_file(file);
     plan.planned?;
-    let (before, order, cap) = (plan.before, plan.order, plan.cap);
+    let (before, order, cap) = (plan.results.before, plan.results.order, plan.results.cap);
     Ok(Draft {
         mode: plan.header.mode,
         corridors: plan.header.corridors,

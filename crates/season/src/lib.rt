@@ -3,11 +3,11 @@
 
 ghost use Rattle.std.specs.Prelude.{◌≡◌, ◌<◌, ◌≤◌, min, max, length};
 ghost use Rattle.season_defs.specs.Terms.{divisor, lowest};
-ghost use Rattle.season_defs.specs.Feeding.{most_plans, most_corridors, begun, draft_of, even_with, check_of, updated, with_plan, fed_of, feed, within, corridor_figures, season_figures};
+ghost use Rattle.season_defs.specs.Feeding.{most_plans, most_corridors, begun, draft_of, even_with, check_of, updated, with_plan, outcome, feed, within, corridor_figures, season_figures};
 
 use plan_defs::CorridorPlan;
 use refusal::Refusal;
-use season_defs::{CorridorFigures, Fed, MOST_CORRIDORS, MOST_PLANS, Ratio, Season, SeasonFigures};
+use season_defs::{CorridorFigures, MOST_CORRIDORS, MOST_PLANS, Ratio, Season, SeasonFigures};
 
 // ---- fractions
 // The greatest common divisor, by Euclid.
@@ -39,41 +39,33 @@ fn in_lowest_terms(a: u64, b: u64) -> Ratio
 }
 
 // ---- one plan more
-// The season with a plan that passes.
+// Takes a plan that passes.
 #[tactic(auto, using(loops::proofs::Tab::fill_start, loops::proofs::Tab::fill_turn, loops::proofs::Tab::fill_own), unfolding(season_defs::specs::Feeding::with_plan, season_defs::specs::Feeding::updated))]
-fn with_plan(season: Season, plan: CorridorPlan, corridors: usize, circuits: &[u32]) -> Season
-    requires { (season.taken < most_plans) × (length circuits.now ≤ most_corridors) }
-    ensures { result ≡ with_plan season (draft_of plan corridors circuits.now) }
+fn take(season: &mut Season, plan: CorridorPlan, corridors: usize, circuits: &[u32])
+    requires { (season.old.taken < most_plans) × (length circuits.now ≤ most_corridors) }
+    ensures { season.new ≡ with_plan season.old (draft_of plan corridors circuits.now) }
 {
-    let mut least = season.least;
-    let mut greatest = season.greatest;
-    let mut total = season.total;
     for (k, count) in circuits.iter().enumerate() {
-        least[k] = least[k].min(*count);
-        greatest[k] = greatest[k].max(*count);
-        total[k] = total[k].wrapping_add(*count as u64);
+        season.least[k] = season.least[k].min(*count);
+        season.greatest[k] = season.greatest[k].max(*count);
+        season.total[k] = season.total[k].wrapping_add(*count as u64);
     }
-    Season {
-        taken: season.taken + 1,
-        corridors,
-        rounds: season.rounds.wrapping_add(plan.rounds as u64),
-        converged: season.converged.wrapping_add(u64::from(plan.converged)),
-        least,
-        greatest,
-        total,
-    }
+    season.taken += 1;
+    season.corridors = corridors;
+    season.rounds = season.rounds.wrapping_add(plan.rounds as u64);
+    season.converged = season.converged.wrapping_add(u64::from(plan.converged));
 }
 
 // ---- the refusals, in order
-fn even_with(season: Season, corridors: usize) -> bool
-    ensures { result ≡ even_with season corridors }
+fn even_with(season: &Season, corridors: usize) -> bool
+    ensures { result ≡ even_with season.now corridors }
 {
     season.taken == 0 || corridors == season.corridors
 }
 
 #[tactic(auto, unfolding(season_defs::specs::Feeding::check_of))]
-fn check(season: Season, corridors: usize, places: usize) -> Result<(), Refusal>
-    ensures { result ≡ check_of season corridors places }
+fn check(season: &Season, corridors: usize, places: usize) -> Result<(), Refusal>
+    ensures { result ≡ check_of season.now corridors places }
 {
     if places != corridors {
         return Err(Refusal::Length);
@@ -109,31 +101,29 @@ pub fn begin() -> Season
 
 // Takes a plan: its summary and its circuits, as planning leaves them. A refused plan leaves the season as it was.
 #[tactic(auto, using(season_defs::proofs::Checks::passed), unfolding(season_defs::specs::Feeding::feed, season_defs::specs::Feeding::fed_by))]
-pub fn add_plan(season: Season, plan: CorridorPlan, corridors: usize, circuits: &[u32]) -> Fed
-    ensures { fed_of result ≡ feed season (draft_of plan corridors circuits.now) }
+pub fn add_plan(
+    season: &mut Season,
+    plan: CorridorPlan,
+    corridors: usize,
+    circuits: &[u32],
+) -> Result<(), Refusal>
+    ensures { outcome result season.new ≡ feed season.old (draft_of plan corridors circuits.now) }
 {
-    match check(season, corridors, circuits.len()) {
-        Err(f) => Fed {
-            said: Err(f),
-            season,
-        },
-        Ok(()) => Fed {
-            said: Ok(()),
-            season: with_plan(season, plan, corridors, circuits),
-        },
-    }
+    check(season, corridors, circuits.len())?;
+    take(season, plan, corridors, circuits);
+    Ok(())
 }
 
-fn is_within(season: Season, k: usize) -> bool
-    ensures { result ≡ within season k }
+fn is_within(season: &Season, k: usize) -> bool
+    ensures { result ≡ within season.now k }
 {
     0 < season.taken && k < season.corridors && k < MOST_CORRIDORS
 }
 
 // The figures of corridor k; 0, and 0 over 1, with no plan taken or past the corridors.
 #[tactic(auto, unfolding(season_defs::specs::Feeding::corridor_figures))]
-pub fn corridor_figures(season: Season, k: usize) -> CorridorFigures
-    ensures { result ≡ corridor_figures season k }
+pub fn corridor_figures(season: &Season, k: usize) -> CorridorFigures
+    ensures { result ≡ corridor_figures season.now k }
 {
     if !is_within(season, k) {
         return CorridorFigures {
@@ -151,8 +141,8 @@ pub fn corridor_figures(season: Season, k: usize) -> CorridorFigures
 
 // How many plans were taken, their mean rounds and the share that converged.
 #[tactic(auto, unfolding(season_defs::specs::Feeding::season_figures))]
-pub fn season_figures(season: Season) -> SeasonFigures
-    ensures { result ≡ season_figures season }
+pub fn season_figures(season: &Season) -> SeasonFigures
+    ensures { result ≡ season_figures season.now }
 {
     let plans = season.taken as u64;
     SeasonFigures {

@@ -8,7 +8,6 @@ use Rattle.plan_defs.specs.declared.CorridorPlan.{CorridorPlan}
 use Rattle.season_defs.specs.Terms.{lowest}
 use Rattle.season_defs.specs.Plans.{Draft, circuits_at, counted}
 use Rattle.season_defs.specs.declared.Season.{Season}
-use Rattle.season_defs.specs.declared.Fed.{Fed}
 use Rattle.season_defs.specs.declared.CorridorFigures.{CorridorFigures}
 use Rattle.season_defs.specs.declared.SeasonFigures.{SeasonFigures}
 use Rattle.refusal.specs.declared.Refusal.{Refusal}
@@ -80,9 +79,6 @@ pub record Outcome : Type 0 where
 
 abbrev pub outcome : Result (Unit {0}) Refusal → Season → Outcome
 outcome a s = record { reply = reply_of a; season = s }
-
-abbrev pub fed_of : Fed → Outcome
-fed_of f = outcome f.said f.season
 
 unfoldable pub fed_by : Season → Draft → Result (Unit {0}) Refusal → Outcome
 fed_by s p (Ok tt) = outcome no_refusal (with_plan s p)

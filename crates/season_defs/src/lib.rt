@@ -1,8 +1,6 @@
 // The types of a season of plans (document 02, K3). There is no code here: specs/ has its definitions, proofs/ its theorems.
 #![tactic(auto)]
 
-use refusal::Refusal;
-
 // The most plans that a season takes, and the most corridors of a plan.
 pub const MOST_PLANS: u32 = 4_096;
 
@@ -21,13 +19,6 @@ pub struct Season {
     pub least: [u32; 256],
     pub greatest: [u32; 256],
     pub total: [u64; 256],
-}
-
-// What is said of a plan that was fed, and the season then.
-#[derive(Clone, Copy)]
-pub struct Fed {
-    pub said: Result<(), Refusal>,
-    pub season: Season,
 }
 
 // A fraction of two whole numbers.

@@ -17,7 +17,7 @@ use Rattle.casefile_defs.specs.Tables.{tables_of}
 use Rattle.casefile_defs.specs.Tables.{held as headerOf}
 use Rattle.casefile_defs.specs.declared.Header.{Header}
 use Rattle.planned_files.specs.Files.{case_in, Filed, filed, plan_read, plan_file, filed_of}
-use Rattle.planned_files.specs.declared.PlannedFile.{PlannedFile}
+use Rattle.planned_files.specs.declared.file.PlannedFile.{PlannedFile}
 use Rattle.season_defs.specs.Feeding.{Outcome, outcome, draft_of, feed}
 use Rattle.season_defs.specs.declared.Season.{Season}
 use Rattle.seasons.specs.Files.{fed_ending, fed_read, fed_file}
@@ -62,7 +62,7 @@ module _ (s : Season) (file : List ℕ) where
   file_fed = read_fed (reading_of file)
 
   pub planned_fed : (r : PlannedFile) {q : Result CorridorPlan Refusal} → filed_of r ≡ plan_file file → r.planned ≡ q
-      → fed_planned s r.header.corridors q (take r.header.corridors r.circuits) ≡ fed_file s file
+      → fed_planned s r.header.corridors q (take r.header.corridors r.results.circuits) ≡ fed_file s file
   planned_fed r e is =
       let m = r.header.corridors in
-      ap (λ (q : Result CorridorPlan Refusal). fed_planned s m q (take m r.circuits)) (sym is) ∙ said s m r.planned (filed_of r).plan.lent ∙ ap fed_filed e ∙ file_fed
+      ap (λ (q : Result CorridorPlan Refusal). fed_planned s m q (take m r.results.circuits)) (sym is) ∙ said s m r.planned (filed_of r).plan.lent ∙ ap fed_filed e ∙ file_fed

@@ -13,9 +13,6 @@ pub fn feed_file(season: &mut Season, file: &[u8]) -> Result<(), Refusal>
     ensures { outcome result season.new ≡ fed_file season.old file.now }
 {
     let plan = plan_file(file);
-    let planned = plan.planned?;
     let m = plan.header.corridors;
-    let fed = add_plan(*season, planned, m, &plan.circuits[..m]);
-    *season = fed.season;
-    fed.said
+    add_plan(season, plan.planned?, m, &plan.results.circuits[..m])
 }

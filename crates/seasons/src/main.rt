@@ -33,7 +33,7 @@ fn feed_all<R: Read, W: Write>(from: &mut R, to: &mut W) -> io::Result<Season> {
 }
 
 // CO index least greatest over under
-fn print_corridor<W: Write>(to: &mut W, season: Season, k: usize) -> io::Result<()> {
+fn print_corridor<W: Write>(to: &mut W, season: &Season, k: usize) -> io::Result<()> {
     let f = corridor_figures(season, k);
     writeln!(
         to,
@@ -43,7 +43,7 @@ fn print_corridor<W: Write>(to: &mut W, season: Season, k: usize) -> io::Result<
 }
 
 // SE plans, a line for each corridor index, RO over under, CV over under
-fn print_season<W: Write>(to: &mut W, season: Season) -> io::Result<()> {
+fn print_season<W: Write>(to: &mut W, season: &Season) -> io::Result<()> {
     let f = season_figures(season);
     writeln!(to, "SE {}", f.plans)?;
     for k in 0..season.corridors {
@@ -56,5 +56,5 @@ fn print_season<W: Write>(to: &mut W, season: Season) -> io::Result<()> {
 fn main(rt: HostRuntime) -> io::Result<()> {
     let mut to = rt.stdout();
     let season = feed_all(&mut rt.stdin(), &mut to)?;
-    print_season(&mut to, season)
+    print_season(&mut to, &season)
 }

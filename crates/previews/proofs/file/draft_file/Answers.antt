@@ -6,7 +6,7 @@ use Rattle.previews.proofs.file.draft_file.Goals as goal
 pub returns-in_err-plan : goal.returns-in_err-plan
 returns-in_err-plan c =
     let p = err_from_is_err_and c.from_residual.result c.from_residual.ensures.1 in
-    rw (p.1, p.2) (planned_kept _ c.plan_file-plan.result c.plan_file-plan.ensures.planned c.in_err-plan.was)
+    rw (p.1, p.2) (planned_kept _ c.plan_file-plan.result c.plan_file-plan.ensures c.in_err-plan.was)
 
 pub returns : goal.returns
-returns c = planned_kept _ c.plan_file-plan.result c.plan_file-plan.ensures.planned c.in_ok-plan.was
+returns c = planned_kept _ c.plan_file-plan.result c.plan_file-plan.ensures c.in_ok-plan.was

@@ -1,7 +1,10 @@
-use Rattle.std.proofs.Common.{length, get_or}
+use Rattle.std.proofs.Common.{◌+◌, ◌≤◌, ◌++◌, List, [], ◌∷◌, ℕ, length, length-append, get_or, sym, ap, subst, ◌∙◌}
+use Rattle.std.proofs.lemmas.Iterator.{YieldsList-from_slice, YieldsList-from_zip}
+use Rattle.std.proofs.lemmas.Iterator.Consumers.{YieldsList-from_enumerate, YieldsList-turn}
 use Rattle.loops.specs.Figures.{at}
-use Rattle.listing.specs.Lines.{bus_line}
-use Rattle.listing.proofs.Texts.{none_put, line_room}
+use Rattle.listing.specs.Lines.{lines, bus_line, most_text}
+use Rattle.listing.proofs.Texts.{none_put, line_room, one_more}
+use Rattle.listing.proofs.Turns.{bus_turn}
 use Rattle.listing.proofs.text.Text.put_buses.Goals as goal
 
 pub loop-i-init : goal.loop-i-init
@@ -12,4 +15,17 @@ unfolding bus_line
 put_line-requires c =
     let l = c.loop-i in
     let a = c.args in
-    line_room a.self.now (λ i. bus_line i (get_or a.tier.now i 0) (at a.angle.now i)) l.i (length a.angle.now) l.invariant c.loop-i-test.true c.requires.room
+    let y = YieldsList-turn {s = c.into_iter-i-iterator.result} (YieldsList-from_enumerate (YieldsList-from_zip (YieldsList-from_slice a.tier.now cc) (YieldsList-from_slice a.angle.now cc)) cc) l.yielded l.i-iterator l.yielded_by c.next.result c.next.new.self _ c.in-Some.is c.next.ensures.steps in
+    let t = bus_turn a.tier.now a.angle.now (length l.yielded) c.in-Some.i c.in-Some.tier.now c.in-Some.angle.now y.0 y.1 in
+    subst (λ (x : List ℕ). length l.self + length x ≤ most_text) (sym t.1)
+    (line_room a.self.now (λ i. bus_line i (get_or a.tier.now i 0) (at a.angle.now i)) (length l.yielded) (length a.angle.now) l.invariant t.0 c.requires.room)
+
+pub loop-i-preserved : goal.loop-i-preserved
+unfolding bus_line
+loop-i-preserved c =
+    let l = c.loop-i in
+    let a = c.args in
+    let y = YieldsList-turn {s = c.into_iter-i-iterator.result} (YieldsList-from_enumerate (YieldsList-from_zip (YieldsList-from_slice a.tier.now cc) (YieldsList-from_slice a.angle.now cc)) cc) l.yielded l.i-iterator l.yielded_by c.next.result c.next.new.self _ c.in-Some.is c.next.ensures.steps in
+    let t = bus_turn a.tier.now a.angle.now (length l.yielded) c.in-Some.i c.in-Some.tier.now c.in-Some.angle.now y.0 y.1 in
+    one_more a.self.now (λ i. bus_line i (get_or a.tier.now i 0) (at a.angle.now i)) (length l.yielded) l.invariant (c.put_line.ensures ∙ ap (λ (x : List ℕ). l.self ++ x) t.1)
+    ∙ ap (λ (k : ℕ). a.self.now ++ lines (λ i. bus_line i (get_or a.tier.now i 0) (at a.angle.now i)) k) (sym (length-append l.yielded _))

@@ -1,20 +1,17 @@
-use Rattle.std.proofs.Common.{[], ◌∷◌, take}
+use Rattle.std.proofs.Common.{[], ◌∷◌, ap, ◌∙◌, List, ℕ, rules}
 use native.Mathlib.Omega.{arith}
-use Rattle.listing.proofs.Numbers.{number_digits}
+use Rattle.listing.specs.Text.{number}
+use Rattle.listing.proofs.Numbers.{number_text}
 use Rattle.listing.proofs.Texts.{both_put, first_room, second_room}
 use Rattle.listing.proofs.text.Text.put_number.Goals as goal
 
 pub put-requires : goal.put-requires
-put-requires c =
-    let d = c.decimal-count in
-    first_room c.args.self.now (32 ∷ []) (take d.result d.new.out) (number_digits c.args.n d.result (take d.result d.new.out) (omega arith) d.ensures.len d.ensures.digits) c.requires
+put-requires c = first_room c.args.self.now (32 ∷ []) _ (number_text c.args.n (omega arith)) c.requires
 
 pub put-requires-2 : goal.put-requires-2
 put-requires-2 c =
-    let d = c.decimal-count in
-    second_room c.args.self.now (32 ∷ []) (take d.result d.new.out) c.put.ensures (number_digits c.args.n d.result (take d.result d.new.out) (omega arith) d.ensures.len d.ensures.digits) c.requires
+    second_room c.args.self.now (32 ∷ []) c.as_bytes.result.now c.put.ensures (ap (λ (l : List ℕ). 32 ∷ l) (c.as_bytes.ensures.value ∙ c.format.ensures.text) ∙ number_text c.args.n (omega arith)) c.requires
 
 pub returns : goal.returns
 returns c =
-    let d = c.decimal-count in
-    both_put c.args.self.now (32 ∷ []) (take d.result d.new.out) c.put.ensures c.put-2.ensures (number_digits c.args.n d.result (take d.result d.new.out) (omega arith) d.ensures.len d.ensures.digits)
+    both_put c.args.self.now (32 ∷ []) c.as_bytes.result.now c.put.ensures c.put-2.ensures (ap (λ (l : List ℕ). 32 ∷ l) (c.as_bytes.ensures.value ∙ c.format.ensures.text) ∙ number_text c.args.n (omega arith))

@@ -3,15 +3,15 @@
 use Rattle.std.proofs.Common.{◌≡◌, ℕ, zero, suc, ◌+◌, ◌-◌, ◌^◌, ◌<◌, ◌≤◌, min, Bool, true, false, cond, ltb, List, [], ◌∷◌, ◌++◌, map, length, get_or, take, drop, replicate, sym, refl, ap, ◌∙◌, le_of_suc-le-suc, not-suc-le-zero, add-one, arith, length-append, length-drop, length-take, get_or-drop, drop-cons, get_or-take, get_or-append-add, ext_get_or, ltb-false, ltb-true, eq-eqb, ne_eqb}
 use lib.ListN.{length-replicate, length-map, get_or-replicate, get_or-append}
 use lib.Ieee.{Float, nan, lt}
-use Rattle.loops.specs.Figures.{at, plus, minus, nought, one, greater, lesser, infinity, minus_infinity}
-use Rattle.loops.specs.Loops.{iter, tab}
-use Rattle.loops.proofs.Tab.{length_tab, get_tab, tab_of}
+use Rattle.loops.specs.Figures.{at, plus, minus, nought, one, greater}
+use Rattle.loops.specs.Loops.{iter, tab, filled}
+use Rattle.loops.proofs.Tab.{length_tab, get_tab, tab_of, tab_same, fill_end}
 use Rattle.mode.specs.declared.PlanMode.{PlanMode}
 use Rattle.plan_defs.specs.Constants.{loading_tolerance, most_corridors}
 use Rattle.plan_defs.specs.Lists.{keep, pass_from, counting, each}
 use Rattle.plan_defs.specs.Case.{cap_at, own_or, circuit_cap, promote}
 use Rattle.plan_defs.specs.Components.{within, leads, members}
-use Rattle.plan_defs.specs.Design.{drawn}
+use Rattle.plan_defs.specs.Design.{drawn, design}
 use Rattle.plan_defs.specs.Build.{drawn_all}
 use Rattle.plan_defs.specs.Fill.{loading}
 use Rattle.plan_defs.specs.Closing.{highest, lowest, spread_in, spread_of, max_loading, overloaded_of, capped_at, capped_of, upsized_of, least_of, tiers_of, added_of}
@@ -40,17 +40,11 @@ each_tested f p (suc d) i s = go (p i) (each_tested f p d (suc i))
     go false rest = rest s
 
 module _ (led : List ℕ) (theta : List Float) where
-  abbrev pub higher : ℕ → ℕ → Float → Float
-  higher root i m = cond (within led root i) (greater m (at theta i)) m
+  abbrev pub picking : (Float → Float → Float) → ℕ → ℕ → Float → Float
+  picking f root i m = cond (within led root i) (f m (at theta i)) m
 
-  abbrev pub lower : ℕ → ℕ → Float → Float
-  lower root i m = cond (within led root i) (lesser m (at theta i)) m
-
-  pub highest_is : (root : ℕ) → iter (higher root) (length led) 0 minus_infinity ≡ highest theta (members led root)
-  highest_is root = sym (each_tested (λ i m. greater m (at theta i)) (within led root) (length led) 0 minus_infinity)
-
-  pub lowest_is : (root : ℕ) → iter (lower root) (length led) 0 infinity ≡ lowest theta (members led root)
-  lowest_is root = sym (each_tested (λ i m. lesser m (at theta i)) (within led root) (length led) 0 infinity)
+  pub picking_is : (f : Float → Float → Float) (root : ℕ) (start : Float) → iter (picking f root) (length led) 0 start ≡ each (λ i m. f m (at theta i)) (members led root) start
+  picking_is f root start = sym (each_tested (λ i m. f m (at theta i)) (within led root) (length led) 0 start)
 
   module _ (i : ℕ) (m : Float) where
     abbrev widest : Bool → Float
@@ -80,12 +74,19 @@ map_tab f g zero = refl
 map_tab f g (suc n) = ap (λ (l : List _). l ++ (f (g n) ∷ [])) (map_tab f g n) ∙ sym (map_append f (tab n g) (g n ∷ []))
 
 module _ (ladder : List Float) (level a b : List ℕ) (km share sheet banks : List Float) where
-  abbrev pub rate_of : ℕ → Float
+  abbrev rate_of : ℕ → Float
   rate_of k = (drawn (lines_for ladder a b km share sheet) level k (at banks k)).rate_a
 
-  pub rates_are : tab (length a) rate_of ≡ map (λ (d : CircuitDesign). d.rate_a) (designs_for ladder level a b km share sheet banks)
+  rates_are : tab (length a) rate_of ≡ map (λ (d : CircuitDesign). d.rate_a) (designs_for ladder level a b km share sheet banks)
   unfolding drawn_all
   rates_are = map_tab (λ (d : CircuitDesign). d.rate_a) (λ (k : ℕ). drawn (lines_for ladder a b km share sheet) level k (at banks k)) (length a)
+
+  pub rates_drawn : (old rate : List Float) → length old ≡ length a → rate ≡ filled old (λ k. (design (designs_for ladder level a b km share sheet banks) k).rate_a) (length a)
+      → rate ≡ map (λ (d : CircuitDesign). d.rate_a) (designs_for ladder level a b km share sheet banks)
+  rates_drawn old rate e h =
+      fill_end old rate _ (length a) (length a) e refl h
+      ∙ tab_same (length a) _ rate_of (λ k w. ap (λ (d : CircuitDesign). d.rate_a) (sym (drawn_here ladder level a b km share sheet banks k _ w refl)))
+      ∙ rates_are
 
 module _ (circuits : List ℕ) (flow rate : List Float) where
   abbrev pub loading_of : ℕ → Float
@@ -219,6 +220,12 @@ added_are above ladder level added dropped h e f =
     f ∙ ap (λ (n : ℕ). tab above (added_at ladder above n)) e ∙ added_is ladder above (least_of above level) h (least_most above level)
 
 -- ---- the slices at the end
+pub cleared_if : {A : Type 0} {b : Bool} {x : List A} (l : List A) (a : A) → b ≡ true → x ≡ replicate (length l) a → x ≡ cond b (replicate (length l) a) l
+cleared_if l a t e = e ∙ sym (ap (λ (z : Bool). cond z (replicate (length l) a) l) t)
+
+pub left_if : {A : Type 0} {b : Bool} (l r : List A) → b ≡ false → l ≡ cond b r l
+left_if l r t = sym (ap (λ (z : Bool). cond z r l) t)
+
 module _ (refused : Bool) (circuits : List ℕ) (flow rate mw angle : List Float) (tier ground : List ℕ) (added figures : List Float) (counts : List ℕ) where
   pub finished_is : (circuits' : List ℕ) (flow' rate' mw' angle' : List Float) (tier' ground' : List ℕ) (added' figures' : List Float) (counts' : List ℕ)
       → circuits' ≡ counts_if refused circuits → flow' ≡ figures_if refused flow → rate' ≡ figures_if refused rate → mw' ≡ figures_if refused mw

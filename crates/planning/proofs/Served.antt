@@ -1,16 +1,18 @@
 -- What the units at each bus give, and how many corridors step down to it, as the code's two loops add them up.
 -- A turn changes one place of a table, by one more index.
 use mir.Val.{bool_byte}
-use Rattle.std.proofs.Common.{◌≡◌, ℕ, ◌+◌, ◌<◌, ◌≤◌, Bool, true, false, cond, ◌&&◌, eqb, List, length, get_or, set, replicate, sym, refl, ap, ◌∙◌, subst, arith, eq-eqb, ne_eqb}
+use Rattle.std.proofs.Common.{◌≡◌, ℕ, zero, suc, ◌+◌, ◌<◌, ◌≤◌, Bool, true, false, cond, ◌&&◌, eqb, List, length, get_or, set, replicate, sym, refl, ap, ◌∙◌, subst, arith, eq-eqb, ne_eqb}
 use lib.Ieee.{Float, nan}
 use Rattle.loops.specs.Figures.{at, plus, nought}
-use Rattle.loops.specs.Loops.{tab}
+use Rattle.loops.specs.Loops.{iter, tab}
 use Rattle.loops.proofs.Tab.{tab_same, tab_replicate}
 use Rattle.loops.proofs.Places.{tab_set, tab_read}
 use Rattle.plan_defs.specs.Lists.{pass_from, passing, count_from, counting, each, sum_over}
 use Rattle.plan_defs.specs.Case.{to_of}
+use Rattle.plan_defs.specs.Dispatch.{inject_at}
 use Rattle.plan_defs.specs.Design.{steps_down, gen_at_bus, transformer_corridors}
 use Rattle.planning.specs.Design.{ends_for, ends_of}
+use Rattle.planning.specs.Opening.{bus_case}
 use Rattle.planning.specs.Redesign.{units_for}
 use Rattle.planning.specs.declared.design.Ends.{Ends}
 use Rattle.planning.proofs.Lists.{sum_more, count_more, count_most}
@@ -25,8 +27,8 @@ module _ (bus : List ℕ) (pmax : List Float) where
   unfolding gen_to pass_from each
   none_at i = refl
 
-  pub gen_start : (gens : List Float) → gens ≡ replicate 256 nought → gens ≡ tab 256 (gen_to 0)
-  gen_start gens e = e ∙ sym (tab_replicate 256 nought) ∙ tab_same 256 (λ i. nought) (gen_to 0) (λ i h. none_at i)
+  gen_start : replicate 256 nought ≡ tab 256 (gen_to 0)
+  gen_start = sym (tab_replicate 256 nought) ∙ tab_same 256 (λ i. nought) (gen_to 0) (λ i h. none_at i)
 
   own_gen : (k : ℕ) → plus (gen_to k (get_or bus k 0)) (at pmax k) ≡ gen_to (k + 1) (get_or bus k 0)
   unfolding gen_to
@@ -36,7 +38,7 @@ module _ (bus : List ℕ) (pmax : List Float) where
   unfolding gen_to
   other_gen k i n = sym (sum_more (at pmax) (λ j. eqb (get_or bus j 0) i) k false (ne_eqb (get_or bus k 0) i (λ e. n (sym e))))
 
-  pub gen_turn : (gens : List Float) (k i : ℕ) → i ≡ get_or bus k 0 → i < 256 → gens ≡ tab 256 (gen_to k)
+  gen_turn : (gens : List Float) (k i : ℕ) → i ≡ get_or bus k 0 → i < 256 → gens ≡ tab 256 (gen_to k)
       → set gens i (plus (at gens i) (at pmax k)) ≡ tab 256 (gen_to (k + 1))
   gen_turn gens k i e h g =
       tab_set nan 256 (gen_to k) (gen_to (k + 1)) gens i _ g h
@@ -44,9 +46,23 @@ module _ (bus : List ℕ) (pmax : List Float) where
       ∙ ap (λ (z : ℕ). plus (gen_to k z) (at pmax k)) e ∙ own_gen k ∙ ap (gen_to (k + 1)) (sym e))
       (λ j w n. other_gen k j (λ q. n (q ∙ sym e)))
 
-  pub gen_end : (gens : List Float) (k : ℕ) → k ≡ length bus → gens ≡ tab 256 (gen_to k) → gens ≡ tab 256 (gen_at_bus (units_for bus pmax))
+  gen_turns : (n k : ℕ) (gens : List Float) → k + n ≤ length bus → ((j : ℕ) → j < length bus → get_or bus j 0 < 256) → gens ≡ tab 256 (gen_to k)
+      → iter (inject_at (bus_case bus) pmax) n k gens ≡ tab 256 (gen_to (k + n))
+  unfolding iter
+  gen_turns zero k gens h b g = let e : k ≡ k + 0 = omega arith in g ∙ ap (λ (z : ℕ). tab 256 (gen_to z)) e
+  gen_turns (suc n) k gens h b g =
+      let e : k + 1 ≡ suc k = omega arith in
+      let f : suc k + n ≡ k + suc n = omega arith in
+      gen_turns n (suc k) _ (omega arith) b (gen_turn gens k _ refl (b k (omega arith)) g ∙ ap (λ (z : ℕ). tab 256 (gen_to z)) e)
+      ∙ ap (λ (z : ℕ). tab 256 (gen_to z)) f
+
+  -- added at each bus of a table of zeros
+  pub gen_is : (gens : List Float) → ((j : ℕ) → j < length bus → get_or bus j 0 < 256) → gens ≡ iter (inject_at (bus_case bus) pmax) (length bus) 0 (replicate 256 nought)
+      → gens ≡ tab 256 (gen_at_bus (units_for bus pmax))
   unfolding gen_at_bus gen_to
-  gen_end gens k e g = g ∙ ap (λ (n : ℕ). tab 256 (gen_to n)) e
+  gen_is gens b e =
+      let z : 0 + length bus ≡ length bus = omega arith in
+      e ∙ gen_turns (length bus) 0 (replicate 256 nought) (omega arith) b gen_start ∙ ap (λ (n : ℕ). tab 256 (gen_to n)) z
 
 -- ---- the corridors
 module _ (ladder : List Float) (level a b : List ℕ) where

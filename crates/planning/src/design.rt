@@ -1,12 +1,15 @@
 // The design of one circuit of a corridor, after `design_circuits` and `set_transformer_mva` of branches.rs. It is drawn by value
 // from the corridor's row of the line sheet and its bank, and never stored.
-ghost use Rattle.std.specs.Prelude.{◌≡◌, ◌+◌, ◌<◌, ◌≤◌, true, length, slice_index};
+ghost use Rattle.std.specs.Prelude.{◌≡◌, ℕ, ◌+◌, ◌<◌, ◌≤◌, true, length, slice_index, Float};
 ghost use Rattle.loops.specs.Figures.{at};
+ghost use Rattle.loops.specs.Loops.{filled};
 ghost use Rattle.impedance.specs.Impedance.{rating_ok};
 ghost use Rattle.sheets.specs.Sheet.{row_figures};
 ghost use Rattle.plan_defs.specs.Case.{row_of, row_from};
-ghost use Rattle.plan_defs.specs.Design.{basis_of, line_of, bank_basis, with_bank, set_transformer_mva, banked_by, differ, drawn};
+ghost use Rattle.plan_defs.specs.Design.{basis_of, line_of, bank_basis, with_bank, set_transformer_mva, banked_by, differ, drawn, design};
+ghost use Rattle.plan_defs.specs.declared.CircuitDesign.{CircuitDesign};
 ghost use Rattle.planning.specs.Design.{lines_for, ends_for, Lines, EndsFit, LineFits, ends_of, line_between};
+ghost use Rattle.planning.specs.Fill.{designs_for, Drawable};
 
 use crate::figures::{choose, lesser, magnitude};
 use impedance::SeriesImpedance;
@@ -230,4 +233,30 @@ pub fn circuit(
     let e = ends_of(ladder, level, a, b, k);
     let d = line_at(ladder, level, km, share, sheet, k, e.from, e.to);
     banked_if(e.steps_down, d, mva)
+}
+
+// What `figure` gives of each corridor's design and its index, at the front of `out`.
+pub fn fill_drawn<F: Fn(CircuitDesign, usize) -> f64>(
+    ladder: &[f64],
+    level: &[u32],
+    a: &[u32],
+    b: &[u32],
+    km: &[f64],
+    share: &[f64],
+    sheet: &[f64],
+    banks: &[f64],
+    out: &mut [f64],
+    figure: F,
+)
+    requires lines { Lines ladder.now level.now a.now b.now km.now share.now sheet.now }
+    requires drawable { Drawable a.now banks.now }
+    requires room { length a.now ≤ length out.old }
+    requires callable { (d : CircuitDesign) (k : ℕ) → k < length a.now → F.pre figure d k }
+    ensures { (f : CircuitDesign → ℕ → Float) → ((d : CircuitDesign) (k : ℕ) (r : Float) → k < length a.now → F.post figure d k r → r ≡ f d k)
+        → out.new ≡ filled out.old (λ k. f (design (designs_for ladder.now level.now a.now b.now km.now share.now sheet.now banks.now) k) k) (length a.now) }
+{
+    for k in 0..a.len() {
+        let d = circuit(ladder, level, a, b, km, share, sheet, k, banks[k]);
+        out[k] = figure(d, k);
+    }
 }

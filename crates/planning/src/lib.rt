@@ -148,7 +148,7 @@ pub fn plan_corridors(
     let ranks = kept.order;
     close::keep_if(keeps, first, before);
     close::keep_if(keeps, ranks, order);
-    let caps = fill::copied(cap);
+    let caps = figures::copied(cap, 0);
     close::keep_if(!refused, caps, kept_cap);
     said
 }

@@ -12,7 +12,6 @@ ghost use Rattle.plan_defs.specs.Lists.{sum_over};
 ghost use Rattle.plan_defs.specs.Outcome.{up_to};
 ghost use Rattle.planning.specs.Opening.{stage_of, stage_if, bus_case, slack_case, dispatch_case, injection_case, Joined, Fleet, Costs, Loads, Picked};
 
-use crate::figures::{clear_counts, clear_figures};
 use crate::solve::BASE_MVA;
 use crate::top_up::give;
 use mode::PlanMode;
@@ -49,7 +48,7 @@ pub fn ground_components(leader: &[u32], bus: &[u32], slack: &[u32], ground: &mu
     ensures held { ground.new
         ≡ up_to (length leader.now) 0 (grounds_of (slack_case bus.now slack.now) leader.now) }
 {
-    clear_counts(ground);
+    ground.fill(0);
     let mut count = 0;
     for i in 0..leader.len() {
         if leader[i] as usize == i {
@@ -204,7 +203,7 @@ pub fn dispatch_components(
         ≡ dispatch_of (dispatch_case mode load.now bus.now pmin.now pmax.now c1.now c2.now)
         leader.now }
 {
-    clear_figures(mw);
+    mw.fill(0.0);
     for i in 0..leader.len() {
         serve_led(mode, i, leader, load, bus, pmin, pmax, c1, c2, mw)?;
     }
@@ -222,8 +221,8 @@ fn withdraw(load: &[f64], injection: &mut [f64])
     }
 }
 
-// What the generators give, at their buses.
-fn inject(bus: &[u32], mw: &[f64], injection: &mut [f64])
+// A column of the units' figures, added at their buses.
+pub fn inject(bus: &[u32], mw: &[f64], injection: &mut [f64])
     requires { Fleet (length injection.old) bus.now × (length mw.now ≡ length bus.now) }
     ensures { injection.new
         ≡ iter (inject_at (bus_case bus.now) mw.now) (length bus.now) 0 injection.old }

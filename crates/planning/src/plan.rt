@@ -3,7 +3,6 @@ ghost use Rattle.std.specs.Prelude.{◌≡◌, Err, Ok, Result};
 ghost use Rattle.planning.specs.Close.{Closable, lent_to};
 ghost use Rattle.planning.specs.Plan.{Openable, OpeningDone, rounds_for, start_of, Runnable, RanAll, planned_by, Plannable, OpenedPlan, PlanDone, Lendable};
 
-use crate::figures::{clear_counts, clear_figures};
 use crate::fill::{Kept, nothing_kept};
 use crate::opening::{
     component_leaders, dispatch_components, first_levels, ground_components, injections,
@@ -113,7 +112,7 @@ fn run_rounds(
         circuits.old banks.old floors.old upsized.old
         level.new circuits.new banks.new floors.new upsized.new angle.new result }
 {
-    clear_figures(angle);
+    angle.fill(0.0);
     let start = first_progress(mode, a.len(), promoted);
     let budget = rounds_to_run(mode, a.len());
     if budget == 0 {
@@ -280,7 +279,7 @@ pub fn run(
     let mut injection = [0.0; 256];
     let mut floors = [0.0; 256];
     let mut marks = [0u32; 256];
-    clear_counts(counts);
+    counts.fill(0);
     match open(
         mode,
         above,

@@ -6,7 +6,7 @@ ghost use Rattle.planning.specs.Redesign.{RedesignFits};
 ghost use Rattle.planning.specs.Raises.{heavy_for, raised_of, Markable, HeavyRaised, Raisable, Passed, RaisesDone};
 
 use crate::design::circuit;
-use crate::figures::{clear_counts, clear_figures, magnitude};
+use crate::figures::magnitude;
 use crate::policy::promotes;
 use crate::raise::mark_raise_to;
 use crate::rounds::raise_marked;
@@ -67,7 +67,7 @@ fn heavy_marks(
         (raised_of (heavy_for (length level.now) ladder.now a.now b.now km.now share.now sheet.now)
         level.now banks.now 0) flow.now }
 {
-    clear_counts(marks);
+    marks.fill(0);
     for k in 0..a.len() {
         mark_heavy(ladder, level, a, b, km, share, sheet, banks, flow, k, marks);
     }
@@ -130,7 +130,7 @@ fn pass(
         load.now bus.now pmax.now grounds.now injection.now circuits.now banks.old
         level.new banks.new result }
 {
-    clear_figures(angle);
+    angle.fill(0.0);
     planning_state(
         ladder, level, a, b, km, share, sheet, circuits, banks, injection, grounds, angle, flow,
     )?;

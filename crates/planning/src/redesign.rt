@@ -1,15 +1,16 @@
 // Every corridor designed anew at the buses' levels, after `design_circuits` of branches.rs and `redesign` of planning.rs. Each
 // design is whole, its basis with it; of each its bank is kept.
 ghost use Rattle.std.specs.Prelude.{◌≡◌, ◌<◌, replicate};
-ghost use Rattle.loops.specs.Figures.{at, nought};
+ghost use Rattle.loops.specs.Figures.{at};
 ghost use Rattle.loops.specs.Loops.{tab};
 ghost use Rattle.plan_defs.specs.Constants.{most_buses};
-ghost use Rattle.plan_defs.specs.Design.{gen_at_bus, transformer_corridors, fresh_bank, kept_bank};
+ghost use Rattle.plan_defs.specs.Design.{transformer_corridors, fresh_bank, kept_bank};
 ghost use Rattle.planning.specs.Design.{lines_for, ends_for, Banks, Rated};
-ghost use Rattle.planning.specs.Redesign.{units_for, redesign_for, Units, Corridors, AnewFits, RedesignFits, anew_from, bank_of, fresh_at, banks_anew};
+ghost use Rattle.planning.specs.Redesign.{redesign_for, Corridors, AnewFits, RedesignFits, anew_from, bank_of, fresh_at, banks_anew};
 
 use crate::design::{banked_if, circuit, ends_of};
 use crate::figures::{greater, lesser};
+use crate::opening::inject;
 use plan_defs::CircuitDesign;
 
 const MOST_BUSES: usize = 256;
@@ -18,18 +19,6 @@ const MOST_BUSES: usize = 256;
 const TRANSFORMER_HEADROOM: f64 = 1.2;
 
 const TRANSFORMER_MIN_MVA: f64 = 100.0;
-
-// What the units at each bus can give.
-fn generation_at(bus: &[u32], pmax: &[f64], gen_at: &mut [f64; MOST_BUSES])
-    requires units { Units bus.now pmax.now }
-    requires gen_at_value { gen_at.old ≡ replicate most_buses nought }
-    ensures { gen_at.new ≡ tab most_buses (gen_at_bus (units_for bus.now pmax.now)) }
-{
-    for k in 0..bus.len() {
-        let i = bus[k] as usize;
-        gen_at[i] = gen_at[i] + pmax[k];
-    }
-}
 
 // How many corridors step down to each bus.
 fn transformer_corridors(
@@ -124,7 +113,7 @@ pub fn redesign(
     ensures sound { Banks banks.new }
 {
     let mut gen_at = [0.0; MOST_BUSES];
-    generation_at(bus, pmax, &mut gen_at);
+    inject(bus, pmax, &mut gen_at);
     let mut shared = [0; MOST_BUSES];
     transformer_corridors(ladder, level, a, b, &mut shared);
     for k in 0..a.len() {

@@ -5,7 +5,6 @@ ghost use Rattle.planning.specs.Design.{Banks};
 ghost use Rattle.planning.specs.Redesign.{RedesignFits};
 ghost use Rattle.planning.specs.Rounds.{Redrawn, RoundsFit, RoundsRun};
 
-use crate::figures::clear_counts;
 use crate::policy::promotes;
 use crate::raise::raise_buses;
 use crate::redesign::redesign;
@@ -109,7 +108,7 @@ pub fn size_rounds(
             Err(f) => break 'rounds Err(f),
             Ok(()) => {}
         }
-        clear_counts(marks);
+        marks.fill(0);
         let mut t = Tally {
             capacity: p.capacity,
             added: false,

@@ -8,7 +8,6 @@ ghost use Rattle.planning.specs.Size.{Few};
 ghost use Rattle.planning.specs.Settle.{ended_of, closed_from, filled_from, Settleable, Settles};
 
 use crate::close::{Closing, close};
-use crate::figures::clear_figures;
 use crate::fill::{Kept, fill, fill_order, keep, nothing_kept};
 use crate::solve::planning_state;
 use mode::PlanMode;
@@ -53,7 +52,7 @@ fn solve_from_zero(
         (designs_for ladder.now level.now a.now b.now km.now share.now sheet.now banks.now)
         circuits.now (zeros (length level.now)) }
 {
-    clear_figures(angle);
+    angle.fill(0.0);
     planning_state(
         ladder, level, a, b, km, share, sheet, circuits, banks, injection, grounds, angle, flow,
     )

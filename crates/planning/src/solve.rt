@@ -13,6 +13,7 @@ ghost use Rattle.planning.specs.Design.{lines_for};
 ghost use Rattle.planning.specs.Solve.{peak_for, solved_of, finite_angles, finite_answer, Net, Places, Drawing, Lent, Drawn, Peaked};
 
 use crate::design::circuit;
+use crate::figures::copied;
 use plan_defs::CircuitDesign;
 use refusal::Refusal;
 
@@ -84,7 +85,7 @@ fn angles_from(
 {
     let n = angle.len();
     let mut work = [0.0; 2048];
-    match angles::dc_angles(
+    angles::dc_angles(
         n,
         from.len(),
         grounds.len(),
@@ -96,10 +97,9 @@ fn angles_from(
         guess,
         angle,
         &mut work[0..SOLVER_ROWS * n],
-    ) {
-        Err(_) => Err(Refusal::NotFinite(0)),
-        Ok(_) => Ok(()),
-    }
+    )
+    .map_err(|_| Refusal::NotFinite(0))?;
+    Ok(())
 }
 
 // The angles at which one per unit goes from the lead to the lag, for stiffening.
@@ -176,14 +176,6 @@ fn finite_flows(flow: &[f64]) -> Result<(), Refusal>
 }
 
 // ---- planning_state
-// At the front of an array.
-fn copy(angle: &[f64], guess: &mut [f64; 256])
-    requires { (length angle.now ≤ most) × (length guess.old ≡ most) }
-    ensures { take (length angle.now) guess.new ≡ angle.now }
-{
-    guess[..angle.len()].copy_from_slice(angle);
-}
-
 // The angles and the flows at the peak on these edges, from the angles that `angle` holds; refusal 9 where one of them is not finite.
 pub fn peak_state(
     e: Edges,
@@ -204,8 +196,7 @@ pub fn peak_state(
     let from = e.from;
     let to = e.to;
     let weight = e.weight;
-    let mut guess = [0.0; 256];
-    copy(angle, &mut guess);
+    let guess = copied(angle, 0.0);
     angles_from(
         &from[0..m],
         &to[0..m],

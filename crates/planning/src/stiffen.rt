@@ -1,18 +1,18 @@
 // Stiffening: each component whose angles are spread too wide, after the second loop of a round of `plan_corridors`.
-ghost use Rattle.std.specs.Prelude.{◌≡◌, ℕ, ◌+◌, ◌<◌, ◌≤◌, true, false, not, [], ◌∷◌, map, length, take, slice_index, Err, Ok, Result};
-ghost use Rattle.loops.specs.Figures.{nought};
+ghost use Rattle.std.specs.Prelude.{◌≡◌, ℕ, ◌+◌, ◌<◌, ◌≤◌, Bool, true, false, not, cond, [], ◌∷◌, map, length, take, slice_index, Float, Err, Ok, Result};
+ghost use Rattle.loops.specs.Figures.{at, nought};
 ghost use Rattle.loops.specs.Loops.{first, filled};
 ghost use Rattle.plan_defs.specs.Constants.{most_buses, most_corridors, most_levels, most_cap, stiffening_branch_budget};
-ghost use Rattle.plan_defs.specs.Components.{within};
+ghost use Rattle.plan_defs.specs.Components.{within, members};
 ghost use Rattle.plan_defs.specs.Lists.{counting, sum};
 ghost use Rattle.plan_defs.specs.Raise.{no_marks, mark_if};
-ghost use Rattle.plan_defs.specs.Stiffen.{at_or_above, share_of, hv_budget, stiffen_top, arrival, gain_of, batch, batch_cap};
+ghost use Rattle.plan_defs.specs.Stiffen.{at_or_above, share_of, hv_budget, stiffen_top, arrival, gain_of, batch, batch_cap, best_of};
 ghost use Rattle.planning.specs.Fill.{Counted, Ranked, Whole, place_of};
 ghost use Rattle.planning.specs.Raise.{largest_count, pairs_for, PairFits};
-ghost use Rattle.planning.specs.Stiffen.{budget_for, Stiffenable, Room, LedStiffened, raisable, room_for, reckoned, Strengthened, StiffenFits, BatchStiffened, Gainful, candidate_at, gain_at, gains_more, gain_next, gain_order, gain_for, Chosen, Stepped, reinforce_step, narrow_step, component_step, Led, lead_of, lag_of};
+ghost use Rattle.planning.specs.Stiffen.{budget_for, Stiffenable, Room, LedStiffened, raisable, room_for, reckoned, Strengthened, StiffenFits, BatchStiffened, Gainful, candidate_at, gain_at, gains_more, gain_next, gain_order, gain_for, Chosen, Stepped, reinforce_step, narrow_step, component_step, Led};
 
 use crate::design::{circuit, set_transformer_mva};
-use crate::figures::{choose, clear_counts};
+use crate::figures::choose;
 use crate::fill::{insert, total};
 use crate::policy::full_at;
 use crate::raise::{mark_raise_to, raise_of};
@@ -110,7 +110,7 @@ pub fn stiffness_from(
     ensures marks { marks.new ≡ no_marks (length level.now) }
     ensures start { result ≡ record { total = sum circuits.now; hv = at_or_above level.now g.top; stiffening = stiffening; wide = false; stiffened = false } }
 {
-    clear_counts(marks);
+    marks.fill(0);
     let circuits_now = total(circuits);
     let hv = at_or_above(level, g.top);
     Stiffness {
@@ -539,31 +539,18 @@ fn first_of(leader: &[u32], root: usize) -> usize
     loops::first_fault(leader.len(), |i| leader[i] as usize != root).unwrap_or(leader.len())
 }
 
-// The bus that leads, the lowest on a tie.
-fn lead_of(leader: &[u32], angle: &[f64], root: usize) -> usize
-    requires { Led root leader.now angle.now }
-    ensures { (result ≡ lead_of leader.now angle.now root) × (result < length leader.now) }
+// The best of its buses by `better`, the lowest on a tie.
+fn best_of<F: Fn(f64, f64) -> bool>(leader: &[u32], angle: &[f64], root: usize, better: F) -> usize
+    requires led { Led root leader.now angle.now }
+    requires callable { (x y : Float) → F.pre better x y }
+    ensures bus { result < length leader.now }
+    ensures best { (p : Float → Float → Bool) → ((x y : Float) (r : Bool) → F.post better x y r → r ≡ p x y)
+        → result ≡ best_of (λ i best. cond (p (at angle.now best) (at angle.now i)) i best) (members leader.now root) }
 {
     let mut best = first_of(leader, root);
     for i in best + 1..leader.len() {
         best = choose(
-            (leader[i] as usize == root) & (angle[best] < angle[i]),
-            i,
-            best,
-        );
-    }
-    best
-}
-
-// The bus that lags, the lowest on a tie.
-fn lag_of(leader: &[u32], angle: &[f64], root: usize) -> usize
-    requires { Led root leader.now angle.now }
-    ensures { (result ≡ lag_of leader.now angle.now root) × (result < length leader.now) }
-{
-    let mut best = first_of(leader, root);
-    for i in best + 1..leader.len() {
-        best = choose(
-            (leader[i] as usize == root) & (angle[i] < angle[best]),
+            (leader[i] as usize == root) & better(angle[best], angle[i]),
             i,
             best,
         );
@@ -667,8 +654,8 @@ fn stiffen_component(
         circuits.old banks.old floors.old upsized.old marks.old t
         circuits.new banks.new floors.new upsized.new marks.new result }
 {
-    let lead = lead_of(leader, angle, root);
-    let lag = lag_of(leader, angle, root);
+    let lead = best_of(leader, angle, root, |x, y| x < y);
+    let lag = best_of(leader, angle, root, |x, y| y < x);
     let excess = angle[lead] - angle[lag] - MAX_ANGLE_SPREAD_RAD;
     if excess <= 0.0 {
         return Ok(t);

@@ -1,6 +1,6 @@
 -- The check's refusals touch nothing; what passes it is a sound case, of which the stages lead to the defined plan, and the slices are cleared as the definition
 -- has them. Demand 3 is a theorem of the defined plan.
-use Rattle.std.proofs.Common.{◌≡◌, Bool, not, ◌&&◌, Err, sym, refl, ap, ◌∙◌, rules}
+use Rattle.std.proofs.Common.{arith, ◌≡◌, Bool, not, ◌&&◌, Err, sym, refl, ap, ◌∙◌, rules}
 use Rattle.loads.proofs.One.{loads_lent, loads_room}
 use Rattle.plan_defs.specs.Case.{surveyed}
 use Rattle.plan_defs.specs.Outcome.{slices, slices_ok}
@@ -64,7 +64,7 @@ copied-caps-requires c =
     let lent = slices z.circuits.now z.flow.now z.rate.now z.before.now z.order.now z.kept_cap.now z.mw.now z.angle.now z.level.now z.ground.now z.added.now z.figures.now z.counts.now in
     let answer : c.check_case.result ≡ check_of (slices_ok case lent) (tables_of_lem case) z.target = checked case z.target lent _ _ c.places_ok-fits.ensures c.check_case.ensures in
     let q = c.in_ok-check_case.was in
-    caps_fit case z.target lent c.check_case.result answer q
+    (omega arith, caps_fit case z.target lent c.check_case.result answer q)
 
 pub keep_if-requires-3 : goal.keep_if-requires-3
 keep_if-requires-3 c =

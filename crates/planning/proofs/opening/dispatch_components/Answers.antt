@@ -11,8 +11,8 @@ unfolding dispatch_of
 loop-i-init c =
     let s = c in (
       omega arith,
-      c.clear_figures.auto.figures ∙ s.requires.3,
-      stage_start (serve (dispatch_case c.args.mode c.args.load.now c.args.bus.now c.args.pmin.now c.args.pmax.now c.args.c1.now c.args.c2.now) c.args.leader.now) (leads c.args.leader.now) _ _ _ (c.clear_figures.ensures ∙ ap (λ (n : ℕ). replicate n nought) s.requires.3),
+      c.fill.ensures.len ∙ s.requires.3,
+      stage_start (serve (dispatch_case c.args.mode c.args.load.now c.args.bus.now c.args.pmin.now c.args.pmax.now c.args.c1.now c.args.c2.now) c.args.leader.now) (leads c.args.leader.now) _ _ _ ((c.fill.ensures.after (λ y e. e)) ∙ ap (λ (n : ℕ). replicate n nought) s.requires.3),
     )
 
 pub serve_led-requires : goal.serve_led-requires

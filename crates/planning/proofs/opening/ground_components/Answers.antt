@@ -3,7 +3,7 @@ use Rattle.planning.proofs.Grounds.{grounded_start, grounded_yes, grounded_no, g
 use Rattle.planning.proofs.opening.ground_components.Goals as goal
 
 pub loop-i-init : goal.loop-i-init
-loop-i-init c = grounded_start _ _ _ c.args.ground.now _ c.requires.2 c.clear_counts.ensures
+loop-i-init c = grounded_start _ _ _ c.args.ground.now _ c.requires.2 (c.fill.ensures.after (λ y e. e))
 
 pub ground_of-requires : goal.ground_of-requires
 ground_of-requires c = (c.requires.0, c.requires.1)

@@ -50,7 +50,7 @@ slice_bounds-floors-end c = corridors_fit c.requires.sound
 pub slice_bounds-plan_opened-end-in-Ok-4 : goal.slice_bounds-plan_opened-end-in-Ok-4
 slice_bounds-plan_opened-end-in-Ok-4 c =
     let s = c in
-    subst (λ (k : ℕ). length s.args.a.now ≤ k) (sym c.clear_counts.auto.counts) (counts_fit s.requires.sound s.requires.lengths)
+    subst (λ (k : ℕ). length s.args.a.now ≤ k) (sym c.fill.ensures.len) (counts_fit s.requires.sound s.requires.lengths)
 
 pub slice_bounds-marks-end : goal.slice_bounds-marks-end
 slice_bounds-marks-end c = tier_fits c.requires.sound
@@ -60,9 +60,9 @@ plan_opened-requires c =
     let s = c in
     let z = s.args in
     let v = c.«open» in
-    let k = c.clear_counts in
+    let k = c.fill in
     let q = c.in-Ok in
-    let both-parts = opened_asks z.mode z.target z.above z.ladder.now z.tier.now z.load.now z.bus.now z.slack.now z.pmin.now z.pmax.now z.c1.now z.c2.now z.a.now z.b.now z.initial.now z.km.now z.share.now z.cap.now z.sheet.now z.circuits.now z.flow.now z.rate.now z.mw.now z.angle.now z.level.now z.ground.now z.added.now z.figures.now z.counts.now s.requires v.new.leader v.new.injection v.new.ground v.new.mw v.new.level v.new.circuits v.result v.ensures q.count q.is v.auto.leader v.auto.injection k.new.counts k.ensures v.auto.circuits in record { plannable = both-parts.0; closable = both-parts.1 }
+    let both-parts = opened_asks z.mode z.target z.above z.ladder.now z.tier.now z.load.now z.bus.now z.slack.now z.pmin.now z.pmax.now z.c1.now z.c2.now z.a.now z.b.now z.initial.now z.km.now z.share.now z.cap.now z.sheet.now z.circuits.now z.flow.now z.rate.now z.mw.now z.angle.now z.level.now z.ground.now z.added.now z.figures.now z.counts.now s.requires v.new.leader v.new.injection v.new.ground v.new.mw v.new.level v.new.circuits v.result v.ensures q.count q.is v.auto.leader v.auto.injection k.new.self (k.ensures.after (λ y e. e)) v.auto.circuits in record { plannable = both-parts.0; closable = both-parts.1 }
 
 pub shape_of-circuits-in-Err : goal.shape_of-circuits-in-Err
 shape_of-circuits-in-Err c = c.«open».auto.circuits
@@ -77,7 +77,7 @@ pub shape_of-ground-in-Err : goal.shape_of-ground-in-Err
 shape_of-ground-in-Err c = c.«open».auto.ground
 
 pub shape_of-counts-in-Err : goal.shape_of-counts-in-Err
-shape_of-counts-in-Err c = c.clear_counts.auto.counts
+shape_of-counts-in-Err c = c.fill.ensures.len
 
 pub returns-in-Err : goal.returns-in-Err
 returns-in-Err c =
@@ -120,16 +120,16 @@ shape_of-figures c =
 pub shape_of-counts-in-Ok : goal.shape_of-counts-in-Ok
 shape_of-counts-in-Ok c =
     let z = c.args in
-    let k = c.clear_counts in
+    let k = c.fill in
     let w = c.plan_opened in
-    length_front k.new.counts w.new.upsized (length z.a.now - 0) w.auto.upsized ∙ k.auto.counts
+    length_front k.new.self w.new.upsized (length z.a.now - 0) w.auto.upsized ∙ k.ensures.len
 
 pub returns-in-Ok : goal.returns-in-Ok
 returns-in-Ok c =
     let s = c in
     let z = s.args in
     let v = c.«open» in
-    let k = c.clear_counts in
+    let k = c.fill in
     let q = c.in-Ok in
     let w = c.plan_opened in
-    stages_plan z.mode z.target z.above z.ladder.now z.tier.now z.load.now z.bus.now z.slack.now z.pmin.now z.pmax.now z.c1.now z.c2.now z.a.now z.b.now z.initial.now z.km.now z.share.now z.cap.now z.sheet.now z.circuits.now z.flow.now z.rate.now z.mw.now z.angle.now z.level.now z.ground.now z.added.now z.figures.now z.counts.now s.requires v.new.leader v.new.injection v.new.ground v.new.mw v.new.level v.new.circuits v.result v.ensures q.count q.is v.auto.leader v.auto.injection k.new.counts k.ensures w.new.circuits w.new.flow w.new.rate w.new.angle w.new.level w.new.added w.result w.ensures
+    stages_plan z.mode z.target z.above z.ladder.now z.tier.now z.load.now z.bus.now z.slack.now z.pmin.now z.pmax.now z.c1.now z.c2.now z.a.now z.b.now z.initial.now z.km.now z.share.now z.cap.now z.sheet.now z.circuits.now z.flow.now z.rate.now z.mw.now z.angle.now z.level.now z.ground.now z.added.now z.figures.now z.counts.now s.requires v.new.leader v.new.injection v.new.ground v.new.mw v.new.level v.new.circuits v.result v.ensures q.count q.is v.auto.leader v.auto.injection k.new.self (k.ensures.after (λ y e. e)) w.new.circuits w.new.flow w.new.rate w.new.angle w.new.level w.new.added w.result w.ensures

@@ -3,15 +3,15 @@ use Rattle.planning.proofs.Plans.{rounds_fit, ran_none, ran_some}
 use Rattle.planning.proofs.plan.run_rounds.Goals as goal
 
 pub shape_of-angle-then-budget-eq0 : goal.shape_of-angle-then-budget-eq0
-shape_of-angle-then-budget-eq0 c = c.clear_figures.auto.figures
+shape_of-angle-then-budget-eq0 c = c.fill.ensures.len
 
 pub returns-then-budget-eq0 : goal.returns-then-budget-eq0
 returns-then-budget-eq0 c =
-    ran_none _ _ _ _ _ _ _ _ _ _ _ _ _ _ _ _ _ _ _ _ _ _ _ _ c.requires _ c.clear_figures.ensures _ c.first_progress-start.ensures _ c.rounds_to_run-budget.ensures c.if-budget-eq0.true
+    ran_none _ _ _ _ _ _ _ _ _ _ _ _ _ _ _ _ _ _ _ _ _ _ _ _ c.requires _ (c.fill.ensures.after (λ y e. e)) _ c.first_progress-start.ensures _ c.rounds_to_run-budget.ensures c.if-budget-eq0.true
 
 pub size_rounds-requires : goal.size_rounds-requires
 size_rounds-requires c =
-    rounds_fit c.args.mode _ _ _ _ _ _ _ _ _ _ _ _ _ _ _ _ _ _ _ _ _ _ _ c.requires _ c.clear_figures.ensures _ c.first_progress-start.ensures _ c.rounds_to_run-budget.ensures c.clear_figures.auto.figures c.if-budget-eq0.false
+    rounds_fit c.args.mode _ _ _ _ _ _ _ _ _ _ _ _ _ _ _ _ _ _ _ _ _ _ _ c.requires _ (c.fill.ensures.after (λ y e. e)) _ c.first_progress-start.ensures _ c.rounds_to_run-budget.ensures c.fill.ensures.len c.if-budget-eq0.false
 
 pub shape_of-circuits : goal.shape_of-circuits
 shape_of-circuits c = c.size_rounds.auto.circuits
@@ -32,11 +32,11 @@ pub shape_of-marks : goal.shape_of-marks
 shape_of-marks c = c.size_rounds.auto.marks
 
 pub shape_of-angle : goal.shape_of-angle
-shape_of-angle c = c.size_rounds.auto.angle ∙ c.clear_figures.auto.figures
+shape_of-angle c = c.size_rounds.auto.angle ∙ c.fill.ensures.len
 
 pub shape_of-flow : goal.shape_of-flow
 shape_of-flow c = c.size_rounds.auto.flow
 
 pub returns : goal.returns
 returns c =
-    ran_some _ _ _ _ _ _ _ _ _ _ _ _ _ _ _ _ _ _ _ _ _ _ _ _ c.requires _ c.clear_figures.ensures _ c.first_progress-start.ensures _ c.rounds_to_run-budget.ensures _ _ _ _ _ _ _ c.size_rounds.ensures
+    ran_some _ _ _ _ _ _ _ _ _ _ _ _ _ _ _ _ _ _ _ _ _ _ _ _ c.requires _ (c.fill.ensures.after (λ y e. e)) _ c.first_progress-start.ensures _ c.rounds_to_run-budget.ensures _ _ _ _ _ _ _ c.size_rounds.ensures

@@ -8,8 +8,8 @@ loop-k-init c =
     let s = c in
     let z = s.args in (
       omega arith,
-      c.clear_counts.auto.counts ∙ s.requires.mark_size,
-      marks_start z.ladder.now z.level.now z.a.now z.b.now z.km.now z.share.now z.sheet.now z.banks.now z.flow.now _ (length z.marks.now) c.clear_counts.ensures s.requires.mark_size,
+      c.fill.ensures.len ∙ s.requires.mark_size,
+      marks_start z.ladder.now z.level.now z.a.now z.b.now z.km.now z.share.now z.sheet.now z.banks.now z.flow.now _ (length z.marks.now) (c.fill.ensures.after (λ y e. e)) s.requires.mark_size,
     )
 
 pub mark_heavy-requires : goal.mark_heavy-requires

@@ -11,7 +11,7 @@ planning_state-requires c =
         few_grounds = p.lent.few_grounds;
         ground_below = p.lent.ground_below;
         injection_size = p.lent.injection_size;
-        angle_size = c.clear_figures.auto.figures ∙ p.lent.angle_size;
+        angle_size = c.fill.ensures.len ∙ p.lent.angle_size;
         flow_size = p.lent.flow_size;
       };
     }
@@ -24,7 +24,7 @@ returns-in_err-planning_state c =
     rw h (record {
       passed = λ o mode target w n d promoted.
           pass_refused z.ladder.now z.level.now z.a.now z.b.now z.km.now z.share.now z.sheet.now z.load.now z.bus.now z.pmax.now
-          z.grounds.now z.injection.now z.circuits.now z.banks.now _ _ c.clear_figures.ensures s.requires.lent.angle_size
+          z.grounds.now z.injection.now z.circuits.now z.banks.now _ _ (c.fill.ensures.after (λ y e. e)) s.requires.lent.angle_size
           c.planning_state.result _ _ c.planning_state.ensures o mode target w n d promoted _ c.in_err-planning_state.was;
       lines = s.requires.drawing.lines;
       banked = s.requires.drawing.banks_ok;
@@ -54,7 +54,7 @@ pub shape_of-marks : goal.shape_of-marks
 shape_of-marks c = c.raise_heavy-moved.auto.marks
 
 pub shape_of-angle : goal.shape_of-angle
-shape_of-angle c = c.planning_state.auto.angle ∙ c.clear_figures.auto.figures
+shape_of-angle c = c.planning_state.auto.angle ∙ c.fill.ensures.len
 
 pub shape_of-flow : goal.shape_of-flow
 shape_of-flow c = c.planning_state.auto.flow
@@ -67,7 +67,7 @@ returns c =
     record {
       passed = λ o mode target w n d promoted.
           pass_going z.ladder.now z.level.now z.a.now z.b.now z.km.now z.share.now z.sheet.now z.load.now z.bus.now z.pmax.now
-          z.grounds.now z.injection.now z.circuits.now z.banks.now _ _ c.clear_figures.ensures s.requires.lent.angle_size
+          z.grounds.now z.injection.now z.circuits.now z.banks.now _ _ (c.fill.ensures.after (λ y e. e)) s.requires.lent.angle_size
           c.planning_state.result _ _ c.planning_state.ensures o mode target w n d promoted
           c.in_ok-planning_state.was z.floors.now s.requires.unset _ _ c.raise_heavy-moved.result _ r;
       lines = lines_again z.ladder.now z.level.now z.a.now z.b.now z.km.now z.share.now z.sheet.now _ _ r.levels s.requires.drawing.lines;

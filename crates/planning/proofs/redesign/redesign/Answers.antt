@@ -3,11 +3,12 @@ use Rattle.loops.proofs.Tab.{fill_start, fill_turn, fill_end, fill_length}
 use Rattle.planning.specs.Design.{Banks}
 use Rattle.planning.specs.Redesign.{redesign_for, bank_anew, banks_anew}
 use Rattle.planning.proofs.Draws.{ends_fit}
+use Rattle.planning.proofs.Served.{gen_is}
 use Rattle.planning.proofs.Anew.{fresh_ok, bank_defined, banks_anew_sound}
 use Rattle.planning.proofs.redesign.redesign.Goals as goal
 
-pub generation_at-requires : goal.generation_at-requires
-generation_at-requires c = record { units = c.requires.units; gen_at_value = refl }
+pub inject-requires : goal.inject-requires
+inject-requires c = (record { few = c.requires.units.few; below = c.requires.units.bus_below }, c.requires.units.pmax_size)
 
 pub transformer_corridors-requires : goal.transformer_corridors-requires
 transformer_corridors-requires c =
@@ -28,7 +29,7 @@ circuit_anew-d-requires c =
       loads = s.requires.loads;
       corridor = h;
       floor_size = omega (arith, h, s.requires.floor_size);
-      fresh = fresh_ok z.ladder.now z.level.now z.a.now z.b.now z.km.now z.share.now z.sheet.now z.load.now z.bus.now z.pmax.now z.floors.now _ _ c.loop-k.k s.requires.lines s.requires.loads s.requires.units s.requires.few h c.generation_at.ensures c.transformer_corridors.ensures;
+      fresh = fresh_ok z.ladder.now z.level.now z.a.now z.b.now z.km.now z.share.now z.sheet.now z.load.now z.bus.now z.pmax.now z.floors.now _ _ c.loop-k.k s.requires.lines s.requires.loads s.requires.units s.requires.few h (gen_is z.bus.now z.pmax.now _ s.requires.units.bus_below c.inject.ensures) c.transformer_corridors.ensures;
     }
 
 pub offset_bounds-banks-k : goal.offset_bounds-banks-k
@@ -44,7 +45,7 @@ loop-k-preserved c =
     let h = c.loop-k-test.true in (
       omega arith,
       fill_turn z.banks.now _ _ _ _ c.loop-k.invariant.1 (omega (arith, h, s.requires.bank_size))
-          (bank_defined z.ladder.now z.level.now z.a.now z.b.now z.km.now z.share.now z.sheet.now z.load.now z.bus.now z.pmax.now z.floors.now _ _ c.loop-k.k s.requires.lines s.requires.loads s.requires.units s.requires.few h c.generation_at.ensures c.transformer_corridors.ensures _ _ c.bank_of.ensures c.circuit_anew-d.ensures),
+          (bank_defined z.ladder.now z.level.now z.a.now z.b.now z.km.now z.share.now z.sheet.now z.load.now z.bus.now z.pmax.now z.floors.now _ _ c.loop-k.k s.requires.lines s.requires.loads s.requires.units s.requires.few h (gen_is z.bus.now z.pmax.now _ s.requires.units.bus_below c.inject.ensures) c.transformer_corridors.ensures _ _ c.bank_of.ensures c.circuit_anew-d.ensures),
     )
 
 pub shape_of-banks : goal.shape_of-banks

@@ -113,15 +113,15 @@ enum_told :
     tie.Need-enum_told-1 invariant-loop decreases-loop invariant-loop2 decreases-loop2 invariant-rounds decreases-rounds
 enum_told c = search rules
 
-clear-counts-requires :
-    tie.Need-clear_counts-requires
+fill-requires :
+    tie.Need-fill-requires
     invariant-loop
     decreases-loop
     invariant-loop2
     decreases-loop2
     invariant-rounds
     decreases-rounds
-clear-counts-requires c κs = search rules
+fill-requires c κs = search rules
 
 loop-holds :
     tie.Need-loop-k-init
@@ -143,12 +143,12 @@ loop-holds c =
         bank_size = r.invariant.0.places.bank_size;
         floor_size = r.invariant.0.places.floor_size;
         upsized_size = r.invariant.0.places.upsized_size;
-        mark_size = c.clear_counts.auto.counts ∙ r.invariant.0.places.mark_size;
+        mark_size = c.fill.ensures.0 ∙ r.invariant.0.places.mark_size;
       },
       r.invariant.0.banked,
       r.invariant.0.few,
       omega arith,
-      left_start z.mode (length r.level) z.ladder.now r.level z.a.now z.b.now z.km.now z.share.now z.cap.now z.sheet.now _ r.circuits r.banks r.floors r.upsized _ r.p.capacity _ c.clear_counts.ensures r.invariant.0.places.mark_size,
+      left_start z.mode (length r.level) z.ladder.now r.level z.a.now z.b.now z.km.now z.share.now z.cap.now z.sheet.now _ r.circuits r.banks r.floors r.upsized _ r.p.capacity _ (c.fill.ensures.1.1.1.1 (λ y e. e)) r.invariant.0.places.mark_size,
       λ e. absurd (omega (arith, r.invariant.0.some)),
     )
 
@@ -1084,4 +1084,4 @@ returns-5 c =
 pub size_rounds_spec : {M : Type 1} → statement M
 size_rounds_spec =
     tie.close
-    (tie.spec invariant-loop decreases-loop invariant-loop2 decreases-loop2 invariant-rounds decreases-rounds rounds-holds sub-left add-p draw-edges-requires peak-state-requires enum-known-f enum_told clear-counts-requires loop-holds size-corridor-requires add-k raise-marked-requires add-p-2 rounds-less rounds-again promotes-requires loop-less loop-again loop-less-2 loop-again-2 limits-of-requires stiffness-from-requires loop2-holds rounds-less-2 rounds-again-2 stiffen-led-requires enum-known-f-2 enum-known-u add-i raise-marked-requires-2 add-p-3 rounds-less-3 rounds-again-3 loop2-less loop2-again same_length same-length-2 same-length-3 same-length-4 same-length-5 same-length-6 same-length-7 same-length-8 returns same-length-9 same-length-10 same-length-11 same-length-12 same-length-13 same-length-14 same-length-15 same-length-16 returns-2 same-length-17 same-length-18 same-length-19 same-length-20 same-length-21 same-length-22 same-length-23 same-length-24 returns-3 same-length-25 same-length-26 same-length-27 same-length-28 same-length-29 same-length-30 same-length-31 same-length-32 returns-4 same-length-33 same-length-34 same-length-35 same-length-36 same-length-37 same-length-38 same-length-39 same-length-40 returns-5)
+    (tie.spec invariant-loop decreases-loop invariant-loop2 decreases-loop2 invariant-rounds decreases-rounds rounds-holds sub-left add-p draw-edges-requires peak-state-requires enum-known-f enum_told fill-requires loop-holds size-corridor-requires add-k raise-marked-requires add-p-2 rounds-less rounds-again promotes-requires loop-less loop-again loop-less-2 loop-again-2 limits-of-requires stiffness-from-requires loop2-holds rounds-less-2 rounds-again-2 stiffen-led-requires enum-known-f-2 enum-known-u add-i raise-marked-requires-2 add-p-3 rounds-less-3 rounds-again-3 loop2-less loop2-again same_length same-length-2 same-length-3 same-length-4 same-length-5 same-length-6 same-length-7 same-length-8 returns same-length-9 same-length-10 same-length-11 same-length-12 same-length-13 same-length-14 same-length-15 same-length-16 returns-2 same-length-17 same-length-18 same-length-19 same-length-20 same-length-21 same-length-22 same-length-23 same-length-24 returns-3 same-length-25 same-length-26 same-length-27 same-length-28 same-length-29 same-length-30 same-length-31 same-length-32 returns-4 same-length-33 same-length-34 same-length-35 same-length-36 same-length-37 same-length-38 same-length-39 same-length-40 returns-5)

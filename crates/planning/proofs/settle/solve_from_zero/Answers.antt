@@ -7,10 +7,10 @@ use Rattle.planning.proofs.settle.solve_from_zero.Goals as goal
 pub planning_state-requires : goal.planning_state-requires
 planning_state-requires c =
     let s = c in
-    record { drawing = s.requires.drawing; lent = lent_again _ _ _ _ _ _ _ _ s.requires.lent c.clear_figures.auto.figures refl }
+    record { drawing = s.requires.drawing; lent = lent_again _ _ _ _ _ _ _ _ s.requires.lent c.fill.ensures.len refl }
 
 pub returns : goal.returns
 returns c =
     let s = c in
     c.planning_state.ensures
-    ∙ ap (planning_state _ _ _) (c.clear_figures.ensures ∙ ap (λ (n : ℕ). zeros n) s.requires.lent.angle_size)
+    ∙ ap (planning_state _ _ _) ((c.fill.ensures.after (λ y e. e)) ∙ ap (λ (n : ℕ). zeros n) s.requires.lent.angle_size)

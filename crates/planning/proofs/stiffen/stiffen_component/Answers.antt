@@ -1,4 +1,5 @@
-use Rattle.std.proofs.Common.{length, ap, ◌∙◌, arith}
+use Rattle.std.proofs.Common.{length, ap, ◌∙◌, arith, rules}
+use lib.Ieee.{lt}
 use lib.ListN.{length-replicate}
 use Rattle.loops.specs.Figures.{nought}
 use Rattle.loops.proofs.Fronts.{front_replicate}
@@ -11,14 +12,14 @@ returns-then-excess c =
     let s = c in
     let z = s.args in
     component_narrow z.root z.round z.g z.ladder.now z.level.now z.a.now z.b.now z.km.now z.share.now z.cap.now z.sheet.now z.leader.now z.grounds.now z.e.from z.e.to z.e.weight z.angle.now z.circuits.now z.banks.now z.floors.now z.upsized.now z.marks.now z.t
-    _ _ c.lead_of-lead.ensures.0 c.lag_of-lag.ensures.0 c.if-excess.true s.requires.stiffenable.banked
+    _ _ (c.best_of-lead.ensures.best lt (λ x y r h. search rules)) (c.best_of-lag.ensures.best (λ x y. lt y x) (λ x y r h. search rules)) c.if-excess.true s.requires.stiffenable.banked
 
 pub returns-then-round-gt-STIFFENING_ROUNDS : goal.returns-then-round-gt-STIFFENING_ROUNDS
 returns-then-round-gt-STIFFENING_ROUNDS c =
     let s = c in
     let z = s.args in
     component_late z.root z.round z.g z.ladder.now z.level.now z.a.now z.b.now z.km.now z.share.now z.cap.now z.sheet.now z.leader.now z.grounds.now z.e.from z.e.to z.e.weight z.angle.now z.circuits.now z.banks.now z.floors.now z.upsized.now z.marks.now z.t
-    _ _ c.lead_of-lead.ensures.0 c.lag_of-lag.ensures.0 _ c.widened-s.ensures c.if-excess.false c.if-round-gt-STIFFENING_ROUNDS.true s.requires.stiffenable.banked
+    _ _ (c.best_of-lead.ensures.best lt (λ x y r h. search rules)) (c.best_of-lag.ensures.best (λ x y. lt y x) (λ x y r h. search rules)) _ c.widened-s.ensures c.if-excess.false c.if-round-gt-STIFFENING_ROUNDS.true s.requires.stiffenable.banked
 
 pub slice_bounds-phi-end : goal.slice_bounds-phi-end
 slice_bounds-phi-end c = c.requires.stiffenable.edges.few_buses
@@ -33,8 +34,8 @@ narrow-requires c =
       stiffenable = p;
       phi_len = (
         ap length (front_replicate 256 (length z.level.now) nought p.edges.few_buses) ∙ length-replicate (length z.level.now) nought,
-        omega (arith, c.lead_of-lead.ensures.1, p.leader_size),
-        omega (arith, c.lag_of-lag.ensures.1, p.leader_size),
+        omega (arith, c.best_of-lead.ensures.bus, p.leader_size),
+        omega (arith, c.best_of-lag.ensures.bus, p.leader_size),
         record {
           total = omega (arith, r.total, ap (λ (x : Stiffness). x.total) e);
           hv = omega (arith, r.hv, ap (λ (x : Stiffness). x.hv) e);
@@ -63,4 +64,4 @@ returns c =
     let s = c in
     let z = s.args in
     component_narrowed z.root z.round z.g z.ladder.now z.level.now z.a.now z.b.now z.km.now z.share.now z.cap.now z.sheet.now z.leader.now z.grounds.now z.e.from z.e.to z.e.weight z.angle.now z.circuits.now z.banks.now z.floors.now z.upsized.now z.marks.now z.t
-    _ _ c.lead_of-lead.ensures.0 c.lag_of-lag.ensures.0 _ c.widened-s.ensures c.if-excess.false c.if-round-gt-STIFFENING_ROUNDS.false _ _ _ _ _ _ c.narrow.ensures
+    _ _ (c.best_of-lead.ensures.best lt (λ x y r h. search rules)) (c.best_of-lag.ensures.best (λ x y. lt y x) (λ x y r h. search rules)) _ c.widened-s.ensures c.if-excess.false c.if-round-gt-STIFFENING_ROUNDS.false _ _ _ _ _ _ c.narrow.ensures

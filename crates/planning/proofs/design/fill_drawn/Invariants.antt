@@ -11,4 +11,4 @@ abbrev pub invariant-loop-k : goal.invariant-loop-k
 invariant-loop-k g l =
     (l.k ≤ length l.a) × (length l.out ≡ length l.fn.out)
     × ((f : CircuitDesign → ℕ → Float) → ((d : CircuitDesign) (k : ℕ) (r : Float) → k < length l.a → goal.F-post g l.figure d k r → r ≡ f d k)
-      → l.out ≡ filled l.fn.out (λ (j : ℕ). f (design (designs_for l.ladder l.level l.a l.b l.km l.share l.sheet l.banks) j) j) l.k)
+    → l.out ≡ filled l.fn.out (λ (j : ℕ). f (design (designs_for l.ladder l.level l.a l.b l.km l.share l.sheet l.banks) j) j) l.k)

@@ -19,5 +19,5 @@ returns c =
       order = order_made z.ladder.now z.level.now z.a.now z.b.now z.km.now z.share.now z.sheet.now z.banks.now z.circuits.now z.flow.now _ _ _ _ _ s.requires.lines.km_size
           (c.fill_drawn.ensures (λ d k. loading (at z.flow.now k) (get_or z.circuits.now k 0) d.rate_a) (λ d k r h q. search rules))
           (c.fill_drawn-2.ensures (λ d k. d.kv) (λ d k r h q. search rules))
-          c.order_by.ensures.order
+          c.order_by.ensures.order;
     }

@@ -143,7 +143,7 @@ fn serve(
     figures_of(c1, &units, count, &mut linear);
     figures_of(c2, &units, count, &mut quadratic);
     let demand = demand_of(root, leader, load);
-    if let Err(f) = give(
+    give(
         mode,
         demand,
         &least[0..count],
@@ -151,10 +151,8 @@ fn serve(
         &linear[0..count],
         &quadratic[0..count],
         &mut out[0..count],
-    ) {
-        let unit = units[f.index()];
-        return Err(Refusal::Cost(unit as usize));
-    }
+    )
+    .map_err(|f| Refusal::Cost(units[f.index()] as usize))?;
     hand_out(&units, count, &out, mw);
     Ok(())
 }

@@ -10,17 +10,6 @@ use Rattle.planning.proofs.design.fill_drawn.Goals as goal
 pub loop-k-init : goal.loop-k-init
 loop-k-init g c = (omega arith, refl, λ f h. fill_start _ _)
 
-pub bounds-banks-k : goal.bounds-banks-k
-bounds-banks-k g c = omega (arith, c.requires.drawable.size)
-
-pub circuit-d-requires : goal.circuit-d-requires
-circuit-d-requires g c =
-    let l = c.loop-k in
-    record { lines = c.requires.lines; k_in_bounds = (c.loop-k-test.true, c.requires.drawable.sound l.k (omega (arith, c.requires.drawable.size))) }
-
-pub bounds-out-k : goal.bounds-out-k
-bounds-out-k g c = omega (arith, c.requires.room)
-
 pub loop-k-preserved : goal.loop-k-preserved
 loop-k-preserved g c =
     let s = c.args in

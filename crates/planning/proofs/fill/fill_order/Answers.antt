@@ -1,14 +1,9 @@
 -- The arrays hold each corridor's figures, and the order by them is the defined one.
-use Rattle.std.proofs.Common.{get_or, arith, rules}
+use Rattle.std.proofs.Common.{get_or, rules}
 use Rattle.loops.specs.Figures.{at}
 use Rattle.plan_defs.specs.Fill.{loading}
 use Rattle.planning.proofs.Orders.{order_made}
 use Rattle.planning.proofs.fill.fill_order.Goals as goal
-
-pub order_by-requires : goal.order_by-requires
-order_by-requires c =
-    let s = c in
-    (omega (arith, s.requires.lines.km_size, s.requires.loaded.0.drawable.few), s.requires.loaded.1)
 
 pub returns : goal.returns
 returns c =

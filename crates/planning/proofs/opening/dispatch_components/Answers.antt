@@ -15,11 +15,6 @@ loop-i-init c =
       stage_start (serve (dispatch_case c.args.mode c.args.load.now c.args.bus.now c.args.pmin.now c.args.pmax.now c.args.c1.now c.args.c2.now) c.args.leader.now) (leads c.args.leader.now) _ _ _ ((c.fill.ensures.after (λ y e. e)) ∙ ap (λ (n : ℕ). replicate n nought) s.requires.3),
     )
 
-pub serve_led-requires : goal.serve_led-requires
-serve_led-requires c =
-    let s = c in
-    (omega arith, s.requires.0, s.requires.1, s.requires.2, c.loop-i.invariant.1)
-
 pub returns-in_err-serve_led : goal.returns-in_err-serve_led
 returns-in_err-serve_led c =
     let s = c.args in
@@ -35,9 +30,6 @@ loop-i-preserved c =
       c.serve_led.auto.mw ∙ l.invariant.1,
       stage_going (serve (dispatch_case s.args.mode s.args.load.now s.args.bus.now s.args.pmin.now s.args.pmax.now s.args.c1.now s.args.c2.now) s.args.leader.now) (leads s.args.leader.now) _ l.i (omega arith) l.mw _ c.serve_led.result c.serve_led.ensures c.in_ok-serve_led.was ∙ l.invariant.2,
     )
-
-pub shape_of-mw : goal.shape_of-mw
-shape_of-mw c = c.loop-i.invariant.1 ∙ sym c.requires.3
 
 pub returns : goal.returns
 returns c =

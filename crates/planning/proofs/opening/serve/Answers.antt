@@ -1,11 +1,11 @@
 use Rattle.std.proofs.Common.{◌≡◌, ◌<◌, ◌^◌, Err, get_or, rules, refl, length, replicate, ap, ◌∙◌, arith, take_at}
 use lib.ListN.{length-replicate}
-use Rattle.loops.specs.Figures.{at, nought}
+use Rattle.loops.specs.Figures.{nought}
 use Rattle.loops.proofs.Fronts.{front_replicate}
 use Rattle.refusal.specs.declared.Refusal.TheVariants.{Cost}
 use Rattle.refusal.specs.Number.{index_of}
 use Rattle.planning.proofs.Mapped.{mapped_answer, mapped_refusal}
-use Rattle.planning.proofs.Serving.{units_few, picked, column_room, asked, refused_index, refused_stage, answered_stage}
+use Rattle.planning.proofs.Serving.{units_few, picked, asked, refused_index, refused_stage, answered_stage}
 use Rattle.planning.proofs.opening.serve.Goals as goal
 
 pub figures_of-requires : goal.figures_of-requires
@@ -31,38 +31,6 @@ figures_of-requires-4 c =
     let s = c in
     let u = c.units_in-count.ensures in
     (picked s.args.leader.now s.args.bus.now s.args.root s.requires.0 _ _ _ u.count u.kept s.requires.1.c2_size, omega (arith, u.count, units_few s.args.leader.now s.args.bus.now s.args.root, s.requires.0.few))
-
-pub demand_of-demand-requires : goal.demand_of-demand-requires
-demand_of-demand-requires c = c.requires.2.size
-
-pub slice_bounds-give-end : goal.slice_bounds-give-end
-slice_bounds-give-end c =
-    let s = c in
-    let u = c.units_in-count.ensures in
-    column_room s.args.mode s.args.leader.now s.args.load.now s.args.bus.now s.args.pmin.now s.args.pmax.now s.args.c1.now s.args.c2.now s.args.root s.requires.0 s.requires.1 s.requires.2 _ _ u.count u.kept (at s.args.pmin.now) _ c.figures_of.ensures
-
-pub slice_bounds-give-end-2 : goal.slice_bounds-give-end-2
-slice_bounds-give-end-2 c =
-    let s = c in
-    let u = c.units_in-count.ensures in
-    column_room s.args.mode s.args.leader.now s.args.load.now s.args.bus.now s.args.pmin.now s.args.pmax.now s.args.c1.now s.args.c2.now s.args.root s.requires.0 s.requires.1 s.requires.2 _ _ u.count u.kept (at s.args.pmax.now) _ c.figures_of-2.ensures
-
-pub slice_bounds-give-end-3 : goal.slice_bounds-give-end-3
-slice_bounds-give-end-3 c =
-    let s = c in
-    let u = c.units_in-count.ensures in
-    column_room s.args.mode s.args.leader.now s.args.load.now s.args.bus.now s.args.pmin.now s.args.pmax.now s.args.c1.now s.args.c2.now s.args.root s.requires.0 s.requires.1 s.requires.2 _ _ u.count u.kept (at s.args.c1.now) _ c.figures_of-3.ensures
-
-pub slice_bounds-give-end-4 : goal.slice_bounds-give-end-4
-slice_bounds-give-end-4 c =
-    let s = c in
-    let u = c.units_in-count.ensures in
-    column_room s.args.mode s.args.leader.now s.args.load.now s.args.bus.now s.args.pmin.now s.args.pmax.now s.args.c1.now s.args.c2.now s.args.root s.requires.0 s.requires.1 s.requires.2 _ _ u.count u.kept (at s.args.c2.now) _ c.figures_of-4.ensures
-
-pub slice_bounds-out-end : goal.slice_bounds-out-end
-slice_bounds-out-end c =
-    let s = c in
-    omega (arith, c.units_in-count.ensures.count, units_few s.args.leader.now s.args.bus.now s.args.root, s.requires.0.few)
 
 pub give-requires : goal.give-requires
 give-requires c =
@@ -107,9 +75,6 @@ hand_out-requires c =
     let s = c in
     let u = c.units_in-count.ensures in
     (picked s.args.leader.now s.args.bus.now s.args.root s.requires.0 _ _ _ u.count u.kept s.requires.3)
-
-pub shape_of-mw : goal.shape_of-mw
-shape_of-mw c = c.hand_out.auto.mw
 
 pub returns : goal.returns
 returns c =

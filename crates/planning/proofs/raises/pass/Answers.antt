@@ -1,20 +1,7 @@
-use Rattle.std.proofs.Common.{rules, ◌≡◌, Err, ◌∙◌}
+use Rattle.std.proofs.Common.{rules, ◌≡◌, Err}
 use Rattle.planning.proofs.Marks.{moved_within}
 use Rattle.planning.proofs.Heavies.{lines_again, pass_refused, pass_going}
 use Rattle.planning.proofs.raises.pass.Goals as goal
-
-pub planning_state-requires : goal.planning_state-requires
-planning_state-requires c =
-    let p = c.requires in record {
-      drawing = p.drawing;
-      lent = record {
-        few_grounds = p.lent.few_grounds;
-        ground_below = p.lent.ground_below;
-        injection_size = p.lent.injection_size;
-        angle_size = c.fill.ensures.len ∙ p.lent.angle_size;
-        flow_size = p.lent.flow_size;
-      };
-    }
 
 pub returns-in_err-planning_state : goal.returns-in_err-planning_state
 returns-in_err-planning_state c =
@@ -30,34 +17,6 @@ returns-in_err-planning_state c =
       banked = s.requires.drawing.banks_ok;
       bound = tt;
     })
-
-pub raise_heavy-moved-requires : goal.raise_heavy-moved-requires
-raise_heavy-moved-requires c =
-    let p = c.requires in record {
-      markable = record {
-        lines = p.drawing.lines;
-        banked = p.drawing.banks_ok;
-        bank_size = p.drawing.bank_size;
-        flow_size = c.planning_state.auto.flow ∙ p.lent.flow_size;
-        mark_size = p.mark_size;
-      };
-      redesign_fits = p.redesigns;
-    }
-
-pub shape_of-banks : goal.shape_of-banks
-shape_of-banks c = c.raise_heavy-moved.auto.banks
-
-pub shape_of-level : goal.shape_of-level
-shape_of-level c = c.raise_heavy-moved.auto.level
-
-pub shape_of-marks : goal.shape_of-marks
-shape_of-marks c = c.raise_heavy-moved.auto.marks
-
-pub shape_of-angle : goal.shape_of-angle
-shape_of-angle c = c.planning_state.auto.angle ∙ c.fill.ensures.len
-
-pub shape_of-flow : goal.shape_of-flow
-shape_of-flow c = c.planning_state.auto.flow
 
 pub returns : goal.returns
 returns c =

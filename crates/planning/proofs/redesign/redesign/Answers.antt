@@ -1,20 +1,10 @@
-use Rattle.std.proofs.Common.{sym, refl, subst, le_antisymm, arith, rules}
-use Rattle.loops.proofs.Tab.{fill_start, fill_turn, fill_end, fill_length}
+use Rattle.std.proofs.Common.{sym, subst, le_antisymm, arith, rules}
+use Rattle.loops.proofs.Tab.{fill_start, fill_turn, fill_end}
 use Rattle.planning.specs.Design.{Banks}
 use Rattle.planning.specs.Redesign.{redesign_for, bank_anew, banks_anew}
-use Rattle.planning.proofs.Draws.{ends_fit}
 use Rattle.planning.proofs.Served.{gen_is}
 use Rattle.planning.proofs.Anew.{fresh_ok, bank_defined, banks_anew_sound}
 use Rattle.planning.proofs.redesign.redesign.Goals as goal
-
-pub inject-requires : goal.inject-requires
-inject-requires c = (record { few = c.requires.units.few; below = c.requires.units.bus_below }, c.requires.units.pmax_size)
-
-pub transformer_corridors-requires : goal.transformer_corridors-requires
-transformer_corridors-requires c =
-    let s = c in
-    let z = s.args in
-    record { corridors = record { few = s.requires.few; few_buses = s.requires.loads.few; ends = λ k h. ends_fit z.ladder.now z.level.now z.a.now z.b.now z.km.now z.share.now z.sheet.now k s.requires.lines h }; shared_value = refl }
 
 pub loop-k-init : goal.loop-k-init
 loop-k-init c = let z = c.args in (search rules, fill_start z.banks.now (bank_anew (redesign_for z.ladder.now z.load.now z.bus.now z.pmax.now z.a.now z.b.now z.km.now z.share.now z.sheet.now) z.level.now z.floors.now))
@@ -32,12 +22,6 @@ circuit_anew-d-requires c =
       fresh = fresh_ok z.ladder.now z.level.now z.a.now z.b.now z.km.now z.share.now z.sheet.now z.load.now z.bus.now z.pmax.now z.floors.now _ _ c.loop-k.k s.requires.lines s.requires.loads s.requires.units s.requires.few h (gen_is z.bus.now z.pmax.now _ s.requires.units.bus_below c.inject.ensures) c.transformer_corridors.ensures;
     }
 
-pub offset_bounds-banks-k : goal.offset_bounds-banks-k
-offset_bounds-banks-k c = omega (arith, c.loop-k-test.true, c.requires.few)
-
-pub bounds-banks-k : goal.bounds-banks-k
-bounds-banks-k c = omega (arith, c.loop-k-test.true, c.requires.bank_size, fill_length _ _ _ _ c.loop-k.invariant.1 (omega (arith, c.loop-k.invariant.0, c.requires.bank_size)))
-
 pub loop-k-preserved : goal.loop-k-preserved
 loop-k-preserved c =
     let s = c in
@@ -47,9 +31,6 @@ loop-k-preserved c =
       fill_turn z.banks.now _ _ _ _ c.loop-k.invariant.1 (omega (arith, h, s.requires.bank_size))
           (bank_defined z.ladder.now z.level.now z.a.now z.b.now z.km.now z.share.now z.sheet.now z.load.now z.bus.now z.pmax.now z.floors.now _ _ c.loop-k.k s.requires.lines s.requires.loads s.requires.units s.requires.few h (gen_is z.bus.now z.pmax.now _ s.requires.units.bus_below c.inject.ensures) c.transformer_corridors.ensures _ _ c.bank_of.ensures c.circuit_anew-d.ensures),
     )
-
-pub shape_of-banks : goal.shape_of-banks
-shape_of-banks c = fill_length _ _ _ _ c.loop-k.invariant.1 (omega (arith, c.loop-k.invariant.0, c.requires.bank_size))
 
 pub returns : goal.returns
 unfolding banks_anew

@@ -1,13 +1,7 @@
-use Rattle.std.proofs.Common.{ℕ, refl, ap, ◌∙◌}
+use Rattle.std.proofs.Common.{ℕ, ap, ◌∙◌}
 use Rattle.angles_defs.specs.Network.{zeros}
 use Rattle.plan_defs.specs.Solve.{planning_state}
-use Rattle.planning.proofs.Settling.{lent_again}
 use Rattle.planning.proofs.settle.solve_from_zero.Goals as goal
-
-pub planning_state-requires : goal.planning_state-requires
-planning_state-requires c =
-    let s = c in
-    record { drawing = s.requires.drawing; lent = lent_again _ _ _ _ _ _ _ _ s.requires.lent c.fill.ensures.len refl }
 
 pub returns : goal.returns
 returns c =

@@ -1,11 +1,8 @@
 use Rattle.std.proofs.Common.{◌≡◌, Err, rules}
 use Rattle.refusal.specs.declared.Refusal.TheVariants.{NotFinite}
 use Rattle.planning.proofs.Mapped.{mapped_answer, mapped_refusal}
-use Rattle.planning.proofs.Solving.{work_room, own_request, angles_refused, angles_answered}
+use Rattle.planning.proofs.Solving.{own_request, angles_refused, angles_answered}
 use Rattle.planning.proofs.solve.angles_from.Goals as goal
-
-pub slice_bounds-work-end : goal.slice_bounds-work-end
-slice_bounds-work-end c = work_room _ c.requires.net.few_buses
 
 pub returns-in_err-map_err : goal.returns-in_err-map_err
 returns-in_err-map_err c =

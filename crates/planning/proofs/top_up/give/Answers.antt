@@ -1,4 +1,4 @@
-use Rattle.std.proofs.Common.{◌≡◌, Err, refl, sym, ◌∙◌, arith, rules}
+use Rattle.std.proofs.Common.{◌≡◌, Err, refl, sym, ◌∙◌, rules}
 use Rattle.refusal.specs.declared.Refusal.TheVariants.{Cost}
 use Rattle.refusal.specs.Number.{index_of}
 use Rattle.planning.proofs.Mapped.{mapped_answer, mapped_refusal}
@@ -16,16 +16,6 @@ returns-in_err-map_err c =
 pub returns-else-tops_up : goal.returns-else-tops_up
 returns-else-tops_up c =
     gives_plain _ _ _ _ c.requires c.economic_dispatch.result _ c.economic_dispatch.ensures _ (mapped_answer _ _ _ c.map_err.ensures.cases _ c.in_ok-map_err.was) (sym c.tops_up.ensures ∙ c.if-tops_up.false)
-
-pub top_up-requires : goal.top_up-requires
-top_up-requires c =
-    let p = c.requires in
-    let even = p.units.even in
-    record {
-      few = omega (arith, p.few, even.c1);
-      pmax_size = even.pmax ∙ sym even.c1;
-      mw_size = c.economic_dispatch.auto.mw ∙ p.room ∙ sym even.c1;
-    }
 
 pub returns-then-tops_up : goal.returns-then-tops_up
 returns-then-tops_up c =

@@ -1,7 +1,7 @@
 -- The closing figures as code's loops make them are the defined ones.
 -- A loop over those that pass a test is a loop over all with the test; a table's figure is read off its place.
 use Rattle.std.proofs.Common.{◌≡◌, ℕ, zero, suc, ◌+◌, ◌-◌, ◌^◌, ◌<◌, ◌≤◌, min, Bool, true, false, cond, ltb, List, [], ◌∷◌, ◌++◌, map, length, get_or, take, drop, replicate, sym, refl, ap, ◌∙◌, le_of_suc-le-suc, not-suc-le-zero, add-one, arith, length-append, length-drop, length-take, get_or-drop, drop-cons, get_or-take, get_or-append-add, ext_get_or, ltb-false, ltb-true, eq-eqb, ne_eqb}
-use lib.ListN.{length-replicate, length-map, get_or-replicate, get_or-append}
+use lib.ListN.{length-replicate, get_or-replicate, get_or-append}
 use lib.Ieee.{Float, nan, lt}
 use Rattle.loops.specs.Figures.{at, plus, minus, nought, one, greater}
 use Rattle.loops.specs.Loops.{iter, tab, filled}
@@ -19,8 +19,8 @@ use Rattle.plan_defs.specs.Outcome.{up_to}
 use Rattle.plan_defs.specs.declared.CircuitDesign.{CircuitDesign}
 use Rattle.plan_defs.proofs.Drawn.{length_drawn}
 use Rattle.planning.specs.Design.{lines_for}
-use Rattle.planning.specs.Fill.{designs_for, Loaded}
-use Rattle.planning.specs.Close.{corridors_of, levels_for, wider_by, loadings_by, Rated, cap_full, added_at, closing_of, figures_if, counts_if, lent_to, finished}
+use Rattle.planning.specs.Fill.{designs_for}
+use Rattle.planning.specs.Close.{corridors_of, levels_for, wider_by, loadings_by, cap_full, added_at, closing_of, figures_if, counts_if, lent_to, finished}
 use Rattle.planning.proofs.Lists.{count_most}
 use Rattle.planning.proofs.Orders.{drawn_here}
 
@@ -190,11 +190,6 @@ module _ (mode : PlanMode) (above : ℕ) (ladder : List Float) (led level a b : 
 
   designs_size : length designs ≡ length a
   designs_size = length_drawn (lines_for ladder a b km share sheet) level banks
-
-  pub rated_of : Loaded a banks circuits flow → Rated circuits flow rate
-  rated_of h =
-      let e : length rate ≡ length a = ap length rated ∙ length-map designs (λ (d : CircuitDesign). d.rate_a) ∙ designs_size in
-      record { few = omega (arith, h.drawable.few); circuits_size = h.circuits_size ∙ sym e; flow_size = h.flow_size ∙ sym e }
 
   pub closing_is : (enlarged heavy full dropped : ℕ) (high wide : Float) → enlarged ≡ upsized_of upsized → heavy ≡ overloaded_of (loadings_by circuits flow rate)
       → full ≡ capped_of (corridors_of mode (length a) cap) designs circuits flow → high ≡ max_loading (loadings_by circuits flow rate) → wide ≡ spread_of led theta

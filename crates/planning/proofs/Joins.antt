@@ -3,7 +3,6 @@
 use Rattle.std.proofs.Common.{◌≡◌, ℕ, ◌+◌, ◌-◌, ◌*◌, ◌<◌, ◌≤◌, min, max, Bool, true, false, ◌&&◌, T, eqb, ltb, List, ◌++◌, length, get_or, take, drop, replicate, sym, refl, ap, ◌∙◌, subst, zero-mul, arith, length-take, take_at, ltb-false, ltb-true, le-ltb, eqb-true}
 use native.Mathlib.Nat.{sub-zero}
 use lib.ListN.{length-replicate, get_or-eq_default}
-use lib.Seq.{length_front}
 use lib.Ieee.{Float, nan, inf, fin, up, down, lt, le, of_bits}
 use Rattle.loops.specs.Figures.{nought, million, inside}
 use Rattle.loops.specs.Loops.{tab}
@@ -239,9 +238,6 @@ room n x h = ap length (front_replicate 256 n x h) ∙ length-replicate n x
 
 lent_again : {A : Type 0} (n : ℕ) (x : A) (l : List A) → n ≤ 256 → length l ≡ length (fresh n x) → again n x l ≡ l
 lent_again n x l h e = take_at l (drop (n - 0) (replicate 256 x)) (n - 0) (e ∙ room n x h ∙ sym (sub-zero n))
-
-pub again_fits : {A : Type 0} (n : ℕ) (x : A) (l : List A) → n ≤ 256 → length l ≡ length (fresh n x) → n ≤ length (l ++ drop (n - 0) (replicate 256 x))
-again_fits n x l h e = subst (λ (k : ℕ). n ≤ k) (sym (length_front (replicate 256 x) l (n - 0) e ∙ length-replicate 256 x)) h
 
 -- ---- the stages over slices
 module _ (mode : PlanMode) (target above : ℕ) (ladder : List Float) (tier : List ℕ) (load : List Float) (bus slack : List ℕ) (pmin pmax c1 c2 : List Float) (a b initial : List ℕ)

@@ -25,7 +25,7 @@ use Rattle.planning.specs.Redesign.{redesign_for, banks_anew, RedesignFits}
 use Rattle.planning.specs.Solve.{peak_for}
 use Rattle.planning.specs.Close.{Closable}
 use Rattle.planning.specs.Raises.{raised_of, raised_as, Within, Raisable, RaisesDone}
-use Rattle.planning.specs.Rounds.{rounds_case, draft_of, ran_as, RoundsFit, RoundsRun}
+use Rattle.planning.specs.Rounds.{rounds_case, draft_of, ran_as, RoundsRun}
 use Rattle.planning.specs.Settle.{settlement_of, SettledAs, Settleable, Settles}
 use Rattle.planning.specs.Sound.{Sound}
 use Rattle.planning.specs.Plan.{rounds_for, start_of, Runnable, RanAll, plan_by, planned_by, PlannedAs, Plannable, OpenedPlan}
@@ -70,39 +70,6 @@ module _ (mode : PlanMode) (above promoted : ℕ) (ladder : List Float) (level a
     (h : Runnable above promoted ladder level a b km share cap sheet load bus pmax leader grounds injection circuits banks floors upsized marks angle flow)
     (cold : List Float) (e : cold ≡ replicate (length angle) nought) (start : Progress) (f : start ≡ start_of mode (length a) promoted)
     (budget : ℕ) (g : budget ≡ rounds_for mode (length a)) where
-  pub rounds_fit : length cold ≡ length angle → (budget ≡ 0 → ⊥)
-      → RoundsFit above budget start ladder level a b km share cap sheet load bus pmax leader grounds injection circuits banks floors upsized marks cold flow
-  rounds_fit size some =
-      record {
-        columns = h.columns;
-        places =
-            record {
-              leader_size = h.places.leader_size;
-              few_grounds = h.places.few_grounds;
-              ground_below = h.places.ground_below;
-              injection_size = h.places.injection_size;
-              count_size = h.places.count_size;
-              bank_size = h.places.bank_size;
-              floor_size = h.places.floor_size;
-              upsized_size = h.places.upsized_size;
-              mark_size = h.places.mark_size;
-              angle_size = size ∙ h.places.angle_size;
-              flow_size = h.places.flow_size;
-            };
-        tallies =
-            record {
-              few_levels = h.few_levels;
-              rounds = omega (arith, ap (λ (p : Progress). p.rounds) f, g, budget_le (expand mode && not (eqb (length a) 0)));
-              promoted = omega (arith, ap (λ (p : Progress). p.promoted) f, h.few_moves);
-              capacity = omega (arith, ap (λ (p : Progress). p.capacity) f);
-              stiffening = omega (arith, ap (λ (p : Progress). p.stiffening) f);
-            };
-        capped = h.capped;
-        some = budget_some (expand mode) (length a) (λ z. some (g ∙ z));
-        banked = h.banked;
-        few = h.few;
-      }
-
   module _ (o : Case) (target : ℕ) (s : Sound (rounds_case o mode above ladder a b km share sheet load bus pmax) target) (n : length level ≡ o.buses) where
     abbrev C : Case
     C = rounds_case o mode above ladder a b km share sheet load bus pmax

@@ -103,10 +103,6 @@ module _ (mode : PlanMode) (led : List ℕ) (load : List Float) (bus : List ℕ)
   abbrev all : Units
   all = table mode led load bus pmin pmax c1 c2 root
 
-  -- a column that was picked has room for them
-  pub column_room : (f : ℕ → Float) (l : List Float) → take size l ≡ map f (take size ks) → size ≤ length l
-  column_room f l e = front_room size l (map f (take size ks)) e (length-map (take size ks) f ∙ ap length pk ∙ sym pc)
-
   sound : SoundUnits all
   sound =
       record {

@@ -23,6 +23,7 @@ use Rattle.planning.specs.Fill.{designs_for}
 use Rattle.planning.specs.Close.{corridors_of, levels_for, wider_by, loadings_by, cap_full, added_at, closing_of, figures_if, counts_if, lent_to, finished}
 use Rattle.planning.proofs.Lists.{count_most}
 use Rattle.planning.proofs.Orders.{drawn_here}
+use Rattle.planning.specs.Tables.{GridColumns}
 
 -- ---- counts
 pub count_fits : (p : ℕ → Bool) (k n : ℕ) → n ≤ 1 → k ≤ most_corridors → counting p k + n < 2 ^ 32
@@ -73,19 +74,19 @@ unfolding tab
 map_tab f g zero = refl
 map_tab f g (suc n) = ap (λ (l : List _). l ++ (f (g n) ∷ [])) (map_tab f g n) ∙ sym (map_append f (tab n g) (g n ∷ []))
 
-module _ (ladder : List Float) (level a b : List ℕ) (km share sheet banks : List Float) where
+module _ (grid : GridColumns) (level : List ℕ) (banks : List Float) where
   abbrev rate_of : ℕ → Float
-  rate_of k = (drawn (lines_for ladder a b km share sheet) level k (at banks k)).rate_a
+  rate_of k = (drawn (lines_for grid) level k (at banks k)).rate_a
 
-  rates_are : tab (length a) rate_of ≡ map (λ (d : CircuitDesign). d.rate_a) (designs_for ladder level a b km share sheet banks)
+  rates_are : tab (length grid.a) rate_of ≡ map (λ (d : CircuitDesign). d.rate_a) (designs_for grid level banks)
   unfolding drawn_all
-  rates_are = map_tab (λ (d : CircuitDesign). d.rate_a) (λ (k : ℕ). drawn (lines_for ladder a b km share sheet) level k (at banks k)) (length a)
+  rates_are = map_tab (λ (d : CircuitDesign). d.rate_a) (λ (k : ℕ). drawn (lines_for grid) level k (at banks k)) (length grid.a)
 
-  pub rates_drawn : (old rate : List Float) → length old ≡ length a → rate ≡ filled old (λ k. (design (designs_for ladder level a b km share sheet banks) k).rate_a) (length a)
-      → rate ≡ map (λ (d : CircuitDesign). d.rate_a) (designs_for ladder level a b km share sheet banks)
+  pub rates_drawn : (old rate : List Float) → length old ≡ length grid.a → rate ≡ filled old (λ k. (design (designs_for grid level banks) k).rate_a) (length grid.a)
+      → rate ≡ map (λ (d : CircuitDesign). d.rate_a) (designs_for grid level banks)
   rates_drawn old rate e h =
-      fill_end old rate _ (length a) (length a) e refl h
-      ∙ tab_same (length a) _ rate_of (λ k w. ap (λ (d : CircuitDesign). d.rate_a) (sym (drawn_here ladder level a b km share sheet banks k _ w refl)))
+      fill_end old rate _ (length grid.a) (length grid.a) e refl h
+      ∙ tab_same (length grid.a) _ rate_of (λ k w. ap (λ (d : CircuitDesign). d.rate_a) (sym (drawn_here grid level banks k _ w refl)))
       ∙ rates_are
 
 module _ (circuits : List ℕ) (flow rate : List Float) where
@@ -116,20 +117,20 @@ module _ (circuits : List ℕ) (flow rate : List Float) where
   overloaded_is = ap (counting heavy) (sym (length_tab (length rate) loading_of))
 
 -- ---- corridors at their cap
-module _ (mode : PlanMode) (ladder : List Float) (level a b : List ℕ) (km share : List Float) (cap : List ℕ) (sheet banks : List Float) (circuits : List ℕ) (flow : List Float) where
+module _ (mode : PlanMode) (grid : GridColumns) (level : List ℕ) (banks : List Float) (circuits : List ℕ) (flow : List Float) where
   abbrev ds : List CircuitDesign
-  ds = designs_for ladder level a b km share sheet banks
+  ds = designs_for grid level banks
 
   abbrev pub capped_in : ℕ → Bool
-  capped_in = capped_at (corridors_of mode (length a) cap) ds circuits flow
+  capped_in = capped_at (corridors_of mode (length grid.a) grid.cap) ds circuits flow
 
-  pub capped_is : (k full : ℕ) (d : CircuitDesign) → k < length a → d ≡ drawn (lines_for ladder a b km share sheet) level k (at banks k)
-      → full ≡ own_or (get_or cap k 0) (circuit_cap (promote mode) d.kv) → cap_full mode full (get_or circuits k 0) (at flow k) d.rate_a ≡ capped_in k
+  pub capped_is : (k full : ℕ) (d : CircuitDesign) → k < length grid.a → d ≡ drawn (lines_for grid) level k (at banks k)
+      → full ≡ own_or (get_or grid.cap k 0) (circuit_cap (promote mode) d.kv) → cap_full mode full (get_or circuits k 0) (at flow k) d.rate_a ≡ capped_in k
   unfolding cap_at
   capped_is k full d h e g =
       ap (λ (n : ℕ). cap_full mode n (get_or circuits k 0) (at flow k) d.rate_a) g
-      ∙ ap (λ (x : CircuitDesign). cap_full mode (own_or (get_or cap k 0) (circuit_cap (promote mode) x.kv)) (get_or circuits k 0) (at flow k) x.rate_a)
-      (drawn_here ladder level a b km share sheet banks k d h e)
+      ∙ ap (λ (x : CircuitDesign). cap_full mode (own_or (get_or grid.cap k 0) (circuit_cap (promote mode) x.kv)) (get_or circuits k 0) (at flow k) x.rate_a)
+      (drawn_here grid level banks k d h e)
 
 -- ---- levels
 pub least_next : (top : ℕ) (l : List ℕ) (i : ℕ) → i < length l → least_of top (drop i l) ≡ least_of (min top (get_or l i 0)) (drop (i + 1) l)
@@ -183,23 +184,23 @@ module _ (ladder : List Float) (above u : ℕ) (within-ladder : above ≤ length
       (λ j b. let h : j < above = omega (arith, length_tab above (added_at ladder above u)) in get_tab above (added_at ladder above u) j nan h ∙ here j h (ltb (u + j) above) refl)
 
 -- ---- all of it: ratings first, then the figures from them
-module _ (mode : PlanMode) (above : ℕ) (ladder : List Float) (led level a b : List ℕ) (km share : List Float) (cap : List ℕ) (sheet banks : List Float) (circuits upsized : List ℕ)
-    (flow theta rate : List Float) (rated : rate ≡ map (λ (d : CircuitDesign). d.rate_a) (designs_for ladder level a b km share sheet banks)) where
+module _ (mode : PlanMode) (above : ℕ) (grid : GridColumns) (led level : List ℕ) (banks : List Float) (circuits upsized : List ℕ)
+    (flow theta rate : List Float) (rated : rate ≡ map (λ (d : CircuitDesign). d.rate_a) (designs_for grid level banks)) where
   abbrev designs : List CircuitDesign
-  designs = designs_for ladder level a b km share sheet banks
+  designs = designs_for grid level banks
 
-  designs_size : length designs ≡ length a
-  designs_size = length_drawn (lines_for ladder a b km share sheet) level banks
+  designs_size : length designs ≡ length grid.a
+  designs_size = length_drawn (lines_for grid) level banks
 
   pub closing_is : (enlarged heavy full dropped : ℕ) (high wide : Float) → enlarged ≡ upsized_of upsized → heavy ≡ overloaded_of (loadings_by circuits flow rate)
-      → full ≡ capped_of (corridors_of mode (length a) cap) designs circuits flow → high ≡ max_loading (loadings_by circuits flow rate) → wide ≡ spread_of led theta
+      → full ≡ capped_of (corridors_of mode (length grid.a) grid.cap) designs circuits flow → high ≡ max_loading (loadings_by circuits flow rate) → wide ≡ spread_of led theta
       → dropped ≡ least_of above level
       → record { upsized = enlarged; overloaded = heavy; capped = full; loading = high; spread = wide; added = above - dropped }
-      ≡ closing_of mode cap above led level designs circuits upsized flow theta
+      ≡ closing_of mode grid.cap above led level designs circuits upsized flow theta
   closing_is enlarged heavy full dropped high wide e f g h i j =
       let x = f ∙ ap (λ (r : List Float). overloaded_of (loadings_by circuits flow r)) rated in
       let y = h ∙ ap (λ (r : List Float). max_loading (loadings_by circuits flow r)) rated in
-      let z = g ∙ ap (λ (n : ℕ). capped_of (corridors_of mode n cap) designs circuits flow) (sym designs_size) in
+      let z = g ∙ ap (λ (n : ℕ). capped_of (corridors_of mode n grid.cap) designs circuits flow) (sym designs_size) in
       rw (e, x, y, z, i, j)
 
 -- the tiers, and the levels added

@@ -11,12 +11,14 @@ ghost use Rattle.plan_defs.specs.declared.CircuitDesign.{CircuitDesign};
 ghost use Rattle.planning.specs.Design.{Lines};
 ghost use Rattle.planning.specs.Fill.{designs_for, Loaded};
 ghost use Rattle.planning.specs.Close.{corridors_of, levels_for, wider_by, loadings_by, Rated, cap_full, added_at, Closable, closing_of, is_refused, lent_to, finished};
+ghost use Rattle.planning.specs.Tables.{grid_in};
 
 use crate::design::{circuit, fill_drawn};
 use crate::figures::{greater, lesser, magnitude};
 use crate::fill::loading;
 use crate::policy::{cap_at, expands};
 use crate::size::PLANNING_UTILISATION;
+use crate::tables::Grid;
 use mode::PlanMode;
 use plan_defs::CorridorPlan;
 use refusal::Refusal;
@@ -116,26 +118,20 @@ fn cap_full(mode: PlanMode, cap: u32, count: u32, flow: f64, rate: f64) -> bool
 
 fn capped(
     mode: PlanMode,
-    ladder: &[f64],
+    grid: &Grid,
     level: &[u32],
-    a: &[u32],
-    b: &[u32],
-    km: &[f64],
-    share: &[f64],
-    cap: &[u32],
-    sheet: &[f64],
     banks: &[f64],
     circuits: &[u32],
     flow: &[f64],
 ) -> u32
-    requires lines { Lines ladder.now level.now a.now b.now km.now share.now sheet.now }
-    requires loaded { Loaded a.now banks.now circuits.now flow.now × (length cap.now ≡ length a.now) }
-    ensures { result ≡ capped_of (corridors_of mode (length a.now) cap.now) (designs_for ladder.now level.now a.now b.now km.now share.now sheet.now banks.now) circuits.now flow.now }
+    requires lines { Lines (grid_in grid.now) level.now }
+    requires loaded { Loaded grid.now.a.now banks.now circuits.now flow.now × (length grid.now.cap.now ≡ length grid.now.a.now) }
+    ensures { result ≡ capped_of (corridors_of mode (length grid.now.a.now) grid.now.cap.now) (designs_for (grid_in grid.now) level.now banks.now) circuits.now flow.now }
 {
     let mut count = 0;
-    for k in 0..a.len() {
-        let d = circuit(ladder, level, a, b, km, share, sheet, k, banks[k]);
-        let most = cap_at(mode, cap[k], d.kv);
+    for k in 0..grid.a.len() {
+        let d = circuit(grid, level, k, banks[k]);
+        let most = cap_at(mode, grid.cap[k], d.kv);
         count += u32::from(cap_full(mode, most, circuits[k], flow[k], d.rate_a));
     }
     count
@@ -199,13 +195,7 @@ fn add_levels(ladder: &[f64], above: usize, unused: usize, added: &mut [f64])
 pub fn close(
     mode: PlanMode,
     above: usize,
-    ladder: &[f64],
-    a: &[u32],
-    b: &[u32],
-    km: &[f64],
-    share: &[f64],
-    cap: &[u32],
-    sheet: &[f64],
+    grid: &Grid,
     leader: &[u32],
     banks: &[f64],
     circuits: &[u32],
@@ -216,35 +206,22 @@ pub fn close(
     rate: &mut [f64],
     added: &mut [f64],
 ) -> Closing
-    requires lines { Lines ladder.now level.old a.now b.now km.now share.now sheet.now }
-    requires loaded { Loaded a.now banks.now circuits.now flow.now × (length cap.now ≡ length a.now) }
-    requires closable { Closable above ladder.now a.now leader.now upsized.now angle.now rate.old added.old }
-    ensures closing { result ≡ closing_of mode cap.now above leader.now level.old (designs_for ladder.now level.old a.now b.now km.now share.now sheet.now banks.now) circuits.now upsized.now flow.now angle.now }
-    ensures rate { rate.new ≡ map (λ (d : CircuitDesign). d.rate_a) (designs_for ladder.now level.old a.now b.now km.now share.now sheet.now banks.now) }
-    ensures tier { level.new ≡ tiers_of (levels_for above ladder.now) level.old }
-    ensures added { added.new ≡ up_to above nought (added_of (levels_for above ladder.now) level.old) }
+    requires lines { Lines (grid_in grid.now) level.old }
+    requires loaded { Loaded grid.now.a.now banks.now circuits.now flow.now × (length grid.now.cap.now ≡ length grid.now.a.now) }
+    requires closable { Closable above grid.now.ladder.now grid.now.a.now leader.now upsized.now angle.now rate.old added.old }
+    ensures closing { result ≡ closing_of mode grid.now.cap.now above leader.now level.old (designs_for (grid_in grid.now) level.old banks.now) circuits.now upsized.now flow.now angle.now }
+    ensures rate { rate.new ≡ map (λ (d : CircuitDesign). d.rate_a) (designs_for (grid_in grid.now) level.old banks.now) }
+    ensures tier { level.new ≡ tiers_of (levels_for above grid.now.ladder.now) level.old }
+    ensures added { added.new ≡ up_to above nought (added_of (levels_for above grid.now.ladder.now) level.old) }
 {
-    fill_drawn(
-        ladder,
-        level,
-        a,
-        b,
-        km,
-        share,
-        sheet,
-        banks,
-        rate,
-        |d, _| d.rate_a,
-    );
+    fill_drawn(grid, level, banks, rate, |d, _| d.rate_a);
     let too_heavy = overloaded(circuits, flow, rate);
     let highest_loading = max_loading(circuits, flow, rate);
-    let at_cap = capped(
-        mode, ladder, level, a, b, km, share, cap, sheet, banks, circuits, flow,
-    );
+    let at_cap = capped(mode, grid, level, banks, circuits, flow);
     let enlarged = count_upsized(upsized);
     let widest = spread(leader, angle);
     let dropped = unused(above, level);
-    add_levels(ladder, above, dropped as usize, added);
+    add_levels(grid.ladder, above, dropped as usize, added);
     shift_back(dropped, level);
     Closing {
         upsized: enlarged,

@@ -8,10 +8,12 @@ ghost use Rattle.plan_defs.specs.Case.{full_of};
 ghost use Rattle.plan_defs.specs.Fill.{loading, order_of, fill_once, fill_rounds, fill_turns, fill};
 ghost use Rattle.planning.specs.Design.{Lines};
 ghost use Rattle.planning.specs.Fill.{designs_for, Loaded, rank_before, order_by, place_of, shifted, Whole, Ranked, filled_as, gain_of, Tallied, Counted, caps_for};
+ghost use Rattle.planning.specs.Tables.{grid_in};
 
 use crate::design::fill_drawn;
 use crate::figures::{copied, magnitude};
 use crate::policy::{full_at, promotes};
+use crate::tables::Grid;
 use mode::PlanMode;
 
 // As many turns as a cap may be fill every corridor, or reach the target.
@@ -80,50 +82,29 @@ pub fn order_by(first: &[f64; 256], second: &[f64; 256], third: &[f64], order: &
 }
 
 pub fn fill_order(
-    ladder: &[f64],
+    grid: &Grid,
     level: &[u32],
-    a: &[u32],
-    b: &[u32],
-    km: &[f64],
-    share: &[f64],
-    sheet: &[f64],
     banks: &[f64],
     circuits: &[u32],
     flow: &[f64],
     order: &mut [u32; 256],
 )
-    requires lines { Lines ladder.now level.now a.now b.now km.now share.now sheet.now }
-    requires loaded { Loaded a.now banks.now circuits.now flow.now × Whole order.old }
+    requires lines { Lines (grid_in grid.now) level.now }
+    requires loaded { Loaded grid.now.a.now banks.now circuits.now flow.now × Whole order.old }
     ensures size { Whole order.new }
-    ensures order { take (length a.now) order.new ≡ order_of (length a.now) (designs_for ladder.now level.now a.now b.now km.now share.now sheet.now banks.now) circuits.now flow.now }
+    ensures order { take (length grid.now.a.now) order.new ≡ order_of (length grid.now.a.now) (designs_for (grid_in grid.now) level.now banks.now) circuits.now flow.now }
 {
     let mut loadings = [0.0; 256];
     let mut kvs = [0.0; 256];
     fill_drawn(
-        ladder,
+        grid,
         level,
-        a,
-        b,
-        km,
-        share,
-        sheet,
         banks,
         &mut loadings,
         |d, k| loading(flow[k], circuits[k], d.rate_a),
     );
-    fill_drawn(
-        ladder,
-        level,
-        a,
-        b,
-        km,
-        share,
-        sheet,
-        banks,
-        &mut kvs,
-        |d, _| d.kv,
-    );
-    order_by(&loadings, &kvs, km, order);
+    fill_drawn(grid, level, banks, &mut kvs, |d, _| d.kv);
+    order_by(&loadings, &kvs, grid.km, order);
 }
 
 // ---- what a plan keeps of filling

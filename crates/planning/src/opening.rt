@@ -11,8 +11,10 @@ ghost use Rattle.plan_defs.specs.Dispatch.{scatter, serve, dispatch_of, inject_a
 ghost use Rattle.plan_defs.specs.Lists.{sum_over};
 ghost use Rattle.plan_defs.specs.Outcome.{up_to};
 ghost use Rattle.planning.specs.Opening.{stage_of, stage_if, bus_case, slack_case, dispatch_case, injection_case, Joined, Fleet, Costs, Loads, Picked};
+ghost use Rattle.planning.specs.Tables.{supply_in};
 
 use crate::solve::BASE_MVA;
+use crate::tables::Supply;
 use crate::top_up::give;
 use mode::PlanMode;
 use refusal::Refusal;
@@ -118,17 +120,12 @@ fn serve(
     mode: PlanMode,
     root: u32,
     leader: &[u32],
-    load: &[f64],
-    bus: &[u32],
-    pmin: &[f64],
-    pmax: &[f64],
-    c1: &[f64],
-    c2: &[f64],
+    supply: &Supply,
     mw: &mut [f64],
 ) -> Result<(), Refusal>
-    requires { Fleet (length leader.now) bus.now × Costs bus.now pmin.now pmax.now c1.now c2.now × Loads leader.now load.now × (length mw.old ≡ length bus.now) }
+    requires { Fleet (length leader.now) supply.now.bus.now × Costs (supply_in supply.now) × Loads leader.now supply.now.load.now × (length mw.old ≡ length supply.now.bus.now) }
     ensures { stage_of result mw.new
-        ≡ serve (dispatch_case mode load.now bus.now pmin.now pmax.now c1.now c2.now)
+        ≡ serve (dispatch_case mode supply.now.load.now supply.now.bus.now supply.now.pmin.now supply.now.pmax.now supply.now.c1.now supply.now.c2.now)
         leader.now root mw.old }
 {
     let mut units = [0u32; 128];
@@ -137,12 +134,12 @@ fn serve(
     let mut linear = [0.0; 128];
     let mut quadratic = [0.0; 128];
     let mut out = [0.0; 128];
-    let count = units_in(root, leader, bus, &mut units);
-    figures_of(pmin, &units, count, &mut least);
-    figures_of(pmax, &units, count, &mut most);
-    figures_of(c1, &units, count, &mut linear);
-    figures_of(c2, &units, count, &mut quadratic);
-    let demand = demand_of(root, leader, load);
+    let count = units_in(root, leader, supply.bus, &mut units);
+    figures_of(supply.pmin, &units, count, &mut least);
+    figures_of(supply.pmax, &units, count, &mut most);
+    figures_of(supply.c1, &units, count, &mut linear);
+    figures_of(supply.c2, &units, count, &mut quadratic);
+    let demand = demand_of(root, leader, supply.load);
     give(
         mode,
         demand,
@@ -162,24 +159,19 @@ fn serve_led(
     mode: PlanMode,
     i: usize,
     leader: &[u32],
-    load: &[f64],
-    bus: &[u32],
-    pmin: &[f64],
-    pmax: &[f64],
-    c1: &[f64],
-    c2: &[f64],
+    supply: &Supply,
     mw: &mut [f64],
 ) -> Result<(), Refusal>
-    requires { (i < length leader.now) × Fleet (length leader.now) bus.now × Costs bus.now pmin.now pmax.now c1.now c2.now
-        × Loads leader.now load.now × (length mw.old ≡ length bus.now) }
+    requires { (i < length leader.now) × Fleet (length leader.now) supply.now.bus.now × Costs (supply_in supply.now)
+        × Loads leader.now supply.now.load.now × (length mw.old ≡ length supply.now.bus.now) }
     ensures { stage_of result mw.new
         ≡ stage_if (leads leader.now i)
-        (serve (dispatch_case mode load.now bus.now pmin.now pmax.now c1.now c2.now)
+        (serve (dispatch_case mode supply.now.load.now supply.now.bus.now supply.now.pmin.now supply.now.pmax.now supply.now.c1.now supply.now.c2.now)
         leader.now i mw.old)
         mw.old }
 {
     if leader[i] as usize == i {
-        return serve(mode, leader[i], leader, load, bus, pmin, pmax, c1, c2, mw);
+        return serve(mode, leader[i], leader, supply, mw);
     }
     Ok(())
 }
@@ -188,22 +180,17 @@ fn serve_led(
 pub fn dispatch_components(
     mode: PlanMode,
     leader: &[u32],
-    load: &[f64],
-    bus: &[u32],
-    pmin: &[f64],
-    pmax: &[f64],
-    c1: &[f64],
-    c2: &[f64],
+    supply: &Supply,
     mw: &mut [f64],
 ) -> Result<(), Refusal>
-    requires { Fleet (length leader.now) bus.now × Costs bus.now pmin.now pmax.now c1.now c2.now × Loads leader.now load.now × (length mw.old ≡ length bus.now) }
+    requires { Fleet (length leader.now) supply.now.bus.now × Costs (supply_in supply.now) × Loads leader.now supply.now.load.now × (length mw.old ≡ length supply.now.bus.now) }
     ensures { stage_of result mw.new
-        ≡ dispatch_of (dispatch_case mode load.now bus.now pmin.now pmax.now c1.now c2.now)
+        ≡ dispatch_of (dispatch_case mode supply.now.load.now supply.now.bus.now supply.now.pmin.now supply.now.pmax.now supply.now.c1.now supply.now.c2.now)
         leader.now }
 {
     mw.fill(0.0);
     for i in 0..leader.len() {
-        serve_led(mode, i, leader, load, bus, pmin, pmax, c1, c2, mw)?;
+        serve_led(mode, i, leader, supply, mw)?;
     }
     Ok(())
 }
@@ -240,12 +227,12 @@ fn per_unit(injection: &mut [f64])
 }
 
 // What each bus injects, per unit: what its generators give less its load.
-pub fn injections(load: &[f64], bus: &[u32], mw: &[f64], injection: &mut [f64])
-    requires { Fleet (length injection.old) bus.now × (length mw.now ≡ length bus.now) × (length injection.old ≡ length load.now) }
-    ensures { injection.new ≡ injections (injection_case load.now bus.now) mw.now }
+pub fn injections(supply: &Supply, mw: &[f64], injection: &mut [f64])
+    requires { Fleet (length injection.old) supply.now.bus.now × (length mw.now ≡ length supply.now.bus.now) × (length injection.old ≡ length supply.now.load.now) }
+    ensures { injection.new ≡ injections (injection_case supply.now.load.now supply.now.bus.now) mw.now }
 {
-    withdraw(load, injection);
-    inject(bus, mw, injection);
+    withdraw(supply.load, injection);
+    inject(supply.bus, mw, injection);
     per_unit(injection);
 }
 

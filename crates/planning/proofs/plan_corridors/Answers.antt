@@ -20,8 +20,8 @@ returns-in_err-check_case-clause-plan c =
     let h : c.from_residual.result ≡ Err c.in_err-check_case.field-0.0 = search rules in
     rw h ((ends_unaccepted case z.target lent (λ e k l. c.type_inv.pmin k) _ (sym c.in_err-check_case.was ∙ answer)).0)
 
-pub slice_bounds-run-end : goal.slice_bounds-run-end
-slice_bounds-run-end c =
+pub slice_bounds-supply-end : goal.slice_bounds-supply-end
+slice_bounds-supply-end c =
     let z = c.args in
     let case = surveyed z.mode z.n z.m z.g z.above z.requested z.ladder.now z.tier.now z.reading.now z.weight.now z.bus.now z.slack.now z.pmin.now z.pmax.now z.c1.now z.c2.now z.a.now z.b.now z.initial.now z.km.now z.share.now z.cap.now z.sheet.now in
     let lent = slices z.circuits.now z.flow.now z.rate.now z.before.now z.order.now z.kept_cap.now z.mw.now z.angle.now z.level.now z.ground.now z.added.now z.figures.now z.counts.now in

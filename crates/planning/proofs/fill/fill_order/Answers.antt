@@ -4,6 +4,7 @@ use Rattle.loops.specs.Figures.{at}
 use Rattle.plan_defs.specs.Fill.{loading}
 use Rattle.planning.proofs.Orders.{order_made}
 use Rattle.planning.proofs.fill.fill_order.Goals as goal
+use Rattle.planning.specs.Tables.{grid_in}
 
 pub returns : goal.returns
 returns c =
@@ -11,7 +12,7 @@ returns c =
     let z = s.args in
     record {
       size = c.order_by.ensures.size;
-      order = order_made z.ladder.now z.level.now z.a.now z.b.now z.km.now z.share.now z.sheet.now z.banks.now z.circuits.now z.flow.now _ _ _ _ _ s.requires.lines.km_size
+      order = order_made (grid_in z.grid.now) z.level.now z.banks.now z.circuits.now z.flow.now _ _ _ _ _ s.requires.lines.km_size
           (c.fill_drawn.ensures (λ d k. loading (at z.flow.now k) (get_or z.circuits.now k 0) d.rate_a) (λ d k r h q. search rules))
           (c.fill_drawn-2.ensures (λ d k. d.kv) (λ d k r h q. search rules))
           c.order_by.ensures.order;

@@ -17,6 +17,7 @@ use Rattle.planning.specs.declared.design.Ends.{Ends}
 use Rattle.planning.proofs.Lists.{sum_most, count_most}
 use Rattle.planning.proofs.Draws.{ends_fit, to_below, drawn_lifts}
 use Rattle.planning.proofs.Ratings.{fresh_rating, drawn_rated, anew_sound}
+use Rattle.planning.specs.Tables.{GridColumns, SupplyColumns}
 
 -- ---- the two choices by a test are one
 pub banked_is_kept : (t : Bool) (d : CircuitDesign) (mva : Float) → banked_by t d mva ≡ kept_by t d mva
@@ -33,9 +34,9 @@ kept_is d e floor keep t p q r =
     ∙ ap (λ (x : Float). kept_to d x) p
 
 -- ---- one corridor, over what the code has added up for each bus
-module _ (ladder : List Float) (level a b : List ℕ) (km share sheet load gens : List Float) (shared : List ℕ) (k : ℕ) where
-  pub fresh_is : (e : Ends) (mva g : Float) (s : ℕ) → e ≡ ends_of (ends_for ladder a b) level k → g ≡ at gens e.to → s ≡ get_or shared e.to 0
-      → mva ≡ fresh_bank (at load e.to) g s → mva ≡ fresh_at (ends_for ladder a b) level load gens shared k
+module _ (grid : GridColumns) (level : List ℕ) (load gens : List Float) (shared : List ℕ) (k : ℕ) where
+  pub fresh_is : (e : Ends) (mva g : Float) (s : ℕ) → e ≡ ends_of (ends_for grid) level k → g ≡ at gens e.to → s ≡ get_or shared e.to 0
+      → mva ≡ fresh_bank (at load e.to) g s → mva ≡ fresh_at (ends_for grid) level load gens shared k
   unfolding fresh_at ends_of
   fresh_is e mva g s p pg ps pm =
       pm
@@ -44,77 +45,77 @@ module _ (ladder : List Float) (level a b : List ℕ) (km share sheet load gens 
       ∙ ap (λ (z : Ends). fresh_bank (at load z.to) (at gens z.to) (get_or shared z.to 0)) p
 
   pub anew_is : (fresh floor mva : Float) (first d : CircuitDesign) → mva ≡ fresh
-      → first ≡ drawn (lines_for ladder a b km share sheet) level k mva → d ≡ kept_bank first floor
-      → d ≡ anew_from (lines_for ladder a b km share sheet) level fresh floor k
+      → first ≡ drawn (lines_for grid) level k mva → d ≡ kept_bank first floor
+      → d ≡ anew_from (lines_for grid) level fresh floor k
   unfolding anew_from
   anew_is fresh floor mva first d pm pf pd =
       pd
       ∙ ap (λ (z : CircuitDesign). kept_bank z floor) pf
-      ∙ ap (λ (x : Float). kept_bank (drawn (lines_for ladder a b km share sheet) level k x) floor) pm
+      ∙ ap (λ (x : Float). kept_bank (drawn (lines_for grid) level k x) floor) pm
 
 -- ---- where the two lists hold what each bus's units give and how many corridors step down to it
-module _ (ladder : List Float) (level a b : List ℕ) (km share sheet load : List Float) (bus : List ℕ) (pmax floors gens : List Float) (shared : List ℕ)
-    (k : ℕ) (lines : Lines ladder level a b km share sheet) (loads : Loads level load) (units : Units bus pmax) (few : length a ≤ 256) (h : k < length a)
-    (gens-are : gens ≡ tab 256 (gen_at_bus (units_for bus pmax))) (shared-are : shared ≡ tab 256 (transformer_corridors (ends_for ladder a b) level)) where
+module _ (grid : GridColumns) (level : List ℕ) (supply : SupplyColumns) (floors gens : List Float) (shared : List ℕ)
+    (k : ℕ) (lines : Lines grid level) (loads : Loads level supply.load) (units : Units supply) (few : length grid.a ≤ 256) (h : k < length grid.a)
+    (gens-are : gens ≡ tab 256 (gen_at_bus (units_for supply))) (shared-are : shared ≡ tab 256 (transformer_corridors (ends_for grid) level)) where
   abbrev C : Case
-  C = redesign_for ladder load bus pmax a b km share sheet
+  C = redesign_for grid supply
 
   abbrev lo : ℕ
-  lo = to_of (ends_for ladder a b) level k
+  lo = to_of (ends_for grid) level k
 
   lo_below : lo < length level
-  lo_below = to_below ladder level a b k (ends_fit ladder level a b km share sheet k lines h)
+  lo_below = to_below grid level k (ends_fit grid level k lines h)
 
   lo_few : lo < 256
   lo_few = omega (arith, lo_below, loads.few)
 
-  gen_is : at gens lo ≡ gen_at_bus (units_for bus pmax) lo
-  gen_is = tab_read nan 256 (gen_at_bus (units_for bus pmax)) gens lo gens-are lo_few
+  gen_is : at gens lo ≡ gen_at_bus (units_for supply) lo
+  gen_is = tab_read nan 256 (gen_at_bus (units_for supply)) gens lo gens-are lo_few
 
-  shared_is : get_or shared lo 0 ≡ transformer_corridors (ends_for ladder a b) level lo
-  shared_is = tab_read 0 256 (transformer_corridors (ends_for ladder a b) level) shared lo shared-are lo_few
+  shared_is : get_or shared lo 0 ≡ transformer_corridors (ends_for grid) level lo
+  shared_is = tab_read 0 256 (transformer_corridors (ends_for grid) level) shared lo shared-are lo_few
 
   -- ---- a fresh bank is above 0 and finite: 128 units give at most 128e6 MW
   abbrev top : ℕ
   top = 128_000_000
 
-  load_most : Most top (at load lo)
-  load_most = most_more 1_000_000 top (at load lo) (lit≤ tt) (million_most (at load lo) (loads.sound lo (omega (arith, lo_below, loads.load_size))))
+  load_most : Most top (at supply.load lo)
+  load_most = most_more 1_000_000 top (at supply.load lo) (lit≤ tt) (million_most (at supply.load lo) (loads.sound lo (omega (arith, lo_below, loads.load_size))))
 
-  gen_most : Most top (gen_at_bus (units_for bus pmax) lo)
+  gen_most : Most top (gen_at_bus (units_for supply) lo)
   unfolding gen_at_bus
   gen_most =
-      let n = length bus in
+      let n = length supply.bus in
       let u : n * 1_000_000 ≤ 128 * 1_000_000 = mul-le-mul_right 1_000_000 units.few in
-      most_more (n * 1_000_000) top (gen_at_bus (units_for bus pmax) lo) (omega arith)
-      (sum_most (at pmax) (λ j. eqb (get_or bus j 0) lo) 1_000_000 n (λ j w. million_most (at pmax j) (units.sound j w)) (omega arith))
+      most_more (n * 1_000_000) top (gen_at_bus (units_for supply) lo) (omega arith)
+      (sum_most (at supply.pmax) (λ j. eqb (get_or supply.bus j 0) lo) 1_000_000 n (λ j w. million_most (at supply.pmax j) (units.sound j w)) (omega arith))
 
-  shared_most : transformer_corridors (ends_for ladder a b) level lo ≤ 2 ^ 53
+  shared_most : transformer_corridors (ends_for grid) level lo ≤ 2 ^ 53
   unfolding transformer_corridors
-  shared_most = le_trans (count_most _ (length a) 0) (omega arith)
+  shared_most = le_trans (count_most _ (length grid.a) 0) (omega arith)
 
-  pub fresh_ok : rating_ok (fresh_at (ends_for ladder a b) level load gens shared k) ≡ true
+  pub fresh_ok : rating_ok (fresh_at (ends_for grid) level supply.load gens shared k) ≡ true
   unfolding fresh_at
   fresh_ok =
-      fresh_rating top (at load lo) (at gens lo) (get_or shared lo 0) load_most (subst (Most top) (sym gen_is) gen_most) (lit≤ tt)
+      fresh_rating top (at supply.load lo) (at gens lo) (get_or shared lo 0) load_most (subst (Most top) (sym gen_is) gen_most) (lit≤ tt)
       (subst (λ (n : ℕ). n ≤ 2 ^ 53) (sym shared_is) shared_most)
 
   -- ---- and it is the definition's
-  pub fresh_defined : fresh_at (ends_for ladder a b) level load gens shared k ≡ bank_for C level (to_of C level k)
+  pub fresh_defined : fresh_at (ends_for grid) level supply.load gens shared k ≡ bank_for C level (to_of C level k)
   unfolding fresh_at bank_for gen_at_bus transformer_corridors to_of
   fresh_defined =
-      ap (λ (x : Float). fresh_bank (at load lo) x (get_or shared lo 0)) gen_is
-      ∙ ap (λ (n : ℕ). fresh_bank (at load lo) (gen_at_bus (units_for bus pmax) lo) n) shared_is
+      ap (λ (x : Float). fresh_bank (at supply.load lo) x (get_or shared lo 0)) gen_is
+      ∙ ap (λ (n : ℕ). fresh_bank (at supply.load lo) (gen_at_bus (units_for supply) lo) n) shared_is
 
-  anew_defined : anew_from (lines_for ladder a b km share sheet) level (fresh_at (ends_for ladder a b) level load gens shared k) (at floors k) k
+  anew_defined : anew_from (lines_for grid) level (fresh_at (ends_for grid) level supply.load gens shared k) (at floors k) k
       ≡ kept_bank (design_at C level k) (at floors k)
   unfolding anew_from design_at
   anew_defined =
-      ap (λ (x : Float). kept_bank (drawn (lines_for ladder a b km share sheet) level k x) (at floors k)) fresh_defined
-      ∙ ap (λ (d : CircuitDesign). kept_bank d (at floors k)) (drawn_lifts C sheet refl refl (omega arith) level k _)
+      ap (λ (x : Float). kept_bank (drawn (lines_for grid) level k x) (at floors k)) fresh_defined
+      ∙ ap (λ (d : CircuitDesign). kept_bank d (at floors k)) (drawn_lifts C grid.sheet refl refl (omega arith) level k _)
 
   pub bank_defined : (d : CircuitDesign) (mva : Float) → mva ≡ bank_of d
-      → d ≡ anew_from (lines_for ladder a b km share sheet) level (fresh_at (ends_for ladder a b) level load gens shared k) (at floors k) k → mva ≡ bank_anew C level floors k
+      → d ≡ anew_from (lines_for grid) level (fresh_at (ends_for grid) level supply.load gens shared k) (at floors k) k → mva ≡ bank_anew C level floors k
   unfolding bank_anew
   bank_defined d mva e f = e ∙ ap (λ (x : CircuitDesign). bank_of x) (f ∙ anew_defined)
 
@@ -122,16 +123,16 @@ module _ (ladder : List Float) (level a b : List ℕ) (km share sheet load : Lis
   unfolding anew_from
   anew_ok =
       subst (λ (x : Float). rating_ok x ≡ true) (bank_defined _ _ refl refl)
-      (anew_sound (drawn (lines_for ladder a b km share sheet) level k (fresh_at (ends_for ladder a b) level load gens shared k)) (at floors k)
-      (drawn_rated ladder level a b km share sheet k lines h _ fresh_ok))
+      (anew_sound (drawn (lines_for grid) level k (fresh_at (ends_for grid) level supply.load gens shared k)) (at floors k)
+      (drawn_rated grid level k lines h _ fresh_ok))
 
 -- every bank anew is above 0 and finite
-pub banks_anew_sound : (ladder : List Float) (level a b : List ℕ) (km share sheet load : List Float) (bus : List ℕ) (pmax floors : List Float)
-    → Lines ladder level a b km share sheet → Loads level load → Units bus pmax → length a ≤ 256
-    → Banks (banks_anew (redesign_for ladder load bus pmax a b km share sheet) level floors)
+pub banks_anew_sound : (grid : GridColumns) (level : List ℕ) (supply : SupplyColumns) (floors : List Float)
+    → Lines grid level → Loads level supply.load → Units supply → length grid.a ≤ 256
+    → Banks (banks_anew (redesign_for grid supply) level floors)
 unfolding banks_anew
-banks_anew_sound ladder level a b km share sheet load bus pmax floors lines loads units few k w =
-    let f = bank_anew (redesign_for ladder load bus pmax a b km share sheet) level floors in
-    let h : k < length a = omega (arith, w, length_tab (length a) f) in
-    subst (λ (x : Float). rating_ok x ≡ true) (sym (get_tab (length a) f k nan h))
-    (anew_ok ladder level a b km share sheet load bus pmax floors _ _ k lines loads units few h refl refl)
+banks_anew_sound grid level supply floors lines loads units few k w =
+    let f = bank_anew (redesign_for grid supply) level floors in
+    let h : k < length grid.a = omega (arith, w, length_tab (length grid.a) f) in
+    subst (λ (x : Float). rating_ok x ≡ true) (sym (get_tab (length grid.a) f k nan h))
+    (anew_ok grid level supply floors _ _ k lines loads units few h refl refl)

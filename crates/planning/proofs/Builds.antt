@@ -13,6 +13,7 @@ use Rattle.plan_defs.specs.declared.CircuitDesign.{CircuitDesign}
 use Rattle.planning.specs.Design.{lines_for}
 use Rattle.planning.specs.Size.{set_if}
 use Rattle.planning.proofs.Draws.{Laid, drawn_lifts}
+use Rattle.planning.specs.Tables.{grid_of}
 
 -- ---- what is kept of the enlarged design is the larger bank
 pub kept_next : (larger : Bool) (first d : CircuitDesign) (next : Float) (banks : List Float) (k : ℕ) → d ≡ banked_by larger first next
@@ -78,7 +79,7 @@ module _ (c : Case) (level : List ℕ) where
 
   -- ---- what the designs read of the case
   pub drawn_all_lifts : (sheet : List Float) → Laid c sheet → (banks : List Float) → length c.a ≡ c.corridors → length c.ladder ≡ levels c
-      → drawn_all (lines_for c.ladder c.a c.b c.km c.share sheet) level banks ≡ drawn_all c level banks
+      → drawn_all (lines_for (grid_of c.ladder c.a c.b c.km c.share c.cap sheet)) level banks ≡ drawn_all c level banks
   unfolding drawn_all
   drawn_all_lifts sheet laid banks m e =
       tab_same (length c.a) _ (λ k. drawn c level k (at banks k)) (λ k h. drawn_lifts c sheet laid m e level k (at banks k))

@@ -1,17 +1,17 @@
 -- The closing figures as code's loops make them are the defined ones.
 -- A loop over those that pass a test is a loop over all with the test; a table's figure is read off its place.
 use Rattle.std.proofs.Common.{◌≡◌, ℕ, zero, suc, ◌+◌, ◌-◌, ◌^◌, ◌<◌, ◌≤◌, min, Bool, true, false, cond, ltb, List, [], ◌∷◌, ◌++◌, map, length, get_or, take, drop, replicate, sym, refl, ap, ◌∙◌, le_of_suc-le-suc, not-suc-le-zero, add-one, arith, length-append, length-drop, length-take, get_or-drop, drop-cons, get_or-take, get_or-append-add, ext_get_or, ltb-false, ltb-true, eq-eqb, ne_eqb}
-use lib.ListN.{length-replicate, length-map, get_or-replicate, get_or-append}
+use lib.ListN.{length-replicate, get_or-replicate, get_or-append}
 use lib.Ieee.{Float, nan, lt}
-use Rattle.loops.specs.Figures.{at, plus, minus, nought, one, greater, lesser, infinity, minus_infinity}
-use Rattle.loops.specs.Loops.{iter, tab}
-use Rattle.loops.proofs.Tab.{length_tab, get_tab, tab_of}
+use Rattle.loops.specs.Figures.{at, plus, minus, nought, one, greater}
+use Rattle.loops.specs.Loops.{iter, tab, filled}
+use Rattle.loops.proofs.Tab.{length_tab, get_tab, tab_of, tab_same, fill_end}
 use Rattle.mode.specs.declared.PlanMode.{PlanMode}
 use Rattle.plan_defs.specs.Constants.{loading_tolerance, most_corridors}
 use Rattle.plan_defs.specs.Lists.{keep, pass_from, counting, each}
 use Rattle.plan_defs.specs.Case.{cap_at, own_or, circuit_cap, promote}
 use Rattle.plan_defs.specs.Components.{within, leads, members}
-use Rattle.plan_defs.specs.Design.{drawn}
+use Rattle.plan_defs.specs.Design.{drawn, design}
 use Rattle.plan_defs.specs.Build.{drawn_all}
 use Rattle.plan_defs.specs.Fill.{loading}
 use Rattle.plan_defs.specs.Closing.{highest, lowest, spread_in, spread_of, max_loading, overloaded_of, capped_at, capped_of, upsized_of, least_of, tiers_of, added_of}
@@ -19,10 +19,11 @@ use Rattle.plan_defs.specs.Outcome.{up_to}
 use Rattle.plan_defs.specs.declared.CircuitDesign.{CircuitDesign}
 use Rattle.plan_defs.proofs.Drawn.{length_drawn}
 use Rattle.planning.specs.Design.{lines_for}
-use Rattle.planning.specs.Fill.{designs_for, Loaded}
-use Rattle.planning.specs.Close.{corridors_of, levels_for, wider_by, loadings_by, Rated, cap_full, added_at, closing_of, figures_if, counts_if, lent_to, finished}
+use Rattle.planning.specs.Fill.{designs_for}
+use Rattle.planning.specs.Close.{corridors_of, levels_for, wider_by, loadings_by, cap_full, added_at, closing_of, figures_if, counts_if, lent_to, finished}
 use Rattle.planning.proofs.Lists.{count_most}
 use Rattle.planning.proofs.Orders.{drawn_here}
+use Rattle.planning.specs.Tables.{GridColumns}
 
 -- ---- counts
 pub count_fits : (p : ℕ → Bool) (k n : ℕ) → n ≤ 1 → k ≤ most_corridors → counting p k + n < 2 ^ 32
@@ -40,17 +41,11 @@ each_tested f p (suc d) i s = go (p i) (each_tested f p d (suc i))
     go false rest = rest s
 
 module _ (led : List ℕ) (theta : List Float) where
-  abbrev pub higher : ℕ → ℕ → Float → Float
-  higher root i m = cond (within led root i) (greater m (at theta i)) m
+  abbrev pub picking : (Float → Float → Float) → ℕ → ℕ → Float → Float
+  picking f root i m = cond (within led root i) (f m (at theta i)) m
 
-  abbrev pub lower : ℕ → ℕ → Float → Float
-  lower root i m = cond (within led root i) (lesser m (at theta i)) m
-
-  pub highest_is : (root : ℕ) → iter (higher root) (length led) 0 minus_infinity ≡ highest theta (members led root)
-  highest_is root = sym (each_tested (λ i m. greater m (at theta i)) (within led root) (length led) 0 minus_infinity)
-
-  pub lowest_is : (root : ℕ) → iter (lower root) (length led) 0 infinity ≡ lowest theta (members led root)
-  lowest_is root = sym (each_tested (λ i m. lesser m (at theta i)) (within led root) (length led) 0 infinity)
+  pub picking_is : (f : Float → Float → Float) (root : ℕ) (start : Float) → iter (picking f root) (length led) 0 start ≡ each (λ i m. f m (at theta i)) (members led root) start
+  picking_is f root start = sym (each_tested (λ i m. f m (at theta i)) (within led root) (length led) 0 start)
 
   module _ (i : ℕ) (m : Float) where
     abbrev widest : Bool → Float
@@ -79,13 +74,20 @@ unfolding tab
 map_tab f g zero = refl
 map_tab f g (suc n) = ap (λ (l : List _). l ++ (f (g n) ∷ [])) (map_tab f g n) ∙ sym (map_append f (tab n g) (g n ∷ []))
 
-module _ (ladder : List Float) (level a b : List ℕ) (km share sheet banks : List Float) where
-  abbrev pub rate_of : ℕ → Float
-  rate_of k = (drawn (lines_for ladder a b km share sheet) level k (at banks k)).rate_a
+module _ (grid : GridColumns) (level : List ℕ) (banks : List Float) where
+  abbrev rate_of : ℕ → Float
+  rate_of k = (drawn (lines_for grid) level k (at banks k)).rate_a
 
-  pub rates_are : tab (length a) rate_of ≡ map (λ (d : CircuitDesign). d.rate_a) (designs_for ladder level a b km share sheet banks)
+  rates_are : tab (length grid.a) rate_of ≡ map (λ (d : CircuitDesign). d.rate_a) (designs_for grid level banks)
   unfolding drawn_all
-  rates_are = map_tab (λ (d : CircuitDesign). d.rate_a) (λ (k : ℕ). drawn (lines_for ladder a b km share sheet) level k (at banks k)) (length a)
+  rates_are = map_tab (λ (d : CircuitDesign). d.rate_a) (λ (k : ℕ). drawn (lines_for grid) level k (at banks k)) (length grid.a)
+
+  pub rates_drawn : (old rate : List Float) → length old ≡ length grid.a → rate ≡ filled old (λ k. (design (designs_for grid level banks) k).rate_a) (length grid.a)
+      → rate ≡ map (λ (d : CircuitDesign). d.rate_a) (designs_for grid level banks)
+  rates_drawn old rate e h =
+      fill_end old rate _ (length grid.a) (length grid.a) e refl h
+      ∙ tab_same (length grid.a) _ rate_of (λ k w. ap (λ (d : CircuitDesign). d.rate_a) (sym (drawn_here grid level banks k _ w refl)))
+      ∙ rates_are
 
 module _ (circuits : List ℕ) (flow rate : List Float) where
   abbrev pub loading_of : ℕ → Float
@@ -115,20 +117,20 @@ module _ (circuits : List ℕ) (flow rate : List Float) where
   overloaded_is = ap (counting heavy) (sym (length_tab (length rate) loading_of))
 
 -- ---- corridors at their cap
-module _ (mode : PlanMode) (ladder : List Float) (level a b : List ℕ) (km share : List Float) (cap : List ℕ) (sheet banks : List Float) (circuits : List ℕ) (flow : List Float) where
+module _ (mode : PlanMode) (grid : GridColumns) (level : List ℕ) (banks : List Float) (circuits : List ℕ) (flow : List Float) where
   abbrev ds : List CircuitDesign
-  ds = designs_for ladder level a b km share sheet banks
+  ds = designs_for grid level banks
 
   abbrev pub capped_in : ℕ → Bool
-  capped_in = capped_at (corridors_of mode (length a) cap) ds circuits flow
+  capped_in = capped_at (corridors_of mode (length grid.a) grid.cap) ds circuits flow
 
-  pub capped_is : (k full : ℕ) (d : CircuitDesign) → k < length a → d ≡ drawn (lines_for ladder a b km share sheet) level k (at banks k)
-      → full ≡ own_or (get_or cap k 0) (circuit_cap (promote mode) d.kv) → cap_full mode full (get_or circuits k 0) (at flow k) d.rate_a ≡ capped_in k
+  pub capped_is : (k full : ℕ) (d : CircuitDesign) → k < length grid.a → d ≡ drawn (lines_for grid) level k (at banks k)
+      → full ≡ own_or (get_or grid.cap k 0) (circuit_cap (promote mode) d.kv) → cap_full mode full (get_or circuits k 0) (at flow k) d.rate_a ≡ capped_in k
   unfolding cap_at
   capped_is k full d h e g =
       ap (λ (n : ℕ). cap_full mode n (get_or circuits k 0) (at flow k) d.rate_a) g
-      ∙ ap (λ (x : CircuitDesign). cap_full mode (own_or (get_or cap k 0) (circuit_cap (promote mode) x.kv)) (get_or circuits k 0) (at flow k) x.rate_a)
-      (drawn_here ladder level a b km share sheet banks k d h e)
+      ∙ ap (λ (x : CircuitDesign). cap_full mode (own_or (get_or grid.cap k 0) (circuit_cap (promote mode) x.kv)) (get_or circuits k 0) (at flow k) x.rate_a)
+      (drawn_here grid level banks k d h e)
 
 -- ---- levels
 pub least_next : (top : ℕ) (l : List ℕ) (i : ℕ) → i < length l → least_of top (drop i l) ≡ least_of (min top (get_or l i 0)) (drop (i + 1) l)
@@ -182,28 +184,23 @@ module _ (ladder : List Float) (above u : ℕ) (within-ladder : above ≤ length
       (λ j b. let h : j < above = omega (arith, length_tab above (added_at ladder above u)) in get_tab above (added_at ladder above u) j nan h ∙ here j h (ltb (u + j) above) refl)
 
 -- ---- all of it: ratings first, then the figures from them
-module _ (mode : PlanMode) (above : ℕ) (ladder : List Float) (led level a b : List ℕ) (km share : List Float) (cap : List ℕ) (sheet banks : List Float) (circuits upsized : List ℕ)
-    (flow theta rate : List Float) (rated : rate ≡ map (λ (d : CircuitDesign). d.rate_a) (designs_for ladder level a b km share sheet banks)) where
+module _ (mode : PlanMode) (above : ℕ) (grid : GridColumns) (led level : List ℕ) (banks : List Float) (circuits upsized : List ℕ)
+    (flow theta rate : List Float) (rated : rate ≡ map (λ (d : CircuitDesign). d.rate_a) (designs_for grid level banks)) where
   abbrev designs : List CircuitDesign
-  designs = designs_for ladder level a b km share sheet banks
+  designs = designs_for grid level banks
 
-  designs_size : length designs ≡ length a
-  designs_size = length_drawn (lines_for ladder a b km share sheet) level banks
-
-  pub rated_of : Loaded a banks circuits flow → Rated circuits flow rate
-  rated_of h =
-      let e : length rate ≡ length a = ap length rated ∙ length-map designs (λ (d : CircuitDesign). d.rate_a) ∙ designs_size in
-      record { few = omega (arith, h.drawable.few); circuits_size = h.circuits_size ∙ sym e; flow_size = h.flow_size ∙ sym e }
+  designs_size : length designs ≡ length grid.a
+  designs_size = length_drawn (lines_for grid) level banks
 
   pub closing_is : (enlarged heavy full dropped : ℕ) (high wide : Float) → enlarged ≡ upsized_of upsized → heavy ≡ overloaded_of (loadings_by circuits flow rate)
-      → full ≡ capped_of (corridors_of mode (length a) cap) designs circuits flow → high ≡ max_loading (loadings_by circuits flow rate) → wide ≡ spread_of led theta
+      → full ≡ capped_of (corridors_of mode (length grid.a) grid.cap) designs circuits flow → high ≡ max_loading (loadings_by circuits flow rate) → wide ≡ spread_of led theta
       → dropped ≡ least_of above level
       → record { upsized = enlarged; overloaded = heavy; capped = full; loading = high; spread = wide; added = above - dropped }
-      ≡ closing_of mode cap above led level designs circuits upsized flow theta
+      ≡ closing_of mode grid.cap above led level designs circuits upsized flow theta
   closing_is enlarged heavy full dropped high wide e f g h i j =
       let x = f ∙ ap (λ (r : List Float). overloaded_of (loadings_by circuits flow r)) rated in
       let y = h ∙ ap (λ (r : List Float). max_loading (loadings_by circuits flow r)) rated in
-      let z = g ∙ ap (λ (n : ℕ). capped_of (corridors_of mode n cap) designs circuits flow) (sym designs_size) in
+      let z = g ∙ ap (λ (n : ℕ). capped_of (corridors_of mode n grid.cap) designs circuits flow) (sym designs_size) in
       rw (e, x, y, z, i, j)
 
 -- the tiers, and the levels added
@@ -219,6 +216,12 @@ added_are above ladder level added dropped h e f =
     f ∙ ap (λ (n : ℕ). tab above (added_at ladder above n)) e ∙ added_is ladder above (least_of above level) h (least_most above level)
 
 -- ---- the slices at the end
+pub cleared_if : {A : Type 0} {b : Bool} {x : List A} (l : List A) (a : A) → b ≡ true → x ≡ replicate (length l) a → x ≡ cond b (replicate (length l) a) l
+cleared_if l a t e = e ∙ sym (ap (λ (z : Bool). cond z (replicate (length l) a) l) t)
+
+pub left_if : {A : Type 0} {b : Bool} (l r : List A) → b ≡ false → l ≡ cond b r l
+left_if l r t = sym (ap (λ (z : Bool). cond z r l) t)
+
 module _ (refused : Bool) (circuits : List ℕ) (flow rate mw angle : List Float) (tier ground : List ℕ) (added figures : List Float) (counts : List ℕ) where
   pub finished_is : (circuits' : List ℕ) (flow' rate' mw' angle' : List Float) (tier' ground' : List ℕ) (added' figures' : List Float) (counts' : List ℕ)
       → circuits' ≡ counts_if refused circuits → flow' ≡ figures_if refused flow → rate' ≡ figures_if refused rate → mw' ≡ figures_if refused mw

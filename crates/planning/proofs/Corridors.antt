@@ -21,6 +21,7 @@ use Rattle.planning.specs.Size.{size_for, grow_for, sized_of, sizing_of, set_if,
 use Rattle.planning.specs.declared.size.Tally.{Tally}
 use Rattle.planning.proofs.Draws.{Laid, drawn_lifts}
 use Rattle.planning.proofs.Builds.{kept_next, bank_drawn, drawn_at, set_bank_lem, drawn_all_lifts}
+use Rattle.planning.specs.Tables.{GridColumns, grid_of}
 
 -- ---- a larger bank
 module _ (c : Case) (level circuits : List ℕ) (banks floors : List Float) (upsized marks : List ℕ) (t : Tally) (k : ℕ) (h : k < c.corridors) (n : length banks ≡ c.corridors) where
@@ -104,27 +105,27 @@ module _ (c : Case) (level : List ℕ) (k : ℕ) (s : Sizing) where
   grow_lifts required = grow_by (enough required (count_at s.build k) (circuit_at s.build k)) required
 
 -- ---- one corridor
-module _ (mode : PlanMode) (buses : ℕ) (ladder : List Float) (level a b : List ℕ) (km share : List Float) (cap : List ℕ) (sheet flow : List Float) where
+module _ (mode : PlanMode) (buses : ℕ) (grid : GridColumns) (level : List ℕ) (flow : List Float) where
   abbrev C : Case
-  C = size_for mode buses ladder a b km share cap sheet
+  C = size_for mode buses grid
 
-  module _ (k : ℕ) (circuits : List ℕ) (banks floors : List Float) (upsized marks : List ℕ) (t : Tally) (h : k < length a) (n : length banks ≡ length a) where
+  module _ (k : ℕ) (circuits : List ℕ) (banks floors : List Float) (upsized marks : List ℕ) (t : Tally) (h : k < length grid.a) (n : length banks ≡ length grid.a) where
     pub size_is : (required : Float) (first : CircuitDesign) (next : Float) (larger : Bool) (banks' floors' : List Float) (upsized' : List ℕ) (d : CircuitDesign) (s : Tally)
         (circuits' marks' : List ℕ) (t' : Tally)
         → required ≡ required_for (at flow k)
-        → first ≡ drawn (lines_for ladder a b km share sheet) level k (at banks k)
+        → first ≡ drawn (lines_for grid) level k (at banks k)
         → next ≡ next_bank required (get_or circuits k 0) first
         → larger ≡ enlarges required (get_or circuits k 0) first next
         → d ≡ banked_by larger first next
         → banks' ≡ set_if larger banks k d.transformer_mva → floors' ≡ set_if larger floors k d.transformer_mva → upsized' ≡ set_if larger upsized k 1
         → s ≡ record { capacity = t.capacity; added = t.added || larger; capped = t.capped }
-        → Grows (grow_for mode a b cap) level required k d circuits marks s circuits' marks' t'
+        → Grows (grow_for mode grid.a grid.b grid.cap) level required k d circuits marks s circuits' marks' t'
         → sizing_of C level circuits' banks' floors' upsized' marks' t' ≡ size_one C level flow k (sizing_of C level circuits banks floors upsized marks t)
     unfolding size_one
     size_is required first next larger banks' floors' upsized' d s circuits' marks' t' pr pf pn pl pd qb qc pu ps g =
         let pb = qb ∙ kept_next larger first d next banks k pd in
         let pc = qc ∙ kept_next larger first d next floors k pd in
-        let first-is = pf ∙ drawn_lifts C sheet refl refl (omega arith) level k (at banks k) in
+        let first-is = pf ∙ drawn_lifts C grid.sheet refl refl (omega arith) level k (at banks k) in
         let design-is : design (drawn_all C level banks') k ≡ d =
         ap (λ (l : List Float). design (drawn_all C level l) k) pb
         ∙ enlarged_design C level circuits banks floors upsized marks t k h n required first next larger first-is pn pl
@@ -142,22 +143,22 @@ module _ (mode : PlanMode) (buses : ℕ) (ladder : List Float) (level a b : List
 
   -- ---- the loop: what is left from corridor k on
   unfoldable pub left : ℕ → List ℕ → List Float → List Float → List ℕ → List ℕ → Tally → Sizing
-  left k circuits banks floors upsized marks t = iter (size_one C level flow) (length a - k) k (sizing_of C level circuits banks floors upsized marks t)
+  left k circuits banks floors upsized marks t = iter (size_one C level flow) (length grid.a - k) k (sizing_of C level circuits banks floors upsized marks t)
 
   pub left_start : (circuits : List ℕ) (banks floors : List Float) (upsized marks : List ℕ) (capacity n : ℕ) → marks ≡ no_marks n → n ≡ buses
       → left 0 circuits banks floors upsized marks (record { capacity = capacity; added = false; capped = false }) ≡ size_all C level flow (build_of C level circuits banks floors upsized) capacity
   unfolding left size_all
   left_start circuits banks floors upsized marks capacity n p q =
       ap (λ (m : List ℕ). left 0 circuits banks floors upsized m (record { capacity = capacity; added = false; capped = false })) (p ∙ ap (λ (i : ℕ). no_marks i) q)
-      ∙ iter_all (size_one C level flow) (length a) _
+      ∙ iter_all (size_one C level flow) (length grid.a) _
 
   pub left_turn : (k : ℕ) (circuits : List ℕ) (banks floors : List Float) (upsized marks : List ℕ) (t : Tally) (circuits' : List ℕ) (banks' floors' : List Float) (upsized' marks' : List ℕ) (t' : Tally)
-      → k < length a → sizing_of C level circuits' banks' floors' upsized' marks' t' ≡ size_one C level flow k (sizing_of C level circuits banks floors upsized marks t)
+      → k < length grid.a → sizing_of C level circuits' banks' floors' upsized' marks' t' ≡ size_one C level flow k (sizing_of C level circuits banks floors upsized marks t)
       → left (k + 1) circuits' banks' floors' upsized' marks' t' ≡ left k circuits banks floors upsized marks t
   unfolding left
   left_turn k circuits banks floors upsized marks t circuits' banks' floors' upsized' marks' t' h e = sym (iter_more (size_one C level flow) h e)
 
-  pub left_end : (k : ℕ) (circuits : List ℕ) (banks floors : List Float) (upsized marks : List ℕ) (t : Tally) → length a ≤ k
+  pub left_end : (k : ℕ) (circuits : List ℕ) (banks floors : List Float) (upsized marks : List ℕ) (t : Tally) → length grid.a ≤ k
       → left k circuits banks floors upsized marks t ≡ sizing_of C level circuits banks floors upsized marks t
   unfolding left
   left_end k circuits banks floors upsized marks t h = iter_end (size_one C level flow) h
@@ -165,7 +166,7 @@ module _ (mode : PlanMode) (buses : ℕ) (ladder : List Float) (level a b : List
 -- ---- what sizing reads of a case
 module _ (c : Case) (sheet : List Float) (laid : Laid c sheet) (level : List ℕ) (flow : List Float) where
   abbrev N : Case
-  N = size_for c.mode (length level) c.ladder c.a c.b c.km c.share c.cap sheet
+  N = size_for c.mode (length level) (grid_of c.ladder c.a c.b c.km c.share c.cap sheet)
 
   one_lifts : (k : ℕ) (s : Sizing) → size_one N level flow k s ≡ size_one c level flow k s
   unfolding size_one

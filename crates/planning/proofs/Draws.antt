@@ -17,6 +17,7 @@ use Rattle.plan_defs.proofs.Rows.{row_from_lem}
 use Rattle.planning.specs.Design.{lines_for, ends_for, Lines, EndsFit, LineFits, ends_of, line_between}
 use Rattle.planning.specs.declared.design.Ends.{Ends}
 use Rattle.std.specs.Prelude.{Err, Ok, Result}
+use Rattle.planning.specs.Tables.{GridColumns, grid_of}
 
 -- ---- the impedance of a sound rating
 module _ (mva : Float) (r : Result SeriesImpedance Refusal) (ok : rating_ok mva ≡ true) (is : reply_of r ≡ defined mva) where
@@ -36,23 +37,23 @@ pub one_of : (t : Bool) (x y n : ℕ) → x < n → y < n → cond t x y < n
 one_of true x y n p q = p
 one_of false x y n p q = q
 
-pub ends_are : (ladder : List Float) (level a b : List ℕ) (k i j from to : ℕ) (x y : Float) (down : Bool)
-    → i ≡ get_or a k 0 → j ≡ get_or b k 0 → x ≡ at ladder (get_or level i 0) → y ≡ at ladder (get_or level j 0)
+pub ends_are : (grid : GridColumns) (level : List ℕ) (k i j from to : ℕ) (x y : Float) (down : Bool)
+    → i ≡ get_or grid.a k 0 → j ≡ get_or grid.b k 0 → x ≡ at grid.ladder (get_or level i 0) → y ≡ at grid.ladder (get_or level j 0)
     → from ≡ cond (le y x) i j → to ≡ cond (le y x) j i → down ≡ differ x y
-    → record { from = from; to = to; steps_down = down } ≡ ends_of (ends_for ladder a b) level k
+    → record { from = from; to = to; steps_down = down } ≡ ends_of (ends_for grid) level k
 unfolding ends_of from_of to_of
-ends_are ladder level a b k i j from to x y down pi pj px py pf pt pd = cc
+ends_are grid level k i j from to x y down pi pj px py pf pt pd = cc
 
-module _ (ladder : List Float) (level a b : List ℕ) (k : ℕ) (f : EndsFit ladder level a b k) where
-  pub from_below : from_of (ends_for ladder a b) level k < length level
+module _ (grid : GridColumns) (level : List ℕ) (k : ℕ) (f : EndsFit grid level k) where
+  pub from_below : from_of (ends_for grid) level k < length level
   unfolding from_of
-  from_below = one_of (higher_a (ends_for ladder a b) level k) (get_or a k 0) (get_or b k 0) (length level) f.a_below f.b_below
+  from_below = one_of (higher_a (ends_for grid) level k) (get_or grid.a k 0) (get_or grid.b k 0) (length level) f.a_below f.b_below
 
-  pub to_below : to_of (ends_for ladder a b) level k < length level
+  pub to_below : to_of (ends_for grid) level k < length level
   unfolding to_of
-  to_below = one_of (higher_a (ends_for ladder a b) level k) (get_or b k 0) (get_or a k 0) (length level) f.b_below f.a_below
+  to_below = one_of (higher_a (ends_for grid) level k) (get_or grid.b k 0) (get_or grid.a k 0) (length level) f.b_below f.a_below
 
-  pub end_below : (e : Ends) → e ≡ ends_of (ends_for ladder a b) level k → e.to < length level
+  pub end_below : (e : Ends) → e ≡ ends_of (ends_for grid) level k → e.to < length level
   unfolding ends_of
   end_below e p = subst (λ (z : Ends). z.to < length level) (sym p) to_below
 
@@ -60,8 +61,8 @@ module _ (ladder : List Float) (level a b : List ℕ) (k : ℕ) (f : EndsFit lad
 place_fits : (k m l L s : ℕ) → k < m → l < L → s ≡ row_figures * (m * L) → row_place m k l + row_figures ≤ s
 place_fits k m l L s p q e = omega (arith, row_fits l L m q, mul_comm L m)
 
-module _ (ladder : List Float) (level a b : List ℕ) (km share sheet : List Float) (k : ℕ) (lines : Lines ladder level a b km share sheet) (h : k < length a) where
-  pub ends_fit : EndsFit ladder level a b k
+module _ (grid : GridColumns) (level : List ℕ) (k : ℕ) (lines : Lines grid level) (h : k < length grid.a) where
+  pub ends_fit : EndsFit grid level k
   ends_fit =
       record {
         a_size = h;
@@ -71,7 +72,7 @@ module _ (ladder : List Float) (level a b : List ℕ) (km share sheet : List Flo
         level_below = lines.level_below;
       }
 
-  fits_at : (from : ℕ) → from < length level → LineFits ladder level km share sheet k from
+  fits_at : (from : ℕ) → from < length level → LineFits grid level k from
   fits_at from u =
       record {
         bus = u;
@@ -79,19 +80,19 @@ module _ (ladder : List Float) (level a b : List ℕ) (km share sheet : List Flo
         km_size = omega (arith, h, lines.km_size);
         share_size = omega (arith, h, lines.share_size);
         row_size =
-            subst (λ (m : ℕ). row_place m k (get_or level from 0) + row_figures ≤ length sheet) (sym lines.km_size)
-            (place_fits k (length a) (get_or level from 0) (length ladder) (length sheet) h (lines.level_below from u) lines.sheet_size);
+            subst (λ (m : ℕ). row_place m k (get_or level from 0) + row_figures ≤ length grid.sheet) (sym lines.km_size)
+            (place_fits k (length grid.a) (get_or level from 0) (length grid.ladder) (length grid.sheet) h (lines.level_below from u) lines.sheet_size);
       }
 
-  pub line_fits : (e : Ends) → e ≡ ends_of (ends_for ladder a b) level k → LineFits ladder level km share sheet k e.from
+  pub line_fits : (e : Ends) → e ≡ ends_of (ends_for grid) level k → LineFits grid level k e.from
   unfolding ends_of
-  line_fits e p = subst (λ (z : Ends). LineFits ladder level km share sheet k z.from) (sym p) (fits_at (from_of (ends_for ladder a b) level k) (from_below ladder level a b k ends_fit))
+  line_fits e p = subst (λ (z : Ends). LineFits grid level k z.from) (sym p) (fits_at (from_of (ends_for grid) level k) (from_below grid level k ends_fit))
 
 -- ---- the whole
-pub line_is : (ladder : List Float) (level : List ℕ) (km share sheet : List Float) (k from to top row : ℕ) → top ≡ get_or level from 0 → row ≡ row_place (length km) k top
-    → line_of from to (at ladder top) (row_from sheet row) (at km k) (at share k) ≡ line_between ladder level km share sheet k from to
+pub line_is : (grid : GridColumns) (level : List ℕ) (k from to top row : ℕ) → top ≡ get_or level from 0 → row ≡ row_place (length grid.km) k top
+    → line_of from to (at grid.ladder top) (row_from grid.sheet row) (at grid.km k) (at grid.share k) ≡ line_between grid level k from to
 unfolding line_between
-line_is ladder level km share sheet k from to top row e f = rw (f, e)
+line_is grid level k from to top row e f = rw (f, e)
 
 -- what a design reads of a case: these columns, with the rows of their sheet
 abbrev pub Laid : Case → List Float → Type 0
@@ -99,7 +100,7 @@ Laid c sheet = rows_of c.corridors (levels c) sheet ≡ c.row
 
 module _ (c : Case) (sheet : List Float) (laid : Laid c sheet) (m : length c.a ≡ c.corridors) (l : length c.ladder ≡ levels c) (level : List ℕ) (k : ℕ) where
   abbrev lines : Case
-  lines = lines_for c.ladder c.a c.b c.km c.share sheet
+  lines = lines_for (grid_of c.ladder c.a c.b c.km c.share c.cap sheet)
 
   rows_lift : rows_of (length c.a) (0 + length c.ladder) sheet ≡ c.row
   rows_lift =
@@ -116,29 +117,29 @@ module _ (c : Case) (sheet : List Float) (laid : Laid c sheet) (m : length c.a �
   unfolding drawn
   drawn_lifts mva = ap (λ (d : CircuitDesign). banked_by (steps_down c level k) d mva) line_lifts
 
-module _ (ladder : List Float) (level a b : List ℕ) (km share sheet : List Float) (k : ℕ) (fits : Lines ladder level a b km share sheet) (h : k < length a) where
+module _ (grid : GridColumns) (level : List ℕ) (k : ℕ) (fits : Lines grid level) (h : k < length grid.a) where
   abbrev between : Ends → CircuitDesign
-  between e = line_between ladder level km share sheet k e.from e.to
+  between e = line_between grid level k e.from e.to
 
   abbrev small : Case
-  small = lines_for ladder a b km share sheet
+  small = lines_for grid
 
-  row_is : row_from sheet (row_place (length km) k (level_of small level k)) ≡ row_at small k (level_of small level k)
+  row_is : row_from grid.sheet (row_place (length grid.km) k (level_of small level k)) ≡ row_at small k (level_of small level k)
   unfolding row_at from_of
   row_is =
       let L = level_of small level k in
-      let q : L < length ladder = fits.level_below _ (from_below ladder level a b k (ends_fit ladder level a b km share sheet k fits h)) in
-      ap (λ (m : ℕ). row_from sheet (row_place m k L)) fits.km_size
-      ∙ sym (row_from_lem (length a) (0 + length ladder) sheet k L h (let z : L < 0 + length ladder = omega (arith, q) in z))
+      let q : L < length grid.ladder = fits.level_below _ (from_below grid level k (ends_fit grid level k fits h)) in
+      ap (λ (m : ℕ). row_from grid.sheet (row_place m k L)) fits.km_size
+      ∙ sym (row_from_lem (length grid.a) (0 + length grid.ladder) grid.sheet k L h (let z : L < 0 + length grid.ladder = omega (arith, q) in z))
 
-  line_at_is : (e : Ends) (d : CircuitDesign) → e ≡ ends_of (ends_for ladder a b) level k → d ≡ between e → d ≡ line_at small level k
+  line_at_is : (e : Ends) (d : CircuitDesign) → e ≡ ends_of (ends_for grid) level k → d ≡ between e → d ≡ line_at small level k
   unfolding line_at line_between ends_of kv_high from_of to_of
   line_at_is e d p q =
       q ∙ ap (λ (z : Ends). between z) p
-      ∙ ap (λ (w : Row). line_of (from_of small level k) (to_of small level k) (kv_high small level k) w (at km k) (at share k)) row_is
+      ∙ ap (λ (w : Row). line_of (from_of small level k) (to_of small level k) (kv_high small level k) w (at grid.km k) (at grid.share k)) row_is
 
   pub circuit_is : (mva : Float) (e : Ends) (d r : CircuitDesign)
-      → e ≡ ends_of (ends_for ladder a b) level k → d ≡ between e → r ≡ banked_by e.steps_down d mva
+      → e ≡ ends_of (ends_for grid) level k → d ≡ between e → r ≡ banked_by e.steps_down d mva
       → r ≡ drawn small level k mva
   unfolding drawn ends_of
   circuit_is mva e d r p q s =

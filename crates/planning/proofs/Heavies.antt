@@ -29,35 +29,36 @@ use Rattle.planning.proofs.Redesigns.{redesign_is, banks_lift}
 use Rattle.planning.proofs.Marks.{mark_lifts, none_raised, lines_raised}
 use Rattle.std.specs.Prelude.{Err, Ok, Result}
 use Rattle.refusal.specs.Reply.{no_refusal}
+use Rattle.planning.specs.Tables.{GridColumns, grid_of, SupplyColumns, OpenedColumns}
 
 -- ---- one corridor's marks, and the loop over all
-module _ (ladder : List Float) (level a b : List ℕ) (km share sheet banks flow : List Float) where
+module _ (grid : GridColumns) (level : List ℕ) (banks flow : List Float) where
   abbrev pub H : Case
-  H = heavy_for (length level) ladder a b km share sheet
+  H = heavy_for (length level) grid
 
   abbrev pub S : Raised
   S = raised_of H level banks 0
 
-  module _ (k : ℕ) (h : k < length a) (d : CircuitDesign) (pd : d ≡ drawn (lines_for ladder a b km share sheet) level k (at banks k)) (t : Bool) (pt : t ≡ too_heavy d (at flow k)) (marks : List ℕ) where
+  module _ (k : ℕ) (h : k < length grid.a) (d : CircuitDesign) (pd : d ≡ drawn (lines_for grid) level k (at banks k)) (t : Bool) (pt : t ≡ too_heavy d (at flow k)) (marks : List ℕ) where
     heavy_is : t ≡ too_heavy (design (drawn_all H level banks) k) (at flow k)
-    heavy_is = pt ∙ ap (λ (x : CircuitDesign). too_heavy x (at flow k)) (pd ∙ drawn_lifts H sheet refl refl (omega arith) level k (at banks k) ∙ sym (drawn_at H level banks k h))
+    heavy_is = pt ∙ ap (λ (x : CircuitDesign). too_heavy x (at flow k)) (pd ∙ drawn_lifts H grid.sheet refl refl (omega arith) level k (at banks k) ∙ sym (drawn_at H level banks k h))
 
-    pub heavy_marked : t ≡ true → (marks' : List ℕ) → marks' ≡ mark_if (can_raise (pairs_for a b) level 0 k) (pairs_for a b) level k marks → marks' ≡ heavy_at H S flow k marks
+    pub heavy_marked : t ≡ true → (marks' : List ℕ) → marks' ≡ mark_if (can_raise (pairs_for grid.a grid.b) level 0 k) (pairs_for grid.a grid.b) level k marks → marks' ≡ heavy_at H S flow k marks
     heavy_marked e marks' q =
         q ∙ mark_lifts H level (can_raise H level 0 k) k marks ∙ ap (λ (x : Bool). mark_if (x && can_raise H level 0 k) H level k marks) (sym e ∙ heavy_is)
 
     pub light_unmarked : t ≡ false → marks ≡ heavy_at H S flow k marks
     light_unmarked e = ap (λ (x : Bool). mark_if (x && can_raise H level 0 k) H level k marks) (sym e ∙ heavy_is)
 
-  pub marks_start : (marks : List ℕ) (n : ℕ) → marks ≡ no_marks n → n ≡ length level → iter (heavy_at H S flow) (length a - 0) 0 marks ≡ heavy_marks H S flow
+  pub marks_start : (marks : List ℕ) (n : ℕ) → marks ≡ no_marks n → n ≡ length level → iter (heavy_at H S flow) (length grid.a - 0) 0 marks ≡ heavy_marks H S flow
   unfolding heavy_marks
   marks_start marks n p q =
-      iter_all (heavy_at H S flow) (length a) marks ∙ ap (λ (m : List ℕ). iter (heavy_at H S flow) (length a) 0 m) (p ∙ ap (λ (i : ℕ). no_marks i) q)
+      iter_all (heavy_at H S flow) (length grid.a) marks ∙ ap (λ (m : List ℕ). iter (heavy_at H S flow) (length grid.a) 0 m) (p ∙ ap (λ (i : ℕ). no_marks i) q)
 
 -- ---- what the marks read of a case
 module _ (c : Case) (sheet : List Float) (laid : Laid c sheet) (level : List ℕ) (banks flow : List Float) (m : length c.a ≡ c.corridors) (l : length c.ladder ≡ levels c) (n : length level ≡ c.buses) (promoted : ℕ) where
   abbrev N : Case
-  N = heavy_for (length level) c.ladder c.a c.b c.km c.share sheet
+  N = heavy_for (length level) (grid_of c.ladder c.a c.b c.km c.share c.cap sheet)
 
   designs_are : drawn_all N level banks ≡ drawn_all c level banks
   designs_are = sym (drawn_all_lifts N level sheet refl banks refl (omega arith)) ∙ drawn_all_lifts c level sheet laid banks m l
@@ -77,16 +78,16 @@ module _ (c : Case) (sheet : List Float) (laid : Laid c sheet) (level : List ℕ
       ∙ ap (λ (i : ℕ). iter (heavy_at c (raised_of c level banks promoted) flow) c.corridors 0 (no_marks i)) n
 
 -- ---- raised levels ask no more
-module _ (ladder : List Float) (level a b : List ℕ) (km share sheet : List Float) (marks level' : List ℕ) (e : level' ≡ raised_levels level marks) where
-  pub lines_again : Lines ladder level a b km share sheet → Lines ladder level' a b km share sheet
-  lines_again lines = subst (λ (l : List ℕ). Lines ladder l a b km share sheet) (sym e) (lines_raised ladder level a b km share sheet marks lines)
+module _ (grid : GridColumns) (level : List ℕ) (marks level' : List ℕ) (e : level' ≡ raised_levels level marks) where
+  pub lines_again : Lines grid level → Lines grid level'
+  lines_again lines = subst (λ (l : List ℕ). Lines grid l) (sym e) (lines_raised grid level marks lines)
 
 -- the marked buses raised and the corridors designed anew, where the marks are the heavy corridors'
-pub heavy_raised : (ladder : List Float) (level a b : List ℕ) (km share sheet load : List Float) (bus : List ℕ) (pmax flow floors banks : List Float) (level' : List ℕ) (banks' : List Float) (moved : ℕ) (marks : List ℕ)
-    → marks ≡ heavy_marks (heavy_for (length level) ladder a b km share sheet) (raised_of (heavy_for (length level) ladder a b km share sheet) level banks 0) flow
-    → Redrawn ladder level a b km share sheet load bus pmax marks floors banks level' banks' moved
-    → HeavyRaised ladder level a b km share sheet load bus pmax flow floors banks level' banks' moved marks
-heavy_raised ladder level a b km share sheet load bus pmax flow floors banks level' banks' zero marks e d =
+pub heavy_raised : (grid : GridColumns) (level : List ℕ) (supply : SupplyColumns) (flow floors banks : List Float) (level' : List ℕ) (banks' : List Float) (moved : ℕ) (marks : List ℕ)
+    → marks ≡ heavy_marks (heavy_for (length level) grid) (raised_of (heavy_for (length level) grid) level banks 0) flow
+    → Redrawn grid level supply marks floors banks level' banks' moved
+    → HeavyRaised grid level supply flow floors banks level' banks' moved marks
+heavy_raised grid level supply flow floors banks level' banks' zero marks e d =
     record {
       marks_are = e;
       count = d.count;
@@ -95,43 +96,43 @@ heavy_raised ladder level a b km share sheet load bus pmax flow floors banks lev
       anew = λ z. absurd (z refl);
       banked = d.banked;
     }
-heavy_raised ladder level a b km share sheet load bus pmax flow floors banks level' banks' (suc m) marks e d =
+heavy_raised grid level supply flow floors banks level' banks' (suc m) marks e d =
     record {
       marks_are = e;
       count = d.count;
       levels = (d.anew m refl).0;
       kept = λ z. absurd (omega (arith, z));
-      anew = λ z. (d.anew m refl).1 ∙ ap (λ (l : List ℕ). banks_anew (redesign_for ladder load bus pmax a b km share sheet) l floors) (sym (d.anew m refl).0);
+      anew = λ z. (d.anew m refl).1 ∙ ap (λ (l : List ℕ). banks_anew (redesign_for grid supply) l floors) (sym (d.anew m refl).0);
       banked = d.banked;
     }
 
 -- ---- a pass
-module _ (ladder : List Float) (level a b : List ℕ) (km share sheet load : List Float) (bus : List ℕ) (pmax : List Float) (grounds : List ℕ) (injection : List Float)
+module _ (grid : GridColumns) (level : List ℕ) (supply : SupplyColumns) (opened : OpenedColumns)
     (circuits : List ℕ) (banks angle₀ : List Float) (n : ℕ) (cleared : angle₀ ≡ zeros n) (size : n ≡ length level) (r : Result (Unit {0}) Refusal) (angle flow : List Float)
-    (told : solved_of r (edges_for (drawn_all (lines_for ladder a b km share sheet) level banks) circuits) angle flow
-    ≡ planning_state (peak_for (length level) grounds injection) (drawn_all (lines_for ladder a b km share sheet) level banks) circuits angle₀)
-    (o : Case) (mode : PlanMode) (target : ℕ) (s : Sound (pass_for o mode ladder a b km share sheet load bus pmax) target) (buses : length level ≡ o.buses) (d promoted : ℕ) where
+    (told : solved_of r (edges_for (drawn_all (lines_for grid) level banks) circuits) angle flow
+    ≡ planning_state (peak_for (length level) opened.grounds opened.injection) (drawn_all (lines_for grid) level banks) circuits angle₀)
+    (o : Case) (mode : PlanMode) (target : ℕ) (s : Sound (pass_for o mode grid supply) target) (buses : length level ≡ o.buses) (d promoted : ℕ) where
   abbrev C : Case
-  C = pass_for o mode ladder a b km share sheet load bus pmax
+  C = pass_for o mode grid supply
 
   abbrev P : Peak
-  P = peak_for o.buses grounds injection
+  P = peak_for o.buses opened.grounds opened.injection
 
   abbrev before : Raised
   before = raised_of C level banks promoted
 
   abbrev lines : Case
-  lines = lines_for ladder a b km share sheet
+  lines = lines_for grid
 
   abbrev next : PlanningCase → Stage Raised
   next v = pass_marked C before (heavy_marks C before v.flows) (passes d C P circuits)
 
   -- the solve, from zero
-  state_is : planning_state (peak_for (length level) grounds injection) (drawn_all lines level banks) circuits angle₀ ≡ planning_state P (drawn_all C level banks) circuits (zeros o.buses)
+  state_is : planning_state (peak_for (length level) opened.grounds opened.injection) (drawn_all lines level banks) circuits angle₀ ≡ planning_state P (drawn_all C level banks) circuits (zeros o.buses)
   state_is =
-      ap (λ (ds : List CircuitDesign). planning_state (peak_for (length level) grounds injection) ds circuits angle₀) (drawn_all_lifts C level sheet refl banks s.a_size s.ladder_size)
-      ∙ ap (λ (x : List Float). planning_state (peak_for (length level) grounds injection) (drawn_all C level banks) circuits x) (cleared ∙ ap (λ (i : ℕ). zeros i) size)
-      ∙ ap (λ (i : ℕ). planning_state (peak_for i grounds injection) (drawn_all C level banks) circuits (zeros i)) buses
+      ap (λ (ds : List CircuitDesign). planning_state (peak_for (length level) opened.grounds opened.injection) ds circuits angle₀) (drawn_all_lifts C level grid.sheet refl banks s.a_size s.ladder_size)
+      ∙ ap (λ (x : List Float). planning_state (peak_for (length level) opened.grounds opened.injection) (drawn_all C level banks) circuits x) (cleared ∙ ap (λ (i : ℕ). zeros i) size)
+      ∙ ap (λ (i : ℕ). planning_state (peak_for i opened.grounds opened.injection) (drawn_all C level banks) circuits (zeros i)) buses
 
   pub pass_refused : (f : Refusal) → r ≡ Err f → stopped f ≡ passes (suc d) C P circuits before
   unfolding passes
@@ -139,10 +140,10 @@ module _ (ladder : List Float) (level a b : List ℕ) (km share sheet load : Lis
       ap (λ (x : Result (Unit {0}) Refusal). onward (solved_of x (edges_for (drawn_all lines level banks) circuits) angle flow) next) (sym e)
       ∙ ap (λ (x : Stage PlanningCase). onward x next) (told ∙ state_is)
 
-  module _ (answered : r ≡ no_refusal) (floors : List Float) (unset : floors ≡ zeros (length a)) (level' : List ℕ) (banks' : List Float) (moved : ℕ) (marks : List ℕ)
-      (w : HeavyRaised ladder level a b km share sheet load bus pmax flow floors banks level' banks' moved marks) where
+  module _ (answered : r ≡ no_refusal) (floors : List Float) (unset : floors ≡ zeros (length grid.a)) (level' : List ℕ) (banks' : List Float) (moved : ℕ) (marks : List ℕ)
+      (w : HeavyRaised grid level supply flow floors banks level' banks' moved marks) where
     marks_is : marks ≡ heavy_marks C before flow
-    marks_is = w.marks_are ∙ marks_lift C sheet refl level banks flow s.a_size s.ladder_size buses promoted
+    marks_is = w.marks_are ∙ marks_lift C grid.sheet refl level banks flow s.a_size s.ladder_size buses promoted
 
     pass_is : passed_by moved C before marks (passes d C P circuits) ≡ passes (suc d) C P circuits before
     unfolding passes
@@ -156,7 +157,7 @@ module _ (ladder : List Float) (level a b : List ℕ) (km share sheet load : Lis
     anew_is e =
         ap (drawn_all C level')
         (w.anew e
-        ∙ banks_lift C sheet refl level' s.a_size s.bus_size s.ladder_size floors
+        ∙ banks_lift C grid.sheet refl level' s.a_size s.bus_size s.ladder_size floors
         ∙ ap (banks_anew C level') (unset ∙ ap (λ (i : ℕ). zeros i) s.a_size))
         ∙ sym (redesign_is C level' (zeros o.corridors))
         ∙ ap (λ (x : List ℕ). redesign C x (zeros o.corridors)) w.levels

@@ -3,7 +3,6 @@
 use Rattle.std.proofs.Common.{◌≡◌, ℕ, ◌+◌, ◌-◌, ◌*◌, ◌<◌, ◌≤◌, min, max, Bool, true, false, ◌&&◌, T, eqb, ltb, List, ◌++◌, length, get_or, take, drop, replicate, sym, refl, ap, ◌∙◌, subst, zero-mul, arith, length-take, take_at, ltb-false, ltb-true, le-ltb, eqb-true}
 use native.Mathlib.Nat.{sub-zero}
 use lib.ListN.{length-replicate, get_or-eq_default}
-use lib.Seq.{length_front}
 use lib.Ieee.{Float, nan, inf, fin, up, down, lt, le, of_bits}
 use Rattle.loops.specs.Figures.{nought, million, inside}
 use Rattle.loops.specs.Loops.{tab}
@@ -40,6 +39,7 @@ use Rattle.planning.proofs.Draws.{Laid}
 use Rattle.planning.proofs.Sounds.{lines_of}
 use Rattle.std.specs.Prelude.{Err, Ok, Result}
 use Rattle.plan_defs.specs.declared.CorridorPlan.{CorridorPlan}
+use Rattle.planning.specs.Tables.{GridColumns, grid_of, SupplyColumns, supply_of, OpenedColumns, opened_of}
 
 -- ---- a unit's most is not below zero, since its least is not
 truth : (b : Bool) → T b → b ≡ true
@@ -73,7 +73,7 @@ unit_inside pmin pmax c1 c2 h =
 
 module _ (c : Case) (target : ℕ) (s : Sound c target) where
   -- ---- what the columns are asked
-  units_by : Units c.bus c.pmax
+  units_by : Units (supply_of c.load c.bus c.slack c.pmin c.pmax c.c1 c.c2)
   units_by =
       record {
         pmax_size = s.pmax_size ∙ sym s.bus_size;
@@ -90,7 +90,7 @@ module _ (c : Case) (target : ℕ) (s : Sound c target) where
   level_size level e = ap length e ∙ (risen_first c).size
 
   columns_by : (sheet : List Float) → Laid c sheet → length sheet ≡ c.figures → (level : List ℕ) → level ≡ first_levels c
-      → Columns c.ladder level c.a c.b c.km c.share sheet c.load c.bus c.pmax
+      → Columns (grid_of c.ladder c.a c.b c.km c.share c.cap sheet) level (supply_of c.load c.bus c.slack c.pmin c.pmax c.c1 c.c2)
   columns_by sheet laid figures level e =
       record {
         lines = lines_of c target s sheet laid figures level (level_size level e) (λ i h. subst (λ (l : List ℕ). get_or l i 0 < levels c) (sym e) (first_below i h));
@@ -132,7 +132,7 @@ module _ (c : Case) (target : ℕ) (s : Sound c target) where
     pub plannable_by : (sheet : List Float) → Laid c sheet → length sheet ≡ c.figures → (banks floors : List Float) (upsized marks : List ℕ) (angle flow : List Float) → length leader ≡ c.buses → length injection ≡ c.buses
         → length circuits ≡ c.corridors → length banks ≡ c.corridors → floors ≡ zeros (length c.a) → upsized ≡ replicate (length c.a) 0 → length marks ≡ c.buses
         → length angle ≡ c.buses → length flow ≡ c.corridors
-        → Plannable c.ladder level c.a c.b c.km c.share c.cap sheet c.load c.bus c.pmax leader (take (count - 0) ground) injection circuits banks floors upsized marks angle flow
+        → Plannable (grid_of c.ladder c.a c.b c.km c.share c.cap sheet) level (supply_of c.load c.bus c.slack c.pmin c.pmax c.c1 c.c2) (opened_of leader (take (count - 0) ground) injection) circuits banks floors upsized marks angle flow
     plannable_by sheet laid figures banks floors upsized marks angle flow e₁ e₂ e₃ e₄ e₅ e₆ e₇ e₈ e₉ =
         let n = level_size level h.levels_are in
         let k : length leader ≡ length (component c) = ap length h.led in
@@ -240,112 +240,109 @@ room n x h = ap length (front_replicate 256 n x h) ∙ length-replicate n x
 lent_again : {A : Type 0} (n : ℕ) (x : A) (l : List A) → n ≤ 256 → length l ≡ length (fresh n x) → again n x l ≡ l
 lent_again n x l h e = take_at l (drop (n - 0) (replicate 256 x)) (n - 0) (e ∙ room n x h ∙ sym (sub-zero n))
 
-pub again_fits : {A : Type 0} (n : ℕ) (x : A) (l : List A) → n ≤ 256 → length l ≡ length (fresh n x) → n ≤ length (l ++ drop (n - 0) (replicate 256 x))
-again_fits n x l h e = subst (λ (k : ℕ). n ≤ k) (sym (length_front (replicate 256 x) l (n - 0) e ∙ length-replicate 256 x)) h
-
 -- ---- the stages over slices
-module _ (mode : PlanMode) (target above : ℕ) (ladder : List Float) (tier : List ℕ) (load : List Float) (bus slack : List ℕ) (pmin pmax c1 c2 : List Float) (a b initial : List ℕ)
-    (km share : List Float) (cap : List ℕ) (sheet : List Float) where
-  abbrev C : Case → Case
-  C o = whole_case o mode above ladder tier load bus slack pmin pmax c1 c2 a b initial km share cap sheet
+module _ (mode : PlanMode) (target above : ℕ) (grid : GridColumns) (tier : List ℕ) (supply : SupplyColumns) (initial : List ℕ)
+  where
+    abbrev C : Case → Case
+    C o = whole_case o mode above grid tier supply initial
 
-  abbrev DoneAfter : List ℕ → List Float → List Float → List Float → List Float → List ℕ → List ℕ → List Float → PlanRun → Type 0
-  DoneAfter circuits flow rate mw angle level ground added r =
-      PlanDone mode target above ladder tier load bus slack pmin pmax c1 c2 a b initial km share cap sheet circuits flow rate mw angle level ground added r
+    abbrev DoneAfter : List ℕ → List Float → List Float → List Float → List Float → List ℕ → List ℕ → List Float → PlanRun → Type 0
+    DoneAfter circuits flow rate mw angle level ground added r =
+        PlanDone mode target above grid tier supply initial circuits flow rate mw angle level ground added r
 
-  module _ (circuits : List ℕ) (flow rate mw angle : List Float) (level ground : List ℕ) (added figures : List Float) (counts : List ℕ)
-      (h : Lendable mode target above ladder tier load bus slack pmin pmax c1 c2 a b initial km share cap sheet (lent_to circuits flow rate mw angle level ground added figures counts)) where
-    lent_size : {A : Type 0} (x : A) → length (fresh (length tier) x) ≡ h.whole.buses
-    lent_size x = room (length tier) x (tier_fits h.sound) ∙ h.sound.tier_size
+    module _ (circuits : List ℕ) (flow rate mw angle : List Float) (level ground : List ℕ) (added figures : List Float) (counts : List ℕ)
+        (h : Lendable mode target above grid tier supply initial (lent_to circuits flow rate mw angle level ground added figures counts)) where
+      lent_size : {A : Type 0} (x : A) → length (fresh (length tier) x) ≡ h.whole.buses
+      lent_size x = room (length tier) x (tier_fits h.sound) ∙ h.sound.tier_size
 
-    pub openable_of : Openable mode above tier load bus slack pmin pmax c1 c2 a b initial (fresh (length tier) 0) (fresh (length tier) nought) ground mw level circuits
-    openable_of =
-        record {
-          whole = C h.whole;
-          target = target;
-          sound = h.sound;
-          leader_size = lent_size 0;
-          injection_size = lent_size nought;
-          ground_size = h.lengths.ground;
-          mw_size = h.lengths.mw;
-          level_size = h.lengths.tier;
-          circuits_size = h.lengths.circuits;
-        }
-
-    -- after the opening
-    module _ (leader' : List ℕ) (injection' : List Float) (ground' : List ℕ) (mw' : List Float) (level' circuits' : List ℕ) (r : Result ℕ Refusal)
-        (w : OpeningDone mode above tier load bus slack pmin pmax c1 c2 a b initial leader' injection' ground' mw' level' circuits' r) where
-      pub stages_refused : (f : Refusal) → r ≡ Err f → (circuits'' : List ℕ) (flow'' rate'' mw'' angle'' : List Float) (level'' ground'' : List ℕ) (added'' : List Float) (x : PlanRun) → x.said ≡ Err f
-          → DoneAfter circuits'' flow'' rate'' mw'' angle'' level'' ground'' added'' x
-      stages_refused f q circuits'' flow'' rate'' mw'' angle'' level'' ground'' added'' x j =
+      pub openable_of : Openable mode above tier supply grid.a grid.b initial (fresh (length tier) 0) (fresh (length tier) nought) ground mw level circuits
+      openable_of =
           record {
-            plan = λ o s.
-                let e = subst (λ (x : Result ℕ Refusal). OpenedAs x (C o) leader' injection' ground' mw' level' circuits') q (w.opens (C o) target s) in
-                subst (WholeAs x.said (take (length a) x.kept.before) (take (length a) x.kept.order) circuits'' flow'' rate'' mw'' angle'' level'' ground'' added'' (C o))
-                (sym (unopened (C o) target s f e)) j;
+            whole = C h.whole;
+            target = target;
+            sound = h.sound;
+            leader_size = lent_size 0;
+            injection_size = lent_size nought;
+            ground_size = h.lengths.ground;
+            mw_size = h.lengths.mw;
+            level_size = h.lengths.tier;
+            circuits_size = h.lengths.circuits;
           }
 
-      module _ (count : ℕ) (q : r ≡ Ok count) (e : length leader' ≡ length (fresh {A = ℕ} (length tier) 0)) where
-        opens_by : (o : Case) → Sound (C o) target → Opens (C o) leader' injection' count ground' mw' level' circuits'
-        opens_by o s = subst (λ (x : Result ℕ Refusal). OpenedAs x (C o) leader' injection' ground' mw' level' circuits') q (w.opens (C o) target s)
+      -- after the opening
+      module _ (leader' : List ℕ) (injection' : List Float) (ground' : List ℕ) (mw' : List Float) (level' circuits' : List ℕ) (r : Result ℕ Refusal)
+          (w : OpeningDone mode above tier supply grid.a grid.b initial leader' injection' ground' mw' level' circuits' r) where
+        pub stages_refused : (f : Refusal) → r ≡ Err f → (circuits'' : List ℕ) (flow'' rate'' mw'' angle'' : List Float) (level'' ground'' : List ℕ) (added'' : List Float) (x : PlanRun) → x.said ≡ Err f
+            → DoneAfter circuits'' flow'' rate'' mw'' angle'' level'' ground'' added'' x
+        stages_refused f q circuits'' flow'' rate'' mw'' angle'' level'' ground'' added'' x j =
+            record {
+              plan = λ o s.
+                  let e = subst (λ (x : Result ℕ Refusal). OpenedAs x (C o) leader' injection' ground' mw' level' circuits') q (w.opens (C o) target s) in
+                  subst (WholeAs x.said (take (length grid.a) x.kept.before) (take (length grid.a) x.kept.order) circuits'' flow'' rate'' mw'' angle'' level'' ground'' added'' (C o))
+                  (sym (unopened (C o) target s f e)) j;
+            }
 
-        pub count_of : length ground' ≡ length ground → count ≤ length ground'
-        count_of f =
-            omega (arith, count_fits (C h.whole) target h.sound leader' injection' count ground' mw' level' circuits' (opens_by h.whole h.sound) (e ∙ lent_size 0), f, h.lengths.ground)
+        module _ (count : ℕ) (q : r ≡ Ok count) (e : length leader' ≡ length (fresh {A = ℕ} (length tier) 0)) where
+          opens_by : (o : Case) → Sound (C o) target → Opens (C o) leader' injection' count ground' mw' level' circuits'
+          opens_by o s = subst (λ (x : Result ℕ Refusal). OpenedAs x (C o) leader' injection' ground' mw' level' circuits') q (w.opens (C o) target s)
 
-        -- what is lent on: the arrays' first places again, and those of the counts, which are zeroed
-        module _ (f : length injection' ≡ length (fresh (length tier) nought)) (zeroed : List ℕ) (z : zeroed ≡ replicate (length counts) 0) where
-          led : again (length tier) 0 leader' ≡ leader'
-          led = lent_again (length tier) 0 leader' (tier_fits h.sound) e
+          pub count_of : length ground' ≡ length ground → count ≤ length ground'
+          count_of f =
+              omega (arith, count_fits (C h.whole) target h.sound leader' injection' count ground' mw' level' circuits' (opens_by h.whole h.sound) (e ∙ lent_size 0), f, h.lengths.ground)
 
-          injected : again (length tier) nought injection' ≡ injection'
-          injected = lent_again (length tier) nought injection' (tier_fits h.sound) f
+          -- what is lent on: the arrays' first places again, and those of the counts, which are zeroed
+          module _ (f : length injection' ≡ length (fresh (length tier) nought)) (zeroed : List ℕ) (z : zeroed ≡ replicate (length counts) 0) where
+            led : again (length tier) 0 leader' ≡ leader'
+            led = lent_again (length tier) 0 leader' (tier_fits h.sound) e
 
-          opens_again : (o : Case) → Sound (C o) target → Opens (C o) (again (length tier) 0 leader') (again (length tier) nought injection') count ground' mw' level' circuits'
-          opens_again o s =
-              let k = opens_by o s in
-              record {
-                led = led ∙ k.led;
-                dispatched = k.dispatched;
-                injected = injected ∙ k.injected;
-                count_is = k.count_is;
-                grounded = k.grounded;
-                levels_are = k.levels_are;
-                circuits_are = k.circuits_are;
-              }
+            injected : again (length tier) nought injection' ≡ injection'
+            injected = lent_again (length tier) nought injection' (tier_fits h.sound) f
 
-          not_upsized : take (length a - 0) zeroed ≡ replicate (length a) 0
-          not_upsized = ap (take (length a - 0)) z ∙ front_replicate (length counts) (length a) 0 (counts_fit h.sound h.lengths)
+            opens_again : (o : Case) → Sound (C o) target → Opens (C o) (again (length tier) 0 leader') (again (length tier) nought injection') count ground' mw' level' circuits'
+            opens_again o s =
+                let k = opens_by o s in
+                record {
+                  led = led ∙ k.led;
+                  dispatched = k.dispatched;
+                  injected = injected ∙ k.injected;
+                  count_is = k.count_is;
+                  grounded = k.grounded;
+                  levels_are = k.levels_are;
+                  circuits_are = k.circuits_are;
+                }
 
-          bank_size : length (take (length a - 0) figures) ≡ h.whole.corridors
-          bank_size = length-take (length a - 0) figures ∙ (let y : min (length a - 0) (length figures) ≡ h.whole.corridors = omega (arith, figures_fit h.sound h.lengths, h.sound.a_size) in y)
+            not_upsized : take (length grid.a - 0) zeroed ≡ replicate (length grid.a) 0
+            not_upsized = ap (take (length grid.a - 0)) z ∙ front_replicate (length counts) (length grid.a) 0 (counts_fit h.sound h.lengths)
 
-          -- what the later stages ask
-          pub opened_asks : length circuits' ≡ length circuits
-              → Plannable ladder level' a b km share cap sheet load bus pmax (again (length tier) 0 leader') (take (count - 0) ground') (again (length tier) nought injection') circuits'
-              (take (length a - 0) figures) (fresh (length a) nought) (take (length a - 0) zeroed) (fresh (length tier) 0) angle flow
-              × Closable above ladder a (again (length tier) 0 leader') (take (length a - 0) zeroed) angle rate added
-          opened_asks g =
-              let k = opens_again h.whole h.sound in
-              let n = ap length led ∙ e ∙ lent_size 0 in
-              let l = h.lengths in (
-                plannable_by (C h.whole) target h.sound (again (length tier) 0 leader') (again (length tier) nought injection') count ground' mw' level' circuits' k
-                    sheet refl refl (take (length a - 0) figures) (fresh (length a) nought) (take (length a - 0) zeroed) (fresh (length tier) 0) angle flow n (ap length injected ∙ f ∙ lent_size nought)
-                    (g ∙ l.circuits) bank_size (front_replicate 256 (length a) nought (corridors_fit h.sound)) not_upsized (lent_size 0) l.angle l.flow,
-                closable_by (C h.whole) target h.sound (again (length tier) 0 leader') (again (length tier) nought injection') count ground' mw' level' circuits' k
-                    (take (length a - 0) zeroed) angle rate added n not_upsized l.angle l.rate l.added,
-              )
+            bank_size : length (take (length grid.a - 0) figures) ≡ h.whole.corridors
+            bank_size = length-take (length grid.a - 0) figures ∙ (let y : min (length grid.a - 0) (length figures) ≡ h.whole.corridors = omega (arith, figures_fit h.sound h.lengths, h.sound.a_size) in y)
 
-          pub stages_plan : (circuits'' : List ℕ) (flow'' rate'' angle'' : List Float) (level'' : List ℕ) (added'' : List Float) (x : PlanRun)
-              → OpenedPlan mode target above ladder level' a b km share cap sheet load bus pmax (again (length tier) 0 leader') (take (count - 0) ground') (again (length tier) nought injection') circuits'
-              (take (length a - 0) zeroed) circuits'' level'' flow'' rate'' angle'' added'' x
-              → DoneAfter circuits'' flow'' rate'' mw' angle'' level'' ground' added'' x
-          stages_plan circuits'' flow'' rate'' angle'' level'' added'' x v =
-              record {
-                plan = λ o s.
-                    let k = opens_again o s in
-                    whole_by (C o) target s x.said (take (length a) x.kept.before) (take (length a) x.kept.order) circuits'' flow'' rate'' mw' angle'' level'' ground' added'' (plan_for (C o) target) (opening_kept (C o) target s mw' k.dispatched) k.grounded
-                    (subst (PlannedAs x.said (take (length a) x.kept.before) (take (length a) x.kept.order) circuits'' level'' flow'' rate'' angle'' added'' (C o))
-                    (sym (planned_from (C o) target s (again (length tier) 0 leader') (again (length tier) nought injection') count ground' mw' level' circuits' k))
-                    (v.plan (C o) mw' s k.levels_are k.circuits_are (not_upsized ∙ ap (λ (m : ℕ). replicate m 0) s.a_size) refl));
-              }
+            -- what the later stages ask
+            pub opened_asks : length circuits' ≡ length circuits
+                → Plannable grid level' supply (opened_of (again (length tier) 0 leader') (take (count - 0) ground') (again (length tier) nought injection')) circuits'
+                (take (length grid.a - 0) figures) (fresh (length grid.a) nought) (take (length grid.a - 0) zeroed) (fresh (length tier) 0) angle flow
+                × Closable above grid.ladder grid.a (again (length tier) 0 leader') (take (length grid.a - 0) zeroed) angle rate added
+            opened_asks g =
+                let k = opens_again h.whole h.sound in
+                let n = ap length led ∙ e ∙ lent_size 0 in
+                let l = h.lengths in (
+                  plannable_by (C h.whole) target h.sound (again (length tier) 0 leader') (again (length tier) nought injection') count ground' mw' level' circuits' k
+                      grid.sheet refl refl (take (length grid.a - 0) figures) (fresh (length grid.a) nought) (take (length grid.a - 0) zeroed) (fresh (length tier) 0) angle flow n (ap length injected ∙ f ∙ lent_size nought)
+                      (g ∙ l.circuits) bank_size (front_replicate 256 (length grid.a) nought (corridors_fit h.sound)) not_upsized (lent_size 0) l.angle l.flow,
+                  closable_by (C h.whole) target h.sound (again (length tier) 0 leader') (again (length tier) nought injection') count ground' mw' level' circuits' k
+                      (take (length grid.a - 0) zeroed) angle rate added n not_upsized l.angle l.rate l.added,
+                )
+
+            pub stages_plan : (circuits'' : List ℕ) (flow'' rate'' angle'' : List Float) (level'' : List ℕ) (added'' : List Float) (x : PlanRun)
+                → OpenedPlan mode target above grid level' supply (opened_of (again (length tier) 0 leader') (take (count - 0) ground') (again (length tier) nought injection')) circuits'
+                (take (length grid.a - 0) zeroed) circuits'' level'' flow'' rate'' angle'' added'' x
+                → DoneAfter circuits'' flow'' rate'' mw' angle'' level'' ground' added'' x
+            stages_plan circuits'' flow'' rate'' angle'' level'' added'' x v =
+                record {
+                  plan = λ o s.
+                      let k = opens_again o s in
+                      whole_by (C o) target s x.said (take (length grid.a) x.kept.before) (take (length grid.a) x.kept.order) circuits'' flow'' rate'' mw' angle'' level'' ground' added'' (plan_for (C o) target) (opening_kept (C o) target s mw' k.dispatched) k.grounded
+                      (subst (PlannedAs x.said (take (length grid.a) x.kept.before) (take (length grid.a) x.kept.order) circuits'' level'' flow'' rate'' angle'' added'' (C o))
+                      (sym (planned_from (C o) target s (again (length tier) 0 leader') (again (length tier) nought injection') count ground' mw' level' circuits' k))
+                      (v.plan (C o) mw' s k.levels_are k.circuits_are (not_upsized ∙ ap (λ (m : ℕ). replicate m 0) s.a_size) refl));
+                }

@@ -10,6 +10,7 @@ pub mod Anew
 pub mod Builds
 pub mod Redesigns
 pub mod Marks
+pub mod Mapped
 pub mod Sizes
 pub mod Corridors
 pub mod Passing

@@ -22,10 +22,11 @@ use Rattle.planning.specs.declared.close.Closing.{Closing}
 use Rattle.planning.proofs.Draws.{Laid}
 use Rattle.planning.proofs.Builds.{drawn_all_lifts}
 use Rattle.planning.proofs.Closings.{new_size, least_most}
+use Rattle.planning.specs.Tables.{grid_of}
 
 module _ (c : Case) (target : ℕ) (s : Sound c target) (level : List ℕ) (banks : List Float) where
   -- ---- the designs and the filling order
-  pub designs_lift : (sheet : List Float) → Laid c sheet → designs_for c.ladder level c.a c.b c.km c.share sheet banks ≡ drawn_all c level banks
+  pub designs_lift : (sheet : List Float) → Laid c sheet → designs_for (grid_of c.ladder c.a c.b c.km c.share c.cap sheet) level banks ≡ drawn_all c level banks
   designs_lift sheet laid = drawn_all_lifts c level sheet laid banks s.a_size s.ladder_size
 
 -- ---- the filling

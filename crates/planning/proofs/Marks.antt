@@ -12,6 +12,7 @@ use Rattle.std.specs.Prelude.{Option, Some, None}
 use Rattle.planning.specs.Design.{Lines}
 use Rattle.planning.specs.Raise.{pairs_for}
 use Rattle.planning.proofs.Lists.{count_more, count_most, count_zero}
+use Rattle.planning.specs.Tables.{GridColumns}
 
 -- ---- marks
 pub marked_none : (m t : ℕ) → m ≡ 0 → t + 1 ≡ marked m t
@@ -155,9 +156,9 @@ none_raised level marks e =
     ∙ tab_of (length level) level 0 refl
 
 -- so that the lines stay as they must be
-pub lines_raised : (ladder : List Float) (level a b : List ℕ) (km share sheet : List Float) (marks : List ℕ) → Lines ladder level a b km share sheet
-    → Lines ladder (raised_levels level marks) a b km share sheet
-lines_raised ladder level a b km share sheet marks lines =
+pub lines_raised : (grid : GridColumns) (level : List ℕ) (marks : List ℕ) → Lines grid level
+    → Lines grid (raised_levels level marks)
+lines_raised grid level marks lines =
     let n = raised_length level marks in
     record {
       b_size = lines.b_size;

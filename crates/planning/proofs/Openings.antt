@@ -17,6 +17,7 @@ use Rattle.planning.specs.Plan.{Opens}
 use Rattle.planning.proofs.Lifting.{grounds_lift, dispatch_lift, injections_lift}
 use Rattle.std.specs.Prelude.{Err, Result}
 use Rattle.refusal.specs.Reply.{no_refusal}
+use Rattle.planning.specs.Tables.{supply_of}
 
 module _ (c : Case) (target : ℕ) (s : Sound c target) where
   -- ---- what is asked
@@ -39,7 +40,7 @@ module _ (c : Case) (target : ℕ) (s : Sound c target) where
         below = λ k h. omega (arith, e, s.bus_below k (omega (arith, h, s.bus_size)));
       }
 
-  pub costs_by : Costs c.bus c.pmin c.pmax c.c1 c.c2
+  pub costs_by : Costs (supply_of c.load c.bus c.slack c.pmin c.pmax c.c1 c.c2)
   costs_by =
       record {
         pmin_size = s.pmin_size ∙ sym s.bus_size;

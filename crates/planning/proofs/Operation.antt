@@ -23,6 +23,7 @@ use Rattle.planning.proofs.Liftings.{finished_refused, finished_answered}
 use Rattle.planning.proofs.Sounds.{sound, lengths_of, kept_lengths, refused_outcome}
 use Rattle.std.specs.Prelude.{Err, Ok, Result}
 use Rattle.refusal.specs.Reply.{reply_of, no_refusal}
+use Rattle.planning.specs.Tables.{grid_of, supply_of}
 
 module _ (c : Case) (target : ℕ) (s : Slices) where
   -- ---- what is promised: the defined outcome, and of an answer demand 3
@@ -76,8 +77,7 @@ module _ (c : Case) (target : ℕ) (s : Slices) where
     -- with the loads that are lent
     abbrev LendableWith : List Float → List Float → Type 0
     LendableWith sheet load =
-        Lendable c.mode target c.above c.ladder c.tier load c.bus c.slack c.pmin c.pmax c.c1 c.c2 c.a c.b c.circuits
-        c.km c.share c.cap sheet (lent_of s)
+        Lendable c.mode target c.above (grid_of c.ladder c.a c.b c.km c.share c.cap sheet) c.tier (supply_of load c.bus c.slack c.pmin c.pmax c.c1 c.c2) c.circuits (lent_of s)
 
     pub lendable_by : (sheet : List Float) → Laid c sheet → length sheet ≡ c.figures → (load : List Float) → load ≡ c.load → LendableWith sheet load
     lendable_by sheet laid figures load e =
@@ -92,8 +92,8 @@ module _ (c : Case) (target : ℕ) (s : Slices) where
         ∙ ap (λ (f : Option Refusal). outcome_by (ending_by f c target) c s) (passed_by_lem (slices_ok c s) c target ok).1)
 
     module _ (sheet : List Float) (laid : Laid c sheet) (figures : length sheet ≡ c.figures) (r : PlanRun) (lent : Slices) (size : Lengths c lent)
-        (done : PlanDone c.mode target c.above c.ladder c.tier c.load c.bus c.slack c.pmin c.pmax c.c1 c.c2 c.a c.b c.circuits
-        c.km c.share c.cap sheet lent.circuits lent.flow lent.rate lent.mw lent.angle lent.tier lent.ground lent.added r)
+        (done : PlanDone c.mode target c.above (grid_of c.ladder c.a c.b c.km c.share c.cap sheet) c.tier (supply_of c.load c.bus c.slack c.pmin c.pmax c.c1 c.c2) c.circuits
+        lent.circuits lent.flow lent.rate lent.mw lent.angle lent.tier lent.ground lent.added r)
         (out : Slices) (before order caps : List ℕ) where
       abbrev front : List ℕ → List ℕ
       front l = take (length c.a) l
@@ -201,8 +201,8 @@ module _ (c : Case) (target : ℕ) (s : Slices) where
     -- with the loads that were lent
     abbrev DoneWith : List Float → PlanRun → Slices → List Float → Type 0
     DoneWith sheet r lent load =
-        PlanDone c.mode target c.above c.ladder c.tier load c.bus c.slack c.pmin c.pmax c.c1 c.c2 c.a c.b c.circuits
-        c.km c.share c.cap sheet lent.circuits lent.flow lent.rate lent.mw lent.angle lent.tier lent.ground lent.added r
+        PlanDone c.mode target c.above (grid_of c.ladder c.a c.b c.km c.share c.cap sheet) c.tier (supply_of load c.bus c.slack c.pmin c.pmax c.c1 c.c2) c.circuits
+        lent.circuits lent.flow lent.rate lent.mw lent.angle lent.tier lent.ground lent.added r
 
     pub ends_when : (sheet : List Float) → Laid c sheet → length sheet ≡ c.figures → Binary c → (r : PlanRun) (lent : Slices)
         → length lent.circuits ≡ length s.circuits → length lent.flow ≡ length s.flow → length lent.rate ≡ length s.rate

@@ -16,6 +16,7 @@ use Rattle.plan_defs.specs.Fill.{Rank, rank_at, before, placed_rank, insert_rank
 use Rattle.plan_defs.specs.declared.CircuitDesign.{CircuitDesign}
 use Rattle.planning.specs.Fill.{designs_for, rank_before, order_by, Whole, Ranked}
 use Rattle.planning.proofs.Insertion.{order_same, order_below, order_length}
+use Rattle.planning.specs.Tables.{GridColumns}
 
 module _ (ds : List CircuitDesign) (counts : List ℕ) (flows : List Float) where
   abbrev rank : ℕ → Rank
@@ -71,9 +72,9 @@ module _ (ds : List CircuitDesign) (counts : List ℕ) (flows : List Float) wher
       }
 
 -- ---- the design that code draws is the one in its place
-pub drawn_here : (ladder : List Float) (level a b : List ℕ) (km share sheet banks : List Float) (k : ℕ) (d : CircuitDesign) → k < length a
-    → d ≡ drawn (lines_for ladder a b km share sheet) level k (at banks k) → d ≡ design (designs_for ladder level a b km share sheet banks) k
-drawn_here ladder level a b km share sheet banks k d h e = e ∙ sym (drawn_at (lines_for ladder a b km share sheet) level banks k h)
+pub drawn_here : (grid : GridColumns) (level : List ℕ) (banks : List Float) (k : ℕ) (d : CircuitDesign) → k < length grid.a
+    → d ≡ drawn (lines_for grid) level k (at banks k) → d ≡ design (designs_for grid level banks) k
+drawn_here grid level banks k d h e = e ∙ sym (drawn_at (lines_for grid) level banks k h)
 
 -- its length is the corridor's
 km_by : (b : Bool) (d : CircuitDesign) (mva : Float) → (banked_by b d mva).length_km ≡ d.length_km
@@ -90,16 +91,16 @@ pub filled_at : {A : Type 0} (w w₀ : List A) (f : ℕ → A) (n k : ℕ) (d : 
 filled_at w w₀ f n k d e h =
     ap (λ (l : List _). get_or l k d) e ∙ get_or-append (tab n f) (drop n w₀) d k (omega (arith, length_tab n f)) ∙ get_tab n f k d h
 
-module _ (ladder : List Float) (level a b : List ℕ) (km share sheet banks : List Float) (circuits : List ℕ) (flow : List Float) where
+module _ (grid : GridColumns) (level : List ℕ) (banks : List Float) (circuits : List ℕ) (flow : List Float) where
   abbrev ds : List CircuitDesign
-  ds = designs_for ladder level a b km share sheet banks
+  ds = designs_for grid level banks
 
-  pub order_made : (before loading before' kv : List Float) (order : List ℕ) → length km ≡ length a
-      → loading ≡ filled before (loading_at ds circuits flow) (length a) → kv ≡ filled before' (λ (k : ℕ). (design ds k).kv) (length a)
-      → take (length km) order ≡ order_by (rank_before loading kv km) (length km) → take (length a) order ≡ order_of (length a) ds circuits flow
+  pub order_made : (before loading before' kv : List Float) (order : List ℕ) → length grid.km ≡ length grid.a
+      → loading ≡ filled before (loading_at ds circuits flow) (length grid.a) → kv ≡ filled before' (λ (k : ℕ). (design ds k).kv) (length grid.a)
+      → take (length grid.km) order ≡ order_by (rank_before loading kv grid.km) (length grid.km) → take (length grid.a) order ≡ order_of (length grid.a) ds circuits flow
   order_made before loading before' kv order e p q r =
-      ap (λ (n : ℕ). take n order) (sym e) ∙ r ∙ ap (order_by (rank_before loading kv km)) e
-      ∙ order_columns ds circuits flow loading kv km (length a)
-      (λ k h. filled_at loading before (loading_at ds circuits flow) (length a) k nan p h)
-      (λ k h. filled_at kv before' (λ (k : ℕ). (design ds k).kv) (length a) k nan q h)
-      (λ k h. sym (drawn_km (lines_for ladder a b km share sheet) level k (at banks k)) ∙ ap (λ (d : CircuitDesign). d.length_km) (drawn_here ladder level a b km share sheet banks k _ h refl))
+      ap (λ (n : ℕ). take n order) (sym e) ∙ r ∙ ap (order_by (rank_before loading kv grid.km)) e
+      ∙ order_columns ds circuits flow loading kv grid.km (length grid.a)
+      (λ k h. filled_at loading before (loading_at ds circuits flow) (length grid.a) k nan p h)
+      (λ k h. filled_at kv before' (λ (k : ℕ). (design ds k).kv) (length grid.a) k nan q h)
+      (λ k h. sym (drawn_km (lines_for grid) level k (at banks k)) ∙ ap (λ (d : CircuitDesign). d.length_km) (drawn_here grid level banks k _ h refl))

@@ -21,11 +21,11 @@ use Rattle.plan_defs.specs.declared.CircuitDesign.{CircuitDesign}
 use Rattle.plan_defs.proofs.Stages.{On}
 use Rattle.plan_defs.proofs.Rising.{risen_first}
 use Rattle.planning.specs.Design.{Lines, Banks}
-use Rattle.planning.specs.Redesign.{redesign_for, banks_anew, RedesignFits}
+use Rattle.planning.specs.Redesign.{Units, redesign_for, banks_anew, RedesignFits}
 use Rattle.planning.specs.Solve.{peak_for}
 use Rattle.planning.specs.Close.{Closable}
 use Rattle.planning.specs.Raises.{raised_of, raised_as, Within, Raisable, RaisesDone}
-use Rattle.planning.specs.Rounds.{rounds_case, draft_of, ran_as, RoundsFit, RoundsRun}
+use Rattle.planning.specs.Rounds.{rounds_case, draft_of, ran_as, RoundsRun}
 use Rattle.planning.specs.Settle.{settlement_of, SettledAs, Settleable, Settles}
 use Rattle.planning.specs.Sound.{Sound}
 use Rattle.planning.specs.Plan.{rounds_for, start_of, Runnable, RanAll, plan_by, planned_by, PlannedAs, Plannable, OpenedPlan}
@@ -37,6 +37,7 @@ use Rattle.planning.proofs.Redesigns.{redesign_is, banks_lift, first_design}
 use Rattle.std.specs.Prelude.{Err, Ok, Result}
 use Rattle.plan_defs.specs.declared.CorridorPlan.{CorridorPlan}
 use Rattle.planning.specs.declared.settle.Settlement.{Settlement}
+use Rattle.planning.specs.Tables.{GridColumns, OpenedColumns, SupplyColumns, grid_of, supply_of}
 
 -- ---- how many rounds
 not_zero : (m : ℕ) → eqb (suc m) 0 ≡ false
@@ -65,73 +66,40 @@ unfolding rounds
 no_rounds_lem c P led budget s e = ap (λ (d : ℕ). rounds c P led d s) (sym e)
 
 -- ---- the rounds over slices
-module _ (mode : PlanMode) (above promoted : ℕ) (ladder : List Float) (level a b : List ℕ) (km share : List Float) (cap : List ℕ) (sheet load : List Float) (bus : List ℕ) (pmax : List Float) (leader grounds : List ℕ)
-    (injection : List Float) (circuits : List ℕ) (banks floors : List Float) (upsized marks : List ℕ) (angle flow : List Float)
-    (h : Runnable above promoted ladder level a b km share cap sheet load bus pmax leader grounds injection circuits banks floors upsized marks angle flow)
-    (cold : List Float) (e : cold ≡ replicate (length angle) nought) (start : Progress) (f : start ≡ start_of mode (length a) promoted)
-    (budget : ℕ) (g : budget ≡ rounds_for mode (length a)) where
-  pub rounds_fit : length cold ≡ length angle → (budget ≡ 0 → ⊥)
-      → RoundsFit above budget start ladder level a b km share cap sheet load bus pmax leader grounds injection circuits banks floors upsized marks cold flow
-  rounds_fit size some =
-      record {
-        columns = h.columns;
-        places =
-            record {
-              leader_size = h.places.leader_size;
-              few_grounds = h.places.few_grounds;
-              ground_below = h.places.ground_below;
-              injection_size = h.places.injection_size;
-              count_size = h.places.count_size;
-              bank_size = h.places.bank_size;
-              floor_size = h.places.floor_size;
-              upsized_size = h.places.upsized_size;
-              mark_size = h.places.mark_size;
-              angle_size = size ∙ h.places.angle_size;
-              flow_size = h.places.flow_size;
-            };
-        tallies =
-            record {
-              few_levels = h.few_levels;
-              rounds = omega (arith, ap (λ (p : Progress). p.rounds) f, g, budget_le (expand mode && not (eqb (length a) 0)));
-              promoted = omega (arith, ap (λ (p : Progress). p.promoted) f, h.few_moves);
-              capacity = omega (arith, ap (λ (p : Progress). p.capacity) f);
-              stiffening = omega (arith, ap (λ (p : Progress). p.stiffening) f);
-            };
-        capped = h.capped;
-        some = budget_some (expand mode) (length a) (λ z. some (g ∙ z));
-        banked = h.banked;
-        few = h.few;
-      }
-
-  module _ (o : Case) (target : ℕ) (s : Sound (rounds_case o mode above ladder a b km share sheet load bus pmax) target) (n : length level ≡ o.buses) where
+module _ (mode : PlanMode) (above promoted : ℕ) (grid : GridColumns) (level : List ℕ) (supply : SupplyColumns) (opened : OpenedColumns)
+    (circuits : List ℕ) (banks floors : List Float) (upsized marks : List ℕ) (angle flow : List Float)
+    (h : Runnable above promoted grid level supply opened circuits banks floors upsized marks angle flow)
+    (cold : List Float) (e : cold ≡ replicate (length angle) nought) (start : Progress) (f : start ≡ start_of mode (length grid.a) promoted)
+    (budget : ℕ) (g : budget ≡ rounds_for mode (length grid.a)) where
+  module _ (o : Case) (target : ℕ) (s : Sound (rounds_case o mode above grid supply) target) (n : length level ≡ o.buses) where
     abbrev C : Case
-    C = rounds_case o mode above ladder a b km share sheet load bus pmax
+    C = rounds_case o mode above grid supply
 
     abbrev P : Peak
-    P = peak_for o.buses grounds injection
+    P = peak_for o.buses opened.grounds opened.injection
 
     starts : draft_of C level circuits banks floors upsized cold start ≡ draft_of C level circuits banks floors upsized (zeros o.buses) (start_of mode o.corridors promoted)
     starts =
         ap (λ (x : List Float). draft_of C level circuits banks floors upsized x start) (e ∙ ap (λ (i : ℕ). zeros i) (h.places.angle_size ∙ n))
         ∙ ap (draft_of C level circuits banks floors upsized (zeros o.buses)) (f ∙ ap (λ (m : ℕ). start_of mode m promoted) s.a_size)
 
-    all_of : rounds C P leader budget (draft_of C level circuits banks floors upsized cold start)
-        ≡ all_rounds C P leader (draft_of C level circuits banks floors upsized (zeros o.buses) (start_of mode o.corridors promoted))
-    all_of = ap (rounds C P leader budget) starts ∙ all_rounds_lem C P leader budget _ (g ∙ ap (rounds_for mode) s.a_size)
+    all_of : rounds C P opened.leader budget (draft_of C level circuits banks floors upsized cold start)
+        ≡ all_rounds C P opened.leader (draft_of C level circuits banks floors upsized (zeros o.buses) (start_of mode o.corridors promoted))
+    all_of = ap (rounds C P opened.leader budget) starts ∙ all_rounds_lem C P opened.leader budget _ (g ∙ ap (rounds_for mode) s.a_size)
 
   pub ran_none : budget ≡ 0
-      → RanAll mode above promoted ladder level a b km share cap sheet load bus pmax leader grounds injection circuits banks floors upsized level circuits banks floors upsized cold (Ok start)
+      → RanAll mode above promoted grid level supply opened circuits banks floors upsized level circuits banks floors upsized cold (Ok start)
   ran_none z =
       record {
-        ran = λ o target s n caps. no_rounds_lem (C o target s n) (P o target s n) leader budget (draft_of (C o target s n) level circuits banks floors upsized cold start) z ∙ all_of o target s n;
+        ran = λ o target s n caps. no_rounds_lem (C o target s n) (P o target s n) opened.leader budget (draft_of (C o target s n) level circuits banks floors upsized cold start) z ∙ all_of o target s n;
         lines = h.columns.lines;
         banked = h.banked;
         few = h.few;
       }
 
   pub ran_some : (level' circuits' : List ℕ) (banks' floors' : List Float) (upsized' : List ℕ) (angle' : List Float) (r : Result Progress Refusal)
-      → RoundsRun mode above budget start ladder level a b km share cap sheet load bus pmax leader grounds injection circuits banks floors upsized cold level' circuits' banks' floors' upsized' angle' r
-      → RanAll mode above promoted ladder level a b km share cap sheet load bus pmax leader grounds injection circuits banks floors upsized level' circuits' banks' floors' upsized' angle' r
+      → RoundsRun mode above budget start grid level supply opened circuits banks floors upsized cold level' circuits' banks' floors' upsized' angle' r
+      → RanAll mode above promoted grid level supply opened circuits banks floors upsized level' circuits' banks' floors' upsized' angle' r
   ran_some level' circuits' banks' floors' upsized' angle' r w =
       record { ran = λ o target s n caps. w.ran o target s n caps ∙ all_of o target s n; lines = w.lines; banked = w.banked; few = w.few }
 
@@ -179,10 +147,10 @@ module _ (p : Progress) (gs : ℕ) (before order circuits tier : List ℕ) (flow
 abbrev opened_for : Case → List ℕ → List Float → Peak → Raised → Opened
 opened_for c led mw P s = record { led = led; mw = mw; peak = P; draft = first_draft c s }
 
-module _ (mode : PlanMode) (target above : ℕ) (ladder : List Float) (level a b : List ℕ) (km share : List Float) (cap : List ℕ) (sheet load : List Float) (bus : List ℕ) (pmax : List Float) (leader grounds : List ℕ)
-    (injection : List Float) (circuits : List ℕ) (banks floors : List Float) (upsized marks : List ℕ) (angle flow : List Float)
-    (h : Plannable ladder level a b km share cap sheet load bus pmax leader grounds injection circuits banks floors upsized marks angle flow) where
-  pub redesign_fit : RedesignFits ladder level a b km share sheet load bus pmax floors banks
+module _ (mode : PlanMode) (target above : ℕ) (grid : GridColumns) (level : List ℕ) (supply : SupplyColumns) (opened : OpenedColumns)
+    (circuits : List ℕ) (banks floors : List Float) (upsized marks : List ℕ) (angle flow : List Float)
+    (h : Plannable grid level supply opened circuits banks floors upsized marks angle flow) where
+  pub redesign_fit : RedesignFits grid level supply floors banks
   redesign_fit =
       record {
         lines = h.columns.lines;
@@ -194,7 +162,7 @@ module _ (mode : PlanMode) (target above : ℕ) (ladder : List Float) (level a b
       }
 
   pub raises_fit : (banks₁ : List Float) → length banks₁ ≡ length banks → Banks banks₁
-      → Raisable ladder level a b km share sheet load bus pmax grounds injection circuits floors banks₁ marks angle flow
+      → Raisable grid level supply opened circuits floors banks₁ marks angle flow
   raises_fit banks₁ e banked =
       record {
         drawing =
@@ -229,10 +197,10 @@ module _ (mode : PlanMode) (target above : ℕ) (ladder : List Float) (level a b
       }
 
   -- what the solves, the filling and the closing ask of what the rounds leave
-  pub settleable_of : (rate added : List Float) → Closable above ladder a leader upsized angle rate added → (level'' circuits'' : List ℕ) (banks'' : List Float) (upsized'' : List ℕ)
-      (angle'' flow'' : List Float) → Lines ladder level'' a b km share sheet → Banks banks'' → length circuits'' ≡ length circuits → length banks'' ≡ length banks
+  pub settleable_of : (rate added : List Float) → Closable above grid.ladder grid.a opened.leader upsized angle rate added → (level'' circuits'' : List ℕ) (banks'' : List Float) (upsized'' : List ℕ)
+      (angle'' flow'' : List Float) → Lines grid level'' → Banks banks'' → length circuits'' ≡ length circuits → length banks'' ≡ length banks
       → length upsized'' ≡ length upsized → length level'' ≡ length level → length angle'' ≡ length angle → length flow'' ≡ length flow
-      → Settleable above ladder level'' a b km share cap sheet leader grounds injection banks'' upsized'' circuits'' flow'' rate angle'' added
+      → Settleable above grid level'' opened banks'' upsized'' circuits'' flow'' rate angle'' added
   settleable_of rate added k level'' circuits'' banks'' upsized'' angle'' flow'' lines banked e₁ e₂ e₃ e₄ e₅ e₆ =
       record {
         drawing =
@@ -266,10 +234,10 @@ module _ (mode : PlanMode) (target above : ℕ) (ladder : List Float) (level a b
 
   -- after the raises
   module _ (banks₁ : List Float) (level' : List ℕ) (banks' : List Float) (r : Result ℕ Refusal)
-      (w : RaisesDone mode ladder level a b km share sheet load bus pmax grounds injection circuits banks₁ level' banks' r) (size : length level' ≡ length level) where
+      (w : RaisesDone mode grid level supply opened circuits banks₁ level' banks' r) (size : length level' ≡ length level) where
     pub runnable_of : (promoted : ℕ) → r ≡ Ok promoted → above ≤ most_levels → (marks' : List ℕ) (angle' flow' : List Float) → length banks' ≡ length banks
         → length marks' ≡ length marks → length angle' ≡ length angle → length flow' ≡ length flow
-        → Runnable above promoted ladder level' a b km share cap sheet load bus pmax leader grounds injection circuits banks' floors upsized marks' angle' flow'
+        → Runnable above promoted grid level' supply opened circuits banks' floors upsized marks' angle' flow'
     runnable_of promoted q low marks' angle' flow' e₁ e₂ e₃ e₄ =
         record {
           columns =
@@ -300,25 +268,43 @@ module _ (mode : PlanMode) (target above : ℕ) (ladder : List Float) (level a b
           few = h.few;
         }
 
-    module _ (anew : banks₁ ≡ banks_anew (redesign_for ladder load bus pmax a b km share sheet) level floors) where
-      module _ (o : Case) (mw : List Float) (s : Sound (rounds_case o mode above ladder a b km share sheet load bus pmax) target)
-          (l : level ≡ first_levels (rounds_case o mode above ladder a b km share sheet load bus pmax))
-          (e : circuits ≡ lower_bounds (rounds_case o mode above ladder a b km share sheet load bus pmax)) where
+    module _ (anew : banks₁ ≡ banks_anew (redesign_for grid supply) level floors) where
+      module _ (o : Case) (mw : List Float) (s : Sound (rounds_case o mode above grid supply) target)
+          (l : level ≡ first_levels (rounds_case o mode above grid supply))
+          (e : circuits ≡ lower_bounds (rounds_case o mode above grid supply)) where
         abbrev E : Case
-        E = rounds_case o mode above ladder a b km share sheet load bus pmax
+        E = rounds_case o mode above grid supply
 
         abbrev Q : Peak
-        Q = peak_for o.buses grounds injection
+        Q = peak_for o.buses opened.grounds opened.injection
 
         buses_are : length level ≡ o.buses
         buses_are = ap length l ∙ (risen_first E).size
 
+        -- of the whole case, whose other columns these do not read
+        own_lines : Lines (grid_of E.ladder E.a E.b E.km E.share E.cap grid.sheet) level
+        own_lines =
+            let l = h.columns.lines in
+            record {
+              b_size = l.b_size;
+              km_size = l.km_size;
+              share_size = l.share_size;
+              sheet_size = l.sheet_size;
+              a_below = l.a_below;
+              b_below = l.b_below;
+              level_below = l.level_below;
+              rates = l.rates;
+            }
+
+        own_units : Units (supply_of E.load E.bus E.slack E.pmin E.pmax E.c1 E.c2)
+        own_units = let u = h.columns.units in record { pmax_size = u.pmax_size; few = u.few; bus_below = u.bus_below; sound = u.sound }
+
         designs_are : drawn_all E level banks₁ ≡ design_circuits E level
         designs_are =
-            ap (drawn_all E level) (anew ∙ banks_lift E sheet refl level s.a_size s.bus_size s.ladder_size floors)
+            ap (drawn_all E level) (anew ∙ banks_lift E grid.sheet refl level s.a_size s.bus_size s.ladder_size floors)
             ∙ sym (redesign_is E level floors)
             ∙ ap (redesign E level) (h.unset ∙ ap (λ (m : ℕ). zeros m) s.a_size)
-            ∙ first_design E sheet refl level s.a_size s.bus_size s.ladder_size h.columns.lines h.columns.loads h.columns.units h.columns.few
+            ∙ first_design E grid.sheet refl level s.a_size s.bus_size s.ladder_size own_lines h.columns.loads own_units h.columns.few
 
         firsts_are : raised_of E level banks₁ 0 ≡ first_raised E
         firsts_are =
@@ -329,80 +315,80 @@ module _ (mode : PlanMode) (target above : ℕ) (ladder : List Float) (level a b
         raises_are =
             sym (w.raised E target s buses_are ∙ ap (raises E Q circuits) firsts_are ∙ ap (λ (t : List ℕ). raises E Q t (first_raised E)) e)
 
-        opened_is : onward (opened_with E leader mw Q) (settled E) ≡ onward (raised_as r E level' banks') (λ t. settled E (opened_for E leader mw Q t))
-        opened_is = ap (λ (x : Stage Raised). onward (onward x (λ t. going (opened_for E leader mw Q t))) (settled E)) raises_are ∙ go (raised_as r E level' banks')
+        opened_is : onward (opened_with E opened.leader mw Q) (settled E) ≡ onward (raised_as r E level' banks') (λ t. settled E (opened_for E opened.leader mw Q t))
+        opened_is = ap (λ (x : Stage Raised). onward (onward x (λ t. going (opened_for E opened.leader mw Q t))) (settled E)) raises_are ∙ go (raised_as r E level' banks')
           where
-            go : (x : Stage Raised) → onward (onward x (λ t. going (opened_for E leader mw Q t))) (settled E) ≡ onward x (λ t. settled E (opened_for E leader mw Q t))
+            go : (x : Stage Raised) → onward (onward x (λ t. going (opened_for E opened.leader mw Q t))) (settled E) ≡ onward x (λ t. settled E (opened_for E opened.leader mw Q t))
             go (stopped f) = refl
             go (going t) = refl
 
       pub opened_refused : (f : Refusal) → r ≡ Err f → (circuits'' level'' : List ℕ) (flow'' rate'' angle'' added'' : List Float) (i : PlanRun) → i.said ≡ Err f
-          → OpenedPlan mode target above ladder level a b km share cap sheet load bus pmax leader grounds injection circuits upsized circuits'' level'' flow'' rate'' angle'' added'' i
+          → OpenedPlan mode target above grid level supply opened circuits upsized circuits'' level'' flow'' rate'' angle'' added'' i
       opened_refused f q circuits'' level'' flow'' rate'' angle'' added'' i j =
           record {
             plan = λ o mw s l e g caps.
                 let c = E o mw s l e in
                 let P = Q o mw s l e in
-                let z : onward (opened_with c leader mw P) (settled c) ≡ stopped f = opened_is o mw s l e
-                ∙ ap (λ (x : Result ℕ Refusal). onward (raised_as x c level' banks') (λ t. settled c (opened_for c leader mw P t))) q in
-                subst (PlannedAs i.said (take (length a) i.kept.before) (take (length a) i.kept.order) circuits'' level'' flow'' rate'' angle'' added'' c)
+                let z : onward (opened_with c opened.leader mw P) (settled c) ≡ stopped f = opened_is o mw s l e
+                ∙ ap (λ (x : Result ℕ Refusal). onward (raised_as x c level' banks') (λ t. settled c (opened_for c opened.leader mw P t))) q in
+                subst (PlannedAs i.said (take (length grid.a) i.kept.before) (take (length grid.a) i.kept.order) circuits'' level'' flow'' rate'' angle'' added'' c)
                 (sym (ap (λ (t : Stage Ready). onward t (closing c target)) z)) j;
           }
 
       -- after the rounds
       module _ (promoted : ℕ) (q : r ≡ Ok promoted) (level'' circuits'' : List ℕ) (banks'' floors'' : List Float) (upsized'' : List ℕ) (angle'' : List Float) (x : Result Progress Refusal)
-          (v : RanAll mode above promoted ladder level' a b km share cap sheet load bus pmax leader grounds injection circuits banks' floors upsized
+          (v : RanAll mode above promoted grid level' supply opened circuits banks' floors upsized
           level'' circuits'' banks'' floors'' upsized'' angle'' x) where
-        module _ (o : Case) (mw : List Float) (s : Sound (rounds_case o mode above ladder a b km share sheet load bus pmax) target)
-            (l : level ≡ first_levels (rounds_case o mode above ladder a b km share sheet load bus pmax))
-            (e : circuits ≡ lower_bounds (rounds_case o mode above ladder a b km share sheet load bus pmax)) (g : upsized ≡ replicate o.corridors 0) (caps : o.cap ≡ cap) where
+        module _ (o : Case) (mw : List Float) (s : Sound (rounds_case o mode above grid supply) target)
+            (l : level ≡ first_levels (rounds_case o mode above grid supply))
+            (e : circuits ≡ lower_bounds (rounds_case o mode above grid supply)) (g : upsized ≡ replicate o.corridors 0) (caps : o.cap ≡ grid.cap) where
           abbrev D : Case
           D = E o mw s l e
 
           abbrev O : Opened
-          O = opened_for D leader mw (Q o mw s l e) (raised_of D level' banks' promoted)
+          O = opened_for D opened.leader mw (Q o mw s l e) (raised_of D level' banks' promoted)
 
-          ran_is : ran_as x D level'' circuits'' banks'' floors'' upsized'' angle'' ≡ all_rounds D O.peak leader O.draft
+          ran_is : ran_as x D level'' circuits'' banks'' floors'' upsized'' angle'' ≡ all_rounds D O.peak opened.leader O.draft
           ran_is =
               let f : floors ≡ zeros o.corridors = h.unset ∙ ap (λ (m : ℕ). zeros m) s.a_size in
               let z : draft_of D level' circuits banks' floors upsized (zeros o.buses) (start_of mode o.corridors promoted) ≡ O.draft = rw (e, f, g) in
-              v.ran o target s (size ∙ buses_are o mw s l e) caps ∙ ap (all_rounds D O.peak leader) z
+              v.ran o target s (size ∙ buses_are o mw s l e) caps ∙ ap (all_rounds D O.peak opened.leader) z
 
-          settled_is : onward (opened_with D leader mw (Q o mw s l e)) (settled D) ≡ onward (ran_as x D level'' circuits'' banks'' floors'' upsized'' angle'') (settled_to D O)
+          settled_is : onward (opened_with D opened.leader mw (Q o mw s l e)) (settled D) ≡ onward (ran_as x D level'' circuits'' banks'' floors'' upsized'' angle'') (settled_to D O)
           unfolding settled
           settled_is =
               opened_is o mw s l e
-              ∙ ap (λ (y : Result ℕ Refusal). onward (raised_as y D level' banks') (λ t. settled D (opened_for D leader mw (Q o mw s l e) t))) q
+              ∙ ap (λ (y : Result ℕ Refusal). onward (raised_as y D level' banks') (λ t. settled D (opened_for D opened.leader mw (Q o mw s l e) t))) q
               ∙ ap (λ (t : Stage Draft). onward t (settled_to D O)) (sym ran_is)
 
         pub opened_unrun : (f : Refusal) → x ≡ Err f → (circuits''' level''' : List ℕ) (flow''' rate''' angle''' added''' : List Float) (i : PlanRun) → i.said ≡ Err f
-            → OpenedPlan mode target above ladder level a b km share cap sheet load bus pmax leader grounds injection circuits upsized circuits''' level''' flow''' rate''' angle''' added''' i
+            → OpenedPlan mode target above grid level supply opened circuits upsized circuits''' level''' flow''' rate''' angle''' added''' i
         opened_unrun f u circuits''' level''' flow''' rate''' angle''' added''' i j =
             record {
               plan = λ o mw s l e g caps.
                   let c = D o mw s l e g caps in
-                  let z : onward (opened_with c leader mw (Q o mw s l e)) (settled c) ≡ stopped f = settled_is o mw s l e g caps
+                  let z : onward (opened_with c opened.leader mw (Q o mw s l e)) (settled c) ≡ stopped f = settled_is o mw s l e g caps
                   ∙ ap (λ (y : Result Progress Refusal). onward (ran_as y c level'' circuits'' banks'' floors'' upsized'' angle'') (settled_to c (O o mw s l e g caps))) u in
-                  subst (PlannedAs i.said (take (length a) i.kept.before) (take (length a) i.kept.order) circuits''' level''' flow''' rate''' angle''' added''' c)
+                  subst (PlannedAs i.said (take (length grid.a) i.kept.before) (take (length grid.a) i.kept.order) circuits''' level''' flow''' rate''' angle''' added''' c)
                   (sym (ap (λ (t : Stage Ready). onward t (closing c target)) z)) j;
             }
 
         pub opened_plan : (p : Progress) → x ≡ Ok p → (circuits''' level''' : List ℕ) (flow''' rate''' angle''' added''' : List Float) (y : Settling)
-            → Settles mode target above ladder a b km share cap sheet leader grounds injection banks'' upsized'' circuits'' level'' circuits''' level''' flow''' rate''' angle''' added''' y
-            → length level'' ≡ length level' → (i : PlanRun) → i.said ≡ planned_by p (length grounds) y.settled → i.kept ≡ y.kept
-            → OpenedPlan mode target above ladder level a b km share cap sheet load bus pmax leader grounds injection circuits upsized circuits''' level''' flow''' rate''' angle''' added''' i
+            → Settles mode target above grid opened banks'' upsized'' circuits'' level'' circuits''' level''' flow''' rate''' angle''' added''' y
+            → length level'' ≡ length level' → (i : PlanRun) → i.said ≡ planned_by p (length opened.grounds) y.settled → i.kept ≡ y.kept
+            → OpenedPlan mode target above grid level supply opened circuits upsized circuits''' level''' flow''' rate''' angle''' added''' i
         opened_plan p u circuits''' level''' flow''' rate''' angle''' added''' y d k i j w =
             record {
               plan = λ o mw s l e g caps.
                   let c = D o mw s l e g caps in
                   let O' = O o mw s l e g caps in
                   let S' = draft_of c level'' circuits'' banks'' floors'' upsized'' angle'' p in
-                  let z : onward (opened_with c leader mw (Q o mw s l e)) (settled c) ≡ settled_to c O' S' = settled_is o mw s l e g caps
+                  let z : onward (opened_with c opened.leader mw (Q o mw s l e)) (settled c) ≡ settled_to c O' S' = settled_is o mw s l e g caps
                   ∙ ap (λ (t : Result Progress Refusal). onward (ran_as t c level'' circuits'' banks'' floors'' upsized'' angle'') (settled_to c O')) u in
                   let t = onward (settled_to c O' S') (closing c target) in
-                  subst (PlannedAs i.said (take (length a) i.kept.before) (take (length a) i.kept.order) circuits''' level''' flow''' rate''' angle''' added''' c)
+                  subst (PlannedAs i.said (take (length grid.a) i.kept.before) (take (length grid.a) i.kept.order) circuits''' level''' flow''' rate''' angle''' added''' c)
                   (sym (ap (λ (t : Stage Ready). onward t (closing c target)) z))
-                  (subst (λ (n : Kept). PlannedAs i.said (take (length a) n.before) (take (length a) n.order) circuits''' level''' flow''' rate''' angle''' added''' c t) (sym w)
-                  (planned_as p (length grounds) (take (length a) y.kept.before) (take (length a) y.kept.order) circuits''' level''' flow''' rate''' angle''' added''' c y.settled i.said (onward (settled_to c O' S') (closing c target))
+                  (subst (λ (n : Kept). PlannedAs i.said (take (length grid.a) n.before) (take (length grid.a) n.order) circuits''' level''' flow''' rate''' angle''' added''' c t) (sym w)
+                  (planned_as p (length opened.grounds) (take (length grid.a) y.kept.before) (take (length grid.a) y.kept.order) circuits''' level''' flow''' rate''' angle''' added''' c y.settled i.said (onward (settled_to c O' S') (closing c target))
                   (said_of c target O' level'' circuits'' banks'' floors'' upsized'' angle'' p) (d.plan c O' S' floors'' s (k ∙ size ∙ buses_are o mw s l e) caps refl refl refl refl) j));
             }

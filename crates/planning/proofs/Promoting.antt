@@ -15,6 +15,7 @@ use Rattle.planning.specs.Solve.{peak_for}
 use Rattle.planning.specs.Sound.{Sound}
 use Rattle.planning.specs.Raises.{pass_for, raised_of, passed_as, Within, Raisable, Passed, RaisesDone}
 use Rattle.std.specs.Prelude.{Err, Ok, Result}
+use Rattle.planning.specs.Tables.{GridColumns, SupplyColumns, OpenedColumns}
 
 -- ---- a pass that moved none ends them, any other goes on
 module _ (d : ℕ) (c : Case) (P : Peak) (circuits level : List ℕ) (banks : List Float) (promoted : ℕ) where
@@ -25,19 +26,19 @@ module _ (d : ℕ) (c : Case) (P : Peak) (circuits level : List ℕ) (banks : Li
   some_moved zero e = absurd (e refl)
   some_moved (suc m) e = refl
 
-module _ (ladder : List Float) (a b : List ℕ) (km share sheet load : List Float) (bus : List ℕ) (pmax : List Float) (grounds : List ℕ) (injection : List Float)
+module _ (grid : GridColumns) (supply : SupplyColumns) (opened : OpenedColumns)
     (circuits : List ℕ) (floors banks₀ : List Float) (level₀ marks₀ : List ℕ) (angle₀ flow₀ : List Float) where
   abbrev C : Case → PlanMode → Case
-  C o mode = pass_for o mode ladder a b km share sheet load bus pmax
+  C o mode = pass_for o mode grid supply
 
   abbrev P : Case → Peak
-  P o = peak_for o.buses grounds injection
+  P o = peak_for o.buses opened.grounds opened.injection
 
   abbrev Begun : Type 0
-  Begun = Raisable ladder level₀ a b km share sheet load bus pmax grounds injection circuits floors banks₀ marks₀ angle₀ flow₀
+  Begun = Raisable grid level₀ supply opened circuits floors banks₀ marks₀ angle₀ flow₀
 
   abbrev Done : PlanMode → List ℕ → List Float → Result ℕ Refusal → Type 0
-  Done mode level banks r = RaisesDone mode ladder level₀ a b km share sheet load bus pmax grounds injection circuits banks₀ level banks r
+  Done mode level banks r = RaisesDone mode grid level₀ supply opened circuits banks₀ level banks r
 
   -- ---- where the loop stands
   pub record Underway (banks : List Float) (level marks : List ℕ) (angle flow : List Float) (promoted turn : ℕ) : Type 0 where
@@ -46,13 +47,13 @@ module _ (ladder : List Float) (a b : List ℕ) (km share sheet load : List Floa
     pub mark_size : length marks ≡ length marks₀
     pub angle_size : length angle ≡ length angle₀
     pub flow_size : length flow ≡ length flow₀
-    pub lines : Lines ladder level a b km share sheet
+    pub lines : Lines grid level
     pub banked : Banks banks
     pub turns : turn ≤ most_levels
     pub bound : promoted ≤ most_buses * turn
     pub left : (o : Case) (mode : PlanMode) (target : ℕ) → Sound (C o mode) target → length level₀ ≡ o.buses
-        → passes (length ladder - turn) (C o mode) (P o) circuits (raised_of (C o mode) level banks promoted)
-        ≡ passes (length ladder - 1) (C o mode) (P o) circuits (raised_of (C o mode) level₀ banks₀ 0)
+        → passes (length grid.ladder - turn) (C o mode) (P o) circuits (raised_of (C o mode) level banks promoted)
+        ≡ passes (length grid.ladder - 1) (C o mode) (P o) circuits (raised_of (C o mode) level₀ banks₀ 0)
 
   pub underway_start : Begun → Underway banks₀ level₀ marks₀ angle₀ flow₀ 0 1
   underway_start p =
@@ -71,7 +72,7 @@ module _ (ladder : List Float) (a b : List ℕ) (km share sheet load : List Floa
 
   -- ---- all the passes, where the mode promotes and where it does not
   all_passes : (mode : PlanMode) (t : Bool) → promote mode ≡ t → (o : Case) (target : ℕ) → Sound (C o mode) target
-      → passes (pass_count t (length ladder)) (C o mode) (P o) circuits (raised_of (C o mode) level₀ banks₀ 0) ≡ raises (C o mode) (P o) circuits (raised_of (C o mode) level₀ banks₀ 0)
+      → passes (pass_count t (length grid.ladder)) (C o mode) (P o) circuits (raised_of (C o mode) level₀ banks₀ 0) ≡ raises (C o mode) (P o) circuits (raised_of (C o mode) level₀ banks₀ 0)
   unfolding raises
   all_passes mode t e o target sound =
       ap (λ (n : ℕ). passes (pass_count t n) (C o mode) (P o) circuits (raised_of (C o mode) level₀ banks₀ 0)) sound.ladder_size
@@ -89,7 +90,7 @@ module _ (ladder : List Float) (a b : List ℕ) (km share sheet load : List Floa
 
   module _ (banks : List Float) (level marks : List ℕ) (angle flow : List Float) (promoted turn : ℕ) (u : Underway banks level marks angle flow promoted turn) where
     -- ---- the next pass asks no more
-    pub raisable_again : Begun → Raisable ladder level a b km share sheet load bus pmax grounds injection circuits floors banks marks angle flow
+    pub raisable_again : Begun → Raisable grid level supply opened circuits floors banks marks angle flow
     raisable_again p =
         let n = u.level_size in
         record {
@@ -130,31 +131,31 @@ module _ (ladder : List Float) (a b : List ℕ) (km share sheet load : List Floa
         }
 
     left_is : (mode : PlanMode) → promote mode ≡ true → (o : Case) (target : ℕ) → Sound (C o mode) target → length level₀ ≡ o.buses
-        → passes (length ladder - turn) (C o mode) (P o) circuits (raised_of (C o mode) level banks promoted) ≡ raises (C o mode) (P o) circuits (raised_of (C o mode) level₀ banks₀ 0)
+        → passes (length grid.ladder - turn) (C o mode) (P o) circuits (raised_of (C o mode) level banks promoted) ≡ raises (C o mode) (P o) circuits (raised_of (C o mode) level₀ banks₀ 0)
     left_is mode e o target sound n = u.left o mode target sound n ∙ all_passes mode true e o target sound
 
     -- ---- the end: no pass is left
-    pub done_last : (mode : PlanMode) → promote mode ≡ true → length ladder ≤ turn → Done mode level banks (Ok promoted)
+    pub done_last : (mode : PlanMode) → promote mode ≡ true → length grid.ladder ≤ turn → Done mode level banks (Ok promoted)
     unfolding passes
     done_last mode t h =
         record {
           raised = λ o target sound n.
-              ap (λ (d : ℕ). passes d (C o mode) (P o) circuits (raised_of (C o mode) level banks promoted)) (sym (none (length ladder) turn h)) ∙ left_is mode t o target sound n;
+              ap (λ (d : ℕ). passes d (C o mode) (P o) circuits (raised_of (C o mode) level banks promoted)) (sym (none (length grid.ladder) turn h)) ∙ left_is mode t o target sound n;
           lines = u.lines;
           banked = u.banked;
           bound = omega (arith, u.turns, u.bound);
         }
 
     -- ---- one pass more
-    module _ (h : turn < length ladder) (banks' : List Float) (level' : List ℕ) (r : Result ℕ Refusal)
-        (w : Passed ladder level a b km share sheet load bus pmax grounds injection circuits banks level' banks' r) where
+    module _ (h : turn < length grid.ladder) (banks' : List Float) (level' : List ℕ) (r : Result ℕ Refusal)
+        (w : Passed grid level supply opened circuits banks level' banks' r) where
       passed_is : (r' : Result ℕ Refusal) → r ≡ r' → (o : Case) (mode : PlanMode) (target : ℕ) → Sound (C o mode) target → length level₀ ≡ o.buses
-          → passed_as r' (length ladder - (turn + 1)) (C o mode) (P o) circuits level' banks' promoted
-          ≡ passes (length ladder - turn) (C o mode) (P o) circuits (raised_of (C o mode) level banks promoted)
+          → passed_as r' (length grid.ladder - (turn + 1)) (C o mode) (P o) circuits level' banks' promoted
+          ≡ passes (length grid.ladder - turn) (C o mode) (P o) circuits (raised_of (C o mode) level banks promoted)
       passed_is r' e o mode target sound n =
-          ap (λ (x : Result ℕ Refusal). passed_as x (length ladder - (turn + 1)) (C o mode) (P o) circuits level' banks' promoted) (sym e)
-          ∙ w.passed o mode target sound (u.level_size ∙ n) (length ladder - (turn + 1)) promoted
-          ∙ ap (λ (d : ℕ). passes d (C o mode) (P o) circuits (raised_of (C o mode) level banks promoted)) (sym (gap (length ladder) turn h))
+          ap (λ (x : Result ℕ Refusal). passed_as x (length grid.ladder - (turn + 1)) (C o mode) (P o) circuits level' banks' promoted) (sym e)
+          ∙ w.passed o mode target sound (u.level_size ∙ n) (length grid.ladder - (turn + 1)) promoted
+          ∙ ap (λ (d : ℕ). passes d (C o mode) (P o) circuits (raised_of (C o mode) level banks promoted)) (sym (gap (length grid.ladder) turn h))
 
       pub done_refused : (mode : PlanMode) → promote mode ≡ true → (f : Refusal) → r ≡ Err f → Done mode level' banks' (Err f)
       done_refused mode t f e =
@@ -173,7 +174,7 @@ module _ (ladder : List Float) (a b : List ℕ) (km share sheet load : List Floa
         done_still mode t z =
             record {
               raised = λ o target sound n.
-                  sym (none_moved (length ladder - (turn + 1)) (C o mode) (P o) circuits level' banks' promoted m z)
+                  sym (none_moved (length grid.ladder - (turn + 1)) (C o mode) (P o) circuits level' banks' promoted m z)
                   ∙ passed_is (Ok m) e o mode target sound n
                   ∙ left_is mode t o target sound n;
               lines = w.lines;
@@ -181,7 +182,7 @@ module _ (ladder : List Float) (a b : List ℕ) (km share sheet load : List Floa
               bound = omega (arith, u.turns, u.bound);
             }
 
-        pub underway_next : (m ≡ 0 → ⊥) → length ladder ≤ most_levels → (marks' : List ℕ) (angle' flow' : List Float)
+        pub underway_next : (m ≡ 0 → ⊥) → length grid.ladder ≤ most_levels → (marks' : List ℕ) (angle' flow' : List Float)
             → length banks' ≡ length banks → length level' ≡ length level → length marks' ≡ length marks → length angle' ≡ length angle → length flow' ≡ length flow
             → Underway banks' level' marks' angle' flow' (promoted + m) (turn + 1)
         underway_next z few marks' angle' flow' x₁ x₂ x₃ x₄ x₅ =
@@ -196,7 +197,7 @@ module _ (ladder : List Float) (a b : List ℕ) (km share sheet load : List Floa
               turns = omega (arith, h, few);
               bound = omega (arith, u.bound, moved_few);
               left = λ o mode target sound n.
-                  sym (some_moved (length ladder - (turn + 1)) (C o mode) (P o) circuits level' banks' promoted m z)
+                  sym (some_moved (length grid.ladder - (turn + 1)) (C o mode) (P o) circuits level' banks' promoted m z)
                   ∙ passed_is (Ok m) e o mode target sound n
                   ∙ u.left o mode target sound n;
             }

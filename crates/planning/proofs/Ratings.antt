@@ -18,6 +18,7 @@ use Rattle.plan_defs.proofs.Rows.{row_from_lem}
 use Rattle.planning.specs.Design.{lines_for, Lines, Rated}
 use Rattle.planning.specs.Redesign.{bank_of}
 use Rattle.planning.proofs.Draws.{ends_fit, from_below}
+use Rattle.planning.specs.Tables.{GridColumns}
 
 -- ---- above 0 and finite, by the cases of a figure
 some : (m u d : ℕ) → ltb (0 * d) (m * u * 1) ≡ true → 0 < m
@@ -117,23 +118,23 @@ fresh_rating N load generation shared p q l m = go (lt served transformer_min_mv
         positive_rating served (positive_of served (above_of_le transformer_min_mva served (rating_positive transformer_min_mva least_rating) (is h)) b)
 
 -- ---- a design's bank and its line's rate
-module _ (ladder : List Float) (level a b : List ℕ) (km share sheet : List Float) (k : ℕ) (lines : Lines ladder level a b km share sheet) (h : k < length a) where
-  rate_ok : rating_ok (line_at (lines_for ladder a b km share sheet) level k).line_rate ≡ true
+module _ (grid : GridColumns) (level : List ℕ) (k : ℕ) (lines : Lines grid level) (h : k < length grid.a) where
+  rate_ok : rating_ok (line_at (lines_for grid) level k).line_rate ≡ true
   unfolding line_at line_of row_at from_of
   rate_ok =
-      let L = level_of (lines_for ladder a b km share sheet) level k in
-      let q : L < length ladder = lines.level_below _ (from_below ladder level a b k (ends_fit ladder level a b km share sheet k lines h)) in
-      subst (λ (w : Row). rating_ok w.rate ≡ true) (sym (row_from_lem (length a) (0 + length ladder) sheet k L h (let z : L < 0 + length ladder = omega (arith, q) in z)))
+      let L = level_of (lines_for grid) level k in
+      let q : L < length grid.ladder = lines.level_below _ (from_below grid level k (ends_fit grid level k lines h)) in
+      subst (λ (w : Row). rating_ok w.rate ≡ true) (sym (row_from_lem (length grid.a) (0 + length grid.ladder) grid.sheet k L h (let z : L < 0 + length grid.ladder = omega (arith, q) in z)))
       (lines.rates k L h q)
 
-  rated_by : (t : Bool) (mva : Float) → rating_ok mva ≡ true → Rated (banked_by t (line_at (lines_for ladder a b km share sheet) level k) mva)
+  rated_by : (t : Bool) (mva : Float) → rating_ok mva ≡ true → Rated (banked_by t (line_at (lines_for grid) level k) mva)
   unfolding set_transformer_mva with_bank line_at line_of
   rated_by true mva e = record { bank = λ t. e; line = rate_ok }
   rated_by false mva e = record { bank = λ t. absurd (no refl t); line = rate_ok }
 
-  pub drawn_rated : (mva : Float) → rating_ok mva ≡ true → Rated (drawn (lines_for ladder a b km share sheet) level k mva)
+  pub drawn_rated : (mva : Float) → rating_ok mva ≡ true → Rated (drawn (lines_for grid) level k mva)
   unfolding drawn
-  drawn_rated mva e = rated_by (steps_down (lines_for ladder a b km share sheet) level k) mva e
+  drawn_rated mva e = rated_by (steps_down (lines_for grid) level k) mva e
 
 -- ---- a bank kept to its floor
 pub kept_sound : (d : CircuitDesign) (floor : Float) → Rated d → (d.is_transformer && lt d.transformer_mva (lesser floor d.line_rate)) ≡ true

@@ -19,6 +19,7 @@ use Rattle.planning.specs.Redesign.{redesign_for, bank_of, bank_anew, banks_anew
 use Rattle.planning.proofs.Draws.{Laid, drawn_lifts}
 use Rattle.planning.proofs.Ratings.{rating_positive, drawn_rated}
 use Rattle.planning.proofs.Anew.{fresh_ok, fresh_defined}
+use Rattle.planning.specs.Tables.{grid_of, supply_of}
 
 -- ---- a floor of zero keeps nothing
 not_below : (x : Float) → T (positive x) → lt x nought ≡ false
@@ -72,7 +73,7 @@ module _ (c : Case) (level : List ℕ) where
 -- ---- what a redesign reads of the case
 module _ (c : Case) (sheet : List Float) (laid : Laid c sheet) (level : List ℕ) (m : length c.a ≡ c.corridors) (g : length c.bus ≡ c.generators) (l : length c.ladder ≡ levels c) where
   abbrev R : Case
-  R = redesign_for c.ladder c.load c.bus c.pmax c.a c.b c.km c.share sheet
+  R = redesign_for (grid_of c.ladder c.a c.b c.km c.share c.cap sheet) (supply_of c.load c.bus c.slack c.pmin c.pmax c.c1 c.c2)
 
   gen_lifts : (i : ℕ) → gen_at_bus R i ≡ gen_at_bus c i
   unfolding gen_at_bus
@@ -103,19 +104,19 @@ module _ (c : Case) (sheet : List Float) (laid : Laid c sheet) (level : List ℕ
       tab_same (length c.a) (bank_anew R level floors) (bank_anew c level floors) (λ k h. anew_lifts floors k) ∙ ap (λ (n : ℕ). tab n (bank_anew c level floors)) m
 
   -- ---- the first design is a redesign with floors of zero
-  module _ (lines : Lines c.ladder level c.a c.b c.km c.share sheet) (loads : Loads level c.load) (units : Units c.bus c.pmax) (few : length c.a ≤ 256) where
+  module _ (lines : Lines (grid_of c.ladder c.a c.b c.km c.share c.cap sheet) level) (loads : Loads level c.load) (units : Units (supply_of c.load c.bus c.slack c.pmin c.pmax c.c1 c.c2)) (few : length c.a ≤ 256) where
     fresh_sound : (k : ℕ) → k < length c.a → rating_ok (bank_for c level (to_of c level k)) ≡ true
     unfolding to_of
     fresh_sound k h =
-        let p = fresh_ok c.ladder level c.a c.b c.km c.share sheet c.load c.bus c.pmax c.pmax _ _ k lines loads units few h refl refl in
-        let q = fresh_defined c.ladder level c.a c.b c.km c.share sheet c.load c.bus c.pmax c.pmax _ _ k lines loads units few h refl refl in
+        let p = fresh_ok (grid_of c.ladder c.a c.b c.km c.share c.cap sheet) level (supply_of c.load c.bus c.slack c.pmin c.pmax c.c1 c.c2) c.pmax _ _ k lines loads units few h refl refl in
+        let q = fresh_defined (grid_of c.ladder c.a c.b c.km c.share c.cap sheet) level (supply_of c.load c.bus c.slack c.pmin c.pmax c.c1 c.c2) c.pmax _ _ k lines loads units few h refl refl in
         subst (λ (x : Float). rating_ok x ≡ true) (q ∙ bank_lifts (to_of c level k)) p
 
     design_rated : (k : ℕ) → k < length c.a → Rated (design_at c level k)
     unfolding design_at
     design_rated k h =
         subst Rated (drawn_lifts c sheet laid m l level k (bank_for c level (to_of c level k)))
-        (drawn_rated c.ladder level c.a c.b c.km c.share sheet k lines h (bank_for c level (to_of c level k)) (fresh_sound k h))
+        (drawn_rated (grid_of c.ladder c.a c.b c.km c.share c.cap sheet) level k lines h (bank_for c level (to_of c level k)) (fresh_sound k h))
 
     pub first_design : redesign c level (zeros c.corridors) ≡ design_circuits c level
     unfolding redesign design_circuits

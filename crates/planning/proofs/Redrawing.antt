@@ -6,20 +6,21 @@ use Rattle.planning.specs.Design.{Lines, Banks}
 use Rattle.planning.specs.Redesign.{redesign_for, banks_anew}
 use Rattle.planning.specs.Rounds.{Redrawn}
 use Rattle.planning.proofs.Marks.{moved_most, none_raised, lines_raised}
+use Rattle.planning.specs.Tables.{GridColumns, SupplyColumns}
 
 -- at levels that stand none moves either
 pub still_none : (level level' marks : List ℕ) (moved : ℕ) → level' ≡ level → moved ≡ moved_buses level marks → moved ≡ 0 → moved_buses level' marks ≡ 0
 still_none level level' marks moved e f g = ap (λ (l : List ℕ). moved_buses l marks) e ∙ sym f ∙ g
 
-module _ (ladder : List Float) (level a b : List ℕ) (km share sheet load : List Float) (bus : List ℕ) (pmax : List Float) (marks : List ℕ) (floors banks : List Float)
-    (level' : List ℕ) (moved : ℕ) (lines : Lines ladder level a b km share sheet) (raised : level' ≡ raised_levels level marks) (count : moved ≡ moved_buses level marks) where
-  lines_after : Lines ladder level' a b km share sheet
-  lines_after = subst (λ (l : List ℕ). Lines ladder l a b km share sheet) (sym raised) (lines_raised ladder level a b km share sheet marks lines)
+module _ (grid : GridColumns) (level : List ℕ) (supply : SupplyColumns) (marks : List ℕ) (floors banks : List Float)
+    (level' : List ℕ) (moved : ℕ) (lines : Lines grid level) (raised : level' ≡ raised_levels level marks) (count : moved ≡ moved_buses level marks) where
+  lines_after : Lines grid level'
+  lines_after = subst (λ (l : List ℕ). Lines grid l) (sym raised) (lines_raised grid level marks lines)
 
   few : moved ≤ length level
   few = omega (arith, count, moved_most marks level)
 
-  pub redrawn_still : Banks banks → moved ≤ 0 → Redrawn ladder level a b km share sheet load bus pmax marks floors banks level' banks moved
+  pub redrawn_still : Banks banks → moved ≤ 0 → Redrawn grid level supply marks floors banks level' banks moved
   redrawn_still banked h =
       let z : moved_buses level marks ≡ 0 = omega (arith, count) in
       record {
@@ -31,14 +32,14 @@ module _ (ladder : List Float) (level a b : List ℕ) (km share sheet load : Lis
         banked = banked;
       }
 
-  pub redrawn_anew : (banks' : List Float) → Banks banks' → banks' ≡ banks_anew (redesign_for ladder load bus pmax a b km share sheet) level' floors → 0 < moved
-      → Redrawn ladder level a b km share sheet load bus pmax marks floors banks level' banks' moved
+  pub redrawn_anew : (banks' : List Float) → Banks banks' → banks' ≡ banks_anew (redesign_for grid supply) level' floors → 0 < moved
+      → Redrawn grid level supply marks floors banks level' banks' moved
   redrawn_anew banks' banked e h =
       record {
         count = count;
         few = few;
         still = λ z. absurd (omega arith);
-        anew = λ m z. (raised, e ∙ ap (λ (l : List ℕ). banks_anew (redesign_for ladder load bus pmax a b km share sheet) l floors) raised);
+        anew = λ m z. (raised, e ∙ ap (λ (l : List ℕ). banks_anew (redesign_for grid supply) l floors) raised);
         lines = lines_after;
         banked = banked;
       }

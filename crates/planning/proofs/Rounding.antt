@@ -38,6 +38,7 @@ use Rattle.planning.proofs.Stages.{stage_step, stage_end}
 use Rattle.planning.proofs.Passing.{pass_start}
 use Rattle.std.specs.Prelude.{Err, Ok, Result}
 use Rattle.refusal.specs.Reply.{no_refusal}
+use Rattle.planning.specs.Tables.{GridColumns, grid_of, SupplyColumns, OpenedColumns}
 
 onward_same : {S T : Type 0} (st : Stage S) (f g : S → Stage T) → ((s : S) → f s ≡ g s) → onward st f ≡ onward st g
 onward_same (stopped r) f g e = refl
@@ -58,25 +59,25 @@ pub few_high : (level : List ℕ) (top : ℕ) → at_or_above level top ≤ leng
 few_high level top = count_most (λ i. leb (get_or level i 0) top) (length level) 0
 
 -- what is left to size, where levels and banks are as before
-pub still_sized : (mode : PlanMode) (ladder : List Float) (a b : List ℕ) (km share : List Float) (cap : List ℕ) (sheet flow : List Float) (k : ℕ) (circuits : List ℕ) (floors : List Float) (upsized marks : List ℕ) (t : Tally)
+pub still_sized : (mode : PlanMode) (grid : GridColumns) (flow : List Float) (k : ℕ) (circuits : List ℕ) (floors : List Float) (upsized marks : List ℕ) (t : Tally)
     (circuits₀ : List ℕ) (banks₀ floors₀ : List Float) (upsized₀ : List ℕ) (capacity : ℕ) (level level' : List ℕ) (banks banks' : List Float) → level' ≡ level → banks' ≡ banks
-    → left mode (length level) ladder level a b km share cap sheet flow k circuits banks floors upsized marks t
-    ≡ size_all (size_for mode (length level) ladder a b km share cap sheet) level flow (build_of (size_for mode (length level) ladder a b km share cap sheet) level circuits₀ banks₀ floors₀ upsized₀) capacity
-    → left mode (length level') ladder level' a b km share cap sheet flow k circuits banks' floors upsized marks t
-    ≡ size_all (size_for mode (length level') ladder a b km share cap sheet) level' flow (build_of (size_for mode (length level') ladder a b km share cap sheet) level' circuits₀ banks₀ floors₀ upsized₀) capacity
-still_sized mode ladder a b km share cap sheet flow k circuits floors upsized marks t circuits₀ banks₀ floors₀ upsized₀ capacity level level' banks banks' e f q = rw (e, f) q
+    → left mode (length level) grid level flow k circuits banks floors upsized marks t
+    ≡ size_all (size_for mode (length level) grid) level flow (build_of (size_for mode (length level) grid) level circuits₀ banks₀ floors₀ upsized₀) capacity
+    → left mode (length level') grid level' flow k circuits banks' floors upsized marks t
+    ≡ size_all (size_for mode (length level') grid) level' flow (build_of (size_for mode (length level') grid) level' circuits₀ banks₀ floors₀ upsized₀) capacity
+still_sized mode grid flow k circuits floors upsized marks t circuits₀ banks₀ floors₀ upsized₀ capacity level level' banks banks' e f q = rw (e, f) q
 
-module _ (mode : PlanMode) (above : ℕ) (ladder : List Float) (a b : List ℕ) (km share : List Float) (cap : List ℕ) (sheet load : List Float) (bus : List ℕ) (pmax : List Float) (leader grounds : List ℕ)
-    (injection : List Float) (n : ℕ) where
+module _ (mode : PlanMode) (above : ℕ) (grid : GridColumns) (supply : SupplyColumns) (opened : OpenedColumns)
+    (n : ℕ) where
   abbrev C : Case → Case
-  C o = rounds_case o mode above ladder a b km share sheet load bus pmax
+  C o = rounds_case o mode above grid supply
 
   abbrev P : Case → Peak
-  P o = peak_for o.buses grounds injection
+  P o = peak_for o.buses opened.grounds opened.injection
 
   -- ---- two ways to go on that come to the same, of every such case of n buses with these caps
   abbrev pub Fits : Case → Type 0
-  Fits o = (n ≡ o.buses) × (o.cap ≡ cap)
+  Fits o = (n ≡ o.buses) × (o.cap ≡ grid.cap)
 
   abbrev pub Alike : (Case → Stage Draft) → (Case → Stage Draft) → Type 0
   Alike X W = (o : Case) (target : ℕ) → Sound (C o) target → Fits o → X o ≡ W o
@@ -86,7 +87,7 @@ module _ (mode : PlanMode) (above : ℕ) (ladder : List Float) (a b : List ℕ) 
 
   -- d rounds from what the slices hold, and what follows a round
   abbrev pub goes_on : ℕ → List ℕ → List ℕ → List Float → List Float → List ℕ → List Float → Progress → Case → Stage Draft
-  goes_on d level circuits banks floors upsized angle p o = rounds (C o) (P o) leader d (draft_of (C o) level circuits banks floors upsized angle p)
+  goes_on d level circuits banks floors upsized angle p o = rounds (C o) (P o) opened.leader d (draft_of (C o) level circuits banks floors upsized angle p)
 
   -- none left
   pub ended : (level circuits : List ℕ) (banks floors : List Float) (upsized : List ℕ) (angle : List Float) (p : Progress) (W : Case → Stage Draft) (d : ℕ) → d ≤ 0
@@ -94,10 +95,10 @@ module _ (mode : PlanMode) (above : ℕ) (ladder : List Float) (a b : List ℕ) 
   unfolding rounds
   ended level circuits banks floors upsized angle p W d h whole o target s e =
       let z : 0 ≡ d = omega arith in
-      ap (λ (m : ℕ). rounds (C o) (P o) leader m (draft_of (C o) level circuits banks floors upsized angle p)) z ∙ whole o target s e
+      ap (λ (m : ℕ). rounds (C o) (P o) opened.leader m (draft_of (C o) level circuits banks floors upsized angle p)) z ∙ whole o target s e
 
   abbrev next : ℕ → Case → Turn → Stage Draft
-  next d o t = continue (C o) (P o) leader t.end t.draft (rounds (C o) (P o) leader d)
+  next d o t = continue (C o) (P o) opened.leader t.end t.draft (rounds (C o) (P o) opened.leader d)
 
   abbrev then : ℕ → Case → Stage Turn → Stage Draft
   then d o st = onward st (next d o)
@@ -105,12 +106,12 @@ module _ (mode : PlanMode) (above : ℕ) (ladder : List Float) (a b : List ℕ) 
   -- ---- after the components: of the round's state only its level, tallies and angles are read
   abbrev closes : List ℕ → List Float → Progress → Tally → Case → Stiffening → Stage Turn
   closes level theta p t o u =
-      stiffened_to (C o) (P o) leader (draft level (built [] [] [] []) [] (p.rounds - 1) p.promoted p.capacity p.stiffening false false)
+      stiffened_to (C o) (P o) opened.leader (draft level (built [] [] [] []) [] (p.rounds - 1) p.promoted p.capacity p.stiffening false false)
       (record { edges = edges_of [] [] []; theta = theta; flows = [] }) (sizing (built [] [] [] []) [] t.capacity t.added t.capped) u
 
   abbrev component : List ℕ → ℕ → Limits → List ℕ → List ℕ → List Float → List Float → List Float → Case → ℕ → Stiffening → Stage Stiffening
   component level round g from to weight theta flow o =
-      stiffen_component (C o) (P o) leader level round (budget_for g) (round_of (length a) from to weight theta flow)
+      stiffen_component (C o) (P o) opened.leader level round (budget_for g) (round_of (length grid.a) from to weight theta flow)
 
   -- the components from bus i on, and what follows them
   unfoldable pub stiffens_on : ℕ → List ℕ → Limits → List ℕ → List ℕ → List Float → List Float → List Float → Progress → Tally → ℕ → List ℕ → List Float → List Float → List ℕ → List ℕ → Stiffness
@@ -118,12 +119,12 @@ module _ (mode : PlanMode) (above : ℕ) (ladder : List Float) (a b : List ℕ) 
   stiffens_on d level g from to weight theta flow p t i circuits banks floors upsized marks s o =
       then d o
       (onward
-      (each_stage (component level p.rounds g from to weight theta flow o) (pass_from (leads leader) (length leader - i) i) (stiff_of (C o) level circuits banks floors upsized marks s))
+      (each_stage (component level p.rounds g from to weight theta flow o) (pass_from (leads opened.leader) (length opened.leader - i) i) (stiff_of (C o) level circuits banks floors upsized marks s))
       (closes level theta p t o))
 
   -- ---- after a raise: the draft that the slices stand for
   module _ (level : List ℕ) (marks : List ℕ) (circuits : List ℕ) (banks floors : List Float) (upsized : List ℕ) (level' : List ℕ) (banks' : List Float) (moved : ℕ)
-      (redrawn : Redrawn ladder level a b km share sheet load bus pmax marks floors banks level' banks' moved) where
+      (redrawn : Redrawn grid level supply marks floors banks level' banks' moved) where
     still_build : (o : Case) → moved ≡ 0 → build_of (C o) level' circuits banks' floors upsized ≡ build_of (C o) level circuits banks floors upsized
     still_build o e = rw ((redrawn.still e).0, (redrawn.still e).1)
 
@@ -132,30 +133,30 @@ module _ (mode : PlanMode) (above : ℕ) (ladder : List Float) (a b : List ℕ) 
     anew_build o target m s e =
         let q = redrawn.anew m e in
         ap (λ (l : List ℕ). build_of (C o) l circuits banks' floors upsized) q.0
-        ∙ ap (λ (x : List Float). build_of (C o) (raised_levels level marks) circuits x floors upsized) (q.1 ∙ banks_lift (C o) sheet refl (raised_levels level marks) s.a_size s.bus_size s.ladder_size floors)
+        ∙ ap (λ (x : List Float). build_of (C o) (raised_levels level marks) circuits x floors upsized) (q.1 ∙ banks_lift (C o) grid.sheet refl (raised_levels level marks) s.a_size s.bus_size s.ladder_size floors)
         ∙ sym (rebuilt_is (C o) (raised_levels level marks) level circuits banks floors upsized)
 
   -- ---- a round: it begins with d + 1 left, and is solved
   module _ (level first circuits : List ℕ) (banks floors : List Float) (upsized : List ℕ) (angle : List Float) (p : Progress) (W : Case → Stage Draft) (d' d : ℕ) (some : d' ≡ suc d) (kept : level ≡ first)
       (size₀ : length first ≡ n) (whole₀ : Alike (goes_on d' first circuits banks floors upsized angle p) W) (theta flow : List Float) (r : Result (Unit {0}) Refusal)
       (from to : List ℕ) (weight : List Float)
-      (edges : edges_of (take (length a) from) (take (length a) to) (take (length a) weight) ≡ edges_for (drawn_all (lines_for ladder a b km share sheet) first banks) circuits)
-      (angles flows : ℕ) (angle_size : angles ≡ length first) (flow_size : flows ≡ length a)
+      (edges : edges_of (take (length grid.a) from) (take (length grid.a) to) (take (length grid.a) weight) ≡ edges_for (drawn_all (lines_for grid) first banks) circuits)
+      (angles flows : ℕ) (angle_size : angles ≡ length first) (flow_size : flows ≡ length grid.a)
       (peak : solved_of r (edges_of (take flows from) (take flows to) (take flows weight)) theta flow
-      ≡ planning_on (peak_for angles grounds injection) (edges_of (take flows from) (take flows to) (take flows weight)) angle) where
+      ≡ planning_on (peak_for angles opened.grounds opened.injection) (edges_of (take flows from) (take flows to) (take flows weight)) angle) where
     size : length level ≡ n
     size = ap (λ (l : List ℕ). length l) kept ∙ size₀
 
     whole : Alike (goes_on d' level circuits banks floors upsized angle p) W
     whole o target s e = ap (λ (l : List ℕ). goes_on d' l circuits banks floors upsized angle p o) kept ∙ whole₀ o target s e
 
-    solved : solved_of r (edges_for (drawn_all (lines_for ladder a b km share sheet) level banks) circuits) theta flow
-        ≡ planning_state (peak_for (length level) grounds injection) (drawn_all (lines_for ladder a b km share sheet) level banks) circuits angle
+    solved : solved_of r (edges_for (drawn_all (lines_for grid) level banks) circuits) theta flow
+        ≡ planning_state (peak_for (length level) opened.grounds opened.injection) (drawn_all (lines_for grid) level banks) circuits angle
     solved =
         subst (λ (l : List ℕ).
-        solved_of r (edges_for (drawn_all (lines_for ladder a b km share sheet) l banks) circuits) theta flow
-        ≡ planning_state (peak_for (length l) grounds injection) (drawn_all (lines_for ladder a b km share sheet) l banks) circuits angle) (sym kept)
-        (state_of ladder first a b km share sheet circuits banks from to weight edges angles flows angle_size flow_size grounds injection angle r theta flow peak)
+        solved_of r (edges_for (drawn_all (lines_for grid) l banks) circuits) theta flow
+        ≡ planning_state (peak_for (length l) opened.grounds opened.injection) (drawn_all (lines_for grid) l banks) circuits angle) (sym kept)
+        (state_of grid first circuits banks from to weight edges angles flows angle_size flow_size opened.grounds opened.injection angle r theta flow peak)
 
     -- the tallies while the round runs
     abbrev pub running : Progress
@@ -169,48 +170,48 @@ module _ (mode : PlanMode) (above : ℕ) (ladder : List Float) (a b : List ℕ) 
 
     lifted : (o : Case) (target : ℕ) → Sound (C o) target → Fits o → solved_of r (Solved o).edges theta flow ≡ planning_state (P o) (drawn_all (C o) level banks) circuits angle
     lifted o target s e =
-        let l = drawn_all_lifts (C o) level sheet refl banks s.a_size s.ladder_size in
+        let l = drawn_all_lifts (C o) level grid.sheet refl banks s.a_size s.ladder_size in
         ap (λ (ds : List CircuitDesign). solved_of r (edges_for ds circuits) theta flow) (sym l) ∙ solved
-        ∙ ap (λ (ds : List CircuitDesign). planning_state (peak_for (length level) grounds injection) ds circuits angle) l
-        ∙ ap (λ (m : ℕ). planning_state (peak_for m grounds injection) (drawn_all (C o) level banks) circuits angle) (size ∙ e.0)
+        ∙ ap (λ (ds : List CircuitDesign). planning_state (peak_for (length level) opened.grounds opened.injection) ds circuits angle) l
+        ∙ ap (λ (m : ℕ). planning_state (peak_for m opened.grounds opened.injection) (drawn_all (C o) level banks) circuits angle) (size ∙ e.0)
 
-    begun : (o : Case) (target : ℕ) → Sound (C o) target → Fits o → then d o (one_round (C o) (P o) leader (S o)) ≡ W o
+    begun : (o : Case) (target : ℕ) → Sound (C o) target → Fits o → then d o (one_round (C o) (P o) opened.leader (S o)) ≡ W o
     unfolding rounds
-    begun o target s e = ap (λ (m : ℕ). rounds (C o) (P o) leader m (S o)) (sym some) ∙ whole o target s e
+    begun o target s e = ap (λ (m : ℕ). rounds (C o) (P o) opened.leader m (S o)) (sym some) ∙ whole o target s e
 
     pub round_refused : (f : Refusal) → r ≡ Err f → Alike (λ o. stopped f) W
     unfolding one_round
     round_refused f q o target s e =
         let z : stopped f ≡ planning_state (P o) (drawn_all (C o) level banks) circuits angle =
         ap (λ (x : Result (Unit {0}) Refusal). solved_of x (Solved o).edges theta flow) (sym q) ∙ lifted o target s e in
-        ap (λ (st : Stage PlanningCase). then d o (onward st (λ v. sized_to (C o) (P o) leader (S o) v (size_all (C o) level v.flows (S o).build p.capacity)))) z ∙ begun o target s e
+        ap (λ (st : Stage PlanningCase). then d o (onward st (λ v. sized_to (C o) (P o) opened.leader (S o) v (size_all (C o) level v.flows (S o).build p.capacity)))) z ∙ begun o target s e
 
-    round_solved : r ≡ no_refusal → Alike (λ o. then d o (sized_to (C o) (P o) leader (S o) (Solved o) (size_all (C o) level flow (S o).build p.capacity))) W
+    round_solved : r ≡ no_refusal → Alike (λ o. then d o (sized_to (C o) (P o) opened.leader (S o) (Solved o) (size_all (C o) level flow (S o).build p.capacity))) W
     unfolding one_round
     round_solved q o target s e =
         let z : going (Solved o) ≡ planning_state (P o) (drawn_all (C o) level banks) circuits angle =
         ap (λ (x : Result (Unit {0}) Refusal). solved_of x (Solved o).edges theta flow) (sym q) ∙ lifted o target s e in
-        ap (λ (st : Stage PlanningCase). then d o (onward st (λ v. sized_to (C o) (P o) leader (S o) v (size_all (C o) level v.flows (S o).build p.capacity)))) z ∙ begun o target s e
+        ap (λ (st : Stage PlanningCase). then d o (onward st (λ v. sized_to (C o) (P o) opened.leader (S o) v (size_all (C o) level v.flows (S o).build p.capacity)))) z ∙ begun o target s e
 
     -- ---- every corridor is sized
-    module _ (q : r ≡ no_refusal) (circuits' : List ℕ) (banks' floors' : List Float) (upsized' marks' : List ℕ) (t : Tally) (k : ℕ) (all : length a ≤ k)
-        (sized : left mode (length level) ladder level a b km share cap sheet flow k circuits' banks' floors' upsized' marks' t
-        ≡ size_all (size_for mode (length level) ladder a b km share cap sheet) level flow (build_of (size_for mode (length level) ladder a b km share cap sheet) level circuits banks floors upsized) p.capacity) where
+    module _ (q : r ≡ no_refusal) (circuits' : List ℕ) (banks' floors' : List Float) (upsized' marks' : List ℕ) (t : Tally) (k : ℕ) (all : length grid.a ≤ k)
+        (sized : left mode (length level) grid level flow k circuits' banks' floors' upsized' marks' t
+        ≡ size_all (size_for mode (length level) grid) level flow (build_of (size_for mode (length level) grid) level circuits banks floors upsized) p.capacity) where
       abbrev Z : Case → Sizing
       Z o = sizing_of (C o) level circuits' banks' floors' upsized' marks' t
 
       sized_is : (o : Case) (target : ℕ) → Sound (C o) target → Fits o → Z o ≡ size_all (C o) level flow (S o).build p.capacity
       sized_is o target s e =
-          size_lifts (C o) sheet refl level flow p.capacity circuits banks floors upsized circuits' banks' floors' upsized' marks' t (size ∙ e.0) s.a_size s.ladder_size
+          size_lifts (C o) grid.sheet refl level flow p.capacity circuits banks floors upsized circuits' banks' floors' upsized' marks' t (size ∙ e.0) s.a_size s.ladder_size
           (subst (λ (l : List ℕ).
-          sizing_of (size_for mode (length level) ladder a b km share l sheet) level circuits' banks' floors' upsized' marks' t
-          ≡ size_all (size_for mode (length level) ladder a b km share l sheet) level flow (build_of (size_for mode (length level) ladder a b km share l sheet) level circuits banks floors upsized) p.capacity) (sym e.1)
-          (sym (left_end mode (length level) ladder level a b km share cap sheet flow k circuits' banks' floors' upsized' marks' t all) ∙ sized))
+          sizing_of (size_for mode (length level) (grid_of grid.ladder grid.a grid.b grid.km grid.share l grid.sheet)) level circuits' banks' floors' upsized' marks' t
+          ≡ size_all (size_for mode (length level) (grid_of grid.ladder grid.a grid.b grid.km grid.share l grid.sheet)) level flow (build_of (size_for mode (length level) (grid_of grid.ladder grid.a grid.b grid.km grid.share l grid.sheet)) level circuits banks floors upsized) p.capacity) (sym e.1)
+          (sym (left_end mode (length level) grid level flow k circuits' banks' floors' upsized' marks' t all) ∙ sized))
 
-      sized_on : Alike (λ o. then d o (sized_to (C o) (P o) leader (S o) (Solved o) (Z o))) W
-      sized_on o target s e = ap (λ (z : Sizing). then d o (sized_to (C o) (P o) leader (S o) (Solved o) z)) (sized_is o target s e) ∙ round_solved q o target s e
+      sized_on : Alike (λ o. then d o (sized_to (C o) (P o) opened.leader (S o) (Solved o) (Z o))) W
+      sized_on o target s e = ap (λ (z : Sizing). then d o (sized_to (C o) (P o) opened.leader (S o) (Solved o) z)) (sized_is o target s e) ∙ round_solved q o target s e
 
-      module _ (p' : Progress) (runs : p' ≡ running) (level'' : List ℕ) (banks'' : List Float) (moved : ℕ) (redrawn : Redrawn ladder level a b km share sheet load bus pmax marks' floors' banks' level'' banks'' moved) where
+      module _ (p' : Progress) (runs : p' ≡ running) (level'' : List ℕ) (banks'' : List Float) (moved : ℕ) (redrawn : Redrawn grid level supply marks' floors' banks' level'' banks'' moved) where
         abbrev grown : Progress
         grown = record { rounds = p.rounds + 1; promoted = p.promoted + moved; capacity = t.capacity; stiffening = p.stiffening; converged = false; settled = false }
 
@@ -225,7 +226,7 @@ module _ (mode : PlanMode) (above : ℕ) (ladder : List Float) (a b : List ℕ) 
             ∙ go moved refl h
             ∙ sized_on o target s e
           where
-            go : (m : ℕ) → moved ≡ m → (ltb 0 m || t.added) ≡ true → goes_on d level'' circuits' banks'' floors' upsized' theta grown o ≡ then d o (sized_to (C o) (P o) leader (S o) (Solved o) (Z o))
+            go : (m : ℕ) → moved ≡ m → (ltb 0 m || t.added) ≡ true → goes_on d level'' circuits' banks'' floors' upsized' theta grown o ≡ then d o (sized_to (C o) (P o) opened.leader (S o) (Solved o) (Z o))
             go zero u v =
                 let w : moved_buses level marks' ≡ 0 = sym redrawn.count ∙ u in
                 let x : level'' ≡ level = (redrawn.still u).0 in
@@ -250,7 +251,7 @@ module _ (mode : PlanMode) (above : ℕ) (ladder : List Float) (a b : List ℕ) 
               let x : level'' ≡ level = (redrawn.still (nothing_done moved t.added h).0).0 in
               let y = still_build level marks' circuits' banks' floors' upsized' level'' banks'' moved redrawn o (nothing_done moved t.added h).0 in
               let z : going (draft_of (C o) level'' circuits' banks'' floors' upsized' theta (record { rounds = p.rounds + 1; promoted = p.promoted; capacity = t.capacity; stiffening = p.stiffening; converged = not t.capped; settled = true }))
-              ≡ then d o (sized_to (C o) (P o) leader (S o) (Solved o) (Z o)) = rw (y, x, add-one p.rounds, still, (nothing_done moved t.added h).1, m) in
+              ≡ then d o (sized_to (C o) (P o) opened.leader (S o) (Solved o) (Z o)) = rw (y, x, add-one p.rounds, still, (nothing_done moved t.added h).1, m) in
               ap (λ (x : Progress).
               going (draft_of (C o) level'' circuits' banks'' floors' upsized' theta
               (record { rounds = x.rounds; promoted = x.promoted; capacity = t.capacity; stiffening = x.stiffening; converged = not t.capped; settled = true }))) runs
@@ -270,12 +271,12 @@ module _ (mode : PlanMode) (above : ℕ) (ladder : List Float) (a b : List ℕ) 
         budget_is o e =
             limits ∙ ap budget_at (size ∙ e)
 
-        round_is : (o : Case) (target : ℕ) → Sound (C o) target → Fits o → round_of (length a) from to weight theta flow ≡ Solved o
+        round_is : (o : Case) (target : ℕ) → Sound (C o) target → Fits o → round_of (length grid.a) from to weight theta flow ≡ Solved o
         round_is o target s e =
             ap (λ (E : Edges). the_case E)
             (edges
-            ∙ ap (λ (l : List ℕ). edges_for (drawn_all (lines_for ladder a b km share sheet) l banks) circuits) (sym kept)
-            ∙ ap (λ (ds : List CircuitDesign). edges_for ds circuits) (drawn_all_lifts (C o) level sheet refl banks s.a_size s.ladder_size))
+            ∙ ap (λ (l : List ℕ). edges_for (drawn_all (lines_for grid) l banks) circuits) (sym kept)
+            ∙ ap (λ (ds : List CircuitDesign). edges_for ds circuits) (drawn_all_lifts (C o) level grid.sheet refl banks s.a_size s.ladder_size))
           where
             the_case : Edges → PlanningCase
             the_case E = record { edges = E; theta = theta; flows = flow }
@@ -284,16 +285,16 @@ module _ (mode : PlanMode) (above : ℕ) (ladder : List Float) (a b : List ℕ) 
         unfolding stiffen_from
         start_is o e = rw (begin, clear, ap (λ (B : Budget). B.top) (budget_is o e), ap (λ (x : Progress). x.stiffening) runs)
 
-        closes_is : (o : Case) (v : Stiffening) → closes level theta running t o v ≡ stiffened_to (C o) (P o) leader (S o) (Solved o) (Z o) v
+        closes_is : (o : Case) (v : Stiffening) → closes level theta running t o v ≡ stiffened_to (C o) (P o) opened.leader (S o) (Solved o) (Z o) v
         closes_is o v = go (moved_buses level v.marks)
           where
             back : p.rounds + 1 - 1 ≡ p.rounds
             back = omega arith
 
             go : (i : ℕ)
-                → going (stiffened_by (C o) (P o) leader i (draft level (built [] [] [] []) [] (p.rounds + 1 - 1) p.promoted p.capacity p.stiffening false false)
+                → going (stiffened_by (C o) (P o) opened.leader i (draft level (built [] [] [] []) [] (p.rounds + 1 - 1) p.promoted p.capacity p.stiffening false false)
                 (record { edges = edges_of [] [] []; theta = theta; flows = [] }) (sizing (built [] [] [] []) [] t.capacity t.added t.capped) v)
-                ≡ going (stiffened_by (C o) (P o) leader i (S o) (Solved o) (Z o) v)
+                ≡ going (stiffened_by (C o) (P o) opened.leader i (S o) (Solved o) (Z o) v)
             go zero = rw back
             go (suc i) = rw back
 
@@ -304,16 +305,16 @@ module _ (mode : PlanMode) (above : ℕ) (ladder : List Float) (a b : List ℕ) 
             let start = stiffen_from level G (Z o).build p.stiffening in
             let ends = closes level theta running t o in
             ap (λ (ks : List ℕ). then d o (onward (each_stage (component level (p.rounds + 1) g from to weight theta flow o) ks (stiff_of (C o) level circuits' banks' floors' upsized' marks'' u)) ends))
-            (pass_start (leads leader) (length leader))
-            ∙ ap (λ (x : Stiffening). then d o (onward (each_stage (component level (p.rounds + 1) g from to weight theta flow o) (roots leader) x) ends)) (start_is o e.0)
-            ∙ ap (λ (B : Budget). then d o (onward (each_stage (stiffen_component (C o) (P o) leader level (p.rounds + 1) B (round_of (length a) from to weight theta flow)) (roots leader) start) ends)) (budget_is o e.0)
-            ∙ ap (λ (v : PlanningCase). then d o (onward (each_stage (stiffen_component (C o) (P o) leader level (p.rounds + 1) G v) (roots leader) start) ends)) (round_is o target s e)
-            ∙ ap (λ (i : ℕ). then d o (onward (each_stage (stiffen_component (C o) (P o) leader level i G (Solved o)) (roots leader) start) ends)) (add-one p.rounds)
-            ∙ ap (then d o) (onward_same (each_stage (stiffen_component (C o) (P o) leader level (suc p.rounds) G (Solved o)) (roots leader) start) ends (stiffened_to (C o) (P o) leader (S o) (Solved o) (Z o)) (closes_is o))
+            (pass_start (leads opened.leader) (length opened.leader))
+            ∙ ap (λ (x : Stiffening). then d o (onward (each_stage (component level (p.rounds + 1) g from to weight theta flow o) (roots opened.leader) x) ends)) (start_is o e.0)
+            ∙ ap (λ (B : Budget). then d o (onward (each_stage (stiffen_component (C o) (P o) opened.leader level (p.rounds + 1) B (round_of (length grid.a) from to weight theta flow)) (roots opened.leader) start) ends)) (budget_is o e.0)
+            ∙ ap (λ (v : PlanningCase). then d o (onward (each_stage (stiffen_component (C o) (P o) opened.leader level (p.rounds + 1) G v) (roots opened.leader) start) ends)) (round_is o target s e)
+            ∙ ap (λ (i : ℕ). then d o (onward (each_stage (stiffen_component (C o) (P o) opened.leader level i G (Solved o)) (roots opened.leader) start) ends)) (add-one p.rounds)
+            ∙ ap (then d o) (onward_same (each_stage (stiffen_component (C o) (P o) opened.leader level (suc p.rounds) G (Solved o)) (roots opened.leader) start) ends (stiffened_to (C o) (P o) opened.leader (S o) (Solved o) (Z o)) (closes_is o))
             ∙ ap (then d o) (sym (to_stiffen o))
             ∙ sized_on o target s e
           where
-            to_stiffen : (o : Case) → sized_to (C o) (P o) leader (S o) (Solved o) (Z o) ≡ stiffen_with (C o) (P o) leader (S o) (Solved o) (Z o) (budget_of (C o) level)
+            to_stiffen : (o : Case) → sized_to (C o) (P o) opened.leader (S o) (Solved o) (Z o) ≡ stiffen_with (C o) (P o) opened.leader (S o) (Solved o) (Z o) (budget_of (C o) level)
             to_stiffen o = rw (same, none, m)
 
         pub stiffens : Alike (stiffens_on d level g from to weight theta flow p' t 0 circuits' banks' floors' upsized' marks'' u) W
@@ -323,32 +324,32 @@ module _ (mode : PlanMode) (above : ℕ) (ladder : List Float) (a b : List ℕ) 
   module _ (W : Case → Stage Draft) (d : ℕ) (level : List ℕ) (g : Limits) (from to : List ℕ) (weight theta flow : List Float) (p : Progress) (t : Tally) (size : length level ≡ n)
       (i : ℕ) (circuits : List ℕ) (banks floors : List Float) (upsized marks : List ℕ) (s : Stiffness)
       (whole : Alike (stiffens_on d level g from to weight theta flow p t i circuits banks floors upsized marks s) W) where
-    module _ (more : i < length leader) (circuits' : List ℕ) (banks' floors' : List Float) (upsized' marks' : List ℕ) (r : Result Stiffness Refusal)
-        (led : LedStiffened i p.rounds g ladder level a b km share cap sheet leader grounds from to weight theta circuits banks floors upsized marks s circuits' banks' floors' upsized' marks' r) where
+    module _ (more : i < length opened.leader) (circuits' : List ℕ) (banks' floors' : List Float) (upsized' marks' : List ℕ) (r : Result Stiffness Refusal)
+        (led : LedStiffened i p.rounds g grid level opened from to weight theta circuits banks floors upsized marks s circuits' banks' floors' upsized' marks' r) where
       stepped : (o : Case) (target : ℕ) → Sound (C o) target → Fits o
-          → then d o (onward (onward (stiffened_as r (C o) level circuits' banks' floors' upsized' marks') (each_stage (component level p.rounds g from to weight theta flow o) (pass_from (leads leader) (length leader - (i + 1)) (i + 1)))) (closes level theta p t o))
+          → then d o (onward (onward (stiffened_as r (C o) level circuits' banks' floors' upsized' marks') (each_stage (component level p.rounds g from to weight theta flow o) (pass_from (leads opened.leader) (length opened.leader - (i + 1)) (i + 1)))) (closes level theta p t o))
           ≡ W o
       unfolding stiffens_on
       stepped o target sound e =
           ap (λ (st : Stage Stiffening). then d o (onward st (closes level theta p t o)))
-          (stage_step (component level p.rounds g from to weight theta flow o) (leads leader) (length leader) i more (stiff_of (C o) level circuits banks floors upsized marks s)
-          (stiffened_as r (C o) level circuits' banks' floors' upsized' marks') (led.stiffened (with_units o mode above load bus pmax) target injection flow sound (size ∙ e.0) e.1))
+          (stage_step (component level p.rounds g from to weight theta flow o) (leads opened.leader) (length opened.leader) i more (stiff_of (C o) level circuits banks floors upsized marks s)
+          (stiffened_as r (C o) level circuits' banks' floors' upsized' marks') (led.stiffened (with_units o mode above supply) target opened.injection flow sound (size ∙ e.0) e.1))
           ∙ whole o target sound e
 
       pub stiffen_refused : (f : Refusal) → r ≡ Err f → Alike (λ o. stopped f) W
       stiffen_refused f q o target sound e =
-          ap (λ (x : Result Stiffness Refusal). then d o (onward (onward (stiffened_as x (C o) level circuits' banks' floors' upsized' marks') (each_stage (component level p.rounds g from to weight theta flow o) (pass_from (leads leader) (length leader - (i + 1)) (i + 1)))) (closes level theta p t o)))
+          ap (λ (x : Result Stiffness Refusal). then d o (onward (onward (stiffened_as x (C o) level circuits' banks' floors' upsized' marks') (each_stage (component level p.rounds g from to weight theta flow o) (pass_from (leads opened.leader) (length opened.leader - (i + 1)) (i + 1)))) (closes level theta p t o)))
           (sym q) ∙ stepped o target sound e
 
       pub stiffen_next : (s' : Stiffness) → r ≡ Ok s' → Alike (stiffens_on d level g from to weight theta flow p t (i + 1) circuits' banks' floors' upsized' marks' s') W
       unfolding stiffens_on
       stiffen_next s' q o target sound e =
-          ap (λ (x : Result Stiffness Refusal). then d o (onward (onward (stiffened_as x (C o) level circuits' banks' floors' upsized' marks') (each_stage (component level p.rounds g from to weight theta flow o) (pass_from (leads leader) (length leader - (i + 1)) (i + 1)))) (closes level theta p t o)))
+          ap (λ (x : Result Stiffness Refusal). then d o (onward (onward (stiffened_as x (C o) level circuits' banks' floors' upsized' marks') (each_stage (component level p.rounds g from to weight theta flow o) (pass_from (leads opened.leader) (length opened.leader - (i + 1)) (i + 1)))) (closes level theta p t o)))
           (sym q) ∙ stepped o target sound e
 
     -- ---- after the last of them: a raise, then anything else that was done, leads to another round
-    module _ (all : length leader ≤ i) (some : 1 ≤ p.rounds) (unsettled : p.converged ≡ false) (Going-on : p.settled ≡ false) (level'' : List ℕ) (banks'' : List Float) (moved : ℕ)
-        (redrawn : Redrawn ladder level a b km share sheet load bus pmax marks floors banks level'' banks'' moved) where
+    module _ (all : length opened.leader ≤ i) (some : 1 ≤ p.rounds) (unsettled : p.converged ≡ false) (Going-on : p.settled ≡ false) (level'' : List ℕ) (banks'' : List Float) (moved : ℕ)
+        (redrawn : Redrawn grid level supply marks floors banks level'' banks'' moved) where
       forth : suc (p.rounds - 1) ≡ p.rounds
       forth = omega arith
 
@@ -356,7 +357,7 @@ module _ (mode : PlanMode) (above : ℕ) (ladder : List Float) (a b : List ℕ) 
       unfolding stiffens_on
       closed o target sound e =
           ap (λ (st : Stage Stiffening). then d o (onward st (closes level theta p t o)))
-          (sym (stage_end (component level p.rounds g from to weight theta flow o) (leads leader) (length leader) i all (stiff_of (C o) level circuits banks floors upsized marks s)))
+          (sym (stage_end (component level p.rounds g from to weight theta flow o) (leads opened.leader) (length opened.leader) i all (stiff_of (C o) level circuits banks floors upsized marks s)))
           ∙ whole o target sound e
 
       pub stiffened_again : (ltb 0 moved || s.stiffened) ≡ true

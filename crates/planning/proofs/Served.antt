@@ -1,57 +1,74 @@
 -- What the units at each bus give, and how many corridors step down to it, as the code's two loops add them up.
 -- A turn changes one place of a table, by one more index.
 use mir.Val.{bool_byte}
-use Rattle.std.proofs.Common.{◌≡◌, ℕ, ◌+◌, ◌<◌, ◌≤◌, Bool, true, false, cond, ◌&&◌, eqb, List, length, get_or, set, replicate, sym, refl, ap, ◌∙◌, subst, arith, eq-eqb, ne_eqb}
+use Rattle.std.proofs.Common.{◌≡◌, ℕ, zero, suc, ◌+◌, ◌<◌, ◌≤◌, Bool, true, false, cond, ◌&&◌, eqb, List, length, get_or, set, replicate, sym, refl, ap, ◌∙◌, subst, arith, eq-eqb, ne_eqb}
 use lib.Ieee.{Float, nan}
 use Rattle.loops.specs.Figures.{at, plus, nought}
-use Rattle.loops.specs.Loops.{tab}
+use Rattle.loops.specs.Loops.{iter, tab}
 use Rattle.loops.proofs.Tab.{tab_same, tab_replicate}
 use Rattle.loops.proofs.Places.{tab_set, tab_read}
 use Rattle.plan_defs.specs.Lists.{pass_from, passing, count_from, counting, each, sum_over}
 use Rattle.plan_defs.specs.Case.{to_of}
+use Rattle.plan_defs.specs.Dispatch.{inject_at}
 use Rattle.plan_defs.specs.Design.{steps_down, gen_at_bus, transformer_corridors}
 use Rattle.planning.specs.Design.{ends_for, ends_of}
+use Rattle.planning.specs.Opening.{bus_case}
 use Rattle.planning.specs.Redesign.{units_for}
 use Rattle.planning.specs.declared.design.Ends.{Ends}
 use Rattle.planning.proofs.Lists.{sum_more, count_more, count_most}
+use Rattle.planning.specs.Tables.{GridColumns, SupplyColumns}
 
 -- ---- the units
-module _ (bus : List ℕ) (pmax : List Float) where
+module _ (supply : SupplyColumns) where
   -- of the first k units
   unfoldable pub gen_to : ℕ → ℕ → Float
-  gen_to k i = sum_over (at pmax) (passing (λ j. eqb (get_or bus j 0) i) k)
+  gen_to k i = sum_over (at supply.pmax) (passing (λ j. eqb (get_or supply.bus j 0) i) k)
 
   none_at : (i : ℕ) → nought ≡ gen_to 0 i
   unfolding gen_to pass_from each
   none_at i = refl
 
-  pub gen_start : (gens : List Float) → gens ≡ replicate 256 nought → gens ≡ tab 256 (gen_to 0)
-  gen_start gens e = e ∙ sym (tab_replicate 256 nought) ∙ tab_same 256 (λ i. nought) (gen_to 0) (λ i h. none_at i)
+  gen_start : replicate 256 nought ≡ tab 256 (gen_to 0)
+  gen_start = sym (tab_replicate 256 nought) ∙ tab_same 256 (λ i. nought) (gen_to 0) (λ i h. none_at i)
 
-  own_gen : (k : ℕ) → plus (gen_to k (get_or bus k 0)) (at pmax k) ≡ gen_to (k + 1) (get_or bus k 0)
+  own_gen : (k : ℕ) → plus (gen_to k (get_or supply.bus k 0)) (at supply.pmax k) ≡ gen_to (k + 1) (get_or supply.bus k 0)
   unfolding gen_to
-  own_gen k = sym (sum_more (at pmax) (λ j. eqb (get_or bus j 0) (get_or bus k 0)) k true (eq-eqb (get_or bus k 0) (get_or bus k 0) refl))
+  own_gen k = sym (sum_more (at supply.pmax) (λ j. eqb (get_or supply.bus j 0) (get_or supply.bus k 0)) k true (eq-eqb (get_or supply.bus k 0) (get_or supply.bus k 0) refl))
 
-  other_gen : (k i : ℕ) → (i ≡ get_or bus k 0 → ⊥) → gen_to k i ≡ gen_to (k + 1) i
+  other_gen : (k i : ℕ) → (i ≡ get_or supply.bus k 0 → ⊥) → gen_to k i ≡ gen_to (k + 1) i
   unfolding gen_to
-  other_gen k i n = sym (sum_more (at pmax) (λ j. eqb (get_or bus j 0) i) k false (ne_eqb (get_or bus k 0) i (λ e. n (sym e))))
+  other_gen k i n = sym (sum_more (at supply.pmax) (λ j. eqb (get_or supply.bus j 0) i) k false (ne_eqb (get_or supply.bus k 0) i (λ e. n (sym e))))
 
-  pub gen_turn : (gens : List Float) (k i : ℕ) → i ≡ get_or bus k 0 → i < 256 → gens ≡ tab 256 (gen_to k)
-      → set gens i (plus (at gens i) (at pmax k)) ≡ tab 256 (gen_to (k + 1))
+  gen_turn : (gens : List Float) (k i : ℕ) → i ≡ get_or supply.bus k 0 → i < 256 → gens ≡ tab 256 (gen_to k)
+      → set gens i (plus (at gens i) (at supply.pmax k)) ≡ tab 256 (gen_to (k + 1))
   gen_turn gens k i e h g =
       tab_set nan 256 (gen_to k) (gen_to (k + 1)) gens i _ g h
-      (ap (λ (x : Float). plus x (at pmax k)) (tab_read nan 256 (gen_to k) gens i g h)
-      ∙ ap (λ (z : ℕ). plus (gen_to k z) (at pmax k)) e ∙ own_gen k ∙ ap (gen_to (k + 1)) (sym e))
+      (ap (λ (x : Float). plus x (at supply.pmax k)) (tab_read nan 256 (gen_to k) gens i g h)
+      ∙ ap (λ (z : ℕ). plus (gen_to k z) (at supply.pmax k)) e ∙ own_gen k ∙ ap (gen_to (k + 1)) (sym e))
       (λ j w n. other_gen k j (λ q. n (q ∙ sym e)))
 
-  pub gen_end : (gens : List Float) (k : ℕ) → k ≡ length bus → gens ≡ tab 256 (gen_to k) → gens ≡ tab 256 (gen_at_bus (units_for bus pmax))
+  gen_turns : (n k : ℕ) (gens : List Float) → k + n ≤ length supply.bus → ((j : ℕ) → j < length supply.bus → get_or supply.bus j 0 < 256) → gens ≡ tab 256 (gen_to k)
+      → iter (inject_at (bus_case supply.bus) supply.pmax) n k gens ≡ tab 256 (gen_to (k + n))
+  unfolding iter
+  gen_turns zero k gens h b g = let e : k ≡ k + 0 = omega arith in g ∙ ap (λ (z : ℕ). tab 256 (gen_to z)) e
+  gen_turns (suc n) k gens h b g =
+      let e : k + 1 ≡ suc k = omega arith in
+      let f : suc k + n ≡ k + suc n = omega arith in
+      gen_turns n (suc k) _ (omega arith) b (gen_turn gens k _ refl (b k (omega arith)) g ∙ ap (λ (z : ℕ). tab 256 (gen_to z)) e)
+      ∙ ap (λ (z : ℕ). tab 256 (gen_to z)) f
+
+  -- added at each bus of a table of zeros
+  pub gen_is : (gens : List Float) → ((j : ℕ) → j < length supply.bus → get_or supply.bus j 0 < 256) → gens ≡ iter (inject_at (bus_case supply.bus) supply.pmax) (length supply.bus) 0 (replicate 256 nought)
+      → gens ≡ tab 256 (gen_at_bus (units_for supply))
   unfolding gen_at_bus gen_to
-  gen_end gens k e g = g ∙ ap (λ (n : ℕ). tab 256 (gen_to n)) e
+  gen_is gens b e =
+      let z : 0 + length supply.bus ≡ length supply.bus = omega arith in
+      e ∙ gen_turns (length supply.bus) 0 (replicate 256 nought) (omega arith) b gen_start ∙ ap (λ (n : ℕ). tab 256 (gen_to n)) z
 
 -- ---- the corridors
-module _ (ladder : List Float) (level a b : List ℕ) where
+module _ (grid : GridColumns) (level : List ℕ) where
   abbrev steps_to : ℕ → ℕ → Bool
-  steps_to i j = steps_down (ends_for ladder a b) level j && eqb (to_of (ends_for ladder a b) level j) i
+  steps_to i j = steps_down (ends_for grid) level j && eqb (to_of (ends_for grid) level j) i
 
   unfoldable pub shared_to : ℕ → ℕ → ℕ
   shared_to k i = counting (steps_to i) k
@@ -71,31 +88,31 @@ module _ (ladder : List Float) (level a b : List ℕ) where
   and_no true y e = ap (λ (z : Bool). cond {A = ℕ} z 1 0) (sym e)
   and_no false y e = refl
 
-  own_steps : (k : ℕ) → shared_to k (to_of (ends_for ladder a b) level k) + cond (steps_down (ends_for ladder a b) level k) 1 0
-      ≡ shared_to (k + 1) (to_of (ends_for ladder a b) level k)
+  own_steps : (k : ℕ) → shared_to k (to_of (ends_for grid) level k) + cond (steps_down (ends_for grid) level k) 1 0
+      ≡ shared_to (k + 1) (to_of (ends_for grid) level k)
   unfolding shared_to
   own_steps k =
-      let lo = to_of (ends_for ladder a b) level k in
-      ap (λ (n : ℕ). counting (steps_to lo) k + n) (and_yes (steps_down (ends_for ladder a b) level k) (eqb lo lo) (eq-eqb lo lo refl))
+      let lo = to_of (ends_for grid) level k in
+      ap (λ (n : ℕ). counting (steps_to lo) k + n) (and_yes (steps_down (ends_for grid) level k) (eqb lo lo) (eq-eqb lo lo refl))
       ∙ sym (count_more (steps_to lo) k)
 
-  other_steps : (k i : ℕ) → (i ≡ to_of (ends_for ladder a b) level k → ⊥) → shared_to k i ≡ shared_to (k + 1) i
+  other_steps : (k i : ℕ) → (i ≡ to_of (ends_for grid) level k → ⊥) → shared_to k i ≡ shared_to (k + 1) i
   unfolding shared_to
   other_steps k i n =
-      let z = and_no (steps_down (ends_for ladder a b) level k) (eqb (to_of (ends_for ladder a b) level k) i) (ne_eqb (to_of (ends_for ladder a b) level k) i (λ e. n (sym e))) in
+      let z = and_no (steps_down (ends_for grid) level k) (eqb (to_of (ends_for grid) level k) i) (ne_eqb (to_of (ends_for grid) level k) i (λ e. n (sym e))) in
       let r = count_more (steps_to i) k in
       omega arith
 
-  pub shared_turn : (shared : List ℕ) (k : ℕ) (e : Ends) (one : ℕ) → e ≡ ends_of (ends_for ladder a b) level k → one ≡ cond e.steps_down 1 0 → e.to < 256
+  pub shared_turn : (shared : List ℕ) (k : ℕ) (e : Ends) (one : ℕ) → e ≡ ends_of (ends_for grid) level k → one ≡ cond e.steps_down 1 0 → e.to < 256
       → shared ≡ tab 256 (shared_to k) → set shared e.to (get_or shared e.to 0 + one) ≡ tab 256 (shared_to (k + 1))
   unfolding ends_of
   shared_turn shared k e one p q h g =
-      let to_is : e.to ≡ to_of (ends_for ladder a b) level k = ap (λ (z : Ends). z.to) p in
-      let one-is : one ≡ cond (steps_down (ends_for ladder a b) level k) 1 0 = q ∙ ap (λ (z : Ends). cond z.steps_down 1 0) p in
+      let to_is : e.to ≡ to_of (ends_for grid) level k = ap (λ (z : Ends). z.to) p in
+      let one-is : one ≡ cond (steps_down (ends_for grid) level k) 1 0 = q ∙ ap (λ (z : Ends). cond z.steps_down 1 0) p in
       tab_set 0 256 (shared_to k) (shared_to (k + 1)) shared e.to _ g h
       (ap (λ (x : ℕ). x + one) (tab_read 0 256 (shared_to k) shared e.to g h)
       ∙ ap (λ (z : ℕ). shared_to k z + one) to_is
-      ∙ ap (λ (x : ℕ). shared_to k (to_of (ends_for ladder a b) level k) + x) one-is
+      ∙ ap (λ (x : ℕ). shared_to k (to_of (ends_for grid) level k) + x) one-is
       ∙ own_steps k ∙ ap (shared_to (k + 1)) (sym to_is))
       (λ j w n. other_steps k j (λ r. n (r ∙ sym to_is)))
 
@@ -104,7 +121,7 @@ module _ (ladder : List Float) (level a b : List ℕ) where
   unfolding shared_to
   shared_few shared k i g h = subst (λ (z : ℕ). z ≤ k) (sym (tab_read 0 256 (shared_to k) shared i g h)) (count_most (steps_to i) k 0)
 
-  pub shared_end : (shared : List ℕ) (k : ℕ) → k ≡ length a → shared ≡ tab 256 (shared_to k) → shared ≡ tab 256 (transformer_corridors (ends_for ladder a b) level)
+  pub shared_end : (shared : List ℕ) (k : ℕ) → k ≡ length grid.a → shared ≡ tab 256 (shared_to k) → shared ≡ tab 256 (transformer_corridors (ends_for grid) level)
   unfolding transformer_corridors shared_to
   shared_end shared k e g = g ∙ ap (λ (n : ℕ). tab 256 (shared_to n)) e
 

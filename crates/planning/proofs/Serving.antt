@@ -24,6 +24,7 @@ use Rattle.loops.proofs.Fronts.{get_map, front_room}
 use Rattle.planning.proofs.Demands.{demand_ok_lem}
 use Rattle.std.specs.Prelude.{Err, Result}
 use Rattle.refusal.specs.Reply.{no_refusal}
+use Rattle.planning.specs.Tables.{SupplyColumns}
 
 module _ (led bus : List ℕ) (root : ℕ) where
   abbrev units : List ℕ
@@ -65,9 +66,9 @@ refused_below tops u d f e = go (ltb (faulty_cost u d) (count u)) refl e
     go true q h = let z : f ≡ Cost (faulty_cost u d) = cc in subst (λ (g : Refusal). index_of g < count u) (sym z) (ltb-true (faulty_cost u d) (count u) q)
     go false q h = let z : ◌≡◌ {A = ℕ} 0 1 = cc in absurd (omega arith)
 
-module _ (mode : PlanMode) (led : List ℕ) (load : List Float) (bus : List ℕ) (pmin pmax c1 c2 : List Float) (root : ℕ) where
+module _ (mode : PlanMode) (led : List ℕ) (supply : SupplyColumns) (root : ℕ) where
   abbrev case : Case
-  case = dispatch_case mode load bus pmin pmax c1 c2
+  case = dispatch_case mode supply.load supply.bus supply.pmin supply.pmax supply.c1 supply.c2
 
   abbrev own : List ℕ
   own = units_in case led root
@@ -82,7 +83,7 @@ module _ (mode : PlanMode) (led : List ℕ) (load : List Float) (bus : List ℕ)
   unfolding serve
   is_handed mw =
       handed_as (ltb (faulty_cost table demand) (count table)) (tops_up mode) own table demand mw
-      ∙ ap (λ (n : ℕ). served_if (ltb (faulty_cost table demand) n) (tops_up mode) own table demand (faulty_cost table demand) mw) (length-map own (at pmin))
+      ∙ ap (λ (n : ℕ). served_if (ltb (faulty_cost table demand) n) (tops_up mode) own table demand (faulty_cost table demand) mw) (length-map own (at supply.pmin))
 
   module _ (a : Result (Unit {0}) Refusal) (out mw : List Float) (e : stage_of a out ≡ given_stage (tops_up mode) table demand) where
     serve_answered : a ≡ no_refusal → going (scatter own out mw) ≡ serve case led root mw
@@ -91,40 +92,36 @@ module _ (mode : PlanMode) (led : List ℕ) (load : List Float) (bus : List ℕ)
     serve_refused : (f : Refusal) → a ≡ Err f → (index_of f < length own) × (stopped (Cost (get_or own (index_of f) 0)) ≡ serve case led root mw)
     serve_refused f h =
         let g : stopped f ≡ given_stage (tops_up mode) table demand = ap (λ (x : Result (Unit {0}) Refusal). stage_of x out) (sym h) ∙ e in
-        (omega (arith, refused_below (tops_up mode) table demand f g, length-map own (at pmin)), ap (handed own mw) g ∙ is_handed mw)
+        (omega (arith, refused_below (tops_up mode) table demand f g, length-map own (at supply.pmin)), ap (handed own mw) g ∙ is_handed mw)
 
 -- ---- a call on the front of the columns picked
-module _ (mode : PlanMode) (led : List ℕ) (load : List Float) (bus : List ℕ) (pmin pmax c1 c2 : List Float) (root : ℕ)
-    (F : Fleet (length led) bus) (K : Costs bus pmin pmax c1 c2) (L : Loads led load)
-    (ks : List ℕ) (size : ℕ) (pc : size ≡ length (units_in (bus_case bus) led root)) (pk : take size ks ≡ units_in (bus_case bus) led root) where
+module _ (mode : PlanMode) (led : List ℕ) (supply : SupplyColumns) (root : ℕ)
+    (F : Fleet (length led) supply.bus) (K : Costs supply) (L : Loads led supply.load)
+    (ks : List ℕ) (size : ℕ) (pc : size ≡ length (units_in (bus_case supply.bus) led root)) (pk : take size ks ≡ units_in (bus_case supply.bus) led root) where
   abbrev ours : List ℕ
-  ours = own mode led load bus pmin pmax c1 c2 root
+  ours = own mode led supply root
 
   abbrev all : Units
-  all = table mode led load bus pmin pmax c1 c2 root
-
-  -- a column that was picked has room for them
-  pub column_room : (f : ℕ → Float) (l : List Float) → take size l ≡ map f (take size ks) → size ≤ length l
-  column_room f l e = front_room size l (map f (take size ks)) e (length-map (take size ks) f ∙ ap length pk ∙ sym pc)
+  all = table mode led supply root
 
   sound : SoundUnits all
   sound =
       record {
         even =
             record {
-              pmax = length-map ours (at pmax) ∙ sym (length-map ours (at pmin));
-              c1 = length-map ours (at c1) ∙ sym (length-map ours (at pmin));
-              c2 = length-map ours (at c2) ∙ sym (length-map ours (at pmin));
+              pmax = length-map ours (at supply.pmax) ∙ sym (length-map ours (at supply.pmin));
+              c1 = length-map ours (at supply.c1) ∙ sym (length-map ours (at supply.pmin));
+              c2 = length-map ours (at supply.c2) ∙ sym (length-map ours (at supply.pmin));
             };
         each = λ j h.
-            let l : j < length ours = subst (λ (k : ℕ). j < k) (length-map ours (at pmin)) h in
-            rw (get_map (at pmin) ours j 0 nan l, get_map (at pmax) ours j 0 nan l, get_map (at c1) ours j 0 nan l, get_map (at c2) ours j 0 nan l)
-            (K.units (get_or ours j 0) (units_below led bus root j l));
+            let l : j < length ours = subst (λ (k : ℕ). j < k) (length-map ours (at supply.pmin)) h in
+            rw (get_map (at supply.pmin) ours j 0 nan l, get_map (at supply.pmax) ours j 0 nan l, get_map (at supply.c1) ours j 0 nan l, get_map (at supply.c2) ours j 0 nan l)
+            (K.units (get_or ours j 0) (units_below led supply.bus root j l));
       }
 
-  module _ (least most linear quadratic : List Float) (pl : take size least ≡ map (at pmin) (take size ks)) (pm : take size most ≡ map (at pmax) (take size ks))
-      (pn : take size linear ≡ map (at c1) (take size ks)) (pq : take size quadratic ≡ map (at c2) (take size ks))
-      (d : Float) (pd : d ≡ sum_over (at load) (members led root)) where
+  module _ (least most linear quadratic : List Float) (pl : take size least ≡ map (at supply.pmin) (take size ks)) (pm : take size most ≡ map (at supply.pmax) (take size ks))
+      (pn : take size linear ≡ map (at supply.c1) (take size ks)) (pq : take size quadratic ≡ map (at supply.c2) (take size ks))
+      (d : Float) (pd : d ≡ sum_over (at supply.load) (members led root)) where
     abbrev lent : Units
     lent = units_of (take (size - 0) least) (take (size - 0) most) (take (size - 0) linear) (take (size - 0) quadratic)
 
@@ -140,35 +137,35 @@ module _ (mode : PlanMode) (led : List ℕ) (load : List Float) (bus : List ℕ)
         subst (λ (u : Units). Accepted (count u) u d (length (take (size - 0) old))) (sym lent_is)
         (record {
           size = refl;
-          room = n ∙ sym (length-map ours (at pmin));
-          few = omega (arith, length-map ours (at pmin), units_few led bus root, F.few);
+          room = n ∙ sym (length-map ours (at supply.pmin));
+          few = omega (arith, length-map ours (at supply.pmin), units_few led supply.bus root, F.few);
           units = sound;
-          demand = subst (λ (x : Float). demand_ok x ≡ true) (sym pd) (demand_ok_lem led load L root);
+          demand = subst (λ (x : Float). demand_ok x ≡ true) (sym pd) (demand_ok_lem led supply.load L root);
         })
 
     module _ (a : Result (Unit {0}) Refusal) (out : List Float) (e : stage_of a out ≡ given_stage (tops_up mode) lent d) where
-      call : stage_of a out ≡ given_stage (tops_up mode) all (demand mode led load bus pmin pmax c1 c2 root)
+      call : stage_of a out ≡ given_stage (tops_up mode) all (demand mode led supply root)
       call = e ∙ ap (λ (u : Units). given_stage (tops_up mode) u d) lent_is ∙ ap (given_stage (tops_up mode) all) pd
 
       pub refused_index : (f : Refusal) → a ≡ Err f → (j : ℕ) → j ≡ index_of f → j < size
       refused_index f h j q =
-          let r = (serve_refused mode led load bus pmin pmax c1 c2 root a out [] call f h).0 in
+          let r = (serve_refused mode led supply root a out [] call f h).0 in
           omega (arith, r, q, pc)
 
       pub refused_stage : (f : Refusal) → a ≡ Err f → (j k : ℕ) → j ≡ index_of f → k ≡ get_or ks j 0 → (mw : List Float)
-          → stopped (Cost k) ≡ serve (dispatch_case mode load bus pmin pmax c1 c2) led root mw
+          → stopped (Cost k) ≡ serve (dispatch_case mode supply.load supply.bus supply.pmin supply.pmax supply.c1 supply.c2) led root mw
       refused_stage f h j k q w mw =
-          let r = serve_refused mode led load bus pmin pmax c1 c2 root a out mw call f h in
+          let r = serve_refused mode led supply root a out mw call f h in
           let l : j < size = omega (arith, r.0, q, pc) in
           ap (λ (i : ℕ). stopped (Cost i)) (w ∙ sym (get_or-take size ks j 0 l) ∙ ap (λ (u : List ℕ). get_or u j 0) pk)
-          ∙ ap (λ (i : ℕ). stopped (Cost (get_or (units_in (bus_case bus) led root) i 0))) q
+          ∙ ap (λ (i : ℕ). stopped (Cost (get_or (units_in (bus_case supply.bus) led root) i 0))) q
           ∙ r.1
 
       pub answered_stage : a ≡ no_refusal → (whole mw mw' : List Float) → take size whole ≡ out → mw' ≡ scatter (take size ks) (take size whole) mw
-          → going mw' ≡ serve (dispatch_case mode load bus pmin pmax c1 c2) led root mw
+          → going mw' ≡ serve (dispatch_case mode supply.load supply.bus supply.pmin supply.pmax supply.c1 supply.c2) led root mw
       answered_stage h whole mw mw' t w =
           ap going (w ∙ ap (λ (y : List Float). scatter (take size ks) y mw) t ∙ ap (λ (u : List ℕ). scatter u out mw) pk)
-          ∙ serve_answered mode led load bus pmin pmax c1 c2 root a out mw call h
+          ∙ serve_answered mode led supply root a out mw call h
 
 -- ---- where a bus leads, its component is served; w is the leader read
 module _ (c : Case) (led : List ℕ) (i w : ℕ) (mw : List Float) (e : w ≡ get_or led i 0) where

@@ -25,6 +25,7 @@ use Rattle.planning.proofs.Draws.{Laid}
 use Rattle.planning.proofs.Liftings.{designs_lift, fill_lifts, closing_lifts, tiers_lift, added_lifts}
 use Rattle.std.specs.Prelude.{Err, Ok, Result}
 use Rattle.planning.specs.declared.settle.Settlement.{Settlement}
+use Rattle.planning.specs.Tables.{GridColumns, grid_of, supply_of, OpenedColumns}
 
 -- ---- a plan as the slices hold it
 abbrev ended_for : ℕ → Plan → Ended
@@ -120,47 +121,47 @@ module _ (c : Case) (target : ℕ) (p : Opened) (s : Draft) (few : c.above ≤ l
       go (going v) = next_is v
 
 -- ---- and from columns that hold the same
-module _ (c : Case) (target : ℕ) (S : Sound c target) (sheet : List Float) (laid : Laid c sheet) (leader grounds : List ℕ) (injection banks floors : List Float) (upsized circuits level : List ℕ) (p : Opened) (s : Draft)
-    (size : length level ≡ c.buses) (led : p.led ≡ leader) (peak : p.peak ≡ peak_for c.buses grounds injection) (on : s.level ≡ level)
+module _ (c : Case) (target : ℕ) (S : Sound c target) (sheet : List Float) (laid : Laid c sheet) (opened : OpenedColumns) (banks floors : List Float) (upsized circuits level : List ℕ) (p : Opened) (s : Draft)
+    (size : length level ≡ c.buses) (led : p.led ≡ opened.leader) (peak : p.peak ≡ peak_for c.buses opened.grounds opened.injection) (on : s.level ≡ level)
     (build : s.build ≡ build_of c level circuits banks floors upsized) where
-  columns_settle : settled_from c.mode c.cap c.above leader c.ladder level (designs_for c.ladder level c.a c.b c.km c.share sheet banks) upsized
-      (peak_for (length level) grounds injection) target (length c.a) circuits
+  columns_settle : settled_from c.mode c.cap c.above opened.leader c.ladder level (designs_for (grid_of c.ladder c.a c.b c.km c.share c.cap sheet) level banks) upsized
+      (peak_for (length level) opened.grounds opened.injection) target (length c.a) circuits
       ≡ ended_on c.above (onward (settled_to c p s) (closing c target))
   columns_settle =
       let from : List ℕ → List ℕ → Build → Peak → ℕ → Stage Ended =
       λ l v b P m. settled_from c.mode c.cap c.above l c.ladder v b.designs b.upsized P target m b.circuits in
-      ap (λ (ds : List CircuitDesign). from leader level (built circuits ds floors upsized) (peak_for (length level) grounds injection) (length c.a)) (designs_lift c target S level banks sheet laid)
-      ∙ ap (λ (k : ℕ). from leader level (build_of c level circuits banks floors upsized) (peak_for k grounds injection) (length c.a)) size
-      ∙ ap (from leader level (build_of c level circuits banks floors upsized) (peak_for c.buses grounds injection)) S.a_size
-      ∙ ap (λ (P : Peak). from leader level (build_of c level circuits banks floors upsized) P c.corridors) (sym peak)
-      ∙ ap (λ (b : Build). from leader level b p.peak c.corridors) (sym build)
-      ∙ ap (λ (l : List ℕ). from leader l s.build p.peak c.corridors) (sym on)
+      ap (λ (ds : List CircuitDesign). from opened.leader level (built circuits ds floors upsized) (peak_for (length level) opened.grounds opened.injection) (length c.a)) (designs_lift c target S level banks sheet laid)
+      ∙ ap (λ (k : ℕ). from opened.leader level (build_of c level circuits banks floors upsized) (peak_for k opened.grounds opened.injection) (length c.a)) size
+      ∙ ap (from opened.leader level (build_of c level circuits banks floors upsized) (peak_for c.buses opened.grounds opened.injection)) S.a_size
+      ∙ ap (λ (P : Peak). from opened.leader level (build_of c level circuits banks floors upsized) P c.corridors) (sym peak)
+      ∙ ap (λ (b : Build). from opened.leader level b p.peak c.corridors) (sym build)
+      ∙ ap (λ (l : List ℕ). from opened.leader l s.build p.peak c.corridors) (sym on)
       ∙ ap (λ (l : List ℕ). from l s.level s.build p.peak c.corridors) (sym led)
       ∙ sym
       (settled_is c target p s (omega (arith, S.ladder_size)) (ap (λ (b : Build). length b.designs) build ∙ length_drawn c level banks)
       (ap (λ (P : Peak). P.n) peak))
 
 -- ---- as the contract says it
-pub settles : (mode : PlanMode) (target above : ℕ) (ladder : List Float) (a b : List ℕ) (km share : List Float) (cap : List ℕ) (sheet : List Float) (leader grounds : List ℕ) (injection banks : List Float)
+pub settles : (mode : PlanMode) (target above : ℕ) (grid : GridColumns) (opened : OpenedColumns) (banks : List Float)
     (upsized circuits level circuits' level' : List ℕ) (flow' rate' angle' added' : List Float) (r : Settling)
-    → ended_of r.settled (take (length a) r.kept.before) (take (length a) r.kept.order) circuits' level' flow' rate' angle' added'
-    ≡ settled_from mode cap above leader ladder level (designs_for ladder level a b km share sheet banks) upsized (peak_for (length level) grounds injection) target (length a) circuits
-    → Settles mode target above ladder a b km share cap sheet leader grounds injection banks upsized circuits level circuits' level' flow' rate' angle' added' r
-settles mode target above ladder a b km share cap sheet leader grounds injection banks upsized circuits level circuits' level' flow' rate' angle' added' r e =
+    → ended_of r.settled (take (length grid.a) r.kept.before) (take (length grid.a) r.kept.order) circuits' level' flow' rate' angle' added'
+    ≡ settled_from mode grid.cap above opened.leader grid.ladder level (designs_for grid level banks) upsized (peak_for (length level) opened.grounds opened.injection) target (length grid.a) circuits
+    → Settles mode target above grid opened banks upsized circuits level circuits' level' flow' rate' angle' added' r
+settles mode target above grid opened banks upsized circuits level circuits' level' flow' rate' angle' added' r e =
     record {
       plan = λ o p s floors S size caps led peak on build.
-          let c = with_lines (with_units o mode above o.load o.bus o.pmax) ladder a b km share sheet in
-          settled_as (take (length a) r.kept.before) (take (length a) r.kept.order) circuits' level' flow' rate' angle' added' c r.settled (onward (settled_to c p s) (closing c target))
+          let c = with_lines (with_units o mode above (supply_of o.load o.bus o.slack o.pmin o.pmax o.c1 o.c2)) grid in
+          settled_as (take (length grid.a) r.kept.before) (take (length grid.a) r.kept.order) circuits' level' flow' rate' angle' added' c r.settled (onward (settled_to c p s) (closing c target))
           (e
-          ∙ ap (λ (l : List ℕ). settled_from mode l above leader ladder level (designs_for ladder level a b km share sheet banks) upsized (peak_for (length level) grounds injection) target (length a) circuits) (sym caps)
-          ∙ columns_settle c target S sheet refl leader grounds injection banks floors upsized circuits level p s size led peak on build);
+          ∙ ap (λ (l : List ℕ). settled_from mode l above opened.leader grid.ladder level (designs_for grid level banks) upsized (peak_for (length level) opened.grounds opened.injection) target (length grid.a) circuits) (sym caps)
+          ∙ columns_settle c target S grid.sheet refl opened banks floors upsized circuits level p s size led peak on build);
     }
 
-pub settles_refused : (mode : PlanMode) (target above : ℕ) (ladder : List Float) (a b : List ℕ) (km share : List Float) (cap : List ℕ) (sheet : List Float) (leader grounds : List ℕ) (injection banks : List Float)
+pub settles_refused : (mode : PlanMode) (target above : ℕ) (grid : GridColumns) (opened : OpenedColumns) (banks : List Float)
     (upsized circuits level circuits' level' : List ℕ) (flow' rate' angle' added' : List Float) (r : Settling) (f : Refusal) → r.settled ≡ Err f
     → stopped f
-    ≡ settled_from mode cap above leader ladder level (designs_for ladder level a b km share sheet banks) upsized (peak_for (length level) grounds injection) target (length a) circuits
-    → Settles mode target above ladder a b km share cap sheet leader grounds injection banks upsized circuits level circuits' level' flow' rate' angle' added' r
-settles_refused mode target above ladder a b km share cap sheet leader grounds injection banks upsized circuits level circuits' level' flow' rate' angle' added' r f q e =
-    settles mode target above ladder a b km share cap sheet leader grounds injection banks upsized circuits level circuits' level' flow' rate' angle' added' r
-    (ap (λ (x : Result Settlement Refusal). ended_of x (take (length a) r.kept.before) (take (length a) r.kept.order) circuits' level' flow' rate' angle' added') q ∙ e)
+    ≡ settled_from mode grid.cap above opened.leader grid.ladder level (designs_for grid level banks) upsized (peak_for (length level) opened.grounds opened.injection) target (length grid.a) circuits
+    → Settles mode target above grid opened banks upsized circuits level circuits' level' flow' rate' angle' added' r
+settles_refused mode target above grid opened banks upsized circuits level circuits' level' flow' rate' angle' added' r f q e =
+    settles mode target above grid opened banks upsized circuits level circuits' level' flow' rate' angle' added' r
+    (ap (λ (x : Result Settlement Refusal). ended_of x (take (length grid.a) r.kept.before) (take (length grid.a) r.kept.order) circuits' level' flow' rate' angle' added') q ∙ e)

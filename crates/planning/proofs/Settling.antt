@@ -21,6 +21,7 @@ use Rattle.planning.specs.declared.close.Closing.{Closing}
 use Rattle.planning.proofs.Orders.{order_ranked}
 use Rattle.std.specs.Prelude.{Err, Result}
 use Rattle.refusal.specs.Reply.{no_refusal}
+use Rattle.planning.specs.Tables.{GridColumns, OpenedColumns}
 
 -- ---- a solve, and what comes after it
 pub solved_refused : {T : Type 0} (next : PlanningCase → Stage T) (X : Stage PlanningCase) (r : Result (Unit {0}) Refusal) (E : Edges) (x y : List Float) (f : Refusal)
@@ -32,9 +33,9 @@ pub solved_answered : {T : Type 0} (next : PlanningCase → Stage T) (X : Stage 
 solved_answered next X r E x y e q = ap (λ (a : Result (Unit {0}) Refusal). onward (solved_of a E x y) next) (sym q) ∙ ap (λ (t : Stage PlanningCase). onward t next) e
 
 -- ---- slices of the same lengths
-module _ (n m : ℕ) (injection : List Float) (grounds : List ℕ) (angle flow angle' flow' : List Float) where
-  pub lent_again : Lent n m injection grounds angle flow → length angle' ≡ length angle → length flow' ≡ length flow
-      → Lent n m injection grounds angle' flow'
+module _ (n m : ℕ) (opened : OpenedColumns) (angle flow angle' flow' : List Float) where
+  pub lent_again : Lent n m opened angle flow → length angle' ≡ length angle → length flow' ≡ length flow
+      → Lent n m opened angle' flow'
   lent_again h p q =
       record {
         few_grounds = h.few_grounds;
@@ -44,11 +45,11 @@ module _ (n m : ℕ) (injection : List Float) (grounds : List ℕ) (angle flow a
         flow_size = q ∙ h.flow_size;
       }
 
-module _ (above : ℕ) (ladder : List Float) (level a b : List ℕ) (km share : List Float) (cap : List ℕ) (sheet : List Float) (leader grounds : List ℕ) (injection banks : List Float)
+module _ (above : ℕ) (grid : GridColumns) (level : List ℕ) (opened : OpenedColumns) (banks : List Float)
     (upsized circuits : List ℕ) (flow rate angle added : List Float)
-    (h : Settleable above ladder level a b km share cap sheet leader grounds injection banks upsized circuits flow rate angle added) where
+    (h : Settleable above grid level opened banks upsized circuits flow rate angle added) where
   pub settleable_again : (circuits' : List ℕ) (flow' angle' : List Float) → length circuits' ≡ length circuits → length flow' ≡ length flow → length angle' ≡ length angle
-      → Settleable above ladder level a b km share cap sheet leader grounds injection banks upsized circuits' flow' rate angle' added
+      → Settleable above grid level opened banks upsized circuits' flow' rate angle' added
   settleable_again circuits' flow' angle' p q w =
       record {
         drawing =
@@ -60,7 +61,7 @@ module _ (above : ℕ) (ladder : List Float) (level a b : List ℕ) (km share : 
               bank_size = h.drawing.bank_size;
               banks_ok = h.drawing.banks_ok;
             };
-        lent = lent_again (length level) (length a) injection grounds angle flow angle' flow' h.lent w q;
+        lent = lent_again (length level) (length grid.a) opened angle flow angle' flow' h.lent w q;
         closable =
             record {
               few = h.closable.few;
@@ -74,7 +75,7 @@ module _ (above : ℕ) (ladder : List Float) (level a b : List ℕ) (km share : 
       }
 
   -- what closing and filling ask of them
-  pub loaded : Loaded a banks circuits flow
+  pub loaded : Loaded grid.a banks circuits flow
   loaded =
       record {
         drawable = record { few = h.drawing.few_corridors; size = h.drawing.bank_size; sound = h.drawing.banks_ok };
@@ -82,16 +83,16 @@ module _ (above : ℕ) (ladder : List Float) (level a b : List ℕ) (km share : 
         flow_size = h.lent.flow_size;
       }
 
-  pub caps_fit : length cap ≡ length circuits
+  pub caps_fit : length grid.cap ≡ length circuits
   caps_fit = h.cap_size ∙ sym h.drawing.count_size
 
   pub counted : Few circuits → Counted circuits
   counted few = record { few = omega (arith, h.drawing.count_size, h.drawing.few_corridors); each = λ k w. few k }
 
-  pub ranked : (ds : List CircuitDesign) (order : List ℕ) → Whole order → take (length a) order ≡ order_of (length a) ds circuits flow
+  pub ranked : (ds : List CircuitDesign) (order : List ℕ) → Whole order → take (length grid.a) order ≡ order_of (length grid.a) ds circuits flow
       → Ranked (length circuits) order (length circuits)
   ranked ds order w e =
-      subst (λ (m : ℕ). Ranked m order m) (sym h.drawing.count_size) (order_ranked ds circuits flow (length a) order h.drawing.few_corridors w e)
+      subst (λ (m : ℕ). Ranked m order m) (sym h.drawing.count_size) (order_ranked ds circuits flow (length grid.a) order h.drawing.few_corridors w e)
 
 -- ---- the stages by columns, as calls say them
 module _ (mode : PlanMode) (cap : List ℕ) (above : ℕ) (led : List ℕ) (ladder : List Float) (level : List ℕ) (ds : List CircuitDesign) (upsized : List ℕ) (P : Peak) where

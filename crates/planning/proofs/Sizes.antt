@@ -17,6 +17,7 @@ use Rattle.planning.specs.Raise.{pairs_for}
 use Rattle.planning.specs.Size.{grow_for, sized_of, Few, Adds, Grows}
 use Rattle.planning.specs.declared.size.Tally.{Tally}
 use Rattle.planning.proofs.Ratings.{kept_rating}
+use Rattle.planning.specs.Tables.{GridColumns}
 
 -- ---- a larger bank is above 0 and finite
 larger_rating : (required : Float) (count : ℕ) (d : CircuitDesign) → Rated d → enlarges required count d (next_bank required count d) ≡ true
@@ -98,9 +99,9 @@ module _ (mode : PlanMode) (need : ℕ) (level a b : List ℕ) (k : ℕ) (marks 
     raises_keeps e = ap (λ (z : Bool). mark_if z (pairs_for a b) level k marks) (raises_none e)
 
 -- ---- growing
-module _ (mode : PlanMode) (level a b cap : List ℕ) (k : ℕ) (required : Float) (d : CircuitDesign) (circuits marks : List ℕ) (t : Tally) (has : Bool) (ph : has ≡ enough required (get_or circuits k 0) d) where
+module _ (mode : PlanMode) (level : List ℕ) (grid : GridColumns) (k : ℕ) (required : Float) (d : CircuitDesign) (circuits marks : List ℕ) (t : Tally) (has : Bool) (ph : has ≡ enough required (get_or circuits k 0) d) where
   abbrev C : Case
-  C = grow_for mode a b cap
+  C = grow_for mode grid.a grid.b grid.cap
 
   grow_by : (designs : List CircuitDesign) (floors : List Float) (upsized : List ℕ) → design designs k ≡ d
       → grow_if has C level required k (sized_of designs floors upsized circuits marks t) ≡ grow C level required k (sized_of designs floors upsized circuits marks t)
@@ -117,7 +118,7 @@ module _ (mode : PlanMode) (level a b cap : List ℕ) (k : ℕ) (required : Floa
       }
 
   module _ (need : ℕ) (raised : Bool) (marks' : List ℕ) (h : has ≡ false) (pn : need ≡ needed_circuits required d)
-      (pr : raised ≡ raises_for mode (top_of (pairs_for a b) level k) need) (pm : marks' ≡ mark_if (raises_for mode (top_of (pairs_for a b) level k) need) (pairs_for a b) level k marks) where
+      (pr : raised ≡ raises_for mode (top_of (pairs_for grid.a grid.b) level k) need) (pm : marks' ≡ mark_if (raises_for mode (top_of (pairs_for grid.a grid.b) level k) need) (pairs_for grid.a grid.b) level k marks) where
     raise_or_add_lem : (designs : List CircuitDesign) (floors : List Float) (upsized : List ℕ) → design designs k ≡ d
         → raise_or_add raised C level need k (sized_of designs floors upsized circuits marks t) ≡ grow C level required k (sized_of designs floors upsized circuits marks t)
     raise_or_add_lem designs floors upsized e =
@@ -131,14 +132,14 @@ module _ (mode : PlanMode) (level a b cap : List ℕ) (k : ℕ) (required : Floa
     grown_raised r =
         record {
           sized = λ designs floors upsized e.
-              ap (λ (m : List ℕ). sized_of designs floors upsized circuits m t) (pm ∙ ap (λ (x : Bool). mark_if x (pairs_for a b) level k marks) (sym pr ∙ r))
+              ap (λ (m : List ℕ). sized_of designs floors upsized circuits m t) (pm ∙ ap (λ (x : Bool). mark_if x (pairs_for grid.a grid.b) level k marks) (sym pr ∙ r))
               ∙ ap (λ (x : Bool). raise_or_add x C level need k (sized_of designs floors upsized circuits marks t)) (sym r)
               ∙ raise_or_add_lem designs floors upsized e;
           bound = omega arith;
           few = λ f. f;
         }
 
-    pub grown_added : (most : ℕ) (circuits' : List ℕ) (t' : Tally) → raised ≡ false → most ≡ own_or (get_or cap k 0) (circuit_cap (promote mode) d.kv) → most ≤ 6
+    pub grown_added : (most : ℕ) (circuits' : List ℕ) (t' : Tally) → raised ≡ false → most ≡ own_or (get_or grid.cap k 0) (circuit_cap (promote mode) d.kv) → most ≤ 6
         → Adds most need k circuits t circuits' t'
         → Grows C level required k d circuits marks t circuits' marks' t'
     unfolding cap_at
@@ -146,9 +147,9 @@ module _ (mode : PlanMode) (level a b cap : List ℕ) (k : ℕ) (required : Floa
         record {
           sized = λ designs floors upsized e.
               let s = sized_of designs floors upsized circuits marks t in
-              ap (λ (m : List ℕ). sized_of designs floors upsized circuits' m t') (pm ∙ ap (λ (x : Bool). mark_if x (pairs_for a b) level k marks) (sym pr ∙ r))
+              ap (λ (m : List ℕ). sized_of designs floors upsized circuits' m t') (pm ∙ ap (λ (x : Bool). mark_if x (pairs_for grid.a grid.b) level k marks) (sym pr ∙ r))
               ∙ q.sized designs floors upsized marks
-              ∙ ap (λ (n : ℕ). add_to n need k s) (pc ∙ ap (λ (x : CircuitDesign). own_or (get_or cap k 0) (circuit_cap (promote mode) x.kv)) (sym e))
+              ∙ ap (λ (n : ℕ). add_to n need k s) (pc ∙ ap (λ (x : CircuitDesign). own_or (get_or grid.cap k 0) (circuit_cap (promote mode) x.kv)) (sym e))
               ∙ ap (λ (x : Bool). raise_or_add x C level need k s) (sym r)
               ∙ raise_or_add_lem designs floors upsized e;
           bound = omega (arith, q.bound);

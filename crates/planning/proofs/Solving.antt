@@ -32,6 +32,7 @@ use Rattle.planning.specs.Solve.{finite_if, finite_angles, Net, Places}
 use Rattle.planning.proofs.Draws.{ends_fit, from_below, to_below}
 use Rattle.loops.proofs.Fronts.{map_tab, front_replicate}
 use Rattle.std.specs.Prelude.{Err, Ok, Result}
+use Rattle.planning.specs.Tables.{GridColumns}
 
 -- ---- angles
 never : {A : Type 0} (x : A) (k i : ℕ) → answered x ≡ refused k i → ⊥
@@ -146,16 +147,16 @@ module _ (q : Request) (result work : List Float) (S : Sound q (length result) (
   angles_answered s h = ap (λ (a : Result Solution Refusal). angle_stage a y) (sym h) ∙ angles_stage q result work S r y w e
 
 -- ---- the ends of a drawn corridor are buses
-module _ (ladder : List Float) (level a b : List ℕ) (km share sheet : List Float) (k : ℕ) (mva : Float) (lines : Lines ladder level a b km share sheet) (h : k < length a) where
-  pub drawn_from_below : (drawn (lines_for ladder a b km share sheet) level k mva).from < length level
+module _ (grid : GridColumns) (level : List ℕ) (k : ℕ) (mva : Float) (lines : Lines grid level) (h : k < length grid.a) where
+  pub drawn_from_below : (drawn (lines_for grid) level k mva).from < length level
   unfolding from_of
   drawn_from_below =
-      subst (λ (i : ℕ). i < length level) (sym (drawn_from (lines_for ladder a b km share sheet) level k mva)) (from_below ladder level a b k (ends_fit ladder level a b km share sheet k lines h))
+      subst (λ (i : ℕ). i < length level) (sym (drawn_from (lines_for grid) level k mva)) (from_below grid level k (ends_fit grid level k lines h))
 
-  pub drawn_to_below : (drawn (lines_for ladder a b km share sheet) level k mva).to < length level
+  pub drawn_to_below : (drawn (lines_for grid) level k mva).to < length level
   unfolding to_of
   drawn_to_below =
-      subst (λ (i : ℕ). i < length level) (sym (drawn_to (lines_for ladder a b km share sheet) level k mva)) (to_below ladder level a b k (ends_fit ladder level a b km share sheet k lines h))
+      subst (λ (i : ℕ). i < length level) (sym (drawn_to (lines_for grid) level k mva)) (to_below grid level k (ends_fit grid level k lines h))
 
 -- ---- flows
 pub flow_turn : (from to : List ℕ) (weight angle : List Float) (m k i j : ℕ) → k < m → i ≡ get_or from k 0 → j ≡ get_or to k 0

@@ -28,6 +28,7 @@ use Rattle.planning.specs.declared.lent.Places.{Places}
 use Rattle.planning.proofs.Draws.{Laid}
 use Rattle.planning.proofs.Ratings.{sheet_rating}
 use Rattle.std.specs.Prelude.{Err, Result}
+use Rattle.planning.specs.Tables.{grid_of}
 
 -- ---- what the tests of one row say
 module _ (c : Case) (target : ℕ) (ok : Accepted c target) where
@@ -179,7 +180,7 @@ module _ (c : Case) (target : ℕ) (s : Slices) where
 
 -- ---- the columns that a design reads, at levels on the ladder
 pub lines_of : (c : Case) (target : ℕ) → Sound c target → (sheet : List Float) → Laid c sheet → length sheet ≡ c.figures → (level : List ℕ) → length level ≡ c.buses
-    → ((i : ℕ) → i < c.buses → get_or level i 0 < levels c) → Lines c.ladder level c.a c.b c.km c.share sheet
+    → ((i : ℕ) → i < c.buses → get_or level i 0 < levels c) → Lines (grid_of c.ladder c.a c.b c.km c.share c.cap sheet) level
 unfolding row_at
 lines_of c target s sheet laid figures level e on =
     let m = s.a_size in

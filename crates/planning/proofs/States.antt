@@ -24,6 +24,7 @@ use Rattle.loops.proofs.Fronts.{map_tab}
 use Rattle.planning.proofs.Solving.{drawn_from_below, drawn_to_below}
 use Rattle.std.specs.Prelude.{Err, Result}
 use Rattle.refusal.specs.Reply.{no_refusal}
+use Rattle.planning.specs.Tables.{GridColumns, OpenedColumns}
 
 -- ---- a stage that goes on is not one that stops
 no_stage : {S : Type 0} (f : Refusal) (s : S) → stopped f ≡ going s → ⊥
@@ -45,9 +46,9 @@ module _ (r : Result (Unit {0}) Refusal) (y x : List Float) (e : stage_of r y �
       go true p q = absurd (no_stage f x q)
       go false p q = (cc, p)
 
-module _ (ladder : List Float) (level a b : List ℕ) (km share sheet : List Float) (circuits : List ℕ) (banks : List Float) where
+module _ (grid : GridColumns) (level : List ℕ) (circuits : List ℕ) (banks : List Float) where
   abbrev lines : Case
-  lines = lines_for ladder a b km share sheet
+  lines = lines_for grid
 
   abbrev designs : List CircuitDesign
   designs = drawn_all lines level banks
@@ -56,34 +57,34 @@ module _ (ladder : List Float) (level a b : List ℕ) (km share sheet : List Flo
   edges = edges_for designs circuits
 
   -- ---- the defined edges join buses
-  froms : edges.from ≡ tab (length a) (λ k. (drawn lines level k (at banks k)).from)
+  froms : edges.from ≡ tab (length grid.a) (λ k. (drawn lines level k (at banks k)).from)
   unfolding edges_for drawn_all
-  froms = map_tab (λ (d : CircuitDesign). d.from) (length a) (λ k. drawn lines level k (at banks k))
+  froms = map_tab (λ (d : CircuitDesign). d.from) (length grid.a) (λ k. drawn lines level k (at banks k))
 
-  tos : edges.to ≡ tab (length a) (λ k. (drawn lines level k (at banks k)).to)
+  tos : edges.to ≡ tab (length grid.a) (λ k. (drawn lines level k (at banks k)).to)
   unfolding edges_for drawn_all
-  tos = map_tab (λ (d : CircuitDesign). d.to) (length a) (λ k. drawn lines level k (at banks k))
+  tos = map_tab (λ (d : CircuitDesign). d.to) (length grid.a) (λ k. drawn lines level k (at banks k))
 
-  module _ (D : Drawing ladder level a b km share sheet circuits banks) where
-    from_bus : (k : ℕ) → k < length a → get_or edges.from k 0 < length level
+  module _ (D : Drawing grid level circuits banks) where
+    from_bus : (k : ℕ) → k < length grid.a → get_or edges.from k 0 < length level
     from_bus k h =
-        subst (λ (i : ℕ). i < length level) (sym (ap (λ (l : List ℕ). get_or l k 0) froms ∙ get_tab (length a) (λ k. (drawn lines level k (at banks k)).from) k 0 h))
-        (drawn_from_below ladder level a b km share sheet k (at banks k) D.lines h)
+        subst (λ (i : ℕ). i < length level) (sym (ap (λ (l : List ℕ). get_or l k 0) froms ∙ get_tab (length grid.a) (λ k. (drawn lines level k (at banks k)).from) k 0 h))
+        (drawn_from_below grid level k (at banks k) D.lines h)
 
-    to_bus : (k : ℕ) → k < length a → get_or edges.to k 0 < length level
+    to_bus : (k : ℕ) → k < length grid.a → get_or edges.to k 0 < length level
     to_bus k h =
-        subst (λ (i : ℕ). i < length level) (sym (ap (λ (l : List ℕ). get_or l k 0) tos ∙ get_tab (length a) (λ k. (drawn lines level k (at banks k)).to) k 0 h))
-        (drawn_to_below ladder level a b km share sheet k (at banks k) D.lines h)
+        subst (λ (i : ℕ). i < length level) (sym (ap (λ (l : List ℕ). get_or l k 0) tos ∙ get_tab (length grid.a) (λ k. (drawn lines level k (at banks k)).to) k 0 h))
+        (drawn_to_below grid level k (at banks k) D.lines h)
 
     -- ---- edges drawn at the front of three lists
-    module _ (from to : List ℕ) (weight : List Float) (e : edges_of (take (length a) from) (take (length a) to) (take (length a) weight) ≡ edges) where
-      from_is : take (length a) from ≡ edges.from
+    module _ (from to : List ℕ) (weight : List Float) (e : edges_of (take (length grid.a) from) (take (length grid.a) to) (take (length grid.a) weight) ≡ edges) where
+      from_is : take (length grid.a) from ≡ edges.from
       from_is = ap (λ (x : Edges). x.from) e
 
-      to_is : take (length a) to ≡ edges.to
+      to_is : take (length grid.a) to ≡ edges.to
       to_is = ap (λ (x : Edges). x.to) e
 
-      pub peaked : (n m : ℕ) → n ≡ length level → m ≡ length a → length from ≡ most → length to ≡ most → length weight ≡ most → Peaked n m from to weight
+      pub peaked : (n m : ℕ) → n ≡ length level → m ≡ length grid.a → length from ≡ most → length to ≡ most → length weight ≡ most → Peaked n m from to weight
       peaked n m s t pf pt pw =
           record {
             drawn =
@@ -91,12 +92,12 @@ module _ (ladder : List Float) (level a b : List ℕ) (km share sheet : List Flo
                   few = omega (arith, t, D.few_corridors);
                   room = omega (arith, t, pf, D.few_corridors);
                   from_below = λ k h.
-                      let l : k < length a = omega (arith, t, h) in
-                      let q : get_or from k 0 ≡ get_or edges.from k 0 = sym (get_or-take (length a) from k 0 l) ∙ ap (λ (x : List ℕ). get_or x k 0) from_is in
+                      let l : k < length grid.a = omega (arith, t, h) in
+                      let q : get_or from k 0 ≡ get_or edges.from k 0 = sym (get_or-take (length grid.a) from k 0 l) ∙ ap (λ (x : List ℕ). get_or x k 0) from_is in
                       omega (arith, q, s, from_bus k l);
                   to_below = λ k h.
-                      let l : k < length a = omega (arith, t, h) in
-                      let q : get_or to k 0 ≡ get_or edges.to k 0 = sym (get_or-take (length a) to k 0 l) ∙ ap (λ (x : List ℕ). get_or x k 0) to_is in
+                      let l : k < length grid.a = omega (arith, t, h) in
+                      let q : get_or to k 0 ≡ get_or edges.to k 0 = sym (get_or-take (length grid.a) to k 0 l) ∙ ap (λ (x : List ℕ). get_or x k 0) to_is in
                       omega (arith, q, s, to_bus k l);
                 };
             few_buses = omega (arith, s, D.few_buses);
@@ -106,8 +107,8 @@ module _ (ladder : List Float) (level a b : List ℕ) (km share sheet : List Flo
           }
 
   -- ---- what is solved on the drawn edges is the defined planning state
-  pub state_of : (from to : List ℕ) (weight : List Float) → edges_of (take (length a) from) (take (length a) to) (take (length a) weight) ≡ edges
-      → (n m : ℕ) → n ≡ length level → m ≡ length a → (grounds : List ℕ) (injection angle : List Float) (r : Result (Unit {0}) Refusal) (theta flows : List Float)
+  pub state_of : (from to : List ℕ) (weight : List Float) → edges_of (take (length grid.a) from) (take (length grid.a) to) (take (length grid.a) weight) ≡ edges
+      → (n m : ℕ) → n ≡ length level → m ≡ length grid.a → (grounds : List ℕ) (injection angle : List Float) (r : Result (Unit {0}) Refusal) (theta flows : List Float)
       → solved_of r (edges_of (take m from) (take m to) (take m weight)) theta flows
       ≡ planning_on (peak_for n grounds injection) (edges_of (take m from) (take m to) (take m weight)) angle
       → solved_of r edges theta flows ≡ planning_state (peak_for (length level) grounds injection) designs circuits angle
@@ -144,14 +145,14 @@ front_net n n' m from to weight grounds e h gs gb =
     }
 
 -- ---- a peak's angles and flows, by what the solve answers
-module _ (m : ℕ) (from to : List ℕ) (weight : List Float) (grounds : List ℕ) (injection angle guess : List Float) (same : take (length angle) guess ≡ angle) (r : Result (Unit {0}) Refusal) (y : List Float)
+module _ (m : ℕ) (from to : List ℕ) (weight : List Float) (opened : OpenedColumns) (angle guess : List Float) (same : take (length angle) guess ≡ angle) (r : Result (Unit {0}) Refusal) (y : List Float)
     (told : stage_of r y
-    ≡ finite_angles (solve (length angle) (edges_of (take (m - 0) from) (take (m - 0) to) (take (m - 0) weight)) grounds injection (take (length angle - 0) guess)).x) where
+    ≡ finite_angles (solve (length angle) (edges_of (take (m - 0) from) (take (m - 0) to) (take (m - 0) weight)) opened.grounds opened.injection (take (length angle - 0) guess)).x) where
   abbrev front : Edges
   front = edges_of (take m from) (take m to) (take m weight)
 
   abbrev theta : List Float
-  theta = (solve (length angle) front grounds injection angle).x
+  theta = (solve (length angle) front opened.grounds opened.injection angle).x
 
   abbrev state : List Float → PlanningCase
   state x = record { edges = front; theta = x; flows = flows_of front x }
@@ -159,11 +160,11 @@ module _ (m : ℕ) (from to : List ℕ) (weight : List Float) (grounds : List �
   defined : stage_of r y ≡ finite_angles theta
   defined =
       told
-      ∙ ap (λ (k : ℕ). finite_angles (solve (length angle) (edges_of (take k from) (take k to) (take k weight)) grounds injection (take (length angle - 0) guess)).x) (sub-zero m)
-      ∙ ap (λ (n : ℕ). finite_angles (solve (length angle) front grounds injection (take n guess)).x) (sub-zero (length angle))
-      ∙ ap (λ (g : List Float). finite_angles (solve (length angle) front grounds injection g).x) same
+      ∙ ap (λ (k : ℕ). finite_angles (solve (length angle) (edges_of (take k from) (take k to) (take k weight)) opened.grounds opened.injection (take (length angle - 0) guess)).x) (sub-zero m)
+      ∙ ap (λ (n : ℕ). finite_angles (solve (length angle) front opened.grounds opened.injection (take n guess)).x) (sub-zero (length angle))
+      ∙ ap (λ (g : List Float). finite_angles (solve (length angle) front opened.grounds opened.injection g).x) same
 
-  pub peak_refused : (f : Refusal) → r ≡ Err f → stopped f ≡ planning_on (peak_for (length angle) grounds injection) front angle
+  pub peak_refused : (f : Refusal) → r ≡ Err f → stopped f ≡ planning_on (peak_for (length angle) opened.grounds opened.injection) front angle
   peak_refused f h =
       let p = finite_refused r y theta defined f h in
       ap stopped p.0 ∙ ap (λ (t : Bool). if_finite (t && all_finite (flows_of front theta)) (state theta)) (sym p.1)
@@ -173,7 +174,7 @@ module _ (m : ℕ) (from to : List ℕ) (weight : List Float) (grounds : List �
   tested false x = refl
 
   pub peak_answered : r ≡ no_refusal → (flows : List Float) → flows ≡ flows_of front y → (s : Result (Unit {0}) Refusal) → s ≡ finite_answer (all_finite flows)
-      → solved_of s front y flows ≡ planning_on (peak_for (length angle) grounds injection) front angle
+      → solved_of s front y flows ≡ planning_on (peak_for (length angle) opened.grounds opened.injection) front angle
   peak_answered h flows q s w =
       let o = finite_answered r y theta defined h in
       ap (λ (x : Result (Unit {0}) Refusal). solved_of x front y flows) w

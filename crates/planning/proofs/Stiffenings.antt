@@ -27,6 +27,7 @@ use Rattle.planning.proofs.Draws.{drawn_lifts}
 use Rattle.planning.proofs.Ratings.{drawn_rated}
 use Rattle.planning.proofs.Builds.{kept_next, drawn_at, set_bank_lem}
 use Rattle.planning.proofs.Corridors.{banks_set}
+use Rattle.planning.specs.Tables.{GridColumns}
 
 -- ---- buses that come to the top
 one_most : (b : Bool) → cond b 1 0 ≤ 1
@@ -154,30 +155,30 @@ unfolding full_at
 room_lifts c g k s h = ap (λ (n : ℕ). ltb n (full_at c k) && ltb s.total g.branches) (default_free s.build.circuits k 0 (full_at c k) h)
 
 -- the rest of the step reads the corridors' ends of a case
-strengthen_lifts : (x y : Bool) (o : Case) (ladder : List Float) (level a b : List ℕ) (km share sheet : List Float) (g : Limits) (k : ℕ) (s : Stiffening)
-    → stiffen_by false x y (pairs_for a b) level (budget_for g) k s ≡ stiffen_by false x y (with_lines o ladder a b km share sheet) level (budget_for g) k s
-strengthen_lifts true y o ladder level a b km share sheet g k s = refl
-strengthen_lifts false true o ladder level a b km share sheet g k s = refl
-strengthen_lifts false false o ladder level a b km share sheet g k s = refl
+strengthen_lifts : (x y : Bool) (o : Case) (grid : GridColumns) (level : List ℕ) (g : Limits) (k : ℕ) (s : Stiffening)
+    → stiffen_by false x y (pairs_for grid.a grid.b) level (budget_for g) k s ≡ stiffen_by false x y (with_lines o grid) level (budget_for g) k s
+strengthen_lifts true y o grid level g k s = refl
+strengthen_lifts false true o grid level g k s = refl
+strengthen_lifts false false o grid level g k s = refl
 
-module _ (g : Limits) (ladder : List Float) (level a b : List ℕ) (km share : List Float) (cap : List ℕ) (sheet : List Float) (k : ℕ) (circuits : List ℕ) (banks floors : List Float) (upsized marks : List ℕ) (t : Stiffness)
-    (h : k < length a) (pc : length circuits ≡ length a) (pb : length banks ≡ length a) (d : CircuitDesign) (pd : d ≡ drawn (lines_for ladder a b km share sheet) level k (at banks k))
+module _ (g : Limits) (grid : GridColumns) (level : List ℕ) (k : ℕ) (circuits : List ℕ) (banks floors : List Float) (upsized marks : List ℕ) (t : Stiffness)
+    (h : k < length grid.a) (pc : length circuits ≡ length grid.a) (pb : length banks ≡ length grid.a) (d : CircuitDesign) (pd : d ≡ drawn (lines_for grid) level k (at banks k))
     (below : Bool) (pw : below ≡ bank_below d) where
-  module _ (o : Case) (p : length a ≡ o.corridors) (q : length ladder ≡ levels o) where
+  module _ (o : Case) (p : length grid.a ≡ o.corridors) (q : length grid.ladder ≡ levels o) where
     abbrev C : Case
-    C = with_lines o ladder a b km share sheet
+    C = with_lines o grid
 
     abbrev S : Stiffening
     S = stiff_of C level circuits banks floors upsized marks t
 
     design_is : d ≡ design (drawn_all C level banks) k
-    design_is = pd ∙ drawn_lifts C sheet refl p q level k (at banks k) ∙ sym (drawn_at C level banks k (omega arith))
+    design_is = pd ∙ drawn_lifts C grid.sheet refl p q level k (at banks k) ∙ sym (drawn_at C level banks k (omega arith))
 
     one_by : (x : Bool) → below ≡ x
-        → stiffen_by x (raisable g t.hv level a b k) (has_room C (budget_for g) k S) C level (budget_for g) k S ≡ each (stiffen_one C level (budget_for g)) (k ∷ []) S
+        → stiffen_by x (raisable g t.hv level grid.a grid.b k) (has_room C (budget_for g) k S) C level (budget_for g) k S ≡ each (stiffen_one C level (budget_for g)) (k ∷ []) S
     unfolding each stiffen_one
     one_by x e =
-        ap (λ (z : Bool). stiffen_by z (raisable g t.hv level a b k) (has_room C (budget_for g) k S) C level (budget_for g) k S)
+        ap (λ (z : Bool). stiffen_by z (raisable g t.hv level grid.a grid.b k) (has_room C (budget_for g) k S) C level (budget_for g) k S)
         (sym e ∙ pw ∙ ap (λ (z : CircuitDesign). bank_below z) design_is)
 
     full_is : below ≡ true → (t' : Stiffness) → t' ≡ reckoned 0 0 t
@@ -188,25 +189,25 @@ module _ (g : Limits) (ladder : List Float) (level a b : List ℕ) (km share : L
         let z : t.total + 0 ≡ t.total = omega arith in
         let u : t.hv + 0 ≡ t.hv = omega arith in
         let w : t.stiffening + 0 ≡ t.stiffening = omega arith in
-        let v : bank_below (drawn C level k (at banks k)) ≡ true = ap (λ (z : CircuitDesign). bank_below z) (sym (pd ∙ drawn_lifts C sheet refl p q level k (at banks k))) ∙ sym pw ∙ e in
+        let v : bank_below (drawn C level k (at banks k)) ≡ true = ap (λ (z : CircuitDesign). bank_below z) (sym (pd ∙ drawn_lifts C grid.sheet refl p q level k (at banks k))) ∙ sym pw ∙ e in
         ap (λ (x : Stiffness). stiff_of C level circuits (set banks k mva) (set floors k mva) (set upsized k 1) marks x) pt
         ∙ stiff_same (build_of C level circuits (set banks k mva) (set floors k mva) (set upsized k 1)) marks (t.total + 0) t.total (t.hv + 0) t.hv (t.stiffening + 0) t.stiffening t.wide true z u w
         ∙ ap (λ (x : Build). stiff x marks t.total t.hv t.stiffening t.wide true) (sym (set_bank_lem C level circuits banks floors upsized k mva (omega arith) (pb ∙ p) v))
         ∙ ap (λ (x : CircuitDesign). stiff (set_bank k x.line_rate B) marks t.total t.hv t.stiffening t.wide true) design_is
         ∙ one_by true e
 
-    rest_is : o.cap ≡ cap → below ≡ false → (circuits' marks' : List ℕ) (t' : Stiffness) → Strengthened g (get_or cap k 0) level a b k circuits marks t circuits' marks' t'
+    rest_is : o.cap ≡ grid.cap → below ≡ false → (circuits' marks' : List ℕ) (t' : Stiffness) → Strengthened g (get_or grid.cap k 0) level grid.a grid.b k circuits marks t circuits' marks' t'
         → stiff_of C level circuits' banks floors upsized marks' t' ≡ each (stiffen_one C level (budget_for g)) (k ∷ []) S
     rest_is caps e circuits' marks' t' r =
         r.stiffened (drawn_all C level banks) floors upsized
-        ∙ strengthen_lifts (raisable g t.hv level a b k) (room_for g (get_or cap k 0) (get_or circuits k 0) t.total) o ladder level a b km share sheet g k S
-        ∙ ap (λ (l : List ℕ). stiffen_by false (raisable g t.hv level a b k) (room_for g (get_or l k 0) (get_or circuits k 0) t.total) C level (budget_for g) k S) (sym caps)
-        ∙ ap (λ (x : Bool). stiffen_by false (raisable g t.hv level a b k) x C level (budget_for g) k S) (room_lifts C g k S (omega arith))
+        ∙ strengthen_lifts (raisable g t.hv level grid.a grid.b k) (room_for g (get_or grid.cap k 0) (get_or circuits k 0) t.total) o grid level g k S
+        ∙ ap (λ (l : List ℕ). stiffen_by false (raisable g t.hv level grid.a grid.b k) (room_for g (get_or l k 0) (get_or circuits k 0) t.total) C level (budget_for g) k S) (sym caps)
+        ∙ ap (λ (x : Bool). stiffen_by false (raisable g t.hv level grid.a grid.b k) x C level (budget_for g) k S) (room_lifts C g k S (omega arith))
         ∙ one_by false e
 
-  pub one_full : below ≡ true → Lines ladder level a b km share sheet → Banks banks → (full : CircuitDesign) (banks' floors' : List Float) (upsized' : List ℕ) (t' : Stiffness)
+  pub one_full : below ≡ true → Lines grid level → Banks banks → (full : CircuitDesign) (banks' floors' : List Float) (upsized' : List ℕ) (t' : Stiffness)
       → full ≡ set_transformer_mva d d.line_rate → banks' ≡ set banks k full.transformer_mva → floors' ≡ set floors k full.transformer_mva → upsized' ≡ set upsized k 1 → t' ≡ reckoned 0 0 t
-      → BatchStiffened (k ∷ []) g ladder level a b km share cap sheet circuits banks floors upsized marks t circuits banks' floors' upsized' marks t'
+      → BatchStiffened (k ∷ []) g grid level circuits banks floors upsized marks t circuits banks' floors' upsized' marks t'
   one_full e lines banked full banks' floors' upsized' t' pf rb rf qu pt =
       let mva = d.line_rate in
       let qb = rb ∙ kept_next true d full mva banks k pf in
@@ -215,11 +216,11 @@ module _ (g : Limits) (ladder : List Float) (level a b : List ℕ) (km share : L
       let u = ap (λ (x : Stiffness). x.total) pt in
       let v = ap (λ (x : Stiffness). x.hv) pt in
       let x = ap (λ (x : Stiffness). x.stiffening) pt in
-      let rated = drawn_rated ladder level a b km share sheet k lines h (at banks k) (banked k w) in
+      let rated = drawn_rated grid level k lines h (at banks k) (banked k w) in
       let ok : rating_ok mva ≡ true = ap (λ (z : CircuitDesign). rating_ok z.line_rate) pd ∙ rated.line in
       record {
         stiffened = λ o f.
-            let c = with_lines o ladder a b km share sheet in
+            let c = with_lines o grid in
             ap (λ (l : List Float). stiff_of c level circuits l floors' upsized' marks t') qb
             ∙ ap (λ (l : List Float). stiff_of c level circuits (set banks k mva) l upsized' marks t') qf
             ∙ ap (λ (l : List ℕ). stiff_of c level circuits (set banks k mva) (set floors k mva) l marks t') qu
@@ -229,8 +230,8 @@ module _ (g : Limits) (ladder : List Float) (level a b : List ℕ) (km share : L
         bound = (omega arith, omega arith, omega arith);
       }
 
-  pub one_rest : below ≡ false → Banks banks → (circuits' marks' : List ℕ) (t' : Stiffness) → Strengthened g (get_or cap k 0) level a b k circuits marks t circuits' marks' t'
-      → BatchStiffened (k ∷ []) g ladder level a b km share cap sheet circuits banks floors upsized marks t circuits' banks floors upsized marks' t'
+  pub one_rest : below ≡ false → Banks banks → (circuits' marks' : List ℕ) (t' : Stiffness) → Strengthened g (get_or grid.cap k 0) level grid.a grid.b k circuits marks t circuits' marks' t'
+      → BatchStiffened (k ∷ []) g grid level circuits banks floors upsized marks t circuits' banks floors upsized marks' t'
   one_rest e banked circuits' marks' t' r =
       record {
         stiffened = λ o f. rest_is o f.0 f.1 f.2 e circuits' marks' t' r;
@@ -240,9 +241,9 @@ module _ (g : Limits) (ladder : List Float) (level a b : List ℕ) (km share : L
       }
 
 -- ---- one after another
-module _ (g : Limits) (ladder : List Float) (level a b : List ℕ) (km share : List Float) (cap : List ℕ) (sheet : List Float) (circuits : List ℕ) (banks floors : List Float) (upsized marks : List ℕ) (t : Stiffness) where
+module _ (g : Limits) (grid : GridColumns) (level : List ℕ) (circuits : List ℕ) (banks floors : List Float) (upsized marks : List ℕ) (t : Stiffness) where
   abbrev Onto : List ℕ → List ℕ → List Float → List Float → List ℕ → List ℕ → Stiffness → Type 0
-  Onto ks circuits' banks' floors' upsized' marks' t' = BatchStiffened ks g ladder level a b km share cap sheet circuits banks floors upsized marks t circuits' banks' floors' upsized' marks' t'
+  Onto ks circuits' banks' floors' upsized' marks' t' = BatchStiffened ks g grid level circuits banks floors upsized marks t circuits' banks' floors' upsized' marks' t'
 
   pub batch_start : Banks banks → Onto [] circuits banks floors upsized marks t
   unfolding each
@@ -256,13 +257,13 @@ module _ (g : Limits) (ladder : List Float) (level a b : List ℕ) (km share : L
 
   module _ (circuits₁ : List ℕ) (banks₁ floors₁ : List Float) (upsized₁ marks₁ : List ℕ) (t₁ : Stiffness) (circuits₂ : List ℕ) (banks₂ floors₂ : List Float) (upsized₂ marks₂ : List ℕ) (t₂ : Stiffness) where
     batch_more : (ks : List ℕ) (k : ℕ) → Onto ks circuits₁ banks₁ floors₁ upsized₁ marks₁ t₁
-        → BatchStiffened (k ∷ []) g ladder level a b km share cap sheet circuits₁ banks₁ floors₁ upsized₁ marks₁ t₁ circuits₂ banks₂ floors₂ upsized₂ marks₂ t₂
+        → BatchStiffened (k ∷ []) g grid level circuits₁ banks₁ floors₁ upsized₁ marks₁ t₁ circuits₂ banks₂ floors₂ upsized₂ marks₂ t₂
         → Onto (ks ++ (k ∷ [])) circuits₂ banks₂ floors₂ upsized₂ marks₂ t₂
     batch_more ks k p q =
         let n = length-append ks (k ∷ []) in
         record {
           stiffened = λ o f.
-              let c = with_lines o ladder a b km share sheet in
+              let c = with_lines o grid in
               let F = stiffen_one c level (budget_for g) in
               q.stiffened o f ∙ ap (each F (k ∷ [])) (p.stiffened o f) ∙ sym (each_append F ks (k ∷ []) (stiff_of c level circuits banks floors upsized marks t));
           banked = q.banked;
@@ -271,7 +272,7 @@ module _ (g : Limits) (ladder : List Float) (level a b : List ℕ) (km share : L
         }
 
     pub batch_turn : (order : List ℕ) (j k : ℕ) → j < length order → k ≡ get_or order j 0 → Onto (take j order) circuits₁ banks₁ floors₁ upsized₁ marks₁ t₁
-        → BatchStiffened (k ∷ []) g ladder level a b km share cap sheet circuits₁ banks₁ floors₁ upsized₁ marks₁ t₁ circuits₂ banks₂ floors₂ upsized₂ marks₂ t₂
+        → BatchStiffened (k ∷ []) g grid level circuits₁ banks₁ floors₁ upsized₁ marks₁ t₁ circuits₂ banks₂ floors₂ upsized₂ marks₂ t₂
         → Onto (take (j + 1) order) circuits₂ banks₂ floors₂ upsized₂ marks₂ t₂
     batch_turn order j k h e p q =
         let r : take j order ++ (k ∷ []) ≡ take (j + 1) order =

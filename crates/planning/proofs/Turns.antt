@@ -8,6 +8,7 @@ use Rattle.planning.specs.Size.{Few}
 use Rattle.planning.specs.Solve.{Drawing, Lent}
 use Rattle.planning.specs.Rounds.{Tallies, RoundsFit}
 use Rattle.planning.specs.declared.rounds.Progress.{Progress}
+use Rattle.planning.specs.Tables.{GridColumns, SupplyColumns, OpenedColumns}
 
 -- ---- a round is left where they are not spent
 pub some_left : {n : ℕ} → (n ≡ 0 → ⊥) → 0 < n
@@ -43,15 +44,15 @@ pub ends_more : (s₀ s q m i : ℕ) → q ≤ s + 2 * m → s ≤ s₀ + 512 * 
 ends_more s₀ s q m i f g h = omega arith
 
 -- ---- what the rounds ask
-pub fit_again : {above left : ℕ} {p q : Progress} {ladder : List Float} {level level' a b : List ℕ} {km share : List Float} {cap : List ℕ} {sheet load : List Float} {bus : List ℕ} {pmax : List Float} {leader grounds : List ℕ} {injection : List Float}
+pub fit_again : {above left : ℕ} {p q : Progress} {grid : GridColumns} {level level' : List ℕ} {supply : SupplyColumns} {opened : OpenedColumns}
     {circuits circuits' : List ℕ} {banks banks' floors floors' : List Float} {upsized upsized' marks marks' : List ℕ} {angle angle' flow flow' : List Float}
-    → RoundsFit above left p ladder level a b km share cap sheet load bus pmax leader grounds injection circuits banks floors upsized marks angle flow
-    → length level' ≡ length level → Lines ladder level' a b km share sheet
-    → length circuits' ≡ length a → length banks' ≡ length a → length floors' ≡ length a → length upsized' ≡ length a → length marks' ≡ length level
-    → length angle' ≡ length level → length flow' ≡ length a
+    → RoundsFit above left p grid level supply opened circuits banks floors upsized marks angle flow
+    → length level' ≡ length level → Lines grid level'
+    → length circuits' ≡ length grid.a → length banks' ≡ length grid.a → length floors' ≡ length grid.a → length upsized' ≡ length grid.a → length marks' ≡ length level
+    → length angle' ≡ length level → length flow' ≡ length grid.a
     → Tallies above (left - 1) q → Banks banks' → Few circuits'
-    → RoundsFit above (left - 1) q ladder level' a b km share cap sheet load bus pmax leader grounds injection circuits' banks' floors' upsized' marks' angle' flow'
-fit_again {grounds = grounds} f n lines count bank floor upsize mark angles flows tallies banked few =
+    → RoundsFit above (left - 1) q grid level' supply opened circuits' banks' floors' upsized' marks' angle' flow'
+fit_again {opened = opened} f n lines count bank floor upsize mark angles flows tallies banked few =
     record {
       columns =
           record {
@@ -64,7 +65,7 @@ fit_again {grounds = grounds} f n lines count bank floor upsize mark angles flow
           record {
             leader_size = f.places.leader_size ∙ sym n;
             few_grounds = f.places.few_grounds;
-            ground_below = λ i h. subst (λ (x : ℕ). get_or grounds i 0 < x) (sym n) (f.places.ground_below i h);
+            ground_below = λ i h. subst (λ (x : ℕ). get_or opened.grounds i 0 < x) (sym n) (f.places.ground_below i h);
             injection_size = f.places.injection_size ∙ sym n;
             count_size = count;
             bank_size = bank;
@@ -81,10 +82,10 @@ fit_again {grounds = grounds} f n lines count bank floor upsize mark angles flow
       few = few;
     }
 
-module _ {above left : ℕ} {p : Progress} {ladder : List Float} {level a b : List ℕ} {km share : List Float} {cap : List ℕ} {sheet load : List Float} {bus : List ℕ} {pmax : List Float} {leader grounds : List ℕ} {injection : List Float}
+module _ {above left : ℕ} {p : Progress} {grid : GridColumns} {level : List ℕ} {supply : SupplyColumns} {opened : OpenedColumns}
     {circuits : List ℕ} {banks floors : List Float} {upsized marks : List ℕ} {angle flow : List Float}
-    (f : RoundsFit above left p ladder level a b km share cap sheet load bus pmax leader grounds injection circuits banks floors upsized marks angle flow) where
-  pub drawing_of : Drawing ladder level a b km share sheet circuits banks
+    (f : RoundsFit above left p grid level supply opened circuits banks floors upsized marks angle flow) where
+  pub drawing_of : Drawing grid level circuits banks
   drawing_of =
       record {
         lines = f.columns.lines;
@@ -95,11 +96,11 @@ module _ {above left : ℕ} {p : Progress} {ladder : List Float} {level a b : Li
         banks_ok = f.banked;
       }
 
-  pub lent_of : Lent (length angle) (length flow) injection grounds angle flow
+  pub lent_of : Lent (length angle) (length flow) opened angle flow
   lent_of =
       record {
         few_grounds = f.places.few_grounds;
-        ground_below = λ i h. subst (λ (x : ℕ). get_or grounds i 0 < x) (sym f.places.angle_size) (f.places.ground_below i h);
+        ground_below = λ i h. subst (λ (x : ℕ). get_or opened.grounds i 0 < x) (sym f.places.angle_size) (f.places.ground_below i h);
         injection_size = f.places.injection_size ∙ sym f.places.angle_size;
         angle_size = refl;
         flow_size = refl;

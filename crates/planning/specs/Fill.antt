@@ -12,10 +12,11 @@ use Rattle.plan_defs.specs.Fill.{Filled}
 use Rattle.plan_defs.specs.declared.CircuitDesign.{CircuitDesign}
 use Rattle.planning.specs.Design.{lines_for, Banks}
 use Rattle.planning.specs.declared.fill.Filling.{Filling}
+use Rattle.planning.specs.Tables.{GridColumns}
 
 -- ---- the designs that the columns and banks stand for
-abbrev pub designs_for : List Float → List ℕ → List ℕ → List ℕ → List Float → List Float → List Float → List Float → List CircuitDesign
-designs_for ladder level a b km share sheet banks = drawn_all (lines_for ladder a b km share sheet) level banks
+abbrev pub designs_for : GridColumns → List ℕ → List Float → List CircuitDesign
+designs_for grid level banks = drawn_all (lines_for grid) level banks
 
 -- each corridor has a bank that can be drawn
 pub record Drawable (a : List ℕ) (banks : List Float) : Type 0 where

@@ -12,6 +12,7 @@ use Rattle.plan_defs.specs.Stage.{Stage, stopped, going}
 use Rattle.plan_defs.specs.Case.{Case, case_of}
 use Rattle.plan_defs.specs.TopUp.{given_by}
 use Rattle.refusal.specs.declared.Refusal.{Refusal}
+use Rattle.planning.specs.Tables.{SupplyColumns}
 
 -- ---- an answer and the slice that it fills
 abbrev pub stage_of : Result (Unit {0}) Refusal → List Float → Stage (List Float)
@@ -57,12 +58,12 @@ pub record Fleet (n : ℕ) (bus : List ℕ) : Type 0 where
   pub below : (k : ℕ) → k < length bus → slice_index bus k < n
 
 -- of their limits and costs
-pub record Costs (bus : List ℕ) (pmin pmax c1 c2 : List Float) : Type 0 where
-  pub pmin_size : length pmin ≡ length bus
-  pub pmax_size : length pmax ≡ length bus
-  pub c1_size : length c1 ≡ length bus
-  pub c2_size : length c2 ≡ length bus
-  pub units : (k : ℕ) → k < length bus → unit_ok (at pmin k) (at pmax k) (at c1 k) (at c2 k) ≡ true
+pub record Costs (supply : SupplyColumns) : Type 0 where
+  pub pmin_size : length supply.pmin ≡ length supply.bus
+  pub pmax_size : length supply.pmax ≡ length supply.bus
+  pub c1_size : length supply.c1 ≡ length supply.bus
+  pub c2_size : length supply.c2 ≡ length supply.bus
+  pub units : (k : ℕ) → k < length supply.bus → unit_ok (at supply.pmin k) (at supply.pmax k) (at supply.c1 k) (at supply.c2 k) ≡ true
 
 -- of the loads
 pub record Loads (led : List ℕ) (load : List Float) : Type 0 where

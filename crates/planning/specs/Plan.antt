@@ -22,6 +22,7 @@ use Rattle.planning.specs.declared.rounds.Progress.{Progress}
 use Rattle.planning.specs.declared.settle.Settlement.{Settlement}
 use Rattle.planning.specs.declared.plan.PlanRun.{PlanRun}
 use Rattle.refusal.specs.declared.Refusal.{Refusal}
+use Rattle.planning.specs.Tables.{GridColumns, SupplyColumns, OpenedColumns}
 
 -- ---- the opening: any case with the mode and the columns that it reads
 abbrev pub open_case : Case → PlanMode → ℕ → List ℕ → List Float → List ℕ → List ℕ → List Float → List Float → List Float → List Float → List ℕ → List ℕ → List ℕ → Case
@@ -29,11 +30,11 @@ open_case o mode above tier load bus slack pmin pmax c1 c2 a b initial =
     case_with mode o.buses o.corridors o.generators above o.requested o.ladder tier o.reading o.weight load bus slack pmin pmax c1 c2 a b initial o.km o.share o.cap o.figures o.row
 
 -- a sound one, and places for what it leaves
-pub record Openable (mode : PlanMode) (above : ℕ) (tier : List ℕ) (load : List Float) (bus slack : List ℕ) (pmin pmax c1 c2 : List Float) (a b initial leader : List ℕ) (injection : List Float)
+pub record Openable (mode : PlanMode) (above : ℕ) (tier : List ℕ) (supply : SupplyColumns) (a b initial leader : List ℕ) (injection : List Float)
     (ground : List ℕ) (mw : List Float) (level circuits : List ℕ) : Type 0 where
   pub whole : Case
   pub target : ℕ
-  pub sound : Sound (open_case whole mode above tier load bus slack pmin pmax c1 c2 a b initial) target
+  pub sound : Sound (open_case whole mode above tier supply.load supply.bus supply.slack supply.pmin supply.pmax supply.c1 supply.c2 a b initial) target
   pub leader_size : length leader ≡ whole.buses
   pub injection_size : length injection ≡ whole.buses
   pub ground_size : length ground ≡ whole.buses
@@ -54,10 +55,10 @@ abbrev pub OpenedAs : Result ℕ Refusal → Case → List ℕ → List Float �
 OpenedAs (Err f) c leader injection ground mw level circuits = dispatch_of c (component c) ≡ stopped f
 OpenedAs (Ok count) c leader injection ground mw level circuits = Opens c leader injection count ground mw level circuits
 
-pub record OpeningDone (mode : PlanMode) (above : ℕ) (tier : List ℕ) (load : List Float) (bus slack : List ℕ) (pmin pmax c1 c2 : List Float) (a b initial : List ℕ)
+pub record OpeningDone (mode : PlanMode) (above : ℕ) (tier : List ℕ) (supply : SupplyColumns) (a b initial : List ℕ)
     (leader : List ℕ) (injection : List Float) (ground : List ℕ) (mw : List Float) (level circuits : List ℕ) (r : Result ℕ Refusal) : Type 0 where
-  pub opens : (o : Case) (target : ℕ) → Sound (open_case o mode above tier load bus slack pmin pmax c1 c2 a b initial) target
-      → OpenedAs r (open_case o mode above tier load bus slack pmin pmax c1 c2 a b initial) leader injection ground mw level circuits
+  pub opens : (o : Case) (target : ℕ) → Sound (open_case o mode above tier supply.load supply.bus supply.slack supply.pmin supply.pmax supply.c1 supply.c2 a b initial) target
+      → OpenedAs r (open_case o mode above tier supply.load supply.bus supply.slack supply.pmin supply.pmax supply.c1 supply.c2 a b initial) leader injection ground mw level circuits
 
 -- ---- the rounds: how many at most, and how far they are before the first
 abbrev pub rounds_for : PlanMode → ℕ → ℕ
@@ -66,24 +67,24 @@ rounds_for mode m = cond (expand mode && not (m == 0)) planning_max_rounds 0
 abbrev pub start_of : PlanMode → ℕ → ℕ → Progress
 start_of mode m promoted = record { rounds = 0; promoted = promoted; capacity = 0; stiffening = 0; converged = not (expand mode) || (m == 0); settled = not (expand mode) || (m == 0) }
 
-pub record Runnable (above promoted : ℕ) (ladder : List Float) (level a b : List ℕ) (km share : List Float) (cap : List ℕ) (sheet load : List Float) (bus : List ℕ) (pmax : List Float) (leader grounds : List ℕ)
-    (injection : List Float) (circuits : List ℕ) (banks floors : List Float) (upsized marks : List ℕ) (angle flow : List Float) : Type 0 where
-  pub columns : Columns ladder level a b km share sheet load bus pmax
-  pub places : Places (length level) (length a) leader grounds injection circuits banks floors upsized marks angle flow
+pub record Runnable (above promoted : ℕ) (grid : GridColumns) (level : List ℕ) (supply : SupplyColumns) (opened : OpenedColumns)
+    (circuits : List ℕ) (banks floors : List Float) (upsized marks : List ℕ) (angle flow : List Float) : Type 0 where
+  pub columns : Columns grid level supply
+  pub places : Places (length level) (length grid.a) opened circuits banks floors upsized marks angle flow
   pub few_levels : above ≤ most_levels
   pub few_moves : promoted ≤ most_buses * most_levels
-  pub capped : Capped (length a) cap
+  pub capped : Capped (length grid.a) grid.cap
   pub banked : Banks banks
   pub few : Few circuits
 
-pub record RanAll (mode : PlanMode) (above promoted : ℕ) (ladder : List Float) (level a b : List ℕ) (km share : List Float) (cap : List ℕ) (sheet load : List Float) (bus : List ℕ) (pmax : List Float)
-    (leader grounds : List ℕ) (injection : List Float) (circuits : List ℕ) (banks floors : List Float) (upsized : List ℕ)
+pub record RanAll (mode : PlanMode) (above promoted : ℕ) (grid : GridColumns) (level : List ℕ) (supply : SupplyColumns)
+    (opened : OpenedColumns) (circuits : List ℕ) (banks floors : List Float) (upsized : List ℕ)
     (level' circuits' : List ℕ) (banks' floors' : List Float) (upsized' : List ℕ) (angle' : List Float) (r : Result Progress Refusal) : Type 0 where
-  pub ran : (o : Case) (target : ℕ) → Sound (rounds_case o mode above ladder a b km share sheet load bus pmax) target → length level ≡ o.buses → o.cap ≡ cap
-      → ran_as r (rounds_case o mode above ladder a b km share sheet load bus pmax) level' circuits' banks' floors' upsized' angle'
-      ≡ all_rounds (rounds_case o mode above ladder a b km share sheet load bus pmax) (peak_for o.buses grounds injection) leader
-      (draft_of (rounds_case o mode above ladder a b km share sheet load bus pmax) level circuits banks floors upsized (zeros o.buses) (start_of mode o.corridors promoted))
-  pub lines : Lines ladder level' a b km share sheet
+  pub ran : (o : Case) (target : ℕ) → Sound (rounds_case o mode above grid supply) target → length level ≡ o.buses → o.cap ≡ grid.cap
+      → ran_as r (rounds_case o mode above grid supply) level' circuits' banks' floors' upsized' angle'
+      ≡ all_rounds (rounds_case o mode above grid supply) (peak_for o.buses opened.grounds opened.injection) opened.leader
+      (draft_of (rounds_case o mode above grid supply) level circuits banks floors upsized (zeros o.buses) (start_of mode o.corridors promoted))
+  pub lines : Lines grid level'
   pub banked : Banks banks'
   pub few : Few circuits'
 
@@ -127,28 +128,27 @@ PlannedAs r before order circuits tier flow rate angle added c (stopped f) = r �
 PlannedAs r before order circuits tier flow rate angle added c (going q) = Holds r before order circuits tier flow rate angle added c.above q
 
 -- ---- from the opening on
-pub record Plannable (ladder : List Float) (level a b : List ℕ) (km share : List Float) (cap : List ℕ) (sheet load : List Float) (bus : List ℕ) (pmax : List Float) (leader grounds : List ℕ)
-    (injection : List Float) (circuits : List ℕ) (banks floors : List Float) (upsized marks : List ℕ) (angle flow : List Float) : Type 0 where
-  pub columns : Columns ladder level a b km share sheet load bus pmax
-  pub places : Places (length level) (length a) leader grounds injection circuits banks floors upsized marks angle flow
-  pub few_levels : length ladder ≤ most_levels
-  pub unset : floors ≡ zeros (length a)
-  pub capped : Capped (length a) cap
+pub record Plannable (grid : GridColumns) (level : List ℕ) (supply : SupplyColumns) (opened : OpenedColumns)
+    (circuits : List ℕ) (banks floors : List Float) (upsized marks : List ℕ) (angle flow : List Float) : Type 0 where
+  pub columns : Columns grid level supply
+  pub places : Places (length level) (length grid.a) opened circuits banks floors upsized marks angle flow
+  pub few_levels : length grid.ladder ≤ most_levels
+  pub unset : floors ≡ zeros (length grid.a)
+  pub capped : Capped (length grid.a) grid.cap
   pub few : Few circuits
 
-pub record OpenedPlan (mode : PlanMode) (target above : ℕ) (ladder : List Float) (level a b : List ℕ) (km share : List Float) (cap : List ℕ) (sheet load : List Float) (bus : List ℕ) (pmax : List Float)
-    (leader grounds : List ℕ) (injection : List Float) (circuits upsized : List ℕ) (circuits' level' : List ℕ) (flow' rate' angle' added' : List Float) (r : PlanRun) : Type 0 where
+pub record OpenedPlan (mode : PlanMode) (target above : ℕ) (grid : GridColumns) (level : List ℕ) (supply : SupplyColumns)
+    (opened : OpenedColumns) (circuits upsized : List ℕ) (circuits' level' : List ℕ) (flow' rate' angle' added' : List Float) (r : PlanRun) : Type 0 where
   pub plan : (o : Case) (mw : List Float)
-      → (let c = rounds_case o mode above ladder a b km share sheet load bus pmax in
-      Sound c target → level ≡ first_levels c → circuits ≡ lower_bounds c → upsized ≡ replicate o.corridors 0 → o.cap ≡ cap
-      → PlannedAs r.said (take (length a) r.kept.before) (take (length a) r.kept.order) circuits' level' flow' rate' angle' added' c
-      (onward (onward (opened_with c leader mw (peak_for o.buses grounds injection)) (settled c)) (closing c target)))
+      → (let c = rounds_case o mode above grid supply in
+      Sound c target → level ≡ first_levels c → circuits ≡ lower_bounds c → upsized ≡ replicate o.corridors 0 → o.cap ≡ grid.cap
+      → PlannedAs r.said (take (length grid.a) r.kept.before) (take (length grid.a) r.kept.order) circuits' level' flow' rate' angle' added' c
+      (onward (onward (opened_with c opened.leader mw (peak_for o.buses opened.grounds opened.injection)) (settled c)) (closing c target)))
 
 -- ---- all stages, of a case that has all these columns
-abbrev pub whole_case : Case → PlanMode → ℕ → List Float → List ℕ → List Float → List ℕ → List ℕ → List Float → List Float → List Float → List Float → List ℕ → List ℕ → List ℕ
-    → List Float → List Float → List ℕ → List Float → Case
-whole_case o mode above ladder tier load bus slack pmin pmax c1 c2 a b initial km share cap sheet =
-    case_of mode o.buses o.corridors o.generators above o.requested ladder tier o.reading o.weight load bus slack pmin pmax c1 c2 a b initial km share cap sheet
+abbrev pub whole_case : Case → PlanMode → ℕ → GridColumns → List ℕ → SupplyColumns → List ℕ → Case
+whole_case o mode above grid tier supply initial =
+    case_of mode o.buses o.corridors o.generators above o.requested grid.ladder tier o.reading o.weight supply.load supply.bus supply.slack supply.pmin supply.pmax supply.c1 supply.c2 grid.a grid.b initial grid.km grid.share grid.cap grid.sheet
 
 -- the slices of a plan, with those that the opening fills
 pub record HoldsAll (r : Result CorridorPlan Refusal) (before order circuits : List ℕ) (flow rate mw angle : List Float) (tier ground : List ℕ) (added : List Float) (c : Case) (q : Plan) : Type 0 where
@@ -160,15 +160,15 @@ abbrev pub WholeAs : Result CorridorPlan Refusal → List ℕ → List ℕ → L
 WholeAs r before order circuits flow rate mw angle tier ground added c (stopped f) = r ≡ Err f
 WholeAs r before order circuits flow rate mw angle tier ground added c (going q) = HoldsAll r before order circuits flow rate mw angle tier ground added c q
 
-pub record PlanDone (mode : PlanMode) (target above : ℕ) (ladder : List Float) (tier : List ℕ) (load : List Float) (bus slack : List ℕ) (pmin pmax c1 c2 : List Float) (a b initial : List ℕ)
-    (km share : List Float) (cap : List ℕ) (sheet : List Float) (circuits : List ℕ) (flow rate mw angle : List Float) (level ground : List ℕ) (added : List Float) (r : PlanRun) : Type 0 where
+pub record PlanDone (mode : PlanMode) (target above : ℕ) (grid : GridColumns) (tier : List ℕ) (supply : SupplyColumns) (initial : List ℕ)
+    (circuits : List ℕ) (flow rate mw angle : List Float) (level ground : List ℕ) (added : List Float) (r : PlanRun) : Type 0 where
   pub plan : (o : Case)
-      → (let c = whole_case o mode above ladder tier load bus slack pmin pmax c1 c2 a b initial km share cap sheet in
-      Sound c target → WholeAs r.said (take (length a) r.kept.before) (take (length a) r.kept.order) circuits flow rate mw angle level ground added c (plan_for c target))
+      → (let c = whole_case o mode above grid tier supply initial in
+      Sound c target → WholeAs r.said (take (length grid.a) r.kept.before) (take (length grid.a) r.kept.order) circuits flow rate mw angle level ground added c (plan_for c target))
 
 -- ---- and over the slices that planning is lent
-pub record Lendable (mode : PlanMode) (target above : ℕ) (ladder : List Float) (tier : List ℕ) (load : List Float) (bus slack : List ℕ) (pmin pmax c1 c2 : List Float) (a b initial : List ℕ)
-    (km share : List Float) (cap : List ℕ) (sheet : List Float) (lent : Slices) : Type 0 where
+pub record Lendable (mode : PlanMode) (target above : ℕ) (grid : GridColumns) (tier : List ℕ) (supply : SupplyColumns) (initial : List ℕ)
+    (lent : Slices) : Type 0 where
   pub whole : Case
-  pub sound : Sound (whole_case whole mode above ladder tier load bus slack pmin pmax c1 c2 a b initial km share cap sheet) target
-  pub lengths : Lengths (whole_case whole mode above ladder tier load bus slack pmin pmax c1 c2 a b initial km share cap sheet) lent
+  pub sound : Sound (whole_case whole mode above grid tier supply initial) target
+  pub lengths : Lengths (whole_case whole mode above grid tier supply initial) lent

@@ -2,6 +2,7 @@
 use Rattle.std.specs.Prelude.{◌≡◌, ℕ, ◌<◌, List, [], length, slice_index_or}
 use Rattle.plan_defs.specs.Case.{Case}
 use Rattle.planning.specs.Design.{ends_for}
+use Rattle.planning.specs.Tables.{grid_of}
 
 -- the largest u32
 abbrev pub largest_count : ℕ
@@ -9,7 +10,7 @@ largest_count = 4_294_967_295
 
 -- ---- a case of which a raise reads these columns only
 abbrev pub pairs_for : List ℕ → List ℕ → Case
-pairs_for a b = ends_for [] a b
+pairs_for a b = ends_for (grid_of [] a b [] [] [] [])
 
 -- of corridor k, whose ends' levels and marks are there
 pub record PairFits (level a b marks : List ℕ) (k : ℕ) : Type 0 where

@@ -16,13 +16,14 @@ use Rattle.planning.specs.Solve.{peak_for, Drawing, Lent}
 use Rattle.planning.specs.Sound.{Sound}
 use Rattle.planning.specs.Whole.{with_lines, with_units}
 use Rattle.refusal.specs.declared.Refusal.{Refusal}
+use Rattle.planning.specs.Tables.{GridColumns, grid_of, SupplyColumns, OpenedColumns}
 
 -- ---- cases: of which the marks read these columns only, with a place for each of n buses; and a whole one with the columns that a pass reads
-abbrev pub heavy_for : ℕ → List Float → List ℕ → List ℕ → List Float → List Float → List Float → Case
-heavy_for n ladder a b km share sheet = size_for Observe n ladder a b km share [] sheet
+abbrev pub heavy_for : ℕ → GridColumns → Case
+heavy_for n grid = size_for Observe n (grid_of grid.ladder grid.a grid.b grid.km grid.share [] grid.sheet)
 
-abbrev pub pass_for : Case → PlanMode → List Float → List ℕ → List ℕ → List Float → List Float → List Float → List Float → List ℕ → List Float → Case
-pass_for o mode ladder a b km share sheet load bus pmax = with_lines (with_units o mode o.above load bus pmax) ladder a b km share sheet
+abbrev pub pass_for : Case → PlanMode → GridColumns → SupplyColumns → Case
+pass_for o mode grid supply = with_lines (with_units o mode o.above supply) grid
 
 -- ---- the state that slices stand for; with an answer, the stage
 abbrev pub raised_of : Case → List ℕ → List Float → ℕ → Raised
@@ -39,32 +40,32 @@ passed_as (Ok zero) d c P circuits level banks promoted = going (raised_of c lev
 passed_as (Ok (suc m)) d c P circuits level banks promoted = passes d c P circuits (raised_of c level banks (promoted + suc m))
 
 -- ---- marks: what one corridor's, and all of them, ask
-pub record Markable (ladder : List Float) (level a b : List ℕ) (km share sheet banks flow : List Float) (marks : List ℕ) : Type 0 where
-  pub lines : Lines ladder level a b km share sheet
+pub record Markable (grid : GridColumns) (level : List ℕ) (banks flow : List Float) (marks : List ℕ) : Type 0 where
+  pub lines : Lines grid level
   pub banked : Banks banks
-  pub bank_size : length banks ≡ length a
-  pub flow_size : length flow ≡ length a
+  pub bank_size : length banks ≡ length grid.a
+  pub flow_size : length flow ≡ length grid.a
   pub mark_size : length marks ≡ length level
 
 -- ---- the buses that are marked raised, and the corridors designed anew where one moved
-pub record HeavyRaised (ladder : List Float) (level a b : List ℕ) (km share sheet load : List Float) (bus : List ℕ) (pmax flow floors banks : List Float)
+pub record HeavyRaised (grid : GridColumns) (level : List ℕ) (supply : SupplyColumns) (flow floors banks : List Float)
     (level' : List ℕ) (banks' : List Float) (moved : ℕ) (marks : List ℕ) : Type 0 where
-  pub marks_are : marks ≡ heavy_marks (heavy_for (length level) ladder a b km share sheet) (raised_of (heavy_for (length level) ladder a b km share sheet) level banks 0) flow
+  pub marks_are : marks ≡ heavy_marks (heavy_for (length level) grid) (raised_of (heavy_for (length level) grid) level banks 0) flow
   pub count : moved ≡ moved_buses level marks
   pub levels : level' ≡ raised_levels level marks
   pub kept : moved ≡ 0 → banks' ≡ banks
-  pub anew : (moved ≢ 0) → banks' ≡ banks_anew (redesign_for ladder load bus pmax a b km share sheet) level' floors
+  pub anew : (moved ≢ 0) → banks' ≡ banks_anew (redesign_for grid supply) level' floors
   pub banked : Banks banks'
 
 -- ---- what a pass asks: no bank floor is set yet
-pub record Raisable (ladder : List Float) (level a b : List ℕ) (km share sheet load : List Float) (bus : List ℕ) (pmax : List Float) (grounds : List ℕ) (injection : List Float)
+pub record Raisable (grid : GridColumns) (level : List ℕ) (supply : SupplyColumns) (opened : OpenedColumns)
     (circuits : List ℕ) (floors banks : List Float) (marks : List ℕ) (angle flow : List Float) : Type 0 where
-  pub drawing : Drawing ladder level a b km share sheet circuits banks
-  pub lent : Lent (length level) (length a) injection grounds angle flow
-  pub redesigns : RedesignFits ladder level a b km share sheet load bus pmax floors banks
-  pub unset : floors ≡ zeros (length a)
+  pub drawing : Drawing grid level circuits banks
+  pub lent : Lent (length level) (length grid.a) opened angle flow
+  pub redesigns : RedesignFits grid level supply floors banks
+  pub unset : floors ≡ zeros (length grid.a)
   pub mark_size : length marks ≡ length level
-  pub few_levels : length ladder ≤ most_levels
+  pub few_levels : length grid.ladder ≤ most_levels
 
 -- at most so many buses
 abbrev pub Within : ℕ → Result ℕ Refusal → Type 0
@@ -72,23 +73,23 @@ Within n (Err f) = Unit
 Within n (Ok promoted) = promoted ≤ n
 
 -- ---- what a pass does
-pub record Passed (ladder : List Float) (level a b : List ℕ) (km share sheet load : List Float) (bus : List ℕ) (pmax : List Float) (grounds : List ℕ) (injection : List Float)
+pub record Passed (grid : GridColumns) (level : List ℕ) (supply : SupplyColumns) (opened : OpenedColumns)
     (circuits : List ℕ) (banks : List Float) (level' : List ℕ) (banks' : List Float) (r : Result ℕ Refusal) : Type 0 where
-  pub passed : (o : Case) (mode : PlanMode) (target : ℕ) → Sound (pass_for o mode ladder a b km share sheet load bus pmax) target → length level ≡ o.buses → (d promoted : ℕ)
-      → passed_as r d (pass_for o mode ladder a b km share sheet load bus pmax) (peak_for o.buses grounds injection) circuits level' banks' promoted
-      ≡ passes (suc d) (pass_for o mode ladder a b km share sheet load bus pmax) (peak_for o.buses grounds injection) circuits
-      (raised_of (pass_for o mode ladder a b km share sheet load bus pmax) level banks promoted)
-  pub lines : Lines ladder level' a b km share sheet
+  pub passed : (o : Case) (mode : PlanMode) (target : ℕ) → Sound (pass_for o mode grid supply) target → length level ≡ o.buses → (d promoted : ℕ)
+      → passed_as r d (pass_for o mode grid supply) (peak_for o.buses opened.grounds opened.injection) circuits level' banks' promoted
+      ≡ passes (suc d) (pass_for o mode grid supply) (peak_for o.buses opened.grounds opened.injection) circuits
+      (raised_of (pass_for o mode grid supply) level banks promoted)
+  pub lines : Lines grid level'
   pub banked : Banks banks'
   pub bound : Within most_buses r
 
 -- ---- and all of them
-pub record RaisesDone (mode : PlanMode) (ladder : List Float) (level a b : List ℕ) (km share sheet load : List Float) (bus : List ℕ) (pmax : List Float) (grounds : List ℕ)
-    (injection : List Float) (circuits : List ℕ) (banks : List Float) (level' : List ℕ) (banks' : List Float) (r : Result ℕ Refusal) : Type 0 where
-  pub raised : (o : Case) (target : ℕ) → Sound (pass_for o mode ladder a b km share sheet load bus pmax) target → length level ≡ o.buses
-      → raised_as r (pass_for o mode ladder a b km share sheet load bus pmax) level' banks'
-      ≡ raises (pass_for o mode ladder a b km share sheet load bus pmax) (peak_for o.buses grounds injection) circuits
-      (raised_of (pass_for o mode ladder a b km share sheet load bus pmax) level banks 0)
-  pub lines : Lines ladder level' a b km share sheet
+pub record RaisesDone (mode : PlanMode) (grid : GridColumns) (level : List ℕ) (supply : SupplyColumns) (opened : OpenedColumns)
+    (circuits : List ℕ) (banks : List Float) (level' : List ℕ) (banks' : List Float) (r : Result ℕ Refusal) : Type 0 where
+  pub raised : (o : Case) (target : ℕ) → Sound (pass_for o mode grid supply) target → length level ≡ o.buses
+      → raised_as r (pass_for o mode grid supply) level' banks'
+      ≡ raises (pass_for o mode grid supply) (peak_for o.buses opened.grounds opened.injection) circuits
+      (raised_of (pass_for o mode grid supply) level banks 0)
+  pub lines : Lines grid level'
   pub banked : Banks banks'
   pub bound : Within (most_buses * most_levels) r

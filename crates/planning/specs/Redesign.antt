@@ -9,31 +9,32 @@ use Rattle.plan_defs.specs.Case.{Case, case_of, to_of}
 use Rattle.plan_defs.specs.Design.{fresh_bank, drawn, design_at, kept_bank}
 use Rattle.plan_defs.specs.declared.CircuitDesign.{CircuitDesign}
 use Rattle.planning.specs.Design.{ends_for, Lines, EndsFit}
+use Rattle.planning.specs.Tables.{GridColumns, SupplyColumns}
 
 -- ---- cases of these columns only
-abbrev pub units_for : List ℕ → List Float → Case
-units_for bus pmax = case_of Observe 0 0 (length bus) 0 0 [] [] [] [] [] bus [] [] pmax [] [] [] [] [] [] [] [] []
+abbrev pub units_for : SupplyColumns → Case
+units_for supply = case_of Observe 0 0 (length supply.bus) 0 0 [] [] [] [] [] supply.bus [] [] supply.pmax [] [] [] [] [] [] [] [] []
 
-abbrev pub redesign_for : List Float → List Float → List ℕ → List Float → List ℕ → List ℕ → List Float → List Float → List Float → Case
-redesign_for ladder load bus pmax a b km share sheet =
-    case_of Observe 0 (length a) (length bus) 0 (length ladder) ladder [] [] [] load bus [] [] pmax [] [] a b [] km share [] sheet
+abbrev pub redesign_for : GridColumns → SupplyColumns → Case
+redesign_for grid supply =
+    case_of Observe 0 (length grid.a) (length supply.bus) 0 (length grid.ladder) grid.ladder [] [] [] supply.load supply.bus [] [] supply.pmax [] [] grid.a grid.b [] grid.km grid.share [] grid.sheet
 
 -- ---- what acceptance gives of them
-pub record Units (bus : List ℕ) (pmax : List Float) : Type 0 where
-  pub pmax_size : length pmax ≡ length bus
-  pub few : length bus ≤ most_generators
-  pub bus_below : (k : ℕ) → k < length bus → slice_index bus k < most_buses
-  pub sound : (k : ℕ) → k < length bus → inside nought million (at pmax k) ≡ true
+pub record Units (supply : SupplyColumns) : Type 0 where
+  pub pmax_size : length supply.pmax ≡ length supply.bus
+  pub few : length supply.bus ≤ most_generators
+  pub bus_below : (k : ℕ) → k < length supply.bus → slice_index supply.bus k < most_buses
+  pub sound : (k : ℕ) → k < length supply.bus → inside nought million (at supply.pmax k) ≡ true
 
 pub record Loads (level : List ℕ) (load : List Float) : Type 0 where
   pub load_size : length load ≡ length level
   pub few : length level ≤ most_buses
   pub sound : (i : ℕ) → i < length load → inside nought million (at load i) ≡ true
 
-pub record Corridors (ladder : List Float) (level a b : List ℕ) : Type 0 where
-  pub few : length a ≤ most_corridors
+pub record Corridors (grid : GridColumns) (level : List ℕ) : Type 0 where
+  pub few : length grid.a ≤ most_corridors
   pub few_buses : length level ≤ most_buses
-  pub ends : (k : ℕ) → k < length a → EndsFit ladder level a b k
+  pub ends : (k : ℕ) → k < length grid.a → EndsFit grid level k
 
 -- ---- a corridor designed anew, from a fresh bank and a floor
 unfoldable pub anew_from : Case → List ℕ → Float → Float → ℕ → CircuitDesign
@@ -55,18 +56,18 @@ unfoldable pub banks_anew : Case → List ℕ → List Float → List Float
 banks_anew c level floors = tab c.corridors (bank_anew c level floors)
 
 -- what one corridor designed anew asks
-pub record AnewFits (ladder : List Float) (level a b : List ℕ) (km share sheet load gens : List Float) (shared : List ℕ) (floors : List Float) (k : ℕ) : Type 0 where
-  pub lines : Lines ladder level a b km share sheet
+pub record AnewFits (grid : GridColumns) (level : List ℕ) (load gens : List Float) (shared : List ℕ) (floors : List Float) (k : ℕ) : Type 0 where
+  pub lines : Lines grid level
   pub loads : Loads level load
-  pub corridor : k < length a
+  pub corridor : k < length grid.a
   pub floor_size : k < length floors
-  pub fresh : rating_ok (fresh_at (ends_for ladder a b) level load gens shared k) ≡ true
+  pub fresh : rating_ok (fresh_at (ends_for grid) level load gens shared k) ≡ true
 
 -- what a redesign asks
-pub record RedesignFits (ladder : List Float) (level a b : List ℕ) (km share sheet load : List Float) (bus : List ℕ) (pmax floors banks : List Float) : Type 0 where
-  pub lines : Lines ladder level a b km share sheet
-  pub loads : Loads level load
-  pub units : Units bus pmax
-  pub few : length a ≤ most_corridors
-  pub floor_size : length floors ≡ length a
-  pub bank_size : length banks ≡ length a
+pub record RedesignFits (grid : GridColumns) (level : List ℕ) (supply : SupplyColumns) (floors banks : List Float) : Type 0 where
+  pub lines : Lines grid level
+  pub loads : Loads level supply.load
+  pub units : Units supply
+  pub few : length grid.a ≤ most_corridors
+  pub floor_size : length floors ≡ length grid.a
+  pub bank_size : length banks ≡ length grid.a

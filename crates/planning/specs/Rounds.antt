@@ -15,10 +15,11 @@ use Rattle.planning.specs.Sound.{Sound}
 use Rattle.planning.specs.Whole.{with_lines, with_units}
 use Rattle.planning.specs.declared.rounds.Progress.{Progress}
 use Rattle.refusal.specs.declared.Refusal.{Refusal}
+use Rattle.planning.specs.Tables.{GridColumns, SupplyColumns, OpenedColumns}
 
 -- ---- any case with the columns that the rounds read
-abbrev pub rounds_case : Case → PlanMode → ℕ → List Float → List ℕ → List ℕ → List Float → List Float → List Float → List Float → List ℕ → List Float → Case
-rounds_case o mode above ladder a b km share sheet load bus pmax = with_lines (with_units o mode above load bus pmax) ladder a b km share sheet
+abbrev pub rounds_case : Case → PlanMode → ℕ → GridColumns → SupplyColumns → Case
+rounds_case o mode above grid supply = with_lines (with_units o mode above supply) grid
 
 -- ---- the draft that the slices stand for
 abbrev pub draft_of : Case → List ℕ → List ℕ → List Float → List Float → List ℕ → List Float → Progress → Draft
@@ -30,28 +31,28 @@ ran_as (Err f) c level circuits banks floors upsized angle = stopped f
 ran_as (Ok p) c level circuits banks floors upsized angle = going (draft_of c level circuits banks floors upsized angle p)
 
 -- ---- a raise of the marked buses: where one moved, every corridor has a bank anew
-pub record Redrawn (ladder : List Float) (level a b : List ℕ) (km share sheet load : List Float) (bus : List ℕ) (pmax : List Float) (marks : List ℕ) (floors banks : List Float)
+pub record Redrawn (grid : GridColumns) (level : List ℕ) (supply : SupplyColumns) (marks : List ℕ) (floors banks : List Float)
     (level' : List ℕ) (banks' : List Float) (moved : ℕ) : Type 0 where
   pub count : moved ≡ moved_buses level marks
   pub few : moved ≤ length level
   pub still : moved ≡ 0 → (level' ≡ level) × (banks' ≡ banks)
   pub anew : (m : ℕ) → moved ≡ suc m
-      → (level' ≡ raised_levels level marks) × (banks' ≡ banks_anew (redesign_for ladder load bus pmax a b km share sheet) (raised_levels level marks) floors)
-  pub lines : Lines ladder level' a b km share sheet
+      → (level' ≡ raised_levels level marks) × (banks' ≡ banks_anew (redesign_for grid supply) (raised_levels level marks) floors)
+  pub lines : Lines grid level'
   pub banked : Banks banks'
 
 -- ---- what the rounds ask: of the columns, and of the slices a place for each corridor or each bus
-pub record Columns (ladder : List Float) (level a b : List ℕ) (km share sheet load : List Float) (bus : List ℕ) (pmax : List Float) : Type 0 where
-  pub lines : Lines ladder level a b km share sheet
-  pub loads : Loads level load
-  pub units : Units bus pmax
-  pub few : length a ≤ most_corridors
+pub record Columns (grid : GridColumns) (level : List ℕ) (supply : SupplyColumns) : Type 0 where
+  pub lines : Lines grid level
+  pub loads : Loads level supply.load
+  pub units : Units supply
+  pub few : length grid.a ≤ most_corridors
 
-pub record Places (n m : ℕ) (leader grounds : List ℕ) (injection : List Float) (circuits : List ℕ) (banks floors : List Float) (upsized marks : List ℕ) (angle flow : List Float) : Type 0 where
-  pub leader_size : length leader ≡ n
-  pub few_grounds : length grounds ≤ most_buses
-  pub ground_below : (g : ℕ) → g < length grounds → slice_index grounds g < n
-  pub injection_size : length injection ≡ n
+pub record Places (n m : ℕ) (opened : OpenedColumns) (circuits : List ℕ) (banks floors : List Float) (upsized marks : List ℕ) (angle flow : List Float) : Type 0 where
+  pub leader_size : length opened.leader ≡ n
+  pub few_grounds : length opened.grounds ≤ most_buses
+  pub ground_below : (g : ℕ) → g < length opened.grounds → slice_index opened.grounds g < n
+  pub injection_size : length opened.injection ≡ n
   pub count_size : length circuits ≡ m
   pub bank_size : length banks ≡ m
   pub floor_size : length floors ≡ m
@@ -68,24 +69,24 @@ pub record Tallies (above budget : ℕ) (p : Progress) : Type 0 where
   pub capacity : p.capacity ≤ 1_536 * p.rounds
   pub stiffening : p.stiffening ≤ 65_536 * p.rounds
 
-pub record RoundsFit (above budget : ℕ) (start : Progress) (ladder : List Float) (level a b : List ℕ) (km share : List Float) (cap : List ℕ) (sheet load : List Float) (bus : List ℕ) (pmax : List Float)
-    (leader grounds : List ℕ) (injection : List Float) (circuits : List ℕ) (banks floors : List Float) (upsized marks : List ℕ) (angle flow : List Float) : Type 0 where
-  pub columns : Columns ladder level a b km share sheet load bus pmax
-  pub places : Places (length level) (length a) leader grounds injection circuits banks floors upsized marks angle flow
+pub record RoundsFit (above budget : ℕ) (start : Progress) (grid : GridColumns) (level : List ℕ) (supply : SupplyColumns)
+    (opened : OpenedColumns) (circuits : List ℕ) (banks floors : List Float) (upsized marks : List ℕ) (angle flow : List Float) : Type 0 where
+  pub columns : Columns grid level supply
+  pub places : Places (length level) (length grid.a) opened circuits banks floors upsized marks angle flow
   pub tallies : Tallies above budget start
-  pub capped : Capped (length a) cap
-  pub some : 1 ≤ length a
+  pub capped : Capped (length grid.a) grid.cap
+  pub some : 1 ≤ length grid.a
   pub banked : Banks banks
   pub few : Few circuits
 
 -- ---- what they leave
-pub record RoundsRun (mode : PlanMode) (above budget : ℕ) (start : Progress) (ladder : List Float) (level a b : List ℕ) (km share : List Float) (cap : List ℕ) (sheet load : List Float) (bus : List ℕ) (pmax : List Float)
-    (leader grounds : List ℕ) (injection : List Float) (circuits : List ℕ) (banks floors : List Float) (upsized : List ℕ) (angle : List Float)
+pub record RoundsRun (mode : PlanMode) (above budget : ℕ) (start : Progress) (grid : GridColumns) (level : List ℕ) (supply : SupplyColumns)
+    (opened : OpenedColumns) (circuits : List ℕ) (banks floors : List Float) (upsized : List ℕ) (angle : List Float)
     (level' circuits' : List ℕ) (banks' floors' : List Float) (upsized' : List ℕ) (angle' : List Float) (r : Result Progress Refusal) : Type 0 where
-  pub ran : (o : Case) (target : ℕ) → Sound (rounds_case o mode above ladder a b km share sheet load bus pmax) target → length level ≡ o.buses → o.cap ≡ cap
-      → ran_as r (rounds_case o mode above ladder a b km share sheet load bus pmax) level' circuits' banks' floors' upsized' angle'
-      ≡ rounds (rounds_case o mode above ladder a b km share sheet load bus pmax) (peak_for o.buses grounds injection) leader budget
-      (draft_of (rounds_case o mode above ladder a b km share sheet load bus pmax) level circuits banks floors upsized angle start)
-  pub lines : Lines ladder level' a b km share sheet
+  pub ran : (o : Case) (target : ℕ) → Sound (rounds_case o mode above grid supply) target → length level ≡ o.buses → o.cap ≡ grid.cap
+      → ran_as r (rounds_case o mode above grid supply) level' circuits' banks' floors' upsized' angle'
+      ≡ rounds (rounds_case o mode above grid supply) (peak_for o.buses opened.grounds opened.injection) opened.leader budget
+      (draft_of (rounds_case o mode above grid supply) level circuits banks floors upsized angle start)
+  pub lines : Lines grid level'
   pub banked : Banks banks'
   pub few : Few circuits'

@@ -22,14 +22,15 @@ use Rattle.planning.specs.Whole.{with_lines, with_units}
 use Rattle.planning.specs.declared.settle.Settlement.{Settlement}
 use Rattle.planning.specs.declared.settle.Settling.{Settling}
 use Rattle.refusal.specs.declared.Refusal.{Refusal}
+use Rattle.planning.specs.Tables.{GridColumns, supply_of, OpenedColumns}
 
 -- ---- what it asks of the columns
-pub record Settleable (above : ℕ) (ladder : List Float) (level a b : List ℕ) (km share : List Float) (cap : List ℕ) (sheet : List Float) (leader grounds : List ℕ) (injection banks : List Float)
+pub record Settleable (above : ℕ) (grid : GridColumns) (level : List ℕ) (opened : OpenedColumns) (banks : List Float)
     (upsized circuits : List ℕ) (flow rate angle added : List Float) : Type 0 where
-  pub drawing : Drawing ladder level a b km share sheet circuits banks
-  pub lent : Lent (length level) (length a) injection grounds angle flow
-  pub closable : Closable above ladder a leader upsized angle rate added
-  pub cap_size : length cap ≡ length a
+  pub drawing : Drawing grid level circuits banks
+  pub lent : Lent (length level) (length grid.a) opened angle flow
+  pub closable : Closable above grid.ladder grid.a opened.leader upsized angle rate added
+  pub cap_size : length grid.cap ≡ length grid.a
 
 -- ---- what is said, with the slices that it is said of
 pub record Ended : Type 0 where
@@ -112,10 +113,10 @@ SettledAs r before order circuits tier flow rate angle added c (stopped f) = r �
 SettledAs r before order circuits tier flow rate angle added c (going q) = Held r before order circuits tier flow rate angle added c.above q
 
 -- of any case with these columns, whose draft the slices stand for
-pub record Settles (mode : PlanMode) (target above : ℕ) (ladder : List Float) (a b : List ℕ) (km share : List Float) (cap : List ℕ) (sheet : List Float) (leader grounds : List ℕ) (injection banks : List Float)
+pub record Settles (mode : PlanMode) (target above : ℕ) (grid : GridColumns) (opened : OpenedColumns) (banks : List Float)
     (upsized circuits level : List ℕ) (circuits' level' : List ℕ) (flow' rate' angle' added' : List Float) (r : Settling) : Type 0 where
   pub plan : (o : Case) (p : Opened) (s : Draft) (floors : List Float)
-      → (let c = with_lines (with_units o mode above o.load o.bus o.pmax) ladder a b km share sheet in
-      Sound c target → length level ≡ o.buses → o.cap ≡ cap → p.led ≡ leader → p.peak ≡ peak_for o.buses grounds injection → s.level ≡ level
+      → (let c = with_lines (with_units o mode above (supply_of o.load o.bus o.slack o.pmin o.pmax o.c1 o.c2)) grid in
+      Sound c target → length level ≡ o.buses → o.cap ≡ grid.cap → p.led ≡ opened.leader → p.peak ≡ peak_for o.buses opened.grounds opened.injection → s.level ≡ level
       → s.build ≡ build_of c level circuits banks floors upsized
-      → SettledAs r.settled (take (length a) r.kept.before) (take (length a) r.kept.order) circuits' level' flow' rate' angle' added' c (onward (settled_to c p s) (closing c target)))
+      → SettledAs r.settled (take (length grid.a) r.kept.before) (take (length grid.a) r.kept.order) circuits' level' flow' rate' angle' added' c (onward (settled_to c p s) (closing c target)))

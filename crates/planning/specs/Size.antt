@@ -10,14 +10,15 @@ use Rattle.plan_defs.specs.declared.CircuitDesign.{CircuitDesign}
 use Rattle.planning.specs.Design.{Lines, Banks}
 use Rattle.planning.specs.Raise.{largest_count}
 use Rattle.planning.specs.declared.size.Tally.{Tally}
+use Rattle.planning.specs.Tables.{GridColumns, grid_of}
 
 -- ---- a case of which sizing reads these columns only
-abbrev pub size_for : PlanMode → ℕ → List Float → List ℕ → List ℕ → List Float → List Float → List ℕ → List Float → Case
-size_for mode buses ladder a b km share cap sheet = case_of mode buses (length a) 0 0 (length ladder) ladder [] [] [] [] [] [] [] [] [] [] a b [] km share cap sheet
+abbrev pub size_for : PlanMode → ℕ → GridColumns → Case
+size_for mode buses grid = case_of mode buses (length grid.a) 0 0 (length grid.ladder) grid.ladder [] [] [] [] [] [] [] [] [] [] grid.a grid.b [] grid.km grid.share grid.cap grid.sheet
 
 -- growing reads these
 abbrev pub grow_for : PlanMode → List ℕ → List ℕ → List ℕ → Case
-grow_for mode a b cap = size_for mode 0 [] a b [] [] cap []
+grow_for mode a b cap = size_for mode 0 (grid_of [] a b [] [] cap [])
 
 -- ---- the state that slices stand for, over any designs
 abbrev pub sized_of : List CircuitDesign → List Float → List ℕ → List ℕ → List ℕ → Tally → Sizing
@@ -64,12 +65,12 @@ pub record Held (corridors buses : ℕ) (flow : List Float) (circuits : List ℕ
   pub upsized_size : length upsized ≡ corridors
   pub mark_size : length marks ≡ buses
 
-pub record CorridorFits (ladder : List Float) (level a b : List ℕ) (km share : List Float) (cap : List ℕ) (sheet flow : List Float) (k : ℕ) (circuits : List ℕ) (banks floors : List Float) (upsized marks : List ℕ) (t : Tally) : Type 0 where
-  pub lines : Lines ladder level a b km share sheet
-  pub held : Held (length a) (length level) flow circuits banks floors upsized marks
+pub record CorridorFits (grid : GridColumns) (level : List ℕ) (flow : List Float) (k : ℕ) (circuits : List ℕ) (banks floors : List Float) (upsized marks : List ℕ) (t : Tally) : Type 0 where
+  pub lines : Lines grid level
+  pub held : Held (length grid.a) (length level) flow circuits banks floors upsized marks
   pub banked : Banks banks
-  pub capped : Capped (length a) cap
-  pub corridor : k < length a
+  pub capped : Capped (length grid.a) grid.cap
+  pub corridor : k < length grid.a
   pub room : t.capacity + subtransmission_max_circuits ≤ largest_count
 
 -- ---- what sizing does to corridor k

@@ -8,6 +8,7 @@ use Rattle.plan_defs.specs.Solve.{Peak, PlanningCase, all_finite}
 use Rattle.planning.specs.Design.{Lines, Banks}
 use Rattle.refusal.specs.declared.Refusal.{Refusal}
 use Rattle.refusal.specs.Reply.{no_refusal}
+use Rattle.planning.specs.Tables.{GridColumns, OpenedColumns}
 
 abbrev pub peak_for : ℕ → List ℕ → List Float → Peak
 peak_for n grounds injection = record { n = n; grounds = grounds; injection = injection }
@@ -43,19 +44,19 @@ pub record Places (n : ℕ) (injection guess angle : List Float) : Type 0 where
   pub angle_size : length angle ≡ n
 
 -- ---- the corridors as they are built: few of them, with circuits and a bank for each
-pub record Drawing (ladder : List Float) (level a b : List ℕ) (km share sheet : List Float) (circuits : List ℕ) (banks : List Float) : Type 0 where
-  pub lines : Lines ladder level a b km share sheet
+pub record Drawing (grid : GridColumns) (level : List ℕ) (circuits : List ℕ) (banks : List Float) : Type 0 where
+  pub lines : Lines grid level
   pub few_buses : length level ≤ most
-  pub few_corridors : length a ≤ most
-  pub count_size : length circuits ≡ length a
-  pub bank_size : length banks ≡ length a
+  pub few_corridors : length grid.a ≤ most
+  pub count_size : length circuits ≡ length grid.a
+  pub bank_size : length banks ≡ length grid.a
   pub banks_ok : Banks banks
 
 -- the buses' injections and the grounds, and the slices lent: angles and flows
-pub record Lent (n m : ℕ) (injection : List Float) (grounds : List ℕ) (angle flow : List Float) : Type 0 where
-  pub few_grounds : length grounds ≤ most
-  pub ground_below : (g : ℕ) → g < length grounds → slice_index grounds g < n
-  pub injection_size : length injection ≡ n
+pub record Lent (n m : ℕ) (opened : OpenedColumns) (angle flow : List Float) : Type 0 where
+  pub few_grounds : length opened.grounds ≤ most
+  pub ground_below : (g : ℕ) → g < length opened.grounds → slice_index opened.grounds g < n
+  pub injection_size : length opened.injection ≡ n
   pub angle_size : length angle ≡ n
   pub flow_size : length flow ≡ m
 

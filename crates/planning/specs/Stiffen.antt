@@ -28,6 +28,7 @@ use Rattle.planning.specs.Whole.{with_lines}
 use Rattle.planning.specs.declared.stiffen.Limits.{Limits}
 use Rattle.planning.specs.declared.stiffen.Stiffness.{Stiffness}
 use Rattle.refusal.specs.declared.Refusal.{Refusal}
+use Rattle.planning.specs.Tables.{GridColumns, OpenedColumns}
 
 -- ---- the budgets, and the state that slices stand for
 abbrev pub budget_for : Limits → Budget
@@ -46,19 +47,19 @@ abbrev pub round_of : ℕ → List ℕ → List ℕ → List Float → List Floa
 round_of m from to weight theta flows = record { edges = edges_of (take m from) (take m to) (take m weight); theta = theta; flows = flows }
 
 -- ---- what a component asks of the slices: a place for each corridor, or for each bus
-pub record Stiffenable (ladder : List Float) (level a b : List ℕ) (km share : List Float) (cap : List ℕ) (sheet : List Float) (leader grounds from to : List ℕ) (weight angle : List Float)
+pub record Stiffenable (grid : GridColumns) (level : List ℕ) (opened : OpenedColumns) (from to : List ℕ) (weight angle : List Float)
     (circuits : List ℕ) (banks floors : List Float) (upsized marks : List ℕ) : Type 0 where
-  pub lines : Lines ladder level a b km share sheet
-  pub edges : Peaked (length level) (length a) from to weight
-  pub few_grounds : length grounds ≤ most
-  pub ground_below : (g : ℕ) → g < length grounds → slice_index grounds g < length level
-  pub leader_size : length leader ≡ length level
+  pub lines : Lines grid level
+  pub edges : Peaked (length level) (length grid.a) from to weight
+  pub few_grounds : length opened.grounds ≤ most
+  pub ground_below : (g : ℕ) → g < length opened.grounds → slice_index opened.grounds g < length level
+  pub leader_size : length opened.leader ≡ length level
   pub angle_size : length angle ≡ length level
-  pub capped : Capped (length a) cap
-  pub count_size : length circuits ≡ length a
-  pub bank_size : length banks ≡ length a
-  pub floor_size : length floors ≡ length a
-  pub upsized_size : length upsized ≡ length a
+  pub capped : Capped (length grid.a) grid.cap
+  pub count_size : length circuits ≡ length grid.a
+  pub bank_size : length banks ≡ length grid.a
+  pub floor_size : length floors ≡ length grid.a
+  pub upsized_size : length upsized ≡ length grid.a
   pub mark_size : length marks ≡ length level
   pub banked : Banks banks
 
@@ -73,18 +74,18 @@ abbrev pub Within : ℕ → Stiffness → Result Stiffness Refusal → Type 0
 Within m t (Err f) = Unit
 Within m t (Ok u) = (u.total ≤ t.total + m) × (u.hv ≤ t.hv + 2 * m) × (u.stiffening ≤ t.stiffening + m)
 
-pub record LedStiffened (i round : ℕ) (g : Limits) (ladder : List Float) (level a b : List ℕ) (km share : List Float) (cap : List ℕ) (sheet : List Float) (leader grounds from to : List ℕ) (weight angle : List Float)
+pub record LedStiffened (i round : ℕ) (g : Limits) (grid : GridColumns) (level : List ℕ) (opened : OpenedColumns) (from to : List ℕ) (weight angle : List Float)
     (circuits : List ℕ) (banks floors : List Float) (upsized marks : List ℕ) (t : Stiffness)
     (circuits' : List ℕ) (banks' floors' : List Float) (upsized' marks' : List ℕ) (r : Result Stiffness Refusal) : Type 0 where
-  pub stiffened : (o : Case) (target : ℕ) (injection flows : List Float) → Sound (with_lines o ladder a b km share sheet) target → length level ≡ o.buses → o.cap ≡ cap
-      → stiffened_as r (with_lines o ladder a b km share sheet) level circuits' banks' floors' upsized' marks'
-      ≡ stage_if (leads leader i)
-      (stiffen_component (with_lines o ladder a b km share sheet) (peak_for o.buses grounds injection) leader level round (budget_for g) (round_of (length a) from to weight angle flows) i
-      (stiff_of (with_lines o ladder a b km share sheet) level circuits banks floors upsized marks t))
-      (stiff_of (with_lines o ladder a b km share sheet) level circuits banks floors upsized marks t)
+  pub stiffened : (o : Case) (target : ℕ) (injection flows : List Float) → Sound (with_lines o grid) target → length level ≡ o.buses → o.cap ≡ grid.cap
+      → stiffened_as r (with_lines o grid) level circuits' banks' floors' upsized' marks'
+      ≡ stage_if (leads opened.leader i)
+      (stiffen_component (with_lines o grid) (peak_for o.buses opened.grounds injection) opened.leader level round (budget_for g) (round_of (length grid.a) from to weight angle flows) i
+      (stiff_of (with_lines o grid) level circuits banks floors upsized marks t))
+      (stiff_of (with_lines o grid) level circuits banks floors upsized marks t)
   pub banked : Banks banks'
   pub few : Few circuits → Few circuits'
-  pub bound : Within (length a) t r
+  pub bound : Within (length grid.a) t r
 
 -- ---- one corridor
 -- the state over any designs
@@ -113,41 +114,41 @@ pub record Strengthened (g : Limits) (own : ℕ) (level a b : List ℕ) (k : ℕ
   pub bound : Within 1 t (Ok t')
 
 -- a case of these columns has as many corridors and levels as they, and these caps
-abbrev pub Fitting : Case → List Float → List ℕ → List ℕ → Type 0
-Fitting o ladder a cap = (length a ≡ o.corridors) × (length ladder ≡ levels o) × (o.cap ≡ cap)
+abbrev pub Fitting : Case → GridColumns → Type 0
+Fitting o grid = (length grid.a ≡ o.corridors) × (length grid.ladder ≡ levels o) × (o.cap ≡ grid.cap)
 
 -- what the lent slices must be
-pub record StiffenFits (ladder : List Float) (level a b : List ℕ) (km share : List Float) (cap : List ℕ) (sheet : List Float) (circuits : List ℕ) (banks floors : List Float) (upsized marks : List ℕ) : Type 0 where
-  pub lines : Lines ladder level a b km share sheet
-  pub capped : Capped (length a) cap
-  pub count_size : length circuits ≡ length a
-  pub bank_size : length banks ≡ length a
-  pub floor_size : length floors ≡ length a
-  pub upsized_size : length upsized ≡ length a
+pub record StiffenFits (grid : GridColumns) (level : List ℕ) (circuits : List ℕ) (banks floors : List Float) (upsized marks : List ℕ) : Type 0 where
+  pub lines : Lines grid level
+  pub capped : Capped (length grid.a) grid.cap
+  pub count_size : length circuits ≡ length grid.a
+  pub bank_size : length banks ≡ length grid.a
+  pub floor_size : length floors ≡ length grid.a
+  pub upsized_size : length upsized ≡ length grid.a
   pub mark_size : length marks ≡ length level
   pub banked : Banks banks
 
 -- what stiffening the corridors of a list does to them
-pub record BatchStiffened (ks : List ℕ) (g : Limits) (ladder : List Float) (level a b : List ℕ) (km share : List Float) (cap : List ℕ) (sheet : List Float)
+pub record BatchStiffened (ks : List ℕ) (g : Limits) (grid : GridColumns) (level : List ℕ)
     (circuits : List ℕ) (banks floors : List Float) (upsized marks : List ℕ) (t : Stiffness)
     (circuits' : List ℕ) (banks' floors' : List Float) (upsized' marks' : List ℕ) (t' : Stiffness) : Type 0 where
-  pub stiffened : (o : Case) → Fitting o ladder a cap
-      → stiff_of (with_lines o ladder a b km share sheet) level circuits' banks' floors' upsized' marks' t'
-      ≡ each (stiffen_one (with_lines o ladder a b km share sheet) level (budget_for g)) ks
-      (stiff_of (with_lines o ladder a b km share sheet) level circuits banks floors upsized marks t)
+  pub stiffened : (o : Case) → Fitting o grid
+      → stiff_of (with_lines o grid) level circuits' banks' floors' upsized' marks' t'
+      ≡ each (stiffen_one (with_lines o grid) level (budget_for g)) ks
+      (stiff_of (with_lines o grid) level circuits banks floors upsized marks t)
   pub banked : Banks banks'
   pub few : Few circuits → Few circuits'
   pub bound : Within (length ks) t (Ok t')
 
 -- ---- gains: of a candidate what one more circuit gives, of any other 0
-pub record Gainful (ladder : List Float) (level a b : List ℕ) (km share : List Float) (cap : List ℕ) (sheet : List Float) (leader : List ℕ) (angle phi : List Float) (circuits : List ℕ) (banks : List Float) : Type 0 where
-  pub lines : Lines ladder level a b km share sheet
+pub record Gainful (grid : GridColumns) (level : List ℕ) (leader : List ℕ) (angle phi : List Float) (circuits : List ℕ) (banks : List Float) : Type 0 where
+  pub lines : Lines grid level
   pub leader_size : length leader ≡ length level
   pub angle_size : length angle ≡ length level
   pub phi_size : length phi ≡ length level
-  pub cap_size : length cap ≡ length a
-  pub count_size : length circuits ≡ length a
-  pub bank_size : length banks ≡ length a
+  pub cap_size : length grid.cap ≡ length grid.a
+  pub count_size : length circuits ≡ length grid.a
+  pub bank_size : length banks ≡ length grid.a
   pub banked : Banks banks
 
 abbrev pub candidate_at : Limits → List ℕ → List ℕ → List ℕ → List ℕ → List ℕ → List ℕ → Stiffness → ℕ → ℕ → Bool
@@ -159,9 +160,9 @@ abbrev pub gain_if : Bool → Float → Float
 gain_if true gain = gain
 gain_if false gain = nought
 
-abbrev pub gain_at : Limits → List Float → List ℕ → List ℕ → List ℕ → List Float → List Float → List ℕ → List Float → List ℕ → List Float → List Float → List ℕ → List Float → Stiffness → ℕ → ℕ → Float
-gain_at g ladder level a b km share cap sheet leader angle phi circuits banks t root k =
-    gain_if (candidate_at g leader level a b cap circuits t root k) (gain_of angle phi (design (designs_for ladder level a b km share sheet banks) k))
+abbrev pub gain_at : Limits → GridColumns → List ℕ → List ℕ → List Float → List Float → List ℕ → List Float → Stiffness → ℕ → ℕ → Float
+gain_at g grid level leader angle phi circuits banks t root k =
+    gain_if (candidate_at g leader level grid.a grid.b grid.cap circuits t root k) (gain_of angle phi (design (designs_for grid level banks) k))
 
 -- the order by a list of gains: k comes before j where it gains more; of those that gain
 abbrev pub gains_more : List Float → ℕ → ℕ → Bool
@@ -181,24 +182,24 @@ abbrev pub gain_for : List Float → ℕ → Gain
 gain_for gain k = record { gain = at gain k; corridor = k }
 
 -- the corridors that are taken of an order are the chosen ones
-pub record Chosen (root : ℕ) (excess : Float) (g : Limits) (ladder : List Float) (level a b : List ℕ) (km share : List Float) (cap : List ℕ) (sheet : List Float) (leader : List ℕ) (angle phi : List Float)
+pub record Chosen (root : ℕ) (excess : Float) (g : Limits) (grid : GridColumns) (level : List ℕ) (leader : List ℕ) (angle phi : List Float)
     (circuits : List ℕ) (banks : List Float) (t : Stiffness) (order : List ℕ) (taken : ℕ) : Type 0 where
-  pub few : taken ≤ length a
-  pub ranked : Ranked (length a) order taken
-  pub chosen : (o : Case) (floors : List Float) (upsized marks : List ℕ) → Fitting o ladder a cap
+  pub few : taken ≤ length grid.a
+  pub ranked : Ranked (length grid.a) order taken
+  pub chosen : (o : Case) (floors : List Float) (upsized marks : List ℕ) → Fitting o grid
       → take taken order
-      ≡ chosen (with_lines o ladder a b km share sheet) leader level (budget_for g) root (stiff_of (with_lines o ladder a b km share sheet) level circuits banks floors upsized marks t) angle excess phi
+      ≡ chosen (with_lines o grid) leader level (budget_for g) root (stiff_of (with_lines o grid) level circuits banks floors upsized marks t) angle excess phi
 
 -- ---- what a step of a stiffening does to the slices, of any case with these columns, whatever the injections and the flows are
-pub record Stepped (step : Case → List Float → List Float → Stiffening → Stage Stiffening) (ladder : List Float) (level a b : List ℕ) (km share : List Float) (cap : List ℕ) (sheet : List Float)
+pub record Stepped (step : Case → List Float → List Float → Stiffening → Stage Stiffening) (grid : GridColumns) (level : List ℕ)
     (circuits : List ℕ) (banks floors : List Float) (upsized marks : List ℕ) (t : Stiffness)
     (circuits' : List ℕ) (banks' floors' : List Float) (upsized' marks' : List ℕ) (r : Result Stiffness Refusal) : Type 0 where
-  pub stiffened : (o : Case) (injection flows : List Float) → Fitting o ladder a cap → length level ≡ o.buses
-      → stiffened_as r (with_lines o ladder a b km share sheet) level circuits' banks' floors' upsized' marks'
-      ≡ step (with_lines o ladder a b km share sheet) injection flows (stiff_of (with_lines o ladder a b km share sheet) level circuits banks floors upsized marks t)
+  pub stiffened : (o : Case) (injection flows : List Float) → Fitting o grid → length level ≡ o.buses
+      → stiffened_as r (with_lines o grid) level circuits' banks' floors' upsized' marks'
+      ≡ step (with_lines o grid) injection flows (stiff_of (with_lines o grid) level circuits banks floors upsized marks t)
   pub banked : Banks banks'
   pub few : Few circuits → Few circuits'
-  pub bound : Within (length a) t r
+  pub bound : Within (length grid.a) t r
 
 abbrev pub reinforce_step : ℕ → Float → Limits → List ℕ → List ℕ → List Float → List Float → Case → List Float → List Float → Stiffening → Stage Stiffening
 reinforce_step root excess g level leader angle phi c injection flows s =

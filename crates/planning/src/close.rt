@@ -1,21 +1,24 @@
 // The closing figures of `plan_corridors`, of the circuits after filling; and the slices as planning leaves them.
-ghost use Rattle.std.specs.Prelude.{◌≡◌, ℕ, ◌+◌, ◌-◌, ◌<◌, ◌≤◌, map, length, take, if◌then◌else◌, slice_index};
-ghost use Rattle.loops.specs.Figures.{nought};
+ghost use Rattle.std.specs.Prelude.{◌≡◌, ℕ, ◌+◌, ◌-◌, ◌<◌, ◌≤◌, map, length, take, if◌then◌else◌, slice_index, Float};
+ghost use Rattle.loops.specs.Figures.{at, nought};
 ghost use Rattle.loops.specs.Loops.{tab};
 ghost use Rattle.plan_defs.specs.Constants.{most_corridors, most_levels};
+ghost use Rattle.plan_defs.specs.Lists.{each};
 ghost use Rattle.plan_defs.specs.Components.{members};
-ghost use Rattle.plan_defs.specs.Closing.{highest, lowest, spread_of, max_loading, overloaded_of, capped_of, upsized_of, least_of, tiers_of, added_of};
+ghost use Rattle.plan_defs.specs.Closing.{spread_of, max_loading, overloaded_of, capped_of, upsized_of, least_of, tiers_of, added_of};
 ghost use Rattle.plan_defs.specs.Outcome.{up_to, kept_if};
 ghost use Rattle.plan_defs.specs.declared.CircuitDesign.{CircuitDesign};
 ghost use Rattle.planning.specs.Design.{Lines};
-ghost use Rattle.planning.specs.Fill.{designs_for, Drawable, Loaded};
-ghost use Rattle.planning.specs.Close.{corridors_of, levels_for, wider_by, loadings_by, Rated, cap_full, added_at, Closable, closing_of, figures_if, counts_if, is_refused, lent_to, finished};
+ghost use Rattle.planning.specs.Fill.{designs_for, Loaded};
+ghost use Rattle.planning.specs.Close.{corridors_of, levels_for, wider_by, loadings_by, Rated, cap_full, added_at, Closable, closing_of, is_refused, lent_to, finished};
+ghost use Rattle.planning.specs.Tables.{grid_in};
 
-use crate::design::circuit;
-use crate::figures::{clear_counts, clear_figures, greater, lesser, magnitude};
+use crate::design::{circuit, fill_drawn};
+use crate::figures::{greater, lesser, magnitude};
 use crate::fill::loading;
 use crate::policy::{cap_at, expands};
 use crate::size::PLANNING_UTILISATION;
+use crate::tables::Grid;
 use mode::PlanMode;
 use plan_defs::CorridorPlan;
 use refusal::Refusal;
@@ -35,30 +38,26 @@ pub struct Closing {
 }
 
 // ---- the widest spread of a component's angles, radians
-fn highest(leader: &[u32], angle: &[f64], root: usize) -> f64
-    requires { length angle.now ≡ length leader.now }
-    ensures { result ≡ highest angle.now (members leader.now root) }
+// Of a component's angles and a start, what `pick` leaves.
+fn extreme<F: Fn(f64, f64) -> f64>(
+    leader: &[u32],
+    angle: &[f64],
+    root: usize,
+    start: f64,
+    pick: F,
+) -> f64
+    requires angle_len { length angle.now ≡ length leader.now }
+    requires callable { (x y : Float) → F.pre pick x y }
+    ensures { (f : Float → Float → Float) → ((x y r : Float) → F.post pick x y r → r ≡ f x y)
+        → result ≡ each (λ i m. f m (at angle.now i)) (members leader.now root) start }
 {
-    let mut most = -loops::infinity();
+    let mut most = start;
     for i in 0..leader.len() {
         if leader[i] as usize == root {
-            most = greater(most, angle[i]);
+            most = pick(most, angle[i]);
         }
     }
     most
-}
-
-fn lowest(leader: &[u32], angle: &[f64], root: usize) -> f64
-    requires { length angle.now ≡ length leader.now }
-    ensures { result ≡ lowest angle.now (members leader.now root) }
-{
-    let mut least = loops::infinity();
-    for i in 0..leader.len() {
-        if leader[i] as usize == root {
-            least = lesser(least, angle[i]);
-        }
-    }
-    least
 }
 
 // The widest spread with bus i's component, where it leads one.
@@ -67,7 +66,10 @@ fn wider(leader: &[u32], angle: &[f64], i: usize, most: f64) -> f64
     ensures { result ≡ wider_by leader.now angle.now i most }
 {
     if leader[i] as usize == i {
-        return greater(most, highest(leader, angle, i) - lowest(leader, angle, i));
+        let top = loops::infinity();
+        let highest = extreme(leader, angle, i, -top, greater);
+        let lowest = extreme(leader, angle, i, top, lesser);
+        return greater(most, highest - lowest);
     }
     most
 }
@@ -83,28 +85,7 @@ fn spread(leader: &[u32], angle: &[f64]) -> f64
     most
 }
 
-// ---- ratings and loadings
-fn rates(
-    ladder: &[f64],
-    level: &[u32],
-    a: &[u32],
-    b: &[u32],
-    km: &[f64],
-    share: &[f64],
-    sheet: &[f64],
-    banks: &[f64],
-    rate: &mut [f64],
-)
-    requires lines { Lines ladder.now level.now a.now b.now km.now share.now sheet.now }
-    requires drawable { Drawable a.now banks.now × (length rate.old ≡ length a.now) }
-    ensures { rate.new ≡ map (λ (d : CircuitDesign). d.rate_a) (designs_for ladder.now level.now a.now b.now km.now share.now sheet.now banks.now) }
-{
-    for k in 0..rate.len() {
-        let d = circuit(ladder, level, a, b, km, share, sheet, k, banks[k]);
-        rate[k] = d.rate_a;
-    }
-}
-
+// ---- loadings
 fn max_loading(circuits: &[u32], flow: &[f64], rate: &[f64]) -> f64
     requires { Rated circuits.now flow.now rate.now }
     ensures { result ≡ max_loading (loadings_by circuits.now flow.now rate.now) }
@@ -137,26 +118,20 @@ fn cap_full(mode: PlanMode, cap: u32, count: u32, flow: f64, rate: f64) -> bool
 
 fn capped(
     mode: PlanMode,
-    ladder: &[f64],
+    grid: &Grid,
     level: &[u32],
-    a: &[u32],
-    b: &[u32],
-    km: &[f64],
-    share: &[f64],
-    cap: &[u32],
-    sheet: &[f64],
     banks: &[f64],
     circuits: &[u32],
     flow: &[f64],
 ) -> u32
-    requires lines { Lines ladder.now level.now a.now b.now km.now share.now sheet.now }
-    requires loaded { Loaded a.now banks.now circuits.now flow.now × (length cap.now ≡ length a.now) }
-    ensures { result ≡ capped_of (corridors_of mode (length a.now) cap.now) (designs_for ladder.now level.now a.now b.now km.now share.now sheet.now banks.now) circuits.now flow.now }
+    requires lines { Lines (grid_in grid.now) level.now }
+    requires loaded { Loaded grid.now.a.now banks.now circuits.now flow.now × (length grid.now.cap.now ≡ length grid.now.a.now) }
+    ensures { result ≡ capped_of (corridors_of mode (length grid.now.a.now) grid.now.cap.now) (designs_for (grid_in grid.now) level.now banks.now) circuits.now flow.now }
 {
     let mut count = 0;
-    for k in 0..a.len() {
-        let d = circuit(ladder, level, a, b, km, share, sheet, k, banks[k]);
-        let most = cap_at(mode, cap[k], d.kv);
+    for k in 0..grid.a.len() {
+        let d = circuit(grid, level, k, banks[k]);
+        let most = cap_at(mode, grid.cap[k], d.kv);
         count += u32::from(cap_full(mode, most, circuits[k], flow[k], d.rate_a));
     }
     count
@@ -220,13 +195,7 @@ fn add_levels(ladder: &[f64], above: usize, unused: usize, added: &mut [f64])
 pub fn close(
     mode: PlanMode,
     above: usize,
-    ladder: &[f64],
-    a: &[u32],
-    b: &[u32],
-    km: &[f64],
-    share: &[f64],
-    cap: &[u32],
-    sheet: &[f64],
+    grid: &Grid,
     leader: &[u32],
     banks: &[f64],
     circuits: &[u32],
@@ -237,24 +206,22 @@ pub fn close(
     rate: &mut [f64],
     added: &mut [f64],
 ) -> Closing
-    requires lines { Lines ladder.now level.old a.now b.now km.now share.now sheet.now }
-    requires loaded { Loaded a.now banks.now circuits.now flow.now × (length cap.now ≡ length a.now) }
-    requires closable { Closable above ladder.now a.now leader.now upsized.now angle.now rate.old added.old }
-    ensures closing { result ≡ closing_of mode cap.now above leader.now level.old (designs_for ladder.now level.old a.now b.now km.now share.now sheet.now banks.now) circuits.now upsized.now flow.now angle.now }
-    ensures rate { rate.new ≡ map (λ (d : CircuitDesign). d.rate_a) (designs_for ladder.now level.old a.now b.now km.now share.now sheet.now banks.now) }
-    ensures tier { level.new ≡ tiers_of (levels_for above ladder.now) level.old }
-    ensures added { added.new ≡ up_to above nought (added_of (levels_for above ladder.now) level.old) }
+    requires lines { Lines (grid_in grid.now) level.old }
+    requires loaded { Loaded grid.now.a.now banks.now circuits.now flow.now × (length grid.now.cap.now ≡ length grid.now.a.now) }
+    requires closable { Closable above grid.now.ladder.now grid.now.a.now leader.now upsized.now angle.now rate.old added.old }
+    ensures closing { result ≡ closing_of mode grid.now.cap.now above leader.now level.old (designs_for (grid_in grid.now) level.old banks.now) circuits.now upsized.now flow.now angle.now }
+    ensures rate { rate.new ≡ map (λ (d : CircuitDesign). d.rate_a) (designs_for (grid_in grid.now) level.old banks.now) }
+    ensures tier { level.new ≡ tiers_of (levels_for above grid.now.ladder.now) level.old }
+    ensures added { added.new ≡ up_to above nought (added_of (levels_for above grid.now.ladder.now) level.old) }
 {
-    rates(ladder, level, a, b, km, share, sheet, banks, rate);
+    fill_drawn(grid, level, banks, rate, |d, _| d.rate_a);
     let too_heavy = overloaded(circuits, flow, rate);
     let highest_loading = max_loading(circuits, flow, rate);
-    let at_cap = capped(
-        mode, ladder, level, a, b, km, share, cap, sheet, banks, circuits, flow,
-    );
+    let at_cap = capped(mode, grid, level, banks, circuits, flow);
     let enlarged = count_upsized(upsized);
     let widest = spread(leader, angle);
     let dropped = unused(above, level);
-    add_levels(ladder, above, dropped as usize, added);
+    add_levels(grid.ladder, above, dropped as usize, added);
     shift_back(dropped, level);
     Closing {
         upsized: enlarged,
@@ -267,22 +234,6 @@ pub fn close(
 }
 
 // ---- the slices at the end
-fn clear_counts_if(refused: bool, l: &mut [u32])
-    ensures { l.new ≡ counts_if refused l.old }
-{
-    if refused {
-        clear_counts(l);
-    }
-}
-
-fn clear_figures_if(refused: bool, l: &mut [f64])
-    ensures { l.new ≡ figures_if refused l.old }
-{
-    if refused {
-        clear_figures(l);
-    }
-}
-
 pub fn is_refused(said: Result<CorridorPlan, Refusal>) -> bool
     ensures { result ≡ is_refused said }
 {
@@ -300,7 +251,7 @@ pub fn keep_if(keeps: bool, kept: [u32; 256], to: &mut [u32])
     if keeps {
         to.copy_from_slice(&kept[..to.len()]);
     } else {
-        clear_counts(to);
+        to.fill(0);
     }
 }
 
@@ -320,14 +271,16 @@ pub fn finish(
 )
     ensures { lent_to circuits.new flow.new rate.new mw.new angle.new tier.new ground.new added.new figures.new counts.new ≡ finished refused (lent_to circuits.old flow.old rate.old mw.old angle.old tier.old ground.old added.old figures.old counts.old) }
 {
-    clear_counts_if(refused, circuits);
-    clear_figures_if(refused, flow);
-    clear_figures_if(refused, rate);
-    clear_figures_if(refused, mw);
-    clear_figures_if(refused, angle);
-    clear_counts_if(refused, tier);
-    clear_counts_if(refused, ground);
-    clear_figures_if(refused, added);
-    clear_figures(figures);
-    clear_counts(counts);
+    figures.fill(0.0);
+    counts.fill(0);
+    if refused {
+        circuits.fill(0);
+        flow.fill(0.0);
+        rate.fill(0.0);
+        mw.fill(0.0);
+        angle.fill(0.0);
+        tier.fill(0);
+        ground.fill(0);
+        added.fill(0.0);
+    }
 }

@@ -1,14 +1,19 @@
 // The design of one circuit of a corridor, after `design_circuits` and `set_transformer_mva` of branches.rs. It is drawn by value
 // from the corridor's row of the line sheet and its bank, and never stored.
-ghost use Rattle.std.specs.Prelude.{◌≡◌, ◌+◌, ◌<◌, ◌≤◌, true, length, slice_index};
+ghost use Rattle.std.specs.Prelude.{◌≡◌, ℕ, ◌+◌, ◌<◌, ◌≤◌, true, length, slice_index, Float};
 ghost use Rattle.loops.specs.Figures.{at};
+ghost use Rattle.loops.specs.Loops.{filled};
 ghost use Rattle.impedance.specs.Impedance.{rating_ok};
 ghost use Rattle.sheets.specs.Sheet.{row_figures};
 ghost use Rattle.plan_defs.specs.Case.{row_of, row_from};
-ghost use Rattle.plan_defs.specs.Design.{basis_of, line_of, bank_basis, with_bank, set_transformer_mva, banked_by, differ, drawn};
+ghost use Rattle.plan_defs.specs.Design.{basis_of, line_of, bank_basis, with_bank, set_transformer_mva, banked_by, differ, drawn, design};
+ghost use Rattle.plan_defs.specs.declared.CircuitDesign.{CircuitDesign};
 ghost use Rattle.planning.specs.Design.{lines_for, ends_for, Lines, EndsFit, LineFits, ends_of, line_between};
+ghost use Rattle.planning.specs.Fill.{designs_for, Drawable};
+ghost use Rattle.planning.specs.Tables.{grid_in};
 
 use crate::figures::{choose, lesser, magnitude};
+use crate::tables::Grid;
 use impedance::SeriesImpedance;
 use plan_defs::{CircuitDesign, RatingBasis};
 use sheets::row_place;
@@ -147,14 +152,14 @@ fn differ(kv_a: f64, kv_b: f64) -> bool
     magnitude(kv_a - kv_b) > KV_TOLERANCE
 }
 
-pub fn ends_of(ladder: &[f64], level: &[u32], a: &[u32], b: &[u32], k: usize) -> Ends
-    requires { EndsFit ladder.now level.now a.now b.now k }
-    ensures { result ≡ ends_of (ends_for ladder.now a.now b.now) level.now k }
+pub fn ends_of(grid: &Grid, level: &[u32], k: usize) -> Ends
+    requires { EndsFit (grid_in grid.now) level.now k }
+    ensures { result ≡ ends_of (ends_for (grid_in grid.now)) level.now k }
 {
-    let i = a[k] as usize;
-    let j = b[k] as usize;
-    let kv_a = kv_at(ladder, level, i);
-    let kv_b = kv_at(ladder, level, j);
+    let i = grid.a[k] as usize;
+    let j = grid.b[k] as usize;
+    let kv_a = kv_at(grid.ladder, level, i);
+    let kv_b = kv_at(grid.ladder, level, j);
     let from = choose(kv_b <= kv_a, i, j);
     let to = choose(kv_b <= kv_a, j, i);
     let steps_down = differ(kv_a, kv_b);
@@ -193,41 +198,51 @@ fn line_from(
     )
 }
 
-fn line_at(
-    ladder: &[f64],
-    level: &[u32],
-    km: &[f64],
-    share: &[f64],
-    sheet: &[f64],
-    k: usize,
-    from: usize,
-    to: usize,
-) -> CircuitDesign
-    requires { LineFits ladder.now level.now km.now share.now sheet.now k from }
-    ensures { result ≡ line_between ladder.now level.now km.now share.now sheet.now k from to }
+fn line_at(grid: &Grid, level: &[u32], k: usize, from: usize, to: usize) -> CircuitDesign
+    requires { LineFits (grid_in grid.now) level.now k from }
+    ensures { result ≡ line_between (grid_in grid.now) level.now k from to }
 {
     let top = level[from] as usize;
     // as many corridors as lengths
-    let row = row_place(km.len(), k, top);
-    line_from(from, to, ladder[top], sheet, row, km[k], share[k])
+    let row = row_place(grid.km.len(), k, top);
+    line_from(
+        from,
+        to,
+        grid.ladder[top],
+        grid.sheet,
+        row,
+        grid.km[k],
+        grid.share[k],
+    )
 }
 
-pub fn circuit(
-    ladder: &[f64],
-    level: &[u32],
-    a: &[u32],
-    b: &[u32],
-    km: &[f64],
-    share: &[f64],
-    sheet: &[f64],
-    k: usize,
-    mva: f64,
-) -> CircuitDesign
-    requires lines { Lines ladder.now level.now a.now b.now km.now share.now sheet.now }
-    requires k_in_bounds { (k < length a.now) × (rating_ok mva ≡ true) }
-    ensures { result ≡ drawn (lines_for ladder.now a.now b.now km.now share.now sheet.now) level.now k mva }
+pub fn circuit(grid: &Grid, level: &[u32], k: usize, mva: f64) -> CircuitDesign
+    requires lines { Lines (grid_in grid.now) level.now }
+    requires k_in_bounds { (k < length grid.now.a.now) × (rating_ok mva ≡ true) }
+    ensures { result ≡ drawn (lines_for (grid_in grid.now)) level.now k mva }
 {
-    let e = ends_of(ladder, level, a, b, k);
-    let d = line_at(ladder, level, km, share, sheet, k, e.from, e.to);
+    let e = ends_of(grid, level, k);
+    let d = line_at(grid, level, k, e.from, e.to);
     banked_if(e.steps_down, d, mva)
+}
+
+// What `figure` gives of each corridor's design and its index, at the front of `out`.
+pub fn fill_drawn<F: Fn(CircuitDesign, usize) -> f64>(
+    grid: &Grid,
+    level: &[u32],
+    banks: &[f64],
+    out: &mut [f64],
+    figure: F,
+)
+    requires lines { Lines (grid_in grid.now) level.now }
+    requires drawable { Drawable grid.now.a.now banks.now }
+    requires room { length grid.now.a.now ≤ length out.old }
+    requires callable { (d : CircuitDesign) (k : ℕ) → k < length grid.now.a.now → F.pre figure d k }
+    ensures { (f : CircuitDesign → ℕ → Float) → ((d : CircuitDesign) (k : ℕ) (r : Float) → k < length grid.now.a.now → F.post figure d k r → r ≡ f d k)
+        → out.new ≡ filled out.old (λ k. f (design (designs_for (grid_in grid.now) level.now banks.now) k) k) (length grid.now.a.now) }
+{
+    for k in 0..grid.a.len() {
+        let d = circuit(grid, level, k, banks[k]);
+        out[k] = figure(d, k);
+    }
 }

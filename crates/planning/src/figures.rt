@@ -1,6 +1,8 @@
-// Figures as the definition compares them; and slices of them, cleared.
-ghost use Rattle.std.specs.Prelude.{◌≡◌, length, replicate, if◌then◌else◌};
-ghost use Rattle.loops.specs.Figures.{nought, lesser, greater, magnitude};
+// Figures as the definition compares them; and a slice in an array.
+ghost use Rattle.std.specs.Prelude.{◌≡◌, ◌≤◌, length, take, if◌then◌else◌};
+ghost use Rattle.loops.specs.Figures.{lesser, greater, magnitude};
+ghost use Rattle.plan_defs.specs.Constants.{most_corridors};
+ghost use Rattle.planning.specs.Fill.{Whole};
 
 // ---- choices
 pub fn choose(first: bool, i: usize, j: usize) -> usize
@@ -31,18 +33,12 @@ pub fn magnitude(x: f64) -> f64
 }
 
 // ---- slices
-pub fn clear_counts(counts: &mut [u32])
-    ensures { counts.new ≡ replicate (length counts.old) 0 }
+// A slice at the front of an array, and one value past it.
+pub fn copied<T: Copy>(slice: &[T], rest: T) -> [T; 256]
+    requires { length slice.now ≤ most_corridors }
+    ensures { (take (length slice.now) result ≡ slice.now) × Whole result }
 {
-    for i in 0..counts.len() {
-        counts[i] = 0;
-    }
-}
-
-pub fn clear_figures(figures: &mut [f64])
-    ensures { figures.new ≡ replicate (length figures.old) nought }
-{
-    for i in 0..figures.len() {
-        figures[i] = 0.0;
-    }
+    let mut out = [rest; 256];
+    out[..slice.len()].copy_from_slice(slice);
+    out
 }

@@ -5,14 +5,15 @@ ghost use Rattle.loops.specs.Loops.{filled};
 ghost use Rattle.plan_defs.specs.Constants.{most_corridors};
 ghost use Rattle.plan_defs.specs.Lists.{sum};
 ghost use Rattle.plan_defs.specs.Case.{full_of};
-ghost use Rattle.plan_defs.specs.Design.{design};
-ghost use Rattle.plan_defs.specs.Fill.{loading, loading_at, order_of, fill_once, fill_rounds, fill_turns, fill};
+ghost use Rattle.plan_defs.specs.Fill.{loading, order_of, fill_once, fill_rounds, fill_turns, fill};
 ghost use Rattle.planning.specs.Design.{Lines};
-ghost use Rattle.planning.specs.Fill.{designs_for, Drawable, Loaded, rank_before, order_by, place_of, shifted, Whole, Ranked, filled_as, gain_of, Tallied, Counted, caps_for};
+ghost use Rattle.planning.specs.Fill.{designs_for, Loaded, rank_before, order_by, place_of, shifted, Whole, Ranked, filled_as, gain_of, Tallied, Counted, caps_for};
+ghost use Rattle.planning.specs.Tables.{grid_in};
 
-use crate::design::circuit;
-use crate::figures::magnitude;
+use crate::design::fill_drawn;
+use crate::figures::{copied, magnitude};
 use crate::policy::{full_at, promotes};
+use crate::tables::Grid;
 use mode::PlanMode;
 
 // As many turns as a cap may be fill every corridor, or reach the target.
@@ -23,51 +24,6 @@ pub fn loading(flow: f64, count: u32, rate: f64) -> f64
     ensures { result ≡ loading flow count rate }
 {
     magnitude(flow) / (count as f64 * rate)
-}
-
-fn rank_loadings(
-    ladder: &[f64],
-    level: &[u32],
-    a: &[u32],
-    b: &[u32],
-    km: &[f64],
-    share: &[f64],
-    sheet: &[f64],
-    banks: &[f64],
-    circuits: &[u32],
-    flow: &[f64],
-    out: &mut [f64; 256],
-)
-    requires lines { Lines ladder.now level.now a.now b.now km.now share.now sheet.now }
-    requires loaded { Loaded a.now banks.now circuits.now flow.now × Whole out.old }
-    ensures { out.new ≡ filled out.old (loading_at (designs_for ladder.now level.now a.now b.now km.now share.now sheet.now banks.now) circuits.now flow.now) (length a.now) }
-{
-    for k in 0..a.len() {
-        let d = circuit(ladder, level, a, b, km, share, sheet, k, banks[k]);
-        out[k] = loading(flow[k], circuits[k], d.rate_a);
-    }
-}
-
-// kV of the corridors' higher ends.
-fn rank_kvs(
-    ladder: &[f64],
-    level: &[u32],
-    a: &[u32],
-    b: &[u32],
-    km: &[f64],
-    share: &[f64],
-    sheet: &[f64],
-    banks: &[f64],
-    out: &mut [f64; 256],
-)
-    requires lines { Lines ladder.now level.now a.now b.now km.now share.now sheet.now }
-    requires drawable { Drawable a.now banks.now × Whole out.old }
-    ensures { out.new ≡ filled out.old (λ (k : ℕ). (design (designs_for ladder.now level.now a.now b.now km.now share.now sheet.now banks.now) k).kv) (length a.now) }
-{
-    for k in 0..a.len() {
-        let d = circuit(ladder, level, a, b, km, share, sheet, k, banks[k]);
-        out[k] = d.kv;
-    }
 }
 
 // ---- the order by three keys: the first falling, the second falling, the third rising, then index. Of corridors these are loading,
@@ -107,12 +63,10 @@ pub fn insert(order: &mut [u32; 256], p: usize, count: usize, k: usize)
     ensures { order.new ≡ filled order.old (shifted p k order.old) (count + 1) }
 {
     let mut carried = k as u32;
-    let mut i = p;
-    while i <= count {
+    for i in p..count + 1 {
         let held = order[i];
         order[i] = carried;
         carried = held;
-        i += 1;
     }
 }
 
@@ -128,40 +82,29 @@ pub fn order_by(first: &[f64; 256], second: &[f64; 256], third: &[f64], order: &
 }
 
 pub fn fill_order(
-    ladder: &[f64],
+    grid: &Grid,
     level: &[u32],
-    a: &[u32],
-    b: &[u32],
-    km: &[f64],
-    share: &[f64],
-    sheet: &[f64],
     banks: &[f64],
     circuits: &[u32],
     flow: &[f64],
     order: &mut [u32; 256],
 )
-    requires lines { Lines ladder.now level.now a.now b.now km.now share.now sheet.now }
-    requires loaded { Loaded a.now banks.now circuits.now flow.now × Whole order.old }
+    requires lines { Lines (grid_in grid.now) level.now }
+    requires loaded { Loaded grid.now.a.now banks.now circuits.now flow.now × Whole order.old }
     ensures size { Whole order.new }
-    ensures order { take (length a.now) order.new ≡ order_of (length a.now) (designs_for ladder.now level.now a.now b.now km.now share.now sheet.now banks.now) circuits.now flow.now }
+    ensures order { take (length grid.now.a.now) order.new ≡ order_of (length grid.now.a.now) (designs_for (grid_in grid.now) level.now banks.now) circuits.now flow.now }
 {
-    let mut loading = [0.0; 256];
-    let mut kv = [0.0; 256];
-    rank_loadings(
-        ladder,
+    let mut loadings = [0.0; 256];
+    let mut kvs = [0.0; 256];
+    fill_drawn(
+        grid,
         level,
-        a,
-        b,
-        km,
-        share,
-        sheet,
         banks,
-        circuits,
-        flow,
-        &mut loading,
+        &mut loadings,
+        |d, k| loading(flow[k], circuits[k], d.rate_a),
     );
-    rank_kvs(ladder, level, a, b, km, share, sheet, banks, &mut kv);
-    order_by(&loading, &kv, km, order);
+    fill_drawn(grid, level, banks, &mut kvs, |d, _| d.kv);
+    order_by(&loadings, &kvs, grid.km, order);
 }
 
 // ---- what a plan keeps of filling
@@ -172,23 +115,13 @@ pub struct Kept {
     pub order: [u32; 256],
 }
 
-// A slice at the front of an array.
-pub fn copied(circuits: &[u32]) -> [u32; 256]
-    requires { length circuits.now ≤ most_corridors }
-    ensures { (take (length circuits.now) result ≡ circuits.now) × Whole result }
-{
-    let mut out = [0u32; 256];
-    out[..circuits.len()].copy_from_slice(circuits);
-    out
-}
-
 pub fn keep(circuits: &[u32], order: [u32; 256]) -> Kept
     requires { length circuits.now ≤ most_corridors }
     ensures before { take (length circuits.now) result.before ≡ circuits.now }
     ensures order { result.order ≡ order }
     ensures size { Whole result.before }
 {
-    let before = copied(circuits);
+    let before = copied(circuits, 0);
     Kept { before, order }
 }
 

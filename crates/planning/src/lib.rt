@@ -15,6 +15,7 @@ use mode::PlanMode;
 use plan_defs::CorridorPlan;
 use policy::promotes;
 use refusal::Refusal;
+use tables::{Grid, Supply};
 
 mod close;
 mod design;
@@ -33,6 +34,7 @@ mod settle;
 mod size;
 mod solve;
 mod stiffen;
+mod tables;
 mod top_up;
 
 // The circuits of each corridor, with their flows and ratings, the dispatch, the angles, the tiers, the grounds and the levels added,
@@ -106,36 +108,27 @@ pub fn plan_corridors(
         pmax, c1, c2, a, b, initial, km, share, cap, sheet,
     )?;
     let load = weigh(reading, weight);
-    let ran = plan::run(
-        mode,
-        target,
-        above,
+    let grid = Grid {
         ladder,
-        tier,
-        &load[0..n],
+        a,
+        b,
+        km,
+        share,
+        cap,
+        sheet,
+    };
+    let supply = Supply {
+        load: &load[0..n],
         bus,
         slack,
         pmin,
         pmax,
         c1,
         c2,
-        a,
-        b,
-        initial,
-        km,
-        share,
-        cap,
-        sheet,
-        circuits,
-        flow,
-        rate,
-        mw,
-        angle,
-        level,
-        ground,
-        added,
-        figures,
-        counts,
+    };
+    let ran = plan::run(
+        mode, target, above, &grid, tier, &supply, initial, circuits, flow, rate, mw, angle, level,
+        ground, added, figures, counts,
     );
     let said = ran.said;
     let kept = ran.kept;
@@ -148,7 +141,7 @@ pub fn plan_corridors(
     let ranks = kept.order;
     close::keep_if(keeps, first, before);
     close::keep_if(keeps, ranks, order);
-    let caps = fill::copied(cap);
+    let caps = figures::copied(cap, 0);
     close::keep_if(!refused, caps, kept_cap);
     said
 }

@@ -11,9 +11,10 @@ ghost use Rattle.plan_defs.specs.Dispatch.{scatter, serve, dispatch_of, inject_a
 ghost use Rattle.plan_defs.specs.Lists.{sum_over};
 ghost use Rattle.plan_defs.specs.Outcome.{up_to};
 ghost use Rattle.planning.specs.Opening.{stage_of, stage_if, bus_case, slack_case, dispatch_case, injection_case, Joined, Fleet, Costs, Loads, Picked};
+ghost use Rattle.planning.specs.Tables.{supply_in};
 
-use crate::figures::{clear_counts, clear_figures};
 use crate::solve::BASE_MVA;
+use crate::tables::Supply;
 use crate::top_up::give;
 use mode::PlanMode;
 use refusal::Refusal;
@@ -49,7 +50,7 @@ pub fn ground_components(leader: &[u32], bus: &[u32], slack: &[u32], ground: &mu
     ensures held { ground.new
         ≡ up_to (length leader.now) 0 (grounds_of (slack_case bus.now slack.now) leader.now) }
 {
-    clear_counts(ground);
+    ground.fill(0);
     let mut count = 0;
     for i in 0..leader.len() {
         if leader[i] as usize == i {
@@ -119,17 +120,12 @@ fn serve(
     mode: PlanMode,
     root: u32,
     leader: &[u32],
-    load: &[f64],
-    bus: &[u32],
-    pmin: &[f64],
-    pmax: &[f64],
-    c1: &[f64],
-    c2: &[f64],
+    supply: &Supply,
     mw: &mut [f64],
 ) -> Result<(), Refusal>
-    requires { Fleet (length leader.now) bus.now × Costs bus.now pmin.now pmax.now c1.now c2.now × Loads leader.now load.now × (length mw.old ≡ length bus.now) }
+    requires { Fleet (length leader.now) supply.now.bus.now × Costs (supply_in supply.now) × Loads leader.now supply.now.load.now × (length mw.old ≡ length supply.now.bus.now) }
     ensures { stage_of result mw.new
-        ≡ serve (dispatch_case mode load.now bus.now pmin.now pmax.now c1.now c2.now)
+        ≡ serve (dispatch_case mode supply.now.load.now supply.now.bus.now supply.now.pmin.now supply.now.pmax.now supply.now.c1.now supply.now.c2.now)
         leader.now root mw.old }
 {
     let mut units = [0u32; 128];
@@ -138,13 +134,13 @@ fn serve(
     let mut linear = [0.0; 128];
     let mut quadratic = [0.0; 128];
     let mut out = [0.0; 128];
-    let count = units_in(root, leader, bus, &mut units);
-    figures_of(pmin, &units, count, &mut least);
-    figures_of(pmax, &units, count, &mut most);
-    figures_of(c1, &units, count, &mut linear);
-    figures_of(c2, &units, count, &mut quadratic);
-    let demand = demand_of(root, leader, load);
-    if let Err(f) = give(
+    let count = units_in(root, leader, supply.bus, &mut units);
+    figures_of(supply.pmin, &units, count, &mut least);
+    figures_of(supply.pmax, &units, count, &mut most);
+    figures_of(supply.c1, &units, count, &mut linear);
+    figures_of(supply.c2, &units, count, &mut quadratic);
+    let demand = demand_of(root, leader, supply.load);
+    give(
         mode,
         demand,
         &least[0..count],
@@ -152,10 +148,8 @@ fn serve(
         &linear[0..count],
         &quadratic[0..count],
         &mut out[0..count],
-    ) {
-        let unit = units[f.index()];
-        return Err(Refusal::Cost(unit as usize));
-    }
+    )
+    .map_err(|f| Refusal::Cost(units[f.index()] as usize))?;
     hand_out(&units, count, &out, mw);
     Ok(())
 }
@@ -165,24 +159,19 @@ fn serve_led(
     mode: PlanMode,
     i: usize,
     leader: &[u32],
-    load: &[f64],
-    bus: &[u32],
-    pmin: &[f64],
-    pmax: &[f64],
-    c1: &[f64],
-    c2: &[f64],
+    supply: &Supply,
     mw: &mut [f64],
 ) -> Result<(), Refusal>
-    requires { (i < length leader.now) × Fleet (length leader.now) bus.now × Costs bus.now pmin.now pmax.now c1.now c2.now
-        × Loads leader.now load.now × (length mw.old ≡ length bus.now) }
+    requires { (i < length leader.now) × Fleet (length leader.now) supply.now.bus.now × Costs (supply_in supply.now)
+        × Loads leader.now supply.now.load.now × (length mw.old ≡ length supply.now.bus.now) }
     ensures { stage_of result mw.new
         ≡ stage_if (leads leader.now i)
-        (serve (dispatch_case mode load.now bus.now pmin.now pmax.now c1.now c2.now)
+        (serve (dispatch_case mode supply.now.load.now supply.now.bus.now supply.now.pmin.now supply.now.pmax.now supply.now.c1.now supply.now.c2.now)
         leader.now i mw.old)
         mw.old }
 {
     if leader[i] as usize == i {
-        return serve(mode, leader[i], leader, load, bus, pmin, pmax, c1, c2, mw);
+        return serve(mode, leader[i], leader, supply, mw);
     }
     Ok(())
 }
@@ -191,22 +180,17 @@ fn serve_led(
 pub fn dispatch_components(
     mode: PlanMode,
     leader: &[u32],
-    load: &[f64],
-    bus: &[u32],
-    pmin: &[f64],
-    pmax: &[f64],
-    c1: &[f64],
-    c2: &[f64],
+    supply: &Supply,
     mw: &mut [f64],
 ) -> Result<(), Refusal>
-    requires { Fleet (length leader.now) bus.now × Costs bus.now pmin.now pmax.now c1.now c2.now × Loads leader.now load.now × (length mw.old ≡ length bus.now) }
+    requires { Fleet (length leader.now) supply.now.bus.now × Costs (supply_in supply.now) × Loads leader.now supply.now.load.now × (length mw.old ≡ length supply.now.bus.now) }
     ensures { stage_of result mw.new
-        ≡ dispatch_of (dispatch_case mode load.now bus.now pmin.now pmax.now c1.now c2.now)
+        ≡ dispatch_of (dispatch_case mode supply.now.load.now supply.now.bus.now supply.now.pmin.now supply.now.pmax.now supply.now.c1.now supply.now.c2.now)
         leader.now }
 {
-    clear_figures(mw);
+    mw.fill(0.0);
     for i in 0..leader.len() {
-        serve_led(mode, i, leader, load, bus, pmin, pmax, c1, c2, mw)?;
+        serve_led(mode, i, leader, supply, mw)?;
     }
     Ok(())
 }
@@ -222,8 +206,8 @@ fn withdraw(load: &[f64], injection: &mut [f64])
     }
 }
 
-// What the generators give, at their buses.
-fn inject(bus: &[u32], mw: &[f64], injection: &mut [f64])
+// A column of the units' figures, added at their buses.
+pub fn inject(bus: &[u32], mw: &[f64], injection: &mut [f64])
     requires { Fleet (length injection.old) bus.now × (length mw.now ≡ length bus.now) }
     ensures { injection.new
         ≡ iter (inject_at (bus_case bus.now) mw.now) (length bus.now) 0 injection.old }
@@ -243,12 +227,12 @@ fn per_unit(injection: &mut [f64])
 }
 
 // What each bus injects, per unit: what its generators give less its load.
-pub fn injections(load: &[f64], bus: &[u32], mw: &[f64], injection: &mut [f64])
-    requires { Fleet (length injection.old) bus.now × (length mw.now ≡ length bus.now) × (length injection.old ≡ length load.now) }
-    ensures { injection.new ≡ injections (injection_case load.now bus.now) mw.now }
+pub fn injections(supply: &Supply, mw: &[f64], injection: &mut [f64])
+    requires { Fleet (length injection.old) supply.now.bus.now × (length mw.now ≡ length supply.now.bus.now) × (length injection.old ≡ length supply.now.load.now) }
+    ensures { injection.new ≡ injections (injection_case supply.now.load.now supply.now.bus.now) mw.now }
 {
-    withdraw(load, injection);
-    inject(bus, mw, injection);
+    withdraw(supply.load, injection);
+    inject(supply.bus, mw, injection);
     per_unit(injection);
 }
 

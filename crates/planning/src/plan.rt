@@ -2,8 +2,8 @@
 ghost use Rattle.std.specs.Prelude.{◌≡◌, Err, Ok, Result};
 ghost use Rattle.planning.specs.Close.{Closable, lent_to};
 ghost use Rattle.planning.specs.Plan.{Openable, OpeningDone, rounds_for, start_of, Runnable, RanAll, planned_by, Plannable, OpenedPlan, PlanDone, Lendable};
+ghost use Rattle.planning.specs.Tables.{grid_in, supply_in, opened_in};
 
-use crate::figures::{clear_counts, clear_figures};
 use crate::fill::{Kept, nothing_kept};
 use crate::opening::{
     component_leaders, dispatch_components, first_levels, ground_components, injections,
@@ -14,6 +14,7 @@ use crate::raises::raises;
 use crate::redesign::redesign;
 use crate::rounds::{Progress, size_rounds};
 use crate::settle::{Settlement, Settling, settle};
+use crate::tables::{Grid, Opened, Supply};
 use mode::PlanMode;
 use plan_defs::CorridorPlan;
 use refusal::Refusal;
@@ -25,15 +26,8 @@ fn open(
     mode: PlanMode,
     above: usize,
     tier: &[u32],
-    load: &[f64],
-    bus: &[u32],
-    slack: &[u32],
-    pmin: &[f64],
-    pmax: &[f64],
-    c1: &[f64],
-    c2: &[f64],
-    a: &[u32],
-    b: &[u32],
+    supply: &Supply,
+    grid: &Grid,
     initial: &[u32],
     leader: &mut [u32],
     injection: &mut [f64],
@@ -42,14 +36,14 @@ fn open(
     level: &mut [u32],
     circuits: &mut [u32],
 ) -> Result<usize, Refusal>
-    requires { Openable mode above tier.now load.now bus.now slack.now pmin.now pmax.now c1.now c2.now a.now b.now initial.now leader.old injection.old ground.old mw.old level.old circuits.old }
-    ensures { OpeningDone mode above tier.now load.now bus.now slack.now pmin.now pmax.now c1.now c2.now a.now b.now initial.now
+    requires { Openable mode above tier.now (supply_in supply.now) grid.now.a.now grid.now.b.now initial.now leader.old injection.old ground.old mw.old level.old circuits.old }
+    ensures { OpeningDone mode above tier.now (supply_in supply.now) grid.now.a.now grid.now.b.now initial.now
         leader.new injection.new ground.new mw.new level.new circuits.new result }
 {
-    component_leaders(tier.len(), a.len(), a, b, leader);
-    let count = ground_components(leader, bus, slack, ground);
-    dispatch_components(mode, leader, load, bus, pmin, pmax, c1, c2, mw)?;
-    injections(load, bus, mw, injection);
+    component_leaders(tier.len(), grid.a.len(), grid.a, grid.b, leader);
+    let count = ground_components(leader, supply.bus, supply.slack, ground);
+    dispatch_components(mode, leader, supply, mw)?;
+    injections(supply, mw, injection);
     first_levels(above, tier, level);
     lower_bounds(initial, circuits);
     Ok(count)
@@ -86,19 +80,9 @@ fn run_rounds(
     mode: PlanMode,
     above: usize,
     promoted: u32,
-    ladder: &[f64],
-    a: &[u32],
-    b: &[u32],
-    km: &[f64],
-    share: &[f64],
-    cap: &[u32],
-    sheet: &[f64],
-    load: &[f64],
-    bus: &[u32],
-    pmax: &[f64],
-    leader: &[u32],
-    grounds: &[u32],
-    injection: &[f64],
+    grid: &Grid,
+    supply: &Supply,
+    opened: &Opened,
     circuits: &mut [u32],
     banks: &mut [f64],
     floors: &mut [f64],
@@ -108,20 +92,20 @@ fn run_rounds(
     angle: &mut [f64],
     flow: &mut [f64],
 ) -> Result<Progress, Refusal>
-    requires { Runnable above promoted ladder.now level.old a.now b.now km.now share.now cap.now sheet.now load.now bus.now pmax.now leader.now grounds.now injection.now circuits.old banks.old floors.old upsized.old marks.old angle.old flow.old }
-    ensures { RanAll mode above promoted ladder.now level.old a.now b.now km.now share.now cap.now sheet.now load.now bus.now pmax.now leader.now grounds.now injection.now
+    requires { Runnable above promoted (grid_in grid.now) level.old (supply_in supply.now) (opened_in opened.now) circuits.old banks.old floors.old upsized.old marks.old angle.old flow.old }
+    ensures { RanAll mode above promoted (grid_in grid.now) level.old (supply_in supply.now) (opened_in opened.now)
         circuits.old banks.old floors.old upsized.old
         level.new circuits.new banks.new floors.new upsized.new angle.new result }
 {
-    clear_figures(angle);
-    let start = first_progress(mode, a.len(), promoted);
-    let budget = rounds_to_run(mode, a.len());
+    angle.fill(0.0);
+    let start = first_progress(mode, grid.a.len(), promoted);
+    let budget = rounds_to_run(mode, grid.a.len());
     if budget == 0 {
         return Ok(start);
     }
     size_rounds(
-        mode, above, budget, start, ladder, a, b, km, share, cap, sheet, load, bus, pmax, leader,
-        grounds, injection, circuits, banks, floors, upsized, level, marks, angle, flow,
+        mode, above, budget, start, grid, supply, opened, circuits, banks, floors, upsized, level,
+        marks, angle, flow,
     )
 }
 
@@ -182,19 +166,9 @@ fn plan_opened(
     mode: PlanMode,
     target: u32,
     above: usize,
-    ladder: &[f64],
-    a: &[u32],
-    b: &[u32],
-    km: &[f64],
-    share: &[f64],
-    cap: &[u32],
-    sheet: &[f64],
-    load: &[f64],
-    bus: &[u32],
-    pmax: &[f64],
-    leader: &[u32],
-    grounds: &[u32],
-    injection: &[f64],
+    grid: &Grid,
+    supply: &Supply,
+    opened: &Opened,
     circuits: &mut [u32],
     banks: &mut [f64],
     floors: &mut [f64],
@@ -206,31 +180,28 @@ fn plan_opened(
     angle: &mut [f64],
     added: &mut [f64],
 ) -> PlanRun
-    requires plannable { Plannable ladder.now level.old a.now b.now km.now share.now cap.now sheet.now load.now bus.now pmax.now leader.now grounds.now injection.now circuits.old banks.old floors.old upsized.old marks.old angle.old flow.old }
-    requires closable { Closable above ladder.now a.now leader.now upsized.old angle.old rate.old added.old }
-    ensures { OpenedPlan mode target above ladder.now level.old a.now b.now km.now share.now cap.now sheet.now load.now bus.now pmax.now leader.now grounds.now injection.now
+    requires plannable { Plannable (grid_in grid.now) level.old (supply_in supply.now) (opened_in opened.now) circuits.old banks.old floors.old upsized.old marks.old angle.old flow.old }
+    requires closable { Closable above grid.now.ladder.now grid.now.a.now opened.now.leader.now upsized.old angle.old rate.old added.old }
+    ensures { OpenedPlan mode target above (grid_in grid.now) level.old (supply_in supply.now) (opened_in opened.now)
         circuits.old upsized.old
         circuits.new level.new flow.new rate.new angle.new added.new result }
 {
-    redesign(
-        ladder, level, a, b, km, share, sheet, load, bus, pmax, floors, banks,
-    );
+    redesign(grid, level, supply, floors, banks);
     match raises(
-        mode, ladder, a, b, km, share, sheet, load, bus, pmax, grounds, injection, circuits,
-        floors, banks, level, marks, angle, flow,
+        mode, grid, supply, opened, circuits, floors, banks, level, marks, angle, flow,
     ) {
         Err(f) => unplanned(f),
         Ok(promoted) => match run_rounds(
-            mode, above, promoted, ladder, a, b, km, share, cap, sheet, load, bus, pmax, leader,
-            grounds, injection, circuits, banks, floors, upsized, level, marks, angle, flow,
+            mode, above, promoted, grid, supply, opened, circuits, banks, floors, upsized, level,
+            marks, angle, flow,
         ) {
             Err(f) => unplanned(f),
             Ok(progress) => {
                 let settled = settle(
-                    mode, target, above, ladder, a, b, km, share, cap, sheet, leader, grounds,
-                    injection, banks, upsized, circuits, level, flow, rate, angle, added,
+                    mode, target, above, grid, opened, banks, upsized, circuits, level, flow, rate,
+                    angle, added,
                 );
-                concluded(progress, grounds.len() as u32, settled)
+                concluded(progress, opened.grounds.len() as u32, settled)
             }
         },
     }
@@ -242,22 +213,10 @@ pub fn run(
     mode: PlanMode,
     target: u32,
     above: usize,
-    ladder: &[f64],
+    grid: &Grid,
     tier: &[u32],
-    load: &[f64],
-    bus: &[u32],
-    slack: &[u32],
-    pmin: &[f64],
-    pmax: &[f64],
-    c1: &[f64],
-    c2: &[f64],
-    a: &[u32],
-    b: &[u32],
+    supply: &Supply,
     initial: &[u32],
-    km: &[f64],
-    share: &[f64],
-    cap: &[u32],
-    sheet: &[f64],
     circuits: &mut [u32],
     flow: &mut [f64],
     rate: &mut [f64],
@@ -269,31 +228,24 @@ pub fn run(
     figures: &mut [f64],
     counts: &mut [u32],
 ) -> PlanRun
-    requires { Lendable mode target above ladder.now tier.now load.now bus.now slack.now pmin.now pmax.now c1.now c2.now a.now b.now initial.now km.now share.now cap.now sheet.now
+    requires { Lendable mode target above (grid_in grid.now) tier.now (supply_in supply.now) initial.now
         (lent_to circuits.old flow.old rate.old mw.old angle.old level.old ground.old added.old figures.old counts.old) }
-    ensures { PlanDone mode target above ladder.now tier.now load.now bus.now slack.now pmin.now pmax.now c1.now c2.now a.now b.now initial.now km.now share.now cap.now sheet.now
+    ensures { PlanDone mode target above (grid_in grid.now) tier.now (supply_in supply.now) initial.now
         circuits.new flow.new rate.new mw.new angle.new level.new ground.new added.new result }
 {
     let n = tier.len();
-    let m = a.len();
+    let m = grid.a.len();
     let mut leader = [0u32; 256];
     let mut injection = [0.0; 256];
     let mut floors = [0.0; 256];
     let mut marks = [0u32; 256];
-    clear_counts(counts);
+    counts.fill(0);
     match open(
         mode,
         above,
         tier,
-        load,
-        bus,
-        slack,
-        pmin,
-        pmax,
-        c1,
-        c2,
-        a,
-        b,
+        supply,
+        grid,
         initial,
         &mut leader[0..n],
         &mut injection[0..n],
@@ -303,33 +255,30 @@ pub fn run(
         circuits,
     ) {
         Err(f) => unplanned(f),
-        Ok(count) => plan_opened(
-            mode,
-            target,
-            above,
-            ladder,
-            a,
-            b,
-            km,
-            share,
-            cap,
-            sheet,
-            load,
-            bus,
-            pmax,
-            &leader[0..n],
-            &ground[0..count],
-            &injection[0..n],
-            circuits,
-            &mut figures[0..m],
-            &mut floors[0..m],
-            &mut counts[0..m],
-            level,
-            &mut marks[0..n],
-            flow,
-            rate,
-            angle,
-            added,
-        ),
+        Ok(count) => {
+            let opened = Opened {
+                leader: &leader[0..n],
+                grounds: &ground[0..count],
+                injection: &injection[0..n],
+            };
+            plan_opened(
+                mode,
+                target,
+                above,
+                grid,
+                supply,
+                &opened,
+                circuits,
+                &mut figures[0..m],
+                &mut floors[0..m],
+                &mut counts[0..m],
+                level,
+                &mut marks[0..n],
+                flow,
+                rate,
+                angle,
+                added,
+            )
+        }
     }
 }

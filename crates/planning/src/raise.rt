@@ -5,6 +5,8 @@ ghost use Rattle.plan_defs.specs.Constants.{most_buses};
 ghost use Rattle.plan_defs.specs.Raise.{raise_of, marked, mark_both, can_raise, mark_if, raised_levels, moved_buses};
 ghost use Rattle.planning.specs.Raise.{largest_count, pairs_for, PairFits};
 
+use crate::tables::Grid;
+
 // ---- marks
 // A mark after a raise to level t: the higher of the two.
 fn marked(mark: u32, t: u32) -> u32
@@ -23,20 +25,13 @@ fn mark_both(t: u32, i: usize, j: usize, marks: &mut [u32])
 }
 
 // Marks both ends of corridor k for the level above its higher end's, where that end is below `top`, and answers whether it is.
-pub fn mark_raise_to(
-    level: &[u32],
-    a: &[u32],
-    b: &[u32],
-    k: usize,
-    top: u32,
-    marks: &mut [u32],
-) -> bool
-    requires { PairFits level.now a.now b.now marks.old k }
-    ensures marks { marks.new ≡ mark_if (can_raise (pairs_for a.now b.now) level.now top k) (pairs_for a.now b.now) level.now k marks.old }
-    ensures answer { result ≡ can_raise (pairs_for a.now b.now) level.now top k }
+pub fn mark_raise_to(level: &[u32], grid: &Grid, k: usize, top: u32, marks: &mut [u32]) -> bool
+    requires { PairFits level.now grid.now.a.now grid.now.b.now marks.old k }
+    ensures marks { marks.new ≡ mark_if (can_raise (pairs_for grid.now.a.now grid.now.b.now) level.now top k) (pairs_for grid.now.a.now grid.now.b.now) level.now k marks.old }
+    ensures answer { result ≡ can_raise (pairs_for grid.now.a.now grid.now.b.now) level.now top k }
 {
-    let i = a[k] as usize;
-    let j = b[k] as usize;
+    let i = grid.a[k] as usize;
+    let j = grid.b[k] as usize;
     let tier = level[i].min(level[j]);
     if tier <= top {
         return false;

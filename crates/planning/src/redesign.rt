@@ -1,15 +1,18 @@
 // Every corridor designed anew at the buses' levels, after `design_circuits` of branches.rs and `redesign` of planning.rs. Each
 // design is whole, its basis with it; of each its bank is kept.
 ghost use Rattle.std.specs.Prelude.{◌≡◌, ◌<◌, replicate};
-ghost use Rattle.loops.specs.Figures.{at, nought};
+ghost use Rattle.loops.specs.Figures.{at};
 ghost use Rattle.loops.specs.Loops.{tab};
 ghost use Rattle.plan_defs.specs.Constants.{most_buses};
-ghost use Rattle.plan_defs.specs.Design.{gen_at_bus, transformer_corridors, fresh_bank, kept_bank};
+ghost use Rattle.plan_defs.specs.Design.{transformer_corridors, fresh_bank, kept_bank};
 ghost use Rattle.planning.specs.Design.{lines_for, ends_for, Banks, Rated};
-ghost use Rattle.planning.specs.Redesign.{units_for, redesign_for, Units, Corridors, AnewFits, RedesignFits, anew_from, bank_of, fresh_at, banks_anew};
+ghost use Rattle.planning.specs.Redesign.{redesign_for, Corridors, AnewFits, RedesignFits, anew_from, bank_of, fresh_at, banks_anew};
+ghost use Rattle.planning.specs.Tables.{grid_in, supply_in};
 
 use crate::design::{banked_if, circuit, ends_of};
 use crate::figures::{greater, lesser};
+use crate::opening::inject;
+use crate::tables::{Grid, Supply};
 use plan_defs::CircuitDesign;
 
 const MOST_BUSES: usize = 256;
@@ -19,32 +22,14 @@ const TRANSFORMER_HEADROOM: f64 = 1.2;
 
 const TRANSFORMER_MIN_MVA: f64 = 100.0;
 
-// What the units at each bus can give.
-fn generation_at(bus: &[u32], pmax: &[f64], gen_at: &mut [f64; MOST_BUSES])
-    requires units { Units bus.now pmax.now }
-    requires gen_at_value { gen_at.old ≡ replicate most_buses nought }
-    ensures { gen_at.new ≡ tab most_buses (gen_at_bus (units_for bus.now pmax.now)) }
-{
-    for k in 0..bus.len() {
-        let i = bus[k] as usize;
-        gen_at[i] = gen_at[i] + pmax[k];
-    }
-}
-
 // How many corridors step down to each bus.
-fn transformer_corridors(
-    ladder: &[f64],
-    level: &[u32],
-    a: &[u32],
-    b: &[u32],
-    shared: &mut [u32; MOST_BUSES],
-)
-    requires corridors { Corridors ladder.now level.now a.now b.now }
+fn transformer_corridors(grid: &Grid, level: &[u32], shared: &mut [u32; MOST_BUSES])
+    requires corridors { Corridors (grid_in grid.now) level.now }
     requires shared_value { shared.old ≡ replicate most_buses 0 }
-    ensures { shared.new ≡ tab most_buses (transformer_corridors (ends_for ladder.now a.now b.now) level.now) }
+    ensures { shared.new ≡ tab most_buses (transformer_corridors (ends_for (grid_in grid.now)) level.now) }
 {
-    for k in 0..a.len() {
-        let e = ends_of(ladder, level, a, b, k);
+    for k in 0..grid.a.len() {
+        let e = ends_of(grid, level, k);
         let lo = e.to;
         shared[lo] = shared[lo] + u32::from(e.steps_down);
     }
@@ -69,28 +54,23 @@ fn kept_bank(d: CircuitDesign, floor: f64) -> CircuitDesign
 
 // Corridor k with a fresh bank, or with the one that the plan made larger.
 fn circuit_anew(
-    ladder: &[f64],
+    grid: &Grid,
     level: &[u32],
-    a: &[u32],
-    b: &[u32],
-    km: &[f64],
-    share: &[f64],
-    sheet: &[f64],
     load: &[f64],
     gen_at: &[f64; MOST_BUSES],
     shared: &[u32; MOST_BUSES],
     floors: &[f64],
     k: usize,
 ) -> CircuitDesign
-    requires { AnewFits ladder.now level.now a.now b.now km.now share.now sheet.now load.now gen_at.now shared.now floors.now k }
-    ensures { result ≡ anew_from (lines_for ladder.now a.now b.now km.now share.now sheet.now) level.now
-        (fresh_at (ends_for ladder.now a.now b.now) level.now load.now gen_at.now shared.now k)
+    requires { AnewFits (grid_in grid.now) level.now load.now gen_at.now shared.now floors.now k }
+    ensures { result ≡ anew_from (lines_for (grid_in grid.now)) level.now
+        (fresh_at (ends_for (grid_in grid.now)) level.now load.now gen_at.now shared.now k)
         (at floors.now k) k }
 {
-    let e = ends_of(ladder, level, a, b, k);
+    let e = ends_of(grid, level, k);
     let lo = e.to;
     let mva = fresh_bank(load[lo], gen_at[lo], shared[lo]);
-    let fresh = circuit(ladder, level, a, b, km, share, sheet, k, mva);
+    let fresh = circuit(grid, level, k, mva);
     kept_bank(fresh, floors[k])
 }
 
@@ -105,32 +85,17 @@ fn bank_of(d: CircuitDesign) -> f64
     }
 }
 
-pub fn redesign(
-    ladder: &[f64],
-    level: &[u32],
-    a: &[u32],
-    b: &[u32],
-    km: &[f64],
-    share: &[f64],
-    sheet: &[f64],
-    load: &[f64],
-    bus: &[u32],
-    pmax: &[f64],
-    floors: &[f64],
-    banks: &mut [f64],
-)
-    requires { RedesignFits ladder.now level.now a.now b.now km.now share.now sheet.now load.now bus.now pmax.now floors.now banks.old }
-    ensures anew { banks.new ≡ banks_anew (redesign_for ladder.now load.now bus.now pmax.now a.now b.now km.now share.now sheet.now) level.now floors.now }
+pub fn redesign(grid: &Grid, level: &[u32], supply: &Supply, floors: &[f64], banks: &mut [f64])
+    requires { RedesignFits (grid_in grid.now) level.now (supply_in supply.now) floors.now banks.old }
+    ensures anew { banks.new ≡ banks_anew (redesign_for (grid_in grid.now) (supply_in supply.now)) level.now floors.now }
     ensures sound { Banks banks.new }
 {
     let mut gen_at = [0.0; MOST_BUSES];
-    generation_at(bus, pmax, &mut gen_at);
+    inject(supply.bus, supply.pmax, &mut gen_at);
     let mut shared = [0; MOST_BUSES];
-    transformer_corridors(ladder, level, a, b, &mut shared);
-    for k in 0..a.len() {
-        let d = circuit_anew(
-            ladder, level, a, b, km, share, sheet, load, &gen_at, &shared, floors, k,
-        );
+    transformer_corridors(grid, level, &mut shared);
+    for k in 0..grid.a.len() {
+        let d = circuit_anew(grid, level, supply.load, &gen_at, &shared, floors, k);
         banks[k] = bank_of(d);
     }
 }

@@ -4,14 +4,15 @@ ghost use Rattle.std.specs.Prelude.{◌≡◌, length};
 ghost use Rattle.planning.specs.Design.{Banks};
 ghost use Rattle.planning.specs.Redesign.{RedesignFits};
 ghost use Rattle.planning.specs.Rounds.{Redrawn, RoundsFit, RoundsRun};
+ghost use Rattle.planning.specs.Tables.{grid_in, supply_in, opened_in};
 
-use crate::figures::clear_counts;
 use crate::policy::promotes;
 use crate::raise::raise_buses;
 use crate::redesign::redesign;
 use crate::size::{Tally, size_corridor};
 use crate::solve::{draw_edges, peak_state};
 use crate::stiffen::{limits_of, stiffen_led, stiffness_from};
+use crate::tables::{Grid, Opened, Supply};
 use mode::PlanMode;
 use refusal::Refusal;
 
@@ -32,30 +33,21 @@ pub struct Progress {
 
 // Raises the marked buses, and designs every corridor anew where one moved; how many did.
 pub fn raise_marked(
-    ladder: &[f64],
-    a: &[u32],
-    b: &[u32],
-    km: &[f64],
-    share: &[f64],
-    sheet: &[f64],
-    load: &[f64],
-    bus: &[u32],
-    pmax: &[f64],
+    grid: &Grid,
+    supply: &Supply,
     floors: &[f64],
     marks: &[u32],
     level: &mut [u32],
     banks: &mut [f64],
 ) -> u32
-    requires redesign_fits { RedesignFits ladder.now level.old a.now b.now km.now share.now sheet.now load.now bus.now pmax.now floors.now banks.old }
+    requires redesign_fits { RedesignFits (grid_in grid.now) level.old (supply_in supply.now) floors.now banks.old }
     requires marks_len { (length marks.now ≡ length level.old) × Banks banks.old }
-    ensures { Redrawn ladder.now level.old a.now b.now km.now share.now sheet.now load.now bus.now pmax.now marks.now floors.now banks.old
+    ensures { Redrawn (grid_in grid.now) level.old (supply_in supply.now) marks.now floors.now banks.old
         level.new banks.new result }
 {
     let moved = raise_buses(marks, level);
     if moved > 0 {
-        redesign(
-            ladder, level, a, b, km, share, sheet, load, bus, pmax, floors, banks,
-        );
+        redesign(grid, level, supply, floors, banks);
     }
     moved
 }
@@ -67,19 +59,9 @@ pub fn size_rounds(
     above: usize,
     budget: u32,
     start: Progress,
-    ladder: &[f64],
-    a: &[u32],
-    b: &[u32],
-    km: &[f64],
-    share: &[f64],
-    cap: &[u32],
-    sheet: &[f64],
-    load: &[f64],
-    bus: &[u32],
-    pmax: &[f64],
-    leader: &[u32],
-    grounds: &[u32],
-    injection: &[f64],
+    grid: &Grid,
+    supply: &Supply,
+    opened: &Opened,
     circuits: &mut [u32],
     banks: &mut [f64],
     floors: &mut [f64],
@@ -89,8 +71,8 @@ pub fn size_rounds(
     angle: &mut [f64],
     flow: &mut [f64],
 ) -> Result<Progress, Refusal>
-    requires { RoundsFit above budget start ladder.now level.old a.now b.now km.now share.now cap.now sheet.now load.now bus.now pmax.now leader.now grounds.now injection.now circuits.old banks.old floors.old upsized.old marks.old angle.old flow.old }
-    ensures { RoundsRun mode above budget start ladder.now level.old a.now b.now km.now share.now cap.now sheet.now load.now bus.now pmax.now leader.now grounds.now injection.now
+    requires { RoundsFit above budget start (grid_in grid.now) level.old (supply_in supply.now) (opened_in opened.now) circuits.old banks.old floors.old upsized.old marks.old angle.old flow.old }
+    ensures { RoundsRun mode above budget start (grid_in grid.now) level.old (supply_in supply.now) (opened_in opened.now)
         circuits.old banks.old floors.old upsized.old angle.old
         level.new circuits.new banks.new floors.new upsized.new angle.new result }
 {
@@ -104,29 +86,26 @@ pub fn size_rounds(
         p.rounds += 1;
         p.converged = false;
         p.settled = false;
-        let e = draw_edges(ladder, level, a, b, km, share, sheet, circuits, banks);
-        match peak_state(e, injection, grounds, angle, flow) {
+        let e = draw_edges(grid, level, circuits, banks);
+        match peak_state(e, opened, angle, flow) {
             Err(f) => break 'rounds Err(f),
             Ok(()) => {}
         }
-        clear_counts(marks);
+        marks.fill(0);
         let mut t = Tally {
             capacity: p.capacity,
             added: false,
             capped: false,
         };
         let mut k = 0;
-        while k < a.len() {
+        while k < grid.a.len() {
             t = size_corridor(
-                mode, ladder, level, a, b, km, share, cap, sheet, flow, k, circuits, banks, floors,
-                upsized, marks, t,
+                mode, grid, level, flow, k, circuits, banks, floors, upsized, marks, t,
             );
             k += 1;
             // Only the last corridor can say what follows: all are sized with the flows of the round's start and raised together.
-            if k == a.len() {
-                let moved = raise_marked(
-                    ladder, a, b, km, share, sheet, load, bus, pmax, floors, marks, level, banks,
-                );
+            if k == grid.a.len() {
+                let moved = raise_marked(grid, supply, floors, marks, level, banks);
                 if (moved > 0) | t.added {
                     p.capacity = t.capacity;
                     p.promoted += moved;
@@ -143,20 +122,18 @@ pub fn size_rounds(
         let g = limits_of(above, level);
         let mut s = stiffness_from(g, level, circuits, p.stiffening, marks);
         let mut i = 0;
-        while i < leader.len() {
+        while i < opened.leader.len() {
             match stiffen_led(
-                i, p.rounds, g, ladder, level, a, b, km, share, cap, sheet, leader, grounds, e,
-                angle, circuits, banks, floors, upsized, marks, s,
+                i, p.rounds, g, grid, level, opened, e, angle, circuits, banks, floors, upsized,
+                marks, s,
             ) {
                 Err(f) => break 'rounds Err(f),
                 Ok(u) => s = u,
             }
             i += 1;
             // Only the last component can say what follows: the raises of all are made together.
-            if i == leader.len() {
-                let moved = raise_marked(
-                    ladder, a, b, km, share, sheet, load, bus, pmax, floors, marks, level, banks,
-                );
+            if i == opened.leader.len() {
+                let moved = raise_marked(grid, supply, floors, marks, level, banks);
                 p.capacity = t.capacity;
                 p.stiffening = s.stiffening;
                 p.promoted += moved;

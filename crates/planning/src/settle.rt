@@ -6,11 +6,12 @@ ghost use Rattle.planning.specs.Solve.{peak_for, solved_of, Drawing, Lent};
 ghost use Rattle.planning.specs.Fill.{designs_for, Whole};
 ghost use Rattle.planning.specs.Size.{Few};
 ghost use Rattle.planning.specs.Settle.{ended_of, closed_from, filled_from, Settleable, Settles};
+ghost use Rattle.planning.specs.Tables.{grid_in, opened_in};
 
 use crate::close::{Closing, close};
-use crate::figures::clear_figures;
 use crate::fill::{Kept, fill, fill_order, keep, nothing_kept};
 use crate::solve::planning_state;
+use crate::tables::{Grid, Opened};
 use mode::PlanMode;
 use refusal::Refusal;
 
@@ -30,33 +31,25 @@ pub struct Settling {
 
 // The angles and the flows at the peak, from angles of zero; refusal 9 where one of them is not finite.
 fn solve_from_zero(
-    ladder: &[f64],
+    grid: &Grid,
     level: &[u32],
-    a: &[u32],
-    b: &[u32],
-    km: &[f64],
-    share: &[f64],
-    sheet: &[f64],
     circuits: &[u32],
     banks: &[f64],
-    injection: &[f64],
-    grounds: &[u32],
+    opened: &Opened,
     angle: &mut [f64],
     flow: &mut [f64],
 ) -> Result<(), Refusal>
-    requires drawing { Drawing ladder.now level.now a.now b.now km.now share.now sheet.now circuits.now banks.now }
-    requires lent { Lent (length level.now) (length a.now) injection.now grounds.now angle.old flow.old }
+    requires drawing { Drawing (grid_in grid.now) level.now circuits.now banks.now }
+    requires lent { Lent (length level.now) (length grid.now.a.now) (opened_in opened.now) angle.old flow.old }
     ensures { solved_of result
-        (edges_for (designs_for ladder.now level.now a.now b.now km.now share.now sheet.now banks.now) circuits.now)
+        (edges_for (designs_for (grid_in grid.now) level.now banks.now) circuits.now)
         angle.new flow.new
-        ≡ planning_state (peak_for (length level.now) grounds.now injection.now)
-        (designs_for ladder.now level.now a.now b.now km.now share.now sheet.now banks.now)
+        ≡ planning_state (peak_for (length level.now) opened.now.grounds.now opened.now.injection.now)
+        (designs_for (grid_in grid.now) level.now banks.now)
         circuits.now (zeros (length level.now)) }
 {
-    clear_figures(angle);
-    planning_state(
-        ladder, level, a, b, km, share, sheet, circuits, banks, injection, grounds, angle, flow,
-    )
+    angle.fill(0.0);
+    planning_state(grid, level, circuits, banks, opened, angle, flow)
 }
 
 // After filling: the solve of the filled corridors and the closing figures. Tiers take the place of levels, so they come last.
@@ -64,16 +57,8 @@ fn close_up(
     mode: PlanMode,
     above: usize,
     filler: u32,
-    ladder: &[f64],
-    a: &[u32],
-    b: &[u32],
-    km: &[f64],
-    share: &[f64],
-    cap: &[u32],
-    sheet: &[f64],
-    leader: &[u32],
-    grounds: &[u32],
-    injection: &[f64],
+    grid: &Grid,
+    opened: &Opened,
     banks: &[f64],
     upsized: &[u32],
     circuits: &[u32],
@@ -83,18 +68,26 @@ fn close_up(
     angle: &mut [f64],
     added: &mut [f64],
 ) -> Result<Settlement, Refusal>
-    requires { Settleable above ladder.now level.old a.now b.now km.now share.now cap.now sheet.now leader.now grounds.now injection.now banks.now upsized.now circuits.now flow.old rate.old angle.old added.old }
+    requires { Settleable above (grid_in grid.now) level.old (opened_in opened.now) banks.now upsized.now circuits.now flow.old rate.old angle.old added.old }
     ensures { (before order : List ℕ) → ended_of result before order circuits.now level.new flow.new rate.new angle.new added.new
-        ≡ closed_from mode cap.now above leader.now ladder.now level.old
-        (designs_for ladder.now level.old a.now b.now km.now share.now sheet.now banks.now)
-        upsized.now (peak_for (length level.old) grounds.now injection.now) filler before order circuits.now }
+        ≡ closed_from mode grid.now.cap.now above opened.now.leader.now grid.now.ladder.now level.old
+        (designs_for (grid_in grid.now) level.old banks.now)
+        upsized.now (peak_for (length level.old) opened.now.grounds.now opened.now.injection.now) filler before order circuits.now }
 {
-    solve_from_zero(
-        ladder, level, a, b, km, share, sheet, circuits, banks, injection, grounds, angle, flow,
-    )?;
+    solve_from_zero(grid, level, circuits, banks, opened, angle, flow)?;
     let closing = close(
-        mode, above, ladder, a, b, km, share, cap, sheet, leader, banks, circuits, upsized, flow,
-        angle, level, rate, added,
+        mode,
+        above,
+        grid,
+        opened.leader,
+        banks,
+        circuits,
+        upsized,
+        flow,
+        angle,
+        level,
+        rate,
+        added,
     );
     Ok(Settlement { filler, closing })
 }
@@ -104,16 +97,8 @@ fn fill_up(
     mode: PlanMode,
     target: u32,
     above: usize,
-    ladder: &[f64],
-    a: &[u32],
-    b: &[u32],
-    km: &[f64],
-    share: &[f64],
-    cap: &[u32],
-    sheet: &[f64],
-    leader: &[u32],
-    grounds: &[u32],
-    injection: &[f64],
+    grid: &Grid,
+    opened: &Opened,
     banks: &[f64],
     upsized: &[u32],
     circuits: &mut [u32],
@@ -123,22 +108,20 @@ fn fill_up(
     angle: &mut [f64],
     added: &mut [f64],
 ) -> Settling
-    requires settleable { Settleable above ladder.now level.old a.now b.now km.now share.now cap.now sheet.now leader.now grounds.now injection.now banks.now upsized.now circuits.old flow.old rate.old angle.old added.old }
+    requires settleable { Settleable above (grid_in grid.now) level.old (opened_in opened.now) banks.now upsized.now circuits.old flow.old rate.old angle.old added.old }
     requires few { Few circuits.old }
-    ensures { ended_of result.settled (take (length a.now) result.kept.before) (take (length a.now) result.kept.order) circuits.new level.new flow.new rate.new angle.new added.new
-        ≡ filled_from mode cap.now above leader.now ladder.now level.old
-        (designs_for ladder.now level.old a.now b.now km.now share.now sheet.now banks.now)
-        upsized.now (peak_for (length level.old) grounds.now injection.now) target (length a.now) circuits.old flow.old }
+    ensures { ended_of result.settled (take (length grid.now.a.now) result.kept.before) (take (length grid.now.a.now) result.kept.order) circuits.new level.new flow.new rate.new angle.new added.new
+        ≡ filled_from mode grid.now.cap.now above opened.now.leader.now grid.now.ladder.now level.old
+        (designs_for (grid_in grid.now) level.old banks.now)
+        upsized.now (peak_for (length level.old) opened.now.grounds.now opened.now.injection.now) target (length grid.now.a.now) circuits.old flow.old }
 {
     let mut order = [0u32; 256];
-    fill_order(
-        ladder, level, a, b, km, share, sheet, banks, circuits, flow, &mut order,
-    );
+    fill_order(grid, level, banks, circuits, flow, &mut order);
     let kept = keep(circuits, order);
-    let filler = fill(mode, target, cap, &order, circuits);
+    let filler = fill(mode, target, grid.cap, &order, circuits);
     let settled = close_up(
-        mode, above, filler, ladder, a, b, km, share, cap, sheet, leader, grounds, injection,
-        banks, upsized, circuits, level, flow, rate, angle, added,
+        mode, above, filler, grid, opened, banks, upsized, circuits, level, flow, rate, angle,
+        added,
     );
     Settling { settled, kept }
 }
@@ -159,16 +142,8 @@ pub fn settle(
     mode: PlanMode,
     target: u32,
     above: usize,
-    ladder: &[f64],
-    a: &[u32],
-    b: &[u32],
-    km: &[f64],
-    share: &[f64],
-    cap: &[u32],
-    sheet: &[f64],
-    leader: &[u32],
-    grounds: &[u32],
-    injection: &[f64],
+    grid: &Grid,
+    opened: &Opened,
     banks: &[f64],
     upsized: &[u32],
     circuits: &mut [u32],
@@ -178,18 +153,16 @@ pub fn settle(
     angle: &mut [f64],
     added: &mut [f64],
 ) -> Settling
-    requires settleable { Settleable above ladder.now level.old a.now b.now km.now share.now cap.now sheet.now leader.now grounds.now injection.now banks.now upsized.now circuits.old flow.old rate.old angle.old added.old }
+    requires settleable { Settleable above (grid_in grid.now) level.old (opened_in opened.now) banks.now upsized.now circuits.old flow.old rate.old angle.old added.old }
     requires few { Few circuits.old }
-    ensures { Settles mode target above ladder.now a.now b.now km.now share.now cap.now sheet.now leader.now grounds.now injection.now banks.now upsized.now circuits.old level.old
+    ensures { Settles mode target above (grid_in grid.now) (opened_in opened.now) banks.now upsized.now circuits.old level.old
         circuits.new level.new flow.new rate.new angle.new added.new result }
 {
-    match solve_from_zero(
-        ladder, level, a, b, km, share, sheet, circuits, banks, injection, grounds, angle, flow,
-    ) {
+    match solve_from_zero(grid, level, circuits, banks, opened, angle, flow) {
         Err(f) => unsettled(f),
         Ok(()) => fill_up(
-            mode, target, above, ladder, a, b, km, share, cap, sheet, leader, grounds, injection,
-            banks, upsized, circuits, level, flow, rate, angle, added,
+            mode, target, above, grid, opened, banks, upsized, circuits, level, flow, rate, angle,
+            added,
         ),
     }
 }

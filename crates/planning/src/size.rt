@@ -6,11 +6,13 @@ ghost use Rattle.plan_defs.specs.Raise.{top_of, mark_if};
 ghost use Rattle.plan_defs.specs.Size.{required_for, enough, next_bank, enlarges, raises_for};
 ghost use Rattle.planning.specs.Raise.{largest_count, pairs_for, PairFits};
 ghost use Rattle.planning.specs.Size.{size_for, grow_for, set_if, Adds, Grows, CorridorFits, CorridorSized};
+ghost use Rattle.planning.specs.Tables.{grid_in};
 
 use crate::design::{banked_if, circuit};
 use crate::figures::{lesser, magnitude};
 use crate::policy::{cap_at, promotes};
 use crate::raise::mark_raise_to;
+use crate::tables::Grid;
 use mode::PlanMode;
 use plan_defs::CircuitDesign;
 use std::num::saturating_f64_to_u32;
@@ -130,17 +132,16 @@ fn raises_for(
     mode: PlanMode,
     need: u32,
     level: &[u32],
-    a: &[u32],
-    b: &[u32],
+    grid: &Grid,
     k: usize,
     marks: &mut [u32],
 ) -> bool
-    requires { PairFits level.now a.now b.now marks.old k }
-    ensures marks { marks.new ≡ mark_if (raises_for mode (top_of (pairs_for a.now b.now) level.now k) need) (pairs_for a.now b.now) level.now k marks.old }
-    ensures answer { result ≡ raises_for mode (top_of (pairs_for a.now b.now) level.now k) need }
+    requires { PairFits level.now grid.now.a.now grid.now.b.now marks.old k }
+    ensures marks { marks.new ≡ mark_if (raises_for mode (top_of (pairs_for grid.now.a.now grid.now.b.now) level.now k) need) (pairs_for grid.now.a.now grid.now.b.now) level.now k marks.old }
+    ensures answer { result ≡ raises_for mode (top_of (pairs_for grid.now.a.now grid.now.b.now) level.now k) need }
 {
     if promotes(mode) & (need > UPGRADE_CIRCUITS) {
-        return mark_raise_to(level, a, b, k, 0, marks);
+        return mark_raise_to(level, grid, k, 0, marks);
     }
     false
 }
@@ -148,9 +149,7 @@ fn raises_for(
 fn grow(
     mode: PlanMode,
     level: &[u32],
-    a: &[u32],
-    b: &[u32],
-    cap: &[u32],
+    grid: &Grid,
     k: usize,
     required: f64,
     d: CircuitDesign,
@@ -158,32 +157,26 @@ fn grow(
     marks: &mut [u32],
     t: Tally,
 ) -> Tally
-    requires pair_fits { PairFits level.now a.now b.now marks.old k }
-    requires k_in_bounds { (k < length circuits.old) × (k < length cap.now) × (slice_index cap.now k ≤ most_cap) × (t.capacity + subtransmission_max_circuits ≤ largest_count) }
-    ensures { Grows (grow_for mode a.now b.now cap.now) level.now required k d circuits.old marks.old t circuits.new marks.new result }
+    requires pair_fits { PairFits level.now grid.now.a.now grid.now.b.now marks.old k }
+    requires k_in_bounds { (k < length circuits.old) × (k < length grid.now.cap.now) × (slice_index grid.now.cap.now k ≤ most_cap) × (t.capacity + subtransmission_max_circuits ≤ largest_count) }
+    ensures { Grows (grow_for mode grid.now.a.now grid.now.b.now grid.now.cap.now) level.now required k d circuits.old marks.old t circuits.new marks.new result }
 {
     if enough(required, circuits[k], d) {
         return t;
     }
     let need = saturating_f64_to_u32((required / d.rate_a).ceil());
-    if raises_for(mode, need, level, a, b, k, marks) {
+    if raises_for(mode, need, level, grid, k, marks) {
         return t;
     }
-    let most = cap_at(mode, cap[k], d.kv);
+    let most = cap_at(mode, grid.cap[k], d.kv);
     add(most, need, k, circuits, t)
 }
 
 // ---- one corridor: a larger bank counts at once
 pub fn size_corridor(
     mode: PlanMode,
-    ladder: &[f64],
+    grid: &Grid,
     level: &[u32],
-    a: &[u32],
-    b: &[u32],
-    km: &[f64],
-    share: &[f64],
-    cap: &[u32],
-    sheet: &[f64],
     flow: &[f64],
     k: usize,
     circuits: &mut [u32],
@@ -193,19 +186,19 @@ pub fn size_corridor(
     marks: &mut [u32],
     t: Tally,
 ) -> Tally
-    requires { CorridorFits ladder.now level.now a.now b.now km.now share.now cap.now sheet.now flow.now k circuits.old banks.old floors.old upsized.old marks.old t }
-    ensures { CorridorSized (size_for mode (length level.now) ladder.now a.now b.now km.now share.now cap.now sheet.now)
+    requires { CorridorFits (grid_in grid.now) level.now flow.now k circuits.old banks.old floors.old upsized.old marks.old t }
+    ensures { CorridorSized (size_for mode (length level.now) (grid_in grid.now))
         level.now flow.now k
         circuits.old banks.old floors.old upsized.old marks.old t
         circuits.new banks.new floors.new upsized.new marks.new result }
 {
     let required = required_for(flow[k]);
     let count = circuits[k];
-    let first = circuit(ladder, level, a, b, km, share, sheet, k, banks[k]);
+    let first = circuit(grid, level, k, banks[k]);
     let next = next_bank(required, count, first);
     let larger = enlarges(required, count, first, next);
     let d = banked_if(larger, first, next);
     keep_bank(larger, k, d, banks, floors, upsized);
     let s = with_bank_added(t, larger);
-    grow(mode, level, a, b, cap, k, required, d, circuits, marks, s)
+    grow(mode, level, grid, k, required, d, circuits, marks, s)
 }

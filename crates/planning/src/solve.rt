@@ -11,8 +11,11 @@ ghost use Rattle.plan_defs.specs.Stiffen.{unit_at};
 ghost use Rattle.planning.specs.Opening.{stage_of};
 ghost use Rattle.planning.specs.Design.{lines_for};
 ghost use Rattle.planning.specs.Solve.{peak_for, solved_of, finite_angles, finite_answer, Net, Places, Drawing, Lent, Drawn, Peaked};
+ghost use Rattle.planning.specs.Tables.{grid_in, opened_in};
 
 use crate::design::circuit;
+use crate::figures::copied;
+use crate::tables::{Grid, Opened};
 use plan_defs::CircuitDesign;
 use refusal::Refusal;
 
@@ -34,28 +37,18 @@ pub struct Edges {
     pub weight: [f64; 256],
 }
 
-pub fn draw_edges(
-    ladder: &[f64],
-    level: &[u32],
-    a: &[u32],
-    b: &[u32],
-    km: &[f64],
-    share: &[f64],
-    sheet: &[f64],
-    circuits: &[u32],
-    banks: &[f64],
-) -> Edges
-    requires { Drawing ladder.now level.now a.now b.now km.now share.now sheet.now circuits.now banks.now }
-    ensures edges { edges_of (take (length a.now) result.from) (take (length a.now) result.to) (take (length a.now) result.weight)
-        ≡ edges_for (drawn_all (lines_for ladder.now a.now b.now km.now share.now sheet.now)
+pub fn draw_edges(grid: &Grid, level: &[u32], circuits: &[u32], banks: &[f64]) -> Edges
+    requires { Drawing (grid_in grid.now) level.now circuits.now banks.now }
+    ensures edges { edges_of (take (length grid.now.a.now) result.from) (take (length grid.now.a.now) result.to) (take (length grid.now.a.now) result.weight)
+        ≡ edges_for (drawn_all (lines_for (grid_in grid.now))
         level.now banks.now) circuits.now }
     ensures sizes { (length result.from ≡ most) × (length result.to ≡ most) × (length result.weight ≡ most) }
 {
     let mut from = [0u32; 256];
     let mut to = [0u32; 256];
     let mut weight = [0.0; 256];
-    for k in 0..a.len() {
-        let d = circuit(ladder, level, a, b, km, share, sheet, k, banks[k]);
+    for k in 0..grid.a.len() {
+        let d = circuit(grid, level, k, banks[k]);
         from[k] = d.from as u32;
         to[k] = d.to as u32;
         weight[k] = susceptance(d) * circuits[k] as f64;
@@ -84,7 +77,7 @@ fn angles_from(
 {
     let n = angle.len();
     let mut work = [0.0; 2048];
-    match angles::dc_angles(
+    angles::dc_angles(
         n,
         from.len(),
         grounds.len(),
@@ -96,10 +89,9 @@ fn angles_from(
         guess,
         angle,
         &mut work[0..SOLVER_ROWS * n],
-    ) {
-        Err(_) => Err(Refusal::NotFinite(0)),
-        Ok(_) => Ok(()),
-    }
+    )
+    .map_err(|_| Refusal::NotFinite(0))?;
+    Ok(())
 }
 
 // The angles at which one per unit goes from the lead to the lag, for stiffening.
@@ -176,27 +168,18 @@ fn finite_flows(flow: &[f64]) -> Result<(), Refusal>
 }
 
 // ---- planning_state
-// At the front of an array.
-fn copy(angle: &[f64], guess: &mut [f64; 256])
-    requires { (length angle.now ≤ most) × (length guess.old ≡ most) }
-    ensures { take (length angle.now) guess.new ≡ angle.now }
-{
-    guess[..angle.len()].copy_from_slice(angle);
-}
-
 // The angles and the flows at the peak on these edges, from the angles that `angle` holds; refusal 9 where one of them is not finite.
 pub fn peak_state(
     e: Edges,
-    injection: &[f64],
-    grounds: &[u32],
+    opened: &Opened,
     angle: &mut [f64],
     flow: &mut [f64],
 ) -> Result<(), Refusal>
     requires peaked { Peaked (length angle.old) (length flow.old) e.from e.to e.weight }
-    requires lent { Lent (length angle.old) (length flow.old) injection.now grounds.now angle.old flow.old }
+    requires lent { Lent (length angle.old) (length flow.old) (opened_in opened.now) angle.old flow.old }
     ensures { solved_of result (edges_of (take (length flow.old) e.from) (take (length flow.old) e.to) (take (length flow.old) e.weight))
         angle.new flow.new
-        ≡ planning_on (peak_for (length angle.old) grounds.now injection.now)
+        ≡ planning_on (peak_for (length angle.old) opened.now.grounds.now opened.now.injection.now)
         (edges_of (take (length flow.old) e.from) (take (length flow.old) e.to) (take (length flow.old) e.weight)) angle.old }
 {
     let n = angle.len();
@@ -204,14 +187,13 @@ pub fn peak_state(
     let from = e.from;
     let to = e.to;
     let weight = e.weight;
-    let mut guess = [0.0; 256];
-    copy(angle, &mut guess);
+    let guess = copied(angle, 0.0);
     angles_from(
         &from[0..m],
         &to[0..m],
         &weight[0..m],
-        injection,
-        grounds,
+        opened.injection,
+        opened.grounds,
         &guess[0..n],
         angle,
     )?;
@@ -221,30 +203,24 @@ pub fn peak_state(
 
 // The same on the edges of the corridors as they are.
 pub fn planning_state(
-    ladder: &[f64],
+    grid: &Grid,
     level: &[u32],
-    a: &[u32],
-    b: &[u32],
-    km: &[f64],
-    share: &[f64],
-    sheet: &[f64],
     circuits: &[u32],
     banks: &[f64],
-    injection: &[f64],
-    grounds: &[u32],
+    opened: &Opened,
     angle: &mut [f64],
     flow: &mut [f64],
 ) -> Result<(), Refusal>
-    requires drawing { Drawing ladder.now level.now a.now b.now km.now share.now sheet.now circuits.now banks.now }
-    requires lent { Lent (length level.now) (length a.now) injection.now grounds.now angle.old flow.old }
+    requires drawing { Drawing (grid_in grid.now) level.now circuits.now banks.now }
+    requires lent { Lent (length level.now) (length grid.now.a.now) (opened_in opened.now) angle.old flow.old }
     ensures { solved_of result
-        (edges_for (drawn_all (lines_for ladder.now a.now b.now km.now share.now sheet.now)
+        (edges_for (drawn_all (lines_for (grid_in grid.now))
         level.now banks.now) circuits.now)
         angle.new flow.new
-        ≡ planning_state (peak_for (length level.now) grounds.now injection.now)
-        (drawn_all (lines_for ladder.now a.now b.now km.now share.now sheet.now)
+        ≡ planning_state (peak_for (length level.now) opened.now.grounds.now opened.now.injection.now)
+        (drawn_all (lines_for (grid_in grid.now))
         level.now banks.now) circuits.now angle.old }
 {
-    let e = draw_edges(ladder, level, a, b, km, share, sheet, circuits, banks);
-    peak_state(e, injection, grounds, angle, flow)
+    let e = draw_edges(grid, level, circuits, banks);
+    peak_state(e, opened, angle, flow)
 }

@@ -1,23 +1,25 @@
 // Stiffening: each component whose angles are spread too wide, after the second loop of a round of `plan_corridors`.
-ghost use Rattle.std.specs.Prelude.{◌≡◌, ℕ, ◌+◌, ◌<◌, ◌≤◌, true, false, not, [], ◌∷◌, map, length, take, slice_index, Err, Ok, Result};
-ghost use Rattle.loops.specs.Figures.{nought};
+ghost use Rattle.std.specs.Prelude.{◌≡◌, ℕ, ◌+◌, ◌<◌, ◌≤◌, Bool, true, false, not, cond, [], ◌∷◌, map, length, take, slice_index, Float, Err, Ok, Result};
+ghost use Rattle.loops.specs.Figures.{at, nought};
 ghost use Rattle.loops.specs.Loops.{first, filled};
 ghost use Rattle.plan_defs.specs.Constants.{most_buses, most_corridors, most_levels, most_cap, stiffening_branch_budget};
-ghost use Rattle.plan_defs.specs.Components.{within};
+ghost use Rattle.plan_defs.specs.Components.{within, members};
 ghost use Rattle.plan_defs.specs.Lists.{counting, sum};
 ghost use Rattle.plan_defs.specs.Raise.{no_marks, mark_if};
-ghost use Rattle.plan_defs.specs.Stiffen.{at_or_above, share_of, hv_budget, stiffen_top, arrival, gain_of, batch, batch_cap};
+ghost use Rattle.plan_defs.specs.Stiffen.{at_or_above, share_of, hv_budget, stiffen_top, arrival, gain_of, batch, batch_cap, best_of};
 ghost use Rattle.planning.specs.Fill.{Counted, Ranked, Whole, place_of};
 ghost use Rattle.planning.specs.Raise.{largest_count, pairs_for, PairFits};
-ghost use Rattle.planning.specs.Stiffen.{budget_for, Stiffenable, Room, LedStiffened, raisable, room_for, reckoned, Strengthened, StiffenFits, BatchStiffened, Gainful, candidate_at, gain_at, gains_more, gain_next, gain_order, gain_for, Chosen, Stepped, reinforce_step, narrow_step, component_step, Led, lead_of, lag_of};
+ghost use Rattle.planning.specs.Stiffen.{budget_for, Stiffenable, Room, LedStiffened, raisable, room_for, reckoned, Strengthened, StiffenFits, BatchStiffened, Gainful, candidate_at, gain_at, gains_more, gain_next, gain_order, gain_for, Chosen, Stepped, reinforce_step, narrow_step, component_step, Led};
+ghost use Rattle.planning.specs.Tables.{grid_in, opened_in};
 
 use crate::design::{circuit, set_transformer_mva};
-use crate::figures::{choose, clear_counts};
+use crate::figures::choose;
 use crate::fill::{insert, total};
 use crate::policy::full_at;
 use crate::raise::{mark_raise_to, raise_of};
 use crate::size::{bank_below, keep_bank};
 use crate::solve::{Edges, susceptance, unit_angles};
+use crate::tables::{Grid, Opened};
 use plan_defs::CircuitDesign;
 use refusal::Refusal;
 use std::num::saturating_f64_to_usize;
@@ -110,7 +112,7 @@ pub fn stiffness_from(
     ensures marks { marks.new ≡ no_marks (length level.now) }
     ensures start { result ≡ record { total = sum circuits.now; hv = at_or_above level.now g.top; stiffening = stiffening; wide = false; stiffened = false } }
 {
-    clear_counts(marks);
+    marks.fill(0);
     let circuits_now = total(circuits);
     let hv = at_or_above(level, g.top);
     Stiffness {
@@ -135,29 +137,21 @@ fn arrival(top: u32, level: &[u32], marks: &[u32], i: usize) -> u32
 }
 
 // How many ends of corridor k do.
-fn arrivals(top: u32, level: &[u32], a: &[u32], b: &[u32], k: usize, marks: &[u32]) -> u32
-    requires { PairFits level.now a.now b.now marks.now k }
-    ensures { (result ≡ arrival top level.now marks.now (slice_index a.now k) + arrival top level.now marks.now (slice_index b.now k)) × (result ≤ 2) }
+fn arrivals(top: u32, level: &[u32], grid: &Grid, k: usize, marks: &[u32]) -> u32
+    requires { PairFits level.now grid.now.a.now grid.now.b.now marks.now k }
+    ensures { (result ≡ arrival top level.now marks.now (slice_index grid.now.a.now k) + arrival top level.now marks.now (slice_index grid.now.b.now k)) × (result ≤ 2) }
 {
-    arrival(top, level, marks, a[k] as usize) + arrival(top, level, marks, b[k] as usize)
+    arrival(top, level, marks, grid.a[k] as usize) + arrival(top, level, marks, grid.b[k] as usize)
 }
 
 // Marks both ends of corridor k for a raise that is within the budget, and answers whether it is.
-fn raises(
-    g: Limits,
-    hv: u32,
-    level: &[u32],
-    a: &[u32],
-    b: &[u32],
-    k: usize,
-    marks: &mut [u32],
-) -> bool
-    requires { PairFits level.now a.now b.now marks.old k }
-    ensures marks { marks.new ≡ mark_if (raisable g hv level.now a.now b.now k) (pairs_for a.now b.now) level.now k marks.old }
-    ensures answer { result ≡ raisable g hv level.now a.now b.now k }
+fn raises(g: Limits, hv: u32, level: &[u32], grid: &Grid, k: usize, marks: &mut [u32]) -> bool
+    requires { PairFits level.now grid.now.a.now grid.now.b.now marks.old k }
+    ensures marks { marks.new ≡ mark_if (raisable g hv level.now grid.now.a.now grid.now.b.now k) (pairs_for grid.now.a.now grid.now.b.now) level.now k marks.old }
+    ensures answer { result ≡ raisable g hv level.now grid.now.a.now grid.now.b.now k }
 {
     if (hv as usize) < g.hv {
-        return mark_raise_to(level, a, b, k, g.top, marks);
+        return mark_raise_to(level, grid, k, g.top, marks);
     }
     false
 }
@@ -186,19 +180,18 @@ fn raise_or_add(
     g: Limits,
     own: u32,
     level: &[u32],
-    a: &[u32],
-    b: &[u32],
+    grid: &Grid,
     k: usize,
     circuits: &mut [u32],
     marks: &mut [u32],
     t: Stiffness,
 ) -> Stiffness
-    requires pair_fits { PairFits level.now a.now b.now marks.old k }
+    requires pair_fits { PairFits level.now grid.now.a.now grid.now.b.now marks.old k }
     requires k_in_bounds { (k < length circuits.old) × (own ≤ most_cap) × Room 1 t }
-    ensures { Strengthened g own level.now a.now b.now k circuits.old marks.old t circuits.new marks.new result }
+    ensures { Strengthened g own level.now grid.now.a.now grid.now.b.now k circuits.old marks.old t circuits.new marks.new result }
 {
-    if raises(g, t.hv, level, a, b, k, marks) {
-        let arrived = arrivals(g.top, level, a, b, k, marks);
+    if raises(g, t.hv, level, grid, k, marks) {
+        let arrived = arrivals(g.top, level, grid, k, marks);
         return reckoned(0, arrived, t);
     }
     let count = circuits[k];
@@ -212,14 +205,8 @@ fn raise_or_add(
 // A full bank, else a raise, else a circuit, else nothing.
 fn stiffen_one(
     g: Limits,
-    ladder: &[f64],
+    grid: &Grid,
     level: &[u32],
-    a: &[u32],
-    b: &[u32],
-    km: &[f64],
-    share: &[f64],
-    cap: &[u32],
-    sheet: &[f64],
     k: usize,
     circuits: &mut [u32],
     banks: &mut [f64],
@@ -228,32 +215,26 @@ fn stiffen_one(
     marks: &mut [u32],
     t: Stiffness,
 ) -> Stiffness
-    requires stiffen_fits { StiffenFits ladder.now level.now a.now b.now km.now share.now cap.now sheet.now circuits.old banks.old floors.old upsized.old marks.old }
-    requires k_in_bounds { (k < length a.now) × Room 1 t }
-    ensures { BatchStiffened (k ∷ []) g ladder.now level.now a.now b.now km.now share.now cap.now sheet.now
+    requires stiffen_fits { StiffenFits (grid_in grid.now) level.now circuits.old banks.old floors.old upsized.old marks.old }
+    requires k_in_bounds { (k < length grid.now.a.now) × Room 1 t }
+    ensures { BatchStiffened (k ∷ []) g (grid_in grid.now) level.now
         circuits.old banks.old floors.old upsized.old marks.old t
         circuits.new banks.new floors.new upsized.new marks.new result }
 {
-    let d = circuit(ladder, level, a, b, km, share, sheet, k, banks[k]);
+    let d = circuit(grid, level, k, banks[k]);
     if bank_below(d) {
         let full = set_transformer_mva(d, d.line_rate);
         keep_bank(true, k, full, banks, floors, upsized);
         return reckoned(0, 0, t);
     }
-    raise_or_add(g, cap[k], level, a, b, k, circuits, marks, t)
+    raise_or_add(g, grid.cap[k], level, grid, k, circuits, marks, t)
 }
 
 // The first `taken` corridors of an order.
 fn stiffen_batch(
     g: Limits,
-    ladder: &[f64],
+    grid: &Grid,
     level: &[u32],
-    a: &[u32],
-    b: &[u32],
-    km: &[f64],
-    share: &[f64],
-    cap: &[u32],
-    sheet: &[f64],
     order: &[u32; 256],
     taken: usize,
     circuits: &mut [u32],
@@ -263,9 +244,9 @@ fn stiffen_batch(
     marks: &mut [u32],
     start: Stiffness,
 ) -> Stiffness
-    requires stiffen_fits { StiffenFits ladder.now level.now a.now b.now km.now share.now cap.now sheet.now circuits.old banks.old floors.old upsized.old marks.old }
-    requires ranked { Ranked (length a.now) order.now taken × Room taken start × (taken ≤ length a.now) }
-    ensures { BatchStiffened (take taken order.now) g ladder.now level.now a.now b.now km.now share.now cap.now sheet.now
+    requires stiffen_fits { StiffenFits (grid_in grid.now) level.now circuits.old banks.old floors.old upsized.old marks.old }
+    requires ranked { Ranked (length grid.now.a.now) order.now taken × Room taken start × (taken ≤ length grid.now.a.now) }
+    ensures { BatchStiffened (take taken order.now) g (grid_in grid.now) level.now
         circuits.old banks.old floors.old upsized.old marks.old start
         circuits.new banks.new floors.new upsized.new marks.new result }
 {
@@ -273,8 +254,7 @@ fn stiffen_batch(
     for j in 0..taken {
         let k = order[j] as usize;
         t = stiffen_one(
-            g, ladder, level, a, b, km, share, cap, sheet, k, circuits, banks, floors, upsized,
-            marks, t,
+            g, grid, level, k, circuits, banks, floors, upsized, marks, t,
         );
     }
     t
@@ -286,21 +266,19 @@ fn is_candidate(
     g: Limits,
     leader: &[u32],
     level: &[u32],
-    a: &[u32],
-    b: &[u32],
-    cap: &[u32],
+    grid: &Grid,
     circuits: &[u32],
     t: Stiffness,
     root: usize,
     k: usize,
 ) -> bool
-    requires { PairFits level.now a.now b.now leader.now k × (k < length cap.now) × (k < length circuits.now) }
-    ensures { result ≡ candidate_at g leader.now level.now a.now b.now cap.now circuits.now t root k }
+    requires { PairFits level.now grid.now.a.now grid.now.b.now leader.now k × (k < length grid.now.cap.now) × (k < length circuits.now) }
+    ensures { result ≡ candidate_at g leader.now level.now grid.now.a.now grid.now.b.now grid.now.cap.now circuits.now t root k }
 {
-    let i = a[k] as usize;
-    let j = b[k] as usize;
+    let i = grid.a[k] as usize;
+    let j = grid.b[k] as usize;
     let tier = level[i].min(level[j]);
-    let room = has_room(g, cap[k], circuits[k], t.total);
+    let room = has_room(g, grid.cap[k], circuits[k], t.total);
     (leader[i] as usize == root) & (room | ((g.top < tier) & ((t.hv as usize) < g.hv)))
 }
 
@@ -316,14 +294,8 @@ fn gain_of(d: CircuitDesign, angle: &[f64], phi: &[f64]) -> f64
 
 fn gain_at(
     g: Limits,
-    ladder: &[f64],
+    grid: &Grid,
     level: &[u32],
-    a: &[u32],
-    b: &[u32],
-    km: &[f64],
-    share: &[f64],
-    cap: &[u32],
-    sheet: &[f64],
     leader: &[u32],
     angle: &[f64],
     phi: &[f64],
@@ -333,27 +305,21 @@ fn gain_at(
     root: usize,
     k: usize,
 ) -> f64
-    requires { Gainful ladder.now level.now a.now b.now km.now share.now cap.now sheet.now leader.now angle.now phi.now circuits.now banks.now × (k < length a.now) }
-    ensures { result ≡ gain_at g ladder.now level.now a.now b.now km.now share.now cap.now sheet.now
+    requires { Gainful (grid_in grid.now) level.now leader.now angle.now phi.now circuits.now banks.now × (k < length grid.now.a.now) }
+    ensures { result ≡ gain_at g (grid_in grid.now) level.now
         leader.now angle.now phi.now circuits.now banks.now t root k }
 {
-    if !is_candidate(g, leader, level, a, b, cap, circuits, t, root, k) {
+    if !is_candidate(g, leader, level, grid, circuits, t, root, k) {
         return 0.0;
     }
-    let d = circuit(ladder, level, a, b, km, share, sheet, k, banks[k]);
+    let d = circuit(grid, level, k, banks[k]);
     gain_of(d, angle, phi)
 }
 
 fn gains(
     g: Limits,
-    ladder: &[f64],
+    grid: &Grid,
     level: &[u32],
-    a: &[u32],
-    b: &[u32],
-    km: &[f64],
-    share: &[f64],
-    cap: &[u32],
-    sheet: &[f64],
     leader: &[u32],
     angle: &[f64],
     phi: &[f64],
@@ -363,15 +329,14 @@ fn gains(
     root: usize,
     gain: &mut [f64; 256],
 )
-    requires gainful { Gainful ladder.now level.now a.now b.now km.now share.now cap.now sheet.now leader.now angle.now phi.now circuits.now banks.now }
-    requires a_len_bound { (length a.now ≤ most_corridors) × Whole gain.old }
-    ensures { gain.new ≡ filled gain.old (gain_at g ladder.now level.now a.now b.now km.now share.now cap.now sheet.now
-        leader.now angle.now phi.now circuits.now banks.now t root) (length a.now) }
+    requires gainful { Gainful (grid_in grid.now) level.now leader.now angle.now phi.now circuits.now banks.now }
+    requires a_len_bound { (length grid.now.a.now ≤ most_corridors) × Whole gain.old }
+    ensures { gain.new ≡ filled gain.old (gain_at g (grid_in grid.now) level.now
+        leader.now angle.now phi.now circuits.now banks.now t root) (length grid.now.a.now) }
 {
-    for k in 0..a.len() {
+    for k in 0..grid.a.len() {
         gain[k] = gain_at(
-            g, ladder, level, a, b, km, share, cap, sheet, leader, angle, phi, circuits, banks, t,
-            root, k,
+            g, grid, level, leader, angle, phi, circuits, banks, t, root, k,
         );
     }
 }
@@ -459,14 +424,8 @@ fn choose_batch(
     root: usize,
     excess: f64,
     g: Limits,
-    ladder: &[f64],
+    grid: &Grid,
     level: &[u32],
-    a: &[u32],
-    b: &[u32],
-    km: &[f64],
-    share: &[f64],
-    cap: &[u32],
-    sheet: &[f64],
     leader: &[u32],
     angle: &[f64],
     phi: &[f64],
@@ -475,18 +434,17 @@ fn choose_batch(
     t: Stiffness,
     order: &mut [u32; 256],
 ) -> usize
-    requires gainful { Gainful ladder.now level.now a.now b.now km.now share.now cap.now sheet.now leader.now angle.now phi.now circuits.now banks.now }
-    requires a_len_bound { (length a.now ≤ most_corridors) × Whole order.old }
-    ensures { Chosen root excess g ladder.now level.now a.now b.now km.now share.now cap.now sheet.now
+    requires gainful { Gainful (grid_in grid.now) level.now leader.now angle.now phi.now circuits.now banks.now }
+    requires a_len_bound { (length grid.now.a.now ≤ most_corridors) × Whole order.old }
+    ensures { Chosen root excess g (grid_in grid.now) level.now
         leader.now angle.now phi.now circuits.now banks.now t order.new result }
 {
     let mut gain = [0.0; 256];
     gains(
-        g, ladder, level, a, b, km, share, cap, sheet, leader, angle, phi, circuits, banks, t,
-        root, &mut gain,
+        g, grid, level, leader, angle, phi, circuits, banks, t, root, &mut gain,
     );
-    let count = order_gains(a.len(), &gain, order);
-    let most = batch_cap(leader, a, root);
+    let count = order_gains(grid.a.len(), &gain, order);
+    let most = batch_cap(leader, grid.a, root);
     batch_size(&gain, order, count, most, excess)
 }
 
@@ -495,14 +453,8 @@ fn reinforce(
     root: usize,
     excess: f64,
     g: Limits,
-    ladder: &[f64],
+    grid: &Grid,
     level: &[u32],
-    a: &[u32],
-    b: &[u32],
-    km: &[f64],
-    share: &[f64],
-    cap: &[u32],
-    sheet: &[f64],
     leader: &[u32],
     angle: &[f64],
     phi: &[f64],
@@ -513,21 +465,19 @@ fn reinforce(
     marks: &mut [u32],
     t: Stiffness,
 ) -> Stiffness
-    requires stiffen_fits { StiffenFits ladder.now level.now a.now b.now km.now share.now cap.now sheet.now circuits.old banks.old floors.old upsized.old marks.old }
-    requires leader_len { (length leader.now ≡ length level.now) × (length angle.now ≡ length level.now) × (length phi.now ≡ length level.now) × (length a.now ≤ most_corridors) × Room (length a.now) t }
+    requires stiffen_fits { StiffenFits (grid_in grid.now) level.now circuits.old banks.old floors.old upsized.old marks.old }
+    requires leader_len { (length leader.now ≡ length level.now) × (length angle.now ≡ length level.now) × (length phi.now ≡ length level.now) × (length grid.now.a.now ≤ most_corridors) × Room (length grid.now.a.now) t }
     ensures { Stepped (reinforce_step root excess g level.now leader.now angle.now phi.now)
-        ladder.now level.now a.now b.now km.now share.now cap.now sheet.now
+        (grid_in grid.now) level.now
         circuits.old banks.old floors.old upsized.old marks.old t
         circuits.new banks.new floors.new upsized.new marks.new (Ok result) }
 {
     let mut order = [0u32; 256];
     let taken = choose_batch(
-        root, excess, g, ladder, level, a, b, km, share, cap, sheet, leader, angle, phi, circuits,
-        banks, t, &mut order,
+        root, excess, g, grid, level, leader, angle, phi, circuits, banks, t, &mut order,
     );
     stiffen_batch(
-        g, ladder, level, a, b, km, share, cap, sheet, &order, taken, circuits, banks, floors,
-        upsized, marks, t,
+        g, grid, level, &order, taken, circuits, banks, floors, upsized, marks, t,
     )
 }
 
@@ -539,31 +489,18 @@ fn first_of(leader: &[u32], root: usize) -> usize
     loops::first_fault(leader.len(), |i| leader[i] as usize != root).unwrap_or(leader.len())
 }
 
-// The bus that leads, the lowest on a tie.
-fn lead_of(leader: &[u32], angle: &[f64], root: usize) -> usize
-    requires { Led root leader.now angle.now }
-    ensures { (result ≡ lead_of leader.now angle.now root) × (result < length leader.now) }
+// The best of its buses by `better`, the lowest on a tie.
+fn best_of<F: Fn(f64, f64) -> bool>(leader: &[u32], angle: &[f64], root: usize, better: F) -> usize
+    requires led { Led root leader.now angle.now }
+    requires callable { (x y : Float) → F.pre better x y }
+    ensures bus { result < length leader.now }
+    ensures best { (p : Float → Float → Bool) → ((x y : Float) (r : Bool) → F.post better x y r → r ≡ p x y)
+        → result ≡ best_of (λ i best. cond (p (at angle.now best) (at angle.now i)) i best) (members leader.now root) }
 {
     let mut best = first_of(leader, root);
     for i in best + 1..leader.len() {
         best = choose(
-            (leader[i] as usize == root) & (angle[best] < angle[i]),
-            i,
-            best,
-        );
-    }
-    best
-}
-
-// The bus that lags, the lowest on a tie.
-fn lag_of(leader: &[u32], angle: &[f64], root: usize) -> usize
-    requires { Led root leader.now angle.now }
-    ensures { (result ≡ lag_of leader.now angle.now root) × (result < length leader.now) }
-{
-    let mut best = first_of(leader, root);
-    for i in best + 1..leader.len() {
-        best = choose(
-            (leader[i] as usize == root) & (angle[i] < angle[best]),
+            (leader[i] as usize == root) & better(angle[best], angle[i]),
             i,
             best,
         );
@@ -578,16 +515,9 @@ fn narrow(
     lag: usize,
     excess: f64,
     g: Limits,
-    ladder: &[f64],
+    grid: &Grid,
     level: &[u32],
-    a: &[u32],
-    b: &[u32],
-    km: &[f64],
-    share: &[f64],
-    cap: &[u32],
-    sheet: &[f64],
-    leader: &[u32],
-    grounds: &[u32],
+    opened: &Opened,
     e: Edges,
     angle: &[f64],
     phi: &mut [f64],
@@ -598,14 +528,14 @@ fn narrow(
     marks: &mut [u32],
     t: Stiffness,
 ) -> Result<Stiffness, Refusal>
-    requires stiffenable { Stiffenable ladder.now level.now a.now b.now km.now share.now cap.now sheet.now leader.now grounds.now e.from e.to e.weight angle.now circuits.old banks.old floors.old upsized.old marks.old }
-    requires phi_len { (length phi.old ≡ length level.now) × (lead < length level.now) × (lag < length level.now) × Room (length a.now) t }
-    ensures { Stepped (narrow_step root lead lag excess g level.now leader.now grounds.now (length a.now) e.from e.to e.weight angle.now)
-        ladder.now level.now a.now b.now km.now share.now cap.now sheet.now
+    requires stiffenable { Stiffenable (grid_in grid.now) level.now (opened_in opened.now) e.from e.to e.weight angle.now circuits.old banks.old floors.old upsized.old marks.old }
+    requires phi_len { (length phi.old ≡ length level.now) × (lead < length level.now) × (lag < length level.now) × Room (length grid.now.a.now) t }
+    ensures { Stepped (narrow_step root lead lag excess g level.now opened.now.leader.now opened.now.grounds.now (length grid.now.a.now) e.from e.to e.weight angle.now)
+        (grid_in grid.now) level.now
         circuits.old banks.old floors.old upsized.old marks.old t
         circuits.new banks.new floors.new upsized.new marks.new result }
 {
-    let m = a.len();
+    let m = grid.a.len();
     let from = e.from;
     let to = e.to;
     let weight = e.weight;
@@ -613,14 +543,26 @@ fn narrow(
         &from[0..m],
         &to[0..m],
         &weight[0..m],
-        grounds,
+        opened.grounds,
         lead,
         lag,
         phi,
     )?;
     Ok(reinforce(
-        root, excess, g, ladder, level, a, b, km, share, cap, sheet, leader, angle, phi, circuits,
-        banks, floors, upsized, marks, t,
+        root,
+        excess,
+        g,
+        grid,
+        level,
+        opened.leader,
+        angle,
+        phi,
+        circuits,
+        banks,
+        floors,
+        upsized,
+        marks,
+        t,
     ))
 }
 
@@ -641,16 +583,9 @@ fn stiffen_component(
     root: usize,
     round: u32,
     g: Limits,
-    ladder: &[f64],
+    grid: &Grid,
     level: &[u32],
-    a: &[u32],
-    b: &[u32],
-    km: &[f64],
-    share: &[f64],
-    cap: &[u32],
-    sheet: &[f64],
-    leader: &[u32],
-    grounds: &[u32],
+    opened: &Opened,
     e: Edges,
     angle: &[f64],
     circuits: &mut [u32],
@@ -660,15 +595,15 @@ fn stiffen_component(
     marks: &mut [u32],
     t: Stiffness,
 ) -> Result<Stiffness, Refusal>
-    requires stiffenable { Stiffenable ladder.now level.now a.now b.now km.now share.now cap.now sheet.now leader.now grounds.now e.from e.to e.weight angle.now circuits.old banks.old floors.old upsized.old marks.old }
-    requires led { Led root leader.now angle.now × Room (length a.now) t }
-    ensures { Stepped (component_step root round g level.now leader.now grounds.now (length a.now) e.from e.to e.weight angle.now)
-        ladder.now level.now a.now b.now km.now share.now cap.now sheet.now
+    requires stiffenable { Stiffenable (grid_in grid.now) level.now (opened_in opened.now) e.from e.to e.weight angle.now circuits.old banks.old floors.old upsized.old marks.old }
+    requires led { Led root opened.now.leader.now angle.now × Room (length grid.now.a.now) t }
+    ensures { Stepped (component_step root round g level.now opened.now.leader.now opened.now.grounds.now (length grid.now.a.now) e.from e.to e.weight angle.now)
+        (grid_in grid.now) level.now
         circuits.old banks.old floors.old upsized.old marks.old t
         circuits.new banks.new floors.new upsized.new marks.new result }
 {
-    let lead = lead_of(leader, angle, root);
-    let lag = lag_of(leader, angle, root);
+    let lead = best_of(opened.leader, angle, root, |x, y| x < y);
+    let lag = best_of(opened.leader, angle, root, |x, y| y < x);
     let excess = angle[lead] - angle[lag] - MAX_ANGLE_SPREAD_RAD;
     if excess <= 0.0 {
         return Ok(t);
@@ -684,16 +619,9 @@ fn stiffen_component(
         lag,
         excess,
         g,
-        ladder,
+        grid,
         level,
-        a,
-        b,
-        km,
-        share,
-        cap,
-        sheet,
-        leader,
-        grounds,
+        opened,
         e,
         angle,
         &mut phi[0..level.len()],
@@ -711,16 +639,9 @@ pub fn stiffen_led(
     i: usize,
     round: u32,
     g: Limits,
-    ladder: &[f64],
+    grid: &Grid,
     level: &[u32],
-    a: &[u32],
-    b: &[u32],
-    km: &[f64],
-    share: &[f64],
-    cap: &[u32],
-    sheet: &[f64],
-    leader: &[u32],
-    grounds: &[u32],
+    opened: &Opened,
     e: Edges,
     angle: &[f64],
     circuits: &mut [u32],
@@ -730,16 +651,15 @@ pub fn stiffen_led(
     marks: &mut [u32],
     t: Stiffness,
 ) -> Result<Stiffness, Refusal>
-    requires stiffenable { Stiffenable ladder.now level.now a.now b.now km.now share.now cap.now sheet.now leader.now grounds.now e.from e.to e.weight angle.now circuits.old banks.old floors.old upsized.old marks.old }
-    requires i_in_bounds { (i < length leader.now) × Room (length a.now) t }
-    ensures { LedStiffened i round g ladder.now level.now a.now b.now km.now share.now cap.now sheet.now leader.now grounds.now e.from e.to e.weight angle.now
+    requires stiffenable { Stiffenable (grid_in grid.now) level.now (opened_in opened.now) e.from e.to e.weight angle.now circuits.old banks.old floors.old upsized.old marks.old }
+    requires i_in_bounds { (i < length opened.now.leader.now) × Room (length grid.now.a.now) t }
+    ensures { LedStiffened i round g (grid_in grid.now) level.now (opened_in opened.now) e.from e.to e.weight angle.now
         circuits.old banks.old floors.old upsized.old marks.old t
         circuits.new banks.new floors.new upsized.new marks.new result }
 {
-    if leader[i] as usize == i {
+    if opened.leader[i] as usize == i {
         return stiffen_component(
-            i, round, g, ladder, level, a, b, km, share, cap, sheet, leader, grounds, e, angle,
-            circuits, banks, floors, upsized, marks, t,
+            i, round, g, grid, level, opened, e, angle, circuits, banks, floors, upsized, marks, t,
         );
     }
     Ok(t)

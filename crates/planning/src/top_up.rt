@@ -69,9 +69,9 @@ pub fn give(
     requires { Accepted (length pmin.now) (units_of pmin.now pmax.now c1.now c2.now) demand (length mw.old) }
     ensures { stage_of result mw.new ≡ given_stage (tops_up mode) (units_of pmin.now pmax.now c1.now c2.now) demand }
 {
-    if let Err(f) = dispatch::economic_dispatch(pmin.len(), pmin, pmax, c1, c2, demand, mw) {
-        return Err(Refusal::Cost(f.index()));
-    }
+    dispatch::economic_dispatch(pmin.len(), pmin, pmax, c1, c2, demand, mw).map_err(
+        |f| Refusal::Cost(f.index()),
+    )?;
     if tops_up(mode) {
         top_up(demand, pmax, c1, mw);
     }

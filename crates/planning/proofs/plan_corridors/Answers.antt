@@ -1,6 +1,6 @@
 -- The check's refusals touch nothing; what passes it is a sound case, of which the stages lead to the defined plan, and the slices are cleared as the definition
 -- has them. Demand 3 is a theorem of the defined plan.
-use Rattle.std.proofs.Common.{◌≡◌, Bool, not, ◌&&◌, Err, sym, refl, ap, ◌∙◌, rules}
+use Rattle.std.proofs.Common.{arith, ◌≡◌, Bool, not, ◌&&◌, Err, sym, refl, ap, ◌∙◌, rules}
 use Rattle.loads.proofs.One.{loads_lent, loads_room}
 use Rattle.plan_defs.specs.Case.{surveyed}
 use Rattle.plan_defs.specs.Outcome.{slices, slices_ok}
@@ -20,8 +20,8 @@ returns-in_err-check_case-clause-plan c =
     let h : c.from_residual.result ≡ Err c.in_err-check_case.field-0.0 = search rules in
     rw h ((ends_unaccepted case z.target lent (λ e k l. c.type_inv.pmin k) _ (sym c.in_err-check_case.was ∙ answer)).0)
 
-pub slice_bounds-run-end : goal.slice_bounds-run-end
-slice_bounds-run-end c =
+pub slice_bounds-supply-end : goal.slice_bounds-supply-end
+slice_bounds-supply-end c =
     let z = c.args in
     let case = surveyed z.mode z.n z.m z.g z.above z.requested z.ladder.now z.tier.now z.reading.now z.weight.now z.bus.now z.slack.now z.pmin.now z.pmax.now z.c1.now z.c2.now z.a.now z.b.now z.initial.now z.km.now z.share.now z.cap.now z.sheet.now in
     let lent = slices z.circuits.now z.flow.now z.rate.now z.before.now z.order.now z.kept_cap.now z.mw.now z.angle.now z.level.now z.ground.now z.added.now z.figures.now z.counts.now in
@@ -64,7 +64,7 @@ copied-caps-requires c =
     let lent = slices z.circuits.now z.flow.now z.rate.now z.before.now z.order.now z.kept_cap.now z.mw.now z.angle.now z.level.now z.ground.now z.added.now z.figures.now z.counts.now in
     let answer : c.check_case.result ≡ check_of (slices_ok case lent) (tables_of_lem case) z.target = checked case z.target lent _ _ c.places_ok-fits.ensures c.check_case.ensures in
     let q = c.in_ok-check_case.was in
-    caps_fit case z.target lent c.check_case.result answer q
+    (omega arith, caps_fit case z.target lent c.check_case.result answer q)
 
 pub keep_if-requires-3 : goal.keep_if-requires-3
 keep_if-requires-3 c =

@@ -1,18 +1,19 @@
 -- The ends, the line between them and the bank make the definition's design.
 use Rattle.planning.proofs.Draws.{ends_fit, line_fits, circuit_is}
 use Rattle.planning.proofs.design.circuit.Goals as goal
+use Rattle.planning.specs.Tables.{grid_in}
 
 pub ends_of-e-requires : goal.ends_of-e-requires
-ends_of-e-requires c = let z = c.args in ends_fit z.ladder.now z.level.now z.a.now z.b.now z.km.now z.share.now z.sheet.now z.k c.requires.lines c.requires.k_in_bounds.0
+ends_of-e-requires c = let z = c.args in ends_fit (grid_in z.grid.now) z.level.now z.k c.requires.lines c.requires.k_in_bounds.0
 
 pub line_at-d-requires : goal.line_at-d-requires
 line_at-d-requires c =
     let s = c in
     let z = s.args in
-    line_fits z.ladder.now z.level.now z.a.now z.b.now z.km.now z.share.now z.sheet.now z.k s.requires.lines s.requires.k_in_bounds.0 _ c.ends_of-e.ensures
+    line_fits (grid_in z.grid.now) z.level.now z.k s.requires.lines s.requires.k_in_bounds.0 _ c.ends_of-e.ensures
 
 pub returns : goal.returns
 returns c =
     let s = c in
     let z = s.args in
-    circuit_is z.ladder.now z.level.now z.a.now z.b.now z.km.now z.share.now z.sheet.now z.k s.requires.lines s.requires.k_in_bounds.0 z.mva _ _ _ c.ends_of-e.ensures c.line_at-d.ensures c.banked_if.ensures
+    circuit_is (grid_in z.grid.now) z.level.now z.k s.requires.lines s.requires.k_in_bounds.0 z.mva _ _ _ c.ends_of-e.ensures c.line_at-d.ensures c.banked_if.ensures

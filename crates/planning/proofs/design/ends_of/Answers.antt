@@ -2,6 +2,7 @@
 use Rattle.std.proofs.Common.{refl, ℕ, ◌<◌, length, subst}
 use Rattle.planning.proofs.Draws.{ends_are}
 use Rattle.planning.proofs.design.ends_of.Goals as goal
+use Rattle.planning.specs.Tables.{grid_in}
 
 pub kv_at-kv_a-requires : goal.kv_at-kv_a-requires
 kv_at-kv_a-requires c =
@@ -18,5 +19,5 @@ kv_at-kv_b-requires c =
 pub returns : goal.returns
 returns c =
     let z = c.args in
-    ends_are z.ladder.now z.level.now z.a.now z.b.now z.k _ _ _ _ _ _ _ refl refl c.kv_at-kv_a.ensures
+    ends_are (grid_in z.grid.now) z.level.now z.k _ _ _ _ _ _ _ refl refl c.kv_at-kv_a.ensures
     c.kv_at-kv_b.ensures c.choose-from.ensures c.choose-to.ensures c.differ-steps_down.ensures

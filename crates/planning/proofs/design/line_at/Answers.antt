@@ -2,8 +2,9 @@
 use Rattle.std.proofs.Common.{refl, ◌∙◌}
 use Rattle.planning.proofs.Draws.{line_is}
 use Rattle.planning.proofs.design.line_at.Goals as goal
+use Rattle.planning.specs.Tables.{grid_in}
 
 pub returns : goal.returns
 returns c =
     let z = c.args in
-    c.line_from.ensures ∙ line_is z.ladder.now z.level.now z.km.now z.share.now z.sheet.now z.k z.from z.to _ _ refl c.row_place-row.ensures
+    c.line_from.ensures ∙ line_is (grid_in z.grid.now) z.level.now z.k z.from z.to _ _ refl c.row_place-row.ensures

@@ -10,12 +10,6 @@ loop-i-init c =
     let s = c.args in
     (omega arith, omega arith, shift_start s.p s.k s.order.now (omega arith), shifted_here s.p s.k s.order.now)
 
-pub bounds-order-i : goal.bounds-order-i
-bounds-order-i c = omega arith
-
-pub bounds-order-i-in-loop-i : goal.bounds-order-i-in-loop-i
-bounds-order-i-in-loop-i c = omega arith
-
 pub loop-i-preserved : goal.loop-i-preserved
 loop-i-preserved c =
     let l = c.loop-i in

@@ -11,21 +11,16 @@ unfolding dispatch_of
 loop-i-init c =
     let s = c in (
       omega arith,
-      c.clear_figures.auto.figures ∙ s.requires.3,
-      stage_start (serve (dispatch_case c.args.mode c.args.load.now c.args.bus.now c.args.pmin.now c.args.pmax.now c.args.c1.now c.args.c2.now) c.args.leader.now) (leads c.args.leader.now) _ _ _ (c.clear_figures.ensures ∙ ap (λ (n : ℕ). replicate n nought) s.requires.3),
+      c.fill.ensures.len ∙ s.requires.3,
+      stage_start (serve (dispatch_case c.args.mode c.args.supply.now.load.now c.args.supply.now.bus.now c.args.supply.now.pmin.now c.args.supply.now.pmax.now c.args.supply.now.c1.now c.args.supply.now.c2.now) c.args.leader.now) (leads c.args.leader.now) _ _ _ ((c.fill.ensures.after (λ y e. e)) ∙ ap (λ (n : ℕ). replicate n nought) s.requires.3),
     )
-
-pub serve_led-requires : goal.serve_led-requires
-serve_led-requires c =
-    let s = c in
-    (omega arith, s.requires.0, s.requires.1, s.requires.2, c.loop-i.invariant.1)
 
 pub returns-in_err-serve_led : goal.returns-in_err-serve_led
 returns-in_err-serve_led c =
     let s = c.args in
     let l = c.loop-i in
     let h : c.from_residual.result ≡ Err c.in_err-serve_led.field-0.0 = search rules in
-    rw h (stage_stopped (serve (dispatch_case s.mode s.load.now s.bus.now s.pmin.now s.pmax.now s.c1.now s.c2.now) s.leader.now) (leads s.leader.now) _ l.i (omega arith) l.mw _ c.serve_led.result c.serve_led.ensures _ c.in_err-serve_led.was ∙ l.invariant.2)
+    rw h (stage_stopped (serve (dispatch_case s.mode s.supply.now.load.now s.supply.now.bus.now s.supply.now.pmin.now s.supply.now.pmax.now s.supply.now.c1.now s.supply.now.c2.now) s.leader.now) (leads s.leader.now) _ l.i (omega arith) l.mw _ c.serve_led.result c.serve_led.ensures _ c.in_err-serve_led.was ∙ l.invariant.2)
 
 pub loop-i-preserved : goal.loop-i-preserved
 loop-i-preserved c =
@@ -33,13 +28,10 @@ loop-i-preserved c =
     let l = c.loop-i in (
       omega arith,
       c.serve_led.auto.mw ∙ l.invariant.1,
-      stage_going (serve (dispatch_case s.args.mode s.args.load.now s.args.bus.now s.args.pmin.now s.args.pmax.now s.args.c1.now s.args.c2.now) s.args.leader.now) (leads s.args.leader.now) _ l.i (omega arith) l.mw _ c.serve_led.result c.serve_led.ensures c.in_ok-serve_led.was ∙ l.invariant.2,
+      stage_going (serve (dispatch_case s.args.mode s.args.supply.now.load.now s.args.supply.now.bus.now s.args.supply.now.pmin.now s.args.supply.now.pmax.now s.args.supply.now.c1.now s.args.supply.now.c2.now) s.args.leader.now) (leads s.args.leader.now) _ l.i (omega arith) l.mw _ c.serve_led.result c.serve_led.ensures c.in_ok-serve_led.was ∙ l.invariant.2,
     )
-
-pub shape_of-mw : goal.shape_of-mw
-shape_of-mw c = c.loop-i.invariant.1 ∙ sym c.requires.3
 
 pub returns : goal.returns
 returns c =
     let s = c in
-    sym (stage_end (serve (dispatch_case s.args.mode s.args.load.now s.args.bus.now s.args.pmin.now s.args.pmax.now s.args.c1.now s.args.c2.now) s.args.leader.now) (leads s.args.leader.now) _ c.loop-i.i (omega arith) _) ∙ c.loop-i.invariant.2
+    sym (stage_end (serve (dispatch_case s.args.mode s.args.supply.now.load.now s.args.supply.now.bus.now s.args.supply.now.pmin.now s.args.supply.now.pmax.now s.args.supply.now.c1.now s.args.supply.now.c2.now) s.args.leader.now) (leads s.args.leader.now) _ c.loop-i.i (omega arith) _) ∙ c.loop-i.invariant.2

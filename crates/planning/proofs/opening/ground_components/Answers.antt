@@ -1,18 +1,9 @@
-use Rattle.std.proofs.Common.{refl, sym, ◌∙◌, ⊎_elim, arith, ne_eqb}
+use Rattle.std.proofs.Common.{refl, ⊎_elim, arith, ne_eqb}
 use Rattle.planning.proofs.Grounds.{grounded_start, grounded_yes, grounded_no, grounded_end}
 use Rattle.planning.proofs.opening.ground_components.Goals as goal
 
 pub loop-i-init : goal.loop-i-init
-loop-i-init c = grounded_start _ _ _ c.args.ground.now _ c.requires.2 c.clear_counts.ensures
-
-pub ground_of-requires : goal.ground_of-requires
-ground_of-requires c = (c.requires.0, c.requires.1)
-
-pub offset_bounds-ground-count : goal.offset_bounds-ground-count
-offset_bounds-ground-count c = omega (arith, c.loop-i.invariant.few, c.loop-i.invariant.size, c.requires.2, c.well_formed)
-
-pub bounds-ground-count : goal.bounds-ground-count
-bounds-ground-count c = omega (arith, c.loop-i.invariant.few, c.loop-i.invariant.size)
+loop-i-init c = grounded_start _ _ _ c.args.ground.now _ c.requires.2 (c.fill.ensures.after (λ y e. e))
 
 pub loop-i-preserved : goal.loop-i-preserved
 loop-i-preserved c =
@@ -21,9 +12,6 @@ loop-i-preserved c =
     (λ w. rw (w.ground-is, w.count-is) (grounded_yes _ _ _ l.ground l.count l.i _ _ l.invariant (omega arith) refl w.if-leader-i.true w.ground_of.ensures))
     (λ w. rw (w.ground-is, w.count-is) (grounded_no _ _ _ l.ground l.count l.i l.invariant (omega arith) (ne_eqb _ _ (λ e. w.if-leader-i.false (e)))))
     c.if-leader-i.branch-raw
-
-pub shape_of-ground : goal.shape_of-ground
-shape_of-ground c = c.loop-i.invariant.size ∙ sym c.requires.2
 
 pub returns : goal.returns
 returns c = let both-parts = grounded_end _ _ _ _ _ c.loop-i.i c.loop-i.invariant (omega arith) in record { count = both-parts.0; held = both-parts.1 }

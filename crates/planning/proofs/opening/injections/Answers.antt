@@ -2,6 +2,7 @@ use Rattle.std.proofs.Common.{length, ap, ◌∙◌, arith}
 use Rattle.loops.proofs.Tab.{length_tab}
 use Rattle.planning.proofs.Injecting.{injections_are}
 use Rattle.planning.proofs.opening.injections.Goals as goal
+use Rattle.planning.specs.Tables.{supply_in}
 
 pub inject-requires : goal.inject-requires
 inject-requires c =
@@ -11,5 +12,5 @@ inject-requires c =
 
 pub returns : goal.returns
 returns c =
-    injections_are c.args.load.now c.args.bus.now c.args.mw.now _ _ _ c.withdraw.ensures c.inject.ensures
+    injections_are (supply_in c.args.supply.now) c.args.mw.now _ _ _ c.withdraw.ensures c.inject.ensures
     (c.inject.auto.injection ∙ ap length c.withdraw.ensures ∙ length_tab _ _) c.per_unit.ensures

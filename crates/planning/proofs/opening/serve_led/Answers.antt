@@ -7,4 +7,4 @@ pub returns-then-leader-i : goal.returns-then-leader-i
 returns-then-leader-i c = led_yes _ _ _ _ _ refl _ c.if-leader-i.true c.serve.ensures
 
 pub returns : goal.returns
-returns c = led_no (dispatch_case c.args.mode c.args.load.now c.args.bus.now c.args.pmin.now c.args.pmax.now c.args.c1.now c.args.c2.now) c.args.leader.now c.args.i _ _ refl c.if-leader-i.false
+returns c = led_no (dispatch_case c.args.mode c.args.supply.now.load.now c.args.supply.now.bus.now c.args.supply.now.pmin.now c.args.supply.now.pmax.now c.args.supply.now.c1.now c.args.supply.now.c2.now) c.args.leader.now c.args.i _ _ refl c.if-leader-i.false

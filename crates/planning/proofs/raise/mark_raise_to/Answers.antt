@@ -9,7 +9,7 @@ returns-then-tier-top c =
     let w = refl in
     let v = refl in
     let f = c.min-tier.ensures in
-    record { marks = unmarked z.level.now z.a.now z.b.now z.k z.top _ _ _ w v f z.marks.now c.if-tier-top.true; answer = cannot_raise z.level.now z.a.now z.b.now z.k z.top _ _ _ w v f c.if-tier-top.true }
+    record { marks = unmarked z.level.now z.grid.now.a.now z.grid.now.b.now z.k z.top _ _ _ w v f z.marks.now c.if-tier-top.true; answer = cannot_raise z.level.now z.grid.now.a.now z.grid.now.b.now z.k z.top _ _ _ w v f c.if-tier-top.true }
 
 pub returns : goal.returns
 returns c =
@@ -18,4 +18,4 @@ returns c =
     let v = refl in
     let f = c.min-tier.ensures in
     let h = c.if-tier-top.false in
-    record { marks = marks_ends z.level.now z.a.now z.b.now z.k z.top _ _ _ w v f z.marks.now _ h c.mark_both.ensures; answer = can_raise_lem z.level.now z.a.now z.b.now z.k z.top _ _ _ w v f h }
+    record { marks = marks_ends z.level.now z.grid.now.a.now z.grid.now.b.now z.k z.top _ _ _ w v f z.marks.now _ h c.mark_both.ensures; answer = can_raise_lem z.level.now z.grid.now.a.now z.grid.now.b.now z.k z.top _ _ _ w v f h }

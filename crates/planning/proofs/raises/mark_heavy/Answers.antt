@@ -2,6 +2,7 @@
 use Rattle.std.proofs.Common.{arith}
 use Rattle.planning.proofs.Heavies.{heavy_marked, light_unmarked}
 use Rattle.planning.proofs.raises.mark_heavy.Goals as goal
+use Rattle.planning.specs.Tables.{grid_in}
 
 pub circuit-d-requires : goal.circuit-d-requires
 circuit-d-requires c =
@@ -23,12 +24,12 @@ pub returns-then-too_heavy : goal.returns-then-too_heavy
 returns-then-too_heavy c =
     let s = c in
     let z = s.args in
-    heavy_marked z.ladder.now z.level.now z.a.now z.b.now z.km.now z.share.now z.sheet.now z.banks.now z.flow.now z.k s.requires.1
+    heavy_marked (grid_in z.grid.now) z.level.now z.banks.now z.flow.now z.k s.requires.1
     c.circuit-d.result c.circuit-d.ensures c.too_heavy.result c.too_heavy.ensures z.marks.now c.if-too_heavy.true _ c.mark_raise_to.ensures.marks
 
 pub returns-else-too_heavy : goal.returns-else-too_heavy
 returns-else-too_heavy c =
     let s = c in
     let z = s.args in
-    light_unmarked z.ladder.now z.level.now z.a.now z.b.now z.km.now z.share.now z.sheet.now z.banks.now z.flow.now z.k s.requires.1
+    light_unmarked (grid_in z.grid.now) z.level.now z.banks.now z.flow.now z.k s.requires.1
     c.circuit-d.result c.circuit-d.ensures c.too_heavy.result c.too_heavy.ensures z.marks.now c.if-too_heavy.false

@@ -1,6 +1,7 @@
 use Rattle.std.proofs.Common.{◌∙◌}
 use Rattle.planning.proofs.Heavies.{heavy_raised}
 use Rattle.planning.proofs.raises.raise_heavy.Goals as goal
+use Rattle.planning.specs.Tables.{grid_in, supply_in}
 
 pub raise_marked-requires : goal.raise_marked-requires
 raise_marked-requires c =
@@ -10,5 +11,5 @@ raise_marked-requires c =
 pub returns : goal.returns
 returns c =
     let z = c.args in
-    heavy_raised z.ladder.now z.level.now z.a.now z.b.now z.km.now z.share.now z.sheet.now z.load.now z.bus.now z.pmax.now z.flow.now z.floors.now z.banks.now _ _ _ _
+    heavy_raised (grid_in z.grid.now) z.level.now (supply_in z.supply.now) z.flow.now z.floors.now z.banks.now _ _ _ _
     c.heavy_marks.ensures c.raise_marked.ensures

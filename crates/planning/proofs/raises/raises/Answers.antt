@@ -1,22 +1,23 @@
 use Rattle.std.proofs.Common.{rules, ◌≡◌, Err, sym, ◌∙◌, arith}
 use Rattle.planning.proofs.Promoting.{unpromoted, underway_start, raisable_again, done_last, done_refused, moved_few, done_still, underway_next}
 use Rattle.planning.proofs.raises.raises.Goals as goal
+use Rattle.planning.specs.Tables.{grid_in, supply_in, opened_in}
 
 pub returns-then-not-promotes : goal.returns-then-not-promotes
 returns-then-not-promotes c =
     let z = c.args in
-    unpromoted z.ladder.now z.a.now z.b.now z.km.now z.share.now z.sheet.now z.load.now z.bus.now z.pmax.now z.grounds.now z.injection.now z.circuits.now z.floors.now z.banks.now z.level.now z.marks.now z.angle.now z.flow.now z.mode (sym c.promotes.ensures ∙ c.if-not-promotes.true) c.requires
+    unpromoted (grid_in z.grid.now) (supply_in z.supply.now) (opened_in z.opened.now) z.circuits.now z.floors.now z.banks.now z.level.now z.marks.now z.angle.now z.flow.now z.mode (sym c.promotes.ensures ∙ c.if-not-promotes.true) c.requires
 
 pub loop-turn-init : goal.loop-turn-init
 loop-turn-init c =
     let z = c.args in
-    underway_start z.ladder.now z.a.now z.b.now z.km.now z.share.now z.sheet.now z.load.now z.bus.now z.pmax.now z.grounds.now z.injection.now z.circuits.now z.floors.now z.banks.now z.level.now z.marks.now z.angle.now z.flow.now c.requires
+    underway_start (grid_in z.grid.now) (supply_in z.supply.now) (opened_in z.opened.now) z.circuits.now z.floors.now z.banks.now z.level.now z.marks.now z.angle.now z.flow.now c.requires
 
 pub pass-requires : goal.pass-requires
 pass-requires c =
     let z = c.args in
     let l = c.loop-turn in
-    raisable_again z.ladder.now z.a.now z.b.now z.km.now z.share.now z.sheet.now z.load.now z.bus.now z.pmax.now z.grounds.now z.injection.now z.circuits.now z.floors.now z.banks.now z.level.now z.marks.now z.angle.now z.flow.now l.banks l.level l.marks l.angle l.flow l.promoted l.turn l.invariant c.requires
+    raisable_again (grid_in z.grid.now) (supply_in z.supply.now) (opened_in z.opened.now) z.circuits.now z.floors.now z.banks.now z.level.now z.marks.now z.angle.now z.flow.now l.banks l.level l.marks l.angle l.flow l.promoted l.turn l.invariant c.requires
 
 pub shape_of-banks-in_err-moved : goal.shape_of-banks-in_err-moved
 shape_of-banks-in_err-moved c = c.pass.auto.banks ∙ c.loop-turn.invariant.bank_size
@@ -38,13 +39,13 @@ returns-in_err-moved c =
     let z = c.args in
     let l = c.loop-turn in
     let h : c.from_residual.result ≡ Err c.in_err-moved.field-0.0 = search rules in
-    rw h (done_refused z.ladder.now z.a.now z.b.now z.km.now z.share.now z.sheet.now z.load.now z.bus.now z.pmax.now z.grounds.now z.injection.now z.circuits.now z.floors.now z.banks.now z.level.now z.marks.now z.angle.now z.flow.now l.banks l.level l.marks l.angle l.flow l.promoted l.turn l.invariant c.loop-turn-test.true _ _ c.pass.result c.pass.ensures z.mode (sym c.promotes.ensures ∙ c.if-not-promotes.false) _ c.in_err-moved.was)
+    rw h (done_refused (grid_in z.grid.now) (supply_in z.supply.now) (opened_in z.opened.now) z.circuits.now z.floors.now z.banks.now z.level.now z.marks.now z.angle.now z.flow.now l.banks l.level l.marks l.angle l.flow l.promoted l.turn l.invariant c.loop-turn-test.true _ _ c.pass.result c.pass.ensures z.mode (sym c.promotes.ensures ∙ c.if-not-promotes.false) _ c.in_err-moved.was)
 
 pub overflow_add-promoted : goal.overflow_add-promoted
 overflow_add-promoted c =
     let z = c.args in
     let l = c.loop-turn in
-    omega (arith, l.invariant.turns, l.invariant.bound, moved_few z.ladder.now z.a.now z.b.now z.km.now z.share.now z.sheet.now z.load.now z.bus.now z.pmax.now z.grounds.now z.injection.now z.circuits.now z.floors.now z.banks.now z.level.now z.marks.now z.angle.now z.flow.now l.banks l.level l.marks l.angle l.flow l.promoted l.turn l.invariant c.loop-turn-test.true _ _ c.pass.result c.pass.ensures c.in_ok-moved.moved c.in_ok-moved.was)
+    omega (arith, l.invariant.turns, l.invariant.bound, moved_few (grid_in z.grid.now) (supply_in z.supply.now) (opened_in z.opened.now) z.circuits.now z.floors.now z.banks.now z.level.now z.marks.now z.angle.now z.flow.now l.banks l.level l.marks l.angle l.flow l.promoted l.turn l.invariant c.loop-turn-test.true _ _ c.pass.result c.pass.ensures c.in_ok-moved.moved c.in_ok-moved.was)
 
 pub loop-turn-smaller : goal.loop-turn-smaller
 loop-turn-smaller c = omega (arith, c.loop-turn-test.true)
@@ -54,7 +55,7 @@ loop-turn-preserved c =
     let z = c.args in
     let l = c.loop-turn in
     let k = c.pass.auto in
-    underway_next z.ladder.now z.a.now z.b.now z.km.now z.share.now z.sheet.now z.load.now z.bus.now z.pmax.now z.grounds.now z.injection.now z.circuits.now z.floors.now z.banks.now z.level.now z.marks.now z.angle.now z.flow.now l.banks l.level l.marks l.angle l.flow l.promoted l.turn l.invariant c.loop-turn-test.true _ _ c.pass.result c.pass.ensures _ c.in_ok-moved.was c.if-moved-eq0.false c.requires.few_levels _ _ _
+    underway_next (grid_in z.grid.now) (supply_in z.supply.now) (opened_in z.opened.now) z.circuits.now z.floors.now z.banks.now z.level.now z.marks.now z.angle.now z.flow.now l.banks l.level l.marks l.angle l.flow l.promoted l.turn l.invariant c.loop-turn-test.true _ _ c.pass.result c.pass.ensures _ c.in_ok-moved.was c.if-moved-eq0.false c.requires.few_levels _ _ _
     k.banks k.level k.marks k.angle k.flow
 
 pub shape_of-banks-after-loop-turn : goal.shape_of-banks-after-loop-turn
@@ -76,7 +77,7 @@ pub returns-after-loop-turn : goal.returns-after-loop-turn
 returns-after-loop-turn c =
     let z = c.args in
     let l = c.loop-turn in
-    done_last z.ladder.now z.a.now z.b.now z.km.now z.share.now z.sheet.now z.load.now z.bus.now z.pmax.now z.grounds.now z.injection.now z.circuits.now z.floors.now z.banks.now z.level.now z.marks.now z.angle.now z.flow.now l.banks l.level l.marks l.angle l.flow l.promoted l.turn l.invariant z.mode (sym c.promotes.ensures ∙ c.if-not-promotes.false) c.loop-turn-test.false
+    done_last (grid_in z.grid.now) (supply_in z.supply.now) (opened_in z.opened.now) z.circuits.now z.floors.now z.banks.now z.level.now z.marks.now z.angle.now z.flow.now l.banks l.level l.marks l.angle l.flow l.promoted l.turn l.invariant z.mode (sym c.promotes.ensures ∙ c.if-not-promotes.false) c.loop-turn-test.false
 
 pub shape_of-banks-then-moved-eq0 : goal.shape_of-banks-then-moved-eq0
 shape_of-banks-then-moved-eq0 c = c.pass.auto.banks ∙ c.loop-turn.invariant.bank_size
@@ -97,4 +98,4 @@ pub returns-then-moved-eq0 : goal.returns-then-moved-eq0
 returns-then-moved-eq0 c =
     let z = c.args in
     let l = c.loop-turn in
-    done_still z.ladder.now z.a.now z.b.now z.km.now z.share.now z.sheet.now z.load.now z.bus.now z.pmax.now z.grounds.now z.injection.now z.circuits.now z.floors.now z.banks.now z.level.now z.marks.now z.angle.now z.flow.now l.banks l.level l.marks l.angle l.flow l.promoted l.turn l.invariant c.loop-turn-test.true _ _ c.pass.result c.pass.ensures _ c.in_ok-moved.was z.mode (sym c.promotes.ensures ∙ c.if-not-promotes.false) c.if-moved-eq0.true
+    done_still (grid_in z.grid.now) (supply_in z.supply.now) (opened_in z.opened.now) z.circuits.now z.floors.now z.banks.now z.level.now z.marks.now z.angle.now z.flow.now l.banks l.level l.marks l.angle l.flow l.promoted l.turn l.invariant c.loop-turn-test.true _ _ c.pass.result c.pass.ensures _ c.in_ok-moved.was z.mode (sym c.promotes.ensures ∙ c.if-not-promotes.false) c.if-moved-eq0.true

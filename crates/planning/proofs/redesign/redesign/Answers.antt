@@ -1,22 +1,14 @@
-use Rattle.std.proofs.Common.{sym, refl, subst, le_antisymm, arith, rules}
-use Rattle.loops.proofs.Tab.{fill_start, fill_turn, fill_end, fill_length}
+use Rattle.std.proofs.Common.{sym, subst, le_antisymm, arith, rules}
+use Rattle.loops.proofs.Tab.{fill_start, fill_turn, fill_end}
 use Rattle.planning.specs.Design.{Banks}
 use Rattle.planning.specs.Redesign.{redesign_for, bank_anew, banks_anew}
-use Rattle.planning.proofs.Draws.{ends_fit}
+use Rattle.planning.proofs.Served.{gen_is}
 use Rattle.planning.proofs.Anew.{fresh_ok, bank_defined, banks_anew_sound}
 use Rattle.planning.proofs.redesign.redesign.Goals as goal
-
-pub generation_at-requires : goal.generation_at-requires
-generation_at-requires c = record { units = c.requires.units; gen_at_value = refl }
-
-pub transformer_corridors-requires : goal.transformer_corridors-requires
-transformer_corridors-requires c =
-    let s = c in
-    let z = s.args in
-    record { corridors = record { few = s.requires.few; few_buses = s.requires.loads.few; ends = λ k h. ends_fit z.ladder.now z.level.now z.a.now z.b.now z.km.now z.share.now z.sheet.now k s.requires.lines h }; shared_value = refl }
+use Rattle.planning.specs.Tables.{grid_in, supply_in}
 
 pub loop-k-init : goal.loop-k-init
-loop-k-init c = let z = c.args in (search rules, fill_start z.banks.now (bank_anew (redesign_for z.ladder.now z.load.now z.bus.now z.pmax.now z.a.now z.b.now z.km.now z.share.now z.sheet.now) z.level.now z.floors.now))
+loop-k-init c = let z = c.args in (search rules, fill_start z.banks.now (bank_anew (redesign_for (grid_in z.grid.now) (supply_in z.supply.now)) z.level.now z.floors.now))
 
 pub circuit_anew-d-requires : goal.circuit_anew-d-requires
 circuit_anew-d-requires c =
@@ -28,14 +20,8 @@ circuit_anew-d-requires c =
       loads = s.requires.loads;
       corridor = h;
       floor_size = omega (arith, h, s.requires.floor_size);
-      fresh = fresh_ok z.ladder.now z.level.now z.a.now z.b.now z.km.now z.share.now z.sheet.now z.load.now z.bus.now z.pmax.now z.floors.now _ _ c.loop-k.k s.requires.lines s.requires.loads s.requires.units s.requires.few h c.generation_at.ensures c.transformer_corridors.ensures;
+      fresh = fresh_ok (grid_in z.grid.now) z.level.now (supply_in z.supply.now) z.floors.now _ _ c.loop-k.k s.requires.lines s.requires.loads s.requires.units s.requires.few h (gen_is (supply_in z.supply.now) _ s.requires.units.bus_below c.inject.ensures) c.transformer_corridors.ensures;
     }
-
-pub offset_bounds-banks-k : goal.offset_bounds-banks-k
-offset_bounds-banks-k c = omega (arith, c.loop-k-test.true, c.requires.few)
-
-pub bounds-banks-k : goal.bounds-banks-k
-bounds-banks-k c = omega (arith, c.loop-k-test.true, c.requires.bank_size, fill_length _ _ _ _ c.loop-k.invariant.1 (omega (arith, c.loop-k.invariant.0, c.requires.bank_size)))
 
 pub loop-k-preserved : goal.loop-k-preserved
 loop-k-preserved c =
@@ -44,11 +30,8 @@ loop-k-preserved c =
     let h = c.loop-k-test.true in (
       omega arith,
       fill_turn z.banks.now _ _ _ _ c.loop-k.invariant.1 (omega (arith, h, s.requires.bank_size))
-          (bank_defined z.ladder.now z.level.now z.a.now z.b.now z.km.now z.share.now z.sheet.now z.load.now z.bus.now z.pmax.now z.floors.now _ _ c.loop-k.k s.requires.lines s.requires.loads s.requires.units s.requires.few h c.generation_at.ensures c.transformer_corridors.ensures _ _ c.bank_of.ensures c.circuit_anew-d.ensures),
+          (bank_defined (grid_in z.grid.now) z.level.now (supply_in z.supply.now) z.floors.now _ _ c.loop-k.k s.requires.lines s.requires.loads s.requires.units s.requires.few h (gen_is (supply_in z.supply.now) _ s.requires.units.bus_below c.inject.ensures) c.transformer_corridors.ensures _ _ c.bank_of.ensures c.circuit_anew-d.ensures),
     )
-
-pub shape_of-banks : goal.shape_of-banks
-shape_of-banks c = fill_length _ _ _ _ c.loop-k.invariant.1 (omega (arith, c.loop-k.invariant.0, c.requires.bank_size))
 
 pub returns : goal.returns
 unfolding banks_anew
@@ -56,4 +39,4 @@ returns c =
     let s = c in
     let z = s.args in
     let e = fill_end z.banks.now _ _ _ _ s.requires.bank_size (le_antisymm c.loop-k.invariant.0 c.loop-k-test.false) c.loop-k.invariant.1 in
-    record { anew = e; sound = subst Banks (sym e) (banks_anew_sound z.ladder.now z.level.now z.a.now z.b.now z.km.now z.share.now z.sheet.now z.load.now z.bus.now z.pmax.now z.floors.now s.requires.lines s.requires.loads s.requires.units s.requires.few) }
+    record { anew = e; sound = subst Banks (sym e) (banks_anew_sound (grid_in z.grid.now) z.level.now (supply_in z.supply.now) z.floors.now s.requires.lines s.requires.loads s.requires.units s.requires.few) }

@@ -3,6 +3,7 @@ use Rattle.std.proofs.Common.{◌≡◌, ◌≤◌, length}
 use Rattle.loops.specs.Loops.{tab}
 use Rattle.planning.proofs.Served.{shared_to}
 use Rattle.planning.proofs.redesign.transformer_corridors.Given as goal
+use Rattle.planning.specs.Tables.{grid_in}
 
 abbrev pub invariant-loop-k : goal.invariant-loop-k
-invariant-loop-k l = (l.k ≤ length l.a) × (l.shared ≡ tab 256 (shared_to l.ladder l.level l.a l.b l.k))
+invariant-loop-k l = (l.k ≤ length l.grid.a.now) × (l.shared ≡ tab 256 (shared_to (grid_in l.grid) l.level l.k))

@@ -3,6 +3,7 @@ use Rattle.planning.specs.Design.{Lines}
 use Rattle.planning.proofs.Marks.{lines_raised}
 use Rattle.planning.proofs.Redrawing.{redrawn_still, redrawn_anew}
 use Rattle.planning.proofs.rounds.raise_marked.Goals as goal
+use Rattle.planning.specs.Tables.{grid_in, supply_in}
 
 pub redesign-requires : goal.redesign-requires
 redesign-requires c =
@@ -11,7 +12,7 @@ redesign-requires c =
     let l = c.raise_buses-moved.ensures.levels in
     let n = c.raise_buses-moved.auto.level in
     record {
-      lines = subst (λ (x : List ℕ). Lines z.ladder.now x z.a.now z.b.now z.km.now z.share.now z.sheet.now) (sym l) (lines_raised z.ladder.now z.level.now z.a.now z.b.now z.km.now z.share.now z.sheet.now z.marks.now s.requires.redesign_fits.lines);
+      lines = subst (λ (x : List ℕ). Lines (grid_in z.grid.now) x) (sym l) (lines_raised (grid_in z.grid.now) z.level.now z.marks.now s.requires.redesign_fits.lines);
       loads = record { load_size = s.requires.redesign_fits.loads.load_size ∙ sym n; few = omega (arith, n, s.requires.redesign_fits.loads.few); sound = s.requires.redesign_fits.loads.sound };
       units = s.requires.redesign_fits.units;
       few = s.requires.redesign_fits.few;
@@ -23,10 +24,10 @@ pub returns-then-moved-gt0 : goal.returns-then-moved-gt0
 returns-then-moved-gt0 c =
     let s = c in
     let z = s.args in
-    redrawn_anew z.ladder.now z.level.now z.a.now z.b.now z.km.now z.share.now z.sheet.now z.load.now z.bus.now z.pmax.now z.marks.now z.floors.now z.banks.now _ _ s.requires.redesign_fits.lines c.raise_buses-moved.ensures.levels c.raise_buses-moved.ensures.count _ c.redesign.ensures.sound c.redesign.ensures.anew c.if-moved-gt0.true
+    redrawn_anew (grid_in z.grid.now) z.level.now (supply_in z.supply.now) z.marks.now z.floors.now z.banks.now _ _ s.requires.redesign_fits.lines c.raise_buses-moved.ensures.levels c.raise_buses-moved.ensures.count _ c.redesign.ensures.sound c.redesign.ensures.anew c.if-moved-gt0.true
 
 pub returns-else-moved-gt0 : goal.returns-else-moved-gt0
 returns-else-moved-gt0 c =
     let s = c in
     let z = s.args in
-    redrawn_still z.ladder.now z.level.now z.a.now z.b.now z.km.now z.share.now z.sheet.now z.load.now z.bus.now z.pmax.now z.marks.now z.floors.now z.banks.now _ _ s.requires.redesign_fits.lines c.raise_buses-moved.ensures.levels c.raise_buses-moved.ensures.count s.requires.marks_len.1 c.if-moved-gt0.false
+    redrawn_still (grid_in z.grid.now) z.level.now (supply_in z.supply.now) z.marks.now z.floors.now z.banks.now _ _ s.requires.redesign_fits.lines c.raise_buses-moved.ensures.levels c.raise_buses-moved.ensures.count s.requires.marks_len.1 c.if-moved-gt0.false

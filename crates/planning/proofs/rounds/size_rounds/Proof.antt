@@ -22,51 +22,52 @@ use Rattle.planning.proofs.rounds.size_rounds.Statement.{statement}
 use Rattle.planning.proofs.rounds.size_rounds.Tie as tie
 use Rattle.std.specs.Prelude.{Result}
 use Rattle.refusal.specs.declared.Refusal.{Refusal}
+use Rattle.planning.specs.Tables.{grid_in, supply_in, opened_in}
 
 abbrev invariant-loop : tie.invariant-loop-k
-invariant-loop mode above budget ladder a b km share cap sheet load bus pmax leader grounds injection circuits₀ banks₀ floors₀ upsized₀ level₀ marks₀ angle flow p₀ left e t₀ k₀ circuits banks floors upsized level marks p t k =
-    (k ≤ length a)
+invariant-loop mode above budget grid supply opened circuits₀ banks₀ floors₀ upsized₀ level₀ marks₀ angle flow p₀ left e t₀ k₀ circuits banks floors upsized level marks p t k =
+    (k ≤ length grid.a.now)
     × (level ≡ level₀)
     × (p ≡ p₀)
-    × Held (length a) (length level) flow circuits banks floors upsized marks
+    × Held (length grid.a.now) (length level) flow circuits banks floors upsized marks
     × Banks banks
     × Few circuits
     × (t.capacity ≤ p₀.capacity + 6 * k)
-    × (to-size mode (length level) ladder level a b km share cap sheet flow k circuits banks floors upsized marks t
-    ≡ size_all (size_for mode (length level) ladder a b km share cap sheet) level flow (build_of (size_for mode (length level) ladder a b km share cap sheet) level circuits₀ banks₀ floors₀ upsized₀) p₀.capacity)
-    × (k ≡ length a → (promote mode ≡ true) × (moved_buses level marks ≡ 0) × (t.added ≡ false))
+    × (to-size mode (length level) (grid_in grid) level flow k circuits banks floors upsized marks t
+    ≡ size_all (size_for mode (length level) (grid_in grid)) level flow (build_of (size_for mode (length level) (grid_in grid)) level circuits₀ banks₀ floors₀ upsized₀) p₀.capacity)
+    × (k ≡ length grid.a.now → (promote mode ≡ true) × (moved_buses level marks ≡ 0) × (t.added ≡ false))
 
 abbrev decreases-loop : tie.decreases-loop-k
-decreases-loop mode above budget ladder a b km share cap sheet load bus pmax leader grounds injection circuits₀ banks₀ floors₀ upsized₀ level₀ marks₀ angle flow p₀ left e t₀ k₀ circuits banks floors upsized level marks p t k =
-    length a - k
+decreases-loop mode above budget grid supply opened circuits₀ banks₀ floors₀ upsized₀ level₀ marks₀ angle flow p₀ left e t₀ k₀ circuits banks floors upsized level marks p t k =
+    length grid.a.now - k
 
 abbrev invariant-loop2 : tie.invariant-loop-i
-invariant-loop2 mode above budget ladder a b km share cap sheet load bus pmax leader grounds injection circuits₀ banks₀ floors₀ upsized₀ level₀ marks₀ angle flow p₀ left e t k g s₀ i₀ circuits banks floors upsized level marks p s i =
-    (i < length leader)
+invariant-loop2 mode above budget grid supply opened circuits₀ banks₀ floors₀ upsized₀ level₀ marks₀ angle flow p₀ left e t k g s₀ i₀ circuits banks floors upsized level marks p s i =
+    (i < length opened.leader.now)
     × (level ≡ level₀)
     × (p ≡ p₀)
     × ((length circuits ≡ length circuits₀) × (length banks ≡ length banks₀) × (length floors ≡ length floors₀) × (length upsized ≡ length upsized₀) × (length marks ≡ length marks₀))
     × Banks banks
     × Few circuits
     × ((s.total ≤ s₀.total + 256 * i) × (s.hv ≤ s₀.hv + 512 * i) × (s.stiffening ≤ s₀.stiffening + 256 * i))
-    × Alike mode above ladder a b km share cap sheet load bus pmax leader grounds injection (length leader)
-    (stiffens_on mode above ladder a b km share cap sheet load bus pmax leader grounds injection (length leader) left level g e.from e.to e.weight angle flow p t i circuits banks floors upsized marks s)
-    (stiffens_on mode above ladder a b km share cap sheet load bus pmax leader grounds injection (length leader) left level₀ g e.from e.to e.weight angle flow p₀ t 0 circuits₀ banks₀ floors₀ upsized₀ marks₀ s₀)
+    × Alike mode above (grid_in grid) (supply_in supply) (opened_in opened) (length opened.leader.now)
+    (stiffens_on mode above (grid_in grid) (supply_in supply) (opened_in opened) (length opened.leader.now) left level g e.from e.to e.weight angle flow p t i circuits banks floors upsized marks s)
+    (stiffens_on mode above (grid_in grid) (supply_in supply) (opened_in opened) (length opened.leader.now) left level₀ g e.from e.to e.weight angle flow p₀ t 0 circuits₀ banks₀ floors₀ upsized₀ marks₀ s₀)
 
 abbrev decreases-loop2 : tie.decreases-loop-i
-decreases-loop2 mode above budget ladder a b km share cap sheet load bus pmax leader grounds injection circuits₀ banks₀ floors₀ upsized₀ level₀ marks₀ angle flow p₀ left e t k g s₀ i₀ circuits banks floors upsized level marks p s i =
-    length leader - i
+decreases-loop2 mode above budget grid supply opened circuits₀ banks₀ floors₀ upsized₀ level₀ marks₀ angle flow p₀ left e t k g s₀ i₀ circuits banks floors upsized level marks p s i =
+    length opened.leader.now - i
 
 abbrev invariant-rounds : tie.invariant-rounds
-invariant-rounds mode above budget ladder a b km share cap sheet load bus pmax leader grounds injection circuits₀ banks₀ floors₀ upsized₀ level₀ marks₀ angle₀ flow₀ p₀ left₀ circuits banks floors upsized level marks angle flow p left =
-    RoundsFit above left p ladder level a b km share cap sheet load bus pmax leader grounds injection circuits banks floors upsized marks angle flow
+invariant-rounds mode above budget grid supply opened circuits₀ banks₀ floors₀ upsized₀ level₀ marks₀ angle₀ flow₀ p₀ left₀ circuits banks floors upsized level marks angle flow p left =
+    RoundsFit above left p (grid_in grid) level (supply_in supply) (opened_in opened) circuits banks floors upsized marks angle flow
     × (length level ≡ length level₀)
-    × Alike mode above ladder a b km share cap sheet load bus pmax leader grounds injection (length leader)
-    (goes_on mode above ladder a b km share cap sheet load bus pmax leader grounds injection (length leader) left level circuits banks floors upsized angle p)
-    (goes_on mode above ladder a b km share cap sheet load bus pmax leader grounds injection (length leader) left₀ level₀ circuits₀ banks₀ floors₀ upsized₀ angle₀ p₀)
+    × Alike mode above (grid_in grid) (supply_in supply) (opened_in opened) (length opened.leader.now)
+    (goes_on mode above (grid_in grid) (supply_in supply) (opened_in opened) (length opened.leader.now) left level circuits banks floors upsized angle p)
+    (goes_on mode above (grid_in grid) (supply_in supply) (opened_in opened) (length opened.leader.now) left₀ level₀ circuits₀ banks₀ floors₀ upsized₀ angle₀ p₀)
 
 abbrev decreases-rounds : tie.decreases-rounds
-decreases-rounds mode above budget ladder a b km share cap sheet load bus pmax leader grounds injection circuits₀ banks₀ floors₀ upsized₀ level₀ marks₀ angle₀ flow₀ p₀ left₀ circuits banks floors upsized level marks angle flow p left =
+decreases-rounds mode above budget grid supply opened circuits₀ banks₀ floors₀ upsized₀ level₀ marks₀ angle₀ flow₀ p₀ left₀ circuits banks floors upsized level marks angle flow p left =
     left
 
 rounds-holds :
@@ -103,7 +104,7 @@ peak-state-requires c κs =
     let r = c.rounds in
     let f = r.invariant.0 in
     let d = c.draw_edges-e.ensures in
-    (peaked z.ladder.now r.level z.a.now z.b.now z.km.now z.share.now z.sheet.now r.circuits r.banks (drawing_of f) _ _ _ d.0 _ _ f.places.angle_size f.places.flow_size d.1.0 d.1.1 d.1.2, lent_of f)
+    (peaked (grid_in z.grid.now) r.level r.circuits r.banks (drawing_of f) _ _ _ d.0 _ _ f.places.angle_size f.places.flow_size d.1.0 d.1.1 d.1.2, lent_of f)
 
 enum-known-f :
     tie.Need-enum_known-f invariant-loop decreases-loop invariant-loop2 decreases-loop2 invariant-rounds decreases-rounds
@@ -113,15 +114,15 @@ enum_told :
     tie.Need-enum_told-1 invariant-loop decreases-loop invariant-loop2 decreases-loop2 invariant-rounds decreases-rounds
 enum_told c = search rules
 
-clear-counts-requires :
-    tie.Need-clear_counts-requires
+fill-requires :
+    tie.Need-fill-requires
     invariant-loop
     decreases-loop
     invariant-loop2
     decreases-loop2
     invariant-rounds
     decreases-rounds
-clear-counts-requires c κs = search rules
+fill-requires c κs = search rules
 
 loop-holds :
     tie.Need-loop-k-init
@@ -143,12 +144,12 @@ loop-holds c =
         bank_size = r.invariant.0.places.bank_size;
         floor_size = r.invariant.0.places.floor_size;
         upsized_size = r.invariant.0.places.upsized_size;
-        mark_size = c.clear_counts.auto.counts ∙ r.invariant.0.places.mark_size;
+        mark_size = c.fill.ensures.0 ∙ r.invariant.0.places.mark_size;
       },
       r.invariant.0.banked,
       r.invariant.0.few,
       omega arith,
-      left_start z.mode (length r.level) z.ladder.now r.level z.a.now z.b.now z.km.now z.share.now z.cap.now z.sheet.now _ r.circuits r.banks r.floors r.upsized _ r.p.capacity _ c.clear_counts.ensures r.invariant.0.places.mark_size,
+      left_start z.mode (length r.level) (grid_in z.grid.now) r.level _ r.circuits r.banks r.floors r.upsized _ r.p.capacity _ (c.fill.ensures.1.1.1.1 (λ y e. e)) r.invariant.0.places.mark_size,
       λ e. absurd (omega (arith, r.invariant.0.some)),
     )
 
@@ -165,7 +166,7 @@ size-corridor-requires c κs =
     let l = c.loop-k in
     let z = c.args in
     record {
-      lines = subst (λ (x : List ℕ). Lines z.ladder.now x z.a.now z.b.now z.km.now z.share.now z.sheet.now) (sym l.invariant.1) r.invariant.0.columns.lines;
+      lines = subst (λ (x : List ℕ). Lines (grid_in z.grid.now) x) (sym l.invariant.1) r.invariant.0.columns.lines;
       held = l.invariant.3;
       banked = l.invariant.4;
       capped = r.invariant.0.capped;
@@ -190,8 +191,8 @@ raise-marked-requires c κs =
     let z = c.args in
     let n = ap (λ (x : List ℕ). length x) l.invariant.1 in (
       record {
-        lines = subst (λ (x : List ℕ). Lines z.ladder.now x z.a.now z.b.now z.km.now z.share.now z.sheet.now) (sym l.invariant.1) r.invariant.0.columns.lines;
-        loads = subst (λ (x : List ℕ). Loads x z.load.now) (sym l.invariant.1) r.invariant.0.columns.loads;
+        lines = subst (λ (x : List ℕ). Lines (grid_in z.grid.now) x) (sym l.invariant.1) r.invariant.0.columns.lines;
+        loads = subst (λ (x : List ℕ). Loads x z.supply.now.load.now) (sym l.invariant.1) r.invariant.0.columns.loads;
         units = r.invariant.0.columns.units;
         few = r.invariant.0.columns.few;
         floor_size = c.size_corridor-t.auto.floors ∙ l.invariant.3.floor_size;
@@ -238,7 +239,7 @@ rounds-again c =
           c.raise_marked-moved.ensures.banked
           (c.size_corridor-t.ensures.few l.invariant.5),
       n ∙ r.invariant.1,
-      sized_again z.mode z.above z.ladder.now z.a.now z.b.now z.km.now z.share.now z.cap.now z.sheet.now z.load.now z.bus.now z.pmax.now z.leader.now z.grounds.now z.injection.now (length z.leader.now) l.level r.level r.circuits r.banks r.floors r.upsized r.angle r.p (goes_on z.mode z.above z.ladder.now z.a.now z.b.now z.km.now z.share.now z.cap.now z.sheet.now z.load.now z.bus.now z.pmax.now z.leader.now z.grounds.now z.injection.now (length z.leader.now) z.budget z.level.now z.circuits.now z.banks.now z.floors.now z.upsized.now z.angle.now z.start) r.left (r.left - 1) (omega (arith, some_left c.if-left-eq0.false)) l.invariant.1 (sym r.invariant.0.places.leader_size) r.invariant.2 _ _ _ c.draw_edges-e.result.from c.draw_edges-e.result.to c.draw_edges-e.result.weight c.draw_edges-e.ensures.0 _ _ r.invariant.0.places.angle_size r.invariant.0.places.flow_size c.peak_state.ensures c.in-Ok.is _ _ _ _ _ _ _ (omega (arith, c.if-k-a.true)) (left_turn z.mode (length l.level) z.ladder.now l.level z.a.now z.b.now z.km.now z.share.now z.cap.now z.sheet.now _ l.k l.circuits l.banks l.floors l.upsized l.marks l.t _ _ _ _ _ _ c.loop-k-test.true c.size_corridor-t.ensures.sized ∙ l.invariant.7) _ l.invariant.2 _ _ _ c.raise_marked-moved.ensures c.if-moved-t.true,
+      sized_again z.mode z.above (grid_in z.grid.now) (supply_in z.supply.now) (opened_in z.opened.now) (length z.opened.now.leader.now) l.level r.level r.circuits r.banks r.floors r.upsized r.angle r.p (goes_on z.mode z.above (grid_in z.grid.now) (supply_in z.supply.now) (opened_in z.opened.now) (length z.opened.now.leader.now) z.budget z.level.now z.circuits.now z.banks.now z.floors.now z.upsized.now z.angle.now z.start) r.left (r.left - 1) (omega (arith, some_left c.if-left-eq0.false)) l.invariant.1 (sym r.invariant.0.places.leader_size) r.invariant.2 _ _ _ c.draw_edges-e.result.from c.draw_edges-e.result.to c.draw_edges-e.result.weight c.draw_edges-e.ensures.0 _ _ r.invariant.0.places.angle_size r.invariant.0.places.flow_size c.peak_state.ensures c.in-Ok.is _ _ _ _ _ _ _ (omega (arith, c.if-k-grid.true)) (left_turn z.mode (length l.level) (grid_in z.grid.now) l.level _ l.k l.circuits l.banks l.floors l.upsized l.marks l.t _ _ _ _ _ _ c.loop-k-test.true c.size_corridor-t.ensures.sized ∙ l.invariant.7) _ l.invariant.2 _ _ _ c.raise_marked-moved.ensures c.if-moved-t.true,
     )
 
 promotes-requires :
@@ -291,7 +292,7 @@ loop-again c =
       c.raise_marked-moved.ensures.banked,
       c.size_corridor-t.ensures.few l.invariant.5,
       omega (arith, c.size_corridor-t.ensures.bound, l.invariant.6),
-      still_sized z.mode z.ladder.now z.a.now z.b.now z.km.now z.share.now z.cap.now z.sheet.now _ _ _ _ _ _ _ _ _ _ _ _ _ _ _ _ lv bk (left_turn z.mode (length l.level) z.ladder.now l.level z.a.now z.b.now z.km.now z.share.now z.cap.now z.sheet.now _ l.k l.circuits l.banks l.floors l.upsized l.marks l.t _ _ _ _ _ _ c.loop-k-test.true c.size_corridor-t.ensures.sized ∙ l.invariant.7),
+      still_sized z.mode (grid_in z.grid.now) _ _ _ _ _ _ _ _ _ _ _ _ _ _ _ _ lv bk (left_turn z.mode (length l.level) (grid_in z.grid.now) l.level _ l.k l.circuits l.banks l.floors l.upsized l.marks l.t _ _ _ _ _ _ c.loop-k-test.true c.size_corridor-t.ensures.sized ∙ l.invariant.7),
       λ e. (sym c.promotes.ensures ∙ c.if-not-promotes.false, still_none _ _ _ _ lv c.raise_marked-moved.ensures.count done.0, done.1),
     )
 
@@ -331,8 +332,8 @@ loop-again-2 c =
       c.size_corridor-t.ensures.banked,
       c.size_corridor-t.ensures.few l.invariant.5,
       omega (arith, c.size_corridor-t.ensures.bound, l.invariant.6),
-      left_turn z.mode (length l.level) z.ladder.now l.level z.a.now z.b.now z.km.now z.share.now z.cap.now z.sheet.now _ l.k l.circuits l.banks l.floors l.upsized l.marks l.t _ _ _ _ _ _ c.loop-k-test.true c.size_corridor-t.ensures.sized ∙ l.invariant.7,
-      λ e. absurd (c.if-k-a.false e),
+      left_turn z.mode (length l.level) (grid_in z.grid.now) l.level _ l.k l.circuits l.banks l.floors l.upsized l.marks l.t _ _ _ _ _ _ c.loop-k-test.true c.size_corridor-t.ensures.sized ∙ l.invariant.7,
+      λ e. absurd (c.if-k-grid.false e),
     )
 
 limits-of-requires :
@@ -357,7 +358,7 @@ stiffness-from-requires c κs =
     let r = c.rounds in
     let l = c.loop-k in
     let n = ap (λ (x : List ℕ). length x) l.invariant.1 in
-    let m : length l.circuits ≡ length c.args.a.now = l.invariant.3.count_size in
+    let m : length l.circuits ≡ length c.args.grid.now.a.now = l.invariant.3.count_size in
     (omega (arith, n, r.invariant.0.columns.loads.few), l.invariant.3.mark_size, record { few = omega (arith, m, r.invariant.0.columns.few); each = λ k h. l.invariant.5 k })
 
 loop2-holds :
@@ -373,7 +374,7 @@ loop2-holds c =
     let l = c.loop-k in
     let z = c.args in
     let h : 0 < length r.level = omega (arith, r.invariant.0.columns.lines.a_below 0 r.invariant.0.some) in
-    let w : 0 < length z.leader.now = omega (arith, h, r.invariant.0.places.leader_size) in
+    let w : 0 < length z.opened.now.leader.now = omega (arith, h, r.invariant.0.places.leader_size) in
     (w, refl, refl, (refl, refl, refl, refl, refl), l.invariant.4, l.invariant.5, (omega arith, omega arith, omega arith), λ o target s e. refl)
 
 rounds-less-2 :
@@ -413,10 +414,10 @@ stiffen-led-requires c κs =
     let n = ap (λ (x : List ℕ). length x) lv in
     let f = r.invariant.0 in
     let d = c.draw_edges-e.ensures in
-    let m : length l.circuits ≡ length z.a.now = l.invariant.3.count_size in (
+    let m : length l.circuits ≡ length z.grid.now.a.now = l.invariant.3.count_size in (
       record {
-        lines = subst (λ (x : List ℕ). Lines z.ladder.now x z.a.now z.b.now z.km.now z.share.now z.sheet.now) (sym lv) f.columns.lines;
-        edges = peaked z.ladder.now r.level z.a.now z.b.now z.km.now z.share.now z.sheet.now r.circuits r.banks (drawing_of f) _ _ _ d.0 (length k.level) (length z.a.now) n refl d.1.0 d.1.1 d.1.2;
+        lines = subst (λ (x : List ℕ). Lines (grid_in z.grid.now) x) (sym lv) f.columns.lines;
+        edges = peaked (grid_in z.grid.now) r.level r.circuits r.banks (drawing_of f) _ _ _ d.0 (length k.level) (length z.grid.now.a.now) n refl d.1.0 d.1.1 d.1.2;
         few_grounds = f.places.few_grounds;
         ground_below = λ i h. omega (arith, n, f.places.ground_below i h);
         leader_size = f.places.leader_size ∙ sym n;
@@ -445,17 +446,17 @@ Dom {A} f = A
 
 -- what is left of the stiffening comes to what all the rounds do
 whole : (c : Dom stiffen-led-requires)
-    → Alike c.args.mode c.args.above c.args.ladder.now c.args.a.now c.args.b.now c.args.km.now c.args.share.now c.args.cap.now c.args.sheet.now c.args.load.now c.args.bus.now c.args.pmax.now c.args.leader.now c.args.grounds.now c.args.injection.now (length c.args.leader.now)
-    (stiffens_on c.args.mode c.args.above c.args.ladder.now c.args.a.now c.args.b.now c.args.km.now c.args.share.now c.args.cap.now c.args.sheet.now c.args.load.now c.args.bus.now c.args.pmax.now c.args.leader.now c.args.grounds.now c.args.injection.now (length c.args.leader.now) (c.rounds.left - 1) c.loop-i.level c.limits_of-g.result c.draw_edges-e.result.from c.draw_edges-e.result.to c.draw_edges-e.result.weight c.peak_state.new.angle c.peak_state.new.flow c.loop-i.p c.loop-k.t c.loop-i.i c.loop-i.circuits c.loop-i.banks c.loop-i.floors c.loop-i.upsized c.loop-i.marks c.loop-i.s)
-    (goes_on c.args.mode c.args.above c.args.ladder.now c.args.a.now c.args.b.now c.args.km.now c.args.share.now c.args.cap.now c.args.sheet.now c.args.load.now c.args.bus.now c.args.pmax.now c.args.leader.now c.args.grounds.now c.args.injection.now (length c.args.leader.now) c.args.budget c.args.level.now c.args.circuits.now c.args.banks.now c.args.floors.now c.args.upsized.now c.args.angle.now c.args.start)
+    → Alike c.args.mode c.args.above (grid_in c.args.grid.now) (supply_in c.args.supply.now) (opened_in c.args.opened.now) (length c.args.opened.now.leader.now)
+    (stiffens_on c.args.mode c.args.above (grid_in c.args.grid.now) (supply_in c.args.supply.now) (opened_in c.args.opened.now) (length c.args.opened.now.leader.now) (c.rounds.left - 1) c.loop-i.level c.limits_of-g.result c.draw_edges-e.result.from c.draw_edges-e.result.to c.draw_edges-e.result.weight c.peak_state.new.angle c.peak_state.new.flow c.loop-i.p c.loop-k.t c.loop-i.i c.loop-i.circuits c.loop-i.banks c.loop-i.floors c.loop-i.upsized c.loop-i.marks c.loop-i.s)
+    (goes_on c.args.mode c.args.above (grid_in c.args.grid.now) (supply_in c.args.supply.now) (opened_in c.args.opened.now) (length c.args.opened.now.leader.now) c.args.budget c.args.level.now c.args.circuits.now c.args.banks.now c.args.floors.now c.args.upsized.now c.args.angle.now c.args.start)
 whole c =
-    alike_trans c.args.mode c.args.above c.args.ladder.now c.args.a.now c.args.b.now c.args.km.now c.args.share.now c.args.cap.now c.args.sheet.now c.args.load.now c.args.bus.now c.args.pmax.now c.args.leader.now c.args.grounds.now c.args.injection.now (length c.args.leader.now)
-    (stiffens_on c.args.mode c.args.above c.args.ladder.now c.args.a.now c.args.b.now c.args.km.now c.args.share.now c.args.cap.now c.args.sheet.now c.args.load.now c.args.bus.now c.args.pmax.now c.args.leader.now c.args.grounds.now c.args.injection.now (length c.args.leader.now) (c.rounds.left - 1) c.loop-i.level c.limits_of-g.result c.draw_edges-e.result.from c.draw_edges-e.result.to c.draw_edges-e.result.weight c.peak_state.new.angle c.peak_state.new.flow c.loop-i.p c.loop-k.t c.loop-i.i c.loop-i.circuits c.loop-i.banks c.loop-i.floors c.loop-i.upsized c.loop-i.marks c.loop-i.s)
-    (stiffens_on c.args.mode c.args.above c.args.ladder.now c.args.a.now c.args.b.now c.args.km.now c.args.share.now c.args.cap.now c.args.sheet.now c.args.load.now c.args.bus.now c.args.pmax.now c.args.leader.now c.args.grounds.now c.args.injection.now (length c.args.leader.now) (c.rounds.left - 1) c.loop-k.level c.limits_of-g.result c.draw_edges-e.result.from c.draw_edges-e.result.to c.draw_edges-e.result.weight c.peak_state.new.angle c.peak_state.new.flow c.loop-k.p c.loop-k.t 0 c.loop-k.circuits c.loop-k.banks c.loop-k.floors c.loop-k.upsized c.stiffness_from-s.new.marks c.stiffness_from-s.result)
-    (goes_on c.args.mode c.args.above c.args.ladder.now c.args.a.now c.args.b.now c.args.km.now c.args.share.now c.args.cap.now c.args.sheet.now c.args.load.now c.args.bus.now c.args.pmax.now c.args.leader.now c.args.grounds.now c.args.injection.now (length c.args.leader.now) c.args.budget c.args.level.now c.args.circuits.now c.args.banks.now c.args.floors.now c.args.upsized.now c.args.angle.now c.args.start)
+    alike_trans c.args.mode c.args.above (grid_in c.args.grid.now) (supply_in c.args.supply.now) (opened_in c.args.opened.now) (length c.args.opened.now.leader.now)
+    (stiffens_on c.args.mode c.args.above (grid_in c.args.grid.now) (supply_in c.args.supply.now) (opened_in c.args.opened.now) (length c.args.opened.now.leader.now) (c.rounds.left - 1) c.loop-i.level c.limits_of-g.result c.draw_edges-e.result.from c.draw_edges-e.result.to c.draw_edges-e.result.weight c.peak_state.new.angle c.peak_state.new.flow c.loop-i.p c.loop-k.t c.loop-i.i c.loop-i.circuits c.loop-i.banks c.loop-i.floors c.loop-i.upsized c.loop-i.marks c.loop-i.s)
+    (stiffens_on c.args.mode c.args.above (grid_in c.args.grid.now) (supply_in c.args.supply.now) (opened_in c.args.opened.now) (length c.args.opened.now.leader.now) (c.rounds.left - 1) c.loop-k.level c.limits_of-g.result c.draw_edges-e.result.from c.draw_edges-e.result.to c.draw_edges-e.result.weight c.peak_state.new.angle c.peak_state.new.flow c.loop-k.p c.loop-k.t 0 c.loop-k.circuits c.loop-k.banks c.loop-k.floors c.loop-k.upsized c.stiffness_from-s.new.marks c.stiffness_from-s.result)
+    (goes_on c.args.mode c.args.above (grid_in c.args.grid.now) (supply_in c.args.supply.now) (opened_in c.args.opened.now) (length c.args.opened.now.leader.now) c.args.budget c.args.level.now c.args.circuits.now c.args.banks.now c.args.floors.now c.args.upsized.now c.args.angle.now c.args.start)
     c.loop-i.invariant.7
-    (stiffens c.args.mode c.args.above c.args.ladder.now c.args.a.now c.args.b.now c.args.km.now c.args.share.now c.args.cap.now c.args.sheet.now c.args.load.now c.args.bus.now c.args.pmax.now c.args.leader.now c.args.grounds.now c.args.injection.now (length c.args.leader.now) c.loop-k.level c.rounds.level c.rounds.circuits c.rounds.banks c.rounds.floors c.rounds.upsized c.rounds.angle c.rounds.p
-    (goes_on c.args.mode c.args.above c.args.ladder.now c.args.a.now c.args.b.now c.args.km.now c.args.share.now c.args.cap.now c.args.sheet.now c.args.load.now c.args.bus.now c.args.pmax.now c.args.leader.now c.args.grounds.now c.args.injection.now (length c.args.leader.now) c.args.budget c.args.level.now c.args.circuits.now c.args.banks.now c.args.floors.now c.args.upsized.now c.args.angle.now c.args.start)
+    (stiffens c.args.mode c.args.above (grid_in c.args.grid.now) (supply_in c.args.supply.now) (opened_in c.args.opened.now) (length c.args.opened.now.leader.now) c.loop-k.level c.rounds.level c.rounds.circuits c.rounds.banks c.rounds.floors c.rounds.upsized c.rounds.angle c.rounds.p
+    (goes_on c.args.mode c.args.above (grid_in c.args.grid.now) (supply_in c.args.supply.now) (opened_in c.args.opened.now) (length c.args.opened.now.leader.now) c.args.budget c.args.level.now c.args.circuits.now c.args.banks.now c.args.floors.now c.args.upsized.now c.args.angle.now c.args.start)
     c.rounds.left (c.rounds.left - 1) (omega (arith, some_left c.if-left-eq0.false)) c.loop-k.invariant.1 (sym c.rounds.invariant.0.places.leader_size) c.rounds.invariant.2 _ _ _ c.draw_edges-e.result.from c.draw_edges-e.result.to c.draw_edges-e.result.weight c.draw_edges-e.ensures.0 _ _ c.rounds.invariant.0.places.angle_size c.rounds.invariant.0.places.flow_size c.peak_state.ensures c.in-Ok.is c.loop-k.circuits c.loop-k.banks c.loop-k.floors c.loop-k.upsized c.loop-k.marks c.loop-k.t c.loop-k.k c.loop-k-test.false c.loop-k.invariant.7
     (c.loop-k.invariant.8 (le_antisymm c.loop-k.invariant.0 c.loop-k-test.false)).1 (c.loop-k.invariant.8 (le_antisymm c.loop-k.invariant.0 c.loop-k-test.false)).2 (c.loop-k.invariant.8 (le_antisymm c.loop-k.invariant.0 c.loop-k-test.false)).0 c.loop-k.p c.loop-k.invariant.2 c.limits_of-g.result _ _ c.limits_of-g.ensures c.stiffness_from-s.ensures.0 c.stiffness_from-s.ensures.1)
 
@@ -478,16 +479,16 @@ add-i c = omega (arith, c.loop-i-test.true, c.rounds.invariant.0.places.leader_s
 
 -- and so it does with this component done
 next : (c : Dom add-i)
-    → Alike c.args.mode c.args.above c.args.ladder.now c.args.a.now c.args.b.now c.args.km.now c.args.share.now c.args.cap.now c.args.sheet.now c.args.load.now c.args.bus.now c.args.pmax.now c.args.leader.now c.args.grounds.now c.args.injection.now (length c.args.leader.now)
-    (stiffens_on c.args.mode c.args.above c.args.ladder.now c.args.a.now c.args.b.now c.args.km.now c.args.share.now c.args.cap.now c.args.sheet.now c.args.load.now c.args.bus.now c.args.pmax.now c.args.leader.now c.args.grounds.now c.args.injection.now (length c.args.leader.now) (c.rounds.left - 1) c.loop-i.level c.limits_of-g.result c.draw_edges-e.result.from c.draw_edges-e.result.to c.draw_edges-e.result.weight c.peak_state.new.angle c.peak_state.new.flow c.loop-i.p c.loop-k.t (c.loop-i.i + 1) c.stiffen_led.new.circuits c.stiffen_led.new.banks c.stiffen_led.new.floors c.stiffen_led.new.upsized c.stiffen_led.new.marks c.in-Ok-stiffen_led.u)
-    (goes_on c.args.mode c.args.above c.args.ladder.now c.args.a.now c.args.b.now c.args.km.now c.args.share.now c.args.cap.now c.args.sheet.now c.args.load.now c.args.bus.now c.args.pmax.now c.args.leader.now c.args.grounds.now c.args.injection.now (length c.args.leader.now) c.args.budget c.args.level.now c.args.circuits.now c.args.banks.now c.args.floors.now c.args.upsized.now c.args.angle.now c.args.start)
+    → Alike c.args.mode c.args.above (grid_in c.args.grid.now) (supply_in c.args.supply.now) (opened_in c.args.opened.now) (length c.args.opened.now.leader.now)
+    (stiffens_on c.args.mode c.args.above (grid_in c.args.grid.now) (supply_in c.args.supply.now) (opened_in c.args.opened.now) (length c.args.opened.now.leader.now) (c.rounds.left - 1) c.loop-i.level c.limits_of-g.result c.draw_edges-e.result.from c.draw_edges-e.result.to c.draw_edges-e.result.weight c.peak_state.new.angle c.peak_state.new.flow c.loop-i.p c.loop-k.t (c.loop-i.i + 1) c.stiffen_led.new.circuits c.stiffen_led.new.banks c.stiffen_led.new.floors c.stiffen_led.new.upsized c.stiffen_led.new.marks c.in-Ok-stiffen_led.u)
+    (goes_on c.args.mode c.args.above (grid_in c.args.grid.now) (supply_in c.args.supply.now) (opened_in c.args.opened.now) (length c.args.opened.now.leader.now) c.args.budget c.args.level.now c.args.circuits.now c.args.banks.now c.args.floors.now c.args.upsized.now c.args.angle.now c.args.start)
 next c =
-    stiffen_next c.args.mode c.args.above c.args.ladder.now c.args.a.now c.args.b.now c.args.km.now c.args.share.now c.args.cap.now c.args.sheet.now c.args.load.now c.args.bus.now c.args.pmax.now c.args.leader.now c.args.grounds.now c.args.injection.now (length c.args.leader.now)
-    (goes_on c.args.mode c.args.above c.args.ladder.now c.args.a.now c.args.b.now c.args.km.now c.args.share.now c.args.cap.now c.args.sheet.now c.args.load.now c.args.bus.now c.args.pmax.now c.args.leader.now c.args.grounds.now c.args.injection.now (length c.args.leader.now) c.args.budget c.args.level.now c.args.circuits.now c.args.banks.now c.args.floors.now c.args.upsized.now c.args.angle.now c.args.start)
+    stiffen_next c.args.mode c.args.above (grid_in c.args.grid.now) (supply_in c.args.supply.now) (opened_in c.args.opened.now) (length c.args.opened.now.leader.now)
+    (goes_on c.args.mode c.args.above (grid_in c.args.grid.now) (supply_in c.args.supply.now) (opened_in c.args.opened.now) (length c.args.opened.now.leader.now) c.args.budget c.args.level.now c.args.circuits.now c.args.banks.now c.args.floors.now c.args.upsized.now c.args.angle.now c.args.start)
     (c.rounds.left - 1) c.loop-i.level c.limits_of-g.result c.draw_edges-e.result.from c.draw_edges-e.result.to c.draw_edges-e.result.weight c.peak_state.new.angle c.peak_state.new.flow c.loop-i.p c.loop-k.t (ap (λ (x : List ℕ). length x) (c.loop-i.invariant.1 ∙ c.loop-k.invariant.1) ∙ sym c.rounds.invariant.0.places.leader_size) c.loop-i.i c.loop-i.circuits c.loop-i.banks c.loop-i.floors c.loop-i.upsized c.loop-i.marks c.loop-i.s (whole c.before.before.before.before.before.before.before.before.before.before.before.before) c.loop-i-test.true c.stiffen_led.new.circuits c.stiffen_led.new.banks c.stiffen_led.new.floors c.stiffen_led.new.upsized c.stiffen_led.new.marks c.stiffen_led.result c.stiffen_led.ensures c.in-Ok-stiffen_led.u c.in-Ok-stiffen_led.is
 
 raise-marked-requires-2 :
-    tie.Need-raise_marked-moved-requires-then-i-leader
+    tie.Need-raise_marked-moved-requires-then-i-opened
     invariant-loop
     decreases-loop
     invariant-loop2
@@ -503,8 +504,8 @@ raise-marked-requires-2 c κs =
     let lv = k.invariant.1 ∙ l.invariant.1 in
     let ln = ap (λ (x : List ℕ). length x) lv in (
       record {
-        lines = subst (λ (x : List ℕ). Lines z.ladder.now x z.a.now z.b.now z.km.now z.share.now z.sheet.now) (sym lv) f.columns.lines;
-        loads = subst (λ (x : List ℕ). Loads x z.load.now) (sym lv) f.columns.loads;
+        lines = subst (λ (x : List ℕ). Lines (grid_in z.grid.now) x) (sym lv) f.columns.lines;
+        loads = subst (λ (x : List ℕ). Loads x z.supply.now.load.now) (sym lv) f.columns.loads;
         units = f.columns.units;
         few = f.columns.few;
         floor_size = c.stiffen_led.auto.floors ∙ k.invariant.3.2 ∙ l.invariant.3.floor_size;
@@ -514,8 +515,8 @@ raise-marked-requires-2 c κs =
     )
 
 add-p-3 :
-    tie.Need-overflow_add-p-then-i-leader invariant-loop decreases-loop invariant-loop2 decreases-loop2 invariant-rounds decreases-rounds
-add-p-3 c = omega (arith, c.raise_marked-moved-then-i-leader.ensures.few, ap (λ (x : List ℕ). length x) (c.loop-i.invariant.1 ∙ c.loop-k.invariant.1), c.rounds.invariant.0.columns.loads.few, ap (λ (q : Progress). q.promoted) (c.loop-i.invariant.2 ∙ c.loop-k.invariant.2), c.rounds.invariant.0.tallies.promoted, c.rounds.invariant.0.tallies.rounds)
+    tie.Need-overflow_add-p-then-i-opened invariant-loop decreases-loop invariant-loop2 decreases-loop2 invariant-rounds decreases-rounds
+add-p-3 c = omega (arith, c.raise_marked-moved-then-i-opened.ensures.few, ap (λ (x : List ℕ). length x) (c.loop-i.invariant.1 ∙ c.loop-k.invariant.1), c.rounds.invariant.0.columns.loads.few, ap (λ (q : Progress). q.promoted) (c.loop-i.invariant.2 ∙ c.loop-k.invariant.2), c.rounds.invariant.0.tallies.promoted, c.rounds.invariant.0.tallies.rounds)
 
 rounds-less-3 :
     tie.Need-rounds-smaller-then-moved-s
@@ -544,14 +545,14 @@ rounds-again-3 c =
     let lv = k.invariant.1 ∙ l.invariant.1 in
     let pv = k.invariant.2 ∙ l.invariant.2 in
     let ln = ap (λ (x : List ℕ). length x) lv in
-    let w = subst (λ (x : Result Stiffness Refusal). Within (length z.a.now) k.s x) c.in-Ok-stiffen_led.is c.stiffen_led.ensures.bound in
-    let n = c.raise_marked-moved-then-i-leader.auto.level ∙ ln in (
+    let w = subst (λ (x : Result Stiffness Refusal). Within (length z.grid.now.a.now) k.s x) c.in-Ok-stiffen_led.is c.stiffen_led.ensures.bound in
+    let n = c.raise_marked-moved-then-i-opened.auto.level ∙ ln in (
       fit_again
           f
           n
-          c.raise_marked-moved-then-i-leader.ensures.lines
+          c.raise_marked-moved-then-i-opened.ensures.lines
           (c.stiffen_led.auto.circuits ∙ k.invariant.3.0 ∙ l.invariant.3.count_size)
-          (c.raise_marked-moved-then-i-leader.auto.banks ∙ c.stiffen_led.auto.banks ∙ k.invariant.3.1 ∙ l.invariant.3.bank_size)
+          (c.raise_marked-moved-then-i-opened.auto.banks ∙ c.stiffen_led.auto.banks ∙ k.invariant.3.1 ∙ l.invariant.3.bank_size)
           (c.stiffen_led.auto.floors ∙ k.invariant.3.2 ∙ l.invariant.3.floor_size)
           (c.stiffen_led.auto.upsized ∙ k.invariant.3.3 ∙ l.invariant.3.upsized_size)
           (c.stiffen_led.auto.marks ∙ k.invariant.3.4 ∙ c.stiffness_from-s.auto.marks ∙ l.invariant.3.mark_size ∙ ap (λ (x : List ℕ). length x) l.invariant.1)
@@ -561,16 +562,16 @@ rounds-again-3 c =
           record {
             few_levels = f.tallies.few_levels;
             rounds = one_less r.p.rounds k.p.rounds r.left (ap (λ (q : Progress). q.rounds) pv) f.tallies.rounds (some_left c.if-left-eq0.false);
-            promoted = moved_more r.p.rounds k.p.rounds r.p.promoted k.p.promoted _ (length r.level) (length k.level) (ap (λ (q : Progress). q.rounds) pv) (ap (λ (q : Progress). q.promoted) pv) f.tallies.promoted c.raise_marked-moved-then-i-leader.ensures.few ln f.columns.loads.few;
-            capacity = sized_more r.p.rounds k.p.rounds r.p.capacity l.t.capacity l.k (length z.a.now) (ap (λ (q : Progress). q.rounds) pv) l.invariant.6 l.invariant.0 f.columns.few f.tallies.capacity;
-            stiffening = stiffened_more r.p.rounds k.p.rounds r.p.stiffening _ k.s.stiffening _ k.i (length r.level) (length z.leader.now) (length z.a.now) (ap (λ (q : Progress). q.rounds) pv) w.2 k.invariant.6.2 (ap (λ (x : Stiffness). x.stiffening) c.stiffness_from-s.ensures.1 ∙ ap (λ (q : Progress). q.stiffening) l.invariant.2) f.tallies.stiffening c.loop-i-test.true f.places.leader_size f.columns.loads.few f.columns.few;
+            promoted = moved_more r.p.rounds k.p.rounds r.p.promoted k.p.promoted _ (length r.level) (length k.level) (ap (λ (q : Progress). q.rounds) pv) (ap (λ (q : Progress). q.promoted) pv) f.tallies.promoted c.raise_marked-moved-then-i-opened.ensures.few ln f.columns.loads.few;
+            capacity = sized_more r.p.rounds k.p.rounds r.p.capacity l.t.capacity l.k (length z.grid.now.a.now) (ap (λ (q : Progress). q.rounds) pv) l.invariant.6 l.invariant.0 f.columns.few f.tallies.capacity;
+            stiffening = stiffened_more r.p.rounds k.p.rounds r.p.stiffening _ k.s.stiffening _ k.i (length r.level) (length z.opened.now.leader.now) (length z.grid.now.a.now) (ap (λ (q : Progress). q.rounds) pv) w.2 k.invariant.6.2 (ap (λ (x : Stiffness). x.stiffening) c.stiffness_from-s.ensures.1 ∙ ap (λ (q : Progress). q.stiffening) l.invariant.2) f.tallies.stiffening c.loop-i-test.true f.places.leader_size f.columns.loads.few f.columns.few;
           })
-          c.raise_marked-moved-then-i-leader.ensures.banked
+          c.raise_marked-moved-then-i-opened.ensures.banked
           (c.stiffen_led.ensures.few k.invariant.5),
       n ∙ r.invariant.1,
-      stiffened_again z.mode z.above z.ladder.now z.a.now z.b.now z.km.now z.share.now z.cap.now z.sheet.now z.load.now z.bus.now z.pmax.now z.leader.now z.grounds.now z.injection.now (length z.leader.now)
-          (goes_on z.mode z.above z.ladder.now z.a.now z.b.now z.km.now z.share.now z.cap.now z.sheet.now z.load.now z.bus.now z.pmax.now z.leader.now z.grounds.now z.injection.now (length z.leader.now) z.budget z.level.now z.circuits.now z.banks.now z.floors.now z.upsized.now z.angle.now z.start)
-          (r.left - 1) k.level c.limits_of-g.result c.draw_edges-e.result.from c.draw_edges-e.result.to c.draw_edges-e.result.weight c.peak_state.new.angle c.peak_state.new.flow k.p l.t (ln ∙ sym f.places.leader_size) (k.i + 1) c.stiffen_led.new.circuits c.stiffen_led.new.banks c.stiffen_led.new.floors c.stiffen_led.new.upsized c.stiffen_led.new.marks c.in-Ok-stiffen_led.u (next c.before.before.before.before.before.before.before.before.before.before.before) (omega (arith, c.if-i-leader.true)) (omega (arith, ap (λ (q : Progress). q.rounds) (k.invariant.2 ∙ l.invariant.2))) (ap (λ (q : Progress). q.converged) (k.invariant.2 ∙ l.invariant.2)) (ap (λ (q : Progress). q.settled) (k.invariant.2 ∙ l.invariant.2)) c.raise_marked-moved-then-i-leader.new.level c.raise_marked-moved-then-i-leader.new.banks c.raise_marked-moved-then-i-leader.result c.raise_marked-moved-then-i-leader.ensures c.if-moved-s.true,
+      stiffened_again z.mode z.above (grid_in z.grid.now) (supply_in z.supply.now) (opened_in z.opened.now) (length z.opened.now.leader.now)
+          (goes_on z.mode z.above (grid_in z.grid.now) (supply_in z.supply.now) (opened_in z.opened.now) (length z.opened.now.leader.now) z.budget z.level.now z.circuits.now z.banks.now z.floors.now z.upsized.now z.angle.now z.start)
+          (r.left - 1) k.level c.limits_of-g.result c.draw_edges-e.result.from c.draw_edges-e.result.to c.draw_edges-e.result.weight c.peak_state.new.angle c.peak_state.new.flow k.p l.t (ln ∙ sym f.places.leader_size) (k.i + 1) c.stiffen_led.new.circuits c.stiffen_led.new.banks c.stiffen_led.new.floors c.stiffen_led.new.upsized c.stiffen_led.new.marks c.in-Ok-stiffen_led.u (next c.before.before.before.before.before.before.before.before.before.before.before) (omega (arith, c.if-i-opened.true)) (omega (arith, ap (λ (q : Progress). q.rounds) (k.invariant.2 ∙ l.invariant.2))) (ap (λ (q : Progress). q.converged) (k.invariant.2 ∙ l.invariant.2)) (ap (λ (q : Progress). q.settled) (k.invariant.2 ∙ l.invariant.2)) c.raise_marked-moved-then-i-opened.new.level c.raise_marked-moved-then-i-opened.new.banks c.raise_marked-moved-then-i-opened.result c.raise_marked-moved-then-i-opened.ensures c.if-moved-s.true,
     )
 
 loop2-less :
@@ -599,16 +600,16 @@ loop2-again c =
     let f = r.invariant.0 in
     let lv = k.invariant.1 ∙ l.invariant.1 in
     let ln = ap (λ (x : List ℕ). length x) lv in
-    let w = subst (λ (x : Result Stiffness Refusal). Within (length z.a.now) k.s x) c.in-Ok-stiffen_led.is c.stiffen_led.ensures.bound in (
-      omega (arith, c.loop-i-test.true, c.if-i-leader.false),
+    let w = subst (λ (x : Result Stiffness Refusal). Within (length z.grid.now.a.now) k.s x) c.in-Ok-stiffen_led.is c.stiffen_led.ensures.bound in (
+      omega (arith, c.loop-i-test.true, c.if-i-opened.false),
       k.invariant.1,
       k.invariant.2,
       (c.stiffen_led.auto.circuits ∙ k.invariant.3.0, c.stiffen_led.auto.banks ∙ k.invariant.3.1, c.stiffen_led.auto.floors ∙ k.invariant.3.2, c.stiffen_led.auto.upsized ∙ k.invariant.3.3, c.stiffen_led.auto.marks ∙ k.invariant.3.4),
       c.stiffen_led.ensures.banked,
       c.stiffen_led.ensures.few k.invariant.5,
-      (circuits_more _ k.s.total _ (length z.a.now) k.i w.0 k.invariant.6.0 f.columns.few, ends_more _ k.s.hv _ (length z.a.now) k.i w.1 k.invariant.6.1 f.columns.few, circuits_more _ k.s.stiffening _ (length z.a.now) k.i w.2 k.invariant.6.2 f.columns.few),
-      stiffen_next z.mode z.above z.ladder.now z.a.now z.b.now z.km.now z.share.now z.cap.now z.sheet.now z.load.now z.bus.now z.pmax.now z.leader.now z.grounds.now z.injection.now (length z.leader.now)
-          (stiffens_on z.mode z.above z.ladder.now z.a.now z.b.now z.km.now z.share.now z.cap.now z.sheet.now z.load.now z.bus.now z.pmax.now z.leader.now z.grounds.now z.injection.now (length z.leader.now) (r.left - 1) l.level c.limits_of-g.result c.draw_edges-e.result.from c.draw_edges-e.result.to c.draw_edges-e.result.weight c.peak_state.new.angle c.peak_state.new.flow l.p l.t 0 l.circuits l.banks l.floors l.upsized c.stiffness_from-s.new.marks c.stiffness_from-s.result)
+      (circuits_more _ k.s.total _ (length z.grid.now.a.now) k.i w.0 k.invariant.6.0 f.columns.few, ends_more _ k.s.hv _ (length z.grid.now.a.now) k.i w.1 k.invariant.6.1 f.columns.few, circuits_more _ k.s.stiffening _ (length z.grid.now.a.now) k.i w.2 k.invariant.6.2 f.columns.few),
+      stiffen_next z.mode z.above (grid_in z.grid.now) (supply_in z.supply.now) (opened_in z.opened.now) (length z.opened.now.leader.now)
+          (stiffens_on z.mode z.above (grid_in z.grid.now) (supply_in z.supply.now) (opened_in z.opened.now) (length z.opened.now.leader.now) (r.left - 1) l.level c.limits_of-g.result c.draw_edges-e.result.from c.draw_edges-e.result.to c.draw_edges-e.result.weight c.peak_state.new.angle c.peak_state.new.flow l.p l.t 0 l.circuits l.banks l.floors l.upsized c.stiffness_from-s.new.marks c.stiffness_from-s.result)
           (r.left - 1) k.level c.limits_of-g.result c.draw_edges-e.result.from c.draw_edges-e.result.to c.draw_edges-e.result.weight c.peak_state.new.angle c.peak_state.new.flow k.p l.t (ln ∙ sym f.places.leader_size) k.i k.circuits k.banks k.floors k.upsized k.marks k.s k.invariant.7 c.loop-i-test.true c.stiffen_led.new.circuits c.stiffen_led.new.banks c.stiffen_led.new.floors c.stiffen_led.new.upsized c.stiffen_led.new.marks c.stiffen_led.result c.stiffen_led.ensures c.in-Ok-stiffen_led.u c.in-Ok-stiffen_led.is,
     )
 
@@ -698,7 +699,7 @@ returns c =
     let r = c.rounds in
     let z = c.args in
     record {
-      ran = λ o target s e caps. ended z.mode z.above z.ladder.now z.a.now z.b.now z.km.now z.share.now z.cap.now z.sheet.now z.load.now z.bus.now z.pmax.now z.leader.now z.grounds.now z.injection.now (length z.leader.now) r.level r.circuits r.banks r.floors r.upsized r.angle r.p (goes_on z.mode z.above z.ladder.now z.a.now z.b.now z.km.now z.share.now z.cap.now z.sheet.now z.load.now z.bus.now z.pmax.now z.leader.now z.grounds.now z.injection.now (length z.leader.now) z.budget z.level.now z.circuits.now z.banks.now z.floors.now z.upsized.now z.angle.now z.start) r.left (omega (arith, c.if-left-eq0.true)) r.invariant.2 o target s (c.requires.places.leader_size ∙ e, caps);
+      ran = λ o target s e caps. ended z.mode z.above (grid_in z.grid.now) (supply_in z.supply.now) (opened_in z.opened.now) (length z.opened.now.leader.now) r.level r.circuits r.banks r.floors r.upsized r.angle r.p (goes_on z.mode z.above (grid_in z.grid.now) (supply_in z.supply.now) (opened_in z.opened.now) (length z.opened.now.leader.now) z.budget z.level.now z.circuits.now z.banks.now z.floors.now z.upsized.now z.angle.now z.start) r.left (omega (arith, c.if-left-eq0.true)) r.invariant.2 o target s (c.requires.places.leader_size ∙ e, caps);
       lines = r.invariant.0.columns.lines;
       banked = r.invariant.0.banked;
       few = r.invariant.0.few;
@@ -784,7 +785,7 @@ returns-2 c =
     let z = c.args in
     let r = c.rounds in
     record {
-      ran = λ o target s e caps. round_refused z.mode z.above z.ladder.now z.a.now z.b.now z.km.now z.share.now z.cap.now z.sheet.now z.load.now z.bus.now z.pmax.now z.leader.now z.grounds.now z.injection.now (length z.leader.now) r.level r.level r.circuits r.banks r.floors r.upsized r.angle r.p (goes_on z.mode z.above z.ladder.now z.a.now z.b.now z.km.now z.share.now z.cap.now z.sheet.now z.load.now z.bus.now z.pmax.now z.leader.now z.grounds.now z.injection.now (length z.leader.now) z.budget z.level.now z.circuits.now z.banks.now z.floors.now z.upsized.now z.angle.now z.start) r.left (r.left - 1) (omega (arith, some_left c.if-left-eq0.false)) refl (sym r.invariant.0.places.leader_size) r.invariant.2 _ _ _ c.draw_edges-e.result.from c.draw_edges-e.result.to c.draw_edges-e.result.weight c.draw_edges-e.ensures.0 _ _ r.invariant.0.places.angle_size r.invariant.0.places.flow_size c.peak_state.ensures _ c.in-Err.is o target s (c.requires.places.leader_size ∙ e, caps);
+      ran = λ o target s e caps. round_refused z.mode z.above (grid_in z.grid.now) (supply_in z.supply.now) (opened_in z.opened.now) (length z.opened.now.leader.now) r.level r.level r.circuits r.banks r.floors r.upsized r.angle r.p (goes_on z.mode z.above (grid_in z.grid.now) (supply_in z.supply.now) (opened_in z.opened.now) (length z.opened.now.leader.now) z.budget z.level.now z.circuits.now z.banks.now z.floors.now z.upsized.now z.angle.now z.start) r.left (r.left - 1) (omega (arith, some_left c.if-left-eq0.false)) refl (sym r.invariant.0.places.leader_size) r.invariant.2 _ _ _ c.draw_edges-e.result.from c.draw_edges-e.result.to c.draw_edges-e.result.weight c.draw_edges-e.ensures.0 _ _ r.invariant.0.places.angle_size r.invariant.0.places.flow_size c.peak_state.ensures _ c.in-Err.is o target s (c.requires.places.leader_size ∙ e, caps);
       lines = r.invariant.0.columns.lines;
       banked = r.invariant.0.banked;
       few = r.invariant.0.few;
@@ -877,7 +878,7 @@ returns-3 c =
     let r = c.rounds in
     let l = c.loop-k in
     record {
-      ran = λ o target s e caps. sized_settled z.mode z.above z.ladder.now z.a.now z.b.now z.km.now z.share.now z.cap.now z.sheet.now z.load.now z.bus.now z.pmax.now z.leader.now z.grounds.now z.injection.now (length z.leader.now) l.level r.level r.circuits r.banks r.floors r.upsized r.angle r.p (goes_on z.mode z.above z.ladder.now z.a.now z.b.now z.km.now z.share.now z.cap.now z.sheet.now z.load.now z.bus.now z.pmax.now z.leader.now z.grounds.now z.injection.now (length z.leader.now) z.budget z.level.now z.circuits.now z.banks.now z.floors.now z.upsized.now z.angle.now z.start) r.left (r.left - 1) (omega (arith, some_left c.if-left-eq0.false)) l.invariant.1 (sym r.invariant.0.places.leader_size) r.invariant.2 _ _ _ c.draw_edges-e.result.from c.draw_edges-e.result.to c.draw_edges-e.result.weight c.draw_edges-e.ensures.0 _ _ r.invariant.0.places.angle_size r.invariant.0.places.flow_size c.peak_state.ensures c.in-Ok.is _ _ _ _ _ _ _ (omega (arith, c.if-k-a.true)) (left_turn z.mode (length l.level) z.ladder.now l.level z.a.now z.b.now z.km.now z.share.now z.cap.now z.sheet.now _ l.k l.circuits l.banks l.floors l.upsized l.marks l.t _ _ _ _ _ _ c.loop-k-test.true c.size_corridor-t.ensures.sized ∙ l.invariant.7) _ l.invariant.2 _ _ _ c.raise_marked-moved.ensures c.if-moved-t.false (sym c.promotes.ensures ∙ c.if-not-promotes.true) o target s (c.requires.places.leader_size ∙ e, caps);
+      ran = λ o target s e caps. sized_settled z.mode z.above (grid_in z.grid.now) (supply_in z.supply.now) (opened_in z.opened.now) (length z.opened.now.leader.now) l.level r.level r.circuits r.banks r.floors r.upsized r.angle r.p (goes_on z.mode z.above (grid_in z.grid.now) (supply_in z.supply.now) (opened_in z.opened.now) (length z.opened.now.leader.now) z.budget z.level.now z.circuits.now z.banks.now z.floors.now z.upsized.now z.angle.now z.start) r.left (r.left - 1) (omega (arith, some_left c.if-left-eq0.false)) l.invariant.1 (sym r.invariant.0.places.leader_size) r.invariant.2 _ _ _ c.draw_edges-e.result.from c.draw_edges-e.result.to c.draw_edges-e.result.weight c.draw_edges-e.ensures.0 _ _ r.invariant.0.places.angle_size r.invariant.0.places.flow_size c.peak_state.ensures c.in-Ok.is _ _ _ _ _ _ _ (omega (arith, c.if-k-grid.true)) (left_turn z.mode (length l.level) (grid_in z.grid.now) l.level _ l.k l.circuits l.banks l.floors l.upsized l.marks l.t _ _ _ _ _ _ c.loop-k-test.true c.size_corridor-t.ensures.sized ∙ l.invariant.7) _ l.invariant.2 _ _ _ c.raise_marked-moved.ensures c.if-moved-t.false (sym c.promotes.ensures ∙ c.if-not-promotes.true) o target s (c.requires.places.leader_size ∙ e, caps);
       lines = c.raise_marked-moved.ensures.lines;
       banked = c.raise_marked-moved.ensures.banked;
       few = c.size_corridor-t.ensures.few l.invariant.5;
@@ -974,10 +975,10 @@ returns-4 c =
     let lv = k.invariant.1 ∙ l.invariant.1 in
     let ln = ap (λ (x : List ℕ). length x) lv in
     record {
-      ran = λ o target s e caps. stiffen_refused z.mode z.above z.ladder.now z.a.now z.b.now z.km.now z.share.now z.cap.now z.sheet.now z.load.now z.bus.now z.pmax.now z.leader.now z.grounds.now z.injection.now (length z.leader.now)
-          (goes_on z.mode z.above z.ladder.now z.a.now z.b.now z.km.now z.share.now z.cap.now z.sheet.now z.load.now z.bus.now z.pmax.now z.leader.now z.grounds.now z.injection.now (length z.leader.now) z.budget z.level.now z.circuits.now z.banks.now z.floors.now z.upsized.now z.angle.now z.start)
+      ran = λ o target s e caps. stiffen_refused z.mode z.above (grid_in z.grid.now) (supply_in z.supply.now) (opened_in z.opened.now) (length z.opened.now.leader.now)
+          (goes_on z.mode z.above (grid_in z.grid.now) (supply_in z.supply.now) (opened_in z.opened.now) (length z.opened.now.leader.now) z.budget z.level.now z.circuits.now z.banks.now z.floors.now z.upsized.now z.angle.now z.start)
           (r.left - 1) k.level c.limits_of-g.result c.draw_edges-e.result.from c.draw_edges-e.result.to c.draw_edges-e.result.weight c.peak_state.new.angle c.peak_state.new.flow k.p l.t (ln ∙ sym f.places.leader_size) k.i k.circuits k.banks k.floors k.upsized k.marks k.s (whole c.before.before.before.before.before.before.before.before.before.before.before.before) c.loop-i-test.true c.stiffen_led.new.circuits c.stiffen_led.new.banks c.stiffen_led.new.floors c.stiffen_led.new.upsized c.stiffen_led.new.marks c.stiffen_led.result c.stiffen_led.ensures _ c.in-Err-stiffen_led.is o target s (c.requires.places.leader_size ∙ e, caps);
-      lines = subst (λ (x : List ℕ). Lines z.ladder.now x z.a.now z.b.now z.km.now z.share.now z.sheet.now) (sym lv) f.columns.lines;
+      lines = subst (λ (x : List ℕ). Lines (grid_in z.grid.now) x) (sym lv) f.columns.lines;
       banked = c.stiffen_led.ensures.banked;
       few = c.stiffen_led.ensures.few k.invariant.5;
     }
@@ -1000,7 +1001,7 @@ same-length-34 :
     decreases-loop2
     invariant-rounds
     decreases-rounds
-same-length-34 c = c.raise_marked-moved-then-i-leader.auto.banks ∙ c.stiffen_led.auto.banks ∙ c.loop-i.invariant.3.1 ∙ c.loop-k.invariant.3.bank_size ∙ sym c.requires.places.bank_size
+same-length-34 c = c.raise_marked-moved-then-i-opened.auto.banks ∙ c.stiffen_led.auto.banks ∙ c.loop-i.invariant.3.1 ∙ c.loop-k.invariant.3.bank_size ∙ sym c.requires.places.bank_size
 
 same-length-35 :
     tie.Need-shape_of-floors-else-moved-s
@@ -1030,7 +1031,7 @@ same-length-37 :
     decreases-loop2
     invariant-rounds
     decreases-rounds
-same-length-37 c = c.raise_marked-moved-then-i-leader.auto.level ∙ ap (λ (x : List ℕ). length x) (c.loop-i.invariant.1 ∙ c.loop-k.invariant.1) ∙ c.rounds.invariant.1
+same-length-37 c = c.raise_marked-moved-then-i-opened.auto.level ∙ ap (λ (x : List ℕ). length x) (c.loop-i.invariant.1 ∙ c.loop-k.invariant.1) ∙ c.rounds.invariant.1
 
 same-length-38 :
     tie.Need-shape_of-marks-else-moved-s
@@ -1073,15 +1074,15 @@ returns-5 c =
     let lv = k.invariant.1 ∙ l.invariant.1 in
     let ln = ap (λ (x : List ℕ). length x) lv in
     record {
-      ran = λ o target s e caps. stiffened_settled z.mode z.above z.ladder.now z.a.now z.b.now z.km.now z.share.now z.cap.now z.sheet.now z.load.now z.bus.now z.pmax.now z.leader.now z.grounds.now z.injection.now (length z.leader.now)
-          (goes_on z.mode z.above z.ladder.now z.a.now z.b.now z.km.now z.share.now z.cap.now z.sheet.now z.load.now z.bus.now z.pmax.now z.leader.now z.grounds.now z.injection.now (length z.leader.now) z.budget z.level.now z.circuits.now z.banks.now z.floors.now z.upsized.now z.angle.now z.start)
-          (r.left - 1) k.level c.limits_of-g.result c.draw_edges-e.result.from c.draw_edges-e.result.to c.draw_edges-e.result.weight c.peak_state.new.angle c.peak_state.new.flow k.p l.t (ln ∙ sym f.places.leader_size) (k.i + 1) c.stiffen_led.new.circuits c.stiffen_led.new.banks c.stiffen_led.new.floors c.stiffen_led.new.upsized c.stiffen_led.new.marks c.in-Ok-stiffen_led.u (next c.before.before.before.before.before.before.before.before.before.before.before.before.before) (omega (arith, c.if-i-leader.true)) (omega (arith, ap (λ (q : Progress). q.rounds) (k.invariant.2 ∙ l.invariant.2))) (ap (λ (q : Progress). q.converged) (k.invariant.2 ∙ l.invariant.2)) (ap (λ (q : Progress). q.settled) (k.invariant.2 ∙ l.invariant.2)) c.raise_marked-moved-then-i-leader.new.level c.raise_marked-moved-then-i-leader.new.banks c.raise_marked-moved-then-i-leader.result c.raise_marked-moved-then-i-leader.ensures c.if-moved-s.false o target s (c.requires.places.leader_size ∙ e, caps);
-      lines = c.raise_marked-moved-then-i-leader.ensures.lines;
-      banked = c.raise_marked-moved-then-i-leader.ensures.banked;
+      ran = λ o target s e caps. stiffened_settled z.mode z.above (grid_in z.grid.now) (supply_in z.supply.now) (opened_in z.opened.now) (length z.opened.now.leader.now)
+          (goes_on z.mode z.above (grid_in z.grid.now) (supply_in z.supply.now) (opened_in z.opened.now) (length z.opened.now.leader.now) z.budget z.level.now z.circuits.now z.banks.now z.floors.now z.upsized.now z.angle.now z.start)
+          (r.left - 1) k.level c.limits_of-g.result c.draw_edges-e.result.from c.draw_edges-e.result.to c.draw_edges-e.result.weight c.peak_state.new.angle c.peak_state.new.flow k.p l.t (ln ∙ sym f.places.leader_size) (k.i + 1) c.stiffen_led.new.circuits c.stiffen_led.new.banks c.stiffen_led.new.floors c.stiffen_led.new.upsized c.stiffen_led.new.marks c.in-Ok-stiffen_led.u (next c.before.before.before.before.before.before.before.before.before.before.before.before.before) (omega (arith, c.if-i-opened.true)) (omega (arith, ap (λ (q : Progress). q.rounds) (k.invariant.2 ∙ l.invariant.2))) (ap (λ (q : Progress). q.converged) (k.invariant.2 ∙ l.invariant.2)) (ap (λ (q : Progress). q.settled) (k.invariant.2 ∙ l.invariant.2)) c.raise_marked-moved-then-i-opened.new.level c.raise_marked-moved-then-i-opened.new.banks c.raise_marked-moved-then-i-opened.result c.raise_marked-moved-then-i-opened.ensures c.if-moved-s.false o target s (c.requires.places.leader_size ∙ e, caps);
+      lines = c.raise_marked-moved-then-i-opened.ensures.lines;
+      banked = c.raise_marked-moved-then-i-opened.ensures.banked;
       few = c.stiffen_led.ensures.few k.invariant.5;
     }
 
 pub size_rounds_spec : {M : Type 1} → statement M
 size_rounds_spec =
     tie.close
-    (tie.spec invariant-loop decreases-loop invariant-loop2 decreases-loop2 invariant-rounds decreases-rounds rounds-holds sub-left add-p draw-edges-requires peak-state-requires enum-known-f enum_told clear-counts-requires loop-holds size-corridor-requires add-k raise-marked-requires add-p-2 rounds-less rounds-again promotes-requires loop-less loop-again loop-less-2 loop-again-2 limits-of-requires stiffness-from-requires loop2-holds rounds-less-2 rounds-again-2 stiffen-led-requires enum-known-f-2 enum-known-u add-i raise-marked-requires-2 add-p-3 rounds-less-3 rounds-again-3 loop2-less loop2-again same_length same-length-2 same-length-3 same-length-4 same-length-5 same-length-6 same-length-7 same-length-8 returns same-length-9 same-length-10 same-length-11 same-length-12 same-length-13 same-length-14 same-length-15 same-length-16 returns-2 same-length-17 same-length-18 same-length-19 same-length-20 same-length-21 same-length-22 same-length-23 same-length-24 returns-3 same-length-25 same-length-26 same-length-27 same-length-28 same-length-29 same-length-30 same-length-31 same-length-32 returns-4 same-length-33 same-length-34 same-length-35 same-length-36 same-length-37 same-length-38 same-length-39 same-length-40 returns-5)
+    (tie.spec invariant-loop decreases-loop invariant-loop2 decreases-loop2 invariant-rounds decreases-rounds rounds-holds sub-left add-p draw-edges-requires peak-state-requires enum-known-f enum_told fill-requires loop-holds size-corridor-requires add-k raise-marked-requires add-p-2 rounds-less rounds-again promotes-requires loop-less loop-again loop-less-2 loop-again-2 limits-of-requires stiffness-from-requires loop2-holds rounds-less-2 rounds-again-2 stiffen-led-requires enum-known-f-2 enum-known-u add-i raise-marked-requires-2 add-p-3 rounds-less-3 rounds-again-3 loop2-less loop2-again same_length same-length-2 same-length-3 same-length-4 same-length-5 same-length-6 same-length-7 same-length-8 returns same-length-9 same-length-10 same-length-11 same-length-12 same-length-13 same-length-14 same-length-15 same-length-16 returns-2 same-length-17 same-length-18 same-length-19 same-length-20 same-length-21 same-length-22 same-length-23 same-length-24 returns-3 same-length-25 same-length-26 same-length-27 same-length-28 same-length-29 same-length-30 same-length-31 same-length-32 returns-4 same-length-33 same-length-34 same-length-35 same-length-36 same-length-37 same-length-38 same-length-39 same-length-40 returns-5)

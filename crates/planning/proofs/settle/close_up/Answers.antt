@@ -3,6 +3,7 @@ use Rattle.planning.specs.Solve.{peak_for}
 use Rattle.planning.specs.Fill.{designs_for}
 use Rattle.planning.proofs.Settling.{settleable_again, loaded, solved_refused, closed_answered}
 use Rattle.planning.proofs.settle.close_up.Goals as goal
+use Rattle.planning.specs.Tables.{grid_in}
 
 pub returns-in_err-solve_from_zero : goal.returns-in_err-solve_from_zero
 returns-in_err-solve_from_zero c =
@@ -14,8 +15,8 @@ pub close-closing-requires : goal.close-closing-requires
 close-closing-requires c =
     let h = c.requires in
     let v = c.solve_from_zero in
-    let w = settleable_again _ _ _ _ _ _ _ _ _ _ _ _ _ _ _ _ _ _ _ h _ _ _ refl v.auto.flow v.auto.angle in
-    record { lines = h.drawing.lines; loaded = (loaded _ _ _ _ _ _ _ _ _ _ _ _ _ _ _ _ _ _ _ w, h.cap_size); closable = w.closable }
+    let w = settleable_again _ _ _ _ _ _ _ _ _ _ _ h _ _ _ refl v.auto.flow v.auto.angle in
+    record { lines = h.drawing.lines; loaded = (loaded _ _ _ _ _ _ _ _ _ _ _ w, h.cap_size); closable = w.closable }
 
 pub shape_of-level : goal.shape_of-level
 shape_of-level c = c.close-closing.auto.level
@@ -38,5 +39,5 @@ returns c =
     let v = c.solve_from_zero in
     let e = c.close-closing.ensures in
     λ before order.
-    closed_answered z.mode z.cap.now z.above z.leader.now z.ladder.now z.level.now (designs_for z.ladder.now z.level.now z.a.now z.b.now z.km.now z.share.now z.sheet.now z.banks.now)
-    z.upsized.now (peak_for (length z.level.now) z.grounds.now z.injection.now) z.filler before order z.circuits.now _ _ _ _ _ _ v.result _ v.ensures c.in_ok-solve_from_zero.was e.closing e.rate e.tier e.added
+    closed_answered z.mode z.grid.now.cap.now z.above z.opened.now.leader.now z.grid.now.ladder.now z.level.now (designs_for (grid_in z.grid.now) z.level.now z.banks.now)
+    z.upsized.now (peak_for (length z.level.now) z.opened.now.grounds.now z.opened.now.injection.now) z.filler before order z.circuits.now _ _ _ _ _ _ v.result _ v.ensures c.in_ok-solve_from_zero.was e.closing e.rate e.tier e.added

@@ -6,6 +6,7 @@ use Rattle.planning.specs.Settle.{filled_from}
 use Rattle.planning.proofs.Settling.{settleable_again, solved_refused, solved_answered}
 use Rattle.planning.proofs.Settlements.{settles, settles_refused}
 use Rattle.planning.proofs.settle.settle.Goals as goal
+use Rattle.planning.specs.Tables.{grid_in, opened_in}
 
 pub unsettled-requires : goal.unsettled-requires
 unsettled-requires c = tt
@@ -14,7 +15,7 @@ pub fill_up-requires : goal.fill_up-requires
 fill_up-requires c =
     let h = c.requires in
     let v = c.solve_from_zero.auto in
-    record { settleable = settleable_again _ _ _ _ _ _ _ _ _ _ _ _ _ _ _ _ _ _ _ h.settleable _ _ _ refl v.flow v.angle; few = h.few }
+    record { settleable = settleable_again _ _ _ _ _ _ _ _ _ _ _ h.settleable _ _ _ refl v.flow v.angle; few = h.few }
 
 pub shape_of-circuits-in-Err : goal.shape_of-circuits-in-Err
 shape_of-circuits-in-Err c = refl
@@ -31,7 +32,7 @@ shape_of-angle-in-Err c = c.solve_from_zero.auto.angle
 pub returns-in-Err : goal.returns-in-Err
 returns-in-Err c =
     let v = c.solve_from_zero in
-    settles_refused _ _ _ _ _ _ _ _ _ _ _ _ _ _ _ _ _ _ _ _ _ _ _ c.unsettled.result _ c.unsettled.ensures.0 (solved_refused _ _ v.result _ _ _ _ v.ensures c.in-Err.is)
+    settles_refused _ _ _ _ _ _ _ _ _ _ _ _ _ _ _ c.unsettled.result _ c.unsettled.ensures.0 (solved_refused _ _ v.result _ _ _ _ v.ensures c.in-Err.is)
 
 pub shape_of-circuits-in-Ok : goal.shape_of-circuits-in-Ok
 shape_of-circuits-in-Ok c = c.fill_up.auto.circuits
@@ -56,8 +57,8 @@ returns-in-Ok c =
     let z = c.args in
     let v = c.solve_from_zero in
     let f = c.fill_up in
-    settles z.mode z.target z.above z.ladder.now z.a.now z.b.now z.km.now z.share.now z.cap.now z.sheet.now z.leader.now z.grounds.now z.injection.now z.banks.now z.upsized.now z.circuits.now z.level.now f.new.circuits f.new.level f.new.flow f.new.rate f.new.angle f.new.added f.result
+    settles z.mode z.target z.above (grid_in z.grid.now) (opened_in z.opened.now) z.banks.now z.upsized.now z.circuits.now z.level.now f.new.circuits f.new.level f.new.flow f.new.rate f.new.angle f.new.added f.result
     (f.ensures
     ∙ solved_answered
-    (λ (w : PlanningCase). filled_from z.mode z.cap.now z.above z.leader.now z.ladder.now z.level.now (designs_for z.ladder.now z.level.now z.a.now z.b.now z.km.now z.share.now z.sheet.now z.banks.now) z.upsized.now (peak_for (length z.level.now) z.grounds.now z.injection.now) z.target (length z.a.now) z.circuits.now w.flows)
+    (λ (w : PlanningCase). filled_from z.mode z.grid.now.cap.now z.above z.opened.now.leader.now z.grid.now.ladder.now z.level.now (designs_for (grid_in z.grid.now) z.level.now z.banks.now) z.upsized.now (peak_for (length z.level.now) z.opened.now.grounds.now z.opened.now.injection.now) z.target (length z.grid.now.a.now) z.circuits.now w.flows)
     _ v.result _ v.new.angle v.new.flow v.ensures c.in-Ok.is)

@@ -1,16 +1,10 @@
-use Rattle.std.proofs.Common.{ℕ, refl, ap, ◌∙◌}
+use Rattle.std.proofs.Common.{ℕ, ap, ◌∙◌}
 use Rattle.angles_defs.specs.Network.{zeros}
 use Rattle.plan_defs.specs.Solve.{planning_state}
-use Rattle.planning.proofs.Settling.{lent_again}
 use Rattle.planning.proofs.settle.solve_from_zero.Goals as goal
-
-pub planning_state-requires : goal.planning_state-requires
-planning_state-requires c =
-    let s = c in
-    record { drawing = s.requires.drawing; lent = lent_again _ _ _ _ _ _ _ _ s.requires.lent c.clear_figures.auto.figures refl }
 
 pub returns : goal.returns
 returns c =
     let s = c in
     c.planning_state.ensures
-    ∙ ap (planning_state _ _ _) (c.clear_figures.ensures ∙ ap (λ (n : ℕ). zeros n) s.requires.lent.angle_size)
+    ∙ ap (planning_state _ _ _) ((c.fill.ensures.after (λ y e. e)) ∙ ap (λ (n : ℕ). zeros n) s.requires.lent.angle_size)

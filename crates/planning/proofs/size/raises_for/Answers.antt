@@ -8,11 +8,11 @@ returns-then-promotes-need c =
     let z = c.args in
     let p = c.promotes.ensures in
     let e = c.if-promotes-need.true in
-    record { marks = raises_marks z.mode z.need z.level.now z.a.now z.b.now z.k z.marks.now _ _ p refl _ e c.mark_raise_to.ensures.marks; answer = c.mark_raise_to.ensures.answer ∙ raises_where z.mode z.need z.level.now z.a.now z.b.now z.k z.marks.now _ _ p refl e }
+    record { marks = raises_marks z.mode z.need z.level.now z.grid.now.a.now z.grid.now.b.now z.k z.marks.now _ _ p refl _ e c.mark_raise_to.ensures.marks; answer = c.mark_raise_to.ensures.answer ∙ raises_where z.mode z.need z.level.now z.grid.now.a.now z.grid.now.b.now z.k z.marks.now _ _ p refl e }
 
 pub returns : goal.returns
 returns c =
     let z = c.args in
     let p = c.promotes.ensures in
     let e = c.if-promotes-need.false in
-    record { marks = raises_keeps z.mode z.need z.level.now z.a.now z.b.now z.k z.marks.now _ _ p refl e; answer = raises_none z.mode z.need z.level.now z.a.now z.b.now z.k z.marks.now _ _ p refl e }
+    record { marks = raises_keeps z.mode z.need z.level.now z.grid.now.a.now z.grid.now.b.now z.k z.marks.now _ _ p refl e; answer = raises_none z.mode z.need z.level.now z.grid.now.a.now z.grid.now.b.now z.k z.marks.now _ _ p refl e }

@@ -8,6 +8,7 @@ use Rattle.planning.proofs.Sizes.{larger_ok}
 use Rattle.planning.proofs.Builds.{kept_next}
 use Rattle.planning.proofs.Corridors.{banks_set, size_is}
 use Rattle.planning.proofs.size.size_corridor.Goals as goal
+use Rattle.planning.specs.Tables.{grid_in}
 
 pub circuit-first-requires : goal.circuit-first-requires
 circuit-first-requires c =
@@ -15,7 +16,7 @@ circuit-first-requires c =
     record { lines = s.requires.lines; k_in_bounds = (s.requires.corridor, s.requires.banked s.args.k (omega (arith, s.requires.corridor, s.requires.held.bank_size))) }
 
 pub banked_if-d-requires : goal.banked_if-d-requires
-banked_if-d-requires c = larger_ok _ _ _ _ _ (subst Rated (sym c.circuit-first.ensures) (drawn_rated c.args.ladder.now c.args.level.now c.args.a.now c.args.b.now c.args.km.now c.args.share.now c.args.sheet.now c.args.k c.requires.lines c.requires.corridor (at c.args.banks.now c.args.k) (c.requires.banked c.args.k (omega (arith, c.requires.corridor, c.requires.held.bank_size))))) c.next_bank-next.ensures c.enlarges-larger.ensures
+banked_if-d-requires c = larger_ok _ _ _ _ _ (subst Rated (sym c.circuit-first.ensures) (drawn_rated (grid_in c.args.grid.now) c.args.level.now c.args.k c.requires.lines c.requires.corridor (at c.args.banks.now c.args.k) (c.requires.banked c.args.k (omega (arith, c.requires.corridor, c.requires.held.bank_size))))) c.next_bank-next.ensures c.enlarges-larger.ensures
 
 pub keep_bank-requires : goal.keep_bank-requires
 keep_bank-requires c = let s = c in (omega (arith, s.requires.corridor, s.requires.held.bank_size), omega (arith, s.requires.corridor, s.requires.held.floor_size), omega (arith, s.requires.corridor, s.requires.held.upsized_size))
@@ -63,9 +64,9 @@ returns c =
     let g = c.grow.ensures in
     let h : z.k < length z.banks.now = omega (arith, s.requires.corridor, s.requires.held.bank_size) in
     record {
-      sized = size_is z.mode (length z.level.now) z.ladder.now z.level.now z.a.now z.b.now z.km.now z.share.now z.cap.now z.sheet.now z.flow.now z.k z.circuits.now z.banks.now z.floors.now z.upsized.now z.marks.now z.t
+      sized = size_is z.mode (length z.level.now) (grid_in z.grid.now) z.level.now z.flow.now z.k z.circuits.now z.banks.now z.floors.now z.upsized.now z.marks.now z.t
           s.requires.corridor s.requires.held.bank_size _ _ _ _ _ _ _ _ _ _ _ _ c.required_for-required.ensures first next larger d kept.banks kept.floors kept.upsized t g;
-      banked = subst Banks (sym (kept.banks ∙ kept_next c.enlarges-larger.result c.circuit-first.result c.banked_if-d.result c.next_bank-next.result z.banks.now z.k d)) (banks_set z.banks.now z.k _ _ h (larger_ok _ _ _ _ _ (subst Rated (sym first) (drawn_rated c.args.ladder.now c.args.level.now c.args.a.now c.args.b.now c.args.km.now c.args.share.now c.args.sheet.now c.args.k c.requires.lines c.requires.corridor (at c.args.banks.now c.args.k) (c.requires.banked c.args.k (omega (arith, c.requires.corridor, c.requires.held.bank_size))))) next larger) s.requires.banked);
+      banked = subst Banks (sym (kept.banks ∙ kept_next c.enlarges-larger.result c.circuit-first.result c.banked_if-d.result c.next_bank-next.result z.banks.now z.k d)) (banks_set z.banks.now z.k _ _ h (larger_ok _ _ _ _ _ (subst Rated (sym first) (drawn_rated (grid_in c.args.grid.now) c.args.level.now c.args.k c.requires.lines c.requires.corridor (at c.args.banks.now c.args.k) (c.requires.banked c.args.k (omega (arith, c.requires.corridor, c.requires.held.bank_size))))) next larger) s.requires.banked);
       bound = omega (arith, g.bound, ap (λ (x : Tally). x.capacity) t);
       few = g.few;
     }

@@ -9,6 +9,7 @@ use Rattle.planning.specs.Design.{lines_for}
 use Rattle.loops.proofs.Fronts.{front_filled}
 use Rattle.planning.proofs.Solving.{edges_are, drawn_from_below, drawn_to_below}
 use Rattle.planning.proofs.solve.draw_edges.Goals as goal
+use Rattle.planning.specs.Tables.{grid_in}
 
 pub loop-k-init : goal.loop-k-init
 loop-k-init c = (omega arith, fill_start _ _, fill_start _ _, fill_start _ _)
@@ -31,7 +32,7 @@ overflow_cast-from c =
       arith,
       ap (λ (d : CircuitDesign). d.from) c.circuit-d.ensures,
       s.requires.few_buses,
-      drawn_from_below s.args.ladder.now s.args.level.now s.args.a.now s.args.b.now s.args.km.now s.args.share.now s.args.sheet.now c.loop-k.k (at s.args.banks.now c.loop-k.k) s.requires.lines (omega arith),
+      drawn_from_below (grid_in s.args.grid.now) s.args.level.now c.loop-k.k (at s.args.banks.now c.loop-k.k) s.requires.lines (omega arith),
     )
 
 pub bounds-from-k : goal.bounds-from-k
@@ -44,7 +45,7 @@ overflow_cast-to c =
       arith,
       ap (λ (d : CircuitDesign). d.to) c.circuit-d.ensures,
       s.requires.few_buses,
-      drawn_to_below s.args.ladder.now s.args.level.now s.args.a.now s.args.b.now s.args.km.now s.args.share.now s.args.sheet.now c.loop-k.k (at s.args.banks.now c.loop-k.k) s.requires.lines (omega arith),
+      drawn_to_below (grid_in s.args.grid.now) s.args.level.now c.loop-k.k (at s.args.banks.now c.loop-k.k) s.requires.lines (omega arith),
     )
 
 pub offset_bounds-to-k : goal.offset_bounds-to-k
@@ -84,7 +85,7 @@ returns c =
     let D = s.requires in
     let z = length-replicate {A = ℕ} 256 0 in
     let w = length-replicate {A = Float} 256 nought in record {
-      edges = edges_are (lines_for s.args.ladder.now s.args.a.now s.args.b.now s.args.km.now s.args.share.now s.args.sheet.now) s.args.level.now s.args.banks.now s.args.circuits.now _ _ _
+      edges = edges_are (lines_for (grid_in s.args.grid.now)) s.args.level.now s.args.banks.now s.args.circuits.now _ _ _
           (front_filled _ _ _ l.k _ (omega arith) l.invariant.1)
           (front_filled _ _ _ l.k _ (omega arith) l.invariant.2)
           (front_filled _ _ _ l.k _ (omega arith) l.invariant.3);

@@ -3,6 +3,7 @@ use Rattle.loops.proofs.Tab.{fill_length}
 use Rattle.planning.proofs.Reinforcing.{batch_chosen}
 use Rattle.planning.proofs.Gains.{ranked_all}
 use Rattle.planning.proofs.stiffen.choose_batch.Goals as goal
+use Rattle.planning.specs.Tables.{grid_in}
 
 pub order_gains-count-requires : goal.order_gains-count-requires
 order_gains-count-requires c =
@@ -18,7 +19,7 @@ pub batch_size-requires : goal.batch_size-requires
 batch_size-requires c =
     let s = c in
     let r = c.order_gains-count.ensures in
-    (ranked_all (length s.args.a.now) _ _ r.named.1, omega (arith, r.named.0, s.requires.a_len_bound.0), fill_length _ _ _ _ c.gains.ensures (omega (arith, s.requires.a_len_bound.0)))
+    (ranked_all (length s.args.grid.now.a.now) _ _ r.named.1, omega (arith, r.named.0, s.requires.a_len_bound.0), fill_length _ _ _ _ c.gains.ensures (omega (arith, s.requires.a_len_bound.0)))
 
 pub returns : goal.returns
 returns c =
@@ -26,5 +27,5 @@ returns c =
     let z = s.args in
     let r = c.order_gains-count.ensures in
     let e = c.batch_size.ensures in
-    batch_chosen z.root z.excess z.g z.ladder.now z.level.now z.a.now z.b.now z.km.now z.share.now z.cap.now z.sheet.now z.leader.now z.angle.now z.phi.now z.circuits.now z.banks.now z.t
+    batch_chosen z.root z.excess z.g (grid_in z.grid.now) z.level.now z.leader.now z.angle.now z.phi.now z.circuits.now z.banks.now z.t
     s.requires.gainful.count_size _ _ _ _ _ _ c.gains.ensures r.order c.batch_cap-most.ensures e.batch e.few r.named.0 r.named.1

@@ -8,6 +8,7 @@ use Rattle.planning.specs.Fill.{designs_for}
 use Rattle.planning.proofs.Orders.{drawn_here}
 use Rattle.planning.proofs.Solving.{drawn_from_below, drawn_to_below}
 use Rattle.planning.proofs.stiffen.gain_at.Goals as goal
+use Rattle.planning.specs.Tables.{grid_in}
 
 pub is_candidate-requires : goal.is_candidate-requires
 is_candidate-requires c =
@@ -28,7 +29,7 @@ is_candidate-requires c =
 pub returns-then-not-is_candidate : goal.returns-then-not-is_candidate
 returns-then-not-is_candidate c =
     let s = c.args in
-    ap (λ (b : Bool). gain_if b (gain_of s.angle.now s.phi.now (design (designs_for s.ladder.now s.level.now s.a.now s.b.now s.km.now s.share.now s.sheet.now s.banks.now) s.k))) (sym (c.if-not-is_candidate.true) ∙ c.is_candidate.ensures)
+    ap (λ (b : Bool). gain_if b (gain_of s.angle.now s.phi.now (design (designs_for (grid_in s.grid.now) s.level.now s.banks.now) s.k))) (sym (c.if-not-is_candidate.true) ∙ c.is_candidate.ensures)
 
 pub circuit-d-requires : goal.circuit-d-requires
 circuit-d-requires c =
@@ -41,15 +42,15 @@ gain_of-requires c =
     let z = s.args in
     let p = s.requires.0 in
     let e = c.circuit-d.ensures in
-    let f = drawn_from_below z.ladder.now z.level.now z.a.now z.b.now z.km.now z.share.now z.sheet.now z.k (at z.banks.now z.k) p.lines s.requires.1 in
-    let t = drawn_to_below z.ladder.now z.level.now z.a.now z.b.now z.km.now z.share.now z.sheet.now z.k (at z.banks.now z.k) p.lines s.requires.1 in
+    let f = drawn_from_below (grid_in z.grid.now) z.level.now z.k (at z.banks.now z.k) p.lines s.requires.1 in
+    let t = drawn_to_below (grid_in z.grid.now) z.level.now z.k (at z.banks.now z.k) p.lines s.requires.1 in
     (omega (arith, ap (λ (d : CircuitDesign). d.from) e, f, p.angle_size), omega (arith, ap (λ (d : CircuitDesign). d.to) e, t, p.angle_size), p.phi_size ∙ sym p.angle_size)
 
 pub returns : goal.returns
 returns c =
     let s = c in
     let z = s.args in
-    let D = design (designs_for z.ladder.now z.level.now z.a.now z.b.now z.km.now z.share.now z.sheet.now z.banks.now) z.k in
+    let D = design (designs_for (grid_in z.grid.now) z.level.now z.banks.now) z.k in
     c.gain_of.ensures
-    ∙ ap (λ (d : CircuitDesign). gain_of z.angle.now z.phi.now d) (drawn_here z.ladder.now z.level.now z.a.now z.b.now z.km.now z.share.now z.sheet.now z.banks.now z.k _ s.requires.1 c.circuit-d.ensures)
+    ∙ ap (λ (d : CircuitDesign). gain_of z.angle.now z.phi.now d) (drawn_here (grid_in z.grid.now) z.level.now z.banks.now z.k _ s.requires.1 c.circuit-d.ensures)
     ∙ ap (λ (b : Bool). gain_if b (gain_of z.angle.now z.phi.now D)) (sym (c.if-not-is_candidate.false) ∙ c.is_candidate.ensures)

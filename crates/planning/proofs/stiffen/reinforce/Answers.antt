@@ -1,6 +1,7 @@
 use Rattle.std.proofs.Common.{refl, arith}
 use Rattle.planning.proofs.Reinforcing.{reinforced}
 use Rattle.planning.proofs.stiffen.reinforce.Goals as goal
+use Rattle.planning.specs.Tables.{grid_in}
 
 pub choose_batch-taken-requires : goal.choose_batch-taken-requires
 choose_batch-taken-requires c =
@@ -46,5 +47,5 @@ shape_of-marks c = c.stiffen_batch.auto.marks
 pub returns : goal.returns
 returns c =
     let z = c.args in
-    reinforced z.root z.excess z.g z.ladder.now z.level.now z.a.now z.b.now z.km.now z.share.now z.cap.now z.sheet.now z.leader.now z.angle.now z.phi.now
+    reinforced z.root z.excess z.g (grid_in z.grid.now) z.level.now z.leader.now z.angle.now z.phi.now
     z.circuits.now z.banks.now z.floors.now z.upsized.now z.marks.now z.t _ _ _ _ _ _ _ _ c.choose_batch-taken.ensures c.stiffen_batch.ensures

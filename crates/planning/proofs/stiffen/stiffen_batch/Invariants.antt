@@ -1,6 +1,7 @@
 use Rattle.std.proofs.Common.{◌≡◌, ◌≤◌, length, take}
 use Rattle.planning.specs.Stiffen.{BatchStiffened}
 use Rattle.planning.proofs.stiffen.stiffen_batch.Given as goal
+use Rattle.planning.specs.Tables.{grid_in}
 
 abbrev pub invariant-loop-j : goal.invariant-loop-j
 invariant-loop-j l =
@@ -10,4 +11,4 @@ invariant-loop-j l =
     × (length l.floors ≡ length l.initial.floors)
     × (length l.upsized ≡ length l.initial.upsized)
     × (length l.marks ≡ length l.initial.marks)
-    × BatchStiffened (take l.j l.order) l.g l.ladder l.level l.a l.b l.km l.share l.cap l.sheet l.initial.circuits l.initial.banks l.initial.floors l.initial.upsized l.initial.marks l.initial.t l.circuits l.banks l.floors l.upsized l.marks l.t
+    × BatchStiffened (take l.j l.order) l.g (grid_in l.grid) l.level l.initial.circuits l.initial.banks l.initial.floors l.initial.upsized l.initial.marks l.initial.t l.circuits l.banks l.floors l.upsized l.marks l.t

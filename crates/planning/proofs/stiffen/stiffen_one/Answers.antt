@@ -5,6 +5,7 @@ use Rattle.plan_defs.specs.declared.CircuitDesign.{CircuitDesign}
 use Rattle.planning.proofs.Ratings.{drawn_rated}
 use Rattle.planning.proofs.Stiffenings.{one_full, one_rest}
 use Rattle.planning.proofs.stiffen.stiffen_one.Goals as goal
+use Rattle.planning.specs.Tables.{grid_in}
 
 pub circuit-d-requires : goal.circuit-d-requires
 circuit-d-requires c = let s = c in record { lines = s.requires.stiffen_fits.lines; k_in_bounds = (s.requires.k_in_bounds.0, s.requires.stiffen_fits.banked s.args.k (omega (arith, s.requires.k_in_bounds.0, s.requires.stiffen_fits.bank_size))) }
@@ -14,7 +15,7 @@ set_transformer_mva-full-requires c =
     let s = c in
     let z = s.args in
     let banked = s.requires.stiffen_fits.banked z.k (omega (arith, s.requires.k_in_bounds.0, s.requires.stiffen_fits.bank_size)) in
-    let rated = drawn_rated z.ladder.now z.level.now z.a.now z.b.now z.km.now z.share.now z.sheet.now z.k s.requires.stiffen_fits.lines s.requires.k_in_bounds.0 (at z.banks.now z.k) banked in
+    let rated = drawn_rated (grid_in z.grid.now) z.level.now z.k s.requires.stiffen_fits.lines s.requires.k_in_bounds.0 (at z.banks.now z.k) banked in
     ap (λ (d : CircuitDesign). rating_ok d.line_rate) c.circuit-d.ensures ∙ rated.line
 
 pub keep_bank-requires : goal.keep_bank-requires
@@ -37,7 +38,7 @@ returns-then-bank_below c =
     let s = c in
     let z = s.args in
     let k = c.keep_bank.ensures in
-    one_full z.g z.ladder.now z.level.now z.a.now z.b.now z.km.now z.share.now z.cap.now z.sheet.now z.k z.circuits.now z.banks.now z.floors.now z.upsized.now z.marks.now z.t
+    one_full z.g (grid_in z.grid.now) z.level.now z.k z.circuits.now z.banks.now z.floors.now z.upsized.now z.marks.now z.t
     s.requires.k_in_bounds.0 s.requires.stiffen_fits.count_size s.requires.stiffen_fits.bank_size _ c.circuit-d.ensures _ c.bank_below.ensures c.if-bank_below.true s.requires.stiffen_fits.lines s.requires.stiffen_fits.banked _ _ _ _ _ c.set_transformer_mva-full.ensures k.banks k.floors k.upsized c.reckoned.ensures
 
 pub raise_or_add-requires : goal.raise_or_add-requires
@@ -65,11 +66,5 @@ pub returns : goal.returns
 returns c =
     let s = c in
     let z = s.args in
-    one_rest z.g z.ladder.now z.level.now z.a.now z.b.now z.km.now z.share.now z.cap.now z.sheet.now z.k z.circuits.now z.banks.now z.floors.now z.upsized.now z.marks.now z.t
+    one_rest z.g (grid_in z.grid.now) z.level.now z.k z.circuits.now z.banks.now z.floors.now z.upsized.now z.marks.now z.t
     s.requires.k_in_bounds.0 s.requires.stiffen_fits.count_size s.requires.stiffen_fits.bank_size _ c.circuit-d.ensures _ c.bank_below.ensures c.if-bank_below.false s.requires.stiffen_fits.banked _ _ _ c.raise_or_add.ensures
-
-pub offset_bounds-cap-k : goal.offset_bounds-cap-k
-offset_bounds-cap-k c = let s = c in record { fits = omega (arith, s.requires.k_in_bounds.0, s.requires.stiffen_fits.capped.size, s.well_formed) }
-
-pub bounds-cap-k : goal.bounds-cap-k
-bounds-cap-k c = let s = c in omega (arith, s.requires.k_in_bounds.0, s.requires.stiffen_fits.capped.size)

@@ -12,4 +12,4 @@ start_is total total' hv hv' stiffening p q = ap (λ (x : ℕ). start x hv stiff
 pub returns : goal.returns
 returns c =
     let s = c in
-    record { marks = c.clear_counts.ensures ∙ ap (λ (n : ℕ). no_marks n) s.requires.1; start = start_is _ _ _ _ _ c.total-circuits_now.ensures c.at_or_above-hv.ensures }
+    record { marks = (c.fill.ensures.after (λ y e. e)) ∙ ap (λ (n : ℕ). no_marks n) s.requires.1; start = start_is _ _ _ _ _ c.total-circuits_now.ensures c.at_or_above-hv.ensures }

@@ -1,0 +1,33 @@
+// The columns that planning reads together: of the corridors and the levels, of the buses and the units, and what the opening makes of them.
+
+// The ladder, the columns of the corridors, and the rows of the line sheet.
+#[derive(Clone, Copy)]
+pub struct Grid<'a> {
+    pub ladder: &'a [f64],
+    pub a: &'a [u32],
+    pub b: &'a [u32],
+    pub km: &'a [f64],
+    pub share: &'a [f64],
+    pub cap: &'a [u32],
+    pub sheet: &'a [f64],
+}
+
+// Each bus's load, and the columns of the units.
+#[derive(Clone, Copy)]
+pub struct Supply<'a> {
+    pub load: &'a [f64],
+    pub bus: &'a [u32],
+    pub slack: &'a [u32],
+    pub pmin: &'a [f64],
+    pub pmax: &'a [f64],
+    pub c1: &'a [f64],
+    pub c2: &'a [f64],
+}
+
+// Each bus's leader and injection, and a ground for each component.
+#[derive(Clone, Copy)]
+pub struct Opened<'a> {
+    pub leader: &'a [u32],
+    pub grounds: &'a [u32],
+    pub injection: &'a [f64],
+}

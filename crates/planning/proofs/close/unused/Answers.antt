@@ -3,9 +3,6 @@ use Rattle.plan_defs.specs.Closing.{least_of}
 use Rattle.planning.proofs.Closings.{least_next}
 use Rattle.planning.proofs.close.unused.Goals as goal
 
-pub loop-i-init : goal.loop-i-init
-loop-i-init c = (omega arith, refl)
-
 pub loop-i-preserved : goal.loop-i-preserved
 loop-i-preserved c =
     let s = c.args in

@@ -14,8 +14,3 @@ returns-then-leader-i c =
     (c.extreme-highest.ensures greater (λ x y r h. search rules) ∙ ap (λ (z : Float). each (λ i m. greater m (at s.angle.now i)) (members s.leader.now s.i) (neg z)) c.infinity-top.ensures)
     (c.extreme-lowest.ensures lesser (λ x y r h. search rules) ∙ ap (λ (z : Float). each (λ i m. lesser m (at s.angle.now i)) (members s.leader.now s.i) z) c.infinity-top.ensures)
     c.greater.ensures
-
-pub returns : goal.returns
-returns c =
-    let s = c.args in
-    wider_not s.leader.now s.angle.now s.i s.most (λ e. c.if-leader-i.false (e))

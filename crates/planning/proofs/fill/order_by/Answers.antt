@@ -11,12 +11,6 @@ loop-k-init c =
     let s = c in
     (omega arith, s.requires.1, none_named (λ (j : ℕ). j < length s.args.third.now) s.args.order.now, iter_all _ _ _)
 
-pub place_of-p-requires : goal.place_of-p-requires
-place_of-p-requires c =
-    let l = c.loop-k in
-    let s = c in
-    (c.loop-k-test.true, ranked_by (rank_before s.args.first.now s.args.second.now s.args.third.now) (length s.args.third.now) l.order l.k s.requires.0 l.invariant.1 l.invariant.0 l.invariant.2)
-
 pub insert-requires : goal.insert-requires
 insert-requires c =
     let l = c.loop-k in

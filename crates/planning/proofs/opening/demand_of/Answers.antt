@@ -5,9 +5,6 @@ use Rattle.plan_defs.specs.Components.{within}
 use Rattle.planning.proofs.Passing.{pass_start, each_yes, each_no, each_end}
 use Rattle.planning.proofs.opening.demand_of.Goals as goal
 
-pub loop-i-init : goal.loop-i-init
-loop-i-init c = (omega arith, ap (λ ks. each (λ k s. plus s (at c.args.load.now k)) ks nought) (pass_start (within c.args.leader.now c.args.root) (length c.args.leader.now)))
-
 pub loop-i-preserved : goal.loop-i-preserved
 loop-i-preserved c =
     let l = c.loop-i in (

@@ -4,12 +4,6 @@ use Rattle.planning.proofs.Injecting.{injections_are}
 use Rattle.planning.proofs.opening.injections.Goals as goal
 use Rattle.planning.specs.Tables.{supply_in}
 
-pub inject-requires : goal.inject-requires
-inject-requires c =
-    let s = c.requires in
-    let e = ap length c.withdraw.ensures ∙ length_tab _ _ in
-    (record { few = s.0.few; below = λ k h. omega (arith, e, s.0.below k h, s.2) }, s.1)
-
 pub returns : goal.returns
 returns c =
     injections_are (supply_in c.args.supply.now) c.args.mw.now _ _ _ c.withdraw.ensures c.inject.ensures

@@ -15,6 +15,3 @@ loop-i-preserved c =
       simp length-set l.invariant.1,
       fill_turn _ _ _ _ _ l.invariant.2 (omega arith) (ap (λ (x : Float). over x base_mva) (fill_own _ _ _ _ nan l.invariant.2 (omega arith))),
     )
-
-pub returns : goal.returns
-returns c = fill_end _ _ _ _ _ refl (omega arith) c.loop-i.invariant.2

@@ -11,6 +11,3 @@ banked_if-requires c =
     let d = c.args.d in
     let p = c.lesser-keep.ensures in
     λ t. subst (λ (x : Float). rating_ok x ≡ true) (sym p) (kept_sound d c.args.floor c.requires (ap (λ (x : Float). d.is_transformer && lt d.transformer_mva x) (sym p) ∙ t))
-
-pub returns : goal.returns
-returns c = kept_is c.args.d _ c.args.floor _ _ c.lesser-keep.ensures refl c.banked_if.ensures

@@ -6,9 +6,6 @@ use Rattle.angles_defs.specs.Operation.{finite_at}
 use Rattle.plan_defs.specs.Solve.{all_finite}
 use Rattle.planning.proofs.solve.all_finite.Goals as goal
 
-pub loop-i-init : goal.loop-i-init
-loop-i-init c = (omega arith, first_start _ _)
-
 pub returns-then-not-is_finite : goal.returns-then-not-is_finite
 unfolding all_finite
 returns-then-not-is_finite c =

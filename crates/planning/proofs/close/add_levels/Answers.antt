@@ -1,5 +1,5 @@
 use Rattle.std.proofs.Common.{◌∙◌, arith, length-set}
-use Rattle.loops.proofs.Tab.{fill_start, fill_turn, fill_end}
+use Rattle.loops.proofs.Tab.{fill_start, fill_turn}
 use Rattle.planning.proofs.close.add_levels.Goals as goal
 
 pub loop-j-init : goal.loop-j-init

@@ -1,4 +1,4 @@
-use Rattle.std.proofs.Common.{ℕ, ◌+◌, ◌≤◌, length, drop, sym, refl, ap, ◌∙◌, arith, drop_of_length-le}
+use Rattle.std.proofs.Common.{ℕ, ◌+◌, ◌≤◌, length, drop, sym, ap, ◌∙◌, arith, drop_of_length-le}
 use Rattle.plan_defs.specs.Closing.{least_of}
 use Rattle.planning.proofs.Closings.{least_next}
 use Rattle.planning.proofs.close.unused.Goals as goal

@@ -4,7 +4,7 @@ use lib.Ieee.{Float, neg}
 use Rattle.loops.specs.Figures.{at, greater, lesser}
 use Rattle.plan_defs.specs.Lists.{each}
 use Rattle.plan_defs.specs.Components.{members}
-use Rattle.planning.proofs.Closings.{wider_leads, wider_not}
+use Rattle.planning.proofs.Closings.{wider_leads}
 use Rattle.planning.proofs.close.wider.Goals as goal
 
 pub returns-then-leader-i : goal.returns-then-leader-i

@@ -1,5 +1,5 @@
 -- The ends, the line between them and the bank make the definition's design.
-use Rattle.planning.proofs.Draws.{ends_fit, line_fits, circuit_is}
+use Rattle.planning.proofs.Draws.{line_fits, circuit_is}
 use Rattle.planning.proofs.design.circuit.Goals as goal
 use Rattle.planning.specs.Tables.{grid_in}
 

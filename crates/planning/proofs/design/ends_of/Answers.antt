@@ -1,5 +1,5 @@
 -- The two kV decide which end is the higher one, and whether they differ.
-use Rattle.std.proofs.Common.{refl, ℕ, ◌<◌, length, subst}
+use Rattle.std.proofs.Common.{refl}
 use Rattle.planning.proofs.Draws.{ends_are}
 use Rattle.planning.proofs.design.ends_of.Goals as goal
 use Rattle.planning.specs.Tables.{grid_in}

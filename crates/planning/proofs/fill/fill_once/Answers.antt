@@ -2,7 +2,7 @@ use Rattle.std.proofs.Common.{◌^◌, ◌<◌, length, get_or, sym, refl, ◌�
 use Rattle.loops.proofs.Loops.{iter_more, iter_end}
 use Rattle.plan_defs.specs.Case.{full_of}
 use Rattle.planning.specs.Fill.{filled_as}
-use Rattle.planning.proofs.Fillings.{total_fits, count_fits, tally, fill_corridor, once_start}
+use Rattle.planning.proofs.Fillings.{total_fits, tally, fill_corridor, once_start}
 use Rattle.planning.proofs.fill.fill_once.Goals as goal
 
 pub loop-j-init : goal.loop-j-init

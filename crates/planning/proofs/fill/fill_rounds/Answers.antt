@@ -1,7 +1,7 @@
-use Rattle.std.proofs.Common.{ℕ, length, take, sym, refl, ap, ◌∙◌, subst, arith}
+use Rattle.std.proofs.Common.{ℕ, length, take, sym, ap, ◌∙◌, arith}
 use Rattle.plan_defs.specs.Case.{full_of}
 use Rattle.plan_defs.specs.Fill.{fill_once}
-use Rattle.planning.specs.Fill.{filled_as, Ranked}
+use Rattle.planning.specs.Fill.{filled_as}
 use Rattle.planning.proofs.Fillings.{rounds_next, rounds_end}
 use Rattle.planning.proofs.fill.fill_rounds.Goals as goal
 

@@ -1,6 +1,4 @@
-use Rattle.std.proofs.Common.{◌≡◌, ℕ, ◌+◌, ap, ◌∙◌, arith}
-use Rattle.loops.specs.Loops.{filled}
-use Rattle.planning.specs.Fill.{shifted}
+use Rattle.std.proofs.Common.{◌∙◌, arith}
 use Rattle.loops.proofs.Tab.{fill_turn, fill_own}
 use Rattle.planning.proofs.Insertion.{shift_start, shifted_here, shifted_next}
 use Rattle.planning.proofs.fill.insert.Goals as goal

@@ -1,7 +1,7 @@
 use Rattle.std.proofs.Common.{◌≡◌, ℕ, ◌<◌, length, take, sym, ap, ◌∙◌, arith}
 use Rattle.loops.proofs.Loops.{iter_all, iter_more, iter_end}
 use Rattle.planning.specs.Fill.{rank_before, order_by}
-use Rattle.planning.proofs.Insertion.{place_most, insert_is, named_next, ranked_by, none_named}
+use Rattle.planning.proofs.Insertion.{place_most, insert_is, named_next, none_named}
 use Rattle.loops.proofs.Tab.{fill_length}
 use Rattle.planning.proofs.fill.order_by.Goals as goal
 

@@ -1,6 +1,6 @@
 use Rattle.std.proofs.Common.{ℕ, ◌+◌, ◌<◌, length, get_or, sym, refl, ap, ◌∙◌, arith}
 use Rattle.plan_defs.specs.Lists.{sum}
-use Rattle.planning.proofs.Fillings.{sum_next, sum_all}
+use Rattle.planning.proofs.Fillings.{sum_next}
 use Rattle.planning.proofs.fill.total.Goals as goal
 
 pub loop-k-init : goal.loop-k-init

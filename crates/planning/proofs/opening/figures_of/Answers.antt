@@ -1,4 +1,4 @@
-use Rattle.std.proofs.Common.{get_or, refl, ◌<◌, length, ap, ◌∙◌, arith, rules}
+use Rattle.std.proofs.Common.{refl, ap, ◌∙◌, arith}
 use Rattle.loops.specs.Figures.{at}
 use Rattle.loops.proofs.Tab.{fill_start, fill_turn}
 use Rattle.loops.proofs.Fronts.{front_filled, front_map}

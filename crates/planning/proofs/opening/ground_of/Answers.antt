@@ -1,7 +1,7 @@
-use Rattle.std.proofs.Common.{refl, ℕ, ◌<◌, not, ◌&&◌, eqb, length, get_or, sym, ap, ◌∙◌, arith, rules}
+use Rattle.std.proofs.Common.{refl, ℕ, not, ◌&&◌, eqb, get_or, sym, ap, ◌∙◌, arith}
 use Rattle.plan_defs.specs.Components.{slack_within, bus_or}
 use Rattle.planning.specs.Opening.{slack_case}
-use Rattle.planning.proofs.Passing.{pass_start, pass_yes, pass_no, pass_end}
+use Rattle.planning.proofs.Passing.{pass_yes, pass_no, pass_end}
 use Rattle.planning.proofs.opening.ground_of.Goals as goal
 
 pub returns-then-leader-i : goal.returns-then-leader-i

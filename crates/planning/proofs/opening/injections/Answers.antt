@@ -1,4 +1,4 @@
-use Rattle.std.proofs.Common.{length, ap, ◌∙◌, arith}
+use Rattle.std.proofs.Common.{length, ap, ◌∙◌}
 use Rattle.loops.proofs.Tab.{length_tab}
 use Rattle.planning.proofs.Injecting.{injections_are}
 use Rattle.planning.proofs.opening.injections.Goals as goal

@@ -1,7 +1,7 @@
 use Rattle.std.proofs.Common.{refl, ap, arith, length-set}
 use lib.Ieee.{Float, nan}
 use Rattle.loops.specs.Figures.{over}
-use Rattle.loops.proofs.Tab.{fill_start, fill_turn, fill_end, fill_own}
+use Rattle.loops.proofs.Tab.{fill_start, fill_turn, fill_own}
 use Rattle.plan_defs.specs.Constants.{base_mva}
 use Rattle.planning.proofs.opening.per_unit.Goals as goal
 

@@ -1,8 +1,8 @@
-use Rattle.std.proofs.Common.{refl, ◌≡◌, ℕ, ◌<◌, List, [], ◌++◌, length, get_or, take, sym, ap, ◌∙◌, ⊎_elim, append-nil, arith, length-set, rules, eq-eqb, ne_eqb}
+use Rattle.std.proofs.Common.{refl, ◌≡◌, ℕ, List, [], ◌++◌, get_or, take, sym, ap, ◌∙◌, ⊎_elim, append-nil, arith, length-set, eq-eqb, ne_eqb}
 use Rattle.loops.proofs.Collect.{collect_keep, collect_count}
 use Rattle.plan_defs.specs.Components.{unit_within, units_in}
 use Rattle.planning.specs.Opening.{bus_case}
-use Rattle.planning.proofs.Passing.{pass_start, pass_yes, pass_no, pass_end}
+use Rattle.planning.proofs.Passing.{pass_yes, pass_no, pass_end}
 use Rattle.planning.proofs.opening.units_in.Goals as goal
 
 pub loop-k-preserved : goal.loop-k-preserved

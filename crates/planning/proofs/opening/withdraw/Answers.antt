@@ -1,5 +1,5 @@
 use Rattle.std.proofs.Common.{refl, arith, length-set}
-use Rattle.loops.proofs.Tab.{fill_start, fill_turn, fill_end}
+use Rattle.loops.proofs.Tab.{fill_start, fill_turn}
 use Rattle.planning.proofs.opening.withdraw.Goals as goal
 
 pub loop-i-init : goal.loop-i-init

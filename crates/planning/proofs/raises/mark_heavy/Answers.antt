@@ -1,5 +1,4 @@
 -- The definition with its test decided.
-use Rattle.std.proofs.Common.{arith}
 use Rattle.planning.proofs.Heavies.{heavy_marked, light_unmarked}
 use Rattle.planning.proofs.raises.mark_heavy.Goals as goal
 use Rattle.planning.specs.Tables.{grid_in}

@@ -1,4 +1,3 @@
-use Rattle.std.proofs.Common.{◌∙◌}
 use Rattle.planning.proofs.Heavies.{heavy_raised}
 use Rattle.planning.proofs.raises.raise_heavy.Goals as goal
 use Rattle.planning.specs.Tables.{grid_in, supply_in}

@@ -1,5 +1,5 @@
-use Rattle.std.proofs.Common.{rules, ◌≡◌, Err, sym, ◌∙◌, arith}
-use Rattle.planning.proofs.Promoting.{unpromoted, underway_start, raisable_again, done_last, done_refused, moved_few, done_still, underway_next}
+use Rattle.std.proofs.Common.{rules, ◌≡◌, Err, sym, ◌∙◌}
+use Rattle.planning.proofs.Promoting.{unpromoted, done_last, done_refused, done_still, underway_next}
 use Rattle.planning.proofs.raises.raises.Goals as goal
 use Rattle.planning.specs.Tables.{grid_in, supply_in, opened_in}
 

@@ -1,9 +1,8 @@
 -- A bank is set only where it is below what it is kept to, and that lies between two sound ratings.
-use Rattle.std.proofs.Common.{◌≡◌, true, ◌&&◌, sym, refl, ap, ◌∙◌, subst}
+use Rattle.std.proofs.Common.{◌≡◌, true, ◌&&◌, sym, ap, ◌∙◌, subst}
 use lib.Ieee.{Float, lt}
 use Rattle.impedance.specs.Impedance.{rating_ok}
 use Rattle.planning.proofs.Ratings.{kept_sound}
-use Rattle.planning.proofs.Anew.{kept_is}
 use Rattle.planning.proofs.redesign.kept_bank.Goals as goal
 
 pub banked_if-requires : goal.banked_if-requires

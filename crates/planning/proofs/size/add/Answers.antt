@@ -1,5 +1,5 @@
 -- The definition with its test decided; the sum fits.
-use Rattle.planning.proofs.Sizes.{added_more, added_none}
+use Rattle.planning.proofs.Sizes.{added_more}
 use Rattle.planning.proofs.size.add.Goals as goal
 
 pub returns-then-count-most : goal.returns-then-count-most

@@ -1,5 +1,5 @@
 -- Enough already, a raise, or more circuits.
-use Rattle.std.proofs.Common.{ap, ◌∙◌, arith}
+use Rattle.std.proofs.Common.{ap, ◌∙◌}
 use lib.Ieee.{to_unsigned}
 use Rattle.planning.proofs.Casts.{ceil_is}
 use Rattle.planning.proofs.Sizes.{grown_none, grown_raised, grown_added}

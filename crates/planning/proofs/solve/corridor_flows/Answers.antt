@@ -1,4 +1,4 @@
-use Rattle.std.proofs.Common.{get_or, ◌<◌, length, refl, ◌∙◌, arith, length-set, length-take-le, rules}
+use Rattle.std.proofs.Common.{length, refl, ◌∙◌, arith, length-set, length-take-le}
 use Rattle.loops.proofs.Tab.{fill_start, fill_turn, fill_end}
 use Rattle.planning.proofs.Solving.{flow_turn, flows_are}
 use Rattle.planning.proofs.solve.corridor_flows.Goals as goal

@@ -1,4 +1,4 @@
-use Rattle.std.proofs.Common.{get_or, ℕ, ◌<◌, length, ap, ◌∙◌, arith, rules}
+use Rattle.std.proofs.Common.{get_or, ℕ, ap, ◌∙◌, arith}
 use lib.ListN.{length-replicate}
 use lib.Ieee.{Float}
 use Rattle.loops.specs.Figures.{float, at, times, nought}

@@ -1,8 +1,7 @@
-use Rattle.std.proofs.Common.{length, refl, ap, ◌∙◌}
-use lib.ListN.{length-replicate}
+use Rattle.std.proofs.Common.{length}
 use Rattle.loops.specs.Figures.{nought}
 use Rattle.loops.proofs.Fronts.{front_replicate}
-use Rattle.planning.proofs.Solving.{unit_front, unit_length, unit_angles_are}
+use Rattle.planning.proofs.Solving.{unit_front, unit_angles_are}
 use Rattle.planning.proofs.solve.unit_angles.Goals as goal
 
 pub returns : goal.returns

@@ -1,7 +1,4 @@
-use Rattle.std.proofs.Common.{length, arith}
-use Rattle.loops.proofs.Tab.{fill_length}
 use Rattle.planning.proofs.Reinforcing.{batch_chosen}
-use Rattle.planning.proofs.Gains.{ranked_all}
 use Rattle.planning.proofs.stiffen.choose_batch.Goals as goal
 use Rattle.planning.specs.Tables.{grid_in}
 

@@ -1,4 +1,4 @@
-use Rattle.std.proofs.Common.{◌≡◌, ℕ, ◌+◌, ◌<◌, cond, eqb, length, get_or, refl, ap, ◌∙◌, arith, rules}
+use Rattle.std.proofs.Common.{◌≡◌, ℕ, ◌+◌, cond, eqb, length, get_or, refl, ap, ◌∙◌, arith}
 use Rattle.plan_defs.specs.Lists.{count_from, counting}
 use Rattle.planning.proofs.Lists.{count_more, count_most}
 use Rattle.planning.proofs.Served.{byte_is}

@@ -1,6 +1,5 @@
-use Rattle.std.proofs.Common.{rules, ◌≡◌, Err, length, ◌∙◌, arith}
+use Rattle.std.proofs.Common.{rules, ◌≡◌, Err}
 use Rattle.planning.proofs.Narrowing.{narrowed_refused, narrowed_answered}
-use Rattle.planning.proofs.States.{front_fits, front_net}
 use Rattle.planning.proofs.stiffen.narrow.Goals as goal
 use Rattle.planning.specs.Tables.{grid_in, opened_in}
 

@@ -2,7 +2,7 @@ use Rattle.std.proofs.Common.{ℕ, ◌<◌, take, sym, ◌∙◌, subst, arith}
 use Rattle.loops.proofs.Loops.{iter_all, iter_more, iter_end}
 use Rattle.plan_defs.proofs.Lists.{All}
 use Rattle.planning.specs.Stiffen.{gains_more, gain_next, gain_order}
-use Rattle.planning.proofs.Gains.{ranked_all, next_named}
+use Rattle.planning.proofs.Gains.{next_named}
 use Rattle.planning.proofs.Insertion.{ranked_by, none_named}
 use Rattle.planning.proofs.stiffen.order_gains.Goals as goal
 

@@ -1,5 +1,5 @@
-use Rattle.std.proofs.Common.{get_or, sym, ◌∙◌, arith}
-use Rattle.planning.proofs.Stiffenings.{room_below, strengthened_raised, strengthened_added, strengthened_none}
+use Rattle.std.proofs.Common.{sym, ◌∙◌}
+use Rattle.planning.proofs.Stiffenings.{strengthened_raised, strengthened_added, strengthened_none}
 use Rattle.planning.proofs.stiffen.raise_or_add.Goals as goal
 
 pub returns-then-raises : goal.returns-then-raises

@@ -1,4 +1,3 @@
-use Rattle.std.proofs.Common.{refl, arith}
 use Rattle.planning.proofs.Reinforcing.{reinforced}
 use Rattle.planning.proofs.stiffen.reinforce.Goals as goal
 use Rattle.planning.specs.Tables.{grid_in}

@@ -1,4 +1,4 @@
-use Rattle.std.proofs.Common.{◌≡◌, ℕ, ◌<◌, ◌≤◌, length, take, refl, ◌∙◌, subst, arith, length-take-le}
+use Rattle.std.proofs.Common.{◌≡◌, ℕ, ◌<◌, length, take, refl, ◌∙◌, subst, arith}
 use Rattle.planning.specs.Stiffen.{BatchStiffened}
 use Rattle.planning.proofs.Stiffenings.{batch_start, batch_turn}
 use Rattle.planning.proofs.stiffen.stiffen_batch.Goals as goal

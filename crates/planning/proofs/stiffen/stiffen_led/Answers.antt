@@ -1,4 +1,3 @@
-use Rattle.std.proofs.Common.{sym, ◌∙◌}
 use Rattle.planning.proofs.Narrowing.{led_leads, led_not}
 use Rattle.planning.proofs.stiffen.stiffen_led.Goals as goal
 use Rattle.planning.specs.Tables.{grid_in, opened_in}

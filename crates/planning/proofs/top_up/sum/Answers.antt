@@ -1,4 +1,4 @@
-use Rattle.std.proofs.Common.{refl, le_antisymm, add-one, arith, rules}
+use Rattle.std.proofs.Common.{refl, add-one, arith, rules}
 use Rattle.loops.specs.Loops.{sum_to}
 use Rattle.planning.proofs.top_up.sum.Goals as goal
 

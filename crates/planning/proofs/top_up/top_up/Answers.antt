@@ -1,7 +1,7 @@
-use Rattle.std.proofs.Common.{refl, ◌<◌, length, sym, ap, ◌∙◌, arith, length-set}
+use Rattle.std.proofs.Common.{refl, ◌<◌, length, ap, ◌∙◌, arith, length-set}
 use Rattle.loops.specs.Figures.{minus}
 use Rattle.plan_defs.specs.TopUp.{by_cost}
-use Rattle.planning.proofs.ToppingUp.{costs_length, unit_at_lem, pass_start, pass_end, pass_none, pass_last, pass_next}
+use Rattle.planning.proofs.ToppingUp.{costs_length, unit_at_lem, pass_end, pass_none, pass_last, pass_next}
 use Rattle.planning.proofs.top_up.top_up.Goals as goal
 
 pub returns-then-not-gap : goal.returns-then-not-gap

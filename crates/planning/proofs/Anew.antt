@@ -1,15 +1,15 @@
 -- Corridors designed anew: the code's design is the definition's, and the bank that is kept of it is above 0 and finite; and so for a whole case.
 -- A design is its line and its bank, so that the bank alone says which design it was.
-use Rattle.std.proofs.Common.{◌≡◌, ℕ, ◌*◌, ◌^◌, ◌<◌, ◌≤◌, Bool, true, false, ◌&&◌, eqb, List, length, get_or, sym, refl, ap, ◌∙◌, subst, le_trans, mul-le-mul_right, arith, lit≤}
-use lib.Ieee.{Float, nan, lt}
-use Rattle.loops.specs.Figures.{at, lesser}
+use Rattle.std.proofs.Common.{◌≡◌, ℕ, ◌*◌, ◌^◌, ◌<◌, ◌≤◌, true, eqb, List, length, get_or, sym, refl, ap, ◌∙◌, subst, le_trans, mul-le-mul_right, arith, lit≤}
+use lib.Ieee.{Float, nan}
+use Rattle.loops.specs.Figures.{at}
 use Rattle.loops.specs.Loops.{tab}
 use Rattle.loops.proofs.Most.{Most, most_more, million_most}
 use Rattle.loops.proofs.Tab.{length_tab, get_tab}
 use Rattle.loops.proofs.Places.{tab_read}
 use Rattle.impedance.specs.Impedance.{rating_ok}
 use Rattle.plan_defs.specs.Case.{Case, to_of}
-use Rattle.plan_defs.specs.Design.{banked_by, drawn, kept_by, kept_to, kept_bank, fresh_bank, bank_for, gen_at_bus, transformer_corridors, design_at}
+use Rattle.plan_defs.specs.Design.{drawn, kept_bank, fresh_bank, bank_for, gen_at_bus, transformer_corridors, design_at}
 use Rattle.plan_defs.specs.declared.CircuitDesign.{CircuitDesign}
 use Rattle.planning.specs.Design.{lines_for, ends_for, ends_of, Lines, Banks}
 use Rattle.planning.specs.Redesign.{units_for, redesign_for, Units, Loads, anew_from, bank_of, fresh_at, bank_anew, banks_anew}
@@ -18,20 +18,6 @@ use Rattle.planning.proofs.Lists.{sum_most, count_most}
 use Rattle.planning.proofs.Draws.{ends_fit, to_below, drawn_lifts}
 use Rattle.planning.proofs.Ratings.{fresh_rating, drawn_rated, anew_sound}
 use Rattle.planning.specs.Tables.{GridColumns, SupplyColumns}
-
--- ---- the two choices by a test are one
-pub banked_is_kept : (t : Bool) (d : CircuitDesign) (mva : Float) → banked_by t d mva ≡ kept_by t d mva
-banked_is_kept true d mva = refl
-banked_is_kept false d mva = refl
-
--- ---- a bank is kept to its floor
-pub kept_is : (d e : CircuitDesign) (floor keep : Float) (t : Bool) → keep ≡ lesser floor d.line_rate
-    → t ≡ (d.is_transformer && lt d.transformer_mva keep) → e ≡ banked_by t d keep → e ≡ kept_bank d floor
-kept_is d e floor keep t p q r =
-    r
-    ∙ banked_is_kept t d keep
-    ∙ ap (λ (x : Bool). kept_by x d keep) q
-    ∙ ap (λ (x : Float). kept_to d x) p
 
 -- ---- one corridor, over what the code has added up for each bus
 module _ (grid : GridColumns) (level : List ℕ) (load gens : List Float) (shared : List ℕ) (k : ℕ) where

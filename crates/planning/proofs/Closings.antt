@@ -1,6 +1,6 @@
 -- The closing figures as code's loops make them are the defined ones.
 -- A loop over those that pass a test is a loop over all with the test; a table's figure is read off its place.
-use Rattle.std.proofs.Common.{◌≡◌, ℕ, zero, suc, ◌+◌, ◌-◌, ◌^◌, ◌<◌, ◌≤◌, min, Bool, true, false, cond, ltb, List, [], ◌∷◌, ◌++◌, map, length, get_or, take, drop, replicate, sym, refl, ap, ◌∙◌, le_of_suc-le-suc, not-suc-le-zero, add-one, arith, length-append, length-drop, length-take, get_or-drop, drop-cons, get_or-take, get_or-append-add, ext_get_or, ltb-false, ltb-true, eq-eqb, ne_eqb}
+use Rattle.std.proofs.Common.{◌≡◌, ℕ, zero, suc, ◌+◌, ◌-◌, ◌^◌, ◌<◌, ◌≤◌, min, Bool, true, false, cond, ltb, List, [], ◌∷◌, ◌++◌, map, length, get_or, take, drop, replicate, sym, refl, ap, ◌∙◌, le_of_suc-le-suc, not-suc-le-zero, add-one, arith, length-append, length-drop, length-take, get_or-drop, drop-cons, get_or-take, get_or-append-add, ext_get_or, ltb-false, ltb-true, eq-eqb}
 use lib.ListN.{length-replicate, get_or-replicate, get_or-append}
 use lib.Ieee.{Float, nan, lt}
 use Rattle.loops.specs.Figures.{at, plus, minus, nought, one, greater}
@@ -56,9 +56,6 @@ module _ (led : List ℕ) (theta : List Float) where
     wider_leads r x y e p q s =
         s ∙ ap (λ (z : Float). greater m (minus z y)) p ∙ ap (λ (z : Float). greater m (minus (highest theta (members led i)) z)) q
         ∙ sym (ap widest (eq-eqb (get_or led i 0) i e))
-
-    pub wider_not : (get_or led i 0 ≡ i → ⊥) → m ≡ wider_by led theta i m
-    wider_not n = sym (ap widest (ne_eqb (get_or led i 0) i n))
 
   pub spread_is : iter (wider_by led theta) (length led) 0 nought ≡ spread_of led theta
   unfolding spread_of

@@ -1,7 +1,7 @@
 -- Filling slices: a turn over the order as code makes it, one corridor after another, is the defined turn.
 -- A corridor gets `gain_of` circuits, one or none, so that code stores the same sum either way.
 use Rattle.std.proofs.Common.{◌≡◌, ℕ, zero, suc, ◌+◌, ◌-◌, ◌^◌, ◌<◌, ◌≤◌, Bool, true, false, cond, ◌&&◌, ltb, List, [], ◌∷◌, length, get_or, take, set, sym, refl, ap, ◌∙◌, add-one, arith, length-take-le, get_or-take, take-suc, ltb-true}
-use lib.Seq.{set-get_or, take-length}
+use lib.Seq.{set-get_or}
 use Rattle.loops.specs.Loops.{iter}
 use Rattle.loops.proofs.Bools.{both}
 use Rattle.loops.proofs.Loops.{iter_all, gap, none}
@@ -19,9 +19,6 @@ pub sum_next : (l : List ℕ) (k : ℕ) → k < length l → sum (take (k + 1) l
 unfolding sum
 sum_next l k h =
     ap (λ (n : ℕ). sum (take n l)) (add-one k) ∙ ap sum (take-suc l k 0 h) ∙ sum_append (take k l) (get_or l k 0 ∷ []) ∙ (let z : sum (take k l) + (get_or l k 0 + 0) ≡ sum (take k l) + get_or l k 0 = omega arith in z)
-
-pub sum_all : (l : List ℕ) (k : ℕ) → length l ≡ k → sum (take k l) ≡ sum l
-sum_all l k e = ap (λ (n : ℕ). sum (take n l)) (sym e) ∙ ap sum (take-length l)
 
 -- ---- what a corridor gets
 module _ (total target full count : ℕ) where

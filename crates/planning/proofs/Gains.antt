@@ -1,23 +1,19 @@
 -- Which corridors are stiffened: the order that code makes of a list of gains is the defined one, and what it takes of it is the defined batch.
 -- A gain is made of its corridor, so that a list of gains is a list of corridors with the same insertions; a batch goes by what is left of it.
-use Rattle.std.proofs.Common.{◌≡◌, ℕ, zero, suc, ◌+◌, ◌-◌, ◌<◌, ◌≤◌, min, Bool, true, false, ◌&&◌, ◌||◌, eqb, ltb, List, [], ◌∷◌, ◌++◌, map, length, get_or, take, drop, sym, refl, ap, ◌∙◌, append-nil, add-one, arith, drop_of_length-le, length-take-le, drop-cons, get_or-take, take-suc}
+use Rattle.std.proofs.Common.{◌≡◌, ℕ, zero, suc, ◌+◌, ◌-◌, ◌<◌, ◌≤◌, Bool, true, false, List, [], ◌∷◌, ◌++◌, map, length, get_or, take, drop, sym, refl, ap, ◌∙◌, append-nil, add-one, arith, drop_of_length-le, length-take-le, drop-cons, get_or-take, take-suc}
 use lib.Seq.{append_snoc}
 use lib.Ieee.{Float, lt, of_bits}
 use Rattle.loops.specs.Figures.{at, plus, nought}
 use Rattle.loops.specs.Loops.{iter}
 use Rattle.loops.specs.Sorting.{put_before, insert_by}
 use Rattle.loops.proofs.Loops.{gap, none}
-use Rattle.plan_defs.specs.Constants.{most_corridors}
 use Rattle.plan_defs.specs.Lists.{keep, pass_from, passing}
 use Rattle.plan_defs.specs.Design.{design}
 use Rattle.plan_defs.specs.Stiffen.{Gain, gain_of, placed, insert, insert_if, insert_gain, gains, batch_if, batch}
 use Rattle.plan_defs.specs.declared.CircuitDesign.{CircuitDesign}
 use Rattle.plan_defs.proofs.Lists.{All}
 use Rattle.plan_defs.proofs.Inserted.{insert_all_lem}
-use Rattle.planning.specs.Fill.{Ranked}
-use Rattle.planning.specs.Stiffen.{room_for, candidate_at, gain_if, gains_more, insert_where, gain_next, gain_order, gain_for}
-use Rattle.planning.specs.declared.stiffen.Limits.{Limits}
-use Rattle.planning.specs.declared.stiffen.Stiffness.{Stiffness}
+use Rattle.planning.specs.Stiffen.{gain_if, gains_more, insert_where, gain_next, gain_order, gain_for}
 
 module _ (gain : List Float) where
   abbrev gainers : List ℕ → List Gain
@@ -151,17 +147,4 @@ module _ (gain : List Float) where
   pub next_no : (k : ℕ) (l : List ℕ) → lt nought (at gain k) ≡ false → l ≡ gain_next gain k l
   next_no k l e = ap (λ (b : Bool). insert_where b (gains_more gain) k l) (sym e)
 
--- an order of m names corridors below the most
-pub ranked_all : (m count : ℕ) (order : List ℕ) → Ranked m order count → Ranked most_corridors order count
-ranked_all m count order r =
-    record {
-      few = omega arith;
-      size = r.size;
-      below = λ j h. omega (arith, r.below j h, r.few);
-    }
-
 -- ---- a candidate
-pub candidate_is : (g : Limits) (leader level a b cap circuits : List ℕ) (t : Stiffness) (root k i j tier : ℕ) (room : Bool) (led hv : ℕ)
-    → i ≡ get_or a k 0 → j ≡ get_or b k 0 → tier ≡ min (get_or level i 0) (get_or level j 0) → room ≡ room_for g (get_or cap k 0) (get_or circuits k 0) t.total → led ≡ get_or leader i 0 → hv ≡ t.hv
-    → (eqb led root && (room || (ltb g.top tier && ltb hv g.hv))) ≡ candidate_at g leader level a b cap circuits t root k
-candidate_is g leader level a b cap circuits t root k i j tier room led hv p q r s u v = rw (u, r, s, v, p, q)

@@ -39,7 +39,7 @@ use Rattle.planning.proofs.Draws.{Laid}
 use Rattle.planning.proofs.Sounds.{lines_of}
 use Rattle.std.specs.Prelude.{Err, Ok, Result}
 use Rattle.plan_defs.specs.declared.CorridorPlan.{CorridorPlan}
-use Rattle.planning.specs.Tables.{GridColumns, grid_of, SupplyColumns, supply_of, OpenedColumns, opened_of}
+use Rattle.planning.specs.Tables.{GridColumns, grid_of, SupplyColumns, supply_of, opened_of}
 
 -- ---- a unit's most is not below zero, since its least is not
 truth : (b : Bool) → T b → b ≡ true

@@ -1,8 +1,7 @@
 -- Marks, and the raises of one bus after another: the levels and the count of the definition.
 -- A bus that stays is set to its own level, so that every turn writes one more place and counts one more index.
-use Rattle.std.proofs.Common.{◌≡◌, ℕ, zero, suc, ◌+◌, ◌-◌, ◌<◌, ◌≤◌, min, Bool, true, false, cond, ltb, List, length, get_or, set, sym, refl, ap, ◌∙◌, subst, arith, ltb-true, le-ltb, lt-ltb}
+use Rattle.std.proofs.Common.{◌≡◌, ℕ, ◌+◌, ◌<◌, ◌≤◌, min, Bool, true, false, cond, ltb, List, length, get_or, set, sym, refl, ap, ◌∙◌, subst, arith, ltb-true, le-ltb, lt-ltb}
 use lib.Seq.{set-get_or}
-use lib.Ieee.{Float}
 use Rattle.loops.specs.Loops.{filled}
 use Rattle.loops.proofs.Tab.{length_tab, get_tab, tab_same, tab_of, fill_turn, fill_end, fill_own}
 use Rattle.plan_defs.specs.Lists.{counting}
@@ -15,12 +14,6 @@ use Rattle.planning.proofs.Lists.{count_more, count_most, count_zero}
 use Rattle.planning.specs.Tables.{GridColumns}
 
 -- ---- marks
-pub marked_none : (m t : ℕ) → m ≡ 0 → t + 1 ≡ marked m t
-marked_none m t e = let x : t + 1 ≡ suc t = omega arith in x ∙ sym (ap (λ (y : ℕ). marked y t) e)
-
-pub marked_some : (m t : ℕ) → (m ≡ 0 → ⊥) → min m (t + 1) ≡ marked m t
-marked_some zero t h = absurd (h refl)
-marked_some (suc u) t h = let x : min (suc u) (t + 1) ≡ suc (min u t) = omega arith in x
 
 pub mark_both_is : (t i j : ℕ) (marks : List ℕ) (x y : ℕ) → x ≡ marked (get_or marks i 0) t → y ≡ marked (get_or (set marks i x) j 0) t
     → set (set marks i x) j y ≡ mark_both t i j marks
@@ -35,20 +28,8 @@ module _ (level a b : List ℕ) (k top i j tier : ℕ) (pi : i ≡ get_or a k 0)
   pub cannot_raise : tier ≤ top → false ≡ can_raise (pairs_for a b) level top k
   cannot_raise h = sym (le-ltb top (top_of (pairs_for a b) level k) (omega (arith, h, top_is)))
 
-  pub can_raise_lem : top < tier → true ≡ can_raise (pairs_for a b) level top k
-  can_raise_lem h = sym (lt-ltb top (top_of (pairs_for a b) level k) (omega (arith, h, top_is)))
-
   pub unmarked : (marks : List ℕ) → tier ≤ top → marks ≡ mark_if (can_raise (pairs_for a b) level top k) (pairs_for a b) level k marks
   unmarked marks h = ap (λ (t : Bool). mark_if t (pairs_for a b) level k marks) (cannot_raise h)
-
-  pub marks_ends : (marks marks' : List ℕ) → top < tier → marks' ≡ mark_both (tier - 1) i j marks
-      → marks' ≡ mark_if (can_raise (pairs_for a b) level top k) (pairs_for a b) level k marks
-  marks_ends marks marks' h e =
-      e
-      ∙ ap (λ (z : ℕ). mark_both (z - 1) i j marks) top_is
-      ∙ ap (λ (z : ℕ). mark_both (top_of (pairs_for a b) level k - 1) z j marks) pi
-      ∙ ap (λ (z : ℕ). mark_both (top_of (pairs_for a b) level k - 1) (get_or a k 0) z marks) pj
-      ∙ ap (λ (t : Bool). mark_if t (pairs_for a b) level k marks) (can_raise_lem h)
 
 -- of a whole case
 pub mark_lifts : (c : Case) (level : List ℕ) (t : Bool) (k : ℕ) (marks : List ℕ) → mark_if t (pairs_for c.a c.b) level k marks ≡ mark_if t c level k marks

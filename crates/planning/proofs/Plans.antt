@@ -1,6 +1,6 @@
 -- The stages of planning joined: what each asks of the slices that the one before left, and that together they are the defined stages of the whole case.
 -- The stages are onwards of one another, so each law puts in what was answered, and the rest is by computing.
-use Rattle.std.proofs.Common.{◌≡◌, ℕ, zero, suc, ◌*◌, ◌≤◌, Bool, true, false, cond, not, ◌&&◌, eqb, List, length, take, replicate, sym, refl, ap, ◌∙◌, subst, suc-le-suc, zero-le, arith, ne_eqb}
+use Rattle.std.proofs.Common.{◌≡◌, ℕ, zero, suc, ◌*◌, ◌≤◌, Bool, true, false, cond, not, ◌&&◌, eqb, List, length, take, replicate, sym, refl, ap, ◌∙◌, subst, zero-le, arith, ne_eqb}
 use lib.Ieee.{Float}
 use Rattle.loops.specs.Figures.{nought}
 use Rattle.refusal.specs.declared.Refusal.{Refusal}
@@ -51,11 +51,6 @@ budget_is c P led false m = refl
 budget_le : (t : Bool) → cond t planning_max_rounds 0 ≤ planning_max_rounds
 budget_le true = omega arith
 budget_le false = zero-le
-
-budget_some : (b : Bool) (m : ℕ) → (cond (b && not (eqb m 0)) planning_max_rounds 0 ≡ 0 → ⊥) → 1 ≤ m
-budget_some true zero e = absurd (e refl)
-budget_some false zero e = absurd (e refl)
-budget_some b (suc m) e = suc-le-suc zero-le
 
 all_rounds_lem : (c : Case) (P : Peak) (led : List ℕ) (budget : ℕ) (s : Draft) → budget ≡ rounds_for c.mode c.corridors → rounds c P led budget s ≡ all_rounds c P led s
 unfolding all_rounds

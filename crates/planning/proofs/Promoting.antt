@@ -55,21 +55,6 @@ module _ (grid : GridColumns) (supply : SupplyColumns) (opened : OpenedColumns)
         → passes (length grid.ladder - turn) (C o mode) (P o) circuits (raised_of (C o mode) level banks promoted)
         ≡ passes (length grid.ladder - 1) (C o mode) (P o) circuits (raised_of (C o mode) level₀ banks₀ 0)
 
-  pub underway_start : Begun → Underway banks₀ level₀ marks₀ angle₀ flow₀ 0 1
-  underway_start p =
-      record {
-        bank_size = refl;
-        level_size = refl;
-        mark_size = refl;
-        angle_size = refl;
-        flow_size = refl;
-        lines = p.drawing.lines;
-        banked = p.drawing.banks_ok;
-        turns = omega arith;
-        bound = omega arith;
-        left = λ o mode target sound n. refl;
-      }
-
   -- ---- all the passes, where the mode promotes and where it does not
   all_passes : (mode : PlanMode) (t : Bool) → promote mode ≡ t → (o : Case) (target : ℕ) → Sound (C o mode) target
       → passes (pass_count t (length grid.ladder)) (C o mode) (P o) circuits (raised_of (C o mode) level₀ banks₀ 0) ≡ raises (C o mode) (P o) circuits (raised_of (C o mode) level₀ banks₀ 0)
@@ -90,45 +75,6 @@ module _ (grid : GridColumns) (supply : SupplyColumns) (opened : OpenedColumns)
 
   module _ (banks : List Float) (level marks : List ℕ) (angle flow : List Float) (promoted turn : ℕ) (u : Underway banks level marks angle flow promoted turn) where
     -- ---- the next pass asks no more
-    pub raisable_again : Begun → Raisable grid level supply opened circuits floors banks marks angle flow
-    raisable_again p =
-        let n = u.level_size in
-        record {
-          drawing =
-              record {
-                lines = u.lines;
-                few_buses = omega (arith, n, p.drawing.few_buses);
-                few_corridors = p.drawing.few_corridors;
-                count_size = p.drawing.count_size;
-                bank_size = u.bank_size ∙ p.drawing.bank_size;
-                banks_ok = u.banked;
-              };
-          lent =
-              record {
-                few_grounds = p.lent.few_grounds;
-                ground_below = λ g h. omega (arith, n, p.lent.ground_below g h);
-                injection_size = p.lent.injection_size ∙ sym n;
-                angle_size = u.angle_size ∙ p.lent.angle_size ∙ sym n;
-                flow_size = u.flow_size ∙ p.lent.flow_size;
-              };
-          redesigns =
-              record {
-                lines = u.lines;
-                loads =
-                    record {
-                      load_size = p.redesigns.loads.load_size ∙ sym n;
-                      few = omega (arith, n, p.redesigns.loads.few);
-                      sound = p.redesigns.loads.sound;
-                    };
-                units = p.redesigns.units;
-                few = p.redesigns.few;
-                floor_size = p.redesigns.floor_size;
-                bank_size = u.bank_size ∙ p.redesigns.bank_size;
-              };
-          unset = p.unset;
-          mark_size = u.mark_size ∙ p.mark_size ∙ sym n;
-          few_levels = p.few_levels;
-        }
 
     left_is : (mode : PlanMode) → promote mode ≡ true → (o : Case) (target : ℕ) → Sound (C o mode) target → length level₀ ≡ o.buses
         → passes (length grid.ladder - turn) (C o mode) (P o) circuits (raised_of (C o mode) level banks promoted) ≡ raises (C o mode) (P o) circuits (raised_of (C o mode) level₀ banks₀ 0)

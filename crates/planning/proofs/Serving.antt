@@ -1,6 +1,6 @@
 -- A component's units and demand pass every check of dispatch but 8; so what they give, or 8, handed out, is the defined `serve`.
 -- Each unit picked is a sound unit of the table, and the demand is in bounds.
-use Rattle.std.proofs.Common.{◌≡◌, ℕ, ◌-◌, ◌<◌, ◌≤◌, Bool, true, false, ltb, List, [], map, length, get_or, take, sym, refl, ap, ◌∙◌, subst, arith, length-take-le, get_or-take, ltb-true, eq-eqb, ne_eqb}
+use Rattle.std.proofs.Common.{◌≡◌, ℕ, ◌-◌, ◌<◌, ◌≤◌, Bool, true, false, ltb, List, [], map, length, get_or, take, sym, refl, ap, ◌∙◌, subst, arith, length-take-le, get_or-take, ltb-true}
 use native.Mathlib.Nat.{sub-zero}
 use lib.ListN.{length-map}
 use lib.Ieee.{Float, nan}
@@ -16,9 +16,9 @@ use Rattle.dispatch_defs.specs.Limits.{Accepted, SoundUnits}
 use Rattle.plan_defs.specs.Stage.{Stage, stopped, going}
 use Rattle.plan_defs.specs.Lists.{sum_over}
 use Rattle.plan_defs.specs.Case.{Case, tops_up}
-use Rattle.plan_defs.specs.Components.{leads, members, unit_within, units_in}
+use Rattle.plan_defs.specs.Components.{members, unit_within, units_in}
 use Rattle.plan_defs.specs.Dispatch.{units_at, demand_of, scatter, served_if, serve}
-use Rattle.planning.specs.Opening.{stage_of, stage_if, bus_case, dispatch_case, Fleet, Costs, Loads, given_if, given_stage, Picked}
+use Rattle.planning.specs.Opening.{stage_of, bus_case, dispatch_case, Fleet, Costs, Loads, given_if, given_stage, Picked}
 use Rattle.planning.proofs.Passing.{pass_few, pass_below}
 use Rattle.loops.proofs.Fronts.{get_map, front_room}
 use Rattle.planning.proofs.Demands.{demand_ok_lem}
@@ -166,15 +166,3 @@ module _ (mode : PlanMode) (led : List ℕ) (supply : SupplyColumns) (root : ℕ
       answered_stage h whole mw mw' t w =
           ap going (w ∙ ap (λ (y : List Float). scatter (take size ks) y mw) t ∙ ap (λ (u : List ℕ). scatter u out mw) pk)
           ∙ serve_answered mode led supply root a out mw call h
-
--- ---- where a bus leads, its component is served; w is the leader read
-module _ (c : Case) (led : List ℕ) (i w : ℕ) (mw : List Float) (e : w ≡ get_or led i 0) where
-  pub led_yes : (t : Stage (List Float)) → w ≡ i → t ≡ serve c led (get_or led i 0) mw → t ≡ stage_if (leads led i) (serve c led i mw) mw
-  led_yes t h p =
-      let own : get_or led i 0 ≡ i = sym e ∙ h in
-      p
-      ∙ ap (λ (k : ℕ). serve c led k mw) own
-      ∙ ap (λ (b : Bool). stage_if b (serve c led i mw) mw) (sym (eq-eqb (get_or led i 0) i own))
-
-  pub led_no : (w ≡ i → ⊥) → going mw ≡ stage_if (leads led i) (serve c led i mw) mw
-  led_no h = ap (λ (b : Bool). stage_if b (serve c led i mw) mw) (sym (ne_eqb (get_or led i 0) i (λ p. h (e ∙ p))))

@@ -1,15 +1,15 @@
 -- The steps of sizing one corridor: more circuits, a raise in their stead, and growing, each as the definition has it.
 -- Each law is the definition with its tests decided.
-use Rattle.std.proofs.Common.{◌≡◌, ℕ, ◌+◌, ◌-◌, ◌<◌, ◌≤◌, min, Bool, true, false, not, ◌&&◌, ◌||◌, ltb, List, length, get_or, set, sym, refl, ap, ◌∙◌, subst, arith, get_or-set_other, get_or-set_same, le-ltb, lt-ltb}
+use Rattle.std.proofs.Common.{◌≡◌, ℕ, ◌+◌, ◌-◌, ◌<◌, ◌≤◌, min, Bool, true, false, not, ◌||◌, ltb, List, length, get_or, set, sym, ap, ◌∙◌, subst, arith, get_or-set_other, get_or-set_same, lt-ltb}
 use native.Mathlib.Decide.{ℕ_discrete}
 use lib.Ieee.{Float, lt}
-use Rattle.loops.proofs.Bools.{both, no as never}
+use Rattle.loops.proofs.Bools.{both}
 use Rattle.impedance.specs.Impedance.{rating_ok}
 use Rattle.mode.specs.declared.PlanMode.{PlanMode}
 use Rattle.plan_defs.specs.Case.{Case, promote, own_or, circuit_cap, cap_at}
 use Rattle.plan_defs.specs.Design.{design}
 use Rattle.plan_defs.specs.Build.{bank_below, set_count}
-use Rattle.plan_defs.specs.Raise.{top_of, can_raise, mark_if}
+use Rattle.plan_defs.specs.Raise.{top_of, mark_if}
 use Rattle.plan_defs.specs.Size.{enough, next_bank, enlarges, add_if, add_to, raises_for, raise_or_add, grow_to, needed_circuits, grow_if, grow}
 use Rattle.plan_defs.specs.declared.CircuitDesign.{CircuitDesign}
 use Rattle.planning.specs.Design.{Rated}
@@ -57,46 +57,6 @@ module _ (cap need k : ℕ) (circuits : List ℕ) (t : Tally) (most : ℕ) (p : 
         bound = omega arith;
         few = few_set circuits k most h (omega arith);
       }
-
-  pub added_none : most ≤ get_or circuits k 0
-      → Adds cap need k circuits t circuits (record { capacity = t.capacity; added = t.added; capped = t.capped || ltb cap need })
-  added_none w =
-      record {
-        sized = λ designs floors upsized marks. more_by false designs floors upsized marks (le-ltb (get_or circuits k 0) (min need cap) (omega arith));
-        bound = omega arith;
-        few = λ f. f;
-      }
-
--- ---- a raise in their stead
-module _ (mode : PlanMode) (need : ℕ) (level a b : List ℕ) (k : ℕ) (marks : List ℕ) where
-  abbrev raising : Bool
-  raising = raises_for mode (top_of (pairs_for a b) level k) need
-
-  raises_by : (p q r x : Bool) → x ≡ (p && q) → x ≡ true → r ≡ (p && (q && r))
-  raises_by true true r x e t = refl
-  raises_by true false r x e t = absurd (never refl (sym e ∙ t))
-  raises_by false q r x e t = absurd (never refl (sym e ∙ t))
-
-  none_by : (p q r x : Bool) → x ≡ (p && q) → x ≡ false → false ≡ (p && (q && r))
-  none_by true true r x e t = absurd (never t e)
-  none_by true false r x e t = refl
-  none_by false q r x e t = refl
-
-  module _ (x y : Bool) (px : x ≡ promote mode) (py : y ≡ (x && ltb 2 need)) where
-    test_is : y ≡ (promote mode && ltb 2 need)
-    test_is = py ∙ ap (λ (z : Bool). z && ltb 2 need) px
-
-    pub raises_where : y ≡ true → can_raise (pairs_for a b) level 0 k ≡ raising
-    raises_where e = raises_by (promote mode) (ltb 2 need) (can_raise (pairs_for a b) level 0 k) y test_is e
-
-    pub raises_none : y ≡ false → false ≡ raising
-    raises_none e = none_by (promote mode) (ltb 2 need) (can_raise (pairs_for a b) level 0 k) y test_is e
-
-    pub raises_marks : (marks' : List ℕ) → y ≡ true → marks' ≡ mark_if (can_raise (pairs_for a b) level 0 k) (pairs_for a b) level k marks → marks' ≡ mark_if raising (pairs_for a b) level k marks
-    raises_marks marks' e q = q ∙ ap (λ (z : Bool). mark_if z (pairs_for a b) level k marks) (raises_where e)
-
-    pub raises_keeps : y ≡ false → marks ≡ mark_if raising (pairs_for a b) level k marks
-    raises_keeps e = ap (λ (z : Bool). mark_if z (pairs_for a b) level k marks) (raises_none e)
 
 -- ---- growing
 module _ (mode : PlanMode) (level : List ℕ) (grid : GridColumns) (k : ℕ) (required : Float) (d : CircuitDesign) (circuits marks : List ℕ) (t : Tally) (has : Bool) (ph : has ≡ enough required (get_or circuits k 0) d) where

@@ -1,6 +1,6 @@
 -- A solve over slices is the defined planning state: the edges that were drawn, the angles of `dc_angles`, which refuses 9 alone, and the flows.
 -- Drawn edges join buses, so the request is sound; and `dc_angles` refuses exactly where an angle is not finite.
-use Rattle.std.proofs.Common.{◌≡◌, ℕ, ◌-◌, ◌*◌, ◌<◌, ◌≤◌, Bool, true, false, not, ltb, leb, List, map, length, get_or, take, set, replicate, sym, refl, ap, ◌∙◌, subst, arith, length-set, get_or-take, ltb-false, ltb-true, le-leb}
+use Rattle.std.proofs.Common.{◌≡◌, ℕ, ◌-◌, ◌*◌, ◌<◌, ◌≤◌, Bool, true, false, not, ltb, leb, List, map, length, get_or, take, set, replicate, sym, refl, ap, ◌∙◌, subst, arith, get_or-take, ltb-false, ltb-true, le-leb}
 use native.Mathlib.Nat.{sub-zero}
 use borrow.Author.Tests.{lt-leb}
 use lib.ListN.{length-replicate}
@@ -13,7 +13,7 @@ use Rattle.refusal.specs.Number.{number_of, index_of}
 use Rattle.refusal.specs.Reply.{answered, refused}
 use Rattle.refusal.specs.declared.Refusal.{Refusal}
 use Rattle.refusal.specs.declared.Refusal.TheVariants.{NotFinite}
-use Rattle.angles_defs.specs.Network.{Edges, edges_of, zeros}
+use Rattle.angles_defs.specs.Network.{Edges, edges_of}
 use Rattle.angles_defs.specs.Solve.{Solved, solve}
 use Rattle.angles_defs.specs.Operation.{Request, request_of, Outcome, outcome, work_places, most, finite_at, finish_if, solve_of, dc_angles}
 use Rattle.angles_defs.specs.declared.Solution.{Solution}
@@ -174,9 +174,6 @@ unit_front N n lead lag h p q =
     let k : n - 0 ≡ n = sub-zero n in
     take-set-lt (n - 0) (set (replicate N nought) lead one) lag (neg one) (omega arith)
     ∙ ap (λ (l : List Float). set l lag (neg one)) (take-set-lt (n - 0) (replicate N nought) lead one (omega arith) ∙ ap (λ (l : List Float). set l lead one) (front_replicate N n nought h))
-
-pub unit_length : (n lead lag : ℕ) → length (unit_at n lead lag) ≡ n
-unit_length n lead lag = length-set (set (zeros n) lead one) lag (neg one) ∙ length-set (zeros n) lead one ∙ length-replicate n nought
 
 pub unit_angles_are : (t : Stage (List Float)) (n : ℕ) (E : Edges) (grounds : List ℕ) (injection injection' guess guess' : List Float) → injection ≡ injection' → guess ≡ guess'
     → t ≡ finite_angles (solve n E grounds injection guess).x → t ≡ finite_angles (solve n E grounds injection' guess').x

@@ -1,50 +1,29 @@
 -- `planning_state` over slices is the defined planning state.
 -- The edges drawn are the defined edges, so every list that the code hands on is the definition's.
-use Rattle.std.proofs.Common.{◌≡◌, ℕ, ◌-◌, ◌<◌, ◌≤◌, Bool, true, false, ◌&&◌, List, length, get_or, take, sym, refl, ap, ◌∙◌, subst, arith, length-take-le, get_or-take}
+use Rattle.std.proofs.Common.{◌≡◌, ℕ, ◌-◌, ◌<◌, Bool, true, false, List, length, get_or, take, sym, refl, ap, ◌∙◌, subst, arith, get_or-take}
 use native.Mathlib.Nat.{sub-zero}
 use lib.Ieee.{Float}
 use Rattle.loops.specs.Figures.{at}
 use Rattle.loops.specs.Loops.{tab}
 use Rattle.loops.proofs.Tab.{get_tab}
 use Rattle.refusal.specs.declared.Refusal.{Refusal}
-use Rattle.refusal.specs.declared.Refusal.TheVariants.{NotFinite}
 use Rattle.angles_defs.specs.Network.{Edges, edges_of}
 use Rattle.angles_defs.specs.Operation.{most}
 use Rattle.angles_defs.specs.Solve.{solve}
 use Rattle.plan_defs.specs.Case.{Case}
-use Rattle.plan_defs.specs.Stage.{stopped, going}
 use Rattle.plan_defs.specs.Design.{drawn}
 use Rattle.plan_defs.specs.Build.{drawn_all}
-use Rattle.plan_defs.specs.Solve.{PlanningCase, edges_for, flows_of, all_finite, if_finite, planning_on, planning_state}
+use Rattle.plan_defs.specs.Solve.{PlanningCase, edges_for, flows_of, if_finite, planning_on, planning_state}
 use Rattle.plan_defs.specs.declared.CircuitDesign.{CircuitDesign}
 use Rattle.planning.specs.Design.{lines_for}
 use Rattle.planning.specs.Opening.{stage_of}
-use Rattle.planning.specs.Solve.{peak_for, solved_of, finite_if, finite_angles, finite_answer, Net, Drawing, Peaked}
+use Rattle.planning.specs.Solve.{peak_for, solved_of, finite_angles, finite_answer, Drawing, Peaked}
 use Rattle.loops.proofs.Fronts.{map_tab}
 use Rattle.planning.proofs.Solving.{drawn_from_below, drawn_to_below}
-use Rattle.std.specs.Prelude.{Err, Result}
-use Rattle.refusal.specs.Reply.{no_refusal}
+use Rattle.std.specs.Prelude.{Result}
 use Rattle.planning.specs.Tables.{GridColumns, OpenedColumns}
 
 -- ---- a stage that goes on is not one that stops
-no_stage : {S : Type 0} (f : Refusal) (s : S) → stopped f ≡ going s → ⊥
-no_stage f s e = let z : ◌≡◌ {A = ℕ} 0 1 = cc in omega arith
-
--- ---- what an answer says of the angles x, as `finite_angles` has it
-module _ (r : Result (Unit {0}) Refusal) (y x : List Float) (e : stage_of r y ≡ finite_angles x) where
-  pub finite_answered : r ≡ no_refusal → (y ≡ x) × (all_finite x ≡ true)
-  finite_answered h = go (all_finite x) refl (ap (λ (a : Result (Unit {0}) Refusal). stage_of a y) (sym h) ∙ e)
-    where
-      go : (t : Bool) → all_finite x ≡ t → going y ≡ finite_if t x → (y ≡ x) × (all_finite x ≡ true)
-      go true p q = (cc, p)
-      go false p q = absurd (no_stage (NotFinite 0) y (sym q))
-
-  pub finite_refused : (f : Refusal) → r ≡ Err f → (f ≡ NotFinite 0) × (all_finite x ≡ false)
-  finite_refused f h = go (all_finite x) refl (ap (λ (a : Result (Unit {0}) Refusal). stage_of a y) (sym h) ∙ e)
-    where
-      go : (t : Bool) → all_finite x ≡ t → stopped f ≡ finite_if t x → (f ≡ NotFinite 0) × (all_finite x ≡ false)
-      go true p q = absurd (no_stage f x q)
-      go false p q = (cc, p)
 
 module _ (grid : GridColumns) (level : List ℕ) (circuits : List ℕ) (banks : List Float) where
   abbrev lines : Case
@@ -120,30 +99,6 @@ module _ (grid : GridColumns) (level : List ℕ) (circuits : List ℕ) (banks : 
       ∙ ap (λ (x : Edges). planning_on (peak_for n grounds injection) x angle) E
       ∙ ap (λ (k : ℕ). planning_on (peak_for k grounds injection) edges angle) s
 
--- ---- edges at the front of three lists, as they are lent to a solve
-pub front_fits : {A : Type 0} (m : ℕ) (l : List A) → m ≤ most → length l ≡ most → m ≤ length l
-front_fits m l h e = omega arith
-
-pub front_net : (n n' m : ℕ) (from to : List ℕ) (weight : List Float) (grounds : List ℕ) → n' ≡ n → Peaked n m from to weight
-    → length grounds ≤ most → ((g : ℕ) → g < length grounds → get_or grounds g 0 < n)
-    → Net n' (take (m - 0) from) (take (m - 0) to) (take (m - 0) weight) grounds
-front_net n n' m from to weight grounds e h gs gb =
-    let D = h.drawn in
-    let k : m - 0 ≡ m = sub-zero m in
-    let f = length-take-le (m - 0) from (omega (arith, D.few, h.from_size)) in
-    let t = length-take-le (m - 0) to (omega (arith, D.few, h.to_size)) in
-    let w = length-take-le (m - 0) weight (omega (arith, D.few, h.weight_size)) in
-    record {
-      few_buses = omega (arith, h.few_buses);
-      few_edges = omega (arith, D.few);
-      few_grounds = gs;
-      to_size = t ∙ sym f;
-      weight_size = w ∙ sym f;
-      from_below = λ j x. let v : j < m - 0 = omega arith in omega (arith, D.from_below j (omega arith), get_or-take (m - 0) from j 0 v);
-      to_below = λ j x. let v : j < m - 0 = omega arith in omega (arith, D.to_below j (omega arith), get_or-take (m - 0) to j 0 v);
-      ground_below = λ j x. omega (arith, gb j x);
-    }
-
 -- ---- a peak's angles and flows, by what the solve answers
 module _ (m : ℕ) (from to : List ℕ) (weight : List Float) (opened : OpenedColumns) (angle guess : List Float) (same : take (length angle) guess ≡ angle) (r : Result (Unit {0}) Refusal) (y : List Float)
     (told : stage_of r y
@@ -164,21 +119,6 @@ module _ (m : ℕ) (from to : List ℕ) (weight : List Float) (opened : OpenedCo
       ∙ ap (λ (n : ℕ). finite_angles (solve (length angle) front opened.grounds opened.injection (take n guess)).x) (sub-zero (length angle))
       ∙ ap (λ (g : List Float). finite_angles (solve (length angle) front opened.grounds opened.injection g).x) same
 
-  pub peak_refused : (f : Refusal) → r ≡ Err f → stopped f ≡ planning_on (peak_for (length angle) opened.grounds opened.injection) front angle
-  peak_refused f h =
-      let p = finite_refused r y theta defined f h in
-      ap stopped p.0 ∙ ap (λ (t : Bool). if_finite (t && all_finite (flows_of front theta)) (state theta)) (sym p.1)
-
   tested : (t : Bool) (x : List Float) → solved_of (finite_answer t) front x (flows_of front x) ≡ if_finite t (state x)
   tested true x = refl
   tested false x = refl
-
-  pub peak_answered : r ≡ no_refusal → (flows : List Float) → flows ≡ flows_of front y → (s : Result (Unit {0}) Refusal) → s ≡ finite_answer (all_finite flows)
-      → solved_of s front y flows ≡ planning_on (peak_for (length angle) opened.grounds opened.injection) front angle
-  peak_answered h flows q s w =
-      let o = finite_answered r y theta defined h in
-      ap (λ (x : Result (Unit {0}) Refusal). solved_of x front y flows) w
-      ∙ ap (λ (l : List Float). solved_of (finite_answer (all_finite l)) front y l) q
-      ∙ ap (λ (x : List Float). solved_of (finite_answer (all_finite (flows_of front x))) front x (flows_of front x)) o.0
-      ∙ tested (all_finite (flows_of front theta)) theta
-      ∙ ap (λ (t : Bool). if_finite (t && all_finite (flows_of front theta)) (state theta)) (sym o.1)

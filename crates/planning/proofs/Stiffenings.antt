@@ -1,6 +1,6 @@
 -- One corridor stiffened: a full bank, else a raise, else a circuit, else nothing, each as the definition has it.
 -- Each law is the definition with its tests decided.
-use Rattle.std.proofs.Common.{◌≡◌, ℕ, zero, suc, ◌+◌, ◌<◌, ◌≤◌, Bool, true, false, cond, ◌&&◌, ltb, leb, List, [], ◌∷◌, ◌++◌, length, get_or, take, set, sym, refl, ap, ◌∙◌, subst, le_of_suc-le-suc, not-suc-le-zero, add-one, arith, length-append, take-suc, ltb-true, le-ltb, lt-ltb}
+use Rattle.std.proofs.Common.{◌≡◌, ℕ, zero, suc, ◌+◌, ◌<◌, ◌≤◌, Bool, true, false, cond, ◌&&◌, ltb, List, [], ◌∷◌, ◌++◌, length, get_or, take, set, sym, refl, ap, ◌∙◌, subst, le_of_suc-le-suc, not-suc-le-zero, add-one, arith, length-append, take-suc, ltb-true}
 use lib.Ieee.{Float}
 use Rattle.loops.specs.Figures.{at}
 use Rattle.loops.proofs.Bools.{both}
@@ -10,9 +10,8 @@ use Rattle.plan_defs.specs.Constants.{max_circuits_per_corridor, most_cap}
 use Rattle.plan_defs.specs.Case.{Case, levels, own_or, own_cap, full_at}
 use Rattle.plan_defs.specs.Design.{set_transformer_mva, drawn, design}
 use Rattle.plan_defs.specs.Build.{Build, built, build_of, set_bank, set_count, bank_below, drawn_all}
-use Rattle.plan_defs.specs.Raise.{raise_of, can_raise, mark_ends, mark_if}
-use Rattle.plan_defs.specs.Stiffen.{Stiffening, stiff, arrives, arrival, stiffen_by, has_room, stiffen_one}
-use Rattle.std.specs.Prelude.{Option, Some, None}
+use Rattle.plan_defs.specs.Raise.{mark_ends, mark_if}
+use Rattle.plan_defs.specs.Stiffen.{Stiffening, stiff, arrival, stiffen_by, has_room, stiffen_one}
 use Rattle.plan_defs.specs.declared.CircuitDesign.{CircuitDesign}
 use Rattle.plan_defs.proofs.Lists.{each_append}
 use Rattle.plan_defs.proofs.Accepted.{own_few}
@@ -33,30 +32,6 @@ use Rattle.planning.specs.Tables.{GridColumns}
 one_most : (b : Bool) → cond b 1 0 ≤ 1
 one_most true = omega arith
 one_most false = omega arith
-
-pub arrival_stays : (top l : ℕ) (r : Option ℕ) (mark : ℕ) → r ≡ raise_of mark → r ≡ None → 0 ≡ arrives top l (raise_of mark)
-arrival_stays top l r mark p e = ap (arrives top l) (sym e ∙ p)
-
-pub arrival_goes : (top l t : ℕ) (r : Option ℕ) (mark n : ℕ) → r ≡ raise_of mark → r ≡ Some t → n ≡ cond (ltb top l && leb t top) 1 0 → n ≡ arrives top l (raise_of mark)
-arrival_goes top l t r mark n p e q = q ∙ ap (arrives top l) (sym e ∙ p)
-
-pub arrival_most : (top l t : ℕ) (r : Option ℕ) (n : ℕ) → r ≡ Some t → n ≡ cond (ltb top l && leb t top) 1 0 → n ≤ 1
-arrival_most top l t r n e q = omega (arith, one_most (ltb top l && leb t top))
-
--- ---- a raise within the budget
-module _ (g : Limits) (hv : ℕ) (level a b : List ℕ) (k : ℕ) (marks marks' : List ℕ) where
-  pub raise_within : hv < g.hv → can_raise (pairs_for a b) level g.top k ≡ raisable g hv level a b k
-  raise_within h = ap (λ (x : Bool). x && can_raise (pairs_for a b) level g.top k) (sym (lt-ltb hv g.hv h))
-
-  pub raise_beyond : g.hv ≤ hv → false ≡ raisable g hv level a b k
-  raise_beyond h = ap (λ (x : Bool). x && can_raise (pairs_for a b) level g.top k) (sym (le-ltb hv g.hv h))
-
-  pub marks_within : hv < g.hv → marks' ≡ mark_if (can_raise (pairs_for a b) level g.top k) (pairs_for a b) level k marks
-      → marks' ≡ mark_if (raisable g hv level a b k) (pairs_for a b) level k marks
-  marks_within h e = e ∙ ap (λ (x : Bool). mark_if x (pairs_for a b) level k marks) (raise_within h)
-
-  pub marks_beyond : g.hv ≤ hv → marks ≡ mark_if (raisable g hv level a b k) (pairs_for a b) level k marks
-  marks_beyond h = ap (λ (x : Bool). mark_if x (pairs_for a b) level k marks) (raise_beyond h)
 
 -- ---- a raise, or else a circuit
 stiff_same : (build : Build) (marks : List ℕ) (total total' hv hv' stiffening stiffening' : ℕ) (wide stiffened : Bool) → total ≡ total' → hv ≡ hv' → stiffening ≡ stiffening'

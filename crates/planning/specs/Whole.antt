@@ -1,5 +1,5 @@
 -- A whole case of which a stage reads some columns: what the others are is left open, so that its contract speaks of the defined stage of any such case.
-use Rattle.std.specs.Prelude.{ℕ, List, Float}
+use Rattle.std.specs.Prelude.{ℕ}
 use Rattle.mode.specs.declared.PlanMode.{PlanMode}
 use Rattle.plan_defs.specs.Case.{Case, case_of, case_with}
 use Rattle.planning.specs.Tables.{GridColumns, SupplyColumns}

@@ -1,7 +1,7 @@
 // Planning of a transmission network's corridors, after `plan_corridors` of planning.rs (document 01, *Planning*).
 #![tactic(auto)]
 
-ghost use Rattle.std.specs.Prelude.{◌≡◌, Err, Ok, Result};
+ghost use Rattle.std.specs.Prelude.{◌≡◌, Ok, Result};
 ghost use Rattle.plan_defs.specs.Case.{surveyed};
 ghost use Rattle.plan_defs.specs.Outcome.{slices, outcome, plan_corridors};
 ghost use Rattle.plan_defs.specs.Demand.{AnswerTo};

@@ -1,7 +1,6 @@
 // Every solve of a plan: the angles of the buses and the flows of the corridors at the peak. After `susceptance`,
 // `planning_state` and `corridor_flows` of planning.rs; refusal 9.
-ghost use Rattle.std.specs.Prelude.{◌≡◌, ◌<◌, ◌≤◌, length, take};
-ghost use Rattle.loops.specs.Figures.{float};
+ghost use Rattle.std.specs.Prelude.{◌≡◌, ◌<◌, length, take};
 ghost use Rattle.angles_defs.specs.Network.{edges_of, zeros};
 ghost use Rattle.angles_defs.specs.Operation.{most};
 ghost use Rattle.angles_defs.specs.Solve.{solve};

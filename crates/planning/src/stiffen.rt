@@ -1,5 +1,5 @@
 // Stiffening: each component whose angles are spread too wide, after the second loop of a round of `plan_corridors`.
-ghost use Rattle.std.specs.Prelude.{◌≡◌, ℕ, ◌+◌, ◌<◌, ◌≤◌, Bool, true, false, not, cond, [], ◌∷◌, map, length, take, slice_index, Float, Err, Ok, Result};
+ghost use Rattle.std.specs.Prelude.{◌≡◌, ℕ, ◌+◌, ◌<◌, ◌≤◌, Bool, true, false, not, cond, [], ◌∷◌, map, length, take, slice_index, Float, Ok, Result};
 ghost use Rattle.loops.specs.Figures.{at, nought};
 ghost use Rattle.loops.specs.Loops.{first, filled};
 ghost use Rattle.plan_defs.specs.Constants.{most_buses, most_corridors, most_levels, most_cap, stiffening_branch_budget};

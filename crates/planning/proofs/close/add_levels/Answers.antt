@@ -1,5 +1,5 @@
 use Rattle.std.proofs.Common.{◌∙◌, arith, length-set}
-use Rattle.loops.proofs.Tab.{fill_start, fill_turn, fill_end}
+use Rattle.loops.proofs.Tab.{fill_start, fill_turn}
 use Rattle.planning.proofs.close.add_levels.Goals as goal
 
 pub loop-j-init : goal.loop-j-init
@@ -9,9 +9,3 @@ pub loop-j-preserved : goal.loop-j-preserved
 loop-j-preserved c =
     let l = c.loop-j in
     (omega arith, length-set l.added l.j _ ∙ l.invariant.1, fill_turn _ _ _ _ _ l.invariant.2 (omega arith) c.added_at.ensures)
-
-pub returns : goal.returns
-returns c =
-    let s = c in
-    let l = c.loop-j in
-    fill_end _ _ _ _ s.args.above s.requires.3 (omega arith) l.invariant.2

@@ -11,28 +11,6 @@ pub loop-k-init : goal.loop-k-init
 unfolding count_from
 loop-k-init c = (omega arith, refl)
 
-pub bounds-banks-k : goal.bounds-banks-k
-bounds-banks-k c = omega (arith, c.requires.loaded.0.drawable.size)
-
-pub circuit-d-requires : goal.circuit-d-requires
-circuit-d-requires c =
-    let s = c in
-    let l = c.loop-k in
-    let h = c.loop-k-test.true in
-    record { lines = s.requires.lines; k_in_bounds = (h, s.requires.loaded.0.drawable.sound l.k (omega (arith, s.requires.loaded.0.drawable.size))) }
-
-pub offset_bounds-circuits-k : goal.offset_bounds-circuits-k
-offset_bounds-circuits-k c = record { fits = omega (arith, c.loop-k-test.true, c.requires.loaded.0.drawable.few) }
-
-pub bounds-circuits-k : goal.bounds-circuits-k
-bounds-circuits-k c = omega (arith, c.loop-k-test.true, c.requires.loaded.0.circuits_size)
-
-pub offset_bounds-flow-k : goal.offset_bounds-flow-k
-offset_bounds-flow-k c = record { fits = omega (arith, c.loop-k-test.true, c.requires.loaded.0.drawable.few) }
-
-pub bounds-flow-k : goal.bounds-flow-k
-bounds-flow-k c = omega (arith, c.loop-k-test.true, c.requires.loaded.0.flow_size)
-
 pub overflow_add-count : goal.overflow_add-count
 overflow_add-count c =
     let s = c in

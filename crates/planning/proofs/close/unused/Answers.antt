@@ -1,10 +1,7 @@
-use Rattle.std.proofs.Common.{ℕ, ◌+◌, ◌≤◌, length, drop, sym, refl, ap, ◌∙◌, arith, drop_of_length-le}
+use Rattle.std.proofs.Common.{ℕ, ◌+◌, ◌≤◌, length, drop, sym, ap, ◌∙◌, arith, drop_of_length-le}
 use Rattle.plan_defs.specs.Closing.{least_of}
 use Rattle.planning.proofs.Closings.{least_next}
 use Rattle.planning.proofs.close.unused.Goals as goal
-
-pub loop-i-init : goal.loop-i-init
-loop-i-init c = (omega arith, refl)
 
 pub loop-i-preserved : goal.loop-i-preserved
 loop-i-preserved c =

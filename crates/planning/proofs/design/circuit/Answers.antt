@@ -1,10 +1,7 @@
 -- The ends, the line between them and the bank make the definition's design.
-use Rattle.planning.proofs.Draws.{ends_fit, line_fits, circuit_is}
+use Rattle.planning.proofs.Draws.{line_fits, circuit_is}
 use Rattle.planning.proofs.design.circuit.Goals as goal
 use Rattle.planning.specs.Tables.{grid_in}
-
-pub ends_of-e-requires : goal.ends_of-e-requires
-ends_of-e-requires c = let z = c.args in ends_fit (grid_in z.grid.now) z.level.now z.k c.requires.lines c.requires.k_in_bounds.0
 
 pub line_at-d-requires : goal.line_at-d-requires
 line_at-d-requires c =

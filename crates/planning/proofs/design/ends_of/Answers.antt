@@ -1,20 +1,8 @@
 -- The two kV decide which end is the higher one, and whether they differ.
-use Rattle.std.proofs.Common.{refl, ℕ, ◌<◌, length, subst}
+use Rattle.std.proofs.Common.{refl}
 use Rattle.planning.proofs.Draws.{ends_are}
 use Rattle.planning.proofs.design.ends_of.Goals as goal
 use Rattle.planning.specs.Tables.{grid_in}
-
-pub kv_at-kv_a-requires : goal.kv_at-kv_a-requires
-kv_at-kv_a-requires c =
-    let s = c in
-    let u = subst (λ (x : ℕ). x < length s.args.level.now) refl s.requires.a_below in
-    (u, s.requires.level_below _ u)
-
-pub kv_at-kv_b-requires : goal.kv_at-kv_b-requires
-kv_at-kv_b-requires c =
-    let s = c in
-    let u = subst (λ (x : ℕ). x < length s.args.level.now) refl s.requires.b_below in
-    (u, s.requires.level_below _ u)
 
 pub returns : goal.returns
 returns c =

@@ -2,7 +2,7 @@ use Rattle.std.proofs.Common.{◌^◌, ◌<◌, length, get_or, sym, refl, ◌�
 use Rattle.loops.proofs.Loops.{iter_more, iter_end}
 use Rattle.plan_defs.specs.Case.{full_of}
 use Rattle.planning.specs.Fill.{filled_as}
-use Rattle.planning.proofs.Fillings.{total_fits, count_fits, tally, fill_corridor, once_start}
+use Rattle.planning.proofs.Fillings.{total_fits, tally, fill_corridor, once_start}
 use Rattle.planning.proofs.fill.fill_once.Goals as goal
 
 pub loop-j-init : goal.loop-j-init
@@ -10,51 +10,6 @@ loop-j-init c =
     let s = c.args in
     let p = c.requires in
     (omega arith, refl, once_start (full_of s.cap.now) s.target s.order.now (length s.circuits.now) (omega (arith, p.ranked.0.few, p.ranked.0.size)) _, p.tallied.fits, p.tallied.filler)
-
-pub bounds-order-j : goal.bounds-order-j
-bounds-order-j c = omega (arith, c.requires.ranked.0.few)
-
-pub offset_bounds-circuits-k : goal.offset_bounds-circuits-k
-offset_bounds-circuits-k c = record { fits = omega (arith, c.requires.ranked.0.below c.loop-j.j (omega arith), c.requires.ranked.0.few) }
-
-pub bounds-circuits-k : goal.bounds-circuits-k
-bounds-circuits-k c = omega (arith, c.requires.ranked.0.below c.loop-j.j (omega arith))
-
-pub overflow_add-circuits : goal.overflow_add-circuits
-overflow_add-circuits c =
-    let s = c in
-    let l = c.loop-j in
-    let x = get_or l.circuits (get_or c.args.order.now c.loop-j.j 0) 0 in
-    let t : s.args.target < 2 ^ 32 = s.ranges.target.fits in
-    let f : x < 2 ^ 32 = (c.slice_known-in-loop-j-1.given (get_or c.args.order.now c.loop-j.j 0)).fits in
-    let m : c.full_at.result < 2 ^ 32 = c.full_at.type_inv in
-    record { fits = omega (arith, c.gain-more.ensures, count_fits l.total s.args.target c.full_at.result x l.invariant.3 t m f) }
-
-pub offset_bounds-circuits-k-in-loop-j : goal.offset_bounds-circuits-k-in-loop-j
-offset_bounds-circuits-k-in-loop-j c = record { fits = omega (arith, c.requires.ranked.0.below c.loop-j.j (omega arith), c.requires.ranked.0.few) }
-
-pub bounds-circuits-k-in-loop-j : goal.bounds-circuits-k-in-loop-j
-bounds-circuits-k-in-loop-j c = omega (arith, c.requires.ranked.0.below c.loop-j.j (omega arith))
-
-pub overflow_add-total : goal.overflow_add-total
-overflow_add-total c =
-    let s = c in
-    let l = c.loop-j in
-    let x = get_or l.circuits (get_or c.args.order.now c.loop-j.j 0) 0 in
-    let t : s.args.target < 2 ^ 32 = s.ranges.target.fits in
-    let f : x < 2 ^ 32 = (c.slice_known-in-loop-j-1.given (get_or c.args.order.now c.loop-j.j 0)).fits in
-    let m : c.full_at.result < 2 ^ 32 = c.full_at.type_inv in
-    record { fits = omega (arith, c.gain-more.ensures, total_fits l.total s.args.target c.full_at.result x l.invariant.3 t m f) }
-
-pub overflow_add-filler : goal.overflow_add-filler
-overflow_add-filler c =
-    let s = c in
-    let l = c.loop-j in
-    let x = get_or l.circuits (get_or c.args.order.now c.loop-j.j 0) 0 in
-    let t : s.args.target < 2 ^ 32 = s.ranges.target.fits in
-    let f : x < 2 ^ 32 = (c.slice_known-in-loop-j-1.given (get_or c.args.order.now c.loop-j.j 0)).fits in
-    let m : c.full_at.result < 2 ^ 32 = c.full_at.type_inv in
-    record { fits = omega (arith, c.gain-more.ensures, total_fits l.total s.args.target c.full_at.result x l.invariant.3 t m f, l.invariant.4) }
 
 pub loop-j-preserved : goal.loop-j-preserved
 loop-j-preserved c =
@@ -78,9 +33,3 @@ pub returns : goal.returns
 returns c =
     let l = c.loop-j in
     record { filled = sym (iter_end _ (omega arith)) ∙ l.invariant.2; tally = record { fits = l.invariant.3; filler = l.invariant.4 } }
-
-pub offset_bounds-cap-k : goal.offset_bounds-cap-k
-offset_bounds-cap-k c = record { fits = omega (arith, c.requires.ranked.0.below c.loop-j.j (omega arith), c.requires.ranked.0.few) }
-
-pub bounds-cap-k : goal.bounds-cap-k
-bounds-cap-k c = omega (arith, c.requires.ranked.0.below c.loop-j.j (omega arith), c.requires.ranked.1)

@@ -1,18 +1,9 @@
-use Rattle.std.proofs.Common.{ℕ, length, take, sym, refl, ap, ◌∙◌, subst, arith}
+use Rattle.std.proofs.Common.{ℕ, length, take, sym, ap, ◌∙◌, arith}
 use Rattle.plan_defs.specs.Case.{full_of}
 use Rattle.plan_defs.specs.Fill.{fill_once}
-use Rattle.planning.specs.Fill.{filled_as, Ranked}
+use Rattle.planning.specs.Fill.{filled_as}
 use Rattle.planning.proofs.Fillings.{rounds_next, rounds_end}
 use Rattle.planning.proofs.fill.fill_rounds.Goals as goal
-
-pub loop-turn-init : goal.loop-turn-init
-loop-turn-init c = (refl, refl, c.requires.tallied)
-
-pub fill_once-t-requires : goal.fill_once-t-requires
-fill_once-t-requires c =
-    let l = c.loop-turn in
-    let s = c in
-    record { ranked = (subst (λ (n : ℕ). Ranked n s.args.order.now n) (sym l.invariant.0) s.requires.ranked.0, s.requires.ranked.1 ∙ sym l.invariant.0); tallied = l.invariant.2 }
 
 pub loop-turn-preserved : goal.loop-turn-preserved
 loop-turn-preserved c =

@@ -1,6 +1,4 @@
-use Rattle.std.proofs.Common.{◌≡◌, ℕ, ◌+◌, ap, ◌∙◌, arith}
-use Rattle.loops.specs.Loops.{filled}
-use Rattle.planning.specs.Fill.{shifted}
+use Rattle.std.proofs.Common.{◌∙◌, arith}
 use Rattle.loops.proofs.Tab.{fill_turn, fill_own}
 use Rattle.planning.proofs.Insertion.{shift_start, shifted_here, shifted_next}
 use Rattle.planning.proofs.fill.insert.Goals as goal
@@ -15,10 +13,3 @@ loop-i-preserved c =
     let l = c.loop-i in
     let s = c.args in
     (omega arith, omega arith, fill_turn _ _ _ _ _ l.invariant.2 (omega arith) l.invariant.3, fill_own _ _ _ _ 0 l.invariant.2 (omega arith) ∙ shifted_next s.p s.k s.order.now l.i (omega arith))
-
-pub returns : goal.returns
-returns c =
-    let l = c.loop-i in
-    let s = c.args in
-    let e : l.i ≡ s.count + 1 = omega arith in
-    l.invariant.2 ∙ ap (λ (n : ℕ). filled s.order.now (shifted s.p s.k s.order.now) n) e

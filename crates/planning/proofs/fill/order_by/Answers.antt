@@ -1,7 +1,7 @@
 use Rattle.std.proofs.Common.{◌≡◌, ℕ, ◌<◌, length, take, sym, ap, ◌∙◌, arith}
 use Rattle.loops.proofs.Loops.{iter_all, iter_more, iter_end}
 use Rattle.planning.specs.Fill.{rank_before, order_by}
-use Rattle.planning.proofs.Insertion.{place_most, insert_is, named_next, ranked_by, none_named}
+use Rattle.planning.proofs.Insertion.{place_most, insert_is, named_next, none_named}
 use Rattle.loops.proofs.Tab.{fill_length}
 use Rattle.planning.proofs.fill.order_by.Goals as goal
 
@@ -10,12 +10,6 @@ unfolding order_by
 loop-k-init c =
     let s = c in
     (omega arith, s.requires.1, none_named (λ (j : ℕ). j < length s.args.third.now) s.args.order.now, iter_all _ _ _)
-
-pub place_of-p-requires : goal.place_of-p-requires
-place_of-p-requires c =
-    let l = c.loop-k in
-    let s = c in
-    (c.loop-k-test.true, ranked_by (rank_before s.args.first.now s.args.second.now s.args.third.now) (length s.args.third.now) l.order l.k s.requires.0 l.invariant.1 l.invariant.0 l.invariant.2)
 
 pub insert-requires : goal.insert-requires
 insert-requires c =

@@ -1,12 +1,7 @@
-use Rattle.std.proofs.Common.{length, sym, ap, ◌∙◌, ⊎_elim, arith, eq-eqb, ne_eqb}
-use Rattle.loops.specs.Figures.{at, plus, nought}
-use Rattle.plan_defs.specs.Lists.{each}
+use Rattle.std.proofs.Common.{sym, ◌∙◌, ⊎_elim, arith, eq-eqb, ne_eqb}
 use Rattle.plan_defs.specs.Components.{within}
-use Rattle.planning.proofs.Passing.{pass_start, each_yes, each_no, each_end}
+use Rattle.planning.proofs.Passing.{each_yes, each_no, each_end}
 use Rattle.planning.proofs.opening.demand_of.Goals as goal
-
-pub loop-i-init : goal.loop-i-init
-loop-i-init c = (omega arith, ap (λ ks. each (λ k s. plus s (at c.args.load.now k)) ks nought) (pass_start (within c.args.leader.now c.args.root) (length c.args.leader.now)))
 
 pub loop-i-preserved : goal.loop-i-preserved
 loop-i-preserved c =

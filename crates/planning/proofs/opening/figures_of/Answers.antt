@@ -1,4 +1,4 @@
-use Rattle.std.proofs.Common.{get_or, refl, ◌<◌, length, ap, ◌∙◌, arith, rules}
+use Rattle.std.proofs.Common.{refl, ap, ◌∙◌, arith}
 use Rattle.loops.specs.Figures.{at}
 use Rattle.loops.proofs.Tab.{fill_start, fill_turn}
 use Rattle.loops.proofs.Fronts.{front_filled, front_map}
@@ -6,15 +6,6 @@ use Rattle.planning.proofs.opening.figures_of.Goals as goal
 
 pub loop-j-init : goal.loop-j-init
 loop-j-init c = (omega arith, fill_start _ _)
-
-pub offset_bounds-column-k : goal.offset_bounds-column-k
-offset_bounds-column-k c = let h : get_or c.args.units.now c.loop-j.j 0 < length c.args.column.now = omega (arith, c.requires.0.below c.loop-j.j (omega arith)) in search rules
-
-pub bounds-column-k : goal.bounds-column-k
-bounds-column-k c = omega (arith, c.requires.0.below c.loop-j.j (omega arith))
-
-pub bounds-chosen-j : goal.bounds-chosen-j
-bounds-chosen-j c = omega (arith, c.requires.0.few)
 
 pub loop-j-preserved : goal.loop-j-preserved
 loop-j-preserved c = (

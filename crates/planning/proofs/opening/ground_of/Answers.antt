@@ -1,17 +1,8 @@
-use Rattle.std.proofs.Common.{refl, ℕ, ◌<◌, not, ◌&&◌, eqb, length, get_or, sym, ap, ◌∙◌, arith, rules}
+use Rattle.std.proofs.Common.{refl, ℕ, not, ◌&&◌, eqb, get_or, sym, ap, ◌∙◌, arith}
 use Rattle.plan_defs.specs.Components.{slack_within, bus_or}
 use Rattle.planning.specs.Opening.{slack_case}
-use Rattle.planning.proofs.Passing.{pass_start, pass_yes, pass_no, pass_end}
+use Rattle.planning.proofs.Passing.{pass_yes, pass_no, pass_end}
 use Rattle.planning.proofs.opening.ground_of.Goals as goal
-
-pub loop-k-init : goal.loop-k-init
-loop-k-init c = (omega arith, ap (bus_or (slack_case c.args.bus.now c.args.slack.now) c.args.root) (pass_start _ _))
-
-pub offset_bounds-leader-i : goal.offset_bounds-leader-i
-offset_bounds-leader-i c = let h : get_or c.args.bus.now c.loop-k.k 0 < length c.args.leader.now = omega (arith, c.requires.0.below c.loop-k.k (omega arith)) in search rules
-
-pub bounds-leader-i : goal.bounds-leader-i
-bounds-leader-i c = omega (arith, c.requires.0.below c.loop-k.k (omega arith))
 
 pub returns-then-leader-i : goal.returns-then-leader-i
 returns-then-leader-i c =

@@ -6,12 +6,6 @@ use Rattle.planning.proofs.opening.hand_out.Goals as goal
 pub loop-j-init : goal.loop-j-init
 loop-j-init c = (omega arith, refl, scatter_start c.args.units.now c.args.out.now c.args.count _ c.requires.room)
 
-pub offset_bounds-mw-k : goal.offset_bounds-mw-k
-offset_bounds-mw-k c = omega (arith, c.requires.below c.loop-j.j (omega arith), c.well_formed)
-
-pub bounds-mw-k : goal.bounds-mw-k
-bounds-mw-k c = omega (arith, c.requires.below c.loop-j.j (omega arith))
-
 pub loop-j-preserved : goal.loop-j-preserved
 loop-j-preserved c =
     let l = c.loop-j in (
@@ -19,9 +13,6 @@ loop-j-preserved c =
       simp length-set l.invariant.1,
       sym (iter_more _ (omega arith) (scatter_turn c.args.units.now c.args.out.now c.args.count l.mw l.j _ (omega arith) refl)) ∙ l.invariant.2,
     )
-
-pub shape_of-mw : goal.shape_of-mw
-shape_of-mw c = c.loop-j.invariant.1
 
 pub returns : goal.returns
 returns c = sym (iter_end _ (omega arith)) ∙ c.loop-j.invariant.2

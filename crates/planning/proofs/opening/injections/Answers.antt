@@ -1,14 +1,8 @@
-use Rattle.std.proofs.Common.{length, ap, ◌∙◌, arith}
+use Rattle.std.proofs.Common.{length, ap, ◌∙◌}
 use Rattle.loops.proofs.Tab.{length_tab}
 use Rattle.planning.proofs.Injecting.{injections_are}
 use Rattle.planning.proofs.opening.injections.Goals as goal
 use Rattle.planning.specs.Tables.{supply_in}
-
-pub inject-requires : goal.inject-requires
-inject-requires c =
-    let s = c.requires in
-    let e = ap length c.withdraw.ensures ∙ length_tab _ _ in
-    (record { few = s.0.few; below = λ k h. omega (arith, e, s.0.below k h, s.2) }, s.1)
 
 pub returns : goal.returns
 returns c =

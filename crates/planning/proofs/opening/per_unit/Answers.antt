@@ -1,7 +1,7 @@
 use Rattle.std.proofs.Common.{refl, ap, arith, length-set}
 use lib.Ieee.{Float, nan}
 use Rattle.loops.specs.Figures.{over}
-use Rattle.loops.proofs.Tab.{fill_start, fill_turn, fill_end, fill_own}
+use Rattle.loops.proofs.Tab.{fill_start, fill_turn, fill_own}
 use Rattle.plan_defs.specs.Constants.{base_mva}
 use Rattle.planning.proofs.opening.per_unit.Goals as goal
 
@@ -15,6 +15,3 @@ loop-i-preserved c =
       simp length-set l.invariant.1,
       fill_turn _ _ _ _ _ l.invariant.2 (omega arith) (ap (λ (x : Float). over x base_mva) (fill_own _ _ _ _ nan l.invariant.2 (omega arith))),
     )
-
-pub returns : goal.returns
-returns c = fill_end _ _ _ _ _ refl (omega arith) c.loop-i.invariant.2

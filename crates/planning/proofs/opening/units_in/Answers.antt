@@ -1,24 +1,9 @@
-use Rattle.std.proofs.Common.{refl, ◌≡◌, ℕ, ◌<◌, List, [], ◌++◌, length, get_or, take, sym, ap, ◌∙◌, ⊎_elim, append-nil, arith, length-set, rules, eq-eqb, ne_eqb}
+use Rattle.std.proofs.Common.{refl, ◌≡◌, ℕ, List, [], ◌++◌, get_or, take, sym, ap, ◌∙◌, ⊎_elim, append-nil, arith, length-set, eq-eqb, ne_eqb}
 use Rattle.loops.proofs.Collect.{collect_keep, collect_count}
 use Rattle.plan_defs.specs.Components.{unit_within, units_in}
 use Rattle.planning.specs.Opening.{bus_case}
-use Rattle.planning.proofs.Passing.{pass_start, pass_yes, pass_no, pass_end}
+use Rattle.planning.proofs.Passing.{pass_yes, pass_no, pass_end}
 use Rattle.planning.proofs.opening.units_in.Goals as goal
-
-pub loop-k-init : goal.loop-k-init
-loop-k-init c = (omega arith, omega arith, c.requires.1, pass_start _ _)
-
-pub offset_bounds-leader-i : goal.offset_bounds-leader-i
-offset_bounds-leader-i c = let h : get_or c.args.bus.now c.loop-k.k 0 < length c.args.leader.now = omega (arith, c.requires.0.below c.loop-k.k (omega arith)) in search rules
-
-pub bounds-leader-i : goal.bounds-leader-i
-bounds-leader-i c = omega (arith, c.requires.0.below c.loop-k.k (omega arith))
-
-pub overflow_cast-units : goal.overflow_cast-units
-overflow_cast-units c = omega (arith, c.requires.0.few)
-
-pub bounds-units-count : goal.bounds-units-count
-bounds-units-count c = omega (arith, c.requires.0.few)
 
 pub loop-k-preserved : goal.loop-k-preserved
 loop-k-preserved c =

@@ -1,24 +1,7 @@
 -- The definition with its test decided.
-use Rattle.std.proofs.Common.{arith}
 use Rattle.planning.proofs.Heavies.{heavy_marked, light_unmarked}
 use Rattle.planning.proofs.raises.mark_heavy.Goals as goal
 use Rattle.planning.specs.Tables.{grid_in}
-
-pub circuit-d-requires : goal.circuit-d-requires
-circuit-d-requires c =
-    let s = c in
-    record { lines = s.requires.0.lines; k_in_bounds = (s.requires.1, s.requires.0.banked s.args.k (omega (arith, s.requires.1, s.requires.0.bank_size))) }
-
-pub mark_raise_to-requires : goal.mark_raise_to-requires
-mark_raise_to-requires c =
-    let s = c in
-    record {
-      a_size = s.requires.1;
-      b_size = omega (arith, s.requires.1, s.requires.0.lines.b_size);
-      a_below = s.requires.0.lines.a_below s.args.k s.requires.1;
-      b_below = s.requires.0.lines.b_below s.args.k s.requires.1;
-      mark_size = s.requires.0.mark_size;
-    }
 
 pub returns-then-too_heavy : goal.returns-then-too_heavy
 returns-then-too_heavy c =

@@ -1,12 +1,6 @@
-use Rattle.std.proofs.Common.{◌∙◌}
 use Rattle.planning.proofs.Heavies.{heavy_raised}
 use Rattle.planning.proofs.raises.raise_heavy.Goals as goal
 use Rattle.planning.specs.Tables.{grid_in, supply_in}
-
-pub raise_marked-requires : goal.raise_marked-requires
-raise_marked-requires c =
-    let s = c in
-    record { redesign_fits = s.requires.redesign_fits; marks_len = (c.heavy_marks.auto.marks ∙ s.requires.markable.mark_size, s.requires.markable.banked) }
 
 pub returns : goal.returns
 returns c =

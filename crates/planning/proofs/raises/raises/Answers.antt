@@ -1,5 +1,5 @@
-use Rattle.std.proofs.Common.{rules, ◌≡◌, Err, sym, ◌∙◌, arith}
-use Rattle.planning.proofs.Promoting.{unpromoted, underway_start, raisable_again, done_last, done_refused, moved_few, done_still, underway_next}
+use Rattle.std.proofs.Common.{rules, ◌≡◌, Err, sym, ◌∙◌}
+use Rattle.planning.proofs.Promoting.{unpromoted, done_last, done_refused, done_still, underway_next}
 use Rattle.planning.proofs.raises.raises.Goals as goal
 use Rattle.planning.specs.Tables.{grid_in, supply_in, opened_in}
 
@@ -8,47 +8,12 @@ returns-then-not-promotes c =
     let z = c.args in
     unpromoted (grid_in z.grid.now) (supply_in z.supply.now) (opened_in z.opened.now) z.circuits.now z.floors.now z.banks.now z.level.now z.marks.now z.angle.now z.flow.now z.mode (sym c.promotes.ensures ∙ c.if-not-promotes.true) c.requires
 
-pub loop-turn-init : goal.loop-turn-init
-loop-turn-init c =
-    let z = c.args in
-    underway_start (grid_in z.grid.now) (supply_in z.supply.now) (opened_in z.opened.now) z.circuits.now z.floors.now z.banks.now z.level.now z.marks.now z.angle.now z.flow.now c.requires
-
-pub pass-requires : goal.pass-requires
-pass-requires c =
-    let z = c.args in
-    let l = c.loop-turn in
-    raisable_again (grid_in z.grid.now) (supply_in z.supply.now) (opened_in z.opened.now) z.circuits.now z.floors.now z.banks.now z.level.now z.marks.now z.angle.now z.flow.now l.banks l.level l.marks l.angle l.flow l.promoted l.turn l.invariant c.requires
-
-pub shape_of-banks-in_err-moved : goal.shape_of-banks-in_err-moved
-shape_of-banks-in_err-moved c = c.pass.auto.banks ∙ c.loop-turn.invariant.bank_size
-
-pub shape_of-level-in_err-moved : goal.shape_of-level-in_err-moved
-shape_of-level-in_err-moved c = c.pass.auto.level ∙ c.loop-turn.invariant.level_size
-
-pub shape_of-marks-in_err-moved : goal.shape_of-marks-in_err-moved
-shape_of-marks-in_err-moved c = c.pass.auto.marks ∙ c.loop-turn.invariant.mark_size
-
-pub shape_of-angle-in_err-moved : goal.shape_of-angle-in_err-moved
-shape_of-angle-in_err-moved c = c.pass.auto.angle ∙ c.loop-turn.invariant.angle_size
-
-pub shape_of-flow-in_err-moved : goal.shape_of-flow-in_err-moved
-shape_of-flow-in_err-moved c = c.pass.auto.flow ∙ c.loop-turn.invariant.flow_size
-
 pub returns-in_err-moved : goal.returns-in_err-moved
 returns-in_err-moved c =
     let z = c.args in
     let l = c.loop-turn in
     let h : c.from_residual.result ≡ Err c.in_err-moved.field-0.0 = search rules in
     rw h (done_refused (grid_in z.grid.now) (supply_in z.supply.now) (opened_in z.opened.now) z.circuits.now z.floors.now z.banks.now z.level.now z.marks.now z.angle.now z.flow.now l.banks l.level l.marks l.angle l.flow l.promoted l.turn l.invariant c.loop-turn-test.true _ _ c.pass.result c.pass.ensures z.mode (sym c.promotes.ensures ∙ c.if-not-promotes.false) _ c.in_err-moved.was)
-
-pub overflow_add-promoted : goal.overflow_add-promoted
-overflow_add-promoted c =
-    let z = c.args in
-    let l = c.loop-turn in
-    omega (arith, l.invariant.turns, l.invariant.bound, moved_few (grid_in z.grid.now) (supply_in z.supply.now) (opened_in z.opened.now) z.circuits.now z.floors.now z.banks.now z.level.now z.marks.now z.angle.now z.flow.now l.banks l.level l.marks l.angle l.flow l.promoted l.turn l.invariant c.loop-turn-test.true _ _ c.pass.result c.pass.ensures c.in_ok-moved.moved c.in_ok-moved.was)
-
-pub loop-turn-smaller : goal.loop-turn-smaller
-loop-turn-smaller c = omega (arith, c.loop-turn-test.true)
 
 pub loop-turn-preserved : goal.loop-turn-preserved
 loop-turn-preserved c =
@@ -58,41 +23,11 @@ loop-turn-preserved c =
     underway_next (grid_in z.grid.now) (supply_in z.supply.now) (opened_in z.opened.now) z.circuits.now z.floors.now z.banks.now z.level.now z.marks.now z.angle.now z.flow.now l.banks l.level l.marks l.angle l.flow l.promoted l.turn l.invariant c.loop-turn-test.true _ _ c.pass.result c.pass.ensures _ c.in_ok-moved.was c.if-moved-eq0.false c.requires.few_levels _ _ _
     k.banks k.level k.marks k.angle k.flow
 
-pub shape_of-banks-after-loop-turn : goal.shape_of-banks-after-loop-turn
-shape_of-banks-after-loop-turn c = c.loop-turn.invariant.bank_size
-
-pub shape_of-level-after-loop-turn : goal.shape_of-level-after-loop-turn
-shape_of-level-after-loop-turn c = c.loop-turn.invariant.level_size
-
-pub shape_of-marks-after-loop-turn : goal.shape_of-marks-after-loop-turn
-shape_of-marks-after-loop-turn c = c.loop-turn.invariant.mark_size
-
-pub shape_of-angle-after-loop-turn : goal.shape_of-angle-after-loop-turn
-shape_of-angle-after-loop-turn c = c.loop-turn.invariant.angle_size
-
-pub shape_of-flow-after-loop-turn : goal.shape_of-flow-after-loop-turn
-shape_of-flow-after-loop-turn c = c.loop-turn.invariant.flow_size
-
 pub returns-after-loop-turn : goal.returns-after-loop-turn
 returns-after-loop-turn c =
     let z = c.args in
     let l = c.loop-turn in
     done_last (grid_in z.grid.now) (supply_in z.supply.now) (opened_in z.opened.now) z.circuits.now z.floors.now z.banks.now z.level.now z.marks.now z.angle.now z.flow.now l.banks l.level l.marks l.angle l.flow l.promoted l.turn l.invariant z.mode (sym c.promotes.ensures ∙ c.if-not-promotes.false) c.loop-turn-test.false
-
-pub shape_of-banks-then-moved-eq0 : goal.shape_of-banks-then-moved-eq0
-shape_of-banks-then-moved-eq0 c = c.pass.auto.banks ∙ c.loop-turn.invariant.bank_size
-
-pub shape_of-level-then-moved-eq0 : goal.shape_of-level-then-moved-eq0
-shape_of-level-then-moved-eq0 c = c.pass.auto.level ∙ c.loop-turn.invariant.level_size
-
-pub shape_of-marks-then-moved-eq0 : goal.shape_of-marks-then-moved-eq0
-shape_of-marks-then-moved-eq0 c = c.pass.auto.marks ∙ c.loop-turn.invariant.mark_size
-
-pub shape_of-angle-then-moved-eq0 : goal.shape_of-angle-then-moved-eq0
-shape_of-angle-then-moved-eq0 c = c.pass.auto.angle ∙ c.loop-turn.invariant.angle_size
-
-pub shape_of-flow-then-moved-eq0 : goal.shape_of-flow-then-moved-eq0
-shape_of-flow-then-moved-eq0 c = c.pass.auto.flow ∙ c.loop-turn.invariant.flow_size
 
 pub returns-then-moved-eq0 : goal.returns-then-moved-eq0
 returns-then-moved-eq0 c =

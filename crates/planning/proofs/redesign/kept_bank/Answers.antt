@@ -1,9 +1,8 @@
 -- A bank is set only where it is below what it is kept to, and that lies between two sound ratings.
-use Rattle.std.proofs.Common.{◌≡◌, true, ◌&&◌, sym, refl, ap, ◌∙◌, subst}
+use Rattle.std.proofs.Common.{◌≡◌, true, ◌&&◌, sym, ap, ◌∙◌, subst}
 use lib.Ieee.{Float, lt}
 use Rattle.impedance.specs.Impedance.{rating_ok}
 use Rattle.planning.proofs.Ratings.{kept_sound}
-use Rattle.planning.proofs.Anew.{kept_is}
 use Rattle.planning.proofs.redesign.kept_bank.Goals as goal
 
 pub banked_if-requires : goal.banked_if-requires
@@ -11,6 +10,3 @@ banked_if-requires c =
     let d = c.args.d in
     let p = c.lesser-keep.ensures in
     λ t. subst (λ (x : Float). rating_ok x ≡ true) (sym p) (kept_sound d c.args.floor c.requires (ap (λ (x : Float). d.is_transformer && lt d.transformer_mva x) (sym p) ∙ t))
-
-pub returns : goal.returns
-returns c = kept_is c.args.d _ c.args.floor _ _ c.lesser-keep.ensures refl c.banked_if.ensures

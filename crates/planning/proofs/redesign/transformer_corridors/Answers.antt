@@ -7,9 +7,6 @@ use Rattle.planning.specs.Tables.{grid_in}
 pub loop-k-init : goal.loop-k-init
 loop-k-init c = let z = c.args in (search rules, shared_start (grid_in z.grid.now) z.level.now _ c.requires.shared_value)
 
-pub ends_of-e-requires : goal.ends_of-e-requires
-ends_of-e-requires c = c.requires.corridors.ends c.loop-k.k c.loop-k-test.true
-
 pub offset_bounds-shared-lo : goal.offset_bounds-shared-lo
 offset_bounds-shared-lo c = let s = c in let z = s.args in omega (arith, end_below (grid_in z.grid.now) z.level.now c.loop-k.k (s.requires.corridors.ends c.loop-k.k c.loop-k-test.true) _ c.ends_of-e.ensures, s.requires.corridors.few_buses)
 

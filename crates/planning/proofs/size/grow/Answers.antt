@@ -1,5 +1,5 @@
 -- Enough already, a raise, or more circuits.
-use Rattle.std.proofs.Common.{ap, ◌∙◌, arith}
+use Rattle.std.proofs.Common.{ap, ◌∙◌}
 use lib.Ieee.{to_unsigned}
 use Rattle.planning.proofs.Casts.{ceil_is}
 use Rattle.planning.proofs.Sizes.{grown_none, grown_raised, grown_added}
@@ -14,9 +14,6 @@ returns-then-raises_for c =
     let z = c.args in
     let r = c.raises_for.ensures in
     grown_raised z.mode z.level.now (grid_in z.grid.now) z.k z.required z.d z.circuits.now z.marks.now z.t _ c.enough.ensures _ _ _ c.if-enough.false (c.saturating_f64_to_u32-need.ensures ∙ ap (to_unsigned 32) (c.ceil.ensures ∙ ceil_is _)) r.answer r.marks c.if-raises_for.true
-
-pub add-requires : goal.add-requires
-add-requires c = let p = c.requires.k_in_bounds in let m = c.cap_at-most.ensures.few p.2 in (p.0, m, omega (arith, m, p.3))
 
 pub returns : goal.returns
 returns c =

@@ -10,46 +10,8 @@ use Rattle.planning.proofs.Corridors.{banks_set, size_is}
 use Rattle.planning.proofs.size.size_corridor.Goals as goal
 use Rattle.planning.specs.Tables.{grid_in}
 
-pub circuit-first-requires : goal.circuit-first-requires
-circuit-first-requires c =
-    let s = c in
-    record { lines = s.requires.lines; k_in_bounds = (s.requires.corridor, s.requires.banked s.args.k (omega (arith, s.requires.corridor, s.requires.held.bank_size))) }
-
 pub banked_if-d-requires : goal.banked_if-d-requires
 banked_if-d-requires c = larger_ok _ _ _ _ _ (subst Rated (sym c.circuit-first.ensures) (drawn_rated (grid_in c.args.grid.now) c.args.level.now c.args.k c.requires.lines c.requires.corridor (at c.args.banks.now c.args.k) (c.requires.banked c.args.k (omega (arith, c.requires.corridor, c.requires.held.bank_size))))) c.next_bank-next.ensures c.enlarges-larger.ensures
-
-pub keep_bank-requires : goal.keep_bank-requires
-keep_bank-requires c = let s = c in (omega (arith, s.requires.corridor, s.requires.held.bank_size), omega (arith, s.requires.corridor, s.requires.held.floor_size), omega (arith, s.requires.corridor, s.requires.held.upsized_size))
-
-pub grow-requires : goal.grow-requires
-grow-requires c =
-    let s = c in
-    let z = s.args in
-    let h = s.requires.corridor in record {
-      pair_fits = record {
-        a_size = h;
-        b_size = omega (arith, h, s.requires.lines.b_size);
-        a_below = s.requires.lines.a_below z.k h;
-        b_below = s.requires.lines.b_below z.k h;
-        mark_size = s.requires.held.mark_size;
-      };
-      k_in_bounds = (omega (arith, h, s.requires.held.count_size), omega (arith, h, s.requires.capped.size), s.requires.capped.few z.k, omega (arith, s.requires.room, ap (λ (t : Tally). t.capacity) c.with_bank_added-s.ensures));
-    }
-
-pub shape_of-circuits : goal.shape_of-circuits
-shape_of-circuits c = c.grow.auto.circuits
-
-pub shape_of-banks : goal.shape_of-banks
-shape_of-banks c = c.keep_bank.auto.banks
-
-pub shape_of-floors : goal.shape_of-floors
-shape_of-floors c = c.keep_bank.auto.floors
-
-pub shape_of-upsized : goal.shape_of-upsized
-shape_of-upsized c = c.keep_bank.auto.upsized
-
-pub shape_of-marks : goal.shape_of-marks
-shape_of-marks c = c.grow.auto.marks
 
 pub returns : goal.returns
 returns c =

@@ -1,13 +1,10 @@
 use Rattle.std.proofs.Common.{◌≡◌, length, sym, ◌∙◌, arith, le-leb}
 use borrow.Author.Tests.{lt-leb}
 use Rattle.loops.specs.Loops.{first}
-use Rattle.loops.proofs.Scan.{first_start, first_pass, first_stop, first_end}
+use Rattle.loops.proofs.Scan.{first_pass, first_stop, first_end}
 use Rattle.angles_defs.specs.Operation.{finite_at}
 use Rattle.plan_defs.specs.Solve.{all_finite}
 use Rattle.planning.proofs.solve.all_finite.Goals as goal
-
-pub loop-i-init : goal.loop-i-init
-loop-i-init c = (omega arith, first_start _ _)
 
 pub returns-then-not-is_finite : goal.returns-then-not-is_finite
 unfolding all_finite

@@ -1,4 +1,4 @@
-use Rattle.std.proofs.Common.{get_or, ℕ, ◌<◌, length, ap, ◌∙◌, arith, rules}
+use Rattle.std.proofs.Common.{get_or, ℕ, ap, ◌∙◌, arith}
 use lib.ListN.{length-replicate}
 use lib.Ieee.{Float}
 use Rattle.loops.specs.Figures.{float, at, times, nought}
@@ -14,17 +14,6 @@ use Rattle.planning.specs.Tables.{grid_in}
 pub loop-k-init : goal.loop-k-init
 loop-k-init c = (omega arith, fill_start _ _, fill_start _ _, fill_start _ _)
 
-pub offset_bounds-banks-k : goal.offset_bounds-banks-k
-offset_bounds-banks-k c =
-    let s = c in
-    let h : c.loop-k.k < length s.args.banks.now = omega (arith, s.requires.bank_size) in search rules
-
-pub bounds-banks-k : goal.bounds-banks-k
-bounds-banks-k c = omega (arith, c.requires.bank_size)
-
-pub circuit-d-requires : goal.circuit-d-requires
-circuit-d-requires c = let D = c.requires in record { lines = D.lines; k_in_bounds = (omega arith, D.banks_ok c.loop-k.k (omega (arith, D.bank_size))) }
-
 pub overflow_cast-from : goal.overflow_cast-from
 overflow_cast-from c =
     let s = c in
@@ -35,9 +24,6 @@ overflow_cast-from c =
       drawn_from_below (grid_in s.args.grid.now) s.args.level.now c.loop-k.k (at s.args.banks.now c.loop-k.k) s.requires.lines (omega arith),
     )
 
-pub bounds-from-k : goal.bounds-from-k
-bounds-from-k c = omega (arith, c.requires.few_corridors)
-
 pub overflow_cast-to : goal.overflow_cast-to
 overflow_cast-to c =
     let s = c in
@@ -47,24 +33,6 @@ overflow_cast-to c =
       s.requires.few_buses,
       drawn_to_below (grid_in s.args.grid.now) s.args.level.now c.loop-k.k (at s.args.banks.now c.loop-k.k) s.requires.lines (omega arith),
     )
-
-pub offset_bounds-to-k : goal.offset_bounds-to-k
-offset_bounds-to-k c = omega (arith, c.loop-k-test.true, c.requires.few_corridors)
-
-pub bounds-to-k : goal.bounds-to-k
-bounds-to-k c = omega (arith, c.requires.few_corridors)
-
-pub offset_bounds-circuits-k : goal.offset_bounds-circuits-k
-offset_bounds-circuits-k c = omega (arith, c.loop-k-test.true, c.requires.few_corridors)
-
-pub bounds-circuits-k : goal.bounds-circuits-k
-bounds-circuits-k c = omega (arith, c.requires.count_size)
-
-pub offset_bounds-weight-k : goal.offset_bounds-weight-k
-offset_bounds-weight-k c = omega (arith, c.loop-k-test.true, c.requires.few_corridors)
-
-pub bounds-weight-k : goal.bounds-weight-k
-bounds-weight-k c = omega (arith, c.requires.few_corridors)
 
 pub loop-k-preserved : goal.loop-k-preserved
 loop-k-preserved c =

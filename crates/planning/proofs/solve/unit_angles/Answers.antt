@@ -1,22 +1,8 @@
-use Rattle.std.proofs.Common.{length, refl, ap, ◌∙◌}
-use lib.ListN.{length-replicate}
+use Rattle.std.proofs.Common.{length}
 use Rattle.loops.specs.Figures.{nought}
 use Rattle.loops.proofs.Fronts.{front_replicate}
-use Rattle.planning.proofs.Solving.{unit_front, unit_length, unit_angles_are}
+use Rattle.planning.proofs.Solving.{unit_front, unit_angles_are}
 use Rattle.planning.proofs.solve.unit_angles.Goals as goal
-
-pub angles_from-requires : goal.angles_from-requires
-angles_from-requires c =
-    let s = c in
-    let n = length s.args.phi.now in
-    let few = s.requires.net.few_buses in record {
-      net = s.requires.net;
-      places = record {
-        injection_size = ap length (unit_front 256 n s.args.lead s.args.lag few s.requires.lead_in_bounds.0 s.requires.lead_in_bounds.1) ∙ unit_length n s.args.lead s.args.lag;
-        guess_size = ap length (front_replicate 256 n nought few) ∙ length-replicate n nought;
-        angle_size = refl;
-      };
-    }
 
 pub returns : goal.returns
 returns c =

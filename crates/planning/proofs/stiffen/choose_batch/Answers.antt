@@ -1,25 +1,6 @@
-use Rattle.std.proofs.Common.{length, arith}
-use Rattle.loops.proofs.Tab.{fill_length}
 use Rattle.planning.proofs.Reinforcing.{batch_chosen}
-use Rattle.planning.proofs.Gains.{ranked_all}
 use Rattle.planning.proofs.stiffen.choose_batch.Goals as goal
 use Rattle.planning.specs.Tables.{grid_in}
-
-pub order_gains-count-requires : goal.order_gains-count-requires
-order_gains-count-requires c =
-    let s = c in
-    (s.requires.a_len_bound.0, fill_length _ _ _ _ c.gains.ensures (omega (arith, s.requires.a_len_bound.0)), s.requires.a_len_bound.1)
-
-pub batch_cap-most-requires : goal.batch_cap-most-requires
-batch_cap-most-requires c =
-    let s = c in
-    (s.requires.a_len_bound.0, λ k h. omega (arith, s.requires.gainful.lines.a_below k h, s.requires.gainful.leader_size))
-
-pub batch_size-requires : goal.batch_size-requires
-batch_size-requires c =
-    let s = c in
-    let r = c.order_gains-count.ensures in
-    (ranked_all (length s.args.grid.now.a.now) _ _ r.named.1, omega (arith, r.named.0, s.requires.a_len_bound.0), fill_length _ _ _ _ c.gains.ensures (omega (arith, s.requires.a_len_bound.0)))
 
 pub returns : goal.returns
 returns c =

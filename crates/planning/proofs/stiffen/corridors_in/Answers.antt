@@ -1,4 +1,4 @@
-use Rattle.std.proofs.Common.{◌≡◌, ℕ, ◌+◌, ◌<◌, cond, eqb, length, get_or, refl, ap, ◌∙◌, arith, rules}
+use Rattle.std.proofs.Common.{◌≡◌, ℕ, ◌+◌, cond, eqb, length, get_or, refl, ap, ◌∙◌, arith}
 use Rattle.plan_defs.specs.Lists.{count_from, counting}
 use Rattle.planning.proofs.Lists.{count_more, count_most}
 use Rattle.planning.proofs.Served.{byte_is}
@@ -8,12 +8,6 @@ use Rattle.planning.proofs.stiffen.corridors_in.Goals as goal
 pub loop-k-init : goal.loop-k-init
 unfolding count_from
 loop-k-init c = (omega arith, refl)
-
-pub offset_bounds-leader-i : goal.offset_bounds-leader-i
-offset_bounds-leader-i c = let h : get_or c.args.a.now c.loop-k.k 0 < length c.args.leader.now = omega (arith, c.requires.1 c.loop-k.k c.loop-k-test.true) in search rules
-
-pub bounds-leader-i : goal.bounds-leader-i
-bounds-leader-i c = omega (arith, c.requires.1 c.loop-k.k c.loop-k-test.true)
 
 pub overflow_add-count : goal.overflow_add-count
 overflow_add-count c =

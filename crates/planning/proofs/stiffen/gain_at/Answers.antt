@@ -10,31 +10,10 @@ use Rattle.planning.proofs.Solving.{drawn_from_below, drawn_to_below}
 use Rattle.planning.proofs.stiffen.gain_at.Goals as goal
 use Rattle.planning.specs.Tables.{grid_in}
 
-pub is_candidate-requires : goal.is_candidate-requires
-is_candidate-requires c =
-    let s = c in
-    let p = s.requires.0 in
-    let h = s.requires.1 in (
-      record {
-        a_size = h;
-        b_size = omega (arith, h, p.lines.b_size);
-        a_below = p.lines.a_below s.args.k h;
-        b_below = p.lines.b_below s.args.k h;
-        mark_size = p.leader_size;
-      },
-      omega (arith, h, p.cap_size),
-      omega (arith, h, p.count_size),
-    )
-
 pub returns-then-not-is_candidate : goal.returns-then-not-is_candidate
 returns-then-not-is_candidate c =
     let s = c.args in
     ap (λ (b : Bool). gain_if b (gain_of s.angle.now s.phi.now (design (designs_for (grid_in s.grid.now) s.level.now s.banks.now) s.k))) (sym (c.if-not-is_candidate.true) ∙ c.is_candidate.ensures)
-
-pub circuit-d-requires : goal.circuit-d-requires
-circuit-d-requires c =
-    let s = c in
-    record { lines = s.requires.0.lines; k_in_bounds = (s.requires.1, s.requires.0.banked s.args.k (omega (arith, s.requires.1, s.requires.0.bank_size))) }
 
 pub gain_of-requires : goal.gain_of-requires
 gain_of-requires c =

@@ -8,12 +8,6 @@ use Rattle.planning.specs.Tables.{grid_in}
 pub loop-k-init : goal.loop-k-init
 loop-k-init c = (omega arith, fill_start _ _)
 
-pub gain_at-requires : goal.gain_at-requires
-gain_at-requires c = (c.requires.gainful, c.loop-k-test.true)
-
-pub bounds-gain-k : goal.bounds-gain-k
-bounds-gain-k c = omega (arith, c.requires.a_len_bound.0)
-
 pub loop-k-preserved : goal.loop-k-preserved
 loop-k-preserved c =
     let l = c.loop-k in

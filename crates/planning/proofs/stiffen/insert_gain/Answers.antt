@@ -5,12 +5,6 @@ use Rattle.planning.proofs.Gains.{next_yes, next_no}
 use Rattle.planning.proofs.Insertion.{place_most, insert_is}
 use Rattle.planning.proofs.stiffen.insert_gain.Goals as goal
 
-pub bounds-gain-k : goal.bounds-gain-k
-bounds-gain-k c = omega (arith, c.requires.0)
-
-pub place_of-p-requires : goal.place_of-p-requires
-place_of-p-requires c = let p = c.requires in (p.0, p.1, omega (arith, p.2), p.3)
-
 pub insert-requires : goal.insert-requires
 insert-requires c =
     let s = c in

@@ -2,7 +2,7 @@ use Rattle.std.proofs.Common.{ℕ, ◌<◌, take, sym, ◌∙◌, subst, arith}
 use Rattle.loops.proofs.Loops.{iter_all, iter_more, iter_end}
 use Rattle.plan_defs.proofs.Lists.{All}
 use Rattle.planning.specs.Stiffen.{gains_more, gain_next, gain_order}
-use Rattle.planning.proofs.Gains.{ranked_all, next_named}
+use Rattle.planning.proofs.Gains.{next_named}
 use Rattle.planning.proofs.Insertion.{ranked_by, none_named}
 use Rattle.planning.proofs.stiffen.order_gains.Goals as goal
 
@@ -11,15 +11,6 @@ unfolding gain_order
 loop-k-init c =
     let z = c.args in
     (omega arith, omega arith, c.requires.2, none_named (λ (j : ℕ). j < z.m) z.order.now, iter_all _ _ _)
-
-pub insert_gain-count-requires : goal.insert_gain-count-requires
-insert_gain-count-requires c =
-    let s = c in
-    let z = s.args in
-    let l = c.loop-k in
-    let h = c.loop-k-test.true in
-    let r = ranked_by (gains_more z.gain.now) z.m l.order l.count s.requires.0 l.invariant.2 (omega (arith, h, l.invariant.1)) l.invariant.3 in
-    (omega (arith, h, s.requires.0), ranked_all z.m l.count l.order r, omega (arith, h, s.requires.0, l.invariant.1), s.requires.1)
 
 pub loop-k-preserved : goal.loop-k-preserved
 loop-k-preserved c =

@@ -1,5 +1,5 @@
-use Rattle.std.proofs.Common.{get_or, sym, ◌∙◌, arith}
-use Rattle.planning.proofs.Stiffenings.{room_below, strengthened_raised, strengthened_added, strengthened_none}
+use Rattle.std.proofs.Common.{sym, ◌∙◌}
+use Rattle.planning.proofs.Stiffenings.{strengthened_raised, strengthened_added, strengthened_none}
 use Rattle.planning.proofs.stiffen.raise_or_add.Goals as goal
 
 pub returns-then-raises : goal.returns-then-raises
@@ -8,9 +8,6 @@ returns-then-raises c =
     let r = c.raises.ensures in
     let m = c.arrivals-arrived.ensures in
     strengthened_raised z.g z.own z.level.now z.grid.now.a.now z.grid.now.b.now z.k z.circuits.now z.marks.now z.t _ _ r.answer r.marks _ _ c.if-raises.true m.0 m.1 c.reckoned.ensures
-
-pub overflow_add-circuits : goal.overflow_add-circuits
-overflow_add-circuits c = let z = c.args in record { fits = omega (arith, room_below z.g z.own (get_or z.circuits.now z.k 0) z.t.total _ c.requires.k_in_bounds.1 c.has_room.ensures c.if-has_room.true) }
 
 pub returns-then-has_room : goal.returns-then-has_room
 returns-then-has_room c =

@@ -1,28 +1,6 @@
-use Rattle.std.proofs.Common.{sym, ◌∙◌}
 use Rattle.planning.proofs.Narrowing.{led_leads, led_not}
 use Rattle.planning.proofs.stiffen.stiffen_led.Goals as goal
 use Rattle.planning.specs.Tables.{grid_in, opened_in}
-
-pub stiffen_component-requires : goal.stiffen_component-requires
-stiffen_component-requires c =
-    let s = c in
-    let p = s.requires.stiffenable in
-    record { stiffenable = p; led = (record { here = s.requires.i_in_bounds.0; leads = c.if-opened-i.true; angle_size = p.angle_size ∙ sym p.leader_size }, s.requires.i_in_bounds.1) }
-
-pub shape_of-circuits-then-opened-i : goal.shape_of-circuits-then-opened-i
-shape_of-circuits-then-opened-i c = c.stiffen_component.auto.circuits
-
-pub shape_of-banks-then-opened-i : goal.shape_of-banks-then-opened-i
-shape_of-banks-then-opened-i c = c.stiffen_component.auto.banks
-
-pub shape_of-floors-then-opened-i : goal.shape_of-floors-then-opened-i
-shape_of-floors-then-opened-i c = c.stiffen_component.auto.floors
-
-pub shape_of-upsized-then-opened-i : goal.shape_of-upsized-then-opened-i
-shape_of-upsized-then-opened-i c = c.stiffen_component.auto.upsized
-
-pub shape_of-marks-then-opened-i : goal.shape_of-marks-then-opened-i
-shape_of-marks-then-opened-i c = c.stiffen_component.auto.marks
 
 pub returns-then-opened-i : goal.returns-then-opened-i
 returns-then-opened-i c =

@@ -1,4 +1,4 @@
-use Rattle.std.proofs.Common.{refl, le_antisymm, add-one, arith, rules}
+use Rattle.std.proofs.Common.{refl, add-one, arith, rules}
 use Rattle.loops.specs.Loops.{sum_to}
 use Rattle.planning.proofs.top_up.sum.Goals as goal
 
@@ -9,6 +9,3 @@ loop-i-init c = (search rules, refl)
 pub loop-i-preserved : goal.loop-i-preserved
 unfolding sum_to
 loop-i-preserved c = (omega arith, rw (add-one, c.loop-i.invariant.1))
-
-pub returns : goal.returns
-returns c = rw (le_antisymm c.loop-i.invariant.0 c.loop-i-test.false) at c.loop-i.invariant.1

@@ -1,17 +1,8 @@
-use Rattle.std.proofs.Common.{refl, ◌<◌, length, sym, ap, ◌∙◌, arith, length-set}
+use Rattle.std.proofs.Common.{refl, ◌<◌, length, ap, ◌∙◌, arith, length-set}
 use Rattle.loops.specs.Figures.{minus}
 use Rattle.plan_defs.specs.TopUp.{by_cost}
-use Rattle.planning.proofs.ToppingUp.{costs_length, unit_at_lem, pass_start, pass_end, pass_none, pass_last, pass_next}
+use Rattle.planning.proofs.ToppingUp.{costs_length, unit_at_lem, pass_end, pass_none, pass_last, pass_next}
 use Rattle.planning.proofs.top_up.top_up.Goals as goal
-
-pub loop-j-init : goal.loop-j-init
-loop-j-init c = (omega arith, c.requires.mw_size, pass_start _ _ _ _)
-
-pub bounds-order-j : goal.bounds-order-j
-bounds-order-j c = omega (arith, c.loop-j-test.true, c.requires.few)
-
-pub shape_of-mw-then-not-gap : goal.shape_of-mw-then-not-gap
-shape_of-mw-then-not-gap c = c.loop-j.invariant.1 ∙ sym c.requires.mw_size
 
 pub returns-then-not-gap : goal.returns-then-not-gap
 returns-then-not-gap c =
@@ -21,48 +12,25 @@ returns-then-not-gap c =
     let h : l.j < length (by_cost z.c1.now) = omega (arith, costs_length z.c1.now, c.loop-j-test.true) in
     pass_none z.pmax.now z.demand (by_cost z.c1.now) l.j _ h u.0 l.mw _ (ap (minus z.demand) c.sum.ensures) (c.if-not-gap.true) ∙ l.invariant.2
 
-pub offset_bounds-pmax-k : goal.offset_bounds-pmax-k
-offset_bounds-pmax-k c =
-    let u = unit_at_lem c.args.c1.now _ c.order_costs.ensures.1 c.loop-j.j _ c.loop-j-test.true refl in
-    omega (arith, u.1, c.requires.few)
-
 pub bounds-pmax-k : goal.bounds-pmax-k
 bounds-pmax-k c =
     let u = unit_at_lem c.args.c1.now _ c.order_costs.ensures.1 c.loop-j.j _ c.loop-j-test.true refl in
     omega (arith, u.1, c.requires.pmax_size)
-
-pub offset_bounds-mw-k : goal.offset_bounds-mw-k
-offset_bounds-mw-k c =
-    let u = unit_at_lem c.args.c1.now _ c.order_costs.ensures.1 c.loop-j.j _ c.loop-j-test.true refl in
-    omega (arith, u.1, c.requires.few)
 
 pub bounds-mw-k : goal.bounds-mw-k
 bounds-mw-k c =
     let u = unit_at_lem c.args.c1.now _ c.order_costs.ensures.1 c.loop-j.j _ c.loop-j-test.true refl in
     omega (arith, u.1, c.loop-j.invariant.1)
 
-pub offset_bounds-mw-k-in-loop-j : goal.offset_bounds-mw-k-in-loop-j
-offset_bounds-mw-k-in-loop-j c =
-    let u = unit_at_lem c.args.c1.now _ c.order_costs.ensures.1 c.loop-j.j _ c.loop-j-test.true refl in
-    omega (arith, u.1, c.requires.few)
-
 pub bounds-mw-k-in-loop-j : goal.bounds-mw-k-in-loop-j
 bounds-mw-k-in-loop-j c =
     let u = unit_at_lem c.args.c1.now _ c.order_costs.ensures.1 c.loop-j.j _ c.loop-j-test.true refl in
     omega (arith, u.1, c.loop-j.invariant.1)
 
-pub offset_bounds-pmax-k-in-loop-j : goal.offset_bounds-pmax-k-in-loop-j
-offset_bounds-pmax-k-in-loop-j c =
-    let u = unit_at_lem c.args.c1.now _ c.order_costs.ensures.1 c.loop-j.j _ c.loop-j-test.true refl in
-    omega (arith, u.1, c.requires.few)
-
 pub bounds-pmax-k-in-loop-j : goal.bounds-pmax-k-in-loop-j
 bounds-pmax-k-in-loop-j c =
     let u = unit_at_lem c.args.c1.now _ c.order_costs.ensures.1 c.loop-j.j _ c.loop-j-test.true refl in
     omega (arith, u.1, c.requires.pmax_size)
-
-pub shape_of-mw-then-served-pmax : goal.shape_of-mw-then-served-pmax
-shape_of-mw-then-served-pmax c = length-set c.loop-j.mw _ _ ∙ c.loop-j.invariant.1 ∙ sym c.requires.mw_size
 
 pub returns-then-served-pmax : goal.returns-then-served-pmax
 returns-then-served-pmax c =
@@ -84,9 +52,6 @@ loop-j-preserved c =
       pass_next z.pmax.now z.demand (by_cost z.c1.now) l.j _ h u.0 l.mw _ (ap (minus z.demand) c.sum.ensures) (c.if-not-gap.false) _ c.lesser-served.ensures
           c.if-served-pmax.false ∙ l.invariant.2,
     )
-
-pub shape_of-mw : goal.shape_of-mw
-shape_of-mw c = c.loop-j.invariant.1 ∙ sym c.requires.mw_size
 
 pub returns : goal.returns
 returns c = pass_end c.args.pmax.now c.args.demand (by_cost c.args.c1.now) c.loop-j.j _ (omega (arith, costs_length c.args.c1.now, c.loop-j.invariant.0, c.loop-j-test.false)) ∙ c.loop-j.invariant.2

@@ -29,6 +29,7 @@ pub struct Tables {
 }
 
 impl Tables {
+    #[tactic(auto, unfolding(casefile_theorems::specs::Cases::blank))]
     pub fn zeros() -> Tables
         ensures { tables_in result ≡ blank }
     {

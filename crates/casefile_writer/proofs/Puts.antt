@@ -1,7 +1,6 @@
 -- Bytes that are put one behind another: a number's bytes, a record's fields, a table's records.
 use Prim.Native.Nat.{ℕ, zero, suc, ◌+◌, ◌/◌, ◌^◌, ◌%◌, ◌≤◌}
-use mir.Val.{bool_byte}
-use mathlib.Core.Bool.{Bool, true, false, not, cond}
+use mathlib.Core.Bool.{true}
 use mathlib.Core.List.{List, ◌∷◌, ◌++◌, append_assoc, append-nil}
 use mathlib.Core.Path.{◌≡◌, refl, sym, ap, subst, ◌∙◌}
 use native.Mathlib.Numerals.{add-one}
@@ -61,11 +60,6 @@ low_bytes w n h = ap (take w) (low_first 8 0 n ∙ ap (bytes 8) (div-one n)) ∙
 pub nan_bits : (x : Float) → is_nan x ≡ true → to_bits binary64 x ≡ 0x7ff8_0000_0000_0000
 unfolding to_bits
 nan_bits x h = ap (to_bits binary64) (only_nan x h)
-
--- ---- a line's basis
-pub unless : (b : Bool) → bool_byte (not b) ≡ cond b 0 1
-unless true = refl
-unless false = refl
 
 -- ---- a table's records
 module _ {A : Type 0} (kind : A → Kind) (fields : A → ℕ → ℕ) (f : ℕ → A) where

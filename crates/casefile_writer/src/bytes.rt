@@ -82,7 +82,7 @@ impl<'a> Bytes<'a> {
         requires { self.old.len + 1 ≤ length self.old.out.now }
         ensures { Grown self.old self.new 1 (bytes 1 (basis_number x)) }
     {
-        self.put_u8(u64::from(x != 0.0))
+        self.put_u8(basis_number(x))
     }
 }
 
@@ -95,4 +95,10 @@ fn bits_of(x: f64) -> u64
         return NAN;
     }
     f64::to_bits(x)
+}
+
+fn basis_number(x: f64) -> u64
+    ensures { result ≡ basis_number x }
+{
+    if x == 0.0 { 0 } else { 1 }
 }

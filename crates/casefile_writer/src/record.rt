@@ -1,4 +1,5 @@
-// The records of a case file: each is a mark of two letters, then its fields.
+// The records of a case file: each is a mark of two letters, then its fields. casefile has the marks too, by kind; writing stands apart from
+// reading, and `layout_of` is what both are proved to follow.
 ghost use Rattle.std.specs.Prelude.{◌≡◌, ◌+◌, ◌≤◌, ℕ, length};
 ghost use Rattle.casefile_defs.specs.Layout.{size_of};
 ghost use Rattle.casefile_defs.specs.Moving.{mark_of};

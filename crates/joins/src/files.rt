@@ -111,6 +111,7 @@ fn join(first: &Case, second: &Case) -> Result<Case, Refusal>
 
 // The file of the two files' cases joined, at the start of out, and how long it is; or the first refusal, which touches nothing: of reading the first, of
 // reading the second, of joining.
+#[tactic(auto, unfolding(crate::specs::Files::Kept))]
 pub fn join_files(first: &[u8], second: &[u8], out: &mut [u8]) -> Result<usize, Refusal>
     requires { longest ≤ length out.old }
     ensures said { written result out.new ≡ join_files first.now second.now }

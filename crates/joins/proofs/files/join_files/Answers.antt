@@ -1,7 +1,6 @@
 -- What the calls give, one after the other, is what the definition says (first, second, joined).
 use Rattle.std.proofs.Common.{sym, ◌∙◌}
 use Rattle.std.proofs.lemmas.Result.{err_from_is_err_and}
-use Rattle.joins.specs.Files.{Kept}
 use Rattle.joins.proofs.Joined.{first, first_refused, second, second_refused, joined, joined_refused}
 use Rattle.joins.proofs.files.join_files.Goals as goal
 
@@ -10,18 +9,10 @@ returns-in_err-first-clause-said c =
     let p = err_from_is_err_and c.from_residual.result c.from_residual.ensures.1 in
     rw (p.1, p.2) (first_refused _ _ _ c.in_err-first.ensures)
 
-pub returns-in_err-first-clause-kept : goal.returns-in_err-first-clause-kept
-unfolding Kept
-returns-in_err-first-clause-kept c = let p = err_from_is_err_and c.from_residual.result c.from_residual.ensures.1 in rw p.1
-
 pub returns-in_err-second-clause-said : goal.returns-in_err-second-clause-said
 returns-in_err-second-clause-said c =
     let p = err_from_is_err_and c.from_residual-in_err-second.result c.from_residual-in_err-second.ensures.1 in
     rw (p.1, p.2) (second_refused _ _ _ _ c.in_err-second.ensures ∙ sym (first _ _ c.in_ok-first.first c.in_ok-first.ensures))
-
-pub returns-in_err-second-clause-kept : goal.returns-in_err-second-clause-kept
-unfolding Kept
-returns-in_err-second-clause-kept c = let p = err_from_is_err_and c.from_residual-in_err-second.result c.from_residual-in_err-second.ensures.1 in rw p.1
 
 pub returns-in_err-joined-clause-said : goal.returns-in_err-joined-clause-said
 returns-in_err-joined-clause-said c =
@@ -31,16 +22,8 @@ returns-in_err-joined-clause-said c =
     ∙ sym (second _ _ _ c.in_ok-second.second c.in_ok-second.ensures)
     ∙ sym (first _ _ c.in_ok-first.first c.in_ok-first.ensures))
 
-pub returns-in_err-joined-clause-kept : goal.returns-in_err-joined-clause-kept
-unfolding Kept
-returns-in_err-joined-clause-kept c = let p = err_from_is_err_and c.from_residual-in_err-joined.result c.from_residual-in_err-joined.ensures.1 in rw p.1
-
 pub returns-clause-said : goal.returns-clause-said
 returns-clause-said c =
     joined _ _ _ _ c.in_ok-joined.joined c.in_ok-joined.ensures c.put_case_file.ensures.put
     ∙ sym (second _ _ _ c.in_ok-second.second c.in_ok-second.ensures)
     ∙ sym (first _ _ c.in_ok-first.first c.in_ok-first.ensures)
-
-pub returns-clause-kept : goal.returns-clause-kept
-unfolding Kept
-returns-clause-kept c = c.put_case_file.ensures.size

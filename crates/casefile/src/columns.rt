@@ -105,20 +105,33 @@ impl<'a> Table<'a> {
         figure(eight(self.file, self.start(i) + offset))
     }
 
+    // A BU has weight 1.
+    #[tactic(auto, unfolding(casefile_defs::specs::Tables::weight_at, casefile_defs::specs::Tables::figure_at))]
     fn weight(&self, i: usize) -> f64
         requires record { i < self.now.count }
         requires bus { self.now.kind ≡ Kind.Bus }
         ensures { result ≡ weight_at self.now.file (start_of self.now i) }
     {
-        weight_at(self.file, self.start(i))
+        let at = self.start(i);
+        if bears(self.file, Kind::WeighedBus, at) {
+            return figure(eight(self.file, at + record::BUS_WEIGHT));
+        }
+        1.0
     }
 
+    // A CO has no cap, and 0 stands for it.
+    #[tactic(auto, using(crate::proofs::Stored::cap_there, crate::proofs::Stored::no_cap))]
     fn cap(&self, i: usize) -> u32
         requires record { i < self.now.count }
         requires corridor { self.now.kind ≡ Kind.Corridor }
         ensures { result ≡ cap_at self.now.file (start_of self.now i) }
     {
-        cap_at(self.file, self.start(i))
+        let at = self.start(i);
+        let file = self.file;
+        if bears(file, Kind::CappedCorridor, at) {
+            return file[at + record::CORRIDOR_CAP] as u32;
+        }
+        0
     }
 
     // ---- a column, with zeros past the records
@@ -158,28 +171,4 @@ fn end_of(file: &[u8], kind: Kind, at: usize) -> usize
     ensures { result ≡ end_of kind file.now at }
 {
     at + size(standing(file, kind, at))
-}
-
-// The weight of the bus at a place: a BU has weight 1.
-#[tactic(auto, unfolding(casefile_defs::specs::Tables::weight_at, casefile_defs::specs::Tables::figure_at))]
-fn weight_at(file: &[u8], at: usize) -> f64
-    requires { end_of Kind.Bus file.now at ≤ length file.now }
-    ensures { result ≡ weight_at file.now at }
-{
-    if bears(file, Kind::WeighedBus, at) {
-        return figure(eight(file, at + record::BUS_WEIGHT));
-    }
-    1.0
-}
-
-// The cap of the corridor at a place: a CO has none, and 0 stands for it.
-#[tactic(auto, using(crate::proofs::Stored::cap_there, crate::proofs::Stored::no_cap))]
-fn cap_at(file: &[u8], at: usize) -> u32
-    requires { end_of Kind.Corridor file.now at ≤ length file.now }
-    ensures { result ≡ cap_at file.now at }
-{
-    if bears(file, Kind::CappedCorridor, at) {
-        return file[at + record::CORRIDOR_CAP] as u32;
-    }
-    0
 }

@@ -104,12 +104,7 @@ fn first_lost(buses: &Table, kind: Kind) -> Option<usize>
 }
 
 // A file in which only one form of buses is wanted, with its buses as records of a kind: of BV, where every weight is 1, or of BU.
-pub fn moved(
-    file: &[u8],
-    wanted: Wanted,
-    kind: Kind,
-    out: &mut [u8],
-) -> Result<(), Refusal>
+pub fn moved(file: &[u8], wanted: Wanted, kind: Kind, out: &mut [u8]) -> Result<(), Refusal>
     requires whole { size_of kind ≡ 2 + called_bytes + length (weight_of kind) }
     requires weighed { weighs kind ≡ false → wanted ≡ Wanted.Weighed }
     ensures { moved_as result out.new ≡ moved_by wanted kind file.now out.old }

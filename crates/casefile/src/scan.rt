@@ -56,8 +56,8 @@ fn header_of(file: &[u8]) -> Header
     ensures small { (result.above < 256) × (result.requested < 256) }
 {
     // a number that no mode has is refused with the record
-    let mode = PlanMode::try_from(word(file, record::HEAD_MODE, record::U8))
-        .unwrap_or(PlanMode::ObserveServing);
+    let number = word(file, record::HEAD_MODE, record::U8);
+    let mode = PlanMode::try_from(number).unwrap_or(PlanMode::ObserveServing);
     let target = word(file, record::HEAD_TARGET, record::U32) as u32;
     let buses = word(file, record::HEAD_BUSES, record::U16) as usize;
     let corridors = word(file, record::HEAD_CORRIDORS, record::U16) as usize;

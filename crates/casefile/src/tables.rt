@@ -31,10 +31,7 @@ fn line_figure(file: &[u8], at: usize, j: usize) -> f64
     ensures { result ≡ line_figure file.now at j }
 {
     if j < BASIS {
-        return figure(eight(
-            file,
-            at + (record::LINE_R + record::FIGURE * j),
-        ));
+        return figure(eight(file, at + (record::LINE_R + record::FIGURE * j)));
     }
     basis_of(word(file, at + record::LINE_BASIS, record::U8))
 }
@@ -53,7 +50,10 @@ fn put_line(file: &[u8], at: usize, sheet: &mut [f64], to: usize)
     requires row { to + row_figures ≤ length sheet.old }
     ensures { sheet.new ≡ put sheet.old to (tab row_figures (line_figure file.now at)) }
 {
-    fill(&mut sheet[to..to + ROW_FIGURES], |j| line_figure(file, at, j));
+    fill(
+        &mut sheet[to..to + ROW_FIGURES],
+        |j| line_figure(file, at, j),
+    );
 }
 
 // Fills the rows of a level, where those of the levels before it are filled.

@@ -35,6 +35,6 @@ mode_same n (Err e) h = no_number n h.1
 
 pub returns-clause-value : goal.returns-clause-value
 returns-clause-value c =
-    header_same _ _ _ _ _ _ _ _ _ (c.unwrap_or-mode.ensures ∙ mode_same _ _ c.try_from.ensures) c.word.ensures.value c.word-target.ensures.value
+    header_same _ _ _ _ _ _ _ _ _ (c.unwrap_or-mode.ensures ∙ mode_same _ _ c.try_from.ensures) c.word-number.ensures.value c.word-target.ensures.value
     c.word-buses.ensures.value c.word-corridors.ensures.value c.word-generators.ensures.value
     c.word-above.ensures.value c.word-requested.ensures.value

@@ -7,7 +7,7 @@ pub const MOST_PLANS: u32 = 4_096;
 pub const MOST_CORRIDORS: usize = 256;
 
 // What is kept of the plans taken; place k of an array is of corridor k.
-#[derive(Clone, Copy)]
+#[derive(Clone, Copy, PartialEq)]
 pub struct Season {
     pub taken: u32,
     // Of each plan taken.

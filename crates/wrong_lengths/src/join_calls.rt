@@ -1,4 +1,5 @@
 // Case L, with weights, joined with itself.
+use crate::case_l;
 use crate::lent::{Off, Wrong, lent, lent_mut};
 use crate::report::{Outcome, report, report_wrong};
 use crate::tables::Tables;
@@ -22,60 +23,46 @@ const L: Header = Header {
 
 // Joins two cases with the tables of case L, of which at most one has a wrong length. It is as long as the operation has slices, each lent by a line.
 fn call(first: Header, second: Header, wrong: Option<Wrong>) -> Outcome {
+    let l = case_l::L;
     let ladder = [138.0, 69.0];
-    let tier = [0, 0, 0];
-    let reading = [0.0, 25.0, 0.0];
-    let weight = [1.0, 2.0, 1.0];
-    let bus = [0, 0];
-    let slack = [1, 0];
-    let pmin = [0.0, 0.0];
-    let pmax = [100.0, 0.0];
-    let c1 = [20.0, 0.0];
-    let c2 = [0.25, 0.0];
-    let a = [0, 0];
-    let b = [1, 1];
-    let circuits = [1, 1];
-    let km = [10.0, 10.0];
-    let share = [1.0, 1.0];
-    let cap = [0, 0];
     let sheet = [0.0, 0.5, 0.0, 100.0, 0.0, 0.0];
     let mut joined = Tables::marked();
     let said = join::join_cases(
         first,
         lent(&ladder, 0, wrong),
-        lent(&tier, 1, wrong),
-        lent(&reading, 2, wrong),
-        lent(&weight, 3, wrong),
-        lent(&bus, 4, wrong),
-        lent(&slack, 5, wrong),
-        lent(&pmin, 6, wrong),
-        lent(&pmax, 7, wrong),
-        lent(&c1, 8, wrong),
-        lent(&c2, 9, wrong),
-        lent(&a, 10, wrong),
-        lent(&b, 11, wrong),
-        lent(&circuits, 12, wrong),
-        lent(&km, 13, wrong),
-        lent(&share, 14, wrong),
-        lent(&cap, 15, wrong),
+        lent(&l.tier, 1, wrong),
+        lent(&l.reading, 2, wrong),
+        lent(&l.weight, 3, wrong),
+        lent(&l.bus, 4, wrong),
+        lent(&l.slack, 5, wrong),
+        lent(&l.pmin, 6, wrong),
+        lent(&l.pmax, 7, wrong),
+        lent(&l.c1, 8, wrong),
+        lent(&l.c2, 9, wrong),
+        lent(&l.a, 10, wrong),
+        lent(&l.b, 11, wrong),
+        lent(&l.circuits, 12, wrong),
+        lent(&l.km, 13, wrong),
+        lent(&l.share, 14, wrong),
+        lent(&l.cap, 15, wrong),
         lent(&sheet, 16, wrong),
         second,
         lent(&ladder, 17, wrong),
-        lent(&tier, 18, wrong),
-        lent(&reading, 19, wrong),
-        lent(&weight, 20, wrong),
-        lent(&bus, 21, wrong),
-        lent(&slack, 22, wrong),
-        lent(&pmin, 23, wrong),
-        lent(&pmax, 24, wrong),
-        lent(&c1, 25, wrong),
-        lent(&c2, 26, wrong),
-        lent(&a, 27, wrong),
-        lent(&b, 28, wrong),
-        lent(&circuits, 29, wrong),
-        lent(&km, 30, wrong),
-        lent(&share, 31, wrong),
-        lent(&cap, 32, wrong),
+        lent(&l.tier, 18, wrong),
+        lent(&l.reading, 19, wrong),
+        lent(&l.weight, 20, wrong),
+        lent(&l.bus, 21, wrong),
+        lent(&l.slack, 22, wrong),
+        lent(&l.pmin, 23, wrong),
+        lent(&l.pmax, 24, wrong),
+        lent(&l.c1, 25, wrong),
+        lent(&l.c2, 26, wrong),
+        lent(&l.a, 27, wrong),
+        lent(&l.b, 28, wrong),
+        lent(&l.circuits, 29, wrong),
+        lent(&l.km, 30, wrong),
+        lent(&l.share, 31, wrong),
+        lent(&l.cap, 32, wrong),
         lent(&sheet, 33, wrong),
         lent_mut(&mut joined.ladder, 34, wrong),
         lent_mut(&mut joined.tier, 35, wrong),

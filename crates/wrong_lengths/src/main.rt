@@ -4,6 +4,7 @@
 #![tactic(auto)]
 
 mod angles_calls;
+mod case_l;
 mod dispatch_calls;
 mod join_calls;
 mod leaders_calls;

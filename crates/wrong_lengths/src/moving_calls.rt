@@ -1,5 +1,6 @@
 // A case of one level and no bus, which may be moved either way.
 use crate::lent::{Mark, Off, Wrong, kept, lent_mut};
+use crate::reading_calls::FILE;
 use crate::report::{Outcome, report};
 use casefile_defs::MOST_BYTES;
 use refusal::Refusal;
@@ -8,9 +9,6 @@ use std::io::Write;
 
 // The output.
 const SLICES: usize = 1;
-
-const FILE: &[u8] =
-    b"HD\x02\x00\x00\x00\x00\x00\x00\x00\x00\x00\x00\x00\x01LV\x00\x00\x00\x00\x00\x40\x61\x40";
 
 // One of the two operations on a file.
 fn call<F: FnOnce(&[u8], &mut [u8]) -> Result<(), Refusal>>(

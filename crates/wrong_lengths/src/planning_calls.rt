@@ -1,4 +1,5 @@
 // Case L with one level more, above the request.
+use crate::case_l;
 use crate::lent::{Mark, Wrong, kept, lent, lent_mut};
 use crate::report::{Outcome, report, report_wrong};
 use mode::PlanMode;
@@ -12,22 +13,8 @@ const WORK: usize = 49;
 
 // As long as the operation has slices, each lent by a line.
 fn call(buses: usize, wrong: Option<Wrong>) -> Outcome {
+    let l = case_l::L;
     let ladder = [230.0, 138.0, 69.0];
-    let tier = [0, 0, 0];
-    let reading = [0.0, 25.0, 0.0];
-    let weight = [1.0, 2.0, 1.0];
-    let bus = [0, 0];
-    let slack = [1, 0];
-    let pmin = [0.0, 0.0];
-    let pmax = [100.0, 0.0];
-    let c1 = [20.0, 0.0];
-    let c2 = [0.25, 0.0];
-    let a = [0, 0];
-    let b = [1, 1];
-    let initial = [1, 1];
-    let km = [10.0, 10.0];
-    let share = [1.0, 1.0];
-    let cap = [0, 0];
     let sheet = [0.0, 0.5, 0.0, 100.0, 0.0, 0.0, 0.5, 0.0, 100.0, 0.0, 0.0];
     let mut circuits = [u32::MARK; 2];
     let mut flow = [f64::MARK; 2];
@@ -51,21 +38,21 @@ fn call(buses: usize, wrong: Option<Wrong>) -> Outcome {
         1,
         1,
         lent(&ladder, 0, wrong),
-        lent(&tier, 1, wrong),
-        lent(&reading, 2, wrong),
-        lent(&weight, 3, wrong),
-        lent(&bus, 4, wrong),
-        lent(&slack, 5, wrong),
-        lent(&pmin, 6, wrong),
-        lent(&pmax, 7, wrong),
-        lent(&c1, 8, wrong),
-        lent(&c2, 9, wrong),
-        lent(&a, 10, wrong),
-        lent(&b, 11, wrong),
-        lent(&initial, 12, wrong),
-        lent(&km, 13, wrong),
-        lent(&share, 14, wrong),
-        lent(&cap, 15, wrong),
+        lent(&l.tier, 1, wrong),
+        lent(&l.reading, 2, wrong),
+        lent(&l.weight, 3, wrong),
+        lent(&l.bus, 4, wrong),
+        lent(&l.slack, 5, wrong),
+        lent(&l.pmin, 6, wrong),
+        lent(&l.pmax, 7, wrong),
+        lent(&l.c1, 8, wrong),
+        lent(&l.c2, 9, wrong),
+        lent(&l.a, 10, wrong),
+        lent(&l.b, 11, wrong),
+        lent(&l.circuits, 12, wrong),
+        lent(&l.km, 13, wrong),
+        lent(&l.share, 14, wrong),
+        lent(&l.cap, 15, wrong),
         lent(&sheet, 16, wrong),
         lent_mut(&mut circuits, 17, wrong),
         lent_mut(&mut flow, 18, wrong),

@@ -5,7 +5,7 @@ use crate::tables::Tables;
 use std::io;
 use std::io::Write;
 
-const FILE: &[u8] =
+pub const FILE: &[u8] =
     b"HD\x02\x00\x00\x00\x00\x00\x00\x00\x00\x00\x00\x00\x01LV\x00\x00\x00\x00\x00\x40\x61\x40";
 
 // A header whose count of buses is past its bound.

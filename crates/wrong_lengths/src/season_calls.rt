@@ -2,7 +2,6 @@
 use crate::lent::{Mark, Wrong, lent};
 use crate::report::{Outcome, report, report_wrong};
 use plan_defs::CorridorPlan;
-use season_defs::Season;
 use std::io;
 use std::io::Write;
 
@@ -24,23 +23,11 @@ const PLAN: CorridorPlan = CorridorPlan {
     added: 0,
 };
 
-// Whether no count or sum of the season has moved, nor the first place of an array.
-fn is_empty(season: &Season) -> bool {
-    (season.taken == 0)
-        & (season.corridors == 0)
-        & (season.rounds == 0)
-        & (season.converged == 0)
-        & (season.least[0] == u32::MAX)
-        & (season.greatest[0] == 0)
-        & (season.total[0] == 0)
-}
-
 fn call(corridors: usize, wrong: Option<Wrong>) -> Outcome {
     let circuits = [u32::MARK; 3];
-    let fed = season::add_plan(season::begin(), PLAN, corridors, lent(&circuits, 0, wrong));
-    let said = fed.said;
-    let season = fed.season;
-    Outcome::new(said, is_empty(&season))
+    let mut fed = season::begin();
+    let said = season::add_plan(&mut fed, PLAN, corridors, lent(&circuits, 0, wrong));
+    Outcome::new(said, fed == season::begin())
 }
 
 // Every length right; then a count past its bound with these lengths.

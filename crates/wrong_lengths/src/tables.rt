@@ -2,7 +2,7 @@
 use crate::lent::{Mark, kept};
 use casefile_defs::{MOST_BUSES, MOST_CORRIDORS, MOST_GENERATORS, MOST_LEVELS, MOST_SHEET};
 
-// Each at its largest size and a place more, marked.
+// Each at its largest size and a place more, marked. Not case_tables': the language computes no length from a const parameter, as N + 1.
 #[derive(Drop)]
 pub struct Tables {
     pub ladder: [f64; MOST_LEVELS + 1],

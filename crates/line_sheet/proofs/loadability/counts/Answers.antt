@@ -9,6 +9,3 @@ pub returns-then-some_in_knots : goal.returns-then-some_in_knots
 returns-then-some_in_knots c =
     let s = c in
     λ j h e. ap (λ (z : List ℕ). get_or z j 0) c.counts_of.ensures ∙ get_tab 8 (λ (i : ℕ). count_of (at s.args.km.now (s.args.k + i))) j 0 h
-
-pub returns : goal.returns
-returns c = λ j h e. absurd (no (c.some_in_knots.ensures c.if-some_in_knots.false j h) e)

@@ -1,6 +1,5 @@
-use Rattle.std.proofs.Common.{refl, le_of_lt}
+use Rattle.std.proofs.Common.{refl}
 use Rattle.line_defs.specs.Grid.{on_grid}
-use Rattle.line_defs.proofs.Grids.{float_asks}
 use Rattle.line_sheet.proofs.grid.on_grid.Goals as goal
 
 pub returns : goal.returns

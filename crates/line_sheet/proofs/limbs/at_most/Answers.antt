@@ -1,5 +1,5 @@
 use Rattle.std.proofs.Common.{refl, ⊎_elim, arith}
-use Rattle.line_sheet.proofs.Worths.{differ, agree, last_limb, worth_none}
+use Rattle.line_sheet.proofs.Worths.{differ, agree, worth_none}
 use Rattle.line_sheet.proofs.limbs.at_most.Goals as goal
 
 pub loop-i-init : goal.loop-i-init

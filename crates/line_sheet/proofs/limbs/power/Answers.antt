@@ -1,5 +1,4 @@
-use Rattle.std.proofs.Common.{arith}
-use Rattle.line_sheet.proofs.Worths.{first_power, power_fits, next_power, last_power}
+use Rattle.line_sheet.proofs.Worths.{first_power, power_fits, next_power}
 use Rattle.line_sheet.proofs.limbs.power.Goals as goal
 
 pub loop-turn-init : goal.loop-turn-init

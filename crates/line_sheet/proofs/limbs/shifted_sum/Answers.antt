@@ -1,5 +1,5 @@
-use Rattle.std.proofs.Common.{get_or, refl, arith}
-use Rattle.line_sheet.proofs.Worths.{column_most, next_column, last_column, first_column}
+use Rattle.std.proofs.Common.{refl}
+use Rattle.line_sheet.proofs.Worths.{next_column, first_column}
 use Rattle.line_sheet.proofs.limbs.shifted_sum.Goals as goal
 
 pub loop-i-init : goal.loop-i-init

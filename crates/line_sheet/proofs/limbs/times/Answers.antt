@@ -1,6 +1,6 @@
 use Rattle.std.proofs.Common.{◌∙◌, rules}
 use Rattle.line_sheet.specs.Limbs.{worth}
-use Rattle.line_sheet.proofs.Worths.{limbs_zero, one_row, upper_fits, both_limbs}
+use Rattle.line_sheet.proofs.Worths.{one_row, upper_fits, both_limbs}
 use Rattle.line_sheet.proofs.limbs.times.Goals as goal
 
 pub shifted_sum-requires : goal.shifted_sum-requires

@@ -1,6 +1,5 @@
 use Rattle.std.proofs.Common.{ℕ, ◌+◌, List, get_or, ap, ◌∙◌}
 use Rattle.loops.specs.Figures.{at}
-use Rattle.loops.proofs.Bools.{no}
 use Rattle.loops.proofs.Tab.{get_tab}
 use Rattle.line_sheet.specs.Lanes.{count_of}
 use Rattle.line_sheet.proofs.loadability.counts.Goals as goal

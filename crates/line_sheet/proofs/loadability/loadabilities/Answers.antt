@@ -1,5 +1,5 @@
-use Rattle.std.proofs.Common.{refl, arith}
-use Rattle.loops.proofs.Tab.{fill_start, fill_turn, fill_end}
+use Rattle.std.proofs.Common.{refl}
+use Rattle.loops.proofs.Tab.{fill_start, fill_turn}
 use Rattle.line_sheet.proofs.loadability.loadabilities.Goals as goal
 
 pub loop-j-init : goal.loop-j-init

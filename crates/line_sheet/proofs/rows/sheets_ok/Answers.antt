@@ -1,5 +1,5 @@
-use Rattle.std.proofs.Common.{sym, ◌∙◌, arith, le-leb}
-use Rattle.line_sheet.proofs.Sheets.{counts_of, sheet_most, bad_counts, bad_surveyed, good_counts}
+use Rattle.std.proofs.Common.{sym, ◌∙◌, le-leb}
+use Rattle.line_sheet.proofs.Sheets.{bad_counts, bad_surveyed, good_counts}
 use Rattle.line_sheet.proofs.rows.sheets_ok.Goals as goal
 
 pub returns-then-not-counts_ok : goal.returns-then-not-counts_ok

@@ -1,6 +1,5 @@
-use Rattle.std.proofs.Common.{sym, refl, ◌∙◌, arith}
-use Rattle.line_sheet.proofs.Sheets.{counts_of}
-use Rattle.line_sheet.proofs.Filling.{none_filled, more_filled, all_filled}
+use Rattle.std.proofs.Common.{refl, arith}
+use Rattle.line_sheet.proofs.Filling.{more_filled, all_filled}
 use Rattle.line_sheet.proofs.sheet.fill.Goals as goal
 
 pub returns : goal.returns

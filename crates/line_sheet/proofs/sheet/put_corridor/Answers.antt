@@ -1,7 +1,5 @@
-use Rattle.std.proofs.Common.{◌∙◌, arith}
 use Rattle.line_sheet.proofs.Checks.{spread_of_lem}
-use Rattle.line_sheet.proofs.Sheets.{rows_small}
-use Rattle.line_sheet.proofs.Filling.{no_rows, row_fits_in, one_row, all_rows}
+use Rattle.line_sheet.proofs.Filling.{one_row}
 use Rattle.line_sheet.proofs.sheet.put_corridor.Goals as goal
 
 pub kept_spread-kept-requires : goal.kept_spread-kept-requires

@@ -1,9 +1,8 @@
-use Rattle.std.proofs.Common.{ℕ, ◌+◌, ◌≤◌, List, length, sym, ap, ◌∙◌, add-zero, arith}
+use Rattle.std.proofs.Common.{ℕ, ◌+◌, List, ap, ◌∙◌, arith}
 use lib.Ieee.{Float, nan}
 use Rattle.loops.specs.Figures.{at}
 use Rattle.loops.proofs.Tab.{get_tab}
 use Rattle.line_defs.specs.Loadability.{loadability_of}
-use Rattle.line_sheet.proofs.Filling.{none_filled, more_filled, filled_to_lem}
 use Rattle.line_sheet.proofs.sheet.put_eight.Goals as goal
 
 pub put_corridor-requires : goal.put_corridor-requires

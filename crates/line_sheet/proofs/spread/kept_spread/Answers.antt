@@ -1,8 +1,6 @@
-use Rattle.std.proofs.Common.{ℕ, ◌/◌, ◌^◌, T, sym, ap, ◌∙◌, subst, lt_of_lt_of_le, lt_of_le_of_lt, lit<, lit≤}
-use lib.Ieee.{binary64, fits}
+use Rattle.std.proofs.Common.{ℕ, ◌/◌, ◌^◌, ap, ◌∙◌}
 use Rattle.line_defs.specs.Grid.{on_grid}
 use Rattle.line_defs.specs.Spread.{fifth_root, kept_spread}
-use Rattle.line_defs.proofs.Spreads.{steps_most, steps_least, below_eight}
 use Rattle.line_sheet.proofs.spread.kept_spread.Goals as goal
 
 pub returns : goal.returns

@@ -1,5 +1,5 @@
-use Rattle.std.proofs.Common.{sym, refl, ◌∙◌, arith, lit<}
-use Rattle.line_sheet.proofs.Halving.{cube_fits, fifth_fits, whole_range, upper_part, lower_part, halved}
+use Rattle.std.proofs.Common.{arith, lit<}
+use Rattle.line_sheet.proofs.Halving.{cube_fits, fifth_fits, whole_range, halved}
 use Rattle.line_sheet.proofs.spread.searched.Goals as goal
 
 pub power-cube-requires : goal.power-cube-requires

@@ -1,6 +1,6 @@
-use Rattle.std.proofs.Common.{sym, true≢false, arith, leb-true}
+use Rattle.std.proofs.Common.{arith, leb-true}
 use Rattle.loops.proofs.Bools.{both}
-use Rattle.line_sheet.proofs.Cutting.{half_most, settles}
+use Rattle.line_sheet.proofs.Cutting.{settles}
 use Rattle.line_sheet.proofs.spread.settled.Goals as goal
 
 pub returns : goal.returns

@@ -75,6 +75,7 @@ fn outside(figures: &[f64], least: f64, most: f64) -> Option<usize>
 }
 
 // The first refusal in order.
+#[tactic(auto, using(loops::proofs::Scan::fault_some, loops::proofs::Scan::fault_passed), unfolding(line_defs::specs::Request::check_of, line_defs::specs::Request::faulty))]
 pub fn check(
     levels: usize,
     corridors: usize,

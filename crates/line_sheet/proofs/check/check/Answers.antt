@@ -3,20 +3,6 @@ use Rattle.loops.proofs.Scan.{fault_some, fault_passed}
 use Rattle.line_defs.specs.Request.{faulty, check_of}
 use Rattle.line_sheet.proofs.check.check.Goals as goal
 
-pub returns-then-not-lengths_ok : goal.returns-then-not-lengths_ok
-unfolding check_of
-returns-then-not-lengths_ok c = rw (← c.lengths_ok.ensures, c.if-not-lengths_ok.true)
-
-pub returns-then-not-counts_ok : goal.returns-then-not-counts_ok
-unfolding check_of
-returns-then-not-counts_ok c = rw (← c.lengths_ok.ensures, c.if-not-lengths_ok.false, ← c.counts_ok.ensures, c.if-not-counts_ok.true)
-
-pub returns-in-Some : goal.returns-in-Some
-unfolding check_of faulty
-returns-in-Some c =
-    let i = fault_some _ _ _ c.in-Some.ensures in
-    rw (← c.lengths_ok.ensures, c.if-not-lengths_ok.false, ← c.counts_ok.ensures, c.if-not-counts_ok.false, ← i.0, lt-ltb _ _ i.1)
-
 pub returns-in-Some-outside : goal.returns-in-Some-outside
 unfolding check_of faulty
 returns-in-Some-outside c =

@@ -1,5 +1,5 @@
 use Rattle.std.proofs.Common.{refl, ⊎_elim, arith}
-use Rattle.line_sheet.proofs.Worths.{differ, agree, last_limb, worth_none}
+use Rattle.line_sheet.proofs.Worths.{differ, agree, worth_none}
 use Rattle.line_sheet.proofs.limbs.at_most.Goals as goal
 
 pub loop-i-init : goal.loop-i-init
@@ -13,6 +13,3 @@ loop-i-preserved c =
     (λ w. differ s.args.a.limbs s.args.b.limbs c.if-a-i.r l.i c.loop-i-test.true s.args.a.fit s.args.b.fit w.if-a-i.true w.r-is)
     (λ w. agree s.args.a.limbs s.args.b.limbs l.r c.if-a-i.r l.i c.loop-i-test.true w.if-a-i.false w.r-is l.invariant)
     c.if-a-i.branch-raw
-
-pub returns : goal.returns
-returns c = last_limb c.args.a.limbs c.args.b.limbs _ _ c.loop-i-test.false c.loop-i.invariant

@@ -1,9 +1,5 @@
-use Rattle.std.proofs.Common.{arith}
-use Rattle.line_sheet.proofs.Worths.{first_power, power_fits, next_power, last_power}
+use Rattle.line_sheet.proofs.Worths.{first_power, power_fits, next_power}
 use Rattle.line_sheet.proofs.limbs.power.Goals as goal
-
-pub invariant_of-r : goal.invariant_of-r
-invariant_of-r c = record { fit = c.loop-turn.invariant.1 }
 
 pub loop-turn-init : goal.loop-turn-init
 loop-turn-init c = first_power c.args.c c.args.n c.args.k c.requires.0
@@ -13,6 +9,3 @@ times-r-requires c = let s = c.args in power_fits s.c s.n s.k c.loop-turn._turn 
 
 pub loop-turn-preserved : goal.loop-turn-preserved
 loop-turn-preserved c = let s = c.args in next_power s.c s.n s.k c.loop-turn.r.0 c.times-r.result.limbs c.loop-turn._turn c.loop-turn-test.true c.times-r.result.fit c.times-r.ensures c.loop-turn.invariant
-
-pub returns : goal.returns
-returns c = let s = c.args in (last_power s.c s.n s.k c.loop-turn.r.0 c.loop-turn._turn (omega arith) c.loop-turn.invariant).1

@@ -1,10 +1,7 @@
 use Rattle.std.proofs.Common.{◌∙◌, rules}
 use Rattle.line_sheet.specs.Limbs.{worth}
-use Rattle.line_sheet.proofs.Worths.{limbs_zero, one_row, upper_fits, both_limbs}
+use Rattle.line_sheet.proofs.Worths.{one_row, upper_fits, both_limbs}
 use Rattle.line_sheet.proofs.limbs.times.Goals as goal
-
-pub invariant_of-nought : goal.invariant_of-nought
-invariant_of-nought c = record { fit = limbs_zero }
 
 pub shifted_sum-requires : goal.shifted_sum-requires
 shifted_sum-requires c = (c.if-n-lt-MOST_FACTOR.true, rw (one_row (worth c.args.a.limbs) c.args.n) c.requires)

@@ -1,15 +1,9 @@
-use Rattle.std.proofs.Common.{refl, arith}
-use Rattle.loops.proofs.Tab.{fill_start, fill_turn, fill_end}
+use Rattle.std.proofs.Common.{refl}
+use Rattle.loops.proofs.Tab.{fill_start, fill_turn}
 use Rattle.line_sheet.proofs.loadability.loadabilities.Goals as goal
 
 pub loop-j-init : goal.loop-j-init
 loop-j-init c = (refl, fill_start _ _)
 
-pub rated-requires : goal.rated-requires
-rated-requires c = c.counts-count.ensures c.loop-j.j c.loop-j-test.true
-
 pub loop-j-preserved : goal.loop-j-preserved
 loop-j-preserved c = let l = c.loop-j in (refl, fill_turn _ _ _ _ _ l.invariant.1 c.loop-j-test.true c.rated.ensures)
-
-pub returns : goal.returns
-returns c = let i = c.loop-j.invariant in fill_end _ _ _ _ 8 i.0 (omega arith) i.1

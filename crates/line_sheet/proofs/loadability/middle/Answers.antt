@@ -13,12 +13,6 @@ one_more_holds n h = omega arith
 fits : (g : Segment) (count : ℕ) → Knots g → 0 < count → count ≤ 2 ^ 24 → (g.high - g.low) * count ≤ g.high * 2 ^ 24
 fits g count k p m = rw (sym (one_more_holds count p)) (covers g.high g.low (count - 1) k.falls k.little k.low_least (omega arith))
 
-pub overflow_mul-result-2 : goal.overflow_mul-result-2
-overflow_mul-result-2 c = omega (arith, fits c.args.g c.args.count c.requires.0 c.requires.1 c.requires.2, c.requires.0.high_most)
-
-pub overflow_sub-result-2 : goal.overflow_sub-result-2
-overflow_sub-result-2 c = fits c.args.g c.args.count c.requires.0 c.requires.1 c.requires.2
-
 pub returns : goal.returns
 unfolding middle
 returns c =

@@ -1,5 +1,5 @@
-use Rattle.std.proofs.Common.{sym, ◌∙◌, arith, le-leb}
-use Rattle.line_sheet.proofs.Sheets.{counts_of, sheet_most, bad_counts, bad_surveyed, good_counts}
+use Rattle.std.proofs.Common.{sym, ◌∙◌, le-leb}
+use Rattle.line_sheet.proofs.Sheets.{bad_counts, bad_surveyed, good_counts}
 use Rattle.line_sheet.proofs.rows.sheets_ok.Goals as goal
 
 pub returns-then-not-counts_ok : goal.returns-then-not-counts_ok
@@ -7,30 +7,6 @@ returns-then-not-counts_ok c = let s = c.args in bad_counts s.levels s.corridors
 
 pub returns-then-surveyed-corridors : goal.returns-then-surveyed-corridors
 returns-then-surveyed-corridors c = let s = c.args in bad_surveyed s.levels s.corridors s.surveyed s.n s.m (sym c.counts_ok.ensures ∙ c.if-not-counts_ok.false) c.if-surveyed-corridors.true
-
-pub overflow_mul-result : goal.overflow_mul-result
-overflow_mul-result c =
-    let s = c.args in
-    let k = counts_of s.levels s.corridors (sym c.counts_ok.ensures ∙ c.if-not-counts_ok.false) in
-    omega (arith, sheet_most s.levels s.corridors s.surveyed k c.if-surveyed-corridors.false, sheet_most s.levels s.corridors s.corridors k (omega arith))
-
-pub overflow_mul-result-2 : goal.overflow_mul-result-2
-overflow_mul-result-2 c =
-    let s = c.args in
-    let k = counts_of s.levels s.corridors (sym c.counts_ok.ensures ∙ c.if-not-counts_ok.false) in
-    omega (arith, sheet_most s.levels s.corridors s.surveyed k c.if-surveyed-corridors.false, sheet_most s.levels s.corridors s.corridors k (omega arith))
-
-pub overflow_mul-result-3 : goal.overflow_mul-result-3
-overflow_mul-result-3 c =
-    let s = c.args in
-    let k = counts_of s.levels s.corridors (sym c.counts_ok.ensures ∙ c.if-not-counts_ok.false) in
-    omega (arith, sheet_most s.levels s.corridors s.surveyed k c.if-surveyed-corridors.false, sheet_most s.levels s.corridors s.corridors k (omega arith))
-
-pub overflow_mul-result-4 : goal.overflow_mul-result-4
-overflow_mul-result-4 c =
-    let s = c.args in
-    let k = counts_of s.levels s.corridors (sym c.counts_ok.ensures ∙ c.if-not-counts_ok.false) in
-    omega (arith, sheet_most s.levels s.corridors s.surveyed k c.if-surveyed-corridors.false, sheet_most s.levels s.corridors s.corridors k (omega arith))
 
 pub returns : goal.returns
 returns c = let s = c.args in good_counts s.levels s.corridors s.surveyed s.n s.m (sym c.counts_ok.ensures ∙ c.if-not-counts_ok.false) (le-leb _ _ c.if-surveyed-corridors.false)

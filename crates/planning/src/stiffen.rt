@@ -292,6 +292,8 @@ fn gain_of(d: CircuitDesign, angle: &[f64], phi: &[f64]) -> f64
     susceptance(d) * (angle[i] - angle[j]) * (phi[i] - phi[j])
 }
 
+// What these read of the round goes apart: a struct of references to the tables, the levels and the solve would be named in each
+// clause column by column through three of them.
 fn gain_at(
     g: Limits,
     grid: &Grid,

@@ -31,3 +31,6 @@ pub struct Opened<'a> {
     pub grounds: &'a [u32],
     pub injection: &'a [f64],
 }
+
+// What planning writes goes in slices of its own and in no struct: a signature then says which of them a function writes, and a
+// `&mut` slice keeps its length by its type, where every contract would have to promise it of a struct that holds one.

@@ -18,21 +18,6 @@ close-requires c =
     let w = settleable_again _ _ _ _ _ _ _ _ _ _ _ h _ _ _ refl v.auto.flow v.auto.angle in
     record { lines = h.drawing.lines; loaded = (loaded _ _ _ _ _ _ _ _ _ _ _ w, h.cap_size); closable = w.closable }
 
-pub shape_of-level : goal.shape_of-level
-shape_of-level c = c.close.auto.level
-
-pub shape_of-flow : goal.shape_of-flow
-shape_of-flow c = c.solve_from_zero.auto.flow
-
-pub shape_of-rate : goal.shape_of-rate
-shape_of-rate c = c.close.auto.rate
-
-pub shape_of-angle : goal.shape_of-angle
-shape_of-angle c = c.solve_from_zero.auto.angle
-
-pub shape_of-added : goal.shape_of-added
-shape_of-added c = c.close.auto.added
-
 pub returns : goal.returns
 returns c =
     let z = c.args in

@@ -20,24 +20,6 @@ pub close_up-requires : goal.close_up-requires
 close_up-requires c =
     settleable_again _ _ _ _ _ _ _ _ _ _ _ c.requires.settleable _ _ _ c.fill-filler.auto.circuits refl refl
 
-pub shape_of-circuits : goal.shape_of-circuits
-shape_of-circuits c = c.fill-filler.auto.circuits
-
-pub shape_of-level : goal.shape_of-level
-shape_of-level c = c.close_up.auto.level
-
-pub shape_of-flow : goal.shape_of-flow
-shape_of-flow c = c.close_up.auto.flow
-
-pub shape_of-rate : goal.shape_of-rate
-shape_of-rate c = c.close_up.auto.rate
-
-pub shape_of-angle : goal.shape_of-angle
-shape_of-angle c = c.close_up.auto.angle
-
-pub shape_of-added : goal.shape_of-added
-shape_of-added c = c.close_up.auto.added
-
 pub returns-in_err-closing : goal.returns-in_err-closing
 returns-in_err-closing c =
     let s = c in

@@ -20,24 +20,6 @@ fill_up-requires c =
     let v = c.solve_from_zero.auto in
     record { settleable = settleable_again _ _ _ _ _ _ _ _ _ _ _ h.settleable _ _ _ refl v.flow v.angle; few = h.few }
 
-pub shape_of-circuits : goal.shape_of-circuits
-shape_of-circuits c = c.fill_up.auto.circuits
-
-pub shape_of-level : goal.shape_of-level
-shape_of-level c = c.fill_up.auto.level
-
-pub shape_of-flow : goal.shape_of-flow
-shape_of-flow c = c.fill_up.auto.flow ∙ c.solve_from_zero.auto.flow
-
-pub shape_of-rate : goal.shape_of-rate
-shape_of-rate c = c.fill_up.auto.rate
-
-pub shape_of-angle : goal.shape_of-angle
-shape_of-angle c = c.fill_up.auto.angle ∙ c.solve_from_zero.auto.angle
-
-pub shape_of-added : goal.shape_of-added
-shape_of-added c = c.fill_up.auto.added
-
 pub returns : goal.returns
 returns c =
     let z = c.args in

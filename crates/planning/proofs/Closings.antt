@@ -20,7 +20,7 @@ use Rattle.plan_defs.specs.declared.CircuitDesign.{CircuitDesign}
 use Rattle.plan_defs.proofs.Drawn.{length_drawn}
 use Rattle.planning.specs.Design.{lines_for}
 use Rattle.planning.specs.Fill.{designs_for}
-use Rattle.planning.specs.Close.{corridors_of, levels_for, wider_by, loadings_by, cap_full, added_at, closing_of, figures_if, counts_if, lent_to, finished}
+use Rattle.planning.specs.Close.{corridors_of, levels_for, wider_by, loadings_by, cap_full, added_at, closing_of}
 use Rattle.planning.proofs.Lists.{count_most}
 use Rattle.planning.proofs.Orders.{drawn_here}
 use Rattle.planning.specs.Tables.{GridColumns}
@@ -211,19 +211,3 @@ pub added_are : (above : ℕ) (ladder : List Float) (level : List ℕ) (added : 
 unfolding added_of
 added_are above ladder level added dropped h e f =
     f ∙ ap (λ (n : ℕ). tab above (added_at ladder above n)) e ∙ added_is ladder above (least_of above level) h (least_most above level)
-
--- ---- the slices at the end
-pub cleared_if : {A : Type 0} {b : Bool} {x : List A} (l : List A) (a : A) → b ≡ true → x ≡ replicate (length l) a → x ≡ cond b (replicate (length l) a) l
-cleared_if l a t e = e ∙ sym (ap (λ (z : Bool). cond z (replicate (length l) a) l) t)
-
-pub left_if : {A : Type 0} {b : Bool} (l r : List A) → b ≡ false → l ≡ cond b r l
-left_if l r t = sym (ap (λ (z : Bool). cond z r l) t)
-
-module _ (refused : Bool) (circuits : List ℕ) (flow rate mw angle : List Float) (tier ground : List ℕ) (added figures : List Float) (counts : List ℕ) where
-  pub finished_is : (circuits' : List ℕ) (flow' rate' mw' angle' : List Float) (tier' ground' : List ℕ) (added' figures' : List Float) (counts' : List ℕ)
-      → circuits' ≡ counts_if refused circuits → flow' ≡ figures_if refused flow → rate' ≡ figures_if refused rate → mw' ≡ figures_if refused mw
-      → angle' ≡ figures_if refused angle → tier' ≡ counts_if refused tier → ground' ≡ counts_if refused ground → added' ≡ figures_if refused added
-      → figures' ≡ replicate (length figures) nought → counts' ≡ replicate (length counts) 0
-      → lent_to circuits' flow' rate' mw' angle' tier' ground' added' figures' counts'
-      ≡ finished refused (lent_to circuits flow rate mw angle tier ground added figures counts)
-  finished_is circuits' flow' rate' mw' angle' tier' ground' added' figures' counts' e f g h i j k l m n = rw (e, f, g, h, i, j, k, l, m, n)

@@ -32,13 +32,12 @@ use Rattle.planning.specs.Solve.{peak_for}
 use Rattle.planning.specs.Close.{Closable, lent_to}
 use Rattle.planning.specs.Rounds.{Columns}
 use Rattle.planning.specs.Sound.{Sound, Lengths}
-use Rattle.planning.specs.Plan.{Openable, Opens, OpenedAs, OpeningDone, Plannable, OpenedPlan, PlannedAs, whole_case, WholeAs, PlanDone, Lendable}
+use Rattle.planning.specs.Plan.{Openable, Opens, OpenedAs, OpeningDone, Plannable, OpenedPlan, Holds, PlannedAs, HoldsAll, whole_case, WholeAs, PlanDone, Lendable}
 use Rattle.planning.specs.declared.plan.PlanRun.{PlanRun}
 use Rattle.planning.proofs.Grounds.{grounds_few, grounds_below, grounds_lent}
 use Rattle.planning.proofs.Draws.{Laid}
 use Rattle.planning.proofs.Sounds.{lines_of}
 use Rattle.std.specs.Prelude.{Err, Ok, Result}
-use Rattle.plan_defs.specs.declared.CorridorPlan.{CorridorPlan}
 use Rattle.planning.specs.Tables.{GridColumns, grid_of, SupplyColumns, supply_of, opened_of}
 
 -- ---- a unit's most is not below zero, since its least is not
@@ -202,11 +201,13 @@ module _ (c : Case) (target : ℕ) (s : Sound c target) where
           let z : going mw ≡ going r.mw = sym e ∙ d.dispatched in
           ((let y : mw ≡ r.mw = cc in y), sym (ap (λ (p : Peak). p.grounds) d.peak ∙ ap (grounds_of c) d.led))
 
-  whole_by : (r : Result CorridorPlan Refusal) (before order circuits : List ℕ) (flow rate mw angle : List Float) (tier ground : List ℕ) (added : List Float) (t : Stage Plan)
-      → On (OpeningOf mw) t → ground ≡ up_to c.buses 0 (grounds_of c (component c)) → PlannedAs r before order circuits tier flow rate angle added c t
-      → WholeAs r before order circuits flow rate mw angle tier ground added c t
-  whole_by r before order circuits flow rate mw angle tier ground added (stopped f) k g h = h
-  whole_by r before order circuits flow rate mw angle tier ground added (going q) k g h = record { holds = h; mw_is = k.0; grounds_are = g ∙ ap (up_to c.buses 0) k.1 }
+  whole_by : (r : Result PlanRun Refusal) (m : ℕ) (circuits : List ℕ) (flow rate mw angle : List Float) (tier ground : List ℕ) (added : List Float) (t : Stage Plan)
+      → On (OpeningOf mw) t → ground ≡ up_to c.buses 0 (grounds_of c (component c)) → PlannedAs r m circuits tier flow rate angle added c t
+      → WholeAs r m circuits flow rate mw angle tier ground added c t
+  whole_by (Err f) m circuits flow rate mw angle tier ground added t k g h = h
+  whole_by (Ok x) m circuits flow rate mw angle tier ground added t k g h =
+      let w = subst (On (OpeningOf mw)) h.reached k in
+      record { holds = h; mw_is = w.0; grounds_are = g ∙ ap (up_to c.buses 0) w.1 }
 
   unopened : (f : Refusal) → dispatch_of c (component c) ≡ stopped f → plan_for c target ≡ stopped f
   unfolding plan_for ready_of opening
@@ -246,7 +247,7 @@ module _ (mode : PlanMode) (target above : ℕ) (grid : GridColumns) (tier : Lis
     abbrev C : Case → Case
     C o = whole_case o mode above grid tier supply initial
 
-    abbrev DoneAfter : List ℕ → List Float → List Float → List Float → List Float → List ℕ → List ℕ → List Float → PlanRun → Type 0
+    abbrev DoneAfter : List ℕ → List Float → List Float → List Float → List Float → List ℕ → List ℕ → List Float → Result PlanRun Refusal → Type 0
     DoneAfter circuits flow rate mw angle level ground added r =
         PlanDone mode target above grid tier supply initial circuits flow rate mw angle level ground added r
 
@@ -272,14 +273,12 @@ module _ (mode : PlanMode) (target above : ℕ) (grid : GridColumns) (tier : Lis
       -- after the opening
       module _ (leader' : List ℕ) (injection' : List Float) (ground' : List ℕ) (mw' : List Float) (level' circuits' : List ℕ) (r : Result ℕ Refusal)
           (w : OpeningDone mode above tier supply grid.a grid.b initial leader' injection' ground' mw' level' circuits' r) where
-        pub stages_refused : (f : Refusal) → r ≡ Err f → (circuits'' : List ℕ) (flow'' rate'' mw'' angle'' : List Float) (level'' ground'' : List ℕ) (added'' : List Float) (x : PlanRun) → x.said ≡ Err f
-            → DoneAfter circuits'' flow'' rate'' mw'' angle'' level'' ground'' added'' x
-        stages_refused f q circuits'' flow'' rate'' mw'' angle'' level'' ground'' added'' x j =
+        pub stages_refused : (f : Refusal) → r ≡ Err f → (circuits'' : List ℕ) (flow'' rate'' mw'' angle'' : List Float) (level'' ground'' : List ℕ) (added'' : List Float)
+            → DoneAfter circuits'' flow'' rate'' mw'' angle'' level'' ground'' added'' (Err f)
+        stages_refused f q circuits'' flow'' rate'' mw'' angle'' level'' ground'' added'' =
             record {
               plan = λ o s.
-                  let e = subst (λ (x : Result ℕ Refusal). OpenedAs x (C o) leader' injection' ground' mw' level' circuits') q (w.opens (C o) target s) in
-                  subst (WholeAs x.said (take (length grid.a) x.kept.before) (take (length grid.a) x.kept.order) circuits'' flow'' rate'' mw'' angle'' level'' ground'' added'' (C o))
-                  (sym (unopened (C o) target s f e)) j;
+                  unopened (C o) target s f (subst (λ (x : Result ℕ Refusal). OpenedAs x (C o) leader' injection' ground' mw' level' circuits') q (w.opens (C o) target s));
             }
 
         module _ (count : ℕ) (q : r ≡ Ok count) (e : length leader' ≡ length (fresh {A = ℕ} (length tier) 0)) where
@@ -333,7 +332,7 @@ module _ (mode : PlanMode) (target above : ℕ) (grid : GridColumns) (tier : Lis
                       (take (length grid.a - 0) zeroed) angle rate added n not_upsized l.angle l.rate l.added,
                 )
 
-            pub stages_plan : (circuits'' : List ℕ) (flow'' rate'' angle'' : List Float) (level'' : List ℕ) (added'' : List Float) (x : PlanRun)
+            pub stages_plan : (circuits'' : List ℕ) (flow'' rate'' angle'' : List Float) (level'' : List ℕ) (added'' : List Float) (x : Result PlanRun Refusal)
                 → OpenedPlan mode target above grid level' supply (opened_of (again (length tier) 0 leader') (take (count - 0) ground') (again (length tier) nought injection')) circuits'
                 (take (length grid.a - 0) zeroed) circuits'' level'' flow'' rate'' angle'' added'' x
                 → DoneAfter circuits'' flow'' rate'' mw' angle'' level'' ground' added'' x
@@ -341,8 +340,8 @@ module _ (mode : PlanMode) (target above : ℕ) (grid : GridColumns) (tier : Lis
                 record {
                   plan = λ o s.
                       let k = opens_again o s in
-                      whole_by (C o) target s x.said (take (length grid.a) x.kept.before) (take (length grid.a) x.kept.order) circuits'' flow'' rate'' mw' angle'' level'' ground' added'' (plan_for (C o) target) (opening_kept (C o) target s mw' k.dispatched) k.grounded
-                      (subst (PlannedAs x.said (take (length grid.a) x.kept.before) (take (length grid.a) x.kept.order) circuits'' level'' flow'' rate'' angle'' added'' (C o))
+                      whole_by (C o) target s x (length grid.a) circuits'' flow'' rate'' mw' angle'' level'' ground' added'' (plan_for (C o) target) (opening_kept (C o) target s mw' k.dispatched) k.grounded
+                      (subst (PlannedAs x (length grid.a) circuits'' level'' flow'' rate'' angle'' added'' (C o))
                       (sym (planned_from (C o) target s (again (length tier) 0 leader') (again (length tier) nought injection') count ground' mw' level' circuits' k))
                       (v.plan (C o) mw' s k.levels_are k.circuits_are (not_upsized ∙ ap (λ (m : ℕ). replicate m 0) s.a_size) refl));
                 }

@@ -1,6 +1,6 @@
 -- Filling, closing and finishing of slices, lifted to the whole case and the defined plan.
 -- The definitions read only fields of the case, so each law is by computing, with the lengths of the columns put in.
-use Rattle.std.proofs.Common.{◌≡◌, ℕ, ◌-◌, ◌<◌, ◌≤◌, true, false, List, map, length, get_or, replicate, sym, refl, ap, ◌∙◌, arith}
+use Rattle.std.proofs.Common.{◌≡◌, ℕ, ◌-◌, ◌<◌, ◌≤◌, List, map, length, get_or, replicate, sym, refl, ap, ◌∙◌, arith}
 use lib.ListN.{length-map}
 use lib.Ieee.{Float, nan}
 use Rattle.loops.specs.Figures.{at, nought}
@@ -12,11 +12,11 @@ use Rattle.plan_defs.specs.Build.{drawn_all}
 use Rattle.plan_defs.specs.Fill.{loading, loading_at, fill}
 use Rattle.plan_defs.specs.Closing.{spread_of, loadings, max_loading, overloaded_of, capped_of, upsized_of, least_of, tiers_of, added_of}
 use Rattle.plan_defs.specs.Plan.{Plan}
-use Rattle.plan_defs.specs.Outcome.{Slices, up_to, work_places, cleared, kept_of, held}
+use Rattle.plan_defs.specs.Outcome.{Slices, slices, up_to, work_places, cleared, kept_of, held}
 use Rattle.plan_defs.specs.declared.CircuitDesign.{CircuitDesign}
 use Rattle.plan_defs.proofs.Lists.{get_map}
 use Rattle.planning.specs.Fill.{designs_for, caps_for}
-use Rattle.planning.specs.Close.{corridors_of, levels_for, loadings_by, closing_of, with_kept, finished}
+use Rattle.planning.specs.Close.{corridors_of, levels_for, loadings_by, closing_of, zeroed}
 use Rattle.planning.specs.Sound.{Sound, Lengths}
 use Rattle.planning.specs.declared.close.Closing.{Closing}
 use Rattle.planning.proofs.Draws.{Laid}
@@ -82,12 +82,13 @@ unfolding added_of
 added_lifts c level = refl
 
 -- ---- the slices at the end
-pub finished_refused : (c : Case) (s : Slices) → Lengths c s → with_kept (replicate c.corridors 0) (replicate c.corridors 0) (replicate c.corridors 0) (finished true s) ≡ cleared c
-finished_refused c s e = rw (e.circuits, e.flow, e.rate, e.mw, e.angle, e.tier, e.ground, e.added, e.figures, e.counts)
+pub zeroed_is : (c : Case) (s : Slices) → Lengths c s → length s.before ≡ c.corridors → length s.order ≡ c.corridors → length s.cap ≡ c.corridors → zeroed s ≡ cleared c
+zeroed_is c s e f g h = rw (e.circuits, e.flow, e.rate, f, g, h, e.mw, e.angle, e.tier, e.ground, e.added, e.figures, e.counts)
 
-pub finished_answered : (c : Case) (s : Slices) (p : Plan) → length s.figures ≡ work_places c → length s.counts ≡ work_places c
+pub held_is : (c : Case) (s : Slices) (p : Plan) → s.before ≡ kept_of c p.before → s.order ≡ kept_of c p.order → s.cap ≡ c.cap
     → s.circuits ≡ p.circuits → s.flow ≡ p.flow → s.rate ≡ map (λ (d : CircuitDesign). d.rate_a) p.designs → s.mw ≡ p.mw → s.angle ≡ p.angle
     → s.tier ≡ p.tier → s.ground ≡ up_to c.buses 0 p.grounds → s.added ≡ up_to c.above nought p.added
-    → with_kept (kept_of c p.before) (kept_of c p.order) c.cap (finished false s) ≡ held c p
+    → s.figures ≡ replicate (work_places c) nought → s.counts ≡ replicate (work_places c) 0
+    → slices s.circuits s.flow s.rate s.before s.order s.cap s.mw s.angle s.tier s.ground s.added s.figures s.counts ≡ held c p
 unfolding held
-finished_answered c s p e f g h i j k l m n = rw (e, f, g, h, i, j, k, l, m, n)
+held_is c s p a b d e f g h i j k l m n = rw (a, b, d, e, f, g, h, i, j, k, l, m, n)

@@ -1,25 +1,26 @@
 -- The operation: the check's refusal, the stages' refusal, or the plan that they lead to, with the slices finished, is the defined outcome; and an answer has demand 3.
-use Rattle.std.proofs.Common.{◌≡◌, ℕ, ◌≤◌, Bool, true, false, not, ◌&&◌, List, length, take, replicate, sym, refl, ap, ◌∙◌, subst, arith}
+use Rattle.std.proofs.Common.{◌≡◌, ℕ, ◌≤◌, Bool, List, length, take, replicate, sym, refl, ap, ◌∙◌, subst, arith}
 use mathlib.Core.Option.{Option}
 use lib.Ieee.{Float}
 use Rattle.refusal.specs.declared.Refusal.{Refusal}
-use Rattle.plan_defs.specs.Stage.{Stage, stopped, going}
+use Rattle.loops.specs.Figures.{nought}
+use Rattle.plan_defs.specs.Stage.{Stage}
 use Rattle.plan_defs.specs.Constants.{most_buses, most_corridors}
 use Rattle.plan_defs.specs.Case.{Case, Row, rows_of, case_with, promote, levels}
 use Rattle.plan_defs.specs.Plan.{Plan, ending_on, ending_by, ending_of, plan_for}
-use Rattle.plan_defs.specs.Outcome.{Slices, slices_ok, cleared, kept_if, kept_of, held, summary, Outcome, outcome, outcome_by, outcome_if, plan_corridors}
+use Rattle.plan_defs.specs.Outcome.{Slices, slices, slices_ok, work_places, kept_if, kept_of, summary, Outcome, outcome, outcome_by, outcome_if, plan_corridors}
 use Rattle.plan_defs.specs.Demand.{AnswerTo}
 use Rattle.plan_defs.specs.declared.CorridorPlan.{CorridorPlan}
 use Rattle.acceptance.specs.Check.{check_of}
 use Rattle.acceptance.proofs.Callers.{tables_of_lem, passed_by_lem}
 use Rattle.plan_theorems.proofs.Dispatched.{Binary}
 use Rattle.plan_theorems.proofs.Outcomes.{answer_to_lem}
-use Rattle.planning.specs.Close.{is_refused, lent_to, with_kept, finished}
+use Rattle.planning.specs.Close.{lent_to, zeroed}
 use Rattle.planning.specs.Sound.{Sound, Lengths}
-use Rattle.planning.specs.Plan.{WholeAs, PlanDone, Lendable}
+use Rattle.planning.specs.Plan.{HoldsAll, WholeAs, PlanDone, Lendable}
 use Rattle.planning.specs.declared.plan.PlanRun.{PlanRun}
 use Rattle.planning.proofs.Draws.{Laid}
-use Rattle.planning.proofs.Liftings.{finished_refused, finished_answered}
+use Rattle.planning.proofs.Liftings.{zeroed_is, held_is}
 use Rattle.planning.proofs.Sounds.{sound, lengths_of, kept_lengths, refused_outcome}
 use Rattle.std.specs.Prelude.{Err, Ok, Result}
 use Rattle.refusal.specs.Reply.{reply_of, no_refusal}
@@ -91,158 +92,103 @@ module _ (c : Case) (target : ℕ) (s : Slices) where
         (ap (λ (b : Bool). outcome_if b c target s) (passed_by_lem (slices_ok c s) c target ok).0
         ∙ ap (λ (f : Option Refusal). outcome_by (ending_by f c target) c s) (passed_by_lem (slices_ok c s) c target ok).1)
 
-    module _ (sheet : List Float) (laid : Laid c sheet) (figures : length sheet ≡ c.figures) (r : PlanRun) (lent : Slices) (size : Lengths c lent)
+    -- what the stages say, of slices that they left
+    module _ (sheet : List Float) (laid : Laid c sheet) (figures : length sheet ≡ c.figures) (r : Result PlanRun Refusal) (lent : Slices)
         (done : PlanDone c.mode target c.above (grid_of c.ladder c.a c.b c.km c.share c.cap sheet) c.tier (supply_of c.load c.bus c.slack c.pmin c.pmax c.c1 c.c2) c.circuits
-        lent.circuits lent.flow lent.rate lent.mw lent.angle lent.tier lent.ground lent.added r)
-        (out : Slices) (before order caps : List ℕ) where
-      abbrev front : List ℕ → List ℕ
-      front l = take (length c.a) l
+        lent.circuits lent.flow lent.rate lent.mw lent.angle lent.tier lent.ground lent.added r) where
+      abbrev WholeOf : Result PlanRun Refusal → Case → Type 0
+      WholeOf y x = WholeAs y (length c.a) lent.circuits lent.flow lent.rate lent.mw lent.angle lent.tier lent.ground lent.added x (plan_for x target)
 
-      abbrev WholeIn : Case → Stage Plan → Type 0
-      WholeIn x t =
-          WholeAs r.said (front r.kept.before) (front r.kept.order) lent.circuits lent.flow lent.rate lent.mw lent.angle lent.tier lent.ground
-          lent.added x t
+      whole : WholeOf r c
+      whole = let p = relaid_is sheet laid figures in subst (WholeOf r) p (done.plan c (subst (λ (x : Case). Sound x target) (sym p) is_sound))
 
-      abbrev Whole : Stage Plan → Type 0
-      Whole t = WholeIn c t
-
-      whole : Whole (plan_for c target)
-      whole =
-          let p = relaid_is sheet laid figures in
-          subst (λ (x : Case). WholeIn x (plan_for x target)) p (done.plan c (subst (λ (x : Case). Sound x target) (sym p) is_sound))
-
-      abbrev none : List ℕ
-      none = replicate c.corridors 0
-
-      -- 8 and 9
-      refused_by_lem : (f : Refusal) → r.said ≡ Err f → (t : Stage Plan) → Whole t
-          → outcome (Err f) (with_kept none none none (finished true lent)) ≡ outcome_by (ending_on t) c s
+      -- 8 and 9: each slice is as long as it was
+      pub stops : Binary c → (f : Refusal) → r ≡ Err f → Lengths c lent → length lent.before ≡ c.corridors → length lent.order ≡ c.corridors → length lent.cap ≡ c.corridors
+          → (out : Slices) → out ≡ zeroed lent → Ends (Err f) out
       unfolding outcome_by
-      refused_by_lem f q (stopped g) h =
-          let z : Err f ≡ Err g = sym q ∙ h in
-          ap (λ (x : Slices). outcome (Err f) x) (finished_refused c lent size) ∙ ap (λ (x : Result CorridorPlan Refusal). outcome x (cleared c)) z
-      refused_by_lem f q (going p) h = let y : Err f ≡ Ok (summary p) = sym q ∙ h.holds.said in let z : ◌≡◌ {A = ℕ} 0 1 = cc in absurd (omega arith)
-
-      ends_refused : Binary c → (f : Refusal) → r.said ≡ Err f → out ≡ finished true lent → before ≡ none → order ≡ none → caps ≡ none
-          → Ends (Err f) (with_kept before order caps out)
-      ends_refused binary f q e u v w =
-          ends_by binary (Err f) (with_kept before order caps out)
-          (ap (λ (x : Slices). outcome (Err f) (with_kept before order caps x)) e
-          ∙ ap (λ (l : List ℕ). outcome (Err f) (with_kept l order caps (finished true lent))) u
-          ∙ ap (λ (l : List ℕ). outcome (Err f) (with_kept none l caps (finished true lent))) v
-          ∙ ap (λ (l : List ℕ). outcome (Err f) (with_kept none none l (finished true lent))) w
-          ∙ refused_by_lem f q (plan_for c target) whole ∙ ends)
+      stops binary f q size u v w out e =
+          ends_by binary (Err f) out
+          (ap (λ (x : Slices). outcome (Err f) x) (e ∙ zeroed_is c lent size u v w)
+          ∙ ap (λ (t : Stage Plan). outcome_by (ending_on t) c s) (sym (subst (λ (y : Result PlanRun Refusal). WholeOf y c) q whole)) ∙ ends)
 
       -- an answer
       abbrev kept_front : List ℕ → List ℕ
-      kept_front l = kept_of c (front l)
+      kept_front l = kept_of c (take (length c.a) l)
 
-      answered_by : (x : CorridorPlan) → r.said ≡ Ok x → (t : Stage Plan) → Whole t
-          → outcome (Ok x) (with_kept (kept_front r.kept.before) (kept_front r.kept.order) c.cap (finished false lent)) ≡ outcome_by (ending_on t) c s
+      pub leads : Binary c → (x : PlanRun) → r ≡ Ok x → (before order cap : List ℕ) (work : List Float) (counts : List ℕ)
+          → before ≡ kept_front x.kept.before → order ≡ kept_front x.kept.order → cap ≡ c.cap
+          → work ≡ replicate (work_places c) nought → counts ≡ replicate (work_places c) 0
+          → Ends (Ok x.plan) (slices lent.circuits lent.flow lent.rate before order cap lent.mw lent.angle lent.tier lent.ground lent.added work counts)
       unfolding outcome_by
-      answered_by x q (stopped g) h = let y : Ok x ≡ Err g = sym q ∙ h in let z : ◌≡◌ {A = ℕ} 0 1 = cc in absurd (omega arith)
-      answered_by x q (going p) h =
-          let y : Ok x ≡ Ok (summary p) = sym q ∙ h.holds.said in
-          ap (λ (l : List ℕ). outcome (Ok x) (with_kept (kept_of c l) (kept_front r.kept.order) c.cap (finished false lent))) h.holds.before_are
-          ∙ ap (λ (l : List ℕ). outcome (Ok x) (with_kept (kept_of c p.before) (kept_of c l) c.cap (finished false lent))) h.holds.order_is
-          ∙ ap (λ (u : Slices). outcome (Ok x) u)
-          (finished_answered c lent p size.figures size.counts h.holds.circuits_are h.holds.flows_are h.holds.rates_are h.mw_is h.holds.angles_are
-          h.holds.tiers_are h.grounds_are h.holds.added_are)
-          ∙ ap (λ (u : Result CorridorPlan Refusal). outcome u (held c p)) y
-
-      ends_answered : Binary c → (x : CorridorPlan) → r.said ≡ Ok x → out ≡ finished false lent → before ≡ kept_front r.kept.before → order ≡ kept_front r.kept.order → caps ≡ c.cap
-          → Ends (Ok x) (with_kept before order caps out)
-      ends_answered binary x q e u v w =
-          ends_by binary (Ok x) (with_kept before order caps out)
-          (ap (λ (o : Slices). outcome (Ok x) (with_kept before order caps o)) e
-          ∙ ap (λ (l : List ℕ). outcome (Ok x) (with_kept l order caps (finished false lent))) u
-          ∙ ap (λ (l : List ℕ). outcome (Ok x) (with_kept (kept_front r.kept.before) l caps (finished false lent))) v
-          ∙ ap (λ (l : List ℕ). outcome (Ok x) (with_kept (kept_front r.kept.before) (kept_front r.kept.order) l (finished false lent))) w
-          ∙ answered_by x q (plan_for c target) whole ∙ ends)
-
-      -- by what planning says
-      abbrev kept_as : Result CorridorPlan Refusal → List ℕ → List ℕ
-      kept_as y l = kept_if (promote c.mode && not (is_refused y)) c.corridors (front l)
-
-      and_false : (b : Bool) → (b && false) ≡ false
-      and_false true = refl
-      and_false false = refl
-
-      and_true : (b : Bool) → (b && true) ≡ b
-      and_true true = refl
-      and_true false = refl
-
-      ends_as : Binary c → (y : Result CorridorPlan Refusal) → r.said ≡ y → out ≡ finished (is_refused y) lent → before ≡ kept_as y r.kept.before → order ≡ kept_as y r.kept.order
-          → caps ≡ kept_if (not (is_refused y)) c.corridors c.cap → Ends y (with_kept before order caps out)
-      ends_as binary (Err f) q e u v w =
-          let zeroed : (l : List ℕ) → kept_if (promote c.mode && false) c.corridors l ≡ none =
-          λ l. ap (λ (b : Bool). kept_if b c.corridors l) (and_false (promote c.mode)) in
-          ends_refused binary f q e (u ∙ zeroed (front r.kept.before)) (v ∙ zeroed (front r.kept.order)) w
-      ends_as binary (Ok x) q e u v w =
-          let all : (l : List ℕ) → kept_if (promote c.mode && true) c.corridors l ≡ kept_of c l =
-          λ l. ap (λ (b : Bool). kept_if b c.corridors l) (and_true (promote c.mode)) in
-          ends_answered binary x q e (u ∙ all (front r.kept.before)) (v ∙ all (front r.kept.order)) w
+      leads binary x q before order cap work counts e f g h i =
+          let out = slices lent.circuits lent.flow lent.rate before order cap lent.mw lent.angle lent.tier lent.ground lent.added work counts in
+          let w : HoldsAll x (length c.a) lent.circuits lent.flow lent.rate lent.mw lent.angle lent.tier lent.ground lent.added c (plan_for c target) =
+          subst (λ (y : Result PlanRun Refusal). WholeOf y c) q whole in
+          let k = w.holds in
+          ends_by binary (Ok x.plan) out
+          (ap (λ (y : CorridorPlan). outcome (Ok y) out) k.plan_is
+          ∙ ap (λ (y : Slices). outcome (Ok (summary k.held)) y)
+          (held_is c out k.held (e ∙ ap (kept_of c) k.before_are) (f ∙ ap (kept_of c) k.order_is) g k.circuits_are k.flows_are k.rates_are w.mw_is k.angles_are k.tiers_are w.grounds_are k.added_are h i)
+          ∙ ap (λ (t : Stage Plan). outcome_by (ending_on t) c s) (sym k.reached) ∙ ends)
 
   -- the same by what the check answers, and by what the stages leave, each slice as long as it was, what is cleared, and what is kept
   module _ (x : Result (Unit {0}) Refusal) (k : x ≡ check_of (slices_ok c s) (tables_of_lem c) target) (q : x ≡ no_refusal) where
     -- the places lent for what is kept are those of the corridors, which the arrays have
-    pub kept_fits : (length s.before ≤ most_corridors) × (length s.order ≤ most_corridors) × (length s.cap ≤ most_corridors)
-    kept_fits =
-        let ok = sym q ∙ k in
-        let w = kept_lengths c s (passed_by_lem (slices_ok c s) c target ok).0 in
-        (omega (arith, w.0, (is_sound ok).few_corridors), omega (arith, w.1, (is_sound ok).few_corridors), omega (arith, w.2, (is_sound ok).few_corridors))
+    pub kept_are : (length s.before ≡ c.corridors) × (length s.order ≡ c.corridors) × (length s.cap ≡ c.corridors)
+    kept_are = kept_lengths c s (passed_by_lem (slices_ok c s) c target (sym q ∙ k)).0
 
-    pub caps_fit : length c.cap ≤ most_corridors
-    caps_fit = let ok = sym q ∙ k in omega (arith, (is_sound ok).cap_size, (is_sound ok).few_corridors)
+    pub kept_fits : (length s.before ≤ most_corridors) × (length s.order ≤ most_corridors)
+    kept_fits = let ok = sym q ∙ k in (omega (arith, kept_are.0, (is_sound ok).few_corridors), omega (arith, kept_are.1, (is_sound ok).few_corridors))
+
+    pub caps_fit : length s.cap ≡ length c.cap
+    caps_fit = kept_are.2 ∙ sym (is_sound (sym q ∙ k)).cap_size
 
     pub buses_fit : c.buses ≤ most_buses
     buses_fit = (is_sound (sym q ∙ k)).few_buses
 
     -- with the loads that were lent
-    abbrev DoneWith : List Float → PlanRun → Slices → List Float → Type 0
+    abbrev DoneWith : List Float → Result PlanRun Refusal → Slices → List Float → Type 0
     DoneWith sheet r lent load =
         PlanDone c.mode target c.above (grid_of c.ladder c.a c.b c.km c.share c.cap sheet) c.tier (supply_of load c.bus c.slack c.pmin c.pmax c.c1 c.c2) c.circuits
         lent.circuits lent.flow lent.rate lent.mw lent.angle lent.tier lent.ground lent.added r
 
-    pub ends_when : (sheet : List Float) → Laid c sheet → length sheet ≡ c.figures → Binary c → (r : PlanRun) (lent : Slices)
-        → length lent.circuits ≡ length s.circuits → length lent.flow ≡ length s.flow → length lent.rate ≡ length s.rate
-        → length lent.mw ≡ length s.mw → length lent.angle ≡ length s.angle → length lent.tier ≡ length s.tier → length lent.ground ≡ length s.ground
-        → length lent.added ≡ length s.added → length lent.figures ≡ length s.figures → length lent.counts ≡ length s.counts
-        → (load : List Float) → load ≡ c.load → DoneWith sheet r lent load → (out : Slices) (refused : Bool) → refused ≡ is_refused r.said → out ≡ finished refused lent
-        → (keeps : Bool) → keeps ≡ (promote c.mode && not refused) → (before order : List ℕ)
-        → before ≡ kept_if keeps (length s.before) (take (length s.before) r.kept.before)
-        → order ≡ kept_if keeps (length s.order) (take (length s.order) r.kept.order)
-        → (copy caps : List ℕ) → take (length c.cap) copy ≡ c.cap → caps ≡ kept_if (not refused) (length s.cap) (take (length s.cap) copy)
-        → Ends r.said (with_kept before order caps out)
-    ends_when sheet laid figures binary r lent e₁ e₂ e₃ e₄ e₅ e₆ e₇ e₈ e₉ e₀ load p done out refused u v keeps w before order f g copy caps x y =
-        let ok = sym q ∙ k in
-        let z = sizes ok in
-        let m = kept_lengths c s (passed_by_lem (slices_ok c s) c target ok).0 in
-        let a = (is_sound ok).a_size in
-        let keeps-is : keeps ≡ (promote c.mode && not (is_refused r.said)) = w ∙ ap (λ (b : Bool). promote c.mode && not b) u in
-        let all : (i : ℕ) (l : List ℕ) → i ≡ c.corridors → kept_if keeps i (take i l) ≡ kept_if (promote c.mode && not (is_refused r.said)) c.corridors (take (length c.a) l) =
-        λ i l h.
-        ap (λ (n : ℕ). kept_if keeps n (take n l)) h
-        ∙ ap (λ (n : ℕ). kept_if keeps c.corridors (take n l)) (sym a)
-        ∙ ap (λ (b : Bool). kept_if b c.corridors (take (length c.a) l)) keeps-is in
-        let kept-caps : caps ≡ kept_if (not (is_refused r.said)) c.corridors c.cap =
-        y
-        ∙ ap (λ (b : Bool). kept_if (not b) (length s.cap) (take (length s.cap) copy)) u
-        ∙ ap (λ (n : ℕ). kept_if (not (is_refused r.said)) n (take n copy)) m.2
-        ∙ ap (λ (n : ℕ). kept_if (not (is_refused r.said)) c.corridors (take n copy)) (sym (is_sound ok).cap_size)
-        ∙ ap (kept_if (not (is_refused r.said)) c.corridors) x in
-        ends_as ok sheet laid figures r lent
-        (record {
-          circuits = e₁ ∙ z.circuits;
-          flow = e₂ ∙ z.flow;
-          rate = e₃ ∙ z.rate;
-          mw = e₄ ∙ z.mw;
-          angle = e₅ ∙ z.angle;
-          tier = e₆ ∙ z.tier;
-          ground = e₇ ∙ z.ground;
-          added = e₈ ∙ z.added;
-          figures = e₉ ∙ z.figures;
-          counts = e₀ ∙ z.counts;
-        })
-        (subst (DoneWith sheet r lent) p done) out before order caps binary r.said refl (v ∙ ap (λ (b : Bool). finished b lent) u) (f ∙ all (length s.before) r.kept.before m.0)
-        (g ∙ all (length s.order) r.kept.order m.1) kept-caps
+    module _ (sheet : List Float) (laid : Laid c sheet) (figures : length sheet ≡ c.figures) (binary : Binary c) (r : Result PlanRun Refusal) (lent : Slices)
+        (load : List Float) (p : load ≡ c.load) (done : DoneWith sheet r lent load)
+        (e₉ : length lent.figures ≡ length s.figures) (e₀ : length lent.counts ≡ length s.counts) where
+      pub ends_refused : (f : Refusal) → r ≡ Err f
+          → length lent.circuits ≡ length s.circuits → length lent.flow ≡ length s.flow → length lent.rate ≡ length s.rate
+          → length lent.before ≡ length s.before → length lent.order ≡ length s.order → length lent.cap ≡ length s.cap
+          → length lent.mw ≡ length s.mw → length lent.angle ≡ length s.angle → length lent.tier ≡ length s.tier → length lent.ground ≡ length s.ground
+          → length lent.added ≡ length s.added → (out : Slices) → out ≡ zeroed lent → Ends (Err f) out
+      ends_refused f u e₁ e₂ e₃ k₁ k₂ k₃ e₄ e₅ e₆ e₇ e₈ out v =
+          let ok = sym q ∙ k in
+          let z = sizes ok in
+          let m = kept_are in
+          stops ok sheet laid figures r lent (subst (DoneWith sheet r lent) p done) binary f u
+          (record {
+            circuits = e₁ ∙ z.circuits;
+            flow = e₂ ∙ z.flow;
+            rate = e₃ ∙ z.rate;
+            mw = e₄ ∙ z.mw;
+            angle = e₅ ∙ z.angle;
+            tier = e₆ ∙ z.tier;
+            ground = e₇ ∙ z.ground;
+            added = e₈ ∙ z.added;
+            figures = e₉ ∙ z.figures;
+            counts = e₀ ∙ z.counts;
+          })
+          (k₁ ∙ m.0) (k₂ ∙ m.1) (k₃ ∙ m.2) out v
+
+      pub ends_answered : (y : PlanRun) → r ≡ Ok y → (before order cap : List ℕ) (work : List Float) (counts : List ℕ)
+          → before ≡ kept_if (promote c.mode) (length s.before) (take (length s.before) y.kept.before)
+          → order ≡ kept_if (promote c.mode) (length s.order) (take (length s.order) y.kept.order) → cap ≡ c.cap
+          → work ≡ replicate (length lent.figures) nought → counts ≡ replicate (length lent.counts) 0
+          → Ends (Ok y.plan) (slices lent.circuits lent.flow lent.rate before order cap lent.mw lent.angle lent.tier lent.ground lent.added work counts)
+      ends_answered y u before order cap work counts e f g h i =
+          let ok = sym q ∙ k in
+          let z = sizes ok in
+          let front : (n : ℕ) (l : List ℕ) → n ≡ c.corridors → kept_if (promote c.mode) n (take n l) ≡ kept_of c (take (length c.a) l) =
+          λ n l w. ap (λ (j : ℕ). kept_if (promote c.mode) j (take j l)) w ∙ ap (λ (j : ℕ). kept_of c (take j l)) (sym (is_sound ok).a_size) in
+          leads ok sheet laid figures r lent (subst (DoneWith sheet r lent) p done) binary y u before order cap work counts
+          (e ∙ front (length s.before) y.kept.before kept_are.0) (f ∙ front (length s.order) y.kept.order kept_are.1) g
+          (h ∙ ap (λ (n : ℕ). replicate n nought) (e₉ ∙ z.figures)) (i ∙ ap (λ (n : ℕ). replicate n 0) (e₀ ∙ z.counts))

@@ -26,17 +26,16 @@ use Rattle.planning.specs.Solve.{peak_for}
 use Rattle.planning.specs.Close.{Closable}
 use Rattle.planning.specs.Raises.{raised_of, raised_as, Within, Raisable, RaisesDone}
 use Rattle.planning.specs.Rounds.{rounds_case, draft_of, ran_as, RoundsRun}
-use Rattle.planning.specs.Settle.{settlement_of, SettledAs, Settleable, Settles}
+use Rattle.planning.specs.Settle.{closing_in, Held, SettledAs, Settleable, Settles}
 use Rattle.planning.specs.Sound.{Sound}
-use Rattle.planning.specs.Plan.{rounds_for, start_of, Runnable, RanAll, plan_by, planned_by, PlannedAs, Plannable, OpenedPlan}
+use Rattle.planning.specs.Plan.{rounds_for, start_of, Runnable, RanAll, plan_by, Holds, PlannedAs, Plannable, OpenedPlan}
 use Rattle.planning.specs.declared.rounds.Progress.{Progress}
 use Rattle.planning.specs.declared.fill.Kept.{Kept}
+use Rattle.planning.specs.declared.close.Closing.{Closing}
 use Rattle.planning.specs.declared.plan.PlanRun.{PlanRun}
 use Rattle.planning.specs.declared.settle.Settling.{Settling}
 use Rattle.planning.proofs.Redesigns.{redesign_is, banks_lift, first_design}
 use Rattle.std.specs.Prelude.{Err, Ok, Result}
-use Rattle.plan_defs.specs.declared.CorridorPlan.{CorridorPlan}
-use Rattle.planning.specs.declared.settle.Settlement.{Settlement}
 use Rattle.planning.specs.Tables.{GridColumns, OpenedColumns, SupplyColumns, grid_of, supply_of}
 
 -- ---- how many rounds
@@ -104,7 +103,7 @@ module _ (c : Case) (target : ℕ) (o : Opened) (level circuits : List ℕ) (ban
   S = draft_of c level circuits banks floors upsized angle p
 
   abbrev Said : Plan → Type 0
-  Said q = summary q ≡ plan_by p (length o.peak.grounds) (settlement_of q)
+  Said q = summary q ≡ plan_by p (length o.peak.grounds) q.filler (closing_in q)
 
   said_then : (r : Ready) → r.draft ≡ S → r.peak ≡ o.peak → (u : Stage PlanningCase)
       → On Said (onward u (λ v. going (plan_of c r (fill c target r.order r.draft.build.circuits) v)))
@@ -121,15 +120,17 @@ module _ (c : Case) (target : ℕ) (o : Opened) (level circuits : List ℕ) (ban
       go (going v) =
           said_then (ready_with c o S v) refl refl (planning_state o.peak S.build.designs (fill c target (ready_with c o S v).order circuits).counts (zeros c.buses))
 
-module _ (p : Progress) (gs : ℕ) (before order circuits tier : List ℕ) (flow rate angle added : List Float) (c : Case) where
-  planned_as : (x : Result Settlement Refusal) (q : Result CorridorPlan Refusal) (t : Stage Plan) → On (λ y. summary y ≡ plan_by p gs (settlement_of y)) t → SettledAs x before order circuits tier flow rate angle added c t
-      → q ≡ planned_by p gs x → PlannedAs q before order circuits tier flow rate angle added c t
-  planned_as x q (stopped f) u h e = e ∙ ap (planned_by p gs) h
-  planned_as x q (going y) u h e =
+module _ (p : Progress) (gs : ℕ) (m : ℕ) (circuits tier : List ℕ) (flow rate angle added : List Float) (above : ℕ) where
+  planned_as : (y : Settling) (i : PlanRun) (t : Stage Plan) → On (λ q. summary q ≡ plan_by p gs q.filler (closing_in q)) t → Held y m circuits tier flow rate angle added above t
+      → i.plan ≡ plan_by p gs y.filler y.closing → i.kept ≡ y.kept → Holds i m circuits tier flow rate angle added above t
+  planned_as y i t u h e k =
       record {
-        said = e ∙ ap (planned_by p gs) h.said ∙ ap Ok (sym u);
-        before_are = h.before_are;
-        order_is = h.order_is;
+        held = h.held;
+        reached = h.reached;
+        plan_is = e ∙ ap (λ (n : ℕ). plan_by p gs n y.closing) h.filler_is ∙ ap (plan_by p gs h.held.filler) h.closing_is
+            ∙ sym (subst (λ (x : Stage Plan). On (λ q. summary q ≡ plan_by p gs q.filler (closing_in q)) x) h.reached u);
+        before_are = ap (λ (x : Kept). take m x.before) k ∙ h.before_are;
+        order_is = ap (λ (x : Kept). take m x.order) k ∙ h.order_is;
         circuits_are = h.circuits_are;
         tiers_are = h.tiers_are;
         flows_are = h.flows_are;
@@ -317,17 +318,15 @@ module _ (mode : PlanMode) (target above : ℕ) (grid : GridColumns) (level : Li
             go (stopped f) = refl
             go (going t) = refl
 
-      pub opened_refused : (f : Refusal) → r ≡ Err f → (circuits'' level'' : List ℕ) (flow'' rate'' angle'' added'' : List Float) (i : PlanRun) → i.said ≡ Err f
-          → OpenedPlan mode target above grid level supply opened circuits upsized circuits'' level'' flow'' rate'' angle'' added'' i
-      opened_refused f q circuits'' level'' flow'' rate'' angle'' added'' i j =
+      pub opened_refused : (f : Refusal) → r ≡ Err f → (circuits'' level'' : List ℕ) (flow'' rate'' angle'' added'' : List Float)
+          → OpenedPlan mode target above grid level supply opened circuits upsized circuits'' level'' flow'' rate'' angle'' added'' (Err f)
+      opened_refused f q circuits'' level'' flow'' rate'' angle'' added'' =
           record {
             plan = λ o mw s l e g caps.
                 let c = E o mw s l e in
-                let P = Q o mw s l e in
-                let z : onward (opened_with c opened.leader mw P) (settled c) ≡ stopped f = opened_is o mw s l e
-                ∙ ap (λ (x : Result ℕ Refusal). onward (raised_as x c level' banks') (λ t. settled c (opened_for c opened.leader mw P t))) q in
-                subst (PlannedAs i.said (take (length grid.a) i.kept.before) (take (length grid.a) i.kept.order) circuits'' level'' flow'' rate'' angle'' added'' c)
-                (sym (ap (λ (t : Stage Ready). onward t (closing c target)) z)) j;
+                ap (λ (t : Stage Ready). onward t (closing c target))
+                (opened_is o mw s l e
+                ∙ ap (λ (x : Result ℕ Refusal). onward (raised_as x c level' banks') (λ t. settled c (opened_for c opened.leader mw (Q o mw s l e) t))) q);
           }
 
       -- after the rounds
@@ -356,34 +355,56 @@ module _ (mode : PlanMode) (target above : ℕ) (grid : GridColumns) (level : Li
               ∙ ap (λ (y : Result ℕ Refusal). onward (raised_as y D level' banks') (λ t. settled D (opened_for D opened.leader mw (Q o mw s l e) t))) q
               ∙ ap (λ (t : Stage Draft). onward t (settled_to D O)) (sym ran_is)
 
-        pub opened_unrun : (f : Refusal) → x ≡ Err f → (circuits''' level''' : List ℕ) (flow''' rate''' angle''' added''' : List Float) (i : PlanRun) → i.said ≡ Err f
-            → OpenedPlan mode target above grid level supply opened circuits upsized circuits''' level''' flow''' rate''' angle''' added''' i
-        opened_unrun f u circuits''' level''' flow''' rate''' angle''' added''' i j =
+        pub opened_unrun : (f : Refusal) → x ≡ Err f → (circuits''' level''' : List ℕ) (flow''' rate''' angle''' added''' : List Float)
+            → OpenedPlan mode target above grid level supply opened circuits upsized circuits''' level''' flow''' rate''' angle''' added''' (Err f)
+        opened_unrun f u circuits''' level''' flow''' rate''' angle''' added''' =
             record {
               plan = λ o mw s l e g caps.
                   let c = D o mw s l e g caps in
-                  let z : onward (opened_with c opened.leader mw (Q o mw s l e)) (settled c) ≡ stopped f = settled_is o mw s l e g caps
-                  ∙ ap (λ (y : Result Progress Refusal). onward (ran_as y c level'' circuits'' banks'' floors'' upsized'' angle'') (settled_to c (O o mw s l e g caps))) u in
-                  subst (PlannedAs i.said (take (length grid.a) i.kept.before) (take (length grid.a) i.kept.order) circuits''' level''' flow''' rate''' angle''' added''' c)
-                  (sym (ap (λ (t : Stage Ready). onward t (closing c target)) z)) j;
+                  ap (λ (t : Stage Ready). onward t (closing c target))
+                  (settled_is o mw s l e g caps
+                  ∙ ap (λ (y : Result Progress Refusal). onward (ran_as y c level'' circuits'' banks'' floors'' upsized'' angle'') (settled_to c (O o mw s l e g caps))) u);
             }
 
-        pub opened_plan : (p : Progress) → x ≡ Ok p → (circuits''' level''' : List ℕ) (flow''' rate''' angle''' added''' : List Float) (y : Settling)
-            → Settles mode target above grid opened banks'' upsized'' circuits'' level'' circuits''' level''' flow''' rate''' angle''' added''' y
-            → length level'' ≡ length level' → (i : PlanRun) → i.said ≡ planned_by p (length opened.grounds) y.settled → i.kept ≡ y.kept
-            → OpenedPlan mode target above grid level supply opened circuits upsized circuits''' level''' flow''' rate''' angle''' added''' i
-        opened_plan p u circuits''' level''' flow''' rate''' angle''' added''' y d k i j w =
-            record {
-              plan = λ o mw s l e g caps.
-                  let c = D o mw s l e g caps in
-                  let O' = O o mw s l e g caps in
-                  let S' = draft_of c level'' circuits'' banks'' floors'' upsized'' angle'' p in
-                  let z : onward (opened_with c opened.leader mw (Q o mw s l e)) (settled c) ≡ settled_to c O' S' = settled_is o mw s l e g caps
-                  ∙ ap (λ (t : Result Progress Refusal). onward (ran_as t c level'' circuits'' banks'' floors'' upsized'' angle'') (settled_to c O')) u in
-                  let t = onward (settled_to c O' S') (closing c target) in
-                  subst (PlannedAs i.said (take (length grid.a) i.kept.before) (take (length grid.a) i.kept.order) circuits''' level''' flow''' rate''' angle''' added''' c)
-                  (sym (ap (λ (t : Stage Ready). onward t (closing c target)) z))
-                  (subst (λ (n : Kept). PlannedAs i.said (take (length grid.a) n.before) (take (length grid.a) n.order) circuits''' level''' flow''' rate''' angle''' added''' c t) (sym w)
-                  (planned_as p (length opened.grounds) (take (length grid.a) y.kept.before) (take (length grid.a) y.kept.order) circuits''' level''' flow''' rate''' angle''' added''' c y.settled i.said (onward (settled_to c O' S') (closing c target))
-                  (said_of c target O' level'' circuits'' banks'' floors'' upsized'' angle'' p) (d.plan c O' S' floors'' s (k ∙ size ∙ buses_are o mw s l e) caps refl refl refl refl) j));
-            }
+        -- after the settling
+        module _ (p : Progress) (u : x ≡ Ok p) (circuits''' level''' : List ℕ) (flow''' rate''' angle''' added''' : List Float) (y : Result Settling Refusal)
+            (d : Settles mode target above grid opened banks'' upsized'' circuits'' level'' circuits''' level''' flow''' rate''' angle''' added''' y)
+            (k : length level'' ≡ length level') where
+          module _ (o : Case) (mw : List Float) (s : Sound (rounds_case o mode above grid supply) target)
+              (l : level ≡ first_levels (rounds_case o mode above grid supply))
+              (e : circuits ≡ lower_bounds (rounds_case o mode above grid supply)) (g : upsized ≡ replicate o.corridors 0) (caps : o.cap ≡ grid.cap) where
+            abbrev S' : Draft
+            S' = draft_of (D o mw s l e g caps) level'' circuits'' banks'' floors'' upsized'' angle'' p
+
+            abbrev ending : Stage Plan
+            ending = onward (settled_to (D o mw s l e g caps) (O o mw s l e g caps) S') (closing (D o mw s l e g caps) target)
+
+            ending_is : onward (onward (opened_with (D o mw s l e g caps) opened.leader mw (Q o mw s l e)) (settled (D o mw s l e g caps))) (closing (D o mw s l e g caps) target) ≡ ending
+            ending_is =
+                ap (λ (t : Stage Ready). onward t (closing (D o mw s l e g caps) target))
+                (settled_is o mw s l e g caps
+                ∙ ap (λ (t : Result Progress Refusal). onward (ran_as t (D o mw s l e g caps) level'' circuits'' banks'' floors'' upsized'' angle'') (settled_to (D o mw s l e g caps) (O o mw s l e g caps))) u)
+
+            settles : SettledAs y (length grid.a) circuits''' level''' flow''' rate''' angle''' added''' (D o mw s l e g caps) ending
+            settles = d.plan (D o mw s l e g caps) (O o mw s l e g caps) S' floors'' s (k ∙ size ∙ buses_are o mw s l e) caps refl refl refl refl
+
+          pub opened_unsettled : (f : Refusal) → y ≡ Err f
+              → OpenedPlan mode target above grid level supply opened circuits upsized circuits''' level''' flow''' rate''' angle''' added''' (Err f)
+          opened_unsettled f j =
+              record {
+                plan = λ o mw s l e g caps.
+                    ending_is o mw s l e g caps
+                    ∙ subst (λ (z : Result Settling Refusal). SettledAs z (length grid.a) circuits''' level''' flow''' rate''' angle''' added''' (D o mw s l e g caps) (ending o mw s l e g caps)) j (settles o mw s l e g caps);
+              }
+
+          pub opened_plan : (z : Settling) → y ≡ Ok z → (i : PlanRun) → i.plan ≡ plan_by p (length opened.grounds) z.filler z.closing → i.kept ≡ z.kept
+              → OpenedPlan mode target above grid level supply opened circuits upsized circuits''' level''' flow''' rate''' angle''' added''' (Ok i)
+          opened_plan z j i v w =
+              record {
+                plan = λ o mw s l e g caps.
+                    let c = D o mw s l e g caps in
+                    subst (Holds i (length grid.a) circuits''' level''' flow''' rate''' angle''' added''' above) (sym (ending_is o mw s l e g caps))
+                    (planned_as p (length opened.grounds) (length grid.a) circuits''' level''' flow''' rate''' angle''' added''' above z i (ending o mw s l e g caps)
+                    (said_of c target (O o mw s l e g caps) level'' circuits'' banks'' floors'' upsized'' angle'' p)
+                    (subst (λ (n : Result Settling Refusal). SettledAs n (length grid.a) circuits''' level''' flow''' rate''' angle''' added''' c (ending o mw s l e g caps)) j (settles o mw s l e g caps)) v w);
+              }

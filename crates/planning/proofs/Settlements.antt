@@ -19,19 +19,19 @@ use Rattle.planning.specs.Solve.{peak_for}
 use Rattle.planning.specs.Fill.{designs_for}
 use Rattle.planning.specs.Sound.{Sound}
 use Rattle.planning.specs.Whole.{with_lines, with_units}
-use Rattle.planning.specs.Settle.{Ended, ended_of, ended_by, closed_after, filled_from, settled_from, settlement_of, SettledAs, Settles}
+use Rattle.planning.specs.Settle.{Ended, ended_of, ended_by, closed_after, filled_from, settled_from, closing_in, SettledAs, Settles}
 use Rattle.planning.specs.declared.settle.Settling.{Settling}
 use Rattle.planning.proofs.Draws.{Laid}
 use Rattle.planning.proofs.Liftings.{designs_lift, fill_lifts, closing_lifts, tiers_lift, added_lifts}
 use Rattle.std.specs.Prelude.{Err, Ok, Result}
-use Rattle.planning.specs.declared.settle.Settlement.{Settlement}
 use Rattle.planning.specs.Tables.{GridColumns, grid_of, supply_of, OpenedColumns}
 
 -- ---- a plan as the slices hold it
 abbrev ended_for : ℕ → Plan → Ended
 ended_for above q =
     record {
-      settlement = settlement_of q;
+      filler = q.filler;
+      closing = closing_in q;
       before = q.before;
       order = q.order;
       circuits = q.circuits;
@@ -48,15 +48,18 @@ ended_on above t = onward t (λ q. going (ended_for above q))
 never : {S : Type 0} (f : Refusal) (s : S) → stopped f ≡ going s → ⊥
 never f s e = let z : ◌≡◌ {A = ℕ} 0 1 = cc in omega arith
 
-module _ (before order circuits tier : List ℕ) (flow rate angle added : List Float) (c : Case) where
-  settled_as : (r : Result Settlement Refusal) (t : Stage Plan) → ended_of r before order circuits tier flow rate angle added ≡ ended_on c.above t → SettledAs r before order circuits tier flow rate angle added c t
-  settled_as (Err f) (stopped g) e = let z : f ≡ g = cc in ap Err z
+module _ (m : ℕ) (circuits tier : List ℕ) (flow rate angle added : List Float) (c : Case) where
+  settled_as : (r : Result Settling Refusal) (t : Stage Plan) → ended_of m r circuits tier flow rate angle added ≡ ended_on c.above t → SettledAs r m circuits tier flow rate angle added c t
+  settled_as (Err f) (stopped g) e = let z : g ≡ f = cc in ap stopped z
   settled_as (Err f) (going q) e = absurd (never f (ended_for c.above q) e)
   settled_as (Ok s) (stopped g) e = absurd (never g _ (sym e))
   settled_as (Ok s) (going q) e =
-      let z : record { settlement = s; before = before; order = order; circuits = circuits; tier = tier; flow = flow; rate = rate; angle = angle; added = added } ≡ ended_for c.above q = cc in
+      let z : record { filler = s.filler; closing = s.closing; before = take m s.kept.before; order = take m s.kept.order; circuits = circuits; tier = tier; flow = flow; rate = rate; angle = angle; added = added } ≡ ended_for c.above q = cc in
       record {
-        said = ap (λ (x : Ended). Ok x.settlement) z;
+        held = q;
+        reached = refl;
+        filler_is = ap (λ (x : Ended). x.filler) z;
+        closing_is = ap (λ (x : Ended). x.closing) z;
         before_are = ap (λ (x : Ended). x.before) z;
         order_is = ap (λ (x : Ended). x.order) z;
         circuits_are = ap (λ (x : Ended). x.circuits) z;
@@ -142,26 +145,17 @@ module _ (c : Case) (target : ℕ) (S : Sound c target) (sheet : List Float) (la
       (ap (λ (P : Peak). P.n) peak))
 
 -- ---- as the contract says it
-pub settles : (mode : PlanMode) (target above : ℕ) (grid : GridColumns) (opened : OpenedColumns) (banks : List Float)
-    (upsized circuits level circuits' level' : List ℕ) (flow' rate' angle' added' : List Float) (r : Settling)
-    → ended_of r.settled (take (length grid.a) r.kept.before) (take (length grid.a) r.kept.order) circuits' level' flow' rate' angle' added'
-    ≡ settled_from mode grid.cap above opened.leader grid.ladder level (designs_for grid level banks) upsized (peak_for (length level) opened.grounds opened.injection) target (length grid.a) circuits
-    → Settles mode target above grid opened banks upsized circuits level circuits' level' flow' rate' angle' added' r
-settles mode target above grid opened banks upsized circuits level circuits' level' flow' rate' angle' added' r e =
-    record {
-      plan = λ o p s floors S size caps led peak on build.
-          let c = with_lines (with_units o mode above (supply_of o.load o.bus o.slack o.pmin o.pmax o.c1 o.c2)) grid in
-          settled_as (take (length grid.a) r.kept.before) (take (length grid.a) r.kept.order) circuits' level' flow' rate' angle' added' c r.settled (onward (settled_to c p s) (closing c target))
-          (e
-          ∙ ap (λ (l : List ℕ). settled_from mode l above opened.leader grid.ladder level (designs_for grid level banks) upsized (peak_for (length level) opened.grounds opened.injection) target (length grid.a) circuits) (sym caps)
-          ∙ columns_settle c target S grid.sheet refl opened banks floors upsized circuits level p s size led peak on build);
-    }
-
-pub settles_refused : (mode : PlanMode) (target above : ℕ) (grid : GridColumns) (opened : OpenedColumns) (banks : List Float)
-    (upsized circuits level circuits' level' : List ℕ) (flow' rate' angle' added' : List Float) (r : Settling) (f : Refusal) → r.settled ≡ Err f
-    → stopped f
-    ≡ settled_from mode grid.cap above opened.leader grid.ladder level (designs_for grid level banks) upsized (peak_for (length level) opened.grounds opened.injection) target (length grid.a) circuits
-    → Settles mode target above grid opened banks upsized circuits level circuits' level' flow' rate' angle' added' r
-settles_refused mode target above grid opened banks upsized circuits level circuits' level' flow' rate' angle' added' r f q e =
-    settles mode target above grid opened banks upsized circuits level circuits' level' flow' rate' angle' added' r
-    (ap (λ (x : Result Settlement Refusal). ended_of x (take (length grid.a) r.kept.before) (take (length grid.a) r.kept.order) circuits' level' flow' rate' angle' added') q ∙ e)
+module _ (mode : PlanMode) (target above : ℕ) (grid : GridColumns) (opened : OpenedColumns) (banks : List Float)
+    (upsized circuits level circuits' level' : List ℕ) (flow' rate' angle' added' : List Float) where
+  pub settles : (r : Result Settling Refusal) → ended_of (length grid.a) r circuits' level' flow' rate' angle' added'
+      ≡ settled_from mode grid.cap above opened.leader grid.ladder level (designs_for grid level banks) upsized (peak_for (length level) opened.grounds opened.injection) target (length grid.a) circuits
+      → Settles mode target above grid opened banks upsized circuits level circuits' level' flow' rate' angle' added' r
+  settles r e =
+      record {
+        plan = λ o p s floors S size caps led peak on build.
+            let c = with_lines (with_units o mode above (supply_of o.load o.bus o.slack o.pmin o.pmax o.c1 o.c2)) grid in
+            settled_as (length grid.a) circuits' level' flow' rate' angle' added' c r (onward (settled_to c p s) (closing c target))
+            (e
+            ∙ ap (λ (l : List ℕ). settled_from mode l above opened.leader grid.ladder level (designs_for grid level banks) upsized (peak_for (length level) opened.grounds opened.injection) target (length grid.a) circuits) (sym caps)
+            ∙ columns_settle c target S grid.sheet refl opened banks floors upsized circuits level p s size led peak on build);
+      }

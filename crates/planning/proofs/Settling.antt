@@ -16,10 +16,10 @@ use Rattle.planning.specs.Solve.{solved_of, Lent}
 use Rattle.planning.specs.Fill.{caps_for, Loaded, Whole, Ranked, Counted}
 use Rattle.planning.specs.Size.{Few}
 use Rattle.planning.specs.Close.{levels_for, closing_of}
-use Rattle.planning.specs.Settle.{Settleable, ended_by, closed_from, closed_after, filled_in, filled_from}
+use Rattle.planning.specs.Settle.{Settleable, Ended, closed_of, ended_by, closed_from, closed_after, filled_in, filled_from}
 use Rattle.planning.specs.declared.close.Closing.{Closing}
 use Rattle.planning.proofs.Orders.{order_ranked}
-use Rattle.std.specs.Prelude.{Err, Result}
+use Rattle.std.specs.Prelude.{Err, Ok, Result}
 use Rattle.refusal.specs.Reply.{no_refusal}
 use Rattle.planning.specs.Tables.{GridColumns, OpenedColumns}
 
@@ -31,6 +31,16 @@ solved_refused next X r E x y f e q = ap (λ (a : Result (Unit {0}) Refusal). on
 pub solved_answered : {T : Type 0} (next : PlanningCase → Stage T) (X : Stage PlanningCase) (r : Result (Unit {0}) Refusal) (E : Edges) (x y : List Float)
     → solved_of r E x y ≡ X → r ≡ no_refusal → next (record { edges = E; theta = x; flows = y }) ≡ onward X next
 solved_answered next X r E x y e q = ap (λ (a : Result (Unit {0}) Refusal). onward (solved_of a E x y) next) (sym q) ∙ ap (λ (t : Stage PlanningCase). onward t next) e
+
+-- ---- the closing figures, with what filling left
+module _ (r : Result Closing Refusal) (filler : ℕ) (before order circuits tier : List ℕ) (flow rate angle added : List Float) (X : Stage Ended)
+    (e : closed_of r filler before order circuits tier flow rate angle added ≡ X) where
+  pub ended_refused : (f : Refusal) → r ≡ Err f → stopped f ≡ X
+  ended_refused f q = ap (λ (x : Result Closing Refusal). closed_of x filler before order circuits tier flow rate angle added) (sym q) ∙ e
+
+  pub ended_answered : (c : Closing) → r ≡ Ok c
+      → going (record { filler = filler; closing = c; before = before; order = order; circuits = circuits; tier = tier; flow = flow; rate = rate; angle = angle; added = added }) ≡ X
+  ended_answered c q = ap (λ (x : Result Closing Refusal). closed_of x filler before order circuits tier flow rate angle added) (sym q) ∙ e
 
 -- ---- slices of the same lengths
 module _ (n m : ℕ) (opened : OpenedColumns) (angle flow angle' flow' : List Float) where
@@ -100,7 +110,7 @@ module _ (mode : PlanMode) (cap : List ℕ) (above : ℕ) (led : List ℕ) (ladd
       → solved_of r E angle flow ≡ planning_state P ds circuits (zeros P.n) → r ≡ no_refusal
       → c ≡ closing_of mode cap above led level ds circuits upsized flow angle → rate ≡ map (λ (d : CircuitDesign). d.rate_a) ds → tier ≡ tiers_of (levels_for above ladder) level
       → added ≡ up_to above nought (added_of (levels_for above ladder) level)
-      → going (record { settlement = record { filler = filler; closing = c }; before = before; order = order; circuits = circuits; tier = tier; flow = flow; rate = rate; angle = angle; added = added })
+      → going (record { filler = filler; closing = c; before = before; order = order; circuits = circuits; tier = tier; flow = flow; rate = rate; angle = angle; added = added })
       ≡ closed_from mode cap above led ladder level ds upsized P filler before order circuits
   closed_answered filler before order circuits tier flow rate angle added c r E e q f g h i =
       rw (f, g, h, i) (solved_answered (λ v. going (ended_by mode cap above led ladder level ds upsized P filler before order circuits v)) _ r E angle flow e q)

@@ -1,5 +1,5 @@
 -- What the contracts of module close cite: the closing figures by the columns that each reads, and the slices as planning leaves them.
-use Rattle.std.specs.Prelude.{◌≡◌, ℕ, ◌+◌, ◌-◌, ◌≤◌, Bool, true, false, cond, ◌&&◌, List, [], map, length, replicate, nat_le, nat_lt, slice_index, Float, Err, Ok, Result}
+use Rattle.std.specs.Prelude.{◌≡◌, ℕ, ◌+◌, ◌-◌, ◌≤◌, Bool, cond, ◌&&◌, List, [], map, length, replicate, nat_le, nat_lt, slice_index, Float}
 use Rattle.std.specs.Float.Ieee.{lt}
 use Rattle.loops.specs.Figures.{at, float, plus, nought, greater}
 use Rattle.loops.specs.Loops.{tab}
@@ -13,8 +13,6 @@ use Rattle.plan_defs.specs.Components.{leads, members}
 use Rattle.plan_defs.specs.Outcome.{Slices, slices}
 use Rattle.plan_defs.specs.declared.CircuitDesign.{CircuitDesign}
 use Rattle.planning.specs.declared.close.Closing.{Closing}
-use Rattle.plan_defs.specs.declared.CorridorPlan.{CorridorPlan}
-use Rattle.refusal.specs.declared.Refusal.{Refusal}
 
 -- ---- a case that has a mode, a number of corridors and their own caps alone, and one that has the levels alone
 abbrev pub corridors_of : PlanMode → ℕ → List ℕ → Case
@@ -69,24 +67,10 @@ closing_of mode cap above led level ds circuits upsized flow theta =
 abbrev pub lent_to : List ℕ → List Float → List Float → List Float → List Float → List ℕ → List ℕ → List Float → List Float → List ℕ → Slices
 lent_to circuits flow rate mw angle tier grounds added figures counts = slices circuits flow rate [] [] [] mw angle tier grounds added figures counts
 
--- with those
-abbrev pub with_kept : List ℕ → List ℕ → List ℕ → Slices → Slices
-with_kept before order cap s =
-    slices s.circuits s.flow s.rate before order cap s.mw s.angle s.tier s.ground s.added s.figures s.counts
-
--- ---- the lent slices at the end: after 8 or 9 zero, after an answer work is zero
-abbrev pub figures_if : Bool → List Float → List Float
-figures_if refused l = cond refused (replicate (length l) nought) l
-
-abbrev pub counts_if : Bool → List ℕ → List ℕ
-counts_if refused l = cond refused (replicate (length l) 0) l
-
-abbrev pub is_refused : Result CorridorPlan Refusal → Bool
-is_refused (Ok p) = false
-is_refused (Err f) = true
-
-abbrev pub finished : Bool → Slices → Slices
-finished refused s =
-    lent_to (counts_if refused s.circuits) (figures_if refused s.flow) (figures_if refused s.rate) (figures_if refused s.mw)
-    (figures_if refused s.angle) (counts_if refused s.tier) (counts_if refused s.ground) (figures_if refused s.added)
-    (replicate (length s.figures) nought) (replicate (length s.counts) 0)
+-- ---- the lent slices after 8 or 9
+abbrev pub zeroed : Slices → Slices
+zeroed s =
+    slices (replicate (length s.circuits) 0) (replicate (length s.flow) nought) (replicate (length s.rate) nought)
+    (replicate (length s.before) 0) (replicate (length s.order) 0) (replicate (length s.cap) 0)
+    (replicate (length s.mw) nought) (replicate (length s.angle) nought) (replicate (length s.tier) 0) (replicate (length s.ground) 0)
+    (replicate (length s.added) nought) (replicate (length s.figures) nought) (replicate (length s.counts) 0)

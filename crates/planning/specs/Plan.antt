@@ -19,7 +19,7 @@ use Rattle.planning.specs.Solve.{peak_for}
 use Rattle.planning.specs.Rounds.{rounds_case, draft_of, ran_as, Columns, Places}
 use Rattle.planning.specs.Sound.{Sound, Lengths}
 use Rattle.planning.specs.declared.rounds.Progress.{Progress}
-use Rattle.planning.specs.declared.settle.Settlement.{Settlement}
+use Rattle.planning.specs.declared.close.Closing.{Closing}
 use Rattle.planning.specs.declared.plan.PlanRun.{PlanRun}
 use Rattle.refusal.specs.declared.Refusal.{Refusal}
 use Rattle.planning.specs.Tables.{GridColumns, SupplyColumns, OpenedColumns}
@@ -89,43 +89,41 @@ pub record RanAll (mode : PlanMode) (above promoted : ℕ) (grid : GridColumns) 
   pub few : Few circuits'
 
 -- ---- what is said in the end
-abbrev pub plan_by : Progress → ℕ → Settlement → CorridorPlan
-plan_by p grounds s =
+abbrev pub plan_by : Progress → ℕ → ℕ → Closing → CorridorPlan
+plan_by p grounds filler c =
     record {
       rounds = p.rounds;
       converged = p.converged;
       capacity = p.capacity;
       stiffening = p.stiffening;
-      filler = s.filler;
+      filler = filler;
       promoted = p.promoted;
-      upsized = s.closing.upsized;
-      overloaded = s.closing.overloaded;
-      capped = s.closing.capped;
-      loading = s.closing.loading;
-      spread = s.closing.spread;
+      upsized = c.upsized;
+      overloaded = c.overloaded;
+      capped = c.capped;
+      loading = c.loading;
+      spread = c.spread;
       grounds = grounds;
-      added = s.closing.added;
+      added = c.added;
     }
 
-abbrev pub planned_by : Progress → ℕ → Result Settlement Refusal → Result CorridorPlan Refusal
-planned_by p grounds (Err f) = Err f
-planned_by p grounds (Ok s) = Ok (plan_by p grounds s)
+-- the plan that the stages lead to, with the slices that it fills after the opening
+pub record Holds (x : PlanRun) (m : ℕ) (circuits tier : List ℕ) (flow rate angle added : List Float) (above : ℕ) (t : Stage Plan) : Type 0 where
+  pub held : Plan
+  pub reached : t ≡ going held
+  pub plan_is : x.plan ≡ summary held
+  pub before_are : take m x.kept.before ≡ held.before
+  pub order_is : take m x.kept.order ≡ held.order
+  pub circuits_are : circuits ≡ held.circuits
+  pub tiers_are : tier ≡ held.tier
+  pub flows_are : flow ≡ held.flow
+  pub rates_are : rate ≡ map (λ d. d.rate_a) held.designs
+  pub angles_are : angle ≡ held.angle
+  pub added_are : added ≡ up_to above nought held.added
 
--- of a plan, with the slices that it fills after the opening
-pub record Holds (r : Result CorridorPlan Refusal) (before order circuits tier : List ℕ) (flow rate angle added : List Float) (above : ℕ) (q : Plan) : Type 0 where
-  pub said : r ≡ Ok (summary q)
-  pub before_are : before ≡ q.before
-  pub order_is : order ≡ q.order
-  pub circuits_are : circuits ≡ q.circuits
-  pub tiers_are : tier ≡ q.tier
-  pub flows_are : flow ≡ q.flow
-  pub rates_are : rate ≡ map (λ d. d.rate_a) q.designs
-  pub angles_are : angle ≡ q.angle
-  pub added_are : added ≡ up_to above nought q.added
-
-abbrev pub PlannedAs : Result CorridorPlan Refusal → List ℕ → List ℕ → List ℕ → List ℕ → List Float → List Float → List Float → List Float → Case → Stage Plan → Type 0
-PlannedAs r before order circuits tier flow rate angle added c (stopped f) = r ≡ Err f
-PlannedAs r before order circuits tier flow rate angle added c (going q) = Holds r before order circuits tier flow rate angle added c.above q
+abbrev pub PlannedAs : Result PlanRun Refusal → ℕ → List ℕ → List ℕ → List Float → List Float → List Float → List Float → Case → Stage Plan → Type 0
+PlannedAs (Err f) m circuits tier flow rate angle added c t = t ≡ stopped f
+PlannedAs (Ok x) m circuits tier flow rate angle added c t = Holds x m circuits tier flow rate angle added c.above t
 
 -- ---- from the opening on
 pub record Plannable (grid : GridColumns) (level : List ℕ) (supply : SupplyColumns) (opened : OpenedColumns)
@@ -138,11 +136,11 @@ pub record Plannable (grid : GridColumns) (level : List ℕ) (supply : SupplyCol
   pub few : Few circuits
 
 pub record OpenedPlan (mode : PlanMode) (target above : ℕ) (grid : GridColumns) (level : List ℕ) (supply : SupplyColumns)
-    (opened : OpenedColumns) (circuits upsized : List ℕ) (circuits' level' : List ℕ) (flow' rate' angle' added' : List Float) (r : PlanRun) : Type 0 where
+    (opened : OpenedColumns) (circuits upsized : List ℕ) (circuits' level' : List ℕ) (flow' rate' angle' added' : List Float) (r : Result PlanRun Refusal) : Type 0 where
   pub plan : (o : Case) (mw : List Float)
       → (let c = rounds_case o mode above grid supply in
       Sound c target → level ≡ first_levels c → circuits ≡ lower_bounds c → upsized ≡ replicate o.corridors 0 → o.cap ≡ grid.cap
-      → PlannedAs r.said (take (length grid.a) r.kept.before) (take (length grid.a) r.kept.order) circuits' level' flow' rate' angle' added' c
+      → PlannedAs r (length grid.a) circuits' level' flow' rate' angle' added' c
       (onward (onward (opened_with c opened.leader mw (peak_for o.buses opened.grounds opened.injection)) (settled c)) (closing c target)))
 
 -- ---- all stages, of a case that has all these columns
@@ -151,20 +149,20 @@ whole_case o mode above grid tier supply initial =
     case_of mode o.buses o.corridors o.generators above o.requested grid.ladder tier o.reading o.weight supply.load supply.bus supply.slack supply.pmin supply.pmax supply.c1 supply.c2 grid.a grid.b initial grid.km grid.share grid.cap grid.sheet
 
 -- the slices of a plan, with those that the opening fills
-pub record HoldsAll (r : Result CorridorPlan Refusal) (before order circuits : List ℕ) (flow rate mw angle : List Float) (tier ground : List ℕ) (added : List Float) (c : Case) (q : Plan) : Type 0 where
-  pub holds : Holds r before order circuits tier flow rate angle added c.above q
-  pub mw_is : mw ≡ q.mw
-  pub grounds_are : ground ≡ up_to c.buses 0 q.grounds
+pub record HoldsAll (x : PlanRun) (m : ℕ) (circuits : List ℕ) (flow rate mw angle : List Float) (tier ground : List ℕ) (added : List Float) (c : Case) (t : Stage Plan) : Type 0 where
+  pub holds : Holds x m circuits tier flow rate angle added c.above t
+  pub mw_is : mw ≡ holds.held.mw
+  pub grounds_are : ground ≡ up_to c.buses 0 holds.held.grounds
 
-abbrev pub WholeAs : Result CorridorPlan Refusal → List ℕ → List ℕ → List ℕ → List Float → List Float → List Float → List Float → List ℕ → List ℕ → List Float → Case → Stage Plan → Type 0
-WholeAs r before order circuits flow rate mw angle tier ground added c (stopped f) = r ≡ Err f
-WholeAs r before order circuits flow rate mw angle tier ground added c (going q) = HoldsAll r before order circuits flow rate mw angle tier ground added c q
+abbrev pub WholeAs : Result PlanRun Refusal → ℕ → List ℕ → List Float → List Float → List Float → List Float → List ℕ → List ℕ → List Float → Case → Stage Plan → Type 0
+WholeAs (Err f) m circuits flow rate mw angle tier ground added c t = t ≡ stopped f
+WholeAs (Ok x) m circuits flow rate mw angle tier ground added c t = HoldsAll x m circuits flow rate mw angle tier ground added c t
 
 pub record PlanDone (mode : PlanMode) (target above : ℕ) (grid : GridColumns) (tier : List ℕ) (supply : SupplyColumns) (initial : List ℕ)
-    (circuits : List ℕ) (flow rate mw angle : List Float) (level ground : List ℕ) (added : List Float) (r : PlanRun) : Type 0 where
+    (circuits : List ℕ) (flow rate mw angle : List Float) (level ground : List ℕ) (added : List Float) (r : Result PlanRun Refusal) : Type 0 where
   pub plan : (o : Case)
       → (let c = whole_case o mode above grid tier supply initial in
-      Sound c target → WholeAs r.said (take (length grid.a) r.kept.before) (take (length grid.a) r.kept.order) circuits flow rate mw angle level ground added c (plan_for c target))
+      Sound c target → WholeAs r (length grid.a) circuits flow rate mw angle level ground added c (plan_for c target))
 
 -- ---- and over the slices that planning is lent
 pub record Lendable (mode : PlanMode) (target above : ℕ) (grid : GridColumns) (tier : List ℕ) (supply : SupplyColumns) (initial : List ℕ)

@@ -19,7 +19,7 @@ use Rattle.planning.specs.Fill.{caps_for}
 use Rattle.planning.specs.Close.{levels_for, Closable, closing_of}
 use Rattle.planning.specs.Sound.{Sound}
 use Rattle.planning.specs.Whole.{with_lines, with_units}
-use Rattle.planning.specs.declared.settle.Settlement.{Settlement}
+use Rattle.planning.specs.declared.close.Closing.{Closing}
 use Rattle.planning.specs.declared.settle.Settling.{Settling}
 use Rattle.refusal.specs.declared.Refusal.{Refusal}
 use Rattle.planning.specs.Tables.{GridColumns, supply_of, OpenedColumns}
@@ -34,7 +34,8 @@ pub record Settleable (above : ℕ) (grid : GridColumns) (level : List ℕ) (ope
 
 -- ---- what is said, with the slices that it is said of
 pub record Ended : Type 0 where
-  pub settlement : Settlement
+  pub filler : ℕ
+  pub closing : Closing
   pub before : List ℕ
   pub order : List ℕ
   pub circuits : List ℕ
@@ -44,17 +45,24 @@ pub record Ended : Type 0 where
   pub angle : List Float
   pub added : List Float
 
-abbrev pub ended_of : Result Settlement Refusal → List ℕ → List ℕ → List ℕ → List ℕ → List Float → List Float → List Float → List Float → Stage Ended
-ended_of (Err f) before order circuits tier flow rate angle added = stopped f
-ended_of (Ok s) before order circuits tier flow rate angle added =
-    going (record { settlement = s; before = before; order = order; circuits = circuits; tier = tier; flow = flow; rate = rate; angle = angle; added = added })
+abbrev pub closed_of : Result Closing Refusal → ℕ → List ℕ → List ℕ → List ℕ → List ℕ → List Float → List Float → List Float → List Float → Stage Ended
+closed_of (Err f) filler before order circuits tier flow rate angle added = stopped f
+closed_of (Ok c) filler before order circuits tier flow rate angle added =
+    going (record { filler = filler; closing = c; before = before; order = order; circuits = circuits; tier = tier; flow = flow; rate = rate; angle = angle; added = added })
+
+-- for m corridors
+abbrev pub ended_of : ℕ → Result Settling Refusal → List ℕ → List ℕ → List Float → List Float → List Float → List Float → Stage Ended
+ended_of m (Err f) circuits tier flow rate angle added = stopped f
+ended_of m (Ok s) circuits tier flow rate angle added =
+    going (record { filler = s.filler; closing = s.closing; before = take m s.kept.before; order = take m s.kept.order; circuits = circuits; tier = tier; flow = flow; rate = rate; angle = angle; added = added })
 
 -- ---- the stages, by columns: after filling, and from the order on
 module _ (mode : PlanMode) (cap : List ℕ) (above : ℕ) (led : List ℕ) (ladder : List Float) (level : List ℕ) (ds : List CircuitDesign) (upsized : List ℕ) (P : Peak) where
   abbrev pub ended_by : ℕ → List ℕ → List ℕ → List ℕ → PlanningCase → Ended
   ended_by filler before order circuits v =
       record {
-        settlement = record { filler = filler; closing = closing_of mode cap above led level ds circuits upsized v.flows v.theta };
+        filler = filler;
+        closing = closing_of mode cap above led level ds circuits upsized v.flows v.theta;
         before = before;
         order = order;
         circuits = circuits;
@@ -81,42 +89,41 @@ module _ (mode : PlanMode) (cap : List ℕ) (above : ℕ) (led : List ℕ) (ladd
   settled_from target m circuits = onward (planning_state P ds circuits (zeros P.n)) (λ v. filled_from target m circuits v.flows)
 
 -- ---- the stages of a whole case
-abbrev pub settlement_of : Plan → Settlement
-settlement_of q =
+abbrev pub closing_in : Plan → Closing
+closing_in q =
     record {
-      filler = q.filler;
-      closing =
-          record {
-            upsized = q.upsized;
-            overloaded = q.overloaded;
-            capped = q.capped;
-            loading = q.loading;
-            spread = q.spread;
-            added = length q.added;
-          };
+      upsized = q.upsized;
+      overloaded = q.overloaded;
+      capped = q.capped;
+      loading = q.loading;
+      spread = q.spread;
+      added = length q.added;
     }
 
--- said of a plan, with its slices
-pub record Held (r : Result Settlement Refusal) (before order circuits tier : List ℕ) (flow rate angle added : List Float) (above : ℕ) (q : Plan) : Type 0 where
-  pub said : r ≡ Ok (settlement_of q)
-  pub before_are : before ≡ q.before
-  pub order_is : order ≡ q.order
-  pub circuits_are : circuits ≡ q.circuits
-  pub tiers_are : tier ≡ q.tier
-  pub flows_are : flow ≡ q.flow
-  pub rates_are : rate ≡ map (λ d. d.rate_a) q.designs
-  pub angles_are : angle ≡ q.angle
-  pub added_are : added ≡ up_to above nought q.added
+-- the plan that the stages lead to, with its slices
+pub record Held (s : Settling) (m : ℕ) (circuits tier : List ℕ) (flow rate angle added : List Float) (above : ℕ) (t : Stage Plan) : Type 0 where
+  pub held : Plan
+  pub reached : t ≡ going held
+  pub filler_is : s.filler ≡ held.filler
+  pub closing_is : s.closing ≡ closing_in held
+  pub before_are : take m s.kept.before ≡ held.before
+  pub order_is : take m s.kept.order ≡ held.order
+  pub circuits_are : circuits ≡ held.circuits
+  pub tiers_are : tier ≡ held.tier
+  pub flows_are : flow ≡ held.flow
+  pub rates_are : rate ≡ map (λ d. d.rate_a) held.designs
+  pub angles_are : angle ≡ held.angle
+  pub added_are : added ≡ up_to above nought held.added
 
-abbrev pub SettledAs : Result Settlement Refusal → List ℕ → List ℕ → List ℕ → List ℕ → List Float → List Float → List Float → List Float → Case → Stage Plan → Type 0
-SettledAs r before order circuits tier flow rate angle added c (stopped f) = r ≡ Err f
-SettledAs r before order circuits tier flow rate angle added c (going q) = Held r before order circuits tier flow rate angle added c.above q
+abbrev pub SettledAs : Result Settling Refusal → ℕ → List ℕ → List ℕ → List Float → List Float → List Float → List Float → Case → Stage Plan → Type 0
+SettledAs (Err f) m circuits tier flow rate angle added c t = t ≡ stopped f
+SettledAs (Ok s) m circuits tier flow rate angle added c t = Held s m circuits tier flow rate angle added c.above t
 
 -- of any case with these columns, whose draft the slices stand for
 pub record Settles (mode : PlanMode) (target above : ℕ) (grid : GridColumns) (opened : OpenedColumns) (banks : List Float)
-    (upsized circuits level : List ℕ) (circuits' level' : List ℕ) (flow' rate' angle' added' : List Float) (r : Settling) : Type 0 where
+    (upsized circuits level : List ℕ) (circuits' level' : List ℕ) (flow' rate' angle' added' : List Float) (r : Result Settling Refusal) : Type 0 where
   pub plan : (o : Case) (p : Opened) (s : Draft) (floors : List Float)
       → (let c = with_lines (with_units o mode above (supply_of o.load o.bus o.slack o.pmin o.pmax o.c1 o.c2)) grid in
       Sound c target → length level ≡ o.buses → o.cap ≡ grid.cap → p.led ≡ opened.leader → p.peak ≡ peak_for o.buses opened.grounds opened.injection → s.level ≡ level
       → s.build ≡ build_of c level circuits banks floors upsized
-      → SettledAs r.settled (take (length grid.a) r.kept.before) (take (length grid.a) r.kept.order) circuits' level' flow' rate' angle' added' c (onward (settled_to c p s) (closing c target)))
+      → SettledAs r (length grid.a) circuits' level' flow' rate' angle' added' c (onward (settled_to c p s) (closing c target)))

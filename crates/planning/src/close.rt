@@ -6,11 +6,11 @@ ghost use Rattle.plan_defs.specs.Constants.{most_corridors, most_levels};
 ghost use Rattle.plan_defs.specs.Lists.{each};
 ghost use Rattle.plan_defs.specs.Components.{members};
 ghost use Rattle.plan_defs.specs.Closing.{spread_of, max_loading, overloaded_of, capped_of, upsized_of, least_of, tiers_of, added_of};
-ghost use Rattle.plan_defs.specs.Outcome.{up_to, kept_if};
+ghost use Rattle.plan_defs.specs.Outcome.{slices, up_to, kept_if};
 ghost use Rattle.plan_defs.specs.declared.CircuitDesign.{CircuitDesign};
 ghost use Rattle.planning.specs.Design.{Lines};
 ghost use Rattle.planning.specs.Fill.{designs_for, Loaded};
-ghost use Rattle.planning.specs.Close.{corridors_of, levels_for, wider_by, loadings_by, Rated, cap_full, added_at, Closable, closing_of, is_refused, lent_to, finished};
+ghost use Rattle.planning.specs.Close.{corridors_of, levels_for, wider_by, loadings_by, Rated, cap_full, added_at, Closable, closing_of, zeroed};
 ghost use Rattle.planning.specs.Tables.{grid_in};
 
 use crate::design::{circuit, fill_drawn};
@@ -20,8 +20,6 @@ use crate::policy::{cap_at, expands};
 use crate::size::PLANNING_UTILISATION;
 use crate::tables::Grid;
 use mode::PlanMode;
-use plan_defs::CorridorPlan;
-use refusal::Refusal;
 
 // A loading above 1, or a need above the circuits there are, counts where it is above by more than this.
 const LOADING_TOLERANCE: f64 = 1e-9;
@@ -234,19 +232,10 @@ pub fn close(
 }
 
 // ---- the slices at the end
-pub fn is_refused(said: Result<CorridorPlan, Refusal>) -> bool
-    ensures { result ≡ is_refused said }
-{
-    match said {
-        Ok(_) => false,
-        Err(_) => true,
-    }
-}
-
 // What a plan keeps of filling, or nothing.
-pub fn keep_if(keeps: bool, kept: [u32; 256], to: &mut [u32])
+pub fn keep_if(keeps: bool, kept: &[u32; 256], to: &mut [u32])
     requires { length to.old ≤ most_corridors }
-    ensures { to.new ≡ kept_if keeps (length to.old) (take (length to.old) kept) }
+    ensures { to.new ≡ kept_if keeps (length to.old) (take (length to.old) kept.now) }
 {
     if keeps {
         to.copy_from_slice(&kept[..to.len()]);
@@ -255,12 +244,14 @@ pub fn keep_if(keeps: bool, kept: [u32; 256], to: &mut [u32])
     }
 }
 
-// After 8 or 9 every result place is zero; work is zero always.
-pub fn finish(
-    refused: bool,
+// After 8 or 9 every place is zero.
+pub fn clear(
     circuits: &mut [u32],
     flow: &mut [f64],
     rate: &mut [f64],
+    before: &mut [u32],
+    order: &mut [u32],
+    kept_cap: &mut [u32],
     mw: &mut [f64],
     angle: &mut [f64],
     tier: &mut [u32],
@@ -269,18 +260,20 @@ pub fn finish(
     figures: &mut [f64],
     counts: &mut [u32],
 )
-    ensures { lent_to circuits.new flow.new rate.new mw.new angle.new tier.new ground.new added.new figures.new counts.new ≡ finished refused (lent_to circuits.old flow.old rate.old mw.old angle.old tier.old ground.old added.old figures.old counts.old) }
+    ensures { slices circuits.new flow.new rate.new before.new order.new kept_cap.new mw.new angle.new tier.new ground.new added.new figures.new counts.new
+        ≡ zeroed (slices circuits.old flow.old rate.old before.old order.old kept_cap.old mw.old angle.old tier.old ground.old added.old figures.old counts.old) }
 {
+    circuits.fill(0);
+    flow.fill(0.0);
+    rate.fill(0.0);
+    before.fill(0);
+    order.fill(0);
+    kept_cap.fill(0);
+    mw.fill(0.0);
+    angle.fill(0.0);
+    tier.fill(0);
+    ground.fill(0);
+    added.fill(0.0);
     figures.fill(0.0);
     counts.fill(0);
-    if refused {
-        circuits.fill(0);
-        flow.fill(0.0);
-        rate.fill(0.0);
-        mw.fill(0.0);
-        angle.fill(0.0);
-        tier.fill(0);
-        ground.fill(0);
-        added.fill(0.0);
-    }
 }

@@ -125,16 +125,6 @@ pub fn keep(circuits: &[u32], order: [u32; 256]) -> Kept
     Kept { before, order }
 }
 
-// Where nothing is filled: zeros.
-pub fn nothing_kept() -> Kept
-    ensures { Whole result.before × Whole result.order }
-{
-    Kept {
-        before: [0u32; 256],
-        order: [0u32; 256],
-    }
-}
-
 // ---- filling
 pub fn total(circuits: &[u32]) -> u32
     requires { Counted circuits.now }

@@ -126,24 +126,27 @@ pub fn plan_corridors(
         c1,
         c2,
     };
-    let ran = plan::run(
+    match plan::run(
         mode, target, above, &grid, tier, &supply, initial, circuits, flow, rate, mw, angle, level,
         ground, added, figures, counts,
-    );
-    let said = ran.said;
-    let kept = ran.kept;
-    let refused = close::is_refused(said);
-    close::finish(
-        refused, circuits, flow, rate, mw, angle, level, ground, added, figures, counts,
-    );
-    let keeps = promotes(mode) & !refused;
-    let first = kept.before;
-    let ranks = kept.order;
-    close::keep_if(keeps, first, before);
-    close::keep_if(keeps, ranks, order);
-    let caps = figures::copied(cap, 0);
-    close::keep_if(!refused, caps, kept_cap);
-    said
+    ) {
+        Ok(ran) => {
+            let fills = promotes(mode);
+            close::keep_if(fills, &ran.kept.before, before);
+            close::keep_if(fills, &ran.kept.order, order);
+            kept_cap.copy_from_slice(cap);
+            figures.fill(0.0);
+            counts.fill(0);
+            Ok(ran.plan)
+        }
+        Err(f) => {
+            close::clear(
+                circuits, flow, rate, before, order, kept_cap, mw, angle, level, ground, added,
+                figures, counts,
+            );
+            Err(f)
+        }
+    }
 }
 
 // The circuits that each of m corridors of a plan would have with another target, from what the plan keeps (`before`, `order` and

@@ -1,10 +1,10 @@
 // `plan_corridors` of planning.rs, stage by stage: the opening, the raises before the rounds, the rounds, and what comes after them.
-ghost use Rattle.std.specs.Prelude.{◌≡◌, Err, Ok, Result};
+ghost use Rattle.std.specs.Prelude.{◌≡◌};
 ghost use Rattle.planning.specs.Close.{Closable, lent_to};
-ghost use Rattle.planning.specs.Plan.{Openable, OpeningDone, rounds_for, start_of, Runnable, RanAll, planned_by, Plannable, OpenedPlan, PlanDone, Lendable};
+ghost use Rattle.planning.specs.Plan.{Openable, OpeningDone, rounds_for, start_of, Runnable, RanAll, plan_by, Plannable, OpenedPlan, PlanDone, Lendable};
 ghost use Rattle.planning.specs.Tables.{grid_in, supply_in, opened_in};
 
-use crate::fill::{Kept, nothing_kept};
+use crate::fill::Kept;
 use crate::opening::{
     component_leaders, dispatch_components, first_levels, ground_components, injections,
     lower_bounds,
@@ -13,7 +13,7 @@ use crate::policy::expands;
 use crate::raises::raises;
 use crate::redesign::redesign;
 use crate::rounds::{Progress, size_rounds};
-use crate::settle::{Settlement, Settling, settle};
+use crate::settle::{Settling, settle};
 use crate::tables::{Grid, Opened, Supply};
 use mode::PlanMode;
 use plan_defs::CorridorPlan;
@@ -110,31 +110,19 @@ fn run_rounds(
 }
 
 // ---- the stages joined
-// What planning says, with what the plan keeps of filling.
+// What planning answers, with what the plan keeps of filling.
 #[derive(Clone, Copy)]
 pub struct PlanRun {
-    pub said: Result<CorridorPlan, Refusal>,
+    pub plan: CorridorPlan,
     pub kept: Kept,
 }
 
-// Refusals 8 and 9.
-fn unplanned(f: Refusal) -> PlanRun
-    ensures { result.said ≡ Err f }
+// The answer, of the rounds and of what came after them.
+fn planned(progress: Progress, grounds: u32, s: Settling) -> PlanRun
+    ensures plan { result.plan ≡ plan_by progress grounds s.filler s.closing }
+    ensures kept { result.kept ≡ s.kept }
 {
-    let kept = nothing_kept();
-    PlanRun { said: Err(f), kept }
-}
-
-// What planning says of the rounds and of what came after them.
-fn conclude(
-    progress: Progress,
-    grounds: u32,
-    settled: Result<Settlement, Refusal>,
-) -> Result<CorridorPlan, Refusal>
-    ensures { result ≡ planned_by progress grounds settled }
-{
-    let s = settled?;
-    Ok(CorridorPlan {
+    let plan = CorridorPlan {
         rounds: progress.rounds,
         converged: progress.converged,
         capacity: progress.capacity,
@@ -148,17 +136,8 @@ fn conclude(
         spread: s.closing.spread,
         grounds,
         added: s.closing.added,
-    })
-}
-
-fn concluded(progress: Progress, grounds: u32, s: Settling) -> PlanRun
-    ensures said { result.said ≡ planned_by progress grounds s.settled }
-    ensures kept { result.kept ≡ s.kept }
-{
-    let settled = s.settled;
-    let kept = s.kept;
-    let said = conclude(progress, grounds, settled);
-    PlanRun { said, kept }
+    };
+    PlanRun { plan, kept: s.kept }
 }
 
 // After the opening: the first designs, the raises, the rounds, and what comes after them.
@@ -179,7 +158,7 @@ fn plan_opened(
     rate: &mut [f64],
     angle: &mut [f64],
     added: &mut [f64],
-) -> PlanRun
+) -> Result<PlanRun, Refusal>
     requires plannable { Plannable (grid_in grid.now) level.old (supply_in supply.now) (opened_in opened.now) circuits.old banks.old floors.old upsized.old marks.old angle.old flow.old }
     requires closable { Closable above grid.now.ladder.now grid.now.a.now opened.now.leader.now upsized.old angle.old rate.old added.old }
     ensures { OpenedPlan mode target above (grid_in grid.now) level.old (supply_in supply.now) (opened_in opened.now)
@@ -187,24 +166,18 @@ fn plan_opened(
         circuits.new level.new flow.new rate.new angle.new added.new result }
 {
     redesign(grid, level, supply, floors, banks);
-    match raises(
+    let promoted = raises(
         mode, grid, supply, opened, circuits, floors, banks, level, marks, angle, flow,
-    ) {
-        Err(f) => unplanned(f),
-        Ok(promoted) => match run_rounds(
-            mode, above, promoted, grid, supply, opened, circuits, banks, floors, upsized, level,
-            marks, angle, flow,
-        ) {
-            Err(f) => unplanned(f),
-            Ok(progress) => {
-                let settled = settle(
-                    mode, target, above, grid, opened, banks, upsized, circuits, level, flow, rate,
-                    angle, added,
-                );
-                concluded(progress, opened.grounds.len() as u32, settled)
-            }
-        },
-    }
+    )?;
+    let progress = run_rounds(
+        mode, above, promoted, grid, supply, opened, circuits, banks, floors, upsized, level,
+        marks, angle, flow,
+    )?;
+    let settling = settle(
+        mode, target, above, grid, opened, banks, upsized, circuits, level, flow, rate, angle,
+        added,
+    )?;
+    Ok(planned(progress, opened.grounds.len() as u32, settling))
 }
 
 // All stages: the opening, and what comes after it. Two parts of one lent slice cannot be lent on at the same time, so that of the work that is lent
@@ -227,7 +200,7 @@ pub fn run(
     added: &mut [f64],
     figures: &mut [f64],
     counts: &mut [u32],
-) -> PlanRun
+) -> Result<PlanRun, Refusal>
     requires { Lendable mode target above (grid_in grid.now) tier.now (supply_in supply.now) initial.now
         (lent_to circuits.old flow.old rate.old mw.old angle.old level.old ground.old added.old figures.old counts.old) }
     ensures { PlanDone mode target above (grid_in grid.now) tier.now (supply_in supply.now) initial.now
@@ -240,7 +213,7 @@ pub fn run(
     let mut floors = [0.0; 256];
     let mut marks = [0u32; 256];
     counts.fill(0);
-    match open(
+    let count = open(
         mode,
         above,
         tier,
@@ -253,32 +226,28 @@ pub fn run(
         mw,
         level,
         circuits,
-    ) {
-        Err(f) => unplanned(f),
-        Ok(count) => {
-            let opened = Opened {
-                leader: &leader[0..n],
-                grounds: &ground[0..count],
-                injection: &injection[0..n],
-            };
-            plan_opened(
-                mode,
-                target,
-                above,
-                grid,
-                supply,
-                &opened,
-                circuits,
-                &mut figures[0..m],
-                &mut floors[0..m],
-                &mut counts[0..m],
-                level,
-                &mut marks[0..n],
-                flow,
-                rate,
-                angle,
-                added,
-            )
-        }
-    }
+    )?;
+    let opened = Opened {
+        leader: &leader[0..n],
+        grounds: &ground[0..count],
+        injection: &injection[0..n],
+    };
+    plan_opened(
+        mode,
+        target,
+        above,
+        grid,
+        supply,
+        &opened,
+        circuits,
+        &mut figures[0..m],
+        &mut floors[0..m],
+        &mut counts[0..m],
+        level,
+        &mut marks[0..n],
+        flow,
+        rate,
+        angle,
+        added,
+    )
 }

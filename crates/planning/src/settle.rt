@@ -1,31 +1,25 @@
 // All of planning after the rounds: a solve, the filling, the solve after it, and the closing figures. Both solves start from zero.
-ghost use Rattle.std.specs.Prelude.{◌≡◌, ℕ, List, length, take, Err, Ok, Result};
+ghost use Rattle.std.specs.Prelude.{◌≡◌, ℕ, List, length};
 ghost use Rattle.angles_defs.specs.Network.{zeros};
 ghost use Rattle.plan_defs.specs.Solve.{edges_for, planning_state};
 ghost use Rattle.planning.specs.Solve.{peak_for, solved_of, Drawing, Lent};
-ghost use Rattle.planning.specs.Fill.{designs_for, Whole};
+ghost use Rattle.planning.specs.Fill.{designs_for};
 ghost use Rattle.planning.specs.Size.{Few};
-ghost use Rattle.planning.specs.Settle.{ended_of, closed_from, filled_from, Settleable, Settles};
+ghost use Rattle.planning.specs.Settle.{closed_of, ended_of, closed_from, filled_from, Settleable, Settles};
 ghost use Rattle.planning.specs.Tables.{grid_in, opened_in};
 
 use crate::close::{Closing, close};
-use crate::fill::{Kept, fill, fill_order, keep, nothing_kept};
+use crate::fill::{Kept, fill, fill_order, keep};
 use crate::solve::planning_state;
 use crate::tables::{Grid, Opened};
 use mode::PlanMode;
 use refusal::Refusal;
 
-// The circuits that filling added, and the closing figures.
-#[derive(Clone, Copy)]
-pub struct Settlement {
-    pub filler: u32,
-    pub closing: Closing,
-}
-
-// With what the plan keeps of filling.
+// The circuits that filling added, the closing figures, and what the plan keeps of filling.
 #[derive(Clone, Copy)]
 pub struct Settling {
-    pub settled: Result<Settlement, Refusal>,
+    pub filler: u32,
+    pub closing: Closing,
     pub kept: Kept,
 }
 
@@ -56,7 +50,6 @@ fn solve_from_zero(
 fn close_up(
     mode: PlanMode,
     above: usize,
-    filler: u32,
     grid: &Grid,
     opened: &Opened,
     banks: &[f64],
@@ -67,15 +60,15 @@ fn close_up(
     rate: &mut [f64],
     angle: &mut [f64],
     added: &mut [f64],
-) -> Result<Settlement, Refusal>
+) -> Result<Closing, Refusal>
     requires { Settleable above (grid_in grid.now) level.old (opened_in opened.now) banks.now upsized.now circuits.now flow.old rate.old angle.old added.old }
-    ensures { (before order : List ℕ) → ended_of result before order circuits.now level.new flow.new rate.new angle.new added.new
+    ensures { (filler : ℕ) (before order : List ℕ) → closed_of result filler before order circuits.now level.new flow.new rate.new angle.new added.new
         ≡ closed_from mode grid.now.cap.now above opened.now.leader.now grid.now.ladder.now level.old
         (designs_for (grid_in grid.now) level.old banks.now)
         upsized.now (peak_for (length level.old) opened.now.grounds.now opened.now.injection.now) filler before order circuits.now }
 {
     solve_from_zero(grid, level, circuits, banks, opened, angle, flow)?;
-    let closing = close(
+    Ok(close(
         mode,
         above,
         grid,
@@ -88,8 +81,7 @@ fn close_up(
         level,
         rate,
         added,
-    );
-    Ok(Settlement { filler, closing })
+    ))
 }
 
 // From the flows before filling: the order, the filling, and what comes after it.
@@ -107,10 +99,10 @@ fn fill_up(
     rate: &mut [f64],
     angle: &mut [f64],
     added: &mut [f64],
-) -> Settling
+) -> Result<Settling, Refusal>
     requires settleable { Settleable above (grid_in grid.now) level.old (opened_in opened.now) banks.now upsized.now circuits.old flow.old rate.old angle.old added.old }
     requires few { Few circuits.old }
-    ensures { ended_of result.settled (take (length grid.now.a.now) result.kept.before) (take (length grid.now.a.now) result.kept.order) circuits.new level.new flow.new rate.new angle.new added.new
+    ensures { ended_of (length grid.now.a.now) result circuits.new level.new flow.new rate.new angle.new added.new
         ≡ filled_from mode grid.now.cap.now above opened.now.leader.now grid.now.ladder.now level.old
         (designs_for (grid_in grid.now) level.old banks.now)
         upsized.now (peak_for (length level.old) opened.now.grounds.now opened.now.injection.now) target (length grid.now.a.now) circuits.old flow.old }
@@ -119,22 +111,14 @@ fn fill_up(
     fill_order(grid, level, banks, circuits, flow, &mut order);
     let kept = keep(circuits, order);
     let filler = fill(mode, target, grid.cap, &order, circuits);
-    let settled = close_up(
-        mode, above, filler, grid, opened, banks, upsized, circuits, level, flow, rate, angle,
-        added,
-    );
-    Settling { settled, kept }
-}
-
-// Refusal 9 of the solve before filling.
-fn unsettled(f: Refusal) -> Settling
-    ensures { (result.settled ≡ Err f) × Whole result.kept.before × Whole result.kept.order }
-{
-    let kept = nothing_kept();
-    Settling {
-        settled: Err(f),
+    let closing = close_up(
+        mode, above, grid, opened, banks, upsized, circuits, level, flow, rate, angle, added,
+    )?;
+    Ok(Settling {
+        filler,
+        closing,
         kept,
-    }
+    })
 }
 
 // From what the rounds leave in the slices to the plan, or refusal 9.
@@ -152,17 +136,15 @@ pub fn settle(
     rate: &mut [f64],
     angle: &mut [f64],
     added: &mut [f64],
-) -> Settling
+) -> Result<Settling, Refusal>
     requires settleable { Settleable above (grid_in grid.now) level.old (opened_in opened.now) banks.now upsized.now circuits.old flow.old rate.old angle.old added.old }
     requires few { Few circuits.old }
     ensures { Settles mode target above (grid_in grid.now) (opened_in opened.now) banks.now upsized.now circuits.old level.old
         circuits.new level.new flow.new rate.new angle.new added.new result }
 {
-    match solve_from_zero(grid, level, circuits, banks, opened, angle, flow) {
-        Err(f) => unsettled(f),
-        Ok(()) => fill_up(
-            mode, target, above, grid, opened, banks, upsized, circuits, level, flow, rate, angle,
-            added,
-        ),
-    }
+    solve_from_zero(grid, level, circuits, banks, opened, angle, flow)?;
+    fill_up(
+        mode, target, above, grid, opened, banks, upsized, circuits, level, flow, rate, angle,
+        added,
+    )
 }

@@ -1,14 +1,13 @@
 -- The check's refusals touch nothing; what passes it is a sound case, of which the stages lead to the defined plan, and the slices are cleared as the definition
 -- has them. Demand 3 is a theorem of the defined plan.
-use Rattle.std.proofs.Common.{arith, ◌≡◌, Bool, not, ◌&&◌, Err, sym, refl, ap, ◌∙◌, rules}
+use Rattle.std.proofs.Common.{ℕ, ◌≡◌, Bool, List, Err, length, take, sym, refl, ap, ◌∙◌, rules}
 use Rattle.loads.proofs.One.{loads_lent, loads_room}
-use Rattle.plan_defs.specs.Case.{surveyed}
-use Rattle.plan_defs.specs.Outcome.{slices, slices_ok}
+use Rattle.plan_defs.specs.Case.{surveyed, promote}
+use Rattle.plan_defs.specs.Outcome.{slices, slices_ok, kept_if}
 use Rattle.acceptance.specs.Check.{check_of}
 use Rattle.acceptance.proofs.Callers.{tables_of_lem}
-use Rattle.planning.specs.Close.{lent_to}
 use Rattle.planning.proofs.Sounds.{checked}
-use Rattle.planning.proofs.Operation.{ends_unaccepted, lendable_by, kept_fits, caps_fit, buses_fit, ends_when}
+use Rattle.planning.proofs.Operation.{ends_unaccepted, lendable_by, kept_fits, caps_fit, buses_fit, ends_refused, ends_answered}
 use Rattle.planning.proofs.plan_corridors.Goals as goal
 
 pub returns-in_err-check_case-clause-plan : goal.returns-in_err-check_case-clause-plan
@@ -29,8 +28,8 @@ slice_bounds-supply-end c =
     let q = c.in_ok-check_case.was in
     loads_room z.n case.reading case.weight _ c.weigh-load.ensures (buses_fit case z.target lent c.check_case.result answer q)
 
-pub run-ran-requires : goal.run-ran-requires
-run-ran-requires c =
+pub run-requires : goal.run-requires
+run-requires c =
     let z = c.args in
     let case = surveyed z.mode z.n z.m z.g z.above z.requested z.ladder.now z.tier.now z.reading.now z.weight.now z.bus.now z.slack.now z.pmin.now z.pmax.now z.c1.now z.c2.now z.a.now z.b.now z.initial.now z.km.now z.share.now z.cap.now z.sheet.now in
     let lent = slices z.circuits.now z.flow.now z.rate.now z.before.now z.order.now z.kept_cap.now z.mw.now z.angle.now z.level.now z.ground.now z.added.now z.figures.now z.counts.now in
@@ -48,8 +47,8 @@ keep_if-requires c =
     let q = c.in_ok-check_case.was in
     (kept_fits case z.target lent c.check_case.result answer q).0
 
-pub keep_if-requires-2 : goal.keep_if-requires-2
-keep_if-requires-2 c =
+pub keep_if-requires-in-Ok : goal.keep_if-requires-in-Ok
+keep_if-requires-in-Ok c =
     let z = c.args in
     let case = surveyed z.mode z.n z.m z.g z.above z.requested z.ladder.now z.tier.now z.reading.now z.weight.now z.bus.now z.slack.now z.pmin.now z.pmax.now z.c1.now z.c2.now z.a.now z.b.now z.initial.now z.km.now z.share.now z.cap.now z.sheet.now in
     let lent = slices z.circuits.now z.flow.now z.rate.now z.before.now z.order.now z.kept_cap.now z.mw.now z.angle.now z.level.now z.ground.now z.added.now z.figures.now z.counts.now in
@@ -57,54 +56,71 @@ keep_if-requires-2 c =
     let q = c.in_ok-check_case.was in
     (kept_fits case z.target lent c.check_case.result answer q).1
 
-pub copied-caps-requires : goal.copied-caps-requires
-copied-caps-requires c =
+pub copy_from_slice-requires : goal.copy_from_slice-requires
+copy_from_slice-requires c =
     let z = c.args in
     let case = surveyed z.mode z.n z.m z.g z.above z.requested z.ladder.now z.tier.now z.reading.now z.weight.now z.bus.now z.slack.now z.pmin.now z.pmax.now z.c1.now z.c2.now z.a.now z.b.now z.initial.now z.km.now z.share.now z.cap.now z.sheet.now in
     let lent = slices z.circuits.now z.flow.now z.rate.now z.before.now z.order.now z.kept_cap.now z.mw.now z.angle.now z.level.now z.ground.now z.added.now z.figures.now z.counts.now in
     let answer : c.check_case.result ≡ check_of (slices_ok case lent) (tables_of_lem case) z.target = checked case z.target lent _ _ c.places_ok-fits.ensures c.check_case.ensures in
     let q = c.in_ok-check_case.was in
-    (omega arith, caps_fit case z.target lent c.check_case.result answer q)
+    caps_fit case z.target lent c.check_case.result answer q
 
-pub keep_if-requires-3 : goal.keep_if-requires-3
-keep_if-requires-3 c =
+pub returns-in-Ok-clause-plan : goal.returns-in-Ok-clause-plan
+returns-in-Ok-clause-plan c =
     let z = c.args in
     let case = surveyed z.mode z.n z.m z.g z.above z.requested z.ladder.now z.tier.now z.reading.now z.weight.now z.bus.now z.slack.now z.pmin.now z.pmax.now z.c1.now z.c2.now z.a.now z.b.now z.initial.now z.km.now z.share.now z.cap.now z.sheet.now in
     let lent = slices z.circuits.now z.flow.now z.rate.now z.before.now z.order.now z.kept_cap.now z.mw.now z.angle.now z.level.now z.ground.now z.added.now z.figures.now z.counts.now in
     let answer : c.check_case.result ≡ check_of (slices_ok case lent) (tables_of_lem case) z.target = checked case z.target lent _ _ c.places_ok-fits.ensures c.check_case.ensures in
     let q = c.in_ok-check_case.was in
-    (kept_fits case z.target lent c.check_case.result answer q).2
+    let v = c.run in
+    let left = slices v.new.circuits v.new.flow v.new.rate z.before.now z.order.now z.kept_cap.now v.new.mw v.new.angle v.new.level v.new.ground v.new.added v.new.figures v.new.counts in
+    let y = c.in-Ok in
+    let fills : (l k : List ℕ) → kept_if c.promotes-fills.result (length l) (take (length l) k) ≡ kept_if (promote z.mode) (length l) (take (length l) k) =
+    λ l k. ap (λ (b : Bool). kept_if b (length l) (take (length l) k)) c.promotes-fills.ensures in
+    (ends_answered case z.target lent c.check_case.result answer q z.sheet.now refl refl (λ e k l. c.type_inv.pmin k) v.result left
+    _ (loads_lent z.n case.reading case.weight _ c.weigh-load.ensures (buses_fit case z.target lent c.check_case.result answer q)) v.ensures v.auto.figures v.auto.counts y.ran y.is _ _ _ _ _
+    (c.keep_if.ensures ∙ fills z.before.now y.ran.kept.before) (c.keep_if-in-Ok.ensures ∙ fills z.order.now y.ran.kept.order) c.copy_from_slice.ensures.after
+    (c.fill.ensures.after (λ y e. e)) (c.fill-in-Ok.ensures.after (λ y e. e))).0
 
-pub returns-clause-plan : goal.returns-clause-plan
-returns-clause-plan c =
+pub returns-in-Ok-clause-demand : goal.returns-in-Ok-clause-demand
+returns-in-Ok-clause-demand c =
     let z = c.args in
     let case = surveyed z.mode z.n z.m z.g z.above z.requested z.ladder.now z.tier.now z.reading.now z.weight.now z.bus.now z.slack.now z.pmin.now z.pmax.now z.c1.now z.c2.now z.a.now z.b.now z.initial.now z.km.now z.share.now z.cap.now z.sheet.now in
     let lent = slices z.circuits.now z.flow.now z.rate.now z.before.now z.order.now z.kept_cap.now z.mw.now z.angle.now z.level.now z.ground.now z.added.now z.figures.now z.counts.now in
     let answer : c.check_case.result ≡ check_of (slices_ok case lent) (tables_of_lem case) z.target = checked case z.target lent _ _ c.places_ok-fits.ensures c.check_case.ensures in
     let q = c.in_ok-check_case.was in
-    let v = c.run-ran in
-    let w = c.is_refused-refused in
-    let h = c.finish in
-    (ends_when case z.target lent c.check_case.result answer q z.sheet.now refl refl (λ e k l. c.type_inv.pmin k) v.result
-    (lent_to v.new.circuits v.new.flow v.new.rate v.new.mw v.new.angle v.new.level v.new.ground v.new.added v.new.figures v.new.counts)
-    v.auto.circuits v.auto.flow v.auto.rate v.auto.mw v.auto.angle v.auto.level v.auto.ground v.auto.added v.auto.figures v.auto.counts
-    _ (loads_lent z.n case.reading case.weight _ c.weigh-load.ensures (buses_fit case z.target lent c.check_case.result answer q)) v.ensures
-    (lent_to h.new.circuits h.new.flow h.new.rate h.new.mw h.new.angle h.new.tier h.new.ground h.new.added h.new.figures h.new.counts)
-    w.result w.ensures h.ensures _ (ap (λ (b : Bool). b && not w.result) c.promotes.ensures) _ _ c.keep_if.ensures c.keep_if-2.ensures _ _ c.copied-caps.ensures.0 c.keep_if-3.ensures).0
+    let v = c.run in
+    let left = slices v.new.circuits v.new.flow v.new.rate z.before.now z.order.now z.kept_cap.now v.new.mw v.new.angle v.new.level v.new.ground v.new.added v.new.figures v.new.counts in
+    let y = c.in-Ok in
+    let fills : (l k : List ℕ) → kept_if c.promotes-fills.result (length l) (take (length l) k) ≡ kept_if (promote z.mode) (length l) (take (length l) k) =
+    λ l k. ap (λ (b : Bool). kept_if b (length l) (take (length l) k)) c.promotes-fills.ensures in
+    (ends_answered case z.target lent c.check_case.result answer q z.sheet.now refl refl (λ e k l. c.type_inv.pmin k) v.result left
+    _ (loads_lent z.n case.reading case.weight _ c.weigh-load.ensures (buses_fit case z.target lent c.check_case.result answer q)) v.ensures v.auto.figures v.auto.counts y.ran y.is _ _ _ _ _
+    (c.keep_if.ensures ∙ fills z.before.now y.ran.kept.before) (c.keep_if-in-Ok.ensures ∙ fills z.order.now y.ran.kept.order) c.copy_from_slice.ensures.after
+    (c.fill.ensures.after (λ y e. e)) (c.fill-in-Ok.ensures.after (λ y e. e))).1
 
-pub returns-clause-demand : goal.returns-clause-demand
-returns-clause-demand c =
+pub returns-in-Err-clause-plan : goal.returns-in-Err-clause-plan
+returns-in-Err-clause-plan c =
     let z = c.args in
     let case = surveyed z.mode z.n z.m z.g z.above z.requested z.ladder.now z.tier.now z.reading.now z.weight.now z.bus.now z.slack.now z.pmin.now z.pmax.now z.c1.now z.c2.now z.a.now z.b.now z.initial.now z.km.now z.share.now z.cap.now z.sheet.now in
     let lent = slices z.circuits.now z.flow.now z.rate.now z.before.now z.order.now z.kept_cap.now z.mw.now z.angle.now z.level.now z.ground.now z.added.now z.figures.now z.counts.now in
     let answer : c.check_case.result ≡ check_of (slices_ok case lent) (tables_of_lem case) z.target = checked case z.target lent _ _ c.places_ok-fits.ensures c.check_case.ensures in
     let q = c.in_ok-check_case.was in
-    let v = c.run-ran in
-    let w = c.is_refused-refused in
-    let h = c.finish in
-    (ends_when case z.target lent c.check_case.result answer q z.sheet.now refl refl (λ e k l. c.type_inv.pmin k) v.result
-    (lent_to v.new.circuits v.new.flow v.new.rate v.new.mw v.new.angle v.new.level v.new.ground v.new.added v.new.figures v.new.counts)
-    v.auto.circuits v.auto.flow v.auto.rate v.auto.mw v.auto.angle v.auto.level v.auto.ground v.auto.added v.auto.figures v.auto.counts
-    _ (loads_lent z.n case.reading case.weight _ c.weigh-load.ensures (buses_fit case z.target lent c.check_case.result answer q)) v.ensures
-    (lent_to h.new.circuits h.new.flow h.new.rate h.new.mw h.new.angle h.new.tier h.new.ground h.new.added h.new.figures h.new.counts)
-    w.result w.ensures h.ensures _ (ap (λ (b : Bool). b && not w.result) c.promotes.ensures) _ _ c.keep_if.ensures c.keep_if-2.ensures _ _ c.copied-caps.ensures.0 c.keep_if-3.ensures).1
+    let v = c.run in
+    let left = slices v.new.circuits v.new.flow v.new.rate z.before.now z.order.now z.kept_cap.now v.new.mw v.new.angle v.new.level v.new.ground v.new.added v.new.figures v.new.counts in
+    (ends_refused case z.target lent c.check_case.result answer q z.sheet.now refl refl (λ e k l. c.type_inv.pmin k) v.result left
+    _ (loads_lent z.n case.reading case.weight _ c.weigh-load.ensures (buses_fit case z.target lent c.check_case.result answer q)) v.ensures v.auto.figures v.auto.counts c.in-Err.f c.in-Err.is
+    v.auto.circuits v.auto.flow v.auto.rate refl refl refl v.auto.mw v.auto.angle v.auto.level v.auto.ground v.auto.added _ c.clear.ensures).0
+
+pub returns-in-Err-clause-demand : goal.returns-in-Err-clause-demand
+returns-in-Err-clause-demand c =
+    let z = c.args in
+    let case = surveyed z.mode z.n z.m z.g z.above z.requested z.ladder.now z.tier.now z.reading.now z.weight.now z.bus.now z.slack.now z.pmin.now z.pmax.now z.c1.now z.c2.now z.a.now z.b.now z.initial.now z.km.now z.share.now z.cap.now z.sheet.now in
+    let lent = slices z.circuits.now z.flow.now z.rate.now z.before.now z.order.now z.kept_cap.now z.mw.now z.angle.now z.level.now z.ground.now z.added.now z.figures.now z.counts.now in
+    let answer : c.check_case.result ≡ check_of (slices_ok case lent) (tables_of_lem case) z.target = checked case z.target lent _ _ c.places_ok-fits.ensures c.check_case.ensures in
+    let q = c.in_ok-check_case.was in
+    let v = c.run in
+    let left = slices v.new.circuits v.new.flow v.new.rate z.before.now z.order.now z.kept_cap.now v.new.mw v.new.angle v.new.level v.new.ground v.new.added v.new.figures v.new.counts in
+    (ends_refused case z.target lent c.check_case.result answer q z.sheet.now refl refl (λ e k l. c.type_inv.pmin k) v.result left
+    _ (loads_lent z.n case.reading case.weight _ c.weigh-load.ensures (buses_fit case z.target lent c.check_case.result answer q)) v.ensures v.auto.figures v.auto.counts c.in-Err.f c.in-Err.is
+    v.auto.circuits v.auto.flow v.auto.rate refl refl refl v.auto.mw v.auto.angle v.auto.level v.auto.ground v.auto.added _ c.clear.ensures).1

@@ -39,24 +39,6 @@ lower_bounds-requires c =
     let h = c.requires in
     h.circuits_size ∙ sym h.sound.circuits_size
 
-pub shape_of-leader : goal.shape_of-leader
-shape_of-leader c = c.component_leaders.auto.leader
-
-pub shape_of-injection : goal.shape_of-injection
-shape_of-injection c = c.injections.auto.injection
-
-pub shape_of-ground : goal.shape_of-ground
-shape_of-ground c = c.ground_components-count.auto.ground
-
-pub shape_of-mw : goal.shape_of-mw
-shape_of-mw c = c.dispatch_components.auto.mw
-
-pub shape_of-level : goal.shape_of-level
-shape_of-level c = c.first_levels.auto.level
-
-pub shape_of-circuits : goal.shape_of-circuits
-shape_of-circuits c = c.lower_bounds.auto.circuits
-
 pub returns : goal.returns
 returns c =
     let h = c.requires in

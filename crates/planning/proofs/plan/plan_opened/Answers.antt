@@ -1,6 +1,5 @@
--- or what settling the rounds' draft leads to, are the defined stages.
-use Rattle.std.proofs.Common.{refl, ◌∙◌, arith}
-use Rattle.planning.proofs.Plans.{redesign_fit, raises_fit, runnable_of, settleable_of, opened_refused, opened_unrun, opened_plan}
+use Rattle.std.proofs.Common.{rules, ◌≡◌, Err, refl, ◌∙◌, arith}
+use Rattle.planning.proofs.Plans.{redesign_fit, raises_fit, runnable_of, settleable_of, opened_refused, opened_unrun, opened_unsettled, opened_plan}
 use Rattle.planning.proofs.plan.plan_opened.Goals as goal
 use Rattle.planning.specs.Tables.{grid_in, supply_in, opened_in}
 
@@ -15,24 +14,18 @@ raises-requires c =
     let d = c.redesign in
     raises_fit s.args.mode s.args.target s.args.above _ _ _ _ _ _ _ _ _ _ _ s.requires.plannable _ d.auto.banks d.ensures.sound
 
-pub unplanned-requires : goal.unplanned-requires
-unplanned-requires c = tt
-
 pub run_rounds-requires : goal.run_rounds-requires
 run_rounds-requires c =
     let s = c in
     let z = s.args in
     let d = c.redesign in
     let v = c.raises in
-    let p = c.in-Ok in
-    runnable_of z.mode z.target z.above (grid_in z.grid.now) z.level.now (supply_in z.supply.now) (opened_in z.opened.now) z.circuits.now z.banks.now z.floors.now z.upsized.now z.marks.now z.angle.now z.flow.now s.requires.plannable d.new.banks v.new.level v.new.banks v.result v.ensures v.auto.level p.promoted p.is s.requires.closable.few
+    let p = c.in_ok-promoted in
+    runnable_of z.mode z.target z.above (grid_in z.grid.now) z.level.now (supply_in z.supply.now) (opened_in z.opened.now) z.circuits.now z.banks.now z.floors.now z.upsized.now z.marks.now z.angle.now z.flow.now s.requires.plannable d.new.banks v.new.level v.new.banks v.result v.ensures v.auto.level _ p.was s.requires.closable.few
     v.new.marks v.new.angle v.new.flow (v.auto.banks ∙ d.auto.banks) v.auto.marks v.auto.angle v.auto.flow
 
-pub unplanned-requires-in-Err-run_rounds : goal.unplanned-requires-in-Err-run_rounds
-unplanned-requires-in-Err-run_rounds c = tt
-
-pub settle-settled-requires : goal.settle-settled-requires
-settle-settled-requires c =
+pub settle-requires : goal.settle-requires
+settle-requires c =
     let s = c in
     let z = s.args in
     let d = c.redesign in
@@ -49,112 +42,47 @@ overflow_cast-opened c =
     let h = c.requires.plannable.places.few_grounds in
     omega (arith, h)
 
-pub concluded-requires : goal.concluded-requires
-concluded-requires c = tt
-
-pub shape_of-circuits-in-Err : goal.shape_of-circuits-in-Err
-shape_of-circuits-in-Err c = refl
-
-pub shape_of-banks-in-Err : goal.shape_of-banks-in-Err
-shape_of-banks-in-Err c = c.raises.auto.banks ∙ c.redesign.auto.banks
-
-pub shape_of-floors-in-Err : goal.shape_of-floors-in-Err
-shape_of-floors-in-Err c = refl
-
-pub shape_of-level-in-Err : goal.shape_of-level-in-Err
-shape_of-level-in-Err c = c.raises.auto.level
-
-pub shape_of-marks-in-Err : goal.shape_of-marks-in-Err
-shape_of-marks-in-Err c = c.raises.auto.marks
-
-pub shape_of-flow-in-Err : goal.shape_of-flow-in-Err
-shape_of-flow-in-Err c = c.raises.auto.flow
-
-pub shape_of-angle-in-Err : goal.shape_of-angle-in-Err
-shape_of-angle-in-Err c = c.raises.auto.angle
-
-pub returns-in-Err : goal.returns-in-Err
-returns-in-Err c =
+pub returns-in_err-promoted : goal.returns-in_err-promoted
+returns-in_err-promoted c =
     let v = c.raises in
-    opened_refused _ _ _ _ _ _ _ _ _ _ _ _ _ _ c.requires.plannable _ _ _ v.result v.ensures v.auto.level c.redesign.ensures.anew _ c.in-Err.is _ _ _ _ _ _ c.unplanned.result c.unplanned.ensures
+    let h : c.from_residual.result ≡ Err c.in_err-promoted.field-0.0 = search rules in
+    rw h (opened_refused _ _ _ _ _ _ _ _ _ _ _ _ _ _ c.requires.plannable _ _ _ v.result v.ensures v.auto.level c.redesign.ensures.anew _ c.in_err-promoted.was _ _ _ _ _ _)
 
-pub shape_of-circuits-in-Err-run_rounds : goal.shape_of-circuits-in-Err-run_rounds
-shape_of-circuits-in-Err-run_rounds c = c.run_rounds.auto.circuits
-
-pub shape_of-banks-in-Err-run_rounds : goal.shape_of-banks-in-Err-run_rounds
-shape_of-banks-in-Err-run_rounds c = c.run_rounds.auto.banks ∙ c.raises.auto.banks ∙ c.redesign.auto.banks
-
-pub shape_of-floors-in-Err-run_rounds : goal.shape_of-floors-in-Err-run_rounds
-shape_of-floors-in-Err-run_rounds c = c.run_rounds.auto.floors
-
-pub shape_of-upsized-in-Err-run_rounds : goal.shape_of-upsized-in-Err-run_rounds
-shape_of-upsized-in-Err-run_rounds c = c.run_rounds.auto.upsized
-
-pub shape_of-level-in-Err-run_rounds : goal.shape_of-level-in-Err-run_rounds
-shape_of-level-in-Err-run_rounds c = c.run_rounds.auto.level ∙ c.raises.auto.level
-
-pub shape_of-marks-in-Err-run_rounds : goal.shape_of-marks-in-Err-run_rounds
-shape_of-marks-in-Err-run_rounds c = c.run_rounds.auto.marks ∙ c.raises.auto.marks
-
-pub shape_of-flow-in-Err-run_rounds : goal.shape_of-flow-in-Err-run_rounds
-shape_of-flow-in-Err-run_rounds c = c.run_rounds.auto.flow ∙ c.raises.auto.flow
-
-pub shape_of-angle-in-Err-run_rounds : goal.shape_of-angle-in-Err-run_rounds
-shape_of-angle-in-Err-run_rounds c = c.run_rounds.auto.angle ∙ c.raises.auto.angle
-
-pub returns-in-Err-run_rounds : goal.returns-in-Err-run_rounds
-returns-in-Err-run_rounds c =
+pub returns-in_err-progress : goal.returns-in_err-progress
+returns-in_err-progress c =
     let s = c in
     let z = s.args in
     let d = c.redesign in
     let v = c.raises in
-    let p = c.in-Ok in
     let w = c.run_rounds in
-    let f = c.in-Err-run_rounds in
-    opened_unrun z.mode z.target z.above (grid_in z.grid.now) z.level.now (supply_in z.supply.now) (opened_in z.opened.now) z.circuits.now z.banks.now z.floors.now z.upsized.now z.marks.now z.angle.now z.flow.now s.requires.plannable d.new.banks v.new.level v.new.banks v.result v.ensures v.auto.level d.ensures.anew p.promoted p.is
-    w.new.level w.new.circuits w.new.banks w.new.floors w.new.upsized w.new.angle w.result w.ensures f.f f.is
-    w.new.circuits w.new.level w.new.flow z.rate.now w.new.angle z.added.now c.unplanned-in-Err-run_rounds.result c.unplanned-in-Err-run_rounds.ensures
+    let h : c.from_residual-in_err-progress.result ≡ Err c.in_err-progress.field-0.0 = search rules in
+    rw h
+    (opened_unrun z.mode z.target z.above (grid_in z.grid.now) z.level.now (supply_in z.supply.now) (opened_in z.opened.now) z.circuits.now z.banks.now z.floors.now z.upsized.now z.marks.now z.angle.now z.flow.now s.requires.plannable d.new.banks v.new.level v.new.banks v.result v.ensures v.auto.level d.ensures.anew _ c.in_ok-promoted.was
+    w.new.level w.new.circuits w.new.banks w.new.floors w.new.upsized w.new.angle w.result w.ensures _ c.in_err-progress.was
+    w.new.circuits w.new.level w.new.flow z.rate.now w.new.angle z.added.now)
 
-pub shape_of-circuits-in-Ok-run_rounds : goal.shape_of-circuits-in-Ok-run_rounds
-shape_of-circuits-in-Ok-run_rounds c = c.settle-settled.auto.circuits ∙ c.run_rounds.auto.circuits
-
-pub shape_of-banks-in-Ok-run_rounds : goal.shape_of-banks-in-Ok-run_rounds
-shape_of-banks-in-Ok-run_rounds c = c.run_rounds.auto.banks ∙ c.raises.auto.banks ∙ c.redesign.auto.banks
-
-pub shape_of-floors-in-Ok-run_rounds : goal.shape_of-floors-in-Ok-run_rounds
-shape_of-floors-in-Ok-run_rounds c = c.run_rounds.auto.floors
-
-pub shape_of-upsized-in-Ok-run_rounds : goal.shape_of-upsized-in-Ok-run_rounds
-shape_of-upsized-in-Ok-run_rounds c = c.run_rounds.auto.upsized
-
-pub shape_of-level-in-Ok-run_rounds : goal.shape_of-level-in-Ok-run_rounds
-shape_of-level-in-Ok-run_rounds c = c.settle-settled.auto.level ∙ c.run_rounds.auto.level ∙ c.raises.auto.level
-
-pub shape_of-marks-in-Ok-run_rounds : goal.shape_of-marks-in-Ok-run_rounds
-shape_of-marks-in-Ok-run_rounds c = c.run_rounds.auto.marks ∙ c.raises.auto.marks
-
-pub shape_of-flow-in-Ok-run_rounds : goal.shape_of-flow-in-Ok-run_rounds
-shape_of-flow-in-Ok-run_rounds c = c.settle-settled.auto.flow ∙ c.run_rounds.auto.flow ∙ c.raises.auto.flow
-
-pub shape_of-rate : goal.shape_of-rate
-shape_of-rate c = c.settle-settled.auto.rate
-
-pub shape_of-angle-in-Ok-run_rounds : goal.shape_of-angle-in-Ok-run_rounds
-shape_of-angle-in-Ok-run_rounds c = c.settle-settled.auto.angle ∙ c.run_rounds.auto.angle ∙ c.raises.auto.angle
-
-pub shape_of-added : goal.shape_of-added
-shape_of-added c = c.settle-settled.auto.added
-
-pub returns-in-Ok-run_rounds : goal.returns-in-Ok-run_rounds
-returns-in-Ok-run_rounds c =
+pub returns-in_err-settling : goal.returns-in_err-settling
+returns-in_err-settling c =
     let s = c in
     let z = s.args in
     let d = c.redesign in
     let v = c.raises in
-    let p = c.in-Ok in
     let w = c.run_rounds in
-    let u = c.in-Ok-run_rounds in
-    let x = c.settle-settled in
-    opened_plan z.mode z.target z.above (grid_in z.grid.now) z.level.now (supply_in z.supply.now) (opened_in z.opened.now) z.circuits.now z.banks.now z.floors.now z.upsized.now z.marks.now z.angle.now z.flow.now s.requires.plannable d.new.banks v.new.level v.new.banks v.result v.ensures v.auto.level d.ensures.anew p.promoted p.is
-    w.new.level w.new.circuits w.new.banks w.new.floors w.new.upsized w.new.angle w.result w.ensures u.progress u.is
-    x.new.circuits x.new.level x.new.flow x.new.rate x.new.angle x.new.added x.result x.ensures w.auto.level c.concluded.result c.concluded.ensures.said c.concluded.ensures.kept
+    let x = c.settle in
+    let h : c.from_residual-in_err-settling.result ≡ Err c.in_err-settling.field-0.0 = search rules in
+    rw h
+    (opened_unsettled z.mode z.target z.above (grid_in z.grid.now) z.level.now (supply_in z.supply.now) (opened_in z.opened.now) z.circuits.now z.banks.now z.floors.now z.upsized.now z.marks.now z.angle.now z.flow.now s.requires.plannable d.new.banks v.new.level v.new.banks v.result v.ensures v.auto.level d.ensures.anew _ c.in_ok-promoted.was
+    w.new.level w.new.circuits w.new.banks w.new.floors w.new.upsized w.new.angle w.result w.ensures _ c.in_ok-progress.was
+    x.new.circuits x.new.level x.new.flow x.new.rate x.new.angle x.new.added x.result x.ensures w.auto.level _ c.in_err-settling.was)
+
+pub returns : goal.returns
+returns c =
+    let s = c in
+    let z = s.args in
+    let d = c.redesign in
+    let v = c.raises in
+    let w = c.run_rounds in
+    let x = c.settle in
+    opened_plan z.mode z.target z.above (grid_in z.grid.now) z.level.now (supply_in z.supply.now) (opened_in z.opened.now) z.circuits.now z.banks.now z.floors.now z.upsized.now z.marks.now z.angle.now z.flow.now s.requires.plannable d.new.banks v.new.level v.new.banks v.result v.ensures v.auto.level d.ensures.anew _ c.in_ok-promoted.was
+    w.new.level w.new.circuits w.new.banks w.new.floors w.new.upsized w.new.angle w.result w.ensures _ c.in_ok-progress.was
+    x.new.circuits x.new.level x.new.flow x.new.rate x.new.angle x.new.added x.result x.ensures w.auto.level _ c.in_ok-settling.was c.planned.result c.planned.ensures.plan c.planned.ensures.kept

@@ -1,3 +1,4 @@
+use Rattle.std.proofs.Common.{rules, ◌≡◌, Err}
 use Rattle.planning.proofs.Joins.{openable_of, stages_refused, count_of, opened_asks, stages_plan}
 use Rattle.planning.proofs.plan.run.Goals as goal
 use Rattle.planning.specs.Tables.{grid_in, supply_in}
@@ -8,13 +9,12 @@ open-requires c =
     let z = s.args in
     openable_of z.mode z.target z.above (grid_in z.grid.now) z.tier.now (supply_in z.supply.now) z.initial.now z.circuits.now z.flow.now z.rate.now z.mw.now z.angle.now z.level.now z.ground.now z.added.now z.figures.now z.counts.now s.requires
 
-pub slice_bounds-opened-end-in-Ok : goal.slice_bounds-opened-end-in-Ok
-slice_bounds-opened-end-in-Ok c =
+pub slice_bounds-opened-end-2 : goal.slice_bounds-opened-end-2
+slice_bounds-opened-end-2 c =
     let s = c in
     let z = s.args in
     let v = c.«open» in
-    let q = c.in-Ok in
-    count_of z.mode z.target z.above (grid_in z.grid.now) z.tier.now (supply_in z.supply.now) z.initial.now z.circuits.now z.flow.now z.rate.now z.mw.now z.angle.now z.level.now z.ground.now z.added.now z.figures.now z.counts.now s.requires v.new.leader v.new.injection v.new.ground v.new.mw v.new.level v.new.circuits v.result v.ensures q.count q.is v.auto.leader v.auto.ground
+    count_of z.mode z.target z.above (grid_in z.grid.now) z.tier.now (supply_in z.supply.now) z.initial.now z.circuits.now z.flow.now z.rate.now z.mw.now z.angle.now z.level.now z.ground.now z.added.now z.figures.now z.counts.now s.requires v.new.leader v.new.injection v.new.ground v.new.mw v.new.level v.new.circuits v.result v.ensures _ c.in_ok-count.was v.auto.leader v.auto.ground
 
 pub plan_opened-requires : goal.plan_opened-requires
 plan_opened-requires c =
@@ -22,23 +22,21 @@ plan_opened-requires c =
     let z = s.args in
     let v = c.«open» in
     let k = c.fill in
-    let q = c.in-Ok in
-    let both-parts = opened_asks z.mode z.target z.above (grid_in z.grid.now) z.tier.now (supply_in z.supply.now) z.initial.now z.circuits.now z.flow.now z.rate.now z.mw.now z.angle.now z.level.now z.ground.now z.added.now z.figures.now z.counts.now s.requires v.new.leader v.new.injection v.new.ground v.new.mw v.new.level v.new.circuits v.result v.ensures q.count q.is v.auto.leader v.auto.injection k.new.self (k.ensures.after (λ y e. e)) v.auto.circuits in record { plannable = both-parts.0; closable = both-parts.1 }
+    let both-parts = opened_asks z.mode z.target z.above (grid_in z.grid.now) z.tier.now (supply_in z.supply.now) z.initial.now z.circuits.now z.flow.now z.rate.now z.mw.now z.angle.now z.level.now z.ground.now z.added.now z.figures.now z.counts.now s.requires v.new.leader v.new.injection v.new.ground v.new.mw v.new.level v.new.circuits v.result v.ensures _ c.in_ok-count.was v.auto.leader v.auto.injection k.new.self (k.ensures.after (λ y e. e)) v.auto.circuits in record { plannable = both-parts.0; closable = both-parts.1 }
 
-pub returns-in-Err : goal.returns-in-Err
-returns-in-Err c =
+pub returns-in_err-count : goal.returns-in_err-count
+returns-in_err-count c =
     let s = c in
     let z = s.args in
     let v = c.«open» in
-    let q = c.in-Err in
-    stages_refused z.mode z.target z.above (grid_in z.grid.now) z.tier.now (supply_in z.supply.now) z.initial.now z.circuits.now z.flow.now z.rate.now z.mw.now z.angle.now z.level.now z.ground.now z.added.now z.figures.now z.counts.now s.requires v.new.leader v.new.injection v.new.ground v.new.mw v.new.level v.new.circuits v.result v.ensures _ q.is _ _ _ _ _ _ _ _ c.unplanned.result c.unplanned.ensures
+    let h : c.from_residual.result ≡ Err c.in_err-count.field-0.0 = search rules in
+    rw h (stages_refused z.mode z.target z.above (grid_in z.grid.now) z.tier.now (supply_in z.supply.now) z.initial.now z.circuits.now z.flow.now z.rate.now z.mw.now z.angle.now z.level.now z.ground.now z.added.now z.figures.now z.counts.now s.requires v.new.leader v.new.injection v.new.ground v.new.mw v.new.level v.new.circuits v.result v.ensures _ c.in_err-count.was _ _ _ _ _ _ _ _)
 
-pub returns-in-Ok : goal.returns-in-Ok
-returns-in-Ok c =
+pub returns : goal.returns
+returns c =
     let s = c in
     let z = s.args in
     let v = c.«open» in
     let k = c.fill in
-    let q = c.in-Ok in
     let w = c.plan_opened in
-    stages_plan z.mode z.target z.above (grid_in z.grid.now) z.tier.now (supply_in z.supply.now) z.initial.now z.circuits.now z.flow.now z.rate.now z.mw.now z.angle.now z.level.now z.ground.now z.added.now z.figures.now z.counts.now s.requires v.new.leader v.new.injection v.new.ground v.new.mw v.new.level v.new.circuits v.result v.ensures q.count q.is v.auto.leader v.auto.injection k.new.self (k.ensures.after (λ y e. e)) w.new.circuits w.new.flow w.new.rate w.new.angle w.new.level w.new.added w.result w.ensures
+    stages_plan z.mode z.target z.above (grid_in z.grid.now) z.tier.now (supply_in z.supply.now) z.initial.now z.circuits.now z.flow.now z.rate.now z.mw.now z.angle.now z.level.now z.ground.now z.added.now z.figures.now z.counts.now s.requires v.new.leader v.new.injection v.new.ground v.new.mw v.new.level v.new.circuits v.result v.ensures _ c.in_ok-count.was v.auto.leader v.auto.injection k.new.self (k.ensures.after (λ y e. e)) w.new.circuits w.new.flow w.new.rate w.new.angle w.new.level w.new.added w.result w.ensures

@@ -9,35 +9,20 @@ pub returns-in_err-solve_from_zero : goal.returns-in_err-solve_from_zero
 returns-in_err-solve_from_zero c =
     let v = c.solve_from_zero in
     let h : c.from_residual.result ≡ Err c.in_err-solve_from_zero.field-0.0 = search rules in
-    rw h (λ before order. solved_refused _ _ v.result _ _ _ _ v.ensures c.in_err-solve_from_zero.was)
+    rw h (λ filler before order. solved_refused _ _ v.result _ _ _ _ v.ensures c.in_err-solve_from_zero.was)
 
-pub close-closing-requires : goal.close-closing-requires
-close-closing-requires c =
+pub close-requires : goal.close-requires
+close-requires c =
     let h = c.requires in
     let v = c.solve_from_zero in
     let w = settleable_again _ _ _ _ _ _ _ _ _ _ _ h _ _ _ refl v.auto.flow v.auto.angle in
     record { lines = h.drawing.lines; loaded = (loaded _ _ _ _ _ _ _ _ _ _ _ w, h.cap_size); closable = w.closable }
 
-pub shape_of-level : goal.shape_of-level
-shape_of-level c = c.close-closing.auto.level
-
-pub shape_of-flow : goal.shape_of-flow
-shape_of-flow c = c.solve_from_zero.auto.flow
-
-pub shape_of-rate : goal.shape_of-rate
-shape_of-rate c = c.close-closing.auto.rate
-
-pub shape_of-angle : goal.shape_of-angle
-shape_of-angle c = c.solve_from_zero.auto.angle
-
-pub shape_of-added : goal.shape_of-added
-shape_of-added c = c.close-closing.auto.added
-
 pub returns : goal.returns
 returns c =
     let z = c.args in
     let v = c.solve_from_zero in
-    let e = c.close-closing.ensures in
-    λ before order.
+    let e = c.close.ensures in
+    λ filler before order.
     closed_answered z.mode z.grid.now.cap.now z.above z.opened.now.leader.now z.grid.now.ladder.now z.level.now (designs_for (grid_in z.grid.now) z.level.now z.banks.now)
-    z.upsized.now (peak_for (length z.level.now) z.opened.now.grounds.now z.opened.now.injection.now) z.filler before order z.circuits.now _ _ _ _ _ _ v.result _ v.ensures c.in_ok-solve_from_zero.was e.closing e.rate e.tier e.added
+    z.upsized.now (peak_for (length z.level.now) z.opened.now.grounds.now z.opened.now.injection.now) filler before order z.circuits.now _ _ _ _ _ _ v.result _ v.ensures c.in_ok-solve_from_zero.was e.closing e.rate e.tier e.added

@@ -1,7 +1,7 @@
-use Rattle.std.proofs.Common.{ℕ, length, take, sym, refl, ap, ◌∙◌, arith}
+use Rattle.std.proofs.Common.{rules, ◌≡◌, Err, ℕ, length, take, sym, refl, ap, ◌∙◌, arith}
 use Rattle.planning.specs.Solve.{peak_for}
 use Rattle.planning.specs.Fill.{designs_for}
-use Rattle.planning.proofs.Settling.{settleable_again, caps_fit, counted, ranked, filled_are}
+use Rattle.planning.proofs.Settling.{settleable_again, caps_fit, counted, ranked, ended_refused, ended_answered, filled_are}
 use Rattle.planning.proofs.settle.fill_up.Goals as goal
 use Rattle.planning.specs.Tables.{grid_in}
 
@@ -16,27 +16,24 @@ fill-filler-requires c =
     let o = c.fill_order.ensures in
     record { ranked = (ranked _ _ _ _ _ _ _ _ _ _ _ s.requires.settleable _ _ o.size o.order, caps_fit _ _ _ _ _ _ _ _ _ _ _ s.requires.settleable); counted = counted _ _ _ _ _ _ _ _ _ _ _ s.requires.settleable s.requires.few }
 
-pub close_up-settled-requires : goal.close_up-settled-requires
-close_up-settled-requires c =
+pub close_up-requires : goal.close_up-requires
+close_up-requires c =
     settleable_again _ _ _ _ _ _ _ _ _ _ _ c.requires.settleable _ _ _ c.fill-filler.auto.circuits refl refl
 
-pub shape_of-circuits : goal.shape_of-circuits
-shape_of-circuits c = c.fill-filler.auto.circuits
-
-pub shape_of-level : goal.shape_of-level
-shape_of-level c = c.close_up-settled.auto.level
-
-pub shape_of-flow : goal.shape_of-flow
-shape_of-flow c = c.close_up-settled.auto.flow
-
-pub shape_of-rate : goal.shape_of-rate
-shape_of-rate c = c.close_up-settled.auto.rate
-
-pub shape_of-angle : goal.shape_of-angle
-shape_of-angle c = c.close_up-settled.auto.angle
-
-pub shape_of-added : goal.shape_of-added
-shape_of-added c = c.close_up-settled.auto.added
+pub returns-in_err-closing : goal.returns-in_err-closing
+returns-in_err-closing c =
+    let s = c in
+    let z = s.args in
+    let f = c.fill-filler.ensures in
+    let k = c.keep-kept.ensures in
+    let e = s.requires.settleable.drawing.count_size in
+    let h : c.from_residual.result ≡ Err c.in_err-closing.field-0.0 = search rules in
+    rw h
+    (ended_refused c.close_up.result _ _ _ _ _ _ _ _ _ _
+    (c.close_up.ensures c.fill-filler.result (take (length z.grid.now.a.now) c.keep-kept.result.before) (take (length z.grid.now.a.now) c.keep-kept.result.order)
+    ∙ filled_are z.mode z.grid.now.cap.now z.above z.opened.now.leader.now z.grid.now.ladder.now z.level.now (designs_for (grid_in z.grid.now) z.level.now z.banks.now)
+    z.upsized.now (peak_for (length z.level.now) z.opened.now.grounds.now z.opened.now.injection.now) z.target (length z.grid.now.a.now) _ z.circuits.now _ _ _ _ z.flow.now e c.fill_order.ensures.order
+    (ap (λ (n : ℕ). take n c.keep-kept.result.before) (sym e) ∙ k.before) (ap (take (length z.grid.now.a.now)) k.order) f.circuits f.filler) _ c.in_err-closing.was)
 
 pub returns : goal.returns
 returns c =
@@ -45,7 +42,8 @@ returns c =
     let f = c.fill-filler.ensures in
     let k = c.keep-kept.ensures in
     let e = s.requires.settleable.drawing.count_size in
-    c.close_up-settled.ensures _ _
+    ended_answered c.close_up.result _ _ _ _ _ _ _ _ _ _
+    (c.close_up.ensures c.fill-filler.result (take (length z.grid.now.a.now) c.keep-kept.result.before) (take (length z.grid.now.a.now) c.keep-kept.result.order)
     ∙ filled_are z.mode z.grid.now.cap.now z.above z.opened.now.leader.now z.grid.now.ladder.now z.level.now (designs_for (grid_in z.grid.now) z.level.now z.banks.now)
     z.upsized.now (peak_for (length z.level.now) z.opened.now.grounds.now z.opened.now.injection.now) z.target (length z.grid.now.a.now) _ z.circuits.now _ _ _ _ z.flow.now e c.fill_order.ensures.order
-    (ap (λ (n : ℕ). take n c.keep-kept.result.before) (sym e) ∙ k.before) (ap (take (length z.grid.now.a.now)) k.order) f.circuits f.filler
+    (ap (λ (n : ℕ). take n c.keep-kept.result.before) (sym e) ∙ k.before) (ap (take (length z.grid.now.a.now)) k.order) f.circuits f.filler) _ c.in_ok-closing.was

@@ -1,15 +1,18 @@
-use Rattle.std.proofs.Common.{length, refl, ◌∙◌}
+use Rattle.std.proofs.Common.{rules, ◌≡◌, Err, length, refl, ◌∙◌}
 use Rattle.plan_defs.specs.Solve.{PlanningCase}
 use Rattle.planning.specs.Solve.{peak_for}
 use Rattle.planning.specs.Fill.{designs_for}
 use Rattle.planning.specs.Settle.{filled_from}
 use Rattle.planning.proofs.Settling.{settleable_again, solved_refused, solved_answered}
-use Rattle.planning.proofs.Settlements.{settles, settles_refused}
+use Rattle.planning.proofs.Settlements.{settles}
 use Rattle.planning.proofs.settle.settle.Goals as goal
 use Rattle.planning.specs.Tables.{grid_in, opened_in}
 
-pub unsettled-requires : goal.unsettled-requires
-unsettled-requires c = tt
+pub returns-in_err-solve_from_zero : goal.returns-in_err-solve_from_zero
+returns-in_err-solve_from_zero c =
+    let v = c.solve_from_zero in
+    let h : c.from_residual.result ≡ Err c.in_err-solve_from_zero.field-0.0 = search rules in
+    rw h (settles _ _ _ _ _ _ _ _ _ _ _ _ _ _ _ _ (solved_refused _ _ v.result _ _ _ _ v.ensures c.in_err-solve_from_zero.was))
 
 pub fill_up-requires : goal.fill_up-requires
 fill_up-requires c =
@@ -17,43 +20,8 @@ fill_up-requires c =
     let v = c.solve_from_zero.auto in
     record { settleable = settleable_again _ _ _ _ _ _ _ _ _ _ _ h.settleable _ _ _ refl v.flow v.angle; few = h.few }
 
-pub shape_of-circuits-in-Err : goal.shape_of-circuits-in-Err
-shape_of-circuits-in-Err c = refl
-
-pub shape_of-level-in-Err : goal.shape_of-level-in-Err
-shape_of-level-in-Err c = refl
-
-pub shape_of-flow-in-Err : goal.shape_of-flow-in-Err
-shape_of-flow-in-Err c = c.solve_from_zero.auto.flow
-
-pub shape_of-angle-in-Err : goal.shape_of-angle-in-Err
-shape_of-angle-in-Err c = c.solve_from_zero.auto.angle
-
-pub returns-in-Err : goal.returns-in-Err
-returns-in-Err c =
-    let v = c.solve_from_zero in
-    settles_refused _ _ _ _ _ _ _ _ _ _ _ _ _ _ _ c.unsettled.result _ c.unsettled.ensures.0 (solved_refused _ _ v.result _ _ _ _ v.ensures c.in-Err.is)
-
-pub shape_of-circuits-in-Ok : goal.shape_of-circuits-in-Ok
-shape_of-circuits-in-Ok c = c.fill_up.auto.circuits
-
-pub shape_of-level-in-Ok : goal.shape_of-level-in-Ok
-shape_of-level-in-Ok c = c.fill_up.auto.level
-
-pub shape_of-flow-in-Ok : goal.shape_of-flow-in-Ok
-shape_of-flow-in-Ok c = c.fill_up.auto.flow ∙ c.solve_from_zero.auto.flow
-
-pub shape_of-rate : goal.shape_of-rate
-shape_of-rate c = c.fill_up.auto.rate
-
-pub shape_of-angle-in-Ok : goal.shape_of-angle-in-Ok
-shape_of-angle-in-Ok c = c.fill_up.auto.angle ∙ c.solve_from_zero.auto.angle
-
-pub shape_of-added : goal.shape_of-added
-shape_of-added c = c.fill_up.auto.added
-
-pub returns-in-Ok : goal.returns-in-Ok
-returns-in-Ok c =
+pub returns : goal.returns
+returns c =
     let z = c.args in
     let v = c.solve_from_zero in
     let f = c.fill_up in
@@ -61,4 +29,4 @@ returns-in-Ok c =
     (f.ensures
     ∙ solved_answered
     (λ (w : PlanningCase). filled_from z.mode z.grid.now.cap.now z.above z.opened.now.leader.now z.grid.now.ladder.now z.level.now (designs_for (grid_in z.grid.now) z.level.now z.banks.now) z.upsized.now (peak_for (length z.level.now) z.opened.now.grounds.now z.opened.now.injection.now) z.target (length z.grid.now.a.now) z.circuits.now w.flows)
-    _ v.result _ v.new.angle v.new.flow v.ensures c.in-Ok.is)
+    _ v.result _ v.new.angle v.new.flow v.ensures c.in_ok-solve_from_zero.was)

@@ -40,6 +40,7 @@ pub mod Promoting
 pub mod Settling
 pub mod Settlements
 pub mod Stiffenings
+mod Sweeps
 pub mod Gains
 pub mod Leads
 pub mod Reinforcing

@@ -87,9 +87,8 @@ pub fn size_rounds(
         p.converged = false;
         p.settled = false;
         let e = draw_edges(grid, level, circuits, banks);
-        match peak_state(e, opened, angle, flow) {
-            Err(f) => break 'rounds Err(f),
-            Ok(()) => {}
+        if let Err(f) = peak_state(e, opened, angle, flow) {
+            break 'rounds Err(f);
         }
         marks.fill(0);
         let mut t = Tally {
@@ -97,14 +96,12 @@ pub fn size_rounds(
             added: false,
             capped: false,
         };
-        let mut k = 0;
-        while k < grid.a.len() {
+        for k in 0..grid.a.len() {
             t = size_corridor(
                 mode, grid, level, flow, k, circuits, banks, floors, upsized, marks, t,
             );
-            k += 1;
             // Only the last corridor can say what follows: all are sized with the flows of the round's start and raised together.
-            if k == grid.a.len() {
+            if k + 1 == grid.a.len() {
                 let moved = raise_marked(grid, supply, floors, marks, level, banks);
                 if (moved > 0) | t.added {
                     p.capacity = t.capacity;
@@ -121,8 +118,7 @@ pub fn size_rounds(
         }
         let g = limits_of(above, level);
         let mut s = stiffness_from(g, level, circuits, p.stiffening, marks);
-        let mut i = 0;
-        while i < opened.leader.len() {
+        for i in 0..opened.leader.len() {
             match stiffen_led(
                 i, p.rounds, g, grid, level, opened, e, angle, circuits, banks, floors, upsized,
                 marks, s,
@@ -130,9 +126,8 @@ pub fn size_rounds(
                 Err(f) => break 'rounds Err(f),
                 Ok(u) => s = u,
             }
-            i += 1;
             // Only the last component can say what follows: the raises of all are made together.
-            if i == opened.leader.len() {
+            if i + 1 == opened.leader.len() {
                 let moved = raise_marked(grid, supply, floors, marks, level, banks);
                 p.capacity = t.capacity;
                 p.stiffening = s.stiffening;

@@ -40,7 +40,6 @@ impl<'a> Bytes<'a> {
     }
 
     // A number of so many bytes, the least significant first.
-    #[tactic(auto)]
     fn put_bytes(&mut self, width: usize, n: u64)
         requires width_in_bounds { width ≤ 8 }
         requires room { self.old.len + width ≤ length self.old.out.now }
@@ -49,6 +48,7 @@ impl<'a> Bytes<'a> {
         self.put(&n.to_le_bytes()[..width])
     }
 
+    // A name for each width of a field, plainer than a const parameter at each call.
     pub fn put_u8(&mut self, n: u64)
         requires { self.old.len + 1 ≤ length self.old.out.now }
         ensures { Grown self.old self.new 1 (bytes 1 n) }

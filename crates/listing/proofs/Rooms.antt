@@ -11,7 +11,6 @@ use Rattle.refusal.specs.Number.{number_of, index_of}
 use Rattle.refusal.specs.declared.Refusal.{Refusal}
 use Rattle.plan_defs.specs.Listing.{flag}
 use Rattle.plan_defs.specs.declared.CorridorPlan.{CorridorPlan}
-use Rattle.casefile_defs.specs.Reading.{Small}
 use Rattle.casefile_defs.specs.Bounds.{most_buses, most_levels}
 use Rattle.planned_files.specs.declared.file.PlannedFile.{PlannedFile}
 use Rattle.listing.specs.Lines.{lines, plan_room, line_room, most_text, refusal_line, plan_line, added_line, ground_line, bus_line, generator_line, corridor_line, most_line}

@@ -20,7 +20,10 @@ impl Text {
         self.put_plan(h.mode, p);
         self.put_levels(&file.results.added[..p.added as usize]);
         self.put_grounds(&file.results.ground[..p.grounds as usize]);
-        self.put_buses(&file.results.tier[..h.buses], &file.results.angle[..h.buses]);
+        self.put_buses(
+            &file.results.tier[..h.buses],
+            &file.results.angle[..h.buses],
+        );
         self.put_generators(&file.results.mw[..h.generators]);
         self.put_corridors(
             &file.results.circuits[..h.corridors],

@@ -1,6 +1,6 @@
 // The text of the listing, in fixed memory. Each method puts something behind what there is.
-ghost use Rattle.std.specs.Prelude.{◌≡◌, ◌+◌, ◌<◌, ◌≤◌, [], ◌++◌, length};
-ghost use Rattle.listing.specs.Text.{hexadecimal, number, figure, field, digit};
+ghost use Rattle.std.specs.Prelude.{◌≡◌, ◌+◌, ◌≤◌, [], ◌++◌, length};
+ghost use Rattle.listing.specs.Text.{hexadecimal, number, figure, field};
 ghost use Rattle.listing.specs.Lines.{line_of, most_text};
 ghost use Rattle.plan_defs.specs.Listing.{bits_of};
 
@@ -111,7 +111,7 @@ fn hexadecimal(n: u64) -> [u8; FIGURE_DIGITS]
     digits
 }
 
-// The bits by which a figure is listed: a zero as plus zero, every NaN as one.
+// The bits by which a figure is listed: a zero as plus zero, every NaN as one. answers has the same expression: no crate that both stand on has code for it.
 fn listed_bits(x: f64) -> u64
     ensures { result ≡ bits_of x }
 {

@@ -21,11 +21,6 @@ use Rattle.casefile_defs.specs.declared.Header.{Header}
 use Rattle.planned_files.specs.Files.{case_in, results, plan_of, Filed, filed, plan_read, plan_file}
 use Rattle.std.specs.Prelude.{Err, Ok, Result}
 
--- ---- parts
--- the rows of the sheet are places of it
-pub rows_fit : (h : Header) → Small h → lines h * row_figures ≤ most_sheet
-rows_fit h s = let k : lines h ≤ most_corridors * most_levels = mul-le-mul s.corridors s.levels in omega arith
-
 -- ---- the file
 -- the header of a file with no records
 abbrev none : Header

@@ -2,7 +2,7 @@
 // is public.
 #![tactic(auto)]
 
-ghost use Rattle.std.specs.Prelude.{◌≡◌, [], Err, Ok, Result};
+ghost use Rattle.std.specs.Prelude.{◌≡◌, [], Err};
 ghost use Rattle.casefile_defs.specs.Reading.{Small};
 ghost use Rattle.case_tables.specs.Tables.{tables_in};
 ghost use Rattle.casefile_defs.specs.Tables.{held as headerOf};

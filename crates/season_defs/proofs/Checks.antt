@@ -1,8 +1,8 @@
--- The refusals of a plan that is fed, in order: each law is the definition with its tests decided. What a plan that passes has, and the season that it leaves.
+-- The last two refusals of a plan that is fed, in order: each law is the definition with its tests decided. What a plan that passes has, and the season that it leaves.
 use Prim.Native.Nat.{ℕ, ◌≤◌, ◌<◌}
 use mathlib.Core.Bool.{Bool, true, false, cond}
 use mathlib.Core.Path.{◌≡◌, refl, ap}
-use borrow.Author.Tests.{eqb-true, eq-eqb, ne_eqb, leb-true, le-leb, lt-leb, ltb-true, lt-ltb, le-ltb}
+use borrow.Author.Tests.{eqb-true, eq-eqb, leb-true, le-leb, ltb-true, lt-ltb, le-ltb}
 use lib.Dec.{eqb, leb, ltb}
 use Rattle.loops.proofs.Bools.{unequal}
 use Rattle.refusal.specs.declared.Refusal.{Refusal}
@@ -13,24 +13,14 @@ use Rattle.season_defs.specs.declared.Season.{Season}
 use Rattle.std.specs.Prelude.{Err}
 use Rattle.refusal.specs.Reply.{no_refusal}
 
-module _ (s : Season) (corridors places : ℕ) where
-  pub length_refused : (places ≡ corridors → ⊥) → check_of s corridors places ≡ Err Length
+module _ (s : Season) (corridors places : ℕ) (size : places ≡ corridors) (few : corridors ≤ most_corridors) where
+  pub uneven_refused : even_with s corridors ≡ false → check_of s corridors places ≡ Err Uneven
   unfolding check_of
-  length_refused h = rw (ne_eqb places corridors h)
+  uneven_refused e = rw (eq-eqb places corridors size, le-leb corridors most_corridors few, e)
 
-  module _ (size : places ≡ corridors) where
-    pub count_refused : most_corridors < corridors → check_of s corridors places ≡ Err Count
-    unfolding check_of
-    count_refused h = rw (eq-eqb places corridors size, lt-leb corridors most_corridors h)
-
-    module _ (few : corridors ≤ most_corridors) where
-      pub uneven_refused : even_with s corridors ≡ false → check_of s corridors places ≡ Err Uneven
-      unfolding check_of
-      uneven_refused e = rw (eq-eqb places corridors size, le-leb corridors most_corridors few, e)
-
-      pub full_refused : even_with s corridors ≡ true → most_plans ≤ s.taken → check_of s corridors places ≡ Err SeasonFull
-      unfolding check_of
-      full_refused e h = rw (eq-eqb places corridors size, le-leb corridors most_corridors few, e, le-ltb s.taken most_plans h)
+  pub full_refused : even_with s corridors ≡ true → most_plans ≤ s.taken → check_of s corridors places ≡ Err SeasonFull
+  unfolding check_of
+  full_refused e h = rw (eq-eqb places corridors size, le-leb corridors most_corridors few, e, le-ltb s.taken most_plans h)
 
 pub record Passed (s : Season) (corridors places : ℕ) : Type 0 where
   pub size : places ≡ corridors

@@ -1,6 +1,5 @@
-use Rattle.std.proofs.Common.{[], ◌∷◌, ap, ◌∙◌, List, ℕ, rules}
+use Rattle.std.proofs.Common.{[], ◌∷◌, ap, ◌∙◌, List, ℕ}
 use native.Mathlib.Omega.{arith}
-use Rattle.listing.specs.Text.{number}
 use Rattle.listing.proofs.Numbers.{number_text}
 use Rattle.listing.proofs.Texts.{both_put, first_room, second_room}
 use Rattle.listing.proofs.text.Text.put_number.Goals as goal

@@ -6,7 +6,7 @@ use mathlib.Core.Option.{some}
 use mathlib.Core.Path.{◌≡◌, refl, sym, ap, ◌∙◌}
 use native.Mathlib.Nat.{mul_comm, mod-lt, div-lt_iff_lt-mul}
 use native.Mathlib.Omega.{arith}
-use borrow.Author.Tests.{eqb-true, eqb-false, eq-eqb, ne_eqb}
+use borrow.Author.Tests.{eqb-true, eq-eqb}
 use lib.Dec.{eqb}
 use lib.ListN.{length}
 use lib.Ieee.{Float, nan}
@@ -25,14 +25,6 @@ use Rattle.plan_defs.proofs.Rows.{row_from_lem}
 use Rattle.plan_defs.proofs.Accepted.{columns_of_lem}
 use Rattle.acceptance.specs.Check.{Tables, tabled, Columns, sized, answer_of, check_of}
 use Rattle.std.specs.Prelude.{Err, Result}
-
--- ---- tests that agree
-pub eqb_same : (a b x y : ℕ) → (a ≡ b → x ≡ y) → (x ≡ y → a ≡ b) → eqb a b ≡ eqb x y
-eqb_same a b x y f g = go (eqb a b) refl
-  where
-    go : (t : Bool) → eqb a b ≡ t → t ≡ eqb x y
-    go true e = sym (eq-eqb x y (f (eqb-true a b e)))
-    go false e = sym (ne_eqb x y (λ q. eqb-false a b e (g q)))
 
 -- ---- a bus's load is the product of its own figures
 pub load_is : (n : ℕ) (reading weight : List Float) (i : ℕ) → i < n → at (loads_of n reading weight) i ≡ load_by (at reading i) (at weight i)

@@ -1,7 +1,7 @@
 // Vectors as rows of the work slice w: a row is the n places from an offset on.
 ghost use Rattle.std.specs.Prelude.{◌≡◌, ◌+◌, ◌≤◌, length};
 ghost use Rattle.loops.specs.Loops.{fault};
-ghost use Rattle.loops.specs.Parts.{part, put, Apart};
+ghost use Rattle.loops.specs.Parts.{part, put};
 ghost use Rattle.angles_defs.specs.Network as Network;
 ghost use Rattle.angles_defs.specs.Network.{zeros};
 ghost use Rattle.angles_defs.specs.Operation.{finite_at};

@@ -2,22 +2,18 @@
 use Prim.Native.Nat.{ℕ, ◌+◌, ◌-◌, ◌*◌, ◌/◌, ◌%◌, ◌≤◌, ◌<◌}
 use mathlib.Core.List.{List}
 use mathlib.Core.Path.{◌≡◌}
-use native.Mathlib.Nat.{mul-le-mul, mod-lt}
+use native.Mathlib.Nat.{mod-lt}
 use native.Mathlib.Omega.{arith}
 use borrow.Author.Tests.{lt-ltb, le-ltb}
 use lib.Ieee.{Float}
 use lib.ListN.{length}
-use Rattle.loops.specs.Figures.{at, nought}
+use Rattle.loops.specs.Figures.{at}
 use Rattle.sheets.specs.Sheet.{row_figures, row_place, row_corridor, row_level}
-use Rattle.sheets.proofs.Layouts.{some_row, row_level_lem, row_corridor_lem, row_inside}
-use Rattle.casefile_defs.specs.Bounds.{most_levels, most_corridors}
+use Rattle.sheets.proofs.Layouts.{row_level_lem, row_corridor_lem, row_inside}
 use Rattle.join_defs.specs.Columns.{sheet_at}
 use Rattle.join.specs.Joins.{Rowed}
 
 module _ (m o n : ℕ) (x y : List Float) (s : Rowed m o n (length x) (length y)) where
-  pub few_rows : (m + o) * n ≤ most_corridors * most_levels
-  few_rows = mul-le-mul s.few_corridors s.few_levels
-
   module _ (p : ℕ) where
     abbrev corridor : ℕ
     corridor = row_corridor (m + o) (p / row_figures)
@@ -28,13 +24,7 @@ module _ (m o n : ℕ) (x y : List Float) (s : Rowed m o n (length x) (length y)
     abbrev field : ℕ
     field = p % row_figures
 
-    pub past_rows : (m + o) * n ≤ p / row_figures → nought ≡ sheet_at m o n x y p
-    past_rows h = rw (le-ltb (p / row_figures) ((m + o) * n) h)
-
     module _ (h : p / row_figures < (m + o) * n) where
-      pub some_corridor : 0 < m + o
-      some_corridor = (some_row (m + o) n (p / row_figures) h).0
-
       -- k and l are what code has asked sheets for
       module _ (k l : ℕ) (e : k ≡ corridor) (f : l ≡ level) where
         there : l < n

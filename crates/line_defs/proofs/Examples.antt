@@ -16,7 +16,7 @@ use Rattle.line_defs.specs.Row.{class_row, line_row}
 use Rattle.line_defs.specs.Request.{faulty, check_of}
 use Rattle.line_defs.specs.Sheet.{figures_of, row_at, figure_at}
 use Rattle.line_defs.specs.Rows.{sheets_ok, corridor_rows}
-use Rattle.std.specs.Prelude.{Err, Ok, Result}
+use Rattle.std.specs.Prelude.{Err, Result}
 use Rattle.refusal.specs.declared.Refusal.{Refusal}
 use Rattle.refusal.specs.Reply.{no_refusal}
 

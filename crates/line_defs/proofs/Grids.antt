@@ -4,10 +4,10 @@ use mathlib.Core.Bool.{true, false, true≢false}
 use Prim.Native.Nat.{ℕ, suc, ◌+◌, ◌-◌, ◌*◌, ◌/◌, ◌^◌, ◌≤◌, ◌<◌, min}
 use native.Mathlib.Nat.{le_trans, le_of_eq, le_of_lt, lt_of_lt_of_le, lt_of_le_of_lt, zero-lt-suc, mul-one, one-mul, mul_assoc, mul_right_comm, mul-pos, le-add_right, mul-lt-mul_of_pos_right, lt_of_mul-lt-mul_right, mul-le-mul_right, div-lt_iff_lt-mul}
 use native.Mathlib.Omega.{arith}
-use lib.Dec.{T, lt→ltb, le→leb, lit≤}
+use lib.Dec.{T, lt→ltb, lit≤}
 use lib.Pow.{pow-add, pow_pos, pow_mono}
 use lib.IntN.{pos}
-use lib.Ieee.{Float, nan, inf, fin, binary64, up, down, lt, of_bits, of_int, round, fits, to_unsigned, in_float}
+use lib.Ieee.{Float, nan, inf, fin, binary64, up, down, lt, of_bits, of_int, round, fits, to_unsigned}
 use lib.Ieee.Exact.{HasValue, round_exact}
 use lib.Ieee.Back.{round_whole}
 use lib.Ieee.Fits.{down_pos}
@@ -79,11 +79,6 @@ cast_asks (fin false m e) a c h l = (
   where
     tidy : (n d : ℕ) → n < 2 ^ 64 * d → n * 1 < 1 * 2 ^ 64 * d
     tidy n d h = lt_of_le_of_lt (le_of_eq (mul-one n)) (lt_of_lt_of_le h (le_of_eq (ap (λ (z : ℕ). z * d) (sym (one-mul (2 ^ 64))))))
-
--- ---- `as f64` takes a whole number up to 2 ^ 53
-pub float_asks : (n : ℕ) → n ≤ 2 ^ 53 → T (in_float binary64 (pos n))
-unfolding in_float
-float_asks n h = le→leb n (2 ^ 53) h
 
 -- ---- a cast cuts a fraction to a whole number
 pub cut_of_value : (w : ℕ) (y : Float) (a c : ℕ) → 0 < c → HasValue y false a c → a < 2 ^ w * c → to_unsigned w y ≡ a / c

@@ -9,7 +9,7 @@ use lib.Ieee.{Float, binary64, fits}
 use lib.Ieee.Positive.{num, den, den_pos, positive_of_value, value→cross}
 use Rattle.root.proofs.Units.{positive_unsigned, in_units, pow_lt_back}
 use Rattle.line_defs.specs.Grid.{steps, on_grid}
-use Rattle.line_defs.specs.Bounds.{Below, Spread}
+use Rattle.line_defs.specs.Bounds.{Spread}
 use Rattle.line_defs.specs.Spread.{fifth_root, kept_spread, billion, PowerWithin}
 use Rattle.line_defs.proofs.Grids.{on_grid_lem}
 use Rattle.line_defs.proofs.Powers.{mul_pow}
@@ -69,11 +69,6 @@ high_side M5 G5 E5 A3 d3 n3 c5 c3 f p q r pos h =
     pos
 
 -- ---- how large they are
-pub below_eight : (s : Float) → Spread s → Below 3 s
-below_eight s p = (p.above_zero, eight (num s) (den s) (den_pos s) p.most)
-  where
-    eight : (n d : ℕ) → 0 < d → n ≤ 4 * d → n < 2 ^ 3 * d
-    eight n d h l = omega arith
 
 pub steps_most : (s : Float) → T (fits binary64 s) → Spread s → steps 54 s ≤ 2 ^ 56
 steps_most s f p = le_of_mul-le-mul_right (le_trans (le_of_eq (sym (whole_steps s f p))) (le_trans (mul-le-mul_right (2 ^ 54) p.most) (le_of_eq (four (den s))))) (den_pos s)

@@ -1,5 +1,5 @@
 -- K8's refusals: 1 slice length; 2 count; 3 ladder; 6 a corridor's length; "22 when spread is outside 0.25 to 4, after 1, 2, 3 and 6". Document 01: ladder kV in (0, 10,000], each greater than the next plus 1e-6, that sum rounded; length 0 to 10,000 km.
-use Rattle.std.specs.Prelude.{ℕ, ◌+◌, ◌<◌, Bool, true, cond, ◌&&◌, ◌||◌, List, [], ◌∷◌, ◌≡◌, refl, leb, ltb, eqb, length, Float, Err, Ok, Result}
+use Rattle.std.specs.Prelude.{ℕ, ◌+◌, ◌<◌, Bool, true, cond, ◌&&◌, ◌||◌, List, [], ◌∷◌, ◌≡◌, refl, leb, ltb, eqb, length, Float, Err, Result}
 use Rattle.std.specs.Float.{binary64}
 use Rattle.std.specs.Float.Ieee.{of_bits, round, lt, le}
 use Rattle.loops.specs.Figures.{at, plus, nought, ten_thousand, millionth, inside, decimal}

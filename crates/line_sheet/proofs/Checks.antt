@@ -1,10 +1,9 @@
 -- The tests of module check: a product that is asked without being made, a level by its place, and what passes. Assumes nothing.
-use Rattle.std.proofs.Common.{◌≡◌, ℕ, ◌+◌, ◌*◌, ◌<◌, ◌≤◌, Bool, true, false, cond, ◌&&◌, ◌||◌, T, eqb, ltb, leb, List, length, sym, refl, ap, arith, ltb-false, eqb-true, le-leb}
-use borrow.Author.Tests.{lt-leb}
-use lib.Ieee.{Float, lt, le, of_bits}
+use Rattle.std.proofs.Common.{◌≡◌, ℕ, ◌*◌, ◌<◌, ◌≤◌, Bool, true, false, cond, ◌&&◌, T, eqb, ltb, List, length, refl, arith, ltb-false, eqb-true}
+use lib.Ieee.{Float, le, of_bits}
 use lib.Ieee.Positive.{num, den, positive, le→cross, between}
-use Rattle.loops.specs.Figures.{at, plus, nought, ten_thousand, millionth, inside}
-use Rattle.loops.proofs.Bools.{both, and_true, or_left, is, unequal}
+use Rattle.loops.specs.Figures.{at, inside}
+use Rattle.loops.proofs.Bools.{both, is, unequal}
 use Rattle.loops.proofs.Scan.{all_pass}
 use Rattle.refusal.specs.declared.Refusal.{Refusal}
 use Rattle.refusal.specs.declared.Refusal.TheVariants.{Length, Count, Level, Corridor, Spread as Width}
@@ -13,20 +12,6 @@ use Rattle.line_defs.specs.Rows.{counts_ok, sheet_figures}
 use Rattle.line_defs.specs.Request.{lengths_ok, level_ok, length_ok, spread_ok, quarter, four, faulty, fault_in, check_of, Sound}
 use Rattle.std.specs.Prelude.{Err, Result}
 use Rattle.refusal.specs.Reply.{no_refusal}
-
--- ---- a level that is the last, or is above the next
-module _ (ladder : List Float) (i : ℕ) where
-  abbrev kv_in : Bool
-  kv_in = lt nought (at ladder i) && le (at ladder i) ten_thousand
-
-  abbrev above_next : Bool
-  above_next = lt (plus (at ladder (i + 1)) millionth) (at ladder i)
-
-  pub last_level : length ladder ≤ i + 1 → kv_in ≡ level_ok ladder i
-  last_level h = sym (and_true kv_in (or_left (leb (length ladder) (i + 1)) above_next (le-leb (length ladder) (i + 1) h)))
-
-  pub next_level : i + 1 < length ladder → (kv_in && above_next) ≡ level_ok ladder i
-  next_level h = ap (λ (t : Bool). kv_in && (t || above_next)) (sym (lt-leb (length ladder) (i + 1) h))
 
 -- ---- a spread that passes lies from 0.25 to 4
 from_quarter : (T (positive quarter)) × (T (positive four)) × (num quarter ≡ 1) × (den quarter ≡ 4) × (num four ≡ 4) × (den four ≡ 1)

@@ -65,9 +65,6 @@ module _ (levels corridors : ℕ) (ladder km spread : List Float) where
   abbrev pub Rows : ℕ → List Float → List Float → ℕ → Type 0
   Rows k s₀ s l = (l ≤ levels) × (length s ≡ length s₀) × ((w : List Float) → length w ≡ sheet_figures levels corridors → s₀ ≡ filled w places (sheet_figures levels k) → s ≡ filled w places (5 * (k * levels + l)))
 
-  pub no_rows : (k : ℕ) (s₀ : List Float) → Rows k s₀ s₀ 0
-  no_rows k s₀ = (omega arith, refl, λ w h e. e ∙ ap (λ (n : ℕ). filled w places (5 * n)) (sym (add-zero (k * levels))))
-
   pub row_fits_in : (k l n : ℕ) → k < corridors → l < levels → n ≡ sheet_figures levels corridors → 5 * (k * levels + l) + 5 ≤ n
   row_fits_in k l n h b e = le_trans (row_room levels corridors k l h b).1 (le_of_eq (sym e))
 
@@ -94,13 +91,6 @@ module _ (levels corridors : ℕ) (ladder km spread : List Float) where
       is_row : r ≡ row_at ladder km spread k l
       is_row = er ∙ rw (ek, el) (row_is ladder km spread k l)
 
-  pub all_rows : (k l : ℕ) (s₀ s : List Float) → levels ≤ l → Rows k s₀ s l → (w : List Float) → length w ≡ sheet_figures levels corridors → s₀ ≡ filled w places (sheet_figures levels k) → s ≡ filled w places (sheet_figures levels (k + 1))
-  all_rows k l s₀ s h i w n e =
-      let a : l ≡ levels = omega arith in
-      let b : (k + 1) * levels ≡ k * levels + 1 * levels = add-mul k 1 levels in
-      let c : 5 * (k * levels + l) ≡ sheet_figures levels (k + 1) = omega arith in
-      i.2 w n e ∙ ap (λ (n : ℕ). filled w places n) c
-
   -- ---- the corridors from a on, up to i
   abbrev pub Filled : ℕ → ℕ → List Float → List Float → Type 0
   Filled a i s₀ s = (i ≤ corridors) × (length s ≡ sheet_figures levels corridors) × Further levels corridors ladder km spread a i s₀ s
@@ -110,9 +100,6 @@ module _ (levels corridors : ℕ) (ladder km spread : List Float) where
 
   pub more_filled : (a i j m : ℕ) (s₀ s t : List Float) → m ≤ corridors → length t ≡ length s → Further levels corridors ladder km spread i j s t → j ≡ m → Filled a i s₀ s → Filled a m s₀ t
   more_filled a i j m s₀ s t h n f e o = (h, n ∙ o.1, λ w k g. f w k (o.2 w k g) ∙ ap (λ (z : ℕ). filled w places (sheet_figures levels z)) e)
-
-  pub filled_to_lem : (a i m : ℕ) (s₀ s : List Float) → i ≡ m → Filled a i s₀ s → Further levels corridors ladder km spread a m s₀ s
-  filled_to_lem a i m s₀ s e o = λ w n f. o.2 w n f ∙ ap (λ (z : ℕ). filled w places (sheet_figures levels z)) e
 
   pub all_filled : (s₀ s : List Float) → length s₀ ≡ sheet_figures levels corridors → Further levels corridors ladder km spread 0 corridors s₀ s → s ≡ sheet_of levels corridors ladder km spread
   all_filled s₀ s n f =

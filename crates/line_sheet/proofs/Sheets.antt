@@ -1,5 +1,5 @@
 -- What two sheets of the right lengths have, and where a corridor's rows stand in them. Assumes nothing.
-use Rattle.std.proofs.Common.{◌≡◌, ℕ, ◌+◌, ◌-◌, ◌*◌, ◌<◌, ◌≤◌, true, false, ◌&&◌, eqb, leb, List, [], length, take, drop, sym, ap, ◌∙◌, le_trans, le_of_eq, le_of_lt, mul-le-mul, mul_left_comm, arith, le-ltb, lt-ltb, eqb-true, leb-true}
+use Rattle.std.proofs.Common.{◌≡◌, ℕ, ◌+◌, ◌-◌, ◌*◌, ◌<◌, ◌≤◌, true, false, ◌&&◌, eqb, leb, List, [], length, take, drop, sym, ap, ◌∙◌, le_trans, le_of_eq, mul-le-mul, mul_left_comm, arith, le-ltb, lt-ltb, eqb-true, leb-true}
 use lib.Ieee.{Float}
 use borrow.Author.Tests.{lt-leb}
 use Rattle.loops.specs.Parts.{part}
@@ -42,18 +42,6 @@ pub figures_most : (levels corridors k : ℕ) → Counts levels corridors → k 
 figures_most levels corridors k c h =
     let l : 5 * levels ≤ 25 = omega (arith, c.levels_most) in
     mul-le-mul (le_trans h c.corridors_most) l
-
-pub sheet_most : (levels corridors k : ℕ) → Counts levels corridors → k ≤ corridors → (k * levels ≤ 256 * 5) × (5 * (k * levels) ≤ 256 * 25)
-sheet_most levels corridors k c h =
-    let l : k * levels ≤ 256 * 5 = mul-le-mul (le_trans h c.corridors_most) c.levels_most in
-    (l, omega arith)
-
--- a row's place is small
-pub rows_small : (levels corridors k l : ℕ) → counts_ok levels corridors ≡ true → k < corridors → l < levels → (k * levels ≤ 256 * 5) × (k * levels + l ≤ 256 * 5 + 5)
-rows_small levels corridors k l e h b =
-    let c = counts_of levels corridors e in
-    let m : k * levels ≤ 256 * 5 = mul-le-mul (le_trans (le_of_lt h) c.corridors_most) c.levels_most in
-    (m, omega (arith, c.levels_most))
 
 -- the rows of corridor k end within a sheet of that many corridors
 pub rows_end : (levels corridors k n : ℕ) → n ≡ sheet_figures levels corridors → k < corridors → k * (5 * levels) + 5 * levels ≤ n

@@ -1,5 +1,5 @@
 -- Whole numbers as limbs: one limb more, a limb set, a column of a product with its carry, and the order by the highest limb that differs. Assumes nothing.
-use Rattle.std.proofs.Common.{◌≡◌, ℕ, zero, suc, ◌+◌, ◌*◌, ◌/◌, ◌%◌, ◌^◌, ◌<◌, ◌≤◌, Bool, ltb, leb, List, [], ◌∷◌, length, get_or, set, replicate, sym, refl, ap, ◌∙◌, le_trans, le_of_eq, lt_of_lt_of_le, lt_of_le_of_lt, add-zero, mul-le-mul_right, mul_assoc, suc-mul, mul_comm, add-mul, mul-le-mul, add_comm, mul-le-mul_left, pow-suc, div-add-mod', zero-add, zero-mul, mul-one, mul-add, div-le_self, mul_left_comm, add-one, arith, lit<, length-set, get_or-set_other, get_or-set_same, le-ltb, lt-ltb, le-leb}
+use Rattle.std.proofs.Common.{◌≡◌, ℕ, zero, suc, ◌+◌, ◌*◌, ◌/◌, ◌%◌, ◌^◌, ◌<◌, ◌≤◌, Bool, ltb, leb, List, [], ◌∷◌, length, get_or, set, replicate, sym, refl, ap, ◌∙◌, le_trans, le_of_eq, lt_of_lt_of_le, lt_of_le_of_lt, add-zero, mul-le-mul_right, mul_assoc, suc-mul, mul_comm, add-mul, mul-le-mul, mul-le-mul_left, pow-suc, div-add-mod', zero-add, zero-mul, mul-one, mul-add, div-le_self, mul_left_comm, add-one, arith, lit<, length-set, get_or-set_other, get_or-set_same, le-ltb, lt-ltb, le-leb}
 use native.Mathlib.Nat.{pow-le-pow_right, pow-zero}
 use native.Mathlib.Decide.{ℕ_discrete, dec_lt, dec_le}
 use borrow.Author.Tests.{lt-leb}
@@ -105,12 +105,6 @@ all W B c m x e h =
     let v : m * B ≡ 0 = ap (λ (z : ℕ). z * B) q ∙ zero-mul B in
     omega arith
 
-pub last_column : (sum a r : List ℕ) (d m c i : ℕ) → 6 ≤ i → worth sum * base + worth a * d < base ^ 6 → Columns sum a d r m c i → Limbs r × (worth r ≡ worth sum * base + worth a * d)
-last_column sum a r d m c i h few k =
-    let e : i ≡ 6 = omega arith in
-    let w : worth_to r 6 + c * base ^ 6 + m * base ^ 6 ≡ worth_to a 6 * d + worth_to sum 6 * base = rw e at k.5 in
-    (k.2, all (worth r) (base ^ 6) c m (worth sum * base + worth a * d) (w ∙ add_comm (worth a * d) (worth sum * base)) few)
-
 -- ---- the order
 pub highest : (A B w x y : ℕ) → A < w → B < w → (x ≡ y → ⊥) → ltb x y ≡ leb (A + x * w) (B + y * w)
 highest A B w x y ha hb ne = elim (dec_lt x y) [
@@ -150,9 +144,6 @@ differ a b r i h la lb ne e = (omega arith, e ∙ highest (worth_to a i) (worth_
 
 pub agree : (a b : List ℕ) (r s : Bool) (i : ℕ) → i < 6 → get_or a i 0 ≡ get_or b i 0 → s ≡ r → Compared a b r i → Compared a b s (i + 1)
 agree a b r s i h e f k = (omega arith, f ∙ k.1 ∙ equal (worth_to a i) (worth_to b i) (base ^ i) (get_or a i 0) (get_or b i 0) e ∙ rw (worth_more a i, worth_more b i))
-
-pub last_limb : (a b : List ℕ) (r : Bool) (i : ℕ) → 6 ≤ i → Compared a b r i → r ≡ leb (worth a) (worth b)
-last_limb a b r i h k = let e : i ≡ 6 = omega arith in rw e at k.1
 
 -- ---- six limbs of 0
 zeros : (n i : ℕ) → ◌≡◌ {A = ℕ} (get_or (replicate n 0) i 0) 0
@@ -205,6 +196,3 @@ power_fits c n k i w T pos h e l =
 pub next_power : (c n k : ℕ) (r s : List ℕ) (i : ℕ) → i < k → Limbs s → worth s ≡ worth r * n → Powered c n k r i → Powered c n k s (i + 1)
 next_power c n k r s i h ls e p =
     (omega arith, ls, e ∙ ap (λ (z : ℕ). z * n) p.2 ∙ mul_assoc c (n ^ i) n ∙ ap (λ (z : ℕ). c * z) (sym (pow-suc n i) ∙ ap (λ (z : ℕ). n ^ z) (sym (add-one i))))
-
-pub last_power : (c n k : ℕ) (r : List ℕ) (i : ℕ) → k ≤ i → Powered c n k r i → Limbs r × (worth r ≡ c * n ^ k)
-last_power c n k r i h p = let e : i ≡ k = omega arith in (p.1, p.2 ∙ ap (λ (z : ℕ). c * n ^ z) e)

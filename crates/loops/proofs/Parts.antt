@@ -9,10 +9,10 @@ use mathlib.Core.Logic.{⊎_elim, ◌⊎◌, inl, inr}
 use native.Mathlib.Numerals.{add-one}
 use native.Mathlib.Omega.{arith}
 use lib.ListN.{length, get_or, set, take, drop, length-append, length-take, length-drop, length-set, get_or-append, take-append-drop}
-use lib.Seq.{get_or-take, get_or-drop, get_or-append-add, set-append_left, length-take-le, drop-cons, set_at, take_at, drop_at, drop-drop, append_snoc, ext_get_or, drop-length}
+use lib.Seq.{get_or-take, get_or-drop, get_or-append-add, set-append_left, length-take-le, drop-cons, set_at, take_at, drop_at, drop-drop, append_snoc, ext_get_or}
 use Rattle.loops.specs.Loops.{tab}
 use Rattle.loops.specs.Parts.{part, put, Apart}
-use Rattle.loops.proofs.Tab.{length_tab, tab_of}
+use Rattle.loops.proofs.Tab.{length_tab}
 
 cases : (p o n : ℕ) → Apart p o n → (p + n ≤ o) ⊎ (o + n ≤ p)
 cases p o n s = elim (dec_lt o (p + n)) [ yes l ↦ inr (s l) | no l ↦ inl (omega arith) ]
@@ -176,12 +176,6 @@ module _ {ℓ} {A : Type ℓ} where
       ∙ ⊎_elim (λ a. get_put_low w₀ o (tab i f) (p + i) d (omega arith) (omega arith)) (λ a. get_put_high w₀ o (tab i f) (p + i) d (omega arith) (omega arith)) (cases p o n s)
       ∙ sym (get_part p n w₀ i d l)
 
-  -- a list that replaces a whole list
-  pub put_whole : (w v : List A) → length v ≡ length w → put w 0 v ≡ v
-  unfolding put
-  put_whole w v e =
-      ap (λ (k : ℕ). v ++ drop k w) (zero-add (length v) ∙ e) ∙ ap (λ (r : List A). v ++ r) (drop-length w) ∙ append-nil v
-
   -- ---- after a call that wrote v, n elements long, to the part from o
   module _ (n o : ℕ) (w₀ w v : List A) (e : w ≡ put w₀ o v) (k : length v ≡ n) (h : o + n ≤ length w₀) where
     pub wrote : part o n w ≡ v
@@ -192,7 +186,3 @@ module _ {ℓ} {A : Type ℓ} where
 
     pub wrote_again : (w' v' : List A) → w' ≡ put w o v' → length v' ≡ n → w' ≡ put w₀ o v'
     wrote_again w' v' e' k' = e' ∙ ap (λ (r : List A). put r o v') e ∙ put_put w₀ o v v' (k ∙ sym k') (omega arith)
-
-  -- a loop that copied v
-  pub tab_whole : (w w₀ : List A) (o n : ℕ) (v : List A) (d : A) → length v ≡ n → w ≡ put w₀ o (tab n (λ i. get_or v i d)) → w ≡ put w₀ o v
-  tab_whole w w₀ o n v d k e = e ∙ ap (λ (u : List A). put w₀ o u) (tab_of n v d k)

@@ -12,9 +12,6 @@ positive : (x : ℕ) → (x ≡ 0 → ⊥) → 0 < x
 positive zero n = absurd (n refl)
 positive (suc x) n = omega arith
 
-pub product_nought : (total x y : ℕ) → x ≡ 0 → eqb total 0 ≡ eqb total (x * y)
-product_nought total x y e = ap (eqb total) (let z : 0 ≡ 0 * y = omega arith in z ∙ ap (λ (n : ℕ). n * y) (sym e))
-
 divides : (total x y : ℕ) → (x ≡ 0 → ⊥) → total / x ≡ y → total % x ≡ 0 → total ≡ x * y
 divides total x y n p q =
     let e = div-add-mod' total x in

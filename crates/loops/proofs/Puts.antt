@@ -13,7 +13,7 @@ use Rattle.loops.specs.Loops.{iter, tab}
 use Rattle.loops.specs.Parts.{part, put, Apart}
 use Rattle.loops.proofs.Loops.{iter_all, iter_more, iter_end}
 use Rattle.loops.proofs.Tab.{length_tab}
-use Rattle.loops.proofs.Parts.{get_part, length_part, length_put, get_put_low, get_put_in, get_put_high, put_part, part_put_same, put_put, set_put, tab_start, tab_turn, tab_own, tab_other}
+use Rattle.loops.proofs.Parts.{get_part, length_part, length_put, get_put_low, get_put_in, get_put_high, put_part, part_put_same, put_put, set_put, tab_turn, tab_own, tab_other}
 
 module _ {ℓ} {A : Type ℓ} where
   -- ---- a store outside the part from p
@@ -62,8 +62,6 @@ module _ {ℓ} {A : Type ℓ} where
         at k (no ne) = get_or-set_other (put w p v) j k a d ne ∙ other k ne
 
   -- ---- a loop that writes f 0, f 1, .. to the part from o, and g 0, g 1, .. to the part from p: where it starts, what it reads, and a turn of it
-  pub two_start : (w₀ : List A) (o p : ℕ) (f g : ℕ → A) → w₀ ≡ put (put w₀ o (tab 0 f)) p (tab 0 g)
-  two_start w₀ o p f g = tab_start w₀ o f ∙ tab_start (put w₀ o (tab 0 f)) p g
 
   module _ (d : A) (w₀ w : List A) (o p n : ℕ) (f g : ℕ → A) (i : ℕ) (e : w ≡ put (put w₀ o (tab i f)) p (tab i g))
       (s : Apart o p n) (ho : o + n ≤ length w₀) (hp : p + n ≤ length w₀) (l : i < n) where

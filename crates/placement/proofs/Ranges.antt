@@ -337,19 +337,6 @@ module _ (n : ℕ) (mark mark' : List ℕ) (dist dist' : List Float) where
       unfolding nearest_with
       least_reached = choose (ltb b n) (lt nd (at dist' b)) (lt (at dist' b) nd) (ltb j b) refl refl refl refl
 
--- ---- the nearest of each block
-pub nearests_next : (n : ℕ) (mark : List ℕ) (dist : List Float) (nearest : List (Option ℕ)) (k : ℕ) (x : Option ℕ) → length nearest ≡ 16 → k < 16 → Nearests n mark dist nearest k
-    → Chosen n mark dist (16 * k) (16 * k + 16) x → Nearests n mark dist (set nearest k x) (k + 1)
-nearests_next n mark dist nearest k x l h p q t lt low =
-    elim (ℕ_discrete t k) [
-      | yes e ↦ subst (λ (u : ℕ). Chosen n mark dist (16 * u) (16 * u + 16) (get_or (set nearest k x) u None)) (sym e)
-          (subst (λ (u : Option ℕ). Chosen n mark dist (16 * k) (16 * k + 16) u) (sym (get_or-set_same nearest k x None (omega arith))) q)
-      | no e ↦ subst (λ (u : Option ℕ). Chosen n mark dist (16 * t) (16 * t + 16) u) (sym (get_or-set_other nearest k t x None e)) (p t (omega arith) low)
-    ]
-
-pub nearests_all : (n : ℕ) (mark : List ℕ) (dist : List Float) (nearest : List (Option ℕ)) (k : ℕ) → n ≤ 16 * k → Nearests n mark dist nearest k → Nearests n mark dist nearest 16
-nearests_all n mark dist nearest k h p t lt low = p t (omega arith) low
-
 -- ---- bus j alone was changed, and its block looked at again
 module _ (n : ℕ) (mark mark' : List ℕ) (dist dist' : List Float) (nearest : List (Option ℕ)) (j k : ℕ) (lo : 16 * k ≤ j) (hi : j < 16 * k + 16)
     (marks : (i : ℕ) → (i ≡ j → ⊥) → get_or mark' i 0 ≡ get_or mark i 0) (dists : (i : ℕ) → (i ≡ j → ⊥) → at dist' i ≡ at dist i) where

@@ -9,8 +9,7 @@ use lib.Ieee.{Float}
 use Rattle.loops.specs.Loops.{iter}
 use Rattle.loops.proofs.Loops.{iter_keeps}
 use Rattle.loops.specs.Figures.{nought}
-use native.Mathlib.Omega.{arith}
-use Rattle.placement_defs.specs.Request.{Request, Units, check_of}
+use Rattle.placement_defs.specs.Request.{Request, check_of}
 use Rattle.placement_defs.specs.Distance.{Labels, blank, Network, distances, distances_from}
 use Rattle.placement_defs.specs.Support.{next_of, Sites, sites, join, join_next, joined, size_at, sized, flag, flagged, sites_by, placed, Outcome, outcome, network_of, answer_to, placement}
 use Rattle.placement.specs.Stages.{Joined, Placing}
@@ -64,9 +63,6 @@ placed_is w loads generators buses₀ buses₁ buses₂ sources₁ sources₂ mv
 pub flagged_length : (generators l : List ℕ) → length l ≡ 256 → length (flagged generators l) ≡ 256
 unfolding flagged
 flagged_length generators l h = iter_keeps (flag generators) (λ t. length t ≡ 256) (λ i t p. length-set t (get_or generators i 0) 1 ∙ p) (length generators) 0 l h
-
-pub units_wide : (n : ℕ) (generators : List ℕ) → n ≤ 256 → Units n generators → Units 256 generators
-units_wide n generators h u = record { stand = λ k l. omega (arith, u.stand k l) }
 
 -- ---- the answer, from the verdict
 module _ (k : Request) (buses : List ℕ) (mvars : List Float) (v : Result (Unit {0}) Refusal) (e : v ≡ check_of k (length buses) (length mvars)) where

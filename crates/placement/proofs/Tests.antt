@@ -14,7 +14,7 @@ use Rattle.loops.proofs.Bools.{both, unequal}
 use Rattle.std.specs.Prelude.{Some, None}
 use Rattle.std.specs.Option.{ForSome}
 use Rattle.placement_defs.specs.Request.{Net, corridor_ok}
-use Rattle.placement_defs.specs.Distance.{Labels, settled, shortens, far_end, considered, offered, reached}
+use Rattle.placement_defs.specs.Distance.{Labels, shortens, far_end, considered, offered, reached}
 
 -- a choice that is a bus
 pub some_chosen : (best n : ℕ) → best < n → eqb best n ≡ false
@@ -58,10 +58,6 @@ module _ (i a b : ℕ) (km : Float) (s : Labels) where
     pub consider_taken : r ≡ true → reached j (plus (at s.dist i) km) (get_or s.from i 0) s ≡ considered i a b km s
     unfolding considered offered
     consider_taken u = rw (either (eqb a i) (eqb b i) t, ← e, ← q, u)
-
--- a way that is taken is shorter
-pub taken_less : (m : ℕ) (nd d : Float) (r : Bool) → r ≡ shortens m nd d → r ≡ true → lt nd d ≡ true
-taken_less m nd d r e t = (both (not (eqb m settled)) (lt nd d) (sym e ∙ t)).1
 
 -- ---- a corridor that passes
 pub record Ends (n a b : ℕ) (km : Float) : Type 0 where

@@ -1,16 +1,13 @@
 -- What case reading says and leaves in its tables is the file's case, in the parts of the tables that are handed on, or its refusal.
-use Prim.Native.Nat.{ℕ, ◌*◌, ◌≤◌}
+use Prim.Native.Nat.{ℕ}
 use mathlib.Core.Bool.{Bool, true, cond}
 use mathlib.Core.List.{List, []}
 use mathlib.Core.Path.{◌≡◌, refl, sym, ap, ◌∙◌}
-use native.Mathlib.Nat.{mul-le-mul}
-use native.Mathlib.Omega.{arith}
 use Rattle.refusal.specs.Reply.{Reply, answered, refused}
 use Rattle.refusal.specs.declared.Refusal.{Refusal}
 use Rattle.refusal.specs.declared.Refusal.TheVariants.{Length}
 use Rattle.mode.specs.declared.PlanMode.TheVariants.{Expand}
-use Rattle.casefile_defs.specs.Bounds.{most_levels, most_corridors, most_sheet, row_figures}
-use Rattle.casefile_defs.specs.Reading.{Small, lines, read_of, reading_of}
+use Rattle.casefile_defs.specs.Reading.{read_of, reading_of}
 use Rattle.casefile_defs.specs.Reading.{unread as unread-case}
 use Rattle.casefile_defs.specs.Tables.{Places, reply_of, tables_of, sizes_ok, read_case}
 use Rattle.casefile_defs.specs.Tables.{held as headerOf}

@@ -34,7 +34,6 @@ pub mod Sounds
 pub mod Liftings
 pub mod Redrawing
 pub mod Rounding
-pub mod Turns
 pub mod Heavies
 pub mod Promoting
 pub mod Settling

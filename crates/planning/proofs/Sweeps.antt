@@ -1,11 +1,13 @@
 -- The round loop's points: at the start of a round, at a corridor of its sizing and at a component of its stiffening, what is left to do comes to what all
 -- the rounds do. Each is a record, so that a step reads off it which columns it is about.
-use Rattle.std.proofs.Common.{◌≡◌, ℕ, suc, ◌+◌, ◌-◌, ◌*◌, ◌<◌, ◌≤◌, Bool, true, false, not, ◌&&◌, ◌||◌, ltb, List, length, take, refl, ap, ◌∙◌, subst, arith}
+use Rattle.std.proofs.Common.{◌≡◌, ℕ, suc, ◌+◌, ◌-◌, ◌<◌, ◌≤◌, true, false, not, ◌&&◌, ◌||◌, ltb, List, length, take, refl, ap, ◌∙◌, subst, arith}
+use Rattle.std.specs.Prelude.{Err, Ok, Result}
 use lib.Ieee.{Float}
 use Rattle.refusal.specs.declared.Refusal.{Refusal}
 use Rattle.refusal.specs.Reply.{no_refusal}
 use Rattle.mode.specs.declared.PlanMode.{PlanMode}
 use Rattle.angles_defs.specs.Network.{edges_of}
+use Rattle.angles_defs.specs.Operation.{most}
 use Rattle.plan_defs.specs.Constants.{stiffening_branch_budget}
 use Rattle.plan_defs.specs.Lists.{sum}
 use Rattle.plan_defs.specs.Stage.{Stage, stopped, going}
@@ -18,7 +20,7 @@ use Rattle.plan_defs.specs.Stiffen.{hv_budget, share_of, stiffen_top, at_or_abov
 use Rattle.plan_defs.specs.Rounds.{Draft}
 use Rattle.planning.specs.Design.{Lines, Banks, lines_for}
 use Rattle.planning.specs.Size.{size_for, sizing_of, Few}
-use Rattle.planning.specs.Solve.{peak_for, solved_of}
+use Rattle.planning.specs.Solve.{peak_for, solved_of, Drawing, Peaked}
 use Rattle.planning.specs.Stiffen.{budget_for, LedStiffened}
 use Rattle.planning.specs.Rounds.{rounds_case, draft_of, ran_as, Redrawn, RoundsRun}
 use Rattle.planning.specs.declared.size.Tally.{Tally}
@@ -27,10 +29,9 @@ use Rattle.planning.specs.declared.stiffen.Limits.{Limits}
 use Rattle.planning.specs.declared.stiffen.Stiffness.{Stiffness}
 use Rattle.planning.specs.declared.rounds.Progress.{Progress}
 use Rattle.planning.specs.Tables.{GridColumns, SupplyColumns, OpenedColumns}
+use Rattle.planning.proofs.States.{peaked}
 use Rattle.planning.proofs.Corridors.{left as to-size, left_start, left_turn}
 use Rattle.planning.proofs.Rounding.{Alike, goes_on, stiffens_on, ended, round_refused, sized_again, sized_settled, stiffens, stiffen_refused, stiffen_next, stiffened_again, stiffened_settled}
-use Rattle.planning.proofs.Turns.{some_left}
-use Rattle.std.specs.Prelude.{Err, Ok, Result}
 
 -- what every point keeps of the levels, the circuits and the banks
 pub record Kept (grid : GridColumns) (level circuits : List ℕ) (banks : List Float) : Type 0 where
@@ -38,12 +39,19 @@ pub record Kept (grid : GridColumns) (level circuits : List ℕ) (banks : List F
   pub banked : Banks banks
   pub few : Few circuits
 
+-- the edges that the corridors make, as the solve reads them
+pub peaked_by : (grid : GridColumns) {level circuits : List ℕ} {banks : List Float} {n m : ℕ} (e : Edges) → Drawing grid level circuits banks
+    → edges_of (take (length grid.a) e.from) (take (length grid.a) e.to) (take (length grid.a) e.weight) ≡ edges_for (drawn_all (lines_for grid) level banks) circuits
+    → (length e.from ≡ most) × (length e.to ≡ most) × (length e.weight ≡ most) → n ≡ length level → m ≡ length grid.a → Peaked n m e.from e.to e.weight
+peaked_by grid {level} {circuits} {banks} {n} {m} e drawing edges sizes p q =
+    peaked grid level circuits banks drawing e.from e.to e.weight edges n m p q sizes.0 sizes.1 sizes.2
+
 -- the tallies while a round runs that began with these
 abbrev pub running : Progress → Progress
 running p = record { rounds = p.rounds + 1; promoted = p.promoted; capacity = p.capacity; stiffening = p.stiffening; converged = false; settled = false }
 
 module _ (mode : PlanMode) (above : ℕ) (grid : GridColumns) (supply : SupplyColumns) (opened : OpenedColumns) where
-  -- ---- so many rounds are left
+  -- ---- so many rounds are left; W is what all of them lead to
   pub record Rounds (left : ℕ) (level circuits : List ℕ) (banks floors : List Float) (upsized : List ℕ) (angle : List Float) (p : Progress) (W : Case → Stage Draft) : Type 0 where
     pub whole : Alike mode above grid supply opened (length opened.leader) (goes_on mode above grid supply opened (length opened.leader) left level circuits banks floors upsized angle p) W
 
@@ -93,6 +101,7 @@ module _ {mode : PlanMode} {above : ℕ} {grid : GridColumns} {supply : SupplyCo
   rounds_end {d} {level} {circuits} {banks} {floors} {upsized} {angle} {p} r h =
       ended mode above grid supply opened (length opened.leader) level circuits banks floors upsized angle p W d (omega (arith, h)) r.whole
 
+  -- one more is begun: its edges are drawn, and the solve answers
   pub solved_of_round : {left : ℕ} {level circuits : List ℕ} {banks floors : List Float} {upsized : List ℕ} {p : Progress} {angle₀ angle flow : List Float} {r : Result (Unit {0}) Refusal} {buses corridors : ℕ}
       (e : Edges) → Rounds mode above grid supply opened left level circuits banks floors upsized angle₀ p W → (left ≡ 0 → ⊥) → length level ≡ length opened.leader
       → edges_of (take (length grid.a) e.from) (take (length grid.a) e.to) (take (length grid.a) e.weight) ≡ edges_for (drawn_all (lines_for grid) level banks) circuits
@@ -101,7 +110,7 @@ module _ {mode : PlanMode} {above : ℕ} {grid : GridColumns} {supply : SupplyCo
       ≡ planning_on (peak_for buses opened.grounds opened.injection) (edges_of (take corridors e.from) (take corridors e.to) (take corridors e.weight)) angle₀
       → Solved mode above grid supply opened (left - 1) level circuits banks floors upsized p e angle flow r W
   solved_of_round {left} e rounds some size edges bus_size corridor_size peak =
-      record { left = _; before = _; buses = _; corridors = _; some = omega (arith, some_left some); size = size; rounds = rounds; edges = edges; bus_size = bus_size; corridor_size = corridor_size; peak = peak }
+      record { left = _; before = _; buses = _; corridors = _; some = omega (arith, some); size = size; rounds = rounds; edges = edges; bus_size = bus_size; corridor_size = corridor_size; peak = peak }
 
   module _ {d : ℕ} {level circuits : List ℕ} {banks floors : List Float} {upsized : List ℕ} {p : Progress} {e : Edges} {angle flow : List Float} {r : Result (Unit {0}) Refusal}
       (v : Solved mode above grid supply opened d level circuits banks floors upsized p e angle flow r W) where

@@ -8,10 +8,6 @@ use Rattle.planning.specs.Rounds.{Redrawn}
 use Rattle.planning.proofs.Marks.{moved_most, none_raised, lines_raised}
 use Rattle.planning.specs.Tables.{GridColumns, SupplyColumns}
 
--- at levels that stand none moves either
-pub still_none : (level level' marks : List ℕ) (moved : ℕ) → level' ≡ level → moved ≡ moved_buses level marks → moved ≡ 0 → moved_buses level' marks ≡ 0
-still_none level level' marks moved e f g = ap (λ (l : List ℕ). moved_buses l marks) e ∙ sym f ∙ g
-
 module _ (grid : GridColumns) (level : List ℕ) (supply : SupplyColumns) (marks : List ℕ) (floors banks : List Float)
     (level' : List ℕ) (moved : ℕ) (lines : Lines grid level) (raised : level' ≡ raised_levels level marks) (count : moved ≡ moved_buses level marks) where
   lines_after : Lines grid level'

@@ -58,15 +58,6 @@ few_sum (x ∷ l) f = omega (arith, f 0, few_sum l (λ k. f (suc k)))
 pub few_high : (level : List ℕ) (top : ℕ) → at_or_above level top ≤ length level
 few_high level top = count_most (λ i. leb (get_or level i 0) top) (length level) 0
 
--- what is left to size, where levels and banks are as before
-pub still_sized : (mode : PlanMode) (grid : GridColumns) (flow : List Float) (k : ℕ) (circuits : List ℕ) (floors : List Float) (upsized marks : List ℕ) (t : Tally)
-    (circuits₀ : List ℕ) (banks₀ floors₀ : List Float) (upsized₀ : List ℕ) (capacity : ℕ) (level level' : List ℕ) (banks banks' : List Float) → level' ≡ level → banks' ≡ banks
-    → left mode (length level) grid level flow k circuits banks floors upsized marks t
-    ≡ size_all (size_for mode (length level) grid) level flow (build_of (size_for mode (length level) grid) level circuits₀ banks₀ floors₀ upsized₀) capacity
-    → left mode (length level') grid level' flow k circuits banks' floors upsized marks t
-    ≡ size_all (size_for mode (length level') grid) level' flow (build_of (size_for mode (length level') grid) level' circuits₀ banks₀ floors₀ upsized₀) capacity
-still_sized mode grid flow k circuits floors upsized marks t circuits₀ banks₀ floors₀ upsized₀ capacity level level' banks banks' e f q = rw (e, f) q
-
 module _ (mode : PlanMode) (above : ℕ) (grid : GridColumns) (supply : SupplyColumns) (opened : OpenedColumns)
     (n : ℕ) where
   abbrev C : Case → Case
@@ -81,9 +72,6 @@ module _ (mode : PlanMode) (above : ℕ) (grid : GridColumns) (supply : SupplyCo
 
   abbrev pub Alike : (Case → Stage Draft) → (Case → Stage Draft) → Type 0
   Alike X W = (o : Case) (target : ℕ) → Sound (C o) target → Fits o → X o ≡ W o
-
-  pub alike_trans : (X Y W : Case → Stage Draft) → Alike X Y → Alike Y W → Alike X W
-  alike_trans X Y W f g o target s e = f o target s e ∙ g o target s e
 
   -- d rounds from what the slices hold, and what follows a round
   abbrev pub goes_on : ℕ → List ℕ → List ℕ → List Float → List Float → List ℕ → List Float → Progress → Case → Stage Draft
@@ -137,26 +125,16 @@ module _ (mode : PlanMode) (above : ℕ) (grid : GridColumns) (supply : SupplyCo
         ∙ sym (rebuilt_is (C o) (raised_levels level marks) level circuits banks floors upsized)
 
   -- ---- a round: it begins with d + 1 left, and is solved
-  module _ (level first circuits : List ℕ) (banks floors : List Float) (upsized : List ℕ) (angle : List Float) (p : Progress) (W : Case → Stage Draft) (d' d : ℕ) (some : d' ≡ suc d) (kept : level ≡ first)
-      (size₀ : length first ≡ n) (whole₀ : Alike (goes_on d' first circuits banks floors upsized angle p) W) (theta flow : List Float) (r : Result (Unit {0}) Refusal)
+  module _ (level circuits : List ℕ) (banks floors : List Float) (upsized : List ℕ) (angle : List Float) (p : Progress) (W : Case → Stage Draft) (d' d : ℕ) (some : d' ≡ suc d)
+      (size : length level ≡ n) (whole : Alike (goes_on d' level circuits banks floors upsized angle p) W) (theta flow : List Float) (r : Result (Unit {0}) Refusal)
       (from to : List ℕ) (weight : List Float)
-      (edges : edges_of (take (length grid.a) from) (take (length grid.a) to) (take (length grid.a) weight) ≡ edges_for (drawn_all (lines_for grid) first banks) circuits)
-      (angles flows : ℕ) (angle_size : angles ≡ length first) (flow_size : flows ≡ length grid.a)
+      (edges : edges_of (take (length grid.a) from) (take (length grid.a) to) (take (length grid.a) weight) ≡ edges_for (drawn_all (lines_for grid) level banks) circuits)
+      (angles flows : ℕ) (angle_size : angles ≡ length level) (flow_size : flows ≡ length grid.a)
       (peak : solved_of r (edges_of (take flows from) (take flows to) (take flows weight)) theta flow
       ≡ planning_on (peak_for angles opened.grounds opened.injection) (edges_of (take flows from) (take flows to) (take flows weight)) angle) where
-    size : length level ≡ n
-    size = ap (λ (l : List ℕ). length l) kept ∙ size₀
-
-    whole : Alike (goes_on d' level circuits banks floors upsized angle p) W
-    whole o target s e = ap (λ (l : List ℕ). goes_on d' l circuits banks floors upsized angle p o) kept ∙ whole₀ o target s e
-
     solved : solved_of r (edges_for (drawn_all (lines_for grid) level banks) circuits) theta flow
         ≡ planning_state (peak_for (length level) opened.grounds opened.injection) (drawn_all (lines_for grid) level banks) circuits angle
-    solved =
-        subst (λ (l : List ℕ).
-        solved_of r (edges_for (drawn_all (lines_for grid) l banks) circuits) theta flow
-        ≡ planning_state (peak_for (length l) opened.grounds opened.injection) (drawn_all (lines_for grid) l banks) circuits angle) (sym kept)
-        (state_of grid first circuits banks from to weight edges angles flows angle_size flow_size opened.grounds opened.injection angle r theta flow peak)
+    solved = state_of grid level circuits banks from to weight edges angles flows angle_size flow_size opened.grounds opened.injection angle r theta flow peak
 
     -- the tallies while the round runs
     abbrev pub running : Progress
@@ -275,7 +253,6 @@ module _ (mode : PlanMode) (above : ℕ) (grid : GridColumns) (supply : SupplyCo
         round_is o target s e =
             ap (λ (E : Edges). the_case E)
             (edges
-            ∙ ap (λ (l : List ℕ). edges_for (drawn_all (lines_for grid) l banks) circuits) (sym kept)
             ∙ ap (λ (ds : List CircuitDesign). edges_for ds circuits) (drawn_all_lifts (C o) level grid.sheet refl banks s.a_size s.ladder_size))
           where
             the_case : Edges → PlanningCase

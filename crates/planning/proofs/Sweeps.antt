@@ -116,7 +116,7 @@ module _ {mode : PlanMode} {above : ℕ} {grid : GridColumns} {supply : SupplyCo
       (v : Solved mode above grid supply opened d level circuits banks floors upsized p e angle flow r W) where
     pub solve_refused : {f : Refusal} → r ≡ Err f → Alike mode above grid supply opened (length opened.leader) (λ o. stopped f) W
     solve_refused {f} q =
-        round_refused mode above grid supply opened (length opened.leader) level level circuits banks floors upsized v.before p W v.left d v.some refl v.size v.rounds.whole
+        round_refused mode above grid supply opened (length opened.leader) level circuits banks floors upsized v.before p W v.left d v.some v.size v.rounds.whole
         angle flow r e.from e.to e.weight v.edges v.buses v.corridors v.bus_size v.corridor_size v.peak f q
 
     pub sizes_start : {marks : List ℕ} {m : ℕ} → r ≡ no_refusal → marks ≡ no_marks m → m ≡ length level
@@ -158,7 +158,7 @@ module _ {mode : PlanMode} {above : ℕ} {grid : GridColumns} {supply : SupplyCo
       sizes_again {level'} {banks'} {moved} redrawn h =
           let v = z.solved in
           record {
-            whole = sized_again mode above grid supply opened (length opened.leader) level level z.circuits₀ z.banks₀ z.floors₀ z.upsized₀ v.before z.p₀ W v.left d v.some refl v.size v.rounds.whole
+            whole = sized_again mode above grid supply opened (length opened.leader) level z.circuits₀ z.banks₀ z.floors₀ z.upsized₀ v.before z.p₀ W v.left d v.some v.size v.rounds.whole
                 angle flow no_refusal e.from e.to e.weight v.edges v.buses v.corridors v.bus_size v.corridor_size v.peak refl circuits banks floors upsized marks t k all z.sized p z.runs
                 level' banks' moved redrawn h;
           }
@@ -170,7 +170,7 @@ module _ {mode : PlanMode} {above : ℕ} {grid : GridColumns} {supply : SupplyCo
           (record { rounds = p.rounds; promoted = p.promoted; capacity = t.capacity; stiffening = p.stiffening; converged = not t.capped; settled = true }))) W
       sizes_settled {level'} {banks'} {moved} redrawn h m =
           let v = z.solved in
-          sized_settled mode above grid supply opened (length opened.leader) level level z.circuits₀ z.banks₀ z.floors₀ z.upsized₀ v.before z.p₀ W v.left d v.some refl v.size v.rounds.whole
+          sized_settled mode above grid supply opened (length opened.leader) level z.circuits₀ z.banks₀ z.floors₀ z.upsized₀ v.before z.p₀ W v.left d v.some v.size v.rounds.whole
           angle flow no_refusal e.from e.to e.weight v.edges v.buses v.corridors v.bus_size v.corridor_size v.peak refl circuits banks floors upsized marks t k all z.sized p z.runs
           level' banks' moved redrawn h m
 
@@ -187,7 +187,7 @@ module _ {mode : PlanMode} {above : ℕ} {grid : GridColumns} {supply : SupplyCo
             some = omega (arith, ap (λ (q : Progress). q.rounds) z.runs);
             unconverged = ap (λ (q : Progress). q.converged) z.runs;
             unsettled = ap (λ (q : Progress). q.settled) z.runs;
-            whole = stiffens mode above grid supply opened (length opened.leader) level level z.circuits₀ z.banks₀ z.floors₀ z.upsized₀ v.before z.p₀ W v.left d v.some refl v.size v.rounds.whole
+            whole = stiffens mode above grid supply opened (length opened.leader) level z.circuits₀ z.banks₀ z.floors₀ z.upsized₀ v.before z.p₀ W v.left d v.some v.size v.rounds.whole
                 angle flow no_refusal e.from e.to e.weight v.edges v.buses v.corridors v.bus_size v.corridor_size v.peak refl circuits banks floors upsized marks t k all z.sized
                 none.1 none.2 none.0 p z.runs g marks' u limits clear begin;
           }

@@ -3,45 +3,6 @@ use Rattle.planning.proofs.Plans.{redesign_fit, raises_fit, runnable_of, settlea
 use Rattle.planning.proofs.plan.plan_opened.Goals as goal
 use Rattle.planning.specs.Tables.{grid_in, supply_in, opened_in}
 
-pub redesign-requires : goal.redesign-requires
-redesign-requires c =
-    let s = c in
-    redesign_fit s.args.mode s.args.target s.args.above _ _ _ _ _ _ _ _ _ _ _ s.requires.plannable
-
-pub raises-requires : goal.raises-requires
-raises-requires c =
-    let s = c in
-    let d = c.redesign in
-    raises_fit s.args.mode s.args.target s.args.above _ _ _ _ _ _ _ _ _ _ _ s.requires.plannable _ d.auto.banks d.ensures.sound
-
-pub run_rounds-requires : goal.run_rounds-requires
-run_rounds-requires c =
-    let s = c in
-    let z = s.args in
-    let d = c.redesign in
-    let v = c.raises in
-    let p = c.in_ok-promoted in
-    runnable_of z.mode z.target z.above (grid_in z.grid.now) z.level.now (supply_in z.supply.now) (opened_in z.opened.now) z.circuits.now z.banks.now z.floors.now z.upsized.now z.marks.now z.angle.now z.flow.now s.requires.plannable d.new.banks v.new.level v.new.banks v.result v.ensures v.auto.level _ p.was s.requires.closable.few
-    v.new.marks v.new.angle v.new.flow (v.auto.banks ∙ d.auto.banks) v.auto.marks v.auto.angle v.auto.flow
-
-pub settle-requires : goal.settle-requires
-settle-requires c =
-    let s = c in
-    let z = s.args in
-    let d = c.redesign in
-    let v = c.raises in
-    let w = c.run_rounds in record {
-      settleable = settleable_of z.mode z.target z.above (grid_in z.grid.now) z.level.now (supply_in z.supply.now) (opened_in z.opened.now) z.circuits.now z.banks.now z.floors.now z.upsized.now z.marks.now z.angle.now z.flow.now s.requires.plannable z.rate.now z.added.now s.requires.closable
-          w.new.level w.new.circuits w.new.banks w.new.upsized w.new.angle w.new.flow w.ensures.lines w.ensures.banked
-          w.auto.circuits (w.auto.banks ∙ v.auto.banks ∙ d.auto.banks) w.auto.upsized (w.auto.level ∙ v.auto.level) (w.auto.angle ∙ v.auto.angle) (w.auto.flow ∙ v.auto.flow);
-      few = w.ensures.few;
-    }
-
-pub overflow_cast-opened : goal.overflow_cast-opened
-overflow_cast-opened c =
-    let h = c.requires.plannable.places.few_grounds in
-    omega (arith, h)
-
 pub returns-in_err-promoted : goal.returns-in_err-promoted
 returns-in_err-promoted c =
     let v = c.raises in

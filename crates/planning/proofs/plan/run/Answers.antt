@@ -16,13 +16,13 @@ slice_bounds-opened-end-2 c =
     let v = c.«open» in
     count_of z.mode z.target z.above (grid_in z.grid.now) z.tier.now (supply_in z.supply.now) z.initial.now z.circuits.now z.flow.now z.rate.now z.mw.now z.angle.now z.level.now z.ground.now z.added.now z.figures.now z.counts.now s.requires v.new.leader v.new.injection v.new.ground v.new.mw v.new.level v.new.circuits v.result v.ensures _ c.in_ok-count.was v.auto.leader v.auto.ground
 
-pub plan_opened-requires : goal.plan_opened-requires
-plan_opened-requires c =
+pub plan_opened-requires-clause-plannable : goal.plan_opened-requires-clause-plannable
+plan_opened-requires-clause-plannable c =
     let s = c in
     let z = s.args in
     let v = c.«open» in
     let k = c.fill in
-    let both-parts = opened_asks z.mode z.target z.above (grid_in z.grid.now) z.tier.now (supply_in z.supply.now) z.initial.now z.circuits.now z.flow.now z.rate.now z.mw.now z.angle.now z.level.now z.ground.now z.added.now z.figures.now z.counts.now s.requires v.new.leader v.new.injection v.new.ground v.new.mw v.new.level v.new.circuits v.result v.ensures _ c.in_ok-count.was v.auto.leader v.auto.injection k.new.self (k.ensures.after (λ y e. e)) v.auto.circuits in record { plannable = both-parts.0; closable = both-parts.1 }
+    (opened_asks z.mode z.target z.above (grid_in z.grid.now) z.tier.now (supply_in z.supply.now) z.initial.now z.circuits.now z.flow.now z.rate.now z.mw.now z.angle.now z.level.now z.ground.now z.added.now z.figures.now z.counts.now s.requires v.new.leader v.new.injection v.new.ground v.new.mw v.new.level v.new.circuits v.result v.ensures _ c.in_ok-count.was v.auto.leader v.auto.injection k.new.self (k.ensures.after (λ y e. e)) v.auto.circuits).0
 
 pub returns-in_err-count : goal.returns-in_err-count
 returns-in_err-count c =

@@ -11,13 +11,6 @@ returns-in_err-solve_from_zero c =
     let h : c.from_residual.result ≡ Err c.in_err-solve_from_zero.field-0.0 = search rules in
     rw h (λ filler before order. solved_refused _ _ v.result _ _ _ _ v.ensures c.in_err-solve_from_zero.was)
 
-pub close-requires : goal.close-requires
-close-requires c =
-    let h = c.requires in
-    let v = c.solve_from_zero in
-    let w = settleable_again _ _ _ _ _ _ _ _ _ _ _ h _ _ _ refl v.auto.flow v.auto.angle in
-    record { lines = h.drawing.lines; loaded = (loaded _ _ _ _ _ _ _ _ _ _ _ w, h.cap_size); closable = w.closable }
-
 pub returns : goal.returns
 returns c =
     let z = c.args in

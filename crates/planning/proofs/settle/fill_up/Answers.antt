@@ -5,20 +5,10 @@ use Rattle.planning.proofs.Settling.{settleable_again, caps_fit, counted, ranked
 use Rattle.planning.proofs.settle.fill_up.Goals as goal
 use Rattle.planning.specs.Tables.{grid_in}
 
-pub keep-kept-requires : goal.keep-kept-requires
-keep-kept-requires c =
-    let h = c.requires.settleable.drawing in
-    omega (arith, h.count_size, h.few_corridors)
-
-pub fill-filler-requires : goal.fill-filler-requires
-fill-filler-requires c =
-    let s = c in
+pub fill-filler-requires-clause-ranked : goal.fill-filler-requires-clause-ranked
+fill-filler-requires-clause-ranked c =
     let o = c.fill_order.ensures in
-    record { ranked = (ranked _ _ _ _ _ _ _ _ _ _ _ s.requires.settleable _ _ o.size o.order, caps_fit _ _ _ _ _ _ _ _ _ _ _ s.requires.settleable); counted = counted _ _ _ _ _ _ _ _ _ _ _ s.requires.settleable s.requires.few }
-
-pub close_up-requires : goal.close_up-requires
-close_up-requires c =
-    settleable_again _ _ _ _ _ _ _ _ _ _ _ c.requires.settleable _ _ _ c.fill-filler.auto.circuits refl refl
+    (ranked _ _ _ _ _ _ _ _ _ _ _ c.requires.settleable _ _ o.size o.order, caps_fit _ _ _ _ _ _ _ _ _ _ _ c.requires.settleable)
 
 pub returns-in_err-closing : goal.returns-in_err-closing
 returns-in_err-closing c =

@@ -14,12 +14,6 @@ returns-in_err-solve_from_zero c =
     let h : c.from_residual.result ≡ Err c.in_err-solve_from_zero.field-0.0 = search rules in
     rw h (settles _ _ _ _ _ _ _ _ _ _ _ _ _ _ _ _ (solved_refused _ _ v.result _ _ _ _ v.ensures c.in_err-solve_from_zero.was))
 
-pub fill_up-requires : goal.fill_up-requires
-fill_up-requires c =
-    let h = c.requires in
-    let v = c.solve_from_zero.auto in
-    record { settleable = settleable_again _ _ _ _ _ _ _ _ _ _ _ h.settleable _ _ _ refl v.flow v.angle; few = h.few }
-
 pub returns : goal.returns
 returns c =
     let z = c.args in

@@ -32,13 +32,13 @@ use Rattle.planning.specs.Solve.{peak_for}
 use Rattle.planning.specs.Close.{Closable, lent_to}
 use Rattle.planning.specs.Rounds.{Columns}
 use Rattle.planning.specs.Sound.{Sound, Lengths}
-use Rattle.planning.specs.Plan.{Openable, Opens, OpenedAs, OpeningDone, Plannable, OpenedPlan, Holds, PlannedAs, HoldsAll, whole_case, WholeAs, PlanDone, Lendable}
+use Rattle.planning.specs.Plan.{Openable, Opens, OpenedAs, OpeningDone, Plannable, OpenedPlan, PlannedAs, whole_case, WholeAs, PlanDone, Lendable}
 use Rattle.planning.specs.declared.plan.PlanRun.{PlanRun}
 use Rattle.planning.proofs.Grounds.{grounds_few, grounds_below, grounds_lent}
 use Rattle.planning.proofs.Draws.{Laid}
 use Rattle.planning.proofs.Sounds.{lines_of}
 use Rattle.std.specs.Prelude.{Err, Ok, Result}
-use Rattle.planning.specs.Tables.{GridColumns, grid_of, SupplyColumns, supply_of, OpenedColumns, opened_of}
+use Rattle.planning.specs.Tables.{GridColumns, grid_of, SupplyColumns, supply_of, opened_of}
 
 -- ---- a unit's most is not below zero, since its least is not
 truth : (b : Bool) → T b → b ≡ true

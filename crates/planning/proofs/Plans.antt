@@ -28,10 +28,9 @@ use Rattle.planning.specs.Raises.{raised_of, raised_as, Within, Raisable, Raises
 use Rattle.planning.specs.Rounds.{rounds_case, draft_of, ran_as, RoundsRun}
 use Rattle.planning.specs.Settle.{closing_in, Held, SettledAs, Settleable, Settles}
 use Rattle.planning.specs.Sound.{Sound}
-use Rattle.planning.specs.Plan.{rounds_for, start_of, Runnable, RanAll, plan_by, Holds, PlannedAs, Plannable, OpenedPlan}
+use Rattle.planning.specs.Plan.{rounds_for, start_of, Runnable, RanAll, plan_by, Holds, Plannable, OpenedPlan}
 use Rattle.planning.specs.declared.rounds.Progress.{Progress}
 use Rattle.planning.specs.declared.fill.Kept.{Kept}
-use Rattle.planning.specs.declared.close.Closing.{Closing}
 use Rattle.planning.specs.declared.plan.PlanRun.{PlanRun}
 use Rattle.planning.specs.declared.settle.Settling.{Settling}
 use Rattle.planning.proofs.Redesigns.{redesign_is, banks_lift, first_design}

@@ -1,5 +1,5 @@
 use Rattle.std.proofs.Common.{rules, ◌≡◌, Err, sym, ◌∙◌}
-use Rattle.planning.proofs.Openings.{joined_by_lem, fleet_by, costs_by, loads_by, above_by, tiers_by, opens_refused, opens_going}
+use Rattle.planning.proofs.Openings.{opens_refused, opens_going}
 use Rattle.planning.proofs.plan.open.Goals as goal
 
 pub returns-in_err-dispatch_components : goal.returns-in_err-dispatch_components

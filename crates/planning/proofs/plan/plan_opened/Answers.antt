@@ -1,5 +1,5 @@
-use Rattle.std.proofs.Common.{rules, ◌≡◌, Err, refl, ◌∙◌, arith}
-use Rattle.planning.proofs.Plans.{redesign_fit, raises_fit, runnable_of, settleable_of, opened_refused, opened_unrun, opened_unsettled, opened_plan}
+use Rattle.std.proofs.Common.{rules, ◌≡◌, Err}
+use Rattle.planning.proofs.Plans.{opened_refused, opened_unrun, opened_unsettled, opened_plan}
 use Rattle.planning.proofs.plan.plan_opened.Goals as goal
 use Rattle.planning.specs.Tables.{grid_in, supply_in, opened_in}
 

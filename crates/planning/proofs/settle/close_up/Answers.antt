@@ -1,7 +1,7 @@
-use Rattle.std.proofs.Common.{rules, ◌≡◌, Err, length, refl}
+use Rattle.std.proofs.Common.{rules, ◌≡◌, Err, length}
 use Rattle.planning.specs.Solve.{peak_for}
 use Rattle.planning.specs.Fill.{designs_for}
-use Rattle.planning.proofs.Settling.{settleable_again, loaded, solved_refused, closed_answered}
+use Rattle.planning.proofs.Settling.{solved_refused, closed_answered}
 use Rattle.planning.proofs.settle.close_up.Goals as goal
 use Rattle.planning.specs.Tables.{grid_in}
 

@@ -1,7 +1,7 @@
-use Rattle.std.proofs.Common.{rules, ◌≡◌, Err, ℕ, length, take, sym, refl, ap, ◌∙◌, arith}
+use Rattle.std.proofs.Common.{rules, ◌≡◌, Err, ℕ, length, take, sym, ap, ◌∙◌}
 use Rattle.planning.specs.Solve.{peak_for}
 use Rattle.planning.specs.Fill.{designs_for}
-use Rattle.planning.proofs.Settling.{settleable_again, caps_fit, counted, ranked, ended_refused, ended_answered, filled_are}
+use Rattle.planning.proofs.Settling.{caps_fit, ranked, ended_refused, ended_answered, filled_are}
 use Rattle.planning.proofs.settle.fill_up.Goals as goal
 use Rattle.planning.specs.Tables.{grid_in}
 

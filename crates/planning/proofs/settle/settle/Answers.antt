@@ -1,9 +1,9 @@
-use Rattle.std.proofs.Common.{rules, ◌≡◌, Err, length, refl, ◌∙◌}
+use Rattle.std.proofs.Common.{rules, ◌≡◌, Err, length, ◌∙◌}
 use Rattle.plan_defs.specs.Solve.{PlanningCase}
 use Rattle.planning.specs.Solve.{peak_for}
 use Rattle.planning.specs.Fill.{designs_for}
 use Rattle.planning.specs.Settle.{filled_from}
-use Rattle.planning.proofs.Settling.{settleable_again, solved_refused, solved_answered}
+use Rattle.planning.proofs.Settling.{solved_refused, solved_answered}
 use Rattle.planning.proofs.Settlements.{settles}
 use Rattle.planning.proofs.settle.settle.Goals as goal
 use Rattle.planning.specs.Tables.{grid_in, opened_in}

@@ -1,6 +1,6 @@
 // Filling, after "3. Fill to the requested branch count" of `plan_corridors`: the order, heaviest planned loading first, and then
 // round and round it, a circuit to each corridor that has fewer than its own cap, or than four where it has none, up to the target.
-ghost use Rattle.std.specs.Prelude.{◌≡◌, ℕ, ◌+◌, ◌<◌, ◌≤◌, length, take};
+ghost use Rattle.std.specs.Prelude.{◌≡◌, ◌+◌, ◌<◌, ◌≤◌, length, take};
 ghost use Rattle.loops.specs.Loops.{filled};
 ghost use Rattle.plan_defs.specs.Constants.{most_corridors};
 ghost use Rattle.plan_defs.specs.Lists.{sum};

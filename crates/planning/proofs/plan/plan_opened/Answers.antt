@@ -11,39 +11,36 @@ returns-in_err-promoted c =
 
 pub returns-in_err-progress : goal.returns-in_err-progress
 returns-in_err-progress c =
-    let s = c in
-    let z = s.args in
+    let z = c.args in
     let d = c.redesign in
     let v = c.raises in
     let w = c.run_rounds in
     let h : c.from_residual-in_err-progress.result ≡ Err c.in_err-progress.field-0.0 = search rules in
     rw h
-    (opened_unrun z.mode z.target z.above (grid_in z.grid.now) z.level.now (supply_in z.supply.now) (opened_in z.opened.now) z.circuits.now z.banks.now z.floors.now z.upsized.now z.marks.now z.angle.now z.flow.now s.requires.plannable d.new.banks v.new.level v.new.banks v.result v.ensures v.auto.level d.ensures.anew _ c.in_ok-promoted.was
+    (opened_unrun z.mode z.target z.above (grid_in z.grid.now) z.level.now (supply_in z.supply.now) (opened_in z.opened.now) z.circuits.now z.banks.now z.floors.now z.upsized.now z.marks.now z.angle.now z.flow.now c.requires.plannable d.new.banks v.new.level v.new.banks v.result v.ensures v.auto.level d.ensures.anew _ c.in_ok-promoted.was
     w.new.level w.new.circuits w.new.banks w.new.floors w.new.upsized w.new.angle w.result w.ensures _ c.in_err-progress.was
     w.new.circuits w.new.level w.new.flow z.rate.now w.new.angle z.added.now)
 
 pub returns-in_err-settling : goal.returns-in_err-settling
 returns-in_err-settling c =
-    let s = c in
-    let z = s.args in
+    let z = c.args in
     let d = c.redesign in
     let v = c.raises in
     let w = c.run_rounds in
     let x = c.settle in
     let h : c.from_residual-in_err-settling.result ≡ Err c.in_err-settling.field-0.0 = search rules in
     rw h
-    (opened_unsettled z.mode z.target z.above (grid_in z.grid.now) z.level.now (supply_in z.supply.now) (opened_in z.opened.now) z.circuits.now z.banks.now z.floors.now z.upsized.now z.marks.now z.angle.now z.flow.now s.requires.plannable d.new.banks v.new.level v.new.banks v.result v.ensures v.auto.level d.ensures.anew _ c.in_ok-promoted.was
+    (opened_unsettled z.mode z.target z.above (grid_in z.grid.now) z.level.now (supply_in z.supply.now) (opened_in z.opened.now) z.circuits.now z.banks.now z.floors.now z.upsized.now z.marks.now z.angle.now z.flow.now c.requires.plannable d.new.banks v.new.level v.new.banks v.result v.ensures v.auto.level d.ensures.anew _ c.in_ok-promoted.was
     w.new.level w.new.circuits w.new.banks w.new.floors w.new.upsized w.new.angle w.result w.ensures _ c.in_ok-progress.was
     x.new.circuits x.new.level x.new.flow x.new.rate x.new.angle x.new.added x.result x.ensures w.auto.level _ c.in_err-settling.was)
 
 pub returns : goal.returns
 returns c =
-    let s = c in
-    let z = s.args in
+    let z = c.args in
     let d = c.redesign in
     let v = c.raises in
     let w = c.run_rounds in
     let x = c.settle in
-    opened_plan z.mode z.target z.above (grid_in z.grid.now) z.level.now (supply_in z.supply.now) (opened_in z.opened.now) z.circuits.now z.banks.now z.floors.now z.upsized.now z.marks.now z.angle.now z.flow.now s.requires.plannable d.new.banks v.new.level v.new.banks v.result v.ensures v.auto.level d.ensures.anew _ c.in_ok-promoted.was
+    opened_plan z.mode z.target z.above (grid_in z.grid.now) z.level.now (supply_in z.supply.now) (opened_in z.opened.now) z.circuits.now z.banks.now z.floors.now z.upsized.now z.marks.now z.angle.now z.flow.now c.requires.plannable d.new.banks v.new.level v.new.banks v.result v.ensures v.auto.level d.ensures.anew _ c.in_ok-promoted.was
     w.new.level w.new.circuits w.new.banks w.new.floors w.new.upsized w.new.angle w.result w.ensures _ c.in_ok-progress.was
     x.new.circuits x.new.level x.new.flow x.new.rate x.new.angle x.new.added x.result x.ensures w.auto.level _ c.in_ok-settling.was c.planned.result c.planned.ensures.plan c.planned.ensures.kept

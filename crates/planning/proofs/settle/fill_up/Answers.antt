@@ -12,11 +12,10 @@ fill-filler-requires-clause-ranked c =
 
 pub returns-in_err-closing : goal.returns-in_err-closing
 returns-in_err-closing c =
-    let s = c in
-    let z = s.args in
+    let z = c.args in
     let f = c.fill-filler.ensures in
     let k = c.keep-kept.ensures in
-    let e = s.requires.settleable.drawing.count_size in
+    let e = c.requires.settleable.drawing.count_size in
     let h : c.from_residual.result ≡ Err c.in_err-closing.field-0.0 = search rules in
     rw h
     (ended_refused c.close_up.result _ _ _ _ _ _ _ _ _ _
@@ -27,11 +26,10 @@ returns-in_err-closing c =
 
 pub returns : goal.returns
 returns c =
-    let s = c in
-    let z = s.args in
+    let z = c.args in
     let f = c.fill-filler.ensures in
     let k = c.keep-kept.ensures in
-    let e = s.requires.settleable.drawing.count_size in
+    let e = c.requires.settleable.drawing.count_size in
     ended_answered c.close_up.result _ _ _ _ _ _ _ _ _ _
     (c.close_up.ensures c.fill-filler.result (take (length z.grid.now.a.now) c.keep-kept.result.before) (take (length z.grid.now.a.now) c.keep-kept.result.order)
     ∙ filled_are z.mode z.grid.now.cap.now z.above z.opened.now.leader.now z.grid.now.ladder.now z.level.now (designs_for (grid_in z.grid.now) z.level.now z.banks.now)

@@ -1,69 +1,23 @@
--- The opening of a sound case: what its functions ask of the columns, and that together they leave what the defined opening has.
+-- The opening of a sound case: what its functions leave together is what the defined opening has.
 -- Each definition reads only its columns; the lengths say which.
-use Rattle.std.proofs.Common.{◌≡◌, ℕ, ◌+◌, ◌<◌, ◌≤◌, max, List, length, get_or, sym, refl, ap, ◌∙◌, subst, arith}
+use Rattle.std.proofs.Common.{◌≡◌, ℕ, ◌+◌, max, List, length, get_or, sym, ap, ◌∙◌}
 use lib.Ieee.{Float}
 use Rattle.loops.specs.Loops.{tab}
 use Rattle.refusal.specs.declared.Refusal.{Refusal}
 use Rattle.leaders.specs.Leaders.{leaders_of}
-use Rattle.plan_defs.specs.Constants.{most_levels}
 use Rattle.plan_defs.specs.Stage.{stopped}
 use Rattle.plan_defs.specs.Case.{Case, first_levels, lower_bound, lower_bounds}
 use Rattle.plan_defs.specs.Components.{component, grounds_of}
 use Rattle.plan_defs.specs.Dispatch.{dispatch_of, injections}
 use Rattle.plan_defs.specs.Outcome.{up_to}
-use Rattle.planning.specs.Opening.{stage_of, slack_case, dispatch_case, injection_case, Joined, Fleet, Costs, Loads}
+use Rattle.planning.specs.Opening.{stage_of, slack_case, dispatch_case, injection_case}
 use Rattle.planning.specs.Sound.{Sound}
 use Rattle.planning.specs.Plan.{Opens}
 use Rattle.planning.proofs.Lifting.{grounds_lift, dispatch_lift, injections_lift}
 use Rattle.std.specs.Prelude.{Err, Result}
 use Rattle.refusal.specs.Reply.{no_refusal}
-use Rattle.planning.specs.Tables.{supply_of}
 
 module _ (c : Case) (target : ℕ) (s : Sound c target) where
-  -- ---- what is asked
-  pub joined_by_lem : (leader : List ℕ) → length leader ≡ c.buses → Joined (length c.tier) (length c.a) c.a c.b leader
-  joined_by_lem leader e =
-      subst (λ (n : ℕ). Joined n (length c.a) c.a c.b leader) (sym s.tier_size)
-      (record {
-        few_buses = s.few_buses;
-        few_corridors = omega (arith, s.few_corridors, s.a_size);
-        a_size = refl;
-        b_size = s.b_size ∙ sym s.a_size;
-        places = e;
-        ends = λ k h. s.ends_ok k (omega (arith, h, s.a_size));
-      })
-
-  pub fleet_by : (n : ℕ) → n ≡ c.buses → Fleet n c.bus
-  fleet_by n e =
-      record {
-        few = omega (arith, s.few_generators, s.bus_size);
-        below = λ k h. omega (arith, e, s.bus_below k (omega (arith, h, s.bus_size)));
-      }
-
-  pub costs_by : Costs (supply_of c.load c.bus c.slack c.pmin c.pmax c.c1 c.c2)
-  costs_by =
-      record {
-        pmin_size = s.pmin_size ∙ sym s.bus_size;
-        pmax_size = s.pmax_size ∙ sym s.bus_size;
-        c1_size = s.c1_size ∙ sym s.bus_size;
-        c2_size = s.c2_size ∙ sym s.bus_size;
-        units = λ k h. s.unit_ok_holds k (omega (arith, h, s.bus_size));
-      }
-
-  pub loads_by : (leader : List ℕ) → length leader ≡ c.buses → Loads leader c.load
-  loads_by leader e =
-      record {
-        few = omega (arith, s.few_buses, e);
-        size = s.load_size ∙ sym e;
-        each = λ i h. s.load_inside i (omega (arith, h, e));
-      }
-
-  pub above_by : c.above ≤ most_levels
-  above_by = omega (arith, s.few_levels)
-
-  pub tiers_by : (i : ℕ) → i < length c.tier → get_or c.tier i 0 < most_levels
-  tiers_by i h = omega (arith, s.few_levels, s.tier_below i (omega (arith, h, s.tier_size)))
-
   -- ---- what is left
   module _ (leader : List ℕ) (led : leader ≡ leaders_of (length c.tier) c.a c.b) where
     leads : leader ≡ component c

@@ -1,12 +1,12 @@
--- The stages of planning joined: what each asks of the slices that the one before left, and that together they are the defined stages of the whole case.
+-- The stages of planning joined: together they are the defined stages of the whole case.
 -- The stages are onwards of one another, so each law puts in what was answered, and the rest is by computing.
-use Rattle.std.proofs.Common.{◌≡◌, ℕ, zero, suc, ◌*◌, ◌≤◌, Bool, true, false, cond, not, ◌&&◌, eqb, List, length, take, replicate, sym, refl, ap, ◌∙◌, subst, zero-le, arith, ne_eqb}
+use Rattle.std.proofs.Common.{◌≡◌, ℕ, zero, suc, ◌≤◌, Bool, true, false, cond, not, ◌&&◌, eqb, List, length, take, replicate, sym, refl, ap, ◌∙◌, subst, zero-le, arith, ne_eqb}
 use lib.Ieee.{Float}
 use Rattle.loops.specs.Figures.{nought}
 use Rattle.refusal.specs.declared.Refusal.{Refusal}
 use Rattle.mode.specs.declared.PlanMode.{PlanMode}
 use Rattle.angles_defs.specs.Network.{zeros}
-use Rattle.plan_defs.specs.Constants.{most_buses, most_levels, planning_max_rounds}
+use Rattle.plan_defs.specs.Constants.{planning_max_rounds}
 use Rattle.plan_defs.specs.Stage.{Stage, stopped, going, onward}
 use Rattle.plan_defs.specs.Case.{Case, expand, lower_bounds, first_levels}
 use Rattle.plan_defs.specs.Design.{redesign, design_circuits}
@@ -20,18 +20,16 @@ use Rattle.plan_defs.specs.Outcome.{summary}
 use Rattle.plan_defs.specs.declared.CircuitDesign.{CircuitDesign}
 use Rattle.plan_defs.proofs.Stages.{On}
 use Rattle.plan_defs.proofs.Rising.{risen_first}
-use Rattle.planning.specs.Design.{Lines, Banks}
-use Rattle.planning.specs.Redesign.{Units, redesign_for, banks_anew, RedesignFits}
+use Rattle.planning.specs.Design.{Lines}
+use Rattle.planning.specs.Redesign.{Units, redesign_for, banks_anew}
 use Rattle.planning.specs.Solve.{peak_for}
-use Rattle.planning.specs.Close.{Closable}
-use Rattle.planning.specs.Raises.{raised_of, raised_as, Within, Raisable, RaisesDone}
+use Rattle.planning.specs.Raises.{raised_of, raised_as, RaisesDone}
 use Rattle.planning.specs.Rounds.{rounds_case, draft_of, ran_as, RoundsRun}
-use Rattle.planning.specs.Settle.{closing_in, Held, SettledAs, Settleable, Settles}
+use Rattle.planning.specs.Settle.{closing_in, Held, SettledAs, Settles}
 use Rattle.planning.specs.Sound.{Sound}
-use Rattle.planning.specs.Plan.{rounds_for, start_of, Runnable, RanAll, plan_by, Holds, PlannedAs, Plannable, OpenedPlan}
+use Rattle.planning.specs.Plan.{rounds_for, start_of, Runnable, RanAll, plan_by, Holds, Plannable, OpenedPlan}
 use Rattle.planning.specs.declared.rounds.Progress.{Progress}
 use Rattle.planning.specs.declared.fill.Kept.{Kept}
-use Rattle.planning.specs.declared.close.Closing.{Closing}
 use Rattle.planning.specs.declared.plan.PlanRun.{PlanRun}
 use Rattle.planning.specs.declared.settle.Settling.{Settling}
 use Rattle.planning.proofs.Redesigns.{redesign_is, banks_lift, first_design}
@@ -146,124 +144,9 @@ opened_for c led mw P s = record { led = led; mw = mw; peak = P; draft = first_d
 module _ (mode : PlanMode) (target above : ℕ) (grid : GridColumns) (level : List ℕ) (supply : SupplyColumns) (opened : OpenedColumns)
     (circuits : List ℕ) (banks floors : List Float) (upsized marks : List ℕ) (angle flow : List Float)
     (h : Plannable grid level supply opened circuits banks floors upsized marks angle flow) where
-  pub redesign_fit : RedesignFits grid level supply floors banks
-  redesign_fit =
-      record {
-        lines = h.columns.lines;
-        loads = h.columns.loads;
-        units = h.columns.units;
-        few = h.columns.few;
-        floor_size = h.places.floor_size;
-        bank_size = h.places.bank_size;
-      }
-
-  pub raises_fit : (banks₁ : List Float) → length banks₁ ≡ length banks → Banks banks₁
-      → Raisable grid level supply opened circuits floors banks₁ marks angle flow
-  raises_fit banks₁ e banked =
-      record {
-        drawing =
-            record {
-              lines = h.columns.lines;
-              few_buses = h.columns.loads.few;
-              few_corridors = h.columns.few;
-              count_size = h.places.count_size;
-              bank_size = e ∙ h.places.bank_size;
-              banks_ok = banked;
-            };
-        lent =
-            record {
-              few_grounds = h.places.few_grounds;
-              ground_below = h.places.ground_below;
-              injection_size = h.places.injection_size;
-              angle_size = h.places.angle_size;
-              flow_size = h.places.flow_size;
-            };
-        redesigns =
-            record {
-              lines = h.columns.lines;
-              loads = h.columns.loads;
-              units = h.columns.units;
-              few = h.columns.few;
-              floor_size = h.places.floor_size;
-              bank_size = e ∙ h.places.bank_size;
-            };
-        unset = h.unset;
-        mark_size = h.places.mark_size;
-        few_levels = h.few_levels;
-      }
-
-  -- what the solves, the filling and the closing ask of what the rounds leave
-  pub settleable_of : (rate added : List Float) → Closable above grid.ladder grid.a opened.leader upsized angle rate added → (level'' circuits'' : List ℕ) (banks'' : List Float) (upsized'' : List ℕ)
-      (angle'' flow'' : List Float) → Lines grid level'' → Banks banks'' → length circuits'' ≡ length circuits → length banks'' ≡ length banks
-      → length upsized'' ≡ length upsized → length level'' ≡ length level → length angle'' ≡ length angle → length flow'' ≡ length flow
-      → Settleable above grid level'' opened banks'' upsized'' circuits'' flow'' rate angle'' added
-  settleable_of rate added k level'' circuits'' banks'' upsized'' angle'' flow'' lines banked e₁ e₂ e₃ e₄ e₅ e₆ =
-      record {
-        drawing =
-            record {
-              lines = lines;
-              few_buses = omega (arith, e₄, h.columns.loads.few);
-              few_corridors = h.columns.few;
-              count_size = e₁ ∙ h.places.count_size;
-              bank_size = e₂ ∙ h.places.bank_size;
-              banks_ok = banked;
-            };
-        lent =
-            record {
-              few_grounds = h.places.few_grounds;
-              ground_below = λ g x. omega (arith, e₄, h.places.ground_below g x);
-              injection_size = h.places.injection_size ∙ sym e₄;
-              angle_size = e₅ ∙ h.places.angle_size ∙ sym e₄;
-              flow_size = e₆ ∙ h.places.flow_size;
-            };
-        closable =
-            record {
-              few = k.few;
-              ladder_size = k.ladder_size;
-              angle_size = e₅ ∙ k.angle_size;
-              upsized_size = e₃ ∙ k.upsized_size;
-              rate_size = k.rate_size;
-              added_size = k.added_size;
-            };
-        cap_size = h.capped.size;
-      }
-
   -- after the raises
   module _ (banks₁ : List Float) (level' : List ℕ) (banks' : List Float) (r : Result ℕ Refusal)
       (w : RaisesDone mode grid level supply opened circuits banks₁ level' banks' r) (size : length level' ≡ length level) where
-    pub runnable_of : (promoted : ℕ) → r ≡ Ok promoted → above ≤ most_levels → (marks' : List ℕ) (angle' flow' : List Float) → length banks' ≡ length banks
-        → length marks' ≡ length marks → length angle' ≡ length angle → length flow' ≡ length flow
-        → Runnable above promoted grid level' supply opened circuits banks' floors upsized marks' angle' flow'
-    runnable_of promoted q low marks' angle' flow' e₁ e₂ e₃ e₄ =
-        record {
-          columns =
-              record {
-                lines = w.lines;
-                loads = record { load_size = h.columns.loads.load_size ∙ sym size; few = omega (arith, size, h.columns.loads.few); sound = h.columns.loads.sound };
-                units = h.columns.units;
-                few = h.columns.few;
-              };
-          places =
-              record {
-                leader_size = h.places.leader_size ∙ sym size;
-                few_grounds = h.places.few_grounds;
-                ground_below = λ g x. omega (arith, size, h.places.ground_below g x);
-                injection_size = h.places.injection_size ∙ sym size;
-                count_size = h.places.count_size;
-                bank_size = e₁ ∙ h.places.bank_size;
-                floor_size = h.places.floor_size;
-                upsized_size = h.places.upsized_size;
-                mark_size = e₂ ∙ h.places.mark_size ∙ sym size;
-                angle_size = e₃ ∙ h.places.angle_size ∙ sym size;
-                flow_size = e₄ ∙ h.places.flow_size;
-              };
-          few_levels = low;
-          few_moves = subst (Within (most_buses * most_levels)) q w.bound;
-          capped = h.capped;
-          banked = w.banked;
-          few = h.few;
-        }
-
     module _ (anew : banks₁ ≡ banks_anew (redesign_for grid supply) level floors) where
       module _ (o : Case) (mw : List Float) (s : Sound (rounds_case o mode above grid supply) target)
           (l : level ≡ first_levels (rounds_case o mode above grid supply))

@@ -1,6 +1,6 @@
--- Planning after the rounds: what each stage asks of slices that the one before left, and the stages over slices as those of the whole case.
+-- Planning after the rounds: what filling asks of the order that it is given, and the stages over slices as those of the whole case.
 -- The stages by columns are onwards of the same solves as the defined ones, so each law is the lifts put in, one after another.
-use Rattle.std.proofs.Common.{◌≡◌, ℕ, List, map, length, take, sym, ap, ◌∙◌, subst, arith}
+use Rattle.std.proofs.Common.{◌≡◌, ℕ, List, map, length, take, sym, ap, ◌∙◌, subst}
 use lib.Ieee.{Float}
 use Rattle.loops.specs.Figures.{nought}
 use Rattle.mode.specs.declared.PlanMode.{PlanMode}
@@ -12,9 +12,8 @@ use Rattle.plan_defs.specs.Fill.{order_of, fill}
 use Rattle.plan_defs.specs.Closing.{tiers_of, added_of}
 use Rattle.plan_defs.specs.Outcome.{up_to}
 use Rattle.plan_defs.specs.declared.CircuitDesign.{CircuitDesign}
-use Rattle.planning.specs.Solve.{solved_of, Lent}
-use Rattle.planning.specs.Fill.{caps_for, Loaded, Whole, Ranked, Counted}
-use Rattle.planning.specs.Size.{Few}
+use Rattle.planning.specs.Solve.{solved_of}
+use Rattle.planning.specs.Fill.{caps_for, Whole, Ranked}
 use Rattle.planning.specs.Close.{levels_for, closing_of}
 use Rattle.planning.specs.Settle.{Settleable, Ended, closed_of, ended_by, closed_from, closed_after, filled_in, filled_from}
 use Rattle.planning.specs.declared.close.Closing.{Closing}
@@ -42,62 +41,12 @@ module _ (r : Result Closing Refusal) (filler : ℕ) (before order circuits tier
       → going (record { filler = filler; closing = c; before = before; order = order; circuits = circuits; tier = tier; flow = flow; rate = rate; angle = angle; added = added }) ≡ X
   ended_answered c q = ap (λ (x : Result Closing Refusal). closed_of x filler before order circuits tier flow rate angle added) (sym q) ∙ e
 
--- ---- slices of the same lengths
-module _ (n m : ℕ) (opened : OpenedColumns) (angle flow angle' flow' : List Float) where
-  pub lent_again : Lent n m opened angle flow → length angle' ≡ length angle → length flow' ≡ length flow
-      → Lent n m opened angle' flow'
-  lent_again h p q =
-      record {
-        few_grounds = h.few_grounds;
-        ground_below = h.ground_below;
-        injection_size = h.injection_size;
-        angle_size = p ∙ h.angle_size;
-        flow_size = q ∙ h.flow_size;
-      }
-
+-- ---- what filling asks of the slices that the solve left
 module _ (above : ℕ) (grid : GridColumns) (level : List ℕ) (opened : OpenedColumns) (banks : List Float)
     (upsized circuits : List ℕ) (flow rate angle added : List Float)
     (h : Settleable above grid level opened banks upsized circuits flow rate angle added) where
-  pub settleable_again : (circuits' : List ℕ) (flow' angle' : List Float) → length circuits' ≡ length circuits → length flow' ≡ length flow → length angle' ≡ length angle
-      → Settleable above grid level opened banks upsized circuits' flow' rate angle' added
-  settleable_again circuits' flow' angle' p q w =
-      record {
-        drawing =
-            record {
-              lines = h.drawing.lines;
-              few_buses = h.drawing.few_buses;
-              few_corridors = h.drawing.few_corridors;
-              count_size = p ∙ h.drawing.count_size;
-              bank_size = h.drawing.bank_size;
-              banks_ok = h.drawing.banks_ok;
-            };
-        lent = lent_again (length level) (length grid.a) opened angle flow angle' flow' h.lent w q;
-        closable =
-            record {
-              few = h.closable.few;
-              ladder_size = h.closable.ladder_size;
-              angle_size = w ∙ h.closable.angle_size;
-              upsized_size = h.closable.upsized_size;
-              rate_size = h.closable.rate_size;
-              added_size = h.closable.added_size;
-            };
-        cap_size = h.cap_size;
-      }
-
-  -- what closing and filling ask of them
-  pub loaded : Loaded grid.a banks circuits flow
-  loaded =
-      record {
-        drawable = record { few = h.drawing.few_corridors; size = h.drawing.bank_size; sound = h.drawing.banks_ok };
-        circuits_size = h.drawing.count_size;
-        flow_size = h.lent.flow_size;
-      }
-
   pub caps_fit : length grid.cap ≡ length circuits
   caps_fit = h.cap_size ∙ sym h.drawing.count_size
-
-  pub counted : Few circuits → Counted circuits
-  counted few = record { few = omega (arith, h.drawing.count_size, h.drawing.few_corridors); each = λ k w. few k }
 
   pub ranked : (ds : List CircuitDesign) (order : List ℕ) → Whole order → take (length grid.a) order ≡ order_of (length grid.a) ds circuits flow
       → Ranked (length circuits) order (length circuits)

@@ -65,8 +65,8 @@ copy_from_slice-requires c =
     let q = c.in_ok-check_case.was in
     caps_fit case z.target lent c.check_case.result answer q
 
-pub returns-in-Ok-clause-plan : goal.returns-in-Ok-clause-plan
-returns-in-Ok-clause-plan c =
+pub returns-in-Ok : goal.returns-in-Ok
+returns-in-Ok c =
     let z = c.args in
     let case = surveyed z.mode z.n z.m z.g z.above z.requested z.ladder.now z.tier.now z.reading.now z.weight.now z.bus.now z.slack.now z.pmin.now z.pmax.now z.c1.now z.c2.now z.a.now z.b.now z.initial.now z.km.now z.share.now z.cap.now z.sheet.now in
     let lent = slices z.circuits.now z.flow.now z.rate.now z.before.now z.order.now z.kept_cap.now z.mw.now z.angle.now z.level.now z.ground.now z.added.now z.figures.now z.counts.now in
@@ -77,13 +77,14 @@ returns-in-Ok-clause-plan c =
     let y = c.in-Ok in
     let fills : (l k : List ℕ) → kept_if c.promotes-fills.result (length l) (take (length l) k) ≡ kept_if (promote z.mode) (length l) (take (length l) k) =
     λ l k. ap (λ (b : Bool). kept_if b (length l) (take (length l) k)) c.promotes-fills.ensures in
-    (ends_answered case z.target lent c.check_case.result answer q z.sheet.now refl refl (λ e k l. c.type_inv.pmin k) v.result left
+    let both = ends_answered case z.target lent c.check_case.result answer q z.sheet.now refl refl (λ e k l. c.type_inv.pmin k) v.result left
     _ (loads_lent z.n case.reading case.weight _ c.weigh-load.ensures (buses_fit case z.target lent c.check_case.result answer q)) v.ensures v.auto.figures v.auto.counts y.ran y.is _ _ _ _ _
     (c.keep_if.ensures ∙ fills z.before.now y.ran.kept.before) (c.keep_if-in-Ok.ensures ∙ fills z.order.now y.ran.kept.order) c.copy_from_slice.ensures.after
-    (c.fill.ensures.after (λ y e. e)) (c.fill-in-Ok.ensures.after (λ y e. e))).0
+    (c.fill.ensures.after (λ y e. e)) (c.fill-in-Ok.ensures.after (λ y e. e)) in
+    record { plan = both.0; demand = both.1 }
 
-pub returns-in-Ok-clause-demand : goal.returns-in-Ok-clause-demand
-returns-in-Ok-clause-demand c =
+pub returns-in-Err : goal.returns-in-Err
+returns-in-Err c =
     let z = c.args in
     let case = surveyed z.mode z.n z.m z.g z.above z.requested z.ladder.now z.tier.now z.reading.now z.weight.now z.bus.now z.slack.now z.pmin.now z.pmax.now z.c1.now z.c2.now z.a.now z.b.now z.initial.now z.km.now z.share.now z.cap.now z.sheet.now in
     let lent = slices z.circuits.now z.flow.now z.rate.now z.before.now z.order.now z.kept_cap.now z.mw.now z.angle.now z.level.now z.ground.now z.added.now z.figures.now z.counts.now in
@@ -91,36 +92,7 @@ returns-in-Ok-clause-demand c =
     let q = c.in_ok-check_case.was in
     let v = c.run in
     let left = slices v.new.circuits v.new.flow v.new.rate z.before.now z.order.now z.kept_cap.now v.new.mw v.new.angle v.new.level v.new.ground v.new.added v.new.figures v.new.counts in
-    let y = c.in-Ok in
-    let fills : (l k : List ℕ) → kept_if c.promotes-fills.result (length l) (take (length l) k) ≡ kept_if (promote z.mode) (length l) (take (length l) k) =
-    λ l k. ap (λ (b : Bool). kept_if b (length l) (take (length l) k)) c.promotes-fills.ensures in
-    (ends_answered case z.target lent c.check_case.result answer q z.sheet.now refl refl (λ e k l. c.type_inv.pmin k) v.result left
-    _ (loads_lent z.n case.reading case.weight _ c.weigh-load.ensures (buses_fit case z.target lent c.check_case.result answer q)) v.ensures v.auto.figures v.auto.counts y.ran y.is _ _ _ _ _
-    (c.keep_if.ensures ∙ fills z.before.now y.ran.kept.before) (c.keep_if-in-Ok.ensures ∙ fills z.order.now y.ran.kept.order) c.copy_from_slice.ensures.after
-    (c.fill.ensures.after (λ y e. e)) (c.fill-in-Ok.ensures.after (λ y e. e))).1
-
-pub returns-in-Err-clause-plan : goal.returns-in-Err-clause-plan
-returns-in-Err-clause-plan c =
-    let z = c.args in
-    let case = surveyed z.mode z.n z.m z.g z.above z.requested z.ladder.now z.tier.now z.reading.now z.weight.now z.bus.now z.slack.now z.pmin.now z.pmax.now z.c1.now z.c2.now z.a.now z.b.now z.initial.now z.km.now z.share.now z.cap.now z.sheet.now in
-    let lent = slices z.circuits.now z.flow.now z.rate.now z.before.now z.order.now z.kept_cap.now z.mw.now z.angle.now z.level.now z.ground.now z.added.now z.figures.now z.counts.now in
-    let answer : c.check_case.result ≡ check_of (slices_ok case lent) (tables_of_lem case) z.target = checked case z.target lent _ _ c.places_ok-fits.ensures c.check_case.ensures in
-    let q = c.in_ok-check_case.was in
-    let v = c.run in
-    let left = slices v.new.circuits v.new.flow v.new.rate z.before.now z.order.now z.kept_cap.now v.new.mw v.new.angle v.new.level v.new.ground v.new.added v.new.figures v.new.counts in
-    (ends_refused case z.target lent c.check_case.result answer q z.sheet.now refl refl (λ e k l. c.type_inv.pmin k) v.result left
+    let both = ends_refused case z.target lent c.check_case.result answer q z.sheet.now refl refl (λ e k l. c.type_inv.pmin k) v.result left
     _ (loads_lent z.n case.reading case.weight _ c.weigh-load.ensures (buses_fit case z.target lent c.check_case.result answer q)) v.ensures v.auto.figures v.auto.counts c.in-Err.f c.in-Err.is
-    v.auto.circuits v.auto.flow v.auto.rate refl refl refl v.auto.mw v.auto.angle v.auto.level v.auto.ground v.auto.added _ c.clear.ensures).0
-
-pub returns-in-Err-clause-demand : goal.returns-in-Err-clause-demand
-returns-in-Err-clause-demand c =
-    let z = c.args in
-    let case = surveyed z.mode z.n z.m z.g z.above z.requested z.ladder.now z.tier.now z.reading.now z.weight.now z.bus.now z.slack.now z.pmin.now z.pmax.now z.c1.now z.c2.now z.a.now z.b.now z.initial.now z.km.now z.share.now z.cap.now z.sheet.now in
-    let lent = slices z.circuits.now z.flow.now z.rate.now z.before.now z.order.now z.kept_cap.now z.mw.now z.angle.now z.level.now z.ground.now z.added.now z.figures.now z.counts.now in
-    let answer : c.check_case.result ≡ check_of (slices_ok case lent) (tables_of_lem case) z.target = checked case z.target lent _ _ c.places_ok-fits.ensures c.check_case.ensures in
-    let q = c.in_ok-check_case.was in
-    let v = c.run in
-    let left = slices v.new.circuits v.new.flow v.new.rate z.before.now z.order.now z.kept_cap.now v.new.mw v.new.angle v.new.level v.new.ground v.new.added v.new.figures v.new.counts in
-    (ends_refused case z.target lent c.check_case.result answer q z.sheet.now refl refl (λ e k l. c.type_inv.pmin k) v.result left
-    _ (loads_lent z.n case.reading case.weight _ c.weigh-load.ensures (buses_fit case z.target lent c.check_case.result answer q)) v.ensures v.auto.figures v.auto.counts c.in-Err.f c.in-Err.is
-    v.auto.circuits v.auto.flow v.auto.rate refl refl refl v.auto.mw v.auto.angle v.auto.level v.auto.ground v.auto.added _ c.clear.ensures).1
+    v.auto.circuits v.auto.flow v.auto.rate refl refl refl v.auto.mw v.auto.angle v.auto.level v.auto.ground v.auto.added _ c.clear.ensures in
+    record { plan = both.0; demand = both.1 }

@@ -1,46 +1,7 @@
-use Rattle.std.proofs.Common.{rules, ◌≡◌, Err, refl, ◌∙◌, arith}
-use Rattle.planning.proofs.Plans.{redesign_fit, raises_fit, runnable_of, settleable_of, opened_refused, opened_unrun, opened_unsettled, opened_plan}
+use Rattle.std.proofs.Common.{rules, ◌≡◌, Err}
+use Rattle.planning.proofs.Plans.{opened_refused, opened_unrun, opened_unsettled, opened_plan}
 use Rattle.planning.proofs.plan.plan_opened.Goals as goal
 use Rattle.planning.specs.Tables.{grid_in, supply_in, opened_in}
-
-pub redesign-requires : goal.redesign-requires
-redesign-requires c =
-    let s = c in
-    redesign_fit s.args.mode s.args.target s.args.above _ _ _ _ _ _ _ _ _ _ _ s.requires.plannable
-
-pub raises-requires : goal.raises-requires
-raises-requires c =
-    let s = c in
-    let d = c.redesign in
-    raises_fit s.args.mode s.args.target s.args.above _ _ _ _ _ _ _ _ _ _ _ s.requires.plannable _ d.auto.banks d.ensures.sound
-
-pub run_rounds-requires : goal.run_rounds-requires
-run_rounds-requires c =
-    let s = c in
-    let z = s.args in
-    let d = c.redesign in
-    let v = c.raises in
-    let p = c.in_ok-promoted in
-    runnable_of z.mode z.target z.above (grid_in z.grid.now) z.level.now (supply_in z.supply.now) (opened_in z.opened.now) z.circuits.now z.banks.now z.floors.now z.upsized.now z.marks.now z.angle.now z.flow.now s.requires.plannable d.new.banks v.new.level v.new.banks v.result v.ensures v.auto.level _ p.was s.requires.closable.few
-    v.new.marks v.new.angle v.new.flow (v.auto.banks ∙ d.auto.banks) v.auto.marks v.auto.angle v.auto.flow
-
-pub settle-requires : goal.settle-requires
-settle-requires c =
-    let s = c in
-    let z = s.args in
-    let d = c.redesign in
-    let v = c.raises in
-    let w = c.run_rounds in record {
-      settleable = settleable_of z.mode z.target z.above (grid_in z.grid.now) z.level.now (supply_in z.supply.now) (opened_in z.opened.now) z.circuits.now z.banks.now z.floors.now z.upsized.now z.marks.now z.angle.now z.flow.now s.requires.plannable z.rate.now z.added.now s.requires.closable
-          w.new.level w.new.circuits w.new.banks w.new.upsized w.new.angle w.new.flow w.ensures.lines w.ensures.banked
-          w.auto.circuits (w.auto.banks ∙ v.auto.banks ∙ d.auto.banks) w.auto.upsized (w.auto.level ∙ v.auto.level) (w.auto.angle ∙ v.auto.angle) (w.auto.flow ∙ v.auto.flow);
-      few = w.ensures.few;
-    }
-
-pub overflow_cast-opened : goal.overflow_cast-opened
-overflow_cast-opened c =
-    let h = c.requires.plannable.places.few_grounds in
-    omega (arith, h)
 
 pub returns-in_err-promoted : goal.returns-in_err-promoted
 returns-in_err-promoted c =
@@ -50,39 +11,36 @@ returns-in_err-promoted c =
 
 pub returns-in_err-progress : goal.returns-in_err-progress
 returns-in_err-progress c =
-    let s = c in
-    let z = s.args in
+    let z = c.args in
     let d = c.redesign in
     let v = c.raises in
     let w = c.run_rounds in
     let h : c.from_residual-in_err-progress.result ≡ Err c.in_err-progress.field-0.0 = search rules in
     rw h
-    (opened_unrun z.mode z.target z.above (grid_in z.grid.now) z.level.now (supply_in z.supply.now) (opened_in z.opened.now) z.circuits.now z.banks.now z.floors.now z.upsized.now z.marks.now z.angle.now z.flow.now s.requires.plannable d.new.banks v.new.level v.new.banks v.result v.ensures v.auto.level d.ensures.anew _ c.in_ok-promoted.was
+    (opened_unrun z.mode z.target z.above (grid_in z.grid.now) z.level.now (supply_in z.supply.now) (opened_in z.opened.now) z.circuits.now z.banks.now z.floors.now z.upsized.now z.marks.now z.angle.now z.flow.now c.requires.plannable d.new.banks v.new.level v.new.banks v.result v.ensures v.auto.level d.ensures.anew _ c.in_ok-promoted.was
     w.new.level w.new.circuits w.new.banks w.new.floors w.new.upsized w.new.angle w.result w.ensures _ c.in_err-progress.was
     w.new.circuits w.new.level w.new.flow z.rate.now w.new.angle z.added.now)
 
 pub returns-in_err-settling : goal.returns-in_err-settling
 returns-in_err-settling c =
-    let s = c in
-    let z = s.args in
+    let z = c.args in
     let d = c.redesign in
     let v = c.raises in
     let w = c.run_rounds in
     let x = c.settle in
     let h : c.from_residual-in_err-settling.result ≡ Err c.in_err-settling.field-0.0 = search rules in
     rw h
-    (opened_unsettled z.mode z.target z.above (grid_in z.grid.now) z.level.now (supply_in z.supply.now) (opened_in z.opened.now) z.circuits.now z.banks.now z.floors.now z.upsized.now z.marks.now z.angle.now z.flow.now s.requires.plannable d.new.banks v.new.level v.new.banks v.result v.ensures v.auto.level d.ensures.anew _ c.in_ok-promoted.was
+    (opened_unsettled z.mode z.target z.above (grid_in z.grid.now) z.level.now (supply_in z.supply.now) (opened_in z.opened.now) z.circuits.now z.banks.now z.floors.now z.upsized.now z.marks.now z.angle.now z.flow.now c.requires.plannable d.new.banks v.new.level v.new.banks v.result v.ensures v.auto.level d.ensures.anew _ c.in_ok-promoted.was
     w.new.level w.new.circuits w.new.banks w.new.floors w.new.upsized w.new.angle w.result w.ensures _ c.in_ok-progress.was
     x.new.circuits x.new.level x.new.flow x.new.rate x.new.angle x.new.added x.result x.ensures w.auto.level _ c.in_err-settling.was)
 
 pub returns : goal.returns
 returns c =
-    let s = c in
-    let z = s.args in
+    let z = c.args in
     let d = c.redesign in
     let v = c.raises in
     let w = c.run_rounds in
     let x = c.settle in
-    opened_plan z.mode z.target z.above (grid_in z.grid.now) z.level.now (supply_in z.supply.now) (opened_in z.opened.now) z.circuits.now z.banks.now z.floors.now z.upsized.now z.marks.now z.angle.now z.flow.now s.requires.plannable d.new.banks v.new.level v.new.banks v.result v.ensures v.auto.level d.ensures.anew _ c.in_ok-promoted.was
+    opened_plan z.mode z.target z.above (grid_in z.grid.now) z.level.now (supply_in z.supply.now) (opened_in z.opened.now) z.circuits.now z.banks.now z.floors.now z.upsized.now z.marks.now z.angle.now z.flow.now c.requires.plannable d.new.banks v.new.level v.new.banks v.result v.ensures v.auto.level d.ensures.anew _ c.in_ok-promoted.was
     w.new.level w.new.circuits w.new.banks w.new.floors w.new.upsized w.new.angle w.result w.ensures _ c.in_ok-progress.was
     x.new.circuits x.new.level x.new.flow x.new.rate x.new.angle x.new.added x.result x.ensures w.auto.level _ c.in_ok-settling.was c.planned.result c.planned.ensures.plan c.planned.ensures.kept

@@ -5,38 +5,33 @@ use Rattle.planning.specs.Tables.{grid_in, supply_in}
 
 pub open-requires : goal.open-requires
 open-requires c =
-    let s = c in
-    let z = s.args in
-    openable_of z.mode z.target z.above (grid_in z.grid.now) z.tier.now (supply_in z.supply.now) z.initial.now z.circuits.now z.flow.now z.rate.now z.mw.now z.angle.now z.level.now z.ground.now z.added.now z.figures.now z.counts.now s.requires
+    let z = c.args in
+    openable_of z.mode z.target z.above (grid_in z.grid.now) z.tier.now (supply_in z.supply.now) z.initial.now z.circuits.now z.flow.now z.rate.now z.mw.now z.angle.now z.level.now z.ground.now z.added.now z.figures.now z.counts.now c.requires
 
 pub slice_bounds-opened-end-2 : goal.slice_bounds-opened-end-2
 slice_bounds-opened-end-2 c =
-    let s = c in
-    let z = s.args in
+    let z = c.args in
     let v = c.«open» in
-    count_of z.mode z.target z.above (grid_in z.grid.now) z.tier.now (supply_in z.supply.now) z.initial.now z.circuits.now z.flow.now z.rate.now z.mw.now z.angle.now z.level.now z.ground.now z.added.now z.figures.now z.counts.now s.requires v.new.leader v.new.injection v.new.ground v.new.mw v.new.level v.new.circuits v.result v.ensures _ c.in_ok-count.was v.auto.leader v.auto.ground
+    count_of z.mode z.target z.above (grid_in z.grid.now) z.tier.now (supply_in z.supply.now) z.initial.now z.circuits.now z.flow.now z.rate.now z.mw.now z.angle.now z.level.now z.ground.now z.added.now z.figures.now z.counts.now c.requires v.new.leader v.new.injection v.new.ground v.new.mw v.new.level v.new.circuits v.result v.ensures _ c.in_ok-count.was v.auto.leader v.auto.ground
 
-pub plan_opened-requires : goal.plan_opened-requires
-plan_opened-requires c =
-    let s = c in
-    let z = s.args in
+pub plan_opened-requires-clause-plannable : goal.plan_opened-requires-clause-plannable
+plan_opened-requires-clause-plannable c =
+    let z = c.args in
     let v = c.«open» in
     let k = c.fill in
-    let both-parts = opened_asks z.mode z.target z.above (grid_in z.grid.now) z.tier.now (supply_in z.supply.now) z.initial.now z.circuits.now z.flow.now z.rate.now z.mw.now z.angle.now z.level.now z.ground.now z.added.now z.figures.now z.counts.now s.requires v.new.leader v.new.injection v.new.ground v.new.mw v.new.level v.new.circuits v.result v.ensures _ c.in_ok-count.was v.auto.leader v.auto.injection k.new.self (k.ensures.after (λ y e. e)) v.auto.circuits in record { plannable = both-parts.0; closable = both-parts.1 }
+    (opened_asks z.mode z.target z.above (grid_in z.grid.now) z.tier.now (supply_in z.supply.now) z.initial.now z.circuits.now z.flow.now z.rate.now z.mw.now z.angle.now z.level.now z.ground.now z.added.now z.figures.now z.counts.now c.requires v.new.leader v.new.injection v.new.ground v.new.mw v.new.level v.new.circuits v.result v.ensures _ c.in_ok-count.was v.auto.leader v.auto.injection k.new.self (k.ensures.after (λ y e. e)) v.auto.circuits).0
 
 pub returns-in_err-count : goal.returns-in_err-count
 returns-in_err-count c =
-    let s = c in
-    let z = s.args in
+    let z = c.args in
     let v = c.«open» in
     let h : c.from_residual.result ≡ Err c.in_err-count.field-0.0 = search rules in
-    rw h (stages_refused z.mode z.target z.above (grid_in z.grid.now) z.tier.now (supply_in z.supply.now) z.initial.now z.circuits.now z.flow.now z.rate.now z.mw.now z.angle.now z.level.now z.ground.now z.added.now z.figures.now z.counts.now s.requires v.new.leader v.new.injection v.new.ground v.new.mw v.new.level v.new.circuits v.result v.ensures _ c.in_err-count.was _ _ _ _ _ _ _ _)
+    rw h (stages_refused z.mode z.target z.above (grid_in z.grid.now) z.tier.now (supply_in z.supply.now) z.initial.now z.circuits.now z.flow.now z.rate.now z.mw.now z.angle.now z.level.now z.ground.now z.added.now z.figures.now z.counts.now c.requires v.new.leader v.new.injection v.new.ground v.new.mw v.new.level v.new.circuits v.result v.ensures _ c.in_err-count.was _ _ _ _ _ _ _ _)
 
 pub returns : goal.returns
 returns c =
-    let s = c in
-    let z = s.args in
+    let z = c.args in
     let v = c.«open» in
     let k = c.fill in
     let w = c.plan_opened in
-    stages_plan z.mode z.target z.above (grid_in z.grid.now) z.tier.now (supply_in z.supply.now) z.initial.now z.circuits.now z.flow.now z.rate.now z.mw.now z.angle.now z.level.now z.ground.now z.added.now z.figures.now z.counts.now s.requires v.new.leader v.new.injection v.new.ground v.new.mw v.new.level v.new.circuits v.result v.ensures _ c.in_ok-count.was v.auto.leader v.auto.injection k.new.self (k.ensures.after (λ y e. e)) w.new.circuits w.new.flow w.new.rate w.new.angle w.new.level w.new.added w.result w.ensures
+    stages_plan z.mode z.target z.above (grid_in z.grid.now) z.tier.now (supply_in z.supply.now) z.initial.now z.circuits.now z.flow.now z.rate.now z.mw.now z.angle.now z.level.now z.ground.now z.added.now z.figures.now z.counts.now c.requires v.new.leader v.new.injection v.new.ground v.new.mw v.new.level v.new.circuits v.result v.ensures _ c.in_ok-count.was v.auto.leader v.auto.injection k.new.self (k.ensures.after (λ y e. e)) w.new.circuits w.new.flow w.new.rate w.new.angle w.new.level w.new.added w.result w.ensures

@@ -1,7 +1,7 @@
-use Rattle.std.proofs.Common.{rules, ◌≡◌, Err, length, refl}
+use Rattle.std.proofs.Common.{rules, ◌≡◌, Err, length}
 use Rattle.planning.specs.Solve.{peak_for}
 use Rattle.planning.specs.Fill.{designs_for}
-use Rattle.planning.proofs.Settling.{settleable_again, loaded, solved_refused, closed_answered}
+use Rattle.planning.proofs.Settling.{solved_refused, closed_answered}
 use Rattle.planning.proofs.settle.close_up.Goals as goal
 use Rattle.planning.specs.Tables.{grid_in}
 
@@ -10,13 +10,6 @@ returns-in_err-solve_from_zero c =
     let v = c.solve_from_zero in
     let h : c.from_residual.result ≡ Err c.in_err-solve_from_zero.field-0.0 = search rules in
     rw h (λ filler before order. solved_refused _ _ v.result _ _ _ _ v.ensures c.in_err-solve_from_zero.was)
-
-pub close-requires : goal.close-requires
-close-requires c =
-    let h = c.requires in
-    let v = c.solve_from_zero in
-    let w = settleable_again _ _ _ _ _ _ _ _ _ _ _ h _ _ _ refl v.auto.flow v.auto.angle in
-    record { lines = h.drawing.lines; loaded = (loaded _ _ _ _ _ _ _ _ _ _ _ w, h.cap_size); closable = w.closable }
 
 pub returns : goal.returns
 returns c =

@@ -1,32 +1,21 @@
-use Rattle.std.proofs.Common.{rules, ◌≡◌, Err, ℕ, length, take, sym, refl, ap, ◌∙◌, arith}
+use Rattle.std.proofs.Common.{rules, ◌≡◌, Err, ℕ, length, take, sym, ap, ◌∙◌}
 use Rattle.planning.specs.Solve.{peak_for}
 use Rattle.planning.specs.Fill.{designs_for}
-use Rattle.planning.proofs.Settling.{settleable_again, caps_fit, counted, ranked, ended_refused, ended_answered, filled_are}
+use Rattle.planning.proofs.Settling.{caps_fit, ranked, ended_refused, ended_answered, filled_are}
 use Rattle.planning.proofs.settle.fill_up.Goals as goal
 use Rattle.planning.specs.Tables.{grid_in}
 
-pub keep-kept-requires : goal.keep-kept-requires
-keep-kept-requires c =
-    let h = c.requires.settleable.drawing in
-    omega (arith, h.count_size, h.few_corridors)
-
-pub fill-filler-requires : goal.fill-filler-requires
-fill-filler-requires c =
-    let s = c in
+pub fill-filler-requires-clause-ranked : goal.fill-filler-requires-clause-ranked
+fill-filler-requires-clause-ranked c =
     let o = c.fill_order.ensures in
-    record { ranked = (ranked _ _ _ _ _ _ _ _ _ _ _ s.requires.settleable _ _ o.size o.order, caps_fit _ _ _ _ _ _ _ _ _ _ _ s.requires.settleable); counted = counted _ _ _ _ _ _ _ _ _ _ _ s.requires.settleable s.requires.few }
-
-pub close_up-requires : goal.close_up-requires
-close_up-requires c =
-    settleable_again _ _ _ _ _ _ _ _ _ _ _ c.requires.settleable _ _ _ c.fill-filler.auto.circuits refl refl
+    (ranked _ _ _ _ _ _ _ _ _ _ _ c.requires.settleable _ _ o.size o.order, caps_fit _ _ _ _ _ _ _ _ _ _ _ c.requires.settleable)
 
 pub returns-in_err-closing : goal.returns-in_err-closing
 returns-in_err-closing c =
-    let s = c in
-    let z = s.args in
+    let z = c.args in
     let f = c.fill-filler.ensures in
     let k = c.keep-kept.ensures in
-    let e = s.requires.settleable.drawing.count_size in
+    let e = c.requires.settleable.drawing.count_size in
     let h : c.from_residual.result ≡ Err c.in_err-closing.field-0.0 = search rules in
     rw h
     (ended_refused c.close_up.result _ _ _ _ _ _ _ _ _ _
@@ -37,11 +26,10 @@ returns-in_err-closing c =
 
 pub returns : goal.returns
 returns c =
-    let s = c in
-    let z = s.args in
+    let z = c.args in
     let f = c.fill-filler.ensures in
     let k = c.keep-kept.ensures in
-    let e = s.requires.settleable.drawing.count_size in
+    let e = c.requires.settleable.drawing.count_size in
     ended_answered c.close_up.result _ _ _ _ _ _ _ _ _ _
     (c.close_up.ensures c.fill-filler.result (take (length z.grid.now.a.now) c.keep-kept.result.before) (take (length z.grid.now.a.now) c.keep-kept.result.order)
     ∙ filled_are z.mode z.grid.now.cap.now z.above z.opened.now.leader.now z.grid.now.ladder.now z.level.now (designs_for (grid_in z.grid.now) z.level.now z.banks.now)

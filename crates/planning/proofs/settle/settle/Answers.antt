@@ -1,9 +1,9 @@
-use Rattle.std.proofs.Common.{rules, ◌≡◌, Err, length, refl, ◌∙◌}
+use Rattle.std.proofs.Common.{rules, ◌≡◌, Err, length, ◌∙◌}
 use Rattle.plan_defs.specs.Solve.{PlanningCase}
 use Rattle.planning.specs.Solve.{peak_for}
 use Rattle.planning.specs.Fill.{designs_for}
 use Rattle.planning.specs.Settle.{filled_from}
-use Rattle.planning.proofs.Settling.{settleable_again, solved_refused, solved_answered}
+use Rattle.planning.proofs.Settling.{solved_refused, solved_answered}
 use Rattle.planning.proofs.Settlements.{settles}
 use Rattle.planning.proofs.settle.settle.Goals as goal
 use Rattle.planning.specs.Tables.{grid_in, opened_in}
@@ -13,12 +13,6 @@ returns-in_err-solve_from_zero c =
     let v = c.solve_from_zero in
     let h : c.from_residual.result ≡ Err c.in_err-solve_from_zero.field-0.0 = search rules in
     rw h (settles _ _ _ _ _ _ _ _ _ _ _ _ _ _ _ _ (solved_refused _ _ v.result _ _ _ _ v.ensures c.in_err-solve_from_zero.was))
-
-pub fill_up-requires : goal.fill_up-requires
-fill_up-requires c =
-    let h = c.requires in
-    let v = c.solve_from_zero.auto in
-    record { settleable = settleable_again _ _ _ _ _ _ _ _ _ _ _ h.settleable _ _ _ refl v.flow v.angle; few = h.few }
 
 pub returns : goal.returns
 returns c =

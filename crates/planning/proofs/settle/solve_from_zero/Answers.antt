@@ -5,6 +5,5 @@ use Rattle.planning.proofs.settle.solve_from_zero.Goals as goal
 
 pub returns : goal.returns
 returns c =
-    let s = c in
     c.planning_state.ensures
-    ∙ ap (planning_state _ _ _) ((c.fill.ensures.after (λ y e. e)) ∙ ap (λ (n : ℕ). zeros n) s.requires.lent.angle_size)
+    ∙ ap (planning_state _ _ _) ((c.fill.ensures.after (λ y e. e)) ∙ ap (λ (n : ℕ). zeros n) c.requires.lent.angle_size)

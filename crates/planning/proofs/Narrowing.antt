@@ -21,39 +21,39 @@ use Rattle.planning.specs.declared.stiffen.Limits.{Limits}
 use Rattle.planning.specs.declared.stiffen.Stiffness.{Stiffness}
 use Rattle.std.specs.Prelude.{Err, Ok, Result}
 use Rattle.refusal.specs.Reply.{no_refusal}
-use Rattle.planning.specs.Tables.{GridColumns, OpenedColumns}
+use Rattle.planning.specs.Tables.{GridColumns, OpenedColumns, SolvedColumns}
 
 -- ---- the component, by what the solve answers
-module _ (root lead lag : ℕ) (excess : Float) (g : Limits) (grid : GridColumns) (level : List ℕ) (opened : OpenedColumns) (from to : List ℕ) (weight angle : List Float)
-    (circuits : List ℕ) (banks floors : List Float) (upsized marks : List ℕ) (t : Stiffness) (n : ℕ) (phi : List Float) (r : Result (Unit {0}) Refusal) (pn : n ≡ length level)
+module _ (root lead lag : ℕ) (excess : Float) (solved : SolvedColumns)
+    (circuits : List ℕ) (banks floors : List Float) (upsized marks : List ℕ) (t : Stiffness) (n : ℕ) (phi : List Float) (r : Result (Unit {0}) Refusal) (pn : n ≡ length solved.level)
     (pa : stage_of r phi
-    ≡ finite_angles (solve n (edges_of (take (length grid.a - 0) from) (take (length grid.a - 0) to) (take (length grid.a - 0) weight)) opened.grounds (unit_at n lead lag) (zeros n)).x) where
+    ≡ finite_angles (solve n (edges_of (take (length solved.grid.a - 0) solved.from) (take (length solved.grid.a - 0) solved.to) (take (length solved.grid.a - 0) solved.weight)) solved.opened.grounds (unit_at n lead lag) (zeros n)).x) where
   abbrev step : Case → List Float → List Float → Stiffening → Stage Stiffening
-  step = narrow_step root lead lag excess g level opened.leader opened.grounds (length grid.a) from to weight angle
+  step = narrow_step root lead lag excess solved
 
   module _ (c : Case) (injection flows : List Float) (s : Stiffening) where
     abbrev next : List Float → Stage Stiffening
-    next x = reinforce_step root excess g level opened.leader angle x c injection flows s
+    next x = reinforce_step root excess solved x c injection flows s
 
     by_angles : (b : Bool) (x : List Float)
         → onward (finite_if b x) next
-        ≡ narrow_if c (peak_for c.buses opened.grounds injection) opened.leader level 0 (budget_for g) (round_of (length grid.a) from to weight angle flows) b root excess s x
+        ≡ narrow_if c (peak_for c.buses solved.opened.grounds injection) solved.opened.leader solved.level 0 (budget_for solved.g) (round_of (length solved.grid.a) solved.from solved.to solved.weight solved.angle flows) b root excess s x
     by_angles true x = refl
     by_angles false x = refl
 
     answer_is : n ≡ c.buses → onward (stage_of r phi) next ≡ step c injection flows s
     answer_is e =
-        let X : ℕ → ℕ → List Float = λ k i. (solve i (edges_of (take k from) (take k to) (take k weight)) opened.grounds (unit_at i lead lag) (zeros i)).x in
-        ap (λ (y : Stage (List Float)). onward y next) (pa ∙ ap (λ (k : ℕ). finite_angles (X k n)) (sub-zero (length grid.a)) ∙ ap (λ (i : ℕ). finite_angles (X (length grid.a) i)) e)
-        ∙ by_angles (all_finite (X (length grid.a) c.buses)) (X (length grid.a) c.buses)
+        let X : ℕ → ℕ → List Float = λ k i. (solve i (edges_of (take k solved.from) (take k solved.to) (take k solved.weight)) solved.opened.grounds (unit_at i lead lag) (zeros i)).x in
+        ap (λ (y : Stage (List Float)). onward y next) (pa ∙ ap (λ (k : ℕ). finite_angles (X k n)) (sub-zero (length solved.grid.a)) ∙ ap (λ (i : ℕ). finite_angles (X (length solved.grid.a) i)) e)
+        ∙ by_angles (all_finite (X (length solved.grid.a) c.buses)) (X (length solved.grid.a) c.buses)
 
   pub narrowed_refused : (f : Refusal) → r ≡ Err f → Banks banks
-      → Stepped step grid level circuits banks floors upsized marks t circuits banks floors upsized marks (Err f)
+      → Stepped step solved.grid solved.level circuits banks floors upsized marks t circuits banks floors upsized marks (Err f)
   narrowed_refused f h banked =
       record {
         stiffened = λ o injection flows w e.
-            let c = with_lines o grid in
-            let s = stiff_of c level circuits banks floors upsized marks t in
+            let c = with_lines o solved.grid in
+            let s = stiff_of c solved.level circuits banks floors upsized marks t in
             ap (λ (x : Result (Unit {0}) Refusal). onward (stage_of x phi) (next c injection flows s)) (sym h) ∙ answer_is c injection flows s (pn ∙ e);
         banked = banked;
         few = λ f. f;
@@ -61,13 +61,13 @@ module _ (root lead lag : ℕ) (excess : Float) (g : Limits) (grid : GridColumns
       }
 
   pub narrowed_answered : (circuits' : List ℕ) (banks' floors' : List Float) (upsized' marks' : List ℕ) (t' : Stiffness) → r ≡ no_refusal
-      → Stepped (reinforce_step root excess g level opened.leader angle phi) grid level circuits banks floors upsized marks t circuits' banks' floors' upsized' marks' (Ok t')
-      → Stepped step grid level circuits banks floors upsized marks t circuits' banks' floors' upsized' marks' (Ok t')
+      → Stepped (reinforce_step root excess solved phi) solved.grid solved.level circuits banks floors upsized marks t circuits' banks' floors' upsized' marks' (Ok t')
+      → Stepped step solved.grid solved.level circuits banks floors upsized marks t circuits' banks' floors' upsized' marks' (Ok t')
   narrowed_answered circuits' banks' floors' upsized' marks' t' h q =
       record {
         stiffened = λ o injection flows w e.
-            let c = with_lines o grid in
-            let s = stiff_of c level circuits banks floors upsized marks t in
+            let c = with_lines o solved.grid in
+            let s = stiff_of c solved.level circuits banks floors upsized marks t in
             q.stiffened o injection flows w e
             ∙ ap (λ (x : Result (Unit {0}) Refusal). onward (stage_of x phi) (next c injection flows s)) (sym h)
             ∙ answer_is c injection flows s (pn ∙ e);
@@ -80,35 +80,35 @@ module _ (root lead lag : ℕ) (excess : Float) (g : Limits) (grid : GridColumns
 abbrev widened_to : Stiffness → Stiffness
 widened_to t = record { total = t.total; hv = t.hv; stiffening = t.stiffening; wide = true; stiffened = t.stiffened }
 
-module _ (root round : ℕ) (g : Limits) (grid : GridColumns) (level : List ℕ) (opened : OpenedColumns) (from to : List ℕ) (weight angle : List Float)
+module _ (root round : ℕ) (solved : SolvedColumns)
     (circuits : List ℕ) (banks floors : List Float) (upsized marks : List ℕ) (t : Stiffness) where
   abbrev whole : Case → List Float → List Float → Stiffening → Stage Stiffening
-  whole = component_step root round g level opened.leader opened.grounds (length grid.a) from to weight angle
+  whole = component_step root round solved
 
-  module _ (lead lag : ℕ) (pl : lead ≡ lead_of opened.leader angle root) (pg : lag ≡ lag_of opened.leader angle root) where
+  module _ (lead lag : ℕ) (pl : lead ≡ lead_of solved.opened.leader solved.angle root) (pg : lag ≡ lag_of solved.opened.leader solved.angle root) where
     abbrev excess : Float
-    excess = minus (minus (at angle lead) (at angle lag)) max_angle_spread_rad
+    excess = minus (minus (at solved.angle lead) (at solved.angle lag)) max_angle_spread_rad
 
     component_is : (c : Case) (injection flows : List Float) (s : Stiffening)
-        → exceeds_by c (peak_for c.buses opened.grounds injection) opened.leader level round (budget_for g) (round_of (length grid.a) from to weight angle flows) root lead lag s excess
+        → exceeds_by c (peak_for c.buses solved.opened.grounds injection) solved.opened.leader solved.level round (budget_for solved.g) (round_of (length solved.grid.a) solved.from solved.to solved.weight solved.angle flows) root lead lag s excess
         ≡ whole c injection flows s
     unfolding stiffen_component
     component_is c injection flows s =
-        let P = peak_for c.buses opened.grounds injection in
-        let v = round_of (length grid.a) from to weight angle flows in
-        ap (λ (i : ℕ). between_buses c P opened.leader level round (budget_for g) v root i lag s) pl
-        ∙ ap (λ (i : ℕ). between_buses c P opened.leader level round (budget_for g) v root (lead_of opened.leader angle root) i s) pg
+        let P = peak_for c.buses solved.opened.grounds injection in
+        let v = round_of (length solved.grid.a) solved.from solved.to solved.weight solved.angle flows in
+        ap (λ (i : ℕ). between_buses c P solved.opened.leader solved.level round (budget_for solved.g) v root i lag s) pl
+        ∙ ap (λ (i : ℕ). between_buses c P solved.opened.leader solved.level round (budget_for solved.g) v root (lead_of solved.opened.leader solved.angle root) i s) pg
 
     pub component_narrow : le excess nought ≡ true → Banks banks
-        → Stepped whole grid level circuits banks floors upsized marks t circuits banks floors upsized marks (Ok t)
+        → Stepped whole solved.grid solved.level circuits banks floors upsized marks t circuits banks floors upsized marks (Ok t)
     component_narrow h banked =
         record {
           stiffened = λ o injection flows w e.
-              let c = with_lines o grid in
-              let s = stiff_of c level circuits banks floors upsized marks t in
-              let P = peak_for c.buses opened.grounds injection in
-              let v = round_of (length grid.a) from to weight angle flows in
-              ap (λ (x : Bool). unless_narrow c P opened.leader level round (budget_for g) v x root lead lag excess s) (sym h) ∙ component_is c injection flows s;
+              let c = with_lines o solved.grid in
+              let s = stiff_of c solved.level circuits banks floors upsized marks t in
+              let P = peak_for c.buses solved.opened.grounds injection in
+              let v = round_of (length solved.grid.a) solved.from solved.to solved.weight solved.angle flows in
+              ap (λ (x : Bool). unless_narrow c P solved.opened.leader solved.level round (budget_for solved.g) v x root lead lag excess s) (sym h) ∙ component_is c injection flows s;
           banked = banked;
           few = λ f. f;
           bound = (omega arith, omega arith, omega arith);
@@ -116,26 +116,26 @@ module _ (root round : ℕ) (g : Limits) (grid : GridColumns) (level : List ℕ)
 
     module _ (u : Stiffness) (pu : u ≡ widened_to t) (h : le excess nought ≡ false) where
       late_is : (y : Bool) → ltb stiffening_rounds round ≡ y → (c : Case) (injection flows : List Float)
-          → unless_late c (peak_for c.buses opened.grounds injection) opened.leader level round (budget_for g) (round_of (length grid.a) from to weight angle flows) y root lead lag excess (stiff_of c level circuits banks floors upsized marks t)
-          ≡ whole c injection flows (stiff_of c level circuits banks floors upsized marks t)
+          → unless_late c (peak_for c.buses solved.opened.grounds injection) solved.opened.leader solved.level round (budget_for solved.g) (round_of (length solved.grid.a) solved.from solved.to solved.weight solved.angle flows) y root lead lag excess (stiff_of c solved.level circuits banks floors upsized marks t)
+          ≡ whole c injection flows (stiff_of c solved.level circuits banks floors upsized marks t)
       late_is y q c injection flows =
-          let s = stiff_of c level circuits banks floors upsized marks t in
-          let P = peak_for c.buses opened.grounds injection in
-          let v = round_of (length grid.a) from to weight angle flows in
-          ap (λ (x : Bool). unless_late c P opened.leader level round (budget_for g) v x root lead lag excess s) (sym q)
-          ∙ ap (λ (x : Bool). unless_narrow c P opened.leader level round (budget_for g) v x root lead lag excess s) (sym h)
+          let s = stiff_of c solved.level circuits banks floors upsized marks t in
+          let P = peak_for c.buses solved.opened.grounds injection in
+          let v = round_of (length solved.grid.a) solved.from solved.to solved.weight solved.angle flows in
+          ap (λ (x : Bool). unless_late c P solved.opened.leader solved.level round (budget_for solved.g) v x root lead lag excess s) (sym q)
+          ∙ ap (λ (x : Bool). unless_narrow c P solved.opened.leader solved.level round (budget_for solved.g) v x root lead lag excess s) (sym h)
           ∙ component_is c injection flows s
 
       pub component_late : stiffening_rounds < round → Banks banks
-          → Stepped whole grid level circuits banks floors upsized marks t circuits banks floors upsized marks (Ok u)
+          → Stepped whole solved.grid solved.level circuits banks floors upsized marks t circuits banks floors upsized marks (Ok u)
       component_late q banked =
           let d = ap (λ (x : Stiffness). x.total) pu in
           let e = ap (λ (x : Stiffness). x.hv) pu in
           let f = ap (λ (x : Stiffness). x.stiffening) pu in
           record {
             stiffened = λ o injection flows w n.
-                let c = with_lines o grid in
-                ap (λ (x : Stiffness). going (stiff_of c level circuits banks floors upsized marks x)) pu ∙ late_is true (lt-ltb stiffening_rounds round q) c injection flows;
+                let c = with_lines o solved.grid in
+                ap (λ (x : Stiffness). going (stiff_of c solved.level circuits banks floors upsized marks x)) pu ∙ late_is true (lt-ltb stiffening_rounds round q) c injection flows;
             banked = banked;
             few = λ f. f;
             bound = (omega arith, omega arith, omega arith);
@@ -146,44 +146,44 @@ module _ (root round : ℕ) (g : Limits) (grid : GridColumns) (level : List ℕ)
       within_as m (Ok x) w = w
 
       pub component_narrowed : round ≤ stiffening_rounds → (circuits' : List ℕ) (banks' floors' : List Float) (upsized' marks' : List ℕ) (r : Result Stiffness Refusal)
-          → Stepped (narrow_step root lead lag excess g level opened.leader opened.grounds (length grid.a) from to weight angle) grid level circuits banks floors upsized marks u circuits' banks' floors' upsized' marks' r
-          → Stepped whole grid level circuits banks floors upsized marks t circuits' banks' floors' upsized' marks' r
+          → Stepped (narrow_step root lead lag excess solved) solved.grid solved.level circuits banks floors upsized marks u circuits' banks' floors' upsized' marks' r
+          → Stepped whole solved.grid solved.level circuits banks floors upsized marks t circuits' banks' floors' upsized' marks' r
       component_narrowed q circuits' banks' floors' upsized' marks' r z =
           record {
             stiffened = λ o injection flows w n.
-                let c = with_lines o grid in
+                let c = with_lines o solved.grid in
                 z.stiffened o injection flows w n
-                ∙ ap (λ (x : Stiffness). narrow_step root lead lag excess g level opened.leader opened.grounds (length grid.a) from to weight angle c injection flows (stiff_of c level circuits banks floors upsized marks x)) pu
+                ∙ ap (λ (x : Stiffness). narrow_step root lead lag excess solved c injection flows (stiff_of c solved.level circuits banks floors upsized marks x)) pu
                 ∙ late_is false (le-ltb stiffening_rounds round q) c injection flows;
             banked = z.banked;
             few = z.few;
-            bound = within_as (length grid.a) r (subst (λ (x : Stiffness). Within (length grid.a) x r) pu z.bound);
+            bound = within_as (length solved.grid.a) r (subst (λ (x : Stiffness). Within (length solved.grid.a) x r) pu z.bound);
           }
 
   -- ---- the component that a bus leads, where it leads one
-  pub led_leads : (circuits' : List ℕ) (banks' floors' : List Float) (upsized' marks' : List ℕ) (r : Result Stiffness Refusal) → get_or opened.leader root 0 ≡ root
-      → Stepped whole grid level circuits banks floors upsized marks t circuits' banks' floors' upsized' marks' r
-      → LedStiffened root round g grid level opened from to weight angle circuits banks floors upsized marks t circuits' banks' floors' upsized' marks' r
+  pub led_leads : (circuits' : List ℕ) (banks' floors' : List Float) (upsized' marks' : List ℕ) (r : Result Stiffness Refusal) → get_or solved.opened.leader root 0 ≡ root
+      → Stepped whole solved.grid solved.level circuits banks floors upsized marks t circuits' banks' floors' upsized' marks' r
+      → LedStiffened root round solved circuits banks floors upsized marks t circuits' banks' floors' upsized' marks' r
   led_leads circuits' banks' floors' upsized' marks' r h z =
       record {
         stiffened = λ o target injection flows sound n caps.
-            let c = with_lines o grid in
-            let s = stiff_of c level circuits banks floors upsized marks t in
+            let c = with_lines o solved.grid in
+            let s = stiff_of c solved.level circuits banks floors upsized marks t in
             z.stiffened o injection flows (sound.a_size, sound.ladder_size, caps) n
-            ∙ ap (λ (x : Bool). stage_if x (whole c injection flows s) s) (sym (eq-eqb (get_or opened.leader root 0) root h));
+            ∙ ap (λ (x : Bool). stage_if x (whole c injection flows s) s) (sym (eq-eqb (get_or solved.opened.leader root 0) root h));
         banked = z.banked;
         few = z.few;
         bound = z.bound;
       }
 
-  pub led_not : (get_or opened.leader root 0 ≡ root → ⊥) → Banks banks
-      → LedStiffened root round g grid level opened from to weight angle circuits banks floors upsized marks t circuits banks floors upsized marks (Ok t)
+  pub led_not : (get_or solved.opened.leader root 0 ≡ root → ⊥) → Banks banks
+      → LedStiffened root round solved circuits banks floors upsized marks t circuits banks floors upsized marks (Ok t)
   led_not h banked =
       record {
         stiffened = λ o target injection flows sound n caps.
-            let c = with_lines o grid in
-            let s = stiff_of c level circuits banks floors upsized marks t in
-            ap (λ (x : Bool). stage_if x (whole c injection flows s) s) (sym (ne_eqb (get_or opened.leader root 0) root h));
+            let c = with_lines o solved.grid in
+            let s = stiff_of c solved.level circuits banks floors upsized marks t in
+            ap (λ (x : Bool). stage_if x (whole c injection flows s) s) (sym (ne_eqb (get_or solved.opened.leader root 0) root h));
         banked = banked;
         few = λ f. f;
         bound = (omega arith, omega arith, omega arith);

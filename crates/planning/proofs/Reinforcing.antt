@@ -25,47 +25,47 @@ use Rattle.planning.proofs.Orders.{filled_at}
 use Rattle.planning.proofs.Stiffenings.{room_lifts}
 use Rattle.planning.proofs.Gains.{gains_are}
 use Rattle.std.specs.Prelude.{Ok}
-use Rattle.planning.specs.Tables.{GridColumns}
+use Rattle.planning.specs.Tables.{GridColumns, SolvedColumns}
 
-module _ (root : ℕ) (excess : Float) (g : Limits) (grid : GridColumns) (level : List ℕ) (leader : List ℕ) (angle phi : List Float)
-    (circuits : List ℕ) (banks : List Float) (t : Stiffness) (pc : length circuits ≡ length grid.a) (none gain : List Float) (order : List ℕ) (count most taken : ℕ)
-    (pg : gain ≡ filled none (gain_at g grid level leader angle phi circuits banks t root) (length grid.a))
-    (po : take count order ≡ gain_order gain (length grid.a)) (pm : most ≡ batch_cap (pairs_for grid.a []) leader root)
+module _ (root : ℕ) (excess : Float) (solved : SolvedColumns) (phi : List Float)
+    (circuits : List ℕ) (banks : List Float) (t : Stiffness) (pc : length circuits ≡ length solved.grid.a) (none gain : List Float) (order : List ℕ) (count most taken : ℕ)
+    (pg : gain ≡ filled none (gain_at solved phi circuits banks t root) (length solved.grid.a))
+    (po : take count order ≡ gain_order gain (length solved.grid.a)) (pm : most ≡ batch_cap (pairs_for solved.grid.a []) solved.opened.leader root)
     (pt : take taken order ≡ batch most nought excess (map (gain_for gain) (take count order))) where
-  module _ (o : Case) (floors : List Float) (upsized marks : List ℕ) (p : length grid.a ≡ o.corridors) (q : length grid.ladder ≡ levels o) (caps : o.cap ≡ grid.cap) where
+  module _ (o : Case) (floors : List Float) (upsized marks : List ℕ) (p : length solved.grid.a ≡ o.corridors) (q : length solved.grid.ladder ≡ levels o) (caps : o.cap ≡ solved.grid.cap) where
     abbrev C : Case
-    C = with_lines o grid
+    C = with_lines o solved.grid
 
     abbrev S : Stiffening
-    S = stiff_of C level circuits banks floors upsized marks t
+    S = stiff_of C solved.level circuits banks floors upsized marks t
 
     abbrev test : ℕ → Bool
-    test = candidate C leader level (budget_for g) root S
+    test = candidate C solved.opened.leader solved.level (budget_for solved.g) root S
 
-    candidate_lifts : (k : ℕ) → k < length grid.a → candidate_at g leader level grid.a grid.b grid.cap circuits t root k ≡ test k
+    candidate_lifts : (k : ℕ) → k < length solved.grid.a → candidate_at solved.g solved.opened.leader solved.level solved.grid.a solved.grid.b solved.grid.cap circuits t root k ≡ test k
     candidate_lifts k h =
-        ap (λ (l : List ℕ). candidate_at g leader level grid.a grid.b l circuits t root k) (sym caps)
-        ∙ ap (λ (x : Bool). within leader root (get_or grid.a k 0) && (x || (can_raise (pairs_for grid.a grid.b) level g.top k && ltb t.hv g.hv))) (room_lifts C g k S (omega arith))
+        ap (λ (l : List ℕ). candidate_at solved.g solved.opened.leader solved.level solved.grid.a solved.grid.b l circuits t root k) (sym caps)
+        ∙ ap (λ (x : Bool). within solved.opened.leader root (get_or solved.grid.a k 0) && (x || (can_raise (pairs_for solved.grid.a solved.grid.b) solved.level solved.g.top k && ltb t.hv solved.g.hv))) (room_lifts C solved.g k S (omega arith))
 
-    gain_is : (k : ℕ) → k < length grid.a → at gain k ≡ gain_if (test k) (gain_of angle phi (design (drawn_all C level banks) k))
+    gain_is : (k : ℕ) → k < length solved.grid.a → at gain k ≡ gain_if (test k) (gain_of solved.angle phi (design (drawn_all C solved.level banks) k))
     gain_is k h =
-        filled_at gain none (gain_at g grid level leader angle phi circuits banks t root) (length grid.a) k nan pg h
-        ∙ ap (λ (x : Bool). gain_if x (gain_of angle phi (design (designs_for grid level banks) k))) (candidate_lifts k h)
-        ∙ ap (λ (ds : List CircuitDesign). gain_if (test k) (gain_of angle phi (design ds k))) (drawn_all_lifts C level grid.sheet refl banks p q)
+        filled_at gain none (gain_at solved phi circuits banks t root) (length solved.grid.a) k nan pg h
+        ∙ ap (λ (x : Bool). gain_if x (gain_of solved.angle phi (design (designs_for solved.grid solved.level banks) k))) (candidate_lifts k h)
+        ∙ ap (λ (ds : List CircuitDesign). gain_if (test k) (gain_of solved.angle phi (design ds k))) (drawn_all_lifts C solved.level solved.grid.sheet refl banks p q)
 
-    cap_lifts : batch_cap (pairs_for grid.a []) leader root ≡ batch_cap C leader root
-    cap_lifts = ap (λ (n : ℕ). max (to_unsigned 64 (ceil (times stiffening_batch_share (float (counting (λ k. within leader root (get_or grid.a k 0)) n))))) 1) p
+    cap_lifts : batch_cap (pairs_for solved.grid.a []) solved.opened.leader root ≡ batch_cap C solved.opened.leader root
+    cap_lifts = ap (λ (n : ℕ). max (to_unsigned 64 (ceil (times stiffening_batch_share (float (counting (λ k. within solved.opened.leader root (get_or solved.grid.a k 0)) n))))) 1) p
 
-    chosen_is : take taken order ≡ chosen C leader level (budget_for g) root S angle excess phi
+    chosen_is : take taken order ≡ chosen C solved.opened.leader solved.level (budget_for solved.g) root S solved.angle excess phi
     unfolding chosen
     chosen_is =
         pt
         ∙ ap (λ (l : List ℕ). batch most nought excess (map (gain_for gain) l)) po
-        ∙ ap (λ (l : List Gain). batch most nought excess l) (sym (gains_are gain (drawn_all C level banks) angle phi test (length grid.a) gain_is))
-        ∙ ap (λ (n : ℕ). batch most nought excess (gains (drawn_all C level banks) angle phi (passing test n) [])) p
-        ∙ ap (λ (n : ℕ). batch n nought excess (gains (drawn_all C level banks) angle phi (passing test o.corridors) [])) (pm ∙ cap_lifts)
+        ∙ ap (λ (l : List Gain). batch most nought excess l) (sym (gains_are gain (drawn_all C solved.level banks) solved.angle phi test (length solved.grid.a) gain_is))
+        ∙ ap (λ (n : ℕ). batch most nought excess (gains (drawn_all C solved.level banks) solved.angle phi (passing test n) [])) p
+        ∙ ap (λ (n : ℕ). batch n nought excess (gains (drawn_all C solved.level banks) solved.angle phi (passing test o.corridors) [])) (pm ∙ cap_lifts)
 
-  pub batch_chosen : taken ≤ count → count ≤ length grid.a → Ranked (length grid.a) order count → Chosen root excess g grid level leader angle phi circuits banks t order taken
+  pub batch_chosen : taken ≤ count → count ≤ length solved.grid.a → Ranked (length solved.grid.a) order count → Chosen root excess solved phi circuits banks t order taken
   batch_chosen h k r =
       record {
         few = omega arith;
@@ -73,22 +73,22 @@ module _ (root : ℕ) (excess : Float) (g : Limits) (grid : GridColumns) (level 
         chosen = λ o floors upsized marks f. chosen_is o floors upsized marks f.0 f.1 f.2;
       }
 
-pub reinforced : (root : ℕ) (excess : Float) (g : Limits) (grid : GridColumns) (level : List ℕ) (leader : List ℕ) (angle phi : List Float)
+pub reinforced : (root : ℕ) (excess : Float) (solved : SolvedColumns) (phi : List Float)
     (circuits : List ℕ) (banks floors : List Float) (upsized marks : List ℕ) (t : Stiffness) (order : List ℕ) (taken : ℕ)
     (circuits' : List ℕ) (banks' floors' : List Float) (upsized' marks' : List ℕ) (t' : Stiffness)
-    → Chosen root excess g grid level leader angle phi circuits banks t order taken
-    → BatchStiffened (take taken order) g grid level circuits banks floors upsized marks t circuits' banks' floors' upsized' marks' t'
-    → Stepped (reinforce_step root excess g level leader angle phi) grid level circuits banks floors upsized marks t circuits' banks' floors' upsized' marks' (Ok t')
-reinforced root excess g grid level leader angle phi circuits banks floors upsized marks t order taken circuits' banks' floors' upsized' marks' t' k r =
+    → Chosen root excess solved phi circuits banks t order taken
+    → BatchStiffened (take taken order) solved.g solved.grid solved.level circuits banks floors upsized marks t circuits' banks' floors' upsized' marks' t'
+    → Stepped (reinforce_step root excess solved phi) solved.grid solved.level circuits banks floors upsized marks t circuits' banks' floors' upsized' marks' (Ok t')
+reinforced root excess solved phi circuits banks floors upsized marks t order taken circuits' banks' floors' upsized' marks' t' k r =
     let h = k.few in
     let w : taken ≤ length order = omega (arith, k.few, k.ranked.few, k.ranked.size) in
     let n = length-take-le taken order w in
     let d = r.bound in
     record {
       stiffened = λ o injection flows f e.
-          let c = with_lines o grid in
-          let s = stiff_of c level circuits banks floors upsized marks t in
-          ap going (r.stiffened o f ∙ ap (λ (ks : List ℕ). each (stiffen_one c level (budget_for g)) ks s) (k.chosen o floors upsized marks f));
+          let c = with_lines o solved.grid in
+          let s = stiff_of c solved.level circuits banks floors upsized marks t in
+          ap going (r.stiffened o f ∙ ap (λ (ks : List ℕ). each (stiffen_one c solved.level (budget_for solved.g)) ks s) (k.chosen o floors upsized marks f));
       banked = r.banked;
       few = r.few;
       bound = (omega (arith, h, n, d.0), omega (arith, h, n, d.1), omega (arith, h, n, d.2));

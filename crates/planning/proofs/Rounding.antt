@@ -38,7 +38,7 @@ use Rattle.planning.proofs.Stages.{stage_step, stage_end}
 use Rattle.planning.proofs.Passing.{pass_start}
 use Rattle.std.specs.Prelude.{Err, Ok, Result}
 use Rattle.refusal.specs.Reply.{no_refusal}
-use Rattle.planning.specs.Tables.{GridColumns, grid_of, SupplyColumns, OpenedColumns}
+use Rattle.planning.specs.Tables.{GridColumns, grid_of, SupplyColumns, OpenedColumns, solved_by}
 
 onward_same : {S T : Type 0} (st : Stage S) (f g : S → Stage T) → ((s : S) → f s ≡ g s) → onward st f ≡ onward st g
 onward_same (stopped r) f g e = refl
@@ -302,7 +302,7 @@ module _ (mode : PlanMode) (above : ℕ) (grid : GridColumns) (supply : SupplyCo
       (i : ℕ) (circuits : List ℕ) (banks floors : List Float) (upsized marks : List ℕ) (s : Stiffness)
       (whole : Alike (stiffens_on d level g from to weight theta flow p t i circuits banks floors upsized marks s) W) where
     module _ (more : i < length opened.leader) (circuits' : List ℕ) (banks' floors' : List Float) (upsized' marks' : List ℕ) (r : Result Stiffness Refusal)
-        (led : LedStiffened i p.rounds g grid level opened from to weight theta circuits banks floors upsized marks s circuits' banks' floors' upsized' marks' r) where
+        (led : LedStiffened i p.rounds (solved_by g grid level opened from to weight theta) circuits banks floors upsized marks s circuits' banks' floors' upsized' marks' r) where
       stepped : (o : Case) (target : ℕ) → Sound (C o) target → Fits o
           → then d o (onward (onward (stiffened_as r (C o) level circuits' banks' floors' upsized' marks') (each_stage (component level p.rounds g from to weight theta flow o) (pass_from (leads opened.leader) (length opened.leader - (i + 1)) (i + 1)))) (closes level theta p t o))
           ≡ W o

@@ -28,7 +28,7 @@ use Rattle.planning.specs.declared.solve.Edges.{Edges}
 use Rattle.planning.specs.declared.stiffen.Limits.{Limits}
 use Rattle.planning.specs.declared.stiffen.Stiffness.{Stiffness}
 use Rattle.planning.specs.declared.rounds.Progress.{Progress}
-use Rattle.planning.specs.Tables.{GridColumns, SupplyColumns, OpenedColumns}
+use Rattle.planning.specs.Tables.{GridColumns, SupplyColumns, OpenedColumns, solved_by}
 use Rattle.planning.proofs.States.{peaked}
 use Rattle.planning.proofs.Corridors.{left as to-size, left_start, left_turn}
 use Rattle.planning.proofs.Rounding.{Alike, goes_on, stiffens_on, ended, round_refused, sized_again, sized_settled, stiffens, stiffen_refused, stiffen_next, stiffened_again, stiffened_settled}
@@ -195,7 +195,7 @@ module _ {mode : PlanMode} {above : ℕ} {grid : GridColumns} {supply : SupplyCo
   module _ {d : ℕ} {level : List ℕ} {g : Limits} {e : Edges} {angle flow : List Float} {p : Progress} {t : Tally} {i : ℕ} {circuits : List ℕ} {banks floors : List Float} {upsized marks : List ℕ}
       {s : Stiffness} (z : Stiffens mode above grid supply opened d level g e angle flow p t i circuits banks floors upsized marks s W) where
     module _ {circuits' : List ℕ} {banks' floors' : List Float} {upsized' marks' : List ℕ} {r : Result Stiffness Refusal} (more : i < length opened.leader)
-        (led : LedStiffened i p.rounds g grid level opened e.from e.to e.weight angle circuits banks floors upsized marks s circuits' banks' floors' upsized' marks' r) where
+        (led : LedStiffened i p.rounds (solved_by g grid level opened e.from e.to e.weight angle) circuits banks floors upsized marks s circuits' banks' floors' upsized' marks' r) where
       pub stiffens_refused : {f : Refusal} → r ≡ Err f → Alike mode above grid supply opened (length opened.leader) (λ o. stopped f) W
       stiffens_refused {f} q =
           stiffen_refused mode above grid supply opened (length opened.leader) W d level g e.from e.to e.weight angle flow p t z.size i circuits banks floors upsized marks s z.whole more circuits' banks' floors' upsized' marks' r led f q

@@ -28,7 +28,7 @@ use Rattle.planning.specs.Whole.{with_lines}
 use Rattle.planning.specs.declared.stiffen.Limits.{Limits}
 use Rattle.planning.specs.declared.stiffen.Stiffness.{Stiffness}
 use Rattle.refusal.specs.declared.Refusal.{Refusal}
-use Rattle.planning.specs.Tables.{GridColumns, OpenedColumns}
+use Rattle.planning.specs.Tables.{GridColumns, OpenedColumns, SolvedColumns}
 
 -- ---- the budgets, and the state that slices stand for
 abbrev pub budget_for : Limits → Budget
@@ -47,20 +47,20 @@ abbrev pub round_of : ℕ → List ℕ → List ℕ → List Float → List Floa
 round_of m from to weight theta flows = record { edges = edges_of (take m from) (take m to) (take m weight); theta = theta; flows = flows }
 
 -- ---- what a component asks of the slices: a place for each corridor, or for each bus
-pub record Stiffenable (grid : GridColumns) (level : List ℕ) (opened : OpenedColumns) (from to : List ℕ) (weight angle : List Float)
+pub record Stiffenable (solved : SolvedColumns)
     (circuits : List ℕ) (banks floors : List Float) (upsized marks : List ℕ) : Type 0 where
-  pub lines : Lines grid level
-  pub edges : Peaked (length level) (length grid.a) from to weight
-  pub few_grounds : length opened.grounds ≤ most
-  pub ground_below : (g : ℕ) → g < length opened.grounds → slice_index opened.grounds g < length level
-  pub leader_size : length opened.leader ≡ length level
-  pub angle_size : length angle ≡ length level
-  pub capped : Capped (length grid.a) grid.cap
-  pub count_size : length circuits ≡ length grid.a
-  pub bank_size : length banks ≡ length grid.a
-  pub floor_size : length floors ≡ length grid.a
-  pub upsized_size : length upsized ≡ length grid.a
-  pub mark_size : length marks ≡ length level
+  pub lines : Lines solved.grid solved.level
+  pub edges : Peaked (length solved.level) (length solved.grid.a) solved.from solved.to solved.weight
+  pub few_grounds : length solved.opened.grounds ≤ most
+  pub ground_below : (g : ℕ) → g < length solved.opened.grounds → slice_index solved.opened.grounds g < length solved.level
+  pub leader_size : length solved.opened.leader ≡ length solved.level
+  pub angle_size : length solved.angle ≡ length solved.level
+  pub capped : Capped (length solved.grid.a) solved.grid.cap
+  pub count_size : length circuits ≡ length solved.grid.a
+  pub bank_size : length banks ≡ length solved.grid.a
+  pub floor_size : length floors ≡ length solved.grid.a
+  pub upsized_size : length upsized ≡ length solved.grid.a
+  pub mark_size : length marks ≡ length solved.level
   pub banked : Banks banks
 
 -- room for what m corridors may add
@@ -74,18 +74,18 @@ abbrev pub Within : ℕ → Stiffness → Result Stiffness Refusal → Type 0
 Within m t (Err f) = Unit
 Within m t (Ok u) = (u.total ≤ t.total + m) × (u.hv ≤ t.hv + 2 * m) × (u.stiffening ≤ t.stiffening + m)
 
-pub record LedStiffened (i round : ℕ) (g : Limits) (grid : GridColumns) (level : List ℕ) (opened : OpenedColumns) (from to : List ℕ) (weight angle : List Float)
+pub record LedStiffened (i round : ℕ) (solved : SolvedColumns)
     (circuits : List ℕ) (banks floors : List Float) (upsized marks : List ℕ) (t : Stiffness)
     (circuits' : List ℕ) (banks' floors' : List Float) (upsized' marks' : List ℕ) (r : Result Stiffness Refusal) : Type 0 where
-  pub stiffened : (o : Case) (target : ℕ) (injection flows : List Float) → Sound (with_lines o grid) target → length level ≡ o.buses → o.cap ≡ grid.cap
-      → stiffened_as r (with_lines o grid) level circuits' banks' floors' upsized' marks'
-      ≡ stage_if (leads opened.leader i)
-      (stiffen_component (with_lines o grid) (peak_for o.buses opened.grounds injection) opened.leader level round (budget_for g) (round_of (length grid.a) from to weight angle flows) i
-      (stiff_of (with_lines o grid) level circuits banks floors upsized marks t))
-      (stiff_of (with_lines o grid) level circuits banks floors upsized marks t)
+  pub stiffened : (o : Case) (target : ℕ) (injection flows : List Float) → Sound (with_lines o solved.grid) target → length solved.level ≡ o.buses → o.cap ≡ solved.grid.cap
+      → stiffened_as r (with_lines o solved.grid) solved.level circuits' banks' floors' upsized' marks'
+      ≡ stage_if (leads solved.opened.leader i)
+      (stiffen_component (with_lines o solved.grid) (peak_for o.buses solved.opened.grounds injection) solved.opened.leader solved.level round (budget_for solved.g) (round_of (length solved.grid.a) solved.from solved.to solved.weight solved.angle flows) i
+      (stiff_of (with_lines o solved.grid) solved.level circuits banks floors upsized marks t))
+      (stiff_of (with_lines o solved.grid) solved.level circuits banks floors upsized marks t)
   pub banked : Banks banks'
   pub few : Few circuits → Few circuits'
-  pub bound : Within (length grid.a) t r
+  pub bound : Within (length solved.grid.a) t r
 
 -- ---- one corridor
 -- the state over any designs
@@ -141,14 +141,14 @@ pub record BatchStiffened (ks : List ℕ) (g : Limits) (grid : GridColumns) (lev
   pub bound : Within (length ks) t (Ok t')
 
 -- ---- gains: of a candidate what one more circuit gives, of any other 0
-pub record Gainful (grid : GridColumns) (level : List ℕ) (leader : List ℕ) (angle phi : List Float) (circuits : List ℕ) (banks : List Float) : Type 0 where
-  pub lines : Lines grid level
-  pub leader_size : length leader ≡ length level
-  pub angle_size : length angle ≡ length level
-  pub phi_size : length phi ≡ length level
-  pub cap_size : length grid.cap ≡ length grid.a
-  pub count_size : length circuits ≡ length grid.a
-  pub bank_size : length banks ≡ length grid.a
+pub record Gainful (solved : SolvedColumns) (phi : List Float) (circuits : List ℕ) (banks : List Float) : Type 0 where
+  pub lines : Lines solved.grid solved.level
+  pub leader_size : length solved.opened.leader ≡ length solved.level
+  pub angle_size : length solved.angle ≡ length solved.level
+  pub phi_size : length phi ≡ length solved.level
+  pub cap_size : length solved.grid.cap ≡ length solved.grid.a
+  pub count_size : length circuits ≡ length solved.grid.a
+  pub bank_size : length banks ≡ length solved.grid.a
   pub banked : Banks banks
 
 abbrev pub candidate_at : Limits → List ℕ → List ℕ → List ℕ → List ℕ → List ℕ → List ℕ → Stiffness → ℕ → ℕ → Bool
@@ -160,9 +160,9 @@ abbrev pub gain_if : Bool → Float → Float
 gain_if true gain = gain
 gain_if false gain = nought
 
-abbrev pub gain_at : Limits → GridColumns → List ℕ → List ℕ → List Float → List Float → List ℕ → List Float → Stiffness → ℕ → ℕ → Float
-gain_at g grid level leader angle phi circuits banks t root k =
-    gain_if (candidate_at g leader level grid.a grid.b grid.cap circuits t root k) (gain_of angle phi (design (designs_for grid level banks) k))
+abbrev pub gain_at : SolvedColumns → List Float → List ℕ → List Float → Stiffness → ℕ → ℕ → Float
+gain_at solved phi circuits banks t root k =
+    gain_if (candidate_at solved.g solved.opened.leader solved.level solved.grid.a solved.grid.b solved.grid.cap circuits t root k) (gain_of solved.angle phi (design (designs_for solved.grid solved.level banks) k))
 
 -- the order by a list of gains: k comes before j where it gains more; of those that gain
 abbrev pub gains_more : List Float → ℕ → ℕ → Bool
@@ -182,13 +182,13 @@ abbrev pub gain_for : List Float → ℕ → Gain
 gain_for gain k = record { gain = at gain k; corridor = k }
 
 -- the corridors that are taken of an order are the chosen ones
-pub record Chosen (root : ℕ) (excess : Float) (g : Limits) (grid : GridColumns) (level : List ℕ) (leader : List ℕ) (angle phi : List Float)
+pub record Chosen (root : ℕ) (excess : Float) (solved : SolvedColumns) (phi : List Float)
     (circuits : List ℕ) (banks : List Float) (t : Stiffness) (order : List ℕ) (taken : ℕ) : Type 0 where
-  pub few : taken ≤ length grid.a
-  pub ranked : Ranked (length grid.a) order taken
-  pub chosen : (o : Case) (floors : List Float) (upsized marks : List ℕ) → Fitting o grid
+  pub few : taken ≤ length solved.grid.a
+  pub ranked : Ranked (length solved.grid.a) order taken
+  pub chosen : (o : Case) (floors : List Float) (upsized marks : List ℕ) → Fitting o solved.grid
       → take taken order
-      ≡ chosen (with_lines o grid) leader level (budget_for g) root (stiff_of (with_lines o grid) level circuits banks floors upsized marks t) angle excess phi
+      ≡ chosen (with_lines o solved.grid) solved.opened.leader solved.level (budget_for solved.g) root (stiff_of (with_lines o solved.grid) solved.level circuits banks floors upsized marks t) solved.angle excess phi
 
 -- ---- what a step of a stiffening does to the slices, of any case with these columns, whatever the injections and the flows are
 pub record Stepped (step : Case → List Float → List Float → Stiffening → Stage Stiffening) (grid : GridColumns) (level : List ℕ)
@@ -201,17 +201,19 @@ pub record Stepped (step : Case → List Float → List Float → Stiffening →
   pub few : Few circuits → Few circuits'
   pub bound : Within (length grid.a) t r
 
-abbrev pub reinforce_step : ℕ → Float → Limits → List ℕ → List ℕ → List Float → List Float → Case → List Float → List Float → Stiffening → Stage Stiffening
-reinforce_step root excess g level leader angle phi c injection flows s =
-    going (each (stiffen_one c level (budget_for g)) (chosen c leader level (budget_for g) root s angle excess phi) s)
+abbrev pub reinforce_step : ℕ → Float → SolvedColumns → List Float → Case → List Float → List Float → Stiffening → Stage Stiffening
+reinforce_step root excess solved phi c injection flows s =
+    going (each (stiffen_one c solved.level (budget_for solved.g)) (chosen c solved.opened.leader solved.level (budget_for solved.g) root s solved.angle excess phi) s)
 
-abbrev pub narrow_step : ℕ → ℕ → ℕ → Float → Limits → List ℕ → List ℕ → List ℕ → ℕ → List ℕ → List ℕ → List Float → List Float → Case → List Float → List Float → Stiffening → Stage Stiffening
-narrow_step root lead lag excess g level leader grounds m from to weight angle c injection flows s =
-    narrow c (peak_for c.buses grounds injection) leader level 0 (budget_for g) (round_of m from to weight angle flows) root lead lag excess s
+abbrev pub narrow_step : ℕ → ℕ → ℕ → Float → SolvedColumns → Case → List Float → List Float → Stiffening → Stage Stiffening
+narrow_step root lead lag excess solved c injection flows s =
+    narrow c (peak_for c.buses solved.opened.grounds injection) solved.opened.leader solved.level 0 (budget_for solved.g)
+    (round_of (length solved.grid.a) solved.from solved.to solved.weight solved.angle flows) root lead lag excess s
 
-abbrev pub component_step : ℕ → ℕ → Limits → List ℕ → List ℕ → List ℕ → ℕ → List ℕ → List ℕ → List Float → List Float → Case → List Float → List Float → Stiffening → Stage Stiffening
-component_step root round g level leader grounds m from to weight angle c injection flows s =
-    stiffen_component c (peak_for c.buses grounds injection) leader level round (budget_for g) (round_of m from to weight angle flows) root s
+abbrev pub component_step : ℕ → ℕ → SolvedColumns → Case → List Float → List Float → Stiffening → Stage Stiffening
+component_step root round solved c injection flows s =
+    stiffen_component c (peak_for c.buses solved.opened.grounds injection) solved.opened.leader solved.level round (budget_for solved.g)
+    (round_of (length solved.grid.a) solved.from solved.to solved.weight solved.angle flows) root s
 
 -- ---- a bus that leads its component
 pub record Led (root : ℕ) (leader : List ℕ) (angle : List Float) : Type 0 where

@@ -3,6 +3,8 @@ use Rattle.std.specs.Prelude.{ℕ, List, Float}
 use Rattle.planning.specs.declared.tables.Grid.{Grid}
 use Rattle.planning.specs.declared.tables.Supply.{Supply}
 use Rattle.planning.specs.declared.tables.Opened.{Opened}
+use Rattle.planning.specs.declared.tables.Solved.{Solved}
+use Rattle.planning.specs.declared.stiffen.Limits.{Limits}
 
 pub record GridColumns : Type 0 where
   pub ladder : List Float
@@ -27,6 +29,16 @@ pub record OpenedColumns : Type 0 where
   pub grounds : List ℕ
   pub injection : List Float
 
+pub record SolvedColumns : Type 0 where
+  pub g : Limits
+  pub grid : GridColumns
+  pub level : List ℕ
+  pub opened : OpenedColumns
+  pub from : List ℕ
+  pub to : List ℕ
+  pub weight : List Float
+  pub angle : List Float
+
 -- ---- of these lists
 abbrev pub grid_of : List Float → List ℕ → List ℕ → List Float → List Float → List ℕ → List Float → GridColumns
 grid_of ladder a b km share cap sheet = record { ladder = ladder; a = a; b = b; km = km; share = share; cap = cap; sheet = sheet }
@@ -37,6 +49,9 @@ supply_of load bus slack pmin pmax c1 c2 = record { load = load; bus = bus; slac
 abbrev pub opened_of : List ℕ → List ℕ → List Float → OpenedColumns
 opened_of leader grounds injection = record { leader = leader; grounds = grounds; injection = injection }
 
+abbrev pub solved_by : Limits → GridColumns → List ℕ → OpenedColumns → List ℕ → List ℕ → List Float → List Float → SolvedColumns
+solved_by g grid level opened from to weight angle = record { g = g; grid = grid; level = level; opened = opened; from = from; to = to; weight = weight; angle = angle }
+
 -- ---- of what a struct holds
 abbrev pub grid_in : Grid → GridColumns
 grid_in g = grid_of g.ladder.now g.a.now g.b.now g.km.now g.share.now g.cap.now g.sheet.now
@@ -46,3 +61,6 @@ supply_in s = supply_of s.load.now s.bus.now s.slack.now s.pmin.now s.pmax.now s
 
 abbrev pub opened_in : Opened → OpenedColumns
 opened_in o = opened_of o.leader.now o.grounds.now o.injection.now
+
+abbrev pub solved_in : Solved → SolvedColumns
+solved_in s = solved_by s.g (grid_in s.grid.now) s.level.now (opened_in s.opened.now) s.e.now.from s.e.now.to s.e.now.weight s.angle.now

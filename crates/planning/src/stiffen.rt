@@ -10,7 +10,7 @@ ghost use Rattle.plan_defs.specs.Stiffen.{at_or_above, share_of, hv_budget, stif
 ghost use Rattle.planning.specs.Fill.{Counted, Ranked, Whole, place_of};
 ghost use Rattle.planning.specs.Raise.{largest_count, pairs_for, PairFits};
 ghost use Rattle.planning.specs.Stiffen.{budget_for, Stiffenable, Room, LedStiffened, raisable, room_for, reckoned, Strengthened, StiffenFits, BatchStiffened, Gainful, candidate_at, gain_at, gains_more, gain_next, gain_order, gain_for, Chosen, Stepped, reinforce_step, narrow_step, component_step, Led};
-ghost use Rattle.planning.specs.Tables.{grid_in, opened_in};
+ghost use Rattle.planning.specs.Tables.{grid_in, opened_in, solved_by, solved_in};
 
 use crate::design::{circuit, set_transformer_mva};
 use crate::figures::choose;
@@ -19,7 +19,7 @@ use crate::policy::full_at;
 use crate::raise::{mark_raise_to, raise_of};
 use crate::size::{bank_below, keep_bank};
 use crate::solve::{Edges, susceptance, unit_angles};
-use crate::tables::{Grid, Opened};
+use crate::tables::{Grid, Opened, Solved};
 use plan_defs::CircuitDesign;
 use refusal::Refusal;
 use std::num::saturating_f64_to_usize;
@@ -292,14 +292,8 @@ fn gain_of(d: CircuitDesign, angle: &[f64], phi: &[f64]) -> f64
     susceptance(d) * (angle[i] - angle[j]) * (phi[i] - phi[j])
 }
 
-// What these read of the round goes apart: a struct of references to the tables, the levels and the solve would be named in each
-// clause column by column through three of them.
 fn gain_at(
-    g: Limits,
-    grid: &Grid,
-    level: &[u32],
-    leader: &[u32],
-    angle: &[f64],
+    solved: &Solved,
     phi: &[f64],
     circuits: &[u32],
     banks: &[f64],
@@ -307,23 +301,28 @@ fn gain_at(
     root: usize,
     k: usize,
 ) -> f64
-    requires { Gainful (grid_in grid.now) level.now leader.now angle.now phi.now circuits.now banks.now × (k < length grid.now.a.now) }
-    ensures { result ≡ gain_at g (grid_in grid.now) level.now
-        leader.now angle.now phi.now circuits.now banks.now t root k }
+    requires { Gainful (solved_in solved.now) phi.now circuits.now banks.now × (k < length solved.now.grid.now.a.now) }
+    ensures { result ≡ gain_at (solved_in solved.now)
+        phi.now circuits.now banks.now t root k }
 {
-    if !is_candidate(g, leader, level, grid, circuits, t, root, k) {
+    if !is_candidate(
+        solved.g,
+        solved.opened.leader,
+        solved.level,
+        solved.grid,
+        circuits,
+        t,
+        root,
+        k,
+    ) {
         return 0.0;
     }
-    let d = circuit(grid, level, k, banks[k]);
-    gain_of(d, angle, phi)
+    let d = circuit(solved.grid, solved.level, k, banks[k]);
+    gain_of(d, solved.angle, phi)
 }
 
 fn gains(
-    g: Limits,
-    grid: &Grid,
-    level: &[u32],
-    leader: &[u32],
-    angle: &[f64],
+    solved: &Solved,
     phi: &[f64],
     circuits: &[u32],
     banks: &[f64],
@@ -331,15 +330,13 @@ fn gains(
     root: usize,
     gain: &mut [f64; 256],
 )
-    requires gainful { Gainful (grid_in grid.now) level.now leader.now angle.now phi.now circuits.now banks.now }
-    requires a_len_bound { (length grid.now.a.now ≤ most_corridors) × Whole gain.old }
-    ensures { gain.new ≡ filled gain.old (gain_at g (grid_in grid.now) level.now
-        leader.now angle.now phi.now circuits.now banks.now t root) (length grid.now.a.now) }
+    requires gainful { Gainful (solved_in solved.now) phi.now circuits.now banks.now }
+    requires a_len_bound { (length solved.now.grid.now.a.now ≤ most_corridors) × Whole gain.old }
+    ensures { gain.new ≡ filled gain.old (gain_at (solved_in solved.now)
+        phi.now circuits.now banks.now t root) (length solved.now.grid.now.a.now) }
 {
-    for k in 0..grid.a.len() {
-        gain[k] = gain_at(
-            g, grid, level, leader, angle, phi, circuits, banks, t, root, k,
-        );
+    for k in 0..solved.grid.a.len() {
+        gain[k] = gain_at(solved, phi, circuits, banks, t, root, k);
     }
 }
 
@@ -425,28 +422,22 @@ fn batch_cap(leader: &[u32], a: &[u32], root: usize) -> usize
 fn choose_batch(
     root: usize,
     excess: f64,
-    g: Limits,
-    grid: &Grid,
-    level: &[u32],
-    leader: &[u32],
-    angle: &[f64],
+    solved: &Solved,
     phi: &[f64],
     circuits: &[u32],
     banks: &[f64],
     t: Stiffness,
     order: &mut [u32; 256],
 ) -> usize
-    requires gainful { Gainful (grid_in grid.now) level.now leader.now angle.now phi.now circuits.now banks.now }
-    requires a_len_bound { (length grid.now.a.now ≤ most_corridors) × Whole order.old }
-    ensures { Chosen root excess g (grid_in grid.now) level.now
-        leader.now angle.now phi.now circuits.now banks.now t order.new result }
+    requires gainful { Gainful (solved_in solved.now) phi.now circuits.now banks.now }
+    requires a_len_bound { (length solved.now.grid.now.a.now ≤ most_corridors) × Whole order.old }
+    ensures { Chosen root excess (solved_in solved.now)
+        phi.now circuits.now banks.now t order.new result }
 {
     let mut gain = [0.0; 256];
-    gains(
-        g, grid, level, leader, angle, phi, circuits, banks, t, root, &mut gain,
-    );
-    let count = order_gains(grid.a.len(), &gain, order);
-    let most = batch_cap(leader, grid.a, root);
+    gains(solved, phi, circuits, banks, t, root, &mut gain);
+    let count = order_gains(solved.grid.a.len(), &gain, order);
+    let most = batch_cap(solved.opened.leader, solved.grid.a, root);
     batch_size(&gain, order, count, most, excess)
 }
 
@@ -454,11 +445,7 @@ fn choose_batch(
 fn reinforce(
     root: usize,
     excess: f64,
-    g: Limits,
-    grid: &Grid,
-    level: &[u32],
-    leader: &[u32],
-    angle: &[f64],
+    solved: &Solved,
     phi: &[f64],
     circuits: &mut [u32],
     banks: &mut [f64],
@@ -467,19 +454,27 @@ fn reinforce(
     marks: &mut [u32],
     t: Stiffness,
 ) -> Stiffness
-    requires stiffen_fits { StiffenFits (grid_in grid.now) level.now circuits.old banks.old floors.old upsized.old marks.old }
-    requires leader_len { (length leader.now ≡ length level.now) × (length angle.now ≡ length level.now) × (length phi.now ≡ length level.now) × (length grid.now.a.now ≤ most_corridors) × Room (length grid.now.a.now) t }
-    ensures { Stepped (reinforce_step root excess g level.now leader.now angle.now phi.now)
-        (grid_in grid.now) level.now
+    requires stiffen_fits { StiffenFits (grid_in solved.now.grid.now) solved.now.level.now circuits.old banks.old floors.old upsized.old marks.old }
+    requires leader_len { (length solved.now.opened.now.leader.now ≡ length solved.now.level.now) × (length solved.now.angle.now ≡ length solved.now.level.now) × (length phi.now ≡ length solved.now.level.now) × (length solved.now.grid.now.a.now ≤ most_corridors) × Room (length solved.now.grid.now.a.now) t }
+    ensures { Stepped (reinforce_step root excess (solved_in solved.now) phi.now)
+        (grid_in solved.now.grid.now) solved.now.level.now
         circuits.old banks.old floors.old upsized.old marks.old t
         circuits.new banks.new floors.new upsized.new marks.new (Ok result) }
 {
     let mut order = [0u32; 256];
-    let taken = choose_batch(
-        root, excess, g, grid, level, leader, angle, phi, circuits, banks, t, &mut order,
-    );
+    let taken = choose_batch(root, excess, solved, phi, circuits, banks, t, &mut order);
     stiffen_batch(
-        g, grid, level, &order, taken, circuits, banks, floors, upsized, marks, t,
+        solved.g,
+        solved.grid,
+        solved.level,
+        &order,
+        taken,
+        circuits,
+        banks,
+        floors,
+        upsized,
+        marks,
+        t,
     )
 }
 
@@ -516,12 +511,7 @@ fn narrow(
     lead: usize,
     lag: usize,
     excess: f64,
-    g: Limits,
-    grid: &Grid,
-    level: &[u32],
-    opened: &Opened,
-    e: Edges,
-    angle: &[f64],
+    solved: &Solved,
     phi: &mut [f64],
     circuits: &mut [u32],
     banks: &mut [f64],
@@ -530,41 +520,28 @@ fn narrow(
     marks: &mut [u32],
     t: Stiffness,
 ) -> Result<Stiffness, Refusal>
-    requires stiffenable { Stiffenable (grid_in grid.now) level.now (opened_in opened.now) e.from e.to e.weight angle.now circuits.old banks.old floors.old upsized.old marks.old }
-    requires phi_len { (length phi.old ≡ length level.now) × (lead < length level.now) × (lag < length level.now) × Room (length grid.now.a.now) t }
-    ensures { Stepped (narrow_step root lead lag excess g level.now opened.now.leader.now opened.now.grounds.now (length grid.now.a.now) e.from e.to e.weight angle.now)
-        (grid_in grid.now) level.now
+    requires stiffenable { Stiffenable (solved_in solved.now) circuits.old banks.old floors.old upsized.old marks.old }
+    requires phi_len { (length phi.old ≡ length solved.now.level.now) × (lead < length solved.now.level.now) × (lag < length solved.now.level.now) × Room (length solved.now.grid.now.a.now) t }
+    ensures { Stepped (narrow_step root lead lag excess (solved_in solved.now))
+        (grid_in solved.now.grid.now) solved.now.level.now
         circuits.old banks.old floors.old upsized.old marks.old t
         circuits.new banks.new floors.new upsized.new marks.new result }
 {
-    let m = grid.a.len();
-    let from = e.from;
-    let to = e.to;
-    let weight = e.weight;
+    let m = solved.grid.a.len();
+    let from = solved.e.from;
+    let to = solved.e.to;
+    let weight = solved.e.weight;
     unit_angles(
         &from[0..m],
         &to[0..m],
         &weight[0..m],
-        opened.grounds,
+        solved.opened.grounds,
         lead,
         lag,
         phi,
     )?;
     Ok(reinforce(
-        root,
-        excess,
-        g,
-        grid,
-        level,
-        opened.leader,
-        angle,
-        phi,
-        circuits,
-        banks,
-        floors,
-        upsized,
-        marks,
-        t,
+        root, excess, solved, phi, circuits, banks, floors, upsized, marks, t,
     ))
 }
 
@@ -584,12 +561,7 @@ fn widened(t: Stiffness) -> Stiffness
 fn stiffen_component(
     root: usize,
     round: u32,
-    g: Limits,
-    grid: &Grid,
-    level: &[u32],
-    opened: &Opened,
-    e: Edges,
-    angle: &[f64],
+    solved: &Solved,
     circuits: &mut [u32],
     banks: &mut [f64],
     floors: &mut [f64],
@@ -597,16 +569,16 @@ fn stiffen_component(
     marks: &mut [u32],
     t: Stiffness,
 ) -> Result<Stiffness, Refusal>
-    requires stiffenable { Stiffenable (grid_in grid.now) level.now (opened_in opened.now) e.from e.to e.weight angle.now circuits.old banks.old floors.old upsized.old marks.old }
-    requires led { Led root opened.now.leader.now angle.now × Room (length grid.now.a.now) t }
-    ensures { Stepped (component_step root round g level.now opened.now.leader.now opened.now.grounds.now (length grid.now.a.now) e.from e.to e.weight angle.now)
-        (grid_in grid.now) level.now
+    requires stiffenable { Stiffenable (solved_in solved.now) circuits.old banks.old floors.old upsized.old marks.old }
+    requires led { Led root solved.now.opened.now.leader.now solved.now.angle.now × Room (length solved.now.grid.now.a.now) t }
+    ensures { Stepped (component_step root round (solved_in solved.now))
+        (grid_in solved.now.grid.now) solved.now.level.now
         circuits.old banks.old floors.old upsized.old marks.old t
         circuits.new banks.new floors.new upsized.new marks.new result }
 {
-    let lead = best_of(opened.leader, angle, root, |x, y| x < y);
-    let lag = best_of(opened.leader, angle, root, |x, y| y < x);
-    let excess = angle[lead] - angle[lag] - MAX_ANGLE_SPREAD_RAD;
+    let lead = best_of(solved.opened.leader, solved.angle, root, |x, y| x < y);
+    let lag = best_of(solved.opened.leader, solved.angle, root, |x, y| y < x);
+    let excess = solved.angle[lead] - solved.angle[lag] - MAX_ANGLE_SPREAD_RAD;
     if excess <= 0.0 {
         return Ok(t);
     }
@@ -620,13 +592,8 @@ fn stiffen_component(
         lead,
         lag,
         excess,
-        g,
-        grid,
-        level,
-        opened,
-        e,
-        angle,
-        &mut phi[0..level.len()],
+        solved,
+        &mut phi[0..solved.level.len()],
         circuits,
         banks,
         floors,
@@ -653,15 +620,23 @@ pub fn stiffen_led(
     marks: &mut [u32],
     t: Stiffness,
 ) -> Result<Stiffness, Refusal>
-    requires stiffenable { Stiffenable (grid_in grid.now) level.now (opened_in opened.now) e.from e.to e.weight angle.now circuits.old banks.old floors.old upsized.old marks.old }
+    requires stiffenable { Stiffenable (solved_by g (grid_in grid.now) level.now (opened_in opened.now) e.from e.to e.weight angle.now) circuits.old banks.old floors.old upsized.old marks.old }
     requires i_in_bounds { (i < length opened.now.leader.now) × Room (length grid.now.a.now) t }
-    ensures { LedStiffened i round g (grid_in grid.now) level.now (opened_in opened.now) e.from e.to e.weight angle.now
+    ensures { LedStiffened i round (solved_by g (grid_in grid.now) level.now (opened_in opened.now) e.from e.to e.weight angle.now)
         circuits.old banks.old floors.old upsized.old marks.old t
         circuits.new banks.new floors.new upsized.new marks.new result }
 {
     if opened.leader[i] as usize == i {
+        let solved = Solved {
+            g,
+            grid,
+            level,
+            opened,
+            e: &e,
+            angle,
+        };
         return stiffen_component(
-            i, round, g, grid, level, opened, e, angle, circuits, banks, floors, upsized, marks, t,
+            i, round, &solved, circuits, banks, floors, upsized, marks, t,
         );
     }
     Ok(t)

@@ -1,4 +1,6 @@
 // The columns that planning reads together: of the corridors and the levels, of the buses and the units, and what the opening makes of them.
+use crate::solve::Edges;
+use crate::stiffen::Limits;
 
 // The ladder, the columns of the corridors, and the rows of the line sheet.
 #[derive(Clone, Copy)]
@@ -30,6 +32,17 @@ pub struct Opened<'a> {
     pub leader: &'a [u32],
     pub grounds: &'a [u32],
     pub injection: &'a [f64],
+}
+
+// What stiffening reads of a round: the budgets, the tables at the round's levels, and the edges and the angles of its solve.
+#[derive(Clone, Copy)]
+pub struct Solved<'a> {
+    pub g: Limits,
+    pub grid: &'a Grid<'a>,
+    pub level: &'a [u32],
+    pub opened: &'a Opened<'a>,
+    pub e: &'a Edges,
+    pub angle: &'a [f64],
 }
 
 // What planning writes goes in slices of its own and in no struct: a signature then says which of them a function writes, and a

@@ -13,7 +13,7 @@ use Rattle.planning.specs.Tables.{grid_in}
 pub returns-then-not-is_candidate : goal.returns-then-not-is_candidate
 returns-then-not-is_candidate c =
     let s = c.args in
-    ap (λ (b : Bool). gain_if b (gain_of s.angle.now s.phi.now (design (designs_for (grid_in s.grid.now) s.level.now s.banks.now) s.k))) (sym (c.if-not-is_candidate.true) ∙ c.is_candidate.ensures)
+    ap (λ (b : Bool). gain_if b (gain_of s.solved.now.angle.now s.phi.now (design (designs_for (grid_in s.solved.now.grid.now) s.solved.now.level.now s.banks.now) s.k))) (sym (c.if-not-is_candidate.true) ∙ c.is_candidate.ensures)
 
 pub gain_of-requires : goal.gain_of-requires
 gain_of-requires c =
@@ -21,15 +21,15 @@ gain_of-requires c =
     let z = s.args in
     let p = s.requires.0 in
     let e = c.circuit-d.ensures in
-    let f = drawn_from_below (grid_in z.grid.now) z.level.now z.k (at z.banks.now z.k) p.lines s.requires.1 in
-    let t = drawn_to_below (grid_in z.grid.now) z.level.now z.k (at z.banks.now z.k) p.lines s.requires.1 in
+    let f = drawn_from_below (grid_in z.solved.now.grid.now) z.solved.now.level.now z.k (at z.banks.now z.k) p.lines s.requires.1 in
+    let t = drawn_to_below (grid_in z.solved.now.grid.now) z.solved.now.level.now z.k (at z.banks.now z.k) p.lines s.requires.1 in
     (omega (arith, ap (λ (d : CircuitDesign). d.from) e, f, p.angle_size), omega (arith, ap (λ (d : CircuitDesign). d.to) e, t, p.angle_size), p.phi_size ∙ sym p.angle_size)
 
 pub returns : goal.returns
 returns c =
     let s = c in
     let z = s.args in
-    let D = design (designs_for (grid_in z.grid.now) z.level.now z.banks.now) z.k in
+    let D = design (designs_for (grid_in z.solved.now.grid.now) z.solved.now.level.now z.banks.now) z.k in
     c.gain_of.ensures
-    ∙ ap (λ (d : CircuitDesign). gain_of z.angle.now z.phi.now d) (drawn_here (grid_in z.grid.now) z.level.now z.banks.now z.k _ s.requires.1 c.circuit-d.ensures)
-    ∙ ap (λ (b : Bool). gain_if b (gain_of z.angle.now z.phi.now D)) (sym (c.if-not-is_candidate.false) ∙ c.is_candidate.ensures)
+    ∙ ap (λ (d : CircuitDesign). gain_of z.solved.now.angle.now z.phi.now d) (drawn_here (grid_in z.solved.now.grid.now) z.solved.now.level.now z.banks.now z.k _ s.requires.1 c.circuit-d.ensures)
+    ∙ ap (λ (b : Bool). gain_if b (gain_of z.solved.now.angle.now z.phi.now D)) (sym (c.if-not-is_candidate.false) ∙ c.is_candidate.ensures)

@@ -3,7 +3,7 @@ use Rattle.loops.specs.Loops.{filled}
 use Rattle.loops.proofs.Tab.{fill_start, fill_turn}
 use Rattle.planning.specs.Stiffen.{gain_at}
 use Rattle.planning.proofs.stiffen.gains.Goals as goal
-use Rattle.planning.specs.Tables.{grid_in}
+use Rattle.planning.specs.Tables.{grid_in, solved_in}
 
 pub loop-k-init : goal.loop-k-init
 loop-k-init c = (omega arith, fill_start _ _)
@@ -18,5 +18,5 @@ pub returns : goal.returns
 returns c =
     let l = c.loop-k in
     let z = c.args in
-    let e : l.k ≡ length z.grid.now.a.now = omega (arith, l.invariant.0, c.loop-k-test.false) in
-    l.invariant.1 ∙ ap (filled z.gain.now (gain_at z.g (grid_in z.grid.now) z.level.now z.leader.now z.angle.now z.phi.now z.circuits.now z.banks.now z.t z.root)) e
+    let e : l.k ≡ length z.solved.now.grid.now.a.now = omega (arith, l.invariant.0, c.loop-k-test.false) in
+    l.invariant.1 ∙ ap (filled z.gain.now (gain_at (solved_in z.solved.now) z.phi.now z.circuits.now z.banks.now z.t z.root)) e

@@ -1,9 +1,9 @@
 use Rattle.planning.proofs.Reinforcing.{reinforced}
 use Rattle.planning.proofs.stiffen.reinforce.Goals as goal
-use Rattle.planning.specs.Tables.{grid_in}
+use Rattle.planning.specs.Tables.{grid_in, solved_in}
 
 pub returns : goal.returns
 returns c =
     let z = c.args in
-    reinforced z.root z.excess z.g (grid_in z.grid.now) z.level.now z.leader.now z.angle.now z.phi.now
+    reinforced z.root z.excess (solved_in z.solved.now) z.phi.now
     z.circuits.now z.banks.now z.floors.now z.upsized.now z.marks.now z.t _ _ _ _ _ _ _ _ c.choose_batch-taken.ensures c.stiffen_batch.ensures

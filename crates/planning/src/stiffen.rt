@@ -603,7 +603,8 @@ fn stiffen_component(
     )
 }
 
-// The component that bus i leads, where it leads one.
+// The component that bus i leads, where it leads one. What it reads comes apart: the rounds write the levels and the angles too, and
+// the check covers no struct made there of references at several lifetimes.
 pub fn stiffen_led(
     i: usize,
     round: u32,

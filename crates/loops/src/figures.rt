@@ -1,4 +1,5 @@
-// Figures that every crate tests against.
+// Figures that every crate tests against, written as their definitions are. Std's would each need a law: there `f64::INFINITY` is a
+// division, and `f64::is_finite` has a definition by cases.
 ghost use Rattle.std.specs.Prelude.{◌≡◌};
 ghost use Rattle.loops.specs.Figures.{infinity, finite};
 

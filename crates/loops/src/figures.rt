@@ -1,5 +1,4 @@
-// Figures that every crate tests against, written as their definitions are. Std's would each need a law: there `f64::INFINITY` is a
-// division, and `f64::is_finite` has a definition by cases.
+// Figures that every crate tests against, written as their definitions are; std's `f64::is_finite` has another one, by cases.
 ghost use Rattle.std.specs.Prelude.{◌≡◌};
 ghost use Rattle.loops.specs.Figures.{infinity, finite};
 

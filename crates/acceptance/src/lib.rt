@@ -13,7 +13,8 @@ mod lengths;
 mod tables;
 
 // The first of 1 to 7 that a case of n buses, m corridors and g generators has, in any mode. `fits` says that the slices which the caller
-// itself is lent have their lengths: 1 is one test. A NaN fails every test.
+// itself is lent have their lengths: 1 is one test. A NaN fails every test. Each slice is a parameter of its own, as the operations that hand
+// them on are lent them.
 pub fn check_case(
     fits: bool,
     target: u32,

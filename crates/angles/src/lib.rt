@@ -22,6 +22,7 @@ mod vectors;
 // The angles at which the flow over each edge, its weight times the difference between its ends, carries the injections to the
 // grounds. Reads n buses, m edges and k grounds, and starts from a guess for each bus (no guess is a guess of zeros). Writes an
 // angle for each bus to `result`, and leaves the 8 × n places of `work` at zero.
+// Each slice is a parameter of its own, as the project's scope lists them.
 #[tactic(auto, using(crate::proofs::Ends::passed, crate::proofs::Ends::angles_refused, crate::proofs::Ends::angles_answered))]
 pub fn dc_angles(
     n: usize,

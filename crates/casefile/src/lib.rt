@@ -28,6 +28,7 @@ const NOTHING: Header = Header {
 };
 
 // Reads a case file into the lent tables, each of its largest size.
+// Each slice is a parameter of its own, as the project's scope lists them.
 pub fn read_case(
     file: &[u8],
     ladder: &mut [f64],

@@ -72,6 +72,7 @@ pub struct Looked {
 }
 
 // Whether each table is lent at its largest size.
+// Each is a parameter of its own, as the callers are lent them.
 #[tactic(auto, unfolding(crate::specs::Tables::sizes_ok))]
 pub fn tables_sized(
     ladder: &[f64],

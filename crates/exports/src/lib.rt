@@ -1,5 +1,5 @@
 // Operations under C names, for a driver in C or Rust such as bench/: what an operation answers comes back in the fields of a struct.
-// exports_c has their symbols.
+// exports_c has their symbols. Each slice is a parameter of its own: the C interface.
 #![tactic(auto)]
 
 mod said;

@@ -1,5 +1,6 @@
 // The static library that a driver in C or Rust such as bench/ links. A crate is a library or a static library, not both, so `exports`
-// has the operations and their structs, and each function here gives the one of its name a symbol, with the same promise.
+// has the operations and their structs, and each function here gives the one of its name a symbol, with the same promise. Each slice
+// is a parameter of its own, and a function only hands its own on: the C interface.
 #![tactic(auto)]
 
 ghost use Rattle.std.specs.Prelude.{◌≡◌};

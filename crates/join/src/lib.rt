@@ -33,46 +33,9 @@ fn joined_header(first: Header, second: Header) -> Header
     }
 }
 
-// Puts two districts into one case, where nothing is wrong with them.
-fn join_districts(
-    first: &District,
-    second: &District,
-    ladder: &mut [f64],
-    tier: &mut [u32],
-    reading: &mut [f64],
-    weight: &mut [f64],
-    bus: &mut [u32],
-    slack: &mut [u32],
-    pmin: &mut [f64],
-    pmax: &mut [f64],
-    c1: &mut [f64],
-    c2: &mut [f64],
-    a: &mut [u32],
-    b: &mut [u32],
-    circuits: &mut [u32],
-    length_km: &mut [f64],
-    share: &mut [f64],
-    cap: &mut [u32],
-    sheet: &mut [f64],
-) -> Result<Header, Refusal>
-    ensures { outcome result (places_of ladder.new tier.new reading.new weight.new bus.new slack.new pmin.new pmax.new c1.new c2.new a.new b.new circuits.new length_km.new share.new cap.new sheet.new) ≡ join_cases first.now.header (tables_of first.now) second.now.header (tables_of second.now) (places_of ladder.old tier.old reading.old weight.old bus.old slack.old pmin.old pmax.old c1.old c2.old a.old b.old circuits.old length_km.old share.old cap.old sheet.old) }
-{
-    let sized = tables_sized(
-        ladder, tier, reading, weight, bus, slack, pmin, pmax, c1, c2, a, b, circuits, length_km,
-        share, cap, sheet,
-    );
-    check_both(sized, first, second)?;
-    let n = first.header.buses as u32;
-    put_buses(first, second, ladder, tier, reading, weight);
-    put_generators(n, first, second, bus, slack, pmin, pmax, c1, c2);
-    put_corridors(
-        n, first, second, a, b, circuits, length_km, share, cap, sheet,
-    );
-    Ok(joined_header(first.header, second.header))
-}
-
 // Puts two cases, each in tables of exactly its counts, into one: the second's buses, generators and corridors follow the first's. The
 // joined tables are lent at their largest size. A refusal touches nothing; an answer fills every place, zero past the counts.
+// Each slice is a parameter of its own, as the project's scope lists them.
 pub fn join_cases(
     first: Header,
     first_ladder: &[f64],
@@ -170,8 +133,16 @@ pub fn join_cases(
         cap: second_cap,
         sheet: second_sheet,
     };
-    join_districts(
-        &one, &other, ladder, tier, reading, weight, bus, slack, pmin, pmax, c1, c2, a, b,
-        circuits, length_km, share, cap, sheet,
-    )
+    let sized = tables_sized(
+        ladder, tier, reading, weight, bus, slack, pmin, pmax, c1, c2, a, b, circuits, length_km,
+        share, cap, sheet,
+    );
+    check_both(sized, &one, &other)?;
+    let n = first.buses as u32;
+    put_buses(&one, &other, ladder, tier, reading, weight);
+    put_generators(n, &one, &other, bus, slack, pmin, pmax, c1, c2);
+    put_corridors(
+        n, &one, &other, a, b, circuits, length_km, share, cap, sheet,
+    );
+    Ok(joined_header(first, second))
 }

@@ -1,4 +1,5 @@
 // Filling the joined tables, kind by kind. The second's generators and corridors name buses that stand after n of the first's.
+// Each column is lent by itself: of a struct that held the slices each contract would have to say that they are still the same, and as long.
 ghost use Rattle.std.specs.Prelude.{[], ◌+◌, ◌≡◌, length};
 ghost use Rattle.join_defs.specs.Columns.{figures, counts, joined_sheet};
 ghost use Rattle.join.specs.Joins.{Raises, Rowed};

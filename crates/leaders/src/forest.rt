@@ -50,6 +50,7 @@ impl UnionFind {
     {
         let mut at = x;
         let mut up = self.parent[at] as usize;
+        // A walk up the parents: no index is counted.
         while up != at {
             let above = self.parent[up];
             self.parent[at] = above;

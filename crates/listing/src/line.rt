@@ -8,7 +8,7 @@ use plan_defs::CorridorPlan;
 use refusal::Refusal;
 
 impl Text {
-    // RF number index
+    // RF number index, put as every line is: by its fields, from which the definition makes it.
     #[tactic(auto, unfolding(crate::specs::Lines::refusal_line))]
     pub fn put_refusal(&mut self, f: Refusal)
         requires { length self.old + length (refusal_line f) ≤ most_text }

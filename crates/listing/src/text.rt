@@ -15,7 +15,7 @@ const MOST_TEXT: usize = 213 + 79 * 902;
 // The hexadecimal digits of a figure.
 const FIGURE_DIGITS: usize = 16;
 
-// A field of a line.
+// A field of a line: one of two kinds, each with digits of its own, and never none.
 #[derive(Clone, Copy)]
 pub enum Field {
     Number(u64),

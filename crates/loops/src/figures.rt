@@ -1,4 +1,4 @@
-// Figures that every crate tests against.
+// Figures that every crate tests against, written as their definitions are; std's `f64::is_finite` has another one, by cases.
 ghost use Rattle.std.specs.Prelude.{◌≡◌};
 ghost use Rattle.loops.specs.Figures.{infinity, finite};
 

@@ -90,6 +90,7 @@ fn spread_from(
 {
     settle_bus(network.n, i, labels, nearest);
     let mut c = network.head[i] as usize;
+    // A walk along the bus's list of corridors: no index is counted.
     while c < network.a.len() {
         consider(
             network.n,

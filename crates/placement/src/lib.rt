@@ -26,6 +26,7 @@ const BLOCKS: usize = 16;
 // Puts a condenser at the farthest loaded bus as long as one lies more than 100 km of corridor from the nearest generator or
 // condenser, then sizes each to half the load that lies nearest to it, 5 Mvar at least. A bus's load is its reading times its weight, rounded once.
 // Reads n buses, m corridors and g generators; writes the condensers' buses and Mvar, zero past their count.
+// Each slice is a parameter of its own, as the project's scope lists them.
 #[tactic(auto, using(crate::proofs::Checks::passed, crate::proofs::Sites::refused_is, crate::proofs::Sites::done_is))]
 pub fn place_voltage_support(
     n: usize,

@@ -115,6 +115,7 @@ fn root_of_number(s: u64, e: u64) -> u64
 {
     let mut t: u64 = s;
     let mut k: u64 = e;
+    // Step 3, a shift: it ends by the digits of s and not by a count.
     while t < HIDDEN_BIT {
         t *= 2;
         k -= 1;

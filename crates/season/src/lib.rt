@@ -17,6 +17,7 @@ fn common_divisor(a: u64, b: u64) -> u64
 {
     let mut x = a;
     let mut y = b;
+    // It ends when nothing is left over: no index is counted.
     while y > 0 {
         (x, y) = (y, x % y);
     }

@@ -16,6 +16,7 @@ mod tables;
 const PLACES: usize = 74;
 
 // Puts the small network of a place into the lent tables, each of its largest size.
+// Each slice is a parameter of its own, as the project's scope lists them.
 pub fn small_network(
     place: usize,
     ladder: &mut [f64],

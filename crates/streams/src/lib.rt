@@ -19,6 +19,7 @@ pub fn read_full<R: Read>(from: &mut R, buf: &mut [u8]) -> io::Result<usize>
     ensures end { IfOk result (λ n. n < length buf.new → IsAtEnd (R.remaining from.new)) }
 {
     let mut done = 0;
+    // What a read gave decides how far a turn goes: no index is counted.
     while done < buf.len() {
         let n = from.read(&mut buf[done..])?;
         if n == 0 {

@@ -4,7 +4,7 @@ use refusal::Refusal;
 use std::io::Write;
 use std::{fmt, io};
 
-// What came of a call.
+// What came of a call, by what the operation answers: one of two kinds, and never nothing.
 #[derive(Clone, Copy)]
 pub enum Outcome {
     // The refusal, if it was one, and whether the lent arrays hold their marks still.

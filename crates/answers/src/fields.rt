@@ -21,7 +21,7 @@ pub const MOST_COUNT: usize = 400;
 // A table that is as long as a count.
 pub type Table<T> = ArrayVec<T, MOST_COUNT>;
 
-// Why a line is not answered with `OK`.
+// Why a line is not answered with `OK`: two ways to fail, each with an answer of its own.
 #[derive(Clone, Copy)]
 pub enum Unanswered {
     NoRequest,
@@ -34,7 +34,7 @@ impl From<Refusal> for Unanswered {
     }
 }
 
-// What one field writes.
+// What one field writes. Each type has a form of its own: one to nine decimal digits, 16 hexadecimal ones, or a figure's bits.
 pub trait Field: Copy + Default {
     fn read(field: &[u8]) -> Option<Self>;
 

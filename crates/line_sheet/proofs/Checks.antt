@@ -2,7 +2,7 @@
 use Rattle.std.proofs.Common.{◌≡◌, ℕ, ◌*◌, ◌<◌, ◌≤◌, Bool, true, false, cond, ◌&&◌, T, eqb, ltb, List, length, refl, arith, ltb-false, eqb-true}
 use lib.Ieee.{Float, le, of_bits}
 use lib.Ieee.Positive.{num, den, positive, le→cross, between}
-use Rattle.loops.specs.Figures.{at, inside}
+use Rattle.loops.specs.Figures.{inside}
 use Rattle.loops.proofs.Bools.{both, is, unequal}
 use Rattle.loops.proofs.Scan.{all_pass}
 use Rattle.refusal.specs.declared.Refusal.{Refusal}

@@ -1,11 +1,13 @@
 -- A lane from its start to its last digit: the two numbers of each segment fit it, a turn of the code is one of the definition, and the count is that of the digits. Assumes nothing.
-use Rattle.std.proofs.Common.{◌≡◌, ℕ, zero, suc, ◌+◌, ◌-◌, ◌*◌, ◌/◌, ◌^◌, ◌<◌, ◌≤◌, Bool, true, false, cond, not, leb, [], ◌∷◌, sym, refl, ap, ◌∙◌, subst, add-zero, arith, lit<, lit≤, le-leb, leb-false, leb-true}
+use Rattle.std.proofs.Common.{◌≡◌, ℕ, zero, suc, ◌+◌, ◌-◌, ◌*◌, ◌/◌, ◌^◌, ◌<◌, ◌≤◌, Bool, true, false, cond, not, leb, List, length, get_or, sym, refl, ap, ◌∙◌, subst, add-one, arith, lit<, lit≤, le-leb, leb-false, leb-true}
 use native.Mathlib.Decide.{dec_le}
 use lib.Ieee.{Float, le}
 use lib.Ieee.Positive.{num, den}
 use borrow.Author.Tests.{lt-leb, not-true}
-use Rattle.loops.specs.Loops.{tab}
+use Rattle.loops.specs.Figures.{at}
+use Rattle.loops.specs.Loops.{tab, filled}
 use Rattle.loops.proofs.Bools.{both}
+use Rattle.loops.proofs.Tab.{get_tab, length_tab, tab_of, fill_own}
 use Rattle.line_defs.specs.Bounds.{Start}
 use Rattle.line_defs.specs.Grid.{on_grid}
 use Rattle.line_defs.specs.declared.Segment.{Segment}
@@ -156,6 +158,53 @@ count_few km = go 24 0 (lane_of km) refl (lane_on km)
     go zero i l e o = let f = on_last km l i (omega arith) o in omega (arith, f, count_most km l i o)
     go (suc d) i l e o = go d (i + 1) (turned l) (omega arith) (turned_on km l i (omega arith) o)
 
+-- ---- the lanes of the lengths from k on, after i turns
+unfoldable pub turns : ℕ → Lane → Lane
+turns zero l = l
+turns (suc i) l = turned (turns i l)
+
+abbrev pub lane_after : List Float → ℕ → ℕ → ℕ → Lane
+lane_after km k i j = turns i (lane_of (at km (k + j)))
+
+turns_on : (km : Float) (i : ℕ) → i ≤ 24 → On km (turns i (lane_of km)) i
+unfolding turns
+turns_on km zero h = lane_on km
+turns_on km (suc i) h = rw (sym (add-one i)) (turned_on km (turns i (lane_of km)) i (omega arith) (turns_on km i (omega arith)))
+
+module _ (km : List Float) (k : ℕ) where
+  pub lanes_start : tab 8 (λ (j : ℕ). lane_of (at km (k + j))) ≡ tab 8 (lane_after km k 0)
+  unfolding turns
+  lanes_start = refl
+
+  pub lanes_turn : (i : ℕ) → tab 8 (λ (j : ℕ). turned (lane_after km k i j)) ≡ tab 8 (lane_after km k (i + 1))
+  unfolding turns
+  lanes_turn i = rw (add-one i) refl
+
+  pub lane_turning : (i : ℕ) (lanes : List Lane) → i < 24 → lanes ≡ tab 8 (lane_after km k i) → (f : ℕ → Lane) → lanes ≡ tab 8 f → (j : ℕ) → j < 8 → Turning (f j)
+  lane_turning i lanes h e f g j b =
+      let d : Lane = lane_after km k i j in
+      let same : lane_after km k i j ≡ f j = sym (get_tab 8 (lane_after km k i) j d b) ∙ ap (λ (z : List Lane). get_or z j d) (sym e ∙ g) ∙ get_tab 8 f j d b in
+      subst (λ (z : Lane). Turning z) same (on_turning (at km (k + j)) d i (turns_on (at km (k + j)) i (omega arith)))
+
+  pub lane_counted : (i j : ℕ) (lanes : List Lane) (d : Lane) → i ≡ 24 → lanes ≡ tab 8 (lane_after km k i) → j < 8 → (get_or lanes j d).count ≡ count_of (at km (k + j))
+  lane_counted i j lanes d h e b =
+      ap (λ (z : List Lane). (get_or z j d).count) e
+      ∙ ap (λ (z : Lane). z.count) (get_tab 8 (lane_after km k i) j d b)
+      ∙ on_last (at km (k + j)) (lane_after km k i j) i (omega arith) (turns_on (at km (k + j)) i (omega arith))
+
+-- ---- eight lanes, of which i have turned: the next is still as it was
+pub next_lane : (w₀ w : List Lane) (f g : ℕ → Lane) (i : ℕ) (d : Lane) → w₀ ≡ tab 8 f → w ≡ filled w₀ g i → i < 8 → get_or w i d ≡ f i
+next_lane w₀ w f g i d e v h =
+    let n : length w₀ ≡ 8 = ap length e ∙ length_tab 8 f in
+    fill_own w₀ w g i d v (omega arith) ∙ ap (λ (z : List Lane). get_or z i d) e ∙ get_tab 8 f i d h
+
+pub next_turning : (w₀ w : List Lane) (i : ℕ) (d : Lane) → length w₀ ≡ 8 → ((f : ℕ → Lane) → w₀ ≡ tab 8 f → (j : ℕ) → j < 8 → Turning (f j))
+    → ((f : ℕ → Lane) → w₀ ≡ tab 8 f → w ≡ filled w₀ (λ (j : ℕ). turned (f j)) i) → i < 8 → Turning (get_or w i d)
+next_turning w₀ w i d n r v h =
+    let f : ℕ → Lane = λ (j : ℕ). get_or w₀ j d in
+    let e : w₀ ≡ tab 8 f = sym (tab_of 8 w₀ d n) in
+    subst (λ (z : Lane). Turning z) (sym (next_lane w₀ w f (λ (j : ℕ). turned (f j)) i d e (v f e) h)) (r f e i h)
+
 -- ---- the code's turn
 pub squared_most : (l : Lane) → Start l.near l.far l.left → l.left * l.left / unit ≤ 2 ^ 32
 squared_most l s = omega (arith, square_most l.near l.far l.left s)
@@ -182,11 +231,3 @@ unfolding between
 between_is km g count m e f is h =
     let n : count - 1 ≡ digits (segment_of km).near (segment_of km).far 24 0 (start_of km) = omega arith in
     ap on_grid (h ∙ ap (λ (z : Segment). middle z (count - 1)) is ∙ ap (λ (z : ℕ). middle (segment_of km) z) (n ∙ ap (λ (z : ℕ). digits (segment_of km).near (segment_of km).far 24 0 z) (sym (start_in km e))))
-
--- ---- eight in a row
-pub eight : (f : ℕ → ℕ) (k : ℕ) {a b c d e g h i : ℕ} → a ≡ f k → b ≡ f (k + 1) → c ≡ f (k + 2) → d ≡ f (k + 3) → e ≡ f (k + 4) → g ≡ f (k + 5) → h ≡ f (k + 6) → i ≡ f (k + 7)
-    → a ∷ b ∷ c ∷ d ∷ e ∷ g ∷ h ∷ i ∷ [] ≡ tab 8 (λ (j : ℕ). f (k + j))
-unfolding tab
-eight f k ea eb ec ed ee eg eh ei =
-    rw (ea, eb, ec, ed, ee, eg, eh, ei)
-    (ap (λ (z : ℕ). f z ∷ f (k + 1) ∷ f (k + 2) ∷ f (k + 3) ∷ f (k + 4) ∷ f (k + 5) ∷ f (k + 6) ∷ f (k + 7) ∷ []) (sym (add-zero k)))

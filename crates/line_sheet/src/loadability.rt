@@ -105,13 +105,6 @@ fn lane_of(km: f64) -> Lane
     }
 }
 
-fn lane_at(km: &[f64], k: usize) -> Lane
-    requires { k < length km.now }
-    ensures { result ≡ lane_of (at km.now k) }
-{
-    lane_of(km[k])
-}
-
 // One digit more of ln x / ln (far / near): x is squared, and where it reaches far / near it is divided by that and the digit is 1. Both
 // results are worked out and one is chosen, since no processor foretells a digit.
 fn turn(l: Lane) -> Lane
@@ -171,32 +164,38 @@ pub fn loadability(km: f64) -> f64
     rated(km, 1)
 }
 
+// The lanes of the eight lengths from k on.
+fn lanes_of(km: &[f64], k: usize) -> [Lane; 8]
+    requires { k + 8 ≤ length km.now }
+    ensures { result ≡ tab 8 (λ j. lane_of (at km.now (k + j))) }
+{
+    let mut lanes = [lane_of(0.0); 8];
+    loops::fill(&mut lanes, |j| lane_of(km[k + j]));
+    lanes
+}
+
+// One digit more of each of eight lengths.
+fn turn_each(lanes: &mut [Lane; 8])
+    requires { (f : ℕ → Lane) → lanes.old ≡ tab 8 f → (j : ℕ) → j < 8 → Turning (f j) }
+    ensures { (f : ℕ → Lane) → lanes.old ≡ tab 8 f → lanes.new ≡ tab 8 (λ j. turned (f j)) }
+{
+    for lane in lanes.iter_mut() {
+        *lane = turn(*lane);
+    }
+}
+
 // The digits of the eight lengths from k on, and 1. Each digit waits for the one before, so eight lengths take little longer than one.
 fn counts_of(km: &[f64], k: usize) -> [u64; 8]
     requires { k + 8 ≤ length km.now }
     ensures { result ≡ tab 8 (λ j. count_of (at km.now (k + j))) }
 {
-    let mut a = lane_at(km, k);
-    let mut b = lane_at(km, k + 1);
-    let mut c = lane_at(km, k + 2);
-    let mut d = lane_at(km, k + 3);
-    let mut e = lane_at(km, k + 4);
-    let mut f = lane_at(km, k + 5);
-    let mut g = lane_at(km, k + 6);
-    let mut h = lane_at(km, k + 7);
+    let mut lanes = lanes_of(km, k);
     for _digit in 0..DIGITS {
-        a = turn(a);
-        b = turn(b);
-        c = turn(c);
-        d = turn(d);
-        e = turn(e);
-        f = turn(f);
-        g = turn(g);
-        h = turn(h);
+        turn_each(&mut lanes);
     }
-    [
-        a.count, b.count, c.count, d.count, e.count, f.count, g.count, h.count,
-    ]
+    let mut counts = [0; 8];
+    loops::fill(&mut counts, |j| lanes[j].count);
+    counts
 }
 
 // Whether one of the eight lengths from k on lies between knots.
@@ -225,8 +224,6 @@ pub fn loadabilities(km: &[f64], k: usize) -> [f64; 8]
 {
     let count = counts(km, k);
     let mut r = [0.0f64; 8];
-    for j in 0..8 {
-        r[j] = rated(km[k + j], count[j]);
-    }
+    loops::fill(&mut r, |j| rated(km[k + j], count[j]));
     r
 }

@@ -53,9 +53,7 @@ pub fn guesses(spread: &[f64], k: usize) -> [u64; 8]
     requires { k + 8 ≤ length spread.now }
 {
     let mut r = [0u64; 8];
-    for j in 0..8 {
-        r[j] = guess(spread[k + j]);
-    }
+    loops::fill(&mut r, |j| guess(spread[k + j]));
     r
 }
 
@@ -99,6 +97,7 @@ fn searched(a: u64, guess: u64) -> u64
     let cube = power(1, a, 3);
     let mut lo: u64 = 0;
     let mut hi: u64 = MOST;
+    // No `for`: how many steps it takes hangs on the guess.
     while hi - lo > 1 {
         let mid = next(lo, hi, guess);
         if at_most(power(4, mid, 5), cube) {

@@ -22,3 +22,4 @@ pub mod Places
 pub mod Collect
 pub mod Fronts
 pub mod Sorting
+pub mod Finite

@@ -34,8 +34,7 @@ pub fn copy(w: &mut [f64], n: usize, z: usize, d: usize)
     requires { (z + n ≤ d) × (d + n ≤ length w.old) }
     ensures { w.new ≡ put w.old d (part z n w.old) }
 {
-    let (before, from_d) = w.split_at_mut(d);
-    from_d[..n].copy_from_slice(&before[z..z + n]);
+    w.copy_within(z..z + n, d);
 }
 
 // The first place of x that is not finite.

@@ -151,25 +151,23 @@ on_last km l i h o =
     let f : l.count ≡ digits l.near l.far 24 0 (start_of km) + 1 = omega (arith, o.counted) in
     f ∙ ap (λ (z : ℕ). digits z l.far 24 0 (start_of km) + 1) o.near_is ∙ ap (λ (z : ℕ). digits (segment_of km).near z 24 0 (start_of km) + 1) o.far_is
 
-pub count_few : (km : Float) → count_of km ≤ 2 ^ 24
-count_few km = go 24 0 (lane_of km) refl (lane_on km)
-  where
-    go : (d i : ℕ) (l : Lane) → i + d ≡ 24 → On km l i → count_of km ≤ 2 ^ 24
-    go zero i l e o = let f = on_last km l i (omega arith) o in omega (arith, f, count_most km l i o)
-    go (suc d) i l e o = go d (i + 1) (turned l) (omega arith) (turned_on km l i (omega arith) o)
-
--- ---- the lanes of the lengths from k on, after i turns
+-- ---- a lane after i turns, and the lanes of the lengths from k on
 unfoldable pub turns : ℕ → Lane → Lane
 turns zero l = l
 turns (suc i) l = turned (turns i l)
-
-abbrev pub lane_after : List Float → ℕ → ℕ → ℕ → Lane
-lane_after km k i j = turns i (lane_of (at km (k + j)))
 
 turns_on : (km : Float) (i : ℕ) → i ≤ 24 → On km (turns i (lane_of km)) i
 unfolding turns
 turns_on km zero h = lane_on km
 turns_on km (suc i) h = rw (sym (add-one i)) (turned_on km (turns i (lane_of km)) i (omega arith) (turns_on km i (omega arith)))
+
+pub count_few : (km : Float) → count_of km ≤ 2 ^ 24
+count_few km =
+    let o = turns_on km 24 (lit≤ tt) in
+    omega (arith, on_last km (turns 24 (lane_of km)) 24 (lit≤ tt) o, count_most km (turns 24 (lane_of km)) 24 o)
+
+abbrev pub lane_after : List Float → ℕ → ℕ → ℕ → Lane
+lane_after km k i j = turns i (lane_of (at km (k + j)))
 
 module _ (km : List Float) (k : ℕ) where
   pub lanes_start : tab 8 (λ (j : ℕ). lane_of (at km (k + j))) ≡ tab 8 (lane_after km k 0)

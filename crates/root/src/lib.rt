@@ -144,7 +144,7 @@ pub fn square_root(bits: u64) -> u64
     }
 }
 
-// The square root of a figure.
+// The square root of a figure. Not std's `f64::sqrt`: the project proves its own roots against IEEE 754, from whole numbers.
 pub fn sqrt(x: f64) -> f64
     ensures { result ≡ root x }
 {

@@ -8,9 +8,6 @@ use Rattle.listing.proofs.text.Text.put_line.Goals as goal
 all_room : (a mark : List ℕ) (fields : List Field) → length a + length (line_of mark fields) ≤ most_text → length (a ++ line_of mark fields) ≤ most_text
 all_room a mark fields h = omega (arith, length-append a (line_of mark fields))
 
-pub loop-f-init : goal.loop-f-init
-loop-f-init c = rw (c.put.ensures, append_assoc)
-
 pub put_field-requires : goal.put_field-requires
 put_field-requires c =
     let l = c.loop-f in
@@ -21,13 +18,6 @@ pub loop-f-preserved : goal.loop-f-preserved
 loop-f-preserved c =
     let l = c.loop-f in
     field_put l.self c.args.fields.now l.f-index c.loop-f-test.true l.invariant c.put_field.ensures
-
-pub put-requires-2 : goal.put-requires-2
-put-requires-2 c =
-    let l = c.loop-f in
-    let a = c.args in
-    let e = fields_put l.self a.fields.now l.f-index c.loop-f-test.false l.invariant in
-    omega (arith, ap length e, length-append l.self (10 ∷ []), all_room a.self.now a.mark.now a.fields.now c.requires)
 
 pub returns : goal.returns
 returns c =

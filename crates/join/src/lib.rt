@@ -4,7 +4,7 @@
 ghost use Rattle.std.specs.Prelude.{◌≡◌};
 ghost use Rattle.casefile_defs.specs.Tables.{places_of};
 ghost use Rattle.join_defs.specs.Joining.{outcome, join_cases};
-ghost use Rattle.join.specs.Joins.{tables_of, Summed, headers_of};
+ghost use Rattle.join.specs.Joins.{Summed, headers_of};
 
 use casefile_defs::{Header, tables_sized};
 use check::check_both;

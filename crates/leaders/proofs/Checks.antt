@@ -4,7 +4,6 @@ use Prim.Native.Nat.{ℕ, ◌<◌, ◌≤◌}
 use mathlib.Core.Bool.{Bool, true, false, cond, ◌&&◌}
 use mathlib.Core.List.{List}
 use mathlib.Core.Path.{◌≡◌, refl, sym, ap, ◌∙◌, subst}
-use native.Mathlib.Omega.{arith}
 use borrow.Author.Tests.{eqb-true, ltb-true, ltb-false, leb-true, le-ltb}
 use lib.Dec.{ltb, leb, eqb}
 use lib.ListN.{length, get_or}
@@ -71,9 +70,6 @@ module _ (buses corridors : ℕ) (a b : List ℕ) (places : ℕ) where
 -- ends of as many buses, and of more
 pub ends_of_lem : (m n : ℕ) (a b : List ℕ) → m ≡ n → Ends n a b → Ends m a b
 ends_of_lem m n a b e h = subst (λ (k : ℕ). Ends k a b) (sym e) h
-
-pub ends_more : (m n : ℕ) (a b : List ℕ) → n ≤ m → Ends n a b → Ends m a b
-ends_more m n a b h e = record { even = e.even; from = λ k l. omega (arith, e.from k l); to = λ k l. omega (arith, e.to k l) }
 
 -- ---- the outcome of each way
 module _ (buses corridors : ℕ) (a b leader : List ℕ) where

@@ -18,14 +18,13 @@ use Rattle.planning.specs.Raise.{pairs_for}
 use Rattle.planning.specs.Fill.{designs_for, Ranked}
 use Rattle.planning.specs.Whole.{with_lines}
 use Rattle.planning.specs.Stiffen.{budget_for, stiff_of, candidate_at, gain_if, gain_at, gain_order, gain_for, BatchStiffened, Chosen, Stepped, reinforce_step}
-use Rattle.planning.specs.declared.stiffen.Limits.{Limits}
 use Rattle.planning.specs.declared.stiffen.Stiffness.{Stiffness}
 use Rattle.planning.proofs.Builds.{drawn_all_lifts}
 use Rattle.planning.proofs.Orders.{filled_at}
 use Rattle.planning.proofs.Stiffenings.{room_lifts}
 use Rattle.planning.proofs.Gains.{gains_are}
 use Rattle.std.specs.Prelude.{Ok}
-use Rattle.planning.specs.Tables.{GridColumns, SolvedColumns}
+use Rattle.planning.specs.Tables.{SolvedColumns}
 
 module _ (root : ℕ) (excess : Float) (solved : SolvedColumns) (phi : List Float)
     (circuits : List ℕ) (banks : List Float) (t : Stiffness) (pc : length circuits ≡ length solved.grid.a) (none gain : List Float) (order : List ℕ) (count most taken : ℕ)

@@ -28,7 +28,7 @@ use Rattle.planning.specs.Whole.{with_lines}
 use Rattle.planning.specs.declared.stiffen.Limits.{Limits}
 use Rattle.planning.specs.declared.stiffen.Stiffness.{Stiffness}
 use Rattle.refusal.specs.declared.Refusal.{Refusal}
-use Rattle.planning.specs.Tables.{GridColumns, OpenedColumns, SolvedColumns}
+use Rattle.planning.specs.Tables.{GridColumns, SolvedColumns}
 
 -- ---- the budgets, and the state that slices stand for
 abbrev pub budget_for : Limits → Budget

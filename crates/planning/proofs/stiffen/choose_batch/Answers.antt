@@ -1,6 +1,6 @@
 use Rattle.planning.proofs.Reinforcing.{batch_chosen}
 use Rattle.planning.proofs.stiffen.choose_batch.Goals as goal
-use Rattle.planning.specs.Tables.{grid_in, solved_in}
+use Rattle.planning.specs.Tables.{solved_in}
 
 pub returns : goal.returns
 returns c =

@@ -3,7 +3,7 @@ use Rattle.loops.specs.Loops.{filled}
 use Rattle.loops.proofs.Tab.{fill_start, fill_turn}
 use Rattle.planning.specs.Stiffen.{gain_at}
 use Rattle.planning.proofs.stiffen.gains.Goals as goal
-use Rattle.planning.specs.Tables.{grid_in, solved_in}
+use Rattle.planning.specs.Tables.{solved_in}
 
 pub loop-k-init : goal.loop-k-init
 loop-k-init c = (omega arith, fill_start _ _)

@@ -1,7 +1,7 @@
 use Rattle.std.proofs.Common.{rules, ◌≡◌, Err}
 use Rattle.planning.proofs.Narrowing.{narrowed_refused, narrowed_answered}
 use Rattle.planning.proofs.stiffen.narrow.Goals as goal
-use Rattle.planning.specs.Tables.{grid_in, opened_in, solved_in}
+use Rattle.planning.specs.Tables.{solved_in}
 
 pub returns-in_err-unit_angles : goal.returns-in_err-unit_angles
 returns-in_err-unit_angles c =

@@ -1,6 +1,6 @@
 use Rattle.planning.proofs.Reinforcing.{reinforced}
 use Rattle.planning.proofs.stiffen.reinforce.Goals as goal
-use Rattle.planning.specs.Tables.{grid_in, solved_in}
+use Rattle.planning.specs.Tables.{solved_in}
 
 pub returns : goal.returns
 returns c =

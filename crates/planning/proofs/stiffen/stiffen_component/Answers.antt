@@ -2,7 +2,7 @@ use Rattle.std.proofs.Common.{rules}
 use lib.Ieee.{lt}
 use Rattle.planning.proofs.Narrowing.{component_narrow, component_late, component_narrowed}
 use Rattle.planning.proofs.stiffen.stiffen_component.Goals as goal
-use Rattle.planning.specs.Tables.{grid_in, opened_in, solved_in}
+use Rattle.planning.specs.Tables.{solved_in}
 
 pub returns-then-excess : goal.returns-then-excess
 returns-then-excess c =

@@ -1,4 +1,4 @@
-use Rattle.std.proofs.Common.{◌+◌, ◌≤◌, ◌++◌, List, [], ◌∷◌, ℕ, append_assoc, length, length-append, ap, ◌∙◌}
+use Rattle.std.proofs.Common.{◌+◌, ◌≤◌, ◌++◌, List, ℕ, length, length-append, ◌∙◌}
 use native.Mathlib.Omega.{arith}
 use Rattle.listing.specs.Lines.{line_of, most_text}
 use Rattle.listing.specs.declared.text.Field.{Field}

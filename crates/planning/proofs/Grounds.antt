@@ -1,11 +1,13 @@
 -- The loop that collects the grounds: what it keeps true, at bus i with `count` grounds kept.
 -- The grounds kept, and those of the leaders still to come, are all; and the places past them are zero.
-use Rattle.std.proofs.Common.{◌≡◌, ℕ, ◌+◌, ◌-◌, ◌<◌, ◌≤◌, false, List, [], ◌∷◌, ◌++◌, map, length, get_or, take, drop, set, replicate, sym, ap, ◌∙◌, subst, arith, length-set, take_at, eq-eqb}
+use Rattle.std.proofs.Common.{◌≡◌, ℕ, zero, suc, ◌+◌, ◌-◌, ◌<◌, ◌≤◌, Bool, true, false, cond, not, ltb, List, [], ◌∷◌, ◌++◌, map, length, get_or, take, drop, set, replicate, sym, refl, ap, ◌∙◌, subst, arith, length-set, take_at, eq-eqb, le-ltb, lt-ltb}
+use Rattle.std.specs.Prelude.{Option, Some, None}
 use native.Mathlib.Nat.{sub-zero}
 use lib.ListN.{length-replicate, length-map}
 use Rattle.loops.proofs.Collect.{collect_keep, collect_past, collect_count, collect_end}
 use Rattle.loops.proofs.Fronts.{get_map, front_lent}
-use Rattle.plan_defs.specs.Lists.{pass_from, passing}
+use Rattle.loops.specs.Loops.{first, fault}
+use Rattle.plan_defs.specs.Lists.{keep, pass_from, passing}
 use Rattle.plan_defs.specs.Case.{Case}
 use Rattle.plan_defs.specs.Components.{leads, roots, slack_within, bus_or, ground_of, grounds_of}
 use Rattle.plan_defs.specs.Outcome.{up_to}
@@ -92,3 +94,37 @@ module _ (c : Case) (led : List ℕ) where
 
 pub grounds_lent : (ground all : List ℕ) (n k : ℕ) → k ≡ length all → ground ≡ up_to n 0 all → take (k - 0) ground ≡ all
 grounds_lent ground all n k e h = front_lent k ground all (ap (take k) h ∙ take_at all (replicate (n - length all) 0) k (sym e))
+
+-- ---- the search for a component's slack unit: where it ends is the first of those that pass
+module _ (c : Case) (root : ℕ) (p : ℕ → Bool) where
+  abbrev end_of : ℕ → ℕ → ℕ
+  end_of d i = first (λ k. not (p k)) d i
+
+  abbrev bus_at : Bool → ℕ → ℕ
+  bus_at b k = cond b (get_or c.bus k 0) root
+
+  found : (d i : ℕ) → bus_at (ltb (end_of d i) (i + d)) (end_of d i) ≡ bus_or c root (pass_from p d i)
+  unfolding first pass_from
+  found zero i = ap (λ (b : Bool). bus_at b i) (le-ltb i (i + 0) (omega arith))
+  found (suc d) i = go (p i) (found d (suc i))
+    where
+      go : (b : Bool) → bus_at (ltb (end_of d (suc i)) (suc i + d)) (end_of d (suc i)) ≡ bus_or c root (pass_from p d (suc i))
+          → bus_at (ltb (cond (not b) (end_of d (suc i)) i) (i + suc d)) (cond (not b) (end_of d (suc i)) i) ≡ bus_or c root (keep b i (pass_from p d (suc i)))
+      go true h = ap (λ (b : Bool). bus_at b i) (lt-ltb i (i + suc d) (omega arith))
+      go false h =
+          let e : i + suc d ≡ suc i + d = omega arith in
+          ap (λ (n : ℕ). bus_at (ltb (end_of d (suc i)) n) (end_of d (suc i))) e ∙ h
+
+  abbrev pub chosen : Option ℕ → ℕ
+  chosen None = root
+  chosen (Some k) = get_or c.bus k 0
+
+  pub ground_found : (n : ℕ) (o : Option ℕ) → o ≡ fault (λ k. not (p k)) n → chosen o ≡ bus_or c root (passing p n)
+  unfolding fault
+  ground_found n o e =
+      let z : n ≡ 0 + n = omega arith in
+      ap chosen e ∙ pick (ltb (end_of n 0) n) (end_of n 0) ∙ ap (λ (m : ℕ). bus_at (ltb (end_of n 0) m) (end_of n 0)) z ∙ found n 0
+    where
+      pick : (b : Bool) (k : ℕ) → chosen (cond b (Some k) None) ≡ bus_at b k
+      pick true k = refl
+      pick false k = refl

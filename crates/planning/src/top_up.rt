@@ -20,8 +20,8 @@ fn sum(mw: &[f64]) -> f64
     ensures { result ≡ total mw.now }
 {
     let mut sum = 0.0;
-    for i in 0..mw.len() {
-        sum = sum + mw[i];
+    for output in mw.iter() {
+        sum = sum + *output;
     }
     sum
 }

@@ -2,10 +2,10 @@ use Rattle.std.proofs.Common.{refl, add-one, arith, rules}
 use Rattle.loops.specs.Loops.{sum_to}
 use Rattle.planning.proofs.top_up.sum.Goals as goal
 
-pub loop-i-init : goal.loop-i-init
+pub loop-output-init : goal.loop-output-init
 unfolding sum_to
-loop-i-init c = (search rules, refl)
+loop-output-init c = (search rules, refl)
 
-pub loop-i-preserved : goal.loop-i-preserved
+pub loop-output-preserved : goal.loop-output-preserved
 unfolding sum_to
-loop-i-preserved c = (omega arith, rw (add-one, c.loop-i.invariant.1))
+loop-output-preserved c = (omega arith, rw (add-one, c.loop-output.invariant.1))

@@ -4,5 +4,5 @@ use Rattle.loops.specs.Loops.{sum_to}
 use Rattle.loops.specs.Figures.{at}
 use Rattle.planning.proofs.top_up.sum.Given as goal
 
-abbrev pub invariant-loop-i : goal.invariant-loop-i
-invariant-loop-i l = (l.i ≤ length l.mw) × (l.sum ≡ sum_to (at l.mw) l.i)
+abbrev pub invariant-loop-output : goal.invariant-loop-output
+invariant-loop-output l = (l.output-index ≤ length l.mw) × (l.sum ≡ sum_to (at l.mw) l.output-index)

@@ -1,5 +1,5 @@
 -- The places that name a corridor: of each corridor whether one did is kept. What that says of the next place.
-use Rattle.std.proofs.Common.{◌≡◌, ℕ, ◌+◌, ◌-◌, ◌<◌, ◌≤◌, Bool, true, false, ◌&&◌, ltb, List, length, get_or, set, replicate, sym, refl, ap, ◌∙◌, arith, length-set, get_or-set_other, get_or-set_same, le-ltb, lt-ltb}
+use Rattle.std.proofs.Common.{◌≡◌, ℕ, ◌+◌, ◌<◌, ◌≤◌, Bool, true, false, ◌&&◌, ltb, List, length, get_or, set, replicate, sym, refl, ap, ◌∙◌, arith, length-set, get_or-set_other, get_or-set_same, le-ltb, lt-ltb}
 use mathlib.Core.Bool.{true≢false}
 use native.Mathlib.Decide.{dec_lt, ℕ_discrete}
 use lib.ListN.{length-replicate, get_or-replicate}

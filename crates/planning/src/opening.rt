@@ -34,9 +34,10 @@ fn ground_of(root: u32, leader: &[u32], bus: &[u32], slack: &[u32]) -> u32
     requires { Fleet (length leader.now) bus.now × (length slack.now ≡ length bus.now) }
     ensures { result ≡ ground_of (slack_case bus.now slack.now) leader.now root }
 {
-    let first = loops::first_fault(bus.len(), |k| {
-        !((leader[bus[k] as usize] == root) & !(slack[k] == 0))
-    });
+    let first = loops::first_fault(
+        bus.len(),
+        |k| (leader[bus[k] as usize] != root) | (slack[k] == 0),
+    );
     match first {
         Some(k) => bus[k],
         None => root,
@@ -220,7 +221,7 @@ fn per_unit(injection: &mut [f64])
     ensures { injection.new ≡ tab (length injection.old) (λ i. over (at injection.old i) base_mva) }
 {
     for power in injection.iter_mut() {
-        *power = *power / BASE_MVA;
+        *power /= BASE_MVA;
     }
 }
 

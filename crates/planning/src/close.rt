@@ -136,6 +136,7 @@ fn capped(
 }
 
 // Of a corridor, `upsized` is 0 or 1 and no bool: the lent work of counts holds it.
+#[tactic(auto, unfolding(plan_defs::specs::Closing::upsized_of))]
 fn count_upsized(upsized: &[u32]) -> u32
     requires { length upsized.now ≤ most_corridors }
     ensures { result ≡ upsized_of upsized.now }

@@ -1,6 +1,5 @@
-use Rattle.std.proofs.Common.{◌≡◌, ℕ, leb, length, get_or, refl, ap, ◌∙◌, arith}
-use Rattle.plan_defs.specs.Closing.{upsized_of}
-use Rattle.plan_defs.specs.Lists.{count_from, counting}
+use Rattle.std.proofs.Common.{ℕ, leb, get_or, refl, arith}
+use Rattle.plan_defs.specs.Lists.{count_from}
 use Rattle.planning.proofs.Lists.{count_more}
 use Rattle.planning.proofs.Closings.{count_fits}
 use Rattle.planning.proofs.Served.{byte_is, one_most}
@@ -21,11 +20,3 @@ loop-own-preserved c =
     let s = c in
     let l = c.loop-own in
     (omega arith, omega (arith, l.invariant.1, (byte_is _ _ c.from-count.ensures), count_more (λ (j : ℕ). leb 1 (get_or s.args.upsized.now j 0)) l.own-index))
-
-pub returns : goal.returns
-unfolding upsized_of
-returns c =
-    let s = c in
-    let l = c.loop-own in
-    let e : l.own-index ≡ length s.args.upsized.now = omega arith in
-    l.invariant.1 ∙ ap (counting (λ (j : ℕ). leb 1 (get_or s.args.upsized.now j 0))) e

@@ -6,13 +6,6 @@ use Rattle.planning.proofs.close.shift_back.Goals as goal
 pub loop-own-init : goal.loop-own-init
 loop-own-init c = (omega arith, refl, fill_start _ _)
 
-pub overflow_sub-own : goal.overflow_sub-own
-overflow_sub-own c =
-    let s = c in
-    let l = c.loop-own in
-    let e = fill_own _ _ _ _ 0 l.invariant.2 (omega arith) in
-    omega (arith, e, s.requires l.own-index (omega arith))
-
 pub loop-own-preserved : goal.loop-own-preserved
 loop-own-preserved c =
     let s = c.args in

@@ -1,5 +1,5 @@
-use Rattle.std.proofs.Common.{◌≡◌, ◌+◌, length, refl, ap, ◌∙◌, arith}
-use Rattle.plan_defs.specs.Lists.{count_from, counting}
+use Rattle.std.proofs.Common.{◌+◌, refl, arith}
+use Rattle.plan_defs.specs.Lists.{count_from}
 use Rattle.planning.proofs.Lists.{count_more, count_most}
 use Rattle.planning.proofs.Served.{byte_is}
 use Rattle.planning.proofs.stiffen.at_or_above.Invariants.{high}
@@ -21,10 +21,3 @@ loop-own-preserved c =
     let s = c in
     let l = c.loop-own in
     (omega arith, omega (arith, l.invariant.1, (byte_is _ _ c.from-count.ensures), count_more (high s.args.level.now s.args.top) l.own-index))
-
-pub returns : goal.returns
-returns c =
-    let s = c in
-    let l = c.loop-own in
-    let e : l.own-index ≡ length s.args.level.now = omega arith in
-    l.invariant.1 ∙ ap (counting (high s.args.level.now s.args.top)) e

@@ -1,11 +1,13 @@
 -- The loop that collects the grounds: what it keeps true, at bus i with `count` grounds kept.
 -- The grounds kept, and those of the leaders still to come, are all; and the places past them are zero.
-use Rattle.std.proofs.Common.{◌≡◌, ℕ, ◌+◌, ◌-◌, ◌<◌, ◌≤◌, false, List, [], ◌∷◌, ◌++◌, map, length, get_or, take, drop, set, replicate, sym, ap, ◌∙◌, subst, arith, length-set, take_at, eq-eqb}
+use Rattle.std.proofs.Common.{◌≡◌, ℕ, zero, suc, ◌+◌, ◌-◌, ◌<◌, ◌≤◌, Bool, true, false, cond, not, ◌&&◌, ◌||◌, ltb, List, [], ◌∷◌, ◌++◌, map, length, get_or, take, drop, set, replicate, sym, refl, ap, ◌∙◌, subst, arith, length-set, take_at, eqb, eq-eqb, le-ltb, lt-ltb}
+use Rattle.std.specs.Prelude.{Option, Some, None}
 use native.Mathlib.Nat.{sub-zero}
 use lib.ListN.{length-replicate, length-map}
 use Rattle.loops.proofs.Collect.{collect_keep, collect_past, collect_count, collect_end}
 use Rattle.loops.proofs.Fronts.{get_map, front_lent}
-use Rattle.plan_defs.specs.Lists.{pass_from, passing}
+use Rattle.loops.specs.Loops.{first, fault}
+use Rattle.plan_defs.specs.Lists.{keep, pass_from, passing}
 use Rattle.plan_defs.specs.Case.{Case}
 use Rattle.plan_defs.specs.Components.{leads, roots, slack_within, bus_or, ground_of, grounds_of}
 use Rattle.plan_defs.specs.Outcome.{up_to}
@@ -92,3 +94,47 @@ module _ (c : Case) (led : List ℕ) where
 
 pub grounds_lent : (ground all : List ℕ) (n k : ℕ) → k ≡ length all → ground ≡ up_to n 0 all → take (k - 0) ground ≡ all
 grounds_lent ground all n k e h = front_lent k ground all (ap (take k) h ∙ take_at all (replicate (n - length all) 0) k (sym e))
+
+-- ---- the search for a component's slack unit: where it ends is the first of those that pass
+over : (a b : Bool) → (not a || b) ≡ not (a && not b)
+over true true = refl
+over true false = refl
+over false b = refl
+
+abbrev pub chosen : List ℕ → ℕ → Option ℕ → ℕ
+chosen bus root None = root
+chosen bus root (Some k) = get_or bus k 0
+
+module _ (leader bus slack : List ℕ) (root : ℕ) where
+  abbrev own : ℕ → Bool
+  own = slack_within (slack_case bus slack) leader root
+
+  abbrev pub passed_over : ℕ → Bool
+  passed_over k = not (eqb (get_or leader (get_or bus k 0) 0) root) || eqb (get_or slack k 0) 0
+
+  abbrev bus_at : Bool → ℕ → ℕ
+  bus_at b k = cond b (get_or bus k 0) root
+
+  found : (d i : ℕ) → bus_at (ltb (first passed_over d i) (i + d)) (first passed_over d i) ≡ bus_or (slack_case bus slack) root (pass_from own d i)
+  unfolding first pass_from
+  found zero i = ap (λ (b : Bool). bus_at b i) (le-ltb i (i + 0) (omega arith))
+  found (suc d) i =
+      ap (λ (b : Bool). bus_at (ltb (cond b (first passed_over d (suc i)) i) (i + suc d)) (cond b (first passed_over d (suc i)) i))
+      (over (eqb (get_or leader (get_or bus i 0) 0) root) (eqb (get_or slack i 0) 0))
+      ∙ go (own i) (first passed_over d (suc i)) (found d (suc i))
+    where
+      go : (b : Bool) (n : ℕ) → bus_at (ltb n (suc i + d)) n ≡ bus_or (slack_case bus slack) root (pass_from own d (suc i))
+          → bus_at (ltb (cond (not b) n i) (i + suc d)) (cond (not b) n i) ≡ bus_or (slack_case bus slack) root (keep b i (pass_from own d (suc i)))
+      go true n h = ap (λ (b : Bool). bus_at b i) (lt-ltb i (i + suc d) (omega arith))
+      go false n h = let e : i + suc d ≡ suc i + d = omega arith in ap (λ (m : ℕ). bus_at (ltb n m) n) e ∙ h
+
+  pub ground_found : (o : Option ℕ) → o ≡ fault passed_over (length bus) → chosen bus root o ≡ ground_of (slack_case bus slack) leader root
+  unfolding fault
+  ground_found o e =
+      let z : length bus ≡ 0 + length bus = omega arith in
+      let n = first passed_over (length bus) 0 in
+      ap (chosen bus root) e ∙ pick (ltb n (length bus)) n ∙ ap (λ (m : ℕ). bus_at (ltb n m) n) z ∙ found (length bus) 0
+    where
+      pick : (b : Bool) (k : ℕ) → chosen bus root (cond b (Some k) None) ≡ bus_at b k
+      pick true k = refl
+      pick false k = refl

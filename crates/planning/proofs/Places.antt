@@ -1,5 +1,6 @@
--- The places that name a corridor: of each corridor one of them and 1 is kept, 0 where there is none. What that says of the next place.
-use Rattle.std.proofs.Common.{◌≡◌, ℕ, ◌+◌, ◌-◌, ◌<◌, ◌≤◌, Bool, true, false, ◌&&◌, ltb, List, length, get_or, set, replicate, sym, refl, ap, ◌∙◌, arith, length-set, get_or-set_other, get_or-set_same, le-ltb, lt-ltb}
+-- The places that name a corridor: of each corridor whether one did is kept. What that says of the next place.
+use Rattle.std.proofs.Common.{◌≡◌, ℕ, ◌+◌, ◌<◌, ◌≤◌, Bool, true, false, ◌&&◌, ltb, List, length, get_or, set, replicate, sym, refl, ap, ◌∙◌, arith, length-set, get_or-set_other, get_or-set_same, le-ltb, lt-ltb}
+use mathlib.Core.Bool.{true≢false}
 use native.Mathlib.Decide.{dec_lt, ℕ_discrete}
 use lib.ListN.{length-replicate, get_or-replicate}
 use Rattle.loops.proofs.Bools.{and_of}
@@ -19,46 +20,40 @@ one_more ok j h e i l = elim (dec_lt i j) [
 ]
 
 -- of the first j places
-pub record Named (order named : List ℕ) (j : ℕ) : Type 0 where
+pub record Named (order : List ℕ) (named : List Bool) (j : ℕ) : Type 0 where
   pub size : length named ≡ 256
-  pub never : (v : ℕ) → v < 256 → get_or named v 0 ≡ 0 → (i : ℕ) → i < j → get_or order i 0 ≡ v → ⊥
-  pub once : (v : ℕ) → v < 256 → 0 < get_or named v 0 → (get_or named v 0 ≤ j) × (get_or order (get_or named v 0 - 1) 0 ≡ v)
+  pub never : (v : ℕ) → v < 256 → get_or named v false ≡ false → (i : ℕ) → i < j → get_or order i 0 ≡ v → ⊥
+  pub once : (v : ℕ) → v < 256 → get_or named v false ≡ true → ((i : ℕ) → i < j → get_or order i 0 ≡ v → ⊥) → ⊥
 
-pub none_named : (order : List ℕ) → Named order (replicate 256 0) 0
+pub none_named : (order : List ℕ) → Named order (replicate 256 false) 0
 none_named order = record {
-  size = length-replicate {A = ℕ} 256 0;
+  size = length-replicate {A = Bool} 256 false;
   never = λ v l e i h. absurd (omega arith);
-  once = λ v l h. let z = get_or-replicate {A = ℕ} 256 v 0 0 l in absurd (omega arith);
+  once = λ v l h n. true≢false (sym h ∙ get_or-replicate {A = Bool} 256 v false false l);
 }
 
-module _ (order named : List ℕ) (j : ℕ) (s : Named order named j) where
-  pub next_named : (k : ℕ) → k ≡ get_or order j 0 → k < 256 → Named order (set named k (j + 1)) (j + 1)
+module _ (order : List ℕ) (named : List Bool) (j : ℕ) (s : Named order named j) where
+  pub next_named : (k : ℕ) → k ≡ get_or order j 0 → k < 256 → Named order (set named k true) (j + 1)
   next_named k e l = record {
     size = simp length-set s.size;
     never = λ v b z i h q. never_at v b z i h q (ℕ_discrete v k);
-    once = λ v b z. once_at v b z (ℕ_discrete v k);
+    once = λ v b z n. once_at v b z n (ℕ_discrete v k);
   }
     where
-      here : get_or (set named k (j + 1)) k 0 ≡ j + 1
-      here = get_or-set_same named k (j + 1) 0 (rw s.size l)
+      here : get_or (set named k true) k false ≡ true
+      here = get_or-set_same named k true false (rw s.size l)
 
-      never_at : (v : ℕ) → v < 256 → get_or (set named k (j + 1)) v 0 ≡ 0 → (i : ℕ) → i < j + 1 → get_or order i 0 ≡ v → Dec (v ≡ k) → ⊥
-      never_at v b z i h q (yes p) = let w : get_or (set named k (j + 1)) v 0 ≡ j + 1 = ap (λ (u : ℕ). get_or (set named k (j + 1)) u 0) p ∙ here in omega arith
+      never_at : (v : ℕ) → v < 256 → get_or (set named k true) v false ≡ false → (i : ℕ) → i < j + 1 → get_or order i 0 ≡ v → Dec (v ≡ k) → ⊥
+      never_at v b z i h q (yes p) = true≢false (sym here ∙ ap (λ (u : ℕ). get_or (set named k true) u false) (sym p) ∙ z)
       never_at v b z i h q (no p) =
           elim (dec_lt i j) [
-            | yes a ↦ s.never v b (sym (get_or-set_other named k v (j + 1) 0 p) ∙ z) i a q
+            | yes a ↦ s.never v b (sym (get_or-set_other named k v true false p) ∙ z) i a q
             | no a ↦ let t : i ≡ j = omega arith in p (sym q ∙ ap (λ (u : ℕ). get_or order u 0) t ∙ sym e)
           ]
 
-      once_at : (v : ℕ) → v < 256 → 0 < get_or (set named k (j + 1)) v 0 → Dec (v ≡ k) → (get_or (set named k (j + 1)) v 0 ≤ j + 1) × (get_or order (get_or (set named k (j + 1)) v 0 - 1) 0 ≡ v)
-      once_at v b z (yes p) =
-          let w : get_or (set named k (j + 1)) v 0 ≡ j + 1 = ap (λ (u : ℕ). get_or (set named k (j + 1)) u 0) p ∙ here in
-          let t : get_or (set named k (j + 1)) v 0 - 1 ≡ j = omega arith in
-          (omega arith, ap (λ (u : ℕ). get_or order u 0) t ∙ sym e ∙ sym p)
-      once_at v b z (no p) =
-          let w = get_or-set_other named k v (j + 1) 0 p in
-          let o = s.once v b (rw w at z) in
-          (omega (arith, o.0), ap (λ (u : ℕ). get_or order (u - 1) 0) w ∙ o.1)
+      once_at : (v : ℕ) → v < 256 → get_or (set named k true) v false ≡ true → ((i : ℕ) → i < j + 1 → get_or order i 0 ≡ v → ⊥) → Dec (v ≡ k) → ⊥
+      once_at v b z n (yes p) = n j (omega arith) (sym e ∙ sym p)
+      once_at v b z n (no p) = s.once v b (sym (get_or-set_other named k v true false p) ∙ z) (λ i h q. n i (omega arith) q)
 
   module _ (k : ℕ) (e : k ≡ get_or order j 0) where
     -- a place past the corridors
@@ -66,15 +61,13 @@ module _ (order named : List ℕ) (j : ℕ) (s : Named order named j) where
     past_faulty h = ap (λ (b : Bool). b && first_named order j) (le-ltb (get_or order j 0) (length order) (omega arith))
 
     -- one that names a corridor again
-    pub again_faulty : k < 256 → (get_or named k 0 ≡ 0 → ⊥) → place_ok (order_for order) j ≡ false
-    again_faulty l n =
-        let o = s.once k l (omega arith) in
-        and_no (ltb (get_or order j 0) (length order)) (first_named order j) (not_first (first_named order j) refl (get_or named k 0 - 1) (omega (arith, o.0)) (o.1 ∙ e))
+    pub again_faulty : k < 256 → get_or named k false ≡ true → place_ok (order_for order) j ≡ false
+    again_faulty l n = and_no (ltb (get_or order j 0) (length order)) (first_named order j) (not_first (first_named order j) refl)
       where
-        not_first : (b : Bool) → first_named order j ≡ b → (i : ℕ) → i < j → get_or order i 0 ≡ get_or order j 0 → first_named order j ≡ false
-        not_first false q i h p = q
-        not_first true q i h p = absurd (names_first order j q i h p)
+        not_first : (b : Bool) → first_named order j ≡ b → first_named order j ≡ false
+        not_first false q = q
+        not_first true q = absurd (s.once k l n (λ i h p. names_first order j q i h (p ∙ e)))
 
     -- and one that names another
-    pub first_sound : k < length order → k < 256 → get_or named k 0 ≡ 0 → place_ok (order_for order) j ≡ true
+    pub first_sound : k < length order → k < 256 → get_or named k false ≡ false → place_ok (order_for order) j ≡ true
     first_sound h l z = and_of (lt-ltb (get_or order j 0) (length order) (omega arith)) (first_names order j (λ i b q. s.never k l z i b (q ∙ sym e)))

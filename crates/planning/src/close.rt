@@ -135,13 +135,15 @@ fn capped(
     count
 }
 
+// Of a corridor, `upsized` is 0 or 1 and no bool: the lent work of counts holds it.
+#[tactic(auto, unfolding(plan_defs::specs::Closing::upsized_of))]
 fn count_upsized(upsized: &[u32]) -> u32
     requires { length upsized.now ≤ most_corridors }
     ensures { result ≡ upsized_of upsized.now }
 {
     let mut count = 0;
-    for k in 0..upsized.len() {
-        count += u32::from(1 <= upsized[k]);
+    for own in upsized.iter() {
+        count += u32::from(1 <= *own);
     }
     count
 }
@@ -153,8 +155,8 @@ fn unused(above: usize, level: &[u32]) -> u32
     ensures { result ≡ least_of above level.now }
 {
     let mut least = above as u32;
-    for i in 0..level.len() {
-        least = least.min(level[i]);
+    for own in level.iter() {
+        least = least.min(*own);
     }
     least
 }
@@ -164,8 +166,8 @@ fn shift_back(unused: u32, level: &mut [u32])
     requires { (i : ℕ) → i < length level.old → unused ≤ slice_index level.old i }
     ensures { level.new ≡ map (λ (l : ℕ). l - unused) level.old }
 {
-    for i in 0..level.len() {
-        level[i] = level[i] - unused;
+    for own in level.iter_mut() {
+        *own -= unused;
     }
 }
 
@@ -184,9 +186,7 @@ fn add_levels(ladder: &[f64], above: usize, unused: usize, added: &mut [f64])
     requires { (above ≤ length ladder.now) × (above ≤ most_levels) × (unused ≤ above) × (length added.old ≡ above) }
     ensures { added.new ≡ tab above (added_at ladder.now above unused) }
 {
-    for j in 0..added.len() {
-        added[j] = added_at(ladder, above, unused, j);
-    }
+    loops::fill(added, |j| added_at(ladder, above, unused, j));
 }
 
 // The closing figures: the ratings, the levels added, and tiers in the place of levels.

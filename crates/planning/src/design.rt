@@ -21,7 +21,6 @@ use sheets::row_place;
 // Two kV that differ by no more are one level.
 const KV_TOLERANCE: f64 = 1e-6;
 
-// Figures of a row of the line sheet: r, x, b, rate, basis.
 // ---- the line alone
 fn basis_of(code: f64) -> RatingBasis
     ensures { result ≡ basis_of code }
@@ -82,27 +81,16 @@ fn bank_basis(mva: f64, line_rate: f64, line_basis: RatingBasis) -> RatingBasis
 fn with_bank(d: CircuitDesign, mva: f64, z: SeriesImpedance) -> CircuitDesign
     ensures { result ≡ with_bank d mva z }
 {
-    let line_rate = d.line_rate;
-    let line_basis = d.line_basis;
-    let rate = lesser(line_rate, mva);
-    let basis = bank_basis(mva, line_rate, line_basis);
+    let rate = lesser(d.line_rate, mva);
+    let basis = bank_basis(mva, d.line_rate, d.line_basis);
     CircuitDesign {
-        from: d.from,
-        to: d.to,
-        kv: d.kv,
         r_pu: d.line_r_pu + z.r,
         x_pu: d.line_x_pu + z.x,
-        b_pu: d.b_pu,
         rate_a: rate * d.rate_spread,
         is_transformer: true,
         transformer_mva: mva,
-        length_km: d.length_km,
         rating_basis: basis,
-        line_r_pu: d.line_r_pu,
-        line_x_pu: d.line_x_pu,
-        line_rate,
-        line_basis,
-        rate_spread: d.rate_spread,
+        ..d
     }
 }
 

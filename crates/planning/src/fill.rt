@@ -131,8 +131,8 @@ pub fn total(circuits: &[u32]) -> u32
     ensures { result ≡ sum circuits.now }
 {
     let mut total = 0;
-    for k in 0..circuits.len() {
-        total += circuits[k];
+    for count in circuits.iter() {
+        total += *count;
     }
     total
 }
@@ -192,7 +192,7 @@ fn fill_rounds(
     ensures { filled_as circuits.new result ≡ fill_rounds fill_turns (full_of cap.now) target (take (length circuits.old) order.now) (filled_as circuits.old start) }
 {
     let mut t = start;
-    for turn in 0..FILL_TURNS {
+    for _turn in 0..FILL_TURNS {
         t = fill_once(target, cap, order, circuits, t);
     }
     t

@@ -34,13 +34,14 @@ fn ground_of(root: u32, leader: &[u32], bus: &[u32], slack: &[u32]) -> u32
     requires { Fleet (length leader.now) bus.now × (length slack.now ≡ length bus.now) }
     ensures { result ≡ ground_of (slack_case bus.now slack.now) leader.now root }
 {
-    for k in 0..bus.len() {
-        let i = bus[k] as usize;
-        if (leader[i] == root) & !(slack[k] == 0) {
-            return bus[k];
-        }
+    let first = loops::first_fault(
+        bus.len(),
+        |k| (leader[bus[k] as usize] != root) | (slack[k] == 0),
+    );
+    match first {
+        Some(k) => bus[k],
+        None => root,
     }
-    root
 }
 
 // The ground of each component, by ascending leader, at the front of `ground`, and zero past them; how many there are.
@@ -201,9 +202,7 @@ fn withdraw(load: &[f64], injection: &mut [f64])
     requires { length injection.old ≡ length load.now }
     ensures { injection.new ≡ tab (length load.now) (λ i. neg (at load.now i)) }
 {
-    for i in 0..load.len() {
-        injection[i] = -load[i];
-    }
+    loops::fill(injection, |i| -load[i]);
 }
 
 // A column of the units' figures, added at their buses.
@@ -221,8 +220,8 @@ pub fn inject(bus: &[u32], mw: &[f64], injection: &mut [f64])
 fn per_unit(injection: &mut [f64])
     ensures { injection.new ≡ tab (length injection.old) (λ i. over (at injection.old i) base_mva) }
 {
-    for i in 0..injection.len() {
-        injection[i] = injection[i] / BASE_MVA;
+    for power in injection.iter_mut() {
+        *power /= BASE_MVA;
     }
 }
 
@@ -242,9 +241,7 @@ pub fn lower_bounds(initial: &[u32], circuits: &mut [u32])
     requires { length circuits.old ≡ length initial.now }
     ensures { circuits.new ≡ tab (length initial.now) (λ k. max (slice_index initial.now k) 1) }
 {
-    for k in 0..initial.len() {
-        circuits[k] = initial[k].max(1);
-    }
+    loops::fill(circuits, |k| initial[k].max(1));
 }
 
 // Each bus's level of the ladder: its tier, past the levels above the request.
@@ -252,7 +249,5 @@ pub fn first_levels(above: usize, tier: &[u32], level: &mut [u32])
     requires { (length level.old ≡ length tier.now) × (above ≤ most_levels) × ((i : ℕ) → i < length tier.now → slice_index tier.now i < most_levels) }
     ensures { level.new ≡ tab (length tier.now) (λ i. above + slice_index tier.now i) }
 {
-    for i in 0..tier.len() {
-        level[i] = above as u32 + tier[i];
-    }
+    loops::fill(level, |i| above as u32 + tier[i]);
 }

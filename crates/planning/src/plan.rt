@@ -180,8 +180,8 @@ fn plan_opened(
     Ok(planned(progress, opened.grounds.len() as u32, settling))
 }
 
-// All stages: the opening, and what comes after it. Two parts of one lent slice cannot be lent on at the same time, so that of the work that is lent
-// the banks have figures, `upsized` has counts, and the rest has arrays here.
+// All stages: the opening, and what comes after it. Of the work that is lent the banks have `figures`, `upsized` has `counts`, and the
+// rest has arrays here.
 pub fn run(
     mode: PlanMode,
     target: u32,

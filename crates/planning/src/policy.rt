@@ -16,42 +16,24 @@ const MAX_CIRCUITS_PER_CORRIDOR: u32 = 4;
 pub fn expands(mode: PlanMode) -> bool
     ensures { result ≡ expand mode }
 {
-    match mode {
-        PlanMode::Expand => true,
-        PlanMode::Reinforce => true,
-        PlanMode::Observe => false,
-        PlanMode::ExpandServing => true,
-        PlanMode::ReinforceServing => true,
-        PlanMode::ObserveServing => false,
-    }
+    !matches!(mode, PlanMode::Observe | PlanMode::ObserveServing)
 }
 
 // Whether it may also raise buses, stiffen and fill.
 pub fn promotes(mode: PlanMode) -> bool
     ensures { result ≡ promote mode }
 {
-    match mode {
-        PlanMode::Expand => true,
-        PlanMode::Reinforce => false,
-        PlanMode::Observe => false,
-        PlanMode::ExpandServing => true,
-        PlanMode::ReinforceServing => false,
-        PlanMode::ObserveServing => false,
-    }
+    matches!(mode, PlanMode::Expand | PlanMode::ExpandServing)
 }
 
 // Whether idle units serve what the dispatch leaves of the demand.
 pub fn tops_up(mode: PlanMode) -> bool
     ensures { result ≡ tops_up mode }
 {
-    match mode {
-        PlanMode::Expand => false,
-        PlanMode::Reinforce => false,
-        PlanMode::Observe => false,
-        PlanMode::ExpandServing => true,
-        PlanMode::ReinforceServing => true,
-        PlanMode::ObserveServing => true,
-    }
+    matches!(
+        mode,
+        PlanMode::ExpandServing | PlanMode::ReinforceServing | PlanMode::ObserveServing
+    )
 }
 
 // By whether the plan promotes and the kV of the corridor's higher end.

@@ -36,18 +36,18 @@ fn faulty_count(before: &[u32], cap: &[u32]) -> Option<usize>
 }
 
 // ---- 30: the first place that names no corridor, or one again
-// Of each corridor a place that named it, and 1, is kept, so that each place is looked at once.
+// Whether a place has named it is kept of each corridor, so that each place is looked at once.
 fn faulty_place(order: &[u32]) -> Option<usize>
     requires { length order.now ≤ most_corridors }
     ensures { result ≡ fault (place_ok (order_for order.now)) (length order.now) }
 {
-    let mut named = [0u16; MOST_CORRIDORS];
+    let mut named = [false; MOST_CORRIDORS];
     for j in 0..order.len() {
         let corridor = order[j] as usize;
-        if corridor >= order.len() || named[corridor] != 0 {
+        if corridor >= order.len() || named[corridor] {
             return Some(j);
         }
-        named[corridor] = (j + 1) as u16;
+        named[corridor] = true;
     }
     None
 }

@@ -122,7 +122,7 @@ pub fn raises(
         return Ok(0);
     }
     let mut promoted = 0;
-    for turn in 1..grid.ladder.len() {
+    for _turn in 1..grid.ladder.len() {
         let moved = pass(
             grid, supply, opened, circuits, floors, banks, level, marks, angle, flow,
         )?;

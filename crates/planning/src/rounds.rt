@@ -53,7 +53,8 @@ pub fn raise_marked(
 }
 
 // Runs so many rounds at most, after those that `start` tells of. Each is solved from the angles of the one before.
-// The loops are as they are since the project's scope asks for a labelled loop that is gone on with and left by its name.
+// The project's scope asks for a labelled loop that is gone on with, and left with an answer, by its name; a `for` has no answer, so
+// that the rounds left are counted by hand.
 pub fn size_rounds(
     mode: PlanMode,
     above: usize,

@@ -98,9 +98,8 @@ fn with_bank_added(t: Tally, larger: bool) -> Tally
     ensures { result ≡ record { capacity = t.capacity; added = t.added || larger; capped = t.capped } }
 {
     Tally {
-        capacity: t.capacity,
         added: t.added | larger,
-        capped: t.capped,
+        ..t
     }
 }
 
@@ -120,11 +119,7 @@ fn add(cap: u32, need: u32, k: usize, circuits: &mut [u32], t: Tally) -> Tally
             capped,
         };
     }
-    Tally {
-        capacity: t.capacity,
-        added: t.added,
-        capped,
-    }
+    Tally { capped, ..t }
 }
 
 // A corridor that needs more than two is raised where it can be, and gets none.

@@ -149,12 +149,7 @@ fn corridor_flows(
 fn all_finite(figures: &[f64]) -> bool
     ensures { result ≡ all_finite figures.now }
 {
-    for i in 0..figures.len() {
-        if !loops::is_finite(figures[i]) {
-            return false;
-        }
-    }
-    true
+    loops::first_fault(figures.len(), |i| loops::is_finite(figures[i])).is_none()
 }
 
 fn finite_flows(flow: &[f64]) -> Result<(), Refusal>

@@ -65,8 +65,8 @@ fn at_or_above(level: &[u32], top: u32) -> u32
     ensures { result ≡ at_or_above level.now top }
 {
     let mut count = 0;
-    for i in 0..level.len() {
-        count += u32::from(level[i] <= top);
+    for own in level.iter() {
+        count += u32::from(*own <= top);
     }
     count
 }
@@ -170,8 +170,8 @@ fn reckoned(added: u32, arrived: u32, t: Stiffness) -> Stiffness
         total: t.total + added,
         hv: t.hv + arrived,
         stiffening: t.stiffening + added,
-        wide: t.wide,
         stiffened: true,
+        ..t
     }
 }
 
@@ -402,9 +402,8 @@ fn corridors_in(leader: &[u32], a: &[u32], root: usize) -> u32
     ensures { result ≡ counting (λ (k : ℕ). within leader.now root (slice_index a.now k)) (length a.now) }
 {
     let mut count = 0;
-    for k in 0..a.len() {
-        let i = a[k] as usize;
-        count += u32::from(leader[i] as usize == root);
+    for end in a.iter() {
+        count += u32::from(leader[*end as usize] as usize == root);
     }
     count
 }
@@ -548,13 +547,7 @@ fn narrow(
 fn widened(t: Stiffness) -> Stiffness
     ensures { result ≡ record { total = t.total; hv = t.hv; stiffening = t.stiffening; wide = true; stiffened = t.stiffened } }
 {
-    Stiffness {
-        total: t.total,
-        hv: t.hv,
-        stiffening: t.stiffening,
-        wide: true,
-        stiffened: t.stiffened,
-    }
+    Stiffness { wide: true, ..t }
 }
 
 // The component that a bus leads. The last quarter of the rounds belongs to capacity.

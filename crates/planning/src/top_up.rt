@@ -16,12 +16,13 @@ use mode::PlanMode;
 use refusal::Refusal;
 
 // By index, as the dispatch adds.
+#[tactic(auto, unfolding(loops::specs::Loops::sum_to))]
 fn sum(mw: &[f64]) -> f64
     ensures { result ≡ total mw.now }
 {
     let mut sum = 0.0;
-    for i in 0..mw.len() {
-        sum = sum + mw[i];
+    for output in mw.iter() {
+        sum += *output;
     }
     sum
 }

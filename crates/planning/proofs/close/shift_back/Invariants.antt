@@ -3,5 +3,5 @@ use Rattle.std.proofs.Common.{◌≡◌, ℕ, ◌-◌, ◌≤◌, length, get_or
 use Rattle.loops.specs.Loops.{filled}
 use Rattle.planning.proofs.close.shift_back.Given as goal
 
-abbrev pub invariant-loop-i : goal.invariant-loop-i
-invariant-loop-i l = (l.i ≤ length l.initial.level) × (length l.level ≡ length l.initial.level) × (l.level ≡ filled l.initial.level (λ (j : ℕ). get_or l.initial.level j 0 - l.unused) l.i)
+abbrev pub invariant-loop-own : goal.invariant-loop-own
+invariant-loop-own l = (l.own-index ≤ length l.initial.level) × (length l.level ≡ length l.initial.level) × (l.level ≡ filled l.initial.level (λ (j : ℕ). get_or l.initial.level j 0 - l.unused) l.own-index)

@@ -3,5 +3,5 @@ use Rattle.std.proofs.Common.{◌≡◌, ◌≤◌, length, drop}
 use Rattle.plan_defs.specs.Closing.{least_of}
 use Rattle.planning.proofs.close.unused.Given as goal
 
-abbrev pub invariant-loop-i : goal.invariant-loop-i
-invariant-loop-i l = (l.i ≤ length l.level) × (least_of l.least (drop l.i l.level) ≡ least_of l.above l.level)
+abbrev pub invariant-loop-own : goal.invariant-loop-own
+invariant-loop-own l = (l.own-index ≤ length l.level) × (least_of l.least (drop l.own-index l.level) ≡ least_of l.above l.level)

@@ -6,4 +6,4 @@ use Rattle.planning.specs.Fill.{filled_as, Tallied}
 use Rattle.planning.proofs.fill.fill_rounds.Given as goal
 
 abbrev pub invariant-loop-turn : goal.invariant-loop-turn
-invariant-loop-turn l = (length l.circuits ≡ length l.initial.circuits) × (fill_rounds (fill_turns - l.turn) (full_of l.cap) l.target (take (length l.initial.circuits) l.order) (filled_as l.circuits l.t) ≡ fill_rounds fill_turns (full_of l.cap) l.target (take (length l.initial.circuits) l.order) (filled_as l.initial.circuits l.initial.t)) × Tallied l.t
+invariant-loop-turn l = (length l.circuits ≡ length l.initial.circuits) × (fill_rounds (fill_turns - l._turn) (full_of l.cap) l.target (take (length l.initial.circuits) l.order) (filled_as l.circuits l.t) ≡ fill_rounds fill_turns (full_of l.cap) l.target (take (length l.initial.circuits) l.order) (filled_as l.initial.circuits l.initial.t)) × Tallied l.t

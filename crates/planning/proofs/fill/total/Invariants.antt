@@ -4,5 +4,5 @@ use Rattle.plan_defs.specs.Constants.{most_initial}
 use Rattle.plan_defs.specs.Lists.{sum}
 use Rattle.planning.proofs.fill.total.Given as goal
 
-abbrev pub invariant-loop-k : goal.invariant-loop-k
-invariant-loop-k l = (l.k ≤ length l.circuits) × (l.total ≡ sum (take l.k l.circuits)) × (l.total ≤ most_initial * l.k)
+abbrev pub invariant-loop-count : goal.invariant-loop-count
+invariant-loop-count l = (l.count-index ≤ length l.circuits) × (l.total ≡ sum (take l.count-index l.circuits)) × (l.total ≤ most_initial * l.count-index)

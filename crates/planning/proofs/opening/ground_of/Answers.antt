@@ -1,25 +1,16 @@
-use Rattle.std.proofs.Common.{refl, ℕ, not, ◌&&◌, eqb, get_or, sym, ap, ◌∙◌, arith}
-use Rattle.plan_defs.specs.Components.{slack_within, bus_or}
-use Rattle.planning.specs.Opening.{slack_case}
-use Rattle.planning.proofs.Passing.{pass_yes, pass_no, pass_end}
+use Rattle.std.proofs.Common.{◌∙◌, sym, arith, rules}
+use Rattle.loops.proofs.Scan.{fault_some}
+use Rattle.planning.proofs.Grounds.{passed_over, ground_found}
 use Rattle.planning.proofs.opening.ground_of.Goals as goal
 
-pub returns-then-leader-i : goal.returns-then-leader-i
-returns-then-leader-i c =
-    ap (bus_or (slack_case c.args.bus.now c.args.slack.now) c.args.root) (sym (pass_yes (slack_within (slack_case c.args.bus.now c.args.slack.now) c.args.leader.now c.args.root) (omega arith)
-    (ap (λ (i : ℕ). eqb (get_or c.args.leader.now i 0) c.args.root && not (eqb (get_or c.args.slack.now c.loop-k.k 0) 0)) refl
-    ∙ c.if-leader-i.true)))
-    ∙ c.loop-k.invariant.1
+pub offset_bounds-bus-k : goal.offset_bounds-bus-k
+offset_bounds-bus-k c = let h = fault_some _ _ _ (sym c.in-Some.is ∙ c.first_fault-first.ensures (passed_over c.args.leader.now c.args.bus.now c.args.slack.now c.args.root) (λ i r l q. search rules)) in omega (arith, h.1, c.requires.0.few)
 
-pub loop-k-preserved : goal.loop-k-preserved
-loop-k-preserved c = (
-  omega arith,
-  ap (bus_or (slack_case c.args.bus.now c.args.slack.now) c.args.root)
-      (sym (pass_no (slack_within (slack_case c.args.bus.now c.args.slack.now) c.args.leader.now c.args.root) (omega arith)
-      (ap (λ (i : ℕ). eqb (get_or c.args.leader.now i 0) c.args.root && not (eqb (get_or c.args.slack.now c.loop-k.k 0) 0)) refl
-      ∙ c.if-leader-i.false)))
-      ∙ c.loop-k.invariant.1,
-)
+pub bounds-bus-k : goal.bounds-bus-k
+bounds-bus-k c = (fault_some _ _ _ (sym c.in-Some.is ∙ c.first_fault-first.ensures (passed_over c.args.leader.now c.args.bus.now c.args.slack.now c.args.root) (λ i r l q. search rules))).1
 
-pub returns : goal.returns
-returns c = ap (bus_or (slack_case c.args.bus.now c.args.slack.now) c.args.root) (sym (pass_end (slack_within (slack_case c.args.bus.now c.args.slack.now) c.args.leader.now c.args.root) (omega arith))) ∙ c.loop-k.invariant.1
+pub returns-in-Some : goal.returns-in-Some
+returns-in-Some c = ground_found c.args.leader.now c.args.bus.now c.args.slack.now c.args.root _ (sym c.in-Some.is ∙ c.first_fault-first.ensures (passed_over c.args.leader.now c.args.bus.now c.args.slack.now c.args.root) (λ i r l q. search rules))
+
+pub returns-in-None : goal.returns-in-None
+returns-in-None c = ground_found c.args.leader.now c.args.bus.now c.args.slack.now c.args.root _ (sym c.in-None.is ∙ c.first_fault-first.ensures (passed_over c.args.leader.now c.args.bus.now c.args.slack.now c.args.root) (λ i r l q. search rules))

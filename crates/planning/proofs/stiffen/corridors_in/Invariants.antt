@@ -6,5 +6,5 @@ use Rattle.planning.proofs.stiffen.corridors_in.Given as goal
 abbrev pub inside : List ℕ → List ℕ → ℕ → ℕ → Bool
 inside leader a root k = within leader root (get_or a k 0)
 
-abbrev pub invariant-loop-k : goal.invariant-loop-k
-invariant-loop-k l = (l.k ≤ length l.a) × (l.count ≡ counting (inside l.leader l.a l.root) l.k)
+abbrev pub invariant-loop-end : goal.invariant-loop-end
+invariant-loop-end l = (l.end-index ≤ length l.a) × (l.count ≡ counting (inside l.leader l.a l.root) l.end-index)

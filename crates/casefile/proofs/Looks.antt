@@ -1,72 +1,80 @@
 -- The test of the trailing bytes by words and bytes comes to the same byte as the search byte by byte, and looks so often.
 -- The words passed are an eighth of the zeros, rounded down, and the bytes after them the rest.
-use Prim.Native.Nat.{ℕ, ◌+◌, ◌-◌, ◌*◌, ◌/◌, ◌%◌, ◌<◌, ◌≤◌, min}
+use Prim.Native.Nat.{ℕ, zero, suc, ◌+◌, ◌-◌, ◌*◌, ◌/◌, ◌%◌, ◌<◌, ◌≤◌, min}
+use mathlib.Core.Bool.{Bool, true, false, cond}
 use mathlib.Core.List.{List}
-use mathlib.Core.Path.{◌≡◌, sym, ap, ◌∙◌}
+use mathlib.Core.Path.{◌≡◌, refl, sym, ap, ◌∙◌}
 use native.Mathlib.Omega.{arith}
-use borrow.Author.Tests.{eq-eqb, ne_eqb}
-use lib.ListN.{length, get_or}
-use Rattle.loops.proofs.Scan.{first_pass, first_stop, first_end}
+use borrow.Author.Tests.{eqb-true, eqb-false}
+use lib.Dec.{eqb}
+use lib.ListN.{length}
+use Rattle.std.specs.Prelude.{Option, Some, None}
+use Rattle.std.specs.Option.{unwrap_or}
+use Rattle.loops.specs.Loops.{first, fault}
+use Rattle.loops.proofs.Scan.{all_pass, pass_all, fault_some, fault_passed}
 use Rattle.casefile_defs.specs.Layout.{word}
 use Rattle.casefile_defs.specs.Looks.{looked_as, words_looked, bytes_looked, looked_at}
 use Rattle.casefile_defs.specs.Reading.{zero_at, trailing, looks_for, zeros_passed}
 use Rattle.casefile_defs.specs.declared.Looked.{Looked}
 use Rattle.casefile_defs.proofs.Trailing.{trailing_low, trailing_high, trailing_from, word_on, word_stops}
 
--- ---- the loop over words: a turn, and its two ends
--- k words of zeros from the place on
-pub ZeroWords : List ℕ → ℕ → ℕ → Type 0
-ZeroWords s at k = trailing s (at + 8 * k) ≡ trailing s at
+-- ---- what the code has of a search: its place, which is the end where it found none
+pub passed : (ok : ℕ → Bool) (n : ℕ) (found : Option ℕ) → found ≡ fault ok n → (unwrap_or found n ≡ first ok n 0) × (unwrap_or found n ≤ n)
+passed ok n None e = (sym (pass_all ok n (all_pass ok n (fault_passed ok n e))), omega arith)
+passed ok n (Some k) e = let f = fault_some ok n k e in (f.0, omega (arith, f.1))
 
 module _ (s : List ℕ) (at : ℕ) where
-  pub words_start : ZeroWords s at 0
-  unfolding ZeroWords
-  words_start = let e : at + 8 * 0 ≡ at = omega arith in ap (λ (p : ℕ). trailing s p) e
+  -- ---- the search by words: k of them were passed, and d are left
+  abbrev zero_word : ℕ → Bool
+  zero_word k = eqb (word 8 (at + 8 * k) s) 0
 
-  pub words_turn : (k : ℕ) → k < (length s - at) / 8 → word 8 (at + 8 * k) s ≡ 0 → ZeroWords s at k → ZeroWords s at (k + 1)
-  unfolding ZeroWords
-  words_turn k h e g =
-      let d : at + 8 * (k + 1) ≡ at + 8 * k + 8 = omega arith in
-      ap (λ (p : ℕ). trailing s p) d ∙ word_on s (at + 8 * k) (omega arith) e ∙ g
-
-  words_are : (k n : ℕ) → zeros_passed s at / 8 ≡ k → min (k + 1) ((length s - at) / 8) ≡ n → looked_as (at + 8 * k) n ≡ words_looked s at
-  words_are k n e m = simp (e, m)
-
-  pub words_stop : (k : ℕ) → k < (length s - at) / 8 → 0 < word 8 (at + 8 * k) s → ZeroWords s at k → looked_as (at + 8 * k) (k + 1) ≡ words_looked s at
-  unfolding ZeroWords
-  words_stop k h g p =
-      let l = trailing_low s (at + 8 * k) in
-      let u : trailing s (at + 8 * k) < at + 8 * k + 8 = word_stops s (at + 8 * k) (omega arith) g in
-      words_are k (k + 1) (omega arith) (omega arith)
-
-  pub words_end : (k : ℕ) → k ≡ (length s - at) / 8 → ZeroWords s at k → looked_as (at + 8 * k) k ≡ words_looked s at
-  unfolding ZeroWords
-  words_end k h p =
+  words_from : (k d : ℕ) → k + d ≡ (length s - at) / 8 → trailing s (at + 8 * k) ≡ trailing s at → first zero_word d k ≡ zeros_passed s at / 8
+  unfolding first
+  words_from k zero e z =
       let l = trailing_low s (at + 8 * k) in
       let u = trailing_high s (at + 8 * k) in
-      words_are k k (omega arith) (omega arith)
+      omega arith
+  words_from k (suc d) e z = go (λ q. words_from (suc k) d (omega arith) q) (zero_word k) refl
+    where
+      go : (trailing s (at + 8 * suc k) ≡ trailing s at → first zero_word d (suc k) ≡ zeros_passed s at / 8) → (b : Bool) → zero_word k ≡ b → cond b (first zero_word d (suc k)) k ≡ zeros_passed s at / 8
+      go ih true q =
+          let n : at + 8 * suc k ≡ at + 8 * k + 8 = omega arith in
+          ih (ap (λ (p : ℕ). trailing s p) n ∙ word_on s (at + 8 * k) (omega arith) (eqb-true _ _ q) ∙ z)
+      go ih false q =
+          let n : word 8 (at + 8 * k) s ≡ 0 → ⊥ = eqb-false _ _ q in
+          let l = trailing_low s (at + 8 * k) in
+          let u : trailing s (at + 8 * k) < at + 8 * k + 8 = word_stops s (at + 8 * k) (omega arith) (omega (arith, n)) in
+          omega arith
 
-  -- ---- the loop over bytes: a turn, and its two ends
-  pub bytes_start : trailing s (at + 0) ≡ trailing s at
-  bytes_start = let e : at + 0 ≡ at = omega arith in ap (λ (p : ℕ). trailing s p) e
+  pub words_passed : (r z : ℕ) (found : Option ℕ) → r ≡ length s - at → found ≡ fault zero_word (r / 8) → z ≡ unwrap_or found (r / 8) → z ≡ zeros_passed s at / 8
+  words_passed r z found e g h =
+      let p : at + 8 * 0 ≡ at = omega arith in
+      h ∙ (passed zero_word (r / 8) found g).0 ∙ ap (λ (d : ℕ). first zero_word (d / 8) 0) e ∙ words_from 0 ((length s - at) / 8) (omega arith) (ap (λ (q : ℕ). trailing s q) p)
 
-  pub bytes_turn : (i : ℕ) → at + i < length s → get_or s (at + i) 0 ≡ 0 → trailing s (at + i) ≡ trailing s at → trailing s (at + (i + 1)) ≡ trailing s at
+  pub words_are : (k n : ℕ) → zeros_passed s at / 8 ≡ k → min (k + 1) ((length s - at) / 8) ≡ n → looked_as (at + 8 * k) n ≡ words_looked s at
+  words_are k n e m = simp (e, m)
+
+  -- ---- the search by bytes
+  abbrev zero_byte : ℕ → Bool
+  zero_byte i = zero_at s (at + i)
+
+  bytes_from : (i d : ℕ) → at + first zero_byte d i ≡ first (zero_at s) d (at + i)
+  unfolding first
+  bytes_from i zero = refl
+  bytes_from i (suc d) = go (bytes_from (suc i) d) (zero_byte i)
+    where
+      go : at + first zero_byte d (suc i) ≡ first (zero_at s) d (at + suc i) → (b : Bool) → at + cond b (first zero_byte d (suc i)) i ≡ cond b (first (zero_at s) d (suc (at + i))) (at + i)
+      go ih true = let n : at + suc i ≡ suc (at + i) = omega arith in ih ∙ ap (λ (p : ℕ). first (zero_at s) d p) n
+      go ih false = refl
+
+  pub bytes_passed : (r z : ℕ) (found : Option ℕ) → r ≡ length s - at → found ≡ fault zero_byte r → z ≡ unwrap_or found r → at + z ≡ trailing s at
   unfolding trailing
-  bytes_turn i h e g =
-      let d : at + (i + 1) ≡ at + i + 1 = omega arith in
-      rw d (sym (first_pass (zero_at s) (length s) (at + i) h (eq-eqb _ _ e)) ∙ g)
+  bytes_passed r z found e g h =
+      let p : at + 0 ≡ at = omega arith in
+      ap (λ (i : ℕ). at + i) (h ∙ (passed zero_byte r found g).0 ∙ ap (λ (d : ℕ). first zero_byte d 0) e) ∙ bytes_from 0 (length s - at) ∙ ap (λ (q : ℕ). first (zero_at s) (length s - at) q) p
 
-  bytes_are : (i n : ℕ) → at + i ≡ trailing s at → min (i + 1) (length s - at) ≡ n → looked_as (at + i) n ≡ bytes_looked s at
+  pub bytes_are : (i n : ℕ) → at + i ≡ trailing s at → min (i + 1) (length s - at) ≡ n → looked_as (at + i) n ≡ bytes_looked s at
   bytes_are i n e m = let z : at + i - at ≡ i = omega arith in simp (sym e, z, m)
-
-  pub bytes_stop : (i : ℕ) → at + i < length s → (get_or s (at + i) 0 ≡ 0 → ⊥) → trailing s (at + i) ≡ trailing s at → looked_as (at + i) (i + 1) ≡ bytes_looked s at
-  unfolding trailing
-  bytes_stop i h e g =
-      bytes_are i (i + 1) (sym (first_stop (zero_at s) (length s) (at + i) h (ne_eqb _ _ e)) ∙ g) (omega arith)
-
-  pub bytes_end : (i : ℕ) → i ≡ length s - at → trailing s (at + i) ≡ trailing s at → looked_as (at + i) i ≡ bytes_looked s at
-  unfolding trailing
-  bytes_end i e g = bytes_are i i (sym (first_end (zero_at s) (length s) (at + i) (omega arith)) ∙ g) (omega arith)
 
   -- ---- both
   pub both_looked : (w b : Looked) → w ≡ words_looked s at → b ≡ bytes_looked s w.at → looked_as b.at (w.looks + b.looks) ≡ looked_at s at

@@ -5,12 +5,13 @@ ghost use Rattle.casefile_defs.specs.Layout.{size_of, end_of, word};
 ghost use Rattle.casefile_defs.specs.Tables.{number_at, figure_at, weight_at, number_in, figure_in, numbers_of, weights, cap_field};
 ghost use Rattle.casefile.specs.Records.{Records, records_of, start_of, cap_at, Room, Stored};
 
-use crate::bytes::{eight, figure, word};
+use crate::bytes::{eight, word};
 use crate::record;
 use crate::record::{bears, size, standing};
 use casefile_defs::{Kind, MOST_CORRIDORS};
 use loops::fill_first;
 use std::marker::Model;
+use std::num::f64_from_bits_with_nan;
 
 // The most records of a table that is read by their starts: there are as many buses as corridors at most, and fewer levels and generators.
 const MOST_RECORDS: usize = MOST_CORRIDORS;
@@ -102,7 +103,7 @@ impl<'a> Table<'a> {
         requires inside { offset + 8 ≤ size_of self.now.kind }
         ensures { result ≡ figure_at self.now.file (start_of self.now i) offset }
     {
-        figure(eight(self.file, self.start(i) + offset))
+        f64_from_bits_with_nan(eight(self.file, self.start(i) + offset))
     }
 
     // A BU has weight 1.
@@ -114,7 +115,7 @@ impl<'a> Table<'a> {
     {
         let at = self.start(i);
         if bears(self.file, Kind::WeighedBus, at) {
-            return figure(eight(self.file, at + record::BUS_WEIGHT));
+            return f64_from_bits_with_nan(eight(self.file, at + record::BUS_WEIGHT));
         }
         1.0
     }

@@ -9,6 +9,7 @@ use crate::bytes::{eight, word};
 use crate::record;
 use crate::record::{bears, record_at, standing, weighs};
 use casefile_defs::{CaseRead, Header, Kind, Looked, Wanted};
+use loops::first_fault;
 use mode::PlanMode;
 use refusal::Refusal;
 
@@ -135,42 +136,26 @@ fn walk_tables(file: &[u8], h: Header, wanted: Wanted, from: usize) -> Result<us
 }
 
 // Past the words of zeros from a place on, the word after them looked at too.
-#[tactic(auto, using(crate::proofs::Looks::words_start, crate::proofs::Looks::words_turn, crate::proofs::Looks::words_stop, crate::proofs::Looks::words_end))]
 fn past_words(file: &[u8], at: usize) -> Looked
     ensures { result ≡ words_looked file.now at }
 {
     let words = file.len().saturating_sub(at) / WORD;
-    for k in 0..words {
-        if eight(file, at + WORD * k) != 0 {
-            return Looked {
-                at: at + WORD * k,
-                looks: k + 1,
-            };
-        }
-    }
+    let zeros = first_fault(words, |k| eight(file, at + WORD * k) == 0).unwrap_or(words);
     Looked {
-        at: at + WORD * words,
-        looks: words,
+        at: at + WORD * zeros,
+        looks: (zeros + 1).min(words),
     }
 }
 
 // Past the zeros from a place on, byte by byte, the byte after them looked at too.
-#[tactic(auto, using(crate::proofs::Looks::bytes_start, crate::proofs::Looks::bytes_turn, crate::proofs::Looks::bytes_stop, crate::proofs::Looks::bytes_end))]
 fn past_bytes(file: &[u8], at: usize) -> Looked
     ensures { result ≡ bytes_looked file.now at }
 {
     let bytes = file.len().saturating_sub(at);
-    for i in 0..bytes {
-        if file[at + i] != 0 {
-            return Looked {
-                at: at + i,
-                looks: i + 1,
-            };
-        }
-    }
+    let zeros = first_fault(bytes, |i| file[at + i] == 0).unwrap_or(bytes);
     Looked {
-        at: at + bytes,
-        looks: bytes,
+        at: at + zeros,
+        looks: (zeros + 1).min(bytes),
     }
 }
 

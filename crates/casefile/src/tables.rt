@@ -8,12 +8,13 @@ ghost use Rattle.casefile_defs.specs.Tables.{sheet_in, basis_of, line_figure, nu
 ghost use Rattle.casefile.specs.Records.{Room};
 ghost use Rattle.casefile.specs.Filled.{Lines, IsFilled};
 
-use crate::bytes::{eight, figure, word};
+use crate::bytes::{eight, word};
 use crate::columns::Table;
 use crate::record;
 use crate::record::size;
 use casefile_defs::{Kind, ROW_FIGURES};
 use loops::fill;
+use std::num::f64_from_bits_with_nan;
 
 // A line's first fields are figures; the last, its basis, is not.
 const BASIS: usize = 4;
@@ -31,7 +32,7 @@ fn line_figure(file: &[u8], at: usize, j: usize) -> f64
     ensures { result ≡ line_figure file.now at j }
 {
     if j < BASIS {
-        return figure(eight(file, at + (record::LINE_R + record::FIGURE * j)));
+        return f64_from_bits_with_nan(eight(file, at + (record::LINE_R + record::FIGURE * j)));
     }
     basis_of(word(file, at + record::LINE_BASIS, record::U8))
 }

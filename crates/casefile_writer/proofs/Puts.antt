@@ -1,16 +1,13 @@
 -- Bytes that are put one behind another: a number's bytes, a record's fields, a table's records.
 use Prim.Native.Nat.{ℕ, zero, suc, ◌+◌, ◌/◌, ◌^◌, ◌%◌, ◌≤◌}
-use mathlib.Core.Bool.{true}
 use mathlib.Core.List.{List, ◌∷◌, ◌++◌, append_assoc, append-nil}
 use mathlib.Core.Path.{◌≡◌, refl, sym, ap, subst, ◌∙◌}
 use native.Mathlib.Numerals.{add-one}
 use native.Mathlib.Omega.{arith}
-use lib.Ieee.{Float, binary64, to_bits, is_nan}
 use lib.ListN.{length, take, length-append}
 use lib.Seq.{length-take-le}
 use Rattle.std.proofs.Math.Nat.{div-one, div-div-eq-div-mul, pow-suc}
 use Rattle.std.specs.Int.{bytes_low_first, byte_at, to_le_bytes, w64}
-use Rattle.loops.proofs.Bits.{only_nan}
 use Rattle.casefile_defs.specs.Layout.{size_of}
 use Rattle.casefile_defs.specs.declared.Kind.{Kind}
 use Rattle.casefile_theorems.specs.Writer.{bytes, record_bytes, table_bytes}
@@ -55,11 +52,6 @@ first_bytes (suc w) (suc k) n h = ap (λ (l : List ℕ). n % 256 ∷ l) (first_b
 
 pub low_bytes : (w n : ℕ) → w ≤ 8 → take w (to_le_bytes w64 n) ≡ bytes w n
 low_bytes w n h = ap (take w) (low_first 8 0 n ∙ ap (bytes 8) (div-one n)) ∙ first_bytes w 8 n h
-
--- ---- the bits of a NaN
-pub nan_bits : (x : Float) → is_nan x ≡ true → to_bits binary64 x ≡ 0x7ff8_0000_0000_0000
-unfolding to_bits
-nan_bits x h = ap (to_bits binary64) (only_nan x h)
 
 -- ---- a table's records
 module _ {A : Type 0} (kind : A → Kind) (fields : A → ℕ → ℕ) (f : ℕ → A) where

@@ -6,8 +6,7 @@ ghost use Rattle.casefile_theorems.specs.Writer.{bytes};
 ghost use Rattle.casefile_writer.specs.Grown.{Grown};
 ghost use Rattle.casefile_writer.specs.Words.{basis_number};
 
-// The one pattern under which a NaN is written.
-const NAN: u64 = 0x7ff8_0000_0000_0000;
+use std::num::f64_to_bits_with_nan;
 
 #[derive(Drop)]
 pub struct Bytes<'a> {
@@ -48,33 +47,34 @@ impl<'a> Bytes<'a> {
         self.put(&n.to_le_bytes()[..width])
     }
 
-    // A name for each width of a field, plainer than a const parameter at each call.
-    pub fn put_u8(&mut self, n: u64)
+    // The lowest bytes of a number, whatever its type: a name for each width of a field, plainer than a const parameter at each call.
+    pub fn put_byte(&mut self, n: u64)
         requires { self.old.len + 1 ≤ length self.old.out.now }
         ensures { Grown self.old self.new 1 (bytes 1 n) }
     {
         self.put_bytes(1, n)
     }
 
-    pub fn put_u16(&mut self, n: u64)
+    pub fn put_two_bytes(&mut self, n: u64)
         requires { self.old.len + 2 ≤ length self.old.out.now }
         ensures { Grown self.old self.new 2 (bytes 2 n) }
     {
         self.put_bytes(2, n)
     }
 
-    pub fn put_u32(&mut self, n: u64)
+    pub fn put_four_bytes(&mut self, n: u64)
         requires { self.old.len + 4 ≤ length self.old.out.now }
         ensures { Grown self.old self.new 4 (bytes 4 n) }
     {
         self.put_bytes(4, n)
     }
 
+    // Its bits; every NaN has the same.
     pub fn put_figure(&mut self, x: f64)
         requires { self.old.len + 8 ≤ length self.old.out.now }
         ensures { Grown self.old self.new 8 (bytes 8 (to_bits binary64 x)) }
     {
-        self.put_bytes(8, bits_of(x))
+        self.put_bytes(8, f64_to_bits_with_nan(x))
     }
 
     // A line's basis, 0 or 1.
@@ -82,19 +82,8 @@ impl<'a> Bytes<'a> {
         requires { self.old.len + 1 ≤ length self.old.out.now }
         ensures { Grown self.old self.new 1 (bytes 1 (basis_number x)) }
     {
-        self.put_u8(basis_number(x))
+        self.put_byte(basis_number(x))
     }
-}
-
-// The bits of a figure.
-#[tactic(auto, using(crate::proofs::Puts::nan_bits))]
-fn bits_of(x: f64) -> u64
-    ensures { result ≡ to_bits binary64 x }
-{
-    if x.is_nan() {
-        return NAN;
-    }
-    f64::to_bits(x)
 }
 
 fn basis_number(x: f64) -> u64

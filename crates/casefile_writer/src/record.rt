@@ -37,13 +37,13 @@ impl Record for Header {
 
     fn put(self, to: &mut Bytes) {
         to.put(b"HD");
-        to.put_u8(self.mode.number() as u64);
-        to.put_u32(self.target as u64);
-        to.put_u16(self.buses as u64);
-        to.put_u16(self.corridors as u64);
-        to.put_u16(self.generators as u64);
-        to.put_u8(self.above as u64);
-        to.put_u8(self.requested as u64);
+        to.put_byte(self.mode.number() as u64);
+        to.put_four_bytes(self.target as u64);
+        to.put_two_bytes(self.buses as u64);
+        to.put_two_bytes(self.corridors as u64);
+        to.put_two_bytes(self.generators as u64);
+        to.put_byte(self.above as u64);
+        to.put_byte(self.requested as u64);
     }
 }
 
@@ -92,7 +92,7 @@ impl Record for Bus {
 
     fn put(self, to: &mut Bytes) {
         to.put(&self.mark());
-        to.put_u8(self.tier as u64);
+        to.put_byte(self.tier as u64);
         to.put_figure(self.reading);
         if self.weighed {
             to.put_figure(self.weight);
@@ -120,8 +120,8 @@ impl Record for Generator {
 
     fn put(self, to: &mut Bytes) {
         to.put(b"GE");
-        to.put_u16(self.bus as u64);
-        to.put_u8(self.slack as u64);
+        to.put_two_bytes(self.bus as u64);
+        to.put_byte(self.slack as u64);
         to.put_figure(self.pmin);
         to.put_figure(self.pmax);
         to.put_figure(self.c1);
@@ -157,13 +157,13 @@ impl Record for Corridor {
 
     fn put(self, to: &mut Bytes) {
         to.put(&self.mark());
-        to.put_u16(self.a as u64);
-        to.put_u16(self.b as u64);
-        to.put_u8(self.circuits as u64);
+        to.put_two_bytes(self.a as u64);
+        to.put_two_bytes(self.b as u64);
+        to.put_byte(self.circuits as u64);
         to.put_figure(self.length_km);
         to.put_figure(self.share);
         if 0 < self.cap {
-            to.put_u8(self.cap as u64);
+            to.put_byte(self.cap as u64);
         }
     }
 }

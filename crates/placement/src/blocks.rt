@@ -1,7 +1,7 @@
 // The candidates by blocks of sixteen buses. The nearest of each block is kept, so that the next bus to settle is found among sixteen, and
 // when it is settled only its own block is looked at again. That `nearest` fits the labels is asked of each call: between the writes to
 // the two it does not hold, so that a struct of both would break its own fact.
-ghost use Rattle.std.specs.Prelude.{◌≡◌, ℕ, ◌+◌, ◌≤◌, ◌<◌, ◌||◌, eqb, true, length};
+ghost use Rattle.std.specs.Prelude.{◌≡◌, ◌+◌, ◌≤◌, ◌<◌, ◌||◌, eqb, true, length};
 ghost use Rattle.std.specs.Float.Ieee.{lt};
 ghost use Rattle.loops.specs.Figures.{at};
 ghost use Rattle.std.specs.Option.{ForSome};
@@ -44,14 +44,6 @@ fn nearer_bus(n: usize, labels: &Labels, best: Option<usize>, i: usize) -> Optio
     }
 }
 
-// Where the block that begins at bus lo ends.
-fn block_end(n: usize, lo: usize) -> usize
-    requires { (lo < n) × (n ≤ most_buses) }
-    ensures { (lo ≤ result) × (result ≤ n) × (result ≤ lo + block_size) × ((j : ℕ) → j < n → j < lo + block_size → j < result) }
-{
-    if lo + BLOCK < n { lo + BLOCK } else { n }
-}
-
 // The nearest candidate of the block that begins at bus lo, the lowest on a tie.
 fn nearest_in_block(n: usize, labels: &Labels, lo: usize) -> Option<usize>
     requires lo_lt_n { (lo < n) × (n ≤ most_buses) }
@@ -59,7 +51,7 @@ fn nearest_in_block(n: usize, labels: &Labels, lo: usize) -> Option<usize>
     ensures { Chosen n labels.now.mark labels.now.dist lo (lo + block_size) result }
 {
     let mut best = None;
-    for i in lo..block_end(n, lo) {
+    for i in lo..(lo + BLOCK).min(n) {
         best = nearer_bus(n, labels, best, i);
     }
     best
@@ -142,7 +134,7 @@ fn nearest_with(n: usize, dist: &[f64; MOST_BUSES], best: Option<usize>, j: usiz
     if dist[b] < nd {
         return b;
     }
-    if j < b { j } else { b }
+    j.min(b)
 }
 
 // Bus j is reached at nd km, nearer than it was, from the source src.

@@ -137,7 +137,7 @@ fn size_condensers(
     }
 }
 
-// Flags the generators' buses, by the definition's 1.
+// Flags the generators' buses, by the definition's 1: the array is its list of flags as it stands, where a bool would need a number beside it.
 fn flag_generators(generators: &[u32], sources: &mut [u16; MOST_BUSES])
     requires { Units most_buses generators.now }
     ensures { sources.new ≡ flagged generators.now sources.old }

@@ -4,7 +4,8 @@ ghost use Rattle.placement_defs.specs.Distance.{labels, blank};
 
 use crate::MOST_BUSES;
 
-// The definition numbers the three sets, and the source of a bus that none reaches, so the arrays are its lists as they stand.
+// The definition numbers the three sets, and the source of a bus that none reaches, so the arrays are its lists as they stand: an enum or an Option
+// would need these numbers beside it in every clause.
 pub const REST: u16 = 0;
 
 pub const CANDIDATE: u16 = 1;

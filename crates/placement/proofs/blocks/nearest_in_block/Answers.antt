@@ -3,4 +3,4 @@ use Rattle.placement.proofs.Ranges.{turn_of}
 use Rattle.placement.proofs.blocks.nearest_in_block.Goals as goal
 
 pub loop-i-preserved : goal.loop-i-preserved
-loop-i-preserved c = (turn_of _ _ _ c.requires.numbers _ _ _ _ (omega arith) (omega (arith, c.block_end-i-end.ensures.1)) c.loop-i.invariant.0 c.nearer_bus-best.ensures.value, c.nearer_bus-best.ensures.bus)
+loop-i-preserved c = (turn_of _ _ _ c.requires.numbers _ _ _ _ (omega arith) (omega (arith, c.min-i-end.ensures)) c.loop-i.invariant.0 c.nearer_bus-best.ensures.value, c.nearer_bus-best.ensures.bus)

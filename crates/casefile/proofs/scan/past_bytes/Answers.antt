@@ -1,4 +1,4 @@
-use Rattle.std.proofs.Common.{rules, sym, arith}
+use Rattle.std.proofs.Common.{rules, arith}
 use Rattle.casefile_defs.proofs.Trailing.{trailing_high}
 use Rattle.casefile.proofs.Looks.{bytes_passed, bytes_are}
 use Rattle.casefile.proofs.scan.past_bytes.Goals as goal

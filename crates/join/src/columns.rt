@@ -30,7 +30,8 @@ pub fn append<T: Copy>(out: &mut [T], x: &[T], y: &[T], past: T)
     fill(out, |i| either_at(x, y, past, i));
 }
 
-// Place i where the second's are raised by a number.
+// Place i where the second's are raised by a number. Of `either_at` with a closure for the second's places, tried, what `fill` asks of its own closure is
+// not proved.
 fn count_at(x: &[u32], y: &[u32], by: u32, i: usize) -> u32
     requires { Raises by y.now }
     ensures { result ≡ count_at by x.now y.now i }

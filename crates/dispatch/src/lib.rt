@@ -6,13 +6,12 @@ ghost use Rattle.dispatch_defs.specs.Units.{units_of, count};
 ghost use Rattle.dispatch_defs.specs.Operation.{outcome, settled, dispatched};
 
 use check::{check, lengths_ok};
-use figure::sum;
+use loops::sum;
 use refusal::Refusal;
 use share::share;
 use table::UnitTable;
 
 mod check;
-mod figure;
 mod price;
 mod share;
 mod table;

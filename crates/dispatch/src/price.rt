@@ -2,9 +2,9 @@
 ghost use Rattle.std.specs.Prelude.{◌≡◌};
 ghost use Rattle.dispatch_defs.specs.Share.{opening, total_at, halved, narrow, price_of};
 
-use crate::figure::{larger, smaller};
 use crate::table::UnitTable;
 use dispatch_defs::Bracket;
+use loops::{greater, lesser, magnitude};
 
 const HALVINGS: usize = 200;
 
@@ -32,8 +32,8 @@ fn opening(units: &UnitTable) -> Bracket
     let mut hi = -loops::infinity();
     for i in 0..units.len() {
         let unit = units.unit(i);
-        lo = smaller(lo, unit.cost(unit.pmin));
-        hi = larger(hi, unit.cost(unit.pmax));
+        lo = lesser(lo, unit.cost(unit.pmin));
+        hi = greater(hi, unit.cost(unit.pmax));
     }
     Bracket { lo, hi }
 }
@@ -54,8 +54,7 @@ fn halve(units: &UnitTable, demand: f64, b: Bracket) -> Bracket
 fn is_narrow(b: Bracket) -> bool
     ensures { result ≡ narrow b }
 {
-    let size = if b.hi < 0.0 { -b.hi } else { b.hi };
-    b.hi - b.lo <= TOLERANCE * larger(1.0, size)
+    b.hi - b.lo <= TOLERANCE * greater(1.0, magnitude(b.hi))
 }
 
 // The upper end of the bracket after at most 200 halvings.

@@ -4,9 +4,9 @@ ghost use Rattle.loops.specs.Loops.{fault};
 ghost use Rattle.dispatch_defs.specs.Units.{count};
 ghost use Rattle.dispatch_defs.specs.Share.{outputs, stuck_at, closed, shared};
 
-use crate::figure::{clamp, sum};
 use crate::price::price;
 use crate::table::UnitTable;
+use loops::{clamp, sum};
 
 // The outputs at a price.
 #[tactic(auto, using(loops::proofs::Tab::fill_start, loops::proofs::Tab::fill_turn, loops::proofs::Tab::fill_end), unfolding(dispatch_defs::specs::Share::outputs, dispatch_defs::specs::Units::output_at))]

@@ -3,8 +3,8 @@ ghost use Rattle.std.specs.Prelude.{◌&&◌, ◌≡◌};
 ghost use Rattle.loops.specs.Figures.{finite};
 ghost use Rattle.dispatch_defs.specs.Units.{unit_ok, cost_of, output_of};
 
-use crate::figure::{clamp, larger};
 use dispatch_defs::unit_ok;
+use loops::{clamp, greater};
 
 // What c2 is raised to: without a quadratic cost a price would settle no output.
 const LEAST_C2: f64 = 1e-12;
@@ -43,7 +43,7 @@ impl Unit {
         ensures { result ≡ output_of price self.pmin self.pmax self.c1 self.c2 }
     {
         clamp(
-            (price - self.c1) / (2.0 * larger(LEAST_C2, self.c2)),
+            (price - self.c1) / (2.0 * greater(LEAST_C2, self.c2)),
             self.pmin,
             self.pmax,
         )

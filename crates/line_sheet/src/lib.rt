@@ -10,7 +10,6 @@ use crate::tables::Tables;
 use refusal::Refusal;
 
 mod check;
-mod figures;
 mod grid;
 mod limbs;
 mod loadability;

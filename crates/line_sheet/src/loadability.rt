@@ -6,10 +6,10 @@ ghost use Rattle.line_defs.specs.Loadability.{by_segment, segment_of, middle, lo
 ghost use Rattle.line_defs.specs.Bounds.{Knots};
 ghost use Rattle.line_sheet.specs.Lanes.{in_knots, start_of, lane_of, Turning, turned, count_of};
 
-use crate::figures::greater;
 use crate::grid::{on_grid, steps_of_length};
 use crate::wide::high;
 use line_defs::Segment;
+use loops::greater;
 
 // 1 is 2^30 units.
 const UNIT: u64 = 0x4000_0000;

@@ -6,7 +6,7 @@ mod figures;
 ghost use Rattle.std.specs.Prelude.{◌≡◌, ◌<◌, ℕ, Bool, cond, ltb, length};
 ghost use Rattle.loops.specs.Loops.{fault, tab};
 
-pub use figures::{infinity, is_finite};
+pub use figures::{clamp, greater, infinity, is_finite, lesser, magnitude, sum};
 
 // The first index below `count` at which a test fails.
 pub fn first_fault<F: Fn(usize) -> bool>(count: usize, sound: F) -> Option<usize>

@@ -108,12 +108,10 @@ fn served_by(network: &Network, from: &[u16; MOST_BUSES], bus: u32) -> f64
 fn mvar_of(network: &Network, from: &[u16; MOST_BUSES], bus: u32) -> f64
     ensures { result ≡ mvar_of (loads_in network.now) from.now network.now.n bus }
 {
-    let mvar = VOLTAGE_SUPPORT_Q_SHARE * served_by(network, from, bus);
-    if mvar < MIN_SHUNT_BANK_MVAR {
-        MIN_SHUNT_BANK_MVAR
-    } else {
-        mvar
-    }
+    loops::greater(
+        VOLTAGE_SUPPORT_Q_SHARE * served_by(network, from, bus),
+        MIN_SHUNT_BANK_MVAR,
+    )
 }
 
 // Sizes the condensers once all are placed.

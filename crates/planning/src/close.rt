@@ -14,11 +14,11 @@ ghost use Rattle.planning.specs.Close.{corridors_of, levels_for, wider_by, loadi
 ghost use Rattle.planning.specs.Tables.{grid_in};
 
 use crate::design::{circuit, fill_drawn};
-use crate::figures::{greater, lesser, magnitude};
 use crate::fill::loading;
 use crate::policy::{cap_at, expands};
 use crate::size::PLANNING_UTILISATION;
 use crate::tables::Grid;
+use loops::{greater, lesser, magnitude};
 use mode::PlanMode;
 
 // A loading above 1, or a need above the circuits there are, counts where it is above by more than this.

@@ -12,9 +12,10 @@ ghost use Rattle.planning.specs.Design.{lines_for, ends_for, Lines, EndsFit, Lin
 ghost use Rattle.planning.specs.Fill.{designs_for, Drawable};
 ghost use Rattle.planning.specs.Tables.{grid_in};
 
-use crate::figures::{choose, lesser, magnitude};
+use crate::figures::choose;
 use crate::tables::Grid;
 use impedance::SeriesImpedance;
+use loops::{lesser, magnitude};
 use plan_defs::{CircuitDesign, RatingBasis};
 use sheets::row_place;
 

@@ -11,9 +11,10 @@ ghost use Rattle.planning.specs.Fill.{designs_for, Loaded, rank_before, order_by
 ghost use Rattle.planning.specs.Tables.{grid_in};
 
 use crate::design::fill_drawn;
-use crate::figures::{copied, magnitude};
+use crate::figures::copied;
 use crate::policy::{full_at, promotes};
 use crate::tables::Grid;
+use loops::magnitude;
 use mode::PlanMode;
 
 // As many turns as a cap may be fill every corridor, or reach the target.

@@ -7,13 +7,13 @@ ghost use Rattle.planning.specs.Raises.{heavy_for, raised_of, Markable, HeavyRai
 ghost use Rattle.planning.specs.Tables.{grid_in, supply_in, opened_in};
 
 use crate::design::circuit;
-use crate::figures::magnitude;
 use crate::policy::promotes;
 use crate::raise::mark_raise_to;
 use crate::rounds::raise_marked;
 use crate::size::{PLANNING_UTILISATION, UPGRADE_CIRCUITS};
 use crate::solve::planning_state;
 use crate::tables::{Grid, Opened, Supply};
+use loops::magnitude;
 use mode::PlanMode;
 use plan_defs::CircuitDesign;
 use refusal::Refusal;

@@ -10,9 +10,9 @@ ghost use Rattle.planning.specs.Redesign.{redesign_for, Corridors, AnewFits, Red
 ghost use Rattle.planning.specs.Tables.{grid_in, supply_in};
 
 use crate::design::{banked_if, circuit, ends_of};
-use crate::figures::{greater, lesser};
 use crate::opening::inject;
 use crate::tables::{Grid, Supply};
+use loops::{greater, lesser};
 use plan_defs::CircuitDesign;
 
 const MOST_BUSES: usize = 256;

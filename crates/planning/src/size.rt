@@ -9,10 +9,10 @@ ghost use Rattle.planning.specs.Size.{size_for, grow_for, set_if, Adds, Grows, C
 ghost use Rattle.planning.specs.Tables.{grid_in};
 
 use crate::design::{banked_if, circuit};
-use crate::figures::{lesser, magnitude};
 use crate::policy::{cap_at, promotes};
 use crate::raise::mark_raise_to;
 use crate::tables::Grid;
+use loops::{lesser, magnitude};
 use mode::PlanMode;
 use plan_defs::CircuitDesign;
 use std::num::saturating_f64_to_u32;

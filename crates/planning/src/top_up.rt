@@ -1,7 +1,7 @@
 // What a component's units give: by the dispatch, and in a mode that tops up by a pass after it (document 02, K4). By c1 rising, then
 // index, a unit takes what all of them leave of the demand, up to its pmax; the first left below pmax is the last.
 ghost use Rattle.std.specs.Prelude.{◌≡◌, ◌≤◌, length, take};
-ghost use Rattle.dispatch_defs.specs.Units.{total, units_of};
+ghost use Rattle.dispatch_defs.specs.Units.{units_of};
 ghost use Rattle.dispatch_defs.specs.Limits.{Accepted};
 ghost use Rattle.plan_defs.specs.Constants.{most_generators};
 ghost use Rattle.plan_defs.specs.Case.{tops_up};
@@ -9,23 +9,11 @@ ghost use Rattle.plan_defs.specs.TopUp.{by_cost, top_up};
 ghost use Rattle.planning.specs.Fill.{Whole};
 ghost use Rattle.planning.specs.Opening.{stage_of, Priced, given_stage};
 
-use crate::figures::lesser;
 use crate::fill::order_by;
 use crate::policy::tops_up;
+use loops::{lesser, sum};
 use mode::PlanMode;
 use refusal::Refusal;
-
-// By index, as the dispatch adds.
-#[tactic(auto, unfolding(loops::specs::Loops::sum_to))]
-fn sum(mw: &[f64]) -> f64
-    ensures { result ≡ total mw.now }
-{
-    let mut sum = 0.0;
-    for output in mw.iter() {
-        sum += *output;
-    }
-    sum
-}
 
 // By c1 rising, then index: in the first two keys the units are alike.
 fn order_costs(c1: &[f64], order: &mut [u32; 256])
@@ -36,7 +24,7 @@ fn order_costs(c1: &[f64], order: &mut [u32; 256])
     order_by(&alike, &alike, c1, order);
 }
 
-// The pass. The difference is worked out afresh for each unit; where it is not above zero there is nothing left to serve.
+// The pass. The sum is by index, as the dispatch adds. The difference is worked out afresh for each unit; where it is not above zero there is nothing left to serve.
 fn top_up(demand: f64, pmax: &[f64], c1: &[f64], mw: &mut [f64])
     requires { Priced pmax.now c1.now mw.old }
     ensures { mw.new ≡ top_up pmax.now demand (by_cost c1.now) mw.old }

@@ -7,4 +7,4 @@ unfolding least_to greatest_to
 loop-i-preserved c =
     let l = c.loop-i in
     let u = c.unit-unit.ensures in
-    (rw (add-one, c.smaller-lo.ensures, l.invariant.0, c.cost.ensures, u.c1, u.c2, u.pmin), rw (add-one, c.larger-hi.ensures, l.invariant.1, c.cost-in-loop-i.ensures, u.c1, u.c2, u.pmax))
+    (rw (add-one, c.lesser-lo.ensures, l.invariant.0, c.cost.ensures, u.c1, u.c2, u.pmin), rw (add-one, c.greater-hi.ensures, l.invariant.1, c.cost-in-loop-i.ensures, u.c1, u.c2, u.pmax))

@@ -2,7 +2,7 @@
 use Rattle.std.proofs.Common.{◌≡◌}
 use Rattle.loops.specs.Figures.{at}
 use Rattle.loops.specs.Loops.{sum_to}
-use Rattle.dispatch.proofs.figure.sum.Given as goal
+use Rattle.loops.proofs.figures.sum.Given as goal
 
 abbrev pub invariant-loop-x : goal.invariant-loop-x
 invariant-loop-x l = l.sum ≡ sum_to (at l.xs) l.x-index

@@ -1,11 +1,11 @@
 // The fields of a request: what stands between its spaces.
 ghost use Rattle.std.specs.Prelude.{◌≡◌, ◌*◌, ◌^◌, ◌≤◌, ◌<◌, length, IfSome, IfOk};
-ghost use Rattle.plan_defs.specs.Listing.{bits_of};
 
 use crate::line::AnswerLine;
 use arrayvec::ArrayVec;
+use plan_defs::listed_bits;
 use refusal::Refusal;
-use std::num::{f64_from_bits_with_nan, f64_to_bits_with_nan};
+use std::num::f64_from_bits_with_nan;
 
 const SPACE: u8 = b' ';
 
@@ -106,12 +106,6 @@ fn number<const BASE: u64>(digits: &[u8]) -> Option<u64>
         value = value * BASE + d;
     }
     Some(value)
-}
-
-fn listed_bits(x: f64) -> u64
-    ensures { result ≡ bits_of x }
-{
-    if x == 0.0 { 0 } else { f64_to_bits_with_nan(x) }
 }
 
 // What of a line is still to be read; `None` once it is read to its end.

@@ -2,12 +2,11 @@
 ghost use Rattle.std.specs.Prelude.{◌≡◌, ◌+◌, ◌≤◌, [], ◌++◌, length};
 ghost use Rattle.listing.specs.Text.{hexadecimal, number, figure, field};
 ghost use Rattle.listing.specs.Lines.{line_of, most_text};
-ghost use Rattle.plan_defs.specs.Listing.{bits_of};
 
 use arrayvec::ArrayVec;
 use itoa::Buffer;
+use plan_defs::listed_bits;
 use std::marker::Model;
-use std::num::f64_to_bits_with_nan;
 
 // PL and 902 other lines at their longest.
 const MOST_TEXT: usize = 213 + 79 * 902;
@@ -109,11 +108,4 @@ fn hexadecimal(n: u64) -> [u8; FIGURE_DIGITS]
     hex::encode_to_slice(n.to_be_bytes(), &mut digits).unwrap();
     digits.make_ascii_uppercase();
     digits
-}
-
-// The bits by which a figure is listed: a zero as plus zero, every NaN as one. answers has the same expression: no crate that both stand on has code for it.
-fn listed_bits(x: f64) -> u64
-    ensures { result ≡ bits_of x }
-{
-    if x == 0.0 { 0 } else { f64_to_bits_with_nan(x) }
 }

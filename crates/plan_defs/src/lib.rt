@@ -1,7 +1,10 @@
-// The types that planning and its definition speak of. There is no code here: specs/ has the defined plan, proofs/ its laws.
+// The types that planning and its definition speak of, and a figure's bits as the programs write them. specs/ has the defined plan, proofs/ its laws.
 #![tactic(auto)]
 
-use refusal::Refusal;
+ghost use Rattle.std.specs.Prelude.{◌≡◌};
+ghost use Rattle.plan_defs.specs.Listing.{bits_of};
+
+use std::num::f64_to_bits_with_nan;
 
 // Where a circuit's rating comes from.
 #[derive(Clone, Copy)]
@@ -70,4 +73,11 @@ pub struct CorridorPlan {
     pub spread: f64,
     pub grounds: u32,
     pub added: u32,
+}
+
+// The bits of a figure in a listing or an answer: a zero is plus zero, and every NaN is one.
+pub fn listed_bits(x: f64) -> u64
+    ensures { result ≡ bits_of x }
+{
+    if x == 0.0 { 0 } else { f64_to_bits_with_nan(x) }
 }

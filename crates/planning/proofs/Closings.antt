@@ -79,10 +79,10 @@ module _ (grid : GridColumns) (level : List ℕ) (banks : List Float) where
   unfolding drawn_all
   rates_are = map_tab (λ (d : CircuitDesign). d.rate_a) (λ (k : ℕ). drawn (lines_for grid) level k (at banks k)) (length grid.a)
 
-  pub rates_drawn : (old rate : List Float) → length old ≡ length grid.a → rate ≡ filled old (λ k. (design (designs_for grid level banks) k).rate_a) (length grid.a)
+  pub rates_drawn : (rate : List Float) → rate ≡ tab (length grid.a) (λ k. (design (designs_for grid level banks) k).rate_a)
       → rate ≡ map (λ (d : CircuitDesign). d.rate_a) (designs_for grid level banks)
-  rates_drawn old rate e h =
-      fill_end old rate _ (length grid.a) (length grid.a) e refl h
+  rates_drawn rate h =
+      h
       ∙ tab_same (length grid.a) _ rate_of (λ k w. ap (λ (d : CircuitDesign). d.rate_a) (sym (drawn_here grid level banks k _ w refl)))
       ∙ rates_are
 

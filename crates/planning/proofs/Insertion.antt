@@ -1,6 +1,6 @@
 -- Insertion into a list, as code does it: find the place from the front, put the new index there, and move what follows up by one.
 -- An inserted list is the front, the new index and the rest; each place of it is a place of the list before, or the one before that.
-use Rattle.std.proofs.Common.{◌≡◌, ℕ, zero, suc, ◌+◌, ◌-◌, ◌<◌, ◌≤◌, Bool, true, false, cond, not, eqb, ltb, List, [], ◌∷◌, ◌++◌, length, get_or, take, drop, sym, refl, ap, ◌∙◌, subst, suc-le-suc, zero-le, le_of_suc-le-suc, not-suc-le-zero, arith, length-append, length-drop, take-append-drop, length-take-le, get_or-drop, get_or-take, take_at, get_or-append-add, ext_get_or, ltb-false, ltb-true, le-ltb, lt-ltb, eq-eqb, ne_eqb, eqb-true}
+use Rattle.std.proofs.Common.{◌≡◌, ℕ, zero, suc, ◌+◌, ◌-◌, ◌<◌, ◌≤◌, Bool, true, false, cond, not, eqb, ltb, List, [], ◌∷◌, ◌++◌, length, get_or, take, drop, sym, refl, ap, ◌∙◌, subst, add-one, suc-le-suc, zero-le, le_of_suc-le-suc, not-suc-le-zero, arith, length-append, length-drop, take-append-drop, length-take-le, get_or-drop, get_or-take, take_at, get_or-append-add, ext_get_or, ltb-false, ltb-true, le-ltb, lt-ltb, eq-eqb, ne_eqb, eqb-true}
 use borrow.Author.Tests.{eqb-false}
 use lib.Arith.{lt_of_le-ne}
 use lib.ListN.{get_or-append}
@@ -11,7 +11,8 @@ use Rattle.loops.proofs.Tab.{length_tab, get_tab, tab_same, tab_of}
 use Rattle.plan_defs.specs.Constants.{most_corridors}
 use Rattle.plan_defs.proofs.Lists.{All}
 use Rattle.plan_defs.proofs.Inserted.{insert_all_lem, inserted_below, inserted_length}
-use Rattle.planning.specs.Fill.{order_by, place_of, shifted, Whole, Ranked}
+use Rattle.planning.specs.Fill.{order_by, place_of, shifted, Whole, Ranked, Named}
+use Rattle.std.specs.Prelude.{insert}
 
 -- ---- the place
 first_shift : (ok : ℕ → Bool) (n i : ℕ) → first ok n (suc i) ≡ suc (first (λ j. ok (suc j)) n i)
@@ -36,6 +37,17 @@ first_most ok (suc n) i = go (ok i) (first_most ok n (suc i))
 module _ (comes : ℕ → ℕ → Bool) (k : ℕ) where
   pub place_most : (l : List ℕ) (count : ℕ) → place_of comes l count k ≤ count
   place_most l count = omega (arith, first_most (λ j. not (comes k (get_or l j 0))) count 0)
+
+  -- ---- the new one at its place, as a vector's `insert` leaves the list
+  pub insert_here : (l : List ℕ) → insert l (place_of comes l (length l) k) k ≡ insert_by comes k l
+  unfolding insert_by first
+  insert_here [] = refl
+  insert_here (j ∷ l) = go (comes k j) (insert_here l)
+    where
+      go : (b : Bool) → insert l (place_of comes l (length l) k) k ≡ insert_by comes k l
+          → insert (j ∷ l) (cond (not b) (first (λ i. not (comes k (get_or (j ∷ l) i 0))) (length l) 1) 0) k ≡ put_before b k j l (insert_by comes k l)
+      go true e = refl
+      go false e = rw (first_shift (λ i. not (comes k (get_or (j ∷ l) i 0))) (length l) 0) (ap (λ (r : List ℕ). j ∷ r) e)
 
   -- ---- the front, the new one and the rest
   split : (l : List ℕ) (count : ℕ) → count ≤ length l
@@ -155,6 +167,35 @@ module _ (comes : ℕ → ℕ → Bool) (m : ℕ) where
   pub order_length : length (order_by comes m) ≡ m
   unfolding order_by
   order_length = inserted_length comes m
+
+-- ---- the loop that makes an order: those before k are in order
+iter_last : {S : Type 0} (f : ℕ → S → S) (d i : ℕ) (s : S) → iter f (suc d) i s ≡ f (i + d) (iter f d i s)
+unfolding iter
+iter_last f zero i s = let z : i ≡ i + 0 = omega arith in ap (λ (n : ℕ). f n s) z
+iter_last f (suc d) i s =
+    let z : suc i + d ≡ i + suc d = omega arith in
+    iter_last f d (suc i) (f i s) ∙ ap (λ (n : ℕ). f n (iter f (suc d) i s)) z
+
+module _ (comes : ℕ → ℕ → Bool) (k : ℕ) (l : List ℕ) (e : l ≡ order_by comes k) where
+  pub order_size : length l ≡ k
+  order_size = ap length e ∙ order_length comes k
+
+  pub order_names : (m : ℕ) → k ≤ m → Named m l
+  order_names m h j w =
+      let a : get_or (order_by comes k) j 0 < k = order_below comes k j (omega (arith, order_size, order_length comes k)) in
+      omega (arith, a, ap (λ (r : List ℕ). get_or r j 0) e)
+
+  pub order_next : (p : ℕ) → p ≡ place_of comes l (length l) k → insert l p k ≡ order_by comes (k + 1)
+  unfolding order_by
+  order_next p q =
+      let z : 0 + k ≡ k = omega arith in
+      ap (λ (n : ℕ). insert l n k) q
+      ∙ insert_here comes k l
+      ∙ ap (insert_by comes k) e
+      ∙ sym
+      (ap (λ (n : ℕ). iter (insert_by comes) n 0 []) (add-one k)
+      ∙ iter_last (insert_by comes) k 0 []
+      ∙ ap (λ (n : ℕ). insert_by comes n (iter (insert_by comes) k 0 [])) z)
 
 -- ---- the loop that makes an order: `count` are in their places
 module _ (comes : ℕ → ℕ → Bool) (m : ℕ) where

@@ -37,6 +37,11 @@ rank_before first second third k j =
     lt (at first j) (at first k)
     || (eq (at first j) (at first k) && (lt (at second j) (at second k) || (eq (at second j) (at second k) && lt (at third k) (at third j))))
 
+-- as many of each key as there are indices
+pub record Keyed (first second third : List Float) : Type 0 where
+  pub first_size : length first ≡ length third
+  pub second_size : length second ≡ length third
+
 unfoldable pub order_by : (ℕ → ℕ → Bool) → ℕ → List ℕ
 order_by comes m = iter (insert_by comes) m 0 []
 
@@ -56,7 +61,16 @@ pub record Ranked (m : ℕ) (order : List ℕ) (count : ℕ) : Type 0 where
   pub size : Whole order
   pub below : (j : ℕ) → j < count → slice_index order j < m
 
+-- each place names an index below m
+abbrev pub Named : ℕ → List ℕ → Type 0
+Named m order = (j : ℕ) → j < length order → slice_index order j < m
+
 -- ---- filling
+-- an order that names corridors, and an own cap for each
+pub record Fillable (order cap circuits : List ℕ) : Type 0 where
+  pub named : Named (length circuits) order
+  pub cap_size : length cap ≡ length circuits
+
 abbrev pub filled_as : List ℕ → Filling → Filled
 filled_as counts t = record { counts = counts; total = t.total; filler = t.filler }
 

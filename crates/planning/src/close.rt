@@ -1,5 +1,5 @@
 // The closing figures of `plan_corridors`, of the circuits after filling; and the slices as planning leaves them.
-ghost use Rattle.std.specs.Prelude.{◌≡◌, ℕ, ◌+◌, ◌-◌, ◌<◌, ◌≤◌, map, length, take, if◌then◌else◌, slice_index, Float};
+ghost use Rattle.std.specs.Prelude.{◌≡◌, ℕ, ◌+◌, ◌-◌, ◌<◌, ◌≤◌, map, length, if◌then◌else◌, slice_index, Float};
 ghost use Rattle.loops.specs.Figures.{at, nought};
 ghost use Rattle.loops.specs.Loops.{tab};
 ghost use Rattle.plan_defs.specs.Constants.{most_corridors, most_levels};
@@ -64,9 +64,10 @@ fn wider(leader: &[u32], angle: &[f64], i: usize, most: f64) -> f64
     ensures { result ≡ wider_by leader.now angle.now i most }
 {
     if leader[i] as usize == i {
+        // Each by a closure: of another crate's function as a value the check has no contract.
         let top = loops::infinity();
-        let highest = extreme(leader, angle, i, -top, greater);
-        let lowest = extreme(leader, angle, i, top, lesser);
+        let highest = extreme(leader, angle, i, -top, |m, x| greater(m, x));
+        let lowest = extreme(leader, angle, i, top, |m, x| lesser(m, x));
         return greater(most, highest - lowest);
     }
     most
@@ -233,12 +234,12 @@ pub fn close(
 
 // ---- the slices at the end
 // What a plan keeps of filling, or nothing.
-pub fn keep_if(keeps: bool, kept: &[u32; 256], to: &mut [u32])
-    requires { length to.old ≤ most_corridors }
-    ensures { to.new ≡ kept_if keeps (length to.old) (take (length to.old) kept.now) }
+pub fn keep_if(keeps: bool, kept: &[u32], to: &mut [u32])
+    requires { length kept.now ≡ length to.old }
+    ensures { to.new ≡ kept_if keeps (length to.old) kept.now }
 {
     if keeps {
-        to.copy_from_slice(&kept[..to.len()]);
+        to.copy_from_slice(kept);
     } else {
         to.fill(0);
     }

@@ -4,8 +4,8 @@ use Rattle.std.proofs.Common.{◌≡◌, ℕ, zero, suc, ◌+◌, ◌-◌, ◌^�
 use lib.ListN.{length-replicate, get_or-replicate, get_or-append}
 use lib.Ieee.{Float, nan, lt}
 use Rattle.loops.specs.Figures.{at, plus, minus, nought, one, greater}
-use Rattle.loops.specs.Loops.{iter, tab, filled}
-use Rattle.loops.proofs.Tab.{length_tab, get_tab, tab_of, tab_same, fill_end}
+use Rattle.loops.specs.Loops.{iter, tab}
+use Rattle.loops.proofs.Tab.{length_tab, get_tab, tab_of, tab_same}
 use Rattle.mode.specs.declared.PlanMode.{PlanMode}
 use Rattle.plan_defs.specs.Constants.{loading_tolerance, most_corridors}
 use Rattle.plan_defs.specs.Lists.{keep, pass_from, counting, each}

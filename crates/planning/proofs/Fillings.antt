@@ -1,6 +1,6 @@
 -- Filling slices: a turn over the order as code makes it, one corridor after another, is the defined turn.
 -- A corridor gets `gain_of` circuits, one or none, so that code stores the same sum either way.
-use Rattle.std.proofs.Common.{◌≡◌, ℕ, zero, suc, ◌+◌, ◌-◌, ◌^◌, ◌<◌, ◌≤◌, Bool, true, false, cond, ◌&&◌, ltb, List, [], ◌∷◌, length, get_or, take, drop, set, sym, refl, ap, ◌∙◌, suc-mul, arith, drop-cons, drop_of_length-le, ltb-true}
+use Rattle.std.proofs.Common.{◌≡◌, ℕ, suc, ◌+◌, ◌-◌, ◌^◌, ◌<◌, ◌≤◌, Bool, true, false, cond, ◌&&◌, ltb, List, [], ◌∷◌, length, get_or, drop, set, sym, refl, ap, ◌∙◌, suc-mul, arith, drop-cons, drop_of_length-le, ltb-true}
 use lib.Seq.{set-get_or}
 use Rattle.loops.proofs.Bools.{both}
 use Rattle.loops.proofs.Loops.{gap, none}

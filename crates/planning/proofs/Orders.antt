@@ -1,19 +1,18 @@
 -- The filling order from the columns that code keeps is the defined one.
 -- A rank is made of its corridor, so that a list of ranks is a list of corridors with the same insertions.
-use Rattle.std.proofs.Common.{◌≡◌, ℕ, zero, suc, ◌<◌, ◌≤◌, Bool, true, false, List, [], ◌∷◌, map, length, get_or, drop, sym, refl, ap, ◌∙◌, arith}
-use lib.ListN.{get_or-append}
+use Rattle.std.proofs.Common.{◌≡◌, ℕ, zero, suc, ◌<◌, Bool, true, false, List, [], ◌∷◌, map, length, All, sym, refl, ap, ◌∙◌, arith}
 use lib.Ieee.{Float, nan}
 use Rattle.loops.specs.Figures.{at}
-use Rattle.loops.specs.Loops.{iter, tab, filled}
+use Rattle.loops.specs.Loops.{iter, tab}
 use Rattle.loops.specs.Sorting.{put_before, insert_by}
-use Rattle.loops.proofs.Tab.{length_tab, get_tab}
+use Rattle.loops.proofs.Tab.{get_tab}
 use Rattle.plan_defs.specs.Case.{Case}
 use Rattle.plan_defs.specs.Design.{design, drawn, banked_by, steps_down, line_at, line_of, set_transformer_mva, with_bank}
 use Rattle.plan_defs.proofs.Drawn.{drawn_at}
 use Rattle.planning.specs.Design.{lines_for}
 use Rattle.plan_defs.specs.Fill.{Rank, rank_at, before, placed_rank, insert_rank, rank_next, corridors_in, loading_at, order_of}
 use Rattle.plan_defs.specs.declared.CircuitDesign.{CircuitDesign}
-use Rattle.planning.specs.Fill.{designs_for, rank_before, order_by, Named}
+use Rattle.planning.specs.Fill.{designs_for, rank_before, order_by}
 use Rattle.planning.proofs.Insertion.{order_same, order_names}
 use Rattle.planning.specs.Tables.{GridColumns}
 
@@ -59,7 +58,7 @@ module _ (ds : List CircuitDesign) (counts : List ℕ) (flows : List Float) wher
       order_same m (rank_before loading kv km) comes (λ k j h w. rw (p k h, p j w, q k h, q j w, r k h, r j w)) ∙ sym (order_is m)
 
   -- an order names corridors
-  pub corridors_named : (m : ℕ) (order : List ℕ) → order ≡ order_of m ds counts flows → Named m order
+  pub corridors_named : (m : ℕ) (order : List ℕ) → order ≡ order_of m ds counts flows → All (λ (j : ℕ). j < m) order
   corridors_named m order e = order_names comes m order (e ∙ order_is m) m (omega arith)
 
 -- ---- the design that code draws is the one in its place
@@ -76,11 +75,6 @@ km_by false d mva = refl
 drawn_km : (c : Case) (level : List ℕ) (k : ℕ) (mva : Float) → (drawn c level k mva).length_km ≡ at c.km k
 unfolding drawn line_at line_of
 drawn_km c level k mva = km_by (steps_down c level k) (line_at c level k) mva
-
--- ---- an array filled from its front
-pub filled_at : {A : Type 0} (w w₀ : List A) (f : ℕ → A) (n k : ℕ) (d : A) → w ≡ filled w₀ f n → k < n → get_or w k d ≡ f k
-filled_at w w₀ f n k d e h =
-    ap (λ (l : List _). get_or l k d) e ∙ get_or-append (tab n f) (drop n w₀) d k (omega (arith, length_tab n f)) ∙ get_tab n f k d h
 
 -- ---- the order from columns of the corridors' figures
 module _ (grid : GridColumns) (level : List ℕ) (banks : List Float) (circuits : List ℕ) (flow : List Float) where

@@ -1,6 +1,6 @@
 -- The stages of planning joined: together they are the defined stages of the whole case.
 -- The stages are onwards of one another, so each law puts in what was answered, and the rest is by computing.
-use Rattle.std.proofs.Common.{◌≡◌, ℕ, zero, suc, ◌≤◌, Bool, true, false, cond, not, ◌&&◌, eqb, List, length, take, replicate, sym, refl, ap, ◌∙◌, subst, zero-le, arith, ne_eqb}
+use Rattle.std.proofs.Common.{◌≡◌, ℕ, zero, suc, ◌≤◌, Bool, true, false, cond, not, ◌&&◌, eqb, List, length, replicate, sym, refl, ap, ◌∙◌, subst, zero-le, arith, ne_eqb}
 use lib.Ieee.{Float}
 use Rattle.loops.specs.Figures.{nought}
 use Rattle.refusal.specs.declared.Refusal.{Refusal}

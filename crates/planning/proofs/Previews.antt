@@ -1,6 +1,6 @@
 -- The preview over slices: each refusal is the defined one, what passes can be filled anew, and so filled it is the defined preview.
 -- The tests of the code are those of the definition, in its order; the arrays' fronts are what the plan keeps.
-use Rattle.std.proofs.Common.{◌≡◌, ℕ, ◌<◌, Bool, true, cond, eqb, ltb, List, length, get_or, take, sym, refl, ap, ◌∙◌, subst, arith, le-ltb, lt-ltb, eqb-true}
+use Rattle.std.proofs.Common.{◌≡◌, ℕ, ◌<◌, Bool, true, cond, eqb, ltb, List, length, get_or, sym, refl, ap, ◌∙◌, subst, arith, le-ltb, lt-ltb, eqb-true}
 use mathlib.Core.Option.{Option, none, some}
 use Rattle.loops.specs.Loops.{first, fault}
 use Rattle.loops.proofs.Scan.{fault_some, fault_passed}

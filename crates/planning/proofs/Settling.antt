@@ -1,6 +1,6 @@
 -- Planning after the rounds: what filling asks of the order that it is given, and the stages over slices as those of the whole case.
 -- The stages by columns are onwards of the same solves as the defined ones, so each law is the lifts put in, one after another.
-use Rattle.std.proofs.Common.{◌≡◌, ℕ, List, map, length, sym, ap, ◌∙◌, subst}
+use Rattle.std.proofs.Common.{◌≡◌, ℕ, ◌<◌, All, List, map, length, sym, ap, ◌∙◌, subst}
 use lib.Ieee.{Float}
 use Rattle.loops.specs.Figures.{nought}
 use Rattle.mode.specs.declared.PlanMode.{PlanMode}
@@ -13,7 +13,7 @@ use Rattle.plan_defs.specs.Closing.{tiers_of, added_of}
 use Rattle.plan_defs.specs.Outcome.{up_to}
 use Rattle.plan_defs.specs.declared.CircuitDesign.{CircuitDesign}
 use Rattle.planning.specs.Solve.{solved_of}
-use Rattle.planning.specs.Fill.{caps_for, Named, Fillable}
+use Rattle.planning.specs.Fill.{caps_for, Fillable}
 use Rattle.planning.specs.Close.{levels_for, closing_of}
 use Rattle.planning.specs.Settle.{Settleable, Ended, closed_of, ended_by, closed_from, closed_after, filled_in, filled_from}
 use Rattle.planning.specs.declared.close.Closing.{Closing}
@@ -48,7 +48,7 @@ module _ (above : ℕ) (grid : GridColumns) (level : List ℕ) (opened : OpenedC
   pub fillable : (ds : List CircuitDesign) (order : List ℕ) → order ≡ order_of (length grid.a) ds circuits flow → Fillable order grid.cap circuits
   fillable ds order e =
       record {
-        named = subst (λ (m : ℕ). Named m order) (sym h.drawing.count_size) (corridors_named ds circuits flow (length grid.a) order e);
+        named = subst (λ (m : ℕ). All (λ (j : ℕ). j < m) order) (sym h.drawing.count_size) (corridors_named ds circuits flow (length grid.a) order e);
         cap_size = h.cap_size ∙ sym h.drawing.count_size;
       }
 

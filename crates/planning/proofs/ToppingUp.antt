@@ -14,7 +14,7 @@ use Rattle.dispatch_defs.specs.Limits.{Accepted}
 use Rattle.dispatch_defs.proofs.Callers.{called_answered, called_refused}
 use Rattle.plan_defs.specs.Stage.{stopped, going}
 use Rattle.plan_defs.specs.TopUp.{cheaper, by_cost, topped_to, unless_below, topped_if, top_up, given_by}
-use Rattle.planning.specs.Fill.{rank_before, order_by, Named}
+use Rattle.planning.specs.Fill.{rank_before, order_by}
 use Rattle.planning.specs.Opening.{given_if, given_stage}
 use Rattle.plan_defs.proofs.Lists.{All}
 use Rattle.plan_defs.proofs.Inserted.{inserted_below}
@@ -46,7 +46,7 @@ module _ (c1 : List Float) where
   costs_below = inserted_below (cheaper c1) (length c1)
 
   pub unit_named : (units : List ℕ) → units ≡ by_cost c1 → (m : ℕ) → length c1 ≡ m → (j : ℕ) → j < length units → get_or units j 0 < m
-  unit_named units e m h = subst (λ (l : List ℕ). Named m l) (sym e) (subst (λ (n : ℕ). Named n (by_cost c1)) h costs_below)
+  unit_named units e m h = subst (λ (l : List ℕ). All (λ k. k < m) l) (sym e) (subst (λ (n : ℕ). All (λ k. k < n) (by_cost c1)) h costs_below)
 
 -- ---- the pass, from place j of the order on, where unit k stands
 pub pass_end : (pmax : List Float) (demand : Float) (ks units : List ℕ) → units ≡ ks → (j : ℕ) (mw : List Float) → length units ≤ j → mw ≡ top_up pmax demand (drop j ks) mw

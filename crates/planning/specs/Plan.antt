@@ -1,6 +1,6 @@
 -- What the contracts of module plan cite: the opening, the rounds where there are any, and the stages joined, each as the defined stage of a whole case.
 -- What is asked of columns is that some sound case has them.
-use Rattle.std.specs.Prelude.{◌≡◌, ℕ, ◌*◌, ◌≤◌, cond, not, ◌&&◌, ◌||◌, List, map, length, take, replicate, ◌==◌, Float, Err, Ok, Result}
+use Rattle.std.specs.Prelude.{◌≡◌, ℕ, ◌*◌, ◌≤◌, cond, not, ◌&&◌, ◌||◌, List, map, length, replicate, ◌==◌, Float, Err, Ok, Result}
 use Rattle.loops.specs.Figures.{nought}
 use Rattle.mode.specs.declared.PlanMode.{PlanMode}
 use Rattle.angles_defs.specs.Network.{zeros}

@@ -1,13 +1,12 @@
 // Filling, after "3. Fill to the requested branch count" of `plan_corridors`: the order, heaviest planned loading first, and then
 // round and round it, a circuit to each corridor that has fewer than its own cap, or than four where it has none, up to the target.
-ghost use Rattle.std.specs.Prelude.{◌≡◌, ℕ, ◌+◌, ◌<◌, ◌≤◌, length, slice_index};
-ghost use Rattle.loops.specs.Loops.{filled};
+ghost use Rattle.std.specs.Prelude.{◌≡◌, ℕ, ◌<◌, ◌≤◌, length, All, position};
 ghost use Rattle.plan_defs.specs.Constants.{most_corridors};
 ghost use Rattle.plan_defs.specs.Lists.{sum};
 ghost use Rattle.plan_defs.specs.Case.{full_of};
 ghost use Rattle.plan_defs.specs.Fill.{loading, order_of, fill_once, fill_rounds, fill_turns, fill};
 ghost use Rattle.planning.specs.Design.{Lines};
-ghost use Rattle.planning.specs.Fill.{designs_for, Loaded, Keyed, rank_before, order_by, place_of, shifted, Whole, Named, Fillable, filled_as, gain_of, Tallied, Counted, caps_for};
+ghost use Rattle.planning.specs.Fill.{designs_for, Loaded, Keyed, rank_before, order_by, Fillable, filled_as, gain_of, Tallied, Counted, caps_for};
 ghost use Rattle.planning.specs.Tables.{grid_in};
 
 use crate::design::fill_drawn;
@@ -40,39 +39,26 @@ fn rank_before(first: &[f64], second: &[f64], third: &[f64], k: usize, j: usize)
     by_first | (first_ties & (by_second | (second_ties & (third[k] < third[j]))))
 }
 
-// The place of k among those in order.
-fn place_of(first: &[f64], second: &[f64], third: &[f64], order: &[u32], k: usize) -> usize
+// The place of k in an order, where it comes before another.
+fn place_of(first: &[f64], second: &[f64], third: &[f64], order: &[u32], k: usize) -> Option<usize>
     requires keyed { Keyed first.now second.now third.now × (k < length third.now) }
-    requires named { Named (length third.now) order.now }
-    ensures { result ≡ place_of (rank_before first.now second.now third.now) order.now (length order.now) k }
+    requires named { All (λ (j : ℕ). j < length third.now) order.now }
+    ensures { result ≡ position (rank_before first.now second.now third.now k) order.now }
 {
-    loops::first_fault(order.len(), |j| {
-        !rank_before(first, second, third, k, order[j] as usize)
-    })
-    .unwrap_or(order.len())
+    order
+        .iter()
+        .position(|j| rank_before(first, second, third, k, *j as usize))
 }
 
-// Puts k into place p of the first `count`, and moves those that follow up by one.
-pub fn insert(order: &mut [u32; 256], p: usize, count: usize, k: usize)
-    requires { (p ≤ count) × (count < most_corridors) × (k < most_corridors) × Whole order.old }
-    ensures { order.new ≡ filled order.old (shifted p k order.old) (count + 1) }
-{
-    let mut carried = k as u32;
-    for i in p..count + 1 {
-        let held = order[i];
-        order[i] = carried;
-        carried = held;
-    }
-}
-
+#[tactic(auto, using(crate::proofs::Insertion::order_size))]
 pub fn order_by(first: &[f64], second: &[f64], third: &[f64]) -> ArrayVec<u32, 256>
     requires { Keyed first.now second.now third.now × (length third.now ≤ most_corridors) }
     ensures { result.items ≡ order_by (rank_before first.now second.now third.now) (length third.now) }
 {
     let mut order = ArrayVec::new();
     for k in 0..third.len() {
-        let p = place_of(first, second, third, &order, k);
-        order.insert(p, k as u32);
+        let place = place_of(first, second, third, &order, k).unwrap_or(order.len());
+        order.insert(place, k as u32);
     }
     order
 }
@@ -144,13 +130,7 @@ fn gain(total: u32, target: u32, full: u32, count: u32) -> u32
 }
 
 // Once round, a corridor after another.
-fn fill_once(
-    target: u32,
-    cap: &[u32],
-    order: &[u32],
-    circuits: &mut [u32],
-    t: Filling,
-) -> Filling
+fn fill_once(target: u32, cap: &[u32], order: &[u32], circuits: &mut [u32], t: Filling) -> Filling
     requires fillable { Fillable order.now cap.now circuits.old }
     requires tallied { Tallied t }
     ensures filled { filled_as circuits.new result ≡ fill_once (full_of cap.now) target order.now (filled_as circuits.old t) }
@@ -158,8 +138,8 @@ fn fill_once(
 {
     let mut total = t.total;
     let mut filler = t.filler;
-    for own in order {
-        let k = *own as usize;
+    for corridor in order {
+        let k = *corridor as usize;
         let count = circuits[k];
         let more = gain(total, target, full_at(cap[k]), count);
         circuits[k] = count + more;

@@ -16,6 +16,6 @@ pub returns : goal.returns
 returns c =
     let z = c.args in
     let e = c.fill_rounds-t.ensures
-        ∙ ap (λ (n : ℕ). fill_rounds fill_turns (full_of z.cap.now) z.target z.order.now (filled_as z.circuits.now (tally n 0))) c.total.ensures
-        ∙ fill_all z.mode z.cap.now z.target z.order.now z.circuits.now (sym c.promotes.ensures ∙ c.if-not-promotes.false) in
+    ∙ ap (λ (n : ℕ). fill_rounds fill_turns (full_of z.cap.now) z.target z.order.now (filled_as z.circuits.now (tally n 0))) c.total.ensures
+    ∙ fill_all z.mode z.cap.now z.target z.order.now z.circuits.now (sym c.promotes.ensures ∙ c.if-not-promotes.false) in
     record { circuits = ap (λ (f : Filled). f.counts) e; filler = ap (λ (f : Filled). f.filler) e }

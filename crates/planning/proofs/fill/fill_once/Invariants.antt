@@ -6,11 +6,11 @@ use Rattle.planning.specs.Fill.{filled_as}
 use Rattle.planning.proofs.Fillings.{tally}
 use Rattle.planning.proofs.fill.fill_once.Given as goal
 
-abbrev pub invariant-loop-own : goal.invariant-loop-own
-invariant-loop-own l = record {
-  in_range : l.own-index ≤ length l.order;
+abbrev pub invariant-loop-corridor : goal.invariant-loop-corridor
+invariant-loop-corridor l = record {
+  in_range : l.corridor-index ≤ length l.order;
   size : length l.circuits ≡ length l.initial.circuits;
-  left : fill_once (full_of l.cap) l.target (drop l.own-index l.order) (filled_as l.circuits (tally l.total l.filler))
+  left : fill_once (full_of l.cap) l.target (drop l.corridor-index l.order) (filled_as l.circuits (tally l.total l.filler))
       ≡ fill_once (full_of l.cap) l.target l.order (filled_as l.initial.circuits (tally l.initial.total l.initial.filler));
   fits : l.total < 2 ^ 32;
   fewer : l.filler ≤ l.total;

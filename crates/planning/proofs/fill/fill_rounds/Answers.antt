@@ -1,4 +1,4 @@
-use Rattle.std.proofs.Common.{sym, ◌∙◌, arith}
+use Rattle.std.proofs.Common.{◌∙◌, arith}
 use Rattle.plan_defs.specs.Case.{full_of}
 use Rattle.planning.specs.Fill.{filled_as}
 use Rattle.planning.proofs.Fillings.{rounds_next, rounds_end}

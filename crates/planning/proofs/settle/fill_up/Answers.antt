@@ -20,9 +20,9 @@ returns-in_err-closing c =
     let o = ap (λ (v : ArrayVec ℕ). v.items) k.ensures.order ∙ c.fill_order-order.ensures in
     let f = c.fill-filler.ensures in
     let e = c.close_up.ensures c.fill-filler.result k.result.before.items k.result.order.items
-        ∙ filled_are z.mode z.grid.now.cap.now z.above z.opened.now.leader.now z.grid.now.ladder.now z.level.now (designs_for (grid_in z.grid.now) z.level.now z.banks.now)
-            z.upsized.now (peak_for (length z.level.now) z.opened.now.grounds.now z.opened.now.injection.now) z.target (length z.grid.now.a.now) _ z.circuits.now _ _ _ _ z.flow.now
-            c.deref.ensures.0 o k.ensures.before f.circuits f.filler in
+    ∙ filled_are z.mode z.grid.now.cap.now z.above z.opened.now.leader.now z.grid.now.ladder.now z.level.now (designs_for (grid_in z.grid.now) z.level.now z.banks.now)
+    z.upsized.now (peak_for (length z.level.now) z.opened.now.grounds.now z.opened.now.injection.now) z.target (length z.grid.now.a.now) _ z.circuits.now _ _ _ _ z.flow.now
+    c.deref.ensures.0 o k.ensures.before f.circuits f.filler in
     let h : c.from_residual.result ≡ Err c.in_err-closing.field-0.0 = search rules in
     rw h (ended_refused c.close_up.result _ _ _ _ _ _ _ _ _ _ e _ c.in_err-closing.was)
 
@@ -33,7 +33,7 @@ returns c =
     let o = ap (λ (v : ArrayVec ℕ). v.items) k.ensures.order ∙ c.fill_order-order.ensures in
     let f = c.fill-filler.ensures in
     let e = c.close_up.ensures c.fill-filler.result k.result.before.items k.result.order.items
-        ∙ filled_are z.mode z.grid.now.cap.now z.above z.opened.now.leader.now z.grid.now.ladder.now z.level.now (designs_for (grid_in z.grid.now) z.level.now z.banks.now)
-            z.upsized.now (peak_for (length z.level.now) z.opened.now.grounds.now z.opened.now.injection.now) z.target (length z.grid.now.a.now) _ z.circuits.now _ _ _ _ z.flow.now
-            c.deref.ensures.0 o k.ensures.before f.circuits f.filler in
+    ∙ filled_are z.mode z.grid.now.cap.now z.above z.opened.now.leader.now z.grid.now.ladder.now z.level.now (designs_for (grid_in z.grid.now) z.level.now z.banks.now)
+    z.upsized.now (peak_for (length z.level.now) z.opened.now.grounds.now z.opened.now.injection.now) z.target (length z.grid.now.a.now) _ z.circuits.now _ _ _ _ z.flow.now
+    c.deref.ensures.0 o k.ensures.before f.circuits f.filler in
     ended_answered c.close_up.result _ _ _ _ _ _ _ _ _ _ e _ c.in_ok-closing.was

@@ -4,8 +4,8 @@ use Rattle.std.proofs.Common.{◌≡◌, ℕ, zero, suc, ◌+◌, ◌-◌, ◌^�
 use lib.ListN.{length-replicate, get_or-replicate, get_or-append}
 use lib.Ieee.{Float, nan, lt}
 use Rattle.loops.specs.Figures.{at, plus, minus, nought, one, greater}
-use Rattle.loops.specs.Loops.{iter, tab, filled}
-use Rattle.loops.proofs.Tab.{length_tab, get_tab, tab_of, tab_same, fill_end}
+use Rattle.loops.specs.Loops.{iter, tab}
+use Rattle.loops.proofs.Tab.{length_tab, get_tab, tab_of, tab_same}
 use Rattle.mode.specs.declared.PlanMode.{PlanMode}
 use Rattle.plan_defs.specs.Constants.{loading_tolerance, most_corridors}
 use Rattle.plan_defs.specs.Lists.{keep, pass_from, counting, each}
@@ -79,10 +79,10 @@ module _ (grid : GridColumns) (level : List ℕ) (banks : List Float) where
   unfolding drawn_all
   rates_are = map_tab (λ (d : CircuitDesign). d.rate_a) (λ (k : ℕ). drawn (lines_for grid) level k (at banks k)) (length grid.a)
 
-  pub rates_drawn : (old rate : List Float) → length old ≡ length grid.a → rate ≡ filled old (λ k. (design (designs_for grid level banks) k).rate_a) (length grid.a)
+  pub rates_drawn : (rate : List Float) → rate ≡ tab (length grid.a) (λ k. (design (designs_for grid level banks) k).rate_a)
       → rate ≡ map (λ (d : CircuitDesign). d.rate_a) (designs_for grid level banks)
-  rates_drawn old rate e h =
-      fill_end old rate _ (length grid.a) (length grid.a) e refl h
+  rates_drawn rate h =
+      h
       ∙ tab_same (length grid.a) _ rate_of (λ k w. ap (λ (d : CircuitDesign). d.rate_a) (sym (drawn_here grid level banks k _ w refl)))
       ∙ rates_are
 

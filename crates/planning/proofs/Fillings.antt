@@ -1,24 +1,42 @@
 -- Filling slices: a turn over the order as code makes it, one corridor after another, is the defined turn.
 -- A corridor gets `gain_of` circuits, one or none, so that code stores the same sum either way.
-use Rattle.std.proofs.Common.{◌≡◌, ℕ, zero, suc, ◌+◌, ◌-◌, ◌^◌, ◌<◌, ◌≤◌, Bool, true, false, cond, ◌&&◌, ltb, List, [], ◌∷◌, length, get_or, take, set, sym, refl, ap, ◌∙◌, add-one, arith, length-take-le, get_or-take, take-suc, ltb-true}
+use Rattle.std.proofs.Common.{◌≡◌, ℕ, suc, ◌+◌, ◌-◌, ◌^◌, ◌<◌, ◌≤◌, Bool, true, false, cond, ◌&&◌, ltb, List, [], ◌∷◌, length, get_or, drop, set, sym, refl, ap, ◌∙◌, suc-mul, arith, drop-cons, drop_of_length-le, ltb-true}
 use lib.Seq.{set-get_or}
-use Rattle.loops.specs.Loops.{iter}
 use Rattle.loops.proofs.Bools.{both}
-use Rattle.loops.proofs.Loops.{iter_all, gap, none}
-use Rattle.plan_defs.specs.Lists.{sum}
+use Rattle.loops.proofs.Loops.{gap, none}
+use Rattle.plan_defs.specs.Lists.{each, sum}
 use Rattle.plan_defs.specs.Case.{full_of, full_at, promote}
 use Rattle.plan_defs.specs.Fill.{Filled, unfilled, fill_if, fill_at, fill_once, fill_rounds, fill_turns, fill}
-use Rattle.plan_defs.proofs.Lists.{each_places, sum_append}
 use Rattle.plan_defs.proofs.Counts.{any_default}
 use Rattle.mode.specs.declared.PlanMode.{PlanMode}
-use Rattle.planning.specs.Fill.{filled_as, gain_of, caps_for}
+use Rattle.planning.specs.Fill.{filled_as, gain_of, Counted, caps_for}
+use Rattle.std.specs.Prelude.{fold}
+use Rattle.plan_defs.specs.Constants.{most_initial}
+use Prim.Native.Nat.{◌*◌, suc-le-suc}
 use Rattle.planning.specs.declared.fill.Filling.{Filling}
 
 -- ---- the sum of the counts
-pub sum_next : (l : List ℕ) (k : ℕ) → k < length l → sum (take (k + 1) l) ≡ sum (take k l) + get_or l k 0
+from_count : (l : List ℕ) (a : ℕ) → fold (λ (s x : ℕ). s + x) a l ≡ a + sum l
 unfolding sum
-sum_next l k h =
-    ap (λ (n : ℕ). sum (take n l)) (add-one k) ∙ ap sum (take-suc l k 0 h) ∙ sum_append (take k l) (get_or l k 0 ∷ []) ∙ (let z : sum (take k l) + (get_or l k 0 + 0) ≡ sum (take k l) + get_or l k 0 = omega arith in z)
+from_count [] a = omega arith
+from_count (x ∷ l) a = from_count l (a + x) ∙ (let z : a + x + sum l ≡ a + (x + sum l) = omega arith in z)
+
+pub sum_is : (l : List ℕ) → fold (λ (s x : ℕ). s + x) 0 l ≡ sum l
+sum_is l = from_count l 0 ∙ (let z : 0 + sum l ≡ sum l = omega arith in z)
+
+sum_most : (l : List ℕ) (most : ℕ) → ((k : ℕ) → k < length l → get_or l k 0 ≤ most) → sum l ≤ length l * most
+unfolding sum
+sum_most [] most h = omega arith
+sum_most (x ∷ l) most h =
+    let a : x ≤ most = h 0 (omega arith) in
+    let b = sum_most l most (λ k w. h (suc k) (suc-le-suc w)) in
+    let z : suc (length l) * most ≡ length l * most + most = suc-mul (length l) most in
+    omega (arith, a, b, z)
+
+pub sum_few : (l : List ℕ) → Counted l → fold (λ (s x : ℕ). s + x) 0 l < 2 ^ 32
+sum_few l c =
+    let b = sum_most l most_initial c.each in
+    omega (arith, b, sum_is l, c.few)
 
 -- ---- what a corridor gets
 module _ (total target full count : ℕ) where
@@ -54,36 +72,25 @@ fill_corridor full target counts total filler k most count more h f e g =
         let z : filler + 0 ≡ filler = omega arith in
         rw (x, y, z, set-get_or counts k 0)
 
--- ---- a turn, over the first places of an order
-module _ (full : ℕ → ℕ) (target : ℕ) (order : List ℕ) (m : ℕ) where
-  abbrev pub step : ℕ → Filled → Filled
-  step j s = fill_at full target (get_or order j 0) s
+-- ---- a turn, from place i of the order on; and what is left of the turns
+module _ (full : ℕ → ℕ) (target : ℕ) (order : List ℕ) where
+  pub once_next : (i : ℕ) (s t : Filled) → i < length order → t ≡ fill_at full target (get_or order i 0) s
+      → fill_once full target (drop (i + 1) order) t ≡ fill_once full target (drop i order) s
+  unfolding fill_once each
+  once_next i s t h e =
+      let z : suc i ≡ i + 1 = omega arith in
+      sym (ap (λ (l : List ℕ). fill_once full target l s) (drop-cons order i 0 h) ∙ ap (λ (n : ℕ). fill_once full target (drop n order) (fill_at full target (get_or order i 0) s)) z ∙ ap (fill_once full target (drop (i + 1) order)) (sym e))
 
-  -- the places of the order's front are the order's
-  front : (d i : ℕ) (s : Filled) → i + d ≤ m → iter (λ j t. fill_at full target (get_or (take m order) j 0) t) d i s ≡ iter step d i s
-  unfolding iter
-  front zero i s h = refl
-  front (suc d) i s h =
-      let w : i < m = omega arith in
-      let v : suc i + d ≤ m = omega arith in
-      ap (λ (k : ℕ). iter (λ j t. fill_at full target (get_or (take m order) j 0) t) d (suc i) (fill_at full target k s)) (get_or-take m order i 0 w)
-      ∙ front d (suc i) (step i s) v
+  pub once_end : (i : ℕ) (s : Filled) → length order ≤ i → s ≡ fill_once full target (drop i order) s
+  unfolding fill_once each
+  once_end i s h = sym (ap (λ (l : List ℕ). fill_once full target l s) (drop_of_length-le order h))
 
-  pub once_start : m ≤ length order → (s : Filled) → iter step (m - 0) 0 s ≡ fill_once full target (take m order) s
-  unfolding fill_once
-  once_start h s =
-      iter_all step m s
-      ∙ sym (front m 0 s (omega arith))
-      ∙ ap (λ (n : ℕ). iter (λ j t. fill_at full target (get_or (take m order) j 0) t) n 0 s) (sym (length-take-le m order h))
-      ∙ sym (each_places (fill_at full target) (take m order) s)
-
-  -- one turn more
-  pub rounds_next : (turn : ℕ) (s t : Filled) → turn < fill_turns → t ≡ fill_once full target (take m order) s
-      → fill_rounds (fill_turns - turn) full target (take m order) s ≡ fill_rounds (fill_turns - (turn + 1)) full target (take m order) t
+  pub rounds_next : (turn : ℕ) (s t : Filled) → turn < fill_turns → t ≡ fill_once full target order s
+      → fill_rounds (fill_turns - (turn + 1)) full target order t ≡ fill_rounds (fill_turns - turn) full target order s
   unfolding fill_rounds
   rounds_next turn s t h e = rw (gap fill_turns turn h, e)
 
-  pub rounds_end : (turn : ℕ) (s : Filled) → fill_turns ≤ turn → fill_rounds (fill_turns - turn) full target (take m order) s ≡ s
+  pub rounds_end : (turn : ℕ) (s : Filled) → fill_turns ≤ turn → s ≡ fill_rounds (fill_turns - turn) full target order s
   unfolding fill_rounds
   rounds_end turn s h = rw (none fill_turns turn h)
 

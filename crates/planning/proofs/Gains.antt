@@ -1,18 +1,17 @@
 -- Which corridors are stiffened: the order that code makes of a list of gains is the defined one, and what it takes of it is the defined batch.
 -- A gain is made of its corridor, so that a list of gains is a list of corridors with the same insertions; a batch goes by what is left of it.
-use Rattle.std.proofs.Common.{◌≡◌, ℕ, zero, suc, ◌+◌, ◌-◌, ◌<◌, ◌≤◌, Bool, true, false, List, [], ◌∷◌, ◌++◌, map, length, get_or, take, drop, sym, refl, ap, ◌∙◌, append-nil, add-one, arith, drop_of_length-le, length-take-le, drop-cons, get_or-take, take-suc}
+use Rattle.std.proofs.Common.{◌≡◌, ℕ, zero, suc, ◌+◌, ◌-◌, ◌<◌, ◌≤◌, Bool, true, false, List, [], ◌∷◌, ◌++◌, map, length, get_or, take, drop, sym, refl, ap, ◌∙◌, append-nil, add-one, add-zero, arith, drop_of_length-le, drop-cons, take-suc, All, insert as put_in, not-suc-le-zero}
 use lib.Seq.{append_snoc}
 use lib.Ieee.{Float, lt, of_bits}
 use Rattle.loops.specs.Figures.{at, plus, nought}
 use Rattle.loops.specs.Loops.{iter}
 use Rattle.loops.specs.Sorting.{put_before, insert_by}
-use Rattle.loops.proofs.Loops.{gap, none}
+use Rattle.loops.proofs.Loops.{gap, none, iter_carries}
 use Rattle.plan_defs.specs.Lists.{keep, pass_from, passing}
 use Rattle.plan_defs.specs.Design.{design}
 use Rattle.plan_defs.specs.Stiffen.{Gain, gain_of, placed, insert, insert_if, insert_gain, gains, batch_if, batch}
 use Rattle.plan_defs.specs.declared.CircuitDesign.{CircuitDesign}
-use Rattle.plan_defs.proofs.Lists.{All}
-use Rattle.plan_defs.proofs.Inserted.{insert_all_lem}
+use Rattle.planning.proofs.Inserting.{place_in, inserted_is, inserted_all, inserted_more}
 use Rattle.planning.specs.Stiffen.{gain_if, gains_more, insert_where, gain_next, gain_order, gain_for}
 
 module _ (gain : List Float) where
@@ -65,86 +64,100 @@ module _ (gain : List Float) where
     gains_are m h = gains_from m 0 [] (λ k v w. h k (omega arith))
 
   -- ---- what is taken of an order: j so far, and what is left to take
-  module _ (order : List ℕ) (count most : ℕ) (excess : Float) where
+  module _ (order : List ℕ) (most : ℕ) (excess : Float) where
     abbrev rest : ℕ → List Gain
-    rest j = gainers (drop j (take count order))
+    rest j = gainers (drop j order)
 
     unfoldable pub taking : ℕ → Float → List ℕ
     taking j covered = take j order ++ batch (most - j) covered excess (rest j)
 
-    abbrev whole : List ℕ
-    whole = batch most nought excess (gainers (take count order))
-
-    pub take_start : taking 0 nought ≡ whole
+    pub take_start : taking 0 nought ≡ batch most nought excess (gainers order)
     unfolding taking
-    take_start = let z : most - 0 ≡ most = omega arith in ap (λ (n : ℕ). batch n nought excess (gainers (take count order))) z
+    take_start = let z : most - 0 ≡ most = omega arith in ap (λ (n : ℕ). batch n nought excess (gainers order)) z
 
-    module _ (w : count ≤ length order) where
-      rest_cons : (j : ℕ) → j < count → rest j ≡ gain_for gain (get_or order j 0) ∷ rest (j + 1)
-      rest_cons j h =
-          let s : length (take count order) ≡ count = length-take-le count order w in
-          ap gainers (drop-cons (take count order) j 0 (omega (arith, s)))
-          ∙ ap (λ (k : ℕ). gain_for gain k ∷ rest (suc j)) (get_or-take count order j 0 h)
-          ∙ ap (λ (n : ℕ). gain_for gain (get_or order j 0) ∷ rest n) (sym (add-one j))
+    rest_cons : (j : ℕ) → j < length order → rest j ≡ gain_for gain (get_or order j 0) ∷ rest (j + 1)
+    rest_cons j h =
+        ap gainers (drop-cons order j 0 h) ∙ ap (λ (n : ℕ). gain_for gain (get_or order j 0) ∷ rest n) (sym (add-one j))
 
-      step : (j : ℕ) (covered : Float) → j < count → j < most
-          → taking j covered ≡ take j order ++ batch_if (lt covered excess) (get_or order j 0) (batch (most - (j + 1)) (plus covered (at gain (get_or order j 0))) excess (rest (j + 1)))
-      unfolding taking batch
-      step j covered h v =
-          ap (λ (n : ℕ). take j order ++ batch n covered excess (rest j)) (gap most j v)
-          ∙ ap (λ (l : List Gain). take j order ++ batch (suc (most - (j + 1))) covered excess l) (rest_cons j h)
+    step : (j : ℕ) (covered : Float) → j < length order → j < most
+        → taking j covered ≡ take j order ++ batch_if (lt covered excess) (get_or order j 0) (batch (most - (j + 1)) (plus covered (at gain (get_or order j 0))) excess (rest (j + 1)))
+    unfolding taking batch
+    step j covered h v =
+        ap (λ (n : ℕ). take j order ++ batch n covered excess (rest j)) (gap most j v)
+        ∙ ap (λ (l : List Gain). take j order ++ batch (suc (most - (j + 1))) covered excess l) (rest_cons j h)
 
-      pub take_turn : (j k : ℕ) (covered covered' : Float) → j < count → j < most → lt covered excess ≡ true → k ≡ get_or order j 0 → covered' ≡ plus covered (at gain k)
-          → taking (j + 1) covered' ≡ taking j covered
-      unfolding taking
-      take_turn j k covered covered' h v e pk pc =
-          let n = get_or order j 0 in
-          let r : Float → List ℕ = λ x. batch (most - (j + 1)) x excess (rest (j + 1)) in
-          let x : covered' ≡ plus covered (at gain n) = pc ∙ ap (λ (i : ℕ). plus covered (at gain i)) pk in
-          ap (λ (y : Float). take (j + 1) order ++ r y) x
-          ∙ ap (λ (i : ℕ). take i order ++ r (plus covered (at gain n))) (add-one j)
-          ∙ ap (λ (l : List ℕ). l ++ r (plus covered (at gain n))) (take-suc order j 0 (omega arith))
-          ∙ append_snoc (take j order) n (r (plus covered (at gain n)))
-          ∙ ap (λ (b : Bool). take j order ++ batch_if b n (r (plus covered (at gain n)))) (sym e)
-          ∙ sym (step j covered h v)
+    pub take_turn : (j k : ℕ) (covered covered' : Float) → j < length order → j < most → lt covered excess ≡ true → k ≡ get_or order j 0 → covered' ≡ plus covered (at gain k)
+        → taking (j + 1) covered' ≡ taking j covered
+    unfolding taking
+    take_turn j k covered covered' h v e pk pc =
+        let n = get_or order j 0 in
+        let r : Float → List ℕ = λ x. batch (most - (j + 1)) x excess (rest (j + 1)) in
+        let x : covered' ≡ plus covered (at gain n) = pc ∙ ap (λ (i : ℕ). plus covered (at gain i)) pk in
+        ap (λ (y : Float). take (j + 1) order ++ r y) x
+        ∙ ap (λ (i : ℕ). take i order ++ r (plus covered (at gain n))) (add-one j)
+        ∙ ap (λ (l : List ℕ). l ++ r (plus covered (at gain n))) (take-suc order j 0 h)
+        ∙ append_snoc (take j order) n (r (plus covered (at gain n)))
+        ∙ ap (λ (b : Bool). take j order ++ batch_if b n (r (plus covered (at gain n)))) (sym e)
+        ∙ sym (step j covered h v)
 
-      -- it ends at the most, at what is covered, or with the order
-      pub take_most : (j : ℕ) (covered : Float) → most ≤ j → taking j covered ≡ take j order
-      unfolding taking batch
-      take_most j covered h = ap (λ (n : ℕ). take j order ++ batch n covered excess (rest j)) (none most j h) ∙ append-nil (take j order)
+    -- it ends at the most, at what is covered, or with the order
+    pub take_most : (j : ℕ) (covered : Float) → most ≤ j → taking j covered ≡ take j order
+    unfolding taking batch
+    take_most j covered h = ap (λ (n : ℕ). take j order ++ batch n covered excess (rest j)) (none most j h) ∙ append-nil (take j order)
 
-      pub take_covered : (j : ℕ) (covered : Float) → j < count → j < most → lt covered excess ≡ false → taking j covered ≡ take j order
-      take_covered j covered h v e =
-          step j covered h v
-          ∙ ap (λ (b : Bool). take j order ++ batch_if b (get_or order j 0) (batch (most - (j + 1)) (plus covered (at gain (get_or order j 0))) excess (rest (j + 1)))) e
-          ∙ append-nil (take j order)
+    pub take_covered : (j : ℕ) (covered : Float) → j < length order → j < most → lt covered excess ≡ false → taking j covered ≡ take j order
+    take_covered j covered h v e =
+        step j covered h v
+        ∙ ap (λ (b : Bool). take j order ++ batch_if b (get_or order j 0) (batch (most - (j + 1)) (plus covered (at gain (get_or order j 0))) excess (rest (j + 1)))) e
+        ∙ append-nil (take j order)
 
-      batch_none : (n : ℕ) (covered : Float) → batch n covered excess [] ≡ []
-      unfolding batch
-      batch_none zero covered = refl
-      batch_none (suc n) covered = refl
+    batch_none : (n : ℕ) (covered : Float) → batch n covered excess [] ≡ []
+    unfolding batch
+    batch_none zero covered = refl
+    batch_none (suc n) covered = refl
 
-      pub take_all_of : (j : ℕ) (covered : Float) → count ≤ j → taking j covered ≡ take j order
-      unfolding taking
-      take_all_of j covered h =
-          let s : length (take count order) ≡ count = length-take-le count order w in
-          let t : length (take count order) ≤ j = omega arith in
-          ap (λ (l : List ℕ). take j order ++ batch (most - j) covered excess (gainers l)) (drop_of_length-le (take count order) t)
-          ∙ ap (λ (l : List ℕ). take j order ++ l) (batch_none (most - j) covered)
-          ∙ append-nil (take j order)
+    pub take_all_of : (j : ℕ) (covered : Float) → length order ≤ j → taking j covered ≡ take j order
+    unfolding taking
+    take_all_of j covered h =
+        ap (λ (l : List ℕ). take j order ++ batch (most - j) covered excess (gainers l)) (drop_of_length-le order h)
+        ∙ ap (λ (l : List ℕ). take j order ++ l) (batch_none (most - j) covered)
+        ∙ append-nil (take j order)
 
-  -- ---- the loop that makes the order names corridors
-  pub next_named : (m k : ℕ) (l : List ℕ) → k < m → All (λ j. j < m) l → All (λ j. j < m) (gain_next gain k l)
-  next_named m k l h a = go (lt nought (at gain k))
+  -- ---- code puts k at its place
+  pub next_gains : (k : ℕ) (l : List ℕ) → lt nought (at gain k) ≡ true → put_in l (place_in (gains_more gain k) l) k ≡ gain_next gain k l
+  next_gains k l e = inserted_is (gains_more gain) k l ∙ ap (λ (b : Bool). insert_where b (gains_more gain) k l) (sym e)
+
+  -- ---- an order names corridors below m, each once at most
+  abbrev Named : ℕ → List ℕ → Type 0
+  Named m l = (length l ≤ m) × All (λ (j : ℕ). j < m) l
+
+  next_named : (k : ℕ) (l : List ℕ) → Named k l → Named (suc k) (gain_next gain k l)
+  next_named k l a = go (lt nought (at gain k))
     where
-      go : (b : Bool) → All (λ j. j < m) (insert_where b (gains_more gain) k l)
-      go true = insert_all_lem (gains_more gain) (λ j. j < m) k h l a
-      go false = a
+      later : All (λ (j : ℕ). j < suc k) l
+      later = λ j d h. let w = a.1 j d h in omega arith
 
-  pub next_yes : (k : ℕ) (l l' : List ℕ) → lt nought (at gain k) ≡ true → l' ≡ insert_by (gains_more gain) k l → l' ≡ gain_next gain k l
-  next_yes k l l' e q = q ∙ ap (λ (b : Bool). insert_where b (gains_more gain) k l) (sym e)
+      go : (b : Bool) → Named (suc k) (insert_where b (gains_more gain) k l)
+      go true = (omega (arith, a.0, inserted_more (gains_more gain) k l), inserted_all (gains_more gain) k (λ (j : ℕ). j < suc k) l (omega arith) later)
+      go false = (omega (arith, a.0), later)
 
-  pub next_no : (k : ℕ) (l : List ℕ) → lt nought (at gain k) ≡ false → l ≡ gain_next gain k l
-  next_no k l e = ap (λ (b : Bool). insert_where b (gains_more gain) k l) (sym e)
+  pub order_named : (m : ℕ) → Named m (gain_order gain m)
+  unfolding gain_order
+  order_named m = iter_carries (gain_next gain) Named m (λ k l h a. next_named k l a) m 0 [] (omega arith) (omega arith, λ j d h. absurd (not-suc-le-zero h))
+
+  pub order_start : [] ≡ gain_order gain 0
+  unfolding gain_order iter
+  order_start = refl
+
+  next_last : (d i : ℕ) (l : List ℕ) → gain_next gain (i + d) (iter (gain_next gain) d i l) ≡ iter (gain_next gain) (suc d) i l
+  unfolding iter
+  next_last zero i l = ap (λ (k : ℕ). gain_next gain k l) (add-zero i)
+  next_last (suc d) i l =
+      let e : i + suc d ≡ suc i + d = omega arith in
+      ap (λ (k : ℕ). gain_next gain k (iter (gain_next gain) d (suc i) (gain_next gain i l))) e ∙ next_last d (suc i) (gain_next gain i l)
+
+  pub order_next : (m : ℕ) → gain_next gain m (gain_order gain m) ≡ gain_order gain (m + 1)
+  unfolding gain_order
+  order_next m = let e : 0 + m ≡ m = omega arith in ap (λ (k : ℕ). gain_next gain k (iter (gain_next gain) m 0 [])) (sym e) ∙ next_last m 0 [] ∙ ap (λ (n : ℕ). iter (gain_next gain) n 0 []) (sym (add-one m))
 
 -- ---- a candidate

@@ -201,11 +201,11 @@ module _ (c : Case) (target : ℕ) (s : Sound c target) where
           let z : going mw ≡ going r.mw = sym e ∙ d.dispatched in
           ((let y : mw ≡ r.mw = cc in y), sym (ap (λ (p : Peak). p.grounds) d.peak ∙ ap (grounds_of c) d.led))
 
-  whole_by : (r : Result PlanRun Refusal) (m : ℕ) (circuits : List ℕ) (flow rate mw angle : List Float) (tier ground : List ℕ) (added : List Float) (t : Stage Plan)
-      → On (OpeningOf mw) t → ground ≡ up_to c.buses 0 (grounds_of c (component c)) → PlannedAs r m circuits tier flow rate angle added c t
-      → WholeAs r m circuits flow rate mw angle tier ground added c t
-  whole_by (Err f) m circuits flow rate mw angle tier ground added t k g h = h
-  whole_by (Ok x) m circuits flow rate mw angle tier ground added t k g h =
+  whole_by : (r : Result PlanRun Refusal) (circuits : List ℕ) (flow rate mw angle : List Float) (tier ground : List ℕ) (added : List Float) (t : Stage Plan)
+      → On (OpeningOf mw) t → ground ≡ up_to c.buses 0 (grounds_of c (component c)) → PlannedAs r circuits tier flow rate angle added c t
+      → WholeAs r circuits flow rate mw angle tier ground added c t
+  whole_by (Err f) circuits flow rate mw angle tier ground added t k g h = h
+  whole_by (Ok x) circuits flow rate mw angle tier ground added t k g h =
       let w = subst (On (OpeningOf mw)) h.reached k in
       record { holds = h; mw_is = w.0; grounds_are = g ∙ ap (up_to c.buses 0) w.1 }
 
@@ -340,8 +340,8 @@ module _ (mode : PlanMode) (target above : ℕ) (grid : GridColumns) (tier : Lis
                 record {
                   plan = λ o s.
                       let k = opens_again o s in
-                      whole_by (C o) target s x (length grid.a) circuits'' flow'' rate'' mw' angle'' level'' ground' added'' (plan_for (C o) target) (opening_kept (C o) target s mw' k.dispatched) k.grounded
-                      (subst (PlannedAs x (length grid.a) circuits'' level'' flow'' rate'' angle'' added'' (C o))
+                      whole_by (C o) target s x circuits'' flow'' rate'' mw' angle'' level'' ground' added'' (plan_for (C o) target) (opening_kept (C o) target s mw' k.dispatched) k.grounded
+                      (subst (PlannedAs x circuits'' level'' flow'' rate'' angle'' added'' (C o))
                       (sym (planned_from (C o) target s (again (length tier) 0 leader') (again (length tier) nought injection') count ground' mw' level' circuits' k))
                       (v.plan (C o) mw' s k.levels_are k.circuits_are (not_upsized ∙ ap (λ (m : ℕ). replicate m 0) s.a_size) refl));
                 }

@@ -26,6 +26,7 @@ pub mod Lifting
 pub mod Openings
 pub mod Lending
 pub mod Insertion
+pub mod Inserting
 pub mod ToppingUp
 pub mod Orders
 pub mod Fillings

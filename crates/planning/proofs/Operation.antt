@@ -1,13 +1,19 @@
 -- The operation: the check's refusal, the stages' refusal, or the plan that they lead to, with the slices finished, is the defined outcome; and an answer has demand 3.
-use Rattle.std.proofs.Common.{◌≡◌, ℕ, ◌≤◌, Bool, List, length, take, replicate, sym, ap, ◌∙◌, subst, arith}
+use Rattle.std.proofs.Common.{◌≡◌, ℕ, ◌≤◌, Bool, List, length, replicate, sym, ap, ◌∙◌, subst}
 use mathlib.Core.Option.{Option}
 use lib.Ieee.{Float}
 use Rattle.refusal.specs.declared.Refusal.{Refusal}
 use Rattle.loops.specs.Figures.{nought}
-use Rattle.plan_defs.specs.Stage.{Stage}
-use Rattle.plan_defs.specs.Constants.{most_buses, most_corridors}
+use Rattle.angles_defs.specs.Network.{zeros}
+use Rattle.plan_defs.specs.Stage.{Stage, stopped, going, onward}
+use Rattle.plan_defs.specs.Constants.{most_buses}
 use Rattle.plan_defs.specs.Case.{Case, Row, rows_of, case_with, promote, levels}
-use Rattle.plan_defs.specs.Plan.{Plan, ending_on, ending_by, ending_of, plan_for}
+use Rattle.plan_defs.specs.Solve.{PlanningCase, planning_state}
+use Rattle.plan_defs.specs.Fill.{fill}
+use Rattle.plan_defs.specs.Plan.{Plan, Ready, ready_of, plan_of, closing, ending_on, ending_by, ending_of, plan_for}
+use Rattle.plan_defs.proofs.Stages.{On, on_onward}
+use Rattle.plan_defs.proofs.Opened.{Done, done}
+use Rattle.plan_theorems.proofs.Cursor.{order_length}
 use Rattle.plan_defs.specs.Outcome.{Slices, slices, slices_ok, work_places, kept_if, kept_of, summary, Outcome, outcome, outcome_by, outcome_if, plan_corridors}
 use Rattle.plan_defs.specs.Demand.{AnswerTo}
 use Rattle.plan_defs.specs.declared.CorridorPlan.{CorridorPlan}
@@ -25,6 +31,20 @@ use Rattle.planning.proofs.Sounds.{sound, lengths_of, kept_lengths, refused_outc
 use Rattle.std.specs.Prelude.{Err, Ok, Result}
 use Rattle.refusal.specs.Reply.{reply_of, no_refusal}
 use Rattle.planning.specs.Tables.{grid_of, supply_of}
+
+-- ---- what a plan keeps has a place for each corridor
+abbrev KeptSizes : Case → Plan → Type 0
+KeptSizes c q = (length q.before ≡ c.corridors) × (length q.order ≡ c.corridors)
+
+plan_keeps : (c : Case) (target : ℕ) → On (KeptSizes c) (plan_for c target)
+unfolding plan_for closing
+plan_keeps c target =
+    on_onward (Done c) (KeptSizes c) (ready_of c) (closing c target) (done c)
+    (λ r d. after r d (planning_state r.peak r.draft.build.designs (fill c target r.order r.draft.build.circuits).counts (zeros c.buses)))
+  where
+    after : (r : Ready) → Done c r → (u : Stage PlanningCase) → On (KeptSizes c) (onward u (λ v. going (plan_of c r (fill c target r.order r.draft.build.circuits) v)))
+    after r d (stopped f) = tt
+    after r d (going v) = (d.ran.sound.built.size, ap length d.order ∙ order_length r.draft.build.designs r.draft.build.circuits d.flows c.corridors)
 
 module _ (c : Case) (target : ℕ) (s : Slices) where
   -- ---- what is promised: the defined outcome, and of an answer demand 3
@@ -97,7 +117,7 @@ module _ (c : Case) (target : ℕ) (s : Slices) where
         (done : PlanDone c.mode target c.above (grid_of c.ladder c.a c.b c.km c.share c.cap sheet) c.tier (supply_of c.load c.bus c.slack c.pmin c.pmax c.c1 c.c2) c.circuits
         lent.circuits lent.flow lent.rate lent.mw lent.angle lent.tier lent.ground lent.added r) where
       abbrev WholeOf : Result PlanRun Refusal → Case → Type 0
-      WholeOf y x = WholeAs y (length c.a) lent.circuits lent.flow lent.rate lent.mw lent.angle lent.tier lent.ground lent.added x (plan_for x target)
+      WholeOf y x = WholeAs y lent.circuits lent.flow lent.rate lent.mw lent.angle lent.tier lent.ground lent.added x (plan_for x target)
 
       whole : WholeOf r c
       whole = let p = relaid_is sheet laid figures in subst (WholeOf r) p (done.plan c (subst (λ (x : Case). Sound x target) (sym p) is_sound))
@@ -112,18 +132,23 @@ module _ (c : Case) (target : ℕ) (s : Slices) where
           ∙ ap (λ (t : Stage Plan). outcome_by (ending_on t) c s) (sym (subst (λ (y : Result PlanRun Refusal). WholeOf y c) q whole)) ∙ ends)
 
       -- an answer
-      abbrev kept_front : List ℕ → List ℕ
-      kept_front l = kept_of c (take (length c.a) l)
+      holds : (x : PlanRun) → r ≡ Ok x → HoldsAll x lent.circuits lent.flow lent.rate lent.mw lent.angle lent.tier lent.ground lent.added c (plan_for c target)
+      holds x q = subst (λ (y : Result PlanRun Refusal). WholeOf y c) q whole
+
+      pub kept_sizes : (x : PlanRun) → r ≡ Ok x → (length x.kept.before.items ≡ c.corridors) × (length x.kept.order.items ≡ c.corridors)
+      kept_sizes x q =
+          let k = (holds x q).holds in
+          let z = subst (On (KeptSizes c)) k.reached (plan_keeps c target) in
+          (ap length k.before_are ∙ z.0, ap length k.order_is ∙ z.1)
 
       pub leads : Binary c → (x : PlanRun) → r ≡ Ok x → (before order cap : List ℕ) (work : List Float) (counts : List ℕ)
-          → before ≡ kept_front x.kept.before → order ≡ kept_front x.kept.order → cap ≡ c.cap
+          → before ≡ kept_of c x.kept.before.items → order ≡ kept_of c x.kept.order.items → cap ≡ c.cap
           → work ≡ replicate (work_places c) nought → counts ≡ replicate (work_places c) 0
           → Ends (Ok x.plan) (slices lent.circuits lent.flow lent.rate before order cap lent.mw lent.angle lent.tier lent.ground lent.added work counts)
       unfolding outcome_by
       leads binary x q before order cap work counts e f g h i =
           let out = slices lent.circuits lent.flow lent.rate before order cap lent.mw lent.angle lent.tier lent.ground lent.added work counts in
-          let w : HoldsAll x (length c.a) lent.circuits lent.flow lent.rate lent.mw lent.angle lent.tier lent.ground lent.added c (plan_for c target) =
-          subst (λ (y : Result PlanRun Refusal). WholeOf y c) q whole in
+          let w = holds x q in
           let k = w.holds in
           ends_by binary (Ok x.plan) out
           (ap (λ (y : CorridorPlan). outcome (Ok y) out) k.plan_is
@@ -133,12 +158,9 @@ module _ (c : Case) (target : ℕ) (s : Slices) where
 
   -- the same by what the check answers, and by what the stages leave, each slice as long as it was, what is cleared, and what is kept
   module _ (x : Result (Unit {0}) Refusal) (k : x ≡ check_of (slices_ok c s) (tables_of_lem c) target) (q : x ≡ no_refusal) where
-    -- the places lent for what is kept are those of the corridors, which the arrays have
-    pub kept_are : (length s.before ≡ c.corridors) × (length s.order ≡ c.corridors) × (length s.cap ≡ c.corridors)
+    -- the places lent for what is kept are those of the corridors
+    kept_are : (length s.before ≡ c.corridors) × (length s.order ≡ c.corridors) × (length s.cap ≡ c.corridors)
     kept_are = kept_lengths c s (passed_by_lem (slices_ok c s) c target (sym q ∙ k)).0
-
-    pub kept_fits : (length s.before ≤ most_corridors) × (length s.order ≤ most_corridors)
-    kept_fits = let ok = sym q ∙ k in (omega (arith, kept_are.0, (is_sound ok).few_corridors), omega (arith, kept_are.1, (is_sound ok).few_corridors))
 
     pub caps_fit : length s.cap ≡ length c.cap
     caps_fit = kept_are.2 ∙ sym (is_sound (sym q ∙ k)).cap_size
@@ -179,16 +201,20 @@ module _ (c : Case) (target : ℕ) (s : Slices) where
           })
           (k₁ ∙ m.0) (k₂ ∙ m.1) (k₃ ∙ m.2) out v
 
+      -- what is kept has the places that are lent for it
+      pub kept_fits : (y : PlanRun) → r ≡ Ok y → (length y.kept.before.items ≡ length s.before) × (length y.kept.order.items ≡ length s.order)
+      kept_fits y u =
+          let z = kept_sizes (sym q ∙ k) sheet laid figures r lent (subst (DoneWith sheet r lent) p done) y u in
+          (z.0 ∙ sym kept_are.0, z.1 ∙ sym kept_are.1)
+
       pub ends_answered : (y : PlanRun) → r ≡ Ok y → (before order cap : List ℕ) (work : List Float) (counts : List ℕ)
-          → before ≡ kept_if (promote c.mode) (length s.before) (take (length s.before) y.kept.before)
-          → order ≡ kept_if (promote c.mode) (length s.order) (take (length s.order) y.kept.order) → cap ≡ c.cap
+          → before ≡ kept_if (promote c.mode) (length s.before) y.kept.before.items
+          → order ≡ kept_if (promote c.mode) (length s.order) y.kept.order.items → cap ≡ c.cap
           → work ≡ replicate (length lent.figures) nought → counts ≡ replicate (length lent.counts) 0
           → Ends (Ok y.plan) (slices lent.circuits lent.flow lent.rate before order cap lent.mw lent.angle lent.tier lent.ground lent.added work counts)
       ends_answered y u before order cap work counts e f g h i =
           let ok = sym q ∙ k in
           let z = sizes ok in
-          let front : (n : ℕ) (l : List ℕ) → n ≡ c.corridors → kept_if (promote c.mode) n (take n l) ≡ kept_of c (take (length c.a) l) =
-          λ n l w. ap (λ (j : ℕ). kept_if (promote c.mode) j (take j l)) w ∙ ap (λ (j : ℕ). kept_of c (take j l)) (sym (is_sound ok).a_size) in
           leads ok sheet laid figures r lent (subst (DoneWith sheet r lent) p done) binary y u before order cap work counts
-          (e ∙ front (length s.before) y.kept.before kept_are.0) (f ∙ front (length s.order) y.kept.order kept_are.1) g
+          (e ∙ ap (λ (n : ℕ). kept_if (promote c.mode) n y.kept.before.items) kept_are.0) (f ∙ ap (λ (n : ℕ). kept_if (promote c.mode) n y.kept.order.items) kept_are.1) g
           (h ∙ ap (λ (n : ℕ). replicate n nought) (e₉ ∙ z.figures)) (i ∙ ap (λ (n : ℕ). replicate n 0) (e₀ ∙ z.counts))

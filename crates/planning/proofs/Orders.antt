@@ -1,21 +1,19 @@
 -- The filling order from the columns that code keeps is the defined one.
 -- A rank is made of its corridor, so that a list of ranks is a list of corridors with the same insertions.
-use Rattle.std.proofs.Common.{◌≡◌, ℕ, zero, suc, ◌<◌, ◌≤◌, Bool, true, false, List, [], ◌∷◌, map, length, get_or, take, drop, sym, refl, ap, ◌∙◌, subst, arith, get_or-take}
-use lib.ListN.{get_or-append}
+use Rattle.std.proofs.Common.{◌≡◌, ℕ, zero, suc, ◌<◌, Bool, true, false, List, [], ◌∷◌, map, length, All, sym, refl, ap, ◌∙◌, arith}
 use lib.Ieee.{Float, nan}
 use Rattle.loops.specs.Figures.{at}
-use Rattle.loops.specs.Loops.{iter, tab, filled}
+use Rattle.loops.specs.Loops.{iter, tab}
 use Rattle.loops.specs.Sorting.{put_before, insert_by}
-use Rattle.loops.proofs.Tab.{length_tab, get_tab}
-use Rattle.plan_defs.specs.Constants.{most_corridors}
+use Rattle.loops.proofs.Tab.{get_tab}
 use Rattle.plan_defs.specs.Case.{Case}
 use Rattle.plan_defs.specs.Design.{design, drawn, banked_by, steps_down, line_at, line_of, set_transformer_mva, with_bank}
 use Rattle.plan_defs.proofs.Drawn.{drawn_at}
 use Rattle.planning.specs.Design.{lines_for}
 use Rattle.plan_defs.specs.Fill.{Rank, rank_at, before, placed_rank, insert_rank, rank_next, corridors_in, loading_at, order_of}
 use Rattle.plan_defs.specs.declared.CircuitDesign.{CircuitDesign}
-use Rattle.planning.specs.Fill.{designs_for, rank_before, order_by, Whole, Ranked}
-use Rattle.planning.proofs.Insertion.{order_same, order_below, order_length}
+use Rattle.planning.specs.Fill.{designs_for, rank_before, order_by}
+use Rattle.planning.proofs.Insertion.{order_same, order_names}
 use Rattle.planning.specs.Tables.{GridColumns}
 
 module _ (ds : List CircuitDesign) (counts : List ℕ) (flows : List Float) where
@@ -59,17 +57,9 @@ module _ (ds : List CircuitDesign) (counts : List ℕ) (flows : List Float) wher
   order_columns loading kv km m p q r =
       order_same m (rank_before loading kv km) comes (λ k j h w. rw (p k h, p j w, q k h, q j w, r k h, r j w)) ∙ sym (order_is m)
 
-  -- what filling asks of an order
-  pub order_ranked : (m : ℕ) (order : List ℕ) → m ≤ most_corridors → Whole order → take m order ≡ order_of m ds counts flows → Ranked m order m
-  order_ranked m order h w e =
-      let f : take m order ≡ order_by comes m = e ∙ order_is m in
-      record {
-        few = h;
-        size = w;
-        below = λ j b.
-            let a : get_or (order_by comes m) j 0 < m = order_below comes m j (omega (arith, order_length comes m)) in
-            subst (λ (x : ℕ). x < m) (ap (λ (l : List ℕ). get_or l j 0) (sym f) ∙ get_or-take m order j 0 b) a;
-      }
+  -- an order names corridors
+  pub corridors_named : (m : ℕ) (order : List ℕ) → order ≡ order_of m ds counts flows → All (λ (j : ℕ). j < m) order
+  corridors_named m order e = order_names comes m order (e ∙ order_is m) m (omega arith)
 
 -- ---- the design that code draws is the one in its place
 pub drawn_here : (grid : GridColumns) (level : List ℕ) (banks : List Float) (k : ℕ) (d : CircuitDesign) → k < length grid.a
@@ -86,21 +76,17 @@ drawn_km : (c : Case) (level : List ℕ) (k : ℕ) (mva : Float) → (drawn c le
 unfolding drawn line_at line_of
 drawn_km c level k mva = km_by (steps_down c level k) (line_at c level k) mva
 
--- ---- the order from arrays filled with the corridors' figures
-pub filled_at : {A : Type 0} (w w₀ : List A) (f : ℕ → A) (n k : ℕ) (d : A) → w ≡ filled w₀ f n → k < n → get_or w k d ≡ f k
-filled_at w w₀ f n k d e h =
-    ap (λ (l : List _). get_or l k d) e ∙ get_or-append (tab n f) (drop n w₀) d k (omega (arith, length_tab n f)) ∙ get_tab n f k d h
-
+-- ---- the order from columns of the corridors' figures
 module _ (grid : GridColumns) (level : List ℕ) (banks : List Float) (circuits : List ℕ) (flow : List Float) where
   abbrev ds : List CircuitDesign
   ds = designs_for grid level banks
 
-  pub order_made : (before loading before' kv : List Float) (order : List ℕ) → length grid.km ≡ length grid.a
-      → loading ≡ filled before (loading_at ds circuits flow) (length grid.a) → kv ≡ filled before' (λ (k : ℕ). (design ds k).kv) (length grid.a)
-      → take (length grid.km) order ≡ order_by (rank_before loading kv grid.km) (length grid.km) → take (length grid.a) order ≡ order_of (length grid.a) ds circuits flow
-  order_made before loading before' kv order e p q r =
-      ap (λ (n : ℕ). take n order) (sym e) ∙ r ∙ ap (order_by (rank_before loading kv grid.km)) e
+  pub order_made : (loading kv : List Float) (order : List ℕ) → length grid.km ≡ length grid.a
+      → loading ≡ tab (length grid.a) (loading_at ds circuits flow) → kv ≡ tab (length grid.a) (λ (k : ℕ). (design ds k).kv)
+      → order ≡ order_by (rank_before loading kv grid.km) (length grid.km) → order ≡ order_of (length grid.a) ds circuits flow
+  order_made loading kv order e p q r =
+      r ∙ ap (order_by (rank_before loading kv grid.km)) e
       ∙ order_columns ds circuits flow loading kv grid.km (length grid.a)
-      (λ k h. filled_at loading before (loading_at ds circuits flow) (length grid.a) k nan p h)
-      (λ k h. filled_at kv before' (λ (k : ℕ). (design ds k).kv) (length grid.a) k nan q h)
+      (λ k h. ap (λ (l : List Float). at l k) p ∙ get_tab (length grid.a) (loading_at ds circuits flow) k nan h)
+      (λ k h. ap (λ (l : List Float). at l k) q ∙ get_tab (length grid.a) (λ (j : ℕ). (design ds j).kv) k nan h)
       (λ k h. sym (drawn_km (lines_for grid) level k (at banks k)) ∙ ap (λ (d : CircuitDesign). d.length_km) (drawn_here grid level banks k _ h refl))

@@ -1,6 +1,6 @@
 -- The stages of planning joined: together they are the defined stages of the whole case.
 -- The stages are onwards of one another, so each law puts in what was answered, and the rest is by computing.
-use Rattle.std.proofs.Common.{◌≡◌, ℕ, zero, suc, ◌≤◌, Bool, true, false, cond, not, ◌&&◌, eqb, List, length, take, replicate, sym, refl, ap, ◌∙◌, subst, zero-le, arith, ne_eqb}
+use Rattle.std.proofs.Common.{◌≡◌, ℕ, zero, suc, ◌≤◌, Bool, true, false, cond, not, ◌&&◌, eqb, List, length, replicate, sym, refl, ap, ◌∙◌, subst, zero-le, arith, ne_eqb}
 use lib.Ieee.{Float}
 use Rattle.loops.specs.Figures.{nought}
 use Rattle.refusal.specs.declared.Refusal.{Refusal}
@@ -118,17 +118,17 @@ module _ (c : Case) (target : ℕ) (o : Opened) (level circuits : List ℕ) (ban
       go (going v) =
           said_then (ready_with c o S v) refl refl (planning_state o.peak S.build.designs (fill c target (ready_with c o S v).order circuits).counts (zeros c.buses))
 
-module _ (p : Progress) (gs : ℕ) (m : ℕ) (circuits tier : List ℕ) (flow rate angle added : List Float) (above : ℕ) where
-  planned_as : (y : Settling) (i : PlanRun) (t : Stage Plan) → On (λ q. summary q ≡ plan_by p gs q.filler (closing_in q)) t → Held y m circuits tier flow rate angle added above t
-      → i.plan ≡ plan_by p gs y.filler y.closing → i.kept ≡ y.kept → Holds i m circuits tier flow rate angle added above t
+module _ (p : Progress) (gs : ℕ) (circuits tier : List ℕ) (flow rate angle added : List Float) (above : ℕ) where
+  planned_as : (y : Settling) (i : PlanRun) (t : Stage Plan) → On (λ q. summary q ≡ plan_by p gs q.filler (closing_in q)) t → Held y circuits tier flow rate angle added above t
+      → i.plan ≡ plan_by p gs y.filler y.closing → i.kept ≡ y.kept → Holds i circuits tier flow rate angle added above t
   planned_as y i t u h e k =
       record {
         held = h.held;
         reached = h.reached;
         plan_is = e ∙ ap (λ (n : ℕ). plan_by p gs n y.closing) h.filler_is ∙ ap (plan_by p gs h.held.filler) h.closing_is
             ∙ sym (subst (λ (x : Stage Plan). On (λ q. summary q ≡ plan_by p gs q.filler (closing_in q)) x) h.reached u);
-        before_are = ap (λ (x : Kept). take m x.before) k ∙ h.before_are;
-        order_is = ap (λ (x : Kept). take m x.order) k ∙ h.order_is;
+        before_are = ap (λ (x : Kept). x.before.items) k ∙ h.before_are;
+        order_is = ap (λ (x : Kept). x.order.items) k ∙ h.order_is;
         circuits_are = h.circuits_are;
         tiers_are = h.tiers_are;
         flows_are = h.flows_are;
@@ -268,7 +268,7 @@ module _ (mode : PlanMode) (target above : ℕ) (grid : GridColumns) (level : Li
                 (settled_is o mw s l e g caps
                 ∙ ap (λ (t : Result Progress Refusal). onward (ran_as t (D o mw s l e g caps) level'' circuits'' banks'' floors'' upsized'' angle'') (settled_to (D o mw s l e g caps) (O o mw s l e g caps))) u)
 
-            settles : SettledAs y (length grid.a) circuits''' level''' flow''' rate''' angle''' added''' (D o mw s l e g caps) ending
+            settles : SettledAs y circuits''' level''' flow''' rate''' angle''' added''' (D o mw s l e g caps) ending
             settles = d.plan (D o mw s l e g caps) (O o mw s l e g caps) S' floors'' s (k ∙ size ∙ buses_are o mw s l e) caps refl refl refl refl
 
           pub opened_unsettled : (f : Refusal) → y ≡ Err f
@@ -277,7 +277,7 @@ module _ (mode : PlanMode) (target above : ℕ) (grid : GridColumns) (level : Li
               record {
                 plan = λ o mw s l e g caps.
                     ending_is o mw s l e g caps
-                    ∙ subst (λ (z : Result Settling Refusal). SettledAs z (length grid.a) circuits''' level''' flow''' rate''' angle''' added''' (D o mw s l e g caps) (ending o mw s l e g caps)) j (settles o mw s l e g caps);
+                    ∙ subst (λ (z : Result Settling Refusal). SettledAs z circuits''' level''' flow''' rate''' angle''' added''' (D o mw s l e g caps) (ending o mw s l e g caps)) j (settles o mw s l e g caps);
               }
 
           pub opened_plan : (z : Settling) → y ≡ Ok z → (i : PlanRun) → i.plan ≡ plan_by p (length opened.grounds) z.filler z.closing → i.kept ≡ z.kept
@@ -286,8 +286,8 @@ module _ (mode : PlanMode) (target above : ℕ) (grid : GridColumns) (level : Li
               record {
                 plan = λ o mw s l e g caps.
                     let c = D o mw s l e g caps in
-                    subst (Holds i (length grid.a) circuits''' level''' flow''' rate''' angle''' added''' above) (sym (ending_is o mw s l e g caps))
-                    (planned_as p (length opened.grounds) (length grid.a) circuits''' level''' flow''' rate''' angle''' added''' above z i (ending o mw s l e g caps)
+                    subst (Holds i circuits''' level''' flow''' rate''' angle''' added''' above) (sym (ending_is o mw s l e g caps))
+                    (planned_as p (length opened.grounds) circuits''' level''' flow''' rate''' angle''' added''' above z i (ending o mw s l e g caps)
                     (said_of c target (O o mw s l e g caps) level'' circuits'' banks'' floors'' upsized'' angle'' p)
-                    (subst (λ (n : Result Settling Refusal). SettledAs n (length grid.a) circuits''' level''' flow''' rate''' angle''' added''' c (ending o mw s l e g caps)) j (settles o mw s l e g caps)) v w);
+                    (subst (λ (n : Result Settling Refusal). SettledAs n circuits''' level''' flow''' rate''' angle''' added''' c (ending o mw s l e g caps)) j (settles o mw s l e g caps)) v w);
               }

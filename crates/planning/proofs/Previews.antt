@@ -1,6 +1,6 @@
 -- The preview over slices: each refusal is the defined one, what passes can be filled anew, and so filled it is the defined preview.
 -- The tests of the code are those of the definition, in its order; the arrays' fronts are what the plan keeps.
-use Rattle.std.proofs.Common.{◌≡◌, ℕ, ◌<◌, Bool, true, cond, eqb, ltb, List, length, get_or, take, sym, refl, ap, ◌∙◌, subst, arith, le-ltb, lt-ltb, eqb-true}
+use Rattle.std.proofs.Common.{◌≡◌, ℕ, ◌<◌, Bool, true, cond, eqb, ltb, List, length, get_or, sym, refl, ap, ◌∙◌, subst, arith, le-ltb, lt-ltb, eqb-true}
 use mathlib.Core.Option.{Option, none, some}
 use Rattle.loops.specs.Loops.{first, fault}
 use Rattle.loops.proofs.Scan.{fault_some, fault_passed}
@@ -109,17 +109,12 @@ module _ (p : Kept) (target : ℕ) (lent : List ℕ) where
     preview_answered circuits h = ap (outcome no_refusal) h ∙ sym (ap (λ (o : Option Refusal). preview_by o p target lent) passes)
 
 -- ---- filling anew
-module _ (mode : PlanMode) (target : ℕ) (before order cap lent all : List ℕ) (fills : promote mode ≡ true) (h : Refillable before order cap lent) (a : take (length order) all ≡ order)
-    (circuits : List ℕ) (c : circuits ≡ before) where
-  is_order : take (length circuits) all ≡ order
-  is_order = ap (λ (l : List ℕ). take (length l) all) c ∙ ap (λ (n : ℕ). take n all) (sym h.order_size) ∙ a
-
-  pub filled_anew : (circuits' : List ℕ) → circuits' ≡ (fill (caps_for mode cap) target (take (length circuits) all) circuits).counts
+module _ (mode : PlanMode) (target : ℕ) (before order cap : List ℕ) (fills : promote mode ≡ true) (circuits : List ℕ) (c : circuits ≡ before) where
+  pub filled_anew : (circuits' : List ℕ) → circuits' ≡ (fill (caps_for mode cap) target order circuits).counts
       → circuits' ≡ refilled (kept_as mode (length before) before order cap) target
   unfolding fill full_at refilled
   filled_anew circuits' e =
       e
-      ∙ ap (λ (l : List ℕ). (fill (caps_for mode cap) target l circuits).counts) is_order
       ∙ ap (λ (l : List ℕ). (fill (caps_for mode cap) target order l).counts) c
       ∙ ap (λ (t : Bool). (filled_if t (full_of cap) target order (unfilled before)).counts) fills
 

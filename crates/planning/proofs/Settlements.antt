@@ -1,5 +1,5 @@
 -- Planning after the rounds, by columns, is that of the whole case: the same solves, and the definitions of filling and closing read only these columns.
-use Rattle.std.proofs.Common.{◌≡◌, ℕ, ◌≤◌, List, map, length, take, sym, refl, ap, ◌∙◌, arith}
+use Rattle.std.proofs.Common.{◌≡◌, ℕ, ◌≤◌, List, map, length, sym, refl, ap, ◌∙◌, arith}
 use lib.Ieee.{Float}
 use Rattle.loops.specs.Figures.{nought}
 use Rattle.mode.specs.declared.PlanMode.{PlanMode}
@@ -48,13 +48,13 @@ ended_on above t = onward t (λ q. going (ended_for above q))
 never : {S : Type 0} (f : Refusal) (s : S) → stopped f ≡ going s → ⊥
 never f s e = let z : ◌≡◌ {A = ℕ} 0 1 = cc in omega arith
 
-module _ (m : ℕ) (circuits tier : List ℕ) (flow rate angle added : List Float) (c : Case) where
-  settled_as : (r : Result Settling Refusal) (t : Stage Plan) → ended_of m r circuits tier flow rate angle added ≡ ended_on c.above t → SettledAs r m circuits tier flow rate angle added c t
+module _ (circuits tier : List ℕ) (flow rate angle added : List Float) (c : Case) where
+  settled_as : (r : Result Settling Refusal) (t : Stage Plan) → ended_of r circuits tier flow rate angle added ≡ ended_on c.above t → SettledAs r circuits tier flow rate angle added c t
   settled_as (Err f) (stopped g) e = let z : g ≡ f = cc in ap stopped z
   settled_as (Err f) (going q) e = absurd (never f (ended_for c.above q) e)
   settled_as (Ok s) (stopped g) e = absurd (never g _ (sym e))
   settled_as (Ok s) (going q) e =
-      let z : record { filler = s.filler; closing = s.closing; before = take m s.kept.before; order = take m s.kept.order; circuits = circuits; tier = tier; flow = flow; rate = rate; angle = angle; added = added } ≡ ended_for c.above q = cc in
+      let z : record { filler = s.filler; closing = s.closing; before = s.kept.before.items; order = s.kept.order.items; circuits = circuits; tier = tier; flow = flow; rate = rate; angle = angle; added = added } ≡ ended_for c.above q = cc in
       record {
         held = q;
         reached = refl;
@@ -147,14 +147,14 @@ module _ (c : Case) (target : ℕ) (S : Sound c target) (sheet : List Float) (la
 -- ---- as the contract says it
 module _ (mode : PlanMode) (target above : ℕ) (grid : GridColumns) (opened : OpenedColumns) (banks : List Float)
     (upsized circuits level circuits' level' : List ℕ) (flow' rate' angle' added' : List Float) where
-  pub settles : (r : Result Settling Refusal) → ended_of (length grid.a) r circuits' level' flow' rate' angle' added'
+  pub settles : (r : Result Settling Refusal) → ended_of r circuits' level' flow' rate' angle' added'
       ≡ settled_from mode grid.cap above opened.leader grid.ladder level (designs_for grid level banks) upsized (peak_for (length level) opened.grounds opened.injection) target (length grid.a) circuits
       → Settles mode target above grid opened banks upsized circuits level circuits' level' flow' rate' angle' added' r
   settles r e =
       record {
         plan = λ o p s floors S size caps led peak on build.
             let c = with_lines (with_units o mode above (supply_of o.load o.bus o.slack o.pmin o.pmax o.c1 o.c2)) grid in
-            settled_as (length grid.a) circuits' level' flow' rate' angle' added' c r (onward (settled_to c p s) (closing c target))
+            settled_as circuits' level' flow' rate' angle' added' c r (onward (settled_to c p s) (closing c target))
             (e
             ∙ ap (λ (l : List ℕ). settled_from mode l above opened.leader grid.ladder level (designs_for grid level banks) upsized (peak_for (length level) opened.grounds opened.injection) target (length grid.a) circuits) (sym caps)
             ∙ columns_settle c target S grid.sheet refl opened banks floors upsized circuits level p s size led peak on build);

@@ -1,6 +1,6 @@
 -- Planning after the rounds: what filling asks of the order that it is given, and the stages over slices as those of the whole case.
 -- The stages by columns are onwards of the same solves as the defined ones, so each law is the lifts put in, one after another.
-use Rattle.std.proofs.Common.{◌≡◌, ℕ, List, map, length, take, sym, ap, ◌∙◌, subst}
+use Rattle.std.proofs.Common.{◌≡◌, ℕ, ◌<◌, All, List, map, length, sym, ap, ◌∙◌, subst}
 use lib.Ieee.{Float}
 use Rattle.loops.specs.Figures.{nought}
 use Rattle.mode.specs.declared.PlanMode.{PlanMode}
@@ -13,11 +13,11 @@ use Rattle.plan_defs.specs.Closing.{tiers_of, added_of}
 use Rattle.plan_defs.specs.Outcome.{up_to}
 use Rattle.plan_defs.specs.declared.CircuitDesign.{CircuitDesign}
 use Rattle.planning.specs.Solve.{solved_of}
-use Rattle.planning.specs.Fill.{caps_for, Whole, Ranked}
+use Rattle.planning.specs.Fill.{caps_for, Fillable}
 use Rattle.planning.specs.Close.{levels_for, closing_of}
 use Rattle.planning.specs.Settle.{Settleable, Ended, closed_of, ended_by, closed_from, closed_after, filled_in, filled_from}
 use Rattle.planning.specs.declared.close.Closing.{Closing}
-use Rattle.planning.proofs.Orders.{order_ranked}
+use Rattle.planning.proofs.Orders.{corridors_named}
 use Rattle.std.specs.Prelude.{Err, Ok, Result}
 use Rattle.refusal.specs.Reply.{no_refusal}
 use Rattle.planning.specs.Tables.{GridColumns, OpenedColumns}
@@ -45,13 +45,12 @@ module _ (r : Result Closing Refusal) (filler : ℕ) (before order circuits tier
 module _ (above : ℕ) (grid : GridColumns) (level : List ℕ) (opened : OpenedColumns) (banks : List Float)
     (upsized circuits : List ℕ) (flow rate angle added : List Float)
     (h : Settleable above grid level opened banks upsized circuits flow rate angle added) where
-  pub caps_fit : length grid.cap ≡ length circuits
-  caps_fit = h.cap_size ∙ sym h.drawing.count_size
-
-  pub ranked : (ds : List CircuitDesign) (order : List ℕ) → Whole order → take (length grid.a) order ≡ order_of (length grid.a) ds circuits flow
-      → Ranked (length circuits) order (length circuits)
-  ranked ds order w e =
-      subst (λ (m : ℕ). Ranked m order m) (sym h.drawing.count_size) (order_ranked ds circuits flow (length grid.a) order h.drawing.few_corridors w e)
+  pub fillable : (ds : List CircuitDesign) (order : List ℕ) → order ≡ order_of (length grid.a) ds circuits flow → Fillable order grid.cap circuits
+  fillable ds order e =
+      record {
+        named = subst (λ (m : ℕ). All (λ (j : ℕ). j < m) order) (sym h.drawing.count_size) (corridors_named ds circuits flow (length grid.a) order e);
+        cap_size = h.cap_size ∙ sym h.drawing.count_size;
+      }
 
 -- ---- the stages by columns, as calls say them
 module _ (mode : PlanMode) (cap : List ℕ) (above : ℕ) (led : List ℕ) (ladder : List Float) (level : List ℕ) (ds : List CircuitDesign) (upsized : List ℕ) (P : Peak) where
@@ -64,14 +63,13 @@ module _ (mode : PlanMode) (cap : List ℕ) (above : ℕ) (led : List ℕ) (ladd
   closed_answered filler before order circuits tier flow rate angle added c r E e q f g h i =
       rw (f, g, h, i) (solved_answered (λ v. going (ended_by mode cap above led ladder level ds upsized P filler before order circuits v)) _ r E angle flow e q)
 
-  pub filled_are : (target m filler : ℕ) (circuits order before' order' circuits' : List ℕ) (flow : List Float) → length circuits ≡ m
-      → take m order ≡ order_of m ds circuits flow → before' ≡ circuits → order' ≡ take m order
-      → circuits' ≡ (fill (caps_for mode cap) target (take (length circuits) order) circuits).counts → filler ≡ (fill (caps_for mode cap) target (take (length circuits) order) circuits).filler
+  pub filled_are : (target m filler : ℕ) (circuits order before' order' circuits' : List ℕ) (flow : List Float)
+      → order ≡ order' → order' ≡ order_of m ds circuits flow → before' ≡ circuits
+      → circuits' ≡ (fill (caps_for mode cap) target order circuits).counts → filler ≡ (fill (caps_for mode cap) target order circuits).filler
       → closed_from mode cap above led ladder level ds upsized P filler before' order' circuits' ≡ filled_from mode cap above led ladder level ds upsized P target m circuits flow
-  filled_are target m filler circuits order before' order' circuits' flow e o u v p q =
+  filled_are target m filler circuits order before' order' circuits' flow v o u p q =
       ap (λ (n : ℕ). closed_from mode cap above led ladder level ds upsized P n before' order' circuits') q
-      ∙ ap (closed_from mode cap above led ladder level ds upsized P (fill (caps_for mode cap) target (take (length circuits) order) circuits).filler before' order') p
-      ∙ ap (λ (l : List ℕ). closed_after mode cap above led ladder level ds upsized P l order' (fill (caps_for mode cap) target (take (length circuits) order) circuits)) u
-      ∙ ap (λ (l : List ℕ). closed_after mode cap above led ladder level ds upsized P circuits l (fill (caps_for mode cap) target (take (length circuits) order) circuits)) v
-      ∙ ap (λ (n : ℕ). closed_after mode cap above led ladder level ds upsized P circuits (take m order) (fill (caps_for mode cap) target (take n order) circuits)) e
+      ∙ ap (closed_from mode cap above led ladder level ds upsized P (fill (caps_for mode cap) target order circuits).filler before' order') p
+      ∙ ap (λ (l : List ℕ). closed_after mode cap above led ladder level ds upsized P l order' (fill (caps_for mode cap) target order circuits)) u
+      ∙ ap (λ (l : List ℕ). closed_after mode cap above led ladder level ds upsized P circuits order' (fill (caps_for mode cap) target l circuits)) v
       ∙ ap (filled_in mode cap above led ladder level ds upsized P target circuits) o

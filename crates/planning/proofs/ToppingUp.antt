@@ -1,7 +1,6 @@
 -- What a component's units give as the code goes: the order by c1, the pass from a unit of the order on, and the dispatch with the pass after it.
 -- Keys that are alike leave the order to c1. What is left of the pass is nothing, one unit, or one unit and the rest, by its two tests.
-use Rattle.std.proofs.Common.{◌≡◌, ℕ, suc, ◌+◌, ◌<◌, ◌≤◌, Bool, true, false, List, length, get_or, take, drop, set, sym, refl, ap, ◌∙◌, arith, drop-cons, get_or-take, le-ltb, lt-ltb}
-use lib.Seq.{drop-length}
+use Rattle.std.proofs.Common.{◌≡◌, ℕ, suc, ◌+◌, ◌<◌, ◌≤◌, Bool, true, false, List, length, get_or, drop, set, sym, refl, ap, ◌∙◌, subst, arith, drop-cons, drop_of_length-le, le-ltb, lt-ltb}
 use lib.Ieee.{Float, lt, eq, of_bits}
 use Rattle.loops.specs.Figures.{at, nought}
 use Rattle.refusal.specs.Number.{index_of}
@@ -13,13 +12,12 @@ use Rattle.dispatch_defs.specs.Dispatch.{faulty_cost}
 use Rattle.dispatch_defs.specs.Operation.{outcome, dispatched}
 use Rattle.dispatch_defs.specs.Limits.{Accepted}
 use Rattle.dispatch_defs.proofs.Callers.{called_answered, called_refused}
-use Rattle.plan_defs.specs.Constants.{most_corridors, most_generators}
 use Rattle.plan_defs.specs.Stage.{stopped, going}
 use Rattle.plan_defs.specs.TopUp.{cheaper, by_cost, topped_to, unless_below, topped_if, top_up, given_by}
 use Rattle.planning.specs.Fill.{rank_before, order_by}
 use Rattle.planning.specs.Opening.{given_if, given_stage}
 use Rattle.plan_defs.proofs.Lists.{All}
-use Rattle.plan_defs.proofs.Inserted.{inserted_below, inserted_length}
+use Rattle.plan_defs.proofs.Inserted.{inserted_below}
 use Rattle.planning.proofs.Insertion.{order_same}
 use Rattle.std.specs.Prelude.{Err, Result}
 use Rattle.refusal.specs.Reply.{no_refusal}
@@ -33,39 +31,30 @@ ties : eq nought nought ≡ true
 unfolding eq of_bits
 ties = refl
 
-module _ (keys c1 : List Float) (alike : (k : ℕ) → k < most_corridors → at keys k ≡ nought) where
-  by_third : (k j : ℕ) → k < most_corridors → j < most_corridors → rank_before keys keys c1 k j ≡ cheaper c1 k j
+module _ (keys c1 : List Float) (alike : (k : ℕ) → k < length c1 → at keys k ≡ nought) where
+  by_third : (k j : ℕ) → k < length c1 → j < length c1 → rank_before keys keys c1 k j ≡ cheaper c1 k j
   by_third k j h w = rw (alike k h, alike j w, no_less, ties)
 
-  pub order_costs : (l : List ℕ) → length c1 ≤ most_generators → l ≡ order_by (rank_before keys keys c1) (length c1) → l ≡ by_cost c1
+  pub order_costs : (l : List ℕ) → l ≡ order_by (rank_before keys keys c1) (length c1) → l ≡ by_cost c1
   unfolding by_cost order_by
-  order_costs l h e = e ∙ order_same (length c1) (rank_before keys keys c1) (cheaper c1) (λ k j a b. by_third k j (omega arith) (omega arith))
+  order_costs l e = e ∙ order_same (length c1) (rank_before keys keys c1) (cheaper c1) by_third
 
 -- the order names the units
 module _ (c1 : List Float) where
-  pub costs_length : length (by_cost c1) ≡ length c1
-  unfolding by_cost
-  costs_length = inserted_length (cheaper c1) (length c1)
-
   costs_below : All (λ k. k < length c1) (by_cost c1)
   unfolding by_cost
   costs_below = inserted_below (cheaper c1) (length c1)
 
-  -- as the front of an array has it
-  pub unit_at_lem : (order : List ℕ) → take (length c1) order ≡ by_cost c1 → (j k : ℕ) → j < length c1 → k ≡ get_or order j 0 → (k ≡ get_or (by_cost c1) j 0) × (k < length c1)
-  unit_at_lem order e j k h w =
-      let z : k ≡ get_or (by_cost c1) j 0 = w ∙ sym (get_or-take (length c1) order j 0 h) ∙ ap (λ (l : List ℕ). get_or l j 0) e in
-      (z, omega (arith, z, costs_below j (omega (arith, costs_length))))
+  pub unit_named : (units : List ℕ) → units ≡ by_cost c1 → (m : ℕ) → length c1 ≡ m → (j : ℕ) → j < length units → get_or units j 0 < m
+  unit_named units e m h = subst (λ (l : List ℕ). All (λ k. k < m) l) (sym e) (subst (λ (n : ℕ). All (λ k. k < n) (by_cost c1)) h costs_below)
 
 -- ---- the pass, from place j of the order on, where unit k stands
-pub pass_start : (pmax : List Float) (demand : Float) (ks : List ℕ) (mw : List Float) → top_up pmax demand (drop 0 ks) mw ≡ top_up pmax demand ks mw
-pass_start pmax demand ks mw = refl
-
-pub pass_end : (pmax : List Float) (demand : Float) (ks : List ℕ) (j : ℕ) (mw : List Float) → j ≡ length ks → mw ≡ top_up pmax demand (drop j ks) mw
+pub pass_end : (pmax : List Float) (demand : Float) (ks units : List ℕ) → units ≡ ks → (j : ℕ) (mw : List Float) → length units ≤ j → mw ≡ top_up pmax demand (drop j ks) mw
 unfolding top_up
-pass_end pmax demand ks j mw e = sym (ap (λ (l : List ℕ). top_up pmax demand l mw) (ap (λ (i : ℕ). drop i ks) e ∙ drop-length ks))
+pass_end pmax demand ks units o j mw h = sym (ap (λ (l : List ℕ). top_up pmax demand (drop j l) mw) (sym o) ∙ ap (λ (l : List ℕ). top_up pmax demand l mw) (drop_of_length-le units h))
 
-module _ (pmax : List Float) (demand : Float) (ks : List ℕ) (j k : ℕ) (h : j < length ks) (e : k ≡ get_or ks j 0) (mw : List Float) (gap : Float) (g : gap ≡ gap_of demand mw) where
+-- the units as the loop has them
+module _ (pmax : List Float) (demand : Float) (ks units : List ℕ) (o : units ≡ ks) (j k : ℕ) (h : j < length units) (e : k ≡ get_or units j 0) (mw : List Float) (gap : Float) (g : gap ≡ gap_of demand mw) where
   abbrev rest : List Float → List Float
   rest = top_up pmax demand (drop (j + 1) ks)
 
@@ -73,9 +62,11 @@ module _ (pmax : List Float) (demand : Float) (ks : List ℕ) (j k : ℕ) (h : j
   unfolding top_up
   here =
       let z : suc j ≡ j + 1 = omega arith in
+      let w : j < length ks = omega (arith, ap length o) in
+      let f : k ≡ get_or ks j 0 = e ∙ ap (λ (l : List ℕ). get_or l j 0) o in
       sym (
-      ap (λ (l : List ℕ). top_up pmax demand l mw) (drop-cons ks j 0 h)
-      ∙ ap (λ (i : ℕ). topped_if (lt nought (gap_of demand mw)) (at pmax i) i (gap_of demand mw) mw (top_up pmax demand (drop (suc j) ks))) (sym e)
+      ap (λ (l : List ℕ). top_up pmax demand l mw) (drop-cons ks j 0 w)
+      ∙ ap (λ (i : ℕ). topped_if (lt nought (gap_of demand mw)) (at pmax i) i (gap_of demand mw) mw (top_up pmax demand (drop (suc j) ks))) (sym f)
       ∙ ap (λ (i : ℕ). topped_if (lt nought (gap_of demand mw)) (at pmax k) k (gap_of demand mw) mw (top_up pmax demand (drop i ks))) z
       ∙ ap (λ (x : Float). topped_if (lt nought x) (at pmax k) k x mw rest) (sym g)
       )

@@ -1,8 +1,8 @@
--- What the contracts of module fill cite: the order by columns, an insertion as code shifts a list, and the filling of slices.
-use Rattle.std.specs.Prelude.{◌≡◌, ℕ, ◌-◌, ◌^◌, ◌<◌, ◌≤◌, Bool, cond, not, ◌&&◌, ◌||◌, List, [], length, ◌==◌, nat_lt, slice_index, Float}
+-- What the contracts of module fill cite: the order by columns, and the filling of slices.
+use Rattle.std.specs.Prelude.{◌≡◌, ℕ, ◌^◌, ◌<◌, ◌≤◌, Bool, cond, ◌&&◌, ◌||◌, List, [], length, All, nat_lt, slice_index, Float}
 use Rattle.std.specs.Float.Ieee.{lt, eq}
 use Rattle.loops.specs.Figures.{at}
-use Rattle.loops.specs.Loops.{iter, first}
+use Rattle.loops.specs.Loops.{iter}
 use Rattle.loops.specs.Sorting.{insert_by}
 use Rattle.mode.specs.declared.PlanMode.{PlanMode}
 use Rattle.plan_defs.specs.Constants.{most_corridors, most_initial}
@@ -37,26 +37,20 @@ rank_before first second third k j =
     lt (at first j) (at first k)
     || (eq (at first j) (at first k) && (lt (at second j) (at second k) || (eq (at second j) (at second k) && lt (at third k) (at third j))))
 
+-- as many of each key as there are indices
+pub record Keyed (first second third : List Float) : Type 0 where
+  pub first_size : length first ≡ length third
+  pub second_size : length second ≡ length third
+
 unfoldable pub order_by : (ℕ → ℕ → Bool) → ℕ → List ℕ
 order_by comes m = iter (insert_by comes) m 0 []
 
--- the place of k among the first `count` of a list, and the list with k there, what follows moved up
-abbrev pub place_of : (ℕ → ℕ → Bool) → List ℕ → ℕ → ℕ → ℕ
-place_of comes l count k = first (λ j. not (comes k (slice_index l j))) count 0
-
-abbrev pub shifted : ℕ → ℕ → List ℕ → ℕ → ℕ
-shifted p k l j = cond (nat_lt j p) (slice_index l j) (cond (j == p) k (slice_index l (j - 1)))
-
--- a local array for all corridors, of which the first places name corridors
-abbrev pub Whole : {A : Type 0} → List A → Type 0
-Whole l = length l ≡ most_corridors
-
-pub record Ranked (m : ℕ) (order : List ℕ) (count : ℕ) : Type 0 where
-  pub few : m ≤ most_corridors
-  pub size : Whole order
-  pub below : (j : ℕ) → j < count → slice_index order j < m
-
 -- ---- filling
+-- an order that names corridors, and an own cap for each
+pub record Fillable (order cap circuits : List ℕ) : Type 0 where
+  pub named : All (λ (j : ℕ). j < length circuits) order
+  pub cap_size : length cap ≡ length circuits
+
 abbrev pub filled_as : List ℕ → Filling → Filled
 filled_as counts t = record { counts = counts; total = t.total; filler = t.filler }
 

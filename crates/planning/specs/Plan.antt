@@ -1,6 +1,6 @@
 -- What the contracts of module plan cite: the opening, the rounds where there are any, and the stages joined, each as the defined stage of a whole case.
 -- What is asked of columns is that some sound case has them.
-use Rattle.std.specs.Prelude.{◌≡◌, ℕ, ◌*◌, ◌≤◌, cond, not, ◌&&◌, ◌||◌, List, map, length, take, replicate, ◌==◌, Float, Err, Ok, Result}
+use Rattle.std.specs.Prelude.{◌≡◌, ℕ, ◌*◌, ◌≤◌, cond, not, ◌&&◌, ◌||◌, List, map, length, replicate, ◌==◌, Float, Err, Ok, Result}
 use Rattle.loops.specs.Figures.{nought}
 use Rattle.mode.specs.declared.PlanMode.{PlanMode}
 use Rattle.angles_defs.specs.Network.{zeros}
@@ -108,12 +108,12 @@ plan_by p grounds filler c =
     }
 
 -- the plan that the stages lead to, with the slices that it fills after the opening
-pub record Holds (x : PlanRun) (m : ℕ) (circuits tier : List ℕ) (flow rate angle added : List Float) (above : ℕ) (t : Stage Plan) : Type 0 where
+pub record Holds (x : PlanRun) (circuits tier : List ℕ) (flow rate angle added : List Float) (above : ℕ) (t : Stage Plan) : Type 0 where
   pub held : Plan
   pub reached : t ≡ going held
   pub plan_is : x.plan ≡ summary held
-  pub before_are : take m x.kept.before ≡ held.before
-  pub order_is : take m x.kept.order ≡ held.order
+  pub before_are : x.kept.before.items ≡ held.before
+  pub order_is : x.kept.order.items ≡ held.order
   pub circuits_are : circuits ≡ held.circuits
   pub tiers_are : tier ≡ held.tier
   pub flows_are : flow ≡ held.flow
@@ -121,9 +121,9 @@ pub record Holds (x : PlanRun) (m : ℕ) (circuits tier : List ℕ) (flow rate a
   pub angles_are : angle ≡ held.angle
   pub added_are : added ≡ up_to above nought held.added
 
-abbrev pub PlannedAs : Result PlanRun Refusal → ℕ → List ℕ → List ℕ → List Float → List Float → List Float → List Float → Case → Stage Plan → Type 0
-PlannedAs (Err f) m circuits tier flow rate angle added c t = t ≡ stopped f
-PlannedAs (Ok x) m circuits tier flow rate angle added c t = Holds x m circuits tier flow rate angle added c.above t
+abbrev pub PlannedAs : Result PlanRun Refusal → List ℕ → List ℕ → List Float → List Float → List Float → List Float → Case → Stage Plan → Type 0
+PlannedAs (Err f) circuits tier flow rate angle added c t = t ≡ stopped f
+PlannedAs (Ok x) circuits tier flow rate angle added c t = Holds x circuits tier flow rate angle added c.above t
 
 -- ---- from the opening on
 pub record Plannable (grid : GridColumns) (level : List ℕ) (supply : SupplyColumns) (opened : OpenedColumns)
@@ -140,7 +140,7 @@ pub record OpenedPlan (mode : PlanMode) (target above : ℕ) (grid : GridColumns
   pub plan : (o : Case) (mw : List Float)
       → (let c = rounds_case o mode above grid supply in
       Sound c target → level ≡ first_levels c → circuits ≡ lower_bounds c → upsized ≡ replicate o.corridors 0 → o.cap ≡ grid.cap
-      → PlannedAs r (length grid.a) circuits' level' flow' rate' angle' added' c
+      → PlannedAs r circuits' level' flow' rate' angle' added' c
       (onward (onward (opened_with c opened.leader mw (peak_for o.buses opened.grounds opened.injection)) (settled c)) (closing c target)))
 
 -- ---- all stages, of a case that has all these columns
@@ -149,20 +149,20 @@ whole_case o mode above grid tier supply initial =
     case_of mode o.buses o.corridors o.generators above o.requested grid.ladder tier o.reading o.weight supply.load supply.bus supply.slack supply.pmin supply.pmax supply.c1 supply.c2 grid.a grid.b initial grid.km grid.share grid.cap grid.sheet
 
 -- the slices of a plan, with those that the opening fills
-pub record HoldsAll (x : PlanRun) (m : ℕ) (circuits : List ℕ) (flow rate mw angle : List Float) (tier ground : List ℕ) (added : List Float) (c : Case) (t : Stage Plan) : Type 0 where
-  pub holds : Holds x m circuits tier flow rate angle added c.above t
+pub record HoldsAll (x : PlanRun) (circuits : List ℕ) (flow rate mw angle : List Float) (tier ground : List ℕ) (added : List Float) (c : Case) (t : Stage Plan) : Type 0 where
+  pub holds : Holds x circuits tier flow rate angle added c.above t
   pub mw_is : mw ≡ holds.held.mw
   pub grounds_are : ground ≡ up_to c.buses 0 holds.held.grounds
 
-abbrev pub WholeAs : Result PlanRun Refusal → ℕ → List ℕ → List Float → List Float → List Float → List Float → List ℕ → List ℕ → List Float → Case → Stage Plan → Type 0
-WholeAs (Err f) m circuits flow rate mw angle tier ground added c t = t ≡ stopped f
-WholeAs (Ok x) m circuits flow rate mw angle tier ground added c t = HoldsAll x m circuits flow rate mw angle tier ground added c t
+abbrev pub WholeAs : Result PlanRun Refusal → List ℕ → List Float → List Float → List Float → List Float → List ℕ → List ℕ → List Float → Case → Stage Plan → Type 0
+WholeAs (Err f) circuits flow rate mw angle tier ground added c t = t ≡ stopped f
+WholeAs (Ok x) circuits flow rate mw angle tier ground added c t = HoldsAll x circuits flow rate mw angle tier ground added c t
 
 pub record PlanDone (mode : PlanMode) (target above : ℕ) (grid : GridColumns) (tier : List ℕ) (supply : SupplyColumns) (initial : List ℕ)
     (circuits : List ℕ) (flow rate mw angle : List Float) (level ground : List ℕ) (added : List Float) (r : Result PlanRun Refusal) : Type 0 where
   pub plan : (o : Case)
       → (let c = whole_case o mode above grid tier supply initial in
-      Sound c target → WholeAs r (length grid.a) circuits flow rate mw angle level ground added c (plan_for c target))
+      Sound c target → WholeAs r circuits flow rate mw angle level ground added c (plan_for c target))
 
 -- ---- and over the slices that planning is lent
 pub record Lendable (mode : PlanMode) (target above : ℕ) (grid : GridColumns) (tier : List ℕ) (supply : SupplyColumns) (initial : List ℕ)

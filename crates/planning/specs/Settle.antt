@@ -1,6 +1,6 @@
 -- What the contracts of module settle cite: how planning ends after the rounds, by the columns that its stages read, and what they must be;
 -- and the defined stages of a whole case.
-use Rattle.std.specs.Prelude.{◌≡◌, ℕ, List, map, length, take, Float, Err, Ok, Result}
+use Rattle.std.specs.Prelude.{◌≡◌, ℕ, List, map, length, Float, Err, Ok, Result}
 use Rattle.loops.specs.Figures.{nought}
 use Rattle.mode.specs.declared.PlanMode.{PlanMode}
 use Rattle.angles_defs.specs.Network.{zeros}
@@ -50,11 +50,10 @@ closed_of (Err f) filler before order circuits tier flow rate angle added = stop
 closed_of (Ok c) filler before order circuits tier flow rate angle added =
     going (record { filler = filler; closing = c; before = before; order = order; circuits = circuits; tier = tier; flow = flow; rate = rate; angle = angle; added = added })
 
--- for m corridors
-abbrev pub ended_of : ℕ → Result Settling Refusal → List ℕ → List ℕ → List Float → List Float → List Float → List Float → Stage Ended
-ended_of m (Err f) circuits tier flow rate angle added = stopped f
-ended_of m (Ok s) circuits tier flow rate angle added =
-    going (record { filler = s.filler; closing = s.closing; before = take m s.kept.before; order = take m s.kept.order; circuits = circuits; tier = tier; flow = flow; rate = rate; angle = angle; added = added })
+abbrev pub ended_of : Result Settling Refusal → List ℕ → List ℕ → List Float → List Float → List Float → List Float → Stage Ended
+ended_of (Err f) circuits tier flow rate angle added = stopped f
+ended_of (Ok s) circuits tier flow rate angle added =
+    going (record { filler = s.filler; closing = s.closing; before = s.kept.before.items; order = s.kept.order.items; circuits = circuits; tier = tier; flow = flow; rate = rate; angle = angle; added = added })
 
 -- ---- the stages, by columns: after filling, and from the order on
 module _ (mode : PlanMode) (cap : List ℕ) (above : ℕ) (led : List ℕ) (ladder : List Float) (level : List ℕ) (ds : List CircuitDesign) (upsized : List ℕ) (P : Peak) where
@@ -101,13 +100,13 @@ closing_in q =
     }
 
 -- the plan that the stages lead to, with its slices
-pub record Held (s : Settling) (m : ℕ) (circuits tier : List ℕ) (flow rate angle added : List Float) (above : ℕ) (t : Stage Plan) : Type 0 where
+pub record Held (s : Settling) (circuits tier : List ℕ) (flow rate angle added : List Float) (above : ℕ) (t : Stage Plan) : Type 0 where
   pub held : Plan
   pub reached : t ≡ going held
   pub filler_is : s.filler ≡ held.filler
   pub closing_is : s.closing ≡ closing_in held
-  pub before_are : take m s.kept.before ≡ held.before
-  pub order_is : take m s.kept.order ≡ held.order
+  pub before_are : s.kept.before.items ≡ held.before
+  pub order_is : s.kept.order.items ≡ held.order
   pub circuits_are : circuits ≡ held.circuits
   pub tiers_are : tier ≡ held.tier
   pub flows_are : flow ≡ held.flow
@@ -115,9 +114,9 @@ pub record Held (s : Settling) (m : ℕ) (circuits tier : List ℕ) (flow rate a
   pub angles_are : angle ≡ held.angle
   pub added_are : added ≡ up_to above nought held.added
 
-abbrev pub SettledAs : Result Settling Refusal → ℕ → List ℕ → List ℕ → List Float → List Float → List Float → List Float → Case → Stage Plan → Type 0
-SettledAs (Err f) m circuits tier flow rate angle added c t = t ≡ stopped f
-SettledAs (Ok s) m circuits tier flow rate angle added c t = Held s m circuits tier flow rate angle added c.above t
+abbrev pub SettledAs : Result Settling Refusal → List ℕ → List ℕ → List Float → List Float → List Float → List Float → Case → Stage Plan → Type 0
+SettledAs (Err f) circuits tier flow rate angle added c t = t ≡ stopped f
+SettledAs (Ok s) circuits tier flow rate angle added c t = Held s circuits tier flow rate angle added c.above t
 
 -- of any case with these columns, whose draft the slices stand for
 pub record Settles (mode : PlanMode) (target above : ℕ) (grid : GridColumns) (opened : OpenedColumns) (banks : List Float)
@@ -126,4 +125,4 @@ pub record Settles (mode : PlanMode) (target above : ℕ) (grid : GridColumns) (
       → (let c = with_lines (with_units o mode above (supply_of o.load o.bus o.slack o.pmin o.pmax o.c1 o.c2)) grid in
       Sound c target → length level ≡ o.buses → o.cap ≡ grid.cap → p.led ≡ opened.leader → p.peak ≡ peak_for o.buses opened.grounds opened.injection → s.level ≡ level
       → s.build ≡ build_of c level circuits banks floors upsized
-      → SettledAs r (length grid.a) circuits' level' flow' rate' angle' added' c (onward (settled_to c p s) (closing c target)))
+      → SettledAs r circuits' level' flow' rate' angle' added' c (onward (settled_to c p s) (closing c target)))

@@ -1,5 +1,5 @@
 -- What the contracts of module stiffen cite: the state that the slices stand for, what a component asks of them, and what it does to them.
-use Rattle.std.specs.Prelude.{◌≡◌, ℕ, ◌+◌, ◌*◌, ◌<◌, ◌≤◌, Bool, true, false, ◌&&◌, ◌||◌, List, [], length, take, nat_lt, slice_index, slice_index_or, Float, Err, Ok, Result}
+use Rattle.std.specs.Prelude.{◌≡◌, ℕ, ◌+◌, ◌*◌, ◌<◌, ◌≤◌, Bool, true, false, ◌&&◌, ◌||◌, List, [], length, take, All, nat_lt, slice_index, slice_index_or, Float, Err, Ok, Result}
 use Rattle.std.specs.Float.Ieee.{lt}
 use Rattle.loops.specs.Figures.{at, nought}
 use Rattle.loops.specs.Loops.{iter}
@@ -20,7 +20,7 @@ use Rattle.plan_defs.specs.declared.CircuitDesign.{CircuitDesign}
 use Rattle.planning.specs.Design.{Lines, Banks}
 use Rattle.planning.specs.Raise.{largest_count, pairs_for}
 use Rattle.planning.specs.Size.{Few, Capped}
-use Rattle.planning.specs.Fill.{designs_for, Ranked}
+use Rattle.planning.specs.Fill.{designs_for}
 use Rattle.planning.specs.Opening.{stage_if}
 use Rattle.planning.specs.Solve.{peak_for, Peaked}
 use Rattle.planning.specs.Sound.{Sound}
@@ -181,13 +181,13 @@ gain_order gain m = iter (gain_next gain) m 0 []
 abbrev pub gain_for : List Float → ℕ → Gain
 gain_for gain k = record { gain = at gain k; corridor = k }
 
--- the corridors that are taken of an order are the chosen ones
+-- an order is the chosen corridors
 pub record Chosen (root : ℕ) (excess : Float) (solved : SolvedColumns) (phi : List Float)
-    (circuits : List ℕ) (banks : List Float) (t : Stiffness) (order : List ℕ) (taken : ℕ) : Type 0 where
-  pub few : taken ≤ length solved.grid.a
-  pub ranked : Ranked (length solved.grid.a) order taken
+    (circuits : List ℕ) (banks : List Float) (t : Stiffness) (order : List ℕ) : Type 0 where
+  pub few : length order ≤ length solved.grid.a
+  pub below : All (λ (k : ℕ). k < length solved.grid.a) order
   pub chosen : (o : Case) (floors : List Float) (upsized marks : List ℕ) → Fitting o solved.grid
-      → take taken order
+      → order
       ≡ chosen (with_lines o solved.grid) solved.opened.leader solved.level (budget_for solved.g) root (stiff_of (with_lines o solved.grid) solved.level circuits banks floors upsized marks t) solved.angle excess phi
 
 -- ---- what a step of a stiffening does to the slices, of any case with these columns, whatever the injections and the flows are

@@ -1,5 +1,5 @@
 // The closing figures of `plan_corridors`, of the circuits after filling; and the slices as planning leaves them.
-ghost use Rattle.std.specs.Prelude.{◌≡◌, ℕ, ◌+◌, ◌-◌, ◌<◌, ◌≤◌, map, length, take, if◌then◌else◌, slice_index, Float};
+ghost use Rattle.std.specs.Prelude.{◌≡◌, ℕ, ◌+◌, ◌-◌, ◌<◌, ◌≤◌, map, length, if◌then◌else◌, slice_index, Float};
 ghost use Rattle.loops.specs.Figures.{at, nought};
 ghost use Rattle.loops.specs.Loops.{tab};
 ghost use Rattle.plan_defs.specs.Constants.{most_corridors, most_levels};
@@ -234,12 +234,12 @@ pub fn close(
 
 // ---- the slices at the end
 // What a plan keeps of filling, or nothing.
-pub fn keep_if(keeps: bool, kept: &[u32; 256], to: &mut [u32])
-    requires { length to.old ≤ most_corridors }
-    ensures { to.new ≡ kept_if keeps (length to.old) (take (length to.old) kept.now) }
+pub fn keep_if(keeps: bool, kept: &[u32], to: &mut [u32])
+    requires { length kept.now ≡ length to.old }
+    ensures { to.new ≡ kept_if keeps (length to.old) kept.now }
 {
     if keeps {
-        to.copy_from_slice(&kept[..to.len()]);
+        to.copy_from_slice(kept);
     } else {
         to.fill(0);
     }

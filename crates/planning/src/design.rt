@@ -2,7 +2,7 @@
 // from the corridor's row of the line sheet and its bank, and never stored.
 ghost use Rattle.std.specs.Prelude.{◌≡◌, ℕ, ◌+◌, ◌<◌, ◌≤◌, true, length, slice_index, Float};
 ghost use Rattle.loops.specs.Figures.{at};
-ghost use Rattle.loops.specs.Loops.{filled};
+ghost use Rattle.loops.specs.Loops.{tab};
 ghost use Rattle.impedance.specs.Impedance.{rating_ok};
 ghost use Rattle.sheets.specs.Sheet.{row_figures};
 ghost use Rattle.plan_defs.specs.Case.{row_of, row_from};
@@ -215,7 +215,7 @@ pub fn circuit(grid: &Grid, level: &[u32], k: usize, mva: f64) -> CircuitDesign
     banked_if(e.steps_down, d, mva)
 }
 
-// What `figure` gives of each corridor's design and its index, at the front of `out`.
+// What `figure` gives of each corridor's design and its index.
 pub fn fill_drawn<F: Fn(CircuitDesign, usize) -> f64>(
     grid: &Grid,
     level: &[u32],
@@ -225,13 +225,10 @@ pub fn fill_drawn<F: Fn(CircuitDesign, usize) -> f64>(
 )
     requires lines { Lines (grid_in grid.now) level.now }
     requires drawable { Drawable grid.now.a.now banks.now }
-    requires room { length grid.now.a.now ≤ length out.old }
+    requires room { length out.old ≡ length grid.now.a.now }
     requires callable { (d : CircuitDesign) (k : ℕ) → k < length grid.now.a.now → F.pre figure d k }
     ensures { (f : CircuitDesign → ℕ → Float) → ((d : CircuitDesign) (k : ℕ) (r : Float) → k < length grid.now.a.now → F.post figure d k r → r ≡ f d k)
-        → out.new ≡ filled out.old (λ k. f (design (designs_for (grid_in grid.now) level.now banks.now) k) k) (length grid.now.a.now) }
+        → out.new ≡ tab (length grid.now.a.now) (λ k. f (design (designs_for (grid_in grid.now) level.now banks.now) k) k) }
 {
-    for k in 0..grid.a.len() {
-        let d = circuit(grid, level, k, banks[k]);
-        out[k] = figure(d, k);
-    }
+    loops::fill(out, |k| figure(circuit(grid, level, k, banks[k]), k));
 }

@@ -111,7 +111,7 @@ fn run_rounds(
 
 // ---- the stages joined
 // What planning answers, with what the plan keeps of filling.
-#[derive(Clone, Copy)]
+#[derive(Drop)]
 pub struct PlanRun {
     pub plan: CorridorPlan,
     pub kept: Kept,

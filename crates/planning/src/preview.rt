@@ -7,7 +7,6 @@ ghost use Rattle.plan_defs.specs.Preview.{kept_as, count_ok, place_ok, preview_f
 ghost use Rattle.acceptance.specs.Check.{answer_of};
 ghost use Rattle.planning.specs.Preview.{counts_for, order_for, Refillable};
 
-use crate::figures::copied;
 use crate::fill::fill;
 use crate::policy::promotes;
 use mode::PlanMode;
@@ -95,7 +94,6 @@ pub fn refill(
     requires { (promote mode ≡ true) × Refillable before.now order.now cap.now circuits.old }
     ensures { circuits.new ≡ refilled (kept_as mode (length before.now) before.now order.now cap.now) target }
 {
-    let all = copied(order, 0);
     circuits.copy_from_slice(before);
-    fill(mode, target, cap, &all, circuits);
+    fill(mode, target, cap, order, circuits);
 }

@@ -16,7 +16,7 @@ use mode::PlanMode;
 use refusal::Refusal;
 
 // The circuits that filling added, the closing figures, and what the plan keeps of filling.
-#[derive(Clone, Copy)]
+#[derive(Drop)]
 pub struct Settling {
     pub filler: u32,
     pub closing: Closing,
@@ -102,15 +102,14 @@ fn fill_up(
 ) -> Result<Settling, Refusal>
     requires settleable { Settleable above (grid_in grid.now) level.old (opened_in opened.now) banks.now upsized.now circuits.old flow.old rate.old angle.old added.old }
     requires few { Few circuits.old }
-    ensures { ended_of (length grid.now.a.now) result circuits.new level.new flow.new rate.new angle.new added.new
+    ensures { ended_of result circuits.new level.new flow.new rate.new angle.new added.new
         ≡ filled_from mode grid.now.cap.now above opened.now.leader.now grid.now.ladder.now level.old
         (designs_for (grid_in grid.now) level.old banks.now)
         upsized.now (peak_for (length level.old) opened.now.grounds.now opened.now.injection.now) target (length grid.now.a.now) circuits.old flow.old }
 {
-    let mut order = [0u32; 256];
-    fill_order(grid, level, banks, circuits, flow, &mut order);
+    let order = fill_order(grid, level, banks, circuits, flow);
     let kept = keep(circuits, order);
-    let filler = fill(mode, target, grid.cap, &order, circuits);
+    let filler = fill(mode, target, grid.cap, &kept.order, circuits);
     let closing = close_up(
         mode, above, grid, opened, banks, upsized, circuits, level, flow, rate, angle, added,
     )?;

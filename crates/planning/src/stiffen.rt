@@ -1,25 +1,27 @@
 // Stiffening: each component whose angles are spread too wide, after the second loop of a round of `plan_corridors`.
-ghost use Rattle.std.specs.Prelude.{◌≡◌, ℕ, ◌+◌, ◌<◌, ◌≤◌, Bool, true, false, not, cond, [], ◌∷◌, map, length, take, slice_index, Float, Ok, Result};
+ghost use Rattle.std.specs.Prelude.{◌≡◌, ℕ, ◌+◌, ◌<◌, ◌≤◌, Bool, true, false, not, cond, [], ◌∷◌, map, length, take, All, position, slice_index, Float, Ok, Result};
+ghost use Rattle.arrayvec.specs.ArrayVec.{array_vec_len};
 ghost use Rattle.loops.specs.Figures.{at, nought};
-ghost use Rattle.loops.specs.Loops.{first, filled};
+ghost use Rattle.loops.specs.Loops.{first, tab};
 ghost use Rattle.plan_defs.specs.Constants.{most_buses, most_corridors, most_levels, most_cap, stiffening_branch_budget};
 ghost use Rattle.plan_defs.specs.Components.{within, members};
 ghost use Rattle.plan_defs.specs.Lists.{counting, sum};
 ghost use Rattle.plan_defs.specs.Raise.{no_marks, mark_if};
 ghost use Rattle.plan_defs.specs.Stiffen.{at_or_above, share_of, hv_budget, stiffen_top, arrival, gain_of, batch, batch_cap, best_of};
-ghost use Rattle.planning.specs.Fill.{Counted, Ranked, Whole, place_of};
+ghost use Rattle.planning.specs.Fill.{Counted};
 ghost use Rattle.planning.specs.Raise.{largest_count, pairs_for, PairFits};
 ghost use Rattle.planning.specs.Stiffen.{budget_for, Stiffenable, Room, LedStiffened, raisable, room_for, reckoned, Strengthened, StiffenFits, BatchStiffened, Gainful, candidate_at, gain_at, gains_more, gain_next, gain_order, gain_for, Chosen, Stepped, reinforce_step, narrow_step, component_step, Led};
 ghost use Rattle.planning.specs.Tables.{grid_in, opened_in, solved_by, solved_in};
 
 use crate::design::{circuit, set_transformer_mva};
 use crate::figures::choose;
-use crate::fill::{insert, total};
+use crate::fill::total;
 use crate::policy::full_at;
 use crate::raise::{mark_raise_to, raise_of};
 use crate::size::{bank_below, keep_bank};
 use crate::solve::{Edges, susceptance, unit_angles};
 use crate::tables::{Grid, Opened, Solved};
+use arrayvec::ArrayVec;
 use plan_defs::CircuitDesign;
 use refusal::Refusal;
 use std::num::saturating_f64_to_usize;
@@ -230,13 +232,12 @@ fn stiffen_one(
     raise_or_add(g, grid.cap[k], level, grid, k, circuits, marks, t)
 }
 
-// The first `taken` corridors of an order.
+// The corridors of an order, one after another.
 fn stiffen_batch(
     g: Limits,
     grid: &Grid,
     level: &[u32],
-    order: &[u32; 256],
-    taken: usize,
+    order: &[u32],
     circuits: &mut [u32],
     banks: &mut [f64],
     floors: &mut [f64],
@@ -245,16 +246,24 @@ fn stiffen_batch(
     start: Stiffness,
 ) -> Stiffness
     requires stiffen_fits { StiffenFits (grid_in grid.now) level.now circuits.old banks.old floors.old upsized.old marks.old }
-    requires ranked { Ranked (length grid.now.a.now) order.now taken × Room taken start × (taken ≤ length grid.now.a.now) }
-    ensures { BatchStiffened (take taken order.now) g (grid_in grid.now) level.now
+    requires named { All (λ (k : ℕ). k < length grid.now.a.now) order.now × Room (length order.now) start }
+    ensures { BatchStiffened order.now g (grid_in grid.now) level.now
         circuits.old banks.old floors.old upsized.old marks.old start
         circuits.new banks.new floors.new upsized.new marks.new result }
 {
     let mut t = start;
-    for j in 0..taken {
-        let k = order[j] as usize;
+    for k in order.iter() {
         t = stiffen_one(
-            g, grid, level, k, circuits, banks, floors, upsized, marks, t,
+            g,
+            grid,
+            level,
+            *k as usize,
+            circuits,
+            banks,
+            floors,
+            upsized,
+            marks,
+            t,
         );
     }
     t
@@ -321,6 +330,7 @@ fn gain_at(
     gain_of(d, solved.angle, phi)
 }
 
+// Of each corridor.
 fn gains(
     solved: &Solved,
     phi: &[f64],
@@ -328,73 +338,63 @@ fn gains(
     banks: &[f64],
     t: Stiffness,
     root: usize,
-    gain: &mut [f64; 256],
+    gain: &mut [f64],
 )
     requires gainful { Gainful (solved_in solved.now) phi.now circuits.now banks.now }
-    requires a_len_bound { (length solved.now.grid.now.a.now ≤ most_corridors) × Whole gain.old }
-    ensures { gain.new ≡ filled gain.old (gain_at (solved_in solved.now)
-        phi.now circuits.now banks.now t root) (length solved.now.grid.now.a.now) }
+    requires size { length gain.old ≡ length solved.now.grid.now.a.now }
+    ensures { gain.new ≡ tab (length solved.now.grid.now.a.now) (gain_at (solved_in solved.now)
+        phi.now circuits.now banks.now t root) }
 {
-    for k in 0..solved.grid.a.len() {
-        gain[k] = gain_at(solved, phi, circuits, banks, t, root, k);
-    }
+    loops::fill(gain, |k| gain_at(solved, phi, circuits, banks, t, root, k));
 }
 
-// The place of corridor k among the first `count`: gains fall, and equal gains stay by index.
-fn place_of(gain: &[f64; 256], order: &[u32; 256], count: usize, k: usize) -> usize
-    requires { (k < most_corridors) × Ranked most_corridors order.now count × (count ≤ most_corridors) × Whole gain.now }
-    ensures { result ≡ place_of (gains_more gain.now) order.now count k }
+// The place of corridor k in an order, where it comes before another: gains fall, and equal gains stay by index.
+fn place_of(gain: &[f64], order: &[u32], k: usize) -> Option<usize>
+    requires { (k < length gain.now) × All (λ (j : ℕ). j < length gain.now) order.now }
+    ensures { result ≡ position (gains_more gain.now k) order.now }
 {
-    loops::first_fault(count, |j| !(gain[order[j] as usize] < gain[k])).unwrap_or(count)
+    order.iter().position(|j| gain[*j as usize] < gain[k])
 }
 
-// Puts corridor k in its place where it gains; how many there are then.
-fn insert_gain(gain: &[f64; 256], order: &mut [u32; 256], count: usize, k: usize) -> usize
-    requires { (k < most_corridors) × Ranked most_corridors order.old count × (count < most_corridors) × Whole gain.now }
-    ensures few { (result ≤ count + 1) × Whole order.new }
-    ensures order { take result order.new ≡ gain_next gain.now k (take count order.old) }
+// Puts corridor k, which comes after those of the order, in its place, where it gains.
+#[tactic(auto, using(crate::proofs::Gains::next_gains))]
+fn insert_gain(gain: &[f64], order: &mut ArrayVec<u32, 256>, k: usize)
+    requires { (k < length gain.now) × (length gain.now ≤ most_corridors) × (array_vec_len order.old ≤ k) × All (λ (j : ℕ). j < k) order.old.items }
+    ensures { order.new.items ≡ gain_next gain.now k order.old.items }
 {
     if gain[k] > 0.0 {
-        let p = place_of(gain, order, count, k);
-        insert(order, p, count, k);
-        return count + 1;
+        let place = place_of(gain, order, k).unwrap_or(order.len());
+        order.insert(place, k as u32);
     }
-    count
 }
 
-// The corridors below m with a gain above 0, the most first; how many there are.
-fn order_gains(m: usize, gain: &[f64; 256], order: &mut [u32; 256]) -> usize
-    requires { (m ≤ most_corridors) × Whole gain.now × Whole order.old }
-    ensures named { (result ≤ m) × Ranked m order.new result }
-    ensures order { take result order.new ≡ gain_order gain.now m }
+// The corridors with a gain above 0, the most first.
+#[tactic(auto, using(crate::proofs::Gains::order_start, crate::proofs::Gains::order_next, crate::proofs::Gains::order_named))]
+fn order_gains(gain: &[f64]) -> ArrayVec<u32, 256>
+    requires { length gain.now ≤ most_corridors }
+    ensures { result.items ≡ gain_order gain.now (length gain.now) }
 {
-    let mut count = 0;
-    for k in 0..m {
-        count = insert_gain(gain, order, count, k);
+    let mut order = ArrayVec::new();
+    for k in 0..gain.len() {
+        insert_gain(gain, &mut order, k);
     }
-    count
+    order
 }
 
-// How many of the first `count` of an order are taken: `most` of them, while the gains before are below the excess.
-fn batch_size(
-    gain: &[f64; 256],
-    order: &[u32; 256],
-    count: usize,
-    most: usize,
-    excess: f64,
-) -> usize
-    requires { Ranked most_corridors order.now count × (count ≤ most_corridors) × Whole gain.now }
-    ensures few { result ≤ count }
-    ensures batch { take result order.now ≡ batch most nought excess (map (gain_for gain.now) (take count order.now)) }
+// How many of an order are taken: `most` of them, while the gains before are below the excess.
+#[tactic(auto, using(crate::proofs::Gains::take_start, crate::proofs::Gains::take_turn, crate::proofs::Gains::take_most, crate::proofs::Gains::take_covered, crate::proofs::Gains::take_all_of))]
+fn batch_size(gain: &[f64], order: &[u32], most: usize, excess: f64) -> usize
+    requires { All (λ (k : ℕ). k < length gain.now) order.now }
+    ensures { take result order.now ≡ batch most nought excess (map (gain_for gain.now) order.now) }
 {
     let mut covered = 0.0;
-    for j in 0..count {
+    for (j, k) in order.iter().enumerate() {
         if j >= most || !(covered < excess) {
             return j;
         }
-        covered += gain[order[j] as usize];
+        covered += gain[*k as usize];
     }
-    count
+    order.len()
 }
 
 fn corridors_in(leader: &[u32], a: &[u32], root: usize) -> u32
@@ -417,7 +417,8 @@ fn batch_cap(leader: &[u32], a: &[u32], root: usize) -> usize
     saturating_f64_to_usize(part.ceil()).max(1)
 }
 
-// Puts the corridors that narrow a component's spread the most at the front of `order`; as many as cover the excess are taken.
+// The corridors that narrow a component's spread the most, as many as cover the excess.
+#[tactic(auto, using(crate::proofs::Gains::order_named))]
 fn choose_batch(
     root: usize,
     excess: f64,
@@ -426,21 +427,24 @@ fn choose_batch(
     circuits: &[u32],
     banks: &[f64],
     t: Stiffness,
-    order: &mut [u32; 256],
-) -> usize
+) -> ArrayVec<u32, 256>
     requires gainful { Gainful (solved_in solved.now) phi.now circuits.now banks.now }
-    requires a_len_bound { (length solved.now.grid.now.a.now ≤ most_corridors) × Whole order.old }
+    requires few { length solved.now.grid.now.a.now ≤ most_corridors }
     ensures { Chosen root excess (solved_in solved.now)
-        phi.now circuits.now banks.now t order.new result }
+        phi.now circuits.now banks.now t result.items }
 {
-    let mut gain = [0.0; 256];
-    gains(solved, phi, circuits, banks, t, root, &mut gain);
-    let count = order_gains(solved.grid.a.len(), &gain, order);
+    let m = solved.grid.a.len();
+    let mut room = [0.0; 256];
+    let gain = &mut room[..m];
+    gains(solved, phi, circuits, banks, t, root, gain);
+    let mut order = order_gains(gain);
     let most = batch_cap(solved.opened.leader, solved.grid.a, root);
-    batch_size(&gain, order, count, most, excess)
+    let taken = batch_size(gain, &order, most, excess);
+    order.truncate(taken);
+    order
 }
 
-// Stiffens the corridors that are taken.
+// Stiffens these.
 fn reinforce(
     root: usize,
     excess: f64,
@@ -460,14 +464,12 @@ fn reinforce(
         circuits.old banks.old floors.old upsized.old marks.old t
         circuits.new banks.new floors.new upsized.new marks.new (Ok result) }
 {
-    let mut order = [0u32; 256];
-    let taken = choose_batch(root, excess, solved, phi, circuits, banks, t, &mut order);
+    let order = choose_batch(root, excess, solved, phi, circuits, banks, t);
     stiffen_batch(
         solved.g,
         solved.grid,
         solved.level,
         &order,
-        taken,
         circuits,
         banks,
         floors,

@@ -1,27 +1,28 @@
 // What a component's units give: by the dispatch, and in a mode that tops up by a pass after it (document 02, K4). By c1 rising, then
 // index, a unit takes what all of them leave of the demand, up to its pmax; the first left below pmax is the last.
-ghost use Rattle.std.specs.Prelude.{◌≡◌, ◌≤◌, length, take};
+ghost use Rattle.std.specs.Prelude.{◌≡◌, ◌≤◌, length};
 ghost use Rattle.dispatch_defs.specs.Units.{units_of};
 ghost use Rattle.dispatch_defs.specs.Limits.{Accepted};
 ghost use Rattle.plan_defs.specs.Constants.{most_generators};
 ghost use Rattle.plan_defs.specs.Case.{tops_up};
 ghost use Rattle.plan_defs.specs.TopUp.{by_cost, top_up};
-ghost use Rattle.planning.specs.Fill.{Whole};
 ghost use Rattle.planning.specs.Opening.{stage_of, Priced, given_stage};
 
 use crate::fill::order_by;
 use crate::policy::tops_up;
+use arrayvec::ArrayVec;
 use loops::{lesser, sum};
 use mode::PlanMode;
 use refusal::Refusal;
 
 // By c1 rising, then index: in the first two keys the units are alike.
-fn order_costs(c1: &[f64], order: &mut [u32; 256])
-    requires { (length c1.now ≤ most_generators) × Whole order.old }
-    ensures { Whole order.new × (take (length c1.now) order.new ≡ by_cost c1.now) }
+fn order_costs(c1: &[f64]) -> ArrayVec<u32, 256>
+    requires { length c1.now ≤ most_generators }
+    ensures { result.items ≡ by_cost c1.now }
 {
     let alike = [0.0; 256];
-    order_by(&alike, &alike, c1, order);
+    let keys = &alike[..c1.len()];
+    order_by(keys, keys, c1)
 }
 
 // The pass. The sum is by index, as the dispatch adds. The difference is worked out afresh for each unit; where it is not above zero there is nothing left to serve.
@@ -29,10 +30,9 @@ fn top_up(demand: f64, pmax: &[f64], c1: &[f64], mw: &mut [f64])
     requires { Priced pmax.now c1.now mw.old }
     ensures { mw.new ≡ top_up pmax.now demand (by_cost c1.now) mw.old }
 {
-    let mut order = [0u32; 256];
-    order_costs(c1, &mut order);
-    for j in 0..c1.len() {
-        let k = order[j] as usize;
+    let order = order_costs(c1);
+    for unit in order.as_slice() {
+        let k = *unit as usize;
         let gap = demand - sum(mw);
         if !(0.0 < gap) {
             return;

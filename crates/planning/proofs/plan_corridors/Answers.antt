@@ -1,6 +1,6 @@
 -- The check's refusals touch nothing; what passes it is a sound case, of which the stages lead to the defined plan, and the slices are cleared as the definition
 -- has them. Demand 3 is a theorem of the defined plan.
-use Rattle.std.proofs.Common.{ℕ, ◌≡◌, Bool, List, Err, length, take, sym, refl, ap, ◌∙◌, rules}
+use Rattle.std.proofs.Common.{ℕ, ◌≡◌, Bool, List, Err, length, sym, refl, ap, ◌∙◌, rules}
 use Rattle.loads.proofs.One.{loads_lent, loads_room}
 use Rattle.plan_defs.specs.Case.{surveyed, promote}
 use Rattle.plan_defs.specs.Outcome.{slices, slices_ok, kept_if}
@@ -45,7 +45,11 @@ keep_if-requires c =
     let lent = slices z.circuits.now z.flow.now z.rate.now z.before.now z.order.now z.kept_cap.now z.mw.now z.angle.now z.level.now z.ground.now z.added.now z.figures.now z.counts.now in
     let answer : c.check_case.result ≡ check_of (slices_ok case lent) (tables_of_lem case) z.target = checked case z.target lent _ _ c.places_ok-fits.ensures c.check_case.ensures in
     let q = c.in_ok-check_case.was in
-    (kept_fits case z.target lent c.check_case.result answer q).0
+    let v = c.run in
+    let left = slices v.new.circuits v.new.flow v.new.rate z.before.now z.order.now z.kept_cap.now v.new.mw v.new.angle v.new.level v.new.ground v.new.added v.new.figures v.new.counts in
+    ap length c.deref.ensures.0
+    ∙ (kept_fits case z.target lent c.check_case.result answer q z.sheet.now refl refl (λ e k l. c.type_inv.pmin k) v.result left
+    _ (loads_lent z.n case.reading case.weight _ c.weigh-load.ensures (buses_fit case z.target lent c.check_case.result answer q)) v.ensures v.auto.figures v.auto.counts c.in-Ok.ran c.in-Ok.is).0
 
 pub keep_if-requires-in-Ok : goal.keep_if-requires-in-Ok
 keep_if-requires-in-Ok c =
@@ -54,7 +58,11 @@ keep_if-requires-in-Ok c =
     let lent = slices z.circuits.now z.flow.now z.rate.now z.before.now z.order.now z.kept_cap.now z.mw.now z.angle.now z.level.now z.ground.now z.added.now z.figures.now z.counts.now in
     let answer : c.check_case.result ≡ check_of (slices_ok case lent) (tables_of_lem case) z.target = checked case z.target lent _ _ c.places_ok-fits.ensures c.check_case.ensures in
     let q = c.in_ok-check_case.was in
-    (kept_fits case z.target lent c.check_case.result answer q).1
+    let v = c.run in
+    let left = slices v.new.circuits v.new.flow v.new.rate z.before.now z.order.now z.kept_cap.now v.new.mw v.new.angle v.new.level v.new.ground v.new.added v.new.figures v.new.counts in
+    ap length c.deref-in-Ok.ensures.0
+    ∙ (kept_fits case z.target lent c.check_case.result answer q z.sheet.now refl refl (λ e k l. c.type_inv.pmin k) v.result left
+    _ (loads_lent z.n case.reading case.weight _ c.weigh-load.ensures (buses_fit case z.target lent c.check_case.result answer q)) v.ensures v.auto.figures v.auto.counts c.in-Ok.ran c.in-Ok.is).1
 
 pub copy_from_slice-requires : goal.copy_from_slice-requires
 copy_from_slice-requires c =
@@ -75,11 +83,11 @@ returns-in-Ok c =
     let v = c.run in
     let left = slices v.new.circuits v.new.flow v.new.rate z.before.now z.order.now z.kept_cap.now v.new.mw v.new.angle v.new.level v.new.ground v.new.added v.new.figures v.new.counts in
     let y = c.in-Ok in
-    let fills : (l k : List ℕ) → kept_if c.promotes-fills.result (length l) (take (length l) k) ≡ kept_if (promote z.mode) (length l) (take (length l) k) =
-    λ l k. ap (λ (b : Bool). kept_if b (length l) (take (length l) k)) c.promotes-fills.ensures in
+    let fills : (l k x : List ℕ) → k ≡ x → kept_if c.promotes-fills.result (length l) k ≡ kept_if (promote z.mode) (length l) x =
+    λ l k x e. ap (λ (b : Bool). kept_if b (length l) k) c.promotes-fills.ensures ∙ ap (kept_if (promote z.mode) (length l)) e in
     let both = ends_answered case z.target lent c.check_case.result answer q z.sheet.now refl refl (λ e k l. c.type_inv.pmin k) v.result left
     _ (loads_lent z.n case.reading case.weight _ c.weigh-load.ensures (buses_fit case z.target lent c.check_case.result answer q)) v.ensures v.auto.figures v.auto.counts y.ran y.is _ _ _ _ _
-    (c.keep_if.ensures ∙ fills z.before.now y.ran.kept.before) (c.keep_if-in-Ok.ensures ∙ fills z.order.now y.ran.kept.order) c.copy_from_slice.ensures.after
+    (c.keep_if.ensures ∙ fills z.before.now _ _ c.deref.ensures.0) (c.keep_if-in-Ok.ensures ∙ fills z.order.now _ _ c.deref-in-Ok.ensures.0) c.copy_from_slice.ensures.after
     (c.fill.ensures.after (λ y e. e)) (c.fill-in-Ok.ensures.after (λ y e. e)) in
     record { plan = both.0; demand = both.1 }
 

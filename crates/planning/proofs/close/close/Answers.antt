@@ -22,4 +22,4 @@ overflow_sub-result c =
 pub returns : goal.returns
 returns c =
     let s = c in
-    let z = s.args in record { closing = closing_is z.mode z.above (grid_in z.grid.now) z.leader.now z.level.now z.banks.now z.circuits.now z.upsized.now z.flow.now z.angle.now _ (rates_drawn (grid_in z.grid.now) z.level.now z.banks.now _ _ s.requires.closable.rate_size (c.fill_drawn.ensures (λ d k. d.rate_a) (λ d k r h q. search rules))) _ _ _ _ _ _ c.count_upsized-enlarged.ensures c.overloaded-too_heavy.ensures c.capped-at_cap.ensures c.max_loading-highest_loading.ensures c.spread-widest.ensures c.unused-dropped.ensures; rate = (rates_drawn (grid_in z.grid.now) z.level.now z.banks.now _ _ s.requires.closable.rate_size (c.fill_drawn.ensures (λ d k. d.rate_a) (λ d k r h q. search rules))); tier = tiers_are z.above z.grid.now.ladder.now z.level.now _ _ c.shift_back.ensures c.unused-dropped.ensures; added = added_are z.above z.grid.now.ladder.now z.level.now _ _ s.requires.closable.ladder_size (c.unused-dropped.ensures) c.add_levels.ensures }
+    let z = s.args in record { closing = closing_is z.mode z.above (grid_in z.grid.now) z.leader.now z.level.now z.banks.now z.circuits.now z.upsized.now z.flow.now z.angle.now _ (rates_drawn (grid_in z.grid.now) z.level.now z.banks.now _ (c.fill_drawn.ensures (λ d k. d.rate_a) (λ d k r h q. search rules))) _ _ _ _ _ _ c.count_upsized-enlarged.ensures c.overloaded-too_heavy.ensures c.capped-at_cap.ensures c.max_loading-highest_loading.ensures c.spread-widest.ensures c.unused-dropped.ensures; rate = (rates_drawn (grid_in z.grid.now) z.level.now z.banks.now _ (c.fill_drawn.ensures (λ d k. d.rate_a) (λ d k r h q. search rules))); tier = tiers_are z.above z.grid.now.ladder.now z.level.now _ _ c.shift_back.ensures c.unused-dropped.ensures; added = added_are z.above z.grid.now.ladder.now z.level.now _ _ s.requires.closable.ladder_size (c.unused-dropped.ensures) c.add_levels.ensures }

@@ -1,5 +1,5 @@
 -- A mode that does not promote fills nothing; else the turns from the counts' sum are the defined ones.
-use Rattle.std.proofs.Common.{ℕ, length, take, sym, ap, ◌∙◌}
+use Rattle.std.proofs.Common.{ℕ, sym, ap, ◌∙◌}
 use Rattle.plan_defs.specs.Case.{full_of}
 use Rattle.plan_defs.specs.Fill.{Filled, fill_rounds, fill_turns}
 use Rattle.planning.specs.Fill.{filled_as}
@@ -8,13 +8,14 @@ use Rattle.planning.proofs.fill.fill.Goals as goal
 
 pub returns-then-not-promotes : goal.returns-then-not-promotes
 returns-then-not-promotes c =
-    let s = c.args in
-    let e = fill_not s.mode s.cap.now s.target _ s.circuits.now (sym c.promotes.ensures ∙ c.if-not-promotes.true) in
+    let z = c.args in
+    let e = fill_not z.mode z.cap.now z.target z.order.now z.circuits.now (sym c.promotes.ensures ∙ c.if-not-promotes.true) in
     record { circuits = ap (λ (f : Filled). f.counts) e; filler = ap (λ (f : Filled). f.filler) e }
 
 pub returns : goal.returns
 returns c =
-    let s = c.args in
-    let ks = take (length s.circuits.now) s.order.now in
-    let e = c.fill_rounds-t.ensures ∙ ap (λ (n : ℕ). fill_rounds fill_turns (full_of s.cap.now) s.target ks (filled_as s.circuits.now (tally n 0))) c.total.ensures ∙ fill_all s.mode s.cap.now s.target ks s.circuits.now (sym c.promotes.ensures ∙ c.if-not-promotes.false) in
+    let z = c.args in
+    let e = c.fill_rounds-t.ensures
+    ∙ ap (λ (n : ℕ). fill_rounds fill_turns (full_of z.cap.now) z.target z.order.now (filled_as z.circuits.now (tally n 0))) c.total.ensures
+    ∙ fill_all z.mode z.cap.now z.target z.order.now z.circuits.now (sym c.promotes.ensures ∙ c.if-not-promotes.false) in
     record { circuits = ap (λ (f : Filled). f.counts) e; filler = ap (λ (f : Filled). f.filler) e }

@@ -1,15 +1,10 @@
-use Rattle.std.proofs.Common.{ℕ, ◌+◌, ◌<◌, length, get_or, sym, refl, ap, ◌∙◌, arith}
-use Rattle.plan_defs.specs.Lists.{sum}
-use Rattle.planning.proofs.Fillings.{sum_next}
+use Rattle.std.proofs.Common.{◌≡◌, ◌^◌, ◌<◌, ◌+◌, ℕ, ◌∙◌, rules}
+use Rattle.std.specs.Prelude.{fold}
+use Rattle.planning.proofs.Fillings.{sum_is, sum_few}
 use Rattle.planning.proofs.fill.total.Goals as goal
 
-pub loop-count-init : goal.loop-count-init
-unfolding sum
-loop-count-init c = (omega arith, refl, omega arith)
+pub sum-requires-clause-fits : goal.sum-requires-clause-fits
+sum-requires-clause-fits c = let h : fold (λ (s x : ℕ). s + x) 0 c.args.circuits.now < 2 ^ 32 = sum_few c.args.circuits.now c.requires in search (rules, h)
 
-pub loop-count-preserved : goal.loop-count-preserved
-loop-count-preserved c =
-    let l = c.loop-count in
-    let s = c in
-    let h : l.count-index < length s.args.circuits.now = c.loop-count-test.true in
-    (omega arith, ap (λ (x : ℕ). x + get_or s.args.circuits.now l.count-index 0) l.invariant.1 ∙ sym (sum_next s.args.circuits.now l.count-index h), omega (arith, s.requires.each l.count-index h))
+pub returns : goal.returns
+returns c = let h : c.sum.result ≡ fold (λ (s x : ℕ). s + x) 0 c.args.circuits.now = search rules in h ∙ sum_is c.args.circuits.now

@@ -4,4 +4,4 @@ use Rattle.planning.proofs.preview.refill.Goals as goal
 pub returns : goal.returns
 returns c =
     let z = c.args in
-    filled_anew z.mode z.target z.before.now z.order.now z.cap.now z.circuits.now c.copied-all.result c.requires.0 c.requires.1 c.copied-all.ensures.0 _ c.copy_from_slice.ensures.after _ c.fill.ensures.circuits
+    filled_anew z.mode z.target z.before.now z.order.now z.cap.now c.requires.0 _ c.copy_from_slice.ensures.after _ c.fill.ensures.circuits

@@ -6,4 +6,4 @@ pub returns : goal.returns
 returns c =
     let z = c.args in
     reinforced z.root z.excess (solved_in z.solved.now) z.phi.now
-    z.circuits.now z.banks.now z.floors.now z.upsized.now z.marks.now z.t _ _ _ _ _ _ _ _ c.choose_batch-taken.ensures c.stiffen_batch.ensures
+    z.circuits.now z.banks.now z.floors.now z.upsized.now z.marks.now z.t _ _ _ _ _ _ _ c.choose_batch-order.ensures (rw c.deref.ensures.0 at c.stiffen_batch.ensures)

@@ -1,4 +1,4 @@
-use Rattle.std.proofs.Common.{replicate}
+use Rattle.std.proofs.Common.{◌∙◌, length, replicate, arith, get_or-take}
 use lib.ListN.{get_or-replicate}
 use lib.Ieee.{nan}
 use Rattle.loops.specs.Figures.{nought}
@@ -7,5 +7,5 @@ use Rattle.planning.proofs.top_up.order_costs.Goals as goal
 
 pub returns : goal.returns
 returns c =
-    let s = c in
-    (c.order_by.ensures.size, order_costs (replicate 256 nought) s.args.c1.now (λ k h. get_or-replicate 256 k nought nan h) _ s.requires.0 c.order_by.ensures.order)
+    let c1 = c.args.c1.now in
+    order_costs _ c1 (λ k h. get_or-take (length c1) (replicate 256 nought) k nan h ∙ get_or-replicate 256 k nought nan (omega (arith, c.requires))) _ c.order_by.ensures

@@ -1,4 +1,5 @@
 -- What the contracts of planning's functions cite, beside the defined plan.
+pub mod Supplied
 pub mod Tables
 pub mod Design
 pub mod Redesign

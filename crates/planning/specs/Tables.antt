@@ -1,5 +1,6 @@
 -- The columns that planning's structs of slices hold, as lists: what contracts and laws speak of.
 use Rattle.std.specs.Prelude.{ℕ, List, Float}
+pub use Rattle.planning.specs.Supplied.{SupplyColumns, supply_of}
 use Rattle.planning.specs.declared.tables.Grid.{Grid}
 use Rattle.planning.specs.declared.tables.Supply.{Supply}
 use Rattle.planning.specs.declared.tables.Opened.{Opened}
@@ -14,15 +15,6 @@ pub record GridColumns : Type 0 where
   pub share : List Float
   pub cap : List ℕ
   pub sheet : List Float
-
-pub record SupplyColumns : Type 0 where
-  pub load : List Float
-  pub bus : List ℕ
-  pub slack : List ℕ
-  pub pmin : List Float
-  pub pmax : List Float
-  pub c1 : List Float
-  pub c2 : List Float
 
 pub record OpenedColumns : Type 0 where
   pub leader : List ℕ
@@ -42,9 +34,6 @@ pub record SolvedColumns : Type 0 where
 -- ---- of these lists
 abbrev pub grid_of : List Float → List ℕ → List ℕ → List Float → List Float → List ℕ → List Float → GridColumns
 grid_of ladder a b km share cap sheet = record { ladder = ladder; a = a; b = b; km = km; share = share; cap = cap; sheet = sheet }
-
-abbrev pub supply_of : List Float → List ℕ → List ℕ → List Float → List Float → List Float → List Float → SupplyColumns
-supply_of load bus slack pmin pmax c1 c2 = record { load = load; bus = bus; slack = slack; pmin = pmin; pmax = pmax; c1 = c1; c2 = c2 }
 
 abbrev pub opened_of : List ℕ → List ℕ → List Float → OpenedColumns
 opened_of leader grounds injection = record { leader = leader; grounds = grounds; injection = injection }

@@ -91,7 +91,7 @@ pub fn redesign(grid: &Grid, level: &[u32], supply: &Supply, floors: &[f64], ban
     ensures sound { Banks banks.new }
 {
     let mut gen_at = [0.0; MOST_BUSES];
-    inject(supply.bus, supply.pmax, &mut gen_at);
+    inject(supply, supply.pmax, &mut gen_at);
     let mut shared = [0; MOST_BUSES];
     transformer_corridors(grid, level, &mut shared);
     for k in 0..grid.a.len() {

@@ -1,7 +1,7 @@
 // The columns that planning reads together: of the corridors and the levels, of the buses and the units, and what the opening makes of them.
 ghost use Rattle.planning.specs.Supplied.{Supplied, supply_of};
 
-use crate::solve::Edges;
+use crate::edges::Edges;
 use crate::stiffen::Limits;
 
 // The ladder, the columns of the corridors, and the rows of the line sheet.

@@ -35,8 +35,7 @@ invariant_of-supply c =
     let lent = slices z.circuits.now z.flow.now z.rate.now z.before.now z.order.now z.kept_cap.now z.mw.now z.angle.now z.level.now z.ground.now z.added.now z.figures.now z.counts.now in
     let answer : c.check_case.result ≡ check_of (slices_ok case lent) (tables_of_lem case) z.target = checked case z.target lent _ _ c.places_ok-fits.ensures c.check_case.ensures in
     let q = c.in_ok-check_case.was in
-    supplied_by case z.target lent (sym q ∙ answer) _
-    (loads_lent z.n case.reading case.weight _ c.weigh-load.ensures (buses_fit case z.target lent c.check_case.result answer q))
+    record { supplied = supplied_by case z.target lent (sym q ∙ answer) _ (loads_lent z.n case.reading case.weight _ c.weigh-load.ensures (buses_fit case z.target lent c.check_case.result answer q)) }
 
 pub run-requires : goal.run-requires
 run-requires c =

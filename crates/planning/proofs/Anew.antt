@@ -12,12 +12,14 @@ use Rattle.plan_defs.specs.Case.{Case, to_of}
 use Rattle.plan_defs.specs.Design.{drawn, kept_bank, fresh_bank, bank_for, gen_at_bus, transformer_corridors, design_at}
 use Rattle.plan_defs.specs.declared.CircuitDesign.{CircuitDesign}
 use Rattle.planning.specs.Design.{lines_for, ends_for, ends_of, Lines, Banks}
-use Rattle.planning.specs.Redesign.{units_for, redesign_for, Units, Loads, anew_from, bank_of, fresh_at, bank_anew, banks_anew}
+use Rattle.planning.specs.Redesign.{units_for, redesign_for, anew_from, bank_of, fresh_at, bank_anew, banks_anew}
 use Rattle.planning.specs.declared.design.Ends.{Ends}
 use Rattle.planning.proofs.Lists.{sum_most, count_most}
 use Rattle.planning.proofs.Draws.{ends_fit, to_below, drawn_lifts}
 use Rattle.planning.proofs.Ratings.{fresh_rating, drawn_rated, anew_sound}
-use Rattle.planning.specs.Tables.{GridColumns, SupplyColumns}
+use Rattle.planning.specs.Tables.{GridColumns}
+use Rattle.planning.specs.Supplied.{SupplyColumns, Supplied}
+use Rattle.planning.proofs.Supplies.{unit_inside}
 
 -- ---- one corridor, over what the code has added up for each bus
 module _ (grid : GridColumns) (level : List ℕ) (load gens : List Float) (shared : List ℕ) (k : ℕ) where
@@ -41,7 +43,7 @@ module _ (grid : GridColumns) (level : List ℕ) (load gens : List Float) (share
 
 -- ---- where the two lists hold what each bus's units give and how many corridors step down to it
 module _ (grid : GridColumns) (level : List ℕ) (supply : SupplyColumns) (floors gens : List Float) (shared : List ℕ)
-    (k : ℕ) (lines : Lines grid level) (loads : Loads level supply.load) (units : Units supply) (few : length grid.a ≤ 256) (h : k < length grid.a)
+    (k : ℕ) (lines : Lines grid level) (supplied : Supplied supply) (size : length supply.load ≡ length level) (few : length grid.a ≤ 256) (h : k < length grid.a)
     (gens-are : gens ≡ tab 256 (gen_at_bus (units_for supply))) (shared-are : shared ≡ tab 256 (transformer_corridors (ends_for grid) level)) where
   abbrev C : Case
   C = redesign_for grid supply
@@ -53,7 +55,7 @@ module _ (grid : GridColumns) (level : List ℕ) (supply : SupplyColumns) (floor
   lo_below = to_below grid level k (ends_fit grid level k lines h)
 
   lo_few : lo < 256
-  lo_few = omega (arith, lo_below, loads.few)
+  lo_few = omega (arith, lo_below, size, supplied.few_buses)
 
   gen_is : at gens lo ≡ gen_at_bus (units_for supply) lo
   gen_is = tab_read nan 256 (gen_at_bus (units_for supply)) gens lo gens-are lo_few
@@ -66,15 +68,15 @@ module _ (grid : GridColumns) (level : List ℕ) (supply : SupplyColumns) (floor
   top = 128_000_000
 
   load_most : Most top (at supply.load lo)
-  load_most = most_more 1_000_000 top (at supply.load lo) (lit≤ tt) (million_most (at supply.load lo) (loads.sound lo (omega (arith, lo_below, loads.load_size))))
+  load_most = most_more 1_000_000 top (at supply.load lo) (lit≤ tt) (million_most (at supply.load lo) (supplied.loads lo (omega (arith, lo_below, size))))
 
   gen_most : Most top (gen_at_bus (units_for supply) lo)
   unfolding gen_at_bus
   gen_most =
       let n = length supply.bus in
-      let u : n * 1_000_000 ≤ 128 * 1_000_000 = mul-le-mul_right 1_000_000 units.few in
+      let u : n * 1_000_000 ≤ 128 * 1_000_000 = mul-le-mul_right 1_000_000 supplied.few_units in
       most_more (n * 1_000_000) top (gen_at_bus (units_for supply) lo) (omega arith)
-      (sum_most (at supply.pmax) (λ j. eqb (get_or supply.bus j 0) lo) 1_000_000 n (λ j w. million_most (at supply.pmax j) (units.sound j w)) (omega arith))
+      (sum_most (at supply.pmax) (λ j. eqb (get_or supply.bus j 0) lo) 1_000_000 n (λ j w. million_most (at supply.pmax j) (unit_inside _ _ _ _ (supplied.units j w))) (omega arith))
 
   shared_most : transformer_corridors (ends_for grid) level lo ≤ 2 ^ 53
   unfolding transformer_corridors
@@ -114,11 +116,11 @@ module _ (grid : GridColumns) (level : List ℕ) (supply : SupplyColumns) (floor
 
 -- every bank anew is above 0 and finite
 pub banks_anew_sound : (grid : GridColumns) (level : List ℕ) (supply : SupplyColumns) (floors : List Float)
-    → Lines grid level → Loads level supply.load → Units supply → length grid.a ≤ 256
+    → Lines grid level → Supplied supply → length supply.load ≡ length level → length grid.a ≤ 256
     → Banks (banks_anew (redesign_for grid supply) level floors)
 unfolding banks_anew
-banks_anew_sound grid level supply floors lines loads units few k w =
+banks_anew_sound grid level supply floors lines supplied size few k w =
     let f = bank_anew (redesign_for grid supply) level floors in
     let h : k < length grid.a = omega (arith, w, length_tab (length grid.a) f) in
     subst (λ (x : Float). rating_ok x ≡ true) (sym (get_tab (length grid.a) f k nan h))
-    (anew_ok grid level supply floors _ _ k lines loads units few h refl refl)
+    (anew_ok grid level supply floors _ _ k lines supplied size few h refl refl)

@@ -12,7 +12,7 @@ use Rattle.loops.proofs.Wholes.{whole, Few, of_few, few_plus, few_within}
 use Rattle.dispatch_defs.specs.Operation.{demand_ok}
 use Rattle.plan_defs.specs.Lists.{keep, pass_from, each, sum_over}
 use Rattle.plan_defs.specs.Components.{within, members}
-use Rattle.planning.specs.Opening.{Loads}
+use Rattle.planning.specs.Supplied.{SupplyColumns, Supplied}
 
 -- the two bounds, as whole numbers
 wholes : (million ≡ whole 1_000_000) × (billion ≡ whole 1_000_000_000)
@@ -65,11 +65,12 @@ module _ (f : ℕ → Float) (p : ℕ → Bool) (n : ℕ) (most : n ≤ 256) (sm
           )
       go false next = next s (b.0, few_more (i * 1_000_000) (suc i * 1_000_000) s (omega arith) b.1)
 
-pub demand_ok_lem : (led : List ℕ) (load : List Float) → Loads led load → (root : ℕ) → demand_ok (sum_over (at load) (members led root)) ≡ true
-demand_ok_lem led load L root =
+pub demand_ok_lem : (led : List ℕ) (supply : SupplyColumns) → Supplied supply → length led ≡ length supply.load → (root : ℕ) → demand_ok (sum_over (at supply.load) (members led root)) ≡ true
+demand_ok_lem led supply S e root =
     let n = length led in
-    let s = sum_over (at load) (members led root) in
-    let b = sum_bounded (at load) (within led root) n L.few L.each n 0 (omega arith) nought start in
+    let s = sum_over (at supply.load) (members led root) in
+    let few : n ≤ 256 = omega (arith, e, S.few_buses) in
+    let b = sum_bounded (at supply.load) (within led root) n few (λ i h. S.loads i (omega (arith, e, h))) n 0 (omega arith) nought start in
     and_of (nought_least s b.0)
     (ap (λ (y : Float). le s y) wholes.1
-    ∙ of_few 1_000_000_000 s b.0 (ltb→lt 1_000_000_000 (2 ^ 53) tt) (few_more (n * 1_000_000) 1_000_000_000 s (omega (arith, L.few)) b.1))
+    ∙ of_few 1_000_000_000 s b.0 (ltb→lt 1_000_000_000 (2 ^ 53) tt) (few_more (n * 1_000_000) 1_000_000_000 s (omega (arith, few)) b.1))

@@ -26,7 +26,6 @@ use Rattle.plan_defs.specs.Outcome.{Slices, up_to}
 use Rattle.plan_defs.proofs.Stages.{On, on_onward}
 use Rattle.plan_defs.proofs.Rising.{risen_first}
 use Rattle.plan_defs.proofs.Opened.{Done, done}
-use Rattle.planning.specs.Redesign.{Units}
 use Rattle.planning.specs.Size.{Few}
 use Rattle.planning.specs.Solve.{peak_for}
 use Rattle.planning.specs.Close.{Closable, lent_to}
@@ -40,47 +39,8 @@ use Rattle.planning.proofs.Sounds.{lines_of}
 use Rattle.std.specs.Prelude.{Err, Ok, Result}
 use Rattle.planning.specs.Tables.{GridColumns, grid_of, SupplyColumns, supply_of, opened_of}
 
--- ---- a unit's most is not below zero, since its least is not
-truth : (b : Bool) → T b → b ≡ true
-truth true t = refl
-truth false t = absurd t
-
-none_below : (x : Float) → T (unsigned x) → lt x nought ≡ false
-unfolding lt of_bits
-none_below nan h = absurd h
-none_below (inf true) h = absurd h
-none_below (inf false) h = refl
-none_below (fin true m e) h =
-    let z : m ≡ 0 = eqb-true m 0 (truth (eqb m 0) h) in
-    let y : m * up e * 1 ≡ 0 = ap (λ (k : ℕ). k * up e * 1) z ∙ ap (λ (k : ℕ). k * 1) (zero-mul (up e)) in
-    le-ltb 0 (m * up e * 1 + 0 * down e) (omega (arith, y, zero-mul (down e)))
-none_below (fin false m e) h = le-ltb (m * up e * 1) (0 * down e) (omega (arith, zero-mul (down e)))
-
-from_nought : (x y : Float) → le nought x ≡ true → le x y ≡ true → le nought y ≡ true
-from_nought x y p q =
-    let u = sound_up x y (sound_of x p) q in
-    le_of_not_lt y nought (sound_real y u) (left_real nought x p) (none_below y u)
-
-unit_inside : (pmin pmax c1 c2 : Float) → unit_ok pmin pmax c1 c2 ≡ true → inside nought million pmax ≡ true
-unit_inside pmin pmax c1 c2 h =
-    let ab = le nought pmin && le pmin pmax in
-    let abc = ab && le pmax million in
-    let p = (both abc _ (both (abc && le nought c1) _ (both ((abc && le nought c1) && le c1 most_c1) _ (both (((abc && le nought c1) && le c1 most_c1) && le nought c2) _ h).0).0).0).0 in
-    let q = both ab (le pmax million) p in
-    let r = both (le nought pmin) (le pmin pmax) q.0 in
-    and_of (from_nought pmin pmax r.0 r.1) q.1
-
 module _ (c : Case) (target : ℕ) (s : Sound c target) where
   -- ---- what the columns are asked
-  units_by : Units (supply_of c.load c.bus c.slack c.pmin c.pmax c.c1 c.c2)
-  units_by =
-      record {
-        pmax_size = s.pmax_size ∙ sym s.bus_size;
-        few = omega (arith, s.few_generators, s.bus_size);
-        bus_below = λ k h. omega (arith, s.few_buses, s.bus_below k (omega (arith, h, s.bus_size)));
-        sound = λ k h. unit_inside _ _ _ _ (s.unit_ok_holds k (omega (arith, h, s.bus_size)));
-      }
-
   first_below : (i : ℕ) → i < c.buses → get_or (first_levels c) i 0 < levels c
   unfolding first_levels
   first_below i h = omega (arith, get_tab c.buses (λ (j : ℕ). c.above + get_or c.tier j 0) i 0 h, s.tier_below i h)
@@ -93,13 +53,7 @@ module _ (c : Case) (target : ℕ) (s : Sound c target) where
   columns_by sheet laid figures level e =
       record {
         lines = lines_of c target s sheet laid figures level (level_size level e) (λ i h. subst (λ (l : List ℕ). get_or l i 0 < levels c) (sym e) (first_below i h));
-        loads =
-            record {
-              load_size = s.load_size ∙ sym (level_size level e);
-              few = omega (arith, s.few_buses, level_size level e);
-              sound = λ i h. s.load_inside i (omega (arith, h, s.load_size));
-            };
-        units = units_by;
+        load_size = s.load_size ∙ sym (level_size level e);
         few = omega (arith, s.few_corridors, s.a_size);
       }
 

@@ -6,6 +6,7 @@ pub mod Draws
 pub mod Ratings
 pub mod Searches
 pub mod Served
+pub mod Supplies
 pub mod Anew
 pub mod Builds
 pub mod Redesigns

@@ -5,7 +5,7 @@ use native.Mathlib.Nat.{sub-zero}
 use lib.Ieee.{Float, le}
 use Rattle.loops.specs.Figures.{at, minus, nought}
 use Rattle.refusal.specs.declared.Refusal.{Refusal}
-use Rattle.angles_defs.specs.Network.{edges_of, zeros}
+use Rattle.angles_defs.specs.Network.{zeros}
 use Rattle.angles_defs.specs.Solve.{solve}
 use Rattle.plan_defs.specs.Constants.{max_angle_spread_rad, stiffening_rounds}
 use Rattle.plan_defs.specs.Stage.{Stage, going, onward}
@@ -20,13 +20,13 @@ use Rattle.planning.specs.Stiffen.{budget_for, stiff_of, round_of, Within, LedSt
 use Rattle.planning.specs.declared.stiffen.Stiffness.{Stiffness}
 use Rattle.std.specs.Prelude.{Err, Ok, Result}
 use Rattle.refusal.specs.Reply.{no_refusal}
-use Rattle.planning.specs.Tables.{SolvedColumns}
+use Rattle.planning.specs.Tables.{SolvedColumns, edges_in}
 
 -- ---- the component, by what the solve answers
 module _ (root lead lag : ℕ) (excess : Float) (solved : SolvedColumns)
     (circuits : List ℕ) (banks floors : List Float) (upsized marks : List ℕ) (t : Stiffness) (n : ℕ) (phi : List Float) (r : Result (Unit {0}) Refusal) (pn : n ≡ length solved.level)
     (pa : stage_of r phi
-    ≡ finite_angles (solve n (edges_of (take (length solved.grid.a - 0) solved.from) (take (length solved.grid.a - 0) solved.to) (take (length solved.grid.a - 0) solved.weight)) solved.opened.grounds (unit_at n lead lag) (zeros n)).x) where
+    ≡ finite_angles (solve n (edges_in solved.e) solved.opened.grounds (unit_at n lead lag) (zeros n)).x) where
   abbrev step : Case → List Float → List Float → Stiffening → Stage Stiffening
   step = narrow_step root lead lag excess solved
 
@@ -36,15 +36,14 @@ module _ (root lead lag : ℕ) (excess : Float) (solved : SolvedColumns)
 
     by_angles : (b : Bool) (x : List Float)
         → onward (finite_if b x) next
-        ≡ narrow_if c (peak_for c.buses solved.opened.grounds injection) solved.opened.leader solved.level 0 (budget_for solved.g) (round_of (length solved.grid.a) solved.from solved.to solved.weight solved.angle flows) b root excess s x
+        ≡ narrow_if c (peak_for c.buses solved.opened.grounds injection) solved.opened.leader solved.level 0 (budget_for solved.g) (round_of solved.e solved.angle flows) b root excess s x
     by_angles true x = refl
     by_angles false x = refl
 
     answer_is : n ≡ c.buses → onward (stage_of r phi) next ≡ step c injection flows s
     answer_is e =
-        let X : ℕ → ℕ → List Float = λ k i. (solve i (edges_of (take k solved.from) (take k solved.to) (take k solved.weight)) solved.opened.grounds (unit_at i lead lag) (zeros i)).x in
-        ap (λ (y : Stage (List Float)). onward y next) (pa ∙ ap (λ (k : ℕ). finite_angles (X k n)) (sub-zero (length solved.grid.a)) ∙ ap (λ (i : ℕ). finite_angles (X (length solved.grid.a) i)) e)
-        ∙ by_angles (all_finite (X (length solved.grid.a) c.buses)) (X (length solved.grid.a) c.buses)
+        let X : ℕ → List Float = λ i. (solve i (edges_in solved.e) solved.opened.grounds (unit_at i lead lag) (zeros i)).x in
+        ap (λ (y : Stage (List Float)). onward y next) (pa ∙ ap (λ (i : ℕ). finite_angles (X i)) e) ∙ by_angles (all_finite (X c.buses)) (X c.buses)
 
   pub narrowed_refused : (f : Refusal) → r ≡ Err f → Banks banks
       → Stepped step solved.grid solved.level circuits banks floors upsized marks t circuits banks floors upsized marks (Err f)
@@ -89,12 +88,12 @@ module _ (root round : ℕ) (solved : SolvedColumns)
     excess = minus (minus (at solved.angle lead) (at solved.angle lag)) max_angle_spread_rad
 
     component_is : (c : Case) (injection flows : List Float) (s : Stiffening)
-        → exceeds_by c (peak_for c.buses solved.opened.grounds injection) solved.opened.leader solved.level round (budget_for solved.g) (round_of (length solved.grid.a) solved.from solved.to solved.weight solved.angle flows) root lead lag s excess
+        → exceeds_by c (peak_for c.buses solved.opened.grounds injection) solved.opened.leader solved.level round (budget_for solved.g) (round_of solved.e solved.angle flows) root lead lag s excess
         ≡ whole c injection flows s
     unfolding stiffen_component
     component_is c injection flows s =
         let P = peak_for c.buses solved.opened.grounds injection in
-        let v = round_of (length solved.grid.a) solved.from solved.to solved.weight solved.angle flows in
+        let v = round_of solved.e solved.angle flows in
         ap (λ (i : ℕ). between_buses c P solved.opened.leader solved.level round (budget_for solved.g) v root i lag s) pl
         ∙ ap (λ (i : ℕ). between_buses c P solved.opened.leader solved.level round (budget_for solved.g) v root (lead_of solved.opened.leader solved.angle root) i s) pg
 
@@ -106,7 +105,7 @@ module _ (root round : ℕ) (solved : SolvedColumns)
               let c = with_lines o solved.grid in
               let s = stiff_of c solved.level circuits banks floors upsized marks t in
               let P = peak_for c.buses solved.opened.grounds injection in
-              let v = round_of (length solved.grid.a) solved.from solved.to solved.weight solved.angle flows in
+              let v = round_of solved.e solved.angle flows in
               ap (λ (x : Bool). unless_narrow c P solved.opened.leader solved.level round (budget_for solved.g) v x root lead lag excess s) (sym h) ∙ component_is c injection flows s;
           banked = banked;
           few = λ f. f;
@@ -115,12 +114,12 @@ module _ (root round : ℕ) (solved : SolvedColumns)
 
     module _ (u : Stiffness) (pu : u ≡ widened_to t) (h : le excess nought ≡ false) where
       late_is : (y : Bool) → ltb stiffening_rounds round ≡ y → (c : Case) (injection flows : List Float)
-          → unless_late c (peak_for c.buses solved.opened.grounds injection) solved.opened.leader solved.level round (budget_for solved.g) (round_of (length solved.grid.a) solved.from solved.to solved.weight solved.angle flows) y root lead lag excess (stiff_of c solved.level circuits banks floors upsized marks t)
+          → unless_late c (peak_for c.buses solved.opened.grounds injection) solved.opened.leader solved.level round (budget_for solved.g) (round_of solved.e solved.angle flows) y root lead lag excess (stiff_of c solved.level circuits banks floors upsized marks t)
           ≡ whole c injection flows (stiff_of c solved.level circuits banks floors upsized marks t)
       late_is y q c injection flows =
           let s = stiff_of c solved.level circuits banks floors upsized marks t in
           let P = peak_for c.buses solved.opened.grounds injection in
-          let v = round_of (length solved.grid.a) solved.from solved.to solved.weight solved.angle flows in
+          let v = round_of solved.e solved.angle flows in
           ap (λ (x : Bool). unless_late c P solved.opened.leader solved.level round (budget_for solved.g) v x root lead lag excess s) (sym q)
           ∙ ap (λ (x : Bool). unless_narrow c P solved.opened.leader solved.level round (budget_for solved.g) v x root lead lag excess s) (sym h)
           ∙ component_is c injection flows s

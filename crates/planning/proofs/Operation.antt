@@ -27,10 +27,12 @@ use Rattle.planning.specs.Plan.{HoldsAll, WholeAs, PlanDone, Lendable}
 use Rattle.planning.specs.declared.plan.PlanRun.{PlanRun}
 use Rattle.planning.proofs.Draws.{Laid}
 use Rattle.planning.proofs.Liftings.{zeroed_is, held_is}
+use Rattle.planning.proofs.Supplies.{supplied}
 use Rattle.planning.proofs.Sounds.{sound, lengths_of, kept_lengths, refused_outcome}
 use Rattle.std.specs.Prelude.{Err, Ok, Result}
 use Rattle.refusal.specs.Reply.{reply_of, no_refusal}
-use Rattle.planning.specs.Tables.{grid_of, supply_of}
+use Rattle.planning.specs.Tables.{grid_of}
+use Rattle.planning.specs.Supplied.{supply_of, Supplied}
 
 -- ---- what a plan keeps has a place for each corridor
 abbrev KeptSizes : Case → Plan → Type 0
@@ -104,6 +106,9 @@ module _ (c : Case) (target : ℕ) (s : Slices) where
     lendable_by sheet laid figures load e =
         let p = sym (relaid_is sheet laid figures) in
         subst (LendableWith sheet) (sym e) (record { whole = c; sound = subst (λ (x : Case). Sound x target) p is_sound; lengths = subst (λ (x : Case). Lengths x (lent_of s)) p lent_sizes })
+
+    pub supplied_by : (load : List Float) → load ≡ c.load → Supplied (supply_of load c.bus c.slack c.pmin c.pmax c.c1 c.c2)
+    supplied_by load e = subst (λ (l : List Float). Supplied (supply_of l c.bus c.slack c.pmin c.pmax c.c1 c.c2)) (sym e) (supplied c target is_sound)
 
     ends : outcome_by (ending_on (plan_for c target)) c s ≡ plan_corridors c target s
     unfolding plan_corridors ending_of

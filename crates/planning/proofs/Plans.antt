@@ -21,7 +21,7 @@ use Rattle.plan_defs.specs.declared.CircuitDesign.{CircuitDesign}
 use Rattle.plan_defs.proofs.Stages.{On}
 use Rattle.plan_defs.proofs.Rising.{risen_first}
 use Rattle.planning.specs.Design.{Lines}
-use Rattle.planning.specs.Redesign.{Units, redesign_for, banks_anew}
+use Rattle.planning.specs.Redesign.{redesign_for, banks_anew}
 use Rattle.planning.specs.Solve.{peak_for}
 use Rattle.planning.specs.Raises.{raised_of, raised_as, RaisesDone}
 use Rattle.planning.specs.Rounds.{rounds_case, draft_of, ran_as, RoundsRun}
@@ -32,6 +32,7 @@ use Rattle.planning.specs.declared.rounds.Progress.{Progress}
 use Rattle.planning.specs.declared.fill.Kept.{Kept}
 use Rattle.planning.specs.declared.plan.PlanRun.{PlanRun}
 use Rattle.planning.specs.declared.settle.Settling.{Settling}
+use Rattle.planning.proofs.Supplies.{supplied}
 use Rattle.planning.proofs.Redesigns.{redesign_is, banks_lift, first_design}
 use Rattle.std.specs.Prelude.{Err, Ok, Result}
 use Rattle.planning.specs.Tables.{GridColumns, OpenedColumns, SupplyColumns, grid_of, supply_of}
@@ -175,15 +176,12 @@ module _ (mode : PlanMode) (target above : ℕ) (grid : GridColumns) (level : Li
               rates = l.rates;
             }
 
-        own_units : Units (supply_of E.load E.bus E.slack E.pmin E.pmax E.c1 E.c2)
-        own_units = let u = h.columns.units in record { pmax_size = u.pmax_size; few = u.few; bus_below = u.bus_below; sound = u.sound }
-
         designs_are : drawn_all E level banks₁ ≡ design_circuits E level
         designs_are =
             ap (drawn_all E level) (anew ∙ banks_lift E grid.sheet refl level s.a_size s.bus_size s.ladder_size floors)
             ∙ sym (redesign_is E level floors)
             ∙ ap (redesign E level) (h.unset ∙ ap (λ (m : ℕ). zeros m) s.a_size)
-            ∙ first_design E grid.sheet refl level s.a_size s.bus_size s.ladder_size own_lines h.columns.loads own_units h.columns.few
+            ∙ first_design E grid.sheet refl level s.a_size s.bus_size s.ladder_size own_lines (supplied E target s) h.columns.load_size h.columns.few
 
         firsts_are : raised_of E level banks₁ 0 ≡ first_raised E
         firsts_are =

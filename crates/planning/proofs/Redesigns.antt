@@ -15,11 +15,12 @@ use Rattle.plan_defs.specs.Design.{line_of, line_at, with_bank, set_transformer_
 use Rattle.plan_defs.specs.Build.{built, build_of, drawn_all, rebuilt}
 use Rattle.plan_defs.specs.declared.CircuitDesign.{CircuitDesign}
 use Rattle.planning.specs.Design.{Lines, Rated}
-use Rattle.planning.specs.Redesign.{redesign_for, bank_of, bank_anew, banks_anew, Loads, Units}
+use Rattle.planning.specs.Redesign.{redesign_for, bank_of, bank_anew, banks_anew}
 use Rattle.planning.proofs.Draws.{Laid, drawn_lifts}
 use Rattle.planning.proofs.Ratings.{rating_positive, drawn_rated}
 use Rattle.planning.proofs.Anew.{fresh_ok, fresh_defined}
-use Rattle.planning.specs.Tables.{grid_of, supply_of}
+use Rattle.planning.specs.Tables.{grid_of}
+use Rattle.planning.specs.Supplied.{supply_of, Supplied}
 
 -- ---- a floor of zero keeps nothing
 not_below : (x : Float) → T (positive x) → lt x nought ≡ false
@@ -104,12 +105,12 @@ module _ (c : Case) (sheet : List Float) (laid : Laid c sheet) (level : List ℕ
       tab_same (length c.a) (bank_anew R level floors) (bank_anew c level floors) (λ k h. anew_lifts floors k) ∙ ap (λ (n : ℕ). tab n (bank_anew c level floors)) m
 
   -- ---- the first design is a redesign with floors of zero
-  module _ (lines : Lines (grid_of c.ladder c.a c.b c.km c.share c.cap sheet) level) (loads : Loads level c.load) (units : Units (supply_of c.load c.bus c.slack c.pmin c.pmax c.c1 c.c2)) (few : length c.a ≤ 256) where
+  module _ (lines : Lines (grid_of c.ladder c.a c.b c.km c.share c.cap sheet) level) (supplied : Supplied (supply_of c.load c.bus c.slack c.pmin c.pmax c.c1 c.c2)) (size : length c.load ≡ length level) (few : length c.a ≤ 256) where
     fresh_sound : (k : ℕ) → k < length c.a → rating_ok (bank_for c level (to_of c level k)) ≡ true
     unfolding to_of
     fresh_sound k h =
-        let p = fresh_ok (grid_of c.ladder c.a c.b c.km c.share c.cap sheet) level (supply_of c.load c.bus c.slack c.pmin c.pmax c.c1 c.c2) c.pmax _ _ k lines loads units few h refl refl in
-        let q = fresh_defined (grid_of c.ladder c.a c.b c.km c.share c.cap sheet) level (supply_of c.load c.bus c.slack c.pmin c.pmax c.c1 c.c2) c.pmax _ _ k lines loads units few h refl refl in
+        let p = fresh_ok (grid_of c.ladder c.a c.b c.km c.share c.cap sheet) level (supply_of c.load c.bus c.slack c.pmin c.pmax c.c1 c.c2) c.pmax _ _ k lines supplied size few h refl refl in
+        let q = fresh_defined (grid_of c.ladder c.a c.b c.km c.share c.cap sheet) level (supply_of c.load c.bus c.slack c.pmin c.pmax c.c1 c.c2) c.pmax _ _ k lines supplied size few h refl refl in
         subst (λ (x : Float). rating_ok x ≡ true) (q ∙ bank_lifts (to_of c level k)) p
 
     design_rated : (k : ℕ) → k < length c.a → Rated (design_at c level k)

@@ -26,6 +26,7 @@ use Rattle.planning.specs.Stiffen.{budget_for, stiff_of, stiffened_as, round_of,
 use Rattle.planning.specs.Whole.{with_units}
 use Rattle.planning.specs.Rounds.{rounds_case, draft_of, Redrawn}
 use Rattle.planning.specs.declared.size.Tally.{Tally}
+use Rattle.planning.specs.declared.edges.Edges.{Edges as Own}
 use Rattle.planning.specs.declared.stiffen.Limits.{Limits}
 use Rattle.planning.specs.declared.stiffen.Stiffness.{Stiffness}
 use Rattle.planning.specs.declared.rounds.Progress.{Progress}
@@ -38,7 +39,7 @@ use Rattle.planning.proofs.Stages.{stage_step, stage_end}
 use Rattle.planning.proofs.Passing.{pass_start}
 use Rattle.std.specs.Prelude.{Err, Ok, Result}
 use Rattle.refusal.specs.Reply.{no_refusal}
-use Rattle.planning.specs.Tables.{GridColumns, grid_of, SupplyColumns, OpenedColumns, solved_by}
+use Rattle.planning.specs.Tables.{GridColumns, grid_of, SupplyColumns, OpenedColumns, solved_by, edges_in}
 
 onward_same : {S T : Type 0} (st : Stage S) (f g : S → Stage T) → ((s : S) → f s ≡ g s) → onward st f ≡ onward st g
 onward_same (stopped r) f g e = refl
@@ -97,17 +98,17 @@ module _ (mode : PlanMode) (above : ℕ) (grid : GridColumns) (supply : SupplyCo
       stiffened_to (C o) (P o) opened.leader (draft level (built [] [] [] []) [] (p.rounds - 1) p.promoted p.capacity p.stiffening false false)
       (record { edges = edges_of [] [] []; theta = theta; flows = [] }) (sizing (built [] [] [] []) [] t.capacity t.added t.capped) u
 
-  abbrev component : List ℕ → ℕ → Limits → List ℕ → List ℕ → List Float → List Float → List Float → Case → ℕ → Stiffening → Stage Stiffening
-  component level round g from to weight theta flow o =
-      stiffen_component (C o) (P o) opened.leader level round (budget_for g) (round_of (length grid.a) from to weight theta flow)
+  abbrev component : List ℕ → ℕ → Limits → Own → List Float → List Float → Case → ℕ → Stiffening → Stage Stiffening
+  component level round g E theta flow o =
+      stiffen_component (C o) (P o) opened.leader level round (budget_for g) (round_of E theta flow)
 
   -- the components from bus i on, and what follows them
-  unfoldable pub stiffens_on : ℕ → List ℕ → Limits → List ℕ → List ℕ → List Float → List Float → List Float → Progress → Tally → ℕ → List ℕ → List Float → List Float → List ℕ → List ℕ → Stiffness
+  unfoldable pub stiffens_on : ℕ → List ℕ → Limits → Own → List Float → List Float → Progress → Tally → ℕ → List ℕ → List Float → List Float → List ℕ → List ℕ → Stiffness
       → Case → Stage Draft
-  stiffens_on d level g from to weight theta flow p t i circuits banks floors upsized marks s o =
+  stiffens_on d level g E theta flow p t i circuits banks floors upsized marks s o =
       then d o
       (onward
-      (each_stage (component level p.rounds g from to weight theta flow o) (pass_from (leads opened.leader) (length opened.leader - i) i) (stiff_of (C o) level circuits banks floors upsized marks s))
+      (each_stage (component level p.rounds g E theta flow o) (pass_from (leads opened.leader) (length opened.leader - i) i) (stiff_of (C o) level circuits banks floors upsized marks s))
       (closes level theta p t o))
 
   -- ---- after a raise: the draft that the slices stand for
@@ -127,14 +128,11 @@ module _ (mode : PlanMode) (above : ℕ) (grid : GridColumns) (supply : SupplyCo
   -- ---- a round: it begins with d + 1 left, and is solved
   module _ (level circuits : List ℕ) (banks floors : List Float) (upsized : List ℕ) (angle : List Float) (p : Progress) (W : Case → Stage Draft) (d' d : ℕ) (some : d' ≡ suc d)
       (size : length level ≡ n) (whole : Alike (goes_on d' level circuits banks floors upsized angle p) W) (theta flow : List Float) (r : Result (Unit {0}) Refusal)
-      (from to : List ℕ) (weight : List Float)
-      (edges : edges_of (take (length grid.a) from) (take (length grid.a) to) (take (length grid.a) weight) ≡ edges_for (drawn_all (lines_for grid) level banks) circuits)
-      (angles flows : ℕ) (angle_size : angles ≡ length level) (flow_size : flows ≡ length grid.a)
-      (peak : solved_of r (edges_of (take flows from) (take flows to) (take flows weight)) theta flow
-      ≡ planning_on (peak_for angles opened.grounds opened.injection) (edges_of (take flows from) (take flows to) (take flows weight)) angle) where
+      (E : Own) (edges : edges_in E ≡ edges_for (drawn_all (lines_for grid) level banks) circuits) (angles : ℕ) (angle_size : angles ≡ length level)
+      (peak : solved_of r (edges_in E) theta flow ≡ planning_on (peak_for angles opened.grounds opened.injection) (edges_in E) angle) where
     solved : solved_of r (edges_for (drawn_all (lines_for grid) level banks) circuits) theta flow
         ≡ planning_state (peak_for (length level) opened.grounds opened.injection) (drawn_all (lines_for grid) level banks) circuits angle
-    solved = state_of grid level circuits banks from to weight edges angles flows angle_size flow_size opened.grounds opened.injection angle r theta flow peak
+    solved = state_of grid level circuits banks (edges_in E) edges angles angle_size opened.grounds opened.injection angle r theta flow peak
 
     -- the tallies while the round runs
     abbrev pub running : Progress
@@ -249,14 +247,14 @@ module _ (mode : PlanMode) (above : ℕ) (grid : GridColumns) (supply : SupplyCo
         budget_is o e =
             limits ∙ ap budget_at (size ∙ e)
 
-        round_is : (o : Case) (target : ℕ) → Sound (C o) target → Fits o → round_of (length grid.a) from to weight theta flow ≡ Solved o
+        round_is : (o : Case) (target : ℕ) → Sound (C o) target → Fits o → round_of E theta flow ≡ Solved o
         round_is o target s e =
-            ap (λ (E : Edges). the_case E)
+            ap (λ (x : Edges). the_case x)
             (edges
             ∙ ap (λ (ds : List CircuitDesign). edges_for ds circuits) (drawn_all_lifts (C o) level grid.sheet refl banks s.a_size s.ladder_size))
           where
             the_case : Edges → PlanningCase
-            the_case E = record { edges = E; theta = theta; flows = flow }
+            the_case x = record { edges = x; theta = theta; flows = flow }
 
         start_is : (o : Case) → n ≡ o.buses → stiff_of (C o) level circuits' banks' floors' upsized' marks'' u ≡ stiffen_from level (budget_of (C o) level) (Z o).build p.stiffening
         unfolding stiffen_from
@@ -275,16 +273,16 @@ module _ (mode : PlanMode) (above : ℕ) (grid : GridColumns) (supply : SupplyCo
             go zero = rw back
             go (suc i) = rw back
 
-        stiffens_running : Alike (stiffens_on d level g from to weight theta flow running t 0 circuits' banks' floors' upsized' marks'' u) W
+        stiffens_running : Alike (stiffens_on d level g E theta flow running t 0 circuits' banks' floors' upsized' marks'' u) W
         unfolding stiffens_on stiffen_all
         stiffens_running o target s e =
             let G = budget_of (C o) level in
             let start = stiffen_from level G (Z o).build p.stiffening in
             let ends = closes level theta running t o in
-            ap (λ (ks : List ℕ). then d o (onward (each_stage (component level (p.rounds + 1) g from to weight theta flow o) ks (stiff_of (C o) level circuits' banks' floors' upsized' marks'' u)) ends))
+            ap (λ (ks : List ℕ). then d o (onward (each_stage (component level (p.rounds + 1) g E theta flow o) ks (stiff_of (C o) level circuits' banks' floors' upsized' marks'' u)) ends))
             (pass_start (leads opened.leader) (length opened.leader))
-            ∙ ap (λ (x : Stiffening). then d o (onward (each_stage (component level (p.rounds + 1) g from to weight theta flow o) (roots opened.leader) x) ends)) (start_is o e.0)
-            ∙ ap (λ (B : Budget). then d o (onward (each_stage (stiffen_component (C o) (P o) opened.leader level (p.rounds + 1) B (round_of (length grid.a) from to weight theta flow)) (roots opened.leader) start) ends)) (budget_is o e.0)
+            ∙ ap (λ (x : Stiffening). then d o (onward (each_stage (component level (p.rounds + 1) g E theta flow o) (roots opened.leader) x) ends)) (start_is o e.0)
+            ∙ ap (λ (B : Budget). then d o (onward (each_stage (stiffen_component (C o) (P o) opened.leader level (p.rounds + 1) B (round_of E theta flow)) (roots opened.leader) start) ends)) (budget_is o e.0)
             ∙ ap (λ (v : PlanningCase). then d o (onward (each_stage (stiffen_component (C o) (P o) opened.leader level (p.rounds + 1) G v) (roots opened.leader) start) ends)) (round_is o target s e)
             ∙ ap (λ (i : ℕ). then d o (onward (each_stage (stiffen_component (C o) (P o) opened.leader level i G (Solved o)) (roots opened.leader) start) ends)) (add-one p.rounds)
             ∙ ap (then d o) (onward_same (each_stage (stiffen_component (C o) (P o) opened.leader level (suc p.rounds) G (Solved o)) (roots opened.leader) start) ends (stiffened_to (C o) (P o) opened.leader (S o) (Solved o) (Z o)) (closes_is o))
@@ -294,34 +292,34 @@ module _ (mode : PlanMode) (above : ℕ) (grid : GridColumns) (supply : SupplyCo
             to_stiffen : (o : Case) → sized_to (C o) (P o) opened.leader (S o) (Solved o) (Z o) ≡ stiffen_with (C o) (P o) opened.leader (S o) (Solved o) (Z o) (budget_of (C o) level)
             to_stiffen o = rw (same, none, m)
 
-        pub stiffens : Alike (stiffens_on d level g from to weight theta flow p' t 0 circuits' banks' floors' upsized' marks'' u) W
-        stiffens o target s e = ap (λ (x : Progress). stiffens_on d level g from to weight theta flow x t 0 circuits' banks' floors' upsized' marks'' u o) runs ∙ stiffens_running o target s e
+        pub stiffens : Alike (stiffens_on d level g E theta flow p' t 0 circuits' banks' floors' upsized' marks'' u) W
+        stiffens o target s e = ap (λ (x : Progress). stiffens_on d level g E theta flow x t 0 circuits' banks' floors' upsized' marks'' u o) runs ∙ stiffens_running o target s e
 
   -- ---- the components, one bus after another
-  module _ (W : Case → Stage Draft) (d : ℕ) (level : List ℕ) (g : Limits) (from to : List ℕ) (weight theta flow : List Float) (p : Progress) (t : Tally) (size : length level ≡ n)
+  module _ (W : Case → Stage Draft) (d : ℕ) (level : List ℕ) (g : Limits) (E : Own) (theta flow : List Float) (p : Progress) (t : Tally) (size : length level ≡ n)
       (i : ℕ) (circuits : List ℕ) (banks floors : List Float) (upsized marks : List ℕ) (s : Stiffness)
-      (whole : Alike (stiffens_on d level g from to weight theta flow p t i circuits banks floors upsized marks s) W) where
+      (whole : Alike (stiffens_on d level g E theta flow p t i circuits banks floors upsized marks s) W) where
     module _ (more : i < length opened.leader) (circuits' : List ℕ) (banks' floors' : List Float) (upsized' marks' : List ℕ) (r : Result Stiffness Refusal)
-        (led : LedStiffened i p.rounds (solved_by g grid level opened from to weight theta) circuits banks floors upsized marks s circuits' banks' floors' upsized' marks' r) where
+        (led : LedStiffened i p.rounds (solved_by g grid level opened E theta) circuits banks floors upsized marks s circuits' banks' floors' upsized' marks' r) where
       stepped : (o : Case) (target : ℕ) → Sound (C o) target → Fits o
-          → then d o (onward (onward (stiffened_as r (C o) level circuits' banks' floors' upsized' marks') (each_stage (component level p.rounds g from to weight theta flow o) (pass_from (leads opened.leader) (length opened.leader - (i + 1)) (i + 1)))) (closes level theta p t o))
+          → then d o (onward (onward (stiffened_as r (C o) level circuits' banks' floors' upsized' marks') (each_stage (component level p.rounds g E theta flow o) (pass_from (leads opened.leader) (length opened.leader - (i + 1)) (i + 1)))) (closes level theta p t o))
           ≡ W o
       unfolding stiffens_on
       stepped o target sound e =
           ap (λ (st : Stage Stiffening). then d o (onward st (closes level theta p t o)))
-          (stage_step (component level p.rounds g from to weight theta flow o) (leads opened.leader) (length opened.leader) i more (stiff_of (C o) level circuits banks floors upsized marks s)
+          (stage_step (component level p.rounds g E theta flow o) (leads opened.leader) (length opened.leader) i more (stiff_of (C o) level circuits banks floors upsized marks s)
           (stiffened_as r (C o) level circuits' banks' floors' upsized' marks') (led.stiffened (with_units o mode above supply) target opened.injection flow sound (size ∙ e.0) e.1))
           ∙ whole o target sound e
 
       pub stiffen_refused : (f : Refusal) → r ≡ Err f → Alike (λ o. stopped f) W
       stiffen_refused f q o target sound e =
-          ap (λ (x : Result Stiffness Refusal). then d o (onward (onward (stiffened_as x (C o) level circuits' banks' floors' upsized' marks') (each_stage (component level p.rounds g from to weight theta flow o) (pass_from (leads opened.leader) (length opened.leader - (i + 1)) (i + 1)))) (closes level theta p t o)))
+          ap (λ (x : Result Stiffness Refusal). then d o (onward (onward (stiffened_as x (C o) level circuits' banks' floors' upsized' marks') (each_stage (component level p.rounds g E theta flow o) (pass_from (leads opened.leader) (length opened.leader - (i + 1)) (i + 1)))) (closes level theta p t o)))
           (sym q) ∙ stepped o target sound e
 
-      pub stiffen_next : (s' : Stiffness) → r ≡ Ok s' → Alike (stiffens_on d level g from to weight theta flow p t (i + 1) circuits' banks' floors' upsized' marks' s') W
+      pub stiffen_next : (s' : Stiffness) → r ≡ Ok s' → Alike (stiffens_on d level g E theta flow p t (i + 1) circuits' banks' floors' upsized' marks' s') W
       unfolding stiffens_on
       stiffen_next s' q o target sound e =
-          ap (λ (x : Result Stiffness Refusal). then d o (onward (onward (stiffened_as x (C o) level circuits' banks' floors' upsized' marks') (each_stage (component level p.rounds g from to weight theta flow o) (pass_from (leads opened.leader) (length opened.leader - (i + 1)) (i + 1)))) (closes level theta p t o)))
+          ap (λ (x : Result Stiffness Refusal). then d o (onward (onward (stiffened_as x (C o) level circuits' banks' floors' upsized' marks') (each_stage (component level p.rounds g E theta flow o) (pass_from (leads opened.leader) (length opened.leader - (i + 1)) (i + 1)))) (closes level theta p t o)))
           (sym q) ∙ stepped o target sound e
 
     -- ---- after the last of them: a raise, then anything else that was done, leads to another round
@@ -334,7 +332,7 @@ module _ (mode : PlanMode) (above : ℕ) (grid : GridColumns) (supply : SupplyCo
       unfolding stiffens_on
       closed o target sound e =
           ap (λ (st : Stage Stiffening). then d o (onward st (closes level theta p t o)))
-          (sym (stage_end (component level p.rounds g from to weight theta flow o) (leads opened.leader) (length opened.leader) i all (stiff_of (C o) level circuits banks floors upsized marks s)))
+          (sym (stage_end (component level p.rounds g E theta flow o) (leads opened.leader) (length opened.leader) i all (stiff_of (C o) level circuits banks floors upsized marks s)))
           ∙ whole o target sound e
 
       pub stiffened_again : (ltb 0 moved || s.stiffened) ≡ true

@@ -1,6 +1,6 @@
 -- A solve over slices is the defined planning state: the edges that were drawn, the angles of `dc_angles`, which refuses 9 alone, and the flows.
 -- Drawn edges join buses, so the request is sound; and `dc_angles` refuses exactly where an angle is not finite.
-use Rattle.std.proofs.Common.{◌≡◌, ℕ, ◌-◌, ◌*◌, ◌<◌, ◌≤◌, Bool, true, false, not, ltb, leb, List, map, length, get_or, take, set, replicate, sym, refl, ap, ◌∙◌, subst, arith, get_or-take, ltb-false, ltb-true, le-leb}
+use Rattle.std.proofs.Common.{◌≡◌, ℕ, ◌+◌, ◌-◌, ◌*◌, ◌<◌, ◌≤◌, Bool, true, false, not, ltb, leb, List, [], ◌∷◌, ◌++◌, map, length, get_or, take, set, replicate, sym, refl, ap, ◌∙◌, subst, add-one, arith, ltb-false, ltb-true, le-leb}
 use native.Mathlib.Nat.{sub-zero}
 use borrow.Author.Tests.{lt-leb}
 use lib.ListN.{length-replicate}
@@ -28,7 +28,8 @@ use Rattle.plan_defs.specs.Solve.{susceptance, weight_at, edges_for, flow_mw, fl
 use Rattle.plan_defs.specs.Stiffen.{unit_at}
 use Rattle.plan_defs.specs.declared.CircuitDesign.{CircuitDesign}
 use Rattle.planning.specs.Design.{lines_for, Lines}
-use Rattle.planning.specs.Solve.{finite_if, finite_angles, Net, Places}
+use Rattle.planning.specs.Edges.{Joined}
+use Rattle.planning.specs.Solve.{finite_if, finite_angles, Grounded, Places}
 use Rattle.planning.proofs.Draws.{ends_fit, from_below, to_below}
 use Rattle.loops.proofs.Fronts.{map_tab, front_replicate}
 use Rattle.std.specs.Prelude.{Err, Ok, Result}
@@ -67,40 +68,48 @@ angles_stage q result work S r y w e =
     ∙ ap (λ (b : Bool). finite_if b o.x) (sym (flip i q.n))
     ∙ ap (λ (n : ℕ). finite_if (leb n (first (finite_at o.x) n 0)) o.x) (sym (solve_places q.n q.edges q.grounds q.injection q.guess))
 
-sound_request : (n : ℕ) (from to : List ℕ) (weight : List Float) (grounds : List ℕ) (injection guess angle work : List Float)
-    → Net n from to weight grounds → Places n injection guess angle → length work ≡ work_places n
-    → Sound (request_of n (length from) (length grounds) from to weight injection grounds guess) (length angle) (length work)
-sound_request n from to weight grounds injection guess angle work N P w =
-    record {
-      lengths =
-          record {
-            injection = P.injection_size;
-            from = refl;
-            to = N.to_size;
-            weight = N.weight_size;
-            grounds = refl;
-            guess = P.guess_size;
-            result = P.angle_size;
-            work = w;
-          };
-      buses = N.few_buses;
-      edges = N.few_edges;
-      grounds = N.few_grounds;
-      from_below = N.from_below;
-      to_below = N.to_below;
-      ground_below = N.ground_below;
-    }
-
 -- where the solver's work is a part of an array of zeros
 pub work_room : (n : ℕ) → n ≤ most → 8 * n ≤ 2_048
 work_room n h = omega arith
 
-pub own_request : (n : ℕ) (from to : List ℕ) (weight : List Float) (grounds : List ℕ) (injection guess angle : List Float)
-    → Net n from to weight grounds → Places n injection guess angle
-    → Sound (request_of n (length from) (length grounds) from to weight injection grounds guess) (length angle) (length (take (8 * n - 0) (replicate 2_048 nought)))
-own_request n from to weight grounds injection guess angle N P =
-    sound_request n from to weight grounds injection guess angle (take (8 * n - 0) (replicate 2_048 nought)) N P
-    (ap length (front_replicate 2_048 (8 * n) nought (work_room n N.few_buses)) ∙ length-replicate (8 * n) nought)
+-- ---- what a call of `dc_angles` on these edges says
+module _ (n m : ℕ) (from to : List ℕ) (weight : List Float) (grounds : List ℕ) (injection guess angle : List Float) (E : Edges) (same : edges_of from to weight ≡ E) (size : m ≡ length E.from)
+    (b : ℕ) (buses : b ≡ n) (joined : Joined b E) (G : Grounded n grounds) (P : Places n injection guess angle) (r : Result Solution Refusal) (y w : List Float)
+    (e : outcome r y w ≡ dc_angles (request_of n m (length grounds) from to weight injection grounds guess) angle (take (8 * n - 0) (replicate 2_048 nought))) where
+  own_sound : Sound (request_of n m (length grounds) from to weight injection grounds guess) (length angle) (length (take (8 * n - 0) (replicate 2_048 nought)))
+  own_sound =
+      let J : Joined n (edges_of from to weight) = subst (Joined n) (sym same) (subst (λ (i : ℕ). Joined i E) buses joined) in
+      let long : m ≡ length from = size ∙ sym (ap (λ (x : Edges). length x.from) same) in
+      record {
+        lengths =
+            record {
+              injection = P.injection_size;
+              from = sym long;
+              to = J.to_size ∙ sym long;
+              weight = J.weight_size ∙ sym long;
+              grounds = refl;
+              guess = P.guess_size;
+              result = P.angle_size;
+              work = ap length (front_replicate 2_048 (8 * n) nought (work_room n J.few_buses)) ∙ length-replicate (8 * n) nought;
+            };
+        buses = J.few_buses;
+        edges = omega (arith, long, J.few_edges);
+        grounds = G.few;
+        from_below = λ k h. J.from_below k (omega (arith, long, h));
+        to_below = λ k h. J.to_below k (omega (arith, long, h));
+        ground_below = G.below;
+      }
+
+  own_stage : angle_stage r y ≡ finite_angles (solve n E grounds injection guess).x
+  own_stage =
+      angles_stage _ angle (take (8 * n - 0) (replicate 2_048 nought)) own_sound r y w e
+      ∙ ap (λ (x : Edges). finite_angles (solve n x grounds injection guess).x) same
+
+  pub angles_refused : (f : Refusal) → r ≡ Err f → stopped (NotFinite 0) ≡ finite_angles (solve n E grounds injection guess).x
+  angles_refused f h = ap (λ (a : Result Solution Refusal). angle_stage a y) (sym h) ∙ own_stage
+
+  pub angles_answered : (s : Solution) → r ≡ Ok s → going y ≡ finite_angles (solve n E grounds injection guess).x
+  angles_answered s h = ap (λ (a : Result Solution Refusal). angle_stage a y) (sym h) ∙ own_stage
 
 -- ---- the ends of a drawn corridor
 drawn_ends : (b : Bool) (d : CircuitDesign) (mva : Float) → ((banked_by b d mva).from ≡ d.from) × ((banked_by b d mva).to ≡ d.to)
@@ -138,14 +147,6 @@ module _ (c : Case) (level : List ℕ) (banks : List Float) (circuits : List ℕ
       ∙ ap (λ (l : List ℕ). edges_of (map (λ (d : CircuitDesign). d.from) ds) l weight) (q ∙ sym (map_tab (λ (d : CircuitDesign). d.to) m line))
       ∙ ap (λ (l : List Float). edges_of (map (λ (d : CircuitDesign). d.from) ds) (map (λ (d : CircuitDesign). d.to) ds) l) w
 
--- ---- what a call of `dc_angles` says
-module _ (q : Request) (result work : List Float) (S : Sound q (length result) (length work)) (r : Result Solution Refusal) (y w : List Float) (e : outcome r y w ≡ dc_angles q result work) where
-  pub angles_refused : (f : Refusal) → r ≡ Err f → stopped (NotFinite 0) ≡ finite_angles (solve_of q).x
-  angles_refused f h = ap (λ (a : Result Solution Refusal). angle_stage a y) (sym h) ∙ angles_stage q result work S r y w e
-
-  pub angles_answered : (s : Solution) → r ≡ Ok s → going y ≡ finite_angles (solve_of q).x
-  angles_answered s h = ap (λ (a : Result Solution Refusal). angle_stage a y) (sym h) ∙ angles_stage q result work S r y w e
-
 -- ---- the ends of a drawn corridor are buses
 module _ (grid : GridColumns) (level : List ℕ) (k : ℕ) (mva : Float) (lines : Lines grid level) (h : k < length grid.a) where
   pub drawn_from_below : (drawn (lines_for grid) level k mva).from < length level
@@ -158,11 +159,16 @@ module _ (grid : GridColumns) (level : List ℕ) (k : ℕ) (mva : Float) (lines 
   drawn_to_below =
       subst (λ (i : ℕ). i < length level) (sym (drawn_to (lines_for grid) level k mva)) (to_below grid level k (ends_fit grid level k lines h))
 
+-- ---- one more of a table
+pub tab_more : {A : Type 0} (f : ℕ → A) (n : ℕ) (l l' : List A) (x : A) → l' ≡ l ++ (x ∷ []) → l ≡ tab n f → x ≡ f n → l' ≡ tab (n + 1) f
+unfolding tab
+tab_more {A = A} f n l l' x e h p =
+    e ∙ ap (λ (y : List A). y ++ (x ∷ [])) h ∙ ap (λ (y : A). tab n f ++ (y ∷ [])) p ∙ ap (λ (k : ℕ). tab k f) (sym (add-one n))
+
 -- ---- flows
-pub flow_turn : (from to : List ℕ) (weight angle : List Float) (m k i j : ℕ) → k < m → i ≡ get_or from k 0 → j ≡ get_or to k 0
-    → times (times (at weight k) (minus (at angle i) (at angle j))) base_mva ≡ flow_mw (edges_of (take m from) (take m to) (take m weight)) angle k
-flow_turn from to weight angle m k i j h p q =
-    rw (get_or-take m from k 0 h, get_or-take m to k 0 h, get_or-take m weight k nan h, p, q)
+pub flow_turn : (E : Edges) (from to : List ℕ) (weight angle : List Float) (k : ℕ) → from ≡ E.from → to ≡ E.to → weight ≡ E.weight
+    → times (times (at weight k) (minus (at angle (get_or from k 0)) (at angle (get_or to k 0)))) base_mva ≡ flow_mw E angle k
+flow_turn E from to weight angle k p q r = rw (p, q, r)
 
 pub flows_are : (E : Edges) (angle : List Float) (m : ℕ) → length E.from ≡ m → tab m (flow_mw E angle) ≡ flows_of E angle
 unfolding flows_of

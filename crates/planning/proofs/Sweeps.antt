@@ -6,8 +6,6 @@ use lib.Ieee.{Float}
 use Rattle.refusal.specs.declared.Refusal.{Refusal}
 use Rattle.refusal.specs.Reply.{no_refusal}
 use Rattle.mode.specs.declared.PlanMode.{PlanMode}
-use Rattle.angles_defs.specs.Network.{edges_of}
-use Rattle.angles_defs.specs.Operation.{most}
 use Rattle.plan_defs.specs.Constants.{stiffening_branch_budget}
 use Rattle.plan_defs.specs.Lists.{sum}
 use Rattle.plan_defs.specs.Stage.{Stage, stopped, going}
@@ -20,16 +18,15 @@ use Rattle.plan_defs.specs.Stiffen.{hv_budget, share_of, stiffen_top, at_or_abov
 use Rattle.plan_defs.specs.Rounds.{Draft}
 use Rattle.planning.specs.Design.{Lines, Banks, lines_for}
 use Rattle.planning.specs.Size.{size_for, sizing_of, Few}
-use Rattle.planning.specs.Solve.{peak_for, solved_of, Drawing, Peaked}
+use Rattle.planning.specs.Solve.{peak_for, solved_of}
 use Rattle.planning.specs.Stiffen.{budget_for, LedStiffened}
 use Rattle.planning.specs.Rounds.{rounds_case, draft_of, ran_as, Redrawn, RoundsRun}
 use Rattle.planning.specs.declared.size.Tally.{Tally}
-use Rattle.planning.specs.declared.solve.Edges.{Edges}
+use Rattle.planning.specs.declared.edges.Edges.{Edges}
 use Rattle.planning.specs.declared.stiffen.Limits.{Limits}
 use Rattle.planning.specs.declared.stiffen.Stiffness.{Stiffness}
 use Rattle.planning.specs.declared.rounds.Progress.{Progress}
-use Rattle.planning.specs.Tables.{GridColumns, SupplyColumns, OpenedColumns, solved_by}
-use Rattle.planning.proofs.States.{peaked}
+use Rattle.planning.specs.Tables.{GridColumns, SupplyColumns, OpenedColumns, solved_by, edges_in}
 use Rattle.planning.proofs.Corridors.{left as to-size, left_start, left_turn}
 use Rattle.planning.proofs.Rounding.{Alike, goes_on, stiffens_on, ended, round_refused, sized_again, sized_settled, stiffens, stiffen_refused, stiffen_next, stiffened_again, stiffened_settled}
 
@@ -38,13 +35,6 @@ pub record Kept (grid : GridColumns) (level circuits : List ℕ) (banks : List F
   pub lines : Lines grid level
   pub banked : Banks banks
   pub few : Few circuits
-
--- the edges that the corridors make, as the solve reads them
-pub peaked_by : (grid : GridColumns) {level circuits : List ℕ} {banks : List Float} {n m : ℕ} (e : Edges) → Drawing grid level circuits banks
-    → edges_of (take (length grid.a) e.from) (take (length grid.a) e.to) (take (length grid.a) e.weight) ≡ edges_for (drawn_all (lines_for grid) level banks) circuits
-    → (length e.from ≡ most) × (length e.to ≡ most) × (length e.weight ≡ most) → n ≡ length level → m ≡ length grid.a → Peaked n m e.from e.to e.weight
-peaked_by grid {level} {circuits} {banks} {n} {m} e drawing edges sizes p q =
-    peaked grid level circuits banks drawing e.from e.to e.weight edges n m p q sizes.0 sizes.1 sizes.2
 
 -- the tallies while a round runs that began with these
 abbrev pub running : Progress → Progress
@@ -61,15 +51,13 @@ module _ (mode : PlanMode) (above : ℕ) (grid : GridColumns) (supply : SupplyCo
     pub left : ℕ
     pub before : List Float
     pub buses : ℕ
-    pub corridors : ℕ
     pub some : left ≡ suc d
     pub size : length level ≡ length opened.leader
     pub rounds : Rounds left level circuits banks floors upsized before p W
-    pub edges : edges_of (take (length grid.a) e.from) (take (length grid.a) e.to) (take (length grid.a) e.weight) ≡ edges_for (drawn_all (lines_for grid) level banks) circuits
+    pub edges : edges_in e ≡ edges_for (drawn_all (lines_for grid) level banks) circuits
     pub bus_size : buses ≡ length level
-    pub corridor_size : corridors ≡ length grid.a
-    pub peak : solved_of r (edges_of (take corridors e.from) (take corridors e.to) (take corridors e.weight)) angle flow
-        ≡ planning_on (peak_for buses opened.grounds opened.injection) (edges_of (take corridors e.from) (take corridors e.to) (take corridors e.weight)) before
+    pub peak : solved_of r (edges_in e) angle flow
+        ≡ planning_on (peak_for buses opened.grounds opened.injection) (edges_in e) before
 
   -- ---- the corridors from k on are left to size
   pub record Sizes (d : ℕ) (level : List ℕ) (e : Edges) (angle flow : List Float) (p : Progress) (k : ℕ) (circuits : List ℕ) (banks floors : List Float) (upsized marks : List ℕ) (t : Tally)
@@ -91,7 +79,7 @@ module _ (mode : PlanMode) (above : ℕ) (grid : GridColumns) (supply : SupplyCo
     pub some : 1 ≤ p.rounds
     pub unconverged : p.converged ≡ false
     pub unsettled : p.settled ≡ false
-    pub whole : Alike mode above grid supply opened (length opened.leader) (stiffens_on mode above grid supply opened (length opened.leader) d level g e.from e.to e.weight angle flow p t i circuits banks floors upsized marks s) W
+    pub whole : Alike mode above grid supply opened (length opened.leader) (stiffens_on mode above grid supply opened (length opened.leader) d level g e angle flow p t i circuits banks floors upsized marks s) W
 
 module _ {mode : PlanMode} {above : ℕ} {grid : GridColumns} {supply : SupplyColumns} {opened : OpenedColumns} {W : Case → Stage Draft} where
   -- none left
@@ -102,22 +90,22 @@ module _ {mode : PlanMode} {above : ℕ} {grid : GridColumns} {supply : SupplyCo
       ended mode above grid supply opened (length opened.leader) level circuits banks floors upsized angle p W d (omega (arith, h)) r.whole
 
   -- one more is begun: its edges are drawn, and the solve answers
-  pub solved_of_round : {left : ℕ} {level circuits : List ℕ} {banks floors : List Float} {upsized : List ℕ} {p : Progress} {angle₀ angle flow : List Float} {r : Result (Unit {0}) Refusal} {buses corridors : ℕ}
+  pub solved_of_round : {left : ℕ} {level circuits : List ℕ} {banks floors : List Float} {upsized : List ℕ} {p : Progress} {angle₀ angle flow : List Float} {r : Result (Unit {0}) Refusal} {buses : ℕ}
       (e : Edges) → Rounds mode above grid supply opened left level circuits banks floors upsized angle₀ p W → (left ≡ 0 → ⊥) → length level ≡ length opened.leader
-      → edges_of (take (length grid.a) e.from) (take (length grid.a) e.to) (take (length grid.a) e.weight) ≡ edges_for (drawn_all (lines_for grid) level banks) circuits
-      → buses ≡ length level → corridors ≡ length grid.a
-      → solved_of r (edges_of (take corridors e.from) (take corridors e.to) (take corridors e.weight)) angle flow
-      ≡ planning_on (peak_for buses opened.grounds opened.injection) (edges_of (take corridors e.from) (take corridors e.to) (take corridors e.weight)) angle₀
+      → edges_in e ≡ edges_for (drawn_all (lines_for grid) level banks) circuits
+      → buses ≡ length level
+      → solved_of r (edges_in e) angle flow
+      ≡ planning_on (peak_for buses opened.grounds opened.injection) (edges_in e) angle₀
       → Solved mode above grid supply opened (left - 1) level circuits banks floors upsized p e angle flow r W
-  solved_of_round {left} e rounds some size edges bus_size corridor_size peak =
-      record { left = _; before = _; buses = _; corridors = _; some = omega (arith, some); size = size; rounds = rounds; edges = edges; bus_size = bus_size; corridor_size = corridor_size; peak = peak }
+  solved_of_round {left} e rounds some size edges bus_size peak =
+      record { left = _; before = _; buses = _; some = omega (arith, some); size = size; rounds = rounds; edges = edges; bus_size = bus_size; peak = peak }
 
   module _ {d : ℕ} {level circuits : List ℕ} {banks floors : List Float} {upsized : List ℕ} {p : Progress} {e : Edges} {angle flow : List Float} {r : Result (Unit {0}) Refusal}
       (v : Solved mode above grid supply opened d level circuits banks floors upsized p e angle flow r W) where
     pub solve_refused : {f : Refusal} → r ≡ Err f → Alike mode above grid supply opened (length opened.leader) (λ o. stopped f) W
     solve_refused {f} q =
         round_refused mode above grid supply opened (length opened.leader) level circuits banks floors upsized v.before p W v.left d v.some v.size v.rounds.whole
-        angle flow r e.from e.to e.weight v.edges v.buses v.corridors v.bus_size v.corridor_size v.peak f q
+        angle flow r e v.edges v.buses v.bus_size v.peak f q
 
     pub sizes_start : {marks : List ℕ} {m : ℕ} → r ≡ no_refusal → marks ≡ no_marks m → m ≡ length level
         → Sizes mode above grid supply opened d level e angle flow (running p) 0 circuits banks floors upsized marks (record { capacity = p.capacity; added = false; capped = false }) W
@@ -159,7 +147,7 @@ module _ {mode : PlanMode} {above : ℕ} {grid : GridColumns} {supply : SupplyCo
           let v = z.solved in
           record {
             whole = sized_again mode above grid supply opened (length opened.leader) level z.circuits₀ z.banks₀ z.floors₀ z.upsized₀ v.before z.p₀ W v.left d v.some v.size v.rounds.whole
-                angle flow no_refusal e.from e.to e.weight v.edges v.buses v.corridors v.bus_size v.corridor_size v.peak refl circuits banks floors upsized marks t k all z.sized p z.runs
+                angle flow no_refusal e v.edges v.buses v.bus_size v.peak refl circuits banks floors upsized marks t k all z.sized p z.runs
                 level' banks' moved redrawn h;
           }
 
@@ -171,7 +159,7 @@ module _ {mode : PlanMode} {above : ℕ} {grid : GridColumns} {supply : SupplyCo
       sizes_settled {level'} {banks'} {moved} redrawn h m =
           let v = z.solved in
           sized_settled mode above grid supply opened (length opened.leader) level z.circuits₀ z.banks₀ z.floors₀ z.upsized₀ v.before z.p₀ W v.left d v.some v.size v.rounds.whole
-          angle flow no_refusal e.from e.to e.weight v.edges v.buses v.corridors v.bus_size v.corridor_size v.peak refl circuits banks floors upsized marks t k all z.sized p z.runs
+          angle flow no_refusal e v.edges v.buses v.bus_size v.peak refl circuits banks floors upsized marks t k all z.sized p z.runs
           level' banks' moved redrawn h m
 
       -- one that does begins to stiffen
@@ -188,17 +176,17 @@ module _ {mode : PlanMode} {above : ℕ} {grid : GridColumns} {supply : SupplyCo
             unconverged = ap (λ (q : Progress). q.converged) z.runs;
             unsettled = ap (λ (q : Progress). q.settled) z.runs;
             whole = stiffens mode above grid supply opened (length opened.leader) level z.circuits₀ z.banks₀ z.floors₀ z.upsized₀ v.before z.p₀ W v.left d v.some v.size v.rounds.whole
-                angle flow no_refusal e.from e.to e.weight v.edges v.buses v.corridors v.bus_size v.corridor_size v.peak refl circuits banks floors upsized marks t k all z.sized
+                angle flow no_refusal e v.edges v.buses v.bus_size v.peak refl circuits banks floors upsized marks t k all z.sized
                 none.1 none.2 none.0 p z.runs g marks' u limits clear begin;
           }
 
   module _ {d : ℕ} {level : List ℕ} {g : Limits} {e : Edges} {angle flow : List Float} {p : Progress} {t : Tally} {i : ℕ} {circuits : List ℕ} {banks floors : List Float} {upsized marks : List ℕ}
       {s : Stiffness} (z : Stiffens mode above grid supply opened d level g e angle flow p t i circuits banks floors upsized marks s W) where
     module _ {circuits' : List ℕ} {banks' floors' : List Float} {upsized' marks' : List ℕ} {r : Result Stiffness Refusal} (more : i < length opened.leader)
-        (led : LedStiffened i p.rounds (solved_by g grid level opened e.from e.to e.weight angle) circuits banks floors upsized marks s circuits' banks' floors' upsized' marks' r) where
+        (led : LedStiffened i p.rounds (solved_by g grid level opened e angle) circuits banks floors upsized marks s circuits' banks' floors' upsized' marks' r) where
       pub stiffens_refused : {f : Refusal} → r ≡ Err f → Alike mode above grid supply opened (length opened.leader) (λ o. stopped f) W
       stiffens_refused {f} q =
-          stiffen_refused mode above grid supply opened (length opened.leader) W d level g e.from e.to e.weight angle flow p t z.size i circuits banks floors upsized marks s z.whole more circuits' banks' floors' upsized' marks' r led f q
+          stiffen_refused mode above grid supply opened (length opened.leader) W d level g e angle flow p t z.size i circuits banks floors upsized marks s z.whole more circuits' banks' floors' upsized' marks' r led f q
 
       pub stiffens_turn : {s' : Stiffness} → r ≡ Ok s' → Stiffens mode above grid supply opened d level g e angle flow p t (i + 1) circuits' banks' floors' upsized' marks' s' W
       stiffens_turn {s'} q =
@@ -207,7 +195,7 @@ module _ {mode : PlanMode} {above : ℕ} {grid : GridColumns} {supply : SupplyCo
             some = z.some;
             unconverged = z.unconverged;
             unsettled = z.unsettled;
-            whole = stiffen_next mode above grid supply opened (length opened.leader) W d level g e.from e.to e.weight angle flow p t z.size i circuits banks floors upsized marks s z.whole more circuits' banks' floors' upsized' marks' r led s' q;
+            whole = stiffen_next mode above grid supply opened (length opened.leader) W d level g e angle flow p t z.size i circuits banks floors upsized marks s z.whole more circuits' banks' floors' upsized' marks' r led s' q;
           }
 
     -- after the last component: a raise, then anything else that was done, leads to another round
@@ -217,7 +205,7 @@ module _ {mode : PlanMode} {above : ℕ} {grid : GridColumns} {supply : SupplyCo
           (record { rounds = p.rounds; promoted = p.promoted + moved; capacity = t.capacity; stiffening = s.stiffening; converged = p.converged; settled = p.settled }) W
       stiffens_again h =
           record {
-            whole = stiffened_again mode above grid supply opened (length opened.leader) W d level g e.from e.to e.weight angle flow p t z.size i circuits banks floors upsized marks s z.whole all z.some z.unconverged z.unsettled level' banks' moved redrawn h;
+            whole = stiffened_again mode above grid supply opened (length opened.leader) W d level g e angle flow p t z.size i circuits banks floors upsized marks s z.whole all z.some z.unconverged z.unsettled level' banks' moved redrawn h;
           }
 
       pub stiffens_settled : (ltb 0 moved || s.stiffened) ≡ false
@@ -225,7 +213,7 @@ module _ {mode : PlanMode} {above : ℕ} {grid : GridColumns} {supply : SupplyCo
           going (draft_of (rounds_case o mode above grid supply) level' circuits banks' floors upsized angle
           (record { rounds = p.rounds; promoted = p.promoted + moved; capacity = t.capacity; stiffening = s.stiffening; converged = not s.wide && not t.capped; settled = true }))) W
       stiffens_settled h =
-          stiffened_settled mode above grid supply opened (length opened.leader) W d level g e.from e.to e.weight angle flow p t z.size i circuits banks floors upsized marks s z.whole all z.some z.unconverged z.unsettled level' banks' moved redrawn h
+          stiffened_settled mode above grid supply opened (length opened.leader) W d level g e angle flow p t z.size i circuits banks floors upsized marks s z.whole all z.some z.unconverged z.unsettled level' banks' moved redrawn h
 
 -- ---- what the rounds leave
 pub run_of : {mode : PlanMode} {above budget : ℕ} {start : Progress} {grid : GridColumns} {level : List ℕ} {supply : SupplyColumns} {opened : OpenedColumns}

@@ -1,4 +1,6 @@
 -- What the contracts of planning's functions cite, beside the defined plan.
+pub mod Supplied
+pub mod Edges
 pub mod Tables
 pub mod Design
 pub mod Redesign

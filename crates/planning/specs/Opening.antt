@@ -1,18 +1,16 @@
 -- The opening of a plan over slices: the columns of a case that it reads, and what an answer with the slice that it fills stands for.
 use Rattle.std.specs.Prelude.{◌≡◌, ℕ, ◌<◌, ◌≤◌, Bool, true, false, List, [], length, nat_lt, slice_index, Float, Err, Ok, Result}
-use Rattle.loops.specs.Figures.{at, nought, million, inside}
 use Rattle.refusal.specs.declared.Refusal.TheVariants.{Cost}
 use Rattle.mode.specs.declared.PlanMode.{PlanMode}
 use Rattle.mode.specs.declared.PlanMode.TheVariants.{Observe}
 use Rattle.leaders.specs.Operation.{corridor_ok_at}
-use Rattle.dispatch_defs.specs.Units.{Units, count, unit_ok}
+use Rattle.dispatch_defs.specs.Units.{Units, count}
 use Rattle.dispatch_defs.specs.Dispatch.{faulty_cost}
 use Rattle.plan_defs.specs.Constants.{most_buses, most_corridors, most_generators}
 use Rattle.plan_defs.specs.Stage.{Stage, stopped, going}
 use Rattle.plan_defs.specs.Case.{Case, case_of}
 use Rattle.plan_defs.specs.TopUp.{given_by}
 use Rattle.refusal.specs.declared.Refusal.{Refusal}
-use Rattle.planning.specs.Tables.{SupplyColumns}
 
 -- ---- an answer and the slice that it fills
 abbrev pub stage_of : Result (Unit {0}) Refusal → List Float → Stage (List Float)
@@ -52,25 +50,6 @@ pub record Joined (n m : ℕ) (a b leader : List ℕ) : Type 0 where
   pub places : length leader ≡ n
   pub ends : (k : ℕ) → k < m → corridor_ok_at n a b k ≡ true
 
--- of the generators: each stands at one of n buses
-pub record Fleet (n : ℕ) (bus : List ℕ) : Type 0 where
-  pub few : length bus ≤ most_generators
-  pub below : (k : ℕ) → k < length bus → slice_index bus k < n
-
--- of their limits and costs
-pub record Costs (supply : SupplyColumns) : Type 0 where
-  pub pmin_size : length supply.pmin ≡ length supply.bus
-  pub pmax_size : length supply.pmax ≡ length supply.bus
-  pub c1_size : length supply.c1 ≡ length supply.bus
-  pub c2_size : length supply.c2 ≡ length supply.bus
-  pub units : (k : ℕ) → k < length supply.bus → unit_ok (at supply.pmin k) (at supply.pmax k) (at supply.c1 k) (at supply.c2 k) ≡ true
-
--- of the loads
-pub record Loads (led : List ℕ) (load : List Float) : Type 0 where
-  pub few : length led ≤ most_buses
-  pub size : length load ≡ length led
-  pub each : (i : ℕ) → i < length led → inside nought million (at load i) ≡ true
-
 -- ---- what a component's units give, MW; or 8, which names one of them
 abbrev pub given_if : Bool → Bool → Units → Float → Stage (List Float)
 given_if true tops u demand = stopped (Cost (faulty_cost u demand))
@@ -85,8 +64,7 @@ pub record Priced (pmax c1 mw : List Float) : Type 0 where
   pub pmax_size : length pmax ≡ length c1
   pub mw_size : length mw ≡ length c1
 
--- ---- the units picked: the first `count` of a list, each a place of a column
-pub record Picked (units : List ℕ) (count places : ℕ) : Type 0 where
-  pub few : count ≤ most_generators
-  pub room : count ≤ length units
-  pub below : (j : ℕ) → j < count → slice_index units j < places
+-- ---- the units picked, each a place of a column
+pub record Picked (units : List ℕ) (places : ℕ) : Type 0 where
+  pub few : length units ≤ most_generators
+  pub below : (j : ℕ) → j < length units → slice_index units j < places

@@ -1,10 +1,10 @@
 -- What the contracts of module redesign cite: the columns that a redesign reads, as a case; what they must be; a corridor designed anew, and its bank.
 use Rattle.std.specs.Prelude.{◌≡◌, ℕ, ◌<◌, ◌≤◌, true, cond, List, [], length, slice_index, Float}
-use Rattle.loops.specs.Figures.{at, nought, million, inside}
+use Rattle.loops.specs.Figures.{at}
 use Rattle.loops.specs.Loops.{tab}
 use Rattle.mode.specs.declared.PlanMode.TheVariants.{Observe}
 use Rattle.impedance.specs.Impedance.{rating_ok}
-use Rattle.plan_defs.specs.Constants.{most_buses, most_corridors, most_generators}
+use Rattle.plan_defs.specs.Constants.{most_buses, most_corridors}
 use Rattle.plan_defs.specs.Case.{Case, case_of, to_of}
 use Rattle.plan_defs.specs.Design.{fresh_bank, drawn, design_at, kept_bank}
 use Rattle.plan_defs.specs.declared.CircuitDesign.{CircuitDesign}
@@ -19,18 +19,7 @@ abbrev pub redesign_for : GridColumns → SupplyColumns → Case
 redesign_for grid supply =
     case_of Observe 0 (length grid.a) (length supply.bus) 0 (length grid.ladder) grid.ladder [] [] [] supply.load supply.bus [] [] supply.pmax [] [] grid.a grid.b [] grid.km grid.share [] grid.sheet
 
--- ---- what acceptance gives of them
-pub record Units (supply : SupplyColumns) : Type 0 where
-  pub pmax_size : length supply.pmax ≡ length supply.bus
-  pub few : length supply.bus ≤ most_generators
-  pub bus_below : (k : ℕ) → k < length supply.bus → slice_index supply.bus k < most_buses
-  pub sound : (k : ℕ) → k < length supply.bus → inside nought million (at supply.pmax k) ≡ true
-
-pub record Loads (level : List ℕ) (load : List Float) : Type 0 where
-  pub load_size : length load ≡ length level
-  pub few : length level ≤ most_buses
-  pub sound : (i : ℕ) → i < length load → inside nought million (at load i) ≡ true
-
+-- ---- what acceptance gives of the corridors
 pub record Corridors (grid : GridColumns) (level : List ℕ) : Type 0 where
   pub few : length grid.a ≤ most_corridors
   pub few_buses : length level ≤ most_buses
@@ -58,7 +47,7 @@ banks_anew c level floors = tab c.corridors (bank_anew c level floors)
 -- what one corridor designed anew asks
 pub record AnewFits (grid : GridColumns) (level : List ℕ) (load gens : List Float) (shared : List ℕ) (floors : List Float) (k : ℕ) : Type 0 where
   pub lines : Lines grid level
-  pub loads : Loads level load
+  pub load_size : length load ≡ length level
   pub corridor : k < length grid.a
   pub floor_size : k < length floors
   pub fresh : rating_ok (fresh_at (ends_for grid) level load gens shared k) ≡ true
@@ -66,8 +55,7 @@ pub record AnewFits (grid : GridColumns) (level : List ℕ) (load gens : List Fl
 -- what a redesign asks
 pub record RedesignFits (grid : GridColumns) (level : List ℕ) (supply : SupplyColumns) (floors banks : List Float) : Type 0 where
   pub lines : Lines grid level
-  pub loads : Loads level supply.load
-  pub units : Units supply
+  pub load_size : length supply.load ≡ length level
   pub few : length grid.a ≤ most_corridors
   pub floor_size : length floors ≡ length grid.a
   pub bank_size : length banks ≡ length grid.a

@@ -8,7 +8,7 @@ use Rattle.plan_defs.specs.Build.{build_of}
 use Rattle.plan_defs.specs.Raise.{raised_levels, moved_buses}
 use Rattle.plan_defs.specs.Rounds.{Draft, draft, rounds}
 use Rattle.planning.specs.Design.{Lines, Banks}
-use Rattle.planning.specs.Redesign.{Loads, Units, redesign_for, banks_anew}
+use Rattle.planning.specs.Redesign.{redesign_for, banks_anew}
 use Rattle.planning.specs.Size.{Few, Capped}
 use Rattle.planning.specs.Solve.{peak_for}
 use Rattle.planning.specs.Sound.{Sound}
@@ -44,8 +44,7 @@ pub record Redrawn (grid : GridColumns) (level : List ℕ) (supply : SupplyColum
 -- ---- what the rounds ask: of the columns, and of the slices a place for each corridor or each bus
 pub record Columns (grid : GridColumns) (level : List ℕ) (supply : SupplyColumns) : Type 0 where
   pub lines : Lines grid level
-  pub loads : Loads level supply.load
-  pub units : Units supply
+  pub load_size : length supply.load ≡ length level
   pub few : length grid.a ≤ most_corridors
 
 pub record Places (n m : ℕ) (opened : OpenedColumns) (circuits : List ℕ) (banks floors : List Float) (upsized marks : List ℕ) (angle flow : List Float) : Type 0 where

@@ -26,16 +26,10 @@ finite_if false x = stopped (NotFinite 0)
 abbrev pub finite_angles : List Float → Stage (List Float)
 finite_angles x = finite_if (all_finite x) x
 
--- ---- edges between n buses, with their weights; grounds among them
-pub record Net (n : ℕ) (from to : List ℕ) (weight : List Float) (grounds : List ℕ) : Type 0 where
-  pub few_buses : n ≤ most
-  pub few_edges : length from ≤ most
-  pub few_grounds : length grounds ≤ most
-  pub to_size : length to ≡ length from
-  pub weight_size : length weight ≡ length from
-  pub from_below : (k : ℕ) → k < length from → slice_index from k < n
-  pub to_below : (k : ℕ) → k < length from → slice_index to k < n
-  pub ground_below : (g : ℕ) → g < length grounds → slice_index grounds g < n
+-- ---- grounds among n buses
+pub record Grounded (n : ℕ) (grounds : List ℕ) : Type 0 where
+  pub few : length grounds ≤ most
+  pub below : (g : ℕ) → g < length grounds → slice_index grounds g < n
 
 -- a place for each bus: injections and guess; angles that are lent
 pub record Places (n : ℕ) (injection guess angle : List Float) : Type 0 where
@@ -64,17 +58,3 @@ pub record Lent (n m : ℕ) (opened : OpenedColumns) (angle flow : List Float) :
 abbrev pub finite_answer : Bool → Result (Unit {0}) Refusal
 finite_answer true = no_refusal
 finite_answer false = Err (NotFinite 0)
-
--- ---- m edges between n buses at the front of three lists
-pub record Drawn (n m : ℕ) (from to : List ℕ) : Type 0 where
-  pub few : m ≤ most
-  pub room : m ≤ length from
-  pub from_below : (k : ℕ) → k < m → slice_index from k < n
-  pub to_below : (k : ℕ) → k < m → slice_index to k < n
-
-pub record Peaked (n m : ℕ) (from to : List ℕ) (weight : List Float) : Type 0 where
-  pub drawn : Drawn n m from to
-  pub few_buses : n ≤ most
-  pub from_size : length from ≡ most
-  pub to_size : length to ≡ most
-  pub weight_size : length weight ≡ most

@@ -4,9 +4,8 @@ use Rattle.std.specs.Float.Ieee.{lt}
 use Rattle.loops.specs.Figures.{at, nought}
 use Rattle.loops.specs.Loops.{iter}
 use Rattle.loops.specs.Sorting.{insert_by}
-use Rattle.angles_defs.specs.Network.{edges_of}
 use Rattle.angles_defs.specs.Operation.{most}
-use Rattle.plan_defs.specs.Constants.{max_circuits_per_corridor}
+use Rattle.plan_defs.specs.Constants.{most_corridors, max_circuits_per_corridor}
 use Rattle.plan_defs.specs.Lists.{each}
 use Rattle.plan_defs.specs.Case.{Case, levels, own_or}
 use Rattle.plan_defs.specs.Raise.{can_raise}
@@ -22,13 +21,14 @@ use Rattle.planning.specs.Raise.{largest_count, pairs_for}
 use Rattle.planning.specs.Size.{Few, Capped}
 use Rattle.planning.specs.Fill.{designs_for}
 use Rattle.planning.specs.Opening.{stage_if}
-use Rattle.planning.specs.Solve.{peak_for, Peaked}
+use Rattle.planning.specs.Solve.{peak_for}
 use Rattle.planning.specs.Sound.{Sound}
 use Rattle.planning.specs.Whole.{with_lines}
 use Rattle.planning.specs.declared.stiffen.Limits.{Limits}
 use Rattle.planning.specs.declared.stiffen.Stiffness.{Stiffness}
 use Rattle.refusal.specs.declared.Refusal.{Refusal}
-use Rattle.planning.specs.Tables.{GridColumns, SolvedColumns}
+use Rattle.planning.specs.declared.edges.Edges.{Edges}
+use Rattle.planning.specs.Tables.{GridColumns, SolvedColumns, edges_in}
 
 -- ---- the budgets, and the state that slices stand for
 abbrev pub budget_for : Limits → Budget
@@ -42,15 +42,16 @@ abbrev pub stiffened_as : Result Stiffness Refusal → Case → List ℕ → Lis
 stiffened_as (Err f) c level circuits banks floors upsized marks = stopped f
 stiffened_as (Ok t) c level circuits banks floors upsized marks = going (stiff_of c level circuits banks floors upsized marks t)
 
--- ---- the round's solve: the m edges at the front of three lists, the angles, and flows, which stiffening does not read
-abbrev pub round_of : ℕ → List ℕ → List ℕ → List Float → List Float → List Float → PlanningCase
-round_of m from to weight theta flows = record { edges = edges_of (take m from) (take m to) (take m weight); theta = theta; flows = flows }
+-- ---- the round's solve: its edges, the angles, and flows, which stiffening does not read
+abbrev pub round_of : Edges → List Float → List Float → PlanningCase
+round_of e theta flows = record { edges = edges_in e; theta = theta; flows = flows }
 
 -- ---- what a component asks of the slices: a place for each corridor, or for each bus
 pub record Stiffenable (solved : SolvedColumns)
     (circuits : List ℕ) (banks floors : List Float) (upsized marks : List ℕ) : Type 0 where
   pub lines : Lines solved.grid solved.level
-  pub edges : Peaked (length solved.level) (length solved.grid.a) solved.from solved.to solved.weight
+  pub buses : solved.e.buses ≡ length solved.level
+  pub few : length solved.grid.a ≤ most_corridors
   pub few_grounds : length solved.opened.grounds ≤ most
   pub ground_below : (g : ℕ) → g < length solved.opened.grounds → slice_index solved.opened.grounds g < length solved.level
   pub leader_size : length solved.opened.leader ≡ length solved.level
@@ -80,7 +81,7 @@ pub record LedStiffened (i round : ℕ) (solved : SolvedColumns)
   pub stiffened : (o : Case) (target : ℕ) (injection flows : List Float) → Sound (with_lines o solved.grid) target → length solved.level ≡ o.buses → o.cap ≡ solved.grid.cap
       → stiffened_as r (with_lines o solved.grid) solved.level circuits' banks' floors' upsized' marks'
       ≡ stage_if (leads solved.opened.leader i)
-      (stiffen_component (with_lines o solved.grid) (peak_for o.buses solved.opened.grounds injection) solved.opened.leader solved.level round (budget_for solved.g) (round_of (length solved.grid.a) solved.from solved.to solved.weight solved.angle flows) i
+      (stiffen_component (with_lines o solved.grid) (peak_for o.buses solved.opened.grounds injection) solved.opened.leader solved.level round (budget_for solved.g) (round_of solved.e solved.angle flows) i
       (stiff_of (with_lines o solved.grid) solved.level circuits banks floors upsized marks t))
       (stiff_of (with_lines o solved.grid) solved.level circuits banks floors upsized marks t)
   pub banked : Banks banks'
@@ -208,12 +209,12 @@ reinforce_step root excess solved phi c injection flows s =
 abbrev pub narrow_step : ℕ → ℕ → ℕ → Float → SolvedColumns → Case → List Float → List Float → Stiffening → Stage Stiffening
 narrow_step root lead lag excess solved c injection flows s =
     narrow c (peak_for c.buses solved.opened.grounds injection) solved.opened.leader solved.level 0 (budget_for solved.g)
-    (round_of (length solved.grid.a) solved.from solved.to solved.weight solved.angle flows) root lead lag excess s
+    (round_of solved.e solved.angle flows) root lead lag excess s
 
 abbrev pub component_step : ℕ → ℕ → SolvedColumns → Case → List Float → List Float → Stiffening → Stage Stiffening
 component_step root round solved c injection flows s =
     stiffen_component c (peak_for c.buses solved.opened.grounds injection) solved.opened.leader solved.level round (budget_for solved.g)
-    (round_of (length solved.grid.a) solved.from solved.to solved.weight solved.angle flows) root s
+    (round_of solved.e solved.angle flows) root s
 
 -- ---- a bus that leads its component
 pub record Led (root : ℕ) (leader : List ℕ) (angle : List Float) : Type 0 where

@@ -1,9 +1,12 @@
 -- The columns that planning's structs of slices hold, as lists: what contracts and laws speak of.
 use Rattle.std.specs.Prelude.{ℕ, List, Float}
+use Rattle.angles_defs.specs.Network.{Edges as Defined, edges_of}
+pub use Rattle.planning.specs.Supplied.{SupplyColumns, supply_of}
 use Rattle.planning.specs.declared.tables.Grid.{Grid}
 use Rattle.planning.specs.declared.tables.Supply.{Supply}
 use Rattle.planning.specs.declared.tables.Opened.{Opened}
 use Rattle.planning.specs.declared.tables.Solved.{Solved}
+use Rattle.planning.specs.declared.edges.Edges.{Edges}
 use Rattle.planning.specs.declared.stiffen.Limits.{Limits}
 
 pub record GridColumns : Type 0 where
@@ -15,15 +18,6 @@ pub record GridColumns : Type 0 where
   pub cap : List ℕ
   pub sheet : List Float
 
-pub record SupplyColumns : Type 0 where
-  pub load : List Float
-  pub bus : List ℕ
-  pub slack : List ℕ
-  pub pmin : List Float
-  pub pmax : List Float
-  pub c1 : List Float
-  pub c2 : List Float
-
 pub record OpenedColumns : Type 0 where
   pub leader : List ℕ
   pub grounds : List ℕ
@@ -34,23 +28,18 @@ pub record SolvedColumns : Type 0 where
   pub grid : GridColumns
   pub level : List ℕ
   pub opened : OpenedColumns
-  pub from : List ℕ
-  pub to : List ℕ
-  pub weight : List Float
+  pub e : Edges
   pub angle : List Float
 
 -- ---- of these lists
 abbrev pub grid_of : List Float → List ℕ → List ℕ → List Float → List Float → List ℕ → List Float → GridColumns
 grid_of ladder a b km share cap sheet = record { ladder = ladder; a = a; b = b; km = km; share = share; cap = cap; sheet = sheet }
 
-abbrev pub supply_of : List Float → List ℕ → List ℕ → List Float → List Float → List Float → List Float → SupplyColumns
-supply_of load bus slack pmin pmax c1 c2 = record { load = load; bus = bus; slack = slack; pmin = pmin; pmax = pmax; c1 = c1; c2 = c2 }
-
 abbrev pub opened_of : List ℕ → List ℕ → List Float → OpenedColumns
 opened_of leader grounds injection = record { leader = leader; grounds = grounds; injection = injection }
 
-abbrev pub solved_by : Limits → GridColumns → List ℕ → OpenedColumns → List ℕ → List ℕ → List Float → List Float → SolvedColumns
-solved_by g grid level opened from to weight angle = record { g = g; grid = grid; level = level; opened = opened; from = from; to = to; weight = weight; angle = angle }
+abbrev pub solved_by : Limits → GridColumns → List ℕ → OpenedColumns → Edges → List Float → SolvedColumns
+solved_by g grid level opened e angle = record { g = g; grid = grid; level = level; opened = opened; e = e; angle = angle }
 
 -- ---- of what a struct holds
 abbrev pub grid_in : Grid → GridColumns
@@ -63,4 +52,8 @@ abbrev pub opened_in : Opened → OpenedColumns
 opened_in o = opened_of o.leader.now o.grounds.now o.injection.now
 
 abbrev pub solved_in : Solved → SolvedColumns
-solved_in s = solved_by s.g (grid_in s.grid.now) s.level.now (opened_in s.opened.now) s.e.now.from s.e.now.to s.e.now.weight s.angle.now
+solved_in s = solved_by s.g (grid_in s.grid.now) s.level.now (opened_in s.opened.now) s.e.now s.angle.now
+
+-- the definition's edges
+abbrev pub edges_in : Edges → Defined
+edges_in e = edges_of e.from.items e.to.items e.weight.items

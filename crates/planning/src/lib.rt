@@ -19,6 +19,7 @@ use tables::{Grid, Supply};
 
 mod close;
 mod design;
+mod edges;
 mod figures;
 mod fill;
 mod lent;

@@ -1,21 +1,21 @@
 // The opening of a plan: the components of the corridors and their grounds, the dispatch of each component, and what each bus
 // injects; then the circuits and the levels that planning starts from. After `plan_corridors` of planning.rs, up to its step 1.
-ghost use Rattle.std.specs.Prelude.{◌≡◌, ℕ, ◌+◌, ◌<◌, ◌≤◌, max, map, length, take, slice_index};
+ghost use Rattle.std.specs.Prelude.{◌≡◌, ℕ, ◌+◌, ◌<◌, ◌≤◌, max, map, length, slice_index};
 ghost use Rattle.std.specs.Float.Ieee.{neg};
 ghost use Rattle.loops.specs.Figures.{at, over};
 ghost use Rattle.loops.specs.Loops.{iter, tab};
 ghost use Rattle.leaders.specs.Leaders.{leaders_of};
 ghost use Rattle.plan_defs.specs.Components.{leads, members, units_in, ground_of, grounds_of};
-ghost use Rattle.plan_defs.specs.Constants.{base_mva, most_generators, most_levels};
+ghost use Rattle.plan_defs.specs.Constants.{base_mva, most_levels};
 ghost use Rattle.plan_defs.specs.Dispatch.{scatter, serve, dispatch_of, inject_at, injections};
 ghost use Rattle.plan_defs.specs.Lists.{sum_over};
 ghost use Rattle.plan_defs.specs.Outcome.{up_to};
-ghost use Rattle.planning.specs.Opening.{stage_of, stage_if, bus_case, slack_case, dispatch_case, injection_case, Joined, Fleet, Costs, Loads, Picked};
-ghost use Rattle.planning.specs.Tables.{supply_in};
+ghost use Rattle.planning.specs.Opening.{stage_of, stage_if, bus_case, slack_case, dispatch_case, injection_case, Joined, Picked};
 
 use crate::solve::BASE_MVA;
 use crate::tables::Supply;
 use crate::top_up::give;
+use arrayvec::ArrayVec;
 use mode::PlanMode;
 use refusal::Refusal;
 
@@ -30,10 +30,12 @@ pub fn component_leaders(n: usize, m: usize, a: &[u32], b: &[u32], leader: &mut 
 }
 
 // The ground of a component: the bus of its first slack unit, else its leader.
-fn ground_of(root: u32, leader: &[u32], bus: &[u32], slack: &[u32]) -> u32
-    requires { Fleet (length leader.now) bus.now × (length slack.now ≡ length bus.now) }
-    ensures { result ≡ ground_of (slack_case bus.now slack.now) leader.now root }
+fn ground_of(root: u32, leader: &[u32], supply: &Supply) -> u32
+    requires { length leader.now ≡ length supply.now.load.now }
+    ensures { result ≡ ground_of (slack_case supply.now.bus.now supply.now.slack.now) leader.now root }
 {
+    let bus = supply.bus;
+    let slack = supply.slack;
     let first = loops::first_fault(
         bus.len(),
         |k| (leader[bus[k] as usize] != root) | (slack[k] == 0),
@@ -45,17 +47,17 @@ fn ground_of(root: u32, leader: &[u32], bus: &[u32], slack: &[u32]) -> u32
 }
 
 // The ground of each component, by ascending leader, at the front of `ground`, and zero past them; how many there are.
-pub fn ground_components(leader: &[u32], bus: &[u32], slack: &[u32], ground: &mut [u32]) -> usize
-    requires { Fleet (length leader.now) bus.now × (length slack.now ≡ length bus.now) × (length ground.old ≡ length leader.now) }
-    ensures count { result ≡ length (grounds_of (slack_case bus.now slack.now) leader.now) }
+pub fn ground_components(leader: &[u32], supply: &Supply, ground: &mut [u32]) -> usize
+    requires { (length leader.now ≡ length supply.now.load.now) × (length ground.old ≡ length leader.now) }
+    ensures count { result ≡ length (grounds_of (slack_case supply.now.bus.now supply.now.slack.now) leader.now) }
     ensures held { ground.new
-        ≡ up_to (length leader.now) 0 (grounds_of (slack_case bus.now slack.now) leader.now) }
+        ≡ up_to (length leader.now) 0 (grounds_of (slack_case supply.now.bus.now supply.now.slack.now) leader.now) }
 {
     ground.fill(0);
     let mut count = 0;
     for i in 0..leader.len() {
         if leader[i] as usize == i {
-            ground[count] = ground_of(leader[i], leader, bus, slack);
+            ground[count] = ground_of(leader[i], leader, supply);
             count += 1;
         }
     }
@@ -63,21 +65,19 @@ pub fn ground_components(leader: &[u32], bus: &[u32], slack: &[u32], ground: &mu
 }
 
 // ---- dispatch
-// A component's generators, ascending, at the front of `units`; how many there are.
-fn units_in(root: u32, leader: &[u32], bus: &[u32], units: &mut [u32; 128]) -> usize
-    requires { Fleet (length leader.now) bus.now × (length units.old ≡ most_generators) }
-    ensures count { result ≡ length (units_in (bus_case bus.now) leader.now root) }
-    ensures kept { take result units.new ≡ units_in (bus_case bus.now) leader.now root }
+// A component's generators, ascending.
+fn units_in(root: u32, leader: &[u32], supply: &Supply) -> ArrayVec<u32, 128>
+    requires { length leader.now ≡ length supply.now.load.now }
+    ensures { result.items ≡ units_in (bus_case supply.now.bus.now) leader.now root }
 {
-    let mut count = 0;
-    for k in 0..bus.len() {
-        let i = bus[k] as usize;
+    let mut units = ArrayVec::new();
+    for k in 0..supply.bus.len() {
+        let i = supply.bus[k] as usize;
         if leader[i] == root {
-            units[count] = k as u32;
-            count += 1;
+            units.push(k as u32);
         }
     }
-    count
+    units
 }
 
 // A component's load, MW.
@@ -94,23 +94,24 @@ fn demand_of(root: u32, leader: &[u32], load: &[f64]) -> f64
     demand
 }
 
-// A column's figures of the first `count` units.
-fn figures_of(column: &[f64], units: &[u32; 128], count: usize, chosen: &mut [f64; 128])
-    requires { Picked units.now count (length column.now) × (count ≤ length chosen.old) }
-    ensures { take count chosen.new ≡ map (at column.now) (take count units.now) }
+// A column's figures of the units picked.
+fn figures_of(column: &[f64], units: &[u32]) -> ArrayVec<f64, 128>
+    requires { Picked units.now (length column.now) }
+    ensures { result.items ≡ map (at column.now) units.now }
 {
-    for j in 0..count {
-        let k = units[j] as usize;
-        chosen[j] = column[k];
+    let mut chosen = ArrayVec::new();
+    for k in units {
+        chosen.push(column[*k as usize]);
     }
+    chosen
 }
 
 // Each output to its unit's place.
-fn hand_out(units: &[u32; 128], count: usize, out: &[f64; 128], mw: &mut [f64])
-    requires { Picked units.now count (length mw.old) }
-    ensures { mw.new ≡ scatter (take count units.now) (take count out.now) mw.old }
+fn hand_out(units: &[u32], out: &[f64], mw: &mut [f64])
+    requires { Picked units.now (length mw.old) × (length out.now ≡ length units.now) }
+    ensures { mw.new ≡ scatter units.now out.now mw.old }
 {
-    for j in 0..count {
+    for j in 0..units.len() {
         let k = units[j] as usize;
         mw[k] = out[j];
     }
@@ -124,34 +125,23 @@ fn serve(
     supply: &Supply,
     mw: &mut [f64],
 ) -> Result<(), Refusal>
-    requires { Fleet (length leader.now) supply.now.bus.now × Costs (supply_in supply.now) × Loads leader.now supply.now.load.now × (length mw.old ≡ length supply.now.bus.now) }
+    requires { (length leader.now ≡ length supply.now.load.now) × (length mw.old ≡ length supply.now.bus.now) }
     ensures { stage_of result mw.new
         ≡ serve (dispatch_case mode supply.now.load.now supply.now.bus.now supply.now.pmin.now supply.now.pmax.now supply.now.c1.now supply.now.c2.now)
         leader.now root mw.old }
 {
-    let mut units = [0u32; 128];
-    let mut least = [0.0; 128];
-    let mut most = [0.0; 128];
-    let mut linear = [0.0; 128];
-    let mut quadratic = [0.0; 128];
-    let mut out = [0.0; 128];
-    let count = units_in(root, leader, supply.bus, &mut units);
-    figures_of(supply.pmin, &units, count, &mut least);
-    figures_of(supply.pmax, &units, count, &mut most);
-    figures_of(supply.c1, &units, count, &mut linear);
-    figures_of(supply.c2, &units, count, &mut quadratic);
+    let picked = units_in(root, leader, supply);
+    let units = picked.as_slice();
+    let least = figures_of(supply.pmin, units);
+    let most = figures_of(supply.pmax, units);
+    let linear = figures_of(supply.c1, units);
+    let quadratic = figures_of(supply.c2, units);
     let demand = demand_of(root, leader, supply.load);
-    give(
-        mode,
-        demand,
-        &least[0..count],
-        &most[0..count],
-        &linear[0..count],
-        &quadratic[0..count],
-        &mut out[0..count],
-    )
-    .map_err(|f| Refusal::Cost(units[f.index()] as usize))?;
-    hand_out(&units, count, &out, mw);
+    let mut room = [0.0; 128];
+    let out = &mut room[0..units.len()];
+    give(mode, demand, &least, &most, &linear, &quadratic, out)
+        .map_err(|f| Refusal::Cost(units[f.index()] as usize))?;
+    hand_out(units, out, mw);
     Ok(())
 }
 
@@ -163,8 +153,7 @@ fn serve_led(
     supply: &Supply,
     mw: &mut [f64],
 ) -> Result<(), Refusal>
-    requires { (i < length leader.now) × Fleet (length leader.now) supply.now.bus.now × Costs (supply_in supply.now)
-        × Loads leader.now supply.now.load.now × (length mw.old ≡ length supply.now.bus.now) }
+    requires { (i < length leader.now) × (length leader.now ≡ length supply.now.load.now) × (length mw.old ≡ length supply.now.bus.now) }
     ensures { stage_of result mw.new
         ≡ stage_if (leads leader.now i)
         (serve (dispatch_case mode supply.now.load.now supply.now.bus.now supply.now.pmin.now supply.now.pmax.now supply.now.c1.now supply.now.c2.now)
@@ -184,7 +173,7 @@ pub fn dispatch_components(
     supply: &Supply,
     mw: &mut [f64],
 ) -> Result<(), Refusal>
-    requires { Fleet (length leader.now) supply.now.bus.now × Costs (supply_in supply.now) × Loads leader.now supply.now.load.now × (length mw.old ≡ length supply.now.bus.now) }
+    requires { (length leader.now ≡ length supply.now.load.now) × (length mw.old ≡ length supply.now.bus.now) }
     ensures { stage_of result mw.new
         ≡ dispatch_of (dispatch_case mode supply.now.load.now supply.now.bus.now supply.now.pmin.now supply.now.pmax.now supply.now.c1.now supply.now.c2.now)
         leader.now }
@@ -206,13 +195,13 @@ fn withdraw(load: &[f64], injection: &mut [f64])
 }
 
 // A column of the units' figures, added at their buses.
-pub fn inject(bus: &[u32], mw: &[f64], injection: &mut [f64])
-    requires { Fleet (length injection.old) bus.now × (length mw.now ≡ length bus.now) }
+pub fn inject(supply: &Supply, mw: &[f64], injection: &mut [f64])
+    requires { (length supply.now.load.now ≤ length injection.old) × (length mw.now ≡ length supply.now.bus.now) }
     ensures { injection.new
-        ≡ iter (inject_at (bus_case bus.now) mw.now) (length bus.now) 0 injection.old }
+        ≡ iter (inject_at (bus_case supply.now.bus.now) mw.now) (length supply.now.bus.now) 0 injection.old }
 {
-    for k in 0..bus.len() {
-        let i = bus[k] as usize;
+    for k in 0..supply.bus.len() {
+        let i = supply.bus[k] as usize;
         injection[i] = injection[i] + mw[k];
     }
 }
@@ -227,11 +216,11 @@ fn per_unit(injection: &mut [f64])
 
 // What each bus injects, per unit: what its generators give less its load.
 pub fn injections(supply: &Supply, mw: &[f64], injection: &mut [f64])
-    requires { Fleet (length injection.old) supply.now.bus.now × (length mw.now ≡ length supply.now.bus.now) × (length injection.old ≡ length supply.now.load.now) }
+    requires { (length mw.now ≡ length supply.now.bus.now) × (length injection.old ≡ length supply.now.load.now) }
     ensures { injection.new ≡ injections (injection_case supply.now.load.now supply.now.bus.now) mw.now }
 {
     withdraw(supply.load, injection);
-    inject(supply.bus, mw, injection);
+    inject(supply, mw, injection);
     per_unit(injection);
 }
 

@@ -41,7 +41,7 @@ fn open(
         leader.new injection.new ground.new mw.new level.new circuits.new result }
 {
     component_leaders(tier.len(), grid.a.len(), grid.a, grid.b, leader);
-    let count = ground_components(leader, supply.bus, supply.slack, ground);
+    let count = ground_components(leader, supply, ground);
     dispatch_components(mode, leader, supply, mw)?;
     injections(supply, mw, injection);
     first_levels(above, tier, level);

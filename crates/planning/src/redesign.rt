@@ -56,20 +56,20 @@ fn kept_bank(d: CircuitDesign, floor: f64) -> CircuitDesign
 fn circuit_anew(
     grid: &Grid,
     level: &[u32],
-    load: &[f64],
+    supply: &Supply,
     gen_at: &[f64; MOST_BUSES],
     shared: &[u32; MOST_BUSES],
     floors: &[f64],
     k: usize,
 ) -> CircuitDesign
-    requires { AnewFits (grid_in grid.now) level.now load.now gen_at.now shared.now floors.now k }
+    requires { AnewFits (grid_in grid.now) level.now supply.now.load.now gen_at.now shared.now floors.now k }
     ensures { result ≡ anew_from (lines_for (grid_in grid.now)) level.now
-        (fresh_at (ends_for (grid_in grid.now)) level.now load.now gen_at.now shared.now k)
+        (fresh_at (ends_for (grid_in grid.now)) level.now supply.now.load.now gen_at.now shared.now k)
         (at floors.now k) k }
 {
     let e = ends_of(grid, level, k);
     let lo = e.to;
-    let mva = fresh_bank(load[lo], gen_at[lo], shared[lo]);
+    let mva = fresh_bank(supply.load[lo], gen_at[lo], shared[lo]);
     let fresh = circuit(grid, level, k, mva);
     kept_bank(fresh, floors[k])
 }
@@ -91,11 +91,11 @@ pub fn redesign(grid: &Grid, level: &[u32], supply: &Supply, floors: &[f64], ban
     ensures sound { Banks banks.new }
 {
     let mut gen_at = [0.0; MOST_BUSES];
-    inject(supply.bus, supply.pmax, &mut gen_at);
+    inject(supply, supply.pmax, &mut gen_at);
     let mut shared = [0; MOST_BUSES];
     transformer_corridors(grid, level, &mut shared);
     for k in 0..grid.a.len() {
-        let d = circuit_anew(grid, level, supply.load, &gen_at, &shared, floors, k);
+        let d = circuit_anew(grid, level, supply, &gen_at, &shared, floors, k);
         banks[k] = bank_of(d);
     }
 }

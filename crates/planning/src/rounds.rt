@@ -88,7 +88,7 @@ pub fn size_rounds(
         p.converged = false;
         p.settled = false;
         let e = draw_edges(grid, level, circuits, banks);
-        if let Err(f) = peak_state(e, opened, angle, flow) {
+        if let Err(f) = peak_state(&e, opened, angle, flow) {
             break 'rounds Err(f);
         }
         marks.fill(0);
@@ -121,7 +121,7 @@ pub fn size_rounds(
         let mut s = stiffness_from(g, level, circuits, p.stiffening, marks);
         for i in 0..opened.leader.len() {
             match stiffen_led(
-                i, p.rounds, g, grid, level, opened, e, angle, circuits, banks, floors, upsized,
+                i, p.rounds, g, grid, level, opened, &e, angle, circuits, banks, floors, upsized,
                 marks, s,
             ) {
                 Err(f) => break 'rounds Err(f),

@@ -1,20 +1,20 @@
 // Every solve of a plan: the angles of the buses and the flows of the corridors at the peak. After `susceptance`,
 // `planning_state` and `corridor_flows` of planning.rs; refusal 9.
-ghost use Rattle.std.specs.Prelude.{◌≡◌, ◌<◌, length, take};
-ghost use Rattle.angles_defs.specs.Network.{edges_of, zeros};
-ghost use Rattle.angles_defs.specs.Operation.{most};
+ghost use Rattle.std.specs.Prelude.{◌≡◌, ◌<◌, length};
+ghost use Rattle.angles_defs.specs.Network.{zeros};
 ghost use Rattle.angles_defs.specs.Solve.{solve};
 ghost use Rattle.plan_defs.specs.Build.{drawn_all};
 ghost use Rattle.plan_defs.specs.Solve.{susceptance, edges_for, flows_of, all_finite, planning_on, planning_state};
 ghost use Rattle.plan_defs.specs.Stiffen.{unit_at};
 ghost use Rattle.planning.specs.Opening.{stage_of};
 ghost use Rattle.planning.specs.Design.{lines_for};
-ghost use Rattle.planning.specs.Solve.{peak_for, solved_of, finite_angles, finite_answer, Net, Places, Drawing, Lent, Drawn, Peaked};
-ghost use Rattle.planning.specs.Tables.{grid_in, opened_in};
+ghost use Rattle.planning.specs.Solve.{peak_for, solved_of, finite_angles, finite_answer, Grounded, Places, Drawing, Lent};
+ghost use Rattle.planning.specs.Tables.{grid_in, opened_in, edges_in};
 
 use crate::design::circuit;
-use crate::figures::copied;
+use crate::edges::Edges;
 use crate::tables::{Grid, Opened};
+use arrayvec::ArrayVec;
 use plan_defs::CircuitDesign;
 use refusal::Refusal;
 
@@ -28,124 +28,104 @@ pub fn susceptance(d: CircuitDesign) -> f64
     d.x_pu / (d.r_pu * d.r_pu + d.x_pu * d.x_pu)
 }
 
-// Edge k is of corridor k, at the front of the three.
-#[derive(Clone, Copy)]
-pub struct Edges {
-    pub from: [u32; 256],
-    pub to: [u32; 256],
-    pub weight: [f64; 256],
-}
-
 pub fn draw_edges(grid: &Grid, level: &[u32], circuits: &[u32], banks: &[f64]) -> Edges
     requires { Drawing (grid_in grid.now) level.now circuits.now banks.now }
-    ensures edges { edges_of (take (length grid.now.a.now) result.from) (take (length grid.now.a.now) result.to) (take (length grid.now.a.now) result.weight)
-        ≡ edges_for (drawn_all (lines_for (grid_in grid.now))
-        level.now banks.now) circuits.now }
-    ensures sizes { (length result.from ≡ most) × (length result.to ≡ most) × (length result.weight ≡ most) }
+    ensures sizes { (result.buses ≡ length level.now) × (length result.from.items ≡ length grid.now.a.now) }
+    ensures edges { edges_in result ≡ edges_for (drawn_all (lines_for (grid_in grid.now)) level.now banks.now) circuits.now }
 {
-    let mut from = [0u32; 256];
-    let mut to = [0u32; 256];
-    let mut weight = [0.0; 256];
+    let mut from = ArrayVec::new();
+    let mut to = ArrayVec::new();
+    let mut weight = ArrayVec::new();
     for k in 0..grid.a.len() {
         let d = circuit(grid, level, k, banks[k]);
-        from[k] = d.from as u32;
-        to[k] = d.to as u32;
-        weight[k] = susceptance(d) * circuits[k] as f64;
+        from.push(d.from as u32);
+        to.push(d.to as u32);
+        weight.push(susceptance(d) * circuits[k] as f64);
     }
-    Edges { from, to, weight }
+    Edges {
+        buses: level.len(),
+        from,
+        to,
+        weight,
+    }
 }
 
 // ---- angles
 // Places of the solver's work for each bus.
 const SOLVER_ROWS: usize = 8;
 
-// The angles from a guess; 9 where one is not finite.
-fn angles_from(
-    from: &[u32],
-    to: &[u32],
-    weight: &[f64],
-    injection: &[f64],
-    grounds: &[u32],
-    guess: &[f64],
-    angle: &mut [f64],
-) -> Result<(), Refusal>
-    requires net { Net (length angle.old) from.now to.now weight.now grounds.now }
-    requires places { Places (length angle.old) injection.now guess.now angle.old }
-    ensures { stage_of result angle.new
-        ≡ finite_angles (solve (length angle.old) (edges_of from.now to.now weight.now) grounds.now injection.now guess.now).x }
-{
-    let n = angle.len();
-    let mut work = [0.0; 2048];
-    angles::dc_angles(
-        n,
-        from.len(),
-        grounds.len(),
-        from,
-        to,
-        weight,
-        injection,
-        grounds,
-        guess,
-        angle,
-        &mut work[0..SOLVER_ROWS * n],
-    )
-    .map_err(|_| Refusal::NotFinite(0))?;
-    Ok(())
-}
+impl Edges {
+    // The angles from a guess; 9 where one is not finite.
+    fn angles(
+        &self,
+        injection: &[f64],
+        grounds: &[u32],
+        guess: &[f64],
+        angle: &mut [f64],
+    ) -> Result<(), Refusal>
+        requires grounded { (self.now.buses ≡ length angle.old) × Grounded (length angle.old) grounds.now }
+        requires places { Places (length angle.old) injection.now guess.now angle.old }
+        ensures { stage_of result angle.new
+            ≡ finite_angles (solve (length angle.old) (edges_in self.now) grounds.now injection.now guess.now).x }
+    {
+        let n = angle.len();
+        let mut work = [0.0; 2048];
+        angles::dc_angles(
+            n,
+            self.from.len(),
+            grounds.len(),
+            &self.from,
+            &self.to,
+            &self.weight,
+            injection,
+            grounds,
+            guess,
+            angle,
+            &mut work[0..SOLVER_ROWS * n],
+        )
+        .map_err(|_| Refusal::NotFinite(0))?;
+        Ok(())
+    }
 
-// The angles at which one per unit goes from the lead to the lag, for stiffening.
-pub fn unit_angles(
-    from: &[u32],
-    to: &[u32],
-    weight: &[f64],
-    grounds: &[u32],
-    lead: usize,
-    lag: usize,
-    phi: &mut [f64],
-) -> Result<(), Refusal>
-    requires net { Net (length phi.old) from.now to.now weight.now grounds.now }
-    requires lead_in_bounds { (lead < length phi.old) × (lag < length phi.old) }
-    ensures { stage_of result phi.new
-        ≡ finite_angles (solve (length phi.old) (edges_of from.now to.now weight.now) grounds.now
-        (unit_at (length phi.old) lead lag) (zeros (length phi.old))).x }
-{
-    let n = phi.len();
-    let guess = [0.0; 256];
-    let mut injection = [0.0; 256];
-    injection[lead] = 1.0;
-    injection[lag] = -1.0;
-    angles_from(
-        from,
-        to,
-        weight,
-        &injection[0..n],
-        grounds,
-        &guess[0..n],
-        phi,
-    )
-}
+    // The angles at which one per unit goes from the lead to the lag, for stiffening.
+    pub fn unit_angles(
+        &self,
+        grounds: &[u32],
+        lead: usize,
+        lag: usize,
+        phi: &mut [f64],
+    ) -> Result<(), Refusal>
+        requires grounded { (self.now.buses ≡ length phi.old) × Grounded (length phi.old) grounds.now }
+        requires lead_in_bounds { (lead < length phi.old) × (lag < length phi.old) }
+        ensures { stage_of result phi.new
+            ≡ finite_angles (solve (length phi.old) (edges_in self.now) grounds.now
+            (unit_at (length phi.old) lead lag) (zeros (length phi.old))).x }
+    {
+        let n = phi.len();
+        let guess = [0.0; 256];
+        let mut injection = [0.0; 256];
+        injection[lead] = 1.0;
+        injection[lag] = -1.0;
+        self.angles(&injection[0..n], grounds, &guess[0..n], phi)
+    }
 
-// ---- flows
-// The flow of each corridor, MW.
-fn corridor_flows(
-    from: &[u32; 256],
-    to: &[u32; 256],
-    weight: &[f64; 256],
-    angle: &[f64],
-    flow: &mut [f64],
-)
-    requires { Drawn (length angle.now) (length flow.old) from.now to.now }
-    ensures { flow.new
-        ≡ flows_of (edges_of (take (length flow.old) from.now) (take (length flow.old) to.now) (take (length flow.old) weight.now))
-        angle.now }
-{
-    for k in 0..flow.len() {
-        let i = from[k] as usize;
-        let j = to[k] as usize;
-        flow[k] = weight[k] * (angle[i] - angle[j]) * BASE_MVA;
+    // The flow of each, MW.
+    fn flows(&self, angle: &[f64], flow: &mut [f64])
+        requires { (self.now.buses ≡ length angle.now) × (length self.now.from.items ≡ length flow.old) }
+        ensures { flow.new ≡ flows_of (edges_in self.now) angle.now }
+    {
+        let from = self.from.as_slice();
+        let to = self.to.as_slice();
+        let weight = self.weight.as_slice();
+        for k in 0..flow.len() {
+            let i = from[k] as usize;
+            let j = to[k] as usize;
+            flow[k] = weight[k] * (angle[i] - angle[j]) * BASE_MVA;
+        }
     }
 }
 
+// ---- flows
 fn all_finite(figures: &[f64]) -> bool
     ensures { result ≡ all_finite figures.now }
 {
@@ -164,34 +144,21 @@ fn finite_flows(flow: &[f64]) -> Result<(), Refusal>
 // ---- planning_state
 // The angles and the flows at the peak on these edges, from the angles that `angle` holds; refusal 9 where one of them is not finite.
 pub fn peak_state(
-    e: Edges,
+    e: &Edges,
     opened: &Opened,
     angle: &mut [f64],
     flow: &mut [f64],
 ) -> Result<(), Refusal>
-    requires peaked { Peaked (length angle.old) (length flow.old) e.from e.to e.weight }
+    requires sizes { (e.now.buses ≡ length angle.old) × (length e.now.from.items ≡ length flow.old) }
     requires lent { Lent (length angle.old) (length flow.old) (opened_in opened.now) angle.old flow.old }
-    ensures { solved_of result (edges_of (take (length flow.old) e.from) (take (length flow.old) e.to) (take (length flow.old) e.weight))
-        angle.new flow.new
-        ≡ planning_on (peak_for (length angle.old) opened.now.grounds.now opened.now.injection.now)
-        (edges_of (take (length flow.old) e.from) (take (length flow.old) e.to) (take (length flow.old) e.weight)) angle.old }
+    ensures { solved_of result (edges_in e.now) angle.new flow.new
+        ≡ planning_on (peak_for (length angle.old) opened.now.grounds.now opened.now.injection.now) (edges_in e.now) angle.old }
 {
-    let n = angle.len();
-    let m = flow.len();
-    let from = e.from;
-    let to = e.to;
-    let weight = e.weight;
-    let guess = copied(angle, 0.0);
-    angles_from(
-        &from[0..m],
-        &to[0..m],
-        &weight[0..m],
-        opened.injection,
-        opened.grounds,
-        &guess[0..n],
-        angle,
-    )?;
-    corridor_flows(&from, &to, &weight, angle, flow);
+    let mut room = [0.0; 256];
+    let guess = &mut room[0..angle.len()];
+    guess.copy_from_slice(angle);
+    e.angles(opened.injection, opened.grounds, guess, angle)?;
+    e.flows(angle, flow);
     finite_flows(flow)
 }
 
@@ -216,5 +183,5 @@ pub fn planning_state(
         level.now banks.now) circuits.now angle.old }
 {
     let e = draw_edges(grid, level, circuits, banks);
-    peak_state(e, opened, angle, flow)
+    peak_state(&e, opened, angle, flow)
 }

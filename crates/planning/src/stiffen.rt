@@ -14,12 +14,13 @@ ghost use Rattle.planning.specs.Stiffen.{budget_for, Stiffenable, Room, LedStiff
 ghost use Rattle.planning.specs.Tables.{grid_in, opened_in, solved_by, solved_in};
 
 use crate::design::{circuit, set_transformer_mva};
+use crate::edges::Edges;
 use crate::figures::choose;
 use crate::fill::total;
 use crate::policy::full_at;
 use crate::raise::{mark_raise_to, raise_of};
 use crate::size::{bank_below, keep_bank};
-use crate::solve::{Edges, susceptance, unit_angles};
+use crate::solve::susceptance;
 use crate::tables::{Grid, Opened, Solved};
 use arrayvec::ArrayVec;
 use plan_defs::CircuitDesign;
@@ -528,19 +529,9 @@ fn narrow(
         circuits.old banks.old floors.old upsized.old marks.old t
         circuits.new banks.new floors.new upsized.new marks.new result }
 {
-    let m = solved.grid.a.len();
-    let from = solved.e.from;
-    let to = solved.e.to;
-    let weight = solved.e.weight;
-    unit_angles(
-        &from[0..m],
-        &to[0..m],
-        &weight[0..m],
-        solved.opened.grounds,
-        lead,
-        lag,
-        phi,
-    )?;
+    solved
+        .e
+        .unit_angles(solved.opened.grounds, lead, lag, phi)?;
     Ok(reinforce(
         root, excess, solved, phi, circuits, banks, floors, upsized, marks, t,
     ))
@@ -607,7 +598,7 @@ pub fn stiffen_led(
     grid: &Grid,
     level: &[u32],
     opened: &Opened,
-    e: Edges,
+    e: &Edges,
     angle: &[f64],
     circuits: &mut [u32],
     banks: &mut [f64],
@@ -616,9 +607,9 @@ pub fn stiffen_led(
     marks: &mut [u32],
     t: Stiffness,
 ) -> Result<Stiffness, Refusal>
-    requires stiffenable { Stiffenable (solved_by g (grid_in grid.now) level.now (opened_in opened.now) e.from e.to e.weight angle.now) circuits.old banks.old floors.old upsized.old marks.old }
+    requires stiffenable { Stiffenable (solved_by g (grid_in grid.now) level.now (opened_in opened.now) e.now angle.now) circuits.old banks.old floors.old upsized.old marks.old }
     requires i_in_bounds { (i < length opened.now.leader.now) × Room (length grid.now.a.now) t }
-    ensures { LedStiffened i round (solved_by g (grid_in grid.now) level.now (opened_in opened.now) e.from e.to e.weight angle.now)
+    ensures { LedStiffened i round (solved_by g (grid_in grid.now) level.now (opened_in opened.now) e.now angle.now)
         circuits.old banks.old floors.old upsized.old marks.old t
         circuits.new banks.new floors.new upsized.new marks.new result }
 {
@@ -628,7 +619,7 @@ pub fn stiffen_led(
             grid,
             level,
             opened,
-            e: &e,
+            e,
             angle,
         };
         return stiffen_component(

@@ -1,5 +1,7 @@
 // The columns that planning reads together: of the corridors and the levels, of the buses and the units, and what the opening makes of them.
-use crate::solve::Edges;
+ghost use Rattle.planning.specs.Supplied.{Supplied, supply_of};
+
+use crate::edges::Edges;
 use crate::stiffen::Limits;
 
 // The ladder, the columns of the corridors, and the rows of the line sheet.
@@ -14,7 +16,7 @@ pub struct Grid<'a> {
     pub sheet: &'a [f64],
 }
 
-// Each bus's load, and the columns of the units.
+// Each bus's load, and the columns of the units, which go with the fact that acceptance passed them.
 #[derive(Clone, Copy)]
 pub struct Supply<'a> {
     pub load: &'a [f64],
@@ -24,6 +26,7 @@ pub struct Supply<'a> {
     pub pmax: &'a [f64],
     pub c1: &'a [f64],
     pub c2: &'a [f64],
+    ghost supplied: { Supplied (supply_of load.now bus.now slack.now pmin.now pmax.now c1.now c2.now) },
 }
 
 // Each bus's leader and injection, and a ground for each component.

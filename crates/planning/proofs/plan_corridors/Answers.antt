@@ -7,7 +7,7 @@ use Rattle.plan_defs.specs.Outcome.{slices, slices_ok, kept_if}
 use Rattle.acceptance.specs.Check.{check_of}
 use Rattle.acceptance.proofs.Callers.{tables_of_lem}
 use Rattle.planning.proofs.Sounds.{checked}
-use Rattle.planning.proofs.Operation.{ends_unaccepted, lendable_by, kept_fits, caps_fit, buses_fit, ends_refused, ends_answered}
+use Rattle.planning.proofs.Operation.{ends_unaccepted, lendable_by, supplied_by, kept_fits, caps_fit, buses_fit, ends_refused, ends_answered}
 use Rattle.planning.proofs.plan_corridors.Goals as goal
 
 pub returns-in_err-check_case-clause-plan : goal.returns-in_err-check_case-clause-plan
@@ -27,6 +27,15 @@ slice_bounds-supply-end c =
     let answer : c.check_case.result ≡ check_of (slices_ok case lent) (tables_of_lem case) z.target = checked case z.target lent _ _ c.places_ok-fits.ensures c.check_case.ensures in
     let q = c.in_ok-check_case.was in
     loads_room z.n case.reading case.weight _ c.weigh-load.ensures (buses_fit case z.target lent c.check_case.result answer q)
+
+pub invariant_of-supply : goal.invariant_of-supply
+invariant_of-supply c =
+    let z = c.args in
+    let case = surveyed z.mode z.n z.m z.g z.above z.requested z.ladder.now z.tier.now z.reading.now z.weight.now z.bus.now z.slack.now z.pmin.now z.pmax.now z.c1.now z.c2.now z.a.now z.b.now z.initial.now z.km.now z.share.now z.cap.now z.sheet.now in
+    let lent = slices z.circuits.now z.flow.now z.rate.now z.before.now z.order.now z.kept_cap.now z.mw.now z.angle.now z.level.now z.ground.now z.added.now z.figures.now z.counts.now in
+    let answer : c.check_case.result ≡ check_of (slices_ok case lent) (tables_of_lem case) z.target = checked case z.target lent _ _ c.places_ok-fits.ensures c.check_case.ensures in
+    let q = c.in_ok-check_case.was in
+    record { supplied = supplied_by case z.target lent (sym q ∙ answer) _ (loads_lent z.n case.reading case.weight _ c.weigh-load.ensures (buses_fit case z.target lent c.check_case.result answer q)) }
 
 pub run-requires : goal.run-requires
 run-requires c =

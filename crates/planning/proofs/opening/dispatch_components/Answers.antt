@@ -11,8 +11,8 @@ unfolding dispatch_of
 loop-i-init c =
     let s = c in (
       omega arith,
-      c.fill.ensures.len ∙ s.requires.3,
-      stage_start (serve (dispatch_case c.args.mode c.args.supply.now.load.now c.args.supply.now.bus.now c.args.supply.now.pmin.now c.args.supply.now.pmax.now c.args.supply.now.c1.now c.args.supply.now.c2.now) c.args.leader.now) (leads c.args.leader.now) _ _ _ ((c.fill.ensures.after (λ y e. e)) ∙ ap (λ (n : ℕ). replicate n nought) s.requires.3),
+      c.fill.ensures.len ∙ s.requires.1,
+      stage_start (serve (dispatch_case c.args.mode c.args.supply.now.load.now c.args.supply.now.bus.now c.args.supply.now.pmin.now c.args.supply.now.pmax.now c.args.supply.now.c1.now c.args.supply.now.c2.now) c.args.leader.now) (leads c.args.leader.now) _ _ _ ((c.fill.ensures.after (λ y e. e)) ∙ ap (λ (n : ℕ). replicate n nought) s.requires.1),
     )
 
 pub returns-in_err-serve_led : goal.returns-in_err-serve_led

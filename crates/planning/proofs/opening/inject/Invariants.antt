@@ -5,5 +5,5 @@ use Rattle.planning.specs.Opening.{bus_case}
 use Rattle.planning.proofs.opening.inject.Given as goal
 
 abbrev pub invariant-loop-k : goal.invariant-loop-k
-invariant-loop-k l = (l.k ≤ length l.bus) × (length l.injection ≡ length l.initial.injection)
-    × (iter (inject_at (bus_case l.bus) l.mw) (length l.bus - l.k) l.k l.injection ≡ iter (inject_at (bus_case l.bus) l.mw) (length l.bus) 0 l.initial.injection)
+invariant-loop-k l = (l.k ≤ length l.supply.bus.now) × (length l.injection ≡ length l.initial.injection)
+    × (iter (inject_at (bus_case l.supply.bus.now) l.mw) (length l.supply.bus.now - l.k) l.k l.injection ≡ iter (inject_at (bus_case l.supply.bus.now) l.mw) (length l.supply.bus.now) 0 l.initial.injection)

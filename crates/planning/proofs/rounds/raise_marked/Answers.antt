@@ -13,8 +13,7 @@ redesign-requires c =
     let n = c.raise_buses-moved.auto.level in
     record {
       lines = subst (λ (x : List ℕ). Lines (grid_in z.grid.now) x) (sym l) (lines_raised (grid_in z.grid.now) z.level.now z.marks.now s.requires.redesign_fits.lines);
-      loads = record { load_size = s.requires.redesign_fits.loads.load_size ∙ sym n; few = omega (arith, n, s.requires.redesign_fits.loads.few); sound = s.requires.redesign_fits.loads.sound };
-      units = s.requires.redesign_fits.units;
+      load_size = s.requires.redesign_fits.load_size ∙ sym n;
       few = s.requires.redesign_fits.few;
       floor_size = s.requires.redesign_fits.floor_size;
       bank_size = s.requires.redesign_fits.bank_size;

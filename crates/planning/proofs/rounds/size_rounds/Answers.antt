@@ -4,12 +4,9 @@ use Rattle.plan_defs.specs.Case.{promote}
 use Rattle.plan_defs.specs.Raise.{moved_buses}
 use Rattle.planning.specs.Tables.{grid_in}
 use Rattle.planning.proofs.Rounding.{few_sum, few_high, nothing_done}
-use Rattle.planning.proofs.Sweeps.{peaked_by, rounds_end, solved_of_round, solve_refused, sizes_start, sizes_turn, sizes_again, sizes_settled, stiffens_start, stiffens_refused, stiffens_turn, stiffens_again, stiffens_settled, run_of}
+use Rattle.planning.proofs.Sweeps.{rounds_end, solved_of_round, solve_refused, sizes_start, sizes_turn, sizes_again, sizes_settled, stiffens_start, stiffens_refused, stiffens_turn, stiffens_again, stiffens_settled, run_of}
 use Rattle.planning.proofs.rounds.size_rounds.Goals as goal
 use Rattle.planning.proofs.rounds.size_rounds.Goals.{then-k-grid+else-moved-t+else-not-promotes, else-k-grid}
-
-pub peak_state-requires-clause-peaked : goal.peak_state-requires-clause-peaked
-peak_state-requires-clause-peaked c = peaked_by (grid_in c.args.grid.now) c.draw_edges-e.result (search rules) c.draw_edges-e.ensures.edges c.draw_edges-e.ensures.sizes (search rules) (search rules)
 
 pub loop-k-init : goal.loop-k-init
 loop-k-init c =
@@ -18,7 +15,7 @@ loop-k-init c =
       search rules,
       refl,
       omega arith,
-      sizes_start (solved_of_round d.result c.rounds.invariant.2 c.if-left-eq0.false (search rules) d.ensures.edges (search rules) (search rules) c.peak_state.ensures) c.in_default.is (c.fill.ensures.after (λ y e. e)) (search rules),
+      sizes_start (solved_of_round d.result c.rounds.invariant.2 c.if-left-eq0.false (search rules) d.ensures.edges (search rules) c.peak_state.ensures) c.in_default.is (c.fill.ensures.after (λ y e. e)) (search rules),
       λ e. absurd (omega (arith, c.requires.some, e)),
     )
 
@@ -53,11 +50,6 @@ loop-i-init c =
       stiffens_start l.invariant.4 all (l.invariant.5 all) c.limits_of-g.ensures s.marks s.start,
     )
 
-pub stiffen_led-requires-clause-stiffenable : goal.stiffen_led-requires-clause-stiffenable
-stiffen_led-requires-clause-stiffenable c =
-    let edges = peaked_by (grid_in c.args.grid.now) {n = length c.loop-i.level} {m = length c.args.grid.now.a.now} c.draw_edges-e.result (search rules) c.draw_edges-e.ensures.edges c.draw_edges-e.ensures.sizes (search rules) refl in
-    search rules
-
 pub stiffen_led-requires-clause-i_in_bounds : goal.stiffen_led-requires-clause-i_in_bounds
 stiffen_led-requires-clause-i_in_bounds c =
     let sum = few_sum c.loop-k.circuits c.loop-k.invariant.0.few in
@@ -78,7 +70,7 @@ returns-then-left-eq0 c = run_of c.requires.places.leader_size c.rounds.invarian
 pub returns-in-Err : goal.returns-in-Err
 returns-in-Err c =
     let d = c.draw_edges-e in
-    run_of c.requires.places.leader_size c.rounds.invariant.0 (solve_refused (solved_of_round d.result c.rounds.invariant.2 c.if-left-eq0.false (search rules) d.ensures.edges (search rules) (search rules) c.peak_state.ensures) c.in-Err.is)
+    run_of c.requires.places.leader_size c.rounds.invariant.0 (solve_refused (solved_of_round d.result c.rounds.invariant.2 c.if-left-eq0.false (search rules) d.ensures.edges (search rules) c.peak_state.ensures) c.in-Err.is)
 
 pub returns-then-not-promotes : goal.returns-then-not-promotes
 returns-then-not-promotes c =

@@ -1,0 +1,13 @@
+-- What is known of the edges of a solve.
+use Rattle.std.specs.Prelude.{◌≡◌, ℕ, ◌<◌, ◌≤◌, length, slice_index}
+use Rattle.angles_defs.specs.Network.{Edges}
+use Rattle.angles_defs.specs.Operation.{most}
+
+-- each joins two of n buses, and has a weight
+pub record Joined (n : ℕ) (e : Edges) : Type 0 where
+  pub few_buses : n ≤ most
+  pub few_edges : length e.from ≤ most
+  pub to_size : length e.to ≡ length e.from
+  pub weight_size : length e.weight ≡ length e.from
+  pub from_below : (k : ℕ) → k < length e.from → slice_index e.from k < n
+  pub to_below : (k : ℕ) → k < length e.from → slice_index e.to k < n

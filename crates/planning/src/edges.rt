@@ -1,0 +1,15 @@
+// The edges of a solve, which go with the fact that their ends are buses.
+ghost use Rattle.angles_defs.specs.Network.{edges_of};
+ghost use Rattle.planning.specs.Edges.{Joined};
+
+use arrayvec::ArrayVec;
+
+// Each joins two of so many buses; edge k is of corridor k.
+#[derive(Drop)]
+pub struct Edges {
+    pub buses: usize,
+    pub from: ArrayVec<u32, 256>,
+    pub to: ArrayVec<u32, 256>,
+    pub weight: ArrayVec<f64, 256>,
+    ghost joined: { Joined buses (edges_of from.items to.items weight.items) },
+}

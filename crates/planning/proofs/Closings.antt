@@ -1,13 +1,13 @@
 -- The closing figures as code's loops make them are the defined ones.
 -- A loop over those that pass a test is a loop over all with the test; a table's figure is read off its place.
-use Rattle.std.proofs.Common.{◌≡◌, ℕ, zero, suc, ◌+◌, ◌-◌, ◌^◌, ◌<◌, ◌≤◌, min, Bool, true, false, cond, ltb, List, [], ◌∷◌, ◌++◌, map, length, get_or, take, drop, replicate, sym, refl, ap, ◌∙◌, le_of_suc-le-suc, not-suc-le-zero, add-one, arith, length-append, length-drop, length-take, get_or-drop, drop-cons, get_or-take, get_or-append-add, ext_get_or, ltb-false, ltb-true, eq-eqb}
+use Rattle.std.proofs.Common.{◌≡◌, ℕ, zero, suc, ◌+◌, ◌-◌, ◌<◌, ◌≤◌, min, Bool, true, false, cond, ltb, List, [], ◌∷◌, ◌++◌, map, length, get_or, take, drop, replicate, sym, refl, ap, ◌∙◌, le_of_suc-le-suc, not-suc-le-zero, add-one, arith, length-append, length-drop, length-take, get_or-drop, drop-cons, get_or-take, get_or-append-add, ext_get_or, ltb-false, ltb-true, eq-eqb}
 use lib.ListN.{length-replicate, get_or-replicate, get_or-append}
 use lib.Ieee.{Float, nan, lt}
 use Rattle.loops.specs.Figures.{at, plus, minus, nought, one, greater}
 use Rattle.loops.specs.Loops.{iter, tab}
 use Rattle.loops.proofs.Tab.{length_tab, get_tab, tab_of, tab_same}
 use Rattle.mode.specs.declared.PlanMode.{PlanMode}
-use Rattle.plan_defs.specs.Constants.{loading_tolerance, most_corridors}
+use Rattle.plan_defs.specs.Constants.{loading_tolerance}
 use Rattle.plan_defs.specs.Lists.{keep, pass_from, counting, each}
 use Rattle.plan_defs.specs.Case.{cap_at, own_or, circuit_cap, promote}
 use Rattle.plan_defs.specs.Components.{within, leads, members}
@@ -21,13 +21,8 @@ use Rattle.plan_defs.proofs.Drawn.{length_drawn}
 use Rattle.planning.specs.Design.{lines_for}
 use Rattle.planning.specs.Fill.{designs_for}
 use Rattle.planning.specs.Close.{corridors_of, levels_for, wider_by, loadings_by, cap_full, added_at, closing_of}
-use Rattle.planning.proofs.Lists.{count_most}
 use Rattle.planning.proofs.Orders.{drawn_here}
 use Rattle.planning.specs.Tables.{GridColumns}
-
--- ---- counts
-pub count_fits : (p : ℕ → Bool) (k n : ℕ) → n ≤ 1 → k ≤ most_corridors → counting p k + n < 2 ^ 32
-count_fits p k n e h = omega (arith, count_most p k 0)
 
 -- ---- the spread
 each_tested : {S : Type 0} (f : ℕ → S → S) (p : ℕ → Bool) (d i : ℕ) (s : S) → each f (pass_from p d i) s ≡ iter (λ j t. cond (p j) (f j t) t) d i s

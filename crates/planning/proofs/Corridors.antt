@@ -2,6 +2,7 @@
 -- A larger bank is a design set in its place (Builds), growing does not look at the other designs (Sizes), and the loop is the definition's.
 use Rattle.std.proofs.Common.{◌≡◌, ℕ, ◌+◌, ◌-◌, ◌<◌, ◌≤◌, Bool, true, false, not, ◌||◌, List, length, get_or, set, sym, refl, ap, ◌∙◌, subst, arith, length-set, get_or-set_other, get_or-set_same}
 use native.Mathlib.Decide.{ℕ_discrete}
+use Rattle.std.proofs.Math.Bool.{or-false, or-true}
 use lib.Ieee.{Float, nan, lt}
 use Rattle.loops.specs.Figures.{at}
 use Rattle.loops.specs.Loops.{iter}
@@ -31,20 +32,12 @@ module _ (c : Case) (level circuits : List ℕ) (banks floors : List Float) (ups
   abbrev with_bank : Bool → Tally
   with_bank larger = record { capacity = t.capacity; added = t.added || larger; capped = t.capped }
 
-  or_true : (b : Bool) → (b || true) ≡ true
-  or_true true = refl
-  or_true false = refl
-
-  or_false : (b : Bool) → (b || false) ≡ b
-  or_false true = refl
-  or_false false = refl
-
   enlarged_by : (larger : Bool) (mva : Float) → (larger ≡ true → bank_below (drawn c level k (at banks k)) ≡ true)
       → sizing_of c level circuits (set_if larger banks k mva) (set_if larger floors k mva) (set_if larger upsized k 1) marks (with_bank larger) ≡ enlarge_if larger k mva S
   enlarged_by true mva e =
-      ap (λ (x : Bool). sizing (build_of c level circuits (set banks k mva) (set floors k mva) (set upsized k 1)) marks t.capacity x t.capped) (or_true t.added)
+      ap (λ (x : Bool). sizing (build_of c level circuits (set banks k mva) (set floors k mva) (set upsized k 1)) marks t.capacity x t.capped) (or-true t.added)
       ∙ ap (λ (x : Build). sizing x marks t.capacity true t.capped) (sym (set_bank_lem c level circuits banks floors upsized k mva h n (e refl)))
-  enlarged_by false mva e = ap (λ (x : Bool). sizing (build_of c level circuits banks floors upsized) marks t.capacity x t.capped) (or_false t.added)
+  enlarged_by false mva e = ap (λ (x : Bool). sizing (build_of c level circuits banks floors upsized) marks t.capacity x t.capped) (or-false t.added)
 
   module _ (required : Float) (first : CircuitDesign) (next : Float) (larger : Bool) (pf : first ≡ drawn c level k (at banks k))
       (pn : next ≡ next_bank required (get_or circuits k 0) first) (pl : larger ≡ enlarges required (get_or circuits k 0) first next) where

@@ -2,6 +2,7 @@
 pub mod Casts
 pub mod Caps
 pub mod Lists
+pub mod Chains
 pub mod Draws
 pub mod Ratings
 pub mod Searches

@@ -1,6 +1,8 @@
 -- The steps of sizing one corridor: more circuits, a raise in their stead, and growing, each as the definition has it.
 -- Each law is the definition with its tests decided.
-use Rattle.std.proofs.Common.{◌≡◌, ℕ, ◌+◌, ◌-◌, ◌<◌, ◌≤◌, min, Bool, true, false, not, ◌||◌, ltb, List, length, get_or, set, sym, ap, ◌∙◌, subst, arith, get_or-set_other, get_or-set_same, lt-ltb}
+use Rattle.std.proofs.Common.{◌≡◌, ℕ, ◌+◌, ◌-◌, ◌<◌, ◌≤◌, min, Bool, true, false, not, ◌||◌, ltb, List, length, get_or, set, Some, None, sym, refl, ap, ◌∙◌, subst, arith, get_or-set_other, get_or-set_same, lt-ltb}
+use Rattle.std.specs.Bool.{then_some}
+use Rattle.std.proofs.lemmas.Option.{none-some, same_Some}
 use native.Mathlib.Decide.{ℕ_discrete}
 use lib.Ieee.{Float, lt}
 use Rattle.loops.proofs.Bools.{both}
@@ -32,6 +34,15 @@ pub larger_ok : (required : Float) (count : ℕ) (d : CircuitDesign) (next : Flo
     → larger ≡ enlarges required count d next → larger ≡ true → rating_ok next ≡ true
 larger_ok required count d next larger r pn pl e =
     subst (λ (x : Float). rating_ok x ≡ true) (sym pn) (larger_rating required count d r (ap (λ (x : Float). enlarges required count d x) (sym pn) ∙ sym pl ∙ e))
+
+-- where there is a larger one, and where there is none
+pub larger_some : (b : Bool) (x next : Float) → Some x ≡ then_some b next → (b ≡ true) × (x ≡ next)
+larger_some true x next e = (refl, same_Some x next e)
+larger_some false x next e = absurd (none-some x (sym e))
+
+pub larger_none : (b : Bool) (next : Float) → None ≡ then_some b next → b ≡ false
+larger_none true next e = absurd (none-some next e)
+larger_none false next e = refl
 
 -- ---- more circuits
 pub few_set : (circuits : List ℕ) (k n : ℕ) → k < length circuits → n ≤ 6 → Few circuits → Few (set circuits k n)

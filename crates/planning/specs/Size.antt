@@ -1,11 +1,12 @@
 -- What the contracts of module size cite: the columns that sizing reads, as a case; what they must be; and the state that the slices stand for.
-use Rattle.std.specs.Prelude.{◌≡◌, ℕ, ◌+◌, ◌<◌, ◌≤◌, Bool, true, false, List, [], length, slice_index, slice_set, Float}
+use Rattle.std.specs.Prelude.{◌≡◌, ℕ, ◌+◌, ◌<◌, ◌≤◌, Bool, true, false, List, [], length, slice_index, slice_set, Option, Float}
+use Rattle.std.specs.Bool.{then_some}
 use Rattle.mode.specs.declared.PlanMode.{PlanMode}
 use Rattle.plan_defs.specs.Constants.{most_initial, most_cap, subtransmission_max_circuits}
 use Rattle.plan_defs.specs.Case.{Case, case_of}
 use Rattle.plan_defs.specs.Design.{design}
 use Rattle.plan_defs.specs.Build.{built, drawn_all}
-use Rattle.plan_defs.specs.Size.{Sizing, sizing, add_to, grow, size_one}
+use Rattle.plan_defs.specs.Size.{Sizing, sizing, next_bank, enlarges, add_to, grow, size_one}
 use Rattle.plan_defs.specs.declared.CircuitDesign.{CircuitDesign}
 use Rattle.planning.specs.Design.{Lines, Banks}
 use Rattle.planning.specs.Raise.{largest_count}
@@ -28,7 +29,10 @@ sized_of designs floors upsized circuits marks t = sizing (built circuits design
 abbrev pub sizing_of : Case → List ℕ → List ℕ → List Float → List Float → List ℕ → List ℕ → Tally → Sizing
 sizing_of c level circuits banks floors upsized marks t = sized_of (drawn_all c level banks) floors upsized circuits marks t
 
--- ---- a bank kept, where there is a larger one
+-- ---- the larger bank, where there is one; and a bank kept, where there is
+abbrev pub larger_bank : Float → ℕ → CircuitDesign → Option Float
+larger_bank required count d = then_some (enlarges required count d (next_bank required count d)) (next_bank required count d)
+
 abbrev pub set_if : {A : Type 0} → Bool → List A → ℕ → A → List A
 set_if true l k x = slice_set l k x
 set_if false l k x = l

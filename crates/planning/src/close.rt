@@ -14,6 +14,7 @@ ghost use Rattle.planning.specs.Close.{corridors_of, levels_for, wider_by, loadi
 ghost use Rattle.planning.specs.Tables.{grid_in};
 
 use crate::design::{circuit, fill_drawn};
+use crate::figures::counting;
 use crate::fill::loading;
 use crate::policy::{cap_at, expands};
 use crate::size::PLANNING_UTILISATION;
@@ -100,11 +101,9 @@ fn overloaded(circuits: &[u32], flow: &[f64], rate: &[f64]) -> u32
     requires { Rated circuits.now flow.now rate.now }
     ensures { result ≡ overloaded_of (loadings_by circuits.now flow.now rate.now) }
 {
-    let mut count = 0;
-    for k in 0..rate.len() {
-        count += u32::from(loading(flow[k], circuits[k], rate[k]) > 1.0 + LOADING_TOLERANCE);
-    }
-    count
+    counting(rate.len(), |k| {
+        loading(flow[k], circuits[k], rate[k]) > 1.0 + LOADING_TOLERANCE
+    })
 }
 
 // ---- corridors at their cap and in want of more circuits
@@ -127,26 +126,19 @@ fn capped(
     requires loaded { Loaded grid.now.a.now banks.now circuits.now flow.now × (length grid.now.cap.now ≡ length grid.now.a.now) }
     ensures { result ≡ capped_of (corridors_of mode (length grid.now.a.now) grid.now.cap.now) (designs_for (grid_in grid.now) level.now banks.now) circuits.now flow.now }
 {
-    let mut count = 0;
-    for k in 0..grid.a.len() {
+    counting(grid.a.len(), |k| {
         let d = circuit(grid, level, k, banks[k]);
         let most = cap_at(mode, grid.cap[k], d.kv);
-        count += u32::from(cap_full(mode, most, circuits[k], flow[k], d.rate_a));
-    }
-    count
+        cap_full(mode, most, circuits[k], flow[k], d.rate_a)
+    })
 }
 
 // Of a corridor, `upsized` is 0 or 1 and no bool: the lent work of counts holds it.
-#[tactic(auto, unfolding(plan_defs::specs::Closing::upsized_of))]
 fn count_upsized(upsized: &[u32]) -> u32
     requires { length upsized.now ≤ most_corridors }
     ensures { result ≡ upsized_of upsized.now }
 {
-    let mut count = 0;
-    for own in upsized.iter() {
-        count += u32::from(1 <= *own);
-    }
-    count
+    upsized.iter().filter(|own| 1 <= **own).count() as u32
 }
 
 // ---- levels

@@ -6,7 +6,7 @@ ghost use Rattle.loops.specs.Loops.{tab};
 ghost use Rattle.impedance.specs.Impedance.{rating_ok};
 ghost use Rattle.sheets.specs.Sheet.{row_figures};
 ghost use Rattle.plan_defs.specs.Case.{row_of, row_from};
-ghost use Rattle.plan_defs.specs.Design.{basis_of, line_of, bank_basis, with_bank, set_transformer_mva, banked_by, differ, drawn, design};
+ghost use Rattle.plan_defs.specs.Design.{basis_of, line_of, bank_basis, with_bank, set_transformer_mva, differ, drawn, design};
 ghost use Rattle.plan_defs.specs.declared.CircuitDesign.{CircuitDesign};
 ghost use Rattle.planning.specs.Design.{lines_for, ends_for, Lines, EndsFit, LineFits, ends_of, line_between};
 ghost use Rattle.planning.specs.Fill.{designs_for, Drawable};
@@ -107,16 +107,6 @@ pub fn set_transformer_mva(d: CircuitDesign, mva: f64) -> CircuitDesign
     with_bank(d, mva, z)
 }
 
-pub fn banked_if(bank: bool, d: CircuitDesign, mva: f64) -> CircuitDesign
-    requires { bank ≡ true → rating_ok mva ≡ true }
-    ensures { result ≡ banked_by bank d mva }
-{
-    if bank {
-        return set_transformer_mva(d, mva);
-    }
-    d
-}
-
 // ---- a corridor's ends at the buses' levels
 #[derive(Clone, Copy)]
 pub struct Ends {
@@ -212,7 +202,10 @@ pub fn circuit(grid: &Grid, level: &[u32], k: usize, mva: f64) -> CircuitDesign
 {
     let e = ends_of(grid, level, k);
     let d = line_at(grid, level, k, e.from, e.to);
-    banked_if(e.steps_down, d, mva)
+    if e.steps_down {
+        return set_transformer_mva(d, mva);
+    }
+    d
 }
 
 // What `figure` gives of each corridor's design and its index.

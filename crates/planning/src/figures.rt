@@ -1,11 +1,25 @@
-// A choice of two indices; and a slice in an array.
-ghost use Rattle.std.specs.Prelude.{◌≡◌, ◌≤◌, length, take, if◌then◌else◌};
+// A choice of two indices; a count of indices; and a slice in an array.
+ghost use Rattle.std.specs.Prelude.{◌≡◌, ℕ, ◌^◌, ◌<◌, ◌≤◌, Bool, length, take, if◌then◌else◌};
 ghost use Rattle.plan_defs.specs.Constants.{most_corridors};
+ghost use Rattle.plan_defs.specs.Lists.{counting};
 
 pub fn choose(first: bool, i: usize, j: usize) -> usize
     ensures { result ≡ (if first then i else j) }
 {
     if first { i } else { j }
+}
+
+// How many indices below `count` pass a test that reads several slices; of one slice `filter` and `count` say it.
+pub fn counting<F: Fn(usize) -> bool>(count: usize, test: F) -> u32
+    requires few { count < 2 ^ 32 }
+    requires callable { (i : ℕ) → i < count → F.pre test i }
+    ensures { (p : ℕ → Bool) → ((i : ℕ) (r : Bool) → i < count → F.post test i r → r ≡ p i) → result ≡ counting p count }
+{
+    let mut passed = 0;
+    for i in 0..count {
+        passed += u32::from(test(i));
+    }
+    passed
 }
 
 // A slice at the front of an array, and one value past it.

@@ -9,7 +9,7 @@ ghost use Rattle.planning.specs.Design.{lines_for, ends_for, Banks, Rated};
 ghost use Rattle.planning.specs.Redesign.{redesign_for, Corridors, AnewFits, RedesignFits, anew_from, bank_of, fresh_at, banks_anew};
 ghost use Rattle.planning.specs.Tables.{grid_in, supply_in};
 
-use crate::design::{banked_if, circuit, ends_of};
+use crate::design::{circuit, ends_of, set_transformer_mva};
 use crate::opening::inject;
 use crate::tables::{Grid, Supply};
 use loops::{greater, lesser};
@@ -49,7 +49,10 @@ fn kept_bank(d: CircuitDesign, floor: f64) -> CircuitDesign
     ensures { result ≡ kept_bank d floor }
 {
     let keep = lesser(floor, d.line_rate);
-    banked_if(d.is_transformer & (d.transformer_mva < keep), d, keep)
+    if d.is_transformer & (d.transformer_mva < keep) {
+        return set_transformer_mva(d, keep);
+    }
+    d
 }
 
 // Corridor k with a fresh bank, or with the one that the plan made larger.
@@ -74,7 +77,8 @@ fn circuit_anew(
     kept_bank(fresh, floors[k])
 }
 
-// The bank that is kept of a design. Where it has none its line's rate stands there, which no design reads.
+// The bank that is kept of a design. The lent work has one f64 for each corridor, and `circuit` asks a sound rating of every one:
+// where a design has no bank its line's rate stands there, which no design reads. An Option would be taken apart again at its one call.
 fn bank_of(d: CircuitDesign) -> f64
     ensures { result ≡ bank_of d }
 {

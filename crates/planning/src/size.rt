@@ -1,14 +1,14 @@
 // Sizing: one corridor after another with the flows of the round's start. The first loop of a round of `plan_corridors`.
-ghost use Rattle.std.specs.Prelude.{◌≡◌, ◌+◌, ◌<◌, ◌≤◌, ◌||◌, length, slice_index};
+ghost use Rattle.std.specs.Prelude.{◌≡◌, ◌+◌, ◌<◌, ◌≤◌, length, slice_index, slice_set};
 ghost use Rattle.plan_defs.specs.Constants.{most_cap, subtransmission_max_circuits};
 ghost use Rattle.plan_defs.specs.Build.{bank_below};
 ghost use Rattle.plan_defs.specs.Raise.{top_of, mark_if};
 ghost use Rattle.plan_defs.specs.Size.{required_for, enough, next_bank, enlarges, raises_for};
 ghost use Rattle.planning.specs.Raise.{largest_count, pairs_for, PairFits};
-ghost use Rattle.planning.specs.Size.{size_for, grow_for, set_if, Adds, Grows, CorridorFits, CorridorSized};
+ghost use Rattle.planning.specs.Size.{size_for, grow_for, larger_bank, Adds, Grows, CorridorFits, CorridorSized};
 ghost use Rattle.planning.specs.Tables.{grid_in};
 
-use crate::design::{banked_if, circuit};
+use crate::design::{circuit, set_transformer_mva};
 use crate::policy::{cap_at, promotes};
 use crate::raise::mark_raise_to;
 use crate::tables::Grid;
@@ -73,9 +73,16 @@ fn enlarges(required: f64, count: u32, d: CircuitDesign, next: f64) -> bool
     !has & (below & (d.transformer_mva < next))
 }
 
-// Keeps the bank of corridor k's design where it was made larger; a redesign keeps it too.
+// The larger bank where the circuits have not the rating and one below its line would be made larger.
+fn larger_bank(required: f64, count: u32, d: CircuitDesign) -> Option<f64>
+    ensures { result ≡ larger_bank required count d }
+{
+    let next = next_bank(required, count, d);
+    enlarges(required, count, d, next).then_some(next)
+}
+
+// Keeps the bank of corridor k's design, which was made larger; a redesign keeps it too.
 pub fn keep_bank(
-    larger: bool,
     k: usize,
     d: CircuitDesign,
     banks: &mut [f64],
@@ -83,24 +90,13 @@ pub fn keep_bank(
     upsized: &mut [u32],
 )
     requires { (k < length banks.old) × (k < length floors.old) × (k < length upsized.old) }
-    ensures banks { banks.new ≡ set_if larger banks.old k d.transformer_mva }
-    ensures floors { floors.new ≡ set_if larger floors.old k d.transformer_mva }
-    ensures upsized { upsized.new ≡ set_if larger upsized.old k 1 }
+    ensures banks { banks.new ≡ slice_set banks.old k d.transformer_mva }
+    ensures floors { floors.new ≡ slice_set floors.old k d.transformer_mva }
+    ensures upsized { upsized.new ≡ slice_set upsized.old k 1 }
 {
-    if larger {
-        banks[k] = d.transformer_mva;
-        floors[k] = d.transformer_mva;
-        upsized[k] = 1;
-    }
-}
-
-fn with_bank_added(t: Tally, larger: bool) -> Tally
-    ensures { result ≡ record { capacity = t.capacity; added = t.added || larger; capped = t.capped } }
-{
-    Tally {
-        added: t.added | larger,
-        ..t
-    }
+    banks[k] = d.transformer_mva;
+    floors[k] = d.transformer_mva;
+    upsized[k] = 1;
 }
 
 // ---- more circuits, up to the cap
@@ -189,11 +185,12 @@ pub fn size_corridor(
 {
     let required = required_for(flow[k]);
     let count = circuits[k];
-    let first = circuit(grid, level, k, banks[k]);
-    let next = next_bank(required, count, first);
-    let larger = enlarges(required, count, first, next);
-    let d = banked_if(larger, first, next);
-    keep_bank(larger, k, d, banks, floors, upsized);
-    let s = with_bank_added(t, larger);
+    let mut d = circuit(grid, level, k, banks[k]);
+    let mut s = t;
+    if let Some(mva) = larger_bank(required, count, d) {
+        d = set_transformer_mva(d, mva);
+        keep_bank(k, d, banks, floors, upsized);
+        s.added = true;
+    }
     grow(mode, level, grid, k, required, d, circuits, marks, s)
 }

@@ -15,7 +15,7 @@ ghost use Rattle.planning.specs.Tables.{grid_in, opened_in, solved_by, solved_in
 
 use crate::design::{circuit, set_transformer_mva};
 use crate::edges::Edges;
-use crate::figures::choose;
+use crate::figures::{choose, counting};
 use crate::fill::total;
 use crate::policy::full_at;
 use crate::raise::{mark_raise_to, raise_of};
@@ -67,11 +67,7 @@ fn at_or_above(level: &[u32], top: u32) -> u32
     requires { length level.now ≤ most_buses }
     ensures { result ≡ at_or_above level.now top }
 {
-    let mut count = 0;
-    for own in level.iter() {
-        count += u32::from(*own <= top);
-    }
-    count
+    level.iter().filter(|own| **own <= top).count() as u32
 }
 
 // The product rounded, then floored.
@@ -227,7 +223,7 @@ fn stiffen_one(
     let d = circuit(grid, level, k, banks[k]);
     if bank_below(d) {
         let full = set_transformer_mva(d, d.line_rate);
-        keep_bank(true, k, full, banks, floors, upsized);
+        keep_bank(k, full, banks, floors, upsized);
         return reckoned(0, 0, t);
     }
     raise_or_add(g, grid.cap[k], level, grid, k, circuits, marks, t)
@@ -402,11 +398,7 @@ fn corridors_in(leader: &[u32], a: &[u32], root: usize) -> u32
     requires { (length a.now ≤ most_corridors) × ((k : ℕ) → k < length a.now → slice_index a.now k < length leader.now) }
     ensures { result ≡ counting (λ (k : ℕ). within leader.now root (slice_index a.now k)) (length a.now) }
 {
-    let mut count = 0;
-    for end in a.iter() {
-        count += u32::from(leader[*end as usize] as usize == root);
-    }
-    count
+    counting(a.len(), |k| leader[a[k] as usize] as usize == root)
 }
 
 // The most corridors in one batch: their share, and at least one.

@@ -1,6 +1,5 @@
-// A choice of two indices; a count of indices; and a slice in an array.
-ghost use Rattle.std.specs.Prelude.{◌≡◌, ℕ, ◌^◌, ◌<◌, ◌≤◌, Bool, length, take, if◌then◌else◌};
-ghost use Rattle.plan_defs.specs.Constants.{most_corridors};
+// A choice of two indices; and a count of indices.
+ghost use Rattle.std.specs.Prelude.{◌≡◌, ℕ, ◌^◌, ◌<◌, Bool, if◌then◌else◌};
 ghost use Rattle.plan_defs.specs.Lists.{counting};
 
 pub fn choose(first: bool, i: usize, j: usize) -> usize
@@ -20,14 +19,4 @@ pub fn counting<F: Fn(usize) -> bool>(count: usize, test: F) -> u32
         passed += u32::from(test(i));
     }
     passed
-}
-
-// A slice at the front of an array, and one value past it.
-pub fn copied<T: Copy>(slice: &[T], rest: T) -> [T; 256]
-    requires { length slice.now ≤ most_corridors }
-    ensures { (take (length slice.now) result ≡ slice.now) × (length result ≡ most_corridors) }
-{
-    let mut out = [rest; 256];
-    out[..slice.len()].copy_from_slice(slice);
-    out
 }

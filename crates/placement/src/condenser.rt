@@ -105,6 +105,7 @@ fn served_by(network: &Network, from: &[u16; MOST_BUSES], bus: u32) -> f64
 }
 
 // A condenser's size: half of what it serves, or the least bank. `f64::max` would answer the least bank of a NaN.
+#[tactic(auto, unfolding(placement_defs::specs::Support::mvar_of))]
 fn mvar_of(network: &Network, from: &[u16; MOST_BUSES], bus: u32) -> f64
     ensures { result ≡ mvar_of (loads_in network.now) from.now network.now.n bus }
 {

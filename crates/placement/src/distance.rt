@@ -3,7 +3,7 @@ ghost use Rattle.std.specs.Prelude.{◌≡◌, ◌≤◌, ◌<◌};
 ghost use Rattle.loops.specs.Loops.{iter};
 ghost use Rattle.placement_defs.specs.Request.{most_buses};
 ghost use Rattle.placement_defs.specs.Distance.{seeded, seed, shortens, far_end, considered, spread, searched, distances_from};
-ghost use Rattle.placement.specs.Blocks.{Numbers, Front};
+ghost use Rattle.placement.specs.Blocks.{Front};
 ghost use Rattle.placement.specs.Views.{labels_in, network_in};
 
 use crate::blocks::{look_at_blocks, nearest_candidate, reach_bus, settle_bus};
@@ -107,7 +107,6 @@ fn spread_from(
 
 // Both steps, until no candidate is left.
 fn search(network: &Network, labels: &mut Labels)
-    requires { Numbers network.now.n labels.old.mark labels.old.dist }
     ensures { labels_in labels.new ≡ searched (network_in network.now) (labels_in labels.old) }
 {
     let mut nearest = [None; BLOCKS];
@@ -123,7 +122,6 @@ fn search(network: &Network, labels: &mut Labels)
 
 // Corridor-km from every bus to its nearest source, and that source.
 pub fn distance_to_sources(network: &Network, sources: &[u16; MOST_BUSES], labels: &mut Labels)
-    requires { Numbers network.now.n labels.old.mark labels.old.dist }
     ensures { labels_in labels.new
         ≡ distances_from (network_in network.now) sources.now (labels_in labels.old) }
 {
@@ -134,8 +132,7 @@ pub fn distance_to_sources(network: &Network, sources: &[u16; MOST_BUSES], label
 // The distances after bus i has joined the sources, from those before: only the buses that now lie nearer to i are reached again. The
 // distances are those of a search from all sources (proofs/Again); the sources need not be, where two lie equally far.
 pub fn distance_with_source(network: &Network, i: usize, labels: &mut Labels)
-    requires numbers { Numbers network.now.n labels.old.mark labels.old.dist }
-    requires i_lt_n { i < network.now.n }
+    requires { i < network.now.n }
     ensures { labels_in labels.new
         ≡ searched (network_in network.now) (seeded i 1 (labels_in labels.old)) }
 {

@@ -1,6 +1,5 @@
 // The candidates by blocks of sixteen buses. The nearest of each block is kept, so that the next bus to settle is found among sixteen, and
-// when it is settled only its own block is looked at again. That `nearest` fits the labels is asked of each call: between the writes to
-// the two it does not hold, so that a struct of both would break its own fact.
+// when it is settled only its own block is looked at again.
 ghost use Rattle.std.specs.Prelude.{◌≡◌, ◌+◌, ◌≤◌, ◌<◌, ◌||◌, eqb, true, length};
 ghost use Rattle.std.specs.Float.Ieee.{lt};
 ghost use Rattle.loops.specs.Figures.{at};

@@ -4,10 +4,10 @@ use Rattle.loops.specs.Figures.{at, minus, times}
 use Rattle.loops.specs.Parts.{put}
 use Rattle.angles_defs.specs.Network as Network
 use Rattle.angles_defs.specs.Network.{edges_of, weighed, moved}
-use Rattle.angles.specs.declared.edges.Edges.{Edges}
+use Rattle.angles.specs.declared.grid.Grid.{Grid}
 
-abbrev pub edges_in : Edges → Network.Edges
-edges_in e = edges_of e.from.now e.to.now e.weight.now
+abbrev pub edges_in : Grid → Network.Edges
+edges_in g = edges_of g.from.now g.to.now g.weight.now
 
 pub record Wrote (w w' : List Float) (o : ℕ) (v : List Float) (sum answer : Float) : Type 0 where
   pub left : w' ≡ put w o v

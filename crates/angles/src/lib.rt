@@ -6,13 +6,13 @@ ghost use Rattle.std.specs.Prelude.{◌≡◌};
 ghost use Rattle.angles_defs.specs.Operation.{request_of, outcome, dc_angles};
 
 use crate::check::Request;
-use crate::edges::Edges;
+use crate::grid::Grid;
 use angles_defs::Solution;
 use refusal::Refusal;
 
 mod bound;
 mod check;
-mod edges;
+mod grid;
 mod network;
 mod operation;
 mod solve;
@@ -53,11 +53,12 @@ pub fn dc_angles(
         guess,
     };
     request.check(res.len(), work.len())?;
-    let edges = Edges {
+    let grid = Grid {
         n,
         from,
         to,
         weight,
+        grounds,
     };
-    operation::answer(&edges, injection, grounds, guess, res, work)
+    operation::answer(&grid, injection, guess, res, work)
 }

@@ -4,20 +4,19 @@ ghost use Rattle.loops.specs.Loops.{iter};
 ghost use Rattle.loops.specs.Parts.{part, put, Apart};
 ghost use Rattle.angles_defs.specs.Network as Network;
 ghost use Rattle.angles_defs.specs.Network.{weigh, kept_at, dot};
-ghost use Rattle.angles.specs.Edges.{GroundsBelow};
 ghost use Rattle.angles.specs.Slices.{edges_in, Wrote, weighed_in, moved_in};
 
-use crate::edges::Edges;
+use crate::grid::Grid;
 use crate::vectors::clear;
 
 // Sets a one at each ground of the row o.
 #[tactic(auto, using(loops::proofs::Puts::turned_end))]
-pub fn mark_grounds(grounds: &[u32], w: &mut [f64], n: usize, o: usize)
-    requires grounds_below { GroundsBelow n grounds.now }
-    requires n_in_bounds { o + n ≤ length w.old }
-    ensures { w.new ≡ put w.old o (iter (Network.ground grounds.now) (length grounds.now) 0 (part o n w.old)) }
+pub fn mark_grounds(grid: &Grid, w: &mut [f64], o: usize)
+    requires { o + grid.now.n ≤ length w.old }
+    ensures { w.new ≡ put w.old o
+        (iter (Network.ground grid.now.grounds.now) (length grid.now.grounds.now) 0 (part o grid.now.n w.old)) }
 {
-    for bus in grounds {
+    for bus in grid.grounds {
         w[o + *bus as usize] = 1.0;
     }
 }
@@ -33,17 +32,17 @@ fn add_weight(w: &mut [f64], a: usize, b: usize, weight: f64, y: usize)
 
 // Adds the weight of each edge at both its ends to the row y.
 #[tactic(auto, using(loops::proofs::Puts::turned_end))]
-pub fn add_weights(edges: &Edges, w: &mut [f64], y: usize)
-    requires { y + edges.now.n ≤ length w.old }
+pub fn add_weights(grid: &Grid, w: &mut [f64], y: usize)
+    requires { y + grid.now.n ≤ length w.old }
     ensures { w.new ≡ put w.old y
-        (iter (weigh (edges_in edges.now)) (length edges.now.from.now) 0 (part y edges.now.n w.old)) }
+        (iter (weigh (edges_in grid.now)) (length grid.now.from.now) 0 (part y grid.now.n w.old)) }
 {
-    for e in 0..edges.from.len() {
+    for e in 0..grid.from.len() {
         add_weight(
             w,
-            edges.from[e] as usize,
-            edges.to[e] as usize,
-            edges.weight[e],
+            grid.from[e] as usize,
+            grid.to[e] as usize,
+            grid.weight[e],
             y,
         );
     }
@@ -79,17 +78,17 @@ fn carry(w: &mut [f64], a: usize, b: usize, weight: f64, x: usize, y: usize)
 
 // Each edge moves what it carries at x.
 #[tactic(auto, using(loops::proofs::Puts::turned_end))]
-fn scatter(edges: &Edges, w: &mut [f64], x: usize, y: usize)
-    requires { (x + edges.now.n ≤ length w.old) × (y + edges.now.n ≤ length w.old) × Apart x y edges.now.n }
+fn scatter(grid: &Grid, w: &mut [f64], x: usize, y: usize)
+    requires { (x + grid.now.n ≤ length w.old) × (y + grid.now.n ≤ length w.old) × Apart x y grid.now.n }
     ensures { w.new ≡ put w.old y
-        (iter (Network.carry (edges_in edges.now) (part x edges.now.n w.old)) (length edges.now.from.now) 0 (part y edges.now.n w.old)) }
+        (iter (Network.carry (edges_in grid.now) (part x grid.now.n w.old)) (length grid.now.from.now) 0 (part y grid.now.n w.old)) }
 {
-    for e in 0..edges.from.len() {
+    for e in 0..grid.from.len() {
         carry(
             w,
-            edges.from[e] as usize,
-            edges.to[e] as usize,
-            edges.weight[e],
+            grid.from[e] as usize,
+            grid.to[e] as usize,
+            grid.weight[e],
             x,
             y,
         );
@@ -114,14 +113,14 @@ fn ground(w: &mut [f64], n: usize, grounded: usize, x: usize, y: usize) -> f64
 }
 
 // y = L x, the grounded Laplacian's product; answers x · y.
-pub fn apply(edges: &Edges, w: &mut [f64], grounded: usize, x: usize, y: usize) -> f64
-    requires { (grounded + edges.now.n ≤ length w.old) × (x + edges.now.n ≤ length w.old) × (y + edges.now.n ≤ length w.old) × Apart grounded y edges.now.n × Apart x y edges.now.n }
+pub fn apply(grid: &Grid, w: &mut [f64], grounded: usize, x: usize, y: usize) -> f64
+    requires { (grounded + grid.now.n ≤ length w.old) × (x + grid.now.n ≤ length w.old) × (y + grid.now.n ≤ length w.old) × Apart grounded y grid.now.n × Apart x y grid.now.n }
     ensures { Wrote w.old w.new y
-        (Network.kept edges.now.n (part grounded edges.now.n w.old) (Network.scatter edges.now.n (edges_in edges.now) (part x edges.now.n w.old)))
-        (dot edges.now.n (part x edges.now.n w.old)
-        (Network.kept edges.now.n (part grounded edges.now.n w.old) (Network.scatter edges.now.n (edges_in edges.now) (part x edges.now.n w.old)))) result }
+        (Network.kept grid.now.n (part grounded grid.now.n w.old) (Network.scatter grid.now.n (edges_in grid.now) (part x grid.now.n w.old)))
+        (dot grid.now.n (part x grid.now.n w.old)
+        (Network.kept grid.now.n (part grounded grid.now.n w.old) (Network.scatter grid.now.n (edges_in grid.now) (part x grid.now.n w.old)))) result }
 {
-    clear(w, y, edges.n);
-    scatter(edges, w, x, y);
-    ground(w, edges.n, grounded, x, y)
+    clear(w, y, grid.n);
+    scatter(grid, w, x, y);
+    ground(w, grid.n, grounded, x, y)
 }

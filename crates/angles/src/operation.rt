@@ -3,11 +3,10 @@ ghost use Rattle.std.specs.Prelude.{◌≡◌, ◌*◌, ◌≤◌, length};
 ghost use Rattle.loops.specs.Parts.{rows};
 ghost use Rattle.angles_defs.specs.Solve as Solve;
 ghost use Rattle.angles_defs.specs.Operation.{outcome, finish};
-ghost use Rattle.angles.specs.Edges.{GroundsBelow};
 ghost use Rattle.angles.specs.Slices.{edges_in};
 ghost use Rattle.angles.specs.Rows.{row, start_rows, HandedOut};
 
-use crate::edges::Edges;
+use crate::grid::Grid;
 use crate::network::{add_weights, keep, mark_grounds};
 use crate::solve::solve;
 use crate::steps::{DIAG, GROUNDED, X};
@@ -16,16 +15,15 @@ use angles_defs::Solution;
 use refusal::Refusal;
 
 // The rows that a solve begins with: the grounded right side, the marks of the grounds, the diagonal and the grounded guess.
-fn set_up(edges: &Edges, injection: &[f64], grounds: &[u32], guess: &[f64], w: &mut [f64])
-    requires grounds_below { GroundsBelow edges.now.n grounds.now }
-    requires w_len { (length w.old ≡ 8 * edges.now.n) × (length injection.now ≡ edges.now.n) × (length guess.now ≡ edges.now.n) }
-    ensures { rows 8 edges.now.n w.new
-        ≡ start_rows edges.now.n (edges_in edges.now) grounds.now injection.now guess.now }
+fn set_up(grid: &Grid, injection: &[f64], guess: &[f64], w: &mut [f64])
+    requires { (length w.old ≡ 8 * grid.now.n) × (length injection.now ≡ grid.now.n) × (length guess.now ≡ grid.now.n) }
+    ensures { rows 8 grid.now.n w.new
+        ≡ start_rows grid.now.n (edges_in grid.now) grid.now.grounds.now injection.now guess.now }
 {
-    let n = edges.n;
+    let n = grid.n;
     w.fill(0.0);
-    mark_grounds(grounds, w, n, GROUNDED * n);
-    add_weights(edges, w, DIAG * n);
+    mark_grounds(grid, w, GROUNDED * n);
+    add_weights(grid, w, DIAG * n);
     keep(injection, w, n, GROUNDED * n, 0);
     keep(guess, w, n, GROUNDED * n, X * n);
 }
@@ -47,21 +45,19 @@ fn hand_out(res: &mut [f64], w: &mut [f64], n: usize) -> Option<usize>
 }
 
 pub fn answer(
-    edges: &Edges,
+    grid: &Grid,
     injection: &[f64],
-    grounds: &[u32],
     guess: &[f64],
     res: &mut [f64],
     work: &mut [f64],
 ) -> Result<Solution, Refusal>
-    requires grounds_below { GroundsBelow edges.now.n grounds.now }
-    requires work_len { (length work.old ≡ 8 * edges.now.n) × (length res.old ≡ edges.now.n) × (length injection.now ≡ edges.now.n) × (length guess.now ≡ edges.now.n) × (edges.now.n ≤ 256) }
+    requires { (length work.old ≡ 8 * grid.now.n) × (length res.old ≡ grid.now.n) × (length injection.now ≡ grid.now.n) × (length guess.now ≡ grid.now.n) × (grid.now.n ≤ 256) }
     ensures { outcome result res.new work.new
-        ≡ finish edges.now.n (Solve.solve edges.now.n (edges_in edges.now) grounds.now injection.now guess.now) }
+        ≡ finish grid.now.n (Solve.solve grid.now.n (edges_in grid.now) grid.now.grounds.now injection.now guess.now) }
 {
-    set_up(edges, injection, grounds, guess, work);
-    let solution = solve(edges, work);
-    match hand_out(res, work, edges.n) {
+    set_up(grid, injection, guess, work);
+    let solution = solve(grid, work);
+    match hand_out(res, work, grid.n) {
         Some(bus) => Err(Refusal::NotFinite(bus)),
         None => Ok(solution),
     }

@@ -7,7 +7,7 @@ ghost use Rattle.angles.specs.Slices.{edges_in};
 ghost use Rattle.angles.specs.Rows.{row, network_in, state_in, within, solved_in, Stepped, Begun};
 
 use crate::bound::{Bound, bound_of};
-use crate::edges::Edges;
+use crate::grid::Grid;
 use crate::network::apply;
 use crate::steps::{
     D, GROUNDED, Q, R, X, Z, angle_step, direction_step, precondition, residual, residual_step,
@@ -44,18 +44,18 @@ fn judge(rr: f64, bound: Bound) -> Option<f64>
 
 // One iteration: what it hands to the next, or the solution where it ends.
 fn step(
-    edges: &Edges,
+    grid: &Grid,
     w: &mut [f64],
     bound: Bound,
     carried: Carried,
 ) -> ControlFlow<Solution, Carried>
-    requires { (length w.old ≡ 8 * edges.now.n) × (carried.steps < 2 ^ 32) }
-    ensures { Stepped edges.now.n (edges_in edges.now) bound.bound (rows 8 edges.now.n w.old) carried (rows 8 edges.now.n w.new) result }
+    requires { (length w.old ≡ 8 * grid.now.n) × (carried.steps < 2 ^ 32) }
+    ensures { Stepped grid.now.n (edges_in grid.now) bound.bound (rows 8 grid.now.n w.old) carried (rows 8 grid.now.n w.new) result }
 {
-    let n = edges.n;
+    let n = grid.n;
     let rz = carried.rz;
     let steps = carried.steps;
-    let dq = apply(edges, w, GROUNDED * n, D * n, Q * n);
+    let dq = apply(grid, w, GROUNDED * n, D * n, Q * n);
     if dq <= 0.0 {
         return ControlFlow::Break(Solution {
             steps,
@@ -80,15 +80,15 @@ fn step(
 }
 
 // At most 50 iterations for each bus and 100 more.
-fn iterate(edges: &Edges, w: &mut [f64], bound: Bound, first: Carried) -> Solution
-    requires { (length w.old ≡ 8 * edges.now.n) × (edges.now.n ≤ 256) × (first.steps ≡ 0) }
-    ensures { solved_in (rows 8 edges.now.n w.new) result
-        ≡ run (network_in edges.now.n (edges_in edges.now) (rows 8 edges.now.n w.old)) bound.bound (max_iterations edges.now.n)
-        (go (state_in (rows 8 edges.now.n w.old) first)) }
+fn iterate(grid: &Grid, w: &mut [f64], bound: Bound, first: Carried) -> Solution
+    requires { (length w.old ≡ 8 * grid.now.n) × (grid.now.n ≤ 256) × (first.steps ≡ 0) }
+    ensures { solved_in (rows 8 grid.now.n w.new) result
+        ≡ run (network_in grid.now.n (edges_in grid.now) (rows 8 grid.now.n w.old)) bound.bound (max_iterations grid.now.n)
+        (go (state_in (rows 8 grid.now.n w.old) first)) }
 {
     let mut carried = first;
-    for _turn in 0..50 * edges.n + 100 {
-        match step(edges, w, bound, carried) {
+    for _turn in 0..50 * grid.n + 100 {
+        match step(grid, w, bound, carried) {
             ControlFlow::Break(solution) => return solution,
             ControlFlow::Continue(next) => carried = next,
         }
@@ -100,12 +100,12 @@ fn iterate(edges: &Edges, w: &mut [f64], bound: Bound, first: Carried) -> Soluti
 }
 
 // The first residual and direction.
-fn begin(edges: &Edges, w: &mut [f64], bound: Bound) -> ControlFlow<Solution, Carried>
-    requires { length w.old ≡ 8 * edges.now.n }
-    ensures { Begun edges.now.n (edges_in edges.now) bound.bound (rows 8 edges.now.n w.old) (rows 8 edges.now.n w.new) result }
+fn begin(grid: &Grid, w: &mut [f64], bound: Bound) -> ControlFlow<Solution, Carried>
+    requires { length w.old ≡ 8 * grid.now.n }
+    ensures { Begun grid.now.n (edges_in grid.now) bound.bound (rows 8 grid.now.n w.old) (rows 8 grid.now.n w.new) result }
 {
-    let n = edges.n;
-    apply(edges, w, GROUNDED * n, X * n, R * n);
+    let n = grid.n;
+    apply(grid, w, GROUNDED * n, X * n, R * n);
     let rr = residual(w, n);
     if let Some(norm) = judge(rr, bound) {
         return ControlFlow::Break(Solution {
@@ -119,13 +119,13 @@ fn begin(edges: &Edges, w: &mut [f64], bound: Bound) -> ControlFlow<Solution, Ca
 }
 
 // The solve: zeros where the norm of the right side comes to zero, whatever the guess.
-pub fn solve(edges: &Edges, w: &mut [f64]) -> Solution
-    requires { (length w.old ≡ 8 * edges.now.n) × (edges.now.n ≤ 256) }
-    ensures { solved_in (rows 8 edges.now.n w.new) result
-        ≡ solve_from (network_in edges.now.n (edges_in edges.now) (rows 8 edges.now.n w.old))
-        (row (rows 8 edges.now.n w.old) 0) (row (rows 8 edges.now.n w.old) 3) }
+pub fn solve(grid: &Grid, w: &mut [f64]) -> Solution
+    requires { (length w.old ≡ 8 * grid.now.n) × (grid.now.n ≤ 256) }
+    ensures { solved_in (rows 8 grid.now.n w.new) result
+        ≡ solve_from (network_in grid.now.n (edges_in grid.now) (rows 8 grid.now.n w.old))
+        (row (rows 8 grid.now.n w.old) 0) (row (rows 8 grid.now.n w.old) 3) }
 {
-    let n = edges.n;
+    let n = grid.n;
     let norm0 = root::sqrt(dot(w, n, 0, 0));
     if norm0 == 0.0 {
         clear(w, X * n, n);
@@ -135,8 +135,8 @@ pub fn solve(edges: &Edges, w: &mut [f64]) -> Solution
         };
     }
     let bound = bound_of(SETTLED_SHARE * norm0);
-    match begin(edges, w, bound) {
+    match begin(grid, w, bound) {
         ControlFlow::Break(solution) => solution,
-        ControlFlow::Continue(first) => iterate(edges, w, bound, first),
+        ControlFlow::Continue(first) => iterate(grid, w, bound, first),
     }
 }

@@ -1,5 +1,5 @@
-// What an iteration does to the rows of the work slice w, each in one pass. The caller lends the slice (the C interface), so each call
-// asks for its length.
+// What an iteration does to the rows of the work slice w, each in one pass. Each call asks for the slice's length: of a struct of the slice
+// and n whose ghost field is that length, tried, each method had to promise that it still holds the same slice and the same n.
 ghost use Rattle.std.specs.Prelude.{◌≡◌, ◌*◌, length};
 ghost use Rattle.loops.specs.Parts.{rows};
 ghost use Rattle.angles_defs.specs.Network.{share_at};

@@ -24,7 +24,8 @@ start_of t i = spot t.kind t.file t.at i
 abbrev pub cap_at : List ℕ → ℕ → ℕ
 cap_at s at = number_at Corridor s at (place_of CappedCorridor cap_field) (span_of CappedCorridor cap_field)
 
--- every record is inside the file
+-- every record is inside the file. Five functions ask it: `Table::new`, whose type holds it, and the four that make a table of one kind and fill
+-- columns from it; handed the table, each of those would ask for its kind instead.
 abbrev pub Room : Kind → List ℕ → ℕ → ℕ → Type 0
 Room k s at count = (i : ℕ) → i < count → end_of k s (spot k s at i) ≤ length s
 

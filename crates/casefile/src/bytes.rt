@@ -2,17 +2,15 @@
 ghost use Rattle.std.specs.Prelude.{◌≡◌, ◌+◌, ◌^◌, ◌<◌, ◌≤◌, length};
 ghost use Rattle.casefile_defs.specs.Layout.{word};
 
-// The number of `width` bytes at a place, the least significant first. `from_le_bytes` would need them in an array that zeros fill up.
+// The number of `width` bytes at a place, the least significant first.
 pub fn word(file: &[u8], at: usize, width: usize) -> u64
     requires { (width ≤ 8) × (at + width ≤ length file.now) }
     ensures value { result ≡ word width at file.now }
     ensures small { result < 256 ^ width }
 {
-    let mut sum = 0;
-    for i in (0..width).rev() {
-        sum = sum * 256 + file[at + i] as u64;
-    }
-    sum
+    let mut bytes = [0; 8];
+    bytes[..width].copy_from_slice(&file[at..at + width]);
+    u64::from_le_bytes(bytes)
 }
 
 // The number of eight bytes at a place, which the compiler loads at once.

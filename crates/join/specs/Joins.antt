@@ -18,7 +18,8 @@ use Rattle.refusal.specs.declared.Refusal.{Refusal}
 abbrev pub either_at : {A : Type 0} → A → A → List A → List A → ℕ → A
 either_at d past x y i = cond (ltb i (length x)) (get_or x i d) (cond (ltb i (length x + length y)) (get_or y (i - length x) d) past)
 
--- numbers that fit a u32 when they are raised
+-- numbers that fit a u32 when they are raised. Four functions ask it: a struct of the column and the number would have to be made of three columns of a district, and
+-- the two functions that are given the district would ask it all the same
 abbrev pub Raises : ℕ → List ℕ → Type 0
 Raises by y = (i : ℕ) → i < length y → by + get_or y i 0 < 2 ^ 32
 

@@ -61,26 +61,38 @@ fn row_figure(sheet: &[f64], corridors: usize, k: usize, level: usize, j: usize)
     sheet[p + j]
 }
 
-// Place p of the sheet of the first's m corridors and the second's o, at n levels.
-fn sheet_at(m: usize, o: usize, n: usize, x: &[f64], y: &[f64], p: usize) -> f64
-    requires { Rowed m o n (length x.now) (length y.now) }
-    ensures { result ≡ sheet_at m o n x.now y.now p }
-{
-    let i = p / ROW_FIGURES;
-    if i >= (m + o) * n {
-        return 0.0;
-    }
-    let k = row_corridor(m + o, i);
-    let level = row_level(m + o, i);
-    if k < m {
-        return row_figure(x, m, k, level, p % ROW_FIGURES);
-    }
-    row_figure(y, o, k - m, level, p % ROW_FIGURES)
+// The sheets of both: of the first's m corridors and the second's o, at n levels.
+#[derive(Clone, Copy)]
+pub struct Sheets<'a> {
+    pub m: usize,
+    pub o: usize,
+    pub n: usize,
+    pub first: &'a [f64],
+    pub second: &'a [f64],
+    ghost rowed: { Rowed m o n (length first.now) (length second.now) },
 }
 
-pub fn append_sheet(out: &mut [f64], m: usize, o: usize, n: usize, x: &[f64], y: &[f64])
-    requires { Rowed m o n (length x.now) (length y.now) }
-    ensures { out.new ≡ joined_sheet (length out.old) m o n x.now y.now }
+impl<'a> Sheets<'a> {
+    // Place p of the joined sheet.
+    fn at(&self, p: usize) -> f64
+        ensures { result ≡ sheet_at self.now.m self.now.o self.now.n self.now.first.now self.now.second.now p }
+    {
+        let i = p / ROW_FIGURES;
+        let m = self.m;
+        if i >= (m + self.o) * self.n {
+            return 0.0;
+        }
+        let k = row_corridor(m + self.o, i);
+        let level = row_level(m + self.o, i);
+        if k < m {
+            return row_figure(self.first, m, k, level, p % ROW_FIGURES);
+        }
+        row_figure(self.second, self.o, k - m, level, p % ROW_FIGURES)
+    }
+}
+
+pub fn append_sheet(out: &mut [f64], sheets: &Sheets)
+    ensures { out.new ≡ joined_sheet (length out.old) sheets.now.m sheets.now.o sheets.now.n sheets.now.first.now sheets.now.second.now }
 {
-    fill(out, |p| sheet_at(m, o, n, x, y, p));
+    fill(out, |p| sheets.at(p));
 }

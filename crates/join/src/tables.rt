@@ -4,7 +4,7 @@ ghost use Rattle.std.specs.Prelude.{[], ◌+◌, ◌≡◌, length};
 ghost use Rattle.join_defs.specs.Columns.{figures, counts, joined_sheet};
 ghost use Rattle.join.specs.Joins.{Raises, Rowed};
 
-use crate::columns::{append, append_raised, append_sheet};
+use crate::columns::{Sheets, append, append_raised, append_sheet};
 use crate::district::District;
 
 // The ladder is the first's.
@@ -84,12 +84,12 @@ pub fn put_corridors(
     append(length_km, first.length_km, second.length_km, 0.0);
     append(share, first.share, second.share, 0.0);
     append(cap, first.cap, second.cap, 0);
-    append_sheet(
-        sheet,
-        first.header.corridors,
-        second.header.corridors,
-        levels,
-        first.sheet,
-        second.sheet,
-    );
+    let sheets = Sheets {
+        m: first.header.corridors,
+        o: second.header.corridors,
+        n: levels,
+        first: first.sheet,
+        second: second.sheet,
+    };
+    append_sheet(sheet, &sheets);
 }

@@ -1,12 +1,11 @@
 // K8's refusals 1, 2, 3, 6 and 22, in order. They touch nothing.
-ghost use Rattle.std.specs.Prelude.{◌≡◌, ◌<◌, length, ◌==◌};
+ghost use Rattle.std.specs.Prelude.{◌≡◌, ◌<◌, length};
 ghost use Rattle.loops.specs.Figures.{at, inside};
 ghost use Rattle.loops.specs.Loops.{fault};
-ghost use Rattle.line_defs.specs.Rows.{sheet_figures};
 ghost use Rattle.line_defs.specs.Request.{lengths_ok, level_ok, check_of};
 
-use crate::rows::{ROW_FIGURES, counts_ok};
 use refusal::Refusal;
+use sheets::{counts_ok, sheet_ok};
 
 const MOST_KV: f64 = 10000.0;
 
@@ -19,16 +18,7 @@ const LEAST_SPREAD: f64 = 0.25;
 
 const MOST_SPREAD: f64 = 4.0;
 
-// ---- 1. The counts are as given, so that a product of them may not fit
-fn sheet_ok(figures: usize, levels: usize, corridors: usize) -> bool
-    ensures { result ≡ (figures == sheet_figures levels corridors) }
-{
-    match corridors.checked_mul(levels) {
-        Some(rows) => (figures / ROW_FIGURES == rows) & (figures % ROW_FIGURES == 0),
-        None => false,
-    }
-}
-
+// ---- 1
 fn lengths_ok(
     levels: usize,
     corridors: usize,
@@ -42,7 +32,7 @@ fn lengths_ok(
     (ladder == levels)
         & (km == corridors)
         & (spread == corridors)
-        & sheet_ok(sheet, levels, corridors)
+        & sheet_ok(sheet, corridors, levels)
 }
 
 // ---- 3, 6 and 22: the first place of a table that is not sound
@@ -96,7 +86,7 @@ pub fn check(
     ) {
         return Err(Refusal::Length);
     }
-    if !counts_ok(levels, corridors) {
+    if !counts_ok(corridors, levels) {
         return Err(Refusal::Count);
     }
     if let Some(i) = faulty_level(ladder) {

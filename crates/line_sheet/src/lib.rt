@@ -5,9 +5,10 @@ ghost use Rattle.std.specs.Prelude.{◌≡◌};
 ghost use Rattle.line_defs.specs.Rows.{corridor_rows};
 ghost use Rattle.line_defs.specs.Sheet.{outcome, line_sheet, WhereAnswered};
 
-use crate::rows::{ROW_FIGURES, sheets_ok};
+use crate::rows::sheets_ok;
 use crate::tables::Tables;
 use refusal::Refusal;
+use sheets::ROW_FIGURES;
 
 mod check;
 mod grid;

@@ -1,25 +1,14 @@
-// The figures of a row, the bounds of the counts, and what lengths two sheets have.
+// What lengths two sheets have.
 ghost use Rattle.std.specs.Prelude.{◌≡◌};
-ghost use Rattle.line_defs.specs.Rows.{counts_ok, sheets_ok};
+ghost use Rattle.line_defs.specs.Rows.{sheets_ok};
 
-// Figures of a row: r, x, b, rate, basis.
-pub const ROW_FIGURES: usize = 5;
-
-const MOST_LEVELS: usize = 5;
-
-const MOST_CORRIDORS: usize = 256;
-
-pub fn counts_ok(levels: usize, corridors: usize) -> bool
-    ensures { result ≡ counts_ok levels corridors }
-{
-    (1 <= levels) & (levels <= MOST_LEVELS) & (corridors <= MOST_CORRIDORS)
-}
+use sheets::{ROW_FIGURES, counts_ok};
 
 pub fn sheets_ok(levels: usize, corridors: usize, surveyed: usize, n: usize, m: usize) -> bool
     ensures { result ≡ sheets_ok levels corridors surveyed n m }
 {
     // Within these bounds the products fit.
-    if !counts_ok(levels, corridors) {
+    if !counts_ok(corridors, levels) {
         return false;
     }
     if surveyed > corridors {

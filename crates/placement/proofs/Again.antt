@@ -17,7 +17,6 @@ use Rattle.loops.specs.Figures.{at, plus, nought, infinity}
 use Rattle.loops.proofs.Sums.{unsigned, plus_unsigned, nought_least, infinity_above, le_refl, lt_alike}
 use Rattle.placement_defs.specs.Request.{Net}
 use Rattle.placement_defs.specs.Distance.{Network, Labels, labels, rest, candidate, settled, reached, seeded, searched, distances, distances_from, blank}
-use Rattle.placement.specs.Blocks.{Numbers}
 use Rattle.placement_defs.specs.Support.{support_km, farther, farthest_to, if_far, next_by, next_of}
 use Rattle.placement_defs.specs.Chain.{Chain, here, along, Source}
 use Rattle.placement.proofs.Chains.{chain_as, nought_unsigned, infinity_unsigned, limit_unsigned, length_at}
@@ -208,13 +207,6 @@ module _ (w : Network) (net : Net w.n w.m w.a w.b w.km) (sources : List ℕ) (ma
         mark = mark;
         ready = subst (λ (s : Labels). Ready w (set sources i 1) s) (sym e) (ready_with_lem w net sources k.long i h (labels k.mark dist₀ from₀) k.ready);
       }
-
--- its distances are numbers, also once all buses are in C again
-pub known_numbers : (w : Network) → Net w.n w.m w.a w.b w.km → (sources : List ℕ) (dist : List Float) (from : List ℕ) → Known w sources dist from → Numbers w.n (replicate 256 rest) dist
-known_numbers w net sources dist from k =
-    let s = labels k.mark dist from in
-    let r = k.ready.0.kept in
-    record { marks = length-replicate 256 rest; dists = r.dists; real = λ j h. le_refl (at dist j) (sign_at w net sources s r j h).0 }
 
 pub known_choice : (w : Network) → Net w.n w.m w.a w.b w.km → (sources : List ℕ) (dist : List Float) (from : List ℕ) (loads : List Float) (i : ℕ)
     → Known w sources dist from → i ≡ next_by w.n loads dist → i ≡ next_of w loads sources

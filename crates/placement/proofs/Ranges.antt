@@ -16,10 +16,8 @@ use lib.ListN.{length, get_or, set, length-set, length-replicate, get_or-replica
 use lib.Seq.{get_or-set_same, get_or-set_other}
 use lib.Ieee.{Float, nan, of_bits, lt, le}
 use Rattle.loops.specs.Figures.{at, nought, infinity}
-use Rattle.loops.specs.Loops.{iter}
-use Rattle.loops.proofs.Loops.{iter_carries}
 use Rattle.loops.proofs.Order.{le_of_not_lt, le_of_lt, le_self, left_real, right_real, le_through, lt_not_le}
-use Rattle.placement_defs.specs.Distance.{Labels, blank, rest, candidate, settled, nearer, nearest_to, reached, seeded, seed}
+use Rattle.placement_defs.specs.Distance.{Labels, blank, rest, candidate, settled, nearer, nearest_to, reached}
 use Rattle.std.specs.Prelude.{Option, Some, None}
 use Rattle.placement.specs.Choices.{number}
 use Rattle.placement.proofs.Tests.{some_below}
@@ -355,6 +353,10 @@ module _ (n : ℕ) (mark mark' : List ℕ) (dist dist' : List Float) (nearest : 
       other : (i : ℕ) → (t ≡ k → ⊥) → 16 * t ≤ i → i < 16 * t + 16 → i ≡ j → ⊥
       other i e a b z = e (omega arith)
 
+-- of all places, and so of the first n
+pub numbers_fewer : (n : ℕ) (mark : List ℕ) (dist : List Float) → n ≤ 256 → Numbers 256 mark dist → Numbers n mark dist
+numbers_fewer n mark dist few r = record { marks = r.marks; dists = r.dists; real = λ j h. r.real j (omega arith) }
+
 module _ (n : ℕ) (mark : List ℕ) (dist : List Float) (few : n ≤ 256) where
   pub numbers_marked : (i v : ℕ) → Numbers n mark dist → Numbers n (set mark i v) dist
   numbers_marked i v r = record { marks = length-set mark i v ∙ r.marks; dists = r.dists; real = r.real }
@@ -399,23 +401,6 @@ module _ (n : ℕ) (mark : List ℕ) (dist : List Float) (few : n ≤ 256) where
             some_below n x bus,
           );
         }
-
--- ---- the sources are placed
-numbers_seeded : (n i source : ℕ) (s : Labels) → n ≤ 256 → i < n → Numbers n s.mark s.dist → Numbers n (seeded i source s).mark (seeded i source s).dist
-unfolding seeded
-numbers_seeded n i source s few h r = go (eqb source 0)
-  where
-    go : (b : Bool) → Numbers n (cond b s (reached i nought i s)).mark (cond b s (reached i nought i s)).dist
-    go true = r
-    go false = numbers_reached n s.mark s.dist few i candidate nought h nought_self r
-
-pub numbers_source : (n i source : ℕ) (s t : Labels) → n ≤ 256 → i < n → Numbers n s.mark s.dist → t ≡ seeded i source s → Numbers n t.mark t.dist
-numbers_source n i source s t few h r e = subst (λ (u : Labels). Numbers n u.mark u.dist) (sym e) (numbers_seeded n i source s few h r)
-
-pub numbers_sources : (n : ℕ) (sources : List ℕ) (s t : Labels) → n ≤ 256 → Numbers n s.mark s.dist → t ≡ iter (seed sources) n 0 s → Numbers n t.mark t.dist
-numbers_sources n sources s t few r e =
-    subst (λ (u : Labels). Numbers n u.mark u.dist) (sym e)
-    (iter_carries (seed sources) (λ i u. Numbers n u.mark u.dist) n (λ i u h q. numbers_seeded n i (get_or sources i 0) u few h q) n 0 s (omega arith) r)
 
 -- to start with, all distances are infinite
 pub numbers_blank : (n : ℕ) (s : Labels) → n ≤ 256 → s ≡ blank → Numbers n s.mark s.dist

@@ -49,6 +49,8 @@ pub record Numbers (n : ℕ) (mark : List ℕ) (dist : List Float) : Type 0 wher
 abbrev pub Nearests : ℕ → List ℕ → List Float → List (Option ℕ) → ℕ → Type 0
 Nearests n mark dist nearest blocks = (k : ℕ) → k < blocks → block_size * k < n → Chosen n mark dist (block_size * k) (block_size * k + block_size) (get_or nearest k None)
 
+-- Five functions ask it: the labels are lent to a search, so that a struct of them and `nearest` would have to promise in each of its methods
+-- that it still holds the same labels.
 pub record Front (n : ℕ) (mark : List ℕ) (dist : List Float) (nearest : List (Option ℕ)) : Type 0 where
   pub numbers : Numbers n mark dist
   pub nearests : length nearest ≡ most_blocks

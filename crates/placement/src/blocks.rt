@@ -1,6 +1,5 @@
 // The candidates by blocks of sixteen buses. The nearest of each block is kept, so that the next bus to settle is found among sixteen, and
-// when it is settled only its own block is looked at again. That `nearest` fits the labels is asked of each call: between the writes to
-// the two it does not hold, so that a struct of both would break its own fact.
+// when it is settled only its own block is looked at again.
 ghost use Rattle.std.specs.Prelude.{◌≡◌, ◌+◌, ◌≤◌, ◌<◌, ◌||◌, eqb, true, length};
 ghost use Rattle.std.specs.Float.Ieee.{lt};
 ghost use Rattle.loops.specs.Figures.{at};
@@ -9,7 +8,7 @@ ghost use Rattle.placement_defs.specs.Request.{most_buses};
 ghost use Rattle.placement_defs.specs.Distance.{nearer, nearest_to, settle, reached};
 ghost use Rattle.placement.specs.Choices.{number};
 ghost use Rattle.placement.specs.Views.{labels_in};
-ghost use Rattle.placement.specs.Blocks.{block_size, most_blocks, Chosen, closer, nearest_with, Numbers, Front};
+ghost use Rattle.placement.specs.Blocks.{block_size, most_blocks, Chosen, closer, nearest_with, Front};
 
 use crate::labels::{CANDIDATE, Labels, SETTLED};
 use crate::{BLOCKS, MOST_BUSES};
@@ -46,8 +45,7 @@ fn nearer_bus(n: usize, labels: &Labels, best: Option<usize>, i: usize) -> Optio
 
 // The nearest candidate of the block that begins at bus lo, the lowest on a tie.
 fn nearest_in_block(n: usize, labels: &Labels, lo: usize) -> Option<usize>
-    requires lo_lt_n { (lo < n) × (n ≤ most_buses) }
-    requires numbers { Numbers n labels.now.mark labels.now.dist }
+    requires { (lo < n) × (n ≤ most_buses) }
     ensures { Chosen n labels.now.mark labels.now.dist lo (lo + block_size) result }
 {
     let mut best = None;
@@ -58,9 +56,9 @@ fn nearest_in_block(n: usize, labels: &Labels, lo: usize) -> Option<usize>
 }
 
 // Looks at every block.
+#[tactic(auto, using(crate::proofs::Ranges::numbers_fewer))]
 pub fn look_at_blocks(n: usize, labels: &Labels, nearest: &mut [Option<usize>; BLOCKS])
-    requires n_le_most_buses { (n ≤ most_buses) × (length nearest.old ≡ most_blocks) }
-    requires numbers { Numbers n labels.now.mark labels.now.dist }
+    requires { (n ≤ most_buses) × (length nearest.old ≡ most_blocks) }
     ensures { Front n labels.now.mark labels.now.dist nearest.new }
 {
     for k in 0..n.div_ceil(BLOCK) {

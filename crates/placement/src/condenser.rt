@@ -5,7 +5,7 @@ ghost use Rattle.placement_defs.specs.Request.{most_buses, Units};
 ghost use Rattle.placement_defs.specs.Support.{farther, farthest_to, next_by, added, served_to, mvar_of, sized, flagged};
 ghost use Rattle.placement.specs.Choices.{number};
 ghost use Rattle.placement.specs.Stages.{Joined, Placing};
-ghost use Rattle.placement.specs.Views.{network_in, loads_in};
+ghost use Rattle.placement.specs.Views.{network_in, loads_in, flags_in};
 
 use crate::MOST_BUSES;
 use crate::distance::{distance_to_sources, distance_with_source};
@@ -68,9 +68,9 @@ fn next_condenser(network: &Network, dist: &[f64; MOST_BUSES]) -> Option<usize>
 }
 
 // Joins condensers to the sources while a loaded bus lies far, and writes their buses.
-fn join_condensers(network: &Network, sources: &mut [u16; MOST_BUSES], buses: &mut [u32]) -> usize
+fn join_condensers(network: &Network, sources: &mut [bool; MOST_BUSES], buses: &mut [u32]) -> usize
     requires { (length sources.old ≡ most_buses) × (length buses.old ≡ network.now.n) }
-    ensures { Joined (network_in network.now) (loads_in network.now) sources.old buses.old sources.new buses.new result }
+    ensures { Joined (network_in network.now) (loads_in network.now) (flags_in sources.old) buses.old (flags_in sources.new) buses.new result }
 {
     let mut labels = Labels::blank();
     distance_to_sources(network, sources, &mut labels);
@@ -78,7 +78,7 @@ fn join_condensers(network: &Network, sources: &mut [u16; MOST_BUSES], buses: &m
         let Some(i) = next_condenser(network, &labels.dist) else {
             return count;
         };
-        sources[i] = 1;
+        sources[i] = true;
         buses[count] = i as u32;
         labels.mark = [REST; MOST_BUSES];
         distance_with_source(network, i, &mut labels);
@@ -118,13 +118,13 @@ fn mvar_of(network: &Network, from: &[u16; MOST_BUSES], bus: u32) -> f64
 // Sizes the condensers once all are placed.
 fn size_condensers(
     network: &Network,
-    sources: &[u16; MOST_BUSES],
+    sources: &[bool; MOST_BUSES],
     count: usize,
     buses: &[u32],
     mvars: &mut [f64],
 )
     requires { (length buses.now ≡ network.now.n) × (length mvars.old ≡ network.now.n) × (count ≤ network.now.n) }
-    ensures { mvars.new ≡ sized (network_in network.now) (loads_in network.now) sources.now buses.now count mvars.old }
+    ensures { mvars.new ≡ sized (network_in network.now) (loads_in network.now) (flags_in sources.now) buses.now count mvars.old }
 {
     if count == 0 {
         return;
@@ -136,13 +136,13 @@ fn size_condensers(
     }
 }
 
-// Flags the generators' buses, by the definition's 1: the array is its list of flags as it stands, where a bool would need a number beside it.
-fn flag_generators(generators: &[u32], sources: &mut [u16; MOST_BUSES])
+// Flags the generators' buses.
+fn flag_generators(generators: &[u32], sources: &mut [bool; MOST_BUSES])
     requires { Units most_buses generators.now }
-    ensures { sources.new ≡ flagged generators.now sources.old }
+    ensures { flags_in sources.new ≡ flagged generators.now (flags_in sources.old) }
 {
     for bus in generators {
-        sources[*bus as usize] = 1;
+        sources[*bus as usize] = true;
     }
 }
 
@@ -154,7 +154,7 @@ pub fn place(network: &Network, generators: &[u32], buses: &mut [u32], mvars: &m
 {
     buses.fill(0);
     mvars.fill(0.0);
-    let mut sources = [0; MOST_BUSES];
+    let mut sources = [false; MOST_BUSES];
     flag_generators(generators, &mut sources);
     let count = join_condensers(network, &mut sources, buses);
     size_condensers(network, &sources, count, buses, mvars);

@@ -3,8 +3,8 @@ ghost use Rattle.std.specs.Prelude.{◌≡◌, ◌≤◌, ◌<◌};
 ghost use Rattle.loops.specs.Loops.{iter};
 ghost use Rattle.placement_defs.specs.Request.{most_buses};
 ghost use Rattle.placement_defs.specs.Distance.{seeded, seed, shortens, far_end, considered, spread, searched, distances_from};
-ghost use Rattle.placement.specs.Blocks.{Numbers, Front};
-ghost use Rattle.placement.specs.Views.{labels_in, network_in};
+ghost use Rattle.placement.specs.Blocks.{Front};
+ghost use Rattle.placement.specs.Views.{labels_in, network_in, flag_of, flags_in};
 
 use crate::blocks::{look_at_blocks, nearest_candidate, reach_bus, settle_bus};
 use crate::labels::{CANDIDATE, Labels, SETTLED};
@@ -12,11 +12,11 @@ use crate::network::Network;
 use crate::{BLOCKS, MOST_BUSES};
 
 // A source is a candidate at no distance from itself.
-fn place_source(i: usize, source: u16, labels: &mut Labels)
+fn place_source(i: usize, source: bool, labels: &mut Labels)
     requires { i < most_buses }
-    ensures { labels_in labels.new ≡ seeded i source (labels_in labels.old) }
+    ensures { labels_in labels.new ≡ seeded i (flag_of source) (labels_in labels.old) }
 {
-    if source == 0 {
+    if !source {
         return;
     }
     labels.mark[i] = CANDIDATE;
@@ -25,9 +25,9 @@ fn place_source(i: usize, source: u16, labels: &mut Labels)
 }
 
 // The sources, from which the search begins.
-fn place_sources(n: usize, sources: &[u16; MOST_BUSES], labels: &mut Labels)
+fn place_sources(n: usize, sources: &[bool; MOST_BUSES], labels: &mut Labels)
     requires { n ≤ most_buses }
-    ensures { labels_in labels.new ≡ iter (seed sources.now) n 0 (labels_in labels.old) }
+    ensures { labels_in labels.new ≡ iter (seed (flags_in sources.now)) n 0 (labels_in labels.old) }
 {
     for i in 0..n {
         place_source(i, sources[i], labels);
@@ -107,7 +107,6 @@ fn spread_from(
 
 // Both steps, until no candidate is left.
 fn search(network: &Network, labels: &mut Labels)
-    requires { Numbers network.now.n labels.old.mark labels.old.dist }
     ensures { labels_in labels.new ≡ searched (network_in network.now) (labels_in labels.old) }
 {
     let mut nearest = [None; BLOCKS];
@@ -122,10 +121,9 @@ fn search(network: &Network, labels: &mut Labels)
 }
 
 // Corridor-km from every bus to its nearest source, and that source.
-pub fn distance_to_sources(network: &Network, sources: &[u16; MOST_BUSES], labels: &mut Labels)
-    requires { Numbers network.now.n labels.old.mark labels.old.dist }
+pub fn distance_to_sources(network: &Network, sources: &[bool; MOST_BUSES], labels: &mut Labels)
     ensures { labels_in labels.new
-        ≡ distances_from (network_in network.now) sources.now (labels_in labels.old) }
+        ≡ distances_from (network_in network.now) (flags_in sources.now) (labels_in labels.old) }
 {
     place_sources(network.n, sources, labels);
     search(network, labels);
@@ -134,11 +132,10 @@ pub fn distance_to_sources(network: &Network, sources: &[u16; MOST_BUSES], label
 // The distances after bus i has joined the sources, from those before: only the buses that now lie nearer to i are reached again. The
 // distances are those of a search from all sources (proofs/Again); the sources need not be, where two lie equally far.
 pub fn distance_with_source(network: &Network, i: usize, labels: &mut Labels)
-    requires numbers { Numbers network.now.n labels.old.mark labels.old.dist }
-    requires i_lt_n { i < network.now.n }
+    requires { i < network.now.n }
     ensures { labels_in labels.new
         ≡ searched (network_in network.now) (seeded i 1 (labels_in labels.old)) }
 {
-    place_source(i, 1, labels);
+    place_source(i, true, labels);
     search(network, labels);
 }

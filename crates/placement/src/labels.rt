@@ -1,6 +1,8 @@
 // What a search knows of each bus.
 ghost use Rattle.std.specs.Prelude.{◌≡◌};
+ghost use Rattle.placement_defs.specs.Request.{most_buses};
 ghost use Rattle.placement_defs.specs.Distance.{labels, blank};
+ghost use Rattle.placement.specs.Blocks.{Numbers};
 
 use crate::MOST_BUSES;
 
@@ -20,6 +22,7 @@ pub struct Labels {
     pub mark: [u16; MOST_BUSES],
     pub dist: [f64; MOST_BUSES],
     pub from: [u16; MOST_BUSES],
+    ghost numbers: { Numbers most_buses mark dist },
 }
 
 impl Labels {

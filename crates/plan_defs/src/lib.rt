@@ -46,7 +46,7 @@ pub struct CircuitDesign {
     pub rate_spread: f64,
 }
 
-// What a sizing round leads to.
+// What a sizing round leads to: two words of the definition (specs/Rounds), of which neither holds a value. No code makes one.
 #[derive(Clone, Copy)]
 pub enum RoundEnd {
     Again,

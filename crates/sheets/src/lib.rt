@@ -9,7 +9,7 @@ ghost use Rattle.sheets.specs.Sheet.{row_figures, row_place, row_corridor, row_l
 use refusal::Refusal;
 
 // Figures of a row: r, x, b, rate, basis.
-const ROW_FIGURES: usize = 5;
+pub const ROW_FIGURES: usize = 5;
 
 const MOST_CORRIDORS: usize = 256;
 
@@ -56,7 +56,8 @@ pub fn sheet_ok(figures: usize, corridors: usize, levels: usize) -> bool
     }
 }
 
-fn counts_ok(corridors: usize, levels: usize) -> bool
+// Some level and not too many, and not too many corridors.
+pub fn counts_ok(corridors: usize, levels: usize) -> bool
     ensures { result ≡ counts_ok corridors levels }
 {
     1 <= levels && levels <= MOST_LEVELS && corridors <= MOST_CORRIDORS

@@ -18,5 +18,5 @@ loop-e-preserved c =
     let h = s.requires in
     let q = c.add_weight.ensures in (
       c.add_weight.auto.w ∙ k,
-      turned_turn _ _ _ _ _ h _ _ _ k t (simp length-set (length_part _ _ _ (omega arith))) l.loop-e.invariant.1 (weigh_turn _ _ _ _ s.args.edges.now.below _ t _ _ _ (omega arith) q),
+      turned_turn _ _ _ _ _ h _ _ _ k t (simp length-set (length_part _ _ _ (omega arith))) l.loop-e.invariant.1 (weigh_turn _ _ _ _ s.args.grid.now.edges_below _ t _ _ _ (omega arith) q),
     )

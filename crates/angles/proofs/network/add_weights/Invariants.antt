@@ -6,4 +6,4 @@ use Rattle.angles.specs.Slices.{edges_in}
 use Rattle.angles.proofs.network.add_weights.Given as goal
 
 abbrev pub invariant-loop-e : goal.invariant-loop-e
-invariant-loop-e l = (length l.w ≡ length l.initial.w) × Turned (weigh (edges_in l.edges)) l.y l.edges.n (length l.edges.from.now) l.initial.w l.w l.e
+invariant-loop-e l = (length l.w ≡ length l.initial.w) × Turned (weigh (edges_in l.grid)) l.y l.grid.n (length l.grid.from.now) l.initial.w l.w l.e

@@ -18,5 +18,5 @@ loop-e-preserved c =
     let h = s.requires.1 in
     let q = c.carry.ensures in (
       c.carry.auto.w ∙ k,
-      turned_turn _ _ _ _ _ h _ _ _ k t (simp length-set (length_part _ _ _ (omega arith))) l.loop-e.invariant.1 (carry_turn _ _ _ _ s.args.edges.now.below _ t _ _ _ _ _ s.requires.2 s.requires.0 h k l.loop-e.invariant.1.only q),
+      turned_turn _ _ _ _ _ h _ _ _ k t (simp length-set (length_part _ _ _ (omega arith))) l.loop-e.invariant.1 (carry_turn _ _ _ _ s.args.grid.now.edges_below _ t _ _ _ _ _ s.requires.2 s.requires.0 h k l.loop-e.invariant.1.only q),
     )

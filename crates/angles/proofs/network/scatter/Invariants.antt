@@ -7,4 +7,4 @@ use Rattle.angles.specs.Slices.{edges_in}
 use Rattle.angles.proofs.network.scatter.Given as goal
 
 abbrev pub invariant-loop-e : goal.invariant-loop-e
-invariant-loop-e l = (length l.w ≡ length l.initial.w) × Turned (carry (edges_in l.edges) (part l.x l.edges.n l.initial.w)) l.y l.edges.n (length l.edges.from.now) l.initial.w l.w l.e
+invariant-loop-e l = (length l.w ≡ length l.initial.w) × Turned (carry (edges_in l.grid) (part l.x l.grid.n l.initial.w)) l.y l.grid.n (length l.grid.from.now) l.initial.w l.w l.e

@@ -9,13 +9,13 @@ pub returns-in-Break : goal.returns-in-Break
 returns-in-Break c =
     let l = c.loop-turn.invariant in
     let a = c.args in
-    iterate_stop _ _ _ (rows 8 a.edges.now.n a.w.now) _ _ _ _ l.3 _ _ c.step.ensures l.2 (omega arith) _ c.in-Break.is
+    iterate_stop _ _ _ (rows 8 a.grid.now.n a.w.now) _ _ _ _ l.3 _ _ c.step.ensures l.2 (omega arith) _ c.in-Break.is
 
 pub loop-turn-preserved : goal.loop-turn-preserved
 loop-turn-preserved c =
     let l = c.loop-turn.invariant in
     let a = c.args in
-    let R₀ = rows 8 a.edges.now.n a.w.now in
+    let R₀ = rows 8 a.grid.now.n a.w.now in
     let t = c.step in
     let h = c.in-Continue.is in (
       omega (arith, iterate_moves _ _ _ R₀ _ _ _ _ l.3 _ _ t.ensures l.2 (omega arith) _ h),
@@ -28,5 +28,5 @@ pub returns : goal.returns
 returns c =
     let l = c.loop-turn in
     let a = c.args in
-    iterate_end a.edges.now.n (edges_in a.edges.now) a.bound.bound (rows 8 a.edges.now.n a.w.now) (rows 8 a.edges.now.n l.w) l.carried _ _
+    iterate_end a.grid.now.n (edges_in a.grid.now) a.bound.bound (rows 8 a.grid.now.n a.w.now) (rows 8 a.grid.now.n l.w) l.carried _ _
     l.invariant.3 _ (omega arith) c.sqrt.ensures

@@ -10,6 +10,6 @@ use Rattle.angles.proofs.solve.iterate.Given as goal
 
 abbrev pub invariant-loop-turn : goal.invariant-loop-turn
 invariant-loop-turn l =
-    (l.carried.steps ≡ l._turn) × (length l.w ≡ 8 * l.edges.n)
-    × (network_in l.edges.n (edges_in l.edges) (rows 8 l.edges.n l.w) ≡ network_in l.edges.n (edges_in l.edges) (rows 8 l.edges.n l.initial.w))
-    × (run (network_in l.edges.n (edges_in l.edges) (rows 8 l.edges.n l.initial.w)) l.bound.bound (max_iterations l.edges.n - l.carried.steps) (go (state_in (rows 8 l.edges.n l.w) l.carried)) ≡ run (network_in l.edges.n (edges_in l.edges) (rows 8 l.edges.n l.initial.w)) l.bound.bound (max_iterations l.edges.n) (go (state_in (rows 8 l.edges.n l.initial.w) l.fn.first)))
+    (l.carried.steps ≡ l._turn) × (length l.w ≡ 8 * l.grid.n)
+    × (network_in l.grid.n (edges_in l.grid) (rows 8 l.grid.n l.w) ≡ network_in l.grid.n (edges_in l.grid) (rows 8 l.grid.n l.initial.w))
+    × (run (network_in l.grid.n (edges_in l.grid) (rows 8 l.grid.n l.initial.w)) l.bound.bound (max_iterations l.grid.n - l.carried.steps) (go (state_in (rows 8 l.grid.n l.w) l.carried)) ≡ run (network_in l.grid.n (edges_in l.grid) (rows 8 l.grid.n l.initial.w)) l.bound.bound (max_iterations l.grid.n) (go (state_in (rows 8 l.grid.n l.initial.w) l.fn.first)))

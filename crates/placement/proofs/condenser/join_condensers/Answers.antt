@@ -1,18 +1,17 @@
 use native.Mathlib.Omega.{arith}
 use mathlib.Core.Path.{◌≡◌, refl, sym, ◌∙◌}
+use mathlib.Core.Bool.{true}
 use lib.ListN.{length-set}
+use Rattle.std.proofs.lemmas.List.{length-map, map-set}
+use Rattle.placement.specs.Views.{flag_of, flags_in}
 use Rattle.loops.proofs.Loops.{iter_all, iter_more, iter_end, iter_still}
 use Rattle.placement_defs.specs.Support.{sites}
 use Rattle.placement.proofs.Sites.{join_idle, join_busy, all_joined}
-use Rattle.placement.proofs.Again.{known_first, known_choice, known_next, known_numbers}
-use Rattle.placement.proofs.Ranges.{numbers_blank}
+use Rattle.placement.proofs.Again.{known_first, known_choice, known_next}
 use Rattle.placement.proofs.condenser.join_condensers.Goals as goal
 
-pub distance_to_sources-requires : goal.distance_to_sources-requires
-distance_to_sources-requires c = numbers_blank _ _ c.args.network.now.net.few c.blank-labels.ensures
-
 pub loop-count-init : goal.loop-count-init
-loop-count-init c = (refl, iter_all _ _ _, known_first _ c.args.network.now.net _ _ _ _ _ c.requires.0 c.blank-labels.ensures c.distance_to_sources.ensures)
+loop-count-init c = (refl, iter_all _ _ _, known_first _ c.args.network.now.net _ _ _ _ _ (length-map _ flag_of ∙ c.requires.0) c.blank-labels.ensures c.distance_to_sources.ensures)
 
 pub returns-in_default : goal.returns-in_default
 returns-in_default c =
@@ -21,16 +20,17 @@ returns-in_default c =
     all_joined _ _ _ _ _ _ _ (omega arith) (sym (iter_still _ _ (join_idle _ _ _ _ choice (omega arith)) _ _) ∙ l.invariant.1)
 
 pub distance_with_source-requires : goal.distance_with_source-requires
-distance_with_source-requires c = record { numbers = known_numbers _ c.args.network.now.net _ _ _ c.loop-count.invariant.2; i_lt_n = c.in-Some.ensures.bus _ refl }
+distance_with_source-requires c = c.in-Some.ensures.bus _ refl
 
 pub loop-count-preserved : goal.loop-count-preserved
 loop-count-preserved c =
     let net = c.args.network.now.net in
     let l = c.loop-count in
     let far = c.in-Some.ensures.bus _ refl in
-    let choice = known_choice _ net _ _ _ _ _ l.invariant.2 c.in-Some.ensures.value in (
+    let choice = known_choice _ net _ _ _ _ _ l.invariant.2 c.in-Some.ensures.value in
+    rw (map-set flag_of l.sources c.in-Some.i true) (
       simp length-set l.invariant.0,
-      sym (iter_more _ c.loop-count-test.true (join_busy _ _ (sites l.sources l.buses l.count) _ _ choice far)) ∙ l.invariant.1,
+      sym (iter_more _ c.loop-count-test.true (join_busy _ _ (sites (flags_in l.sources) l.buses l.count) _ _ choice far)) ∙ l.invariant.1,
       known_next _ net _ _ _ _ _ _ _ far l.invariant.2 c.distance_with_source.ensures,
     )
 

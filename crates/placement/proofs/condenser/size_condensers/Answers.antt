@@ -1,5 +1,4 @@
 use lib.Ieee.{Float}
-use Rattle.placement.proofs.Ranges.{numbers_blank}
 use Rattle.placement.specs.Views.{labels_in}
 use Rattle.placement.proofs.Sites.{sized_none, sized_is}
 use Rattle.loops.proofs.Loops.{iter_more, iter_end}
@@ -10,9 +9,6 @@ use Rattle.placement.proofs.condenser.size_condensers.Goals as goal
 
 pub returns-then-count-eq0 : goal.returns-then-count-eq0
 returns-then-count-eq0 c = sized_none _ _ _ _ _ _ c.if-count-eq0.true
-
-pub distance_to_sources-requires : goal.distance_to_sources-requires
-distance_to_sources-requires c = numbers_blank _ _ c.args.network.now.net.few c.blank-labels.ensures
 
 pub loop-k-preserved : goal.loop-k-preserved
 loop-k-preserved c =

@@ -1,12 +1,11 @@
 -- By its test.
 use Rattle.placement_defs.specs.Distance.{seeded}
-use borrow.Author.Tests.{eq-eqb, ne_eqb}
 use Rattle.placement.proofs.distance.place_source.Goals as goal
 
-pub returns-then-source-eq0 : goal.returns-then-source-eq0
+pub returns-then-not-source : goal.returns-then-not-source
 unfolding seeded
-returns-then-source-eq0 c = rw (eq-eqb _ _ c.if-source-eq0.true)
+returns-then-not-source c = rw c.if-not-source.true
 
 pub returns : goal.returns
 unfolding seeded
-returns c = rw (ne_eqb _ _ c.if-source-eq0.false)
+returns c = rw c.if-not-source.false

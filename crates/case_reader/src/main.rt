@@ -3,11 +3,11 @@
 // What is printed is tested, not proved; that the program is safe, ends and prints the places of the records alone is proved.
 #![tactic(auto)]
 
-mod case;
 mod figure;
+mod listed;
 
-use case::Case;
-use case_tables::Tables;
+use cases::Reading;
+use listed::print_case;
 use std::io;
 use std::io::Write;
 
@@ -18,30 +18,10 @@ fn main(rt: HostRuntime) -> io::Result<()> {
     let mut to = rt.stdout();
     let mut buffer = [0u8; BUFFER];
     let n = streams::read_full(&mut rt.stdin(), &mut buffer)?;
-    let mut t = Tables::zeros();
-    let read = casefile::read_case(
-        &buffer[..n],
-        &mut t.ladder,
-        &mut t.tier,
-        &mut t.reading,
-        &mut t.weight,
-        &mut t.bus,
-        &mut t.slack,
-        &mut t.pmin,
-        &mut t.pmax,
-        &mut t.c1,
-        &mut t.c2,
-        &mut t.a,
-        &mut t.b,
-        &mut t.circuits,
-        &mut t.length_km,
-        &mut t.share,
-        &mut t.cap,
-        &mut t.sheet,
-    );
-    match read.reading {
-        Ok(header) => Case { header, tables: &t }.print(&mut to)?,
+    let Reading { case, looks } = Reading::of(&buffer[..n]);
+    match case {
+        Ok(case) => print_case(&mut to, &case)?,
         Err(refusal) => writeln!(to, "RF {refusal}")?,
     }
-    writeln!(to, "LK {}", read.looks)
+    writeln!(to, "LK {looks}")
 }

@@ -17,7 +17,7 @@ mod scan;
 mod tables;
 
 // The counts that a refused reading leaves in the tables.
-const NOTHING: Header = Header {
+pub const NOTHING: Header = Header {
     mode: PlanMode::Expand,
     target: 0,
     buses: 0,

@@ -19,8 +19,9 @@ use Rattle.join_theorems.specs.Calls.{fronts}
 use Rattle.join_theorems.proofs.Accepted.{all_accepted}
 use Rattle.join_theorems.proofs.Calls.{laid}
 use Rattle.std.specs.Prelude.{Ok, Err}
-use Rattle.joins.specs.declared.case.Case.{Case}
-use Rattle.joins.specs.Cases.{IsCase}
+use Rattle.cases.specs.declared.case.Case.{Case}
+use Rattle.cases.specs.Cases.{IsCase}
+use Rattle.cases.proofs.Followed.{cased, uncased}
 use Rattle.joins.specs.Files.{file_by, join_tables, second_by, join_second, first_by, join_files}
 
 -- ---- a joined case's counts, as writing asks for them
@@ -33,13 +34,6 @@ joined_small h k j p q out r e =
     (record { buses = z.few_buses; corridors = z.few_corridors; generators = z.few_generators; levels = z.few_levels; target = z.low_target })
 
 -- ---- what follows on a call goes by what it gives
-module _ {A : Type 0} (then : Reply Header → Places → A) (r : Reply Header) (p : Places) where
-  cased : (c : Case) → IsCase (Ok c) r p → then r p ≡ then (answered c.header) (tables_in c.tables)
-  cased c e = ap (λ (x : Reply Header). then x p) e.0 ∙ ap (then (answered c.header)) e.1
-
-  uncased : (f : Refusal) → IsCase (Err f) r p → then r p ≡ then (refused_by f) p
-  uncased f e = ap (λ (x : Reply Header). then x p) e
-
 module _ (s t : List ℕ) where
   pub first : (c : Case) → IsCase (Ok c) (read_case s blank).reply (read_case s blank).places
       → join_files s t ≡ join_second c.header (fronts c.header (tables_in c.tables)) t

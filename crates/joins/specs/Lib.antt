@@ -1,3 +1,2 @@
 -- What the program writes.
-pub mod Cases
 pub mod Files

@@ -1,48 +1,17 @@
 // Two case files, read, joined and written as one.
 ghost use Rattle.std.specs.Prelude.{◌≡◌, ◌≤◌, length};
 ghost use Rattle.case_tables.specs.Tables.{tables_in};
-ghost use Rattle.casefile_defs.specs.Tables.{read_case};
 ghost use Rattle.casefile_theorems.specs.Cases.{longest, blank};
 ghost use Rattle.join_defs.specs.Joining.{join_cases};
 ghost use Rattle.join_theorems.specs.Calls.{fronts};
-ghost use Rattle.joins.specs.Cases.{IsCase};
+ghost use Rattle.cases.specs.Cases.{IsCase};
 ghost use Rattle.joins.specs.Files.{written, Kept, join_files};
 
-use crate::case::Case;
 use case_tables::Tables;
-use casefile::read_case;
 use casefile_writer::put_case_file;
+use cases::Case;
 use join::join_cases;
 use refusal::Refusal;
-
-// The case of a file, or the refusal of reading it.
-fn read(file: &[u8]) -> Result<Case, Refusal>
-    ensures { let o = read_case file.now blank in IsCase result o.reply o.places }
-{
-    let mut tables = Tables::zeros();
-    let read = read_case(
-        file,
-        &mut tables.ladder,
-        &mut tables.tier,
-        &mut tables.reading,
-        &mut tables.weight,
-        &mut tables.bus,
-        &mut tables.slack,
-        &mut tables.pmin,
-        &mut tables.pmax,
-        &mut tables.c1,
-        &mut tables.c2,
-        &mut tables.a,
-        &mut tables.b,
-        &mut tables.circuits,
-        &mut tables.length_km,
-        &mut tables.share,
-        &mut tables.cap,
-        &mut tables.sheet,
-    );
-    let header = read.reading?;
-    Ok(Case { header, tables })
-}
 
 // The two cases joined, or the refusal of joining them.
 fn join(first: &Case, second: &Case) -> Result<Case, Refusal>
@@ -117,8 +86,8 @@ pub fn join_files(first: &[u8], second: &[u8], out: &mut [u8]) -> Result<usize, 
     ensures said { written result out.new ≡ join_files first.now second.now }
     ensures kept { Kept out.old out.new result }
 {
-    let first = read(first)?;
-    let second = read(second)?;
+    let first = Case::read(first)?;
+    let second = Case::read(second)?;
     let joined = join(&first, &second)?;
     Ok(put_case_file(out, joined.header, &joined.tables))
 }

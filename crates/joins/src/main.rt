@@ -3,9 +3,7 @@
 // is tested.
 #![tactic(auto)]
 
-mod case;
 mod files;
-mod fronts;
 
 use casefile_defs::MOST_BYTES;
 use casefile_writer::MOST_FILE;

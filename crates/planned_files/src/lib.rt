@@ -3,19 +3,15 @@
 #![tactic(auto)]
 
 ghost use Rattle.std.specs.Prelude.{◌≡◌, [], Err};
-ghost use Rattle.casefile_defs.specs.Reading.{Small};
 ghost use Rattle.case_tables.specs.Tables.{tables_in};
 ghost use Rattle.casefile_defs.specs.Tables.{held as headerOf};
 ghost use Rattle.planned_files.specs.Files.{case_in, plan_of, filed, plan_read, plan_file, filed_of, zeros};
 
 mod file;
 
-use case_tables::Tables;
-use casefile_defs::{
-    Header, MOST_BUSES, MOST_CORRIDORS, MOST_GENERATORS, MOST_LEVELS, ROW_FIGURES,
-};
+use casefile_defs::{MOST_BUSES, MOST_CORRIDORS, MOST_GENERATORS, MOST_LEVELS};
+use cases::Case;
 pub use file::{PlannedFile, Results};
-use mode::PlanMode;
 use planning::plan_corridors;
 use refusal::Refusal;
 
@@ -48,34 +44,24 @@ impl Results {
 fn unread(f: Refusal) -> PlannedFile
     ensures { filed_of result ≡ filed (headerOf (Err f)) (plan_read [] (Err f)) }
 {
-    let header = Header {
-        mode: PlanMode::Expand,
-        target: 0,
-        buses: 0,
-        corridors: 0,
-        generators: 0,
-        above: 0,
-        requested: 0,
-    };
     PlannedFile {
-        header,
+        header: casefile::NOTHING,
         planned: Err(f),
         results: Results::zeros(),
     }
 }
 
 // A case that was read.
-fn plan_case(h: Header, tables: &Tables) -> PlannedFile
-    requires { Small h }
-    ensures { filed_of result ≡ filed h (plan_of (case_in h (tables_in tables.now)) h.target) }
+fn plan_case(case: &Case) -> PlannedFile
+    ensures { let h = case.now.header in filed_of result ≡ filed h (plan_of (case_in h (tables_in case.now.tables)) h.target) }
 {
+    let h = case.header;
     let n = h.buses;
     let m = h.corridors;
     let g = h.generators;
     let above = h.above;
-    let levels = above + h.requested;
-    let rows = m * levels * ROW_FIGURES;
     let work = WORK_ROWS * (n + m + g);
+    let fronts = case.fronts();
     let mut figures = [0.0; MOST_WORK];
     let mut counts = [0; MOST_WORK];
     let mut results = Results::zeros();
@@ -87,23 +73,23 @@ fn plan_case(h: Header, tables: &Tables) -> PlannedFile
         g,
         above,
         h.requested,
-        &tables.ladder[..levels],
-        &tables.tier[..n],
-        &tables.reading[..n],
-        &tables.weight[..n],
-        &tables.bus[..g],
-        &tables.slack[..g],
-        &tables.pmin[..g],
-        &tables.pmax[..g],
-        &tables.c1[..g],
-        &tables.c2[..g],
-        &tables.a[..m],
-        &tables.b[..m],
-        &tables.circuits[..m],
-        &tables.length_km[..m],
-        &tables.share[..m],
-        &tables.cap[..m],
-        &tables.sheet[..rows],
+        fronts.ladder,
+        fronts.tier,
+        fronts.reading,
+        fronts.weight,
+        fronts.bus,
+        fronts.slack,
+        fronts.pmin,
+        fronts.pmax,
+        fronts.c1,
+        fronts.c2,
+        fronts.a,
+        fronts.b,
+        fronts.circuits,
+        fronts.length_km,
+        fronts.share,
+        fronts.cap,
+        fronts.sheet,
         &mut results.circuits[0..m],
         &mut results.flow[0..m],
         &mut results.rate[0..m],
@@ -129,29 +115,8 @@ fn plan_case(h: Header, tables: &Tables) -> PlannedFile
 pub fn plan_file(file: &[u8]) -> PlannedFile
     ensures { filed_of result ≡ plan_file file.now }
 {
-    let mut tables = Tables::zeros();
-    let read = casefile::read_case(
-        file,
-        &mut tables.ladder,
-        &mut tables.tier,
-        &mut tables.reading,
-        &mut tables.weight,
-        &mut tables.bus,
-        &mut tables.slack,
-        &mut tables.pmin,
-        &mut tables.pmax,
-        &mut tables.c1,
-        &mut tables.c2,
-        &mut tables.a,
-        &mut tables.b,
-        &mut tables.circuits,
-        &mut tables.length_km,
-        &mut tables.share,
-        &mut tables.cap,
-        &mut tables.sheet,
-    );
-    match read.reading {
+    match Case::read(file) {
         Err(f) => unread(f),
-        Ok(h) => plan_case(h, &tables),
+        Ok(case) => plan_case(&case),
     }
 }

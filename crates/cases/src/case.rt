@@ -1,4 +1,4 @@
-// A case: its header, and its tables.
+// A case: its header, and its tables, at the start of which the records are, as many as the header says.
 ghost use Rattle.casefile_defs.specs.Reading.{Small};
 
 use case_tables::Tables;
@@ -8,5 +8,5 @@ use casefile_defs::Header;
 pub struct Case {
     pub header: Header,
     pub tables: Tables,
-    ghost small: { Small header },
+    pub ghost small: { Small header },
 }

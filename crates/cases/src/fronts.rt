@@ -1,10 +1,9 @@
-// Of each table of a case the places of the header's records, as joining is lent them.
+// Of each table of a case the places of the header's records, as planning and joining are lent them.
 ghost use Rattle.std.specs.Prelude.{◌≡◌};
 ghost use Rattle.case_tables.specs.Tables.{tables_in};
-ghost use Rattle.join_theorems.specs.Calls.{fronts};
-ghost use Rattle.joins.specs.Cases.{lent};
+ghost use Rattle.cases.specs.Cases.{lent, fronts};
 
-use crate::case::Case;
+use crate::Case;
 use casefile_defs::ROW_FIGURES;
 
 #[derive(Clone, Copy)]

@@ -1,0 +1,2 @@
+-- What follows on a reading.
+pub mod Followed

@@ -1,0 +1,2 @@
+-- A case in memory, and what reading one gives.
+pub mod Cases

@@ -38,6 +38,6 @@ pub fn fill_first<T: Copy, F: Fn(usize) -> T>(out: &mut [T], count: usize, rest:
     ensures { (f : ℕ → T) → ((i : ℕ) (r : T) → i < count → F.post given i r → r ≡ f i) → out.new ≡ tab (length out.old) (λ i. cond (ltb i count) (f i) rest) }
 {
     for (i, x) in out.iter_mut().enumerate() {
-        *x = if i < count { given(0) } else { rest };
+        *x = if i < count { given(i) } else { rest };
     }
 }

@@ -84,6 +84,7 @@ fn figure_at(corridors: usize, levels: usize, rows: &[f64], p: usize) -> f64
     rows[ROW_FIGURES * row + p % ROW_FIGURES]
 }
 
+#[tactic(auto, unfolding(crate::specs::Sheet::by_level))]
 fn fill(corridors: usize, levels: usize, rows: &[f64], sheet: &mut [f64])
     requires { Sized corridors levels (length rows.now) (length sheet.old) }
     ensures { sheet.new ≡ by_level corridors levels rows.now }

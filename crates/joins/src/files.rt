@@ -11,7 +11,7 @@ ghost use Rattle.joins.specs.Files.{written, Kept, join_files};
 use crate::case::Case;
 use case_tables::Tables;
 use casefile::read_case;
-use casefile_writer::put_case_file;
+use casefile_writer::put_tables;
 use join::join_cases;
 use refusal::Refusal;
 
@@ -120,5 +120,5 @@ pub fn join_files(first: &[u8], second: &[u8], out: &mut [u8]) -> Result<usize, 
     let first = read(first)?;
     let second = read(second)?;
     let joined = join(&first, &second)?;
-    Ok(put_case_file(out, joined.header, &joined.tables))
+    Ok(put_tables(out, joined.header, &joined.tables))
 }

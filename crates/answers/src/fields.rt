@@ -1,5 +1,5 @@
 // The fields of a request: what stands between its spaces.
-ghost use Rattle.std.specs.Prelude.{◌≡◌, ◌*◌, ◌^◌, ◌≤◌, ◌<◌, length, IfSome, IfOk};
+ghost use Rattle.std.specs.Prelude.{◌≡◌, ◌≤◌, IfOk};
 
 use crate::line::AnswerLine;
 use arrayvec::ArrayVec;
@@ -11,9 +11,6 @@ const SPACE: u8 = b' ';
 
 // The most digits of a whole number.
 const MOST_DIGITS: usize = 9;
-
-// The hexadecimal digits of a figure.
-const FIGURE_DIGITS: usize = 16;
 
 // The largest count that is taken, so that one past every bound can be asked.
 pub const MOST_COUNT: usize = 400;
@@ -48,7 +45,13 @@ impl Field for u32 {
         if field.is_empty() || field.len() > MOST_DIGITS {
             return None;
         }
-        Some(number::<10>(field)? as u32)
+        // By digits, since `parse` takes a plus sign as well, and four times as long.
+        let mut value = 0;
+        for b in field {
+            let d = char::from(*b).to_digit(10)?;
+            value = 10 * value + d;
+        }
+        Some(value)
     }
 
     fn put(self, out: &mut AnswerLine) {
@@ -59,10 +62,13 @@ impl Field for u32 {
 // Bits, as 16 upper-case hexadecimal digits.
 impl Field for u64 {
     fn read(field: &[u8]) -> Option<u64> {
-        if field.len() != FIGURE_DIGITS {
+        // The library takes small letters too.
+        if field.iter().any(u8::is_ascii_lowercase) {
             return None;
         }
-        number::<16>(field)
+        let mut bytes = [0; 8];
+        hex::decode_to_slice(field, &mut bytes).ok()?;
+        Some(u64::from_be_bytes(bytes))
     }
 
     fn put(self, out: &mut AnswerLine) {
@@ -79,33 +85,6 @@ impl Field for f64 {
     fn put(self, out: &mut AnswerLine) {
         out.bits(listed_bits(self));
     }
-}
-
-// The value of a digit, upper-case past 9.
-fn digit<const BASE: u64>(b: u8) -> Option<u64>
-    ensures { IfSome result (λ d. d < BASE) }
-{
-    let d = match b {
-        b'0'..=b'9' => b - b'0',
-        b'A'..=b'F' => b - b'A' + 10,
-        _ => return None,
-    };
-    let d = u64::from(d);
-    if d < BASE { Some(d) } else { None }
-}
-
-// The number that digits write.
-#[tactic(auto, using(crate::proofs::Digits::one_more))]
-fn number<const BASE: u64>(digits: &[u8]) -> Option<u64>
-    requires { BASE ^ length digits.now ≤ 2 ^ 64 }
-    ensures { IfSome result (λ x. x < BASE ^ length digits.now) }
-{
-    let mut value = 0;
-    for b in digits {
-        let d = digit::<BASE>(*b)?;
-        value = value * BASE + d;
-    }
-    Some(value)
 }
 
 // What of a line is still to be read; `None` once it is read to its end.

@@ -4,7 +4,7 @@ ghost use Rattle.casefile_theorems.specs.Cases.{longest};
 ghost use Rattle.case_writer.specs.Files.{Wrote};
 
 use case_tables::Tables;
-use casefile_writer::put_case_file;
+use casefile_writer::put_tables;
 use refusal::Refusal;
 
 // Puts the file of the small network of a place at the start of out, and answers how long it is.
@@ -33,5 +33,5 @@ pub fn put_small_network(out: &mut [u8], place: usize) -> Result<usize, Refusal>
         &mut tables.cap,
         &mut tables.sheet,
     )?;
-    Ok(put_case_file(out, header, &tables))
+    Ok(put_tables(out, header, &tables))
 }

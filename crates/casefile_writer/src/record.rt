@@ -1,5 +1,6 @@
-// The records of a case file: each is a mark of two letters, then its fields. casefile has the marks too, by kind; writing stands apart from
-// reading, and `layout_of` is what both are proved to follow.
+// The records of a case file: each is a mark of two letters, then its fields. casefile has the marks too, by kind, in a private module: only
+// listed operations are public there, and this crate's proof does not wait for the reader's. A public function over kinds, below both, would ask a
+// record here for its kind, which is ghost. `layout_of` is what both are proved to follow.
 ghost use Rattle.std.specs.Prelude.{◌≡◌, ◌+◌, ◌≤◌, ℕ, length};
 ghost use Rattle.casefile_defs.specs.Layout.{size_of};
 ghost use Rattle.casefile_defs.specs.Moving.{mark_of};

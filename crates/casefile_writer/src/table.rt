@@ -1,16 +1,14 @@
 // The tables of a case file: a record for each of the first so many places.
 ghost use Rattle.std.specs.Prelude.{◌≡◌, ◌+◌, ◌*◌, ◌/◌, ◌%◌, ◌<◌, ◌≤◌, ℕ, length};
-ghost use Rattle.casefile_defs.specs.Bounds.{most_buses, most_generators, most_corridors, row_figures};
+ghost use Rattle.casefile_defs.specs.Bounds.{row_figures};
 ghost use Rattle.sheets.specs.Sheet.{row_place};
-ghost use Rattle.case_tables.specs.Tables.{tables_in};
 ghost use Rattle.casefile_theorems.specs.Writer.{table_bytes};
 ghost use Rattle.casefile_writer.specs.Grown.{Grown};
-ghost use Rattle.casefile_writer.specs.Rows.{bus_at, generator_at, corridor_at, line_at};
+ghost use Rattle.casefile_writer.specs.Rows.{line_at};
 ghost use Rattle.casefile_writer.specs.Words.{weighs};
 
 use crate::bytes::Bytes;
-use crate::record::{Bus, Corridor, Generator, Line, Record};
-use case_tables::Tables;
+use crate::record::{Line, Record};
 use loops::first_fault;
 use sheets::row_place;
 
@@ -34,47 +32,6 @@ impl Bytes<'_> {
         for i in 0..count {
             record_at(i).put(self);
         }
-    }
-}
-
-// Record i of a table.
-pub fn bus_at(t: &Tables, weighed: bool, i: usize) -> Bus
-    requires { i < most_buses }
-    ensures { result ≡ bus_at (tables_in t.now) weighed i }
-{
-    Bus {
-        weighed,
-        tier: t.tier[i],
-        reading: t.reading[i],
-        weight: t.weight[i],
-    }
-}
-
-pub fn generator_at(t: &Tables, i: usize) -> Generator
-    requires { i < most_generators }
-    ensures { result ≡ generator_at (tables_in t.now) i }
-{
-    Generator {
-        bus: t.bus[i],
-        slack: t.slack[i],
-        pmin: t.pmin[i],
-        pmax: t.pmax[i],
-        c1: t.c1[i],
-        c2: t.c2[i],
-    }
-}
-
-pub fn corridor_at(t: &Tables, i: usize) -> Corridor
-    requires { i < most_corridors }
-    ensures { result ≡ corridor_at (tables_in t.now) i }
-{
-    Corridor {
-        a: t.a[i],
-        b: t.b[i],
-        circuits: t.circuits[i],
-        length_km: t.length_km[i],
-        share: t.share[i],
-        cap: t.cap[i],
     }
 }
 

@@ -8,7 +8,7 @@ ghost use Rattle.cases.specs.Cases.{IsCase};
 ghost use Rattle.joins.specs.Files.{written, Kept, join_files};
 
 use case_tables::Tables;
-use casefile_writer::put_case_file;
+use casefile_writer::put_tables;
 use cases::Case;
 use join::join_cases;
 use refusal::Refusal;
@@ -89,5 +89,5 @@ pub fn join_files(first: &[u8], second: &[u8], out: &mut [u8]) -> Result<usize, 
     let first = Case::read(first)?;
     let second = Case::read(second)?;
     let joined = join(&first, &second)?;
-    Ok(put_case_file(out, joined.header, &joined.tables))
+    Ok(put_tables(out, joined.header, &joined.tables))
 }

@@ -10,6 +10,7 @@ mod join_calls;
 mod leaders_calls;
 mod lent;
 mod moving_calls;
+mod operation;
 mod placement_calls;
 mod planning_calls;
 mod preview_calls;
@@ -20,45 +21,45 @@ mod sheet_calls;
 mod small_calls;
 mod tables;
 
+use angles_calls::Angles;
+use dispatch_calls::Dispatch;
+use join_calls::Joining;
+use leaders_calls::Leaders;
+use moving_calls::Moving;
+use operation::{Operation, calls};
+use placement_calls::Placement;
+use planning_calls::Planning;
+use preview_calls::Preview;
+use reading_calls::Reading;
+use season_calls::Season;
+use sheet_calls::{Laid, Rows, Sheet};
+use small_calls::Small;
 use std::io;
 use std::io::Write;
 
-fn first<W: Write>(to: &mut W) -> io::Result<()> {
-    leaders_calls::first(to)?;
-    dispatch_calls::first(to)?;
-    angles_calls::first(to)?;
-    placement_calls::first(to)?;
-    planning_calls::first(to)?;
-    preview_calls::first(to)?;
-    reading_calls::first(to)?;
-    moving_calls::first(to)?;
-    sheet_calls::first(to)?;
-    season_calls::first(to)?;
-    small_calls::first(to)?;
-    join_calls::first(to)
-}
-
-fn both<W: Write>(to: &mut W, slice: usize) -> io::Result<()> {
-    leaders_calls::both(to, slice)?;
-    dispatch_calls::both(to, slice)?;
-    angles_calls::both(to, slice)?;
-    placement_calls::both(to, slice)?;
-    planning_calls::both(to, slice)?;
-    preview_calls::both(to, slice)?;
-    reading_calls::both(to, slice)?;
-    moving_calls::both(to, slice)?;
-    sheet_calls::both(to, slice)?;
-    season_calls::both(to, slice)?;
-    small_calls::both(to, slice)?;
-    join_calls::both(to, slice)
+fn all<W: Write>(to: &mut W, slice: Option<usize>) -> io::Result<()> {
+    calls::<Leaders, W>(to, slice)?;
+    calls::<Dispatch, W>(to, slice)?;
+    calls::<Angles, W>(to, slice)?;
+    calls::<Placement, W>(to, slice)?;
+    calls::<Planning, W>(to, slice)?;
+    calls::<Preview, W>(to, slice)?;
+    calls::<Reading, W>(to, slice)?;
+    calls::<Moving, W>(to, slice)?;
+    calls::<Sheet, W>(to, slice)?;
+    calls::<Rows, W>(to, slice)?;
+    calls::<Laid, W>(to, slice)?;
+    calls::<Season, W>(to, slice)?;
+    calls::<Small, W>(to, slice)?;
+    calls::<Joining, W>(to, slice)
 }
 
 fn main(rt: HostRuntime) -> io::Result<()> {
     let mut to = rt.stdout();
-    first(&mut to)?;
+    all(&mut to, None)?;
     // Joining has the most.
-    for slice in 0..join_calls::SLICES {
-        both(&mut to, slice)?;
+    for slice in 0..Joining::SLICES {
+        all(&mut to, Some(slice))?;
     }
     Ok(())
 }

@@ -1,54 +1,49 @@
 // A case of one level and no bus, which may be moved either way.
-use crate::lent::{Mark, Off, Wrong, kept, lent_mut};
+use crate::lent::{Mark, Wrong, kept, lent_mut};
+use crate::operation::{Calls, FIRST_LONG, Operation, Past};
 use crate::reading_calls::FILE;
-use crate::report::{Outcome, report};
+use crate::report::Outcome;
 use casefile_defs::MOST_BYTES;
-use refusal::Refusal;
-use std::io;
-use std::io::Write;
 
-// The output.
-const SLICES: usize = 1;
+// A file that ends in its header.
+const CUT: &[u8] = b"HD";
 
-// One of the two operations on a file.
-fn call<F: FnOnce(&[u8], &mut [u8]) -> Result<(), Refusal>>(
-    operation: F,
-    file: &[u8],
-    wrong: Option<Wrong>,
-) -> Outcome
-    requires { F.IsAlwaysCallable operation }
-{
-    let mut out = [u8::MARK; MOST_BYTES + 1];
-    let said = operation(file, lent_mut(&mut out, 0, wrong));
-    Outcome::new(said, kept(&out))
+#[derive(Clone, Copy)]
+pub enum Way {
+    Forward,
+    Back,
 }
 
-fn report_moves<W: Write>(to: &mut W, wrong: Option<Wrong>) -> io::Result<()> {
-    let forward = call(casefile::move_forward, FILE, wrong);
-    let back = call(casefile::move_back, FILE, wrong);
-    report(to, "moving forward", wrong, forward)?;
-    report(to, "moving back", wrong, back)
-}
+pub struct Moving;
 
-// Every length right; then a file that ends in its header with a wrong length too, where the length is told.
-pub fn first<W: Write>(to: &mut W) -> io::Result<()> {
-    let long = Some(Wrong {
-        slice: 0,
-        off: Off::Long,
-    });
-    let forward = call(casefile::move_forward, b"HD", long);
-    let back = call(casefile::move_back, b"HD", long);
-    report_moves(to, None)?;
-    report(to, "moving a cut file forward", long, forward)?;
-    report(to, "moving a cut file back", long, back)
-}
+impl Operation for Moving {
+    // Which way, and whether the file is cut: a constant's slice may hold no function, and no file beside a kind.
+    type Asked = (Way, bool);
 
-// The output too short, and too long: both ways with the one, then both with the other.
-pub fn both<W: Write>(to: &mut W, slice: usize) -> io::Result<()> {
-    if slice < SLICES {
-        for off in [Off::Short, Off::Long] {
-            report_moves(to, Some(Wrong { slice, off }))?;
-        }
+    const SLICES: usize = 1;
+
+    const RIGHT: Calls<(Way, bool)> = &[
+        ("moving forward", (Way::Forward, false)),
+        ("moving back", (Way::Back, false)),
+    ];
+
+    const PAST: Past<(Way, bool)> = &[
+        (
+            "moving a cut file forward",
+            (Way::Forward, true),
+            FIRST_LONG,
+        ),
+        ("moving a cut file back", (Way::Back, true), FIRST_LONG),
+    ];
+
+    fn call((way, cut): Self::Asked, wrong: Option<Wrong>) -> Outcome {
+        let file = if cut { CUT } else { FILE };
+        let mut out = [u8::MARK; MOST_BYTES + 1];
+        let to = lent_mut(&mut out, 0, wrong);
+        let said = match way {
+            Way::Forward => casefile::move_forward(file, to),
+            Way::Back => casefile::move_back(file, to),
+        };
+        Outcome::new(said, kept(&out))
     }
-    Ok(())
 }

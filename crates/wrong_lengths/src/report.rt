@@ -1,5 +1,5 @@
 // What is wrong with a call, what came of it, and a line for each.
-use crate::lent::{Off, Wrong};
+use crate::lent::Wrong;
 use refusal::Refusal;
 use std::io::Write;
 use std::{fmt, io};
@@ -51,23 +51,4 @@ pub fn report<W: Write>(
         write!(to, ", {wrong}")?;
     }
     writeln!(to, ": {outcome}")
-}
-
-// Makes a call with one slice too short, and too long, where the operation has such a slice.
-pub fn report_wrong<W: Write, F: Fn(Option<Wrong>) -> Outcome + Drop>(
-    to: &mut W,
-    what: &str,
-    slices: usize,
-    slice: usize,
-    call: F,
-) -> io::Result<()>
-    requires { F.IsAlwaysCallable call }
-{
-    if slice < slices {
-        for off in [Off::Short, Off::Long] {
-            let wrong = Some(Wrong { slice, off });
-            report(to, what, wrong, call(wrong))?;
-        }
-    }
-    Ok(())
 }

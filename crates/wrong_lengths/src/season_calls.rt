@@ -1,11 +1,8 @@
 // A plan of two corridors, fed to an empty season. The slice is only read; what must be kept is the season.
 use crate::lent::{Mark, Wrong, lent};
-use crate::report::{Outcome, report, report_wrong};
+use crate::operation::{Calls, Operation, Past};
+use crate::report::Outcome;
 use plan_defs::CorridorPlan;
-use std::io;
-use std::io::Write;
-
-const SLICES: usize = 1;
 
 const PLAN: CorridorPlan = CorridorPlan {
     rounds: 1,
@@ -23,20 +20,22 @@ const PLAN: CorridorPlan = CorridorPlan {
     added: 0,
 };
 
-fn call(corridors: usize, wrong: Option<Wrong>) -> Outcome {
-    let circuits = [u32::MARK; 3];
-    let mut fed = season::begin();
-    let said = season::add_plan(&mut fed, PLAN, corridors, lent(&circuits, 0, wrong));
-    Outcome::new(said, fed == season::begin())
-}
+pub struct Season;
 
-// Every length right; then a count past its bound with these lengths.
-pub fn first<W: Write>(to: &mut W) -> io::Result<()> {
-    report(to, "season", None, call(2, None))?;
-    report(to, "season of 257 corridors", None, call(257, None))
-}
+impl Operation for Season {
+    // Corridors.
+    type Asked = usize;
 
-// One slice too short, and too long, where there is such a slice.
-pub fn both<W: Write>(to: &mut W, slice: usize) -> io::Result<()> {
-    report_wrong(to, "season", SLICES, slice, |wrong| call(2, wrong))
+    const SLICES: usize = 1;
+
+    const RIGHT: Calls<usize> = &[("season", 2)];
+
+    const PAST: Past<usize> = &[("season of 257 corridors", 257, None)];
+
+    fn call(corridors: usize, wrong: Option<Wrong>) -> Outcome {
+        let circuits = [u32::MARK; 3];
+        let mut fed = season::begin();
+        let said = season::add_plan(&mut fed, PLAN, corridors, lent(&circuits, 0, wrong));
+        Outcome::new(said, fed == season::begin())
+    }
 }

@@ -4,8 +4,8 @@ use Rattle.case_tables.proofs.Sized.{zeros_sized}
 use Rattle.case_writer.proofs.Networks.{network_read, network_refused, small, wrote_file}
 use Rattle.case_writer.proofs.file.put_small_network.Goals as goal
 
-pub put_case_file-requires-clause-small : goal.put_case_file-requires-clause-small
-put_case_file-requires-clause-small c = small c.args.place (network_read c.args.place _ _ (zeros_sized _ c.zeros-tables.ensures) c.in_ok-header.ensures)
+pub put_tables-requires-clause-small : goal.put_tables-requires-clause-small
+put_tables-requires-clause-small c = small c.args.place (network_read c.args.place _ _ (zeros_sized _ c.zeros-tables.ensures) c.in_ok-header.ensures)
 
 pub returns-in_err-header : goal.returns-in_err-header
 returns-in_err-header c =
@@ -15,4 +15,4 @@ returns-in_err-header c =
 pub returns : goal.returns
 returns c =
     let answer = network_read c.args.place _ _ (zeros_sized _ c.zeros-tables.ensures) c.in_ok-header.ensures in
-    wrote_file c.args.place answer c.put_case_file.ensures.size c.put_case_file.ensures.put
+    wrote_file c.args.place answer c.put_tables.ensures.size c.put_tables.ensures.put

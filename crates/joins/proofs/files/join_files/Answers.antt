@@ -24,6 +24,6 @@ returns-in_err-joined-clause-said c =
 
 pub returns-clause-said : goal.returns-clause-said
 returns-clause-said c =
-    joined _ _ _ _ c.in_ok-joined.joined c.in_ok-joined.ensures c.put_case_file.ensures.put
+    joined _ _ _ _ c.in_ok-joined.joined c.in_ok-joined.ensures c.put_tables.ensures.put
     ∙ sym (second _ _ _ c.in_ok-second.second c.in_ok-second.ensures)
     ∙ sym (first _ _ c.in_ok-first.first c.in_ok-first.ensures)

@@ -66,8 +66,9 @@ fn wider(leader: &[u32], angle: &[f64], i: usize, most: f64) -> f64
 {
     if leader[i] as usize == i {
         let top = loops::infinity();
-        let highest = extreme(leader, angle, i, -top, greater);
-        let lowest = extreme(leader, angle, i, top, lesser);
+        // closures: the check has no proof of another crate's function as a value
+        let highest = extreme(leader, angle, i, -top, |x, y| greater(x, y));
+        let lowest = extreme(leader, angle, i, top, |x, y| lesser(x, y));
         return greater(most, highest - lowest);
     }
     most
@@ -146,11 +147,9 @@ fn unused(above: usize, level: &[u32]) -> u32
     requires { above ≤ most_levels }
     ensures { result ≡ least_of above level.now }
 {
-    let mut least = above as u32;
-    for own in level.iter() {
-        least = least.min(*own);
-    }
-    least
+    level
+        .iter()
+        .fold(above as u32, |least, own| least.min(*own))
 }
 
 // Levels become tiers: they count from the highest level in use, or from the request.

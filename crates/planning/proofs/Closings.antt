@@ -1,6 +1,6 @@
 -- The closing figures as code's loops make them are the defined ones.
 -- A loop over those that pass a test is a loop over all with the test; a table's figure is read off its place.
-use Rattle.std.proofs.Common.{◌≡◌, ℕ, zero, suc, ◌+◌, ◌-◌, ◌<◌, ◌≤◌, min, Bool, true, false, cond, ltb, List, [], ◌∷◌, ◌++◌, map, length, get_or, take, drop, replicate, sym, refl, ap, ◌∙◌, le_of_suc-le-suc, not-suc-le-zero, add-one, arith, length-append, length-drop, length-take, get_or-drop, drop-cons, get_or-take, get_or-append-add, ext_get_or, ltb-false, ltb-true, eq-eqb}
+use Rattle.std.proofs.Common.{◌≡◌, ℕ, zero, suc, ◌+◌, ◌-◌, ◌<◌, ◌≤◌, min, Bool, true, false, cond, ltb, List, [], ◌∷◌, ◌++◌, map, length, get_or, take, drop, fold, replicate, sym, refl, ap, ◌∙◌, le_of_suc-le-suc, not-suc-le-zero, add-one, arith, length-append, length-drop, length-take, get_or-drop, drop-cons, get_or-take, get_or-append-add, ext_get_or, ltb-false, ltb-true, eq-eqb}
 use lib.ListN.{length-replicate, get_or-replicate, get_or-append}
 use lib.Ieee.{Float, nan, lt}
 use Rattle.loops.specs.Figures.{at, plus, minus, nought, one, greater}
@@ -125,9 +125,10 @@ module _ (mode : PlanMode) (grid : GridColumns) (level : List ℕ) (banks : List
       (drawn_here grid level banks k d h e)
 
 -- ---- levels
-pub least_next : (top : ℕ) (l : List ℕ) (i : ℕ) → i < length l → least_of top (drop i l) ≡ least_of (min top (get_or l i 0)) (drop (i + 1) l)
+pub least_is : (top : ℕ) (l : List ℕ) → fold (λ n x. min n x) top l ≡ least_of top l
 unfolding least_of
-least_next top l i h = ap (least_of top) (drop-cons l i 0 h) ∙ ap (λ (n : ℕ). least_of (min top (get_or l i 0)) (drop n l)) (sym (add-one i))
+least_is top [] = refl
+least_is top (x ∷ l) = least_is (min top x) l
 
 pub least_most : (top : ℕ) (l : List ℕ) → least_of top l ≤ top
 unfolding least_of

@@ -147,11 +147,9 @@ fn unused(above: usize, level: &[u32]) -> u32
     requires { above ≤ most_levels }
     ensures { result ≡ least_of above level.now }
 {
-    let mut least = above as u32;
-    for own in level.iter() {
-        least = least.min(*own);
-    }
-    least
+    level
+        .iter()
+        .fold(above as u32, |least, own| least.min(*own))
 }
 
 // Levels become tiers: they count from the highest level in use, or from the request.

@@ -1,23 +1,81 @@
 // A row of the sheet (`line_parameters` of branches.rs, LINE_CLASSES and `line_class_for` of params.rs).
-ghost use Rattle.std.specs.Prelude.{◌≡◌, ◌<◌};
-ghost use Rattle.loops.specs.Figures.{at};
-ghost use Rattle.line_defs.specs.Class.{class_of_square, kvs};
-ghost use Rattle.line_defs.specs.Row.{width_of, thermal_of, limit_of, class_row, line_row};
+ghost use Rattle.std.specs.Prelude.{◌≡◌};
+ghost use Rattle.line_defs.specs.Class.{class_of_square};
+ghost use Rattle.line_defs.specs.Row.{line_row};
+ghost use Rattle.line_sheet.specs.Classes.{line_class, width_in, row_in};
 
 use line_defs::Row;
 
-// The classes by rising kV: kV; r and x, ohm/km; b, microsiemens/km; thermal rating, MVA; surge impedance loading, MW.
-const KV: [f64; 7] = [69.0, 115.0, 138.0, 230.0, 345.0, 500.0, 765.0];
+// kV; r and x, ohm/km; b, microsiemens/km; thermal rating, MVA; surge impedance loading, MW.
+#[derive(Clone, Copy)]
+pub struct LineClass {
+    pub kv: f64,
+    pub r: f64,
+    pub x: f64,
+    pub b: f64,
+    pub thermal: f64,
+    pub sil: f64,
+}
 
-const R: [f64; 7] = [0.19, 0.098, 0.11, 0.06, 0.03, 0.022, 0.012];
-
-const X: [f64; 7] = [0.48, 0.45, 0.48, 0.45, 0.35, 0.375, 0.26];
-
-const B: [f64; 7] = [3.3, 3.4, 3.4, 3.8, 4.8, 5.6, 6.5];
-
-const THERMAL: [f64; 7] = [63.0, 160.0, 180.0, 500.0, 1200.0, 2500.0, 4500.0];
-
-const SIL: [f64; 7] = [12.5, 35.0, 50.0, 140.0, 400.0, 900.0, 2200.0];
+// By rising kV.
+const CLASSES: [LineClass; 7] = [
+    LineClass {
+        kv: 69.0,
+        r: 0.19,
+        x: 0.48,
+        b: 3.3,
+        thermal: 63.0,
+        sil: 12.5,
+    },
+    LineClass {
+        kv: 115.0,
+        r: 0.098,
+        x: 0.45,
+        b: 3.4,
+        thermal: 160.0,
+        sil: 35.0,
+    },
+    LineClass {
+        kv: 138.0,
+        r: 0.11,
+        x: 0.48,
+        b: 3.4,
+        thermal: 180.0,
+        sil: 50.0,
+    },
+    LineClass {
+        kv: 230.0,
+        r: 0.06,
+        x: 0.45,
+        b: 3.8,
+        thermal: 500.0,
+        sil: 140.0,
+    },
+    LineClass {
+        kv: 345.0,
+        r: 0.03,
+        x: 0.35,
+        b: 4.8,
+        thermal: 1200.0,
+        sil: 400.0,
+    },
+    LineClass {
+        kv: 500.0,
+        r: 0.022,
+        x: 0.375,
+        b: 5.6,
+        thermal: 2500.0,
+        sil: 900.0,
+    },
+    LineClass {
+        kv: 765.0,
+        r: 0.012,
+        x: 0.26,
+        b: 6.5,
+        thermal: 4500.0,
+        sil: 2200.0,
+    },
+];
 
 // System base, MVA.
 const BASE_MVA: f64 = 100.0;
@@ -26,80 +84,61 @@ const BASE_MVA: f64 = 100.0;
 const EHV: f64 = 345.0;
 
 // The class whose kV is log-nearest, by the square of a kV: against the product of two neighbours, the lower on a tie.
-fn class_of(square: f64) -> usize
-    ensures { (result ≡ class_of_square square) × (result < 7) }
+#[tactic(auto, unfolding(line_defs::specs::Class::class_of_square))]
+fn class_of(square: f64) -> LineClass
+    ensures { result ≡ line_class (class_of_square square) }
 {
     if square <= 7935.0 {
-        return 0;
+        return CLASSES[0];
     }
     if square <= 15870.0 {
-        return 1;
+        return CLASSES[1];
     }
     if square <= 31740.0 {
-        return 2;
+        return CLASSES[2];
     }
     if square <= 79350.0 {
-        return 3;
+        return CLASSES[3];
     }
     if square <= 172500.0 {
-        return 4;
+        return CLASSES[4];
     }
     if square <= 382500.0 {
-        return 5;
+        return CLASSES[5];
     }
-    6
+    CLASSES[6]
 }
 
-fn width(c: usize, spread: f64, kept: f64) -> f64
-    requires { c < 7 }
-    ensures { result ≡ width_of c spread kept }
-{
-    if KV[c] >= EHV { kept } else { spread }
-}
+impl LineClass {
+    fn width(self, spread: f64, kept: f64) -> f64
+        ensures { result ≡ width_in self spread kept }
+    {
+        if self.kv >= EHV { kept } else { spread }
+    }
 
-fn ratio(c: usize, kv: f64) -> f64
-    requires { c < 7 }
-    ensures { result ≡ Rattle.loops.specs.Figures.over kv (at kvs c) }
-{
-    kv / KV[c]
-}
-
-fn thermal(c: usize, ratio: f64) -> f64
-    requires { c < 7 }
-    ensures { result ≡ thermal_of c ratio }
-{
-    THERMAL[c] * ratio
-}
-
-fn limit(c: usize, ratio: f64, load: f64) -> f64
-    requires { c < 7 }
-    ensures { result ≡ limit_of c ratio load }
-{
-    SIL[c] * ratio * ratio * load
-}
-
-fn class_row(c: usize, z: f64, ratio: f64, km: f64, width: f64, load: f64) -> Row
-    requires { c < 7 }
-    ensures { result ≡ class_row c z ratio km width load }
-{
-    let thermal = thermal(c, ratio);
-    let limit = limit(c, ratio, load);
-    // The basis is a figure since the sheet is a table of figures (the C interface).
-    let rated = Row {
-        r: R[c] * km * width / z,
-        x: X[c] * km * width / z,
-        b: B[c] * 1e-6 * km * z,
-        rate: thermal,
-        basis: 0.0,
-    };
-    if limit < thermal {
-        Row {
-            rate: limit,
-            basis: 1.0,
-            ..rated
+    // With z the impedance base, and ratio a kV over the class's.
+    fn row(self, z: f64, ratio: f64, km: f64, width: f64, load: f64) -> Row
+        ensures { result ≡ row_in self z ratio km width load }
+    {
+        let thermal = self.thermal * ratio;
+        let limit = self.sil * ratio * ratio * load;
+        // The basis is a figure since the sheet is a table of figures (the C interface).
+        let rated = Row {
+            r: self.r * km * width / z,
+            x: self.x * km * width / z,
+            b: self.b * 1e-6 * km * z,
+            rate: thermal,
+            basis: 0.0,
+        };
+        if limit < thermal {
+            Row {
+                rate: limit,
+                basis: 1.0,
+                ..rated
+            }
+        } else {
+            rated
         }
-    } else {
-        rated
     }
 }
 
@@ -107,13 +146,7 @@ fn class_row(c: usize, z: f64, ratio: f64, km: f64, width: f64, load: f64) -> Ro
 pub fn line_row(kv: f64, km: f64, spread: f64, kept: f64, load: f64) -> Row
     ensures { result ≡ line_row kv km spread kept load }
 {
-    let c = class_of(kv * kv);
-    class_row(
-        c,
-        kv * kv / BASE_MVA,
-        ratio(c, kv),
-        km,
-        width(c, spread, kept),
-        load,
-    )
+    let class = class_of(kv * kv);
+    let width = class.width(spread, kept);
+    class.row(kv * kv / BASE_MVA, kv / class.kv, km, width, load)
 }

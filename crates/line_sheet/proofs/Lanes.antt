@@ -151,7 +151,7 @@ on_last km l i h o =
     let f : l.count ≡ digits l.near l.far 24 0 (start_of km) + 1 = omega (arith, o.counted) in
     f ∙ ap (λ (z : ℕ). digits z l.far 24 0 (start_of km) + 1) o.near_is ∙ ap (λ (z : ℕ). digits (segment_of km).near z 24 0 (start_of km) + 1) o.far_is
 
--- ---- a lane after i turns, and the lanes of the lengths from k on
+-- ---- a lane after i turns, and the lanes of lengths
 unfoldable pub turns : ℕ → Lane → Lane
 turns zero l = l
 turns (suc i) l = turned (turns i l)
@@ -166,29 +166,29 @@ count_few km =
     let o = turns_on km 24 (lit≤ tt) in
     omega (arith, on_last km (turns 24 (lane_of km)) 24 (lit≤ tt) o, count_most km (turns 24 (lane_of km)) 24 o)
 
-abbrev pub lane_after : List Float → ℕ → ℕ → ℕ → Lane
-lane_after km k i j = turns i (lane_of (at km (k + j)))
+abbrev pub lane_after : List Float → ℕ → ℕ → Lane
+lane_after km i j = turns i (lane_of (at km j))
 
-module _ (km : List Float) (k : ℕ) where
-  pub lanes_start : tab 8 (λ (j : ℕ). lane_of (at km (k + j))) ≡ tab 8 (lane_after km k 0)
+module _ (km : List Float) where
+  pub lanes_start : tab 8 (λ (j : ℕ). lane_of (at km j)) ≡ tab 8 (lane_after km 0)
   unfolding turns
   lanes_start = refl
 
-  pub lanes_turn : (i : ℕ) → tab 8 (λ (j : ℕ). turned (lane_after km k i j)) ≡ tab 8 (lane_after km k (i + 1))
+  pub lanes_turn : (i : ℕ) → tab 8 (λ (j : ℕ). turned (lane_after km i j)) ≡ tab 8 (lane_after km (i + 1))
   unfolding turns
   lanes_turn i = rw (add-one i) refl
 
-  pub lane_turning : (i : ℕ) (lanes : List Lane) → i < 24 → lanes ≡ tab 8 (lane_after km k i) → (f : ℕ → Lane) → lanes ≡ tab 8 f → (j : ℕ) → j < 8 → Turning (f j)
+  pub lane_turning : (i : ℕ) (lanes : List Lane) → i < 24 → lanes ≡ tab 8 (lane_after km i) → (f : ℕ → Lane) → lanes ≡ tab 8 f → (j : ℕ) → j < 8 → Turning (f j)
   lane_turning i lanes h e f g j b =
-      let d : Lane = lane_after km k i j in
-      let same : lane_after km k i j ≡ f j = sym (get_tab 8 (lane_after km k i) j d b) ∙ ap (λ (z : List Lane). get_or z j d) (sym e ∙ g) ∙ get_tab 8 f j d b in
-      subst (λ (z : Lane). Turning z) same (on_turning (at km (k + j)) d i (turns_on (at km (k + j)) i (omega arith)))
+      let d : Lane = lane_after km i j in
+      let same : lane_after km i j ≡ f j = sym (get_tab 8 (lane_after km i) j d b) ∙ ap (λ (z : List Lane). get_or z j d) (sym e ∙ g) ∙ get_tab 8 f j d b in
+      subst (λ (z : Lane). Turning z) same (on_turning (at km j) d i (turns_on (at km j) i (omega arith)))
 
-  pub lane_counted : (i j : ℕ) (lanes : List Lane) (d : Lane) → i ≡ 24 → lanes ≡ tab 8 (lane_after km k i) → j < 8 → (get_or lanes j d).count ≡ count_of (at km (k + j))
+  pub lane_counted : (i j : ℕ) (lanes : List Lane) (d : Lane) → i ≡ 24 → lanes ≡ tab 8 (lane_after km i) → j < 8 → (get_or lanes j d).count ≡ count_of (at km j)
   lane_counted i j lanes d h e b =
       ap (λ (z : List Lane). (get_or z j d).count) e
-      ∙ ap (λ (z : Lane). z.count) (get_tab 8 (lane_after km k i) j d b)
-      ∙ on_last (at km (k + j)) (lane_after km k i j) i (omega arith) (turns_on (at km (k + j)) i (omega arith))
+      ∙ ap (λ (z : Lane). z.count) (get_tab 8 (lane_after km i) j d b)
+      ∙ on_last (at km j) (lane_after km i j) i (omega arith) (turns_on (at km j) i (omega arith))
 
 -- ---- eight lanes, of which i have turned: the next is still as it was
 pub next_lane : (w₀ w : List Lane) (f g : ℕ → Lane) (i : ℕ) (d : Lane) → w₀ ≡ tab 8 f → w ≡ filled w₀ g i → i < 8 → get_or w i d ≡ f i

@@ -164,13 +164,12 @@ pub fn loadability(km: f64) -> f64
     rated(km, 1)
 }
 
-// The lanes of the eight lengths from k on.
-fn lanes_of(km: &[f64], k: usize) -> [Lane; 8]
-    requires { k + 8 ≤ length km.now }
-    ensures { result ≡ tab 8 (λ j. lane_of (at km.now (k + j))) }
+// The lanes of eight lengths.
+fn lanes_of(km: &[f64; 8]) -> [Lane; 8]
+    ensures { result ≡ tab 8 (λ j. lane_of (at km.now j)) }
 {
     let mut lanes = [lane_of(0.0); 8];
-    loops::fill(&mut lanes, |j| lane_of(km[k + j]));
+    loops::fill(&mut lanes, |j| lane_of(km[j]));
     lanes
 }
 
@@ -184,12 +183,11 @@ fn turn_each(lanes: &mut [Lane; 8])
     }
 }
 
-// The digits of the eight lengths from k on, and 1. Each digit waits for the one before, so eight lengths take little longer than one.
-fn counts_of(km: &[f64], k: usize) -> [u64; 8]
-    requires { k + 8 ≤ length km.now }
-    ensures { result ≡ tab 8 (λ j. count_of (at km.now (k + j))) }
+// The digits of eight lengths, and 1. Each digit waits for the one before, so eight lengths take little longer than one.
+fn counts_of(km: &[f64; 8]) -> [u64; 8]
+    ensures { result ≡ tab 8 (λ j. count_of (at km.now j)) }
 {
-    let mut lanes = lanes_of(km, k);
+    let mut lanes = lanes_of(km);
     for _digit in 0..DIGITS {
         turn_each(&mut lanes);
     }
@@ -198,32 +196,29 @@ fn counts_of(km: &[f64], k: usize) -> [u64; 8]
     counts
 }
 
-// Whether one of the eight lengths from k on lies between knots.
-fn some_in_knots(km: &[f64], k: usize) -> bool
-    requires { k + 8 ≤ length km.now }
-    ensures { result ≡ false → (j : ℕ) → j < 8 → in_knots (at km.now (k + j)) ≡ false }
+// Whether one of eight lengths lies between knots.
+fn some_in_knots(km: &[f64; 8]) -> bool
+    ensures { result ≡ false → (j : ℕ) → j < 8 → in_knots (at km.now j) ≡ false }
 {
-    km[k..k + 8].iter().any(|x| in_knots(*x))
+    km.iter().any(|x| in_knots(*x))
 }
 
 // The digits, and 1, where they are asked for.
-fn counts(km: &[f64], k: usize) -> [u64; 8]
-    requires { k + 8 ≤ length km.now }
-    ensures { (j : ℕ) → j < 8 → in_knots (at km.now (k + j)) ≡ true → slice_index result j ≡ count_of (at km.now (k + j)) }
+fn counts(km: &[f64; 8]) -> [u64; 8]
+    ensures { (j : ℕ) → j < 8 → in_knots (at km.now j) ≡ true → slice_index result j ≡ count_of (at km.now j) }
 {
-    if some_in_knots(km, k) {
-        return counts_of(km, k);
+    if some_in_knots(km) {
+        return counts_of(km);
     }
     [1u64; 8]
 }
 
-// The loadabilities of the eight lengths from k on.
-pub fn loadabilities(km: &[f64], k: usize) -> [f64; 8]
-    requires { k + 8 ≤ length km.now }
-    ensures { result ≡ tab 8 (λ j. loadability_of (at km.now (k + j))) }
+// The loadabilities of eight lengths.
+pub fn loadabilities(km: &[f64; 8]) -> [f64; 8]
+    ensures { result ≡ tab 8 (λ j. loadability_of (at km.now j)) }
 {
-    let count = counts(km, k);
+    let count = counts(km);
     let mut r = [0.0f64; 8];
-    loops::fill(&mut r, |j| rated(km[k + j], count[j]));
+    loops::fill(&mut r, |j| rated(km[j], count[j]));
     r
 }

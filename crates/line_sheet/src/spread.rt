@@ -48,12 +48,10 @@ pub fn guess(s: f64) -> u64 {
     0
 }
 
-// The guesses of the spreads from k on, side by side, since each is a long chain.
-pub fn guesses(spread: &[f64], k: usize) -> [u64; 8]
-    requires { k + 8 ≤ length spread.now }
-{
+// The guesses of eight spreads, side by side, since each is a long chain.
+pub fn guesses(spread: &[f64; 8]) -> [u64; 8] {
     let mut r = [0u64; 8];
-    loops::fill(&mut r, |j| guess(spread[k + j]));
+    loops::fill(&mut r, |j| guess(spread[j]));
     r
 }
 

@@ -1,4 +1,4 @@
-use Rattle.std.proofs.Common.{◌≡◌, ℕ, ◌+◌, ◌∙◌, get_or, arith, rules}
+use Rattle.std.proofs.Common.{◌≡◌, ℕ, ◌∙◌, get_or, arith, rules}
 use Rattle.loops.specs.Figures.{at}
 use Rattle.line_sheet.specs.declared.loadability.Lane.{Lane}
 use Rattle.line_sheet.specs.Lanes.{count_of}
@@ -6,17 +6,17 @@ use Rattle.line_sheet.proofs.Lanes.{lanes_start, lanes_turn, lane_turning, lane_
 use Rattle.line_sheet.proofs.loadability.counts_of.Goals as goal
 
 pub loop-digit-init : goal.loop-digit-init
-loop-digit-init c = (omega arith, c.lanes_of-lanes.ensures ∙ lanes_start _ _)
+loop-digit-init c = (omega arith, c.lanes_of-lanes.ensures ∙ lanes_start _)
 
 pub turn_each-requires : goal.turn_each-requires
-turn_each-requires c = let l = c.loop-digit in lane_turning _ _ _ _ c.loop-digit-test.true l.invariant.1
+turn_each-requires c = let l = c.loop-digit in lane_turning _ _ _ c.loop-digit-test.true l.invariant.1
 
 pub loop-digit-preserved : goal.loop-digit-preserved
-loop-digit-preserved c = let l = c.loop-digit in (omega arith, c.turn_each.ensures _ l.invariant.1 ∙ lanes_turn _ _ _)
+loop-digit-preserved c = let l = c.loop-digit in (omega arith, c.turn_each.ensures _ l.invariant.1 ∙ lanes_turn _ _)
 
 pub returns : goal.returns
 returns c =
     let l = c.loop-digit in
     let none : Lane = record { near = 0; far = 0; reach = 0; part = 0; left = 0; count = 0 } in
-    c.fill.ensures (λ (j : ℕ). count_of (at c.args.km.now (c.args.k + j)))
-    (λ j r h p. let e : r ≡ (get_or l.lanes j none).count = search rules in e ∙ lane_counted _ _ _ _ _ none (omega (arith, c.loop-digit-test.false)) l.invariant.1 h)
+    c.fill.ensures (λ (j : ℕ). count_of (at c.args.km.now j))
+    (λ j r h p. let e : r ≡ (get_or l.lanes j none).count = search rules in e ∙ lane_counted _ _ _ _ none (omega (arith, c.loop-digit-test.false)) l.invariant.1 h)

@@ -5,4 +5,4 @@ use Rattle.line_sheet.proofs.Lanes.{lane_after}
 use Rattle.line_sheet.proofs.loadability.counts_of.Given as goal
 
 abbrev pub invariant-loop-digit : goal.invariant-loop-digit
-invariant-loop-digit l = (l._digit ≤ 24) × (l.lanes ≡ tab 8 (lane_after l.km l.k l._digit))
+invariant-loop-digit l = (l._digit ≤ 24) × (l.lanes ≡ tab 8 (lane_after l.km l._digit))

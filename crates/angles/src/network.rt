@@ -4,7 +4,7 @@ ghost use Rattle.loops.specs.Figures.{at, minus, times};
 ghost use Rattle.loops.specs.Loops.{iter};
 ghost use Rattle.loops.specs.Parts.{part, put, Apart};
 ghost use Rattle.angles_defs.specs.Network as Network;
-ghost use Rattle.angles_defs.specs.Network.{weigh, kept_at, dot};
+ghost use Rattle.angles_defs.specs.Network.{weigh, moved, kept_at, dot};
 ghost use Rattle.angles.specs.Slices.{edges_in, Wrote, weighed_in};
 
 use crate::grid::Grid;

@@ -1,12 +1,11 @@
-use Rattle.std.proofs.Common.{rules, ◌≡◌, ◌+◌, ◌<◌, ◌≤◌, length, ℕ, ◌-◌, ◌*◌, ◌/◌, ◌%◌, Bool, true, false, nat_eq, nat_lt, List, [], ◌∷◌, ◌++◌, slice_index_or, slice_set, bit_and, bit_or, Fits, w8, w32, w64, Bor, MutBor}
-use Rattle.loops.specs.Figures.{at, minus, times}
-use Rattle.loops.specs.Loops.{iter}
-use Rattle.loops.specs.Parts.{part, put, Apart}
-use Rattle.angles_defs.specs.Network as Network
-use Rattle.angles_defs.specs.Network.{weigh, kept_at, dot}
-use Rattle.angles.specs.Slices.{edges_in, Wrote, weighed_in}
+use native.Mathlib.Omega.{arith}
+use Rattle.std.proofs.Common.{length-take-le}
+use Rattle.angles.proofs.Ends.{zeroed}
+use Rattle.angles.proofs.Turns.{apply_calls}
 use Rattle.angles.proofs.network.apply.Goals as goal
 
--- src/network.rt:112:1
 pub returns : goal.returns
-returns c = ?
+returns c =
+    let p = c.requires in
+    let s = c.split_at_mut-before.ensures in
+    apply_calls _ _ _ _ _ _ _ _ _ _ _ _ p.0 p.1 s.front s.back (zeroed _ _ _ (length-take-le _ _ (omega (arith, s.back_len))) (c.fill.ensures.after (λ y e. e))) c.scatter.ensures c.ground.ensures.left c.ground.ensures.answered

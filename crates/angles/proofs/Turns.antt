@@ -1,5 +1,5 @@
 -- A turn over an edge or a ground, on the whole slice, is its turn on the row that it writes; and the three calls of `apply` make the map.
--- A store inside a row is a store to the row, and the row that is read lies apart from the row that is written.
+-- A store inside a row is a store to the row; the row that `apply` writes stands behind those that it reads, so that they are parts of what is before it.
 use Prim.Native.Nat.{ℕ, ◌+◌, ◌-◌, ◌<◌, ◌≤◌}
 use mathlib.Core.Path.{◌≡◌, sym, ap, ◌∙◌}
 use mathlib.Core.List.{List, ◌++◌, append_assoc}

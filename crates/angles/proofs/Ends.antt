@@ -29,7 +29,7 @@ use Rattle.refusal.specs.Reply.{no_refusal}
 use Rattle.std.specs.Prelude.{Err, Ok, Result, Option, Some, None}
 
 -- ---- what was filled with zeros
-zeroed : (w w' : List Float) (k : ℕ) → length w ≡ k → w' ≡ replicate (length w) nought → w' ≡ zeros k
+pub zeroed : (w w' : List Float) (k : ℕ) → length w ≡ k → w' ≡ replicate (length w) nought → w' ≡ zeros k
 zeroed w w' k l e = e ∙ ap (λ (j : ℕ). replicate j nought) l
 
 -- ---- the rows are set up

@@ -1,9 +1,8 @@
 -- What a function leaves in the work slice: a row from o set to v, and the sum that is answered.
 use Rattle.std.specs.Prelude.{ℕ, ◌+◌, ◌≡◌, List, Float}
-use Rattle.loops.specs.Figures.{at, minus, times}
 use Rattle.loops.specs.Parts.{put}
 use Rattle.angles_defs.specs.Network as Network
-use Rattle.angles_defs.specs.Network.{edges_of, weighed, moved}
+use Rattle.angles_defs.specs.Network.{edges_of, weighed}
 use Rattle.angles.specs.declared.grid.Grid.{Grid}
 
 abbrev pub edges_in : Grid → Network.Edges
@@ -13,9 +12,6 @@ pub record Wrote (w w' : List Float) (o : ℕ) (v : List Float) (sum answer : Fl
   pub left : w' ≡ put w o v
   pub answered : answer ≡ sum
 
--- an edge's weight added, and what it carries at the row x moved, in the row y
+-- an edge's weight added in the row y
 abbrev pub weighed_in : List Float → ℕ → ℕ → Float → ℕ → List Float
 weighed_in w a b weight y = weighed w (y + a) (y + b) weight
-
-abbrev pub moved_in : List Float → ℕ → ℕ → Float → ℕ → ℕ → List Float
-moved_in w a b weight x y = moved w (y + a) (y + b) (times weight (minus (at w (x + a)) (at w (x + b))))

@@ -1,13 +1,13 @@
 // The network of a solve, and the map `apply`, over rows of the work slice w.
 ghost use Rattle.std.specs.Prelude.{◌≡◌, ◌+◌, ◌<◌, ◌≤◌, length};
+ghost use Rattle.loops.specs.Figures.{at, minus, times};
 ghost use Rattle.loops.specs.Loops.{iter};
 ghost use Rattle.loops.specs.Parts.{part, put, Apart};
 ghost use Rattle.angles_defs.specs.Network as Network;
-ghost use Rattle.angles_defs.specs.Network.{weigh, kept_at, dot};
-ghost use Rattle.angles.specs.Slices.{edges_in, Wrote, weighed_in, moved_in};
+ghost use Rattle.angles_defs.specs.Network.{weigh, moved, kept_at, dot};
+ghost use Rattle.angles.specs.Slices.{edges_in, Wrote, weighed_in};
 
 use crate::grid::Grid;
-use crate::vectors::clear;
 
 // Sets a one at each ground of the row o.
 #[tactic(auto, using(loops::proofs::Puts::turned_end))]
@@ -67,60 +67,60 @@ pub fn keep(s: &[f64], w: &mut [f64], n: usize, grounded: usize, y: usize)
 }
 
 // Moves what an edge between a and b carries at x from b to a of y.
-fn carry(w: &mut [f64], a: usize, b: usize, weight: f64, x: usize, y: usize)
-    requires { (x + a < length w.old) × (x + b < length w.old) × (y + a < length w.old) × (y + b < length w.old) }
-    ensures { w.new ≡ moved_in w.old a b weight x y }
+fn carry(x: &[f64], y: &mut [f64], a: usize, b: usize, weight: f64)
+    requires { (a < length x.now) × (b < length x.now) × (a < length y.old) × (b < length y.old) }
+    ensures { y.new ≡ moved y.old a b (times weight (minus (at x.now a) (at x.now b))) }
 {
-    let d = weight * (w[x + a] - w[x + b]);
-    w[y + a] += d;
-    w[y + b] -= d;
+    let d = weight * (x[a] - x[b]);
+    y[a] += d;
+    y[b] -= d;
 }
 
 // Each edge moves what it carries at x.
-#[tactic(auto, using(loops::proofs::Puts::turned_end))]
-fn scatter(grid: &Grid, w: &mut [f64], x: usize, y: usize)
-    requires { (x + grid.now.n ≤ length w.old) × (y + grid.now.n ≤ length w.old) × Apart x y grid.now.n }
-    ensures { w.new ≡ put w.old y
-        (iter (Network.carry (edges_in grid.now) (part x grid.now.n w.old)) (length grid.now.from.now) 0 (part y grid.now.n w.old)) }
+fn scatter(grid: &Grid, x: &[f64], y: &mut [f64])
+    requires { (length x.now ≡ grid.now.n) × (length y.old ≡ grid.now.n) }
+    ensures { y.new ≡ iter (Network.carry (edges_in grid.now) x.now) (length grid.now.from.now) 0 y.old }
 {
     for e in 0..grid.from.len() {
         carry(
-            w,
+            x,
+            y,
             grid.from[e] as usize,
             grid.to[e] as usize,
             grid.weight[e],
-            x,
-            y,
         );
     }
 }
 
 // Zeroes y at each grounded bus, and answers x · y, in one pass.
-#[tactic(auto, using(loops::proofs::Parts::tab_start, loops::proofs::Totals::sum_start), unfolding(angles_defs::specs::Network::kept))]
-fn ground(w: &mut [f64], n: usize, grounded: usize, x: usize, y: usize) -> f64
-    requires { (grounded + n ≤ length w.old) × (x + n ≤ length w.old) × (y + n ≤ length w.old) × Apart grounded y n × Apart x y n }
-    ensures { Wrote w.old w.new y (Network.kept n (part grounded n w.old) (part y n w.old))
-        (dot n (part x n w.old) (Network.kept n (part grounded n w.old) (part y n w.old))) result }
+#[tactic(auto, using(loops::proofs::Tab::fill_start, loops::proofs::Totals::sum_start))]
+fn ground(grounded: &[f64], x: &[f64], y: &mut [f64]) -> f64
+    requires { (length grounded.now ≡ length y.old) × (length x.now ≡ length y.old) }
+    ensures left { y.new ≡ Network.kept (length y.old) grounded.now y.old }
+    ensures answered { result ≡ dot (length y.old) x.now (Network.kept (length y.old) grounded.now y.old) }
 {
     let mut sum = 0.0;
-    for i in 0..n {
-        let xi = w[x + i];
-        let yi = kept(w[grounded + i], w[y + i]);
-        w[y + i] = yi;
-        sum += xi * yi;
+    for i in 0..y.len() {
+        let yi = kept(grounded[i], y[i]);
+        y[i] = yi;
+        sum += x[i] * yi;
     }
     sum
 }
 
-// y = L x, the grounded Laplacian's product; answers x · y.
+// y = L x, the grounded Laplacian's product; answers x · y. The row y stands behind the two that are read.
 pub fn apply(grid: &Grid, w: &mut [f64], grounded: usize, x: usize, y: usize) -> f64
-    requires { (grounded + grid.now.n ≤ length w.old) × (x + grid.now.n ≤ length w.old) × (y + grid.now.n ≤ length w.old) × Apart grounded y grid.now.n × Apart x y grid.now.n }
+    requires { (grounded + grid.now.n ≤ y) × (x + grid.now.n ≤ y) × (y + grid.now.n ≤ length w.old) }
     ensures { Wrote w.old w.new y
         (Network.kept grid.now.n (part grounded grid.now.n w.old) (Network.scatter grid.now.n (edges_in grid.now) (part x grid.now.n w.old)))
         (dot grid.now.n (part x grid.now.n w.old)
         (Network.kept grid.now.n (part grounded grid.now.n w.old) (Network.scatter grid.now.n (edges_in grid.now) (part x grid.now.n w.old)))) result }
 {
-    clear(w, y, grid.n);
-    scatter(grid, w, x, y);
-    ground(w, grid.n, grounded, x, y)
+    let n = grid.n;
+    let (before, rest) = w.split_at_mut(y);
+    let read = &before[x..x + n];
+    let row = &mut rest[..n];
+    row.fill(0.0);
+    scatter(grid, read, row);
+    ground(&before[grounded..grounded + n], read, row)
 }

@@ -15,9 +15,9 @@ use lib.Dec.{eqb, ltb}
 use lib.ListN.{length, get_or, set, length-set, length-replicate, get_or-replicate}
 use lib.Seq.{get_or-set_same, get_or-set_other}
 use lib.Ieee.{Float, nan, of_bits, lt, le}
-use Rattle.loops.specs.Figures.{at, nought, infinity}
+use Rattle.loops.specs.Figures.{at, infinity}
 use Rattle.loops.proofs.Order.{le_of_not_lt, le_of_lt, le_self, left_real, right_real, le_through, lt_not_le}
-use Rattle.placement_defs.specs.Distance.{Labels, blank, rest, candidate, settled, nearer, nearest_to, reached}
+use Rattle.placement_defs.specs.Distance.{Labels, blank, rest, candidate, settled, nearer, nearest_to}
 use Rattle.std.specs.Prelude.{Option, Some, None}
 use Rattle.placement.specs.Choices.{number}
 use Rattle.placement.proofs.Tests.{some_below}
@@ -37,10 +37,6 @@ lt_through x y z p q = go (lt x z) refl
     go : (b : Bool) → lt x z ≡ b → lt x z ≡ true
     go true e = e
     go false e = absurd (lt_not_le x y p (le_through y z x q (le_of_not_lt x z (left_real x y (le_of_lt x y p)) (right_real y z q) e)))
-
-nought_self : le nought nought ≡ true
-unfolding of_bits le
-nought_self = refl
 
 infinity_self : le infinity infinity ≡ true
 unfolding of_bits le

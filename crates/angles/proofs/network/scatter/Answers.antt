@@ -1,22 +1,10 @@
-use mathlib.Core.Path.{refl, ◌∙◌}
+use mathlib.Core.Path.{sym, ◌∙◌}
 use native.Mathlib.Omega.{arith}
-use lib.ListN.{length-set}
-use Rattle.loops.proofs.Parts.{length_part}
-use Rattle.loops.proofs.Puts.{turned_start, turned_turn}
-use Rattle.angles.proofs.Turns.{carry_turn}
+use Rattle.loops.proofs.Loops.{iter_more, iter_end}
 use Rattle.angles.proofs.network.scatter.Goals as goal
 
-pub loop-e-init : goal.loop-e-init
-loop-e-init c = (refl, turned_start _ _ _ _ _ c.requires.1)
-
 pub loop-e-preserved : goal.loop-e-preserved
-loop-e-preserved c =
-    let l = c in
-    let s = l in
-    let t = c.loop-e-test.true in
-    let k = l.loop-e.invariant.0 in
-    let h = s.requires.1 in
-    let q = c.carry.ensures in (
-      c.carry.auto.w ∙ k,
-      turned_turn _ _ _ _ _ h _ _ _ k t (simp length-set (length_part _ _ _ (omega arith))) l.loop-e.invariant.1 (carry_turn _ _ _ _ s.args.grid.now.edges_below _ t _ _ _ _ _ s.requires.2 s.requires.0 h k l.loop-e.invariant.1.only q),
-    )
+loop-e-preserved c = sym (iter_more _ c.loop-e-test.true c.carry.ensures) ∙ c.loop-e.invariant
+
+pub returns : goal.returns
+returns c = sym (iter_end _ (omega arith)) ∙ c.loop-e.invariant

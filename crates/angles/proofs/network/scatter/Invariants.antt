@@ -1,10 +1,11 @@
+-- What is left of the edges gives what all do.
+use Prim.Native.Nat.{◌-◌}
 use mathlib.Core.Path.{◌≡◌}
 use lib.ListN.{length}
-use Rattle.loops.specs.Parts.{part}
-use Rattle.loops.proofs.Puts.{Turned}
+use Rattle.loops.specs.Loops.{iter}
 use Rattle.angles_defs.specs.Network.{carry}
 use Rattle.angles.specs.Slices.{edges_in}
 use Rattle.angles.proofs.network.scatter.Given as goal
 
 abbrev pub invariant-loop-e : goal.invariant-loop-e
-invariant-loop-e l = (length l.w ≡ length l.initial.w) × Turned (carry (edges_in l.grid) (part l.x l.grid.n l.initial.w)) l.y l.grid.n (length l.grid.from.now) l.initial.w l.w l.e
+invariant-loop-e l = iter (carry (edges_in l.grid) l.x) (length l.grid.from.now - l.e) l.e l.y ≡ iter (carry (edges_in l.grid) l.x) (length l.grid.from.now) 0 l.initial.y

@@ -8,15 +8,16 @@ use crate::price::price;
 use crate::table::UnitTable;
 use loops::{clamp, sum};
 
+// `mw` stays a slice beside the units, and four functions ask that it has their length: of a struct that held both, each contract
+// would have to promise besides that it is the same slice.
+
 // The outputs at a price.
-#[tactic(auto, using(loops::proofs::Tab::fill_start, loops::proofs::Tab::fill_turn, loops::proofs::Tab::fill_end), unfolding(dispatch_defs::specs::Share::outputs, dispatch_defs::specs::Units::output_at))]
+#[tactic(auto, unfolding(dispatch_defs::specs::Share::outputs, dispatch_defs::specs::Units::output_at))]
 fn run_at(units: &UnitTable, price: f64, mw: &mut [f64])
     requires { length mw.old ≡ count units.now }
     ensures { mw.new ≡ outputs units.now price }
 {
-    for (i, output) in mw.iter_mut().enumerate() {
-        *output = units.unit(i).output(price);
-    }
+    loops::fill(mw, |i| units.unit(i).output(price));
 }
 
 // The first unit strictly inside its limits.

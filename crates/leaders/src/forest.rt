@@ -17,14 +17,12 @@ pub struct UnionFind {
 }
 
 // Each bus by its own number.
-#[tactic(auto, using(loops::proofs::Tab::fill_start, loops::proofs::Tab::fill_turn, loops::proofs::Tab::fill_end), unfolding(crate::specs::Leaders::themselves))]
+#[tactic(auto, unfolding(crate::specs::Leaders::themselves))]
 fn themselves() -> [u8; MOST_BUSES]
     ensures { result ≡ themselves 256 }
 {
     let mut buses = [0; MOST_BUSES];
-    for (i, bus) in buses.iter_mut().enumerate() {
-        *bus = i as u8;
-    }
+    loops::fill(&mut buses, |i| i as u8);
     buses
 }
 

@@ -36,13 +36,12 @@ fn figure_at(table: &[f64], i: usize) -> f64
 }
 
 // The buses' loads. The tables may be of any length: past either of them a load is a NaN.
-#[tactic(auto, using(loops::proofs::Tab::fill_start, loops::proofs::Tab::fill_turn, loops::proofs::Tab::fill_end))]
 pub fn weigh(reading: &[f64], weight: &[f64]) -> [f64; MOST_BUSES]
     ensures { result ≡ loads_of 256 reading.now weight.now }
 {
     let mut load = [0.0; MOST_BUSES];
-    for (i, mw) in load.iter_mut().enumerate() {
-        *mw = load_by(figure_at(reading, i), figure_at(weight, i));
-    }
+    loops::fill(&mut load, |i| {
+        load_by(figure_at(reading, i), figure_at(weight, i))
+    });
     load
 }

@@ -9,6 +9,7 @@ ghost use Rattle.loops.specs.Loops.{fault, tab};
 pub use figures::{clamp, greater, infinity, is_finite, lesser, magnitude, sum};
 
 // The first index below `count` at which a test fails.
+// Not by `find`: its closure needs clauses of its own, which say of `sound` what stands here once.
 pub fn first_fault<F: Fn(usize) -> bool>(count: usize, sound: F) -> Option<usize>
     requires { (i : ℕ) → i < count → F.pre sound i }
     ensures { (ok : ℕ → Bool) → ((i : ℕ) (r : Bool) → i < count → F.post sound i r → r ≡ ok i) → result ≡ fault ok count }
@@ -26,8 +27,8 @@ pub fn fill<T: Copy, F: Fn(usize) -> T>(out: &mut [T], given: F)
     requires { (i : ℕ) → i < length out.old → F.pre given i }
     ensures { (f : ℕ → T) → ((i : ℕ) (r : T) → i < length out.old → F.post given i r → r ≡ f i) → out.new ≡ tab (length out.old) f }
 {
-    for i in 0..out.len() {
-        out[i] = given(i);
+    for (i, x) in out.iter_mut().enumerate() {
+        *x = given(i);
     }
 }
 
@@ -36,7 +37,7 @@ pub fn fill_first<T: Copy, F: Fn(usize) -> T>(out: &mut [T], count: usize, rest:
     requires { (i : ℕ) → i < count → F.pre given i }
     ensures { (f : ℕ → T) → ((i : ℕ) (r : T) → i < count → F.post given i r → r ≡ f i) → out.new ≡ tab (length out.old) (λ i. cond (ltb i count) (f i) rest) }
 {
-    for i in 0..out.len() {
-        out[i] = if i < count { given(i) } else { rest };
+    for (i, x) in out.iter_mut().enumerate() {
+        *x = if i < count { given(i) } else { rest };
     }
 }

@@ -7,15 +7,15 @@ ghost use Rattle.mode.specs.Number.{mode_number, Numbered};
 #[derive(Clone, Copy, Debug, PartialEq, Eq)]
 pub enum PlanMode {
     // Choose voltage levels and circuits.
-    Expand,
+    Expand = 0,
     // Add circuits and transformer capacity, but keep every bus at its level.
-    Reinforce,
+    Reinforce = 1,
     // Keep the corridors as given and only measure.
-    Observe,
+    Observe = 2,
     // The same three, where idle units serve what the dispatch leaves of the demand.
-    ExpandServing,
-    ReinforceServing,
-    ObserveServing,
+    ExpandServing = 3,
+    ReinforceServing = 4,
+    ObserveServing = 5,
 }
 
 // A number that no mode has.
@@ -23,18 +23,12 @@ pub enum PlanMode {
 pub struct UnknownMode(pub u64);
 
 impl PlanMode {
+    // A method beside `TryFrom`: `u32::from(mode)` would say the same and no more.
     #[tactic(auto, unfolding(crate::specs::Number::mode_number))]
     pub fn number(self) -> u32
         ensures { result ≡ mode_number self }
     {
-        match self {
-            PlanMode::Expand => 0,
-            PlanMode::Reinforce => 1,
-            PlanMode::Observe => 2,
-            PlanMode::ExpandServing => 3,
-            PlanMode::ReinforceServing => 4,
-            PlanMode::ObserveServing => 5,
-        }
+        self as u32
     }
 }
 

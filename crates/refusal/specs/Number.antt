@@ -1,5 +1,6 @@
 -- The documents' number and index of each refusal (document 01, "Refusals of each operation, in order"; document 02); the index is 0 where they name none.
-use Rattle.std.specs.Prelude.{ℕ}
+use Rattle.std.specs.Prelude.{ℕ, List, ◌++◌, codes}
+use Rattle.std.specs.Fmt.{decimal}
 use Rattle.refusal.specs.declared.Refusal.{Refusal}
 use Rattle.refusal.specs.declared.Refusal.TheVariants.{Length, Count, Level, Bus, Generator, Demand, Corridor, Row, Cost, NotFinite, Edge, Ground, Rating, FileLength, Cut, Mark, Code, Trailing, Uneven, SeasonFull, Spread, Place, Mode, Order, Weight, Districts}
 
@@ -58,3 +59,7 @@ index_of Mode = 0
 index_of (Order i) = i
 index_of (Weight i) = i
 index_of Districts = 0
+
+-- what is printed of a refusal: both in decimal digits, with a space between
+abbrev pub text_of : Refusal → List ℕ
+text_of f = decimal (number_of f) ++ codes " " ++ decimal (index_of f)

@@ -74,14 +74,12 @@ impl Refusal {
             Refusal::Count => 2,
             Refusal::Level(_) => 3,
             Refusal::Bus(_) => 4,
-            Refusal::Generator(_) => 5,
-            Refusal::Demand => 5,
+            Refusal::Generator(_) | Refusal::Demand => 5,
             Refusal::Corridor(_) => 6,
             Refusal::Row(_) => 7,
             Refusal::Cost(_) => 8,
             Refusal::NotFinite(_) => 9,
-            Refusal::Edge(_) => 10,
-            Refusal::Ground(_) => 10,
+            Refusal::Edge(_) | Refusal::Ground(_) => 10,
             Refusal::Rating => 12,
             Refusal::FileLength => 13,
             Refusal::Cut(_) => 14,
@@ -105,38 +103,43 @@ impl Refusal {
         ensures { result ≡ index_of self }
     {
         match self {
-            Refusal::Length => 0,
-            Refusal::Count => 0,
-            Refusal::Level(i) => i,
-            Refusal::Bus(i) => i,
-            Refusal::Generator(i) => i,
-            Refusal::Demand => 0,
-            Refusal::Corridor(i) => i,
-            Refusal::Row(i) => i,
-            Refusal::Cost(i) => i,
-            Refusal::NotFinite(i) => i,
-            Refusal::Edge(i) => i,
-            Refusal::Ground(i) => i,
-            Refusal::Rating => 0,
-            Refusal::FileLength => 0,
-            Refusal::Cut(i) => i,
-            Refusal::Mark(i) => i,
-            Refusal::Code(i) => i,
-            Refusal::Trailing(i) => i,
-            Refusal::Uneven => 0,
-            Refusal::SeasonFull => 0,
-            Refusal::Spread(i) => i,
-            Refusal::Place => 0,
-            Refusal::Mode => 0,
-            Refusal::Order(i) => i,
-            Refusal::Weight(i) => i,
-            Refusal::Districts => 0,
+            Refusal::Length
+            | Refusal::Count
+            | Refusal::Demand
+            | Refusal::Rating
+            | Refusal::FileLength
+            | Refusal::Uneven
+            | Refusal::SeasonFull
+            | Refusal::Place
+            | Refusal::Mode
+            | Refusal::Districts => 0,
+            Refusal::Level(i)
+            | Refusal::Bus(i)
+            | Refusal::Generator(i)
+            | Refusal::Corridor(i)
+            | Refusal::Row(i)
+            | Refusal::Cost(i)
+            | Refusal::NotFinite(i)
+            | Refusal::Edge(i)
+            | Refusal::Ground(i)
+            | Refusal::Cut(i)
+            | Refusal::Mark(i)
+            | Refusal::Code(i)
+            | Refusal::Trailing(i)
+            | Refusal::Spread(i)
+            | Refusal::Order(i)
+            | Refusal::Weight(i) => i,
         }
     }
 }
 
 // The documents' number and index.
 impl fmt::Display for Refusal {
+    ghost use Rattle.std.specs.Prelude.{Some};
+    ghost use Rattle.refusal.specs.Number.{text_of};
+
+    ghost output = { λ r. Some (text_of r) };
+
     fn fmt<W: fmt::Write>(&self, f: &mut fmt::Formatter<W>) -> fmt::Result {
         write!(f, "{} {}", self.number(), self.index())
     }

@@ -2,20 +2,17 @@
 use Prim.Native.Nat.{ℕ, ◌*◌, ◌/◌, ◌<◌}
 use mathlib.Core.Bool.{Bool, true, false, cond}
 use mathlib.Core.List.{List}
-use mathlib.Core.Path.{◌≡◌, refl, ◌∙◌}
+use mathlib.Core.Path.{◌≡◌, refl}
 use native.Mathlib.Omega.{arith}
 use borrow.Author.Tests.{eqb-true}
 use lib.Dec.{eqb}
 use lib.ListN.{length}
 use lib.Ieee.{Float}
-use Rattle.loops.specs.Figures.{at}
-use Rattle.loops.specs.Loops.{filled}
-use Rattle.loops.proofs.Tab.{fill_end}
 use Rattle.loops.proofs.Bools.{both, unequal}
 use Rattle.refusal.specs.declared.Refusal.{Refusal}
 use Rattle.refusal.specs.declared.Refusal.TheVariants.{Length, Count}
 use Rattle.sheets.specs.Request.{lengths_ok, counts_ok, check_of, Sized, outcome, laid_by, lay_out}
-use Rattle.sheets.specs.Sheet.{row_figures, line_of, figure_of, by_level}
+use Rattle.sheets.specs.Sheet.{row_figures, line_of, by_level}
 use Rattle.sheets.proofs.Layouts.{some_row, line_inside}
 use Rattle.std.specs.Prelude.{Err}
 use Rattle.refusal.specs.Reply.{no_refusal}
@@ -40,10 +37,6 @@ module _ (m n size p : ℕ) (h : p < size) (e : size ≡ row_figures * (m * n)) 
 
   pub line_there : (0 < m) × (line_of m n (p / row_figures) < m * n)
   line_there = ((some_row m n (p / row_figures) row_in).0, line_inside m n (p / row_figures) row_in)
-
-pub all_filled : (m n : ℕ) (rows sheet w : List Float) (p : ℕ) → length sheet ≡ row_figures * (m * n) → p ≡ length sheet → w ≡ filled sheet (λ q. at rows (figure_of m n q)) p → w ≡ by_level m n rows
-unfolding by_level
-all_filled m n rows sheet w p s e h = fill_end sheet w _ p (row_figures * (m * n)) s (e ∙ s) h
 
 -- ---- the operation
 module _ (m n : ℕ) (rows sheet : List Float) where

@@ -84,14 +84,12 @@ fn figure_at(corridors: usize, levels: usize, rows: &[f64], p: usize) -> f64
     rows[ROW_FIGURES * row + p % ROW_FIGURES]
 }
 
-#[tactic(auto, using(loops::proofs::Tab::fill_start, loops::proofs::Tab::fill_turn))]
+#[tactic(auto, unfolding(crate::specs::Sheet::by_level))]
 fn fill(corridors: usize, levels: usize, rows: &[f64], sheet: &mut [f64])
     requires { Sized corridors levels (length rows.now) (length sheet.old) }
     ensures { sheet.new ≡ by_level corridors levels rows.now }
 {
-    for (p, figure) in sheet.iter_mut().enumerate() {
-        *figure = figure_at(corridors, levels, rows, p);
-    }
+    loops::fill(sheet, |p| figure_at(corridors, levels, rows, p));
 }
 
 // Writes the rows of a sheet by corridor, as the line office has it, to a sheet by level, as the planner has it.

@@ -38,6 +38,14 @@ module _ {A : Type 0} (d : A) (n : ℕ) (f : ℕ → A) where
       ∙ tab_same places _ _ (λ i h. among i)
       ∙ ap (λ (l : List A). tab places (λ i. get_or l i d)) u
 
+same : {A : Type 0} (b : Bool) (d : A) → d ≡ cond b d d
+same true d = refl
+same false d = refl
+
+-- all of a table's places hold d, so the first n do too
+pub cleared : {A : Type 0} (d : A) (n : ℕ) {k places : ℕ} {l x : List A} → k ≡ places → tab n (λ j. d) ≡ l → x ≡ replicate k d → x ≡ padded d places l
+cleared d n {k} e u p = column d n (λ j. d) e u (p ∙ sym (tab_replicate k d) ∙ tab_same k _ _ (λ i h. same (ltb i n) d))
+
 pub single : {A : Type 0} (x : A) → tab 1 (λ j. x) ≡ x ∷ []
 unfolding tab
 single x = refl

@@ -68,23 +68,23 @@ pub fn small_network(
     let m = tables::corridor_count(s.corridors);
     // The ladder of one level, and the buses at it. A load's weight is 1, so its reading is the load.
     fill_first(ladder, 1, 0.0, |_| tables::KV);
-    fill_first(tier, s.buses, 0, |_| 0);
+    tier.fill(0);
     fill_first(reading, s.buses, 0.0, |i| tables::load(s.loads, i));
     fill_first(weight, s.buses, 0.0, |_| 1.0);
     // The slack generator at bus 0.
-    fill_first(generator_bus, 1, 0, |_| 0);
+    generator_bus.fill(0);
     fill_first(slack, 1, 0, |_| 1);
-    fill_first(pmin, 1, 0.0, |_| 0.0);
+    pmin.fill(0.0);
     fill_first(pmax, 1, 0.0, |_| tables::PMAX);
     fill_first(c1, 1, 0.0, |_| tables::C1);
     fill_first(c2, 1, 0.0, |_| tables::C2);
     // The corridors, which have no caps, and a row of the sheet for each.
-    fill_first(a, m, 0, |i| tables::lower_end(s.corridors, i));
-    fill_first(b, m, 0, |i| tables::upper_end(s.corridors, i));
+    fill_first(a, m, 0, |i| tables::ends(s.corridors, i).0);
+    fill_first(b, m, 0, |i| tables::ends(s.corridors, i).1);
     fill_first(circuits, m, 0, |_| 1);
     fill_first(length_km, m, 0.0, |_| tables::LENGTH);
     fill_first(share, m, 0.0, |_| 1.0);
-    fill_first(cap, m, 0, |_| 0);
+    cap.fill(0);
     fill_first(sheet, m * ROW_FIGURES, 0.0, |i| {
         tables::row_figure(i % ROW_FIGURES)
     });

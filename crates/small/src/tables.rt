@@ -21,7 +21,9 @@ pub const C1: f64 = 20.0;
 
 pub const C2: f64 = 0.25;
 
-// The pairs of three buses are 0-1, 0-2 and 1-2.
+// The pairs of three buses.
+const PAIRS: [(u32, u32); 3] = [(0, 1), (0, 2), (1, 2)];
+
 const LAST_PAIR: usize = 2;
 
 // The load of the bus whose bit is the lowest of a number.
@@ -46,12 +48,13 @@ pub fn corridor_count(corridors: usize) -> usize
     ensures value { result ≡ corridor_count corridors }
     ensures few { result ≤ 3 }
 {
-    corridors % 2 + corridors / 2 % 2 + corridors / 4 % 2
+    (corridors % 8).count_ones() as usize
 }
 
 // The pair of the first corridor, and of the second; that of a third is the last.
 fn first_pair(corridors: usize) -> usize
-    ensures { result ≡ first_pair corridors }
+    ensures value { result ≡ first_pair corridors }
+    ensures few { result ≤ 2 }
 {
     if corridors % 2 == 1 {
         0
@@ -63,13 +66,15 @@ fn first_pair(corridors: usize) -> usize
 }
 
 fn second_pair(corridors: usize) -> usize
-    ensures { result ≡ second_pair corridors }
+    ensures value { result ≡ second_pair corridors }
+    ensures few { result ≤ 2 }
 {
     if corridors % 4 == 3 { 1 } else { LAST_PAIR }
 }
 
 fn pair_of(corridors: usize, i: usize) -> usize
-    ensures { result ≡ pair_of corridors i }
+    ensures value { result ≡ pair_of corridors i }
+    ensures few { result ≤ 2 }
 {
     match i {
         0 => first_pair(corridors),
@@ -78,21 +83,12 @@ fn pair_of(corridors: usize, i: usize) -> usize
     }
 }
 
-// The two buses of a corridor.
-pub fn lower_end(corridors: usize, i: usize) -> u32
-    ensures { result ≡ lower_end (pair_of corridors i) }
+// The two buses of a corridor, the lower one first.
+pub fn ends(corridors: usize, i: usize) -> (u32, u32)
+    ensures lower { result.0 ≡ lower_end (pair_of corridors i) }
+    ensures upper { result.1 ≡ upper_end (pair_of corridors i) }
 {
-    if pair_of(corridors, i) < LAST_PAIR {
-        0
-    } else {
-        1
-    }
-}
-
-pub fn upper_end(corridors: usize, i: usize) -> u32
-    ensures { result ≡ upper_end (pair_of corridors i) }
-{
-    if pair_of(corridors, i) == 0 { 1 } else { 2 }
+    PAIRS[pair_of(corridors, i)]
 }
 
 // Of a row the reactance is 0.5, the rate 100, and the rest zero.

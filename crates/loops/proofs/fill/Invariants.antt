@@ -4,4 +4,4 @@ use Rattle.loops.specs.Loops.{filled}
 use Rattle.loops.proofs.fill.Given as goal
 
 abbrev pub invariant-loop-i : goal.invariant-loop-i
-invariant-loop-i g l = (f : ℕ → _) → ((i : ℕ) (r : _) → i < length l.fn.out → goal.F-post g l.fn.given i r → r ≡ f i) → l.out ≡ filled l.fn.out f l.i
+invariant-loop-i g l = (f : ℕ → _) → ((i : ℕ) (r : _) → i < length l.initial.out → goal.F-post g l.fn.given i r → r ≡ f i) → l.out ≡ filled l.fn.out f l.i

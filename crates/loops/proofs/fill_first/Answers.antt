@@ -10,8 +10,8 @@ loop-i-init g c = λ f h. fill_start _ _
 pub loop-i-preserved : goal.loop-i-preserved
 loop-i-preserved g c = λ f h. fill_turn _ _ _ _ _ (c.loop-i.invariant f h) (omega arith)
     (elim c.if-i-count.branch [
-      | then-i-count w ↦ rw (lt-ltb _ _ w.if-i-count.true) (w.out-is ∙ h _ _ w.if-i-count.true w.given.ensures)
-      | else-i-count w ↦ rw (le-ltb _ _ w.if-i-count.false) w.out-is
+      | then-i-count w ↦ rw (lt-ltb _ _ w.if-i-count.true) (w.x-is ∙ h _ _ w.if-i-count.true w.given.ensures)
+      | else-i-count w ↦ rw (le-ltb _ _ w.if-i-count.false) w.x-is
     ])
 
 pub returns : goal.returns

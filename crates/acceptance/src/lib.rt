@@ -13,8 +13,8 @@ mod lengths;
 mod tables;
 
 // The first of 1 to 7 that a case of n buses, m corridors and g generators has, in any mode. `fits` says that the slices which the caller
-// itself is lent have their lengths: 1 is one test. A NaN fails every test. Each slice is a parameter of its own, as the operations that hand
-// them on are lent them.
+// itself is lent have their lengths: 1 is one test. A NaN fails every test.
+// Each slice is a parameter of its own, as at the beginning: a public function may ask no more of its callers, who would have a struct to build.
 pub fn check_case(
     fits: bool,
     target: u32,
@@ -68,6 +68,7 @@ pub fn check_case(
         m,
     );
     let rows = sheet_ok(sheet.len(), m, ladder.len());
+    // by `&`: the proof then has one value, and not a branch for each test
     let lengths = levels & buses & generators & corridors & rows;
     if !(lengths & fits) {
         return Err(Refusal::Length);

@@ -216,6 +216,8 @@ impl<'a> CaseTables<'a> {
     }
 }
 
+// Five figures by themselves: a row is read in one place here, and the structs of the same fields belong to line_defs and
+// casefile_writer, on which no plan stands.
 fn row_sound(r: f64, x: f64, b: f64, rate: f64, basis: f64) -> bool
     ensures { result ≡ row_sound (row_of r x b rate basis) }
 {

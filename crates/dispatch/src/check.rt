@@ -1,5 +1,5 @@
 // The refusals 1, 2 and 5, in order.
-ghost use Rattle.std.specs.Prelude.{◌≡◌, true, length};
+ghost use Rattle.std.specs.Prelude.{◌≡◌, ℕ, true, length};
 ghost use Rattle.dispatch_defs.specs.Operation.{lengths_ok, demand_ok, check_of};
 
 use crate::table::UnitTable;
@@ -24,9 +24,8 @@ fn demand_ok(demand: f64) -> bool
 
 // 2 and 5, of tables that 1 passes.
 #[tactic(auto, using(loops::proofs::Scan::fault_some, loops::proofs::Scan::fault_passed), unfolding(dispatch_defs::specs::Operation::check_of, dispatch_defs::specs::Operation::faulty_unit))]
-pub fn check(units: usize, table: &UnitTable, demand: f64, places: usize) -> Result<(), Refusal>
-    requires { lengths_ok units (length table.now.pmin) (length table.now.pmax) (length table.now.c1) (length table.now.c2) places ≡ true }
-    ensures { result ≡ check_of units table.now demand places }
+pub fn check(units: usize, table: &UnitTable, demand: f64) -> Result<(), Refusal>
+    ensures { (places : ℕ) → lengths_ok units (length table.now.pmin) (length table.now.pmax) (length table.now.c1) (length table.now.c2) places ≡ true → result ≡ check_of units table.now demand places }
 {
     if units > MOST_UNITS {
         return Err(Refusal::Count);

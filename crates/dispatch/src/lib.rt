@@ -56,6 +56,6 @@ pub fn economic_dispatch(
         return Err(Refusal::Length);
     }
     let table = UnitTable { pmin, pmax, c1, c2 };
-    check(units, &table, demand, mw.len())?;
+    check(units, &table, demand)?;
     settle(&table, demand, mw)
 }

@@ -8,6 +8,9 @@ use crate::price::price;
 use crate::table::UnitTable;
 use loops::{clamp, sum};
 
+// `mw` stays a slice beside the units, and four functions ask that it has their length: of a struct that held both, each contract
+// would have to promise besides that it is the same slice.
+
 // The outputs at a price.
 #[tactic(auto, unfolding(dispatch_defs::specs::Share::outputs, dispatch_defs::specs::Units::output_at))]
 fn run_at(units: &UnitTable, price: f64, mw: &mut [f64])

@@ -1,10 +1,11 @@
--- Of `root_of_number`: what its loop keeps, and the exponent made even. Assumes nothing.
+-- Of `root_of_number`: what its doublings keep, and the exponent made even. Assumes nothing.
 use mathlib.Core.Path.{◌≡◌, sym, ap, ◌∙◌, subst}
 use native.Mathlib.Decide.{ℕ_discrete}
 use Prim.Native.Nat.{ℕ, suc, ◌+◌, ◌-◌, ◌*◌, ◌/◌, ◌%◌, ◌^◌, ◌≤◌, ◌<◌}
-use native.Mathlib.Nat.{le_trans, le_of_eq, lt_of_le_of_lt, mul_assoc, one-mul, mul-le-mul_right, pow-succ'}
+use native.Mathlib.Nat.{le_trans, le_of_eq, lt_of_le_of_lt, lt_of_lt_of_le, mul_assoc, one-mul, mul-le-mul_right, pow-succ'}
 use native.Mathlib.Omega.{arith}
-use lib.Pow.{pow_mono, shl_lt}
+use lib.Count.{count_leading_zeros, leading_top}
+use lib.Pow.{pow_mono, pow-add, shl_lt}
 use lib.Ieee.{binary64, to_bits}
 use Rattle.root.specs.Root.{closest_root, round_root}
 use Rattle.root.proofs.Round.{closest_range, root_pattern}
@@ -30,12 +31,44 @@ halve k h = sym (pow-succ' 2 (k - 1)) ∙ ap (λ (z : ℕ). 2 ^ z) (back k h)
 shift : (t k : ℕ) → 0 < k → t * 2 * 2 ^ (k - 1) ≡ t * 2 ^ k
 shift t k h = mul_assoc t 2 (2 ^ (k - 1)) ∙ ap (λ (z : ℕ). t * z) (halve k h)
 
-pub turn : (s e t k : ℕ) → 0 < s → 1074 ≤ e → Moved s e t k → t < 2 ^ 52 → Moved s e (t * 2) (k - 1)
-turn s e t k S E m l =
-    let v : t * 2 * 2 ^ (k - 1) ≡ s * 2 ^ e = shift t k (omega arith) ∙ m.4 in
-    (omega arith, omega arith, omega arith, high s e (t * 2) (k - 1) S E (omega arith) v, v)
+-- s with its leading digit moved to the 53rd
+module _ (s e : ℕ) (S : 0 < s) (B : s < 2 ^ 53) (E : 1074 ≤ e) where
+  abbrev z : ℕ
+  z = count_leading_zeros 64 s
 
--- ---- after the loop, with an even exponent: u is t, or its double where k is odd
+  top : (j : ℕ) × (count_leading_zeros 64 s + suc j ≡ 64) × (2 ^ j ≤ s) × (s < 2 ^ suc j)
+  top = leading_top 64 s S (omega arith)
+
+  digits : top.0 < 53
+  digits = pow_lt_back top.0 53 (lt_of_le_of_lt top.2 B)
+
+  pub room_above : 11 ≤ z
+  room_above = omega (arith, top.1, digits)
+
+  moved_by : z - 11 ≡ 52 - top.0
+  moved_by = omega (arith, top.1, digits)
+
+  whole : top.0 + (z - 11) ≡ 52
+  whole = omega (arith, moved_by, digits)
+
+  at_the_top : 2 ^ 52 ≤ s * 2 ^ (z - 11)
+  at_the_top = le_trans (le_of_eq (ap (λ (n : ℕ). 2 ^ n) (sym whole) ∙ pow-add 2 top.0 (z - 11))) (mul-le-mul_right (2 ^ (z - 11)) top.2)
+
+  moved : Moved s e (s * 2 ^ (z - 11)) (e - (z - 11))
+  moved =
+      let r : suc top.0 + (z - 11) ≤ 53 = omega (arith, whole) in
+      let l : s * 2 ^ (z - 11) < 2 ^ 53 = lt_of_lt_of_le (shl_lt (suc top.0) (z - 11) top.3) (pow_mono r) in
+      let k : (z - 11) + (e - (z - 11)) ≡ e = omega (arith, whole) in
+      let v : s * 2 ^ (z - 11) * 2 ^ (e - (z - 11)) ≡ s * 2 ^ e = mul_assoc s (2 ^ (z - 11)) (2 ^ (e - (z - 11))) ∙ ap (λ (n : ℕ). s * n) (sym (pow-add 2 (z - 11) (e - (z - 11))) ∙ ap (λ (n : ℕ). 2 ^ n) k) in
+      (omega (arith, at_the_top), l, omega arith, high s e (s * 2 ^ (z - 11)) (e - (z - 11)) S E l v, v)
+
+  -- t is what a shift gives, of which nothing is cut off
+  pub begun : (t : ℕ) → t ≡ s * 2 ^ (z - 11) % 18446744073709551616 → (2 ^ 52 ≤ t) × Moved s e t (e - (z - 11))
+  begun t q =
+      let u : s * 2 ^ (z - 11) ≡ t = omega (arith, moved.1, q) in
+      subst (λ (t : ℕ). (2 ^ 52 ≤ t) × Moved s e t (e - (z - 11))) u (at_the_top, moved)
+
+-- ---- after the doublings, with an even exponent: u is t, or its double where k is odd
 abbrev Even : ℕ → ℕ → ℕ → ℕ → Type 0
 Even s e t k = (2 ^ 52 ≤ t) × (t < 2 ^ 54) × (s * 2 ^ e ≡ t * 2 ^ (52 + ((k - 52) / 2 + (k - 52) / 2)))
 

@@ -113,13 +113,10 @@ fn root_of_number(s: u64, e: u64) -> u64
     requires { (0 < s) × (s < 2 ^ 53) × (1074 ≤ e) × (e < 3121) }
     ensures { result ≡ to_bits binary64 (round_root (s * 2 ^ e)) }
 {
-    let mut t: u64 = s;
-    let mut k: u64 = e;
-    // Step 3, a shift: it ends by the digits of s and not by a count.
-    while t < HIDDEN_BIT {
-        t *= 2;
-        k -= 1;
-    }
+    // Step 3, all doublings at once.
+    let doublings = s.leading_zeros() as u64 - (64 - DIGITS);
+    let mut t = s << doublings;
+    let k = e - doublings;
     if k % 2 == 1 {
         t *= 2;
     }

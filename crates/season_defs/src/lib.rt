@@ -15,7 +15,7 @@ pub struct Season {
     // Sums: of the rounds, and how many plans converged.
     pub rounds: u64,
     pub converged: u64,
-    // The least, the greatest and the sum of the circuits.
+    // The least, the greatest and the sum of the circuits: an array for each, since callers read these fields by their names.
     pub least: [u32; 256],
     pub greatest: [u32; 256],
     pub total: [u64; 256],

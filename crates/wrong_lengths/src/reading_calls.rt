@@ -25,7 +25,7 @@ impl Operation for Reading {
         ("reading of 257 buses", PAST_FILE, FIRST_SHORT),
     ];
 
-    // Its slices and small_calls' are lent alike, and no function is handed both operations: Fn takes at most twelve arguments.
+    // small_calls lends the same slices. One function for both would be handed the operation, but `Fn` takes at most twelve arguments.
     fn call(file: &'static [u8], wrong: Option<Wrong>) -> Outcome {
         let mut t = Tables::marked();
         let read = casefile::read_case(

@@ -1,19 +1,15 @@
 -- All stages of a sound case joined: what the opening leaves is what the later stages ask, and they lead to the defined plan.
 -- Acceptance gives what is asked of the columns; a plan's dispatch and grounds are the opening's.
-use Rattle.std.proofs.Common.{◌≡◌, ℕ, ◌+◌, ◌-◌, ◌*◌, ◌<◌, ◌≤◌, min, max, Bool, true, false, ◌&&◌, T, eqb, ltb, List, ◌++◌, length, get_or, take, drop, replicate, sym, refl, ap, ◌∙◌, subst, zero-mul, arith, length-take, take_at, ltb-false, ltb-true, le-ltb, eqb-true}
+use Rattle.std.proofs.Common.{◌≡◌, ℕ, ◌+◌, ◌-◌, ◌<◌, ◌≤◌, min, max, Bool, true, false, ltb, List, ◌++◌, length, get_or, take, drop, replicate, sym, refl, ap, ◌∙◌, subst, arith, length-take, take_at, ltb-false, ltb-true}
 use native.Mathlib.Nat.{sub-zero}
 use lib.ListN.{length-replicate, get_or-eq_default}
-use lib.Ieee.{Float, nan, inf, fin, up, down, lt, le, of_bits}
-use Rattle.loops.specs.Figures.{nought, million, inside}
+use lib.Ieee.{Float}
+use Rattle.loops.specs.Figures.{nought}
 use Rattle.loops.specs.Loops.{tab}
-use Rattle.loops.proofs.Bools.{both, and_of}
 use Rattle.loops.proofs.Fronts.{front_replicate}
-use Rattle.loops.proofs.Order.{left_real, le_of_not_lt}
-use Rattle.loops.proofs.Signs.{sound as unsigned, sound_real, sound_up, sound_of}
 use Rattle.loops.proofs.Tab.{length_tab, get_tab}
 use Rattle.refusal.specs.declared.Refusal.{Refusal}
 use Rattle.mode.specs.declared.PlanMode.{PlanMode}
-use Rattle.dispatch_defs.specs.Units.{most_c1, unit_ok}
 use Rattle.angles_defs.specs.Network.{zeros}
 use Rattle.plan_defs.specs.Stage.{Stage, stopped, going, onward}
 use Rattle.plan_defs.specs.Case.{Case, levels, first_levels, lower_bound, lower_bounds}
@@ -26,6 +22,7 @@ use Rattle.plan_defs.specs.Outcome.{Slices, up_to}
 use Rattle.plan_defs.proofs.Stages.{On, on_onward}
 use Rattle.plan_defs.proofs.Rising.{risen_first}
 use Rattle.plan_defs.proofs.Opened.{Done, done}
+use Rattle.planning.specs.Edges.{Grounded}
 use Rattle.planning.specs.Size.{Few}
 use Rattle.planning.specs.Solve.{peak_for}
 use Rattle.planning.specs.Close.{Closable, lent_to}
@@ -82,33 +79,37 @@ module _ (c : Case) (target : ℕ) (s : Sound c target) where
     pub count_fits : length leader ≡ c.buses → count ≤ c.buses
     count_fits n = omega (arith, h.count_is, grounds_few c (component c), ap length h.led, n)
 
-    pub plannable_by : (sheet : List Float) → Laid c sheet → length sheet ≡ c.figures → (banks floors : List Float) (upsized marks : List ℕ) (angle flow : List Float) → length leader ≡ c.buses → length injection ≡ c.buses
+    pub grounded_by : length leader ≡ c.buses → Grounded (length leader) (take (count - 0) ground)
+    grounded_by n =
+        let k : length leader ≡ length (component c) = ap length h.led in
+        record {
+          few = omega (arith, ap length lent, grounds_few c (component c), k, n, s.few_buses);
+          below = λ g x.
+              subst (λ (l : List ℕ). get_or l g 0 < length leader) (sym lent)
+              (omega (arith, k, grounds_below c (component c) (λ i y. omega (arith, n, k, s.bus_below i y)) g (omega (arith, x, ap length lent))));
+        }
+
+    pub plannable_by : (sheet : List Float) → Laid c sheet → length sheet ≡ c.figures → (banks floors : List Float) (upsized marks : List ℕ) (angle flow : List Float) → length leader ≡ c.buses
         → length circuits ≡ c.corridors → length banks ≡ c.corridors → floors ≡ zeros (length c.a) → upsized ≡ replicate (length c.a) 0 → length marks ≡ c.buses
         → length angle ≡ c.buses → length flow ≡ c.corridors
         → Plannable (grid_of c.ladder c.a c.b c.km c.share c.cap sheet) level (supply_of c.load c.bus c.slack c.pmin c.pmax c.c1 c.c2) (opened_of leader (take (count - 0) ground) injection) circuits banks floors upsized marks angle flow
-    plannable_by sheet laid figures banks floors upsized marks angle flow e₁ e₂ e₃ e₄ e₅ e₆ e₇ e₈ e₉ =
+    plannable_by sheet laid figures banks floors upsized marks angle flow e₁ e₂ e₃ e₄ e₅ e₆ e₇ e₈ =
         let n = level_size level h.levels_are in
-        let k : length leader ≡ length (component c) = ap length h.led in
         record {
           columns = columns_by sheet laid figures level h.levels_are;
           places =
               record {
                 leader_size = e₁ ∙ sym n;
-                few_grounds = omega (arith, ap length lent, grounds_few c (component c), k, e₁, s.few_buses);
-                ground_below = λ g x.
-                    subst (λ (l : List ℕ). get_or l g 0 < length level) (sym lent)
-                    (omega (arith, n, e₁, k, grounds_below c (component c) (λ i y. omega (arith, e₁, k, s.bus_below i y)) g (omega (arith, x, ap length lent))));
-                injection_size = e₂ ∙ sym n;
-                count_size = e₃ ∙ sym s.a_size;
-                bank_size = e₄ ∙ sym s.a_size;
-                floor_size = ap length e₅ ∙ length-replicate (length c.a) nought;
-                upsized_size = ap length e₆ ∙ length-replicate (length c.a) 0;
-                mark_size = e₇ ∙ sym n;
-                angle_size = e₈ ∙ sym n;
-                flow_size = e₉ ∙ sym s.a_size;
+                count_size = e₂ ∙ sym s.a_size;
+                bank_size = e₃ ∙ sym s.a_size;
+                floor_size = ap length e₄ ∙ length-replicate (length c.a) nought;
+                upsized_size = ap length e₅ ∙ length-replicate (length c.a) 0;
+                mark_size = e₆ ∙ sym n;
+                angle_size = e₇ ∙ sym n;
+                flow_size = e₈ ∙ sym s.a_size;
               };
           few_levels = omega (arith, s.ladder_size, s.few_levels);
-          unset = e₅;
+          unset = e₄;
           capped = record { size = s.cap_size ∙ sym s.a_size; few = s.cap_few };
           few = few_by circuits h.circuits_are;
         }
@@ -270,6 +271,15 @@ module _ (mode : PlanMode) (target above : ℕ) (grid : GridColumns) (tier : Lis
             bank_size : length (take (length grid.a - 0) figures) ≡ h.whole.corridors
             bank_size = length-take (length grid.a - 0) figures ∙ (let y : min (length grid.a - 0) (length figures) ≡ h.whole.corridors = omega (arith, figures_fit h.sound h.lengths, h.sound.a_size) in y)
 
+            -- what goes with the columns that it leaves
+            pub grounded : Grounded (length (again (length tier) 0 leader')) (take (count - 0) ground')
+            grounded =
+                grounded_by (C h.whole) target h.sound (again (length tier) 0 leader') (again (length tier) nought injection') count ground' mw' level' circuits' (opens_again h.whole h.sound)
+                (ap length led ∙ e ∙ lent_size 0)
+
+            pub even : length (again (length tier) nought injection') ≡ length (again (length tier) 0 leader')
+            even = ap length injected ∙ f ∙ lent_size nought ∙ sym (ap length led ∙ e ∙ lent_size 0)
+
             -- what the later stages ask
             pub opened_asks : length circuits' ≡ length circuits
                 → Plannable grid level' supply (opened_of (again (length tier) 0 leader') (take (count - 0) ground') (again (length tier) nought injection')) circuits'
@@ -280,7 +290,7 @@ module _ (mode : PlanMode) (target above : ℕ) (grid : GridColumns) (tier : Lis
                 let n = ap length led ∙ e ∙ lent_size 0 in
                 let l = h.lengths in (
                   plannable_by (C h.whole) target h.sound (again (length tier) 0 leader') (again (length tier) nought injection') count ground' mw' level' circuits' k
-                      grid.sheet refl refl (take (length grid.a - 0) figures) (fresh (length grid.a) nought) (take (length grid.a - 0) zeroed) (fresh (length tier) 0) angle flow n (ap length injected ∙ f ∙ lent_size nought)
+                      grid.sheet refl refl (take (length grid.a - 0) figures) (fresh (length grid.a) nought) (take (length grid.a - 0) zeroed) (fresh (length tier) 0) angle flow n
                       (g ∙ l.circuits) bank_size (front_replicate 256 (length grid.a) nought (corridors_fit h.sound)) not_upsized (lent_size 0) l.angle l.flow,
                   closable_by (C h.whole) target h.sound (again (length tier) 0 leader') (again (length tier) nought injection') count ground' mw' level' circuits' k
                       (take (length grid.a - 0) zeroed) angle rate added n not_upsized l.angle l.rate l.added,

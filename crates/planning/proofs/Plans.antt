@@ -35,7 +35,7 @@ use Rattle.planning.specs.declared.settle.Settling.{Settling}
 use Rattle.planning.proofs.Supplies.{supplied}
 use Rattle.planning.proofs.Redesigns.{redesign_is, banks_lift, first_design}
 use Rattle.std.specs.Prelude.{Err, Ok, Result}
-use Rattle.planning.specs.Tables.{GridColumns, OpenedColumns, SupplyColumns, grid_of, supply_of}
+use Rattle.planning.specs.Tables.{GridColumns, OpenedColumns, SupplyColumns, grid_of}
 
 -- ---- how many rounds
 not_zero : (m : ℕ) → eqb (suc m) 0 ≡ false

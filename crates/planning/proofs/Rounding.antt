@@ -1,6 +1,6 @@
 -- The round loop over slices is the defined rounds: what is left to do from each point of a round comes to what the whole does,
 -- of every case with the columns that the rounds read.
-use Rattle.std.proofs.Common.{◌≡◌, ℕ, zero, suc, ◌+◌, ◌-◌, ◌*◌, ◌<◌, ◌≤◌, Bool, true, false, not, ◌&&◌, ◌||◌, ltb, leb, List, [], ◌∷◌, length, get_or, take, sym, refl, ap, ◌∙◌, subst, add-zero, add-one, arith, lt-ltb}
+use Rattle.std.proofs.Common.{◌≡◌, ℕ, zero, suc, ◌+◌, ◌-◌, ◌*◌, ◌<◌, ◌≤◌, Bool, true, false, not, ◌&&◌, ◌||◌, ltb, leb, List, [], ◌∷◌, length, get_or, sym, refl, ap, ◌∙◌, subst, add-zero, add-one, arith, lt-ltb}
 use lib.Ieee.{Float}
 use Rattle.loops.proofs.Bools.{no, or_left}
 use Rattle.refusal.specs.declared.Refusal.{Refusal}

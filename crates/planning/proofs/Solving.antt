@@ -5,7 +5,7 @@ use native.Mathlib.Nat.{sub-zero}
 use borrow.Author.Tests.{lt-leb}
 use lib.ListN.{length-replicate}
 use lib.Seq.{take-set-lt}
-use lib.Ieee.{Float, nan, neg}
+use lib.Ieee.{Float, neg}
 use Rattle.loops.specs.Figures.{at, float, times, minus, nought, one}
 use Rattle.loops.specs.Loops.{first, tab}
 use Rattle.loops.proofs.Tab.{length_tab, get_tab, tab_same}
@@ -15,7 +15,7 @@ use Rattle.refusal.specs.declared.Refusal.{Refusal}
 use Rattle.refusal.specs.declared.Refusal.TheVariants.{NotFinite}
 use Rattle.angles_defs.specs.Network.{Edges, edges_of}
 use Rattle.angles_defs.specs.Solve.{Solved, solve}
-use Rattle.angles_defs.specs.Operation.{Request, request_of, Outcome, outcome, work_places, most, finite_at, finish_if, solve_of, dc_angles}
+use Rattle.angles_defs.specs.Operation.{Request, request_of, Outcome, outcome, most, finite_at, finish_if, solve_of, dc_angles}
 use Rattle.angles_defs.specs.declared.Solution.{Solution}
 use Rattle.angles_defs.proofs.Answers.{Sound, of_request}
 use Rattle.angles_defs.proofs.Solves.{solve_places}
@@ -28,8 +28,8 @@ use Rattle.plan_defs.specs.Solve.{susceptance, weight_at, edges_for, flow_mw, fl
 use Rattle.plan_defs.specs.Stiffen.{unit_at}
 use Rattle.plan_defs.specs.declared.CircuitDesign.{CircuitDesign}
 use Rattle.planning.specs.Design.{lines_for, Lines}
-use Rattle.planning.specs.Edges.{Joined}
-use Rattle.planning.specs.Solve.{finite_if, finite_angles, Grounded, Places}
+use Rattle.planning.specs.Edges.{Joined, Grounded}
+use Rattle.planning.specs.Solve.{finite_if, finite_angles, Places}
 use Rattle.planning.proofs.Draws.{ends_fit, from_below, to_below}
 use Rattle.loops.proofs.Fronts.{map_tab, front_replicate}
 use Rattle.std.specs.Prelude.{Err, Ok, Result}

@@ -1,5 +1,5 @@
 -- What acceptance says of the loads and the units of a sound case.
-use Rattle.std.proofs.Common.{◌≡◌, ℕ, ◌+◌, ◌*◌, ◌<◌, ◌≤◌, Bool, true, false, ◌&&◌, T, eqb, length, get_or, sym, refl, ap, ◌∙◌, zero-mul, arith, le-ltb, eqb-true}
+use Rattle.std.proofs.Common.{◌≡◌, ℕ, ◌+◌, ◌*◌, ◌<◌, Bool, true, false, ◌&&◌, T, eqb, length, get_or, sym, refl, ap, ◌∙◌, zero-mul, arith, le-ltb, eqb-true}
 use lib.Ieee.{Float, nan, inf, fin, up, down, lt, le, of_bits}
 use Rattle.loops.specs.Figures.{nought, million, inside}
 use Rattle.loops.proofs.Bools.{both, and_of}

@@ -1,5 +1,5 @@
--- What is known of the edges of a solve.
-use Rattle.std.specs.Prelude.{◌≡◌, ℕ, ◌<◌, ◌≤◌, length, slice_index}
+-- What is known of the edges and of the grounds of a solve.
+use Rattle.std.specs.Prelude.{◌≡◌, ℕ, ◌<◌, ◌≤◌, List, length, slice_index}
 use Rattle.angles_defs.specs.Network.{Edges}
 use Rattle.angles_defs.specs.Operation.{most}
 
@@ -11,3 +11,8 @@ pub record Joined (n : ℕ) (e : Edges) : Type 0 where
   pub weight_size : length e.weight ≡ length e.from
   pub from_below : (k : ℕ) → k < length e.from → slice_index e.from k < n
   pub to_below : (k : ℕ) → k < length e.from → slice_index e.to k < n
+
+-- grounds among n buses
+pub record Grounded (n : ℕ) (grounds : List ℕ) : Type 0 where
+  pub few : length grounds ≤ most
+  pub below : (g : ℕ) → g < length grounds → slice_index grounds g < n

@@ -1,7 +1,7 @@
 -- What the contracts of module rounds cite: the draft that the slices stand for, what the rounds ask of them, and what they leave.
-use Rattle.std.specs.Prelude.{◌≡◌, ℕ, suc, ◌+◌, ◌*◌, ◌<◌, ◌≤◌, List, length, slice_index, Float, Err, Ok, Result}
+use Rattle.std.specs.Prelude.{◌≡◌, ℕ, suc, ◌+◌, ◌*◌, ◌≤◌, List, length, Float, Err, Ok, Result}
 use Rattle.mode.specs.declared.PlanMode.{PlanMode}
-use Rattle.plan_defs.specs.Constants.{most_buses, most_corridors, most_levels, planning_max_rounds}
+use Rattle.plan_defs.specs.Constants.{most_corridors, most_levels, planning_max_rounds}
 use Rattle.plan_defs.specs.Case.{Case}
 use Rattle.plan_defs.specs.Stage.{Stage, stopped, going}
 use Rattle.plan_defs.specs.Build.{build_of}
@@ -49,9 +49,6 @@ pub record Columns (grid : GridColumns) (level : List ℕ) (supply : SupplyColum
 
 pub record Places (n m : ℕ) (opened : OpenedColumns) (circuits : List ℕ) (banks floors : List Float) (upsized marks : List ℕ) (angle flow : List Float) : Type 0 where
   pub leader_size : length opened.leader ≡ n
-  pub few_grounds : length opened.grounds ≤ most_buses
-  pub ground_below : (g : ℕ) → g < length opened.grounds → slice_index opened.grounds g < n
-  pub injection_size : length opened.injection ≡ n
   pub count_size : length circuits ≡ m
   pub bank_size : length banks ≡ m
   pub floor_size : length floors ≡ m

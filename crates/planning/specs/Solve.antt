@@ -1,5 +1,5 @@
 -- Every solve of a plan over slices: what its answer, with the slices that it fills, stands for; and what it asks of them.
-use Rattle.std.specs.Prelude.{◌≡◌, ℕ, ◌<◌, ◌≤◌, Bool, true, false, List, length, slice_index, Float, Err, Ok, Result}
+use Rattle.std.specs.Prelude.{◌≡◌, ℕ, ◌≤◌, Bool, true, false, List, length, Float, Err, Ok, Result}
 use Rattle.refusal.specs.declared.Refusal.TheVariants.{NotFinite}
 use Rattle.angles_defs.specs.Network.{Edges}
 use Rattle.angles_defs.specs.Operation.{most}
@@ -26,18 +26,14 @@ finite_if false x = stopped (NotFinite 0)
 abbrev pub finite_angles : List Float → Stage (List Float)
 finite_angles x = finite_if (all_finite x) x
 
--- ---- grounds among n buses
-pub record Grounded (n : ℕ) (grounds : List ℕ) : Type 0 where
-  pub few : length grounds ≤ most
-  pub below : (g : ℕ) → g < length grounds → slice_index grounds g < n
-
 -- a place for each bus: injections and guess; angles that are lent
 pub record Places (n : ℕ) (injection guess angle : List Float) : Type 0 where
   pub injection_size : length injection ≡ n
   pub guess_size : length guess ≡ n
   pub angle_size : length angle ≡ n
 
--- ---- the corridors as they are built: few of them, with circuits and a bank for each
+-- ---- the corridors as they are built: few of them, with circuits and a bank for each. Three functions ask it, and no struct's ghost field says it:
+-- the struct would hold `level`, `circuits` and `banks`, which are written between two solves and go in slices of their own (src/tables.rt)
 pub record Drawing (grid : GridColumns) (level : List ℕ) (circuits : List ℕ) (banks : List Float) : Type 0 where
   pub lines : Lines grid level
   pub few_buses : length level ≤ most
@@ -46,11 +42,10 @@ pub record Drawing (grid : GridColumns) (level : List ℕ) (circuits : List ℕ)
   pub bank_size : length banks ≡ length grid.a
   pub banks_ok : Banks banks
 
--- the buses' injections and the grounds, and the slices lent: angles and flows
+-- a place for each of n buses and m corridors, of what the opening made and of the slices lent: angles and flows. Three functions ask it, and no
+-- struct's ghost field says it: the struct would hold `angle` and `flow`, which a solve writes (src/tables.rt)
 pub record Lent (n m : ℕ) (opened : OpenedColumns) (angle flow : List Float) : Type 0 where
-  pub few_grounds : length opened.grounds ≤ most
-  pub ground_below : (g : ℕ) → g < length opened.grounds → slice_index opened.grounds g < n
-  pub injection_size : length opened.injection ≡ n
+  pub leader_size : length opened.leader ≡ n
   pub angle_size : length angle ≡ n
   pub flow_size : length flow ≡ m
 

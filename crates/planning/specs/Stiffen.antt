@@ -4,7 +4,6 @@ use Rattle.std.specs.Float.Ieee.{lt}
 use Rattle.loops.specs.Figures.{at, nought}
 use Rattle.loops.specs.Loops.{iter}
 use Rattle.loops.specs.Sorting.{insert_by}
-use Rattle.angles_defs.specs.Operation.{most}
 use Rattle.plan_defs.specs.Constants.{most_corridors, max_circuits_per_corridor}
 use Rattle.plan_defs.specs.Lists.{each}
 use Rattle.plan_defs.specs.Case.{Case, levels, own_or}
@@ -52,8 +51,6 @@ pub record Stiffenable (solved : SolvedColumns)
   pub lines : Lines solved.grid solved.level
   pub buses : solved.e.buses ≡ length solved.level
   pub few : length solved.grid.a ≤ most_corridors
-  pub few_grounds : length solved.opened.grounds ≤ most
-  pub ground_below : (g : ℕ) → g < length solved.opened.grounds → slice_index solved.opened.grounds g < length solved.level
   pub leader_size : length solved.opened.leader ≡ length solved.level
   pub angle_size : length solved.angle ≡ length solved.level
   pub capped : Capped (length solved.grid.a) solved.grid.cap

@@ -139,8 +139,9 @@ fn serve(
     let demand = demand_of(root, leader, supply.load);
     let mut room = [0.0; 128];
     let out = &mut room[0..units.len()];
-    give(mode, demand, &least, &most, &linear, &quadratic, out)
-        .map_err(|f| Refusal::Cost(units[f.index()] as usize))?;
+    give(mode, demand, &least, &most, &linear, &quadratic, out).map_err(|f| Refusal::Cost(
+        units[f.index()] as usize,
+    ))?;
     hand_out(units, out, mw);
     Ok(())
 }

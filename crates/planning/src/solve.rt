@@ -6,9 +6,10 @@ ghost use Rattle.angles_defs.specs.Solve.{solve};
 ghost use Rattle.plan_defs.specs.Build.{drawn_all};
 ghost use Rattle.plan_defs.specs.Solve.{susceptance, edges_for, flows_of, all_finite, planning_on, planning_state};
 ghost use Rattle.plan_defs.specs.Stiffen.{unit_at};
+ghost use Rattle.planning.specs.Edges.{Grounded};
 ghost use Rattle.planning.specs.Opening.{stage_of};
 ghost use Rattle.planning.specs.Design.{lines_for};
-ghost use Rattle.planning.specs.Solve.{peak_for, solved_of, finite_angles, finite_answer, Grounded, Places, Drawing, Lent};
+ghost use Rattle.planning.specs.Solve.{peak_for, solved_of, finite_angles, finite_answer, Places, Drawing, Lent};
 ghost use Rattle.planning.specs.Tables.{grid_in, opened_in, edges_in};
 
 use crate::design::circuit;

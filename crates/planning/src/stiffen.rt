@@ -521,9 +521,7 @@ fn narrow(
         circuits.old banks.old floors.old upsized.old marks.old t
         circuits.new banks.new floors.new upsized.new marks.new result }
 {
-    solved
-        .e
-        .unit_angles(solved.opened.grounds, lead, lag, phi)?;
+    solved.e.unit_angles(solved.opened.grounds, lead, lag, phi)?;
     Ok(reinforce(
         root, excess, solved, phi, circuits, banks, floors, upsized, marks, t,
     ))

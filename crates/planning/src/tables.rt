@@ -1,4 +1,6 @@
 // The columns that planning reads together: of the corridors and the levels, of the buses and the units, and what the opening makes of them.
+ghost use Rattle.std.specs.Prelude.{◌≡◌, length};
+ghost use Rattle.planning.specs.Edges.{Grounded};
 ghost use Rattle.planning.specs.Supplied.{Supplied, supply_of};
 
 use crate::edges::Edges;
@@ -35,6 +37,8 @@ pub struct Opened<'a> {
     pub leader: &'a [u32],
     pub grounds: &'a [u32],
     pub injection: &'a [f64],
+    ghost grounded: { Grounded (length leader.now) grounds.now },
+    ghost injected: { length injection.now ≡ length leader.now },
 }
 
 // What stiffening reads of a round: the budgets, the tables at the round's levels, and the edges and the angles of its solve.

@@ -1,4 +1,4 @@
-use Rattle.std.proofs.Common.{◌≡◌, ◌<◌, ◌^◌, Err, get_or, rules, length, replicate, ap, ◌∙◌, arith}
+use Rattle.std.proofs.Common.{◌≡◌, ◌<◌, ◌^◌, Err, get_or, rules, length, ap, ◌∙◌, arith}
 use lib.ListN.{length-replicate}
 use Rattle.loops.specs.Figures.{nought}
 use Rattle.loops.proofs.Fronts.{front_replicate}

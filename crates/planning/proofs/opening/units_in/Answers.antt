@@ -1,4 +1,4 @@
-use Rattle.std.proofs.Common.{◌≡◌, ℕ, ◌+◌, ◌-◌, List, [], ◌∷◌, ◌++◌, length, sym, ap, ◌∙◌, append_assoc, append-nil, length-append, arith, eq-eqb, ne_eqb}
+use Rattle.std.proofs.Common.{ℕ, ◌+◌, ◌-◌, List, [], ◌∷◌, ◌++◌, length, sym, ap, ◌∙◌, append_assoc, append-nil, length-append, arith, eq-eqb, ne_eqb}
 use Rattle.plan_defs.specs.Lists.{pass_from}
 use Rattle.plan_defs.specs.Components.{unit_within}
 use Rattle.planning.specs.Opening.{bus_case}
@@ -21,10 +21,10 @@ loop-k-preserved c =
                 ∙ ap (λ (x : List ℕ). l.units.items ++ x) (sym (pass_yes p (omega arith) (eq-eqb _ _ w.if-leader-i.true))) ∙ l.invariant.2,
           )
       | else-leader-i w ↦ rw w.units-is (
-          omega arith,
-          omega arith,
-          ap (λ (x : List ℕ). l.units.items ++ x) (sym (pass_no p (omega arith) (ne_eqb _ _ w.if-leader-i.false))) ∙ l.invariant.2,
-        )
+        omega arith,
+        omega arith,
+        ap (λ (x : List ℕ). l.units.items ++ x) (sym (pass_no p (omega arith) (ne_eqb _ _ w.if-leader-i.false))) ∙ l.invariant.2,
+      )
     ]
 
 pub returns : goal.returns

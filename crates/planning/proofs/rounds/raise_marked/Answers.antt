@@ -1,4 +1,4 @@
-use Rattle.std.proofs.Common.{ℕ, List, sym, ◌∙◌, subst, arith}
+use Rattle.std.proofs.Common.{ℕ, List, sym, ◌∙◌, subst}
 use Rattle.planning.specs.Design.{Lines}
 use Rattle.planning.proofs.Marks.{lines_raised}
 use Rattle.planning.proofs.Redrawing.{redrawn_still, redrawn_anew}

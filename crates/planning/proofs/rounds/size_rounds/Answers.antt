@@ -2,7 +2,6 @@
 use Rattle.std.proofs.Common.{◌≡◌, ◌+◌, ◌≤◌, true, false, length, sym, refl, ◌∙◌, arith, rules}
 use Rattle.plan_defs.specs.Case.{promote}
 use Rattle.plan_defs.specs.Raise.{moved_buses}
-use Rattle.planning.specs.Tables.{grid_in}
 use Rattle.planning.proofs.Rounding.{few_sum, few_high, nothing_done}
 use Rattle.planning.proofs.Sweeps.{rounds_end, solved_of_round, solve_refused, sizes_start, sizes_turn, sizes_again, sizes_settled, stiffens_start, stiffens_refused, stiffens_turn, stiffens_again, stiffens_settled, run_of}
 use Rattle.planning.proofs.rounds.size_rounds.Goals as goal

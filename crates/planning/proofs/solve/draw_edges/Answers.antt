@@ -1,4 +1,4 @@
-use Rattle.std.proofs.Common.{◌≡◌, ℕ, length, get_or, ap, ◌∙◌, le_antisymm, arith}
+use Rattle.std.proofs.Common.{ℕ, length, get_or, ap, ◌∙◌, le_antisymm, arith}
 use lib.Ieee.{Float}
 use Rattle.loops.specs.Figures.{float, at, times}
 use Rattle.loops.specs.Loops.{tab}

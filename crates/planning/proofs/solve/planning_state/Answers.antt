@@ -1,4 +1,4 @@
-use Rattle.std.proofs.Common.{ℕ, ◌<◌, get_or, sym, refl, ◌∙◌, subst}
+use Rattle.std.proofs.Common.{sym, refl, ◌∙◌}
 use Rattle.planning.specs.Tables.{grid_in}
 use Rattle.planning.proofs.States.{state_of}
 use Rattle.planning.proofs.solve.planning_state.Goals as goal
@@ -8,13 +8,7 @@ peak_state-requires c =
     let d = c.draw_edges-e.ensures.sizes in
     let f = c.requires.lent in record {
       sizes = (d.0 ∙ sym f.angle_size, d.1 ∙ sym f.flow_size);
-      lent = record {
-        few_grounds = f.few_grounds;
-        ground_below = λ g h. subst (λ (n : ℕ). get_or c.args.opened.now.grounds.now g 0 < n) (sym f.angle_size) (f.ground_below g h);
-        injection_size = f.injection_size ∙ sym f.angle_size;
-        angle_size = refl;
-        flow_size = refl;
-      };
+      lent = record { leader_size = f.leader_size ∙ sym f.angle_size; angle_size = refl; flow_size = refl };
     }
 
 pub returns : goal.returns

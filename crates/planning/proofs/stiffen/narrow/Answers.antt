@@ -1,7 +1,15 @@
-use Rattle.std.proofs.Common.{rules, ◌≡◌, Err}
+use Rattle.std.proofs.Common.{ℕ, ◌≡◌, Err, sym, ◌∙◌, subst, rules}
+use Rattle.planning.specs.Edges.{Grounded}
 use Rattle.planning.proofs.Narrowing.{narrowed_refused, narrowed_answered}
 use Rattle.planning.proofs.stiffen.narrow.Goals as goal
 use Rattle.planning.specs.Tables.{solved_in}
+
+pub unit_angles-requires-clause-grounded : goal.unit_angles-requires-clause-grounded
+unit_angles-requires-clause-grounded c =
+    let o = c.args.solved.now.opened.now in
+    let q = c.requires.stiffenable in
+    let n = sym c.requires.phi_len.0 in
+    (q.buses ∙ n, subst (λ (i : ℕ). Grounded i o.grounds.now) (q.leader_size ∙ n) o.grounded)
 
 pub returns-in_err-unit_angles : goal.returns-in_err-unit_angles
 returns-in_err-unit_angles c =

@@ -1,4 +1,4 @@
-use Rattle.std.proofs.Common.{◌≡◌, Err, refl, rules}
+use Rattle.std.proofs.Common.{◌≡◌, Err, rules}
 use Rattle.refusal.specs.declared.Refusal.TheVariants.{NotFinite}
 use Rattle.angles_defs.specs.Network.{edges_of}
 use Rattle.planning.specs.Tables.{edges_in}

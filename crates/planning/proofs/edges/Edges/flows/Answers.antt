@@ -1,4 +1,4 @@
-use Rattle.std.proofs.Common.{length, refl, ◌∙◌, arith, length-set}
+use Rattle.std.proofs.Common.{refl, ◌∙◌, arith, length-set}
 use Rattle.loops.proofs.Tab.{fill_start, fill_turn, fill_end}
 use Rattle.planning.specs.Tables.{edges_in}
 use Rattle.planning.proofs.Solving.{flow_turn, flows_are}

@@ -3,7 +3,6 @@ use Rattle.std.specs.Prelude.{ℕ, List, Float}
 use Rattle.planning.specs.declared.tables.Grid.{Grid}
 use Rattle.planning.specs.declared.tables.Supply.{Supply}
 use Rattle.planning.specs.declared.tables.Opened.{Opened}
-use Rattle.planning.specs.declared.tables.Solved.{Solved}
 use Rattle.planning.specs.declared.stiffen.Limits.{Limits}
 
 pub record GridColumns : Type 0 where
@@ -61,6 +60,3 @@ supply_in s = supply_of s.load.now s.bus.now s.slack.now s.pmin.now s.pmax.now s
 
 abbrev pub opened_in : Opened → OpenedColumns
 opened_in o = opened_of o.leader.now o.grounds.now o.injection.now
-
-abbrev pub solved_in : Solved → SolvedColumns
-solved_in s = solved_by s.g (grid_in s.grid.now) s.level.now (opened_in s.opened.now) s.e.now.from s.e.now.to s.e.now.weight s.angle.now

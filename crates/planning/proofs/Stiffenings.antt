@@ -180,10 +180,10 @@ module _ (g : Limits) (grid : GridColumns) (level : List ℕ) (k : ℕ) (circuit
         ∙ ap (λ (x : Bool). stiffen_by false (raisable g t.hv level grid.a grid.b k) x C level (budget_for g) k S) (room_lifts C g k S (omega arith))
         ∙ one_by false e
 
-  pub one_full : below ≡ true → Lines grid level → Banks banks → (full : CircuitDesign) (banks' floors' : List Float) (upsized' : List ℕ) (t' : Stiffness)
+  pub one_full : below ≡ true → rating_ok d.line_rate ≡ true → Banks banks → (full : CircuitDesign) (banks' floors' : List Float) (upsized' : List ℕ) (t' : Stiffness)
       → full ≡ set_transformer_mva d d.line_rate → banks' ≡ set banks k full.transformer_mva → floors' ≡ set floors k full.transformer_mva → upsized' ≡ set upsized k 1 → t' ≡ reckoned 0 0 t
       → BatchStiffened (k ∷ []) g grid level circuits banks floors upsized marks t circuits banks' floors' upsized' marks t'
-  one_full e lines banked full banks' floors' upsized' t' pf rb rf qu pt =
+  one_full e ok banked full banks' floors' upsized' t' pf rb rf qu pt =
       let mva = d.line_rate in
       let qb = rb ∙ kept_next true d full mva banks k pf in
       let qf = rf ∙ kept_next true d full mva floors k pf in
@@ -191,8 +191,6 @@ module _ (g : Limits) (grid : GridColumns) (level : List ℕ) (k : ℕ) (circuit
       let u = ap (λ (x : Stiffness). x.total) pt in
       let v = ap (λ (x : Stiffness). x.hv) pt in
       let x = ap (λ (x : Stiffness). x.stiffening) pt in
-      let rated = drawn_rated grid level k lines h (at banks k) (banked k w) in
-      let ok : rating_ok mva ≡ true = ap (λ (z : CircuitDesign). rating_ok z.line_rate) pd ∙ rated.line in
       record {
         stiffened = λ o f.
             let c = with_lines o grid in

@@ -15,6 +15,7 @@ use Rattle.plan_defs.specs.Design.{design}
 use Rattle.plan_defs.specs.Build.{built, build_of}
 use Rattle.plan_defs.specs.Stiffen.{Budget, Stiffening, Gain, stiff, stiffen_by, stiffen_one, gain_of, chosen, leader as ahead, laggard, best_of, narrow, stiffen_component}
 use Rattle.plan_defs.specs.declared.CircuitDesign.{CircuitDesign}
+use Rattle.planning.specs.Edges.{Grounded}
 use Rattle.planning.specs.Design.{Lines, Banks}
 use Rattle.planning.specs.Raise.{largest_count, pairs_for}
 use Rattle.planning.specs.Size.{Few, Capped}
@@ -45,21 +46,30 @@ stiffened_as (Ok t) c level circuits banks floors upsized marks = going (stiff_o
 abbrev pub round_of : Edges → List Float → List Float → PlanningCase
 round_of e theta flows = record { edges = edges_in e; theta = theta; flows = flows }
 
--- ---- what a component asks of the slices: a place for each corridor, or for each bus
-pub record Stiffenable (solved : SolvedColumns)
-    (circuits : List ℕ) (banks floors : List Float) (upsized marks : List ℕ) : Type 0 where
+-- ---- what stiffening reads of a round: columns of one size, in their bounds
+pub record Solvable (solved : SolvedColumns) : Type 0 where
   pub lines : Lines solved.grid solved.level
   pub buses : solved.e.buses ≡ length solved.level
   pub few : length solved.grid.a ≤ most_corridors
   pub leader_size : length solved.opened.leader ≡ length solved.level
+  pub grounded : Grounded (length solved.opened.leader) solved.opened.grounds
   pub angle_size : length solved.angle ≡ length solved.level
   pub capped : Capped (length solved.grid.a) solved.grid.cap
-  pub count_size : length circuits ≡ length solved.grid.a
-  pub bank_size : length banks ≡ length solved.grid.a
-  pub floor_size : length floors ≡ length solved.grid.a
-  pub upsized_size : length upsized ≡ length solved.grid.a
-  pub mark_size : length marks ≡ length solved.level
+
+-- what it asks of the lent slices: a place for each corridor, or for each bus
+pub record StiffenFits (grid : GridColumns) (level : List ℕ) (circuits : List ℕ) (banks floors : List Float) (upsized marks : List ℕ) : Type 0 where
+  pub count_size : length circuits ≡ length grid.a
+  pub bank_size : length banks ≡ length grid.a
+  pub floor_size : length floors ≡ length grid.a
+  pub upsized_size : length upsized ≡ length grid.a
+  pub mark_size : length marks ≡ length level
   pub banked : Banks banks
+
+-- both, where the columns come apart
+pub record Stiffenable (solved : SolvedColumns)
+    (circuits : List ℕ) (banks floors : List Float) (upsized marks : List ℕ) : Type 0 where
+  pub solvable : Solvable solved
+  pub fits : StiffenFits solved.grid solved.level circuits banks floors upsized marks
 
 -- room for what m corridors may add
 pub record Room (m : ℕ) (t : Stiffness) : Type 0 where
@@ -115,17 +125,6 @@ pub record Strengthened (g : Limits) (own : ℕ) (level a b : List ℕ) (k : ℕ
 abbrev pub Fitting : Case → GridColumns → Type 0
 Fitting o grid = (length grid.a ≡ o.corridors) × (length grid.ladder ≡ levels o) × (o.cap ≡ grid.cap)
 
--- what the lent slices must be
-pub record StiffenFits (grid : GridColumns) (level : List ℕ) (circuits : List ℕ) (banks floors : List Float) (upsized marks : List ℕ) : Type 0 where
-  pub lines : Lines grid level
-  pub capped : Capped (length grid.a) grid.cap
-  pub count_size : length circuits ≡ length grid.a
-  pub bank_size : length banks ≡ length grid.a
-  pub floor_size : length floors ≡ length grid.a
-  pub upsized_size : length upsized ≡ length grid.a
-  pub mark_size : length marks ≡ length level
-  pub banked : Banks banks
-
 -- what stiffening the corridors of a list does to them
 pub record BatchStiffened (ks : List ℕ) (g : Limits) (grid : GridColumns) (level : List ℕ)
     (circuits : List ℕ) (banks floors : List Float) (upsized marks : List ℕ) (t : Stiffness)
@@ -140,11 +139,7 @@ pub record BatchStiffened (ks : List ℕ) (g : Limits) (grid : GridColumns) (lev
 
 -- ---- gains: of a candidate what one more circuit gives, of any other 0
 pub record Gainful (solved : SolvedColumns) (phi : List Float) (circuits : List ℕ) (banks : List Float) : Type 0 where
-  pub lines : Lines solved.grid solved.level
-  pub leader_size : length solved.opened.leader ≡ length solved.level
-  pub angle_size : length solved.angle ≡ length solved.level
   pub phi_size : length phi ≡ length solved.level
-  pub cap_size : length solved.grid.cap ≡ length solved.grid.a
   pub count_size : length circuits ≡ length solved.grid.a
   pub bank_size : length banks ≡ length solved.grid.a
   pub banked : Banks banks

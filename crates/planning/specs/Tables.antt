@@ -5,7 +5,6 @@ pub use Rattle.planning.specs.Supplied.{SupplyColumns, supply_of}
 use Rattle.planning.specs.declared.tables.Grid.{Grid}
 use Rattle.planning.specs.declared.tables.Supply.{Supply}
 use Rattle.planning.specs.declared.tables.Opened.{Opened}
-use Rattle.planning.specs.declared.tables.Solved.{Solved}
 use Rattle.planning.specs.declared.edges.Edges.{Edges}
 use Rattle.planning.specs.declared.stiffen.Limits.{Limits}
 
@@ -50,9 +49,6 @@ supply_in s = supply_of s.load.now s.bus.now s.slack.now s.pmin.now s.pmax.now s
 
 abbrev pub opened_in : Opened → OpenedColumns
 opened_in o = opened_of o.leader.now o.grounds.now o.injection.now
-
-abbrev pub solved_in : Solved → SolvedColumns
-solved_in s = solved_by s.g (grid_in s.grid.now) s.level.now (opened_in s.opened.now) s.e.now s.angle.now
 
 -- the definition's edges
 abbrev pub edges_in : Edges → Defined

@@ -1,17 +1,20 @@
 // Stiffening: each component whose angles are spread too wide, after the second loop of a round of `plan_corridors`.
 ghost use Rattle.std.specs.Prelude.{◌≡◌, ℕ, ◌+◌, ◌<◌, ◌≤◌, Bool, true, false, not, cond, [], ◌∷◌, map, length, take, All, position, slice_index, Float, Ok, Result};
 ghost use Rattle.arrayvec.specs.ArrayVec.{array_vec_len};
-ghost use Rattle.loops.specs.Figures.{at, nought};
+ghost use Rattle.loops.specs.Figures.{at, nought, minus};
+ghost use Rattle.impedance.specs.Impedance.{rating_ok};
 ghost use Rattle.loops.specs.Loops.{first, tab};
-ghost use Rattle.plan_defs.specs.Constants.{most_buses, most_corridors, most_levels, most_cap, stiffening_branch_budget};
+ghost use Rattle.plan_defs.specs.Constants.{most_buses, most_corridors, most_levels, most_cap, stiffening_branch_budget, max_angle_spread_rad};
 ghost use Rattle.plan_defs.specs.Components.{within, members};
+ghost use Rattle.plan_defs.specs.Design.{drawn};
+ghost use Rattle.planning.specs.Design.{lines_for};
 ghost use Rattle.plan_defs.specs.Lists.{counting, sum};
 ghost use Rattle.plan_defs.specs.Raise.{no_marks, mark_if};
 ghost use Rattle.plan_defs.specs.Stiffen.{at_or_above, share_of, hv_budget, stiffen_top, arrival, gain_of, batch, batch_cap, best_of};
 ghost use Rattle.planning.specs.Fill.{Counted};
 ghost use Rattle.planning.specs.Raise.{largest_count, pairs_for, PairFits};
-ghost use Rattle.planning.specs.Stiffen.{budget_for, Stiffenable, Room, LedStiffened, raisable, room_for, reckoned, Strengthened, StiffenFits, BatchStiffened, Gainful, candidate_at, gain_at, gains_more, gain_next, gain_order, gain_for, Chosen, Stepped, reinforce_step, narrow_step, component_step, Led};
-ghost use Rattle.planning.specs.Tables.{grid_in, opened_in, solved_by, solved_in};
+ghost use Rattle.planning.specs.Stiffen.{budget_for, Stiffenable, Room, LedStiffened, raisable, room_for, reckoned, Strengthened, StiffenFits, BatchStiffened, Gainful, candidate_at, gain_at, gains_more, gain_next, gain_order, gain_for, Chosen, Stepped, reinforce_step, narrow_step, component_step, Led, lead_of, lag_of};
+ghost use Rattle.planning.specs.Tables.{grid_in, opened_in, solved_by};
 
 use crate::design::{circuit, set_transformer_mva};
 use crate::edges::Edges;
@@ -136,29 +139,48 @@ fn arrival(top: u32, level: &[u32], marks: &[u32], i: usize) -> u32
 }
 
 // How many ends of corridor k do.
-fn arrivals(top: u32, level: &[u32], grid: &Grid, k: usize, marks: &[u32]) -> u32
-    requires { PairFits level.now grid.now.a.now grid.now.b.now marks.now k }
-    ensures { (result ≡ arrival top level.now marks.now (slice_index grid.now.a.now k) + arrival top level.now marks.now (slice_index grid.now.b.now k)) × (result ≤ 2) }
+fn arrivals(solved: &Solved, k: usize, marks: &[u32]) -> u32
+    requires { (k < length solved.now.grid.a) × (length marks.now ≡ length solved.now.level) }
+    ensures { (result ≡ arrival solved.now.g.top solved.now.level marks.now (slice_index solved.now.grid.a k) + arrival solved.now.g.top solved.now.level marks.now (slice_index solved.now.grid.b k)) × (result ≤ 2) }
 {
-    arrival(top, level, marks, grid.a[k] as usize) + arrival(top, level, marks, grid.b[k] as usize)
+    let top = solved.g.top;
+    let i = solved.grid.a[k] as usize;
+    let j = solved.grid.b[k] as usize;
+    arrival(top, solved.level, marks, i) + arrival(top, solved.level, marks, j)
 }
 
 // Marks both ends of corridor k for a raise that is within the budget, and answers whether it is.
-fn raises(g: Limits, hv: u32, level: &[u32], grid: &Grid, k: usize, marks: &mut [u32]) -> bool
-    requires { PairFits level.now grid.now.a.now grid.now.b.now marks.old k }
-    ensures marks { marks.new ≡ mark_if (raisable g hv level.now grid.now.a.now grid.now.b.now k) (pairs_for grid.now.a.now grid.now.b.now) level.now k marks.old }
-    ensures answer { result ≡ raisable g hv level.now grid.now.a.now grid.now.b.now k }
+fn raises(solved: &Solved, hv: u32, k: usize, marks: &mut [u32]) -> bool
+    requires { (k < length solved.now.grid.a) × (length marks.old ≡ length solved.now.level) }
+    ensures marks { marks.new ≡ mark_if (raisable solved.now.g hv solved.now.level solved.now.grid.a solved.now.grid.b k) (pairs_for solved.now.grid.a solved.now.grid.b) solved.now.level k marks.old }
+    ensures answer { result ≡ raisable solved.now.g hv solved.now.level solved.now.grid.a solved.now.grid.b k }
 {
-    if (hv as usize) < g.hv {
-        return mark_raise_to(level, grid, k, g.top, marks);
+    if (hv as usize) < solved.g.hv {
+        return mark_raise_to(solved.level, solved.grid, k, solved.g.top, marks);
     }
     false
 }
 
-fn has_room(g: Limits, own: u32, count: u32, total: u32) -> bool
-    ensures { result ≡ room_for g own count total }
-{
-    (count < full_at(own)) & ((total as usize) < g.branches)
+impl Solved<'_> {
+    // Corridor k's circuit at the round's levels, with so large a bank.
+    fn circuit(&self, k: usize, bank: f64) -> CircuitDesign
+        requires { (k < length self.now.grid.a) × (rating_ok bank ≡ true) }
+        ensures design { result ≡ drawn (lines_for self.now.grid) self.now.level k bank }
+        ensures rated { rating_ok result.line_rate ≡ true }
+        ensures ends { (result.from < length self.now.level) × (result.to < length self.now.level) }
+    {
+        circuit(self.grid, self.level, k, bank)
+    }
+
+    // Whether corridor k, of so many circuits, may get one more, where there are so many in all.
+    fn has_room(&self, k: usize, count: u32, total: u32) -> bool
+        requires { k < length self.now.grid.a }
+        ensures room { result ≡ room_for self.now.g (slice_index self.now.grid.cap k) count total }
+        ensures few { slice_index self.now.grid.cap k ≤ most_cap }
+    {
+        let cap = self.grid.cap;
+        (count < full_at(cap[k])) & ((total as usize) < self.g.branches)
+    }
 }
 
 fn reckoned(added: u32, arrived: u32, t: Stiffness) -> Stiffness
@@ -176,25 +198,22 @@ fn reckoned(added: u32, arrived: u32, t: Stiffness) -> Stiffness
 
 // A raise of corridor k, else a circuit, else nothing.
 fn raise_or_add(
-    g: Limits,
-    own: u32,
-    level: &[u32],
-    grid: &Grid,
+    solved: &Solved,
     k: usize,
     circuits: &mut [u32],
     marks: &mut [u32],
     t: Stiffness,
 ) -> Stiffness
-    requires pair_fits { PairFits level.now grid.now.a.now grid.now.b.now marks.old k }
-    requires k_in_bounds { (k < length circuits.old) × (own ≤ most_cap) × Room 1 t }
-    ensures { Strengthened g own level.now grid.now.a.now grid.now.b.now k circuits.old marks.old t circuits.new marks.new result }
+    requires { (k < length solved.now.grid.a) × (length circuits.old ≡ length solved.now.grid.a) × (length marks.old ≡ length solved.now.level) × Room 1 t }
+    ensures { Strengthened solved.now.g (slice_index solved.now.grid.cap k) solved.now.level solved.now.grid.a solved.now.grid.b k
+        circuits.old marks.old t circuits.new marks.new result }
 {
-    if raises(g, t.hv, level, grid, k, marks) {
-        let arrived = arrivals(g.top, level, grid, k, marks);
+    if raises(solved, t.hv, k, marks) {
+        let arrived = arrivals(solved, k, marks);
         return reckoned(0, arrived, t);
     }
     let count = circuits[k];
-    if has_room(g, own, count, t.total) {
+    if solved.has_room(k, count, t.total) {
         circuits[k] = count + 1;
         return reckoned(1, 0, t);
     }
@@ -203,9 +222,7 @@ fn raise_or_add(
 
 // A full bank, else a raise, else a circuit, else nothing.
 fn stiffen_one(
-    g: Limits,
-    grid: &Grid,
-    level: &[u32],
+    solved: &Solved,
     k: usize,
     circuits: &mut [u32],
     banks: &mut [f64],
@@ -214,26 +231,24 @@ fn stiffen_one(
     marks: &mut [u32],
     t: Stiffness,
 ) -> Stiffness
-    requires stiffen_fits { StiffenFits (grid_in grid.now) level.now circuits.old banks.old floors.old upsized.old marks.old }
-    requires k_in_bounds { (k < length grid.now.a.now) × Room 1 t }
-    ensures { BatchStiffened (k ∷ []) g (grid_in grid.now) level.now
+    requires stiffen_fits { StiffenFits solved.now.grid solved.now.level circuits.old banks.old floors.old upsized.old marks.old }
+    requires k_in_bounds { (k < length solved.now.grid.a) × Room 1 t }
+    ensures { BatchStiffened (k ∷ []) solved.now.g solved.now.grid solved.now.level
         circuits.old banks.old floors.old upsized.old marks.old t
         circuits.new banks.new floors.new upsized.new marks.new result }
 {
-    let d = circuit(grid, level, k, banks[k]);
+    let d = solved.circuit(k, banks[k]);
     if bank_below(d) {
         let full = set_transformer_mva(d, d.line_rate);
         keep_bank(k, full, banks, floors, upsized);
         return reckoned(0, 0, t);
     }
-    raise_or_add(g, grid.cap[k], level, grid, k, circuits, marks, t)
+    raise_or_add(solved, k, circuits, marks, t)
 }
 
 // The corridors of an order, one after another.
 fn stiffen_batch(
-    g: Limits,
-    grid: &Grid,
-    level: &[u32],
+    solved: &Solved,
     order: &[u32],
     circuits: &mut [u32],
     banks: &mut [f64],
@@ -242,25 +257,16 @@ fn stiffen_batch(
     marks: &mut [u32],
     start: Stiffness,
 ) -> Stiffness
-    requires stiffen_fits { StiffenFits (grid_in grid.now) level.now circuits.old banks.old floors.old upsized.old marks.old }
-    requires named { All (λ (k : ℕ). k < length grid.now.a.now) order.now × Room (length order.now) start }
-    ensures { BatchStiffened order.now g (grid_in grid.now) level.now
+    requires stiffen_fits { StiffenFits solved.now.grid solved.now.level circuits.old banks.old floors.old upsized.old marks.old }
+    requires named { All (λ (k : ℕ). k < length solved.now.grid.a) order.now × Room (length order.now) start }
+    ensures { BatchStiffened order.now solved.now.g solved.now.grid solved.now.level
         circuits.old banks.old floors.old upsized.old marks.old start
         circuits.new banks.new floors.new upsized.new marks.new result }
 {
     let mut t = start;
     for k in order.iter() {
         t = stiffen_one(
-            g,
-            grid,
-            level,
-            *k as usize,
-            circuits,
-            banks,
-            floors,
-            upsized,
-            marks,
-            t,
+            solved, *k as usize, circuits, banks, floors, upsized, marks, t,
         );
     }
     t
@@ -268,24 +274,17 @@ fn stiffen_batch(
 
 // ---- which corridors: those whose reinforcement narrows the spread, the most first
 // With room for a circuit, or below the top with room for a raise.
-fn is_candidate(
-    g: Limits,
-    leader: &[u32],
-    level: &[u32],
-    grid: &Grid,
-    circuits: &[u32],
-    t: Stiffness,
-    root: usize,
-    k: usize,
-) -> bool
-    requires { PairFits level.now grid.now.a.now grid.now.b.now leader.now k × (k < length grid.now.cap.now) × (k < length circuits.now) }
-    ensures { result ≡ candidate_at g leader.now level.now grid.now.a.now grid.now.b.now grid.now.cap.now circuits.now t root k }
+fn is_candidate(solved: &Solved, circuits: &[u32], t: Stiffness, root: usize, k: usize) -> bool
+    requires { (k < length solved.now.grid.a) × (length circuits.now ≡ length solved.now.grid.a) }
+    ensures { result ≡ candidate_at solved.now.g solved.now.opened.leader solved.now.level solved.now.grid.a solved.now.grid.b solved.now.grid.cap circuits.now t root k }
 {
-    let i = grid.a[k] as usize;
-    let j = grid.b[k] as usize;
-    let tier = level[i].min(level[j]);
-    let room = has_room(g, grid.cap[k], circuits[k], t.total);
-    (leader[i] as usize == root) & (room | ((g.top < tier) & ((t.hv as usize) < g.hv)))
+    let leader = solved.opened.leader;
+    let i = solved.grid.a[k] as usize;
+    let j = solved.grid.b[k] as usize;
+    let tier = solved.level[i].min(solved.level[j]);
+    let room = solved.has_room(k, circuits[k], t.total);
+    let raise = (solved.g.top < tier) & ((t.hv as usize) < solved.g.hv);
+    (leader[i] as usize == root) & (room | raise)
 }
 
 // By how much one more circuit narrows the spread, to first order.
@@ -307,23 +306,14 @@ fn gain_at(
     root: usize,
     k: usize,
 ) -> f64
-    requires { Gainful (solved_in solved.now) phi.now circuits.now banks.now × (k < length solved.now.grid.now.a.now) }
-    ensures { result ≡ gain_at (solved_in solved.now)
+    requires { Gainful solved.now phi.now circuits.now banks.now × (k < length solved.now.grid.a) }
+    ensures { result ≡ gain_at solved.now
         phi.now circuits.now banks.now t root k }
 {
-    if !is_candidate(
-        solved.g,
-        solved.opened.leader,
-        solved.level,
-        solved.grid,
-        circuits,
-        t,
-        root,
-        k,
-    ) {
+    if !is_candidate(solved, circuits, t, root, k) {
         return 0.0;
     }
-    let d = circuit(solved.grid, solved.level, k, banks[k]);
+    let d = solved.circuit(k, banks[k]);
     gain_of(d, solved.angle, phi)
 }
 
@@ -337,9 +327,9 @@ fn gains(
     root: usize,
     gain: &mut [f64],
 )
-    requires gainful { Gainful (solved_in solved.now) phi.now circuits.now banks.now }
-    requires size { length gain.old ≡ length solved.now.grid.now.a.now }
-    ensures { gain.new ≡ tab (length solved.now.grid.now.a.now) (gain_at (solved_in solved.now)
+    requires gainful { Gainful solved.now phi.now circuits.now banks.now }
+    requires size { length gain.old ≡ length solved.now.grid.a }
+    ensures { gain.new ≡ tab (length solved.now.grid.a) (gain_at solved.now
         phi.now circuits.now banks.now t root) }
 {
     loops::fill(gain, |k| gain_at(solved, phi, circuits, banks, t, root, k));
@@ -421,9 +411,8 @@ fn choose_batch(
     banks: &[f64],
     t: Stiffness,
 ) -> ArrayVec<u32, 256>
-    requires gainful { Gainful (solved_in solved.now) phi.now circuits.now banks.now }
-    requires few { length solved.now.grid.now.a.now ≤ most_corridors }
-    ensures { Chosen root excess (solved_in solved.now)
+    requires gainful { Gainful solved.now phi.now circuits.now banks.now }
+    ensures { Chosen root excess solved.now
         phi.now circuits.now banks.now t result.items }
 {
     let m = solved.grid.a.len();
@@ -450,26 +439,15 @@ fn reinforce(
     marks: &mut [u32],
     t: Stiffness,
 ) -> Stiffness
-    requires stiffen_fits { StiffenFits (grid_in solved.now.grid.now) solved.now.level.now circuits.old banks.old floors.old upsized.old marks.old }
-    requires leader_len { (length solved.now.opened.now.leader.now ≡ length solved.now.level.now) × (length solved.now.angle.now ≡ length solved.now.level.now) × (length phi.now ≡ length solved.now.level.now) × (length solved.now.grid.now.a.now ≤ most_corridors) × Room (length solved.now.grid.now.a.now) t }
-    ensures { Stepped (reinforce_step root excess (solved_in solved.now) phi.now)
-        (grid_in solved.now.grid.now) solved.now.level.now
+    requires stiffen_fits { StiffenFits solved.now.grid solved.now.level circuits.old banks.old floors.old upsized.old marks.old }
+    requires phi_len { (length phi.now ≡ length solved.now.level) × Room (length solved.now.grid.a) t }
+    ensures { Stepped (reinforce_step root excess solved.now phi.now)
+        solved.now.grid solved.now.level
         circuits.old banks.old floors.old upsized.old marks.old t
         circuits.new banks.new floors.new upsized.new marks.new (Ok result) }
 {
     let order = choose_batch(root, excess, solved, phi, circuits, banks, t);
-    stiffen_batch(
-        solved.g,
-        solved.grid,
-        solved.level,
-        &order,
-        circuits,
-        banks,
-        floors,
-        upsized,
-        marks,
-        t,
-    )
+    stiffen_batch(solved, &order, circuits, banks, floors, upsized, marks, t)
 }
 
 // ---- one component
@@ -499,6 +477,34 @@ fn best_of<F: Fn(f64, f64) -> bool>(leader: &[u32], angle: &[f64], root: usize, 
     best
 }
 
+impl Solved<'_> {
+    // The bus of the component of the most angle, and of the least.
+    fn lead(&self, root: usize) -> usize
+        requires { Led root self.now.opened.leader self.now.angle }
+        ensures bus { result < length self.now.level }
+        ensures best { result ≡ lead_of self.now.opened.leader self.now.angle root }
+    {
+        best_of(self.opened.leader, self.angle, root, |x, y| x < y)
+    }
+
+    fn lag(&self, root: usize) -> usize
+        requires { Led root self.now.opened.leader self.now.angle }
+        ensures bus { result < length self.now.level }
+        ensures best { result ≡ lag_of self.now.opened.leader self.now.angle root }
+    {
+        best_of(self.opened.leader, self.angle, root, |x, y| y < x)
+    }
+
+    // By how much these two are too far apart.
+    fn excess(&self, lead: usize, lag: usize) -> f64
+        requires { (lead < length self.now.level) × (lag < length self.now.level) }
+        ensures { result ≡ minus (minus (at self.now.angle lead) (at self.now.angle lag)) max_angle_spread_rad }
+    {
+        let angle = self.angle;
+        angle[lead] - angle[lag] - MAX_ANGLE_SPREAD_RAD
+    }
+}
+
 // With the angles of one per unit from the lead to the lag, in `phi`; refusal 9 where one of them is not finite.
 fn narrow(
     root: usize,
@@ -514,10 +520,10 @@ fn narrow(
     marks: &mut [u32],
     t: Stiffness,
 ) -> Result<Stiffness, Refusal>
-    requires stiffenable { Stiffenable (solved_in solved.now) circuits.old banks.old floors.old upsized.old marks.old }
-    requires phi_len { (length phi.old ≡ length solved.now.level.now) × (lead < length solved.now.level.now) × (lag < length solved.now.level.now) × Room (length solved.now.grid.now.a.now) t }
-    ensures { Stepped (narrow_step root lead lag excess (solved_in solved.now))
-        (grid_in solved.now.grid.now) solved.now.level.now
+    requires stiffen_fits { StiffenFits solved.now.grid solved.now.level circuits.old banks.old floors.old upsized.old marks.old }
+    requires phi_len { (length phi.old ≡ length solved.now.level) × (lead < length solved.now.level) × (lag < length solved.now.level) × Room (length solved.now.grid.a) t }
+    ensures { Stepped (narrow_step root lead lag excess solved.now)
+        solved.now.grid solved.now.level
         circuits.old banks.old floors.old upsized.old marks.old t
         circuits.new banks.new floors.new upsized.new marks.new result }
 {
@@ -545,16 +551,16 @@ fn stiffen_component(
     marks: &mut [u32],
     t: Stiffness,
 ) -> Result<Stiffness, Refusal>
-    requires stiffenable { Stiffenable (solved_in solved.now) circuits.old banks.old floors.old upsized.old marks.old }
-    requires led { Led root solved.now.opened.now.leader.now solved.now.angle.now × Room (length solved.now.grid.now.a.now) t }
-    ensures { Stepped (component_step root round (solved_in solved.now))
-        (grid_in solved.now.grid.now) solved.now.level.now
+    requires stiffen_fits { StiffenFits solved.now.grid solved.now.level circuits.old banks.old floors.old upsized.old marks.old }
+    requires led { Led root solved.now.opened.leader solved.now.angle × Room (length solved.now.grid.a) t }
+    ensures { Stepped (component_step root round solved.now)
+        solved.now.grid solved.now.level
         circuits.old banks.old floors.old upsized.old marks.old t
         circuits.new banks.new floors.new upsized.new marks.new result }
 {
-    let lead = best_of(solved.opened.leader, solved.angle, root, |x, y| x < y);
-    let lag = best_of(solved.opened.leader, solved.angle, root, |x, y| y < x);
-    let excess = solved.angle[lead] - solved.angle[lag] - MAX_ANGLE_SPREAD_RAD;
+    let lead = solved.lead(root);
+    let lag = solved.lag(root);
+    let excess = solved.excess(lead, lag);
     if excess <= 0.0 {
         return Ok(t);
     }

@@ -1,10 +1,9 @@
 use Rattle.std.proofs.Common.{take}
 use Rattle.planning.specs.Stiffen.{BatchStiffened}
-use Rattle.planning.specs.Tables.{grid_in}
 use Rattle.planning.proofs.stiffen.stiffen_batch.Given as goal
 
 abbrev pub invariant-loop-k : goal.invariant-loop-k
 invariant-loop-k l =
-    BatchStiffened (take l.k-index l.order) l.g (grid_in l.grid) l.level
+    BatchStiffened (take l.k-index l.order) l.solved.g l.solved.grid l.solved.level
     l.initial.circuits l.initial.banks l.initial.floors l.initial.upsized l.initial.marks l.initial.t
     l.circuits l.banks l.floors l.upsized l.marks l.t

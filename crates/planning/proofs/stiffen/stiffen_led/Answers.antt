@@ -14,4 +14,4 @@ returns c =
     let s = c in
     let z = s.args in
     led_not z.i z.round (solved_by z.g (grid_in z.grid.now) z.level.now (opened_in z.opened.now) z.e.now z.angle.now) z.circuits.now z.banks.now z.floors.now z.upsized.now z.marks.now z.t
-    (λ e. c.if-opened-i.false (e)) s.requires.stiffenable.banked
+    (λ e. c.if-opened-i.false (e)) s.requires.stiffenable.fits.banked

@@ -1,6 +1,7 @@
 // Raises of buses to a higher level, after `mark_raise_to` and `raise_buses` of planning.rs. Levels count from the highest, so that a
 // raise lowers the number. A mark at a bus is 0 for none, and t + 1 for a raise to level t.
-// That form is the definition's own (specs/Raise.antt of plan_defs): of two marks the higher raise is the lesser number, but for none.
+// They stay numbers: `no_marks`, `mark_if` and `raised_levels` of the definition are over lists of numbers, so that with an Option for
+// each bus every clause over marks would carry the coding of such a list to numbers. `raise_of` takes one mark apart.
 ghost use Rattle.std.specs.Prelude.{◌≡◌, ◌<◌, ◌≤◌, length};
 ghost use Rattle.plan_defs.specs.Constants.{most_buses};
 ghost use Rattle.plan_defs.specs.Raise.{raise_of, marked, mark_both, can_raise, mark_if, raised_levels, moved_buses};

@@ -451,7 +451,7 @@ fn reinforce(
 }
 
 // ---- one component
-// Its first bus.
+// Its first bus. A root leads itself, so that there is one; of an Option `best_of` would have to show that again in a branch for none.
 fn first_of(leader: &[u32], root: usize) -> usize
     ensures { result ≡ first (λ (i : ℕ). not (within leader.now root i)) (length leader.now) 0 }
 {

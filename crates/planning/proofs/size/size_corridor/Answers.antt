@@ -37,11 +37,11 @@ returns c =
     let larger = enlarges c.required_for-required.result (get_or z.circuits.now z.k 0) first next in
     let rated = subst Rated (sym c.circuit-d.ensures) (drawn_rated (grid_in z.grid.now) z.level.now z.k c.requires.lines c.requires.corridor (at z.banks.now z.k) (c.requires.banked z.k h)) in
     let P = λ (b : Bool).
-        (m.d ≡ banked_by b first next)
-        × (m.banks ≡ set_if b z.banks.now z.k m.d.transformer_mva)
-        × (m.floors ≡ set_if b z.floors.now z.k m.d.transformer_mva)
-        × (m.upsized ≡ set_if b z.upsized.now z.k 1)
-        × (m.s ≡ record { capacity = z.t.capacity; added = z.t.added || b; capped = z.t.capped }) in
+    (m.d ≡ banked_by b first next)
+    × (m.banks ≡ set_if b z.banks.now z.k m.d.transformer_mva)
+    × (m.floors ≡ set_if b z.floors.now z.k m.d.transformer_mva)
+    × (m.upsized ≡ set_if b z.upsized.now z.k 1)
+    × (m.s ≡ record { capacity = z.t.capacity; added = z.t.added || b; capped = z.t.capped }) in
     let kept : P larger =
     elim m.branch [
       | in-Some w ↦
@@ -56,7 +56,10 @@ returns c =
           )
       | in_default w ↦
           subst P (sym (larger_none _ next (sym w.in_default.is ∙ c.larger_bank.ensures))) (
-            w.d-is, w.banks-is, w.floors-is, w.upsized-is,
+            w.d-is,
+            w.banks-is,
+            w.floors-is,
+            w.upsized-is,
             w.s-is ∙ ap (λ (b : Bool). record { capacity = z.t.capacity; added = b; capped = z.t.capped }) (sym (or-false z.t.added)),
           )
     ] in

@@ -15,7 +15,6 @@ use Rattle.plan_defs.specs.Design.{design}
 use Rattle.plan_defs.specs.Build.{built, build_of}
 use Rattle.plan_defs.specs.Stiffen.{Budget, Stiffening, Gain, stiff, stiffen_by, stiffen_one, gain_of, chosen, leader as ahead, laggard, best_of, narrow, stiffen_component}
 use Rattle.plan_defs.specs.declared.CircuitDesign.{CircuitDesign}
-use Rattle.planning.specs.Edges.{Grounded}
 use Rattle.planning.specs.Design.{Lines, Banks}
 use Rattle.planning.specs.Raise.{largest_count, pairs_for}
 use Rattle.planning.specs.Size.{Few, Capped}
@@ -52,7 +51,6 @@ pub record Solvable (solved : SolvedColumns) : Type 0 where
   pub buses : solved.e.buses ≡ length solved.level
   pub few : length solved.grid.a ≤ most_corridors
   pub leader_size : length solved.opened.leader ≡ length solved.level
-  pub grounded : Grounded (length solved.opened.leader) solved.opened.grounds
   pub angle_size : length solved.angle ≡ length solved.level
   pub capped : Capped (length solved.grid.a) solved.grid.cap
 

@@ -34,6 +34,7 @@ mod rounds;
 mod settle;
 mod size;
 mod solve;
+mod solved;
 mod stiffen;
 mod tables;
 mod top_up;

@@ -1,13 +1,7 @@
 // The columns that planning reads together: of the corridors and the levels, of the buses and the units, and what the opening makes of them.
 ghost use Rattle.std.specs.Prelude.{◌≡◌, length};
 ghost use Rattle.planning.specs.Edges.{Grounded};
-ghost use Rattle.planning.specs.Stiffen.{Solvable};
 ghost use Rattle.planning.specs.Supplied.{Supplied, supply_of};
-ghost use Rattle.planning.specs.Tables.{SolvedColumns, grid_in, opened_in, solved_by};
-
-use crate::edges::Edges;
-use crate::stiffen::Limits;
-use std::marker::Model;
 
 // The ladder, the columns of the corridors, and the rows of the line sheet.
 #[derive(Clone, Copy)]
@@ -42,26 +36,6 @@ pub struct Opened<'a> {
     pub injection: &'a [f64],
     ghost grounded: { Grounded (length leader.now) grounds.now },
     ghost injected: { length injection.now ≡ length leader.now },
-}
-
-// What stiffening reads of a round: the budgets, the tables at the round's levels, and the edges and the angles of its solve. A
-// clause sees the columns, which are of one size and in their bounds.
-#[derive(Drop)]
-pub struct Solved<'a> {
-    pub g: Limits,
-    pub grid: &'a Grid<'a>,
-    pub level: &'a [u32],
-    pub opened: &'a Opened<'a>,
-    pub e: &'a Edges,
-    pub angle: &'a [f64],
-}
-
-impl<'a> Model for Solved<'a> {
-    ghost Value = { SolvedColumns };
-
-    ghost view = { λ s. solved_by s.g (grid_in s.grid.now) s.level.now (opened_in s.opened.now) s.e.now s.angle.now };
-
-    ghost invariant = { λ s. Solvable (solved_by s.g (grid_in s.grid.now) s.level.now (opened_in s.opened.now) s.e.now s.angle.now) };
 }
 
 // What planning writes goes in slices of its own and in no struct: a signature then says which of them a function writes, and a

@@ -1,4 +1,4 @@
-use Rattle.std.proofs.Common.{rules, ◌≡◌, ℕ, List, Float, Err, Result, length, sym, ◌∙◌, subst}
+use Rattle.std.proofs.Common.{rules, ◌≡◌, ℕ, List, Float, Err, Result, length, sym, ap, ◌∙◌, subst}
 use Rattle.refusal.specs.declared.Refusal.{Refusal}
 use Rattle.angles_defs.specs.Network.{zeros}
 use Rattle.angles_defs.specs.Solve.{solve}
@@ -10,18 +10,16 @@ use Rattle.planning.specs.Tables.{SolvedColumns, edges_in}
 use Rattle.planning.proofs.Narrowing.{narrowed_refused, narrowed_answered}
 use Rattle.planning.proofs.stiffen.narrow.Goals as goal
 
--- what the solve over these columns asks and gives
-abbrev Asked : ℕ → SolvedColumns → Type 0
-Asked n S = (S.e.buses ≡ n) × Grounded n S.opened.grounds
-
+-- what the solve over these columns gives
 abbrev Answered : Result (Unit {0}) Refusal → List Float → ℕ → ℕ → ℕ → SolvedColumns → Type 0
 Answered r phi n lead lag S = stage_of r phi ≡ finite_angles (solve n (edges_in S.e) S.opened.grounds (unit_at n lead lag) (zeros n)).x
 
 pub unit_angles-requires-clause-grounded : goal.unit_angles-requires-clause-grounded
 unit_angles-requires-clause-grounded c =
-    let q = c.type_inv.solved in
-    let n = sym c.requires.phi_len.0 in
-    subst (Asked (length c.args.phi.now)) (sym c.solved.view_is) (q.buses ∙ n, subst (λ (i : ℕ). Grounded i c.args.solved.now.opened.grounds) (q.leader_size ∙ n) q.grounded)
+    let s = c.solved.inside in
+    let q = c.solved.invariant in
+    let n = ap (λ (S : SolvedColumns). length S.level) c.solved.view_is ∙ sym c.requires.phi_len.0 in
+    (q.buses ∙ n, subst (λ (i : ℕ). Grounded i s.opened.now.grounds.now) (q.leader_size ∙ n) s.opened.now.grounded)
 
 pub returns-in_err-unit_angles : goal.returns-in_err-unit_angles
 returns-in_err-unit_angles c =

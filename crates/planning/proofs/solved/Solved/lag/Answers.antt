@@ -2,7 +2,7 @@ use Rattle.std.proofs.Common.{rules, ◌≡◌, subst}
 use lib.Ieee.{lt}
 use Rattle.planning.specs.Stiffen.{lag_of}
 use Rattle.planning.specs.Tables.{SolvedColumns}
-use Rattle.planning.proofs.tables.Solved.lag.Goals as goal
+use Rattle.planning.proofs.solved.Solved.lag.Goals as goal
 
 pub returns-clause-best : goal.returns-clause-best
 returns-clause-best c =

@@ -4,7 +4,7 @@ use Rattle.plan_defs.specs.declared.CircuitDesign.{CircuitDesign}
 use Rattle.planning.specs.Tables.{SolvedColumns, grid_in}
 use Rattle.planning.proofs.Ratings.{drawn_rated}
 use Rattle.planning.proofs.Solving.{drawn_from_below, drawn_to_below}
-use Rattle.planning.proofs.tables.Solved.circuit.Goals as goal
+use Rattle.planning.proofs.solved.Solved.circuit.Goals as goal
 
 pub returns-clause-rated : goal.returns-clause-rated
 returns-clause-rated c =

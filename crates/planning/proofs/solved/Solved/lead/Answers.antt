@@ -2,7 +2,7 @@ use Rattle.std.proofs.Common.{rules, ◌≡◌, subst}
 use lib.Ieee.{lt}
 use Rattle.planning.specs.Stiffen.{lead_of}
 use Rattle.planning.specs.Tables.{SolvedColumns}
-use Rattle.planning.proofs.tables.Solved.lead.Goals as goal
+use Rattle.planning.proofs.solved.Solved.lead.Goals as goal
 
 pub returns-clause-best : goal.returns-clause-best
 returns-clause-best c =

@@ -65,10 +65,10 @@ fn wider(leader: &[u32], angle: &[f64], i: usize, most: f64) -> f64
     ensures { result ≡ wider_by leader.now angle.now i most }
 {
     if leader[i] as usize == i {
+        // Each by a closure: of another crate's function as a value the check has no contract.
         let top = loops::infinity();
-        // closures: the check has no proof of another crate's function as a value
-        let highest = extreme(leader, angle, i, -top, |x, y| greater(x, y));
-        let lowest = extreme(leader, angle, i, top, |x, y| lesser(x, y));
+        let highest = extreme(leader, angle, i, -top, |m, x| greater(m, x));
+        let lowest = extreme(leader, angle, i, top, |m, x| lesser(m, x));
         return greater(most, highest - lowest);
     }
     most

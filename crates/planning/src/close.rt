@@ -51,9 +51,9 @@ fn extreme<F: Fn(f64, f64) -> f64>(
         → result ≡ each (λ i m. f m (at angle.now i)) (members leader.now root) start }
 {
     let mut most = start;
-    for i in 0..leader.len() {
-        if leader[i] as usize == root {
-            most = pick(most, angle[i]);
+    for (own, theta) in leader.iter().zip(angle) {
+        if *own as usize == root {
+            most = pick(most, *theta);
         }
     }
     most

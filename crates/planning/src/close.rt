@@ -86,6 +86,7 @@ fn spread(leader: &[u32], angle: &[f64]) -> f64
 }
 
 // ---- loadings
+// One index for three slices: zipped twice the loop would take pairs of pairs apart.
 fn max_loading(circuits: &[u32], flow: &[f64], rate: &[f64]) -> f64
     requires { Rated circuits.now flow.now rate.now }
     ensures { result ≡ max_loading (loadings_by circuits.now flow.now rate.now) }

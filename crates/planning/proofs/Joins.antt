@@ -1,12 +1,14 @@
 -- All stages of a sound case joined: what the opening leaves is what the later stages ask, and they lead to the defined plan.
 -- Acceptance gives what is asked of the columns; a plan's dispatch and grounds are the opening's.
-use Rattle.std.proofs.Common.{◌≡◌, ℕ, ◌+◌, ◌-◌, ◌<◌, ◌≤◌, min, max, Bool, true, false, ltb, List, ◌++◌, length, get_or, take, drop, replicate, sym, refl, ap, ◌∙◌, subst, arith, length-take, take_at, ltb-false, ltb-true}
-use native.Mathlib.Nat.{sub-zero}
+use Rattle.std.proofs.Common.{◌≡◌, ℕ, ◌+◌, ◌-◌, ◌*◌, ◌<◌, ◌≤◌, max, Bool, true, false, ◌&&◌, T, eqb, ltb, List, length, get_or, take, drop, replicate, sym, refl, ap, ◌∙◌, subst, zero-mul, arith, ltb-false, ltb-true, le-ltb, eqb-true}
+use Rattle.std.proofs.lemmas.List.{drop-replicate, take-replicate}
 use lib.ListN.{length-replicate, get_or-eq_default}
 use lib.Ieee.{Float}
 use Rattle.loops.specs.Figures.{nought}
 use Rattle.loops.specs.Loops.{tab}
-use Rattle.loops.proofs.Fronts.{front_replicate}
+use Rattle.loops.proofs.Bools.{both, and_of}
+use Rattle.loops.proofs.Order.{left_real, le_of_not_lt}
+use Rattle.loops.proofs.Signs.{sound as unsigned, sound_real, sound_up, sound_of}
 use Rattle.loops.proofs.Tab.{length_tab, get_tab}
 use Rattle.refusal.specs.declared.Refusal.{Refusal}
 use Rattle.mode.specs.declared.PlanMode.{PlanMode}
@@ -168,33 +170,19 @@ module _ (c : Case) (target : ℕ) (s : Sound c target) where
   unfolding plan_for ready_of opening
   unopened f e = ap (λ (x : Stage (List Float)). onward (onward (onward x (λ mw. opened_with c (component c) mw (peak_of c (component c) mw))) (settled c)) (closing c target)) e
 
--- ---- the arrays that the stages are lent
--- they have room for the columns
-module _ {c : Case} {target : ℕ} (s : Sound c target) where
-  pub tier_fits : length c.tier ≤ 256
-  tier_fits = omega (arith, s.tier_size, s.few_buses)
+-- ---- the work that the stages are lent: parts of two slices, of zeros
+-- there is room for the parts
+module _ {c : Case} {target : ℕ} (s : Sound c target) {l : Slices} (w : Lengths c l) where
+  pub figures_fit : length c.a + length c.a + length c.tier ≤ length l.figures
+  figures_fit = omega (arith, w.figures, s.a_size, s.tier_size)
 
-  pub corridors_fit : length c.a ≤ 256
-  corridors_fit = omega (arith, s.a_size, s.few_corridors)
+  pub counts_fit : length c.a + length c.tier + length c.tier ≤ length l.counts
+  counts_fit = omega (arith, w.counts, s.a_size, s.tier_size)
 
-  pub counts_fit : {l : Slices} → Lengths c l → length c.a ≤ length l.counts
-  counts_fit w = omega (arith, w.counts, s.a_size)
-
-  pub figures_fit : {l : Slices} → Lengths c l → length c.a ≤ length l.figures
-  figures_fit w = omega (arith, w.figures, s.a_size)
-
--- the first places of an array, as they are first lent; and as they are lent again, after l was left there
-abbrev fresh : {A : Type 0} → ℕ → A → List A
-fresh n x = take (n - 0) (replicate 256 x)
-
-abbrev again : {A : Type 0} → ℕ → A → List A → List A
-again n x l = take (n - 0) (l ++ drop (n - 0) (replicate 256 x))
-
-room : {A : Type 0} (n : ℕ) (x : A) → n ≤ 256 → length (fresh n x) ≡ n
-room n x h = ap length (front_replicate 256 n x h) ∙ length-replicate n x
-
-lent_again : {A : Type 0} (n : ℕ) (x : A) (l : List A) → n ≤ 256 → length l ≡ length (fresh n x) → again n x l ≡ l
-lent_again n x l h e = take_at l (drop (n - 0) (replicate 256 x)) (n - 0) (e ∙ room n x h ∙ sym (sub-zero n))
+-- the part of n places that begins at place m
+pub part_unset : {A : Type 0} (N m n : ℕ) (x : A) (l rest part : List A) → m + n ≤ N → l ≡ replicate N x → rest ≡ drop m l → part ≡ take n rest → part ≡ replicate n x
+part_unset N m n x l rest part h e p q =
+    q ∙ ap (take n) (p ∙ ap (drop m) e ∙ drop-replicate m N x) ∙ take-replicate n (N - m) x (omega arith)
 
 -- ---- the stages over slices
 module _ (mode : PlanMode) (target above : ℕ) (grid : GridColumns) (tier : List ℕ) (supply : SupplyColumns) (initial : List ℕ)
@@ -208,17 +196,15 @@ module _ (mode : PlanMode) (target above : ℕ) (grid : GridColumns) (tier : Lis
 
     module _ (circuits : List ℕ) (flow rate mw angle : List Float) (level ground : List ℕ) (added figures : List Float) (counts : List ℕ)
         (h : Lendable mode target above grid tier supply initial (lent_to circuits flow rate mw angle level ground added figures counts)) where
-      lent_size : {A : Type 0} (x : A) → length (fresh (length tier) x) ≡ h.whole.buses
-      lent_size x = room (length tier) x (tier_fits h.sound) ∙ h.sound.tier_size
-
-      pub openable_of : Openable mode above tier supply grid.a grid.b initial (fresh (length tier) 0) (fresh (length tier) nought) ground mw level circuits
-      openable_of =
+      pub openable_of : (leader : List ℕ) (injection : List Float) → length leader ≡ length tier → length injection ≡ length tier
+          → Openable mode above tier supply grid.a grid.b initial leader injection ground mw level circuits
+      openable_of leader injection e f =
           record {
             whole = C h.whole;
             target = target;
             sound = h.sound;
-            leader_size = lent_size 0;
-            injection_size = lent_size nought;
+            leader_size = e ∙ h.sound.tier_size;
+            injection_size = f ∙ h.sound.tier_size;
             ground_size = h.lengths.ground;
             mw_size = h.lengths.mw;
             level_size = h.lengths.tier;
@@ -236,76 +222,47 @@ module _ (mode : PlanMode) (target above : ℕ) (grid : GridColumns) (tier : Lis
                   unopened (C o) target s f (subst (λ (x : Result ℕ Refusal). OpenedAs x (C o) leader' injection' ground' mw' level' circuits') q (w.opens (C o) target s));
             }
 
-        module _ (count : ℕ) (q : r ≡ Ok count) (e : length leader' ≡ length (fresh {A = ℕ} (length tier) 0)) where
+        module _ (count : ℕ) (q : r ≡ Ok count) (e : length leader' ≡ length tier) where
           opens_by : (o : Case) → Sound (C o) target → Opens (C o) leader' injection' count ground' mw' level' circuits'
           opens_by o s = subst (λ (x : Result ℕ Refusal). OpenedAs x (C o) leader' injection' ground' mw' level' circuits') q (w.opens (C o) target s)
 
           pub count_of : length ground' ≡ length ground → count ≤ length ground'
           count_of f =
-              omega (arith, count_fits (C h.whole) target h.sound leader' injection' count ground' mw' level' circuits' (opens_by h.whole h.sound) (e ∙ lent_size 0), f, h.lengths.ground)
+              omega (arith, count_fits (C h.whole) target h.sound leader' injection' count ground' mw' level' circuits' (opens_by h.whole h.sound) (e ∙ h.sound.tier_size), f, h.lengths.ground)
 
-          -- what is lent on: the arrays' first places again, and those of the counts, which are zeroed
-          module _ (f : length injection' ≡ length (fresh (length tier) nought)) (zeroed : List ℕ) (z : zeroed ≡ replicate (length counts) 0) where
-            led : again (length tier) 0 leader' ≡ leader'
-            led = lent_again (length tier) 0 leader' (tier_fits h.sound) e
+          -- what goes with the columns that it leaves
+          pub grounded : Grounded (length leader') (take (count - 0) ground')
+          grounded = grounded_by (C h.whole) target h.sound leader' injection' count ground' mw' level' circuits' (opens_by h.whole h.sound) (e ∙ h.sound.tier_size)
 
-            injected : again (length tier) nought injection' ≡ injection'
-            injected = lent_again (length tier) nought injection' (tier_fits h.sound) f
+          pub even : length injection' ≡ length tier → length injection' ≡ length leader'
+          even f = f ∙ sym e
 
-            opens_again : (o : Case) → Sound (C o) target → Opens (C o) (again (length tier) 0 leader') (again (length tier) nought injection') count ground' mw' level' circuits'
-            opens_again o s =
-                let k = opens_by o s in
-                record {
-                  led = led ∙ k.led;
-                  dispatched = k.dispatched;
-                  injected = injected ∙ k.injected;
-                  count_is = k.count_is;
-                  grounded = k.grounded;
-                  levels_are = k.levels_are;
-                  circuits_are = k.circuits_are;
-                }
-
-            not_upsized : take (length grid.a - 0) zeroed ≡ replicate (length grid.a) 0
-            not_upsized = ap (take (length grid.a - 0)) z ∙ front_replicate (length counts) (length grid.a) 0 (counts_fit h.sound h.lengths)
-
-            bank_size : length (take (length grid.a - 0) figures) ≡ h.whole.corridors
-            bank_size = length-take (length grid.a - 0) figures ∙ (let y : min (length grid.a - 0) (length figures) ≡ h.whole.corridors = omega (arith, figures_fit h.sound h.lengths, h.sound.a_size) in y)
-
-            -- what goes with the columns that it leaves
-            pub grounded : Grounded (length (again (length tier) 0 leader')) (take (count - 0) ground')
-            grounded =
-                grounded_by (C h.whole) target h.sound (again (length tier) 0 leader') (again (length tier) nought injection') count ground' mw' level' circuits' (opens_again h.whole h.sound)
-                (ap length led ∙ e ∙ lent_size 0)
-
-            pub even : length (again (length tier) nought injection') ≡ length (again (length tier) 0 leader')
-            even = ap length injected ∙ f ∙ lent_size nought ∙ sym (ap length led ∙ e ∙ lent_size 0)
-
+          -- what is lent on
+          module _ (f : length injection' ≡ length tier) (upsized : List ℕ) (z : upsized ≡ replicate (length grid.a) 0) where
             -- what the later stages ask
-            pub opened_asks : length circuits' ≡ length circuits
-                → Plannable grid level' supply (opened_of (again (length tier) 0 leader') (take (count - 0) ground') (again (length tier) nought injection')) circuits'
-                (take (length grid.a - 0) figures) (fresh (length grid.a) nought) (take (length grid.a - 0) zeroed) (fresh (length tier) 0) angle flow
-                × Closable above grid.ladder grid.a (again (length tier) 0 leader') (take (length grid.a - 0) zeroed) angle rate added
-            opened_asks g =
-                let k = opens_again h.whole h.sound in
-                let n = ap length led ∙ e ∙ lent_size 0 in
+            pub opened_asks : (banks floors : List Float) (marks : List ℕ) → length circuits' ≡ length circuits → length banks ≡ length grid.a
+                → floors ≡ replicate (length grid.a) nought → length marks ≡ length tier
+                → Plannable grid level' supply (opened_of leader' (take (count - 0) ground') injection') circuits' banks floors upsized marks angle flow
+                × Closable above grid.ladder grid.a leader' upsized angle rate added
+            opened_asks banks floors marks g b u a =
+                let k = opens_by h.whole h.sound in
+                let n = e ∙ h.sound.tier_size in
                 let l = h.lengths in (
-                  plannable_by (C h.whole) target h.sound (again (length tier) 0 leader') (again (length tier) nought injection') count ground' mw' level' circuits' k
-                      grid.sheet refl refl (take (length grid.a - 0) figures) (fresh (length grid.a) nought) (take (length grid.a - 0) zeroed) (fresh (length tier) 0) angle flow n
-                      (g ∙ l.circuits) bank_size (front_replicate 256 (length grid.a) nought (corridors_fit h.sound)) not_upsized (lent_size 0) l.angle l.flow,
-                  closable_by (C h.whole) target h.sound (again (length tier) 0 leader') (again (length tier) nought injection') count ground' mw' level' circuits' k
-                      (take (length grid.a - 0) zeroed) angle rate added n not_upsized l.angle l.rate l.added,
+                  plannable_by (C h.whole) target h.sound leader' injection' count ground' mw' level' circuits' k grid.sheet refl refl banks floors upsized marks angle flow n
+                      (g ∙ l.circuits) (b ∙ h.sound.a_size) u z (a ∙ h.sound.tier_size) l.angle l.flow,
+                  closable_by (C h.whole) target h.sound leader' injection' count ground' mw' level' circuits' k upsized angle rate added n z l.angle l.rate l.added,
                 )
 
             pub stages_plan : (circuits'' : List ℕ) (flow'' rate'' angle'' : List Float) (level'' : List ℕ) (added'' : List Float) (x : Result PlanRun Refusal)
-                → OpenedPlan mode target above grid level' supply (opened_of (again (length tier) 0 leader') (take (count - 0) ground') (again (length tier) nought injection')) circuits'
-                (take (length grid.a - 0) zeroed) circuits'' level'' flow'' rate'' angle'' added'' x
+                → OpenedPlan mode target above grid level' supply (opened_of leader' (take (count - 0) ground') injection') circuits'
+                upsized circuits'' level'' flow'' rate'' angle'' added'' x
                 → DoneAfter circuits'' flow'' rate'' mw' angle'' level'' ground' added'' x
             stages_plan circuits'' flow'' rate'' angle'' level'' added'' x v =
                 record {
                   plan = λ o s.
-                      let k = opens_again o s in
+                      let k = opens_by o s in
                       whole_by (C o) target s x circuits'' flow'' rate'' mw' angle'' level'' ground' added'' (plan_for (C o) target) (opening_kept (C o) target s mw' k.dispatched) k.grounded
                       (subst (PlannedAs x circuits'' level'' flow'' rate'' angle'' added'' (C o))
-                      (sym (planned_from (C o) target s (again (length tier) 0 leader') (again (length tier) nought injection') count ground' mw' level' circuits' k))
-                      (v.plan (C o) mw' s k.levels_are k.circuits_are (not_upsized ∙ ap (λ (m : ℕ). replicate m 0) s.a_size) refl));
+                      (sym (planned_from (C o) target s leader' injection' count ground' mw' level' circuits' k))
+                      (v.plan (C o) mw' s k.levels_are k.circuits_are (z ∙ ap (λ (m : ℕ). replicate m 0) s.a_size) refl));
                 }

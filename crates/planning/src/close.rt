@@ -51,9 +51,9 @@ fn extreme<F: Fn(f64, f64) -> f64>(
         → result ≡ each (λ i m. f m (at angle.now i)) (members leader.now root) start }
 {
     let mut most = start;
-    for i in 0..leader.len() {
-        if leader[i] as usize == root {
-            most = pick(most, angle[i]);
+    for (own, theta) in leader.iter().zip(angle) {
+        if *own as usize == root {
+            most = pick(most, *theta);
         }
     }
     most
@@ -86,6 +86,7 @@ fn spread(leader: &[u32], angle: &[f64]) -> f64
 }
 
 // ---- loadings
+// One index for three slices: zipped twice the loop would take pairs of pairs apart.
 fn max_loading(circuits: &[u32], flow: &[f64], rate: &[f64]) -> f64
     requires { Rated circuits.now flow.now rate.now }
     ensures { result ≡ max_loading (loadings_by circuits.now flow.now rate.now) }

@@ -180,8 +180,8 @@ fn plan_opened(
     Ok(planned(progress, opened.grounds.len() as u32, settling))
 }
 
-// All stages: the opening, and what comes after it. Of the work that is lent the banks have `figures`, `upsized` has `counts`, and the
-// rest has arrays here.
+// All stages: the opening, and what comes after it. Of the work that is lent the banks, the floors and the injections are parts of
+// `figures`, and `upsized`, the marks and the leaders parts of `counts`.
 pub fn run(
     mode: PlanMode,
     target: u32,
@@ -208,46 +208,24 @@ pub fn run(
 {
     let n = tier.len();
     let m = grid.a.len();
-    let mut leader = [0u32; 256];
-    let mut injection = [0.0; 256];
-    let mut floors = [0.0; 256];
-    let mut marks = [0u32; 256];
+    figures.fill(0.0);
     counts.fill(0);
+    let (banks, figures) = figures.split_at_mut(m);
+    let (floors, figures) = figures.split_at_mut(m);
+    let (injection, _) = figures.split_at_mut(n);
+    let (upsized, counts) = counts.split_at_mut(m);
+    let (marks, counts) = counts.split_at_mut(n);
+    let (leader, _) = counts.split_at_mut(n);
     let count = open(
-        mode,
-        above,
-        tier,
-        supply,
-        grid,
-        initial,
-        &mut leader[0..n],
-        &mut injection[0..n],
-        ground,
-        mw,
-        level,
-        circuits,
+        mode, above, tier, supply, grid, initial, leader, injection, ground, mw, level, circuits,
     )?;
     let opened = Opened {
-        leader: &leader[0..n],
+        leader,
         grounds: &ground[0..count],
-        injection: &injection[0..n],
+        injection,
     };
     plan_opened(
-        mode,
-        target,
-        above,
-        grid,
-        supply,
-        &opened,
-        circuits,
-        &mut figures[0..m],
-        &mut floors[0..m],
-        &mut counts[0..m],
-        level,
-        &mut marks[0..n],
-        flow,
-        rate,
-        angle,
-        added,
+        mode, target, above, grid, supply, &opened, circuits, banks, floors, upsized, level, marks,
+        flow, rate, angle, added,
     )
 }

@@ -50,7 +50,8 @@ pub fn raise_of(mark: u32) -> Option<u32>
     mark.checked_sub(1)
 }
 
-// Raises each marked bus, and answers how many moved.
+// Raises each marked bus, and answers how many moved. By index: with `level.iter_mut().zip(marks)`, which was tried, the invariant has the
+// iterator in the place of the list of levels, and did not prove.
 pub fn raise_buses(marks: &[u32], level: &mut [u32]) -> u32
     requires { (length marks.now ≡ length level.old) × (length level.old ≤ most_buses) }
     ensures count { result ≡ moved_buses level.old marks.now }

@@ -1,4 +1,4 @@
-use Rattle.std.proofs.Common.{rules, ◌≡◌, ℕ, leb, count_by, ◌∙◌}
+use Rattle.std.proofs.Common.{rules, ◌≡◌, leb, count_by, ◌∙◌}
 use Rattle.plan_defs.specs.Closing.{upsized_of}
 use Rattle.planning.proofs.Chains.{count_elements}
 use Rattle.planning.proofs.close.count_upsized.Goals as goal

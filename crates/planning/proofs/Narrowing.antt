@@ -1,6 +1,6 @@
 -- One component: the unit solve, and what it leads to; and the tests before it. In any case with the columns that the code reads.
 -- A refusal of the solve is the refusal of the component; else what the corridors are stiffened by is the solve's angles.
-use Rattle.std.proofs.Common.{◌≡◌, ℕ, ◌-◌, ◌<◌, ◌≤◌, Bool, true, false, ltb, List, length, get_or, sym, refl, ap, ◌∙◌, subst, arith, le-ltb, lt-ltb, eq-eqb, ne_eqb}
+use Rattle.std.proofs.Common.{◌≡◌, ℕ, ◌<◌, ◌≤◌, Bool, true, false, ltb, List, length, get_or, sym, refl, ap, ◌∙◌, subst, arith, le-ltb, lt-ltb, eq-eqb, ne_eqb}
 use lib.Ieee.{Float, le}
 use Rattle.loops.specs.Figures.{at, minus, nought}
 use Rattle.refusal.specs.declared.Refusal.{Refusal}

@@ -3,7 +3,7 @@ use Prim.Native.Nat.{ℕ, ◌+◌}
 use mathlib.Core.List.{List}
 use mathlib.Core.Path.{◌≡◌, refl, sym, ap, ◌∙◌, subst}
 use lib.ListN.{take}
-use Rattle.refusal.specs.Reply.{Reply, answered, refused_by}
+use Rattle.refusal.specs.Reply.{answered, refused_by}
 use Rattle.refusal.specs.declared.Refusal.{Refusal}
 use Rattle.casefile_defs.specs.Reading.{Small}
 use Rattle.casefile_defs.specs.Tables.{Places, read_case}

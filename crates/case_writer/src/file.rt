@@ -12,6 +12,7 @@ pub fn put_small_network(out: &mut [u8], place: usize) -> Result<usize, Refusal>
     requires { longest ≤ length out.old }
     ensures { Wrote place out.old out.new result }
 {
+    // No `cases::Case`: the file is put from the header and the tables, so it would be made to be taken apart at once.
     let mut tables = Tables::zeros();
     let header = small::small_network(
         place,

@@ -20,7 +20,7 @@ IsCase (Err f) r p = r ≡ refused_by f
 abbrev pub IsReading : Reading → Outcome → Type 0
 IsReading r o = IsCase r.case o.reply o.places × (r.looks ≡ o.looks)
 
--- of each table the places of the header's records: join_theorems' Calls.fronts, which stands above and says the same
+-- of each table the places of the header's records, as join_theorems' Calls.fronts has them (joins!Joined.fronts_are)
 abbrev pub fronts : Header → Places → Places
 fronts h p =
     let n = h.buses in

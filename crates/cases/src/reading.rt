@@ -41,6 +41,7 @@ impl Reading {
             &mut tables.cap,
             &mut tables.sheet,
         );
+        // No `map`: its closure would carry a `requires` that the header is small.
         let case = match read.reading {
             Ok(header) => Ok(Case { header, tables }),
             Err(f) => Err(f),

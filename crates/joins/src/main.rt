@@ -14,6 +14,7 @@ use std::io::Write;
 // One byte more than the largest file, so that a larger one shows.
 const MOST_SECOND: usize = MOST_BYTES + 1;
 
+// case_writer's write_network ends so too: of one function for both a contract would say what the writer holds then, for six lines.
 #[tactic(auto, unfolding(crate::specs::Files::Kept))]
 fn write_joined<W: Write>(to: &mut W, first: &[u8], second: &[u8]) -> io::Result<()> {
     let mut out = [0; MOST_FILE];

@@ -61,7 +61,7 @@ fn plan_case(case: &Case) -> PlannedFile
     let g = h.generators;
     let above = h.above;
     let work = WORK_ROWS * (n + m + g);
-    let fronts = case.fronts();
+    let parts = case.fronts();
     let mut figures = [0.0; MOST_WORK];
     let mut counts = [0; MOST_WORK];
     let mut results = Results::zeros();
@@ -73,23 +73,23 @@ fn plan_case(case: &Case) -> PlannedFile
         g,
         above,
         h.requested,
-        fronts.ladder,
-        fronts.tier,
-        fronts.reading,
-        fronts.weight,
-        fronts.bus,
-        fronts.slack,
-        fronts.pmin,
-        fronts.pmax,
-        fronts.c1,
-        fronts.c2,
-        fronts.a,
-        fronts.b,
-        fronts.circuits,
-        fronts.length_km,
-        fronts.share,
-        fronts.cap,
-        fronts.sheet,
+        parts.ladder,
+        parts.tier,
+        parts.reading,
+        parts.weight,
+        parts.bus,
+        parts.slack,
+        parts.pmin,
+        parts.pmax,
+        parts.c1,
+        parts.c2,
+        parts.a,
+        parts.b,
+        parts.circuits,
+        parts.length_km,
+        parts.share,
+        parts.cap,
+        parts.sheet,
         &mut results.circuits[0..m],
         &mut results.flow[0..m],
         &mut results.rate[0..m],

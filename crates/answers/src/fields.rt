@@ -1,5 +1,5 @@
 // The fields of a request: what stands between its spaces.
-ghost use Rattle.std.specs.Prelude.{◌≡◌, ◌≤◌, IfOk};
+ghost use Rattle.std.specs.Prelude.{◌≤◌, IfOk};
 
 use crate::line::AnswerLine;
 use arrayvec::ArrayVec;

@@ -1,5 +1,4 @@
 // Reading a case file into a case.
-ghost use Rattle.std.specs.Prelude.{◌≡◌};
 ghost use Rattle.casefile_defs.specs.Tables.{read_case};
 ghost use Rattle.casefile_theorems.specs.Cases.{blank};
 ghost use Rattle.cases.specs.Cases.{IsCase, IsReading};

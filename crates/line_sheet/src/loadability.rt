@@ -1,5 +1,5 @@
 // St. Clair loadability by the length of a line (`st_clair_loadability` of params.rs).
-ghost use Rattle.std.specs.Prelude.{◌≡◌, ℕ, ◌+◌, ◌-◌, ◌^◌, ◌<◌, ◌≤◌, true, false, length, slice_index};
+ghost use Rattle.std.specs.Prelude.{◌≡◌, ℕ, ◌-◌, ◌^◌, ◌<◌, ◌≤◌, true, false, slice_index};
 ghost use Rattle.loops.specs.Figures.{at};
 ghost use Rattle.loops.specs.Loops.{tab};
 ghost use Rattle.line_defs.specs.Loadability.{by_segment, segment_of, middle, loadability_of};

@@ -1,5 +1,5 @@
 // The impedance spread that a class of 345 kV or above keeps: the spread to the power 0.6 (EHV_SPREAD_SHARE of branches.rs).
-ghost use Rattle.std.specs.Prelude.{◌≡◌, ◌+◌, ◌*◌, ◌/◌, ◌^◌, ◌<◌, ◌≤◌, true, length};
+ghost use Rattle.std.specs.Prelude.{◌≡◌, ◌+◌, ◌*◌, ◌/◌, ◌^◌, ◌<◌, ◌≤◌, true};
 ghost use Rattle.line_defs.specs.Spread.{fifth_root, kept_spread};
 ghost use Rattle.line_defs.specs.Bounds.{Spread};
 

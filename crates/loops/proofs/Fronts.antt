@@ -4,10 +4,10 @@ use mathlib.Core.List.{List, [], ◌∷◌, ◌++◌, map}
 use mathlib.Core.Path.{◌≡◌, refl, sym, ap, ◌∙◌}
 use native.Mathlib.Nat.{sub-zero}
 use native.Mathlib.Omega.{arith}
-use lib.ListN.{length, get_or, take, drop, replicate, length-take, length-replicate, replicate-append-replicate}
+use lib.ListN.{length, get_or, take, replicate, length-replicate, replicate-append-replicate}
 use lib.Seq.{length-take-le, get_or-take, take_at}
-use Rattle.loops.specs.Loops.{tab, filled}
-use Rattle.loops.proofs.Tab.{length_tab, tab_same, tab_of}
+use Rattle.loops.specs.Loops.{tab}
+use Rattle.loops.proofs.Tab.{tab_same, tab_of}
 
 module _ {A B : Type 0} (f : A → B) where
   map_snoc : (l : List A) (a : A) → map f (l ++ (a ∷ [])) ≡ map f l ++ (f a ∷ [])
@@ -34,22 +34,11 @@ map_same f g e [] = refl
 map_same {B = B} f g e (x ∷ l) = ap (λ (y : B). y ∷ map f l) (e x) ∙ ap (λ (r : List B). g x ∷ r) (map_same f g e l)
 
 -- ---- the front of a list
--- a front of n elements says that there are n; and as a part from 0 is lent
-pub front_room : {A : Type 0} (n : ℕ) (l m : List A) → take n l ≡ m → length m ≡ n → n ≤ length l
-front_room n l m e h = omega (arith, sym (length-take n l) ∙ ap length e ∙ h)
-
 pub front_lent : {A : Type 0} (n : ℕ) (l m : List A) → take n l ≡ m → take (n - 0) l ≡ m
 front_lent n l m e = ap (λ (k : ℕ). take k l) (sub-zero n) ∙ e
 
 pub front_tab : {A : Type 0} (n : ℕ) (l : List A) (d : A) → n ≤ length l → take n l ≡ tab n (λ i. get_or l i d)
 front_tab n l d h = sym (tab_of n (take n l) d (length-take-le n l h)) ∙ tab_same n _ _ (λ i b. get_or-take n l i d b)
-
--- the front of a list whose first n places were filled
-pub front_filled : {A : Type 0} (w₀ w : List A) (f : ℕ → A) (i n : ℕ) → i ≡ n → w ≡ filled w₀ f i → take n w ≡ tab n f
-front_filled w₀ w f i n p e = ap (take n) (e ∙ ap (filled w₀ f) p) ∙ take_at (tab n f) (drop n w₀) n (length_tab n f)
-
-pub front_map : {A B : Type 0} (f : A → B) (n : ℕ) (l : List A) (d : A) → n ≤ length l → tab n (λ i. f (get_or l i d)) ≡ map f (take n l)
-front_map f n l d h = sym (ap (map f) (front_tab n l d h) ∙ map_tab f n (λ i. get_or l i d))
 
 -- the first n of N places that all hold a, as a part is lent
 pub front_replicate : {A : Type 0} (N n : ℕ) (a : A) → n ≤ N → take (n - 0) (replicate N a) ≡ replicate n a

@@ -175,14 +175,3 @@ module _ {ℓ} {A : Type ℓ} where
       ap (λ (r : List A). get_or r (p + i) d) e
       ∙ ⊎_elim (λ a. get_put_low w₀ o (tab i f) (p + i) d (omega arith) (omega arith)) (λ a. get_put_high w₀ o (tab i f) (p + i) d (omega arith) (omega arith)) (cases p o n s)
       ∙ sym (get_part p n w₀ i d l)
-
-  -- ---- after a call that wrote v, n elements long, to the part from o
-  module _ (n o : ℕ) (w₀ w v : List A) (e : w ≡ put w₀ o v) (k : length v ≡ n) (h : o + n ≤ length w₀) where
-    pub wrote : part o n w ≡ v
-    wrote = ap (λ (r : List A). part o n r) e ∙ part_put_same w₀ o n v k h
-
-    pub wrote_not : (d : A) (p : ℕ) → p + n ≤ length w₀ → Apart p o n → part p n w ≡ part p n w₀
-    wrote_not d p l s = ap (λ (r : List A). part p n r) e ∙ part_put_apart d w₀ o v p n s k h l
-
-    pub wrote_again : (w' v' : List A) → w' ≡ put w o v' → length v' ≡ n → w' ≡ put w₀ o v'
-    wrote_again w' v' e' k' = e' ∙ ap (λ (r : List A). put r o v') e ∙ put_put w₀ o v v' (k ∙ sym k') (omega arith)

@@ -1,12 +1,12 @@
 -- A list made index by index, and the loop that fills a slice from its front. Over any element type.
-use Prim.Native.Nat.{ℕ, zero, suc, ◌+◌, ◌<◌, ◌≤◌}
+use Prim.Native.Nat.{ℕ, zero, suc, ◌+◌, ◌<◌}
 use mathlib.Core.Path.{◌≡◌, refl, sym, ap, ◌∙◌}
 use mathlib.Core.List.{List, [], ◌∷◌, ◌++◌, append-nil}
 use mathlib.Core.Logic.{⊎_elim}
 use native.Mathlib.Nat.{le_of_suc-le-suc, not-suc-le-zero, eq-or-lt_of_le}
 use native.Mathlib.Omega.{arith}
 use native.Mathlib.Numerals.{add-one}
-use lib.ListN.{length, get_or, set, drop, length-append, length-drop, get_or-append, replicate, length-replicate, get_or-replicate}
+use lib.ListN.{length, get_or, set, drop, length-append, get_or-append, replicate, length-replicate, get_or-replicate}
 use lib.Seq.{set_at, drop-cons, drop-length, append_snoc, ext_get_or, get_or_at}
 use Rattle.loops.specs.Loops.{tab, filled}
 
@@ -63,9 +63,6 @@ module _ {ℓ} {A : Type ℓ} where
       ∙ ap (λ (k : ℕ). tab n f ++ drop k w₀) (sym e)
       ∙ ap (λ (r : List A). tab n f ++ r) (drop-length w₀)
       ∙ append-nil (tab n f)
-
-  pub fill_length : (w₀ w : List A) (f : ℕ → A) (i : ℕ) → w ≡ filled w₀ f i → i ≤ length w₀ → length w ≡ length w₀
-  fill_length w₀ w f i e h = ap length e ∙ simp (length-append, length-drop, length_tab) (omega arith)
 
   -- what such a loop reads in a turn: the place that it is about to write still holds what it held
   pub fill_own : (w₀ w : List A) (f : ℕ → A) (i : ℕ) (d : A) → w ≡ filled w₀ f i → i < length w₀ → get_or w i d ≡ get_or w₀ i d

@@ -1,14 +1,11 @@
 -- All stages of a sound case joined: what the opening leaves is what the later stages ask, and they lead to the defined plan.
 -- Acceptance gives what is asked of the columns; a plan's dispatch and grounds are the opening's.
-use Rattle.std.proofs.Common.{◌≡◌, ℕ, ◌+◌, ◌-◌, ◌*◌, ◌<◌, ◌≤◌, max, Bool, true, false, ◌&&◌, T, eqb, ltb, List, length, get_or, take, drop, replicate, sym, refl, ap, ◌∙◌, subst, zero-mul, arith, ltb-false, ltb-true, le-ltb, eqb-true}
+use Rattle.std.proofs.Common.{◌≡◌, ℕ, ◌+◌, ◌-◌, ◌<◌, ◌≤◌, max, Bool, true, false, ltb, List, length, get_or, take, drop, replicate, sym, refl, ap, ◌∙◌, subst, arith, ltb-false, ltb-true}
 use Rattle.std.proofs.lemmas.List.{drop-replicate, take-replicate}
 use lib.ListN.{length-replicate, get_or-eq_default}
 use lib.Ieee.{Float}
 use Rattle.loops.specs.Figures.{nought}
 use Rattle.loops.specs.Loops.{tab}
-use Rattle.loops.proofs.Bools.{both, and_of}
-use Rattle.loops.proofs.Order.{left_real, le_of_not_lt}
-use Rattle.loops.proofs.Signs.{sound as unsigned, sound_real, sound_up, sound_of}
 use Rattle.loops.proofs.Tab.{length_tab, get_tab}
 use Rattle.refusal.specs.declared.Refusal.{Refusal}
 use Rattle.mode.specs.declared.PlanMode.{PlanMode}

@@ -1,5 +1,5 @@
 -- What the contracts of module stiffen cite: the state that the slices stand for, what a component asks of them, and what it does to them.
-use Rattle.std.specs.Prelude.{◌≡◌, ℕ, ◌+◌, ◌*◌, ◌<◌, ◌≤◌, Bool, true, false, ◌&&◌, ◌||◌, List, [], length, take, All, nat_lt, slice_index, slice_index_or, Float, Err, Ok, Result}
+use Rattle.std.specs.Prelude.{◌≡◌, ℕ, ◌+◌, ◌*◌, ◌<◌, ◌≤◌, Bool, true, false, ◌&&◌, ◌||◌, List, [], length, All, nat_lt, slice_index, slice_index_or, Float, Err, Ok, Result}
 use Rattle.std.specs.Float.Ieee.{lt}
 use Rattle.loops.specs.Figures.{at, nought}
 use Rattle.loops.specs.Loops.{iter}

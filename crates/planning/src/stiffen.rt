@@ -12,7 +12,7 @@ ghost use Rattle.plan_defs.specs.Lists.{counting, sum};
 ghost use Rattle.plan_defs.specs.Raise.{no_marks, mark_if};
 ghost use Rattle.plan_defs.specs.Stiffen.{at_or_above, share_of, hv_budget, stiffen_top, arrival, gain_of, batch, batch_cap, best_of};
 ghost use Rattle.planning.specs.Fill.{Counted};
-ghost use Rattle.planning.specs.Raise.{largest_count, pairs_for, PairFits};
+ghost use Rattle.planning.specs.Raise.{largest_count, pairs_for};
 ghost use Rattle.planning.specs.Stiffen.{budget_for, Stiffenable, Room, LedStiffened, raisable, room_for, reckoned, Strengthened, StiffenFits, BatchStiffened, Gainful, candidate_at, gain_at, gains_more, gain_next, gain_order, gain_for, Chosen, Stepped, reinforce_step, narrow_step, component_step, Led, lead_of, lag_of};
 ghost use Rattle.planning.specs.Tables.{grid_in, opened_in, solved_by};
 

@@ -11,7 +11,7 @@ use dispatch_defs::unit_ok;
 use leaders::corridor_ok;
 use loads::load_ok;
 use refusal::Refusal;
-use sheets::row_place;
+use sheets::{ROW_FIGURES, row_place};
 use std::marker::Model;
 
 const MOST_BUSES: usize = 256;
@@ -40,9 +40,6 @@ const MOST_RATE: f64 = 1e6;
 
 // Two kV that differ by no more are one level.
 const KV_TOLERANCE: f64 = 1e-6;
-
-// Figures of a row: r, x, b, rate, basis.
-const ROW_FIGURES: usize = 5;
 
 // The counts, and a column for each field, all of their lengths; a clause sees the case.
 #[derive(Drop)]

@@ -20,7 +20,7 @@ pub const MOST_GENERATORS: usize = 128;
 
 pub const MOST_CORRIDORS: usize = 256;
 
-pub const ROW_FIGURES: usize = 5;
+pub const ROW_FIGURES: usize = sheets::ROW_FIGURES;
 
 pub const MOST_SHEET: usize = MOST_CORRIDORS * MOST_LEVELS * ROW_FIGURES;
 

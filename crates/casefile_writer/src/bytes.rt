@@ -38,35 +38,13 @@ impl<'a> Bytes<'a> {
         self.len = end;
     }
 
-    // A number of so many bytes, the least significant first.
-    fn put_bytes(&mut self, width: usize, n: u64)
-        requires width_in_bounds { width ≤ 8 }
-        requires room { self.old.len + width ≤ length self.old.out.now }
-        ensures { Grown self.old self.new width (bytes width n) }
+    // The lowest bytes of a number, so many of them, the least significant first.
+    pub fn put_bytes<const WIDTH: usize>(&mut self, n: u64)
+        requires width_in_bounds { WIDTH ≤ 8 }
+        requires room { self.old.len + WIDTH ≤ length self.old.out.now }
+        ensures { Grown self.old self.new WIDTH (bytes WIDTH n) }
     {
-        self.put(&n.to_le_bytes()[..width])
-    }
-
-    // The lowest bytes of a number, whatever its type: a name for each width of a field, plainer than a const parameter at each call.
-    pub fn put_byte(&mut self, n: u64)
-        requires { self.old.len + 1 ≤ length self.old.out.now }
-        ensures { Grown self.old self.new 1 (bytes 1 n) }
-    {
-        self.put_bytes(1, n)
-    }
-
-    pub fn put_two_bytes(&mut self, n: u64)
-        requires { self.old.len + 2 ≤ length self.old.out.now }
-        ensures { Grown self.old self.new 2 (bytes 2 n) }
-    {
-        self.put_bytes(2, n)
-    }
-
-    pub fn put_four_bytes(&mut self, n: u64)
-        requires { self.old.len + 4 ≤ length self.old.out.now }
-        ensures { Grown self.old self.new 4 (bytes 4 n) }
-    {
-        self.put_bytes(4, n)
+        self.put(&n.to_le_bytes()[..WIDTH])
     }
 
     // Its bits; every NaN has the same.
@@ -74,7 +52,7 @@ impl<'a> Bytes<'a> {
         requires { self.old.len + 8 ≤ length self.old.out.now }
         ensures { Grown self.old self.new 8 (bytes 8 (to_bits binary64 x)) }
     {
-        self.put_bytes(8, f64_to_bits_with_nan(x))
+        self.put_bytes::<8>(f64_to_bits_with_nan(x))
     }
 
     // A line's basis, 0 or 1.
@@ -82,7 +60,7 @@ impl<'a> Bytes<'a> {
         requires { self.old.len + 1 ≤ length self.old.out.now }
         ensures { Grown self.old self.new 1 (bytes 1 (basis_number x)) }
     {
-        self.put_byte(basis_number(x))
+        self.put_bytes::<1>(basis_number(x))
     }
 }
 

@@ -38,13 +38,13 @@ impl Record for Header {
 
     fn put(self, to: &mut Bytes) {
         to.put(b"HD");
-        to.put_byte(self.mode.number() as u64);
-        to.put_four_bytes(self.target as u64);
-        to.put_two_bytes(self.buses as u64);
-        to.put_two_bytes(self.corridors as u64);
-        to.put_two_bytes(self.generators as u64);
-        to.put_byte(self.above as u64);
-        to.put_byte(self.requested as u64);
+        to.put_bytes::<1>(self.mode.number() as u64);
+        to.put_bytes::<4>(self.target as u64);
+        to.put_bytes::<2>(self.buses as u64);
+        to.put_bytes::<2>(self.corridors as u64);
+        to.put_bytes::<2>(self.generators as u64);
+        to.put_bytes::<1>(self.above as u64);
+        to.put_bytes::<1>(self.requested as u64);
     }
 }
 
@@ -93,7 +93,7 @@ impl Record for Bus {
 
     fn put(self, to: &mut Bytes) {
         to.put(&self.mark());
-        to.put_byte(self.tier as u64);
+        to.put_bytes::<1>(self.tier as u64);
         to.put_figure(self.reading);
         if self.weighed {
             to.put_figure(self.weight);
@@ -121,8 +121,8 @@ impl Record for Generator {
 
     fn put(self, to: &mut Bytes) {
         to.put(b"GE");
-        to.put_two_bytes(self.bus as u64);
-        to.put_byte(self.slack as u64);
+        to.put_bytes::<2>(self.bus as u64);
+        to.put_bytes::<1>(self.slack as u64);
         to.put_figure(self.pmin);
         to.put_figure(self.pmax);
         to.put_figure(self.c1);
@@ -158,13 +158,13 @@ impl Record for Corridor {
 
     fn put(self, to: &mut Bytes) {
         to.put(&self.mark());
-        to.put_two_bytes(self.a as u64);
-        to.put_two_bytes(self.b as u64);
-        to.put_byte(self.circuits as u64);
+        to.put_bytes::<2>(self.a as u64);
+        to.put_bytes::<2>(self.b as u64);
+        to.put_bytes::<1>(self.circuits as u64);
         to.put_figure(self.length_km);
         to.put_figure(self.share);
         if 0 < self.cap {
-            to.put_byte(self.cap as u64);
+            to.put_bytes::<1>(self.cap as u64);
         }
     }
 }

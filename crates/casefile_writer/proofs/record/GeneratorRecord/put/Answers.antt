@@ -5,4 +5,4 @@ use Rattle.casefile_writer.proofs.record.GeneratorRecord.put.Goals as goal
 
 pub returns-clause-grown : goal.returns-clause-grown
 unfolding record_bytes field_bytes
-returns-clause-grown c = grown_by refl (simp append-nil) (grows c.put.ensures (grows c.put_two_bytes.ensures (grows c.put_byte.ensures (grows c.put_figure.ensures (grows c.put_figure-2.ensures (grows c.put_figure-3.ensures c.put_figure-4.ensures))))))
+returns-clause-grown c = grown_by refl (simp append-nil) (grows c.put.ensures (grows c.put_bytes.ensures (grows c.put_bytes-2.ensures (grows c.put_figure.ensures (grows c.put_figure-2.ensures (grows c.put_figure-3.ensures c.put_figure-4.ensures))))))

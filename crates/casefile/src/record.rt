@@ -132,7 +132,7 @@ pub fn mark(kind: Kind) -> [u8; MARK]
     }
 }
 
-// Whether a record's mark stands at a place.
+// Whether a record's mark stands at a place. Letter by letter, as the definition has it: the clause of `starts_with` speaks of lists in step.
 fn mark_ok(file: &[u8], kind: Kind, at: usize) -> bool
     requires { at + 2 ≤ length file.now }
     ensures { result ≡ marked kind file.now at }

@@ -12,7 +12,7 @@ use crate::record::{Line, Record};
 use loops::first_fault;
 use sheets::row_place;
 
-// Whether some weight is not 1, so that the buses are written as BV.
+// Whether some weight is not 1, so that the buses are written as BV. By the search that the definition names, as `all_finite` of planning.
 pub fn some_weight(count: usize, weight: &[f64]) -> bool
     requires { count ≤ length weight.now }
     ensures { result ≡ weighs weight.now count }

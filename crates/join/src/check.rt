@@ -27,6 +27,7 @@ fn sums_ok(first: Header, second: Header) -> bool
     buses & (corridors & (generators & targets))
 }
 
+// Level by level, as the definition has it: the clause of `x == y` speaks of lists in step, and a law would have to tie the two.
 fn same_ladder(x: &[f64], y: &[f64]) -> bool
     ensures { result ≡ same_ladder x.now y.now }
 {

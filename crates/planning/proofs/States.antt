@@ -14,7 +14,7 @@ use Rattle.plan_defs.specs.Build.{drawn_all}
 use Rattle.plan_defs.specs.Solve.{edges_for, planning_on, planning_state}
 use Rattle.plan_defs.specs.declared.CircuitDesign.{CircuitDesign}
 use Rattle.planning.specs.Design.{lines_for}
-use Rattle.planning.specs.Edges.{Joined}
+use Rattle.planning.specs.Edges.{Between}
 use Rattle.planning.specs.Solve.{peak_for, solved_of, Drawing}
 use Rattle.planning.specs.Tables.{GridColumns}
 use Rattle.planning.proofs.Solving.{drawn_from_below, drawn_to_below}
@@ -32,7 +32,7 @@ module _ (grid : GridColumns) (level : List ℕ) (circuits : List ℕ) (banks : 
   -- ---- edges that are drawn join buses
   pub joined : Drawing grid level circuits banks → (from to : List ℕ) (weight : List Float) (f : ℕ → Float)
       → from ≡ tab (length grid.a) (λ k. (drawn lines level k (at banks k)).from) → to ≡ tab (length grid.a) (λ k. (drawn lines level k (at banks k)).to)
-      → weight ≡ tab (length grid.a) f → Joined (length level) (edges_of from to weight)
+      → weight ≡ tab (length grid.a) f → Between (length level) (edges_of from to weight)
   joined D from to weight f p q r =
       let F : ℕ → ℕ = λ k. (drawn lines level k (at banks k)).from in
       let G : ℕ → ℕ = λ k. (drawn lines level k (at banks k)).to in

@@ -4,7 +4,7 @@ use Rattle.angles_defs.specs.Network.{Edges}
 use Rattle.angles_defs.specs.Operation.{most}
 
 -- each joins two of n buses, and has a weight
-pub record Joined (n : ℕ) (e : Edges) : Type 0 where
+pub record Between (n : ℕ) (e : Edges) : Type 0 where
   pub few_buses : n ≤ most
   pub few_edges : length e.from ≤ most
   pub to_size : length e.to ≡ length e.from

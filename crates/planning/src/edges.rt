@@ -1,6 +1,6 @@
 // The edges of a solve, which go with the fact that their ends are buses.
 ghost use Rattle.angles_defs.specs.Network.{edges_of};
-ghost use Rattle.planning.specs.Edges.{Joined};
+ghost use Rattle.planning.specs.Edges.{Between};
 
 use arrayvec::ArrayVec;
 
@@ -11,5 +11,5 @@ pub struct Edges {
     pub from: ArrayVec<u32, 256>,
     pub to: ArrayVec<u32, 256>,
     pub weight: ArrayVec<f64, 256>,
-    ghost joined: { Joined buses (edges_of from.items to.items weight.items) },
+    ghost joined: { Between buses (edges_of from.items to.items weight.items) },
 }

@@ -127,6 +127,7 @@ impl Edges {
 }
 
 // ---- flows
+// By the search that the definition names: the clause of `all` speaks of a list's elements, and a law would have to tie the two.
 fn all_finite(figures: &[f64]) -> bool
     ensures { result ≡ all_finite figures.now }
 {

@@ -12,7 +12,7 @@ ghost use Rattle.plan_defs.specs.Lists.{counting, sum};
 ghost use Rattle.plan_defs.specs.Raise.{no_marks, mark_if};
 ghost use Rattle.plan_defs.specs.Stiffen.{at_or_above, share_of, hv_budget, stiffen_top, arrival, gain_of, batch, batch_cap, best_of};
 ghost use Rattle.planning.specs.Fill.{Counted};
-ghost use Rattle.planning.specs.Raise.{largest_count, pairs_for, PairFits};
+ghost use Rattle.planning.specs.Raise.{largest_count, pairs_for};
 ghost use Rattle.planning.specs.Stiffen.{budget_for, Stiffenable, Room, LedStiffened, raisable, room_for, reckoned, Strengthened, StiffenFits, BatchStiffened, Gainful, candidate_at, gain_at, gains_more, gain_next, gain_order, gain_for, Chosen, Stepped, reinforce_step, narrow_step, component_step, Led, lead_of, lag_of};
 ghost use Rattle.planning.specs.Tables.{grid_in, opened_in, solved_by};
 
@@ -175,7 +175,7 @@ impl Solved<'_> {
         circuit(self.grid, self.level, k, bank)
     }
 
-    // Whether corridor k, of so many circuits, may get one more, where there are so many in all.
+    // Whether corridor k, of so many circuits, may get one more, where there are so many in all. Its own cap is one that a case may have.
     fn has_room(&self, k: usize, count: u32, total: u32) -> bool
         requires { k < length self.now.grid.a }
         ensures room { result ≡ room_for self.now.g (slice_index self.now.grid.cap k) count total }
@@ -269,7 +269,14 @@ fn stiffen_batch(
     let mut t = start;
     for k in order.iter() {
         t = stiffen_one(
-            solved, *k as usize, circuits, banks, floors, upsized, marks, t,
+            solved,
+            *k as usize,
+            circuits,
+            banks,
+            floors,
+            upsized,
+            marks,
+            t,
         );
     }
     t

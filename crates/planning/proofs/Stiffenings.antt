@@ -19,11 +19,10 @@ use Rattle.planning.specs.Raise.{pairs_for}
 use Rattle.planning.specs.Stiffen.{budget_for, stiff_of, stiff_over, raisable, room_for, reckoned, Strengthened, BatchStiffened}
 use Rattle.planning.specs.declared.stiffen.Limits.{Limits}
 use Rattle.planning.specs.declared.stiffen.Stiffness.{Stiffness}
-use Rattle.planning.specs.Design.{lines_for, Lines, Banks}
+use Rattle.planning.specs.Design.{lines_for, Banks}
 use Rattle.planning.specs.Whole.{with_lines}
 use Rattle.planning.proofs.Sizes.{few_set}
 use Rattle.planning.proofs.Draws.{drawn_lifts}
-use Rattle.planning.proofs.Ratings.{drawn_rated}
 use Rattle.planning.proofs.Builds.{kept_next, drawn_at, set_bank_lem}
 use Rattle.planning.proofs.Corridors.{banks_set}
 use Rattle.planning.specs.Tables.{GridColumns}

@@ -13,6 +13,7 @@ abbrev pub pairs_for : List ℕ → List ℕ → Case
 pairs_for a b = ends_for (grid_of [] a b [] [] [] [])
 
 -- of corridor k, whose ends' levels and marks are there
+-- asked by 3 functions: grow hands it on to raises_for, and that to mark_raise_to; it is of one k and of marks that are written, so that a struct would be made for one call
 pub record PairFits (level a b marks : List ℕ) (k : ℕ) : Type 0 where
   pub a_size : k < length a
   pub b_size : k < length b

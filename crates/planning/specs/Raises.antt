@@ -40,6 +40,7 @@ passed_as (Ok zero) d c P circuits level banks promoted = going (raised_of c lev
 passed_as (Ok (suc m)) d c P circuits level banks promoted = passes d c P circuits (raised_of c level banks (promoted + suc m))
 
 -- ---- marks: what one corridor's, and all of them, ask
+-- asked by 3 functions: raise_heavy writes the levels and the banks after the marks, so that a struct of them would be made for its call of heavy_marks alone
 pub record Markable (grid : GridColumns) (level : List ℕ) (banks flow : List Float) (marks : List ℕ) : Type 0 where
   pub lines : Lines grid level
   pub banked : Banks banks

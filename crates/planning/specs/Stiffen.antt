@@ -55,6 +55,7 @@ pub record Solvable (solved : SolvedColumns) : Type 0 where
   pub capped : Capped (length solved.grid.a) solved.grid.cap
 
 -- what it asks of the lent slices: a place for each corridor, or for each bus
+-- asked by 5 functions: all write these slices, and what planning writes goes in no struct (src/tables.rt)
 pub record StiffenFits (grid : GridColumns) (level : List ℕ) (circuits : List ℕ) (banks floors : List Float) (upsized marks : List ℕ) : Type 0 where
   pub count_size : length circuits ≡ length grid.a
   pub bank_size : length banks ≡ length grid.a
@@ -70,6 +71,7 @@ pub record Stiffenable (solved : SolvedColumns)
   pub fits : StiffenFits solved.grid solved.level circuits banks floors upsized marks
 
 -- room for what m corridors may add
+-- asked by 7 functions: m differs from call to call, and the room falls with each corridor, so that no invariant of Stiffness states it
 pub record Room (m : ℕ) (t : Stiffness) : Type 0 where
   pub total : t.total + m ≤ largest_count
   pub hv : t.hv + 2 * m ≤ largest_count
@@ -136,6 +138,7 @@ pub record BatchStiffened (ks : List ℕ) (g : Limits) (grid : GridColumns) (lev
   pub bound : Within (length ks) t (Ok t')
 
 -- ---- gains: of a candidate what one more circuit gives, of any other 0
+-- asked by 3 functions: what Solved cannot hold, as reinforce writes the circuits and the banks after it
 pub record Gainful (solved : SolvedColumns) (phi : List Float) (circuits : List ℕ) (banks : List Float) : Type 0 where
   pub phi_size : length phi ≡ length solved.level
   pub count_size : length circuits ≡ length solved.grid.a
@@ -207,6 +210,7 @@ component_step root round solved c injection flows s =
     (round_of solved.e solved.angle flows) root s
 
 -- ---- a bus that leads its component
+-- asked by 4 functions: it is of one bus, where Solved is of all; a struct of the two would be made for one call, and best_of, which reads two columns, would take it apart
 pub record Led (root : ℕ) (leader : List ℕ) (angle : List Float) : Type 0 where
   pub here : root < length leader
   pub leads : slice_index_or leader root 0 ≡ root

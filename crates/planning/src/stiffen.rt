@@ -173,7 +173,7 @@ impl Solved<'_> {
         circuit(self.grid, self.level, k, bank)
     }
 
-    // Whether corridor k, of so many circuits, may get one more, where there are so many in all.
+    // Whether corridor k, of so many circuits, may get one more, where there are so many in all. Its own cap is one that a case may have.
     fn has_room(&self, k: usize, count: u32, total: u32) -> bool
         requires { k < length self.now.grid.a }
         ensures room { result ≡ room_for self.now.g (slice_index self.now.grid.cap k) count total }
@@ -267,7 +267,14 @@ fn stiffen_batch(
     let mut t = start;
     for k in order.iter() {
         t = stiffen_one(
-            solved, *k as usize, circuits, banks, floors, upsized, marks, t,
+            solved,
+            *k as usize,
+            circuits,
+            banks,
+            floors,
+            upsized,
+            marks,
+            t,
         );
     }
     t

@@ -64,9 +64,10 @@ fn wider(leader: &[u32], angle: &[f64], i: usize, most: f64) -> f64
     ensures { result ≡ wider_by leader.now angle.now i most }
 {
     if leader[i] as usize == i {
+        // Each by a closure: of another crate's function as a value the check has no contract.
         let top = loops::infinity();
-        let highest = extreme(leader, angle, i, -top, greater);
-        let lowest = extreme(leader, angle, i, top, lesser);
+        let highest = extreme(leader, angle, i, -top, |m, x| greater(m, x));
+        let lowest = extreme(leader, angle, i, top, |m, x| lesser(m, x));
         return greater(most, highest - lowest);
     }
     most

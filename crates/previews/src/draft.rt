@@ -5,7 +5,7 @@ ghost use Rattle.casefile_defs.specs.Bounds.{most_corridors};
 use casefile_defs::MOST_CORRIDORS;
 use mode::PlanMode;
 
-// In the first places of each array.
+// In the first places of each array, as planning leaves them: a vector each would hold the one count three times, and a fact that they agree.
 #[derive(Drop)]
 pub struct Draft {
     pub mode: PlanMode,

@@ -29,6 +29,7 @@ wider_by led theta i most = cond (leads led i) (greater most (spread_in theta (m
 abbrev pub loadings_by : List ℕ → List Float → List Float → List Float
 loadings_by counts flows rates = tab (length rates) (λ (k : ℕ). loading (at flows k) (slice_index counts k) (at rates k))
 
+-- a count and a flow for each rate. Three functions ask it, of slices that planning writes, which go in no struct (src/tables.rt)
 pub record Rated (circuits : List ℕ) (flow rate : List Float) : Type 0 where
   pub few : length rate ≤ most_corridors
   pub circuits_size : length circuits ≡ length rate

@@ -22,7 +22,8 @@ ends_for grid = lines_for (grid_of grid.ladder grid.a grid.b [] [] [] [])
 abbrev pub rate_at : ℕ → List Float → ℕ → ℕ → Float
 rate_at m sheet k l = at sheet (row_place m k l + 3)
 
--- what acceptance gives of these columns, and what planning keeps true of the levels
+-- what acceptance gives of these columns, and what planning keeps true of the levels. Five functions ask it: `Grid` cannot hold it, since raises write
+-- the levels between two rounds, and a struct of both would be made anew for each
 pub record Lines (grid : GridColumns) (level : List ℕ) : Type 0 where
   pub b_size : length grid.b ≡ length grid.a
   pub km_size : length grid.km ≡ length grid.a

@@ -24,7 +24,7 @@ pub record Drawable (a : List ℕ) (banks : List Float) : Type 0 where
   pub size : length banks ≡ length a
   pub sound : Banks banks
 
--- and its count and flow
+-- and its count and flow. Three functions ask it, of slices that planning writes, which go in no struct (src/tables.rt)
 pub record Loaded (a : List ℕ) (banks : List Float) (circuits : List ℕ) (flow : List Float) : Type 0 where
   pub drawable : Drawable a banks
   pub circuits_size : length circuits ≡ length a
@@ -37,16 +37,11 @@ rank_before first second third k j =
     lt (at first j) (at first k)
     || (eq (at first j) (at first k) && (lt (at second j) (at second k) || (eq (at second j) (at second k) && lt (at third k) (at third j))))
 
--- as many of each key as there are indices
-pub record Keyed (first second third : List Float) : Type 0 where
-  pub first_size : length first ≡ length third
-  pub second_size : length second ≡ length third
-
 unfoldable pub order_by : (ℕ → ℕ → Bool) → ℕ → List ℕ
 order_by comes m = iter (insert_by comes) m 0 []
 
 -- ---- filling
--- an order that names corridors, and an own cap for each
+-- an order that names corridors, and an own cap for each. Three functions ask it, which write the circuits (src/tables.rt)
 pub record Fillable (order cap circuits : List ℕ) : Type 0 where
   pub named : All (λ (j : ℕ). j < length circuits) order
   pub cap_size : length cap ≡ length circuits
@@ -62,7 +57,7 @@ pub record Tallied (t : Filling) : Type 0 where
   pub fits : t.total < 2 ^ 32
   pub filler : t.filler ≤ t.total
 
--- counts as planning keeps them
+-- counts as planning keeps them. Three functions ask it, of a slice that planning writes (src/tables.rt)
 pub record Counted (circuits : List ℕ) : Type 0 where
   pub few : length circuits ≤ most_corridors
   pub each : (k : ℕ) → k < length circuits → slice_index circuits k ≤ most_initial

@@ -52,7 +52,7 @@ pub record AnewFits (grid : GridColumns) (level : List ℕ) (load gens : List Fl
   pub floor_size : k < length floors
   pub fresh : rating_ok (fresh_at (ends_for grid) level load gens shared k) ≡ true
 
--- what a redesign asks
+-- what a redesign asks. Three functions ask it, which write the floors and the banks (src/tables.rt)
 pub record RedesignFits (grid : GridColumns) (level : List ℕ) (supply : SupplyColumns) (floors banks : List Float) : Type 0 where
   pub lines : Lines grid level
   pub load_size : length supply.load ≡ length level

@@ -24,7 +24,7 @@ use Rattle.planning.specs.declared.settle.Settling.{Settling}
 use Rattle.refusal.specs.declared.Refusal.{Refusal}
 use Rattle.planning.specs.Tables.{GridColumns, supply_of, OpenedColumns}
 
--- ---- what it asks of the columns
+-- ---- what it asks of the columns. Three functions ask it, each handing it on with the slices that it writes (src/tables.rt)
 pub record Settleable (above : ℕ) (grid : GridColumns) (level : List ℕ) (opened : OpenedColumns) (banks : List Float)
     (upsized circuits : List ℕ) (flow rate angle added : List Float) : Type 0 where
   pub drawing : Drawing grid level circuits banks

@@ -1,15 +1,16 @@
 // Filling, after "3. Fill to the requested branch count" of `plan_corridors`: the order, heaviest planned loading first, and then
 // round and round it, a circuit to each corridor that has fewer than its own cap, or than four where it has none, up to the target.
-ghost use Rattle.std.specs.Prelude.{◌≡◌, ℕ, ◌<◌, ◌≤◌, length, All, position};
+ghost use Rattle.std.specs.Prelude.{◌≡◌, ◌<◌, ◌≤◌, length};
 ghost use Rattle.plan_defs.specs.Constants.{most_corridors};
 ghost use Rattle.plan_defs.specs.Lists.{sum};
 ghost use Rattle.plan_defs.specs.Case.{full_of};
 ghost use Rattle.plan_defs.specs.Fill.{loading, order_of, fill_once, fill_rounds, fill_turns, fill};
 ghost use Rattle.planning.specs.Design.{Lines};
-ghost use Rattle.planning.specs.Fill.{designs_for, Loaded, Keyed, rank_before, order_by, Fillable, filled_as, gain_of, Tallied, Counted, caps_for};
+ghost use Rattle.planning.specs.Fill.{designs_for, Loaded, Fillable, filled_as, gain_of, Tallied, Counted, caps_for};
 ghost use Rattle.planning.specs.Tables.{grid_in};
 
 use crate::design::fill_drawn;
+use crate::keys::Keys;
 use crate::policy::{full_at, promotes};
 use crate::tables::Grid;
 use arrayvec::ArrayVec;
@@ -26,43 +27,7 @@ pub fn loading(flow: f64, count: u32, rate: f64) -> f64
     magnitude(flow) / (count as f64 * rate)
 }
 
-// ---- the order by three keys: the first falling, the second falling, the third rising, then index. Of corridors these are loading,
-// kV and length
-fn rank_before(first: &[f64], second: &[f64], third: &[f64], k: usize, j: usize) -> bool
-    requires { Keyed first.now second.now third.now × (k < length third.now) × (j < length third.now) }
-    ensures { result ≡ rank_before first.now second.now third.now k j }
-{
-    let by_first = first[j] < first[k];
-    let first_ties = first[j] == first[k];
-    let by_second = second[j] < second[k];
-    let second_ties = second[j] == second[k];
-    by_first | (first_ties & (by_second | (second_ties & (third[k] < third[j]))))
-}
-
-// The place of k in an order, where it comes before another.
-fn place_of(first: &[f64], second: &[f64], third: &[f64], order: &[u32], k: usize) -> Option<usize>
-    requires keyed { Keyed first.now second.now third.now × (k < length third.now) }
-    requires named { All (λ (j : ℕ). j < length third.now) order.now }
-    ensures { result ≡ position (rank_before first.now second.now third.now k) order.now }
-{
-    order
-        .iter()
-        .position(|j| rank_before(first, second, third, k, *j as usize))
-}
-
-#[tactic(auto, using(crate::proofs::Insertion::order_size))]
-pub fn order_by(first: &[f64], second: &[f64], third: &[f64]) -> ArrayVec<u32, 256>
-    requires { Keyed first.now second.now third.now × (length third.now ≤ most_corridors) }
-    ensures { result.items ≡ order_by (rank_before first.now second.now third.now) (length third.now) }
-{
-    let mut order = ArrayVec::new();
-    for k in 0..third.len() {
-        let place = place_of(first, second, third, &order, k).unwrap_or(order.len());
-        order.insert(place, k as u32);
-    }
-    order
-}
-
+// ---- the order of the corridors
 pub fn fill_order(
     grid: &Grid,
     level: &[u32],
@@ -83,7 +48,12 @@ pub fn fill_order(
         loading(flow[k], circuits[k], d.rate_a)
     });
     fill_drawn(grid, level, banks, kvs, |d, _| d.kv);
-    order_by(loadings, kvs, grid.km)
+    let keys = Keys {
+        first: loadings,
+        second: kvs,
+        third: grid.km,
+    };
+    keys.order()
 }
 
 // ---- what a plan keeps of filling

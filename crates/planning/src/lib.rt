@@ -22,6 +22,7 @@ mod design;
 mod edges;
 mod figures;
 mod fill;
+mod keys;
 mod lent;
 mod opening;
 mod plan;

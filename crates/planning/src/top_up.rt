@@ -8,7 +8,7 @@ ghost use Rattle.plan_defs.specs.Case.{tops_up};
 ghost use Rattle.plan_defs.specs.TopUp.{by_cost, top_up};
 ghost use Rattle.planning.specs.Opening.{stage_of, Priced, given_stage};
 
-use crate::fill::order_by;
+use crate::keys::Keys;
 use crate::policy::tops_up;
 use arrayvec::ArrayVec;
 use loops::{lesser, sum};
@@ -21,8 +21,13 @@ fn order_costs(c1: &[f64]) -> ArrayVec<u32, 256>
     ensures { result.items ≡ by_cost c1.now }
 {
     let alike = [0.0; 256];
-    let keys = &alike[..c1.len()];
-    order_by(keys, keys, c1)
+    let alike = &alike[..c1.len()];
+    let keys = Keys {
+        first: alike,
+        second: alike,
+        third: c1,
+    };
+    keys.order()
 }
 
 // The pass. The sum is by index, as the dispatch adds. The difference is worked out afresh for each unit; where it is not above zero there is nothing left to serve.

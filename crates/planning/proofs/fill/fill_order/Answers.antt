@@ -12,4 +12,4 @@ returns c =
     order_made (grid_in z.grid.now) z.level.now z.banks.now z.circuits.now z.flow.now _ _ _ c.requires.lines.km_size
     (c.fill_drawn.ensures (λ d k. loading (at z.flow.now k) (get_or z.circuits.now k 0) d.rate_a) (λ d k r h q. search rules))
     (c.fill_drawn-2.ensures (λ d k. d.kv) (λ d k r h q. search rules))
-    c.order_by.ensures
+    c.order.ensures

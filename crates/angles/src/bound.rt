@@ -19,17 +19,13 @@ pub fn bound_of(bound: f64) -> Bound
 {
     let above = 1.5 * bound;
     let square = 2.0 * bound * (2.0 * bound);
-    if (0.0 < bound) & (bound < above) {
-        if (0.0 < above * above) & (above * above < square) {
-            return Bound {
-                bound,
-                beyond: Some(square),
-            };
-        }
-    }
+    let is_beyond = (0.0 < bound)
+        & (bound < above)
+        & (0.0 < above * above)
+        & (above * above < square);
     Bound {
         bound,
-        beyond: None,
+        beyond: is_beyond.then_some(square),
     }
 }
 

@@ -2,14 +2,17 @@
 -- The root keeps the order, and nothing is at most a bound and at least a figure above it.
 use Prim.Native.Nat.{◌*◌, ◌<◌}
 use mathlib.Core.Bool.{Bool, true, false}
-use mathlib.Core.Path.{◌≡◌, refl, ap, ◌∙◌}
+use mathlib.Core.Path.{◌≡◌, refl, sym, ap, ◌∙◌}
 use native.Mathlib.Omega.{arith}
 use borrow.Author.Tests.{ltb-true, lt-ltb}
 use lib.Dec.{T}
-use lib.Ieee.{Float, nan, inf, fin, binary64, fits, up, down, lt, eq, le, mul, div, of_bits}
+use lib.Ieee.{Float, nan, inf, fin, binary64, fits, up, down, lt, le, mul, div, of_bits}
 use lib.Ieee.Positive.{positive, above, above_of_le, between, first_pos, le_trans_positive, le→cross}
 use Rattle.loops.specs.Figures.{nought}
-use Rattle.loops.proofs.Bools.{is, no}
+use Rattle.std.specs.Prelude.{Option, Some, None}
+use Rattle.std.specs.Bool.{then_some}
+use Rattle.std.specs.Option.{MatchOption, ForSome}
+use Rattle.loops.proofs.Bools.{unequal, is, no}
 use Rattle.loops.proofs.Order.{bounded, bounded_real, le_of_lt, lt_of_not_le}
 use Rattle.loops.proofs.Real.{positive_of}
 use Rattle.loops.proofs.Signs.{mul_bounded}
@@ -117,6 +120,13 @@ root_beyond c s bound f g b h k l = go s g l (above_of_le (mul binary64 c c) s p
     go (fin true m e) g l a = absurd a
     go (fin false m e) g l a = finite (fin false m e) (root_positive (fin false m e) g a) (root_of_above c (fin false m e) f g pc a (is l)) (le (root (fin false m e)) bound) refl
 
-pub beyond_nothing : (bound : Float) → SurelyBeyond (div binary64 nought nought) bound
-unfolding lt eq le div of_bits
-beyond_nothing bound = record { far = λ x g l. absurd (no refl l) }
+-- ---- a square that is known where a test holds
+pub known_where : (test : Bool) (square bound : Float) (known : Option Float) → known ≡ then_some test square → (test ≡ true → SurelyBeyond square bound) → ForSome known (λ s. SurelyBeyond s bound)
+known_where true square bound known e far s h = let q : square ≡ s = cc in rw (sym q) (far refl)
+known_where false square bound known e far s h = absurd (unequal cc)
+
+-- ---- the test of a square against one that may be known: Q is what the test's closure ensures of it
+pub tested : (known : Option Float) (bound x : Float) (r : Bool) (Q : Float → Type 0) → ForSome known (λ s. SurelyBeyond s bound) → T (fits binary64 x)
+    → MatchOption known (r ≡ false) Q → ((s : Float) → Q s → r ≡ le s x) → r ≡ true → le (root x) bound ≡ false
+tested None bound x r Q sure f m test h = absurd (no m h)
+tested (Some s) bound x r Q sure f m test h = SurelyBeyond.far (sure s refl) x f (sym (test s m) ∙ h)

@@ -1,33 +1,40 @@
 // What the norm of a residual is judged by.
-ghost use Rattle.std.specs.Prelude.{◌≡◌};
+ghost use Rattle.std.specs.Prelude.{◌≡◌, true, false};
+ghost use Rattle.std.specs.Option.{ForSome};
+ghost use Rattle.std.specs.Float.Ieee.{le};
+ghost use Rattle.root.specs.Root.{root};
 ghost use Rattle.angles.specs.Bounds.{SurelyBeyond};
 
-// A bound, and a figure from which on every square has a root above it.
+// A bound, and a square from which on each has a root above it, where one is known.
 #[derive(Clone, Copy)]
 pub struct Bound {
     pub bound: f64,
-    pub beyond: f64,
-    ghost sure: { SurelyBeyond beyond bound },
+    beyond: Option<f64>,
+    ghost sure: { ForSome beyond (λ b. SurelyBeyond b bound) },
 }
 
-// With it the root need not be worked out: the square of twice the bound, where it is above the square of a figure above the bound;
-// a NaN, from which on there is nothing, where those squares underflow or overflow.
-#[tactic(auto, using(crate::proofs::Beyond::beyond_nothing))]
+// The square of twice the bound, where it is above the square of a figure above the bound; none where those squares underflow or overflow.
 pub fn bound_of(bound: f64) -> Bound
     ensures { result.bound ≡ bound }
 {
     let above = 1.5 * bound;
     let square = 2.0 * bound * (2.0 * bound);
-    if (0.0 < bound) & (bound < above) {
-        if (0.0 < above * above) & (above * above < square) {
-            return Bound {
-                bound,
-                beyond: square,
-            };
-        }
-    }
+    let is_beyond = (0.0 < bound)
+        & (bound < above)
+        & (0.0 < above * above)
+        & (above * above < square);
     Bound {
         bound,
-        beyond: 0.0 / 0.0,
+        beyond: is_beyond.then_some(square),
+    }
+}
+
+impl Bound {
+    // Whether the root of a square is above the bound, as far as that is known without working it out.
+    #[tactic(auto, using(crate::proofs::Beyond::tested))]
+    pub fn surely_beyond(&self, square: f64) -> bool
+        ensures { result ≡ true → le (root square) self.now.bound ≡ false }
+    {
+        self.beyond.is_some_and(|beyond| beyond <= square)
     }
 }

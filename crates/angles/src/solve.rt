@@ -31,7 +31,7 @@ struct Carried {
 fn judge(rr: f64, bound: Bound) -> Option<f64>
     ensures { result ≡ within (root rr) bound.bound }
 {
-    if bound.beyond <= rr {
+    if bound.surely_beyond(rr) {
         return None;
     }
     let norm = root::sqrt(rr);

@@ -7,7 +7,13 @@ use native.Mathlib.Omega.{arith}
 use lib.Ieee.{Float, nan}
 use lib.ListN.{length, get_or, set, take, drop}
 use Rattle.std.proofs.lemmas.List.{drop-take, take-take, drop-drop}
+use Rattle.std.specs.Iterator.Adapters.{zip_first, zip_second}
 use Rattle.std.specs.List.{zip}
+use Rattle.std.specs.Slice.Iter.{iter_rest}
+use Rattle.std.specs.declared.iter.Zip.{Zip}
+use Rattle.std.proofs.iter.Yields.{fronts}
+use Rattle.std.proofs.Common.{Iter}
+use Rattle.std.proofs.lemmas.Iterator.{YieldsList, zips, YieldsList-from_slice, YieldsList-from_zip}
 use Rattle.std.proofs.lemmas.List.{get_or_default}
 use Rattle.std.proofs.lemmas.Slice.Zip.{length-zip, get_or-zip}
 use Rattle.loops.specs.Figures.{at, plus, times}
@@ -36,7 +42,12 @@ module _ (n : ℕ) (from to : List ℕ) (weight : List Float) (B : EdgesBelow n 
       → w' ≡ put w y (weigh (edges_of from to weight) e (part y n w))
   weigh_turn w w' y h q = q ∙ weighed_row w (get_or from e 0) (get_or to e 0) n y h (B.from_below e l) (B.to_below e l) (at weight e)
 
--- ---- the edge of a turn over the ends and the weights at once, and how many turns there are
+-- ---- a loop over the ends and the weights at once: what it goes over, the edge of a turn, and how many turns there are
+pub edges_yielded : (from to : List ℕ) (weight : List Float) (s : Zip (Zip (Iter ℕ) (Iter ℕ)) (Iter Float))
+    → iter_rest (zip_first (zip_first s)) ≡ from → iter_rest (zip_second (zip_first s)) ≡ to → iter_rest (zip_second s) ≡ weight
+    → YieldsList (zips (zips fronts fronts) fronts) (λ p. ((p.0.0.now, p.0.1.now), p.1.now)) s (zip (zip from to) weight)
+edges_yielded from to weight s f t w = YieldsList-from_zip (YieldsList-from_zip (YieldsList-from_slice from f) (YieldsList-from_slice to t)) (YieldsList-from_slice weight w)
+
 pub edge_turn : (from to : List ℕ) (weight : List Float) (e a b : ℕ) (v : Float) → e < length (zip (zip from to) weight) → ((a, b), v) ≡ get_or (zip (zip from to) weight) e ((a, b), v)
     → (e < length from) × (a ≡ get_or from e 0) × (b ≡ get_or to e 0) × (v ≡ at weight e)
 edge_turn from to weight e a b v h q =

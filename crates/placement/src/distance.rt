@@ -89,9 +89,8 @@ fn spread_from(
     ensures front_2 { Front network.now.n labels.new.mark labels.new.dist nearest.new }
 {
     settle_bus(network.n, i, labels, nearest);
-    let mut c = network.head[i] as usize;
-    // A walk along the bus's list of corridors: no index is counted.
-    while c < network.a.len() {
+    let mut next = network.first(i);
+    while let Some(c) = next {
         consider(
             network.n,
             i,
@@ -101,7 +100,7 @@ fn spread_from(
             labels,
             nearest,
         );
-        c = network.after(c, i);
+        next = network.after(c, i);
     }
 }
 

@@ -12,6 +12,7 @@ use refusal::Refusal;
 mod blocks;
 mod check;
 mod condenser;
+mod corridors;
 mod distance;
 mod labels;
 mod network;

@@ -1,7 +1,7 @@
 // What a search reads: the loads of the buses, the corridors between them, and the corridors at each bus as a list in the order of the
 // table: the first corridor of each bus, and after each corridor the next one at either of its ends. The lists are made once, so that the
 // search looks only at the corridors of the bus that it settles.
-ghost use Rattle.std.specs.Prelude.{◌≡◌, cond, ◌<◌, eqb, get_or, set, length};
+ghost use Rattle.std.specs.Prelude.{◌≡◌, ◌<◌, get_or, set, length};
 ghost use Rattle.loops.specs.Figures.{at};
 ghost use Rattle.loads.specs.Load.{loads_of};
 ghost use Rattle.placement_defs.specs.Request.{most_buses, most_corridors, Net};
@@ -19,6 +19,7 @@ pub struct Network<'a> {
     pub a: &'a [u32],
     pub b: &'a [u32],
     pub km: &'a [f64],
+    // The lists keep the count of corridors for none: an Option takes twice the place, and a request of two buses fills all places too.
     pub head: [u16; MOST_BUSES],
     pub after_a: [u16; MOST_CORRIDORS],
     pub after_b: [u16; MOST_CORRIDORS],
@@ -94,17 +95,5 @@ impl<'a> Network<'a> {
         ensures { result ≡ at (loads_of self.now.n self.now.reading.now self.now.weight.now) i }
     {
         loads::load_by(self.reading[i], self.weight[i])
-    }
-
-    // The corridor after c, which ends at bus i: of those that come next at its ends, the one at i.
-    pub fn after(&self, c: usize, i: usize) -> usize
-        requires { c < length self.now.a.now }
-        ensures { result ≡ cond (eqb (get_or self.now.a.now c 0) i) (get_or self.now.after_a c 0) (get_or self.now.after_b c 0) }
-    {
-        if self.a[c] as usize == i {
-            self.after_a[c] as usize
-        } else {
-            self.after_b[c] as usize
-        }
     }
 }

@@ -57,6 +57,6 @@ pub fn place_voltage_support(
         generators,
     };
     request.check(buses.len(), mvars.len())?;
-    let network = Network::new(n, reading, weight, a, b, km);
+    let network = Network::new(&request);
     Ok(condenser::place(&network, generators, buses, mvars))
 }

@@ -9,6 +9,7 @@ ghost use Rattle.placement_defs.specs.Distance.{network};
 ghost use Rattle.placement.specs.Corridors.{Listed};
 ghost use Rattle.placement.specs.Stages.{Called};
 
+use crate::check::Request;
 use crate::{MOST_BUSES, MOST_CORRIDORS};
 
 #[derive(Drop)]
@@ -50,19 +51,21 @@ fn list_corridor(
 
 impl<'a> Network<'a> {
     // The corridors are listed from the last to the first, so that each bus has them in the order of the table.
-    pub fn new(
-        n: usize,
-        reading: &'a [f64],
-        weight: &'a [f64],
-        a: &'a [u32],
-        b: &'a [u32],
-        km: &'a [f64],
-    ) -> Network<'a>
-        requires called { Called n reading.now weight.now }
-        requires net { Net n (length a.now) a.now b.now km.now }
-        ensures buses { result.n ≡ n }
-        ensures tables { (result.reading.now ≡ reading.now) × (result.weight.now ≡ weight.now) × (result.a.now ≡ a.now) × (result.b.now ≡ b.now) × (result.km.now ≡ km.now) }
+    pub fn new(request: &Request<'a>) -> Network<'a>
+        requires called { Called request.now.n request.now.reading request.now.weight }
+        requires net { Net request.now.n (length request.now.a) request.now.a request.now.b request.now.km }
+        ensures buses { result.n ≡ request.now.n }
+        ensures tables { (result.reading.now ≡ request.now.reading) × (result.weight.now ≡ request.now.weight) × (result.a.now ≡ request.now.a) × (result.b.now ≡ request.now.b) × (result.km.now ≡ request.now.km) }
     {
+        let Request {
+            n,
+            reading,
+            weight,
+            a,
+            b,
+            km,
+            ..
+        } = *request;
         let mut head = [a.len() as u16; MOST_BUSES];
         let mut after_a = [0; MOST_CORRIDORS];
         let mut after_b = [0; MOST_CORRIDORS];

@@ -9,7 +9,7 @@ ghost use Rattle.placement.specs.Views.{network_in, loads_in, flags_in};
 
 use crate::MOST_BUSES;
 use crate::distance::{distance_to_sources, distance_with_source};
-use crate::labels::{Labels, REST};
+use crate::labels::{Labels, Mark};
 use crate::network::Network;
 
 // A load farther than this from every source gets a condenser: reactive power does not travel far, and voltage control areas span tens to a
@@ -80,7 +80,7 @@ fn join_condensers(network: &Network, sources: &mut [bool; MOST_BUSES], buses: &
         };
         sources[i] = true;
         buses[count] = i as u32;
-        labels.mark = [REST; MOST_BUSES];
+        labels.mark = [Mark::Rest; MOST_BUSES];
         distance_with_source(network, i, &mut labels);
     }
     network.n

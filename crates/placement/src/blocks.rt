@@ -7,7 +7,7 @@ ghost use Rattle.std.specs.Option.{ForSome};
 ghost use Rattle.placement_defs.specs.Request.{most_buses};
 ghost use Rattle.placement_defs.specs.Distance.{nearer, nearest_to, settle, reached};
 ghost use Rattle.placement.specs.Choices.{number};
-ghost use Rattle.placement.specs.Marks.{marks_in};
+ghost use Rattle.placement.specs.Marks.{marks_in, origin_of};
 ghost use Rattle.placement.specs.Views.{labels_in};
 ghost use Rattle.placement.specs.Blocks.{block_size, most_blocks, Chosen, closer, nearest_with, Front};
 
@@ -141,14 +141,14 @@ pub fn reach_bus(
     n: usize,
     j: usize,
     nd: f64,
-    src: u16,
+    src: Option<u8>,
     labels: &mut Labels,
     nearest: &mut [Option<usize>; BLOCKS],
 )
     requires n_le_most_buses { (n ≤ most_buses) × (j < n) × (lt nd (at labels.old.dist j) ≡ true) }
     requires front { Front n (marks_in labels.old.mark) labels.old.dist nearest.old }
     ensures from_after { labels_in labels.new
-        ≡ reached j nd src (labels_in labels.old) }
+        ≡ reached j nd (origin_of src) (labels_in labels.old) }
     ensures front_2 { Front n (marks_in labels.new.mark) labels.new.dist nearest.new }
 {
     labels.mark[j] = Mark::Candidate;

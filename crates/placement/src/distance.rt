@@ -22,7 +22,7 @@ fn place_source(i: usize, source: bool, labels: &mut Labels)
     }
     labels.mark[i] = Mark::Candidate;
     labels.dist[i] = 0.0;
-    labels.from[i] = i as u16;
+    labels.from[i] = Some(i as u8);
 }
 
 // The sources, from which the search begins.

@@ -3,7 +3,7 @@ ghost use Rattle.std.specs.Prelude.{◌≡◌};
 ghost use Rattle.placement_defs.specs.Request.{most_buses};
 ghost use Rattle.placement_defs.specs.Distance.{labels, blank};
 ghost use Rattle.placement.specs.Blocks.{Numbers};
-ghost use Rattle.placement.specs.Marks.{marks_in};
+ghost use Rattle.placement.specs.Marks.{marks_in, origins_in};
 
 use crate::MOST_BUSES;
 
@@ -15,27 +15,24 @@ pub enum Mark {
     Settled,
 }
 
-// The source of a bus that none reaches.
-pub const NOBODY: u16 = 256;
-
 // Of each bus the set that it is in, its distance, and the source that it comes from.
 #[derive(Drop)]
 pub struct Labels {
     pub mark: [Mark; MOST_BUSES],
     pub dist: [f64; MOST_BUSES],
-    pub from: [u16; MOST_BUSES],
+    pub from: [Option<u8>; MOST_BUSES],
     ghost numbers: { Numbers most_buses (marks_in mark) dist },
 }
 
 impl Labels {
     // To start with, no bus is reached.
     pub fn blank() -> Labels
-        ensures { labels (marks_in result.mark) result.dist result.from ≡ blank }
+        ensures { labels (marks_in result.mark) result.dist (origins_in result.from) ≡ blank }
     {
         Labels {
             mark: [Mark::Rest; MOST_BUSES],
             dist: [loops::infinity(); MOST_BUSES],
-            from: [NOBODY; MOST_BUSES],
+            from: [None; MOST_BUSES],
         }
     }
 }

@@ -15,7 +15,7 @@ pub enum Mark {
     Settled,
 }
 
-// Of each bus the set that it is in, its distance, and the source that it comes from.
+// Of each bus the set that it is in, its distance, and the source that it comes from, in eight binary digits: there are 256 buses at most.
 #[derive(Drop)]
 pub struct Labels {
     pub mark: [Mark; MOST_BUSES],

@@ -20,7 +20,8 @@ pub struct Network<'a> {
     pub a: &'a [u32],
     pub b: &'a [u32],
     pub km: &'a [f64],
-    // The lists keep the count of corridors for none: an Option takes twice the place, and a request of two buses fills all places too.
+    // Sixteen binary digits, with the count of corridors for none: an Option of as many takes twice the place, which a request of two buses pays
+    // for too, and the lists would have to carry beside it that each corridor is one of the table, which the test in `kept` shows here.
     pub head: [u16; MOST_BUSES],
     pub after_a: [u16; MOST_CORRIDORS],
     pub after_b: [u16; MOST_CORRIDORS],

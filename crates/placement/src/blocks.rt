@@ -1,5 +1,8 @@
 // The candidates by blocks of sixteen buses. The nearest of each block is kept, so that the next bus to settle is found among sixteen, and
 // when it is settled only its own block is looked at again.
+//
+// Nine functions here and two of distance.rt ask that the number of buses is at most 256: `Labels` has all places whatever it is, and the network, whose field it
+// is, is not what a block is searched by.
 ghost use Rattle.std.specs.Prelude.{◌≡◌, ◌+◌, ◌≤◌, ◌<◌, ◌||◌, eqb, true, length};
 ghost use Rattle.std.specs.Float.Ieee.{lt};
 ghost use Rattle.loops.specs.Figures.{at};

@@ -86,7 +86,7 @@ fn spread(leader: &[u32], angle: &[f64]) -> f64
 }
 
 // ---- loadings
-// One index for three slices: zipped twice the loop would take pairs of pairs apart.
+// One index for three slices, as the clause has it: zipped, the loop would want a law of what it yields.
 fn max_loading(circuits: &[u32], flow: &[f64], rate: &[f64]) -> f64
     requires { Rated circuits.now flow.now rate.now }
     ensures { result ≡ max_loading (loadings_by circuits.now flow.now rate.now) }

@@ -14,7 +14,7 @@ mod tables;
 
 // The first of 1 to 7 that a case of n buses, m corridors and g generators has, in any mode. `fits` says that the slices which the caller
 // itself is lent have their lengths: 1 is one test. A NaN fails every test.
-// Each slice is a parameter of its own, as at the beginning: a public function may ask no more of its callers, who would have a struct to build.
+// Each slice is a parameter of its own: a public function may ask no more of its callers, who would have a struct to build.
 pub fn check_case(
     fits: bool,
     target: u32,

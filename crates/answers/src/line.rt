@@ -14,6 +14,7 @@ pub struct AnswerLine {
 }
 
 impl AnswerLine {
+    // listing's `Text::new` is the same line: types of two programs, which share no crate of their own.
     pub fn new() -> AnswerLine {
         AnswerLine {
             bytes: ArrayVec::new(),

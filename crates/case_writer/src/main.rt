@@ -21,6 +21,7 @@ fn wanted_in(text: &[u8]) -> Option<usize> {
     std::str::from_utf8(text).ok()?.parse().ok()
 }
 
+// joins' write_joined ends so too: of one function for both a contract would say what the writer holds then, for six lines.
 #[tactic(auto, unfolding(crate::specs::Files::Wrote))]
 fn write_network<W: Write>(to: &mut W, place: usize) -> io::Result<()> {
     let mut out = [0; MOST_FILE];

@@ -37,6 +37,7 @@ impl<'a> Model for Table<'a> {
 }
 
 impl<'a> Table<'a> {
+    // The bound on the count is asked here and of the four that read a table: it is a number of one call, and no table is there yet to hold the fact.
     #[tactic(auto, using(crate::proofs::Stored::none_stored, crate::proofs::Stored::first_start))]
     pub fn new(file: &'a [u8], kind: Kind, at: usize, count: usize) -> Self
         requires room { Room kind file.now at count }
@@ -45,8 +46,8 @@ impl<'a> Table<'a> {
     {
         let mut starts = [0; MOST_RECORDS];
         let mut end = at;
-        for i in 0..count {
-            starts[i] = end;
+        for start in starts.iter_mut().take(count) {
+            *start = end;
             end = end_of(file, kind, end);
         }
         Table {
@@ -136,6 +137,8 @@ impl<'a> Table<'a> {
     }
 
     // ---- a column, with zeros past the records
+    // What these four share is `fill_first`. They differ in the element (u32 or f64), in what is read of a record, and in what they ask: a place in the record or
+    // a kind.
     pub fn fill_numbers(&self, offset: usize, width: usize, out: &mut [u32])
         requires inside { offset + width ≤ size_of self.now.kind }
         requires narrow { width ≤ 4 }

@@ -52,7 +52,8 @@ fn put_bus(file: &[u8], at: usize, kind: Kind, out: &mut [u8], to: usize)
     put_part(weight_of(kind), out, to + (record::MARK + CALLED));
 }
 
-// A table's buses as records of a kind; where they end in the output.
+// A table's buses as records of a kind; where they end in the output. That the kind is one of buses, by its size, is asked of what one call is handed, here and
+// of the two below: a type of these two kinds alone would be turned into `Kind` for `mark`, `size` and `weighs`.
 fn put_buses(buses: &Table, kind: Kind, out: &mut [u8]) -> usize
     requires buses { buses.now.kind ≡ Kind.Bus }
     requires kept { Kept buses.now.file buses.now.at buses.now.count }

@@ -135,7 +135,8 @@ fn walk_tables(file: &[u8], h: Header, wanted: Wanted, from: usize) -> Result<us
     walk_kind(file, first_line, Kind::Line, false, lines, end)
 }
 
-// Past the words of zeros from a place on, the word after them looked at too.
+// Past the words of zeros from a place on, the word after them looked at too. `past_bytes` differs by the stride and by what it reads there: of one function
+// over the stride the sum has no bound.
 fn past_words(file: &[u8], at: usize) -> Looked
     ensures { result ≡ words_looked file.now at }
 {
@@ -147,7 +148,7 @@ fn past_words(file: &[u8], at: usize) -> Looked
     }
 }
 
-// Past the zeros from a place on, byte by byte, the byte after them looked at too.
+// Past the zeros from a place on, byte by byte, the byte after them looked at too. See `past_words` for why it is one of two.
 fn past_bytes(file: &[u8], at: usize) -> Looked
     ensures { result ≡ bytes_looked file.now at }
 {

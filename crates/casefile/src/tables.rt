@@ -81,6 +81,8 @@ fn fill_level(
     }
 }
 
+// Each of the four asks that its count is small: a number of one call, for which a table is made within.
+
 // Fills the ladder. Answers where its records end, as the next three do.
 pub fn read_levels(file: &[u8], at: usize, count: usize, ladder: &mut [f64]) -> usize
     requires room { Room Kind.Level file.now at count }

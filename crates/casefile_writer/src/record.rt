@@ -170,6 +170,7 @@ impl Record for Corridor {
 }
 
 // LN r x b rate basis
+// line_defs' `Row` has the same five figures, and acceptance's `row_sound` takes them one by one: no crate of the three stands on another.
 #[derive(Clone, Copy)]
 pub struct Line {
     pub r: f64,

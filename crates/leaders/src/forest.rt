@@ -21,9 +21,7 @@ pub struct UnionFind {
 fn themselves() -> [u8; MOST_BUSES]
     ensures { result ≡ themselves 256 }
 {
-    let mut buses = [0; MOST_BUSES];
-    loops::fill(&mut buses, |i| i as u8);
-    buses
+    std::array::from_fn(|i| i as u8)
 }
 
 impl UnionFind {

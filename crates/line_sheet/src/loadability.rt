@@ -168,9 +168,7 @@ pub fn loadability(km: f64) -> f64
 fn lanes_of(km: &[f64; 8]) -> [Lane; 8]
     ensures { result ≡ tab 8 (λ j. lane_of (at km.now j)) }
 {
-    let mut lanes = [lane_of(0.0); 8];
-    loops::fill(&mut lanes, |j| lane_of(km[j]));
-    lanes
+    km.map(lane_of)
 }
 
 // One digit more of each of eight lengths.
@@ -191,9 +189,7 @@ fn counts_of(km: &[f64; 8]) -> [u64; 8]
     for _digit in 0..DIGITS {
         turn_each(&mut lanes);
     }
-    let mut counts = [0; 8];
-    loops::fill(&mut counts, |j| lanes[j].count);
-    counts
+    lanes.map(|lane| lane.count)
 }
 
 // Whether one of eight lengths lies between knots.
@@ -218,6 +214,7 @@ pub fn loadabilities(km: &[f64; 8]) -> [f64; 8]
     ensures { result ≡ tab 8 (λ j. loadability_of (at km.now j)) }
 {
     let count = counts(km);
+    // `std::array::from_fn` was tried: its clause says nothing at an index of what a closure holds, so that each of the eight would need a proof.
     let mut r = [0.0f64; 8];
     loops::fill(&mut r, |j| rated(km[j], count[j]));
     r

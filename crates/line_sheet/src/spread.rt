@@ -50,9 +50,7 @@ pub fn guess(s: f64) -> u64 {
 
 // The guesses of eight spreads, side by side, since each is a long chain.
 pub fn guesses(spread: &[f64; 8]) -> [u64; 8] {
-    let mut r = [0u64; 8];
-    loops::fill(&mut r, |j| guess(spread[j]));
-    r
+    spread.map(guess)
 }
 
 // Where to look next between two ends: at the guess, one past it where it has become the lower end, else in the middle.
@@ -70,7 +68,7 @@ fn next(lo: u64, hi: u64, guess: u64) -> u64
 }
 
 // Whether r is surely the root: by the upper halves of products, each of which loses less than 1. It says no where the fifth power of r or
-// of the next place is so near to the cube that this counts.
+// of the next place is so near to the cube that this counts. The bound on a is asked here and of the two below: a number of one call, made in `kept_spread`.
 fn settled(a: u64, r: u64) -> bool
     requires { a < 2 ^ 57 }
     ensures { result ≡ true → (r < 2 ^ 34) × (4 * r ^ 5 ≤ a ^ 3) × (a ^ 3 < 4 * (r + 1) ^ 5) }

@@ -35,6 +35,7 @@ impl Model for Text {
 }
 
 impl Text {
+    // answers' `AnswerLine::new` is the same line: types of two programs, which share no crate of their own.
     pub fn new() -> Self
         ensures { result ≡ [] }
     {

@@ -31,7 +31,7 @@ pub struct CircuitDesign {
     pub b_pu: f64,
     // MVA, the rating spread included.
     pub rate_a: f64,
-    // Whether the ends differ in voltage, and the bank that steps down, MVA; 0 where there is none. Two fields, as the Rust's struct has them: the defined plan and its
+    // Whether the ends differ in voltage, and the bank that steps down, MVA; 0 where there is none. Two fields: the defined plan and its
     // theorems read each by itself, and an Option would put a test that the Rust does not make into every definition that reads a bank.
     pub is_transformer: bool,
     pub transformer_mva: f64,

@@ -5,7 +5,8 @@ use casefile_defs::{Header, MOST_BUSES, MOST_CORRIDORS, MOST_GENERATORS, MOST_LE
 use plan_defs::CorridorPlan;
 use refusal::Refusal;
 
-// What planning leaves, in the first places of each array.
+// What planning leaves, in the first places of each array: the header and the plan count them, one number for several arrays, which a vector each would
+// hold several times.
 #[derive(Clone, Copy)]
 pub struct Results {
     pub circuits: [u32; MOST_CORRIDORS],

@@ -23,7 +23,8 @@ pub fn row_place(corridors: usize, k: usize, level: usize) -> usize
     ROW_FIGURES * (level * corridors + k)
 }
 
-// And back: the corridor of row i of a sheet by level, and its level.
+// And back: the corridor of row i of a sheet by level, and its level. That there is a corridor is asked here and of the two below, of the numbers of one call: a
+// public function may ask for no struct in their place.
 pub fn row_corridor(corridors: usize, i: usize) -> usize
     requires { 0 < corridors }
     ensures { result ≡ row_corridor corridors i }

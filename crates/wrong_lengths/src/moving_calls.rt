@@ -17,7 +17,7 @@ pub enum Way {
 pub struct Moving;
 
 impl Operation for Moving {
-    // Which way, and whether the file is cut: a constant's slice may hold no function, and no file beside a kind.
+    // Which way, and whether the file is cut. A constant with a function in it was tried, and the compiler refused it; nor may it hold a file beside a kind.
     type Asked = (Way, bool);
 
     const SLICES: usize = 1;

@@ -25,7 +25,8 @@ impl Operation for Reading {
         ("reading of 257 buses", PAST_FILE, FIRST_SHORT),
     ];
 
-    // small_calls lends the same slices. One function for both would be handed the operation, but `Fn` takes at most twelve arguments.
+    // small_calls lends the same slices. One function for both would be handed the operation: `Fn` of seventeen arguments was tried and refused, as it takes twelve
+    // at most.
     fn call(file: &'static [u8], wrong: Option<Wrong>) -> Outcome {
         let mut t = Tables::marked();
         let read = casefile::read_case(

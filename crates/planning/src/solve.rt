@@ -110,7 +110,7 @@ impl Edges {
         self.angles(&injection[0..n], grounds, &guess[0..n], phi)
     }
 
-    // The flow of each, MW.
+    // The flow of each, MW. By index: it is that of the three vectors and of the flows.
     fn flows(&self, angle: &[f64], flow: &mut [f64])
         requires { (self.now.buses ≡ length angle.now) × (length self.now.from.items ≡ length flow.old) }
         ensures { flow.new ≡ flows_of (edges_in self.now) angle.now }

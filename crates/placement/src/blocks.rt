@@ -91,7 +91,7 @@ fn closer_bus(
     }
 }
 
-// Step 2: the candidate of least distance, the lowest on a tie.
+// Step 2: the candidate of least distance, the lowest on a tie. By index, as blocks are: of those that the buses reach.
 pub fn nearest_candidate(
     n: usize,
     labels: &Labels,

@@ -7,6 +7,15 @@ use native.Mathlib.Omega.{arith}
 use lib.Ieee.{Float, nan}
 use lib.ListN.{length, get_or, set, take, drop}
 use Rattle.std.proofs.lemmas.List.{drop-take, take-take, drop-drop}
+use Rattle.std.specs.Iterator.Adapters.{zip_first, zip_second}
+use Rattle.std.specs.List.{zip}
+use Rattle.std.specs.Slice.Iter.{iter_rest}
+use Rattle.std.specs.declared.iter.Zip.{Zip}
+use Rattle.std.proofs.iter.Yields.{fronts}
+use Rattle.std.proofs.Common.{Iter}
+use Rattle.std.proofs.lemmas.Iterator.{YieldsList, zips, YieldsList-from_slice, YieldsList-from_zip}
+use Rattle.std.proofs.lemmas.List.{get_or_default}
+use Rattle.std.proofs.lemmas.Slice.Zip.{length-zip, get_or-zip}
 use Rattle.loops.specs.Figures.{at, plus, times}
 use Rattle.loops.specs.Loops.{iter}
 use Rattle.loops.specs.Parts.{part, put}
@@ -32,6 +41,30 @@ module _ (n : ℕ) (from to : List ℕ) (weight : List Float) (B : EdgesBelow n 
   pub weigh_turn : (w w' : List Float) (y : ℕ) → y + n ≤ length w → w' ≡ weighed_in w (get_or from e 0) (get_or to e 0) (at weight e) y
       → w' ≡ put w y (weigh (edges_of from to weight) e (part y n w))
   weigh_turn w w' y h q = q ∙ weighed_row w (get_or from e 0) (get_or to e 0) n y h (B.from_below e l) (B.to_below e l) (at weight e)
+
+-- ---- a loop over the ends and the weights at once: what it goes over, the edge of a turn, and how many turns there are
+pub edges_yielded : (from to : List ℕ) (weight : List Float) (s : Zip (Zip (Iter ℕ) (Iter ℕ)) (Iter Float))
+    → iter_rest (zip_first (zip_first s)) ≡ from → iter_rest (zip_second (zip_first s)) ≡ to → iter_rest (zip_second s) ≡ weight
+    → YieldsList (zips (zips fronts fronts) fronts) (λ p. ((p.0.0.now, p.0.1.now), p.1.now)) s (zip (zip from to) weight)
+edges_yielded from to weight s f t w = YieldsList-from_zip (YieldsList-from_zip (YieldsList-from_slice from f) (YieldsList-from_slice to t)) (YieldsList-from_slice weight w)
+
+pub edge_turn : (from to : List ℕ) (weight : List Float) (e a b : ℕ) (v : Float) → e < length (zip (zip from to) weight) → ((a, b), v) ≡ get_or (zip (zip from to) weight) e ((a, b), v)
+    → (e < length from) × (a ≡ get_or from e 0) × (b ≡ get_or to e 0) × (v ≡ at weight e)
+edge_turn from to weight e a b v h q =
+    let l : e < length (zip from to) = omega (arith, length-zip (zip from to) weight) in
+    let i : e < length weight = omega (arith, length-zip (zip from to) weight) in
+    let j : e < length from = omega (arith, length-zip from to) in
+    let k : e < length to = omega (arith, length-zip from to) in
+    let p = q ∙ get_or-zip (zip from to) weight e ((a, b), v) l i in
+    let r = ap (λ (x : (ℕ × ℕ) × Float). x.0) p ∙ get_or-zip from to e (a, b) j k in (
+      j,
+      ap (λ (x : ℕ × ℕ). x.0) r ∙ get_or_default from e a 0 j,
+      ap (λ (x : ℕ × ℕ). x.1) r ∙ get_or_default to e b 0 k,
+      ap (λ (x : (ℕ × ℕ) × Float). x.1) p ∙ get_or_default weight e v nan i,
+    )
+
+pub edge_count : (n : ℕ) (from to : List ℕ) (weight : List Float) → EdgesBelow n from to weight → length (zip (zip from to) weight) ≡ length from
+edge_count n from to weight B = let t = B.to_count in let w = B.weight_count in omega (arith, length-zip (zip from to) weight, length-zip from to)
 
 -- ---- the calls of `apply`, on the slice before the row that is written and on that row
 part_before : (o n y : ℕ) (w : List Float) → o + n ≤ y → take (o + n - o) (drop o (take y w)) ≡ part o n w

@@ -31,20 +31,13 @@ fn add_weight(w: &mut [f64], a: usize, b: usize, weight: f64, y: usize)
 }
 
 // Adds the weight of each edge at both its ends to the row y.
-#[tactic(auto, using(loops::proofs::Puts::turned_end))]
 pub fn add_weights(grid: &Grid, w: &mut [f64], y: usize)
     requires { y + grid.now.n ≤ length w.old }
     ensures { w.new ≡ put w.old y
         (iter (weigh (edges_in grid.now)) (length grid.now.from.now) 0 (part y grid.now.n w.old)) }
 {
-    for e in 0..grid.from.len() {
-        add_weight(
-            w,
-            grid.from[e] as usize,
-            grid.to[e] as usize,
-            grid.weight[e],
-            y,
-        );
+    for ((from, to), weight) in grid.from.iter().zip(grid.to).zip(grid.weight) {
+        add_weight(w, *from as usize, *to as usize, *weight, y);
     }
 }
 
@@ -81,14 +74,8 @@ fn scatter(grid: &Grid, x: &[f64], y: &mut [f64])
     requires { (length x.now ≡ grid.now.n) × (length y.old ≡ grid.now.n) }
     ensures { y.new ≡ iter (Network.carry (edges_in grid.now) x.now) (length grid.now.from.now) 0 y.old }
 {
-    for e in 0..grid.from.len() {
-        carry(
-            x,
-            y,
-            grid.from[e] as usize,
-            grid.to[e] as usize,
-            grid.weight[e],
-        );
+    for ((from, to), weight) in grid.from.iter().zip(grid.to).zip(grid.weight) {
+        carry(x, y, *from as usize, *to as usize, *weight);
     }
 }
 

@@ -1,4 +1,5 @@
-// The operation on a request that is not refused: the rows are set up, solved and handed out.
+// The operation on a request that is not refused: the rows are set up, solved and handed out. That the work has eight places for each bus is asked here and in
+// solve.rt as it is in steps.rt, which says why no struct has it.
 ghost use Rattle.std.specs.Prelude.{◌≡◌, ◌*◌, ◌≤◌, length};
 ghost use Rattle.loops.specs.Parts.{rows};
 ghost use Rattle.angles_defs.specs.Solve as Solve;

@@ -3,8 +3,11 @@
 use mathlib.Core.Path.{◌≡◌, sym, ap, ◌∙◌}
 use mathlib.Core.List.{List}
 use Prim.Native.Nat.{ℕ, ◌+◌, ◌<◌, ◌≤◌}
+use native.Mathlib.Decide.{ℕ_discrete}
+use native.Mathlib.Omega.{arith}
 use borrow.Author.Tests.{lt-ltb, le-ltb}
 use lib.ListN.{length, get_or, set, replicate, length-set}
+use lib.Seq.{get_or-set_same, get_or-set_other}
 use lib.Ieee.{Float}
 use Rattle.loops.specs.Loops.{iter}
 use Rattle.loops.proofs.Loops.{iter_keeps}
@@ -33,6 +36,14 @@ pub all_joined : (w : Network) (loads : List Float) (sources₀ buses₀ sources
     → sites sources buses count ≡ iter (join_next w loads) w.n 0 (sites sources₀ buses₀ 0) → Joined w loads sources₀ buses₀ sources buses count
 unfolding joined
 all_joined w loads sources₀ buses₀ sources buses count h e = record { all = e; few = h }
+
+-- each at a bus
+pub stand_more : (n count i : ℕ) (buses : List ℕ) → count < length buses → i < n → ((k : ℕ) → k < count → get_or buses k 0 < n) → (k : ℕ) → k < count + 1 → get_or (set buses count i) k 0 < n
+stand_more n count i buses h b stand k l =
+    elim (ℕ_discrete k count) [
+      | yes e ↦ let q = ap (λ (t : ℕ). get_or (set buses count i) t 0) e ∙ get_or-set_same buses count i 0 h in omega arith
+      | no d ↦ let q = get_or-set_other buses count k i 0 d in let s = stand k (omega arith) in omega arith
+    ]
 
 -- ---- the condensers are sized
 pub sized_none : (w : Network) (loads : List Float) (sources buses : List ℕ) (count : ℕ) (mvars : List Float) → count ≡ 0 → mvars ≡ sized w loads sources buses count mvars

@@ -7,14 +7,18 @@ use Prim.Native.Nat.{ℕ, ◌<◌}
 use native.Mathlib.Omega.{arith}
 use borrow.Author.Tests.{ne_eqb, eqb-false, ltb-true, not-true}
 use lib.Dec.{eqb, ltb}
-use lib.ListN.{get_or}
+use lib.ListN.{length, get_or, set, get_or-map}
 use lib.Ieee.{Float, lt, le}
 use Rattle.loops.specs.Figures.{at, plus, inside, nought, ten_thousand, infinity}
 use Rattle.loops.proofs.Bools.{both, unequal}
-use Rattle.std.specs.Prelude.{Some, None}
+use Rattle.std.specs.Prelude.{Option, Some, None}
 use Rattle.std.specs.Option.{ForSome}
 use Rattle.placement_defs.specs.Request.{Net, corridor_ok}
-use Rattle.placement_defs.specs.Distance.{Labels, shortens, far_end, considered, offered, reached}
+use Rattle.std.proofs.lemmas.List.{map-set, get_or_default, length-map}
+use Rattle.placement.specs.declared.labels.Mark.{Mark}
+use Rattle.placement.specs.declared.labels.Mark.TheVariants.{Rest, Candidate, Settled}
+use Rattle.placement.specs.Marks.{mark_of, marks_in, origin_of, origins_in}
+use Rattle.placement_defs.specs.Distance.{Labels, candidate, nobody, shortens, far_end, considered, offered, reached}
 
 -- a choice that is a bus
 pub some_chosen : (best n : ℕ) → best < n → eqb best n ≡ false
@@ -32,6 +36,25 @@ reached_no l d r e t = ap (λ (x : Float). lt nought l && lt d x) (sym e) ∙ t
 
 pub reached_yes : (l d r : Float) → r ≡ infinity → (lt nought l && lt d r) ≡ true → (lt nought l && lt d infinity) ≡ true
 reached_yes l d r e t = ap (λ (x : Float). lt nought l && lt d x) (sym e) ∙ t
+
+-- ---- a mark, as the definition numbers it
+pub marked_other : (m : Mark) → (m ≡ Candidate → ⊥) → eqb (mark_of m) candidate ≡ false
+marked_other Rest d = refl
+marked_other Candidate d = absurd (d refl)
+marked_other Settled d = refl
+
+pub mark_at : (l : List Mark) (i : ℕ) → get_or (marks_in l) i 0 ≡ mark_of (get_or l i Rest)
+mark_at l i = get_or-map mark_of l i Rest
+
+pub mark_set : (l : List Mark) (i : ℕ) (m : Mark) → marks_in (set l i m) ≡ set (marks_in l) i (mark_of m)
+mark_set l i m = map-set mark_of l i m
+
+-- ---- and the source that a bus comes from
+pub origin_at : (l : List (Option ℕ)) (i : ℕ) → i < length l → get_or (origins_in l) i 0 ≡ origin_of (get_or l i None)
+origin_at l i h = get_or_default (origins_in l) i 0 nobody (let e = length-map l origin_of in omega arith) ∙ get_or-map origin_of l i None
+
+pub origin_set : (l : List (Option ℕ)) (i : ℕ) (o : Option ℕ) → origins_in (set l i o) ≡ set (origins_in l) i (origin_of o)
+origin_set l i o = map-set origin_of l i o
 
 -- ---- a corridor considered
 neither : (p q : Bool) → (not p && not q) ≡ true → (p || q) ≡ false

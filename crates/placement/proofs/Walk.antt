@@ -8,17 +8,20 @@ use Prim.Native.Nat.{ℕ, zero, suc, ◌+◌, ◌-◌, ◌<◌, ◌≤◌}
 use native.Mathlib.Decide.{ℕ_discrete}
 use native.Mathlib.Omega.{arith}
 use native.Mathlib.Numerals.{add-one}
-use borrow.Author.Tests.{eq-eqb, ne_eqb, eqb-true}
-use lib.Dec.{eqb}
+use borrow.Author.Tests.{eq-eqb, ne_eqb, eqb-true, ltb-false}
+use lib.Dec.{eqb, ltb}
 use lib.ListN.{length, get_or, set, length-set}
 use lib.Seq.{get_or-set_same, get_or-set_other}
 use Rattle.loops.specs.Loops.{iter}
 use Rattle.loops.proofs.Bools.{or_left, or_right}
-use Rattle.loops.proofs.Loops.{iter_all, iter_more}
+use Rattle.loops.proofs.Loops.{iter_all, iter_more, iter_end}
 use Rattle.loops.proofs.Scan.{first_pass, first_stop, first_end}
 use Rattle.placement_defs.specs.Request.{Net}
 use Rattle.placement_defs.specs.Distance.{Network, Labels, considered, corridor, settle, spread}
 use Rattle.placement.specs.Corridors.{ends_at, next_at, Listed}
+use Rattle.std.specs.Prelude.{Option, Some, None}
+use Rattle.std.specs.Option.{ForSome}
+use Rattle.placement.specs.Choices.{number}
 use Rattle.placement.proofs.Tests.{net_ends}
 
 -- ---- the next corridor at a bus
@@ -87,14 +90,22 @@ module _ (w : Network) (i : ℕ) where
   next_is c h = go (w.m - c) c (omega arith)
 
 -- ---- the list is walked: after corridor c comes the next at bus i
-pub next_after : (w : Network) (i c x y : ℕ) → ends_at w i c ≡ true → x ≡ next_at w (get_or w.a c 0) (c + 1) → y ≡ next_at w (get_or w.b c 0) (c + 1)
-    → cond (eqb (get_or w.a c 0) i) x y ≡ next_at w i (c + 1)
-next_after w i c x y h p q = go (eqb (get_or w.a c 0) i) (eqb (get_or w.b c 0) i) refl refl h
+module _ (w : Network) (head afterA afterB : List ℕ) (r : Listed w 0 head afterA afterB) (i c : ℕ) (h : c < w.m) where
+  pub next_by_a : get_or w.a c 0 ≡ i → get_or afterA c 0 ≡ next_at w i (c + 1)
+  next_by_a e = r.next_a c (omega arith) h ∙ ap (λ (v : ℕ). next_at w v (c + 1)) e
+
+  pub next_by_b : ends_at w i c ≡ true → (get_or w.a c 0 ≡ i → ⊥) → get_or afterB c 0 ≡ next_at w i (c + 1)
+  next_by_b at_i d =
+      let e = ap (λ (x : Bool). x || eqb (get_or w.b c 0) i) (sym (ne_eqb (get_or w.a c 0) i d)) ∙ at_i in
+      r.next_b c (omega arith) h ∙ ap (λ (v : ℕ). next_at w v (c + 1)) (eqb-true (get_or w.b c 0) i e)
+
+-- as an answer
+pub next_kept : (w : Network) (i c x : ℕ) (next : Option ℕ) → c ≤ w.m → next ≡ cond (ltb x w.m) (Some x) None → x ≡ next_at w i c → number w.m next ≡ next_at w i c
+next_kept w i c x next h e q = ap (number w.m) e ∙ go (ltb x w.m) refl
   where
-    go : (s t : Bool) → eqb (get_or w.a c 0) i ≡ s → eqb (get_or w.b c 0) i ≡ t → (s || t) ≡ true → cond s x y ≡ next_at w i (c + 1)
-    go true t e f u = p ∙ ap (λ (v : ℕ). next_at w v (c + 1)) (eqb-true (get_or w.a c 0) i e)
-    go false true e f u = q ∙ ap (λ (v : ℕ). next_at w v (c + 1)) (eqb-true (get_or w.b c 0) i f)
-    go false false e f u = let z : ◌≡◌ {A = ℕ} 0 1 = cc in absurd (omega arith)
+    go : (b : Bool) → ltb x w.m ≡ b → number w.m (cond b (Some x) None) ≡ next_at w i c
+    go true t = q
+    go false t = let k = next_is w i c h in let u = k.within in let l = ltb-false x w.m t in omega arith
 
 -- ---- the list is made, from the last corridor to the first
 pub listed_none : (w : Network) (head afterA afterB : List ℕ) → length head ≡ 256 → length afterA ≡ 256 → length afterB ≡ 256
@@ -169,30 +180,39 @@ listed_turn w net left x y head afterA afterB head' afterA' afterB' low high r e
     rw (eh, ea, eb, ex, ey) (listed_next w net (left - 1) (omega arith) head afterA afterB (subst (λ (t : ℕ). Listed w t head afterA afterB) z r))
 
 -- ---- the walk: what is left of it gives what is left of the table
-module _ (w : Network) (head afterA afterB : List ℕ) (r : Listed w 0 head afterA afterB) (i : ℕ) where
-  abbrev Walked : ℕ → Labels → Labels → Type 0
-  Walked c s t = (c ≤ w.m) × (c < w.m → ends_at w i c ≡ true) × (iter (corridor w i) (w.m - c) c s ≡ t)
+pub record Walked (w : Network) (i : ℕ) (next : Option ℕ) (s t : Labels) : Type 0 where
+  pub within : ForSome next (λ c. c < w.m)
+  pub ends : ForSome next (λ c. ends_at w i c ≡ true)
+  pub rest : iter (corridor w i) (w.m - number w.m next) (number w.m next) s ≡ t
 
-  pub walk_start : i < w.n → (s : Labels) → Walked (get_or head i 0) s (iter (corridor w i) w.m 0 s)
-  walk_start h s =
-      let k = next_is w i 0 (omega arith) in
-      rw (r.first i h) (k.within, k.ends, sym (k.skips s) ∙ iter_all (corridor w i) w.m s)
+-- from corridor c on
+walked : (w : Network) (i c : ℕ) (next : Option ℕ) (s t : Labels) → c ≤ w.m → ForSome next (λ e. e < w.m) → number w.m next ≡ next_at w i c → iter (corridor w i) (w.m - c) c s ≡ t
+    → Walked w i next s t
+walked w i c next s t h b e q =
+    let k = next_is w i c h in
+    record {
+      within = b;
+      ends = λ x z. let l = b x z in let u : x ≡ next_at w i c = ap (number w.m) (sym z) ∙ e in subst (λ (v : ℕ). ends_at w i v ≡ true) (sym u) (k.ends (omega arith));
+      rest = ap (λ (v : ℕ). iter (corridor w i) (w.m - v) v s) e ∙ sym (k.skips s) ∙ q;
+    }
 
-  module _ (c x e : ℕ) (hc : c < w.m) (at_i : ends_at w i c ≡ true) (begins : e ≡ get_or w.a c 0) (next : x ≡ cond (eqb e i) (get_or afterA c 0) (get_or afterB c 0)) where
-    follows : x ≡ next_at w i (c + 1)
-    follows =
-        next
-        ∙ ap (λ (t : ℕ). cond (eqb t i) (get_or afterA c 0) (get_or afterB c 0)) begins
-        ∙ next_after w i c (get_or afterA c 0) (get_or afterB c 0) at_i (r.next_a c (omega arith) hc) (r.next_b c (omega arith) hc)
+module _ (w : Network) (i : ℕ) (next : Option ℕ) where
+  pub walk_start : (s : Labels) → ForSome next (λ c. c < w.m) → number w.m next ≡ next_at w i 0 → Walked w i next s (iter (corridor w i) w.m 0 s)
+  walk_start s b e = walked w i 0 next s (iter (corridor w i) w.m 0 s) (omega arith) b e (iter_all (corridor w i) w.m s)
 
-    pub walk_farther : c < x
-    walk_farther = let k = next_is w i (c + 1) (omega arith) in let l = k.after in let f = follows in omega arith
+  module _ (s₀ s t : Labels) (r : Walked w i next s t) where
+    module _ (c : ℕ) (is : next ≡ Some c) (later : Option ℕ) (e : number w.m later ≡ next_at w i (c + 1)) where
+      here : number w.m next ≡ c
+      here = ap (number w.m) is
 
-    pub walk_next : (s s' t : Labels) → s' ≡ corridor w i c s → iter (corridor w i) (w.m - c) c s ≡ t → Walked x s' t
-    walk_next s s' t q z =
-        let k = next_is w i (c + 1) (omega arith) in
-        rw follows (k.within, k.ends, sym (k.skips s') ∙ sym (iter_more (corridor w i) hc q) ∙ z)
+      pub walk_farther : w.m - number w.m later < w.m - number w.m next
+      walk_farther = let h = r.within c is in let k = (next_is w i (c + 1) (omega arith)).after in let z = here in omega arith
 
-pub spread_is : (w : Network) (i : ℕ) (s s₀ t : Labels) → s₀ ≡ settle i s → t ≡ iter (corridor w i) w.m 0 s₀ → t ≡ spread w i s
-unfolding spread
-spread_is w i s s₀ t e q = q ∙ ap (λ (u : Labels). iter (corridor w i) w.m 0 u) e
+      pub walk_next : (s' : Labels) → ForSome later (λ e. e < w.m) → s' ≡ corridor w i c s → Walked w i later s' t
+      walk_next s' b q =
+          let h = r.within c is in
+          walked w i (c + 1) later s' t (omega arith) b e (sym (iter_more (corridor w i) h q) ∙ ap (λ (v : ℕ). iter (corridor w i) (w.m - v) v s) (sym here) ∙ r.rest)
+
+    pub spread_is : next ≡ None → t ≡ iter (corridor w i) w.m 0 (settle i s₀) → s ≡ spread w i s₀
+    unfolding spread
+    spread_is is q = let z : number w.m next ≡ w.m = ap (number w.m) is in sym (iter_end (corridor w i) (omega arith)) ∙ r.rest ∙ q

@@ -2,5 +2,6 @@
 pub mod Choices
 pub mod Corridors
 pub mod Blocks
+pub mod Marks
 pub mod Stages
 pub mod Views

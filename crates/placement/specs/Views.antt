@@ -2,11 +2,12 @@
 use Rattle.std.specs.Prelude.{ℕ, Bool, cond, List, length, map, Float}
 use Rattle.loads.specs.Load.{loads_of}
 use Rattle.placement_defs.specs.Distance as Distance
+use Rattle.placement.specs.Marks.{marks_in, origins_in}
 use Rattle.placement.specs.declared.labels.Labels.{Labels}
 use Rattle.placement.specs.declared.network.Network.{Network}
 
 abbrev pub labels_in : Labels → Distance.Labels
-labels_in l = Distance.labels l.mark l.dist l.from
+labels_in l = Distance.labels (marks_in l.mark) l.dist (origins_in l.from)
 
 abbrev pub network_in : Network → Distance.Network
 network_in w = Distance.network w.n (length w.a.now) w.a.now w.b.now w.km.now

@@ -1,5 +1,8 @@
 // The candidates by blocks of sixteen buses. The nearest of each block is kept, so that the next bus to settle is found among sixteen, and
 // when it is settled only its own block is looked at again.
+//
+// Nine functions here and two of distance.rt ask that the number of buses is at most 256: `Labels` has all places whatever it is, and the network, whose field it
+// is, is not what a block is searched by.
 ghost use Rattle.std.specs.Prelude.{◌≡◌, ◌+◌, ◌≤◌, ◌<◌, ◌||◌, eqb, true, length};
 ghost use Rattle.std.specs.Float.Ieee.{lt};
 ghost use Rattle.loops.specs.Figures.{at};
@@ -7,10 +10,11 @@ ghost use Rattle.std.specs.Option.{ForSome};
 ghost use Rattle.placement_defs.specs.Request.{most_buses};
 ghost use Rattle.placement_defs.specs.Distance.{nearer, nearest_to, settle, reached};
 ghost use Rattle.placement.specs.Choices.{number};
+ghost use Rattle.placement.specs.Marks.{marks_in, origin_of};
 ghost use Rattle.placement.specs.Views.{labels_in};
 ghost use Rattle.placement.specs.Blocks.{block_size, most_blocks, Chosen, closer, nearest_with, Front};
 
-use crate::labels::{CANDIDATE, Labels, SETTLED};
+use crate::labels::{Labels, Mark};
 use crate::{BLOCKS, MOST_BUSES};
 
 // Buses of a block.
@@ -31,11 +35,11 @@ fn is_nearer(n: usize, dist: &[f64; MOST_BUSES], best: Option<usize>, i: usize) 
 fn nearer_bus(n: usize, labels: &Labels, best: Option<usize>, i: usize) -> Option<usize>
     requires { (n ≤ most_buses) × (i < n) × ForSome best (λ b. b < n) }
     ensures bus { ForSome result (λ b. b < n) }
-    ensures value { number n result ≡ nearer n labels.now.mark labels.now.dist (number n best) i }
+    ensures value { number n result ≡ nearer n (marks_in labels.now.mark) labels.now.dist (number n best) i }
 {
-    if labels.mark[i] != CANDIDATE {
+    let Mark::Candidate = labels.mark[i] else {
         return best;
-    }
+    };
     if is_nearer(n, &labels.dist, best, i) {
         Some(i)
     } else {
@@ -46,7 +50,7 @@ fn nearer_bus(n: usize, labels: &Labels, best: Option<usize>, i: usize) -> Optio
 // The nearest candidate of the block that begins at bus lo, the lowest on a tie.
 fn nearest_in_block(n: usize, labels: &Labels, lo: usize) -> Option<usize>
     requires { (lo < n) × (n ≤ most_buses) }
-    ensures { Chosen n labels.now.mark labels.now.dist lo (lo + block_size) result }
+    ensures { Chosen n (marks_in labels.now.mark) labels.now.dist lo (lo + block_size) result }
 {
     let mut best = None;
     for i in lo..(lo + BLOCK).min(n) {
@@ -59,7 +63,7 @@ fn nearest_in_block(n: usize, labels: &Labels, lo: usize) -> Option<usize>
 #[tactic(auto, using(crate::proofs::Ranges::numbers_fewer))]
 pub fn look_at_blocks(n: usize, labels: &Labels, nearest: &mut [Option<usize>; BLOCKS])
     requires { (n ≤ most_buses) × (length nearest.old ≡ most_blocks) }
-    ensures { Front n labels.now.mark labels.now.dist nearest.new }
+    ensures { Front n (marks_in labels.now.mark) labels.now.dist nearest.new }
 {
     for k in 0..n.div_ceil(BLOCK) {
         nearest[k] = nearest_in_block(n, labels, BLOCK * k);
@@ -94,9 +98,9 @@ pub fn nearest_candidate(
     nearest: &[Option<usize>; BLOCKS],
 ) -> Option<usize>
     requires n_le_most_buses { n ≤ most_buses }
-    requires front { Front n labels.now.mark labels.now.dist nearest.now }
+    requires front { Front n (marks_in labels.now.mark) labels.now.dist nearest.now }
     ensures bus { ForSome result (λ b. b < n) }
-    ensures value { number n result ≡ nearest_to n labels.now.mark labels.now.dist n }
+    ensures value { number n result ≡ nearest_to n (marks_in labels.now.mark) labels.now.dist n }
 {
     let mut best = None;
     for k in 0..n.div_ceil(BLOCK) {
@@ -108,11 +112,11 @@ pub fn nearest_candidate(
 // Settles bus i.
 pub fn settle_bus(n: usize, i: usize, labels: &mut Labels, nearest: &mut [Option<usize>; BLOCKS])
     requires n_le_most_buses { (n ≤ most_buses) × (i < n) }
-    requires front { Front n labels.old.mark labels.old.dist nearest.old }
+    requires front { Front n (marks_in labels.old.mark) labels.old.dist nearest.old }
     ensures labels_after { labels_in labels.new ≡ settle i (labels_in labels.old) }
-    ensures front_2 { Front n labels.new.mark labels.new.dist nearest.new }
+    ensures front_2 { Front n (marks_in labels.new.mark) labels.new.dist nearest.new }
 {
-    labels.mark[i] = SETTLED;
+    labels.mark[i] = Mark::Settled;
     let k = i / BLOCK;
     nearest[k] = nearest_in_block(n, labels, BLOCK * k);
 }
@@ -140,17 +144,17 @@ pub fn reach_bus(
     n: usize,
     j: usize,
     nd: f64,
-    src: u16,
+    src: Option<u8>,
     labels: &mut Labels,
     nearest: &mut [Option<usize>; BLOCKS],
 )
     requires n_le_most_buses { (n ≤ most_buses) × (j < n) × (lt nd (at labels.old.dist j) ≡ true) }
-    requires front { Front n labels.old.mark labels.old.dist nearest.old }
+    requires front { Front n (marks_in labels.old.mark) labels.old.dist nearest.old }
     ensures from_after { labels_in labels.new
-        ≡ reached j nd src (labels_in labels.old) }
-    ensures front_2 { Front n labels.new.mark labels.new.dist nearest.new }
+        ≡ reached j nd (origin_of src) (labels_in labels.old) }
+    ensures front_2 { Front n (marks_in labels.new.mark) labels.new.dist nearest.new }
 {
-    labels.mark[j] = CANDIDATE;
+    labels.mark[j] = Mark::Candidate;
     labels.dist[j] = nd;
     labels.from[j] = src;
     let k = j / BLOCK;

@@ -1,15 +1,16 @@
 // Condensers: where they stand, and how large they are.
-ghost use Rattle.std.specs.Prelude.{◌≡◌, ◌≤◌, ◌<◌, length};
+ghost use Rattle.std.specs.Prelude.{◌≡◌, ℕ, ◌≤◌, ◌<◌, length, get_or};
 ghost use Rattle.std.specs.Option.{ForSome};
 ghost use Rattle.placement_defs.specs.Request.{most_buses, Units};
 ghost use Rattle.placement_defs.specs.Support.{farther, farthest_to, next_by, added, served_to, mvar_of, sized, flagged};
 ghost use Rattle.placement.specs.Choices.{number};
+ghost use Rattle.placement.specs.Marks.{origin_of, origins_in};
 ghost use Rattle.placement.specs.Stages.{Joined, Placing};
 ghost use Rattle.placement.specs.Views.{network_in, loads_in, flags_in};
 
 use crate::MOST_BUSES;
 use crate::distance::{distance_to_sources, distance_with_source};
-use crate::labels::{Labels, REST};
+use crate::labels::{Labels, Mark};
 use crate::network::Network;
 
 // A load farther than this from every source gets a condenser: reactive power does not travel far, and voltage control areas span tens to a
@@ -70,7 +71,8 @@ fn next_condenser(network: &Network, dist: &[f64; MOST_BUSES]) -> Option<usize>
 // Joins condensers to the sources while a loaded bus lies far, and writes their buses.
 fn join_condensers(network: &Network, sources: &mut [bool; MOST_BUSES], buses: &mut [u32]) -> usize
     requires { (length sources.old ≡ most_buses) × (length buses.old ≡ network.now.n) }
-    ensures { Joined (network_in network.now) (loads_in network.now) (flags_in sources.old) buses.old (flags_in sources.new) buses.new result }
+    ensures joined { Joined (network_in network.now) (loads_in network.now) (flags_in sources.old) buses.old (flags_in sources.new) buses.new result }
+    ensures stand { (k : ℕ) → k < result → get_or buses.new k 0 < most_buses }
 {
     let mut labels = Labels::blank();
     distance_to_sources(network, sources, &mut labels);
@@ -80,22 +82,31 @@ fn join_condensers(network: &Network, sources: &mut [bool; MOST_BUSES], buses: &
         };
         sources[i] = true;
         buses[count] = i as u32;
-        labels.mark = [REST; MOST_BUSES];
+        labels.mark = [Mark::Rest; MOST_BUSES];
         distance_with_source(network, i, &mut labels);
     }
     network.n
 }
 
 // One more load, where it lies nearest to the bus.
-fn add_load(sum: f64, load: f64, from: u16, bus: u32) -> f64
-    ensures { result ≡ added sum load from bus }
+fn add_load(sum: f64, load: f64, from: Option<u8>, bus: u32) -> f64
+    requires { bus < most_buses }
+    ensures { result ≡ added sum load (origin_of from) bus }
 {
-    if from as u32 == bus { sum + load } else { sum }
+    let Some(source) = from else {
+        return sum;
+    };
+    if source as u32 == bus {
+        sum + load
+    } else {
+        sum
+    }
 }
 
 // The loads that lie nearest to a bus, added by bus index.
-fn served_by(network: &Network, from: &[u16; MOST_BUSES], bus: u32) -> f64
-    ensures { result ≡ served_to (loads_in network.now) from.now bus network.now.n }
+fn served_by(network: &Network, from: &[Option<u8>; MOST_BUSES], bus: u32) -> f64
+    requires { bus < most_buses }
+    ensures { result ≡ served_to (loads_in network.now) (origins_in from.now) bus network.now.n }
 {
     let mut sum = 0.0;
     for i in 0..network.n {
@@ -106,8 +117,9 @@ fn served_by(network: &Network, from: &[u16; MOST_BUSES], bus: u32) -> f64
 
 // A condenser's size: half of what it serves, or the least bank. `f64::max` would answer the least bank of a NaN.
 #[tactic(auto, unfolding(placement_defs::specs::Support::mvar_of))]
-fn mvar_of(network: &Network, from: &[u16; MOST_BUSES], bus: u32) -> f64
-    ensures { result ≡ mvar_of (loads_in network.now) from.now network.now.n bus }
+fn mvar_of(network: &Network, from: &[Option<u8>; MOST_BUSES], bus: u32) -> f64
+    requires { bus < most_buses }
+    ensures { result ≡ mvar_of (loads_in network.now) (origins_in from.now) network.now.n bus }
 {
     loops::greater(
         VOLTAGE_SUPPORT_Q_SHARE * served_by(network, from, bus),
@@ -123,7 +135,8 @@ fn size_condensers(
     buses: &[u32],
     mvars: &mut [f64],
 )
-    requires { (length buses.now ≡ network.now.n) × (length mvars.old ≡ network.now.n) × (count ≤ network.now.n) }
+    requires lengths { (length buses.now ≡ network.now.n) × (length mvars.old ≡ network.now.n) × (count ≤ network.now.n) }
+    requires stand { (k : ℕ) → k < count → get_or buses.now k 0 < most_buses }
     ensures { mvars.new ≡ sized (network_in network.now) (loads_in network.now) (flags_in sources.now) buses.now count mvars.old }
 {
     if count == 0 {

@@ -4,10 +4,11 @@ ghost use Rattle.loops.specs.Loops.{iter};
 ghost use Rattle.placement_defs.specs.Request.{most_buses};
 ghost use Rattle.placement_defs.specs.Distance.{seeded, seed, shortens, far_end, considered, spread, searched, distances_from};
 ghost use Rattle.placement.specs.Blocks.{Front};
+ghost use Rattle.placement.specs.Marks.{mark_of, marks_in};
 ghost use Rattle.placement.specs.Views.{labels_in, network_in, flag_of, flags_in};
 
 use crate::blocks::{look_at_blocks, nearest_candidate, reach_bus, settle_bus};
-use crate::labels::{CANDIDATE, Labels, SETTLED};
+use crate::labels::{Labels, Mark};
 use crate::network::Network;
 use crate::{BLOCKS, MOST_BUSES};
 
@@ -19,9 +20,9 @@ fn place_source(i: usize, source: bool, labels: &mut Labels)
     if !source {
         return;
     }
-    labels.mark[i] = CANDIDATE;
+    labels.mark[i] = Mark::Candidate;
     labels.dist[i] = 0.0;
-    labels.from[i] = i as u16;
+    labels.from[i] = Some(i as u8);
 }
 
 // The sources, from which the search begins.
@@ -35,10 +36,10 @@ fn place_sources(n: usize, sources: &[bool; MOST_BUSES], labels: &mut Labels)
 }
 
 // Whether a way of nd km is taken to a bus with this mark and distance.
-fn shortens_way(mark: u16, nd: f64, d: f64) -> bool
-    ensures { result ≡ shortens mark nd d }
+fn shortens_way(mark: Mark, nd: f64, d: f64) -> bool
+    ensures { result ≡ shortens (mark_of mark) nd d }
 {
-    !(mark == SETTLED) & (nd < d)
+    !matches!(mark, Mark::Settled) & (nd < d)
 }
 
 fn far_end(n: usize, a: usize, b: usize, i: usize) -> usize
@@ -60,9 +61,9 @@ fn consider(
     nearest: &mut [Option<usize>; BLOCKS],
 )
     requires n_le_most_buses { (n ≤ most_buses) × (i < n) × (a < n) × (b < n) }
-    requires front { Front n labels.old.mark labels.old.dist nearest.old }
+    requires front { Front n (marks_in labels.old.mark) labels.old.dist nearest.old }
     ensures from_after { labels_in labels.new ≡ considered i a b km (labels_in labels.old) }
-    ensures front_2 { Front n labels.new.mark labels.new.dist nearest.new }
+    ensures front_2 { Front n (marks_in labels.new.mark) labels.new.dist nearest.new }
 {
     if (a != i) & (b != i) {
         return;
@@ -84,14 +85,13 @@ fn spread_from(
     nearest: &mut [Option<usize>; BLOCKS],
 )
     requires i_lt_n { i < network.now.n }
-    requires front { Front network.now.n labels.old.mark labels.old.dist nearest.old }
+    requires front { Front network.now.n (marks_in labels.old.mark) labels.old.dist nearest.old }
     ensures from_after { labels_in labels.new ≡ spread (network_in network.now) i (labels_in labels.old) }
-    ensures front_2 { Front network.now.n labels.new.mark labels.new.dist nearest.new }
+    ensures front_2 { Front network.now.n (marks_in labels.new.mark) labels.new.dist nearest.new }
 {
     settle_bus(network.n, i, labels, nearest);
-    let mut c = network.head[i] as usize;
-    // A walk along the bus's list of corridors: no index is counted.
-    while c < network.a.len() {
+    let mut next = network.first(i);
+    while let Some(c) = next {
         consider(
             network.n,
             i,
@@ -101,7 +101,7 @@ fn spread_from(
             labels,
             nearest,
         );
-        c = network.after(c, i);
+        next = network.after(c, i);
     }
 }
 

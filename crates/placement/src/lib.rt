@@ -12,6 +12,7 @@ use refusal::Refusal;
 mod blocks;
 mod check;
 mod condenser;
+mod corridors;
 mod distance;
 mod labels;
 mod network;
@@ -56,6 +57,6 @@ pub fn place_voltage_support(
         generators,
     };
     request.check(buses.len(), mvars.len())?;
-    let network = Network::new(n, reading, weight, a, b, km);
+    let network = Network::new(&request);
     Ok(condenser::place(&network, generators, buses, mvars))
 }

@@ -1,7 +1,7 @@
 // What a search reads: the loads of the buses, the corridors between them, and the corridors at each bus as a list in the order of the
 // table: the first corridor of each bus, and after each corridor the next one at either of its ends. The lists are made once, so that the
 // search looks only at the corridors of the bus that it settles.
-ghost use Rattle.std.specs.Prelude.{◌≡◌, cond, ◌<◌, eqb, get_or, set, length};
+ghost use Rattle.std.specs.Prelude.{◌≡◌, ◌<◌, get_or, set, length};
 ghost use Rattle.loops.specs.Figures.{at};
 ghost use Rattle.loads.specs.Load.{loads_of};
 ghost use Rattle.placement_defs.specs.Request.{most_buses, most_corridors, Net};
@@ -9,6 +9,7 @@ ghost use Rattle.placement_defs.specs.Distance.{network};
 ghost use Rattle.placement.specs.Corridors.{Listed};
 ghost use Rattle.placement.specs.Stages.{Called};
 
+use crate::check::Request;
 use crate::{MOST_BUSES, MOST_CORRIDORS};
 
 #[derive(Drop)]
@@ -19,6 +20,8 @@ pub struct Network<'a> {
     pub a: &'a [u32],
     pub b: &'a [u32],
     pub km: &'a [f64],
+    // Sixteen binary digits, with the count of corridors for none: an Option of as many takes twice the place, which a request of two buses pays
+    // for too, and the lists would have to carry beside it that each corridor is one of the table, which the test in `kept` shows here.
     pub head: [u16; MOST_BUSES],
     pub after_a: [u16; MOST_CORRIDORS],
     pub after_b: [u16; MOST_CORRIDORS],
@@ -49,19 +52,21 @@ fn list_corridor(
 
 impl<'a> Network<'a> {
     // The corridors are listed from the last to the first, so that each bus has them in the order of the table.
-    pub fn new(
-        n: usize,
-        reading: &'a [f64],
-        weight: &'a [f64],
-        a: &'a [u32],
-        b: &'a [u32],
-        km: &'a [f64],
-    ) -> Network<'a>
-        requires called { Called n reading.now weight.now }
-        requires net { Net n (length a.now) a.now b.now km.now }
-        ensures buses { result.n ≡ n }
-        ensures tables { (result.reading.now ≡ reading.now) × (result.weight.now ≡ weight.now) × (result.a.now ≡ a.now) × (result.b.now ≡ b.now) × (result.km.now ≡ km.now) }
+    pub fn new(request: &Request<'a>) -> Network<'a>
+        requires called { Called request.now.n request.now.reading request.now.weight }
+        requires net { Net request.now.n (length request.now.a) request.now.a request.now.b request.now.km }
+        ensures buses { result.n ≡ request.now.n }
+        ensures tables { (result.reading.now ≡ request.now.reading) × (result.weight.now ≡ request.now.weight) × (result.a.now ≡ request.now.a) × (result.b.now ≡ request.now.b) × (result.km.now ≡ request.now.km) }
     {
+        let Request {
+            n,
+            reading,
+            weight,
+            a,
+            b,
+            km,
+            ..
+        } = *request;
         let mut head = [a.len() as u16; MOST_BUSES];
         let mut after_a = [0; MOST_CORRIDORS];
         let mut after_b = [0; MOST_CORRIDORS];
@@ -94,17 +99,5 @@ impl<'a> Network<'a> {
         ensures { result ≡ at (loads_of self.now.n self.now.reading.now self.now.weight.now) i }
     {
         loads::load_by(self.reading[i], self.weight[i])
-    }
-
-    // The corridor after c, which ends at bus i: of those that come next at its ends, the one at i.
-    pub fn after(&self, c: usize, i: usize) -> usize
-        requires { c < length self.now.a.now }
-        ensures { result ≡ cond (eqb (get_or self.now.a.now c 0) i) (get_or self.now.after_a c 0) (get_or self.now.after_b c 0) }
-    {
-        if self.a[c] as usize == i {
-            self.after_a[c] as usize
-        } else {
-            self.after_b[c] as usize
-        }
     }
 }

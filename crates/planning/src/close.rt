@@ -86,7 +86,7 @@ fn spread(leader: &[u32], angle: &[f64]) -> f64
 }
 
 // ---- loadings
-// One index for three slices: zipped twice the loop would take pairs of pairs apart.
+// One index for three slices, as the clause has it: zipped, the loop would want a law of what it yields.
 fn max_loading(circuits: &[u32], flow: &[f64], rate: &[f64]) -> f64
     requires { Rated circuits.now flow.now rate.now }
     ensures { result ≡ max_loading (loadings_by circuits.now flow.now rate.now) }
@@ -143,7 +143,8 @@ fn count_upsized(upsized: &[u32]) -> u32
 }
 
 // ---- levels
-// The levels above the request that no bus took.
+// The levels above the request that no bus took. That `above` is at most `most_levels` five functions ask, here and in opening.rt and
+// stiffen.rt: it is one number of the request, in no column and no struct.
 fn unused(above: usize, level: &[u32]) -> u32
     requires { above ≤ most_levels }
     ensures { result ≡ least_of above level.now }
@@ -182,6 +183,7 @@ fn add_levels(ladder: &[f64], above: usize, unused: usize, added: &mut [f64])
 }
 
 // The closing figures: the ratings, the levels added, and tiers in the place of levels.
+// What it writes goes in slices of its own, and it reads what the stages before it wrote in theirs: src/tables.rt.
 pub fn close(
     mode: PlanMode,
     above: usize,
@@ -237,6 +239,7 @@ pub fn keep_if(keeps: bool, kept: &[u32], to: &mut [u32])
 }
 
 // After 8 or 9 every place is zero.
+// These thirteen slices are all that `plan_corridors` is lent to write in, in no struct: src/tables.rt.
 pub fn clear(
     circuits: &mut [u32],
     flow: &mut [f64],

@@ -12,7 +12,6 @@ ghost use Rattle.planning.specs.Design.{lines_for, ends_for, Lines, EndsFit, Lin
 ghost use Rattle.planning.specs.Fill.{designs_for, Drawable};
 ghost use Rattle.planning.specs.Tables.{grid_in};
 
-use crate::figures::choose;
 use crate::tables::Grid;
 use impedance::SeriesImpedance;
 use loops::{lesser, magnitude};
@@ -139,8 +138,7 @@ pub fn ends_of(grid: &Grid, level: &[u32], k: usize) -> Ends
     let j = grid.b[k] as usize;
     let kv_a = kv_at(grid.ladder, level, i);
     let kv_b = kv_at(grid.ladder, level, j);
-    let from = choose(kv_b <= kv_a, i, j);
-    let to = choose(kv_b <= kv_a, j, i);
+    let (from, to) = if kv_b <= kv_a { (i, j) } else { (j, i) };
     let steps_down = differ(kv_a, kv_b);
     Ends {
         from,

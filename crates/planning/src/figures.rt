@@ -1,12 +1,6 @@
-// A choice of two indices; and a count of indices.
-ghost use Rattle.std.specs.Prelude.{◌≡◌, ℕ, ◌^◌, ◌<◌, Bool, if◌then◌else◌};
+// A count of indices.
+ghost use Rattle.std.specs.Prelude.{◌≡◌, ℕ, ◌^◌, ◌<◌, Bool};
 ghost use Rattle.plan_defs.specs.Lists.{counting};
-
-pub fn choose(first: bool, i: usize, j: usize) -> usize
-    ensures { result ≡ (if first then i else j) }
-{
-    if first { i } else { j }
-}
 
 // How many indices below `count` pass a test that reads several slices; of one slice `filter` and `count` say it.
 pub fn counting<F: Fn(usize) -> bool>(count: usize, test: F) -> u32

@@ -20,6 +20,9 @@ use mode::PlanMode;
 use refusal::Refusal;
 
 // ---- components and grounds
+// That there are as many leaders as loads six functions ask, from `ground_of` to `dispatch_components`. No struct holds both: the leaders
+// are a part of the lent work that `component_leaders` writes after the columns are joined in `Supply`, and `Opened` holds them only
+// once the grounds are there.
 // Each bus's leader.
 pub fn component_leaders(n: usize, m: usize, a: &[u32], b: &[u32], leader: &mut [u32])
     requires { Joined n m a.now b.now leader.old }
@@ -65,15 +68,16 @@ pub fn ground_components(leader: &[u32], supply: &Supply, ground: &mut [u32]) ->
 }
 
 // ---- dispatch
+// That there is a figure of `mw` for each unit five functions ask, here and of the injections: no struct holds both, since the dispatch
+// writes `mw`, and `inject` takes a column of the units too.
 // A component's generators, ascending.
 fn units_in(root: u32, leader: &[u32], supply: &Supply) -> ArrayVec<u32, 128>
     requires { length leader.now ≡ length supply.now.load.now }
     ensures { result.items ≡ units_in (bus_case supply.now.bus.now) leader.now root }
 {
     let mut units = ArrayVec::new();
-    for k in 0..supply.bus.len() {
-        let i = supply.bus[k] as usize;
-        if leader[i] == root {
+    for (k, i) in supply.bus.iter().enumerate() {
+        if leader[*i as usize] == root {
             units.push(k as u32);
         }
     }
@@ -86,9 +90,9 @@ fn demand_of(root: u32, leader: &[u32], load: &[f64]) -> f64
     ensures { result ≡ sum_over (at load.now) (members leader.now root) }
 {
     let mut demand = 0.0;
-    for i in 0..leader.len() {
-        if leader[i] == root {
-            demand = demand + load[i];
+    for (own, power) in leader.iter().zip(load) {
+        if *own == root {
+            demand = demand + *power;
         }
     }
     demand
@@ -111,9 +115,8 @@ fn hand_out(units: &[u32], out: &[f64], mw: &mut [f64])
     requires { Picked units.now (length mw.old) × (length out.now ≡ length units.now) }
     ensures { mw.new ≡ scatter units.now out.now mw.old }
 {
-    for j in 0..units.len() {
-        let k = units[j] as usize;
-        mw[k] = out[j];
+    for (k, power) in units.iter().zip(out) {
+        mw[*k as usize] = *power;
     }
 }
 
@@ -201,9 +204,9 @@ pub fn inject(supply: &Supply, mw: &[f64], injection: &mut [f64])
     ensures { injection.new
         ≡ iter (inject_at (bus_case supply.now.bus.now) mw.now) (length supply.now.bus.now) 0 injection.old }
 {
-    for k in 0..supply.bus.len() {
-        let i = supply.bus[k] as usize;
-        injection[i] = injection[i] + mw[k];
+    for (i, power) in supply.bus.iter().zip(mw) {
+        let i = *i as usize;
+        injection[i] = injection[i] + *power;
     }
 }
 

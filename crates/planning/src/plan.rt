@@ -22,6 +22,7 @@ use refusal::Refusal;
 const PLANNING_MAX_ROUNDS: u32 = 64;
 
 // Each bus's leader and injection, the grounds, the dispatch, and the levels and the circuits that planning starts from.
+// What it writes goes in slices of its own: src/tables.rt.
 fn open(
     mode: PlanMode,
     above: usize,
@@ -76,6 +77,7 @@ fn first_progress(mode: PlanMode, m: usize, promoted: u32) -> Progress
 }
 
 // All rounds, the first from angles of zero, after so many moves of buses.
+// What it writes goes in slices of its own: src/tables.rt.
 fn run_rounds(
     mode: PlanMode,
     above: usize,
@@ -141,6 +143,7 @@ fn planned(progress: Progress, grounds: u32, s: Settling) -> PlanRun
 }
 
 // After the opening: the first designs, the raises, the rounds, and what comes after them.
+// What it writes goes in slices of its own: src/tables.rt.
 fn plan_opened(
     mode: PlanMode,
     target: u32,
@@ -182,6 +185,7 @@ fn plan_opened(
 
 // All stages: the opening, and what comes after it. Of the work that is lent the banks, the floors and the injections are parts of
 // `figures`, and `upsized`, the marks and the leaders parts of `counts`.
+// What it writes goes in slices of its own: src/tables.rt.
 pub fn run(
     mode: PlanMode,
     target: u32,

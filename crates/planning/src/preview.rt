@@ -41,8 +41,8 @@ fn faulty_place(order: &[u32]) -> Option<usize>
     ensures { result ≡ fault (place_ok (order_for order.now)) (length order.now) }
 {
     let mut named = [false; MOST_CORRIDORS];
-    for j in 0..order.len() {
-        let corridor = order[j] as usize;
+    for (j, own) in order.iter().enumerate() {
+        let corridor = *own as usize;
         if corridor >= order.len() || named[corridor] {
             return Some(j);
         }

@@ -99,6 +99,7 @@ fn pass(
 }
 
 // One pass less than there are levels, at most; none where the mode does not promote.
+// What it writes goes in slices of its own: src/tables.rt.
 pub fn raises(
     mode: PlanMode,
     grid: &Grid,

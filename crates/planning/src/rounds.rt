@@ -55,6 +55,7 @@ pub fn raise_marked(
 // Runs so many rounds at most, after those that `start` tells of. Each is solved from the angles of the one before.
 // The project's scope asks for a labelled loop that is gone on with, and left with an answer, by its name; a `for` has no answer, so
 // that the rounds left are counted by hand.
+// What it writes goes in slices of its own: src/tables.rt.
 pub fn size_rounds(
     mode: PlanMode,
     above: usize,
@@ -88,6 +89,7 @@ pub fn size_rounds(
         p.converged = false;
         p.settled = false;
         let e = draw_edges(grid, level, circuits, banks);
+        // No `?` here and below: the loop is left with its answer by name, as document 01 asks.
         if let Err(f) = peak_state(&e, opened, angle, flow) {
             break 'rounds Err(f);
         }

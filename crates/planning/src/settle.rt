@@ -47,6 +47,7 @@ fn solve_from_zero(
 }
 
 // After filling: the solve of the filled corridors and the closing figures. Tiers take the place of levels, so they come last.
+// What it writes goes in slices of its own, and it reads what the stages before it wrote in theirs: src/tables.rt.
 fn close_up(
     mode: PlanMode,
     above: usize,
@@ -85,6 +86,7 @@ fn close_up(
 }
 
 // From the flows before filling: the order, the filling, and what comes after it.
+// What it writes goes in slices of its own, and it reads what the stages before it wrote in theirs: src/tables.rt.
 fn fill_up(
     mode: PlanMode,
     target: u32,
@@ -121,6 +123,7 @@ fn fill_up(
 }
 
 // From what the rounds leave in the slices to the plan, or refusal 9.
+// What it writes goes in slices of its own, and it reads what the stages before it wrote in theirs: src/tables.rt.
 pub fn settle(
     mode: PlanMode,
     target: u32,

@@ -164,6 +164,7 @@ fn grow(
 }
 
 // ---- one corridor: a larger bank counts at once
+// What it writes goes in slices of its own: src/tables.rt.
 pub fn size_corridor(
     mode: PlanMode,
     grid: &Grid,

@@ -7,8 +7,8 @@ use crate::stiffen::Limits;
 use crate::tables::{Grid, Opened};
 use std::marker::Model;
 
-// The budgets, the tables at the round's levels, and the edges and the angles of its solve. A
-// clause sees the columns, which are of one size and in their bounds.
+// The budgets, the tables at the round's levels, and the edges and the angles of its solve.
+// A clause sees the columns, which are of one size and in their bounds.
 #[derive(Drop)]
 pub struct Solved<'a> {
     pub g: Limits,

@@ -18,7 +18,7 @@ ghost use Rattle.planning.specs.Tables.{grid_in, opened_in, solved_by};
 
 use crate::design::{circuit, set_transformer_mva};
 use crate::edges::Edges;
-use crate::figures::{choose, counting};
+use crate::figures::counting;
 use crate::fill::total;
 use crate::policy::full_at;
 use crate::raise::{mark_raise_to, raise_of};
@@ -67,6 +67,8 @@ pub struct Stiffness {
 }
 
 // ---- budgets
+// That `level` has at most `most_buses` places five functions ask, one of them in raise.rt: no struct holds it there, since the raises of
+// a round write it.
 fn at_or_above(level: &[u32], top: u32) -> u32
     requires { length level.now ≤ most_buses }
     ensures { result ≡ at_or_above level.now top }
@@ -476,11 +478,9 @@ fn best_of<F: Fn(f64, f64) -> bool>(leader: &[u32], angle: &[f64], root: usize, 
 {
     let mut best = first_of(leader, root);
     for i in best + 1..leader.len() {
-        best = choose(
-            (leader[i] as usize == root) & better(angle[best], angle[i]),
-            i,
-            best,
-        );
+        if (leader[i] as usize == root) & better(angle[best], angle[i]) {
+            best = i;
+        }
     }
     best
 }
@@ -514,6 +514,7 @@ impl Solved<'_> {
 }
 
 // With the angles of one per unit from the lead to the lag, in `phi`; refusal 9 where one of them is not finite.
+// What it writes goes in slices of its own: src/tables.rt.
 fn narrow(
     root: usize,
     lead: usize,

@@ -40,3 +40,5 @@ pub struct Opened<'a> {
 
 // What planning writes goes in slices of its own and in no struct: a signature then says which of them a function writes, and a
 // `&mut` slice keeps its length by its type, where every contract would have to promise it of a struct that holds one.
+// `banks`, `floors` and `injection` are parts of `figures`, and `upsized`, `marks` and `leader` parts of `counts`, the work that
+// `plan_corridors` is lent, and the others are its own slices for the answer: no slice of structs can stand for them.

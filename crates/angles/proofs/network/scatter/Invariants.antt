@@ -7,5 +7,5 @@ use Rattle.angles_defs.specs.Network.{carry}
 use Rattle.angles.specs.Slices.{edges_in}
 use Rattle.angles.proofs.network.scatter.Given as goal
 
-abbrev pub invariant-loop-e : goal.invariant-loop-e
-invariant-loop-e l = iter (carry (edges_in l.grid) l.x) (length l.grid.from.now - l.e) l.e l.y ≡ iter (carry (edges_in l.grid) l.x) (length l.grid.from.now) 0 l.initial.y
+abbrev pub invariant-loop-from : goal.invariant-loop-from
+invariant-loop-from l = iter (carry (edges_in l.grid) l.x) (length l.grid.from.now - length l.yielded) (length l.yielded) l.y ≡ iter (carry (edges_in l.grid) l.x) (length l.grid.from.now) 0 l.initial.y

@@ -1,4 +1,4 @@
-use Rattle.std.proofs.Common.{◌∙◌, ℕ, sym, get_or, arith, rules, ◌≡◌}
+use Rattle.std.proofs.Common.{◌∙◌, sym, get_or, arith, rules, ◌≡◌}
 use Rattle.loops.specs.Figures.{at}
 use Rattle.loops.proofs.Tab.{tab_same, tab_of}
 use Rattle.line_sheet.specs.declared.loadability.Lane.{Lane}

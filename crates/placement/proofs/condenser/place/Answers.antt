@@ -8,5 +8,5 @@ returns c =
     (c.fill.ensures.after (λ y e. e))
     (c.fill-2.ensures.after (λ y e. e))
     c.flag_generators.ensures
-    c.join_condensers-count.ensures
+    c.join_condensers-count.ensures.joined
     c.size_condensers.ensures

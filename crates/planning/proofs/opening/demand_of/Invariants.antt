@@ -4,5 +4,5 @@ use Rattle.plan_defs.specs.Lists.{pass_from, each, sum_over}
 use Rattle.plan_defs.specs.Components.{within, members}
 use Rattle.planning.proofs.opening.demand_of.Given as goal
 
-abbrev pub invariant-loop-i : goal.invariant-loop-i
-invariant-loop-i l = (l.i ≤ length l.leader) × (each (λ k s. plus s (at l.load k)) (pass_from (within l.leader l.root) (length l.leader - l.i) l.i) l.demand ≡ sum_over (at l.load) (members l.leader l.root))
+abbrev pub invariant-loop-own : goal.invariant-loop-own
+invariant-loop-own l = (length l.yielded ≤ length l.leader) × (each (λ k s. plus s (at l.load k)) (pass_from (within l.leader l.root) (length l.leader - length l.yielded) (length l.yielded)) l.demand ≡ sum_over (at l.load) (members l.leader l.root))

@@ -3,6 +3,6 @@ use Rattle.loops.specs.Loops.{iter}
 use Rattle.plan_defs.specs.Dispatch.{scatter_at, scatter}
 use Rattle.planning.proofs.opening.hand_out.Given as goal
 
-abbrev pub invariant-loop-j : goal.invariant-loop-j
-invariant-loop-j l = (l.j ≤ length l.units) × (length l.mw ≡ length l.initial.mw)
-    × (iter (scatter_at l.units l.out) (length l.units - l.j) l.j l.mw ≡ scatter l.units l.out l.initial.mw)
+abbrev pub invariant-loop-k : goal.invariant-loop-k
+invariant-loop-k l = (length l.yielded ≤ length l.units) × (length l.mw ≡ length l.initial.mw)
+    × (iter (scatter_at l.units l.out) (length l.units - length l.yielded) (length l.yielded) l.mw ≡ scatter l.units l.out l.initial.mw)

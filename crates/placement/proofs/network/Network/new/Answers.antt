@@ -7,11 +7,12 @@ use Rattle.placement.proofs.network.Network.new.Goals as goal
 
 pub loop-c-init : goal.loop-c-init
 loop-c-init c =
+    let net = rw (← c.request.view_is) at c.requires.net in
     let zeros = length-replicate {A = ℕ} 256 0 in
-    let m = length c.args.a.now in
-    listed_none _ _ _ _ (length-replicate {A = ℕ} 256 m) zeros zeros (λ i h. get_or-replicate {A = ℕ} 256 i m 0 (omega (arith, c.requires.net.few)))
+    let m = length c.request.inside.a.now in
+    listed_none _ _ _ _ (length-replicate {A = ℕ} 256 m) zeros zeros (λ i h. get_or-replicate {A = ℕ} 256 i m 0 (omega (arith, net.few)))
 
 pub loop-c-preserved : goal.loop-c-preserved
 loop-c-preserved c =
     let q = c.list_corridor.ensures in
-    listed_turn _ c.requires.net _ _ _ _ _ _ _ _ _ (omega arith) c.loop-c.auto.c c.loop-c.invariant refl refl q.head_after q.after_a_after q.after_b_after
+    listed_turn _ (rw (← c.request.view_is) at c.requires.net) _ _ _ _ _ _ _ _ _ (omega arith) c.loop-c.auto.c c.loop-c.invariant refl refl q.head_after q.after_a_after q.after_b_after

@@ -46,8 +46,9 @@ impl<'a> Table<'a> {
     {
         let mut starts = [0; MOST_RECORDS];
         let mut end = at;
-        for start in starts.iter_mut().take(count) {
-            *start = end;
+        // `starts.iter_mut().take(count)` was tried: while the array is lent so, an invariant has no name for what is stored in it.
+        for i in 0..count {
+            starts[i] = end;
             end = end_of(file, kind, end);
         }
         Table {

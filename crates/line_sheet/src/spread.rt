@@ -50,7 +50,10 @@ pub fn guess(s: f64) -> u64 {
 
 // The guesses of eight spreads, side by side, since each is a long chain.
 pub fn guesses(spread: &[f64; 8]) -> [u64; 8] {
-    spread.map(guess)
+    // `spread.map(guess)` was tried: 106 instructions more for the eight, 1.6 % of a sheet of 256 corridors.
+    let mut r = [0u64; 8];
+    loops::fill(&mut r, |j| guess(spread[j]));
+    r
 }
 
 // Where to look next between two ends: at the guess, one past it where it has become the lower end, else in the middle.

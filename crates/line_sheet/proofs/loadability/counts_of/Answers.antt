@@ -23,4 +23,4 @@ returns c =
     sym (tab_of 8 c.map.result 0 made.long)
     ∙ tab_same 8 _ (λ j. count_of (at c.args.km.now j))
     (λ j h. let turn = made.at j none 0 h in
-        let e : get_or c.map.result j 0 ≡ (get_or l.lanes j none).count = search rules in e ∙ lane_counted _ _ _ _ none (omega (arith, c.loop-digit-test.false)) l.invariant.1 h)
+    let e : get_or c.map.result j 0 ≡ (get_or l.lanes j none).count = search rules in e ∙ lane_counted _ _ _ _ none (omega (arith, c.loop-digit-test.false)) l.invariant.1 h)

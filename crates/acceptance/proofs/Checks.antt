@@ -1,10 +1,9 @@
 -- Two tests of equality agree where each equation follows from the other; what the rows of the tables have; and the lengths, tested table by table.
-use Prim.Native.Nat.{ℕ, ◌+◌, ◌*◌, ◌/◌, ◌%◌, ◌≤◌, ◌<◌}
+use Prim.Native.Nat.{ℕ, ◌+◌, ◌*◌, ◌<◌}
 use mathlib.Core.Bool.{Bool, true, false, cond, ◌&&◌, and_assoc, and-true}
 use mathlib.Core.List.{List, [], ◌∷◌}
 use mathlib.Core.Option.{some}
 use mathlib.Core.Path.{◌≡◌, refl, sym, ap, ◌∙◌}
-use native.Mathlib.Nat.{mul_comm, mod-lt, div-lt_iff_lt-mul}
 use native.Mathlib.Omega.{arith}
 use borrow.Author.Tests.{eqb-true, eq-eqb}
 use lib.Dec.{eqb}
@@ -12,13 +11,12 @@ use lib.ListN.{length}
 use lib.Ieee.{Float, nan}
 use Rattle.loops.specs.Figures.{at}
 use Rattle.loops.proofs.Bools.{both}
-use Rattle.loops.proofs.Rows.{row_fits}
 use Rattle.loops.proofs.Tab.{length_tab, get_tab}
 use Rattle.loads.specs.Load.{load_by, weighed, loads_of}
-use Rattle.sheets.proofs.Layouts.{some_row}
+use Rattle.sheets.proofs.Layouts.{some_row, line_corridor_lem, line_level_lem}
 use Rattle.refusal.specs.declared.Refusal.{Refusal}
 use Rattle.refusal.specs.declared.Refusal.TheVariants.{Length, Count}
-use Rattle.sheets.specs.Sheet.{row_figures, row_place}
+use Rattle.sheets.specs.Sheet.{row_figures, line_place, line_corridor, line_level}
 use Rattle.plan_defs.specs.Case.{Case, row_from, rows_of}
 use Rattle.plan_defs.specs.Accept.{lengths_ok, counts_ok, tables_fault, case_fault}
 use Rattle.plan_defs.proofs.Rows.{row_from_lem}
@@ -32,18 +30,13 @@ load_is n reading weight i h = get_tab n (weighed reading weight) i nan h
 
 -- ---- the sheet's rows
 module _ (m levels i : ℕ) (h : i < m * levels) where
-  corridor_in : i / levels < m
-  corridor_in = (div-lt_iff_lt-mul (some_row m levels i h).1).1 h
-
-  level_in_lem : i % levels < levels
-  level_in_lem = mod-lt i (some_row m levels i h).1
-
-  pub place_inside : row_place m (i / levels) (i % levels) + row_figures ≤ row_figures * (m * levels)
-  place_inside = omega (arith, corridor_in, row_fits (i % levels) levels m level_in_lem, mul_comm levels m)
+  -- there is a level
+  pub some_level : 0 < levels
+  some_level = (some_row m levels i h).1
 
   -- the row that lies there is the case's
-  pub row_is : (sheet : List Float) → rows_of m levels sheet (i / levels) (i % levels) ≡ row_from sheet (row_place m (i / levels) (i % levels))
-  row_is sheet = row_from_lem m levels sheet (i / levels) (i % levels) corridor_in level_in_lem
+  pub row_is : (sheet : List Float) → rows_of m levels sheet (line_corridor levels i) (line_level levels i) ≡ row_from sheet (line_place m levels i)
+  row_is sheet = row_from_lem m levels sheet (line_corridor levels i) (line_level levels i) (line_corridor_lem m levels i h) (line_level_lem m levels i h)
 
 -- ---- all lengths, and the first refusal
 module _ (t : Tables) where

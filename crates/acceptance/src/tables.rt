@@ -11,7 +11,7 @@ use dispatch_defs::unit_ok;
 use leaders::corridor_ok;
 use loads::load_ok;
 use refusal::Refusal;
-use sheets::{ROW_FIGURES, row_place};
+use sheets::{ROW_FIGURES, line_place};
 use std::marker::Model;
 
 const MOST_BUSES: usize = 256;
@@ -138,14 +138,13 @@ impl<'a> CaseTables<'a> {
     }
 
     // Row i in the order of corridor, then level, however the rows lie.
-    #[tactic(auto, using(crate::proofs::Checks::place_inside, crate::proofs::Checks::row_is), unfolding(plan_defs::specs::Accept::row_ok, plan_defs::specs::Case::row_at))]
+    #[tactic(auto, using(sheets::proofs::Layouts::line_place_inside, crate::proofs::Checks::some_level, crate::proofs::Checks::row_is), unfolding(plan_defs::specs::Accept::row_ok, plan_defs::specs::Case::row_at))]
     fn row_ok(&self, i: usize) -> bool
         requires { i < self.now.corridors * levels (tabled self.now) }
         ensures { result ≡ row_ok (tabled self.now) i }
     {
         let sheet = self.sheet;
-        let levels = self.ladder.len();
-        let p = row_place(self.corridors, i / levels, i % levels);
+        let p = line_place(self.corridors, self.ladder.len(), i);
         row_sound(
             sheet[p],
             sheet[p + 1],

@@ -15,7 +15,7 @@ use Rattle.loops.specs.Parts.{put}
 use Rattle.loops.proofs.Parts.{length_put, get_put_low, get_put_in, get_put_high}
 use Rattle.loops.proofs.Rows.{row_fits}
 use Rattle.loops.proofs.Tab.{length_tab, get_tab, tab_same, tab_replicate}
-use Rattle.sheets.specs.Sheet.{row_figures, row_place, line_of}
+use Rattle.sheets.specs.Sheet.{row_figures, row_index, row_place, line_index, line_of}
 use Rattle.sheets.proofs.Layouts.{line_at_lem, row_inside}
 use Rattle.casefile_defs.specs.Layout.{size_of, spot}
 use Rattle.casefile_defs.specs.Tables.{line_figure, sheet_in}
@@ -94,12 +94,12 @@ module _ (s : List ℕ) (at m n : ℕ) where
     row_more = ext_get_or nought w' (tab (length w') (filled_in s at m n (r + 1))) (sym (length_tab (length w') _))
         (λ p b. at_place p (rw len at b) ∙ sym (get_tab (length w') _ p nought b))
 
-  pub row_turn : (w w' : List Float) (k l x : ℕ) → k < m → row_place m k l + row_figures ≤ length w → x ≡ at + (k * n + l) * size_of Line
-      → w' ≡ put w (row_place m k l) (tab row_figures (line_figure s x)) → IsFilled s at m n (l * m + k) w → IsFilled s at m n (l * m + (k + 1)) w'
+  pub row_turn : (w w' : List Float) (k l x : ℕ) → k < m → row_place m k l + row_figures ≤ length w → x ≡ at + line_index n k l * size_of Line
+      → w' ≡ put w (row_place m k l) (tab row_figures (line_figure s x)) → IsFilled s at m n (row_index m k l) w → IsFilled s at m n (row_index m (k + 1) l) w'
   row_turn w w' k l x h fits e g f =
-      let q : l * m + k + 1 ≡ l * m + (k + 1) = omega arith in
+      let q : row_index m k l + 1 ≡ row_index m (k + 1) l = omega arith in
       subst (λ (y : ℕ). IsFilled s at m n y w') q
-      (row_more w w' (l * m + k) x f fits (e ∙ sym (line_spot s at (k * n + l)) ∙ ap (λ (y : ℕ). spot Line s at y) (sym (line_at_lem m n k l h))) g)
+      (row_more w w' (row_index m k l) x f fits (e ∙ sym (line_spot s at (line_index n k l)) ∙ ap (λ (y : ℕ). spot Line s at y) (sym (line_at_lem m n k l h))) g)
 
   -- ---- zeros, and the whole sheet
   pub none_filled : (w : List Float) (places : ℕ) → w ≡ replicate places nought → IsFilled s at m n (0 * m) w

@@ -29,7 +29,7 @@ use Rattle.casefile_defs.specs.declared.Kind.TheVariants.{Head, Level, Bus, Gene
 use Rattle.casefile_defs.specs.declared.Header.{Header}
 use Rattle.casefile_defs.proofs.Counts.{small_of, lines_small}
 use Rattle.casefile_defs.proofs.Whole.{read_whole}
-use Rattle.casefile_theorems.specs.Writer.{head_row, count_of, Form, form_in, kinds_of, file_with, file_of, words_of, bits_at, basis_at, row_place, row_of}
+use Rattle.casefile_theorems.specs.Writer.{head_row, count_of, Form, form_in, kinds_of, file_with, file_of, words_of, bits_at, basis_at, row_cell, row_of}
 use Rattle.casefile_theorems.specs.Cases.{Numbers, Figures, Sheet, Case, Legal, longest}
 use Rattle.casefile_theorems.proofs.Back.{Whole, padded, length_file, weighed_back, capped_back, reading_back}
 use Rattle.casefile_theorems.proofs.Bytes.{Fine}
@@ -85,7 +85,7 @@ row_fine f h p c Corridor i l = corridor (f.capped i)
     corridor true = (c.a.small i l, c.a.bound i l, (c.b.small i l, c.b.bound i l, (c.circuits.small i l, c.circuits.bound i l, (bits_small _ (c.length_km.double i l), refl, (bits_small _ (c.share.double i l), refl, (c.cap.small i l, c.cap.bound i l, tt))))))
 row_fine f h p c Line i l =
     let r = row_in h.corridors (levels h) i l in
-    let b = basis_small p.sheet (row_place (row_of h i) basis_field) in (
+    let b = basis_small p.sheet (row_cell (row_of h i) basis_field) in (
       bits_small _ (c.sheet.double (row_of h i) 0 r (lit< tt)),
       refl,
       (
@@ -179,7 +179,7 @@ bits_back : (n count : ℕ) (l : List Float) → Figures n count l → (i : ℕ)
 bits_back n count l c i h = of_bits-to_bits binary64 (get_or l i nought) (c.double i h)
 
 -- a line of the file, from its row of the sheet
-line_words_lem : (h : Header) (p : Places) (i j : ℕ) → j < basis_field → words_of h p Line i j ≡ bits_at p.sheet (row_place (row_of h i) j)
+line_words_lem : (h : Header) (p : Places) (i j : ℕ) → j < basis_field → words_of h p Line i j ≡ bits_at p.sheet (row_cell (row_of h i) j)
 unfolding words_of
 line_words_lem h p i zero l = refl
 line_words_lem h p i (suc zero) l = refl
@@ -188,7 +188,7 @@ line_words_lem h p i (suc (suc (suc zero))) l = refl
 line_words_lem h p i (suc (suc (suc (suc j)))) l = absurd (omega arith)
 
 line_back : (h : Header) (p : Places) → Sheet (lines h) p.sheet → (i j : ℕ) → i < lines h → j < row_figures
-    → line_from (words_of h p Line i) j ≡ get_or p.sheet (row_place (row_of h i) j) nought
+    → line_from (words_of h p Line i) j ≡ get_or p.sheet (row_cell (row_of h i) j) nought
 unfolding words_of
 line_back h p c i j l m =
     let r = row_in h.corridors (levels h) i l in
@@ -196,16 +196,16 @@ line_back h p c i j l m =
       | yes b ↦
           ap (λ (x : Bool). cond x (of_bits binary64 (words_of h p Line i j)) (basis_of (words_of h p Line i basis_field))) (lt-ltb j basis_field b)
           ∙ ap (λ (x : ℕ). of_bits binary64 x) (line_words_lem h p i j b)
-          ∙ of_bits-to_bits binary64 (get_or p.sheet (row_place (row_of h i) j) nought) (c.double (row_of h i) j r b)
+          ∙ of_bits-to_bits binary64 (get_or p.sheet (row_cell (row_of h i) j) nought) (c.double (row_of h i) j r b)
       | no b ↦
           let e : basis_field ≡ j = omega arith in
           ap (λ (x : Bool). cond x (of_bits binary64 (words_of h p Line i j)) (basis_of (words_of h p Line i basis_field))) (le-ltb j basis_field (omega arith))
           ∙ c.basis (row_of h i) r
-          ∙ ap (λ (x : ℕ). get_or p.sheet (row_place (row_of h i) x) nought) e
+          ∙ ap (λ (x : ℕ). get_or p.sheet (row_cell (row_of h i) x) nought) e
     ]
 
 -- the sheet from the lines: row q / 5 by level, by corridor and by level again
-sheet_from_lem : (m n : ℕ) (l : List Float) (v : ℕ → ℕ → ℕ) → Sheet (m * n) l → ((i j : ℕ) → i < m * n → j < row_figures → line_from (v i) j ≡ get_or l (row_place (line_of n m i) j) nought) → sheet_from m n v ≡ l
+sheet_from_lem : (m n : ℕ) (l : List Float) (v : ℕ → ℕ → ℕ) → Sheet (m * n) l → ((i j : ℕ) → i < m * n → j < row_figures → line_from (v i) j ≡ get_or l (row_cell (line_of n m i) j) nought) → sheet_from m n v ≡ l
 sheet_from_lem m n l v c g =
     ext_get_or nought (sheet_from m n v) l (length_tab most_sheet _ ∙ sym c.size) (λ q b.
     let r = q / row_figures in
@@ -213,11 +213,11 @@ sheet_from_lem m n l v c g =
     get_tab most_sheet _ q nought (rw (length_tab most_sheet _) at b)
     ∙ elim (dec_lt r (m * n)) [
       | yes h ↦
-          let e : row_place r j ≡ q = omega arith in
+          let e : row_cell r j ≡ q = omega arith in
           let h' : r < n * m = omega (arith, mul_comm m n) in
           ap (λ (x : Bool). cond x (line_from (v (line_of m n r)) j) nought) (lt-ltb r (m * n) h)
           ∙ g (line_of m n r) j (line_inside m n r h) (omega arith)
-          ∙ ap (λ (x : ℕ). get_or l (row_place x j) nought) (row_back n m r h')
+          ∙ ap (λ (x : ℕ). get_or l (row_cell x j) nought) (row_back n m r h')
           ∙ ap (λ (x : ℕ). get_or l x nought) e
       | no h ↦ ap (λ (x : Bool). cond x (line_from (v (line_of m n r)) j) nought) (le-ltb r (m * n) (omega arith)) ∙ sym (c.past q (omega arith))
     ])

@@ -25,7 +25,7 @@ use Rattle.casefile_defs.specs.declared.Kind.{Kind}
 use Rattle.casefile_defs.specs.declared.Kind.TheVariants.{Level, Bus, Generator, Corridor, Line, CappedCorridor, WeighedBus}
 use Rattle.casefile_defs.specs.declared.Header.{Header}
 use Rattle.casefile_defs.proofs.Counts.{small_of, lines_small}
-use Rattle.casefile_theorems.specs.Writer.{record_bytes, table_bytes, Form, kinds_of, file_with, file_of, words_of, row_place, row_of, nan_pattern, tidy, tidied}
+use Rattle.casefile_theorems.specs.Writer.{record_bytes, table_bytes, Form, kinds_of, file_with, file_of, words_of, row_cell, row_of, nan_pattern, tidy, tidied}
 use Rattle.casefile_theorems.specs.Cases.{Numbers, Figures, Sheet, Case, Legal}
 use Rattle.casefile_theorems.proofs.Back.{Whole}
 use Rattle.casefile_theorems.proofs.Bytes.{Fine, fields_same}
@@ -74,12 +74,12 @@ number_cell n count i v h l = get_tab n _ i 0 (omega arith) ∙ ap (λ (x : Bool
 figure_cell : (n count i : ℕ) (v : ℕ → Float) → i < count → count ≤ n → get_or (figures_from n count v) i nought ≡ v i
 figure_cell n count i v h l = get_tab n _ i nought (omega arith) ∙ ap (λ (x : Bool). cond x (v i) nought) (lt-ltb i count h)
 
-sheet_cell : (m n : ℕ) (v : ℕ → ℕ → ℕ) (i j : ℕ) → i < m * n → m * n ≤ most_corridors * most_levels → j < row_figures → get_or (sheet_from m n v) (row_place i j) nought ≡ line_from (v (line_of m n i)) j
+sheet_cell : (m n : ℕ) (v : ℕ → ℕ → ℕ) (i j : ℕ) → i < m * n → m * n ≤ most_corridors * most_levels → j < row_figures → get_or (sheet_from m n v) (row_cell i j) nought ≡ line_from (v (line_of m n i)) j
 sheet_cell m n v i j h l b =
-    let q : row_place i j / row_figures ≡ i = omega arith in
-    let r : row_place i j % row_figures ≡ j = omega arith in
-    get_tab most_sheet _ (row_place i j) nought (omega arith)
-    ∙ ap (λ (x : ℕ). cond (ltb x (m * n)) (line_from (v (line_of m n x)) (row_place i j % row_figures)) nought) q
+    let q : row_cell i j / row_figures ≡ i = omega arith in
+    let r : row_cell i j % row_figures ≡ j = omega arith in
+    get_tab most_sheet _ (row_cell i j) nought (omega arith)
+    ∙ ap (λ (x : ℕ). cond (ltb x (m * n)) (line_from (v (line_of m n x)) (row_cell i j % row_figures)) nought) q
     ∙ ap (λ (x : ℕ). cond (ltb i (m * n)) (line_from (v (line_of m n i)) x) nought) r
     ∙ ap (λ (x : Bool). cond x (line_from (v (line_of m n i)) j) nought) (lt-ltb i (m * n) h)
 
@@ -127,7 +127,7 @@ sheet_case m n v l g = record {
   size = length_tab most_sheet _;
   double = λ i j h b. rw (sheet_cell m n v i j h l (omega arith)) (line_double (v (line_of m n i)) j b);
   basis = λ i h.
-      let e : get_or (sheet_from m n v) (row_place i basis_field) nought ≡ basis_of (v (line_of m n i) basis_field) = sheet_cell m n v i basis_field h l (lit< tt) in
+      let e : get_or (sheet_from m n v) (row_cell i basis_field) nought ≡ basis_of (v (line_of m n i) basis_field) = sheet_cell m n v i basis_field h l (lit< tt) in
       ap (λ (x : Float). basis_of (cond (eq x nought) 0 1)) e ∙ ap (λ (x : ℕ). basis_of x) (basis_back _ (g (line_of m n i) (line_inside m n i h))) ∙ sym e;
   past = λ q h. elim (dec_lt q most_sheet) [
     | yes b ↦ get_tab most_sheet _ q nought b ∙ ap (λ (x : Bool). cond x (line_from (v (line_of m n (q / row_figures))) (q % row_figures)) nought) (le-ltb (q / row_figures) (m * n) (omega arith))
@@ -278,13 +278,13 @@ module _ (f : Form) (h : Header) (v : Kind → ℕ → ℕ → ℕ) (g : Whole f
   corridor_words_lem i j l m = corridor_word i l (f.capped i) refl j m
 
   -- the row of the sheet that is line i of the file holds that line
-  line_cell : (i j : ℕ) → i < lines h → j < row_figures → get_or (sheet_from h.corridors (levels h) (v Line)) (row_place (row_of h i) j) nought ≡ line_from (v Line i) j
+  line_cell : (i j : ℕ) → i < lines h → j < row_figures → get_or (sheet_from h.corridors (levels h) (v Line)) (row_cell (row_of h i) j) nought ≡ line_from (v Line i) j
   line_cell i j l m =
       sheet_cell h.corridors (levels h) (v Line) (row_of h i) j (row_in h.corridors (levels h) i l) (lines_small h small) m
       ∙ ap (λ (x : ℕ). line_from (v Line x) j) (line_back h.corridors (levels h) i l)
 
   line_figure_lem : (i j : ℕ) → i < lines h → j < basis_field → v Line i j < 2 ^ 64
-      → to_bits binary64 (get_or (sheet_from h.corridors (levels h) (v Line)) (row_place (row_of h i) j) nought) ≡ tidy figure (v Line i j)
+      → to_bits binary64 (get_or (sheet_from h.corridors (levels h) (v Line)) (row_cell (row_of h i) j) nought) ≡ tidy figure (v Line i j)
   line_figure_lem i j l m b =
       ap (λ (x : Float). to_bits binary64 x) (line_cell i j l (omega arith) ∙ ap (λ (x : Bool). cond x (of_bits binary64 (v Line i j)) (basis_of (v Line i basis_field))) (lt-ltb j basis_field m))
       ∙ bits_tidy (v Line i j) b

@@ -8,7 +8,7 @@ use Rattle.casefile_defs.specs.Layout.{Field, up_to, u8, u16, width_of, allowed}
 use Rattle.casefile_defs.specs.Reading.{levels, lines, counts_ok}
 use Rattle.casefile_defs.specs.Tables.{Places, places_of, basis_of, basis_field}
 use Rattle.casefile_defs.specs.declared.Header.{Header}
-use Rattle.casefile_theorems.specs.Writer.{Form, basis_at, row_place}
+use Rattle.casefile_theorems.specs.Writer.{Form, basis_at, row_cell}
 
 -- a column of n places: a number in its field's range for each record, and zero past them
 pub record Numbers (f : Field) (n count : ℕ) (l : List ℕ) : Type 0 where
@@ -25,9 +25,9 @@ pub record Figures (n count : ℕ) (l : List Float) : Type 0 where
 -- the sheet: four figures to a row, and a basis that is 0 or 1 as a figure
 pub record Sheet (count : ℕ) (l : List Float) : Type 0 where
   pub size : length l ≡ most_sheet
-  pub double : (i j : ℕ) → i < count → j < basis_field → T (fits binary64 (get_or l (row_place i j) nought))
-  pub basis : (i : ℕ) → i < count → basis_of (basis_at l (row_place i basis_field)) ≡ get_or l (row_place i basis_field) nought
-  pub past : (q : ℕ) → row_place count 0 ≤ q → get_or l q nought ≡ nought
+  pub double : (i j : ℕ) → i < count → j < basis_field → T (fits binary64 (get_or l (row_cell i j) nought))
+  pub basis : (i : ℕ) → i < count → basis_of (basis_at l (row_cell i basis_field)) ≡ get_or l (row_cell i basis_field) nought
+  pub past : (q : ℕ) → row_cell count 0 ≤ q → get_or l q nought ≡ nought
 
 pub record Case (h : Header) (p : Places) : Type 0 where
   pub counts : counts_ok h ≡ true

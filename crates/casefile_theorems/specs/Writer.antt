@@ -85,8 +85,8 @@ abbrev pub basis_at : List Float → ℕ → ℕ
 basis_at l i = cond (eq (get_or l i nought) nought) 0 1
 
 -- the place in the sheet of figure j of row i
-abbrev pub row_place : ℕ → ℕ → ℕ
-row_place i j = i * row_figures + j
+abbrev pub row_cell : ℕ → ℕ → ℕ
+row_cell i j = i * row_figures + j
 
 -- the row of the sheet that is line i of the file: the file has the rows by corridor, the sheet by level, and the way back is the same formula with the counts exchanged
 abbrev pub row_of : Header → ℕ → ℕ
@@ -100,8 +100,8 @@ words_of h p Bus i = row (get_or p.tier i 0 ∷ bits_at p.reading i ∷ bits_at 
 words_of h p Generator i = row (get_or p.bus i 0 ∷ get_or p.slack i 0 ∷ bits_at p.pmin i ∷ bits_at p.pmax i ∷ bits_at p.c1 i ∷ bits_at p.c2 i ∷ [])
 words_of h p Corridor i = row (get_or p.a i 0 ∷ get_or p.b i 0 ∷ get_or p.circuits i 0 ∷ bits_at p.length_km i ∷ bits_at p.share i ∷ get_or p.cap i 0 ∷ [])
 words_of h p Line i =
-    row (bits_at p.sheet (row_place (row_of h i) 0) ∷ bits_at p.sheet (row_place (row_of h i) 1) ∷ bits_at p.sheet (row_place (row_of h i) 2)
-    ∷ bits_at p.sheet (row_place (row_of h i) 3) ∷ basis_at p.sheet (row_place (row_of h i) basis_field) ∷ [])
+    row (bits_at p.sheet (row_cell (row_of h i) 0) ∷ bits_at p.sheet (row_cell (row_of h i) 1) ∷ bits_at p.sheet (row_cell (row_of h i) 2)
+    ∷ bits_at p.sheet (row_cell (row_of h i) 3) ∷ basis_at p.sheet (row_cell (row_of h i) basis_field) ∷ [])
 words_of h p CappedCorridor i = row []
 words_of h p WeighedBus i = row []
 

@@ -1,5 +1,5 @@
 -- The words of the tables as they are read are those of the file's definition: a place within a table holds the same whatever stands for one past it.
-use Prim.Native.Nat.{ℕ, zero, suc, ◌+◌, ◌/◌, ◌%◌, ◌<◌}
+use Prim.Native.Nat.{ℕ, zero, suc, ◌+◌, ◌<◌}
 use mathlib.Core.Bool.{Bool, true}
 use mathlib.Core.List.{List, [], ◌∷◌}
 use mathlib.Core.Path.{◌≡◌, refl, ap, ◌∙◌}
@@ -7,14 +7,14 @@ use native.Mathlib.Omega.{arith}
 use lib.Ieee.{Float}
 use lib.ListN.{length, get_or}
 use Rattle.loops.specs.Figures.{at, nought}
-use Rattle.sheets.specs.Sheet.{row_figures, row_place as place_at}
+use Rattle.sheets.specs.Sheet.{row_figures, line_place}
 use Rattle.casefile_defs.specs.Reading.{levels, lines, Small}
 use Rattle.casefile_defs.specs.Tables.{Places, basis_field, sizes_ok}
 use Rattle.casefile_defs.specs.declared.Header.{Header}
 use Rattle.casefile_defs.specs.declared.Kind.TheVariants.{Level, Bus, Generator, Corridor, Line}
 use Rattle.casefile_defs.proofs.Counts.{lines_small}
 use Rattle.casefile_defs.proofs.Whole.{sizes}
-use Rattle.casefile_theorems.specs.Writer.{file_with, file_of, caps_only, words_of, row_place, row_of}
+use Rattle.casefile_theorems.specs.Writer.{file_with, file_of, caps_only, words_of, row_cell, row_of}
 use Rattle.casefile_theorems.proofs.CaseForth.{Alike, files_alike}
 use Rattle.casefile_theorems.proofs.Places.{row_in}
 use Rattle.casefile_writer.specs.Files.{file_in}
@@ -56,21 +56,21 @@ module _ (h : Header) (p : Places) (s : Small h) (e : sizes_ok p ≡ true) where
       ap (λ (x : Float). corridor_row (get_or p.a i 0) (get_or p.b i 0) (get_or p.circuits i 0) x (at p.share i) (get_or p.cap i 0) j) (within p.length_km i (omega (arith, z.length_km)))
       ∙ ap (λ (x : Float). corridor_row (get_or p.a i 0) (get_or p.b i 0) (get_or p.circuits i 0) (get_or p.length_km i nought) x (get_or p.cap i 0) j) (within p.share i (omega (arith, z.share)))
 
-  -- line i's place, by corridor and level
+  -- line i's place
   abbrev place_in : ℕ → ℕ
-  place_in i = place_at h.corridors (i / levels h) (i % levels h)
+  place_in = line_place h.corridors (levels h)
 
-  cell : (i j : ℕ) → i < lines h → j < row_figures → at p.sheet (place_in i + j) ≡ get_or p.sheet (row_place (row_of h i) j) nought
+  cell : (i j : ℕ) → i < lines h → j < row_figures → at p.sheet (place_in i + j) ≡ get_or p.sheet (row_cell (row_of h i) j) nought
   cell i j b c =
-      ap (at p.sheet) (let z : place_in i + j ≡ row_place (row_of h i) j = omega arith in z)
-      ∙ within p.sheet (row_place (row_of h i) j) (omega (arith, row_in h.corridors (levels h) i b, lines_small h s, (sizes p e).sheet))
+      ap (at p.sheet) (let z : place_in i + j ≡ row_cell (row_of h i) j = omega arith in z)
+      ∙ within p.sheet (row_cell (row_of h i) j) (omega (arith, row_in h.corridors (levels h) i b, lines_small h s, (sizes p e).sheet))
 
   line_alike : Alike (caps_only (weighs p.weight h.buses) p) (words_in h p) (words_of h p) Line (lines h)
   unfolding words_in words_of
   line_alike i j b c =
       let q = place_in i in
       let f = p.sheet in
-      let g : ℕ → Float = λ k. get_or f (row_place (row_of h i) k) nought in
+      let g : ℕ → Float = λ k. get_or f (row_cell (row_of h i) k) nought in
       let first : at f q ≡ g 0 = ap (λ (k : ℕ). at f k) (let n : q ≡ q + 0 = omega arith in n) ∙ cell i 0 b (omega arith) in
       ap (λ (x : Float). line_row x (at f (q + 1)) (at f (q + 2)) (at f (q + 3)) (at f (q + basis_field)) j) first
       ∙ ap (λ (x : Float). line_row (g 0) x (at f (q + 2)) (at f (q + 3)) (at f (q + basis_field)) j) (cell i 1 b (omega arith))

@@ -1,10 +1,10 @@
 -- The numbers of a record, by the tables that they stand in: those of casefile_theorems' `words_of`, one kind at a time.
-use Rattle.std.specs.Prelude.{ℕ, ◌+◌, ◌/◌, ◌%◌, Bool, cond, List, [], ◌∷◌, ltb, Float, get_or}
+use Rattle.std.specs.Prelude.{ℕ, ◌+◌, Bool, cond, List, [], ◌∷◌, ltb, Float, get_or}
 use Rattle.std.specs.Float.{binary64}
 use Rattle.std.specs.Float.Ieee.{to_bits, eq}
 use Rattle.loops.specs.Figures.{at, nought, one}
 use Rattle.loops.specs.Loops.{first}
-use Rattle.sheets.specs.Sheet.{row_place}
+use Rattle.sheets.specs.Sheet.{line_place}
 use Rattle.casefile_defs.specs.Reading.{levels}
 use Rattle.casefile_defs.specs.Tables.{Places, basis_field}
 use Rattle.casefile_defs.specs.declared.Header.{Header}
@@ -59,9 +59,9 @@ corridor_words a b circuits km share cap i = corridor_row (get_or a i 0) (get_or
 abbrev pub line_from : List Float → ℕ → ℕ → ℕ
 line_from sheet p = line_row (at sheet p) (at sheet (p + 1)) (at sheet (p + 2)) (at sheet (p + 3)) (at sheet (p + basis_field))
 
--- line i is corridor i / n's at level i % n, in a sheet by level of m corridors (document 02, K11)
+-- line i is the row by corridor, in a sheet by level of m corridors (document 02, K11)
 abbrev pub line_words : ℕ → ℕ → List Float → ℕ → ℕ → ℕ
-line_words m n sheet i = line_from sheet (row_place m (i / n) (i % n))
+line_words m n sheet i = line_from sheet (line_place m n i)
 
 unfoldable pub words_in : Header → Places → Kind → ℕ → ℕ → ℕ
 words_in h p Head i = row []

@@ -1,7 +1,7 @@
 // The tables of a case file: a record for each of the first so many places.
-ghost use Rattle.std.specs.Prelude.{◌≡◌, ◌+◌, ◌*◌, ◌/◌, ◌%◌, ◌<◌, ◌≤◌, ℕ, length};
+ghost use Rattle.std.specs.Prelude.{◌≡◌, ◌+◌, ◌*◌, ◌<◌, ◌≤◌, ℕ, length};
 ghost use Rattle.casefile_defs.specs.Bounds.{row_figures};
-ghost use Rattle.sheets.specs.Sheet.{row_place};
+ghost use Rattle.sheets.specs.Sheet.{line_place};
 ghost use Rattle.casefile_theorems.specs.Writer.{table_bytes};
 ghost use Rattle.casefile_writer.specs.Grown.{Grown};
 ghost use Rattle.casefile_writer.specs.Rows.{line_at};
@@ -10,7 +10,7 @@ ghost use Rattle.casefile_writer.specs.Words.{weighs};
 use crate::bytes::Bytes;
 use crate::record::{Line, Record};
 use loops::first_fault;
-use sheets::row_place;
+use sheets::line_place;
 
 // Whether some weight is not 1, so that the buses are written as BV. By the search that the definition names, as `all_finite` of planning.
 pub fn some_weight(count: usize, weight: &[f64]) -> bool
@@ -36,12 +36,13 @@ impl Bytes<'_> {
 }
 
 // Line i of the file, which has its lines by corridor; the sheet has its rows by level.
+#[tactic(auto, using(sheets::proofs::Layouts::some_row, sheets::proofs::Layouts::line_place_inside))]
 pub fn line_at(sheet: &[f64], corridors: usize, levels: usize, i: usize) -> Line
     requires line_in_bounds { i < corridors * levels }
     requires row_figures_in_bounds { corridors * levels * row_figures ≤ length sheet.now }
-    ensures { result ≡ line_at sheet.now (row_place corridors (i / levels) (i % levels)) }
+    ensures { result ≡ line_at sheet.now (line_place corridors levels i) }
 {
-    let p = row_place(corridors, i / levels, i % levels);
+    let p = line_place(corridors, levels, i);
     Line {
         r: sheet[p],
         x: sheet[p + 1],

@@ -3,7 +3,7 @@ use Prim.Native.Nat.{ℕ, zero, suc, ◌+◌, ◌-◌, ◌*◌, ◌/◌, ◌%◌
 use mathlib.Core.Bool.{Bool, true, false, cond}
 use mathlib.Core.List.{List, [], ◌∷◌, ◌++◌, append-nil}
 use mathlib.Core.Path.{◌≡◌, refl, sym, ap, ◌∙◌}
-use native.Mathlib.Nat.{mod-lt, div-lt_iff_lt-mul, mul_comm}
+use native.Mathlib.Nat.{mod-lt}
 use native.Mathlib.Omega.{arith}
 use borrow.Author.Tests.{ltb-true, ltb-false}
 use lib.Dec.{ltb}
@@ -15,8 +15,8 @@ use Rattle.loops.proofs.Tab.{tab_same}
 use Rattle.loops.proofs.Fronts.{get_map}
 use Rattle.casefile_defs.specs.Bounds.{most_levels, most_buses, most_generators, most_corridors, most_sheet}
 use Rattle.casefile_defs.specs.Tables.{places_of}
-use Rattle.sheets.specs.Sheet.{row_figures, row_place}
-use Rattle.sheets.proofs.Layouts.{some_row}
+use Rattle.sheets.specs.Sheet.{row_figures, row_place, row_corridor, row_level}
+use Rattle.sheets.proofs.Layouts.{row_corridor_lem, row_level_lem}
 use Rattle.plan_defs.specs.Case.{Case, Row, row_from, rows_of, levels}
 use Rattle.plan_defs.proofs.Rows.{row_from_lem}
 use Rattle.join_defs.specs.Columns.{figures, counts, joined_sheet}
@@ -82,12 +82,6 @@ figure_of_lem x i (suc (suc (suc (suc (suc j))))) h = absurd (omega arith)
 pub figure_from : (m n : ℕ) (x : List Float) (k l j : ℕ) → k < m → l < n → j < row_figures → figure_in (rows_of m n x k l) j ≡ at x (row_place m k l + j)
 figure_from m n x k l j h q b = ap (λ (w : Row). figure_in w j) (row_from_lem m n x k l h q) ∙ figure_of_lem x (row_place m k l) j b
 
--- row i by level is some corridor's at some level
-pub row_there : (m n i : ℕ) → i < m * n → (i % m < m) × (i / m < n)
-row_there m n i h =
-    let s = (some_row m n i h).0 in
-    (mod-lt i s, (div-lt_iff_lt-mul s).1 (let z : i < n * m = omega (arith, mul_comm m n) in z))
-
 module _ (m o n : ℕ) (x y : List Float) where
   by_district : (k l j : ℕ) → k < m + o → l < n → j < row_figures → (b : Bool) → ltb k m ≡ b
       → figure_in (cond b (rows_of m n x k l) (rows_of o n y (k - m) l)) j ≡ cond b (at x (row_place m k l + j)) (at y (row_place o (k - m) l + j))
@@ -98,13 +92,13 @@ module _ (m o n : ℕ) (x y : List Float) where
   unfolding sheet_of joined_row
   one_sheet N = tab_same N _ _ (λ p h. go (p / row_figures) (p % row_figures) (mod-lt p (omega arith)) (ltb (p / row_figures) ((m + o) * n)) refl)
     where
-      go : (i j : ℕ) → j < row_figures → (b : Bool) → ltb i ((m + o) * n) ≡ b → let k = i % (m + o) in let l = i / (m + o) in
+      go : (i j : ℕ) → j < row_figures → (b : Bool) → ltb i ((m + o) * n) ≡ b → let k = row_corridor (m + o) i in let l = row_level (m + o) i in
           cond b (figure_in (cond (ltb k m) (rows_of m n x k l) (rows_of o n y (k - m) l)) j) nought
           ≡ cond b (cond (ltb k m) (at x (row_place m k l + j)) (at y (row_place o (k - m) l + j))) nought
       go i j f false e = refl
       go i j f true e =
-          let t = row_there (m + o) n i (ltb-true _ _ e) in
-          by_district (i % (m + o)) (i / (m + o)) j t.0 t.1 f (ltb (i % (m + o)) m) refl
+          let h = ltb-true _ _ e in
+          by_district (row_corridor (m + o) i) (row_level (m + o) i) j (row_corridor_lem (m + o) n i h) (row_level_lem (m + o) n i h) f (ltb (row_corridor (m + o) i) m) refl
 
   -- of two cases that have as many levels
   pub sheet_are : (N n' : ℕ) → n ≡ n' → sheet_of N (m + o) n (joined_row m (rows_of m n x) (rows_of o n' y)) ≡ joined_sheet N m o n x y

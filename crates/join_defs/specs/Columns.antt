@@ -2,7 +2,7 @@
 use Rattle.std.specs.Prelude.{ℕ, ◌+◌, ◌-◌, ◌*◌, ◌/◌, ◌%◌, cond, List, ltb, Float, length, get_or}
 use Rattle.loops.specs.Figures.{at, nought}
 use Rattle.loops.specs.Loops.{tab}
-use Rattle.sheets.specs.Sheet.{row_figures, row_place}
+use Rattle.sheets.specs.Sheet.{row_figures, row_place, row_corridor, row_level}
 
 abbrev pub figure_at : List Float → List Float → ℕ → Float
 figure_at x y i = cond (ltb i (length x)) (at x i) (cond (ltb i (length x + length y)) (at y (i - length x)) nought)
@@ -21,8 +21,8 @@ counts places by x y = tab places (count_at by x y)
 abbrev pub sheet_at : ℕ → ℕ → ℕ → List Float → List Float → ℕ → Float
 sheet_at m o n x y p =
     let i = p / row_figures in
-    let k = i % (m + o) in
-    let l = i / (m + o) in
+    let k = row_corridor (m + o) i in
+    let l = row_level (m + o) i in
     cond (ltb i ((m + o) * n)) (cond (ltb k m) (at x (row_place m k l + p % row_figures)) (at y (row_place o (k - m) l + p % row_figures))) nought
 
 abbrev pub joined_sheet : ℕ → ℕ → ℕ → ℕ → List Float → List Float → List Float

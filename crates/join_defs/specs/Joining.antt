@@ -7,7 +7,7 @@ use Rattle.loops.specs.Loops.{tab}
 use Rattle.refusal.specs.Reply.{Reply}
 use Rattle.refusal.specs.declared.Refusal.{Refusal}
 use Rattle.refusal.specs.declared.Refusal.TheVariants.{Length}
-use Rattle.sheets.specs.Sheet.{row_figures}
+use Rattle.sheets.specs.Sheet.{row_figures, row_corridor, row_level}
 use Rattle.casefile_defs.specs.Bounds.{most_levels, most_buses, most_generators, most_corridors, most_sheet}
 use Rattle.casefile_defs.specs.Tables.{Places, places_of, sizes_ok, reply_of}
 use Rattle.casefile_defs.specs.declared.Header.{Header}
@@ -42,7 +42,7 @@ figure_in w j = at (w.r ∷ w.x ∷ w.b ∷ w.rate ∷ w.basis ∷ []) j
 
 unfoldable pub sheet_of : ℕ → ℕ → ℕ → (ℕ → ℕ → Row) → List Float
 sheet_of places m n row =
-    tab places (λ p. let i = p / row_figures in cond (ltb i (m * n)) (figure_in (row (i % m) (i / m)) (p % row_figures)) nought)
+    tab places (λ p. let i = p / row_figures in cond (ltb i (m * n)) (figure_in (row (row_corridor m i) (row_level m i)) (p % row_figures)) nought)
 
 unfoldable pub laid_out : Case → Places
 laid_out c =

@@ -1,10 +1,10 @@
 -- The joined case of two accepted cases that can be joined is accepted. Each test of a joined row is the test of the row in its own case.
-use Prim.Native.Nat.{ℕ, ◌+◌, ◌-◌, ◌*◌, ◌/◌, ◌%◌, ◌≤◌, ◌<◌}
+use Prim.Native.Nat.{ℕ, ◌+◌, ◌-◌, ◌*◌, ◌≤◌, ◌<◌}
 use mathlib.Core.Bool.{Bool, true, false, not, cond, ◌&&◌}
 use mathlib.Core.List.{List, ◌++◌}
 use mathlib.Core.Option.{Option, none, some}
 use mathlib.Core.Path.{◌≡◌, refl, sym, ap, ◌∙◌}
-use native.Mathlib.Nat.{add-mul, mod-lt, div-lt_iff_lt-mul}
+use native.Mathlib.Nat.{add-mul}
 use native.Mathlib.Omega.{arith}
 use borrow.Author.Tests.{ltb-true, ltb-false, lt-ltb, le-ltb, le-leb, eq-eqb}
 use lib.Dec.{ltb, leb, eqb}
@@ -14,7 +14,8 @@ use Rattle.loops.proofs.Bools.{both, and_of, unequal}
 use Rattle.loops.proofs.Scan.{pass_all}
 use Rattle.refusal.specs.declared.Refusal.{Refusal}
 use Rattle.refusal.specs.declared.Refusal.TheVariants.{Length, Count, Level, Bus, Generator, Corridor, Row as SheetRow, Districts}
-use Rattle.sheets.specs.Sheet.{row_figures}
+use Rattle.sheets.specs.Sheet.{row_figures, line_corridor, line_level}
+use Rattle.sheets.proofs.Layouts.{line_corridor_lem, line_level_lem}
 use Rattle.leaders.specs.Operation.{corridor_ok}
 use Rattle.plan_defs.specs.Constants.{most_buses, most_corridors, most_generators, most_levels}
 use Rattle.plan_defs.specs.Case.{Case, levels, end_a, end_b, row_at}
@@ -181,8 +182,7 @@ module _ (c d : Case) (t u : ℕ) (s : Joinable c d t u) where
   row_ok_lem : (i : ℕ) → i < joined.corridors * levels joined → row_ok joined i ≡ true
   unfolding row_ok joined_case
   row_ok_lem i h =
-      let z : 0 < levels c = omega (arith, C.counts.some_level) in
-      row_at_lem (i % levels c) (mod-lt i z) (i / levels c) ((div-lt_iff_lt-mul z).1 h)
+      row_at_lem (line_level (levels c) i) (line_level_lem joined.corridors (levels c) i h) (line_corridor (levels c) i) (line_corridor_lem joined.corridors (levels c) i h)
 
   -- ---- the theorem
   pub all_accepted : case_fault joined (t + u) ≡ none

@@ -17,7 +17,7 @@ use Rattle.loops.specs.Loops.{tab}
 use Rattle.loops.proofs.Bools.{both, unequal}
 use Rattle.loops.proofs.Fronts.{front_tab}
 use Rattle.loops.proofs.Tab.{length_tab, get_tab, tab_same, tab_of}
-use Rattle.sheets.specs.Sheet.{row_figures, row_place, row_corridor, row_level}
+use Rattle.sheets.specs.Sheet.{row_figures, row_index, row_place, row_corridor, row_level}
 use Rattle.sheets.proofs.Layouts.{parts, row_inside}
 use Rattle.loads.specs.Load.{weighed, loads_of}
 use Rattle.refusal.specs.declared.Refusal.{Refusal}
@@ -67,14 +67,15 @@ module _ (N m n : ℕ) (row : ℕ → ℕ → Row) (room : m * n * row_figures �
   cell k l j h q b =
       let i = row_place m k l + j in
       let z = row_inside m n k l h q in
-      let d : i / row_figures ≡ l * m + k = omega arith in
+      let s = row_index m k l in
+      let d : i / row_figures ≡ s = omega arith in
       let e : i % row_figures ≡ j = omega arith in
-      let low : l * m + k < m * n = omega arith in
+      let low : s < m * n = omega arith in
       get_or-take (m * n * row_figures) (sheet_of N m n row) i nan (omega arith)
       ∙ get_tab N _ i nan (omega arith)
       ∙ ap (λ (x : ℕ). cond (ltb x (m * n)) (figure_in (row (row_corridor m x) (row_level m x)) (i % row_figures)) nought) d
-      ∙ ap (λ (x : Bool). cond x (figure_in (row (row_corridor m (l * m + k)) (row_level m (l * m + k))) (i % row_figures)) nought) (lt-ltb (l * m + k) (m * n) low)
-      ∙ ap (λ (x : ℕ). figure_in (row x (row_level m (l * m + k))) (i % row_figures)) (parts m l k h).1
+      ∙ ap (λ (x : Bool). cond x (figure_in (row (row_corridor m s) (row_level m s)) (i % row_figures)) nought) (lt-ltb s (m * n) low)
+      ∙ ap (λ (x : ℕ). figure_in (row x (row_level m s)) (i % row_figures)) (parts m l k h).1
       ∙ ap (λ (x : ℕ). figure_in (row k x) (i % row_figures)) (parts m l k h).0
       ∙ ap (figure_in (row k l)) e
 

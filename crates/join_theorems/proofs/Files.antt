@@ -15,14 +15,14 @@ use Rattle.loops.specs.Figures.{at, nought}
 use Rattle.loops.specs.Loops.{tab}
 use Rattle.loops.proofs.Bools.{both, and_of}
 use Rattle.loops.proofs.Tab.{length_tab, get_tab}
-use Rattle.sheets.specs.Sheet.{row_figures, row_corridor, row_level, row_place as place_at}
+use Rattle.sheets.specs.Sheet.{row_figures, row_index, row_corridor, row_level, row_place}
 use Rattle.sheets.proofs.Layouts.{row_level_lem, row_corridor_lem, row_inside}
 use Rattle.casefile_defs.specs.Bounds.{most_levels, most_buses, most_generators, most_corridors, most_sheet}
 use Rattle.casefile_defs.specs.Layout.{Field, u8, u16, up_to, width_of, allowed}
 use Rattle.casefile_defs.specs.Reading.{lines, counts_ok, case_read}
 use Rattle.casefile_defs.specs.Tables.{Places, sizes_ok, basis_field, basis_of, read_case, outcome as readAs}
 use Rattle.casefile_defs.specs.declared.Header.{Header}
-use Rattle.casefile_theorems.specs.Writer.{Form, file_of, row_place}
+use Rattle.casefile_theorems.specs.Writer.{Form, file_of, row_cell}
 use Rattle.casefile_theorems.specs.Cases.{Numbers, Figures, Sheet, Case as Filed, Legal}
 use Rattle.casefile_theorems.proofs.Theorems.{case_back}
 use Rattle.plan_defs.specs.Case.{Case, Row, levels}
@@ -97,7 +97,7 @@ sheet_size : (N m n : ℕ) (row : ℕ → ℕ → Row) → length (sheet_of N m 
 unfolding sheet_of
 sheet_size N m n row = length_tab N _
 
-sheet_past : (N m n : ℕ) (row : ℕ → ℕ → Row) (q : ℕ) → row_place (m * n) 0 ≤ q → get_or (sheet_of N m n row) q nought ≡ nought
+sheet_past : (N m n : ℕ) (row : ℕ → ℕ → Row) (q : ℕ) → row_cell (m * n) 0 ≤ q → get_or (sheet_of N m n row) q nought ≡ nought
 unfolding sheet_of
 sheet_past N m n row q h = go (ltb q N) refl
   where
@@ -109,31 +109,31 @@ sheet_past N m n row q h = go (ltb q N) refl
 
 -- what holds of figure f of each row of the one sheet and of the other holds of each row of the joined one
 module _ (f : ℕ) (inside : f < row_figures) (P : Float → Type 0) where
-  row_of : (m n : ℕ) (x : List Float) → length x ≡ row_figures * (m * n) → ((i : ℕ) → i < m * n → P (get_or x (row_place i f) nought))
-      → (k l : ℕ) → k < m → l < n → P (at x (place_at m k l + f))
+  row_of : (m n : ℕ) (x : List Float) → length x ≡ row_figures * (m * n) → ((i : ℕ) → i < m * n → P (get_or x (row_cell i f) nought))
+      → (k l : ℕ) → k < m → l < n → P (at x (row_place m k l + f))
   row_of m n x size all k l h q =
       let z = row_inside m n k l h q in
-      let i = l * m + k in
-      let e : place_at m k l + f ≡ row_place i f = omega arith in
-      subst P (sym (ap (at x) e ∙ within x (row_place i f) nan nought (omega arith))) (all i (omega arith))
+      let i = row_index m k l in
+      let e : row_place m k l + f ≡ row_cell i f = omega arith in
+      subst P (sym (ap (at x) e ∙ within x (row_cell i f) nan nought (omega arith))) (all i (omega arith))
 
   module _ (m o n : ℕ) (x y : List Float) (size : length x ≡ row_figures * (m * n)) (other : length y ≡ row_figures * (o * n))
-      (low : (i : ℕ) → i < m * n → P (get_or x (row_place i f) nought)) (high : (i : ℕ) → i < o * n → P (get_or y (row_place i f) nought)) where
-    joined_row_lem : (k l : ℕ) → k < m + o → l < n → (b : Bool) → ltb k m ≡ b → P (cond b (at x (place_at m k l + f)) (at y (place_at o (k - m) l + f)))
+      (low : (i : ℕ) → i < m * n → P (get_or x (row_cell i f) nought)) (high : (i : ℕ) → i < o * n → P (get_or y (row_cell i f) nought)) where
+    joined_row_lem : (k l : ℕ) → k < m + o → l < n → (b : Bool) → ltb k m ≡ b → P (cond b (at x (row_place m k l + f)) (at y (row_place o (k - m) l + f)))
     joined_row_lem k l h q true e = row_of m n x size low k l (ltb-true k m e) q
     joined_row_lem k l h q false e = let z : m ≤ k = ltb-false k m e in row_of o n y other high (k - m) l (omega arith) q
 
-    rows_of : (i : ℕ) → i < (m + o) * n → P (sheet_at m o n x y (row_place i f))
+    rows_of : (i : ℕ) → i < (m + o) * n → P (sheet_at m o n x y (row_cell i f))
     rows_of i b =
-        let d : row_place i f / row_figures ≡ i = omega arith in
-        let e : row_place i f % row_figures ≡ f = omega arith in
+        let d : row_cell i f / row_figures ≡ i = omega arith in
+        let e : row_cell i f % row_figures ≡ f = omega arith in
         let k = row_corridor (m + o) i in
         let l = row_level (m + o) i in
         subst P
-        (sym (ap (λ (j : ℕ). cond (ltb j ((m + o) * n)) (cond (ltb (row_corridor (m + o) j) m) (at x (place_at m (row_corridor (m + o) j) (row_level (m + o) j) + row_place i f % row_figures))
-        (at y (place_at o (row_corridor (m + o) j - m) (row_level (m + o) j) + row_place i f % row_figures))) nought) d
-        ∙ ap (λ (j : ℕ). cond (ltb i ((m + o) * n)) (cond (ltb k m) (at x (place_at m k l + j)) (at y (place_at o (k - m) l + j))) nought) e
-        ∙ ap (λ (u : Bool). cond u (cond (ltb k m) (at x (place_at m k l + f)) (at y (place_at o (k - m) l + f))) nought) (lt-ltb i ((m + o) * n) b)))
+        (sym (ap (λ (j : ℕ). cond (ltb j ((m + o) * n)) (cond (ltb (row_corridor (m + o) j) m) (at x (row_place m (row_corridor (m + o) j) (row_level (m + o) j) + row_cell i f % row_figures))
+        (at y (row_place o (row_corridor (m + o) j - m) (row_level (m + o) j) + row_cell i f % row_figures))) nought) d
+        ∙ ap (λ (j : ℕ). cond (ltb i ((m + o) * n)) (cond (ltb k m) (at x (row_place m k l + j)) (at y (row_place o (k - m) l + j))) nought) e
+        ∙ ap (λ (u : Bool). cond u (cond (ltb k m) (at x (row_place m k l + f)) (at y (row_place o (k - m) l + f))) nought) (lt-ltb i ((m + o) * n) b)))
         (joined_row_lem k l (row_corridor_lem (m + o) n i b) (row_level_lem (m + o) n i b) (ltb k m) refl)
 
 -- ---- the joined case
@@ -175,18 +175,18 @@ module _ (h k : Header) (p q : Places) (x : Filed h p) (y : Filed k q) (s : Join
   few_lines : lines (header_of joined t) ≤ most_corridors * most_levels
   few_lines = mul-le-mul A.counts.few_corridors A.counts.few_levels
 
-  rows : (f : ℕ) → f < row_figures → (P : Float → Type 0) → ((i : ℕ) → i < lines h → P (get_or p.sheet (row_place i f) nought))
-      → ((i : ℕ) → i < lines k → P (get_or q.sheet (row_place i f) nought)) → (i : ℕ) → i < lines (header_of joined t) → P (get_or (laid_out joined).sheet (row_place i f) nought)
+  rows : (f : ℕ) → f < row_figures → (P : Float → Type 0) → ((i : ℕ) → i < lines h → P (get_or p.sheet (row_cell i f) nought))
+      → ((i : ℕ) → i < lines k → P (get_or q.sheet (row_cell i f) nought)) → (i : ℕ) → i < lines (header_of joined t) → P (get_or (laid_out joined).sheet (row_cell i f) nought)
   unfolding joined_case
   rows f inside P low high i b =
       let levels-of : k.corridors * levels c ≡ lines k = ap (λ (n : ℕ). k.corridors * n) same_levels in
       subst P
-      (sym (ap (λ (l : List Float). get_or l (row_place i f) nought) sheet_joined ∙ get_tab most_sheet _ (row_place i f) nought (omega (arith, few_lines))))
+      (sym (ap (λ (l : List Float). get_or l (row_cell i f) nought) sheet_joined ∙ get_tab most_sheet _ (row_cell i f) nought (omega (arith, few_lines))))
       (rows_of f inside P h.corridors k.corridors (levels c) (fronts h p).sheet (fronts k q).sheet
       (accepted c h.target s.first).columns.sheet
       ((accepted d k.target s.second).columns.sheet ∙ ap (λ (n : ℕ). row_figures * n) (sym levels-of))
-      (λ j l. subst P (sym (get_or-take (lines h * row_figures) p.sheet (row_place j f) nought (omega arith))) (low j l))
-      (λ j l. let z : j < lines k = omega (arith, levels-of) in subst P (sym (get_or-take (lines k * row_figures) q.sheet (row_place j f) nought (omega arith))) (high j z))
+      (λ j l. subst P (sym (get_or-take (lines h * row_figures) p.sheet (row_cell j f) nought (omega arith))) (low j l))
+      (λ j l. let z : j < lines k = omega (arith, levels-of) in subst P (sym (get_or-take (lines k * row_figures) q.sheet (row_cell j f) nought (omega arith))) (high j z))
       i b)
 
   sheet : Sheet (lines (header_of joined t)) (laid_out joined).sheet

@@ -1,6 +1,6 @@
 -- What acceptance gives: every length, every count within its bounds, every row of every table sound; and that of the ends, the levels and the sheet's rows.
 -- Each test of `case_fault` is taken apart; a refusal is no `none`.
-use Prim.Native.Nat.{ℕ, zero, suc, ◌+◌, ◌*◌, ◌/◌, ◌≤◌, ◌<◌}
+use Prim.Native.Nat.{ℕ, zero, suc, ◌+◌, ◌*◌, ◌≤◌, ◌<◌}
 use mathlib.Core.Bool.{Bool, true, false, cond, ◌&&◌}
 use mathlib.Core.List.{List}
 use mathlib.Core.Option.{Option, none, some}
@@ -19,7 +19,7 @@ use Rattle.loops.proofs.Scan.{all_pass}
 use Rattle.loops.proofs.Tab.{get_tab}
 use Rattle.refusal.specs.declared.Refusal.{Refusal}
 use Rattle.refusal.specs.declared.Refusal.TheVariants.{Length, Count, Level, Bus, Generator, Corridor, Row}
-use Rattle.sheets.specs.Sheet.{row_figures, row_place}
+use Rattle.sheets.specs.Sheet.{row_figures, row_place, line_index, line_corridor}
 use Rattle.sheets.proofs.Layouts.{parts}
 use Rattle.leaders.specs.Operation.{Ends, corridor_ok}
 use Rattle.dispatch_defs.specs.Units.{unit_ok}
@@ -251,5 +251,6 @@ pub row_sound_lem : (c : Case) (target : ℕ) → Accepted c target → (k l : �
 unfolding row_ok
 row_sound_lem c target ok k l h q =
     let e = parts (levels c) k l q in
-    let r = ok.row_ok_holds (k * levels c + l) (omega (arith, row_fits k c.corridors (levels c) h)) in
-    subst (λ (j : ℕ). row_sound (row_at c j l) ≡ true) e.0 (subst (λ (j : ℕ). row_sound (row_at c ((k * levels c + l) / levels c) j) ≡ true) e.1 r)
+    let i = line_index (levels c) k l in
+    let r = ok.row_ok_holds i (omega (arith, row_fits k c.corridors (levels c) h)) in
+    subst (λ (j : ℕ). row_sound (row_at c j l) ≡ true) e.0 (subst (λ (j : ℕ). row_sound (row_at c (line_corridor (levels c) i) j) ≡ true) e.1 r)

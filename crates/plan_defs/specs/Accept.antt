@@ -1,11 +1,11 @@
 -- Document 01, refusals of *Planning*: 1 length; 2 count; 3 ladder; 4 bus; 5 generator; 6 corridor; 7 sheet row (index: corridor × levels + level).
 -- A case that they pass is accepted. A NaN fails every test.
-use Rattle.std.specs.Prelude.{ℕ, ◌+◌, ◌*◌, ◌/◌, ◌%◌, Bool, cond, ◌&&◌, ◌||◌, leb, ltb, eqb, length, get_or}
+use Rattle.std.specs.Prelude.{ℕ, ◌+◌, ◌*◌, Bool, cond, ◌&&◌, ◌||◌, leb, ltb, eqb, length, get_or}
 use Rattle.std.proofs.Math.Option.{Option, none, some}
 use Rattle.std.specs.Float.Ieee.{eq, lt, le}
 use Rattle.loops.specs.Figures.{plus, at, nought, one, half, ten_thousand, million, thousandth, finite, inside}
 use Rattle.loops.specs.Loops.{first}
-use Rattle.sheets.specs.Sheet.{row_figures}
+use Rattle.sheets.specs.Sheet.{row_figures, line_corridor, line_level}
 use Rattle.loads.specs.Load.{load_ok}
 use Rattle.refusal.specs.declared.Refusal.{Refusal}
 use Rattle.refusal.specs.declared.Refusal.TheVariants.{Length, Count, Level, Bus, Generator, Corridor, Row as SheetRow}
@@ -78,7 +78,7 @@ row_sound w =
 
 -- the rows in the order of corridor, then level, however they lie
 unfoldable pub row_ok : Case → ℕ → Bool
-row_ok c i = row_sound (row_at c (i / levels c) (i % levels c))
+row_ok c i = row_sound (row_at c (line_corridor (levels c) i) (line_level (levels c) i))
 
 -- ---- the first refusal, of the lowest faulty index
 abbrev pub indexed : (ℕ → Refusal) → ℕ → ℕ → Option Refusal → Option Refusal

@@ -10,7 +10,7 @@ use lib.ListN.{length}
 use Rattle.loops.specs.Figures.{at}
 use Rattle.loops.proofs.Rows.{row_fits}
 use Rattle.loops.proofs.Tab.{length_tab, get_tab}
-use Rattle.sheets.specs.Sheet.{row_figures, row_place, row_corridor, row_level, corridor_place, line_of, by_level}
+use Rattle.sheets.specs.Sheet.{row_figures, row_index, row_place, row_corridor, row_level, line_index, corridor_place, line_corridor, line_level, line_of, line_place, by_level}
 
 -- ---- quotients and remainders
 pub parts : (m q r : ℕ) → r < m → ((q * m + r) / m ≡ q) × ((q * m + r) % m ≡ r)
@@ -29,8 +29,8 @@ some_row (suc m) zero i h = absurd (not-suc-le-zero (rw (mul-zero (suc m)) at h)
 some_row (suc m) (suc n) i h = (zero-lt-suc m, zero-lt-suc n)
 
 -- ---- rows: of the two numbers of a row each gives the other
-pub line_at_lem : (m n k l : ℕ) → k < m → line_of m n (l * m + k) ≡ k * n + l
-line_at_lem m n k l h = ap (λ (x : ℕ). x * n + row_level m (l * m + k)) (parts m l k h).1 ∙ ap (λ (x : ℕ). k * n + x) (parts m l k h).0
+pub line_at_lem : (m n k l : ℕ) → k < m → line_of m n (row_index m k l) ≡ line_index n k l
+line_at_lem m n k l h = ap (λ (x : ℕ). line_index n x (row_level m (row_index m k l))) (parts m l k h).1 ∙ ap (line_index n k) (parts m l k h).0
 
 module _ (m n i : ℕ) (h : i < m * n) where
   pub row_level_lem : row_level m i < n
@@ -42,6 +42,12 @@ module _ (m n i : ℕ) (h : i < m * n) where
   pub line_inside : line_of m n i < m * n
   line_inside = omega (arith, row_level_lem, row_fits (row_corridor m i) m n row_corridor_lem)
 
+  pub line_corridor_lem : line_corridor n i < m
+  line_corridor_lem = (div-lt_iff_lt-mul (some_row m n i h).1).1 h
+
+  pub line_level_lem : line_level n i < n
+  line_level_lem = mod-lt i (some_row m n i h).1
+
 pub line_back : (m n i : ℕ) → i < m * n → line_of m n (line_of n m i) ≡ i
 line_back m n i h =
     let h' : i < n * m = omega (arith, mul_comm m n) in
@@ -50,6 +56,9 @@ line_back m n i h =
 -- ---- figures
 pub row_inside : (m n k l : ℕ) → k < m → l < n → row_place m k l + row_figures ≤ row_figures * (m * n)
 row_inside m n k l h q = omega (arith, row_fits l n m q, mul_comm n m)
+
+pub line_place_inside : (m n i : ℕ) → i < m * n → line_place m n i + row_figures ≤ row_figures * (m * n)
+line_place_inside m n i h = row_inside m n (line_corridor n i) (line_level n i) (line_corridor_lem m n i h) (line_level_lem m n i h)
 
 module _ (m n : ℕ) (sheet : List Float) where
   pub figure_found : (k l j : ℕ) → k < m → l < n → j < row_figures → at (by_level m n sheet) (row_place m k l + j) ≡ at sheet (corridor_place n k l + j)
@@ -60,7 +69,7 @@ module _ (m n : ℕ) (sheet : List Float) where
       ∙ ap (λ (x : ℕ). at sheet (row_figures * x + (row_place m k l + j) % row_figures)) (line_at_lem m n k l h)
       ∙ ap (λ (x : ℕ). at sheet (corridor_place n k l + x)) r
     where
-      d : (row_place m k l + j) / row_figures ≡ l * m + k
+      d : (row_place m k l + j) / row_figures ≡ row_index m k l
       d = omega arith
 
       r : (row_place m k l + j) % row_figures ≡ j

@@ -8,24 +8,39 @@ use Rattle.loops.specs.Loops.{tab}
 abbrev pub row_figures : ℕ
 row_figures = 5
 
--- seam: the first figure of the row of a corridor and a level, in a sheet by level
-abbrev pub row_place : ℕ → ℕ → ℕ → ℕ
-row_place m k level = row_figures * (level * m + k)
+-- ---- by level, of m corridors: seam: which row the row of a corridor and a level is, and its first figure
+abbrev pub row_index : ℕ → ℕ → ℕ → ℕ
+row_index m k level = level * m + k
 
--- and back: the corridor and the level of row i of a sheet by level
+abbrev pub row_place : ℕ → ℕ → ℕ → ℕ
+row_place m k level = row_figures * row_index m k level
+
+-- and back: the corridor and the level of row i
 abbrev pub row_corridor : ℕ → ℕ → ℕ
 row_corridor m i = i % m
 
 abbrev pub row_level : ℕ → ℕ → ℕ
 row_level m i = i / m
 
--- the first figure of a row in a sheet by corridor
-abbrev pub corridor_place : ℕ → ℕ → ℕ → ℕ
-corridor_place n k level = row_figures * (k * n + level)
+-- ---- by corridor, of n levels: the same. It is 7's index too.
+abbrev pub line_index : ℕ → ℕ → ℕ → ℕ
+line_index n k level = k * n + level
 
--- ---- the row by corridor that is row i by level
+abbrev pub corridor_place : ℕ → ℕ → ℕ → ℕ
+corridor_place n k level = row_figures * line_index n k level
+
+abbrev pub line_corridor : ℕ → ℕ → ℕ
+line_corridor n i = i / n
+
+abbrev pub line_level : ℕ → ℕ → ℕ
+line_level n i = i % n
+
+-- ---- from the one to the other: the row by corridor that is row i by level, and the place by level of row i by corridor
 abbrev pub line_of : ℕ → ℕ → ℕ → ℕ
-line_of m n i = i % m * n + i / m
+line_of m n i = line_index n (row_corridor m i) (row_level m i)
+
+abbrev pub line_place : ℕ → ℕ → ℕ → ℕ
+line_place m n i = row_place m (line_corridor n i) (line_level n i)
 
 -- and the figure by corridor that is figure p by level
 abbrev pub figure_of : ℕ → ℕ → ℕ → ℕ

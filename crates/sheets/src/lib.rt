@@ -4,7 +4,7 @@
 ghost use Rattle.std.specs.Prelude.{◌≡◌, ◌*◌, ◌^◌, ◌<◌, eqb, length};
 ghost use Rattle.loops.specs.Figures.{at};
 ghost use Rattle.sheets.specs.Request.{counts_ok, check_of, Sized, outcome, lay_out};
-ghost use Rattle.sheets.specs.Sheet.{row_figures, row_place, row_corridor, row_level, line_of, figure_of, by_level};
+ghost use Rattle.sheets.specs.Sheet.{row_figures, row_place, row_corridor, row_level, line_of, line_place, figure_of, by_level};
 
 use refusal::Refusal;
 
@@ -23,7 +23,7 @@ pub fn row_place(corridors: usize, k: usize, level: usize) -> usize
     ROW_FIGURES * (level * corridors + k)
 }
 
-// And back: the corridor of row i of a sheet by level, and its level. That there is a corridor is asked here and of the two below, of the numbers of one call: a
+// And back: the corridor of row i of a sheet by level, and its level. That there is a corridor, or a level, is asked here and of the three below, of the numbers of one call: a
 // public function may ask for no struct in their place.
 pub fn row_corridor(corridors: usize, i: usize) -> usize
     requires { 0 < corridors }
@@ -45,6 +45,14 @@ pub fn line_of(corridors: usize, levels: usize, i: usize) -> usize
     ensures { result ≡ line_of corridors levels i }
 {
     row_corridor(corridors, i) * levels + row_level(corridors, i)
+}
+
+// The first figure, in a sheet by level, of row i by corridor, which is line i of a case file and 7's index i.
+pub fn line_place(corridors: usize, levels: usize, i: usize) -> usize
+    requires { (0 < levels) × (line_place corridors levels i < 2 ^ 64) }
+    ensures { result ≡ line_place corridors levels i }
+{
+    row_place(corridors, i / levels, i % levels)
 }
 
 // So many figures are the rows of so many corridors and levels. The counts are as given, so that their product may not fit.

@@ -18,7 +18,7 @@ use Rattle.loops.proofs.Tab.{length_tab, get_tab, tab_same, tab_of}
 use Rattle.casefile_defs.specs.Bounds.{most_sheet, row_figures}
 use Rattle.casefile_defs.specs.Layout.{Field, width_of, allowed}
 use Rattle.casefile_defs.specs.Tables.{basis_of, basis_field}
-use Rattle.casefile_theorems.specs.Writer.{basis_at, row_place}
+use Rattle.casefile_theorems.specs.Writer.{basis_at, row_cell}
 use Rattle.casefile_theorems.specs.Cases.{Numbers, Figures, Sheet}
 use Rattle.small.specs.Tables.{load_of, sheet_row, padded}
 use Rattle.small_theorems.proofs.Accepted.{low}
@@ -141,9 +141,9 @@ sheet_held m h =
     let s : length l ≤ most_sheet = rw (length_tab (m * row_figures) figure_at) h in
     record {
       size = padded_length nought most_sheet l s;
-      double = λ i j b c. rw (padded_get nought most_sheet l s (row_place i j)) (sheet_fits (m * row_figures) (row_place i j));
+      double = λ i j b c. rw (padded_get nought most_sheet l s (row_cell i j)) (sheet_fits (m * row_figures) (row_cell i j));
       basis = λ i b.
-          let z : get_or (padded nought most_sheet l) (row_place i basis_field) nought ≡ nought = padded_get nought most_sheet l s (row_place i basis_field) ∙ basis_nought (m * row_figures) (row_place i basis_field) (omega arith) in
-          ap (λ (n : ℕ). basis_of n) (basis_zero (padded nought most_sheet l) (row_place i basis_field) z) ∙ sym z;
+          let z : get_or (padded nought most_sheet l) (row_cell i basis_field) nought ≡ nought = padded_get nought most_sheet l s (row_cell i basis_field) ∙ basis_nought (m * row_figures) (row_cell i basis_field) (omega arith) in
+          ap (λ (n : ℕ). basis_of n) (basis_zero (padded nought most_sheet l) (row_cell i basis_field) z) ∙ sym z;
       past = λ q b. padded_get nought most_sheet l s q ∙ get_or-eq_default l nought (rw (length_tab (m * row_figures) figure_at) (omega arith));
     }

@@ -1,7 +1,7 @@
 use Rattle.std.proofs.iter.Serving.{serving}
-use Rattle.std.proofs.Common.{ℕ, ◌+◌, ◌/◌, ◌%◌, ◌∙◌, arith, rules}
+use Rattle.std.proofs.Common.{ℕ, ◌+◌, ◌∙◌, arith, rules}
 use Rattle.loops.specs.Figures.{at}
-use Rattle.sheets.specs.Sheet.{row_place}
+use Rattle.sheets.specs.Sheet.{line_place}
 use Rattle.casefile_defs.specs.Tables.{places_of}
 use Rattle.casefile_defs.proofs.Whole.{sizes}
 use Rattle.casefile_theorems.specs.Writer.{file_with, caps_only}
@@ -54,7 +54,7 @@ returns-clause-put c =
     let p = places_of x.ladder.now x.tier.now x.reading.now x.weight.now x.bus.now x.slack.now x.pmin.now x.pmax.now x.c1.now x.c2.now x.a.now x.b.now x.circuits.now x.length_km.now x.share.now x.cap.now x.sheet.now in
     let n = h.above + h.requested in
     let level : ℕ → Level = λ (i : ℕ). record { kv = at p.ladder i } in
-    let line : ℕ → Line = λ (i : ℕ). line_at p.sheet (row_place h.corridors (i / n) (i % n)) in
+    let line : ℕ → Line = λ (i : ℕ). line_at p.sheet (line_place h.corridors n i) in
     let g =
     grows c.put.ensures.grown
     (grows (c.put_table.ensures.grown level (λ i r l h. search rules))

@@ -2,10 +2,11 @@
 //! no request, and the order of the refusals.
 
 use reference::generate::requests::{
-    as_input, batch, is_long, KINDS, MOST_BYTES, MOST_REQUESTS, USUAL_BYTES,
+    as_input, batch, is_long, largest, KINDS, MOST_BYTES, MOST_REQUESTS, USUAL_BYTES,
 };
 use reference::harness::answers::{answer, answer_all};
 use reference::harness::figures::{as_read, listed};
+use reference::tally::Tally;
 
 fn asked(line: &str) -> String {
     answer(line.as_bytes())
@@ -168,5 +169,23 @@ fn a_seed_gives_the_same_batch_and_keeps_to_its_bytes() {
             let again = as_input(&batch(kind, seed, MOST_REQUESTS).expect("a kind"));
             assert_eq!(input, again);
         }
+    }
+}
+
+/// Every kind with counts has a family with all of them at their bounds. A long
+/// batch is of it by half, and the count of branches asks for a hundred.
+#[test]
+fn the_largest_requests() {
+    let (nothing_met, _) = Tally::default().report();
+    for kind in KINDS {
+        let Some((family, _)) = largest(kind) else {
+            assert!(["SQRT", "IMP", "BAD"].contains(&kind), "{kind} has counts");
+            continue;
+        };
+        let requests = batch(kind, 3, MOST_REQUESTS).expect("a kind");
+        let at_bounds = requests.iter().filter(|request| request.family == family);
+        assert!(at_bounds.count() >= requests.len() / 2);
+        let seldom = format!("met less than 100 times: request: {kind}, {family}\n");
+        assert!(nothing_met.contains(&seldom), "{seldom}");
     }
 }

@@ -14,6 +14,10 @@ pub const FAMILIES: &[Family] = &[
     ("counts past their bounds", past_bounds),
 ];
 
+/// Not among [`FAMILIES`], so that seeds make the requests that they made
+/// before it, and with them the stored sample: the long batches have it.
+pub const LARGEST: Family = ("256 corridors, 5 levels", largest);
+
 /// The request, with `more` figures or places added, or left out.
 fn ask(random: &mut Random, corridors: usize, levels: usize, more: [isize; 2]) -> Words {
     let [figures, places] = more.map(|more| (ROW * corridors * levels).saturating_add_signed(more));
@@ -45,6 +49,10 @@ fn at_bounds(random: &mut Random) -> Words {
         (1, MOST_LEVELS),
     ]);
     ask(random, corridors, levels, [0, 0])
+}
+
+fn largest(random: &mut Random) -> Words {
+    ask(random, MOST_CORRIDORS, MOST_LEVELS, [0, 0])
 }
 
 /// Of a good or a bad count: 1 comes before 2.

@@ -75,6 +75,8 @@ pub fn largest(kind: &str) -> Option<Family> {
         "ANG" => Some(angles::LARGEST),
         "PLACE" => Some(placement::LARGEST),
         "SHEET" => Some(sheet::LARGEST),
+        "ROWS" => Some(rows::LARGEST),
+        "LAID" => Some(laid::LARGEST),
         "PREV" => Some(preview::LARGEST),
         _ => None,
     }

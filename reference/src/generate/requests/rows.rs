@@ -18,6 +18,10 @@ pub const FAMILIES: &[Family] = &[
     ("counts past their bounds", past_bounds),
 ];
 
+/// Not among [`FAMILIES`], so that seeds make the requests that they made
+/// before it, and with them the stored sample: the long batches have it.
+pub const LARGEST: Family = ("256 corridors, 5 levels, all surveyed", largest);
+
 /// Counts of corridors, levels and surveyed corridors, and the corridor asked.
 #[derive(Clone, Copy)]
 struct Asked {
@@ -101,6 +105,17 @@ fn large(random: &mut Random) -> Words {
         levels: random.from_to(1, MOST_LEVELS),
         count: random.pick(&[0, 1, corridors / 2, corridors]),
         corridor: random.below(corridors),
+    };
+    ask(random, asked, [0, 0])
+}
+
+/// Two whole sheets at their bounds.
+fn largest(random: &mut Random) -> Words {
+    let asked = Asked {
+        corridors: MOST_CORRIDORS,
+        levels: MOST_LEVELS,
+        count: MOST_CORRIDORS,
+        corridor: random.below(MOST_CORRIDORS),
     };
     ask(random, asked, [0, 0])
 }

@@ -4,6 +4,7 @@
 //!
 //!     bench [PART..]         the table, or parts of it: angles, operations, reading, sheet, previews, listing
 //!     bench --once [PART..]  the same with one run of each, for what it compares: its times say nothing
+//!     bench --case           writes the case file of the listing '256 buses' to standard output, for bench/instructions
 
 mod angles;
 mod cases;
@@ -67,6 +68,9 @@ fn report(what: &str, note: &str, times: (Duration, Duration)) {
 }
 
 fn main() {
+    if std::env::args().any(|word| word == "--case") {
+        return programs::write_feeder();
+    }
     println!(
         "{:<54} {:>11} {:>12} {:>12} {:>8}",
         "case", "", "port, us", "Rust, us", "ratio"

@@ -1,6 +1,7 @@
 //! The listing program against the reference build's, on the same case files: the processor time of a run from start to
 //! end, and without what a run on an empty file costs. The listings are compared byte for byte.
 
+use std::io::Write;
 use std::time::Duration;
 
 use reference::harness::case_file::write_case;
@@ -132,6 +133,13 @@ fn memory(what: &str, file: &[u8]) {
         "",
         port as f64 / rust as f64
     );
+}
+
+/// The case file of the listing '256 buses', to standard output.
+pub fn write_feeder() {
+    std::io::stdout()
+        .write_all(&write_case(&draft(FEEDER)))
+        .expect("the file is written");
 }
 
 pub fn run() {

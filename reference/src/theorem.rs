@@ -71,6 +71,7 @@ use lib.Ieee.{{Float}}
 use Rattle.mode.specs.declared.PlanMode.TheVariants.{{{mode}}}
 use Rattle.plan_defs.specs.Case.{{Case, rows_of}}
 use Rattle.plan_defs.specs.Listing.{{listing_of}}
+use Rattle.plan_defs.proofs.Unfolded.{{whole_plan}}
 use Rattle.plan_cases.proofs.Figures.{{figures, load_bits}}
 "
     )
@@ -164,7 +165,7 @@ fn given(case: &Case, mode: &str) -> String {
 /// That the case's loads are what its readings and weights make.
 fn weighed(case: &Case) -> String {
     let loads = bits(case.buses.iter().map(|bus| bus.load()));
-    format!("\npub weighed : load_bits given ≡ {loads}\nunfolding listing_of\nweighed = refl\n")
+    format!("\npub weighed : load_bits given ≡ {loads}\nunfolding whole_plan\nweighed = refl\n")
 }
 
 /// One field of all lines of the listing that have this mark; the mark is field 0.
@@ -209,5 +210,5 @@ fn listed(case: &Case, listing: &str) -> String {
         }
         .expect("text grows");
     }
-    text + "    ∷ []\nunfolding listing_of\nlisted = refl\n"
+    text + "    ∷ []\nunfolding whole_plan\nlisted = refl\n"
 }

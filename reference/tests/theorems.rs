@@ -67,7 +67,7 @@ fn theorem_of_case_l_has_its_listing() {
     ∷ (0x4059_0000_0000_0000 ∷ [])
     ∷ (0x3FE0_0000_0000_0000 ∷ 0x3FD0_0000_0000_0000 ∷ [])
     ∷ []
-unfolding listing_of
+unfolding whole_plan
 listed = refl
 ";
     assert!(theorem.ends_with(statement), "{theorem}");

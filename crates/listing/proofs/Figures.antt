@@ -91,7 +91,6 @@ one_listing mode (planned p) = plan_same mode p
 
 -- of a case: the text that is printed is that of the figures which are evaluated
 pub case_listing : (c : Case) (target : ℕ) → ending_text c.mode (ending_of c target) ≡ figures_text (listing_of c target)
-unfolding listing_of
 case_listing c target = one_listing c.mode (ending_of c target)
 
 -- and of a file that holds a case

@@ -11,6 +11,7 @@ use lib.Ieee.{Float}
 use Rattle.mode.specs.declared.PlanMode.TheVariants.{Reinforce}
 use Rattle.plan_defs.specs.Case.{Case, rows_of}
 use Rattle.plan_defs.specs.Listing.{listing_of}
+use Rattle.plan_defs.proofs.Unfolded.{whole_plan}
 use Rattle.plan_cases.proofs.Figures.{figures, load_bits}
 
 -- by level
@@ -61,7 +62,7 @@ given =
     }
 
 pub weighed : load_bits given ≡ 0x4062_C000_0000_0000 ∷ 0 ∷ 0x4072_C000_0000_0000 ∷ []
-unfolding listing_of
+unfolding whole_plan
 weighed = refl
 
 pub listed :
@@ -77,5 +78,5 @@ pub listed :
     ∷ (0x406D_B000_0000_0000 ∷ [])
     ∷ (0x3FE4_35E5_0D79_435E ∷ 0x3FC8_7439_2914_8D33 ∷ [])
     ∷ []
-unfolding listing_of
+unfolding whole_plan
 listed = refl

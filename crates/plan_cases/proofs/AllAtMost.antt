@@ -10,6 +10,7 @@ use lib.Ieee.{Float}
 use Rattle.mode.specs.declared.PlanMode.TheVariants.{Observe}
 use Rattle.plan_defs.specs.Case.{Case, rows_of}
 use Rattle.plan_defs.specs.Listing.{listing_of}
+use Rattle.plan_defs.proofs.Unfolded.{whole_plan}
 use Rattle.plan_cases.proofs.Figures.{figures, load_bits}
 
 -- by level
@@ -59,7 +60,7 @@ given =
     }
 
 pub weighed : load_bits given ≡ 0 ∷ 0x4054_0000_0000_0000 ∷ 0 ∷ []
-unfolding listing_of
+unfolding whole_plan
 weighed = refl
 
 pub listed :
@@ -75,5 +76,5 @@ pub listed :
     ∷ (0x4050_E000_0000_0000 ∷ [])
     ∷ (0x3FF2_F684_BDA1_2F68 ∷ 0x3FB9_A058_BE37_2877 ∷ [])
     ∷ []
-unfolding listing_of
+unfolding whole_plan
 listed = refl

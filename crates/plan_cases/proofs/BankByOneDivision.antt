@@ -12,6 +12,7 @@ use lib.Ieee.{Float}
 use Rattle.mode.specs.declared.PlanMode.TheVariants.{Expand}
 use Rattle.plan_defs.specs.Case.{Case, rows_of}
 use Rattle.plan_defs.specs.Listing.{listing_of}
+use Rattle.plan_defs.proofs.Unfolded.{whole_plan}
 use Rattle.plan_cases.proofs.Figures.{figures, load_bits}
 
 -- by level
@@ -62,7 +63,7 @@ given =
     }
 
 pub weighed : load_bits given ≡ 0 ∷ 0 ∷ 0x4097_C402_14EB_C876 ∷ []
-unfolding listing_of
+unfolding whole_plan
 weighed = refl
 
 pub listed :
@@ -78,5 +79,5 @@ pub listed :
     ∷ (0x4071_9AAC_356C_48A3 ∷ 0x40D3_8800_0000_0000 ∷ [])
     ∷ (0x3FEC_CCCC_CCCC_CCCD ∷ 0x3FB3_2346_6E77_E6E8 ∷ [])
     ∷ []
-unfolding listing_of
+unfolding whole_plan
 listed = refl

@@ -15,6 +15,7 @@ use lib.Ieee.{Float}
 use Rattle.mode.specs.declared.PlanMode.TheVariants.{Expand}
 use Rattle.plan_defs.specs.Case.{Case, rows_of}
 use Rattle.plan_defs.specs.Listing.{listing_of}
+use Rattle.plan_defs.proofs.Unfolded.{whole_plan}
 use Rattle.plan_cases.proofs.Figures.{figures, load_bits}
 
 -- by level
@@ -75,7 +76,7 @@ given =
     }
 
 pub weighed : load_bits given ≡ 0x407F_4000_0000_0000 ∷ 0x4059_0000_0000_0000 ∷ []
-unfolding listing_of
+unfolding whole_plan
 weighed = refl
 
 pub listed :
@@ -91,5 +92,5 @@ pub listed :
     ∷ (0x4072_C000_0000_0000 ∷ 0x4082_C000_0000_0000 ∷ 0x4082_C000_0000_0000 ∷ [])
     ∷ (0x3FD1_C71C_71C7_1C73 ∷ 0x3F61_3CC1_E098_EAD7 ∷ [])
     ∷ []
-unfolding listing_of
+unfolding whole_plan
 listed = refl

@@ -11,6 +11,7 @@ use lib.Ieee.{Float}
 use Rattle.mode.specs.declared.PlanMode.TheVariants.{Reinforce}
 use Rattle.plan_defs.specs.Case.{Case, rows_of}
 use Rattle.plan_defs.specs.Listing.{listing_of}
+use Rattle.plan_defs.proofs.Unfolded.{whole_plan}
 use Rattle.plan_cases.proofs.Figures.{figures, load_bits}
 
 -- by level
@@ -61,7 +62,7 @@ given =
     }
 
 pub weighed : load_bits given ≡ 0 ∷ 0x4069_0000_0000_0000 ∷ []
-unfolding listing_of
+unfolding whole_plan
 weighed = refl
 
 pub listed :
@@ -77,5 +78,5 @@ pub listed :
     ∷ (0x405C_2000_0000_0000 ∷ 0x4059_0000_0000_0000 ∷ [])
     ∷ (0x3FE5_BC89_A4D7_4C2D ∷ 0x3FCB_5E35_7B5D_EEFE ∷ [])
     ∷ []
-unfolding listing_of
+unfolding whole_plan
 listed = refl

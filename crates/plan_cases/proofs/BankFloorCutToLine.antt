@@ -15,6 +15,7 @@ use lib.Ieee.{Float}
 use Rattle.mode.specs.declared.PlanMode.TheVariants.{Expand}
 use Rattle.plan_defs.specs.Case.{Case, rows_of}
 use Rattle.plan_defs.specs.Listing.{listing_of}
+use Rattle.plan_defs.proofs.Unfolded.{whole_plan}
 use Rattle.plan_cases.proofs.Figures.{figures, load_bits}
 
 -- by level
@@ -68,7 +69,7 @@ given =
     }
 
 pub weighed : load_bits given ≡ 0 ∷ 0 ∷ 0x4089_0000_0000_0000 ∷ []
-unfolding listing_of
+unfolding whole_plan
 weighed = refl
 
 pub listed :
@@ -84,5 +85,5 @@ pub listed :
     ∷ (0x4060_E000_0000_0000 ∷ 0x409F_4000_0000_0000 ∷ [])
     ∷ (0x3FF2_F684_BDA1_2F68 ∷ 0x3FF8_886C_03E4_4640 ∷ [])
     ∷ []
-unfolding listing_of
+unfolding whole_plan
 listed = refl

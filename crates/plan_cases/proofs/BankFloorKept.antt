@@ -16,6 +16,7 @@ use lib.Ieee.{Float}
 use Rattle.mode.specs.declared.PlanMode.TheVariants.{Expand}
 use Rattle.plan_defs.specs.Case.{Case, rows_of}
 use Rattle.plan_defs.specs.Listing.{listing_of}
+use Rattle.plan_defs.proofs.Unfolded.{whole_plan}
 use Rattle.plan_cases.proofs.Figures.{figures, load_bits}
 
 -- by level
@@ -73,7 +74,7 @@ given =
     }
 
 pub weighed : load_bits given ≡ 0 ∷ 0x408F_4000_0000_0000 ∷ 0 ∷ []
-unfolding listing_of
+unfolding whole_plan
 weighed = refl
 
 pub listed :
@@ -89,5 +90,5 @@ pub listed :
     ∷ (0x4072_4800_0000_0000 ∷ 0x4075_1800_0000_0000 ∷ [])
     ∷ (0x3FDB_59B5_9B59_B59B ∷ 0x3FC8_D2C1_BCD9_763C ∷ [])
     ∷ []
-unfolding listing_of
+unfolding whole_plan
 listed = refl

@@ -11,6 +11,7 @@ use lib.Ieee.{Float}
 use Rattle.mode.specs.declared.PlanMode.TheVariants.{Reinforce}
 use Rattle.plan_defs.specs.Case.{Case, rows_of}
 use Rattle.plan_defs.specs.Listing.{listing_of}
+use Rattle.plan_defs.proofs.Unfolded.{whole_plan}
 use Rattle.plan_cases.proofs.Figures.{figures, load_bits}
 
 -- by level
@@ -71,7 +72,7 @@ given =
     }
 
 pub weighed : load_bits given ≡ 0 ∷ 0x408F_4000_0000_0000 ∷ []
-unfolding listing_of
+unfolding whole_plan
 weighed = refl
 
 pub listed :
@@ -87,5 +88,5 @@ pub listed :
     ∷ (0x406F_4000_0000_0000 ∷ 0x4062_C000_0000_0000 ∷ 0x4052_C000_0000_0000 ∷ [])
     ∷ (0x3FEC_482C_7D49_94B1 ∷ 0x3FCC_482C_7D49_94B2 ∷ [])
     ∷ []
-unfolding listing_of
+unfolding whole_plan
 listed = refl

@@ -11,6 +11,7 @@ use lib.Ieee.{Float}
 use Rattle.mode.specs.declared.PlanMode.TheVariants.{Reinforce}
 use Rattle.plan_defs.specs.Case.{Case, rows_of}
 use Rattle.plan_defs.specs.Listing.{listing_of}
+use Rattle.plan_defs.proofs.Unfolded.{whole_plan}
 use Rattle.plan_cases.proofs.Figures.{figures, load_bits}
 
 -- by level
@@ -61,7 +62,7 @@ given =
     }
 
 pub weighed : load_bits given ≡ 0 ∷ 0 ∷ 0x4065_3786_ECB9_297A ∷ []
-unfolding listing_of
+unfolding whole_plan
 weighed = refl
 
 pub listed :
@@ -77,5 +78,5 @@ pub listed :
     ∷ (0x404F_6EB4_ECEC_635C ∷ 0x40D3_8800_0000_0000 ∷ [])
     ∷ (0x3FE5_9999_9999_999C ∷ 0x3FAA_3E60_EE4E_A056 ∷ [])
     ∷ []
-unfolding listing_of
+unfolding whole_plan
 listed = refl

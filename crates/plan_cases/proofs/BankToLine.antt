@@ -15,6 +15,7 @@ use lib.Ieee.{Float}
 use Rattle.mode.specs.declared.PlanMode.TheVariants.{Expand}
 use Rattle.plan_defs.specs.Case.{Case, rows_of}
 use Rattle.plan_defs.specs.Listing.{listing_of}
+use Rattle.plan_defs.proofs.Unfolded.{whole_plan}
 use Rattle.plan_cases.proofs.Figures.{figures, load_bits}
 
 -- by level
@@ -75,7 +76,7 @@ given =
     }
 
 pub weighed : load_bits given ≡ 0x4069_0000_0000_0000 ∷ 0x408F_4000_0000_0000 ∷ []
-unfolding listing_of
+unfolding whole_plan
 weighed = refl
 
 pub listed :
@@ -91,5 +92,5 @@ pub listed :
     ∷ (0x406D_B000_0000_0000 ∷ 0x407C_2000_0000_0000 ∷ 0x407C_2000_0000_0000 ∷ [])
     ∷ (0x3FE0_58EE_0493_C7C4 ∷ 0x3FCD_6CDF_A1D6_CDFB ∷ [])
     ∷ []
-unfolding listing_of
+unfolding whole_plan
 listed = refl

@@ -16,6 +16,7 @@ use lib.Ieee.{Float}
 use Rattle.mode.specs.declared.PlanMode.TheVariants.{Expand}
 use Rattle.plan_defs.specs.Case.{Case, rows_of}
 use Rattle.plan_defs.specs.Listing.{listing_of}
+use Rattle.plan_defs.proofs.Unfolded.{whole_plan}
 use Rattle.plan_cases.proofs.Figures.{figures, load_bits}
 
 -- by level
@@ -72,7 +73,7 @@ given =
     }
 
 pub weighed : load_bits given ≡ 0x4059_0000_0000_0000 ∷ 0x408C_2000_0000_0000 ∷ 0x4072_C000_0000_0000 ∷ []
-unfolding listing_of
+unfolding whole_plan
 weighed = refl
 
 pub listed :
@@ -88,5 +89,5 @@ pub listed :
     ∷ (0x40A9_0000_0000_0000 ∷ 0x4075_1800_0000_0000 ∷ [])
     ∷ (0x3FDC_71C7_1C71_C719 ∷ 0x3FD1_CB98_DE17_5422 ∷ [])
     ∷ []
-unfolding listing_of
+unfolding whole_plan
 listed = refl

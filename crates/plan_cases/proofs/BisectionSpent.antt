@@ -11,6 +11,7 @@ use lib.Ieee.{Float}
 use Rattle.mode.specs.declared.PlanMode.TheVariants.{Reinforce}
 use Rattle.plan_defs.specs.Case.{Case, rows_of}
 use Rattle.plan_defs.specs.Listing.{listing_of}
+use Rattle.plan_defs.proofs.Unfolded.{whole_plan}
 use Rattle.plan_cases.proofs.Figures.{figures, load_bits}
 
 -- by level
@@ -74,7 +75,7 @@ given =
     }
 
 pub weighed : load_bits given ≡ 0x0000_0000_0000_0001 ∷ 0x0000_0000_0000_0001 ∷ 0 ∷ 0x412E_8480_0000_0000 ∷ 0x8000_0000_0000_0000 ∷ []
-unfolding listing_of
+unfolding whole_plan
 weighed = refl
 
 pub listed :
@@ -90,5 +91,5 @@ pub listed :
     ∷ (0x3F50_624D_D2F1_A9FC ∷ 0x3FF0_0000_0000_0000 ∷ 0x411E_8480_0000_0000 ∷ 0x3FF0_0000_0000_0000 ∷ 0x3F40_624D_D2F1_A9FC ∷ [])
     ∷ (0x3FE0_0000_0000_0000 ∷ 0x40BB_D4D6_0B2E_43E6 ∷ [])
     ∷ []
-unfolding listing_of
+unfolding whole_plan
 listed = refl

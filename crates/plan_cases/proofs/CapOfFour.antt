@@ -15,6 +15,7 @@ use lib.Ieee.{Float}
 use Rattle.mode.specs.declared.PlanMode.TheVariants.{Expand}
 use Rattle.plan_defs.specs.Case.{Case, rows_of}
 use Rattle.plan_defs.specs.Listing.{listing_of}
+use Rattle.plan_defs.proofs.Unfolded.{whole_plan}
 use Rattle.plan_cases.proofs.Figures.{figures, load_bits}
 
 -- by level
@@ -70,7 +71,7 @@ given =
     }
 
 pub weighed : load_bits given ≡ 0x408F_4000_0000_0000 ∷ 0x4079_0000_0000_0000 ∷ []
-unfolding listing_of
+unfolding whole_plan
 weighed = refl
 
 pub listed :
@@ -86,5 +87,5 @@ pub listed :
     ∷ (0x4069_0000_0000_0000 ∷ 0x4055_E000_0000_0000 ∷ [])
     ∷ (0x3FF6_F88A_47AF_F172 ∷ 0x4004_1978_FEB9_F344 ∷ [])
     ∷ []
-unfolding listing_of
+unfolding whole_plan
 listed = refl

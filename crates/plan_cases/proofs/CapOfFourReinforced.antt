@@ -11,6 +11,7 @@ use lib.Ieee.{Float}
 use Rattle.mode.specs.declared.PlanMode.TheVariants.{Reinforce}
 use Rattle.plan_defs.specs.Case.{Case, rows_of}
 use Rattle.plan_defs.specs.Listing.{listing_of}
+use Rattle.plan_defs.proofs.Unfolded.{whole_plan}
 use Rattle.plan_cases.proofs.Figures.{figures, load_bits}
 
 -- by level
@@ -61,7 +62,7 @@ given =
     }
 
 pub weighed : load_bits given ≡ 0x4079_0000_0000_0000 ∷ 0x4079_0000_0000_0000 ∷ 0x407F_4000_0000_0000 ∷ []
-unfolding listing_of
+unfolding whole_plan
 weighed = refl
 
 pub listed :
@@ -77,5 +78,5 @@ pub listed :
     ∷ (0x406F_4000_0000_0000 ∷ 0x4082_C000_0000_0000 ∷ [])
     ∷ (0x3FEC_CCCC_CCCC_CCCB ∷ 0x3FF9_B49F_1F86_D5E2 ∷ [])
     ∷ []
-unfolding listing_of
+unfolding whole_plan
 listed = refl

@@ -12,6 +12,7 @@ use lib.Ieee.{Float}
 use Rattle.mode.specs.declared.PlanMode.TheVariants.{Reinforce}
 use Rattle.plan_defs.specs.Case.{Case, rows_of}
 use Rattle.plan_defs.specs.Listing.{listing_of}
+use Rattle.plan_defs.proofs.Unfolded.{whole_plan}
 use Rattle.plan_cases.proofs.Figures.{figures, load_bits}
 
 -- by level
@@ -64,7 +65,7 @@ given =
     }
 
 pub weighed : load_bits given ≡ 0x4089_0000_0000_0000 ∷ 0x4082_C000_0000_0000 ∷ []
-unfolding listing_of
+unfolding whole_plan
 weighed = refl
 
 pub listed :
@@ -80,5 +81,5 @@ pub listed :
     ∷ (0x4049_0000_0000_0000 ∷ 0x4082_C000_0000_0000 ∷ [])
     ∷ (0x3FFF_EACB_40C8_F9F7 ∷ 0x3FE0_D2A3_EB33_42E6 ∷ [])
     ∷ []
-unfolding listing_of
+unfolding whole_plan
 listed = refl

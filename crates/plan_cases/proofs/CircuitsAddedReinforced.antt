@@ -11,6 +11,7 @@ use lib.Ieee.{Float}
 use Rattle.mode.specs.declared.PlanMode.TheVariants.{Reinforce}
 use Rattle.plan_defs.specs.Case.{Case, rows_of}
 use Rattle.plan_defs.specs.Listing.{listing_of}
+use Rattle.plan_defs.proofs.Unfolded.{whole_plan}
 use Rattle.plan_cases.proofs.Figures.{figures, load_bits}
 
 -- by level
@@ -63,7 +64,7 @@ given =
     }
 
 pub weighed : load_bits given ≡ 0x4059_0000_0000_0000 ∷ 0x407C_2000_0000_0000 ∷ []
-unfolding listing_of
+unfolding whole_plan
 weighed = refl
 
 pub listed :
@@ -79,5 +80,5 @@ pub listed :
     ∷ (0x4052_C000_0000_0000 ∷ [])
     ∷ (0x3FE5_5555_5555_5557 ∷ 0x3FB1_1158_5F76_9FA3 ∷ [])
     ∷ []
-unfolding listing_of
+unfolding whole_plan
 listed = refl

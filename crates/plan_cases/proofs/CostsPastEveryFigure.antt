@@ -10,6 +10,7 @@ use lib.Ieee.{Float}
 use Rattle.mode.specs.declared.PlanMode.TheVariants.{Reinforce}
 use Rattle.plan_defs.specs.Case.{Case, rows_of}
 use Rattle.plan_defs.specs.Listing.{listing_of}
+use Rattle.plan_defs.proofs.Unfolded.{whole_plan}
 use Rattle.plan_cases.proofs.Figures.{figures, load_bits}
 
 -- by level
@@ -59,7 +60,7 @@ given =
     }
 
 pub weighed : load_bits given ≡ 0 ∷ 0x4054_0000_0000_0000 ∷ 0 ∷ 0x4049_0000_0000_0000 ∷ []
-unfolding listing_of
+unfolding whole_plan
 weighed = refl
 
 pub listed :
@@ -75,5 +76,5 @@ pub listed :
     ∷ (0x4059_0000_0000_0000 ∷ 0x4059_0000_0000_0000 ∷ [])
     ∷ (0x3FE3_3333_3333_3333 ∷ 0x3FD3_3333_3333_3333 ∷ [])
     ∷ []
-unfolding listing_of
+unfolding whole_plan
 listed = refl

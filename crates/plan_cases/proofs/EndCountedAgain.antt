@@ -12,6 +12,7 @@ use lib.Ieee.{Float}
 use Rattle.mode.specs.declared.PlanMode.TheVariants.{Expand}
 use Rattle.plan_defs.specs.Case.{Case, rows_of}
 use Rattle.plan_defs.specs.Listing.{listing_of}
+use Rattle.plan_defs.proofs.Unfolded.{whole_plan}
 use Rattle.plan_cases.proofs.Figures.{figures, load_bits}
 
 -- by level
@@ -188,7 +189,7 @@ given =
     }
 
 pub weighed : load_bits given ≡ 0 ∷ 0 ∷ 0 ∷ 0x4082_C000_0000_0000 ∷ 0 ∷ 0 ∷ 0 ∷ 0 ∷ 0 ∷ 0 ∷ 0 ∷ 0 ∷ []
-unfolding listing_of
+unfolding whole_plan
 weighed = refl
 
 pub listed :
@@ -204,5 +205,5 @@ pub listed :
     ∷ (0x4059_0000_0000_0000 ∷ 0x408F_4000_0000_0000 ∷ 0x408F_4000_0000_0000 ∷ 0x4059_0000_0000_0000 ∷ 0x408F_4000_0000_0000 ∷ 0x408F_4000_0000_0000 ∷ 0x4059_0000_0000_0000 ∷ 0x408F_4000_0000_0000 ∷ 0x408F_4000_0000_0000 ∷ 0x4059_0000_0000_0000 ∷ 0x408F_4000_0000_0000 ∷ 0x408F_4000_0000_0000 ∷ 0x4059_0000_0000_0000 ∷ 0x408F_4000_0000_0000 ∷ 0x408F_4000_0000_0000 ∷ 0x4059_0000_0000_0000 ∷ 0x408F_4000_0000_0000 ∷ 0x408F_4000_0000_0000 ∷ 0x4059_0000_0000_0000 ∷ 0x408F_4000_0000_0000 ∷ 0x408F_4000_0000_0000 ∷ 0x4059_0000_0000_0000 ∷ 0x408F_4000_0000_0000 ∷ 0x408F_4000_0000_0000 ∷ 0x4059_0000_0000_0000 ∷ 0x408F_4000_0000_0000 ∷ 0x408F_4000_0000_0000 ∷ 0x4059_0000_0000_0000 ∷ 0x408F_4000_0000_0000 ∷ 0x408F_4000_0000_0000 ∷ 0x4059_0000_0000_0000 ∷ 0x408F_4000_0000_0000 ∷ 0x408F_4000_0000_0000 ∷ 0x4059_0000_0000_0000 ∷ 0x408F_4000_0000_0000 ∷ 0x408F_4000_0000_0000 ∷ 0x4059_0000_0000_0000 ∷ 0x408F_4000_0000_0000 ∷ 0x408F_4000_0000_0000 ∷ 0x4059_0000_0000_0000 ∷ 0x408F_4000_0000_0000 ∷ [])
     ∷ (0x3FE6_A13D_F6A9_36EA ∷ 0x4020_A9AE_C833_D373 ∷ [])
     ∷ []
-unfolding listing_of
+unfolding whole_plan
 listed = refl

@@ -14,6 +14,7 @@ use lib.Ieee.{Float}
 use Rattle.mode.specs.declared.PlanMode.TheVariants.{Expand}
 use Rattle.plan_defs.specs.Case.{Case, rows_of}
 use Rattle.plan_defs.specs.Listing.{listing_of}
+use Rattle.plan_defs.proofs.Unfolded.{whole_plan}
 use Rattle.plan_cases.proofs.Figures.{figures, load_bits}
 
 -- by level
@@ -71,7 +72,7 @@ given =
     }
 
 pub weighed : load_bits given ≡ 0x4059_0000_0000_0000 ∷ 0x4072_C000_0000_0000 ∷ 0x4072_C000_0000_0000 ∷ []
-unfolding listing_of
+unfolding whole_plan
 weighed = refl
 
 pub listed :
@@ -87,5 +88,5 @@ pub listed :
     ∷ (0x4074_4000_0000_0000 ∷ 0x408F_4000_0000_0000 ∷ [])
     ∷ (0x3FCD_A12F_684B_DA13 ∷ 0x3FE0_F31F_7E4B_7D09 ∷ [])
     ∷ []
-unfolding listing_of
+unfolding whole_plan
 listed = refl

@@ -14,6 +14,7 @@ use lib.Ieee.{Float}
 use Rattle.mode.specs.declared.PlanMode.TheVariants.{Expand}
 use Rattle.plan_defs.specs.Case.{Case, rows_of}
 use Rattle.plan_defs.specs.Listing.{listing_of}
+use Rattle.plan_defs.proofs.Unfolded.{whole_plan}
 use Rattle.plan_cases.proofs.Figures.{figures, load_bits}
 
 -- by level
@@ -66,7 +67,7 @@ given =
     }
 
 pub weighed : load_bits given ≡ 0 ∷ 0x4056_8000_0000_0000 ∷ []
-unfolding listing_of
+unfolding whole_plan
 weighed = refl
 
 pub listed :
@@ -82,5 +83,5 @@ pub listed :
     ∷ (0x4039_0000_0000_0000 ∷ 0x4049_0000_0000_0000 ∷ [])
     ∷ (0x3FD7_1BCF_CCBF_C8AE ∷ 0x3F97_1BCF_CCBF_C8AE ∷ [])
     ∷ []
-unfolding listing_of
+unfolding whole_plan
 listed = refl

@@ -10,6 +10,7 @@ use lib.Ieee.{Float}
 use Rattle.mode.specs.declared.PlanMode.TheVariants.{Expand}
 use Rattle.plan_defs.specs.Case.{Case, rows_of}
 use Rattle.plan_defs.specs.Listing.{listing_of}
+use Rattle.plan_defs.proofs.Unfolded.{whole_plan}
 use Rattle.plan_cases.proofs.Figures.{figures, load_bits}
 
 -- by level
@@ -54,7 +55,7 @@ given =
     }
 
 pub weighed : load_bits given ≡ 0 ∷ 0x4049_0000_0000_0000 ∷ []
-unfolding listing_of
+unfolding whole_plan
 weighed = refl
 
 pub listed :
@@ -70,5 +71,5 @@ pub listed :
     ∷ (0x4059_0000_0000_0000 ∷ [])
     ∷ (0x3FAC_71C7_1C71_C71C ∷ 0x3F9C_71C7_1C71_C71C ∷ [])
     ∷ []
-unfolding listing_of
+unfolding whole_plan
 listed = refl

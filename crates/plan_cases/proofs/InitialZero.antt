@@ -15,6 +15,7 @@ use lib.Ieee.{Float}
 use Rattle.mode.specs.declared.PlanMode.TheVariants.{Expand}
 use Rattle.plan_defs.specs.Case.{Case, rows_of}
 use Rattle.plan_defs.specs.Listing.{listing_of}
+use Rattle.plan_defs.proofs.Unfolded.{whole_plan}
 use Rattle.plan_cases.proofs.Figures.{figures, load_bits}
 
 -- by level
@@ -63,7 +64,7 @@ given =
     }
 
 pub weighed : load_bits given ≡ 0x408F_4000_0000_0000 ∷ 0x4085_E000_0000_0000 ∷ []
-unfolding listing_of
+unfolding whole_plan
 weighed = refl
 
 pub listed :
@@ -79,5 +80,5 @@ pub listed :
     ∷ (0x4086_8000_0000_0000 ∷ [])
     ∷ (0x3FCF_1C71_C71C_71C7 ∷ 0x3FDC_0000_0000_0000 ∷ [])
     ∷ []
-unfolding listing_of
+unfolding whole_plan
 listed = refl

@@ -15,6 +15,7 @@ use lib.Ieee.{Float}
 use Rattle.mode.specs.declared.PlanMode.TheVariants.{Expand}
 use Rattle.plan_defs.specs.Case.{Case, rows_of}
 use Rattle.plan_defs.specs.Listing.{listing_of}
+use Rattle.plan_defs.proofs.Unfolded.{whole_plan}
 use Rattle.plan_cases.proofs.Figures.{figures, load_bits}
 
 -- by level
@@ -72,7 +73,7 @@ given =
     }
 
 pub weighed : load_bits given ≡ 0x4082_C000_0000_0000 ∷ 0x4085_E000_0000_0000 ∷ []
-unfolding listing_of
+unfolding whole_plan
 weighed = refl
 
 pub listed :
@@ -88,5 +89,5 @@ pub listed :
     ∷ (0x4079_0000_0000_0000 ∷ 0x4072_C000_0000_0000 ∷ 0x4079_0000_0000_0000 ∷ [])
     ∷ (0x3FC8_CE63_398C_E634 ∷ 0x3F9E_10AB_75E1_0AB8 ∷ [])
     ∷ []
-unfolding listing_of
+unfolding whole_plan
 listed = refl

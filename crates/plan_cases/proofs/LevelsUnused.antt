@@ -15,6 +15,7 @@ use lib.Ieee.{Float}
 use Rattle.mode.specs.declared.PlanMode.TheVariants.{Expand}
 use Rattle.plan_defs.specs.Case.{Case, rows_of}
 use Rattle.plan_defs.specs.Listing.{listing_of}
+use Rattle.plan_defs.proofs.Unfolded.{whole_plan}
 use Rattle.plan_cases.proofs.Figures.{figures, load_bits}
 
 -- by level
@@ -65,7 +66,7 @@ given =
     }
 
 pub weighed : load_bits given ≡ 0x4069_0000_0000_0000 ∷ 0x4085_E000_0000_0000 ∷ []
-unfolding listing_of
+unfolding whole_plan
 weighed = refl
 
 pub listed :
@@ -81,5 +82,5 @@ pub listed :
     ∷ (0x4062_C000_0000_0000 ∷ [])
     ∷ (0x3FDA_AAAA_AAAA_AAAB ∷ 0x3FD4_0000_0000_0000 ∷ [])
     ∷ []
-unfolding listing_of
+unfolding whole_plan
 listed = refl

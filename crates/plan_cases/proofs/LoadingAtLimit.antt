@@ -10,6 +10,7 @@ use lib.Ieee.{Float}
 use Rattle.mode.specs.declared.PlanMode.TheVariants.{Observe}
 use Rattle.plan_defs.specs.Case.{Case, rows_of}
 use Rattle.plan_defs.specs.Listing.{listing_of}
+use Rattle.plan_defs.proofs.Unfolded.{whole_plan}
 use Rattle.plan_cases.proofs.Figures.{figures, load_bits}
 
 -- by level
@@ -54,7 +55,7 @@ given =
     }
 
 pub weighed : load_bits given ≡ 0 ∷ 0x409B_B3E8_0E81_F8E7 ∷ []
-unfolding listing_of
+unfolding whole_plan
 weighed = refl
 
 pub listed :
@@ -70,5 +71,5 @@ pub listed :
     ∷ (0x4076_2986_71A2_6450 ∷ [])
     ∷ (0x3FF0_0000_0044_B830 ∷ 0x3F62_F039_5D10_1F7D ∷ [])
     ∷ []
-unfolding listing_of
+unfolding whole_plan
 listed = refl

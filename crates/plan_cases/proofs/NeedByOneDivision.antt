@@ -12,6 +12,7 @@ use lib.Ieee.{Float}
 use Rattle.mode.specs.declared.PlanMode.TheVariants.{Reinforce}
 use Rattle.plan_defs.specs.Case.{Case, rows_of}
 use Rattle.plan_defs.specs.Listing.{listing_of}
+use Rattle.plan_defs.proofs.Unfolded.{whole_plan}
 use Rattle.plan_cases.proofs.Figures.{figures, load_bits}
 
 -- by level
@@ -56,7 +57,7 @@ given =
     }
 
 pub weighed : load_bits given ≡ 0 ∷ 0x4094_66CC_E1C8_58E3 ∷ []
-unfolding listing_of
+unfolding whole_plan
 weighed = refl
 
 pub listed :
@@ -72,5 +73,5 @@ pub listed :
     ∷ (0x4069_E820_9C9D_3E69 ∷ [])
     ∷ (0x3FEC_CCCC_CCDE_7882 ∷ 0x3F5C_1EB5_4C1B_F736 ∷ [])
     ∷ []
-unfolding listing_of
+unfolding whole_plan
 listed = refl

@@ -13,6 +13,7 @@ use lib.Ieee.{Float}
 use Rattle.mode.specs.declared.PlanMode.TheVariants.{Expand}
 use Rattle.plan_defs.specs.Case.{Case, rows_of}
 use Rattle.plan_defs.specs.Listing.{listing_of}
+use Rattle.plan_defs.proofs.Unfolded.{whole_plan}
 use Rattle.plan_cases.proofs.Figures.{figures, load_bits}
 
 -- by level
@@ -61,7 +62,7 @@ given =
     }
 
 pub weighed : load_bits given ≡ 0 ∷ 0x412E_8480_0000_0000 ∷ 0x412E_8480_0000_0000 ∷ []
-unfolding listing_of
+unfolding whole_plan
 weighed = refl
 
 pub listed :
@@ -77,5 +78,5 @@ pub listed :
     ∷ (0x3F40_624D_D2F1_A9FC ∷ 0x412E_8480_0000_0000 ∷ [])
     ∷ (0x41CD_CD65_0000_0000 ∷ 0x3F50_624D_D2F1_A9FA ∷ [])
     ∷ []
-unfolding listing_of
+unfolding whole_plan
 listed = refl

@@ -10,6 +10,7 @@ use lib.Ieee.{Float}
 use Rattle.mode.specs.declared.PlanMode.TheVariants.{Expand}
 use Rattle.plan_defs.specs.Case.{Case, rows_of}
 use Rattle.plan_defs.specs.Listing.{listing_of}
+use Rattle.plan_defs.proofs.Unfolded.{whole_plan}
 use Rattle.plan_cases.proofs.Figures.{figures, load_bits}
 
 -- by level
@@ -50,7 +51,7 @@ given =
     }
 
 pub weighed : load_bits given ≡ []
-unfolding listing_of
+unfolding whole_plan
 weighed = refl
 
 pub listed :
@@ -66,5 +67,5 @@ pub listed :
     ∷ []
     ∷ (0 ∷ 0 ∷ [])
     ∷ []
-unfolding listing_of
+unfolding whole_plan
 listed = refl

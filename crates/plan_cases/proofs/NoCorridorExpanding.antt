@@ -11,6 +11,7 @@ use lib.Ieee.{Float}
 use Rattle.mode.specs.declared.PlanMode.TheVariants.{Expand}
 use Rattle.plan_defs.specs.Case.{Case, rows_of}
 use Rattle.plan_defs.specs.Listing.{listing_of}
+use Rattle.plan_defs.proofs.Unfolded.{whole_plan}
 use Rattle.plan_cases.proofs.Figures.{figures, load_bits}
 
 -- by level
@@ -56,7 +57,7 @@ given =
     }
 
 pub weighed : load_bits given ≡ 0x403E_0000_0000_0000 ∷ 0 ∷ []
-unfolding listing_of
+unfolding whole_plan
 weighed = refl
 
 pub listed :
@@ -72,5 +73,5 @@ pub listed :
     ∷ []
     ∷ (0 ∷ 0 ∷ [])
     ∷ []
-unfolding listing_of
+unfolding whole_plan
 listed = refl

@@ -15,6 +15,7 @@ use lib.Ieee.{Float}
 use Rattle.mode.specs.declared.PlanMode.TheVariants.{Expand}
 use Rattle.plan_defs.specs.Case.{Case, rows_of}
 use Rattle.plan_defs.specs.Listing.{listing_of}
+use Rattle.plan_defs.proofs.Unfolded.{whole_plan}
 use Rattle.plan_cases.proofs.Figures.{figures, load_bits}
 
 -- by level
@@ -67,7 +68,7 @@ given =
     }
 
 pub weighed : load_bits given ≡ 0x4082_C000_0000_0000 ∷ 0x4089_0000_0000_0000 ∷ []
-unfolding listing_of
+unfolding whole_plan
 weighed = refl
 
 pub listed :
@@ -83,5 +84,5 @@ pub listed :
     ∷ (0x404F_4000_0000_0000 ∷ [])
     ∷ (0x4009_9999_9999_999A ∷ 0x3FF0_0000_0000_0000 ∷ [])
     ∷ []
-unfolding listing_of
+unfolding whole_plan
 listed = refl

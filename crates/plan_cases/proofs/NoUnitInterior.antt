@@ -10,6 +10,7 @@ use lib.Ieee.{Float}
 use Rattle.mode.specs.declared.PlanMode.TheVariants.{Observe}
 use Rattle.plan_defs.specs.Case.{Case, rows_of}
 use Rattle.plan_defs.specs.Listing.{listing_of}
+use Rattle.plan_defs.proofs.Unfolded.{whole_plan}
 use Rattle.plan_cases.proofs.Figures.{figures, load_bits}
 
 -- by level
@@ -57,7 +58,7 @@ given =
     }
 
 pub weighed : load_bits given ≡ 0x407C_2000_0000_0000 ∷ 0x407F_4000_0000_0000 ∷ 0 ∷ []
-unfolding listing_of
+unfolding whole_plan
 weighed = refl
 
 pub listed :
@@ -73,5 +74,5 @@ pub listed :
     ∷ (0x4057_7000_0000_0000 ∷ [])
     ∷ (0x4015_5555_5555_5555 ∷ 0x4014_3333_3333_3333 ∷ [])
     ∷ []
-unfolding listing_of
+unfolding whole_plan
 listed = refl

@@ -10,6 +10,7 @@ use lib.Ieee.{Float}
 use Rattle.mode.specs.declared.PlanMode.TheVariants.{Expand}
 use Rattle.plan_defs.specs.Case.{Case, rows_of}
 use Rattle.plan_defs.specs.Listing.{listing_of}
+use Rattle.plan_defs.proofs.Unfolded.{whole_plan}
 use Rattle.plan_cases.proofs.Figures.{figures, load_bits}
 
 -- by level
@@ -57,7 +58,7 @@ given =
     }
 
 pub weighed : load_bits given ≡ 0 ∷ 0x1EA5_DA82_1656_F25A ∷ []
-unfolding listing_of
+unfolding whole_plan
 weighed = refl
 
 pub listed :
@@ -73,5 +74,5 @@ pub listed :
     ∷ (0x4036_2C35_F81D_37FC ∷ 0x4044_0398_3157_83CD ∷ [])
     ∷ (0 ∷ 0 ∷ [])
     ∷ []
-unfolding listing_of
+unfolding whole_plan
 listed = refl

@@ -10,6 +10,7 @@ use lib.Ieee.{Float}
 use Rattle.mode.specs.declared.PlanMode.TheVariants.{Observe}
 use Rattle.plan_defs.specs.Case.{Case, rows_of}
 use Rattle.plan_defs.specs.Listing.{listing_of}
+use Rattle.plan_defs.proofs.Unfolded.{whole_plan}
 use Rattle.plan_cases.proofs.Figures.{figures, load_bits}
 
 -- by level
@@ -58,7 +59,7 @@ given =
     }
 
 pub weighed : load_bits given ≡ 0 ∷ 0 ∷ 0x4072_C000_0000_0000 ∷ []
-unfolding listing_of
+unfolding whole_plan
 weighed = refl
 
 pub listed :
@@ -74,5 +75,5 @@ pub listed :
     ∷ (0x4039_0000_0000_0000 ∷ [])
     ∷ (0x4028_0000_0000_0000 ∷ 0x3FAE_B851_EB85_1EB8 ∷ [])
     ∷ []
-unfolding listing_of
+unfolding whole_plan
 listed = refl

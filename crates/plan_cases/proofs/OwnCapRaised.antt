@@ -13,6 +13,7 @@ use lib.Ieee.{Float}
 use Rattle.mode.specs.declared.PlanMode.TheVariants.{Expand}
 use Rattle.plan_defs.specs.Case.{Case, rows_of}
 use Rattle.plan_defs.specs.Listing.{listing_of}
+use Rattle.plan_defs.proofs.Unfolded.{whole_plan}
 use Rattle.plan_cases.proofs.Figures.{figures, load_bits}
 
 -- by level
@@ -59,7 +60,7 @@ given =
     }
 
 pub weighed : load_bits given ≡ 0 ∷ 0x406F_4000_0000_0000 ∷ []
-unfolding listing_of
+unfolding whole_plan
 weighed = refl
 
 pub listed :
@@ -75,5 +76,5 @@ pub listed :
     ∷ (0x4079_0000_0000_0000 ∷ [])
     ∷ (0x3FE4_0000_0000_0000 ∷ 0x3F99_9999_9999_999A ∷ [])
     ∷ []
-unfolding listing_of
+unfolding whole_plan
 listed = refl

@@ -11,6 +11,7 @@ use lib.Ieee.{Float}
 use Rattle.mode.specs.declared.PlanMode.TheVariants.{Expand}
 use Rattle.plan_defs.specs.Case.{Case, rows_of}
 use Rattle.plan_defs.specs.Listing.{listing_of}
+use Rattle.plan_defs.proofs.Unfolded.{whole_plan}
 use Rattle.plan_cases.proofs.Figures.{figures, load_bits}
 
 -- by level
@@ -58,7 +59,7 @@ given =
     }
 
 pub weighed : load_bits given ≡ 0 ∷ 0 ∷ 0x4049_0000_0000_0000 ∷ []
-unfolding listing_of
+unfolding whole_plan
 weighed = refl
 
 pub listed :
@@ -74,5 +75,5 @@ pub listed :
     ∷ (0x412E_8480_0000_0000 ∷ 0x412E_8480_0000_0000 ∷ [])
     ∷ (0x3F0A_36E2_EB1C_432D ∷ 0x3FF2_AAAA_AAAA_AAAB ∷ [])
     ∷ []
-unfolding listing_of
+unfolding whole_plan
 listed = refl

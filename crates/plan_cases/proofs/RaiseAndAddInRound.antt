@@ -15,6 +15,7 @@ use lib.Ieee.{Float}
 use Rattle.mode.specs.declared.PlanMode.TheVariants.{Expand}
 use Rattle.plan_defs.specs.Case.{Case, rows_of}
 use Rattle.plan_defs.specs.Listing.{listing_of}
+use Rattle.plan_defs.proofs.Unfolded.{whole_plan}
 use Rattle.plan_cases.proofs.Figures.{figures, load_bits}
 
 -- by level
@@ -80,7 +81,7 @@ given =
     }
 
 pub weighed : load_bits given ≡ 0x408F_4000_0000_0000 ∷ 0x4085_E000_0000_0000 ∷ 0x4069_0000_0000_0000 ∷ []
-unfolding listing_of
+unfolding whole_plan
 weighed = refl
 
 pub listed :
@@ -96,5 +97,5 @@ pub listed :
     ∷ (0x40AD_B000_0000_0000 ∷ 0x4069_0000_0000_0000 ∷ 0x4056_8000_0000_0000 ∷ [])
     ∷ (0x3FE7_B8C9_E2DC_004A ∷ 0x3FCC_E948_D874_CCB1 ∷ [])
     ∷ []
-unfolding listing_of
+unfolding whole_plan
 listed = refl

@@ -15,6 +15,7 @@ use lib.Ieee.{Float}
 use Rattle.mode.specs.declared.PlanMode.TheVariants.{Expand}
 use Rattle.plan_defs.specs.Case.{Case, rows_of}
 use Rattle.plan_defs.specs.Listing.{listing_of}
+use Rattle.plan_defs.proofs.Unfolded.{whole_plan}
 use Rattle.plan_cases.proofs.Figures.{figures, load_bits}
 
 -- by level
@@ -66,7 +67,7 @@ given =
     }
 
 pub weighed : load_bits given ≡ 0x407F_4000_0000_0000 ∷ 0 ∷ []
-unfolding listing_of
+unfolding whole_plan
 weighed = refl
 
 pub listed :
@@ -82,5 +83,5 @@ pub listed :
     ∷ (0x4069_0000_0000_0000 ∷ [])
     ∷ (0x3FD4_0000_0000_0000 ∷ 0x3F90_0000_0000_0001 ∷ [])
     ∷ []
-unfolding listing_of
+unfolding whole_plan
 listed = refl

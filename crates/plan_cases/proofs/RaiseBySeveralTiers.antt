@@ -15,6 +15,7 @@ use lib.Ieee.{Float}
 use Rattle.mode.specs.declared.PlanMode.TheVariants.{Expand}
 use Rattle.plan_defs.specs.Case.{Case, rows_of}
 use Rattle.plan_defs.specs.Listing.{listing_of}
+use Rattle.plan_defs.proofs.Unfolded.{whole_plan}
 use Rattle.plan_cases.proofs.Figures.{figures, load_bits}
 
 -- by level
@@ -68,7 +69,7 @@ given =
     }
 
 pub weighed : load_bits given ≡ 0x4085_E000_0000_0000 ∷ 0x4089_0000_0000_0000 ∷ []
-unfolding listing_of
+unfolding whole_plan
 weighed = refl
 
 pub listed :
@@ -84,5 +85,5 @@ pub listed :
     ∷ (0x408C_2000_0000_0000 ∷ 0x40AE_7800_0000_0000 ∷ [])
     ∷ (0x3FBC_9601_6A47_0A55 ∷ 0x3FB0_1460_CBC7_F5D0 ∷ [])
     ∷ []
-unfolding listing_of
+unfolding whole_plan
 listed = refl

@@ -14,6 +14,7 @@ use lib.Ieee.{Float}
 use Rattle.mode.specs.declared.PlanMode.TheVariants.{Expand}
 use Rattle.plan_defs.specs.Case.{Case, rows_of}
 use Rattle.plan_defs.specs.Listing.{listing_of}
+use Rattle.plan_defs.proofs.Unfolded.{whole_plan}
 use Rattle.plan_cases.proofs.Figures.{figures, load_bits}
 
 -- by level
@@ -63,7 +64,7 @@ given =
     }
 
 pub weighed : load_bits given ≡ 0x4069_0000_0000_0000 ∷ 0x408C_2000_0000_0000 ∷ []
-unfolding listing_of
+unfolding whole_plan
 weighed = refl
 
 pub listed :
@@ -79,5 +80,5 @@ pub listed :
     ∷ (0x4029_0000_0000_0000 ∷ [])
     ∷ (0x4032_0000_0000_0000 ∷ 0x4002_2E14_7AE1_47AE ∷ [])
     ∷ []
-unfolding listing_of
+unfolding whole_plan
 listed = refl

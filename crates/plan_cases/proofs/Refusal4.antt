@@ -8,6 +8,7 @@ use lib.Ieee.{Float}
 use Rattle.mode.specs.declared.PlanMode.TheVariants.{Reinforce}
 use Rattle.plan_defs.specs.Case.{Case, rows_of}
 use Rattle.plan_defs.specs.Listing.{listing_of}
+use Rattle.plan_defs.proofs.Unfolded.{whole_plan}
 use Rattle.plan_cases.proofs.Figures.{figures, load_bits}
 
 -- by level
@@ -55,12 +56,12 @@ given =
     }
 
 pub weighed : load_bits given ≡ 0 ∷ 0x412E_8480_0000_0000 ∷ 0x4049_0000_0000_0000 ∷ []
-unfolding listing_of
+unfolding whole_plan
 weighed = refl
 
 pub listed :
     listing_of given 0
     ≡ (4 ∷ 2 ∷ [])
     ∷ []
-unfolding listing_of
+unfolding whole_plan
 listed = refl

@@ -9,6 +9,7 @@ use lib.Ieee.{Float}
 use Rattle.mode.specs.declared.PlanMode.TheVariants.{Observe}
 use Rattle.plan_defs.specs.Case.{Case, rows_of}
 use Rattle.plan_defs.specs.Listing.{listing_of}
+use Rattle.plan_defs.proofs.Unfolded.{whole_plan}
 use Rattle.plan_cases.proofs.Figures.{figures, load_bits}
 
 -- by level
@@ -53,12 +54,12 @@ given =
     }
 
 pub weighed : load_bits given ≡ 0x412E_8480_0000_0000 ∷ 0x412E_8480_0000_0002 ∷ []
-unfolding listing_of
+unfolding whole_plan
 weighed = refl
 
 pub listed :
     listing_of given 0
     ≡ (4 ∷ 1 ∷ [])
     ∷ []
-unfolding listing_of
+unfolding whole_plan
 listed = refl

@@ -7,6 +7,7 @@ use lib.Ieee.{Float}
 use Rattle.mode.specs.declared.PlanMode.TheVariants.{Expand}
 use Rattle.plan_defs.specs.Case.{Case, rows_of}
 use Rattle.plan_defs.specs.Listing.{listing_of}
+use Rattle.plan_defs.proofs.Unfolded.{whole_plan}
 use Rattle.plan_cases.proofs.Figures.{figures, load_bits}
 
 -- by level
@@ -57,12 +58,12 @@ given =
     }
 
 pub weighed : load_bits given ≡ 0 ∷ 0x4049_0000_0000_0000 ∷ 0 ∷ 0x4054_0000_0000_0000 ∷ []
-unfolding listing_of
+unfolding whole_plan
 weighed = refl
 
 pub listed :
     listing_of given 0
     ≡ (8 ∷ 1 ∷ [])
     ∷ []
-unfolding listing_of
+unfolding whole_plan
 listed = refl

@@ -10,6 +10,7 @@ use lib.Ieee.{Float}
 use Rattle.mode.specs.declared.PlanMode.TheVariants.{Expand}
 use Rattle.plan_defs.specs.Case.{Case, rows_of}
 use Rattle.plan_defs.specs.Listing.{listing_of}
+use Rattle.plan_defs.proofs.Unfolded.{whole_plan}
 use Rattle.plan_cases.proofs.Figures.{figures, load_bits}
 
 -- by level
@@ -54,12 +55,12 @@ given =
     }
 
 pub weighed : load_bits given ≡ 0 ∷ 0x219F_F779_FD32_9CB9 ∷ []
-unfolding listing_of
+unfolding whole_plan
 weighed = refl
 
 pub listed :
     listing_of given 0
     ≡ (9 ∷ 0 ∷ [])
     ∷ []
-unfolding listing_of
+unfolding whole_plan
 listed = refl

@@ -11,6 +11,7 @@ use lib.Ieee.{Float}
 use Rattle.mode.specs.declared.PlanMode.TheVariants.{Reinforce}
 use Rattle.plan_defs.specs.Case.{Case, rows_of}
 use Rattle.plan_defs.specs.Listing.{listing_of}
+use Rattle.plan_defs.proofs.Unfolded.{whole_plan}
 use Rattle.plan_cases.proofs.Figures.{figures, load_bits}
 
 -- by level
@@ -64,7 +65,7 @@ given =
     }
 
 pub weighed : load_bits given ≡ 0 ∷ 0x4082_C000_0000_0000 ∷ []
-unfolding listing_of
+unfolding whole_plan
 weighed = refl
 
 pub listed :
@@ -80,5 +81,5 @@ pub listed :
     ∷ (0x4072_C000_0000_0000 ∷ 0x4065_1800_0000_0000 ∷ [])
     ∷ (0x3FE9_A31E_BF27_C8C4 ∷ 0x3FB3_73FF_DE72_8760 ∷ [])
     ∷ []
-unfolding listing_of
+unfolding whole_plan
 listed = refl

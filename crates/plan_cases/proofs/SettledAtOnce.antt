@@ -15,6 +15,7 @@ use lib.Ieee.{Float}
 use Rattle.mode.specs.declared.PlanMode.TheVariants.{Expand}
 use Rattle.plan_defs.specs.Case.{Case, rows_of}
 use Rattle.plan_defs.specs.Listing.{listing_of}
+use Rattle.plan_defs.proofs.Unfolded.{whole_plan}
 use Rattle.plan_cases.proofs.Figures.{figures, load_bits}
 
 -- by level
@@ -71,7 +72,7 @@ given =
     }
 
 pub weighed : load_bits given ≡ 0x4059_0000_0000_0000 ∷ 0x4072_C000_0000_0000 ∷ 0x407C_2000_0000_0000 ∷ []
-unfolding listing_of
+unfolding whole_plan
 weighed = refl
 
 pub listed :
@@ -87,5 +88,5 @@ pub listed :
     ∷ (0x4076_8000_0000_0000 ∷ 0x4050_E000_0000_0000 ∷ [])
     ∷ (0x3FFA_AAAA_AAAA_AAAB ∷ 0x3FF3_8337_F818_255E ∷ [])
     ∷ []
-unfolding listing_of
+unfolding whole_plan
 listed = refl

@@ -11,6 +11,7 @@ use lib.Ieee.{Float}
 use Rattle.mode.specs.declared.PlanMode.TheVariants.{Reinforce}
 use Rattle.plan_defs.specs.Case.{Case, rows_of}
 use Rattle.plan_defs.specs.Listing.{listing_of}
+use Rattle.plan_defs.proofs.Unfolded.{whole_plan}
 use Rattle.plan_cases.proofs.Figures.{figures, load_bits}
 
 -- by level
@@ -65,7 +66,7 @@ given =
     }
 
 pub weighed : load_bits given ≡ 0 ∷ 0 ∷ 0x4089_0000_0000_0000 ∷ []
-unfolding listing_of
+unfolding whole_plan
 weighed = refl
 
 pub listed :
@@ -81,5 +82,5 @@ pub listed :
     ∷ (0x407F_4000_0000_0000 ∷ [])
     ∷ (0x3FE9_9999_9999_999C ∷ 0x3FF0_D4F1_D2F8_C008 ∷ [])
     ∷ []
-unfolding listing_of
+unfolding whole_plan
 listed = refl

@@ -10,6 +10,7 @@ use lib.Ieee.{Float}
 use Rattle.mode.specs.declared.PlanMode.TheVariants.{Observe}
 use Rattle.plan_defs.specs.Case.{Case, rows_of}
 use Rattle.plan_defs.specs.Listing.{listing_of}
+use Rattle.plan_defs.proofs.Unfolded.{whole_plan}
 use Rattle.plan_cases.proofs.Figures.{figures, load_bits}
 
 -- by level
@@ -58,7 +59,7 @@ given =
     }
 
 pub weighed : load_bits given ≡ 0x4049_0000_0000_0000 ∷ 0x406F_4000_0000_0000 ∷ 0x406F_4000_0000_0000 ∷ []
-unfolding listing_of
+unfolding whole_plan
 weighed = refl
 
 pub listed :
@@ -74,5 +75,5 @@ pub listed :
     ∷ (0x4046_8000_0000_0000 ∷ [])
     ∷ (0x4016_38E3_8E38_E38E ∷ 0x3F99_9999_9999_999A ∷ [])
     ∷ []
-unfolding listing_of
+unfolding whole_plan
 listed = refl

@@ -15,6 +15,7 @@ use lib.Ieee.{Float}
 use Rattle.mode.specs.declared.PlanMode.TheVariants.{Expand}
 use Rattle.plan_defs.specs.Case.{Case, rows_of}
 use Rattle.plan_defs.specs.Listing.{listing_of}
+use Rattle.plan_defs.proofs.Unfolded.{whole_plan}
 use Rattle.plan_cases.proofs.Figures.{figures, load_bits}
 
 -- by level
@@ -72,7 +73,7 @@ given =
     }
 
 pub weighed : load_bits given ≡ 0x407F_4000_0000_0000 ∷ 0x4059_0000_0000_0000 ∷ 0x4069_0000_0000_0000 ∷ []
-unfolding listing_of
+unfolding whole_plan
 weighed = refl
 
 pub listed :
@@ -88,5 +89,5 @@ pub listed :
     ∷ (0x40A9_0000_0000_0000 ∷ 0x406C_2000_0000_0000 ∷ [])
     ∷ (0x3FEC_71C7_1C71_C71F ∷ 0x3FD1_9D89_BCBB_D2F6 ∷ [])
     ∷ []
-unfolding listing_of
+unfolding whole_plan
 listed = refl

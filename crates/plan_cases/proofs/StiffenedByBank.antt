@@ -15,6 +15,7 @@ use lib.Ieee.{Float}
 use Rattle.mode.specs.declared.PlanMode.TheVariants.{Expand}
 use Rattle.plan_defs.specs.Case.{Case, rows_of}
 use Rattle.plan_defs.specs.Listing.{listing_of}
+use Rattle.plan_defs.proofs.Unfolded.{whole_plan}
 use Rattle.plan_cases.proofs.Figures.{figures, load_bits}
 
 -- by level
@@ -65,7 +66,7 @@ given =
     }
 
 pub weighed : load_bits given ≡ 0 ∷ 0x407C_2000_0000_0000 ∷ []
-unfolding listing_of
+unfolding whole_plan
 weighed = refl
 
 pub listed :
@@ -81,5 +82,5 @@ pub listed :
     ∷ (0x4081_3000_0000_0000 ∷ [])
     ∷ (0x3FCA_2E8B_A2E8_BA2F ∷ 0x3FD3_DF72_1970_833E ∷ [])
     ∷ []
-unfolding listing_of
+unfolding whole_plan
 listed = refl

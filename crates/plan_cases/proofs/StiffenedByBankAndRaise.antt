@@ -16,6 +16,7 @@ use lib.Ieee.{Float}
 use Rattle.mode.specs.declared.PlanMode.TheVariants.{Expand}
 use Rattle.plan_defs.specs.Case.{Case, rows_of}
 use Rattle.plan_defs.specs.Listing.{listing_of}
+use Rattle.plan_defs.proofs.Unfolded.{whole_plan}
 use Rattle.plan_cases.proofs.Figures.{figures, load_bits}
 
 -- by level
@@ -69,7 +70,7 @@ given =
     }
 
 pub weighed : load_bits given ≡ 0 ∷ 0x407C_2000_0000_0000 ∷ 0 ∷ []
-unfolding listing_of
+unfolding whole_plan
 weighed = refl
 
 pub listed :
@@ -85,5 +86,5 @@ pub listed :
     ∷ (0x4072_C000_0000_0000 ∷ 0x40A2_C000_0000_0000 ∷ [])
     ∷ (0x3FD8_0000_0000_0000 ∷ 0x3FC5_4968_EF8E_4DDA ∷ [])
     ∷ []
-unfolding listing_of
+unfolding whole_plan
 listed = refl

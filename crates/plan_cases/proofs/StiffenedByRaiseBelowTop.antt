@@ -15,6 +15,7 @@ use lib.Ieee.{Float}
 use Rattle.mode.specs.declared.PlanMode.TheVariants.{Expand}
 use Rattle.plan_defs.specs.Case.{Case, rows_of}
 use Rattle.plan_defs.specs.Listing.{listing_of}
+use Rattle.plan_defs.proofs.Unfolded.{whole_plan}
 use Rattle.plan_cases.proofs.Figures.{figures, load_bits}
 
 -- by level
@@ -66,7 +67,7 @@ given =
     }
 
 pub weighed : load_bits given ≡ 0 ∷ 0x4085_E000_0000_0000 ∷ 0 ∷ []
-unfolding listing_of
+unfolding whole_plan
 weighed = refl
 
 pub listed :
@@ -82,5 +83,5 @@ pub listed :
     ∷ (0x40A9_0000_0000_0000 ∷ [])
     ∷ (0x3FB2_AAAA_AAAA_AAAC ∷ 0x3FC2_DA74_0DA7_40DB ∷ [])
     ∷ []
-unfolding listing_of
+unfolding whole_plan
 listed = refl

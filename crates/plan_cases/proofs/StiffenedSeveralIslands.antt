@@ -11,6 +11,7 @@ use lib.Ieee.{Float}
 use Rattle.mode.specs.declared.PlanMode.TheVariants.{Expand}
 use Rattle.plan_defs.specs.Case.{Case, rows_of}
 use Rattle.plan_defs.specs.Listing.{listing_of}
+use Rattle.plan_defs.proofs.Unfolded.{whole_plan}
 use Rattle.plan_cases.proofs.Figures.{figures, load_bits}
 
 -- by level
@@ -63,7 +64,7 @@ given =
     }
 
 pub weighed : load_bits given ≡ 0 ∷ 0x4059_0000_0000_0000 ∷ 0 ∷ 0 ∷ 0x4056_8000_0000_0000 ∷ []
-unfolding listing_of
+unfolding whole_plan
 weighed = refl
 
 pub listed :
@@ -79,5 +80,5 @@ pub listed :
     ∷ (0x4079_0000_0000_0000 ∷ 0x4079_0000_0000_0000 ∷ 0x4079_0000_0000_0000 ∷ [])
     ∷ (0x3FCC_CCCC_CCCC_CCCE ∷ 0x3FE5_AC08_3126_E97A ∷ [])
     ∷ []
-unfolding listing_of
+unfolding whole_plan
 listed = refl

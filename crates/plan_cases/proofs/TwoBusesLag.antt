@@ -14,6 +14,7 @@ use lib.Ieee.{Float}
 use Rattle.mode.specs.declared.PlanMode.TheVariants.{Expand}
 use Rattle.plan_defs.specs.Case.{Case, rows_of}
 use Rattle.plan_defs.specs.Listing.{listing_of}
+use Rattle.plan_defs.proofs.Unfolded.{whole_plan}
 use Rattle.plan_cases.proofs.Figures.{figures, load_bits}
 
 -- by level
@@ -70,7 +71,7 @@ given =
     }
 
 pub weighed : load_bits given ≡ 0x408C_2000_0000_0000 ∷ 0 ∷ 0 ∷ []
-unfolding listing_of
+unfolding whole_plan
 weighed = refl
 
 pub listed :
@@ -86,5 +87,5 @@ pub listed :
     ∷ (0x4052_C000_0000_0000 ∷ 0x407F_4000_0000_0000 ∷ [])
     ∷ (0x3FEC_CCCC_CCCC_CCCD ∷ 0x4002_2E14_7AE1_47AE ∷ [])
     ∷ []
-unfolding listing_of
+unfolding whole_plan
 listed = refl

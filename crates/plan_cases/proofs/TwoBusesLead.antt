@@ -14,6 +14,7 @@ use lib.Ieee.{Float}
 use Rattle.mode.specs.declared.PlanMode.TheVariants.{Expand}
 use Rattle.plan_defs.specs.Case.{Case, rows_of}
 use Rattle.plan_defs.specs.Listing.{listing_of}
+use Rattle.plan_defs.proofs.Unfolded.{whole_plan}
 use Rattle.plan_cases.proofs.Figures.{figures, load_bits}
 
 -- by level
@@ -70,7 +71,7 @@ given =
     }
 
 pub weighed : load_bits given ≡ 0x4085_E000_0000_0000 ∷ 0x4072_C000_0000_0000 ∷ 0 ∷ []
-unfolding listing_of
+unfolding whole_plan
 weighed = refl
 
 pub listed :
@@ -86,5 +87,5 @@ pub listed :
     ∷ (0x40A7_7000_0000_0000 ∷ 0x4056_8000_0000_0000 ∷ [])
     ∷ (0x3FBD_DDDD_DDDD_DDDE ∷ 0x3FCC_0000_0000_0000 ∷ [])
     ∷ []
-unfolding listing_of
+unfolding whole_plan
 listed = refl

@@ -14,6 +14,7 @@ use lib.Ieee.{Float}
 use Rattle.mode.specs.declared.PlanMode.TheVariants.{Expand}
 use Rattle.plan_defs.specs.Case.{Case, rows_of}
 use Rattle.plan_defs.specs.Listing.{listing_of}
+use Rattle.plan_defs.proofs.Unfolded.{whole_plan}
 use Rattle.plan_cases.proofs.Figures.{figures, load_bits}
 
 -- by level
@@ -66,7 +67,7 @@ given =
     }
 
 pub weighed : load_bits given ≡ 0x4059_0000_0000_0000 ∷ 0x4085_E000_0000_0000 ∷ []
-unfolding listing_of
+unfolding whole_plan
 weighed = refl
 
 pub listed :
@@ -82,5 +83,5 @@ pub listed :
     ∷ (0x407D_B000_0000_0000 ∷ [])
     ∷ (0x3FDF_7047_DC11_F706 ∷ 0x3FE2_DA74_0DA7_40DB ∷ [])
     ∷ []
-unfolding listing_of
+unfolding whole_plan
 listed = refl

@@ -13,6 +13,7 @@ use lib.Ieee.{Float}
 use Rattle.mode.specs.declared.PlanMode.TheVariants.{Expand}
 use Rattle.plan_defs.specs.Case.{Case, rows_of}
 use Rattle.plan_defs.specs.Listing.{listing_of}
+use Rattle.plan_defs.proofs.Unfolded.{whole_plan}
 use Rattle.plan_cases.proofs.Figures.{figures, load_bits}
 
 -- by level
@@ -60,7 +61,7 @@ given =
     }
 
 pub weighed : load_bits given ≡ 0 ∷ 0x4062_C000_0000_0000 ∷ 0x3FD3_3333_3333_3334 ∷ []
-unfolding listing_of
+unfolding whole_plan
 weighed = refl
 
 pub listed :
@@ -76,5 +77,5 @@ pub listed :
     ∷ (0x4059_0000_0000_0000 ∷ 0x4059_0000_0000_0000 ∷ [])
     ∷ (0x3FE8_0C49_BA5E_3540 ∷ 0x3FA8_1CAC_0831_26E8 ∷ [])
     ∷ []
-unfolding listing_of
+unfolding whole_plan
 listed = refl

@@ -9,6 +9,7 @@ use lib.Ieee.{Float}
 use Rattle.mode.specs.declared.PlanMode.TheVariants.{Observe}
 use Rattle.plan_defs.specs.Case.{Case, rows_of}
 use Rattle.plan_defs.specs.Listing.{listing_of}
+use Rattle.plan_defs.proofs.Unfolded.{whole_plan}
 use Rattle.plan_cases.proofs.Figures.{figures, load_bits}
 
 -- by level
@@ -53,7 +54,7 @@ given =
     }
 
 pub weighed : load_bits given ≡ 0 ∷ 0x4049_0000_0000_0000 ∷ []
-unfolding listing_of
+unfolding whole_plan
 weighed = refl
 
 pub listed :
@@ -69,5 +70,5 @@ pub listed :
     ∷ (0x4059_0000_0000_0000 ∷ [])
     ∷ (0x3FE0_0000_0000_0000 ∷ 0x3FD0_0000_0000_0000 ∷ [])
     ∷ []
-unfolding listing_of
+unfolding whole_plan
 listed = refl

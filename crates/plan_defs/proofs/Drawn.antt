@@ -10,12 +10,13 @@ use lib.Ieee.{Float, nan, lt, of_bits}
 use lib.ListN.{length, get_or, set, length-set}
 use lib.Seq.{ext_get_or, get_or-set_same, get_or-set_other}
 use Rattle.loops.specs.Figures.{at, float, times, over, lesser, greater}
+use Rattle.loops.specs.Loops.{tab}
 use Rattle.loops.proofs.Order.{le_of_not_lt, le_of_lt, left_real, le_through, lt_not_le}
 use Rattle.loops.proofs.Tab.{length_tab, get_tab, tab_same}
 use Rattle.plan_defs.specs.Constants.{transformer_headroom, transformer_min_mva}
 use Rattle.plan_defs.specs.Case.{Case, load_of, from_of, to_of, kv_high}
 use Rattle.plan_defs.specs.Design.{with_bank, set_transformer_mva, banked_by, line_at, line_of, drawn, design_at, design_circuits, steps_down, gen_at_bus, transformer_corridors, bank_for, kept_by, kept_bank, redesign, design, no_design}
-use Rattle.plan_defs.specs.Build.{built, bank_below, set_bank, rebuilt, drawn_all, fresh_banks, kept_mva, kept_for, kept_banks, build_of}
+use Rattle.plan_defs.specs.Build.{built, bank_below, set_bank, rebuilt, drawn_all, bank_of, bank_anew, banks_anew, build_of}
 use Rattle.plan_defs.specs.declared.CircuitDesign.{CircuitDesign}
 
 module _ (c : Case) (level : List ℕ) (k : ℕ) where
@@ -30,23 +31,24 @@ module _ (c : Case) (level : List ℕ) (k : ℕ) where
   unfolding drawn
   bank_drawn a mva e = bank_by (steps_down c level k) a mva e
 
-  -- ---- a redesign keeps it so
-  kept_by_lem : (b : Bool) (a floor : Float)
-      → kept_bank (banked_by b (line_at c level k) a) floor ≡ banked_by b (line_at c level k) (kept_mva a (lesser floor (line_at c level k).line_rate))
+  -- ---- a redesign keeps it so: the bank that is kept of it gives it again
+  again_by : (b : Bool) (a floor : Float)
+      → banked_by b (line_at c level k) (bank_of (kept_bank (banked_by b (line_at c level k) a) floor)) ≡ kept_bank (banked_by b (line_at c level k) a) floor
   unfolding set_transformer_mva with_bank line_at line_of
-  kept_by_lem false a floor = refl
-  kept_by_lem true a floor = go (lt a (lesser floor (line_at c level k).line_rate))
+  again_by false a floor = refl
+  again_by true a floor = go (lt a (lesser floor (line_at c level k).line_rate))
     where
       keep : Float
       keep = lesser floor (line_at c level k).line_rate
 
-      go : (t : Bool) → kept_by t (set_transformer_mva (line_at c level k) a) keep ≡ set_transformer_mva (line_at c level k) (cond t keep a)
+      go : (t : Bool)
+          → set_transformer_mva (line_at c level k) (bank_of (kept_by t (set_transformer_mva (line_at c level k) a) keep)) ≡ kept_by t (set_transformer_mva (line_at c level k) a) keep
       go true = refl
       go false = refl
 
-  pub kept_drawn : (a floor : Float) → kept_bank (drawn c level k a) floor ≡ drawn c level k (kept_mva a (lesser floor (line_at c level k).line_rate))
-  unfolding drawn
-  kept_drawn a floor = kept_by_lem (steps_down c level k) a floor
+  anew_at : (floors : List Float) → kept_bank (design_at c level k) (at floors k) ≡ drawn c level k (bank_anew c level floors k)
+  unfolding design_at drawn bank_anew
+  anew_at floors = sym (again_by (steps_down c level k) (bank_for c level (to_of c level k)) (at floors k))
 
   -- ---- what every bank leaves: kV, ends, length, the line's rating and the spread
   kv_by : (b : Bool) (a : Float) → (banked_by b (line_at c level k) a).kv ≡ kv_high c level k
@@ -95,6 +97,16 @@ module _ (c : Case) (level : List ℕ) (k : ℕ) where
   unfolding drawn
   drawn_mva a e = mva_by (steps_down c level k) a e
 
+  -- and its corridor steps down
+  steps_by : (b : Bool) (a : Float) → bank_below (banked_by b (line_at c level k) a) ≡ true → b ≡ true
+  unfolding line_at line_of
+  steps_by true a e = refl
+  steps_by false a e = e
+
+  drawn_steps : (a : Float) → bank_below (drawn c level k a) ≡ true → steps_down c level k ≡ true
+  unfolding drawn
+  drawn_steps a e = steps_by (steps_down c level k) a e
+
 -- ---- all corridors
 module _ (c : Case) (level : List ℕ) where
   pub length_drawn : (banks : List Float) → length (drawn_all c level banks) ≡ c.corridors
@@ -128,22 +140,24 @@ module _ (c : Case) (level : List ℕ) where
           ∙ ap (drawn c level j) (sym (get_or-set_other banks k j mva nan m))
           ∙ sym (drawn_at (set banks k mva) j q)
 
-  pub design_is : design_circuits c level ≡ drawn_all c level (fresh_banks c level)
+  unfoldable fresh_banks : List Float
+  fresh_banks = tab c.corridors (λ k. bank_for c level (to_of c level k))
+
+  design_is : design_circuits c level ≡ drawn_all c level fresh_banks
   unfolding design_circuits drawn_all design_at fresh_banks
   design_is =
-      tab_same c.corridors (design_at c level) (λ k. drawn c level k (at (fresh_banks c level) k))
+      tab_same c.corridors (design_at c level) (λ k. drawn c level k (at fresh_banks k))
       (λ k h. ap (drawn c level k) (sym (get_tab c.corridors (λ (j : ℕ). bank_for c level (to_of c level j)) k nan h)))
 
-  pub redesign_is : (floors : List Float) → redesign c level floors ≡ drawn_all c level (kept_banks c level floors)
-  unfolding redesign drawn_all design_at kept_banks
+  pub redesign_is : (floors : List Float) → redesign c level floors ≡ drawn_all c level (banks_anew c level floors)
+  unfolding redesign drawn_all banks_anew
   redesign_is floors =
-      tab_same c.corridors (λ k. kept_bank (design_at c level k) (at floors k)) (λ k. drawn c level k (at (kept_banks c level floors) k))
-      (λ k h.
-      kept_drawn c level k (bank_for c level (to_of c level k)) (at floors k)
-      ∙ ap (drawn c level k) (sym (get_tab c.corridors (kept_for c level floors) k nan h)))
+      tab_same c.corridors _ _
+      (λ k h. anew_at c level k floors ∙ ap (drawn c level k) (sym (get_tab c.corridors (bank_anew c level floors) k nan h)))
 
+  -- after a raise, from any designs
   pub rebuilt_is : (circuits : List ℕ) (ds : List CircuitDesign) (floors : List Float) (upsized : List ℕ)
-      → rebuilt c level (built circuits ds floors upsized) ≡ build_of c level circuits (kept_banks c level floors) floors upsized
+      → rebuilt c level (built circuits ds floors upsized) ≡ build_of c level circuits (banks_anew c level floors) floors upsized
   unfolding rebuilt
   rebuilt_is circuits ds floors upsized = ap (λ (x : List CircuitDesign). built circuits x floors upsized) (redesign_is floors)
 
@@ -180,19 +194,31 @@ fresh_large c level lo = go (over (times (greater (load_of c lo) (gen_at_bus c l
     go : (x : Float) → lt (greater x transformer_min_mva) transformer_min_mva ≡ false
     go x = by (lt x transformer_min_mva) x refl
 
-kept_large : (a keep : Float) → lt a transformer_min_mva ≡ false → lt (kept_mva a keep) transformer_min_mva ≡ false
-kept_large a keep e = go (lt a keep) refl
+anew_large : (c : Case) (level : List ℕ) (floors : List Float) (k : ℕ) → steps_down c level k ≡ true → lt (bank_anew c level floors k) transformer_min_mva ≡ false
+unfolding bank_anew design_at drawn set_transformer_mva with_bank
+anew_large c level floors k e = by (steps_down c level k) e
   where
-    go : (t : Bool) → lt a keep ≡ t → lt (cond t keep a) transformer_min_mva ≡ false
-    go true l = larger_bank a keep e l
-    go false l = e
+    fresh : Float
+    fresh = bank_for c level (to_of c level k)
+
+    keep : Float
+    keep = lesser (at floors k) (line_at c level k).line_rate
+
+    go : (t : Bool) → lt fresh keep ≡ t → lt (bank_of (kept_by t (set_transformer_mva (line_at c level k) fresh) keep)) transformer_min_mva ≡ false
+    go true l = larger_bank fresh keep (fresh_large c level (to_of c level k)) l
+    go false l = fresh_large c level (to_of c level k)
+
+    by : (b : Bool) → b ≡ true → lt (bank_of (kept_bank (banked_by b (line_at c level k) fresh) (at floors k))) transformer_min_mva ≡ false
+    by true p = go (lt fresh keep) refl
+    by false p = cc
 
 -- ---- what a list of designs is, where the banks are not named
 pub record Drawn (c : Case) (level : List ℕ) (ds : List CircuitDesign) : Type 0 where
   pub banks : List Float
   pub size : length banks ≡ c.corridors
   pub are : ds ≡ drawn_all c level banks
-  pub large : (k : ℕ) → k < c.corridors → lt (at banks k) transformer_min_mva ≡ false
+  -- where a corridor does not step down it has no bank
+  pub large : (k : ℕ) → k < c.corridors → steps_down c level k ≡ true → lt (at banks k) transformer_min_mva ≡ false
 
 module _ (c : Case) (level : List ℕ) where
   pub drawn_first : Drawn c level (design_circuits c level)
@@ -202,19 +228,17 @@ module _ (c : Case) (level : List ℕ) where
         banks = fresh_banks c level;
         size = length_tab c.corridors _;
         are = design_is c level;
-        large = λ k h. rw (get_tab c.corridors (λ (j : ℕ). bank_for c level (to_of c level j)) k nan h) (fresh_large c level (to_of c level k));
+        large = λ k h e. rw (get_tab c.corridors (λ (j : ℕ). bank_for c level (to_of c level j)) k nan h) (fresh_large c level (to_of c level k));
       }
 
   pub drawn_again : (floors : List Float) → Drawn c level (redesign c level floors)
-  unfolding kept_banks
+  unfolding banks_anew
   drawn_again floors =
       record {
-        banks = kept_banks c level floors;
+        banks = banks_anew c level floors;
         size = length_tab c.corridors _;
         are = redesign_is c level floors;
-        large = λ k h.
-            rw (get_tab c.corridors (kept_for c level floors) k nan h)
-            (kept_large (bank_for c level (to_of c level k)) (lesser (at floors k) (line_at c level k).line_rate) (fresh_large c level (to_of c level k)));
+        large = λ k h e. rw (get_tab c.corridors (bank_anew c level floors) k nan h) (anew_large c level floors k e);
       }
 
   module _ (ds : List CircuitDesign) (D : Drawn c level ds) where
@@ -232,9 +256,10 @@ module _ (c : Case) (level : List ℕ) where
         → lt mva transformer_min_mva ≡ false
     larger_here k mva h e l =
         let q = drawn_here k h in
+        let b = sym (ap (λ (d : CircuitDesign). bank_below d) q) ∙ e in
         let a : (design ds k).transformer_mva ≡ at D.banks k =
-        ap (λ (d : CircuitDesign). d.transformer_mva) q ∙ drawn_mva c level k (at D.banks k) (sym (ap (λ (d : CircuitDesign). bank_below d) q) ∙ e) in
-        larger_bank (at D.banks k) mva (D.large k h) (sym (ap (λ (x : Float). lt x mva) a) ∙ l)
+        ap (λ (d : CircuitDesign). d.transformer_mva) q ∙ drawn_mva c level k (at D.banks k) b in
+        larger_bank (at D.banks k) mva (D.large k h (drawn_steps c level k (at D.banks k) b)) (sym (ap (λ (x : Float). lt x mva) a) ∙ l)
 
     pub drawn_bank : (k : ℕ) (mva : Float) → k < c.corridors → bank_below (design ds k) ≡ true → lt (design ds k).transformer_mva mva ≡ true
         → Drawn c level (set ds k (set_transformer_mva (design ds k) mva))
@@ -242,7 +267,7 @@ module _ (c : Case) (level : List ℕ) where
         record {
           banks = set D.banks k mva;
           size = length-set D.banks k mva ∙ D.size;
-          large = λ j q. large_at j q (ℕ_discrete j k);
+          large = λ j q steps. large_at j q steps (ℕ_discrete j k);
           are =
               ap (λ (d : CircuitDesign). set ds k (set_transformer_mva d mva)) (drawn_here k h)
               ∙ ap (set ds k) (bank_drawn c level k (at D.banks k) mva (sym (ap (λ (d : CircuitDesign). bank_below d) (drawn_here k h)) ∙ e))
@@ -250,8 +275,8 @@ module _ (c : Case) (level : List ℕ) where
               ∙ drawn_set c level D.banks k mva h D.size;
         }
       where
-        large_at : (j : ℕ) → j < c.corridors → Dec (j ≡ k) → lt (at (set D.banks k mva) j) transformer_min_mva ≡ false
-        large_at j q (yes i) =
+        large_at : (j : ℕ) → j < c.corridors → steps_down c level j ≡ true → Dec (j ≡ k) → lt (at (set D.banks k mva) j) transformer_min_mva ≡ false
+        large_at j q steps (yes i) =
             let w : k < length D.banks = omega (arith, D.size) in
             rw (i, get_or-set_same D.banks k mva nan w) (larger_here k mva h e larger)
-        large_at j q (no n) = rw (get_or-set_other D.banks k j mva nan n) (D.large j q)
+        large_at j q steps (no n) = rw (get_or-set_other D.banks k j mva nan n) (D.large j q steps)

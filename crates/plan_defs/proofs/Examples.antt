@@ -25,6 +25,7 @@ use Rattle.plan_defs.specs.Outcome.{Slices, Outcome, slices, plan_corridors}
 use Rattle.plan_defs.specs.Preview.{kept_as, lengths_ok, kept_fault, preview_fault, refilled, preview, Outcome as Previewed}
 use Rattle.plan_defs.specs.Listing.{bits_of, lines, listing_of}
 use Rattle.plan_defs.specs.declared.CircuitDesign.{CircuitDesign}
+use Rattle.plan_defs.proofs.Unfolded.{whole_plan}
 
 abbrev whole : ℕ → Float
 whole n = decimal n 1
@@ -42,7 +43,7 @@ both_marked tiers = mark_ends (row tiers) tiers 1 (mark_ends (row tiers) tiers 0
 
 pub raised_together : raised_levels (1 ∷ 3 ∷ 3 ∷ []) (both_marked (1 ∷ 3 ∷ 3 ∷ [])) ∷ (moved_buses (1 ∷ 3 ∷ 3 ∷ []) (both_marked (1 ∷ 3 ∷ 3 ∷ [])) ∷ []) ∷ []
     ≡ (0 ∷ 0 ∷ 2 ∷ []) ∷ (3 ∷ []) ∷ []
-unfolding listing_of
+unfolding whole_plan
 raised_together = refl
 
 -- Stiffening counts an end again for each corridor that marks it: the bus in the middle twice.
@@ -55,12 +56,12 @@ after hv branches =
     s.hv ∷ s.stiffening ∷ s.total ∷ s.marks
 
 pub counted_again : after 9 9 ∷ after 2 9 ∷ after 2 2 ∷ [] ≡ (4 ∷ 0 ∷ 2 ∷ 1 ∷ 1 ∷ 1 ∷ []) ∷ (2 ∷ 1 ∷ 3 ∷ 1 ∷ 1 ∷ 0 ∷ []) ∷ (2 ∷ 0 ∷ 2 ∷ 1 ∷ 1 ∷ 0 ∷ []) ∷ []
-unfolding listing_of
+unfolding whole_plan
 counted_again = refl
 
 -- 0.35 · n, rounded, then floored: 62 at 180 buses, where 35 · n / 100 is 63.
 pub shares : map hv_budget (2 ∷ 3 ∷ 20 ∷ 179 ∷ 180 ∷ 181 ∷ 256 ∷ []) ≡ 0 ∷ 1 ∷ 7 ∷ 62 ∷ 62 ∷ 63 ∷ 89 ∷ []
-unfolding listing_of
+unfolding whole_plan
 shares = refl
 
 -- A redesign keeps a bank at its floor, up to the line's rating; a floor below the new bank, and a corridor with no bank, are left.
@@ -74,7 +75,7 @@ pub floors_kept :
     bank_of (kept_bank (set_transformer_mva line hundred) (whole 250)) ∷ bank_of (kept_bank (set_transformer_mva line hundred) (whole 400))
     ∷ bank_of (kept_bank (set_transformer_mva line hundred) (whole 50)) ∷ bank_of (kept_bank line (whole 250)) ∷ []
     ≡ bits_of (whole 250) ∷ bits_of (whole 300) ∷ bits_of hundred ∷ 0 ∷ []
-unfolding listing_of
+unfolding whole_plan
 floors_kept = refl
 
 -- Gains fall, equal ones by index; a batch is the first so many while the sum before is below the excess.
@@ -85,7 +86,7 @@ abbrev picked : ℕ → ℕ → List ℕ
 picked most tenths = batch most nought (decimal tenths 10) (insert (gain 1 3) (insert (gain 5 2) (insert (gain 5 1) (insert (gain 3 0) []))))
 
 pub batches : picked 4 9 ∷ picked 4 11 ∷ picked 2 99 ∷ picked 4 99 ∷ [] ≡ (1 ∷ 2 ∷ []) ∷ (1 ∷ 2 ∷ 0 ∷ []) ∷ (1 ∷ 2 ∷ []) ∷ (1 ∷ 2 ∷ 0 ∷ 3 ∷ []) ∷ []
-unfolding listing_of
+unfolding whole_plan
 batches = refl
 
 -- Filling up to one target after another, each corridor before filling at 3 and 1, in the order 1, 0: what a smaller target gave stays, and with both
@@ -94,7 +95,7 @@ abbrev filled_to : ℕ → List ℕ
 filled_to target = (fill (row (0 ∷ 0 ∷ 0 ∷ [])) target (1 ∷ 0 ∷ []) (3 ∷ 1 ∷ [])).counts
 
 pub nothing_taken : map filled_to (0 ∷ 4 ∷ 5 ∷ 6 ∷ 7 ∷ 8 ∷ 20 ∷ []) ≡ (3 ∷ 1 ∷ []) ∷ (3 ∷ 1 ∷ []) ∷ (3 ∷ 2 ∷ []) ∷ (4 ∷ 2 ∷ []) ∷ (4 ∷ 3 ∷ []) ∷ (4 ∷ 4 ∷ []) ∷ (4 ∷ 4 ∷ []) ∷ []
-unfolding listing_of
+unfolding whole_plan
 nothing_taken = refl
 
 -- ---- whole cases
@@ -113,7 +114,7 @@ pub circuits_added :
     listing_of (short Expand) 4
     ≡ (0 ∷ 2 ∷ 1 ∷ 2 ∷ 0 ∷ 1 ∷ 0 ∷ 0 ∷ 0 ∷ 0 ∷ []) ∷ [] ∷ (0 ∷ []) ∷ (0 ∷ 0 ∷ []) ∷ (0 ∷ 0xBFA0_0000_0000_0000 ∷ []) ∷ (0x4069_0000_0000_0000 ∷ []) ∷ (4 ∷ [])
     ∷ (0x4069_0000_0000_0000 ∷ []) ∷ (0x4059_0000_0000_0000 ∷ []) ∷ (0x3FE0_0000_0000_0000 ∷ 0x3FA0_0000_0000_0000 ∷ []) ∷ []
-unfolding listing_of
+unfolding whole_plan
 circuits_added = refl
 
 -- Reinforce: the first round makes a bank larger, the second makes it larger once more, the third finds it enough. So a plan that only counts after the first
@@ -134,7 +135,7 @@ pub sized_again :
     ≡ (1 ∷ 3 ∷ 1 ∷ 0 ∷ 0 ∷ 0 ∷ 0 ∷ 1 ∷ 0 ∷ 0 ∷ []) ∷ [] ∷ (2 ∷ []) ∷ (0 ∷ 1 ∷ 1 ∷ []) ∷ (0x3FB6_1696_8854_E35F ∷ 0x3F92_E288_F4A8_9333 ∷ 0 ∷ [])
     ∷ (0x40B0_744D_DF81_18FA ∷ []) ∷ (7 ∷ 1 ∷ []) ∷ (0x40B0_744D_DF81_18FA ∷ 0x40B0_744D_DF81_18FC ∷ []) ∷ (0x4085_CD85_65A3_1C54 ∷ 0x40D3_8800_0000_0000 ∷ [])
     ∷ (0x3FEB_9999_9999_9998 ∷ 0x3FB6_1696_8854_E35F ∷ []) ∷ []
-unfolding listing_of
+unfolding whole_plan
 sized_again = refl
 
 -- What stood in the lent slices does not matter, work is zero after the answer, and so is what is kept of filling, since the mode does not fill: here every
@@ -147,7 +148,7 @@ abbrev left_by : Outcome → List (List ℕ)
 left_by o = map bits_of o.lent.figures ∷ o.lent.counts ∷ o.lent.before ∷ o.lent.order ∷ o.lent.circuits ∷ o.lent.tier ∷ o.lent.ground ∷ []
 
 pub work_zeroed : left_by (plan_corridors (short Observe) 0 lent_with_ones) ≡ replicate 48 0 ∷ replicate 48 0 ∷ (0 ∷ []) ∷ (0 ∷ []) ∷ (1 ∷ []) ∷ (0 ∷ 0 ∷ []) ∷ (0 ∷ 0 ∷ []) ∷ []
-unfolding listing_of
+unfolding whole_plan
 work_zeroed = refl
 
 -- ---- what is listed of a plan whose tallies all differ, with a level added: each stands in its own place
@@ -182,7 +183,7 @@ pub sample_listed :
     ≡ (0 ∷ 2 ∷ 1 ∷ 3 ∷ 4 ∷ 5 ∷ 6 ∷ 7 ∷ 8 ∷ 9 ∷ []) ∷ (0x4075_9000_0000_0000 ∷ []) ∷ (1 ∷ []) ∷ (0 ∷ 1 ∷ []) ∷ (0x3FD0_0000_0000_0000 ∷ 0 ∷ [])
     ∷ (0x4072_C000_0000_0000 ∷ []) ∷ (4 ∷ []) ∷ (0x4069_0000_0000_0000 ∷ []) ∷ (0x4072_C000_0000_0000 ∷ []) ∷ (0x3FE0_0000_0000_0000 ∷ 0x3FD0_0000_0000_0000 ∷ [])
     ∷ []
-unfolding listing_of
+unfolding whole_plan
 sample_listed = refl
 
 -- ---- what a plan keeps of filling, and its preview
@@ -204,7 +205,7 @@ kept_beside target = let s : Slices = (plan_corridors beside target lent_beside)
 pub filling_kept :
     kept_beside 0 ∷ kept_beside 5 ∷ []
     ≡ ((1 ∷ 2 ∷ []) ∷ (1 ∷ 0 ∷ []) ∷ (1 ∷ 2 ∷ []) ∷ []) ∷ ((1 ∷ 2 ∷ []) ∷ (1 ∷ 0 ∷ []) ∷ (2 ∷ 3 ∷ []) ∷ []) ∷ []
-unfolding listing_of
+unfolding whole_plan
 filling_kept = refl
 
 -- A reply in numbers, then the slice. Each place is lent with a 7.
@@ -228,7 +229,7 @@ pub previews :
     ≡ (1 ∷ 4 ∷ 2 ∷ []) ∷ (3 ∷ 4 ∷ 3 ∷ [])
     ∷ (2 ∷ 4 ∷ 2 ∷ []) ∷ (1 ∷ 4 ∷ 3 ∷ [])
     ∷ (4 ∷ 64 ∷ 4 ∷ []) ∷ []
-unfolding listing_of preview preview_fault kept_fault lengths_ok refilled
+unfolding whole_plan preview preview_fault kept_fault lengths_ok refilled
 previews = refl
 
 -- The refusals, each where the next would be due too: a slice of two places; a target past 65,536; two modes that do not fill; the lower of two corridors
@@ -242,14 +243,14 @@ pub preview_refusals :
     ∷ (18 ∷ 0 ∷ 7 ∷ 7 ∷ 7 ∷ []) ∷ (18 ∷ 0 ∷ 7 ∷ 7 ∷ 7 ∷ [])
     ∷ (6 ∷ 1 ∷ 7 ∷ 7 ∷ 7 ∷ []) ∷ (6 ∷ 2 ∷ 7 ∷ 7 ∷ 7 ∷ [])
     ∷ (30 ∷ 1 ∷ 7 ∷ 7 ∷ 7 ∷ []) ∷ (30 ∷ 2 ∷ 7 ∷ 7 ∷ 7 ∷ []) ∷ []
-unfolding listing_of preview preview_fault kept_fault lengths_ok refilled
+unfolding whole_plan preview preview_fault kept_fault lengths_ok refilled
 preview_refusals = refl
 
 -- With own caps of 2 and 6 the first stops at 2 and the last goes to 6; a cap above 6 is a fault of its corridor, beside the count's.
 pub previews_capped :
     previewed_with Expand (1 ∷ 4 ∷ 1 ∷ []) (0 ∷ 1 ∷ 2 ∷ []) (2 ∷ 0 ∷ 6 ∷ []) 3 20 ∷ previewed_with Expand (1 ∷ 4 ∷ 0 ∷ []) (0 ∷ 1 ∷ 2 ∷ []) (0 ∷ 7 ∷ 0 ∷ []) 3 20 ∷ []
     ≡ (2 ∷ 4 ∷ 6 ∷ []) ∷ (6 ∷ 1 ∷ 7 ∷ 7 ∷ 7 ∷ []) ∷ []
-unfolding listing_of preview preview_fault kept_fault lengths_ok refilled
+unfolding whole_plan preview preview_fault kept_fault lengths_ok refilled
 previews_capped = refl
 
 -- ---- K4: the pass after a component's dispatch, MW by their bits; every unit from 0, at a cost of c1
@@ -266,7 +267,7 @@ in_mode3 pmax c1 demand = given ExpandServing (units (map whole pmax) (map whole
 pub second_served :
     map (λ mode. given mode (units (hundred ∷ []) (whole 10 ∷ [])) 50) (Expand ∷ Reinforce ∷ Observe ∷ ExpandServing ∷ ReinforceServing ∷ ObserveServing ∷ [])
     ≡ (0 ∷ []) ∷ (0 ∷ []) ∷ (0 ∷ []) ∷ map bits_of (whole 50 ∷ []) ∷ map bits_of (whole 50 ∷ []) ∷ map bits_of (whole 50 ∷ []) ∷ []
-unfolding listing_of
+unfolding whole_plan
 second_served = refl
 
 -- Two units of equal c1: the lower index first, and then the other, with the difference that is left. A unit at pmax between them in price is passed over.
@@ -278,7 +279,7 @@ pub topped :
     ≡ map bits_of (whole 30 ∷ nought ∷ []) ∷ map bits_of (whole 50 ∷ whole 40 ∷ [])
     ∷ map bits_of (whole 40 ∷ whole 60 ∷ nought ∷ []) ∷ map bits_of (whole 50 ∷ whole 60 ∷ whole 40 ∷ [])
     ∷ map bits_of (whole 30 ∷ hundred ∷ []) ∷ (0 ∷ 0 ∷ []) ∷ map bits_of (nought ∷ hundred ∷ []) ∷ []
-unfolding listing_of
+unfolding whole_plan
 topped = refl
 
 -- By c1 before index: at the highest price the first unit, the dearest, gives nothing, and the other two stand between their limits. The second takes the gap
@@ -287,7 +288,7 @@ abbrev near : Units
 near = units (replicate 3 hundred) (whole 20 ∷ decimal 199_999_999_999 10_000_000_000 ∷ decimal 1_999_999_999_995 100_000_000_000 ∷ [])
 
 pub cheapest_first : given ExpandServing near 210 ≡ map bits_of (whole 10 ∷ hundred ∷ hundred ∷ [])
-unfolding listing_of
+unfolding whole_plan
 cheapest_first = refl
 
 -- The first unit left below pmax ends the pass, also where rounding leaves a difference above zero: two units of three eighths of the last place of 50 are at
@@ -297,7 +298,7 @@ lost = of_bits binary64 0x3CE8_0000_0000_0000
 
 pub ends_below : given ExpandServing (units (hundred ∷ lost ∷ lost ∷ hundred ∷ []) (whole 20 ∷ whole 10 ∷ whole 10 ∷ whole 20 ∷ [])) 50
     ≡ 0x4048_FFFF_FFFF_FFFF ∷ 0x3CE8_0000_0000_0000 ∷ 0x3CE8_0000_0000_0000 ∷ 0 ∷ []
-unfolding listing_of
+unfolding whole_plan
 ends_below = refl
 
 -- Case L with c2 = 0, a target of 4 and another mode: mode 3 serves the load, fills as Expand and is listed as 3; mode 0 leaves the unit idle, and the ground
@@ -321,5 +322,5 @@ pub modes_listed :
     ∷ flat_listed 4 1 0 (whole 50) 1 0xBFD0_0000_0000_0000 0x3FE0_0000_0000_0000 0x3FD0_0000_0000_0000
     ∷ flat_listed 5 0 0 (whole 50) 1 0xBFD0_0000_0000_0000 0x3FE0_0000_0000_0000 0x3FD0_0000_0000_0000
     ∷ []
-unfolding listing_of
+unfolding whole_plan
 modes_listed = refl

@@ -30,6 +30,7 @@ use Rattle.plan_defs.specs.Outcome.{Slices, Outcome, slices, plan_corridors}
 use Rattle.plan_defs.specs.Preview.{kept_as, lengths_ok, kept_fault, preview_fault, refilled, preview, Outcome as Previewed}
 use Rattle.plan_defs.specs.Listing.{bits_of, lines, listing_of}
 use Rattle.plan_defs.specs.declared.CircuitDesign.{CircuitDesign}
+use Rattle.plan_defs.proofs.Unfolded.{whole_plan}
 
 abbrev whole : ℕ → Float
 whole n = decimal n 1
@@ -50,7 +51,7 @@ both_marked tiers = mark_ends (row tiers) tiers 1 (mark_ends (row tiers) tiers 0
 
 pub raised_together : raised_levels (1 ∷ 3 ∷ 3 ∷ []) (both_marked (1 ∷ 3 ∷ 3 ∷ [])) ∷ (moved_buses (1 ∷ 3 ∷ 3 ∷ []) (both_marked (1 ∷ 3 ∷ 3 ∷ [])) ∷ []) ∷ []
     ≡ (0 ∷ 0 ∷ 2 ∷ []) ∷ (3 ∷ []) ∷ []
-unfolding listing_of
+unfolding whole_plan
 raised_together = refl
 
 -- Stiffening counts an end again for each corridor that marks it: the bus in the middle twice.
@@ -63,12 +64,12 @@ after hv branches =
     s.hv ∷ s.stiffening ∷ s.total ∷ s.marks
 
 pub counted_again : after 9 9 ∷ after 2 9 ∷ after 2 2 ∷ [] ≡ (4 ∷ 0 ∷ 2 ∷ 1 ∷ 1 ∷ 1 ∷ []) ∷ (2 ∷ 1 ∷ 3 ∷ 1 ∷ 1 ∷ 0 ∷ []) ∷ (2 ∷ 0 ∷ 2 ∷ 1 ∷ 1 ∷ 0 ∷ []) ∷ []
-unfolding listing_of
+unfolding whole_plan
 counted_again = refl
 
 -- 0.35 · n, rounded, then floored: 62 at 180 buses, where 35 · n / 100 is 63.
 pub shares : map hv_budget (2 ∷ 3 ∷ 20 ∷ 179 ∷ 180 ∷ 181 ∷ 256 ∷ []) ≡ 0 ∷ 1 ∷ 7 ∷ 62 ∷ 62 ∷ 63 ∷ 89 ∷ []
-unfolding listing_of
+unfolding whole_plan
 shares = refl
 
 -- A redesign keeps a bank at its floor, up to the line's rating; a floor below the new bank, and a corridor with no bank, are left.
@@ -82,7 +83,7 @@ pub floors_kept :
     bank_of (kept_bank (set_transformer_mva line hundred) (whole 250)) ∷ bank_of (kept_bank (set_transformer_mva line hundred) (whole 400))
     ∷ bank_of (kept_bank (set_transformer_mva line hundred) (whole 50)) ∷ bank_of (kept_bank line (whole 250)) ∷ []
     ≡ bits_of (whole 250) ∷ bits_of (whole 300) ∷ bits_of hundred ∷ 0 ∷ []
-unfolding listing_of
+unfolding whole_plan
 floors_kept = refl
 
 -- So with corridors designed anew: one from 345 to 138 kV, whose new bank is the least, of 100 MVA.
@@ -94,7 +95,7 @@ stepped =
 pub redesigned :
     map (λ floor. map bank_of (redesign stepped (0 ∷ 1 ∷ []) (floor ∷ []))) (whole 250 ∷ whole 400 ∷ whole 50 ∷ [])
     ≡ (bits_of (whole 250) ∷ []) ∷ (bits_of (whole 300) ∷ []) ∷ (bits_of hundred ∷ []) ∷ []
-unfolding listing_of
+unfolding whole_plan
 redesigned = refl
 
 -- Gains fall, equal ones by index; a batch is the first so many while the sum before is below the excess.
@@ -105,7 +106,7 @@ abbrev picked : ℕ → ℕ → List ℕ
 picked most tenths = batch most nought (decimal tenths 10) (insert (gain 1 3) (insert (gain 5 2) (insert (gain 5 1) (insert (gain 3 0) []))))
 
 pub batches : picked 4 9 ∷ picked 4 11 ∷ picked 2 99 ∷ picked 4 99 ∷ [] ≡ (1 ∷ 2 ∷ []) ∷ (1 ∷ 2 ∷ 0 ∷ []) ∷ (1 ∷ 2 ∷ []) ∷ (1 ∷ 2 ∷ 0 ∷ 3 ∷ []) ∷ []
-unfolding listing_of
+unfolding whole_plan
 batches = refl
 
 -- Filling up to one target after another, each corridor before filling at 3 and 1, in the order 1, 0: what a smaller target gave stays, and with both
@@ -114,7 +115,7 @@ abbrev filled_to : ℕ → List ℕ
 filled_to target = (fill (row (0 ∷ 0 ∷ 0 ∷ [])) target (1 ∷ 0 ∷ []) (3 ∷ 1 ∷ [])).counts
 
 pub nothing_taken : map filled_to (0 ∷ 4 ∷ 5 ∷ 6 ∷ 7 ∷ 8 ∷ 20 ∷ []) ≡ (3 ∷ 1 ∷ []) ∷ (3 ∷ 1 ∷ []) ∷ (3 ∷ 2 ∷ []) ∷ (4 ∷ 2 ∷ []) ∷ (4 ∷ 3 ∷ []) ∷ (4 ∷ 4 ∷ []) ∷ (4 ∷ 4 ∷ []) ∷ []
-unfolding listing_of
+unfolding whole_plan
 nothing_taken = refl
 
 -- Of the six modes 0 and 3 fill.
@@ -124,7 +125,7 @@ modes = Expand ∷ Reinforce ∷ Observe ∷ ExpandServing ∷ ReinforceServing 
 pub modes_filled :
     map (λ mode. (fill (row_in mode (0 ∷ 0 ∷ 0 ∷ [])) 6 (1 ∷ 0 ∷ []) (3 ∷ 1 ∷ [])).counts) modes
     ≡ (4 ∷ 2 ∷ []) ∷ (3 ∷ 1 ∷ []) ∷ (3 ∷ 1 ∷ []) ∷ (4 ∷ 2 ∷ []) ∷ (3 ∷ 1 ∷ []) ∷ (3 ∷ 1 ∷ []) ∷ []
-unfolding listing_of
+unfolding whole_plan
 modes_filled = refl
 
 -- ---- whole cases
@@ -140,7 +141,7 @@ pub circuits_added :
     listing_of (short Expand) 4
     ≡ (0 ∷ 2 ∷ 1 ∷ 2 ∷ 0 ∷ 1 ∷ 0 ∷ 0 ∷ 0 ∷ 0 ∷ []) ∷ [] ∷ (0 ∷ []) ∷ (0 ∷ 0 ∷ []) ∷ (0 ∷ 0xBFA0_0000_0000_0000 ∷ []) ∷ (0x4069_0000_0000_0000 ∷ []) ∷ (4 ∷ [])
     ∷ (0x4069_0000_0000_0000 ∷ []) ∷ (0x4059_0000_0000_0000 ∷ []) ∷ (0x3FE0_0000_0000_0000 ∷ 0x3FA0_0000_0000_0000 ∷ []) ∷ []
-unfolding listing_of
+unfolding whole_plan
 circuits_added = refl
 
 -- 6 at 65 circuits, one above the most that a case may begin with.
@@ -154,7 +155,7 @@ refusal_of none = []
 refusal_of (some f) = number_of f ∷ index_of f ∷ []
 
 pub begun_with : map (λ count. refusal_of (case_fault (began count) 0)) (0 ∷ 7 ∷ 64 ∷ 65 ∷ []) ≡ [] ∷ [] ∷ [] ∷ (6 ∷ 0 ∷ []) ∷ []
-unfolding listing_of
+unfolding whole_plan
 begun_with = refl
 
 -- What stood in the lent slices does not matter, work is zero after the answer, and so is what is kept of filling, since the mode does not fill: here every
@@ -167,7 +168,7 @@ abbrev left_by : Outcome → List (List ℕ)
 left_by o = map bits_of o.lent.figures ∷ o.lent.counts ∷ o.lent.before ∷ o.lent.order ∷ o.lent.circuits ∷ o.lent.tier ∷ o.lent.ground ∷ []
 
 pub work_zeroed : left_by (plan_corridors (short Observe) 0 lent_with_ones) ≡ replicate 48 0 ∷ replicate 48 0 ∷ (0 ∷ []) ∷ (0 ∷ []) ∷ (1 ∷ []) ∷ (0 ∷ 0 ∷ []) ∷ (0 ∷ 0 ∷ []) ∷ []
-unfolding listing_of
+unfolding whole_plan
 work_zeroed = refl
 
 -- ---- what is listed of a plan whose tallies all differ, with a level added: each stands in its own place
@@ -202,12 +203,12 @@ pub sample_listed :
     ≡ (0 ∷ 2 ∷ 1 ∷ 3 ∷ 4 ∷ 5 ∷ 6 ∷ 7 ∷ 8 ∷ 9 ∷ []) ∷ (0x4075_9000_0000_0000 ∷ []) ∷ (1 ∷ []) ∷ (0 ∷ 1 ∷ []) ∷ (0x3FD0_0000_0000_0000 ∷ 0 ∷ [])
     ∷ (0x4072_C000_0000_0000 ∷ []) ∷ (4 ∷ []) ∷ (0x4069_0000_0000_0000 ∷ []) ∷ (0x4072_C000_0000_0000 ∷ []) ∷ (0x3FE0_0000_0000_0000 ∷ 0x3FD0_0000_0000_0000 ∷ [])
     ∷ []
-unfolding listing_of
+unfolding whole_plan
 sample_listed = refl
 
 -- each mode listed as such
 pub modes_listed : map (λ mode. get_or (get_or (lines mode (planned sample)) 0 []) 0 9) modes ≡ 0 ∷ 1 ∷ 2 ∷ 3 ∷ 4 ∷ 5 ∷ []
-unfolding listing_of
+unfolding whole_plan
 modes_listed = refl
 
 -- ---- what a plan keeps of filling, and its preview
@@ -229,7 +230,7 @@ kept_beside target = let s : Slices = (plan_corridors beside target lent_beside)
 pub filling_kept :
     kept_beside 0 ∷ kept_beside 5 ∷ []
     ≡ ((1 ∷ 2 ∷ []) ∷ (1 ∷ 0 ∷ []) ∷ (1 ∷ 2 ∷ []) ∷ []) ∷ ((1 ∷ 2 ∷ []) ∷ (1 ∷ 0 ∷ []) ∷ (2 ∷ 3 ∷ []) ∷ []) ∷ []
-unfolding listing_of
+unfolding whole_plan
 filling_kept = refl
 
 -- A reply in numbers, then the slice. Each place is lent with a 7.
@@ -253,7 +254,7 @@ pub previews :
     ≡ (1 ∷ 4 ∷ 2 ∷ []) ∷ (3 ∷ 4 ∷ 3 ∷ [])
     ∷ (2 ∷ 4 ∷ 2 ∷ []) ∷ (1 ∷ 4 ∷ 3 ∷ [])
     ∷ (4 ∷ 64 ∷ 4 ∷ []) ∷ []
-unfolding listing_of preview preview_fault kept_fault lengths_ok refilled
+unfolding whole_plan preview preview_fault kept_fault lengths_ok refilled
 previews = refl
 
 -- The refusals, each where the next would be due too: a slice of two places; a target past 65,536; two modes that do not fill; the lower of two corridors
@@ -267,14 +268,14 @@ pub preview_refusals :
     ∷ (18 ∷ 0 ∷ 7 ∷ 7 ∷ 7 ∷ []) ∷ (18 ∷ 0 ∷ 7 ∷ 7 ∷ 7 ∷ [])
     ∷ (6 ∷ 1 ∷ 7 ∷ 7 ∷ 7 ∷ []) ∷ (6 ∷ 2 ∷ 7 ∷ 7 ∷ 7 ∷ [])
     ∷ (30 ∷ 1 ∷ 7 ∷ 7 ∷ 7 ∷ []) ∷ (30 ∷ 2 ∷ 7 ∷ 7 ∷ 7 ∷ []) ∷ []
-unfolding listing_of preview preview_fault kept_fault lengths_ok refilled
+unfolding whole_plan preview preview_fault kept_fault lengths_ok refilled
 preview_refusals = refl
 
 -- With own caps of 2 and 6 the first stops at 2 and the last goes to 6; a cap above 6 is a fault of its corridor, beside the count's.
 pub previews_capped :
     previewed_with Expand (1 ∷ 4 ∷ 1 ∷ []) (0 ∷ 1 ∷ 2 ∷ []) (2 ∷ 0 ∷ 6 ∷ []) 3 20 ∷ previewed_with Expand (1 ∷ 4 ∷ 0 ∷ []) (0 ∷ 1 ∷ 2 ∷ []) (0 ∷ 7 ∷ 0 ∷ []) 3 20 ∷ []
     ≡ (2 ∷ 4 ∷ 6 ∷ []) ∷ (6 ∷ 1 ∷ 7 ∷ 7 ∷ 7 ∷ []) ∷ []
-unfolding listing_of preview preview_fault kept_fault lengths_ok refilled
+unfolding whole_plan preview preview_fault kept_fault lengths_ok refilled
 previews_capped = refl
 
 -- ---- K4: the pass after a component's dispatch, MW by their bits; every unit from 0, at a cost of c1
@@ -288,7 +289,7 @@ given mode u demand = map bits_of (given_by (tops_up mode) u (whole demand))
 pub second_served :
     map (λ mode. given mode (units (hundred ∷ []) (whole 10 ∷ [])) 50) (Expand ∷ Reinforce ∷ Observe ∷ ExpandServing ∷ ReinforceServing ∷ ObserveServing ∷ [])
     ≡ (0 ∷ []) ∷ (0 ∷ []) ∷ (0 ∷ []) ∷ map bits_of (whole 50 ∷ []) ∷ map bits_of (whole 50 ∷ []) ∷ map bits_of (whole 50 ∷ []) ∷ []
-unfolding listing_of
+unfolding whole_plan
 second_served = refl
 
 -- The pass by itself, of pmax, c1 and what the dispatch gave.
@@ -325,12 +326,12 @@ pub topped :
     ∷ passed (30 ∷ 100 ∷ []) (20 ∷ 10 ∷ []) (30 ∷ 100 ∷ []) 200 ∷ passed (30 ∷ 100 ∷ []) (20 ∷ 10 ∷ []) (0 ∷ 0 ∷ []) 0
     ∷ passed (30 ∷ 100 ∷ []) (20 ∷ 10 ∷ []) (0 ∷ 100 ∷ []) 100 ∷ []
     ≡ (b30 ∷ 0 ∷ []) ∷ (b50 ∷ b40 ∷ []) ∷ (b40 ∷ b60 ∷ 0 ∷ []) ∷ (b50 ∷ b60 ∷ b40 ∷ []) ∷ (b30 ∷ b100 ∷ []) ∷ (0 ∷ 0 ∷ []) ∷ (0 ∷ b100 ∷ []) ∷ []
-unfolding listing_of
+unfolding whole_plan
 topped = refl
 
 -- By c1 before index: the third unit, the cheapest, is filled first, and the first, the dearest, takes the rest.
 pub cheapest_first : passed (100 ∷ 100 ∷ 100 ∷ []) (20 ∷ 15 ∷ 10 ∷ []) (0 ∷ 100 ∷ 50 ∷ []) 210 ≡ b10 ∷ b100 ∷ b100 ∷ []
-unfolding listing_of
+unfolding whole_plan
 cheapest_first = refl
 
 -- The first unit left below pmax ends the pass, also where rounding leaves a difference above zero: two units of three eighths of the last place of 50 are at
@@ -341,5 +342,5 @@ lost = of_bits binary64 0x3CE8_0000_0000_0000
 pub ends_below :
     topped_from (hundred ∷ lost ∷ lost ∷ hundred ∷ []) (whole 20 ∷ whole 10 ∷ whole 10 ∷ whole 20 ∷ []) (nought ∷ lost ∷ lost ∷ nought ∷ []) 50
     ≡ 0x4048_FFFF_FFFF_FFFF ∷ 0x3CE8_0000_0000_0000 ∷ 0x3CE8_0000_0000_0000 ∷ 0 ∷ []
-unfolding listing_of
+unfolding whole_plan
 ends_below = refl

@@ -10,6 +10,7 @@ pub mod Counts
 pub mod Turns
 pub mod Rounds
 pub mod Opened
+pub mod Unfolded
 pub mod Examples
 pub mod OwnCaps
 pub mod Weights

@@ -17,6 +17,7 @@ use Rattle.plan_defs.specs.Demand.{circuits_at, filler_at, Even}
 use Rattle.plan_defs.specs.Plan.{Plan}
 use Rattle.plan_defs.specs.Outcome.{Slices, slices, plan_corridors}
 use Rattle.plan_defs.specs.Listing.{listing_of}
+use Rattle.plan_defs.proofs.Unfolded.{whole_plan}
 
 abbrev whole : ℕ → Float
 whole n = decimal n 1
@@ -41,7 +42,7 @@ pub caps_taken :
     ∷ ((0 ∷ 2 ∷ 1 ∷ 2 ∷ 0 ∷ 3 ∷ 0 ∷ 0 ∷ 0 ∷ 0 ∷ []) ∷ (6 ∷ []) ∷ [])
     ∷ ((0 ∷ 1 ∷ 1 ∷ 0 ∷ 0 ∷ 0 ∷ 0 ∷ 0 ∷ 0 ∷ 0 ∷ []) ∷ (3 ∷ []) ∷ []) ∷ ((2 ∷ 0 ∷ 1 ∷ 0 ∷ 0 ∷ 0 ∷ 0 ∷ 0 ∷ 1 ∷ 0 ∷ []) ∷ (1 ∷ []) ∷ [])
     ∷ ((6 ∷ 0 ∷ []) ∷ [] ∷ []) ∷ []
-unfolding listing_of
+unfolding whole_plan
 caps_taken = refl
 
 -- The plan record keeps the caps in every mode, also where it keeps zeros of filling; a refusal of the case leaves what was lent.
@@ -53,7 +54,7 @@ abbrev kept_by_lem : Case → List ℕ
 kept_by_lem c = (plan_corridors c 4 lent).lent.cap
 
 pub caps_kept : kept_by_lem (valley Expand 3 2) ∷ kept_by_lem (valley Observe 1 2) ∷ kept_by_lem (valley Expand 1 7) ∷ [] ≡ (2 ∷ []) ∷ (2 ∷ []) ∷ (9 ∷ []) ∷ []
-unfolding listing_of
+unfolding whole_plan
 caps_kept = refl
 
 -- Two corridors in a row, each with one circuit and a budget of four, where no raise is within the budget: at its cap of 1 the first is no candidate for
@@ -74,14 +75,14 @@ abbrev candidates : ℕ → List Bool
 candidates cap = map (candidate (in_row cap) level level budget 0 begun) (0 ∷ 1 ∷ [])
 
 pub candidates_below : candidates 1 ∷ candidates 2 ∷ [] ≡ (false ∷ true ∷ []) ∷ (true ∷ true ∷ []) ∷ []
-unfolding listing_of
+unfolding whole_plan
 candidates_below = refl
 
 abbrev stiffened : ℕ → List ℕ
 stiffened k = (stiffen_one (in_row 1) level budget k begun).build.circuits
 
 pub stiffened_below : stiffened 0 ∷ stiffened 1 ∷ [] ≡ (1 ∷ 1 ∷ []) ∷ (1 ∷ 2 ∷ []) ∷ []
-unfolding listing_of
+unfolding whole_plan
 stiffened_below = refl
 
 -- Two corridors beside each other, filled to a total of 4: the first is at its cap of 1, the second has 3 of 6. Their fillers differ by two, which the clause

@@ -22,8 +22,9 @@ use Rattle.plan_defs.specs.Stiffen.{Budget, Stiffening, stiff, stiffen_one, cand
 use Rattle.plan_defs.specs.Demand.{circuits_at, filler_at, Even}
 use Rattle.plan_defs.specs.Plan.{Plan}
 use Rattle.plan_defs.specs.Outcome.{Slices, slices, held, plan_corridors}
-use Rattle.plan_defs.specs.Listing.{flag, listing_of}
+use Rattle.plan_defs.specs.Listing.{flag}
 use Rattle.plan_defs.proofs.ExamplesApart.{refusal_of, sample}
+use Rattle.plan_defs.proofs.Unfolded.{whole_plan}
 
 abbrev whole : ℕ → Float
 whole n = decimal n 1
@@ -46,7 +47,7 @@ sized_to mode cap =
     flag s.capped ∷ s.capacity ∷ s.build.circuits
 
 pub caps_sized : sized_to Reinforce 2 ∷ sized_to Expand 2 ∷ sized_to Expand 6 ∷ sized_to Expand 0 ∷ [] ≡ (1 ∷ 1 ∷ 2 ∷ []) ∷ (1 ∷ 1 ∷ 2 ∷ []) ∷ (0 ∷ 2 ∷ 3 ∷ []) ∷ (0 ∷ 2 ∷ 3 ∷ []) ∷ []
-unfolding listing_of
+unfolding whole_plan
 caps_sized = refl
 
 -- So it counts as capped with two circuits; with a cap of 6, with none, and when observing, it does not.
@@ -54,7 +55,7 @@ abbrev counted_of : PlanMode → ℕ → ℕ
 counted_of mode cap = let c : Case = valley mode 1 cap in capped_of c (design_circuits c at_one_level) (2 ∷ []) (whole 200 ∷ [])
 
 pub caps_counted : counted_of Expand 2 ∷ counted_of Expand 6 ∷ counted_of Expand 0 ∷ counted_of Observe 2 ∷ [] ≡ 1 ∷ 0 ∷ 0 ∷ 0 ∷ []
-unfolding listing_of
+unfolding whole_plan
 caps_counted = refl
 
 -- Filling adds nothing at a cap of 2, goes to a cap of 6, and leaves a count above the cap as it is.
@@ -62,12 +63,12 @@ abbrev filled_from : ℕ → ℕ → List ℕ
 filled_from cap count = (fill (valley Expand 1 cap) 8 (0 ∷ []) (count ∷ [])).counts
 
 pub caps_filled : filled_from 2 2 ∷ filled_from 6 3 ∷ filled_from 0 3 ∷ filled_from 2 3 ∷ [] ≡ (2 ∷ []) ∷ (6 ∷ []) ∷ (4 ∷ []) ∷ (3 ∷ []) ∷ []
-unfolding listing_of
+unfolding whole_plan
 caps_filled = refl
 
 -- A cap of 7 is refused.
 pub caps_accepted : map (λ cap. refusal_of (case_fault (valley Expand 1 cap) 4)) (0 ∷ 1 ∷ 6 ∷ 7 ∷ []) ≡ [] ∷ [] ∷ [] ∷ (6 ∷ 0 ∷ []) ∷ []
-unfolding listing_of
+unfolding whole_plan
 caps_accepted = refl
 
 -- The plan record keeps the caps in every mode, also where it keeps zeros of filling; a refusal of the case leaves what was lent.
@@ -77,7 +78,7 @@ lent =
 
 pub caps_kept :
     (held (valley Expand 3 2) sample).cap ∷ (held (valley Observe 1 2) sample).cap ∷ (plan_corridors (valley Expand 1 7) 4 lent).lent.cap ∷ [] ≡ (2 ∷ []) ∷ (2 ∷ []) ∷ (9 ∷ []) ∷ []
-unfolding listing_of
+unfolding whole_plan
 caps_kept = refl
 
 -- Two corridors in a row, each with one circuit and a budget of four, where no raise is within the budget: at its cap of 1 the first is no candidate for
@@ -98,14 +99,14 @@ abbrev candidates : ℕ → List Bool
 candidates cap = map (candidate (in_row cap) level level budget 0 begun) (0 ∷ 1 ∷ [])
 
 pub candidates_below : candidates 1 ∷ candidates 2 ∷ [] ≡ (false ∷ true ∷ []) ∷ (true ∷ true ∷ []) ∷ []
-unfolding listing_of
+unfolding whole_plan
 candidates_below = refl
 
 abbrev stiffened : ℕ → List ℕ
 stiffened k = (stiffen_one (in_row 1) level budget k begun).build.circuits
 
 pub stiffened_below : stiffened 0 ∷ stiffened 1 ∷ [] ≡ (1 ∷ 1 ∷ []) ∷ (1 ∷ 2 ∷ []) ∷ []
-unfolding listing_of
+unfolding whole_plan
 stiffened_below = refl
 
 -- Two corridors beside each other, filled to a total of 4: the first is at its cap of 1, the second has 3 of 6. Their fillers differ by two, which the clause

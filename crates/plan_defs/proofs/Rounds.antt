@@ -16,9 +16,7 @@ use Rattle.plan_defs.specs.Raise.{raised_levels, moved_buses}
 use Rattle.plan_defs.specs.Build.{Build, rebuilt}
 use Rattle.plan_defs.specs.Size.{Sizing, size_all}
 use Rattle.plan_defs.specs.Stiffen.{Stiffening, budget_of, stiffen_from, stiffen_all}
-use Rattle.plan_defs.specs.Rounds.{Draft, Turn, stiffened_by, stiffened_to, stiffen_if, added_if, sized_by, solved_to, one_round, continue, rounds, round_budget, all_rounds}
-use Rattle.plan_defs.specs.declared.RoundEnd.{RoundEnd}
-use Rattle.plan_defs.specs.declared.RoundEnd.TheVariants.{Again, Settled}
+use Rattle.plan_defs.specs.Rounds.{Draft, RoundEnd, Again, Settled, Turn, stiffened_by, stiffened_to, stiffen_if, added_if, sized_by, solved_to, one_round, continue, rounds, round_budget, all_rounds}
 use Rattle.plan_defs.proofs.Stages.{On, on_onward, on_both}
 use Rattle.plan_defs.proofs.Turns.{Told, round_told}
 use Rattle.plan_defs.proofs.Solved.{Solved, solved as state-solved}

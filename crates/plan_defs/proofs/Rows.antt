@@ -12,7 +12,8 @@ use Rattle.refusal.specs.declared.Refusal.TheVariants.{Row}
 use Rattle.sheets.specs.Sheet.{row_place}
 use Rattle.plan_defs.specs.Case.{Case, row_from, rows_of, surveyed, row_at}
 use Rattle.plan_defs.specs.Accept.{case_fault}
-use Rattle.plan_defs.specs.Listing.{bits_of, listing_of}
+use Rattle.plan_defs.specs.Listing.{bits_of}
+use Rattle.plan_defs.proofs.Unfolded.{whole_plan}
 
 -- a corridor's row at a level is at its place in the sheet
 pub row_from_lem : (m n : ℕ) (sheet : List Float) (k l : ℕ) → k < m → l < n → rows_of m n sheet k l ≡ row_from sheet (row_place m k l)
@@ -38,12 +39,12 @@ laid_out x₀ x₁ x₂ x₃ x₄ x₅ =
 pub rows_by_level :
     map (λ k. map (λ l. bits_of (row_at (laid_out 1 2 3 4 5 6) k l).x) (0 ∷ 1 ∷ 2 ∷ [])) (0 ∷ 1 ∷ [])
     ≡ map (map (λ x. bits_of (whole x))) ((1 ∷ 3 ∷ 5 ∷ []) ∷ (2 ∷ 4 ∷ 6 ∷ []) ∷ [])
-unfolding listing_of
+unfolding whole_plan
 rows_by_level = refl
 
 -- The second row is corridor 1's at level 0, the third corridor 0's at level 1: 7 has the index corridor × levels + level, and of both the lower.
 pub refused_by_corridor :
     case_fault (laid_out 1 0 3 4 5 6) 0 ∷ case_fault (laid_out 1 2 0 4 5 6) 0 ∷ case_fault (laid_out 1 0 0 4 5 6) 0 ∷ []
     ≡ some (Row 3) ∷ some (Row 1) ∷ some (Row 1) ∷ []
-unfolding listing_of
+unfolding whole_plan
 refused_by_corridor = refl

@@ -11,9 +11,7 @@ use Rattle.plan_defs.specs.Solve.{Peak, PlanningCase, planning_state}
 use Rattle.plan_defs.specs.Raise.{moved_buses}
 use Rattle.plan_defs.specs.Size.{Sizing, size_all}
 use Rattle.plan_defs.specs.Stiffen.{Stiffening, budget_of, stiffen_from, stiffen_all}
-use Rattle.plan_defs.specs.Rounds.{Draft, Turn, settles, stiffened_by, stiffened_to, stiffen_if, added_if, sized_by, solved_to, one_round, continue, rounds}
-use Rattle.plan_defs.specs.declared.RoundEnd.{RoundEnd}
-use Rattle.plan_defs.specs.declared.RoundEnd.TheVariants.{Again, Settled}
+use Rattle.plan_defs.specs.Rounds.{Draft, RoundEnd, Again, Settled, Turn, settles, stiffened_by, stiffened_to, stiffen_if, added_if, sized_by, solved_to, one_round, continue, rounds}
 use Rattle.plan_defs.proofs.Stages.{On, on_all, on_onward}
 
 pub record Told (s : Draft) (t : Turn) : Type 0 where

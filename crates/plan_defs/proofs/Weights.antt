@@ -11,6 +11,7 @@ use Rattle.mode.specs.declared.PlanMode.TheVariants.{Expand, Observe}
 use Rattle.plan_defs.specs.Case.{Case, surveyed}
 use Rattle.plan_defs.specs.Dispatch.{demand_of, injection_mw}
 use Rattle.plan_defs.specs.Listing.{bits_of, listing_of}
+use Rattle.plan_defs.proofs.Unfolded.{whole_plan}
 
 abbrev whole : ℕ → Float
 whole n = decimal n 1
@@ -33,7 +34,7 @@ pub weighed_once :
     ≡ (0x3FF8_0000_0000_0000 ∷ 0 ∷ 0xBFF8_0000_0000_0000 ∷ [])
     ∷ (0x3FD3_3333_3333_3334 ∷ 0 ∷ 0xBFD3_3333_3333_3334 ∷ [])
     ∷ []
-unfolding listing_of
+unfolding whole_plan
 weighed_once = refl
 
 -- 400 at a weight of 0.5 is planned as 200 at 1, and as 0.2 at 1,000: two circuits are added, and one more to the target.
@@ -42,7 +43,7 @@ pub planned_by_load :
     ≡ replicate 3
     ((0 ∷ 2 ∷ 1 ∷ 2 ∷ 0 ∷ 1 ∷ 0 ∷ 0 ∷ 0 ∷ 0 ∷ []) ∷ [] ∷ (0 ∷ []) ∷ (0 ∷ 0 ∷ []) ∷ (0 ∷ 0xBFA0_0000_0000_0000 ∷ []) ∷ (0x4069_0000_0000_0000 ∷ []) ∷ (4 ∷ [])
     ∷ (0x4069_0000_0000_0000 ∷ []) ∷ (0x4059_0000_0000_0000 ∷ []) ∷ (0x3FE0_0000_0000_0000 ∷ 0x3FA0_0000_0000_0000 ∷ []) ∷ [])
-unfolding listing_of
+unfolding whole_plan
 planned_by_load = refl
 
 -- A refusal's number and index; of an answer, PL with its mode.
@@ -54,7 +55,7 @@ pub bounds :
     map (λ (l : List ℕ). get_or l 0 9 ∷ [])
     (said thousand (one ∷ thousand ∷ []) ∷ said (of_bits binary64 0x8000_0000_0000_0000) (one ∷ one ∷ []) ∷ said (of_bits binary64 1) (one ∷ half ∷ []) ∷ [])
     ≡ replicate 3 (2 ∷ [])
-unfolding listing_of
+unfolding whole_plan
 bounds = refl
 
 -- 4 at bus 1: a product above 1e6; a reading above 1e6, below zero or a NaN; a weight of 0, of −0, below zero, above 1,000 or a NaN.
@@ -63,10 +64,10 @@ pub out_of_bounds :
     ∷ said hundred (one ∷ nought ∷ []) ∷ said hundred (one ∷ of_bits binary64 0x8000_0000_0000_0000 ∷ []) ∷ said nought (one ∷ of_bits binary64 0xBFF0_0000_0000_0000 ∷ [])
     ∷ said one (one ∷ whole 1001 ∷ []) ∷ said hundred (one ∷ nan ∷ []) ∷ []
     ≡ replicate 9 (4 ∷ 1 ∷ [])
-unfolding listing_of
+unfolding whole_plan
 out_of_bounds = refl
 
 -- 1: a weight too few
 pub weight_missing : said hundred (one ∷ []) ≡ 1 ∷ 0 ∷ []
-unfolding listing_of
+unfolding whole_plan
 weight_missing = refl

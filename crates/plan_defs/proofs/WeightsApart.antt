@@ -13,8 +13,9 @@ use Rattle.plan_defs.specs.Case.{Case, surveyed}
 use Rattle.plan_defs.specs.Accept.{case_fault}
 use Rattle.plan_defs.specs.Dispatch.{demand_of, injection_mw}
 use Rattle.plan_defs.specs.Design.{bank_for}
-use Rattle.plan_defs.specs.Listing.{bits_of, listing_of}
+use Rattle.plan_defs.specs.Listing.{bits_of}
 use Rattle.plan_defs.proofs.ExamplesApart.{refusal_of}
+use Rattle.plan_defs.proofs.Unfolded.{whole_plan}
 
 abbrev whole : ℕ → Float
 whole n = decimal n 1
@@ -37,14 +38,14 @@ pub weighed_once :
     ≡ (0x3FF8_0000_0000_0000 ∷ bits_of hundred ∷ 0 ∷ 0xBFF8_0000_0000_0000 ∷ [])
     ∷ (0x3FD3_3333_3333_3334 ∷ bits_of hundred ∷ 0 ∷ 0xBFD3_3333_3333_3334 ∷ [])
     ∷ []
-unfolding listing_of
+unfolding whole_plan
 weighed_once = refl
 
 -- 400 at a weight of 0.5, and 0.2 at 1,000, are 200 at 1.
 pub drawn_by_load :
     drawn (whole 400) half ∷ drawn (decimal 1 5) thousand ∷ drawn (whole 200) one ∷ []
     ≡ replicate 3 (0x4069_0000_0000_0000 ∷ 0x406E_0000_0000_0000 ∷ 0 ∷ 0xC069_0000_0000_0000 ∷ [])
-unfolding listing_of
+unfolding whole_plan
 drawn_by_load = refl
 
 abbrev said : Float → List Float → List ℕ
@@ -54,7 +55,7 @@ said reading weight = refusal_of (case_fault (read Observe reading weight) 0)
 pub bounds :
     said thousand (one ∷ thousand ∷ []) ∷ said (of_bits binary64 0x8000_0000_0000_0000) (one ∷ one ∷ []) ∷ said (of_bits binary64 1) (one ∷ half ∷ []) ∷ []
     ≡ replicate 3 []
-unfolding listing_of
+unfolding whole_plan
 bounds = refl
 
 -- 4 at bus 1: a product above 1e6; a reading above 1e6, below zero or a NaN; a weight of 0, of −0, below zero, above 1,000 or a NaN.
@@ -63,10 +64,10 @@ pub out_of_bounds :
     ∷ said hundred (one ∷ nought ∷ []) ∷ said hundred (one ∷ of_bits binary64 0x8000_0000_0000_0000 ∷ []) ∷ said nought (one ∷ of_bits binary64 0xBFF0_0000_0000_0000 ∷ [])
     ∷ said one (one ∷ whole 1001 ∷ []) ∷ said hundred (one ∷ nan ∷ []) ∷ []
     ≡ replicate 9 (4 ∷ 1 ∷ [])
-unfolding listing_of
+unfolding whole_plan
 out_of_bounds = refl
 
 -- 1: a weight too few
 pub weight_missing : said hundred (one ∷ []) ≡ 1 ∷ 0 ∷ []
-unfolding listing_of
+unfolding whole_plan
 weight_missing = refl

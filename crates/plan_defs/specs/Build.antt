@@ -1,10 +1,10 @@
 -- What sizing and stiffening change: the circuits, the designs, the least banks (`bank_floor`) and which corridors got a larger bank.
 use Rattle.std.specs.Prelude.{ℕ, Bool, cond, ◌&&◌, List, get_or, set, Float}
 use Rattle.std.specs.Float.Ieee.{lt}
-use Rattle.loops.specs.Figures.{at, lesser}
+use Rattle.loops.specs.Figures.{at}
 use Rattle.loops.specs.Loops.{tab}
-use Rattle.plan_defs.specs.Case.{Case, to_of}
-use Rattle.plan_defs.specs.Design.{design, drawn, line_at, bank_for, set_transformer_mva, redesign}
+use Rattle.plan_defs.specs.Case.{Case}
+use Rattle.plan_defs.specs.Design.{design, drawn, design_at, set_transformer_mva, kept_bank, redesign}
 use Rattle.plan_defs.specs.declared.CircuitDesign.{CircuitDesign}
 
 pub record Build : Type 0 where
@@ -42,18 +42,16 @@ rebuilt c level s = built s.circuits (redesign c level s.floors) s.floors s.upsi
 unfoldable pub drawn_all : Case → List ℕ → List Float → List CircuitDesign
 drawn_all c level banks = tab c.corridors (λ k. drawn c level k (at banks k))
 
--- the banks of a new design, and those of a redesign: the larger of the new bank and what is kept of the floor
-unfoldable pub fresh_banks : Case → List ℕ → List Float
-fresh_banks c level = tab c.corridors (λ k. bank_for c level (to_of c level k))
+-- the bank that is kept of a design. Where it has none its line's rate stands there, which no design reads
+abbrev pub bank_of : CircuitDesign → Float
+bank_of d = cond d.is_transformer d.transformer_mva d.line_rate
 
-abbrev pub kept_mva : Float → Float → Float
-kept_mva fresh keep = cond (lt fresh keep) keep fresh
+-- of corridor k designed anew, and of all: those of `redesign`
+unfoldable pub bank_anew : Case → List ℕ → List Float → ℕ → Float
+bank_anew c level floors k = bank_of (kept_bank (design_at c level k) (at floors k))
 
-abbrev pub kept_for : Case → List ℕ → List Float → ℕ → Float
-kept_for c level floors k = kept_mva (bank_for c level (to_of c level k)) (lesser (at floors k) (line_at c level k).line_rate)
-
-unfoldable pub kept_banks : Case → List ℕ → List Float → List Float
-kept_banks c level floors = tab c.corridors (kept_for c level floors)
+unfoldable pub banks_anew : Case → List ℕ → List Float → List Float
+banks_anew c level floors = tab c.corridors (bank_anew c level floors)
 
 abbrev pub build_of : Case → List ℕ → List ℕ → List Float → List Float → List ℕ → Build
 build_of c level circuits banks floors upsized = built circuits (drawn_all c level banks) floors upsized

@@ -178,13 +178,20 @@ own_or (suc own) usual = suc own
 abbrev pub own_cap : Case → ℕ → ℕ
 own_cap c k = get_or c.cap k 0
 
--- by the corridors' own caps, the most that stiffening and filling give corridor k
-abbrev pub full_of : List ℕ → ℕ → ℕ
-full_of cap k = own_or (get_or cap k 0) max_circuits_per_corridor
+-- seam: by its own cap, the cap of a corridor at a kV, for sizing and the closing count; and the most that stiffening and filling give it
+abbrev pub cap_by : PlanMode → ℕ → Float → ℕ
+cap_by mode own kv = own_or own (circuit_cap (promote mode) kv)
 
--- seam: the cap of corridor k at a kV, for sizing and the closing count; and the most that stiffening and filling give it
+abbrev pub full_by : ℕ → ℕ
+full_by own = own_or own max_circuits_per_corridor
+
+-- by the corridors' own caps, the most that corridor k is given
+abbrev pub full_of : List ℕ → ℕ → ℕ
+full_of cap k = full_by (get_or cap k 0)
+
+-- of corridor k of a case
 unfoldable pub cap_at : Case → ℕ → Float → ℕ
-cap_at c k kv = own_or (own_cap c k) (circuit_cap (promote c.mode) kv)
+cap_at c k kv = cap_by c.mode (own_cap c k) kv
 
 unfoldable pub full_at : Case → ℕ → ℕ
 full_at c k = full_of c.cap k

@@ -1,6 +1,6 @@
 -- Filling ("3. Fill to the requested branch count" of `plan_corridors`): the order, by the loading before filling, and then round and round it,
 -- a circuit to each corridor that has fewer than its own cap, or than 4 where it has none, up to the target.
-use Rattle.std.specs.Prelude.{ℕ, zero, suc, ◌+◌, ◌%◌, Bool, true, false, ◌&&◌, ◌||◌, List, [], ◌∷◌, ltb, length, get_or, set, Float}
+use Rattle.std.specs.Prelude.{ℕ, zero, suc, ◌+◌, Bool, true, false, ◌&&◌, ◌||◌, List, [], ◌∷◌, ltb, get_or, set, Float}
 use Rattle.std.specs.Float.Ieee.{lt, eq}
 use Rattle.loops.specs.Figures.{at, float, times, over, magnitude}
 use Rattle.loops.specs.Loops.{iter}
@@ -95,39 +95,3 @@ filled_if false full target order s = s
 -- seam: the filling
 unfoldable pub fill : Case → ℕ → List ℕ → List ℕ → Filled
 fill c target order counts = filled_if (promote c.mode) (full_at c) target order (unfilled counts)
-
--- ---- the same as the Rust goes: a cursor that runs round the order, and how many corridors in a row had no room.
--- It stops at the target or after a whole idle turn. plan_theorems shows that it fills the same.
-pub record Cursor : Type 0 where
-  pub filled : Filled
-  pub cursor : ℕ
-  pub idle : ℕ
-
-abbrev pub cursor_at : Filled → ℕ → ℕ → Cursor
-cursor_at filled cursor idle = record { filled = filled; cursor = cursor; idle = idle }
-
-abbrev pub runs : ℕ → ℕ → Cursor → Bool
-runs target places s = ltb s.filled.total target && ltb s.idle places
-
-abbrev pub advance_if : Bool → ℕ → Cursor → Cursor
-advance_if true k s = cursor_at (fill_if true k s.filled) (s.cursor + 1) 0
-advance_if false k s = cursor_at s.filled (s.cursor + 1) (s.idle + 1)
-
-abbrev pub advance_to : (ℕ → ℕ) → ℕ → Cursor → Cursor
-advance_to full k s = advance_if (below_full full k s.filled) k s
-
--- the remainder is by the order's length, as long as there is one
-unfoldable pub advance : (ℕ → ℕ) → List ℕ → Cursor → Cursor
-advance full order s = advance_to full (get_or order (s.cursor % length order) 0) s
-
-abbrev pub cursor_if : Bool → (ℕ → ℕ) → List ℕ → Cursor → Cursor
-cursor_if true full order s = advance full order s
-cursor_if false full order s = s
-
-unfoldable pub cursor_step : (ℕ → ℕ) → ℕ → List ℕ → Cursor → Cursor
-cursor_step full target order s = cursor_if (runs target (length order) s) full order s
-
--- so many steps of the loop, those past its end doing nothing
-unfoldable pub cursor_run : ℕ → (ℕ → ℕ) → ℕ → List ℕ → Cursor → Cursor
-cursor_run zero full target order s = s
-cursor_run (suc d) full target order s = cursor_run d full target order (cursor_step full target order s)

@@ -9,8 +9,6 @@ use Rattle.plan_defs.specs.Raise.{raised_levels, moved_buses}
 use Rattle.plan_defs.specs.Build.{Build, rebuilt}
 use Rattle.plan_defs.specs.Size.{Sizing, size_all}
 use Rattle.plan_defs.specs.Stiffen.{Budget, Stiffening, budget_of, stiffen_from, stiffen_all}
-use Rattle.plan_defs.specs.declared.RoundEnd.{RoundEnd}
-use Rattle.plan_defs.specs.declared.RoundEnd.TheVariants.{Again, Settled}
 
 pub record Draft : Type 0 where
   pub level : List ℕ
@@ -38,6 +36,11 @@ draft level build warm rounds promoted capacity stiffening converged settled =
       converged = converged;
       settled = settled;
     }
+
+-- what a round leads to
+pub data RoundEnd : Type 0 where
+  Again : RoundEnd
+  Settled : RoundEnd
 
 -- what a round leaves, and what it leads to
 pub record Turn : Type 0 where

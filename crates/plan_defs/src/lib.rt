@@ -46,13 +46,6 @@ pub struct CircuitDesign {
     pub rate_spread: f64,
 }
 
-// What a sizing round leads to: two words of the definition (specs/Rounds), of which neither holds a value. No code makes one.
-#[derive(Clone, Copy)]
-pub enum RoundEnd {
-    Again,
-    Settled,
-}
-
 // What planning says of a plan; the rest of it is in the slices that planning is lent. Document 01's PL and MX, and how many
 // grounds and added levels there are.
 #[derive(Clone, Copy)]

@@ -19,10 +19,11 @@ use Rattle.loops.proofs.Bools.{both}
 use Rattle.plan_defs.specs.Lists.{each}
 use Rattle.plan_defs.specs.Constants.{max_circuits_per_corridor, most_cap}
 use Rattle.plan_defs.specs.Case.{Case, promote, own_cap, full_at}
-use Rattle.plan_defs.specs.Fill.{Filled, unfilled, fill_if, fill_at, below_full, room, fill_once, fill_rounds, fill_turns, Cursor, cursor_at, runs, advance_if, advance, cursor_if, cursor_step, cursor_run, filled_if, fill, Rank, rank_at, rank_next, before, placed_rank, insert_rank, corridors_in, order_of}
+use Rattle.plan_defs.specs.Fill.{Filled, unfilled, fill_if, fill_at, below_full, room, fill_once, fill_rounds, fill_turns, filled_if, fill, Rank, rank_at, rank_next, before, placed_rank, insert_rank, corridors_in, order_of}
 use Rattle.plan_defs.specs.declared.CircuitDesign.{CircuitDesign}
 use Rattle.plan_defs.proofs.Lists.{each_places}
 use Rattle.plan_defs.proofs.Accepted.{own_few}
+use Rattle.plan_theorems.specs.Cursor.{Cursor, cursor_at, runs, advance_if, advance, cursor_if, cursor_step, cursor_run}
 use Rattle.plan_theorems.proofs.Filling.{rounds_grown, Ends, reached, unreached, fills, all_full}
 use Rattle.plan_theorems.proofs.Ranking.{order_once}
 

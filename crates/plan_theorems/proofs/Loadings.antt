@@ -131,12 +131,12 @@ module _ (c : Case) (target : ℕ) (ok : Accepted c target) (level : List ℕ) (
       let u = both (inside nought ten_thousand (at c.km k)) _ q.1 in
       (u.0, (both (inside half one (at c.share k)) _ u.1).0)
 
-  rate_by : (b : Bool) (a : Float) → lt a transformer_min_mva ≡ false → inside low_rate high_rate (banked_by b (line_at c level k) a).rate_a ≡ true
+  rate_by : (b : Bool) (a : Float) → (b ≡ true → lt a transformer_min_mva ≡ false) → inside low_rate high_rate (banked_by b (line_at c level k) a).rate_a ≡ true
   unfolding set_transformer_mva with_bank line_at line_of
   rate_by true a e =
       let B = bounds_positive in
       inside_times thousandth million (bank_rate a (row_at c k (level_of c level k)).rate) half one (at c.share k) B.0 B.1 B.2 B.3
-      (bank_inside a (row_at c k (level_of c level k)).rate e sheet_rate) spans.1
+      (bank_inside a (row_at c k (level_of c level k)).rate (e refl) sheet_rate) spans.1
   rate_by false a e =
       let B = bounds_positive in
       inside_times thousandth million (row_at c k (level_of c level k)).rate half one (at c.share k) B.0 B.1 B.2 B.3 sheet_rate spans.1
@@ -146,7 +146,7 @@ module _ (c : Case) (target : ℕ) (ok : Accepted c target) (level : List ℕ) (
   km_by true a = refl
   km_by false a = refl
 
-  drawn_rate : (a : Float) → lt a transformer_min_mva ≡ false → inside low_rate high_rate (drawn c level k a).rate_a ≡ true
+  drawn_rate : (a : Float) → (steps_down c level k ≡ true → lt a transformer_min_mva ≡ false) → inside low_rate high_rate (drawn c level k a).rate_a ≡ true
   unfolding drawn
   drawn_rate a e = rate_by (steps_down c level k) a e
 

@@ -23,7 +23,8 @@ use Rattle.placement_defs.specs.Support.{farther, farthest_to, if_far, next_by, 
 use Rattle.plan_defs.specs.Case.{Case, surveyed, promote, circuit_cap}
 use Rattle.plan_defs.specs.Raise.{no_marks, mark_ends, raised_levels}
 use Rattle.plan_defs.specs.Plan.{Ending, unaccepted, unanswered, planned, ending_of}
-use Rattle.plan_defs.specs.Listing.{bits_of, listing_of}
+use Rattle.plan_defs.specs.Listing.{bits_of}
+use Rattle.plan_defs.proofs.Unfolded.{whole_plan}
 
 abbrev whole : ℕ → Float
 whole n = decimal n 1
@@ -80,7 +81,7 @@ remote km mw =
     (placement (request_of 3 2 1 (nought ∷ nought ∷ whole mw ∷ []) (replicate 3 one) (0 ∷ 1 ∷ []) (1 ∷ 2 ∷ []) (whole km ∷ whole km ∷ []) (0 ∷ [])) (replicate 3 0) (replicate 3 nought))
 
 unfoldable pub tally : List (List ℕ)
-unfolding listing_of first tab first_load first_generator first_corridor check_of seeded offered considered nearer nearest_to settle spread turn searched distances_from farther farthest_to if_far next_by next_of join join_next joined served_to mvar_of sized flagged sites_by placed answer_to placement
+unfolding whole_plan first tab first_load first_generator first_corridor check_of seeded offered considered nearer nearest_to settle spread turn searched distances_from farther farthest_to if_far next_by next_of join join_next joined served_to mvar_of sized flagged sites_by placed answer_to placement
 tally =
     -- ★1
     bits (root (decimal 1 4) ∷ root (of_bits binary64 1) ∷ [])

@@ -9,7 +9,7 @@ use lib.Ieee.{Float}
 use lib.ListN.{length}
 use Rattle.loops.specs.Sorting.{occ}
 use Rattle.plan_defs.specs.Constants.{max_circuits_per_corridor}
-use Rattle.plan_defs.specs.Case.{Case, promote, circuit_cap, own_or, own_cap, cap_at, full_at}
+use Rattle.plan_defs.specs.Case.{Case, promote, circuit_cap, own_cap, cap_by, full_by, cap_at, full_at}
 use Rattle.plan_defs.specs.Fill.{Filled, unfilled, fill_rounds, filled_if, fill}
 use Rattle.plan_theorems.proofs.Filling.{turns_enough}
 
@@ -34,16 +34,16 @@ pub uncapped : (c : Case) → ((k : ℕ) → own_cap c k ≡ 0) → Uncapped c
 unfolding cap_at full_at fill
 uncapped c none =
     record {
-      sizing = λ k kv. ap (λ (own : ℕ). own_or own (circuit_cap (promote c.mode) kv)) (none k);
-      stiffening = λ k. ap (λ (own : ℕ). own_or own max_circuits_per_corridor) (none k);
+      sizing = λ k kv. ap (λ (own : ℕ). cap_by c.mode own kv) (none k);
+      stiffening = λ k. ap (λ (own : ℕ). full_by own) (none k);
       filling = λ target order counts size named. by target order counts size named (promote c.mode);
     }
   where
-    full_is : (λ (k : ℕ). own_or (own_cap c k) max_circuits_per_corridor) ≡ usual
-    full_is = fun_ext (λ k. ap (λ (own : ℕ). own_or own max_circuits_per_corridor) (none k))
+    full_is : (λ (k : ℕ). full_by (own_cap c k)) ≡ usual
+    full_is = fun_ext (λ k. ap (λ (own : ℕ). full_by own) (none k))
 
     by : (target : ℕ) (order counts : List ℕ) → length counts ≡ c.corridors → ((k : ℕ) → k < c.corridors → occ k order ≡ 1) → (b : Bool)
-        → filled_if b (λ k. own_or (own_cap c k) max_circuits_per_corridor) target order (unfilled counts) ≡ usual_if b target order (unfilled counts)
+        → filled_if b (λ k. full_by (own_cap c k)) target order (unfilled counts) ≡ usual_if b target order (unfilled counts)
     by target order counts size named false = refl
     by target order counts size named true =
         ap (λ (full : ℕ → ℕ). filled_if true full target order (unfilled counts)) full_is

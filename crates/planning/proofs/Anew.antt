@@ -10,9 +10,10 @@ use Rattle.loops.proofs.Places.{tab_read}
 use Rattle.impedance.specs.Impedance.{rating_ok}
 use Rattle.plan_defs.specs.Case.{Case, to_of}
 use Rattle.plan_defs.specs.Design.{drawn, kept_bank, fresh_bank, bank_for, gen_at_bus, transformer_corridors, design_at}
+use Rattle.plan_defs.specs.Build.{bank_of, bank_anew, banks_anew}
 use Rattle.plan_defs.specs.declared.CircuitDesign.{CircuitDesign}
 use Rattle.planning.specs.Design.{lines_for, ends_for, ends_of, Lines, Banks}
-use Rattle.planning.specs.Redesign.{units_for, redesign_for, anew_from, bank_of, fresh_at, bank_anew, banks_anew}
+use Rattle.planning.specs.Redesign.{units_for, redesign_for, anew_from, fresh_at}
 use Rattle.planning.specs.declared.design.Ends.{Ends}
 use Rattle.planning.proofs.Lists.{sum_most, count_most}
 use Rattle.planning.proofs.Draws.{ends_fit, to_below, drawn_lifts}

@@ -9,7 +9,7 @@ use Rattle.loops.proofs.Tab.{length_tab, get_tab, tab_of, tab_same}
 use Rattle.mode.specs.declared.PlanMode.{PlanMode}
 use Rattle.plan_defs.specs.Constants.{loading_tolerance}
 use Rattle.plan_defs.specs.Lists.{keep, pass_from, counting, each}
-use Rattle.plan_defs.specs.Case.{cap_at, own_or, circuit_cap, promote}
+use Rattle.plan_defs.specs.Case.{cap_by, cap_at}
 use Rattle.plan_defs.specs.Components.{within, leads, members}
 use Rattle.plan_defs.specs.Design.{drawn, design}
 use Rattle.plan_defs.specs.Build.{drawn_all}
@@ -117,11 +117,11 @@ module _ (mode : PlanMode) (grid : GridColumns) (level : List ℕ) (banks : List
   capped_in = capped_at (corridors_of mode (length grid.a) grid.cap) ds circuits flow
 
   pub capped_is : (k full : ℕ) (d : CircuitDesign) → k < length grid.a → d ≡ drawn (lines_for grid) level k (at banks k)
-      → full ≡ own_or (get_or grid.cap k 0) (circuit_cap (promote mode) d.kv) → cap_full mode full (get_or circuits k 0) (at flow k) d.rate_a ≡ capped_in k
+      → full ≡ cap_by mode (get_or grid.cap k 0) d.kv → cap_full mode full (get_or circuits k 0) (at flow k) d.rate_a ≡ capped_in k
   unfolding cap_at
   capped_is k full d h e g =
       ap (λ (n : ℕ). cap_full mode n (get_or circuits k 0) (at flow k) d.rate_a) g
-      ∙ ap (λ (x : CircuitDesign). cap_full mode (own_or (get_or grid.cap k 0) (circuit_cap (promote mode) x.kv)) (get_or circuits k 0) (at flow k) x.rate_a)
+      ∙ ap (λ (x : CircuitDesign). cap_full mode (cap_by mode (get_or grid.cap k 0) x.kv) (get_or circuits k 0) (at flow k) x.rate_a)
       (drawn_here grid level banks k d h e)
 
 -- ---- levels

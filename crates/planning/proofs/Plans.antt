@@ -10,7 +10,7 @@ use Rattle.plan_defs.specs.Constants.{planning_max_rounds}
 use Rattle.plan_defs.specs.Stage.{Stage, stopped, going, onward}
 use Rattle.plan_defs.specs.Case.{Case, expand, lower_bounds, first_levels}
 use Rattle.plan_defs.specs.Design.{redesign, design_circuits}
-use Rattle.plan_defs.specs.Build.{drawn_all}
+use Rattle.plan_defs.specs.Build.{drawn_all, banks_anew}
 use Rattle.plan_defs.specs.Solve.{Peak, PlanningCase, planning_state}
 use Rattle.plan_defs.specs.Raise.{Raised, raises}
 use Rattle.plan_defs.specs.Rounds.{Draft, rounds, round_budget, all_rounds}
@@ -19,9 +19,10 @@ use Rattle.plan_defs.specs.Plan.{Plan, Opened, Ready, first_raised, first_draft,
 use Rattle.plan_defs.specs.Outcome.{summary}
 use Rattle.plan_defs.specs.declared.CircuitDesign.{CircuitDesign}
 use Rattle.plan_defs.proofs.Stages.{On}
+use Rattle.plan_defs.proofs.Drawn.{redesign_is}
 use Rattle.plan_defs.proofs.Rising.{risen_first}
 use Rattle.planning.specs.Design.{Lines}
-use Rattle.planning.specs.Redesign.{redesign_for, banks_anew}
+use Rattle.planning.specs.Redesign.{redesign_for}
 use Rattle.planning.specs.Solve.{peak_for}
 use Rattle.planning.specs.Raises.{raised_of, raised_as, RaisesDone}
 use Rattle.planning.specs.Rounds.{rounds_case, draft_of, ran_as, RoundsRun}
@@ -33,7 +34,7 @@ use Rattle.planning.specs.declared.fill.Kept.{Kept}
 use Rattle.planning.specs.declared.plan.PlanRun.{PlanRun}
 use Rattle.planning.specs.declared.settle.Settling.{Settling}
 use Rattle.planning.proofs.Supplies.{supplied}
-use Rattle.planning.proofs.Redesigns.{redesign_is, banks_lift, first_design}
+use Rattle.planning.proofs.Redesigns.{banks_lift, first_design}
 use Rattle.std.specs.Prelude.{Err, Ok, Result}
 use Rattle.planning.specs.Tables.{GridColumns, OpenedColumns, SupplyColumns, grid_of}
 

@@ -13,10 +13,10 @@ use Rattle.impedance.specs.Impedance.{rating_ok}
 use Rattle.plan_defs.specs.Constants.{transformer_headroom, transformer_min_mva}
 use Rattle.plan_defs.specs.Case.{Row, from_of, level_of, row_at}
 use Rattle.plan_defs.specs.Design.{line_of, line_at, with_bank, set_transformer_mva, banked_by, steps_down, drawn, kept_by, kept_bank, fresh_bank}
+use Rattle.plan_defs.specs.Build.{bank_of}
 use Rattle.plan_defs.specs.declared.CircuitDesign.{CircuitDesign}
 use Rattle.plan_defs.proofs.Rows.{row_from_lem}
 use Rattle.planning.specs.Design.{lines_for, Lines, Rated}
-use Rattle.planning.specs.Redesign.{bank_of}
 use Rattle.planning.proofs.Draws.{ends_fit, from_below}
 use Rattle.planning.specs.Tables.{GridColumns}
 

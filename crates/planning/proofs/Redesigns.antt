@@ -1,21 +1,20 @@
--- A redesign of a whole case is the banks anew; so is the state after it, and the first design. And the banks anew of the columns are those of the case.
--- A bank drawn again gives the design that it was taken from; a floor of zero keeps nothing.
+-- The banks anew of the columns are those of the case; and its first design is a redesign with floors of zero, which keep nothing.
 use Rattle.std.proofs.Common.{◌≡◌, ℕ, ◌*◌, ◌<◌, ◌≤◌, Bool, true, false, cond, ◌&&◌, T, eqb, List, length, get_or, sym, refl, ap, ◌∙◌, subst, zero-mul, arith, le-ltb}
 use lib.ListN.{get_or-replicate}
 use lib.Ieee.{Float, nan, inf, fin, up, down, lt, of_bits}
 use lib.Ieee.Positive.{positive}
-use Rattle.loops.specs.Figures.{at, nought, lesser}
+use Rattle.loops.specs.Figures.{at, nought}
 use Rattle.loops.specs.Loops.{tab}
-use Rattle.loops.proofs.Tab.{get_tab, tab_same}
+use Rattle.loops.proofs.Tab.{tab_same}
 use Rattle.impedance.specs.Impedance.{rating_ok}
 use Rattle.angles_defs.specs.Network.{zeros}
 use Rattle.plan_defs.specs.Lists.{passing, counting, sum_over}
 use Rattle.plan_defs.specs.Case.{Case, levels, to_of}
-use Rattle.plan_defs.specs.Design.{line_of, line_at, with_bank, set_transformer_mva, banked_by, steps_down, drawn, kept_by, kept_to, kept_bank, fresh_bank, bank_for, gen_at_bus, transformer_corridors, design_at, design_circuits, redesign}
-use Rattle.plan_defs.specs.Build.{built, build_of, drawn_all, rebuilt}
+use Rattle.plan_defs.specs.Design.{steps_down, drawn, kept_by, kept_to, kept_bank, fresh_bank, bank_for, gen_at_bus, transformer_corridors, design_at, design_circuits, redesign}
+use Rattle.plan_defs.specs.Build.{bank_of, bank_anew, banks_anew}
 use Rattle.plan_defs.specs.declared.CircuitDesign.{CircuitDesign}
 use Rattle.planning.specs.Design.{Lines, Rated}
-use Rattle.planning.specs.Redesign.{redesign_for, bank_of, bank_anew, banks_anew}
+use Rattle.planning.specs.Redesign.{redesign_for}
 use Rattle.planning.proofs.Draws.{Laid, drawn_lifts}
 use Rattle.planning.proofs.Ratings.{rating_positive, drawn_rated}
 use Rattle.planning.proofs.Anew.{fresh_ok, fresh_defined}
@@ -38,38 +37,6 @@ unkept d r = ap (λ (t : Bool). kept_to d (cond t d.line_rate nought)) (not_belo
         ap (λ (x : Bool). kept_by (d.is_transformer && x) d nought) (not_below d.transformer_mva (rating_positive d.transformer_mva (r.bank e)))
         ∙ ap (λ (x : Bool). kept_by (x && false) d nought) e
     go false e = ap (λ (x : Bool). kept_by (x && lt d.transformer_mva nought) d nought) e
-
-module _ (c : Case) (level : List ℕ) where
-  -- ---- a bank drawn again
-  again_by : (k : ℕ) (t : Bool) (mva floor : Float)
-      → banked_by t (line_at c level k) (bank_of (kept_bank (banked_by t (line_at c level k) mva) floor)) ≡ kept_bank (banked_by t (line_at c level k) mva) floor
-  unfolding set_transformer_mva with_bank line_at line_of
-  again_by k false mva floor = refl
-  again_by k true mva floor = go (lt mva (lesser floor (line_at c level k).line_rate))
-    where
-      keep : Float
-      keep = lesser floor (line_at c level k).line_rate
-
-      go : (t : Bool)
-          → set_transformer_mva (line_at c level k) (bank_of (kept_by t (set_transformer_mva (line_at c level k) mva) keep)) ≡ kept_by t (set_transformer_mva (line_at c level k) mva) keep
-      go true = refl
-      go false = refl
-
-  anew_at : (floors : List Float) (k : ℕ) → kept_bank (design_at c level k) (at floors k) ≡ drawn c level k (bank_anew c level floors k)
-  unfolding design_at drawn bank_anew
-  anew_at floors k = sym (again_by k (steps_down c level k) (bank_for c level (to_of c level k)) (at floors k))
-
-  pub redesign_is : (floors : List Float) → redesign c level floors ≡ drawn_all c level (banks_anew c level floors)
-  unfolding redesign drawn_all banks_anew
-  redesign_is floors =
-      tab_same c.corridors _ _
-      (λ k h. anew_at floors k ∙ ap (drawn c level k) (sym (get_tab c.corridors (bank_anew c level floors) k nan h)))
-
-  -- after a raise, from any levels
-  pub rebuilt_is : (before circuits : List ℕ) (banks floors : List Float) (upsized : List ℕ)
-      → rebuilt c level (build_of c before circuits banks floors upsized) ≡ build_of c level circuits (banks_anew c level floors) floors upsized
-  unfolding rebuilt
-  rebuilt_is before circuits banks floors upsized = ap (λ (ds : List CircuitDesign). built circuits ds floors upsized) (redesign_is floors)
 
 -- ---- what a redesign reads of the case
 module _ (c : Case) (sheet : List Float) (laid : Laid c sheet) (level : List ℕ) (m : length c.a ≡ c.corridors) (g : length c.bus ≡ c.generators) (l : length c.ladder ≡ levels c) where

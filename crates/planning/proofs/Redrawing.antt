@@ -2,8 +2,9 @@
 use Rattle.std.proofs.Common.{◌≡◌, ℕ, ◌<◌, ◌≤◌, List, length, sym, refl, ap, ◌∙◌, subst, arith}
 use lib.Ieee.{Float}
 use Rattle.plan_defs.specs.Raise.{raised_levels, moved_buses}
+use Rattle.plan_defs.specs.Build.{banks_anew}
 use Rattle.planning.specs.Design.{Lines, Banks}
-use Rattle.planning.specs.Redesign.{redesign_for, banks_anew}
+use Rattle.planning.specs.Redesign.{redesign_for}
 use Rattle.planning.specs.Rounds.{Redrawn}
 use Rattle.planning.proofs.Marks.{moved_most, none_raised, lines_raised}
 use Rattle.planning.specs.Tables.{GridColumns, SupplyColumns}

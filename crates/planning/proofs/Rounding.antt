@@ -18,6 +18,7 @@ use Rattle.plan_defs.specs.Size.{Sizing, sizing, size_all}
 use Rattle.plan_defs.specs.Stiffen.{Budget, Stiffening, budget_of, hv_budget, share_of, stiffen_top, at_or_above, stiffen_from, stiffen_component, stiffen_all}
 use Rattle.plan_defs.specs.Rounds.{Draft, draft, Turn, stiffened_by, stiffened_to, stiffen_with, sized_to, one_round, continue, rounds}
 use Rattle.plan_defs.specs.declared.CircuitDesign.{CircuitDesign}
+use Rattle.plan_defs.proofs.Drawn.{rebuilt_is}
 use Rattle.planning.specs.Design.{lines_for}
 use Rattle.planning.specs.Size.{size_for, sizing_of, Few}
 use Rattle.planning.specs.Solve.{peak_for, solved_of}
@@ -32,7 +33,7 @@ use Rattle.planning.specs.declared.stiffen.Stiffness.{Stiffness}
 use Rattle.planning.specs.declared.rounds.Progress.{Progress}
 use Rattle.planning.proofs.Lists.{count_most}
 use Rattle.planning.proofs.Builds.{drawn_all_lifts}
-use Rattle.planning.proofs.Redesigns.{rebuilt_is, banks_lift}
+use Rattle.planning.proofs.Redesigns.{banks_lift}
 use Rattle.planning.proofs.States.{state_of}
 use Rattle.planning.proofs.Corridors.{left, left_end, size_lifts}
 use Rattle.planning.proofs.Stages.{stage_step, stage_end}
@@ -123,7 +124,7 @@ module _ (mode : PlanMode) (above : ℕ) (grid : GridColumns) (supply : SupplyCo
         let q = redrawn.anew m e in
         ap (λ (l : List ℕ). build_of (C o) l circuits banks' floors upsized) q.0
         ∙ ap (λ (x : List Float). build_of (C o) (raised_levels level marks) circuits x floors upsized) (q.1 ∙ banks_lift (C o) grid.sheet refl (raised_levels level marks) s.a_size s.bus_size s.ladder_size floors)
-        ∙ sym (rebuilt_is (C o) (raised_levels level marks) level circuits banks floors upsized)
+        ∙ sym (rebuilt_is (C o) (raised_levels level marks) circuits (drawn_all (C o) level banks) floors upsized)
 
   -- ---- a round: it begins with d + 1 left, and is solved
   module _ (level circuits : List ℕ) (banks floors : List Float) (upsized : List ℕ) (angle : List Float) (p : Progress) (W : Case → Stage Draft) (d' d : ℕ) (some : d' ≡ suc d)

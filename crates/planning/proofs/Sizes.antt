@@ -8,7 +8,7 @@ use lib.Ieee.{Float, lt}
 use Rattle.loops.proofs.Bools.{both}
 use Rattle.impedance.specs.Impedance.{rating_ok}
 use Rattle.mode.specs.declared.PlanMode.{PlanMode}
-use Rattle.plan_defs.specs.Case.{Case, promote, own_or, circuit_cap, cap_at}
+use Rattle.plan_defs.specs.Case.{Case, cap_by, cap_at}
 use Rattle.plan_defs.specs.Design.{design}
 use Rattle.plan_defs.specs.Build.{bank_below, set_count}
 use Rattle.plan_defs.specs.Raise.{top_of, mark_if}
@@ -110,7 +110,7 @@ module _ (mode : PlanMode) (level : List ℕ) (grid : GridColumns) (k : ℕ) (re
           few = λ f. f;
         }
 
-    pub grown_added : (most : ℕ) (circuits' : List ℕ) (t' : Tally) → raised ≡ false → most ≡ own_or (get_or grid.cap k 0) (circuit_cap (promote mode) d.kv) → most ≤ 6
+    pub grown_added : (most : ℕ) (circuits' : List ℕ) (t' : Tally) → raised ≡ false → most ≡ cap_by mode (get_or grid.cap k 0) d.kv → most ≤ 6
         → Adds most need k circuits t circuits' t'
         → Grows C level required k d circuits marks t circuits' marks' t'
     unfolding cap_at
@@ -120,7 +120,7 @@ module _ (mode : PlanMode) (level : List ℕ) (grid : GridColumns) (k : ℕ) (re
               let s = sized_of designs floors upsized circuits marks t in
               ap (λ (m : List ℕ). sized_of designs floors upsized circuits' m t') (pm ∙ ap (λ (x : Bool). mark_if x (pairs_for grid.a grid.b) level k marks) (sym pr ∙ r))
               ∙ q.sized designs floors upsized marks
-              ∙ ap (λ (n : ℕ). add_to n need k s) (pc ∙ ap (λ (x : CircuitDesign). own_or (get_or grid.cap k 0) (circuit_cap (promote mode) x.kv)) (sym e))
+              ∙ ap (λ (n : ℕ). add_to n need k s) (pc ∙ ap (λ (x : CircuitDesign). cap_by mode (get_or grid.cap k 0) x.kv) (sym e))
               ∙ ap (λ (x : Bool). raise_or_add x C level need k s) (sym r)
               ∙ raise_or_add_lem designs floors upsized e;
           bound = omega (arith, q.bound);

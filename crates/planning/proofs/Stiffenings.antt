@@ -7,7 +7,7 @@ use Rattle.loops.proofs.Bools.{both}
 use Rattle.impedance.specs.Impedance.{rating_ok}
 use Rattle.plan_defs.specs.Lists.{each}
 use Rattle.plan_defs.specs.Constants.{max_circuits_per_corridor, most_cap}
-use Rattle.plan_defs.specs.Case.{Case, levels, own_or, own_cap, full_at}
+use Rattle.plan_defs.specs.Case.{Case, levels, own_cap, full_by, full_at}
 use Rattle.plan_defs.specs.Design.{set_transformer_mva, drawn, design}
 use Rattle.plan_defs.specs.Build.{Build, built, build_of, set_bank, set_count, bank_below, drawn_all}
 use Rattle.plan_defs.specs.Raise.{mark_ends, mark_if}
@@ -43,7 +43,7 @@ stiff_same build marks total total' hv hv' stiffening stiffening' wide stiffened
 -- a corridor with room has fewer than six
 pub room_below : (g : Limits) (own count total : ℕ) (r : Bool) → own ≤ most_cap → r ≡ room_for g own count total → r ≡ true → count < 6
 room_below g own count total r h p e =
-    let full = own_or own max_circuits_per_corridor in
+    let full = full_by own in
     let w : count < full = ltb-true count full (both (ltb count full) (ltb total g.branches) (sym p ∙ e)).0 in
     omega (arith, own_few own max_circuits_per_corridor h (omega arith))
 

@@ -6,11 +6,11 @@ use Rattle.angles_defs.specs.Network.{zeros}
 use Rattle.plan_defs.specs.Constants.{most_buses, most_levels}
 use Rattle.plan_defs.specs.Case.{Case}
 use Rattle.plan_defs.specs.Stage.{Stage, stopped, going}
-use Rattle.plan_defs.specs.Build.{drawn_all}
+use Rattle.plan_defs.specs.Build.{drawn_all, banks_anew}
 use Rattle.plan_defs.specs.Solve.{Peak}
 use Rattle.plan_defs.specs.Raise.{Raised, heavy_marks, raised_levels, moved_buses, passes, raises}
 use Rattle.planning.specs.Design.{Lines, Banks}
-use Rattle.planning.specs.Redesign.{redesign_for, banks_anew, RedesignFits}
+use Rattle.planning.specs.Redesign.{redesign_for, RedesignFits}
 use Rattle.planning.specs.Size.{size_for}
 use Rattle.planning.specs.Solve.{peak_for, Drawing, Lent}
 use Rattle.planning.specs.Sound.{Sound}

@@ -1,12 +1,11 @@
--- What the contracts of module redesign cite: the columns that a redesign reads, as a case; what they must be; a corridor designed anew, and its bank.
-use Rattle.std.specs.Prelude.{◌≡◌, ℕ, ◌<◌, ◌≤◌, true, cond, List, [], length, slice_index, Float}
+-- What the contracts of module redesign cite: the columns that a redesign reads, as a case; what they must be; and a corridor designed anew.
+use Rattle.std.specs.Prelude.{◌≡◌, ℕ, ◌<◌, ◌≤◌, true, List, [], length, slice_index, Float}
 use Rattle.loops.specs.Figures.{at}
-use Rattle.loops.specs.Loops.{tab}
 use Rattle.mode.specs.declared.PlanMode.TheVariants.{Observe}
 use Rattle.impedance.specs.Impedance.{rating_ok}
 use Rattle.plan_defs.specs.Constants.{most_buses, most_corridors}
 use Rattle.plan_defs.specs.Case.{Case, case_of, to_of}
-use Rattle.plan_defs.specs.Design.{fresh_bank, drawn, design_at, kept_bank}
+use Rattle.plan_defs.specs.Design.{fresh_bank, drawn, kept_bank}
 use Rattle.plan_defs.specs.declared.CircuitDesign.{CircuitDesign}
 use Rattle.planning.specs.Design.{ends_for, Lines, EndsFit}
 use Rattle.planning.specs.Tables.{GridColumns, SupplyColumns}
@@ -32,17 +31,6 @@ anew_from c level mva floor k = kept_bank (drawn c level k mva) floor
 -- from what the units at each bus give and how many corridors step down to it
 unfoldable pub fresh_at : Case → List ℕ → List Float → List Float → List ℕ → ℕ → Float
 fresh_at c level load gens shared k = fresh_bank (at load (to_of c level k)) (at gens (to_of c level k)) (slice_index shared (to_of c level k))
-
--- ---- the bank that is kept of a design. Where it has none its line's rate stands there, which no design reads
-abbrev pub bank_of : CircuitDesign → Float
-bank_of d = cond d.is_transformer d.transformer_mva d.line_rate
-
--- of corridor k designed anew, and of all: those of `redesign`
-unfoldable pub bank_anew : Case → List ℕ → List Float → ℕ → Float
-bank_anew c level floors k = bank_of (kept_bank (design_at c level k) (at floors k))
-
-unfoldable pub banks_anew : Case → List ℕ → List Float → List Float
-banks_anew c level floors = tab c.corridors (bank_anew c level floors)
 
 -- what one corridor designed anew asks
 pub record AnewFits (grid : GridColumns) (level : List ℕ) (load gens : List Float) (shared : List ℕ) (floors : List Float) (k : ℕ) : Type 0 where

@@ -4,11 +4,11 @@ use Rattle.mode.specs.declared.PlanMode.{PlanMode}
 use Rattle.plan_defs.specs.Constants.{most_corridors, most_levels, planning_max_rounds}
 use Rattle.plan_defs.specs.Case.{Case}
 use Rattle.plan_defs.specs.Stage.{Stage, stopped, going}
-use Rattle.plan_defs.specs.Build.{build_of}
+use Rattle.plan_defs.specs.Build.{build_of, banks_anew}
 use Rattle.plan_defs.specs.Raise.{raised_levels, moved_buses}
 use Rattle.plan_defs.specs.Rounds.{Draft, draft, rounds}
 use Rattle.planning.specs.Design.{Lines, Banks}
-use Rattle.planning.specs.Redesign.{redesign_for, banks_anew}
+use Rattle.planning.specs.Redesign.{redesign_for}
 use Rattle.planning.specs.Size.{Few, Capped}
 use Rattle.planning.specs.Solve.{peak_for}
 use Rattle.planning.specs.Sound.{Sound}

@@ -4,9 +4,9 @@ use Rattle.std.specs.Float.Ieee.{lt}
 use Rattle.loops.specs.Figures.{at, nought}
 use Rattle.loops.specs.Loops.{iter}
 use Rattle.loops.specs.Sorting.{insert_by}
-use Rattle.plan_defs.specs.Constants.{most_corridors, max_circuits_per_corridor}
+use Rattle.plan_defs.specs.Constants.{most_corridors}
 use Rattle.plan_defs.specs.Lists.{each}
-use Rattle.plan_defs.specs.Case.{Case, levels, own_or}
+use Rattle.plan_defs.specs.Case.{Case, levels, full_by}
 use Rattle.plan_defs.specs.Raise.{can_raise}
 use Rattle.plan_defs.specs.Stage.{Stage, stopped, going}
 use Rattle.plan_defs.specs.Components.{leads, within, members}
@@ -106,7 +106,7 @@ abbrev pub raisable : Limits → ℕ → List ℕ → List ℕ → List ℕ → 
 raisable g hv level a b k = nat_lt hv g.hv && can_raise (pairs_for a b) level g.top k
 
 abbrev pub room_for : Limits → ℕ → ℕ → ℕ → Bool
-room_for g own count total = nat_lt count (own_or own max_circuits_per_corridor) && nat_lt total g.branches
+room_for g own count total = nat_lt count (full_by own) && nat_lt total g.branches
 
 -- so many circuits added, and so many buses that came to the top
 abbrev pub reckoned : ℕ → ℕ → Stiffness → Stiffness

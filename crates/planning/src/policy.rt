@@ -1,7 +1,7 @@
 // What a mode does, and how many circuits a corridor may hold (`circuit_cap` of planning.rs; document 02, K5).
 ghost use Rattle.std.specs.Prelude.{◌≡◌, ◌≤◌};
-ghost use Rattle.plan_defs.specs.Constants.{most_cap, max_circuits_per_corridor, subtransmission_max_circuits};
-ghost use Rattle.plan_defs.specs.Case.{expand, promote, tops_up, own_or, circuit_cap};
+ghost use Rattle.plan_defs.specs.Constants.{most_cap, subtransmission_max_circuits};
+ghost use Rattle.plan_defs.specs.Case.{expand, promote, tops_up, own_or, circuit_cap, cap_by, full_by};
 
 use mode::PlanMode;
 
@@ -56,7 +56,7 @@ fn own_or(own: u32, usual: u32) -> u32
 
 // The cap of a corridor at a kV, for sizing and the capped count.
 pub fn cap_at(mode: PlanMode, own: u32, kv: f64) -> u32
-    ensures cap { result ≡ own_or own (circuit_cap (promote mode) kv) }
+    ensures cap { result ≡ cap_by mode own kv }
     ensures few { own ≤ most_cap → result ≤ subtransmission_max_circuits }
 {
     own_or(own, circuit_cap(promotes(mode), kv))
@@ -64,7 +64,7 @@ pub fn cap_at(mode: PlanMode, own: u32, kv: f64) -> u32
 
 // The most circuits that stiffening and filling give a corridor.
 pub fn full_at(own: u32) -> u32
-    ensures { result ≡ own_or own max_circuits_per_corridor }
+    ensures { result ≡ full_by own }
 {
     own_or(own, MAX_CIRCUITS_PER_CORRIDOR)
 }

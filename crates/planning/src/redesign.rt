@@ -5,8 +5,9 @@ ghost use Rattle.loops.specs.Figures.{at};
 ghost use Rattle.loops.specs.Loops.{tab};
 ghost use Rattle.plan_defs.specs.Constants.{most_buses};
 ghost use Rattle.plan_defs.specs.Design.{transformer_corridors, fresh_bank, kept_bank};
+ghost use Rattle.plan_defs.specs.Build.{bank_of, banks_anew};
 ghost use Rattle.planning.specs.Design.{lines_for, ends_for, Banks, Rated};
-ghost use Rattle.planning.specs.Redesign.{redesign_for, Corridors, AnewFits, RedesignFits, anew_from, bank_of, fresh_at, banks_anew};
+ghost use Rattle.planning.specs.Redesign.{redesign_for, Corridors, AnewFits, RedesignFits, anew_from, fresh_at};
 ghost use Rattle.planning.specs.Tables.{grid_in, supply_in};
 
 use crate::design::{circuit, ends_of, set_transformer_mva};

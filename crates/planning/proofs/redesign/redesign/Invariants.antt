@@ -1,7 +1,8 @@
 -- The invariant: the corridors passed have their banks anew.
 use Rattle.std.proofs.Common.{◌≡◌, ◌≤◌, length}
 use Rattle.loops.specs.Loops.{filled}
-use Rattle.planning.specs.Redesign.{redesign_for, bank_anew}
+use Rattle.plan_defs.specs.Build.{bank_anew}
+use Rattle.planning.specs.Redesign.{redesign_for}
 use Rattle.planning.proofs.redesign.redesign.Given as goal
 use Rattle.planning.specs.Tables.{grid_in, supply_in}
 

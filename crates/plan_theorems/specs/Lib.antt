@@ -1,0 +1,2 @@
+-- What the theorems compare the defined plan with.
+pub mod Cursor

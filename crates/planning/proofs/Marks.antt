@@ -10,7 +10,8 @@ use Rattle.plan_defs.specs.Raise.{raise_of, marked, mark_bus, mark_both, top_of,
 use Rattle.std.specs.Prelude.{Option, Some, None}
 use Rattle.planning.specs.Design.{Lines}
 use Rattle.planning.specs.Raise.{pairs_for}
-use Rattle.planning.proofs.Lists.{count_more, count_most, count_zero}
+use Rattle.plan_defs.proofs.Lists.{count_more, count_most}
+use Rattle.planning.proofs.Lists.{count_zero}
 use Rattle.planning.specs.Tables.{GridColumns}
 
 -- ---- marks

@@ -15,7 +15,8 @@ use Rattle.planning.specs.Design.{ends_for, ends_of}
 use Rattle.planning.specs.Opening.{bus_case}
 use Rattle.planning.specs.Redesign.{units_for}
 use Rattle.planning.specs.declared.design.Ends.{Ends}
-use Rattle.planning.proofs.Lists.{sum_more, count_more, count_most}
+use Rattle.plan_defs.proofs.Lists.{count_more, count_most, one_at_most}
+use Rattle.planning.proofs.Lists.{sum_more}
 use Rattle.planning.specs.Tables.{GridColumns, SupplyColumns}
 
 -- ---- the units
@@ -130,5 +131,4 @@ byte_is true n e = e
 byte_is false n e = e
 
 pub one_most : (t : Bool) (n : ℕ) → n ≡ cond t 1 0 → n ≤ 1
-one_most true n e = omega arith
-one_most false n e = omega arith
+one_most t n e = omega (arith, e, one_at_most t)

@@ -17,7 +17,7 @@ use Rattle.plan_defs.specs.Dispatch.{dispatch_of, injections}
 use Rattle.plan_defs.specs.Solve.{Peak, PlanningCase, planning_state}
 use Rattle.plan_defs.specs.Fill.{fill}
 use Rattle.plan_defs.specs.Plan.{Plan, Opened, Ready, peak_of, opened_with, opening, settled, ready_of, plan_of, closing, plan_for}
-use Rattle.plan_defs.specs.Outcome.{Slices, up_to}
+use Rattle.plan_defs.specs.Outcome.{Slices, StageLengths, up_to}
 use Rattle.plan_defs.proofs.Stages.{On, on_onward}
 use Rattle.plan_defs.proofs.Rising.{risen_first}
 use Rattle.plan_defs.proofs.Opened.{Done, done}
@@ -26,7 +26,7 @@ use Rattle.planning.specs.Size.{Few}
 use Rattle.planning.specs.Solve.{peak_for}
 use Rattle.planning.specs.Close.{Closable, lent_to}
 use Rattle.planning.specs.Rounds.{Columns}
-use Rattle.planning.specs.Sound.{Sound, Lengths}
+use Rattle.planning.specs.Sound.{Sound}
 use Rattle.planning.specs.Plan.{Openable, Opens, OpenedAs, OpeningDone, Plannable, OpenedPlan, PlannedAs, whole_case, WholeAs, PlanDone, Lendable}
 use Rattle.planning.specs.declared.plan.PlanRun.{PlanRun}
 use Rattle.planning.proofs.Grounds.{grounds_few, grounds_below, grounds_lent}
@@ -169,7 +169,7 @@ module _ (c : Case) (target : ℕ) (s : Sound c target) where
 
 -- ---- the work that the stages are lent: parts of two slices, of zeros
 -- there is room for the parts
-module _ {c : Case} {target : ℕ} (s : Sound c target) {l : Slices} (w : Lengths c l) where
+module _ {c : Case} {target : ℕ} (s : Sound c target) {l : Slices} (w : StageLengths c l) where
   pub figures_fit : length c.a + length c.a + length c.tier ≤ length l.figures
   figures_fit = omega (arith, w.figures, s.a_size, s.tier_size)
 

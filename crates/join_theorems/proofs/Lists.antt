@@ -14,10 +14,11 @@ use lib.Seq.{set-append_left}
 use Rattle.loops.specs.Figures.{at}
 use Rattle.loops.specs.Loops.{iter}
 use Rattle.loops.proofs.Bools.{unequal}
+use Rattle.loops.proofs.Fronts.{get_map}
 use Rattle.plan_defs.specs.Lists.{keep, pass_from, passing, each}
 use Rattle.plan_defs.specs.Stage.{Stage, stopped, going, onward, each_stage}
 use Rattle.plan_defs.specs.Dispatch.{scatter_at, scatter}
-use Rattle.plan_defs.proofs.Lists.{All, get_map, pass_split}
+use Rattle.plan_defs.proofs.Lists.{All, pass_split}
 use Rattle.join_defs.specs.Districts.{moved}
 
 -- ---- two indices, moved alike

@@ -164,6 +164,11 @@ module _ (c : Case) where
           }
 
 -- ---- what the tables' tests say
+-- where each tier is one of those requested, a bus begins on the ladder
+pub first_within : (c : Case) → ((i : ℕ) → i < c.buses → get_or c.tier i 0 < c.requested) → (i : ℕ) → i < c.buses → get_or (first_levels c) i 0 < levels c
+unfolding first_levels
+first_within c low i h = omega (arith, get_tab c.buses (λ (j : ℕ). c.above + get_or c.tier j 0) i 0 h, low i h)
+
 module _ (c : Case) (target : ℕ) (ok : Accepted c target) where
   corridor_parts : (k : ℕ) → k < c.corridors → (ltb (end_a c k) c.buses ≡ true) × (ltb (end_b c k) c.buses ≡ true)
   unfolding corridor_sound
@@ -240,8 +245,7 @@ module _ (c : Case) (target : ℕ) (ok : Accepted c target) where
 
   -- a bus begins on the ladder
   pub first_below : (i : ℕ) → i < c.buses → get_or (first_levels c) i 0 < levels c
-  unfolding first_levels
-  first_below i h = omega (arith, get_tab c.buses (λ (j : ℕ). c.above + get_or c.tier j 0) i 0 h, tier_below i h)
+  first_below = first_within c tier_below
 
 -- ---- the sheet's rows: index corridor × levels + level, and the five figures of a row are in the sheet
 pub row_inside : (c : Case) (target : ℕ) → Accepted c target → (k l : ℕ) → k < c.corridors → l < levels c → row_place c.corridors k l + row_figures ≤ c.figures

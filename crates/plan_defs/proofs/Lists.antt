@@ -2,7 +2,7 @@
 -- By induction on the number of indices left.
 use Prim.Native.Nat.{ℕ, zero, suc, ◌+◌, ◌≤◌, ◌<◌, zero-le, suc-le-suc}
 use mathlib.Core.Bool.{Bool, true, false, cond}
-use mathlib.Core.List.{List, [], ◌∷◌, ◌++◌, map}
+use mathlib.Core.List.{List, [], ◌∷◌, ◌++◌}
 use mathlib.Core.Path.{◌≡◌, refl, sym, ap, ◌∙◌, subst}
 use native.Mathlib.Nat.{not-suc-le-zero, le_of_suc-le-suc}
 use native.Mathlib.Omega.{arith}
@@ -213,9 +213,3 @@ sum_split f g h (suc n) e =
 pub sum_parts : (l : List ℕ) (g : ℕ → ℕ) (n : ℕ) → length l ≡ n → ((k : ℕ) → k < n → g k ≤ get_or l k 0) → (h : ℕ → ℕ)
     → ((k : ℕ) → k < n → get_or l k 0 ≡ g k + h k) → sum l ≡ sum (tab n g) + sum (tab n h)
 sum_parts l g n e b h q = ap sum (sym (tab_of n l 0 e)) ∙ sum_split (λ k. get_or l k 0) g h n q
-
--- ---- an element of a mapped list
-pub get_map : {A B : Type 0} (f : A → B) (l : List A) (j : ℕ) (x : A) (y : B) → j < length l → get_or (map f l) j y ≡ f (get_or l j x)
-get_map f [] j x y h = absurd (not-suc-le-zero h)
-get_map f (a ∷ l) zero x y h = refl
-get_map f (a ∷ l) (suc j) x y h = get_map f l j x y (le_of_suc-le-suc h)

@@ -3,13 +3,13 @@
 use Prim.Native.Nat.{ℕ}
 use mathlib.Core.Bool.{Bool, true, false}
 use mathlib.Core.Path.{◌≡◌, refl, sym, ap}
-use native.Mathlib.Omega.{arith}
 use borrow.Author.Tests.{eqb-true, eq-eqb}
 use lib.Dec.{eqb}
 use lib.ListN.{length, length-replicate}
 use Rattle.loops.specs.Figures.{nought}
 use Rattle.loops.proofs.Bools.{both, and_of}
-use Rattle.refusal.specs.Reply.{answered, refused}
+use Rattle.refusal.specs.Reply.{answered}
+use Rattle.dispatch_defs.proofs.Callers.{never}
 use Rattle.plan_defs.specs.Case.{Case}
 use Rattle.plan_defs.specs.Plan.{Ending, unaccepted, unanswered, planned, ending_of}
 use Rattle.plan_defs.specs.Outcome.{Slices, slices_ok, StageLengths, cleared, summary, outcome_by, outcome_if, plan_corridors, work_places}
@@ -19,14 +19,11 @@ use Rattle.plan_theorems.proofs.Dispatched.{Binary}
 use Rattle.plan_theorems.proofs.Demand.{demand_3, tallies}
 
 -- ---- an answer is a defined plan, with demand 3
-never : {A : Type 0} (x : A) (k i : ℕ) → refused k i ≡ answered x → ⊥
-never x k i e = let z : ◌≡◌ {A = ℕ} 0 1 = cc in omega arith
-
 module _ (c : Case) (target : ℕ) (binary : Binary c) (s : Slices) (x : CorridorPlan) where
   answer_by : (e : Ending) → ending_of c target ≡ e → (outcome_by e c s).reply ≡ answered x → AnswerTo c target (outcome_by e c s) x
   unfolding outcome_by
-  answer_by (unaccepted f) h q = absurd (never x _ _ q)
-  answer_by (unanswered f) h q = absurd (never x _ _ q)
+  answer_by (unaccepted f) h q = absurd (never x _ _ (sym q))
+  answer_by (unanswered f) h q = absurd (never x _ _ (sym q))
   answer_by (planned p) h q =
       record { plan = p; ending = h; said = (let z : summary p ≡ x = cc in sym z); lent = refl; demand = demand_3 c target binary p h; tally = tallies c target binary p h }
 
@@ -36,7 +33,7 @@ module _ (c : Case) (target : ℕ) (binary : Binary c) (s : Slices) (x : Corrido
     where
       go : (b : Bool) → (outcome_if b c target s).reply ≡ answered x → AnswerTo c target (outcome_if b c target s) x
       go true q = answer_by (ending_of c target) refl q
-      go false q = absurd (never x _ _ q)
+      go false q = absurd (never x _ _ (sym q))
 
 -- ---- the lengths of the slices
 pub record Lengths (c : Case) (s : Slices) : Type 0 where

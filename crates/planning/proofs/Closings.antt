@@ -1,6 +1,6 @@
 -- The closing figures as code's loops make them are the defined ones.
 -- A loop over those that pass a test is a loop over all with the test; a table's figure is read off its place.
-use Rattle.std.proofs.Common.{◌≡◌, ℕ, zero, suc, ◌+◌, ◌-◌, ◌<◌, ◌≤◌, min, Bool, true, false, cond, ltb, List, [], ◌∷◌, ◌++◌, map, length, get_or, take, drop, fold, replicate, sym, refl, ap, ◌∙◌, le_of_suc-le-suc, not-suc-le-zero, arith, length-append, length-drop, length-take, get_or-drop, get_or-take, get_or-append-add, ext_get_or, ltb-false, ltb-true, eq-eqb}
+use Rattle.std.proofs.Common.{◌≡◌, ℕ, zero, suc, ◌+◌, ◌-◌, ◌<◌, ◌≤◌, min, Bool, true, false, cond, ltb, List, [], ◌∷◌, ◌++◌, map, length, get_or, take, drop, fold, replicate, sym, refl, ap, ◌∙◌, arith, length-append, length-drop, length-take, get_or-drop, get_or-take, get_or-append-add, ext_get_or, ltb-false, ltb-true, eq-eqb}
 use lib.ListN.{length-replicate, get_or-replicate, get_or-append}
 use lib.Ieee.{Float, nan, lt}
 use Rattle.loops.specs.Figures.{at, plus, minus, nought, one, greater}
@@ -129,17 +129,6 @@ pub least_is : (top : ℕ) (l : List ℕ) → fold (λ n x. min n x) top l ≡ l
 unfolding least_of
 least_is top [] = refl
 least_is top (x ∷ l) = least_is (min top x) l
-
-pub least_most : (top : ℕ) (l : List ℕ) → least_of top l ≤ top
-unfolding least_of
-least_most top [] = omega arith
-least_most top (x ∷ l) = omega (arith, least_most (min top x) l)
-
-pub least_each : (top : ℕ) (l : List ℕ) (i : ℕ) → i < length l → least_of top l ≤ get_or l i 0
-unfolding least_of
-least_each top [] i h = absurd (not-suc-le-zero h)
-least_each top (x ∷ l) zero h = omega (arith, least_most (min top x) l)
-least_each top (x ∷ l) (suc i) h = least_each (min top x) l i (le_of_suc-le-suc h)
 
 pub tab_map : (f : ℕ → ℕ) (l : List ℕ) → tab (length l) (λ i. f (get_or l i 0)) ≡ map f l
 tab_map f l = map_tab f (λ i. get_or l i 0) (length l) ∙ ap (map f) (tab_of (length l) l 0 refl)

@@ -19,6 +19,7 @@ use Rattle.plan_defs.specs.Fill.{fill}
 use Rattle.plan_defs.specs.Plan.{Plan, Opened, Ready, peak_of, opened_with, opening, settled, ready_of, plan_of, closing, plan_for}
 use Rattle.plan_defs.specs.Outcome.{Slices, StageLengths, up_to}
 use Rattle.plan_defs.proofs.Stages.{On, on_onward}
+use Rattle.plan_defs.proofs.Accepted.{first_within}
 use Rattle.plan_defs.proofs.Rising.{risen_first}
 use Rattle.plan_defs.proofs.Opened.{Done, done}
 use Rattle.planning.specs.Edges.{Grounded}
@@ -37,10 +38,6 @@ use Rattle.planning.specs.Tables.{GridColumns, grid_of, SupplyColumns, supply_of
 
 module _ (c : Case) (target : ℕ) (s : Sound c target) where
   -- ---- what the columns are asked
-  first_below : (i : ℕ) → i < c.buses → get_or (first_levels c) i 0 < levels c
-  unfolding first_levels
-  first_below i h = omega (arith, get_tab c.buses (λ (j : ℕ). c.above + get_or c.tier j 0) i 0 h, s.tier_below i h)
-
   level_size : (level : List ℕ) → level ≡ first_levels c → length level ≡ c.buses
   level_size level e = ap length e ∙ (risen_first c).size
 
@@ -48,7 +45,7 @@ module _ (c : Case) (target : ℕ) (s : Sound c target) where
       → Columns (grid_of c.ladder c.a c.b c.km c.share c.cap sheet) level (supply_of c.load c.bus c.slack c.pmin c.pmax c.c1 c.c2)
   columns_by sheet laid figures level e =
       record {
-        lines = lines_of c target s sheet laid figures level (level_size level e) (λ i h. subst (λ (l : List ℕ). get_or l i 0 < levels c) (sym e) (first_below i h));
+        lines = lines_of c target s sheet laid figures level (level_size level e) (λ i h. subst (λ (l : List ℕ). get_or l i 0 < levels c) (sym e) (first_within c s.tier_below i h));
         load_size = s.load_size ∙ sym (level_size level e);
         few = omega (arith, s.few_corridors, s.a_size);
       }

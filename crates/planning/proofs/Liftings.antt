@@ -6,6 +6,7 @@ use lib.Ieee.{Float, nan}
 use Rattle.loops.specs.Figures.{at, nought}
 use Rattle.loops.specs.Loops.{tab}
 use Rattle.loops.proofs.Tab.{tab_same}
+use Rattle.loops.proofs.Fronts.{get_map}
 use Rattle.plan_defs.specs.Case.{Case, cap_at, full_at}
 use Rattle.plan_defs.specs.Design.{no_design}
 use Rattle.plan_defs.specs.Build.{drawn_all}
@@ -14,7 +15,6 @@ use Rattle.plan_defs.specs.Closing.{spread_of, loadings, max_loading, overloaded
 use Rattle.plan_defs.specs.Plan.{Plan}
 use Rattle.plan_defs.specs.Outcome.{Slices, slices, up_to, work_places, cleared, kept_of, held}
 use Rattle.plan_defs.specs.declared.CircuitDesign.{CircuitDesign}
-use Rattle.plan_defs.proofs.Lists.{get_map}
 use Rattle.plan_theorems.proofs.Outcomes.{Lengths}
 use Rattle.planning.specs.Fill.{designs_for, caps_for}
 use Rattle.planning.specs.Close.{corridors_of, levels_for, loadings_by, closing_of, zeroed}
@@ -22,7 +22,8 @@ use Rattle.planning.specs.Sound.{Sound}
 use Rattle.planning.specs.declared.close.Closing.{Closing}
 use Rattle.planning.proofs.Draws.{Laid}
 use Rattle.planning.proofs.Builds.{drawn_all_lifts}
-use Rattle.planning.proofs.Closings.{new_size, least_most}
+use Rattle.plan_theorems.proofs.Demand.{least_most}
+use Rattle.planning.proofs.Closings.{new_size}
 use Rattle.planning.specs.Tables.{grid_of}
 
 module _ (c : Case) (target : ℕ) (s : Sound c target) (level : List ℕ) (banks : List Float) where

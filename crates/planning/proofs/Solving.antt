@@ -10,9 +10,9 @@ use Rattle.loops.specs.Figures.{at, float, times, minus, nought, one}
 use Rattle.loops.specs.Loops.{first, tab}
 use Rattle.loops.proofs.Tab.{length_tab, get_tab, tab_same}
 use Rattle.refusal.specs.Number.{number_of, index_of}
-use Rattle.refusal.specs.Reply.{answered, refused}
 use Rattle.refusal.specs.declared.Refusal.{Refusal}
 use Rattle.refusal.specs.declared.Refusal.TheVariants.{NotFinite}
+use Rattle.dispatch_defs.proofs.Callers.{never}
 use Rattle.angles_defs.specs.Network.{Edges, edges_of}
 use Rattle.angles_defs.specs.Solve.{Solved, solve}
 use Rattle.angles_defs.specs.Operation.{Request, request_of, Outcome, outcome, most, finite_at, finish_if, solve_of, dc_angles}
@@ -36,9 +36,6 @@ use Rattle.std.specs.Prelude.{Err, Ok, Result}
 use Rattle.planning.specs.Tables.{GridColumns}
 
 -- ---- angles
-never : {A : Type 0} (x : A) (k i : ℕ) → answered x ≡ refused k i → ⊥
-never x k i e = let z : ◌≡◌ {A = ℕ} 0 1 = cc in omega arith
-
 -- what angles alone say
 abbrev pub angle_stage : Result Solution Refusal → List Float → Stage (List Float)
 angle_stage (Ok s) y = going y

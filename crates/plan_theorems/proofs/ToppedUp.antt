@@ -48,7 +48,7 @@ zero_low false false zero (suc b) e h = or_left _ _ (lt-ltb 0 (suc b) (omega ari
 zero_low s true zero (suc b) e h = absurd (let z = h refl in omega arith)
 zero_low s t (suc a) b e h = absurd (omega arith)
 
-zero_least : (s : Bool) (m : ℕ) (e : ℤ) (y : Float) → m ≡ 0 → T (sound y) → le (fin s m e) y ≡ true
+pub zero_least : (s : Bool) (m : ℕ) (e : ℤ) (y : Float) → m ≡ 0 → T (sound y) → le (fin s m e) y ≡ true
 unfolding lt eq le
 zero_least s m e nan z g = absurd g
 zero_least s m e (inf true) z g = absurd g

@@ -164,6 +164,20 @@ module _ (c : Case) where
           }
 
 -- ---- what the tables' tests say
+-- the higher and the lower end of a corridor are its ends
+one_of : (b : Bool) (x y n : ℕ) → x < n → y < n → cond b x y < n
+one_of true x y n p q = p
+one_of false x y n p q = q
+
+module _ (c : Case) (level : List ℕ) (k n : ℕ) (a-below : end_a c k < n) (b-below : end_b c k < n) where
+  pub from_within : from_of c level k < n
+  unfolding from_of
+  from_within = one_of (higher_a c level k) (end_a c k) (end_b c k) n a-below b-below
+
+  pub to_within : to_of c level k < n
+  unfolding to_of
+  to_within = one_of (higher_a c level k) (end_b c k) (end_a c k) n b-below a-below
+
 -- where each tier is one of those requested, a bus begins on the ladder
 pub first_within : (c : Case) → ((i : ℕ) → i < c.buses → get_or c.tier i 0 < c.requested) → (i : ℕ) → i < c.buses → get_or (first_levels c) i 0 < levels c
 unfolding first_levels
@@ -190,18 +204,12 @@ module _ (c : Case) (target : ℕ) (ok : Accepted c target) where
         to = λ k h. end_b_lem k (omega (arith, ok.columns.a));
       }
 
-  chosen : (b : Bool) (x y : ℕ) → x < c.buses → y < c.buses → cond b x y < c.buses
-  chosen true x y p q = p
-  chosen false x y p q = q
-
   -- the higher and the lower end are buses, at whatever levels
   pub from_below : (level : List ℕ) (k : ℕ) → k < c.corridors → from_of c level k < c.buses
-  unfolding from_of
-  from_below level k h = chosen (higher_a c level k) (end_a c k) (end_b c k) (end_a_lem k h) (end_b_lem k h)
+  from_below level k h = from_within c level k c.buses (end_a_lem k h) (end_b_lem k h)
 
   pub to_below : (level : List ℕ) (k : ℕ) → k < c.corridors → to_of c level k < c.buses
-  unfolding to_of
-  to_below level k h = chosen (higher_a c level k) (end_b c k) (end_a c k) (end_b_lem k h) (end_a_lem k h)
+  to_below level k h = to_within c level k c.buses (end_a_lem k h) (end_b_lem k h)
 
   pub bus_below : (k : ℕ) → k < c.generators → get_or c.bus k 0 < c.buses
   unfolding generator_ok

@@ -27,7 +27,7 @@ use Rattle.plan_defs.specs.Plan.{Ready, ready_of}
 use Rattle.plan_defs.specs.declared.CircuitDesign.{CircuitDesign}
 use Rattle.plan_defs.proofs.Stages.{On, on_map}
 use Rattle.plan_defs.proofs.Accepted.{Accepted, from_below, initial_few, own_few, cap_few, row_sound_lem}
-use Rattle.plan_defs.proofs.Drawn.{drawn_size, drawn_here, design_kv}
+use Rattle.plan_defs.proofs.Drawn.{drawn_size, drawn_here, design_kv, drawn_km}
 use Rattle.plan_defs.proofs.Rising.{Risen, risen_below}
 use Rattle.plan_defs.proofs.Opened.{Done, done}
 use Rattle.plan_theorems.proofs.Ranking.{Real, ahead_in_order, once, every, order_sorted, order_only}
@@ -132,18 +132,9 @@ module _ (c : Case) (target : ℕ) (ok : Accepted c target) (level : List ℕ) (
       let B = bounds_positive in
       inside_times thousandth million (row_at c k (level_of c level k)).rate half one (at c.share k) B.0 B.1 B.2 B.3 sheet_rate spans.1
 
-  km_by : (b : Bool) (a : Float) → (banked_by b (line_at c level k) a).length_km ≡ at c.km k
-  unfolding set_transformer_mva with_bank line_at line_of
-  km_by true a = refl
-  km_by false a = refl
-
   drawn_rate : (a : Float) → lt a transformer_min_mva ≡ false → inside low_rate high_rate (drawn c level k a).rate_a ≡ true
   unfolding drawn
   drawn_rate a e = rate_by (steps_down c level k) a e
-
-  drawn_km : (a : Float) → (drawn c level k a).length_km ≡ at c.km k
-  unfolding drawn
-  drawn_km a = km_by (steps_down c level k) a
 
   kv_real : T (real (kv_high c level k))
   unfolding kv_high level_ok
@@ -190,7 +181,7 @@ module _ (c : Case) (target : ℕ) (ok : Accepted c target) (r : Ready) (d : Don
         loading = loading_real (at d.flows k) (get_or counts k 0) (design ds k).rate_a f (few k h).0 (few k h).1 rate;
         kilovolts = subst (λ (x : Float). T (real x)) (sym (design_kv c level ds D k h)) (kv_real c target ok level risen k h);
         length =
-            subst (λ (x : Float). T (real x)) (sym (ap (λ (d : CircuitDesign). d.length_km) q ∙ drawn_km c target ok level risen k h (at D.banks k)))
+            subst (λ (x : Float). T (real x)) (sym (ap (λ (d : CircuitDesign). d.length_km) q ∙ drawn_km c level k (at D.banks k)))
             (km_real c target ok level risen k h);
       }
 

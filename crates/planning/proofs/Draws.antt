@@ -1,6 +1,6 @@
 -- A circuit drawn from its columns is the definition's: the bank's impedance is never refused, the columns are long enough, and the pieces make the whole.
 -- The definitions read only fields of the case, so each law is by computing, with the equations of the pieces put in.
-use Rattle.std.proofs.Common.{◌≡◌, ℕ, ◌+◌, ◌*◌, ◌<◌, ◌≤◌, Bool, true, false, cond, List, length, get_or, sym, ap, ◌∙◌, subst, mul_comm, arith}
+use Rattle.std.proofs.Common.{◌≡◌, ℕ, ◌+◌, ◌*◌, ◌<◌, ◌≤◌, Bool, true, cond, List, length, get_or, sym, ap, ◌∙◌, subst, mul_comm, arith}
 use lib.Ieee.{Float, le}
 use Rattle.loops.specs.Figures.{at}
 use Rattle.loops.proofs.Rows.{row_fits}
@@ -10,10 +10,11 @@ use Rattle.impedance.specs.Impedance.{impedance_of, rating_ok, defined}
 use Rattle.impedance.specs.declared.SeriesImpedance.{SeriesImpedance}
 use Rattle.impedance.proofs.Operation.{answers}
 use Rattle.sheets.specs.Sheet.{row_figures, row_place}
-use Rattle.plan_defs.specs.Case.{Case, Row, levels, level_of, higher_a, from_of, to_of, kv_high, row_at, row_from, rows_of}
+use Rattle.plan_defs.specs.Case.{Case, Row, levels, level_of, from_of, to_of, kv_high, row_at, row_from, rows_of}
 use Rattle.plan_defs.specs.Design.{line_of, line_at, banked_by, differ, steps_down, drawn}
 use Rattle.plan_defs.specs.declared.CircuitDesign.{CircuitDesign}
 use Rattle.plan_defs.proofs.Rows.{row_from_lem}
+use Rattle.plan_defs.proofs.Accepted.{from_within, to_within}
 use Rattle.planning.specs.Design.{lines_for, ends_for, Lines, EndsFit, LineFits, ends_of, line_between}
 use Rattle.planning.specs.declared.design.Ends.{Ends}
 use Rattle.std.specs.Prelude.{Err, Ok, Result}
@@ -33,10 +34,6 @@ module _ (mva : Float) (r : Result SeriesImpedance Refusal) (ok : rating_ok mva 
       cc
 
 -- ---- the ends
-pub one_of : (t : Bool) (x y n : ℕ) → x < n → y < n → cond t x y < n
-one_of true x y n p q = p
-one_of false x y n p q = q
-
 pub ends_are : (grid : GridColumns) (level : List ℕ) (k i j from to : ℕ) (x y : Float) (down : Bool)
     → i ≡ get_or grid.a k 0 → j ≡ get_or grid.b k 0 → x ≡ at grid.ladder (get_or level i 0) → y ≡ at grid.ladder (get_or level j 0)
     → from ≡ cond (le y x) i j → to ≡ cond (le y x) j i → down ≡ differ x y
@@ -46,12 +43,10 @@ ends_are grid level k i j from to x y down pi pj px py pf pt pd = cc
 
 module _ (grid : GridColumns) (level : List ℕ) (k : ℕ) (f : EndsFit grid level k) where
   pub from_below : from_of (ends_for grid) level k < length level
-  unfolding from_of
-  from_below = one_of (higher_a (ends_for grid) level k) (get_or grid.a k 0) (get_or grid.b k 0) (length level) f.a_below f.b_below
+  from_below = from_within (ends_for grid) level k (length level) f.a_below f.b_below
 
   pub to_below : to_of (ends_for grid) level k < length level
-  unfolding to_of
-  to_below = one_of (higher_a (ends_for grid) level k) (get_or grid.b k 0) (get_or grid.a k 0) (length level) f.b_below f.a_below
+  to_below = to_within (ends_for grid) level k (length level) f.a_below f.b_below
 
   pub end_below : (e : Ends) → e ≡ ends_of (ends_for grid) level k → e.to < length level
   unfolding ends_of

@@ -2,7 +2,7 @@
 -- A gain is made of its corridor, so that a list of gains is a list of corridors with the same insertions; a batch goes by what is left of it.
 use Rattle.std.proofs.Common.{◌≡◌, ℕ, zero, suc, ◌+◌, ◌-◌, ◌<◌, ◌≤◌, Bool, true, false, List, [], ◌∷◌, ◌++◌, map, length, get_or, take, drop, sym, refl, ap, ◌∙◌, append-nil, add-one, arith, drop_of_length-le, drop-cons, take-suc, All, insert as put_in, not-suc-le-zero}
 use lib.Seq.{append_snoc}
-use lib.Ieee.{Float, lt, of_bits}
+use lib.Ieee.{Float, lt}
 use Rattle.loops.specs.Figures.{at, plus, nought}
 use Rattle.loops.specs.Loops.{iter}
 use Rattle.loops.specs.Sorting.{put_before, insert_by}
@@ -13,6 +13,7 @@ use Rattle.plan_defs.specs.Stiffen.{Gain, gain_of, placed, insert, insert_if, in
 use Rattle.plan_defs.specs.declared.CircuitDesign.{CircuitDesign}
 use Rattle.planning.proofs.Inserting.{place_in, inserted_is, inserted_all, inserted_more}
 use Rattle.planning.specs.Stiffen.{gain_if, gains_more, insert_where, gain_next, gain_order, gain_for}
+use Rattle.planning.proofs.ToppingUp.{no_less}
 
 module _ (gain : List Float) where
   abbrev gainers : List ℕ → List Gain
@@ -37,12 +38,8 @@ module _ (gain : List Float) where
   next_is k x l e = ap (λ (y : Float). insert_gain (record { gain = y; corridor = k }) (gainers l)) (sym e) ∙ next_by_lem (lt nought (at gain k)) k l
 
   -- one without a gain is passed over
-  idle : lt nought nought ≡ false
-  unfolding lt of_bits
-  idle = refl
-
   idle_is : (k : ℕ) (l : List ℕ) → at gain k ≡ nought → l ≡ gain_next gain k l
-  idle_is k l e = ap (λ (b : Bool). insert_where b (gains_more gain) k l) (sym (ap (λ (x : Float). lt nought x) e ∙ idle))
+  idle_is k l e = ap (λ (b : Bool). insert_where b (gains_more gain) k l) (sym (ap (λ (x : Float). lt nought x) e ∙ no_less))
 
   module _ (ds : List CircuitDesign) (theta phi : List Float) (p : ℕ → Bool) where
     abbrev Filled : ℕ → Type 0

@@ -9,7 +9,7 @@ use native.Mathlib.Omega.{arith}
 use lib.Dec.{T, leb}
 use lib.Ieee.{Float, binary64, neg, mul, lt, le, eq, of_bits, of_int, round}
 use lib.Ieee.Positive.{positive, between, mul_mono}
-use lib.ListN.{length, get_or}
+use lib.ListN.{get_or}
 use Rattle.loops.specs.Figures.{at, float, times, over, nought, half, one, ten_thousand, million, thousandth, magnitude, finite, inside}
 use Rattle.loops.specs.Loops.{first}
 use Rattle.loops.specs.Sorting.{Sorted}

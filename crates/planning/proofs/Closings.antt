@@ -18,6 +18,7 @@ use Rattle.plan_defs.specs.Closing.{highest, lowest, spread_in, spread_of, max_l
 use Rattle.plan_defs.specs.Outcome.{up_to}
 use Rattle.plan_defs.specs.declared.CircuitDesign.{CircuitDesign}
 use Rattle.plan_defs.proofs.Drawn.{length_drawn}
+use Rattle.plan_theorems.proofs.Demand.{least_most}
 use Rattle.planning.specs.Design.{lines_for}
 use Rattle.planning.specs.Fill.{designs_for}
 use Rattle.planning.specs.Close.{corridors_of, levels_for, wider_by, loadings_by, cap_full, added_at, closing_of}

@@ -5,7 +5,6 @@ use mathlib.Core.Bool.{Bool, true, false, cond, ◌&&◌}
 use mathlib.Core.List.{List}
 use mathlib.Core.Option.{Option, none, some}
 use mathlib.Core.Path.{◌≡◌, refl, sym, ◌∙◌, subst}
-use native.Mathlib.Nat.{mul_comm}
 use native.Mathlib.Omega.{arith}
 use borrow.Author.Tests.{ltb-true, ltb-false, leb-true, eqb-true}
 use lib.Dec.{ltb, leb, eqb}
@@ -20,7 +19,7 @@ use Rattle.loops.proofs.Tab.{get_tab}
 use Rattle.refusal.specs.declared.Refusal.{Refusal}
 use Rattle.refusal.specs.declared.Refusal.TheVariants.{Length, Count, Level, Bus, Generator, Corridor, Row}
 use Rattle.sheets.specs.Sheet.{row_figures, row_place, line_index, line_corridor}
-use Rattle.sheets.proofs.Layouts.{parts}
+use Rattle.sheets.proofs.Layouts.{parts, row_inside as inside_sheet}
 use Rattle.leaders.specs.Operation.{Ends, corridor_ok}
 use Rattle.dispatch_defs.specs.Units.{unit_ok}
 use Rattle.plan_defs.specs.Constants.{most_buses, most_corridors, most_generators, most_levels, most_target, most_initial, most_cap}
@@ -257,7 +256,7 @@ module _ (c : Case) (target : ℕ) (ok : Accepted c target) where
 
 -- ---- the sheet's rows: index corridor × levels + level, and the five figures of a row are in the sheet
 pub row_inside : (c : Case) (target : ℕ) → Accepted c target → (k l : ℕ) → k < c.corridors → l < levels c → row_place c.corridors k l + row_figures ≤ c.figures
-row_inside c target ok k l h q = omega (arith, ok.columns.sheet, row_fits l (levels c) c.corridors q, mul_comm (levels c) c.corridors)
+row_inside c target ok k l h q = omega (arith, ok.columns.sheet, inside_sheet c.corridors (levels c) k l h q)
 
 pub row_sound_lem : (c : Case) (target : ℕ) → Accepted c target → (k l : ℕ) → k < c.corridors → l < levels c → row_sound (row_at c k l) ≡ true
 unfolding row_ok

@@ -1,11 +1,12 @@
 -- The closing figures as code's loops make them are the defined ones.
 -- A loop over those that pass a test is a loop over all with the test; a table's figure is read off its place.
-use Rattle.std.proofs.Common.{◌≡◌, ℕ, zero, suc, ◌+◌, ◌-◌, ◌<◌, ◌≤◌, min, Bool, true, false, cond, ltb, List, [], ◌∷◌, ◌++◌, map, length, get_or, take, drop, fold, replicate, sym, refl, ap, ◌∙◌, arith, length-append, length-drop, length-take, get_or-drop, get_or-take, get_or-append-add, ext_get_or, ltb-false, ltb-true, eq-eqb}
+use Rattle.std.proofs.Common.{◌≡◌, ℕ, zero, suc, ◌+◌, ◌-◌, ◌<◌, ◌≤◌, min, Bool, true, false, cond, ltb, List, [], ◌∷◌, map, length, get_or, take, drop, fold, replicate, sym, refl, ap, ◌∙◌, arith, length-append, length-drop, length-take, get_or-drop, get_or-take, get_or-append-add, ext_get_or, ltb-false, ltb-true, eq-eqb}
 use lib.ListN.{length-replicate, get_or-replicate, get_or-append}
 use lib.Ieee.{Float, nan, lt}
 use Rattle.loops.specs.Figures.{at, plus, minus, nought, one, greater}
 use Rattle.loops.specs.Loops.{iter, tab}
 use Rattle.loops.proofs.Tab.{length_tab, get_tab, tab_of, tab_same}
+use Rattle.loops.proofs.Fronts.{map_tab}
 use Rattle.mode.specs.declared.PlanMode.{PlanMode}
 use Rattle.plan_defs.specs.Constants.{loading_tolerance}
 use Rattle.plan_defs.specs.Lists.{keep, pass_from, counting, each}
@@ -58,22 +59,13 @@ module _ (led : List ℕ) (theta : List Float) where
   spread_is = sym (each_tested (λ root m. greater m (spread_in theta (members led root))) (leads led) (length led) 0 nought)
 
 -- ---- ratings and loadings
-map_append : {A B : Type 0} (f : A → B) (l r : List A) → map f (l ++ r) ≡ map f l ++ map f r
-map_append f [] r = refl
-map_append f (x ∷ l) r = ap (λ (t : List _). f x ∷ t) (map_append f l r)
-
-pub map_tab : {A B : Type 0} (f : A → B) (g : ℕ → A) (n : ℕ) → tab n (λ k. f (g k)) ≡ map f (tab n g)
-unfolding tab
-map_tab f g zero = refl
-map_tab f g (suc n) = ap (λ (l : List _). l ++ (f (g n) ∷ [])) (map_tab f g n) ∙ sym (map_append f (tab n g) (g n ∷ []))
-
 module _ (grid : GridColumns) (level : List ℕ) (banks : List Float) where
   abbrev rate_of : ℕ → Float
   rate_of k = (drawn (lines_for grid) level k (at banks k)).rate_a
 
   rates_are : tab (length grid.a) rate_of ≡ map (λ (d : CircuitDesign). d.rate_a) (designs_for grid level banks)
   unfolding drawn_all
-  rates_are = map_tab (λ (d : CircuitDesign). d.rate_a) (λ (k : ℕ). drawn (lines_for grid) level k (at banks k)) (length grid.a)
+  rates_are = sym (map_tab (λ (d : CircuitDesign). d.rate_a) (length grid.a) (λ (k : ℕ). drawn (lines_for grid) level k (at banks k)))
 
   pub rates_drawn : (rate : List Float) → rate ≡ tab (length grid.a) (λ k. (design (designs_for grid level banks) k).rate_a)
       → rate ≡ map (λ (d : CircuitDesign). d.rate_a) (designs_for grid level banks)
@@ -132,7 +124,7 @@ least_is top [] = refl
 least_is top (x ∷ l) = least_is (min top x) l
 
 pub tab_map : (f : ℕ → ℕ) (l : List ℕ) → tab (length l) (λ i. f (get_or l i 0)) ≡ map f l
-tab_map f l = map_tab f (λ i. get_or l i 0) (length l) ∙ ap (map f) (tab_of (length l) l 0 refl)
+tab_map f l = sym (map_tab f (length l) (λ i. get_or l i 0)) ∙ ap (map f) (tab_of (length l) l 0 refl)
 
 -- the levels added, with zero past them
 module _ (ladder : List Float) (above u : ℕ) (within-ladder : above ≤ length ladder) (few : u ≤ above) where

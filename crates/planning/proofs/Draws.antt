@@ -1,15 +1,15 @@
 -- A circuit drawn from its columns is the definition's: the bank's impedance is never refused, the columns are long enough, and the pieces make the whole.
 -- The definitions read only fields of the case, so each law is by computing, with the equations of the pieces put in.
-use Rattle.std.proofs.Common.{◌≡◌, ℕ, ◌+◌, ◌*◌, ◌<◌, ◌≤◌, Bool, true, cond, List, length, get_or, sym, ap, ◌∙◌, subst, mul_comm, arith}
+use Rattle.std.proofs.Common.{◌≡◌, ℕ, ◌+◌, ◌<◌, ◌≤◌, Bool, true, cond, List, length, get_or, sym, ap, ◌∙◌, subst, arith}
 use lib.Ieee.{Float, le}
 use Rattle.loops.specs.Figures.{at}
-use Rattle.loops.proofs.Rows.{row_fits}
 use Rattle.refusal.specs.declared.Refusal.{Refusal}
 use Rattle.refusal.specs.Reply.{reply_of}
 use Rattle.impedance.specs.Impedance.{impedance_of, rating_ok, defined}
 use Rattle.impedance.specs.declared.SeriesImpedance.{SeriesImpedance}
 use Rattle.impedance.proofs.Operation.{answers}
 use Rattle.sheets.specs.Sheet.{row_figures, row_place}
+use Rattle.sheets.proofs.Layouts.{row_inside}
 use Rattle.plan_defs.specs.Case.{Case, Row, levels, level_of, from_of, to_of, kv_high, row_at, row_from, rows_of}
 use Rattle.plan_defs.specs.Design.{line_of, line_at, banked_by, differ, steps_down, drawn}
 use Rattle.plan_defs.specs.declared.CircuitDesign.{CircuitDesign}
@@ -53,9 +53,6 @@ module _ (grid : GridColumns) (level : List ℕ) (k : ℕ) (f : EndsFit grid lev
   end_below e p = subst (λ (z : Ends). z.to < length level) (sym p) to_below
 
 -- ---- what the columns must be
-place_fits : (k m l L s : ℕ) → k < m → l < L → s ≡ row_figures * (m * L) → row_place m k l + row_figures ≤ s
-place_fits k m l L s p q e = omega (arith, row_fits l L m q, mul_comm L m)
-
 module _ (grid : GridColumns) (level : List ℕ) (k : ℕ) (lines : Lines grid level) (h : k < length grid.a) where
   pub ends_fit : EndsFit grid level k
   ends_fit =
@@ -76,7 +73,7 @@ module _ (grid : GridColumns) (level : List ℕ) (k : ℕ) (lines : Lines grid l
         share_size = omega (arith, h, lines.share_size);
         row_size =
             subst (λ (m : ℕ). row_place m k (get_or level from 0) + row_figures ≤ length grid.sheet) (sym lines.km_size)
-            (place_fits k (length grid.a) (get_or level from 0) (length grid.ladder) (length grid.sheet) h (lines.level_below from u) lines.sheet_size);
+            (omega (arith, row_inside (length grid.a) (length grid.ladder) k (get_or level from 0) h (lines.level_below from u), lines.sheet_size));
       }
 
   pub line_fits : (e : Ends) → e ≡ ends_of (ends_for grid) level k → LineFits grid level k e.from

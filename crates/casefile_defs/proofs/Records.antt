@@ -8,7 +8,6 @@ use native.Mathlib.Omega.{arith}
 use borrow.Author.Tests.{lt-ltb, le-ltb, ltb-false}
 use lib.Dec.{leb, ltb, eqb}
 use lib.ListN.{length, get_or, get_or-eq_default}
-use Rattle.loops.proofs.Bools.{and_no}
 use Rattle.refusal.specs.declared.Refusal.{Refusal}
 use Rattle.refusal.specs.declared.Refusal.TheVariants.{Cut, Mark, Code}
 use Rattle.casefile_defs.specs.Layout.{layout_of, size_of, codes_ok, word, marked, suits}
@@ -29,8 +28,12 @@ bounded j o m {k} {v} at s f p q =
     ap (λ (x : ℕ). leb x m) q ∙ and_true _ ∙ sym (f at s) ∙ ap (λ (i : Kind). codes_ok i s at) (sym p)
 
 -- a mark that is cut is none
+no_and : (b : Bool) → (b && false) ≡ false
+no_and true = refl
+no_and false = refl
+
 unmarked_by : (b : Bool) (x y : ℕ) → x ≡ 0 → eqb 0 y ≡ false → (b && eqb x y) ≡ false
-unmarked_by b x y e n = ap (λ (z : ℕ). b && eqb z y) e ∙ and_no b (eqb 0 y) n
+unmarked_by b x y e n = ap (λ (z : ℕ). b && eqb z y) e ∙ ap (λ (z : Bool). b && z) n ∙ no_and b
 
 second_letter : (k : Kind) → eqb 0 (layout_of k).second ≡ false
 second_letter Head = refl

@@ -12,7 +12,7 @@ use lib.Dec.{eqb}
 use lib.ListN.{length, get_or, drop, length-append}
 use lib.Seq.{drop_at, drop-drop, get_or-drop}
 use Rattle.loops.specs.Loops.{iter}
-use Rattle.loops.proofs.Bools.{and_of, both, and_no}
+use Rattle.loops.proofs.Bools.{and_of, both}
 use Rattle.refusal.specs.declared.Refusal.TheVariants.{Mark}
 use Rattle.casefile_defs.specs.Layout.{layout_of, size_of, offset_of, field, span_of, place_of, word, marked, standing, suits, spot}
 use Rattle.casefile_defs.specs.Reading.{record_at, admitted, stepped, walked}
@@ -95,7 +95,11 @@ suits_line s at e = refl
 other_mark : (a x y : ℕ) (p q : Bool) → (p && eqb a x) ≡ true → eqb x y ≡ false → (q && eqb a y) ≡ false
 other_mark a x y p q e n =
     let g : a ≡ x = eqb-true a x (both p (eqb a x) e).1 in
-    ap (λ (z : ℕ). q && eqb z y) g ∙ and_no q (eqb x y) n
+    ap (λ (z : ℕ). q && eqb z y) g ∙ ap (λ (z : Bool). q && z) n ∙ no_and q
+  where
+    no_and : (b : Bool) → (b && false) ≡ false
+    no_and true = refl
+    no_and false = refl
 
 pub suits_bus : (b : Bool) → Suits Bus (cond b WeighedBus Bus)
 suits_bus true s at e = ap (λ (x : Bool). cond x WeighedBus Bus) e

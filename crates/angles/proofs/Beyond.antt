@@ -13,8 +13,8 @@ use Rattle.std.specs.Prelude.{Option, Some, None}
 use Rattle.std.specs.Bool.{then_some}
 use Rattle.std.specs.Option.{MatchOption, ForSome}
 use Rattle.loops.proofs.Bools.{unequal, is, no}
-use Rattle.loops.proofs.Order.{bounded, bounded_real, le_of_lt, lt_of_not_le}
-use Rattle.loops.proofs.Real.{positive_of}
+use Rattle.loops.proofs.Order.{bounded_real, le_of_lt, lt_of_not_le}
+use Rattle.loops.proofs.Real.{positive_of, positive_bounded}
 use Rattle.loops.proofs.Signs.{mul_bounded}
 use Rattle.root.specs.Root.{root}
 use Rattle.root.proofs.Bits.{at_least_zero, nan_gives}
@@ -85,11 +85,6 @@ beyond_square s bound f p h = record { far = λ x g l. go x g l (le (root x) bou
         (root_mono s x f g (at_least_zero s (root_above s bound h)) (is l)) (is e))
 
 -- ---- such a square: one above the square of a figure above the bound
-
-positive_bounded : (x : Float) → T (positive x) → T (bounded x)
-positive_bounded nan p = absurd p
-positive_bounded (inf s) p = absurd p
-positive_bounded (fin s m e) p = tt
 
 below_infinity : (x : Float) → T (positive x) → lt x (root (inf false)) ≡ true
 unfolding lt root

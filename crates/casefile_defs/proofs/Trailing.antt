@@ -10,6 +10,7 @@ use native.Mathlib.Omega.{arith}
 use borrow.Author.Tests.{eq-eqb, eqb-true}
 use lib.ListN.{length, get_or}
 use Rattle.loops.specs.Loops.{first}
+use Rattle.loops.proofs.Scan.{first_most}
 use Rattle.casefile_defs.specs.Layout.{word}
 use Rattle.casefile_defs.specs.Reading.{zero_at, trailing, zeros_passed}
 use Rattle.casefile_defs.proofs.Words.{word_none, word_more}
@@ -21,15 +22,6 @@ first_low ok zero i = omega arith
 first_low ok (suc k) i = go (first_low ok k (suc i)) (ok i)
   where
     go : suc i ≤ first ok k (suc i) → (b : Bool) → i ≤ cond b (first ok k (suc i)) i
-    go h true = omega arith
-    go h false = omega arith
-
-first_high : (ok : ℕ → Bool) (k i : ℕ) → first ok k i ≤ i + k
-unfolding first
-first_high ok zero i = omega arith
-first_high ok (suc k) i = go (first_high ok k (suc i)) (ok i)
-  where
-    go : first ok k (suc i) ≤ suc i + k → (b : Bool) → cond b (first ok k (suc i)) i ≤ i + suc k
     go h true = omega arith
     go h false = omega arith
 
@@ -94,7 +86,7 @@ trailing_low s at = first_low (zero_at s) (length s - at) at
 
 pub trailing_high : (s : List ℕ) (at : ℕ) → trailing s at ≤ at + (length s - at)
 unfolding trailing
-trailing_high s at = first_high (zero_at s) (length s - at) at
+trailing_high s at = first_most (zero_at s) (length s - at) at
 
 pub trailing_from : (s : List ℕ) (at p : ℕ) → at ≤ p → p ≤ trailing s at → trailing s p ≡ trailing s at
 unfolding trailing

@@ -21,7 +21,7 @@ use Rattle.dispatch_defs.proofs.Checks.{accepts}
 use Rattle.dispatch_defs.proofs.Settling.{settled_refused, settled_answered}
 use Rattle.std.specs.Prelude.{Err, Ok, Result}
 
-never : {A : Type 0} (x : A) (k i : ℕ) → answered x ≡ refused k i → ⊥
+pub never : {A : Type 0} (x : A) (k i : ℕ) → answered x ≡ refused k i → ⊥
 never x k i e = unequal cc
 
 module _ (n : ℕ) (u : Units) (d : Float) (mw : List Float) where

@@ -10,6 +10,7 @@ use lib.Dec.{ltb}
 use lib.Ieee.{Float, nan}
 use lib.ListN.{length, get_or, length-map, get_or-append, get_or-eq_default}
 use lib.Seq.{get_or-append-add}
+use Rattle.std.proofs.lemmas.List.{get_or_default}
 use Rattle.loops.specs.Figures.{at, nought}
 use Rattle.loops.proofs.Tab.{tab_same}
 use Rattle.loops.proofs.Fronts.{get_map}
@@ -22,12 +23,6 @@ use Rattle.plan_defs.proofs.Rows.{row_from_lem}
 use Rattle.join_defs.specs.Columns.{figures, counts, joined_sheet}
 use Rattle.join_defs.specs.Districts.{moved, joined_row, joined_case}
 use Rattle.join_defs.specs.Joining.{padded, figure_in, sheet_of, laid_out}
-
--- a place of a list is the same whatever stands for one past it
-pub within : {A : Type 0} (l : List A) (i : ℕ) (d e : A) → i < length l → get_or l i d ≡ get_or l i e
-within [] i d e h = absurd (omega arith)
-within (x ∷ l) zero d e h = refl
-within (x ∷ l) (suc i) d e h = within l i d e (omega arith)
 
 -- ---- a place of two lists one after the other
 module _ {A : Type 0} (zero : A) (x z : List A) (m : ℕ) (u v : ℕ → A) (size : length z ≡ m)
@@ -50,7 +45,7 @@ module _ {A : Type 0} (zero : A) (x z : List A) (m : ℕ) (u v : ℕ → A) (siz
 figures_are : (n : ℕ) (x y : List Float) → padded nought n (x ++ y) ≡ figures n x y
 unfolding padded
 figures_are n x y =
-    tab_same n _ _ (λ i h. placed nought x y (length y) (at x) (at y) refl (λ j l. within x j nought nan l) (λ j l. within y j nought nan l) i)
+    tab_same n _ _ (λ i h. placed nought x y (length y) (at x) (at y) refl (λ j l. get_or_default x j nought nan l) (λ j l. get_or_default y j nought nan l) i)
 
 counts_are : (n by : ℕ) (x y : List ℕ) → padded 0 n (x ++ moved by y) ≡ counts n by x y
 unfolding padded

@@ -9,7 +9,6 @@ use native.Mathlib.Omega.{arith}
 use borrow.Author.Tests.{ltb-true, ltb-false, lt-ltb, le-ltb, le-leb, eq-eqb}
 use lib.Dec.{ltb, leb, eqb}
 use lib.ListN.{length, get_or, length-append, length-map}
-use Rattle.loops.specs.Loops.{first}
 use Rattle.loops.proofs.Bools.{both, and_of, unequal}
 use Rattle.loops.proofs.Scan.{pass_all}
 use Rattle.refusal.specs.declared.Refusal.{Refusal}

@@ -32,12 +32,13 @@ use Rattle.join_defs.specs.Columns.{sheet_at, joined_sheet}
 use Rattle.join_defs.specs.Districts.{joined_case}
 use Rattle.join_defs.specs.Joining.{header_of, padded, figure_in, sheet_of, laid_out, outcome, join_cases}
 use Rattle.join_defs.proofs.Levels.{levels_same}
-use Rattle.join_defs.proofs.Tables.{within, sheet_are}
+use Rattle.join_defs.proofs.Tables.{sheet_are}
 use Rattle.join_theorems.specs.Calls.{fronts, case_in}
 use Rattle.join_theorems.proofs.Within.{second_at}
 use Rattle.join_theorems.proofs.Accepted.{Joinable, all_accepted}
 use Rattle.join_theorems.proofs.Calls.{laid}
 use Rattle.std.specs.Prelude.{Ok}
+use Rattle.std.proofs.lemmas.List.{get_or_default}
 
 -- ---- a column that is laid out
 padded_at : {A : Type 0} (z : A) (N : ℕ) (l : List A) (i : ℕ) → length l ≤ N → get_or (padded z N l) i z ≡ get_or l i z
@@ -115,7 +116,7 @@ module _ (f : ℕ) (inside : f < row_figures) (P : Float → Type 0) where
       let z = row_inside m n k l h q in
       let i = row_index m k l in
       let e : row_place m k l + f ≡ row_cell i f = omega arith in
-      subst P (sym (ap (at x) e ∙ within x (row_cell i f) nan nought (omega arith))) (all i (omega arith))
+      subst P (sym (ap (at x) e ∙ get_or_default x (row_cell i f) nan nought (omega arith))) (all i (omega arith))
 
   module _ (m o n : ℕ) (x y : List Float) (size : length x ≡ row_figures * (m * n)) (other : length y ≡ row_figures * (o * n))
       (low : (i : ℕ) → i < m * n → P (get_or x (row_cell i f) nought)) (high : (i : ℕ) → i < o * n → P (get_or y (row_cell i f) nought)) where

@@ -14,10 +14,11 @@ use lib.Seq.{set-append_left}
 use Rattle.loops.specs.Figures.{at}
 use Rattle.loops.specs.Loops.{iter}
 use Rattle.loops.proofs.Bools.{unequal}
+use Rattle.loops.proofs.Fronts.{get_map}
 use Rattle.plan_defs.specs.Lists.{keep, pass_from, passing, each}
 use Rattle.plan_defs.specs.Stage.{Stage, stopped, going, onward, each_stage}
 use Rattle.plan_defs.specs.Dispatch.{scatter_at, scatter}
-use Rattle.plan_defs.proofs.Lists.{All, get_map}
+use Rattle.plan_defs.proofs.Lists.{All, pass_split}
 use Rattle.join_defs.specs.Districts.{moved}
 
 -- ---- two indices, moved alike
@@ -29,18 +30,6 @@ eqb_moved n x y = go (ℕ_discrete x y)
     go (no d) = ne_eqb (n + x) (n + y) (λ e. d (omega arith)) ∙ sym (ne_eqb x y d)
 
 -- ---- the indices that pass
-keep_append : (b : Bool) (i : ℕ) (l r : List ℕ) → keep b i (l ++ r) ≡ keep b i l ++ r
-keep_append true i l r = refl
-keep_append false i l r = refl
-
-split_from : (p : ℕ → Bool) (d m i : ℕ) → pass_from p (d + m) i ≡ pass_from p d i ++ pass_from p m (i + d)
-unfolding pass_from
-split_from p zero m i = ap (λ (k : ℕ). pass_from p k i) (let z : 0 + m ≡ m = omega arith in z) ∙ ap (λ (k : ℕ). pass_from p m k) (let z : i ≡ i + 0 = omega arith in z)
-split_from p (suc d) m i =
-    ap (λ (k : ℕ). pass_from p k i) (let z : suc d + m ≡ suc (d + m) = omega arith in z)
-    ∙ ap (keep (p i) i) (split_from p d m (suc i) ∙ ap (λ (k : ℕ). pass_from p d (suc i) ++ pass_from p m k) (let z : suc i + d ≡ i + suc d = omega arith in z))
-    ∙ keep_append (p i) i (pass_from p d (suc i)) (pass_from p m (i + suc d))
-
 none_from : (p : ℕ → Bool) (d i : ℕ) → ((j : ℕ) → i ≤ j → j < i + d → p j ≡ false) → pass_from p d i ≡ []
 unfolding pass_from
 none_from p zero i h = refl
@@ -67,10 +56,10 @@ at_place p q b n h = ap (pass_from p n) (let z : 0 + b ≡ b + 0 = omega arith i
 pub passing_within : (p q : ℕ → Bool) (b n e : ℕ) → ((i : ℕ) → i < b → p i ≡ false) → ((i : ℕ) → i < n → p (b + i) ≡ q i)
     → ((i : ℕ) → b + n ≤ i → i < b + n + e → p i ≡ false) → passing p (b + n + e) ≡ moved b (passing q n)
 passing_within p q b n e low here high =
-    split_from p (b + n) e 0
+    pass_split p (b + n) e 0
     ∙ ap (λ (l : List ℕ). pass_from p (b + n) 0 ++ l) (none_from p e (0 + (b + n)) (λ j l u. high j (omega arith) (omega arith)))
     ∙ append-nil (pass_from p (b + n) 0)
-    ∙ split_from p b n 0
+    ∙ pass_split p b n 0
     ∙ ap (λ (l : List ℕ). l ++ pass_from p n (0 + b)) (none_from p b 0 (λ j l u. low j (omega arith)))
     ∙ at_place p q b n here
 
@@ -78,7 +67,7 @@ passing_within p q b n e low here high =
 pub passing_split : (p q r : ℕ → Bool) (n m : ℕ) → ((i : ℕ) → i < n → p (0 + i) ≡ q i) → ((i : ℕ) → i < m → p (n + i) ≡ r i)
     → passing p (n + m) ≡ moved 0 (passing q n) ++ moved n (passing r m)
 passing_split p q r n m low high =
-    split_from p n m 0
+    pass_split p n m 0
     ∙ ap (λ (l : List ℕ). l ++ pass_from p m (0 + n)) (at_place p q 0 n low)
     ∙ ap (λ (l : List ℕ). moved 0 (passing q n) ++ l) (at_place p r n m high)
 

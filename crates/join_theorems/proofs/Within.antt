@@ -12,11 +12,11 @@ use lib.ListN.{length, get_or, get_or-append}
 use lib.Seq.{get_or-append-add}
 use Rattle.loops.specs.Figures.{at}
 use Rattle.loops.proofs.Bools.{both}
+use Rattle.loops.proofs.Fronts.{get_map}
 use Rattle.mode.specs.Number.{mode_number}
 use Rattle.mode.specs.declared.PlanMode.{PlanMode}
 use Rattle.mode.specs.declared.PlanMode.TheVariants.{Expand, Reinforce, Observe, ExpandServing, ReinforceServing, ObserveServing}
 use Rattle.plan_defs.specs.Case.{Case, levels, tops_up, load_of, end_a, end_b, own_cap, row_at}
-use Rattle.plan_defs.proofs.Lists.{get_map}
 use Rattle.plan_defs.proofs.Accepted.{Accepted}
 use Rattle.join_defs.specs.Districts.{moved, joined_row, joined_case, alike}
 use Rattle.join_defs.proofs.Levels.{same_requested, levels_same}

@@ -1,6 +1,6 @@
 -- Laws of forests: at first, after a way is shortened, and after two sets are joined.
 -- A bus that is a root afterwards was one before; so what is said of roots is carried over.
-use Prim.Native.Nat.{ℕ, zero, suc, ◌+◌, ◌<◌, ◌≤◌}
+use Prim.Native.Nat.{ℕ, ◌+◌, ◌<◌, ◌≤◌}
 use mathlib.Core.List.{List}
 use mathlib.Core.Path.{◌≡◌, refl, sym, ap, ◌∙◌}
 use native.Mathlib.Decide.{ℕ_discrete, dec_lt}
@@ -10,11 +10,12 @@ use native.Mathlib.Omega.{arith}
 use lib.ListN.{length, get_or, set, length-set, get_or-eq_default}
 use lib.Seq.{get_or-set_same, get_or-set_other, set_out, ext_get_or}
 use Rattle.loops.specs.Loops.{iter, tab}
+use Rattle.loops.proofs.Loops.{iter_last}
 use Rattle.loops.proofs.Tab.{length_tab, get_tab}
 use Rattle.leaders.specs.Leaders.{follow, join, join_at, join_all, themselves, leaders_of}
 use Rattle.leaders.specs.Operation.{Ends}
 use Rattle.leaders.specs.Forest.{Down, Root, Forest, Kept, Roots, Found, Joined, AllJoined, HandedOut}
-use Rattle.leaders.proofs.Laws.{follow_no, join_size, join_at_lem, join_first, join_second_lem}
+use Rattle.leaders.proofs.Laws.{themselves_at, follow_no, join_size, join_at_lem, join_first, join_second_lem}
 
 -- ---- at first each bus leads itself
 pub down_first : (N : ℕ) → Down (themselves N)
@@ -33,13 +34,10 @@ forest_first N n h =
       parents = omega (arith, length_tab N (λ (i : ℕ). i));
       names = omega (arith, length_tab N (λ (i : ℕ). i));
       down = down_first N;
-      same = λ x l. ap (λ (y : ℕ). get_or (tab n (λ (i : ℕ). i)) y 0) (own N x (omega arith));
-      named = λ x l r. own N x (omega arith) ∙ sym (own n x l);
-      one = λ x y l m r s e. sym (own n x l) ∙ e ∙ own n y m;
+      same = λ x l. ap (λ (y : ℕ). get_or (tab n (λ (i : ℕ). i)) y 0) (themselves_at N x (omega arith));
+      named = λ x l r. themselves_at N x (omega arith) ∙ sym (themselves_at n x l);
+      one = λ x y l m r s e. sym (themselves_at n x l) ∙ e ∙ themselves_at n y m;
     }
-  where
-    own : (m x : ℕ) → x < m → get_or (tab m (λ (i : ℕ). i)) x 0 ≡ x
-    own m x l = get_tab m (λ (i : ℕ). i) x 0 l
 
 -- ---- a bus takes a lower parent
 pub down_set : (p : List ℕ) (i v : ℕ) → Down p → v ≤ i → Down (set p i v)
@@ -245,11 +243,6 @@ joined_by_lem a b r s p q t name u name' F G J =
     }
 
 -- ---- all corridors
-iter_last : {S : Type 0} (f : ℕ → S → S) (d i : ℕ) (s : S) → iter f (suc d) i s ≡ f (i + d) (iter f d i s)
-unfolding iter
-iter_last f zero i s = ap (λ (k : ℕ). f k s) (omega arith)
-iter_last f (suc d) i s = iter_last f d (suc i) (f i s) ∙ ap (λ (k : ℕ). f k (iter f d (suc i) (f i s))) (omega arith)
-
 module _ (a b : List ℕ) (p name : List ℕ) where
   pub none_joined : Down p → AllJoined a b 0 p name p name
   unfolding iter

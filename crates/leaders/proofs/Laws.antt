@@ -16,6 +16,10 @@ use Rattle.leaders.specs.Leaders.{follow, rename, join, join_at, join_all, thems
 use Rattle.leaders.specs.Operation.{Ends}
 use Rattle.leaders.specs.Chain.{Chain, here, forth, back, Led}
 
+-- ---- at first each bus leads itself
+pub themselves_at : (n i : ℕ) → i < n → get_or (tab n (λ (j : ℕ). j)) i 0 ≡ i
+themselves_at n i h = get_tab n (λ (j : ℕ). j) i 0 h
+
 -- ---- following
 pub follow_yes : (old new x : ℕ) → x ≡ old → follow old new x ≡ new
 follow_yes old new x e = rw (eq-eqb x old e)
@@ -28,13 +32,21 @@ pub follow_new : (old new : ℕ) → follow old new new ≡ new
 follow_new old new = elim (ℕ_discrete new old) [ yes e ↦ follow_yes old new new e | no n ↦ follow_no old new new n ]
 
 -- ---- joining
+pub rename_size : (old new : ℕ) (l : List ℕ) → length (rename old new l) ≡ length l
+unfolding rename
+rename_size old new l = length_tab (length l) _
+
+pub rename_at : (old new : ℕ) (l : List ℕ) (i : ℕ) → i < length l → get_or (rename old new l) i 0 ≡ follow old new (get_or l i 0)
+unfolding rename
+rename_at old new l i h = get_tab (length l) (λ (j : ℕ). follow old new (get_or l j 0)) i 0 h
+
 pub join_size : (a b : ℕ) (l : List ℕ) → length (join a b l) ≡ length l
-unfolding join rename
-join_size a b l = length_tab (length l) _
+unfolding join
+join_size a b l = rename_size (get_or l a 0) (get_or l b 0) l
 
 pub join_at_lem : (a b : ℕ) (l : List ℕ) (i : ℕ) → i < length l → get_or (join a b l) i 0 ≡ follow (get_or l a 0) (get_or l b 0) (get_or l i 0)
-unfolding join rename
-join_at_lem a b l i h = get_tab (length l) (λ (j : ℕ). follow (get_or l a 0) (get_or l b 0) (get_or l j 0)) i 0 h
+unfolding join
+join_at_lem a b l i h = rename_at (get_or l a 0) (get_or l b 0) l i h
 
 -- the two ends then have b's leader
 pub join_first : (a b : ℕ) (l : List ℕ) → a < length l → get_or (join a b l) a 0 ≡ get_or l b 0
@@ -62,14 +74,11 @@ unfolding themselves
 held_first n a b =
     record {
       size = length_tab n _;
-      below = λ i h. subst (λ (x : ℕ). x < n) (sym (own i h)) h;
-      leads = λ i h. ap (λ (x : ℕ). get_or (tab n (λ (j : ℕ). j)) x 0) (own i h);
+      below = λ i h. subst (λ (x : ℕ). x < n) (sym (themselves_at n i h)) h;
+      leads = λ i h. ap (λ (x : ℕ). get_or (tab n (λ (j : ℕ). j)) x 0) (themselves_at n i h);
       ends = λ c h. absurd (omega arith);
-      joined = λ i j p q e. subst (λ (x : ℕ). Chain a b i x) (sym (own i p) ∙ e ∙ own j q) here;
+      joined = λ i j p q e. subst (λ (x : ℕ). Chain a b i x) (sym (themselves_at n i p) ∙ e ∙ themselves_at n j q) here;
     }
-  where
-    own : (i : ℕ) → i < n → get_or (tab n (λ (j : ℕ). j)) i 0 ≡ i
-    own i h = get_tab n (λ (j : ℕ). j) i 0 h
 
 -- ---- a turn: the set of corridor k's a takes the leader of its b
 module _ (n : ℕ) (a b : List ℕ) (sound : Ends n a b) (k : ℕ) (l : List ℕ) (K : k < length a) (h : Held n a b k l) where

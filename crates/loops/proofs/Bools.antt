@@ -31,6 +31,10 @@ pub and_true : (a : Bool) {b : Bool} → b ≡ true → (a && b) ≡ a
 and_true true e = e
 and_true false e = refl
 
+pub and_no : (a b : Bool) → b ≡ false → (a && b) ≡ false
+and_no true b e = e
+and_no false b e = refl
+
 pub or_left : (a b : Bool) → a ≡ true → (a || b) ≡ true
 or_left a b e = rw e
 

@@ -24,6 +24,12 @@ module _ {S : Type 0} (f : ℕ → S → S) where
   unfolding iter
   iter_end {n} {i} {s} h = ap (λ (d : ℕ). iter f d i s) (none n i h)
 
+  -- the last turn by itself
+  pub iter_last : (d i : ℕ) (s : S) → iter f (suc d) i s ≡ f (i + d) (iter f d i s)
+  unfolding iter
+  iter_last zero i s = ap (λ (k : ℕ). f k s) (omega arith)
+  iter_last (suc d) i s = iter_last d (suc i) (f i s) ∙ ap (λ (k : ℕ). f k (iter f d (suc i) (f i s))) (omega arith)
+
   -- turns that change nothing
   pub iter_still : (s : S) → ((i : ℕ) → f i s ≡ s) → (d i : ℕ) → iter f d i s ≡ s
   unfolding iter

@@ -20,6 +20,11 @@ positive_of (inf s) a b = absurd b
 positive_of (fin true m e) a b = a
 positive_of (fin false m e) a b = a
 
+pub positive_bounded : (x : Float) → T (positive x) → T (bounded x)
+positive_bounded nan p = p
+positive_bounded (inf s) p = p
+positive_bounded (fin s m e) p = tt
+
 -- what two tests set strictly between a and b is finite
 pub between_bounded : (a b x : Float) → T (real a) → T (real b) → T (real x) → le b x ≡ false → le x a ≡ false → T (bounded x)
 unfolding lt eq le

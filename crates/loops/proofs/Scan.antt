@@ -30,6 +30,16 @@ module _ (ok : ℕ → Bool) (n i : ℕ) where
   unfolding first
   first_end h = ap (λ (k : ℕ). first ok k i) (none n i h)
 
+-- ---- it goes no further than its end
+pub first_most : (ok : ℕ → Bool) (k i : ℕ) → first ok k i ≤ i + k
+unfolding first
+first_most ok zero i = omega arith
+first_most ok (suc k) i = go (first ok k (suc i)) (ok i) (first_most ok k (suc i))
+  where
+    go : (p : ℕ) (b : Bool) → p ≤ suc i + k → cond b p i ≤ i + suc k
+    go p true h = omega arith
+    go p false h = omega arith
+
 -- ---- where the search comes to the end, the test passes at each index
 pub first_all : (ok : ℕ → Bool) (k i : ℕ) → i + k ≤ first ok k i → (j : ℕ) → i ≤ j → j < i + k → ok j ≡ true
 unfolding first

@@ -42,7 +42,7 @@ real_add f (fin s m e) nan p q = absurd q
 real_add f (fin s m e) (inf t) p q = absurd q
 real_add f (fin s m e) (fin t n d) p q = sum_real f s (m * up e * down d) t (n * up d * down e) (down e * down d)
 
-neg_real : (x : Float) → T (real x) → T (real (neg x))
+pub neg_real : (x : Float) → T (real x) → T (real (neg x))
 unfolding neg
 neg_real nan p = p
 neg_real (inf s) p = tt

@@ -5,7 +5,6 @@ use mathlib.Core.Bool.{Bool, true, false, cond, ◌&&◌}
 use mathlib.Core.List.{List}
 use mathlib.Core.Option.{Option, none, some}
 use mathlib.Core.Path.{◌≡◌, refl, sym, ◌∙◌, subst}
-use native.Mathlib.Nat.{mul_comm}
 use native.Mathlib.Omega.{arith}
 use borrow.Author.Tests.{ltb-true, ltb-false, leb-true, eqb-true}
 use lib.Dec.{ltb, leb, eqb}
@@ -20,7 +19,7 @@ use Rattle.loops.proofs.Tab.{get_tab}
 use Rattle.refusal.specs.declared.Refusal.{Refusal}
 use Rattle.refusal.specs.declared.Refusal.TheVariants.{Length, Count, Level, Bus, Generator, Corridor, Row}
 use Rattle.sheets.specs.Sheet.{row_figures, row_place, line_index, line_corridor}
-use Rattle.sheets.proofs.Layouts.{parts}
+use Rattle.sheets.proofs.Layouts.{parts, row_inside as inside_sheet}
 use Rattle.leaders.specs.Operation.{Ends, corridor_ok}
 use Rattle.dispatch_defs.specs.Units.{unit_ok}
 use Rattle.plan_defs.specs.Constants.{most_buses, most_corridors, most_generators, most_levels, most_target, most_initial, most_cap}
@@ -164,6 +163,25 @@ module _ (c : Case) where
           }
 
 -- ---- what the tables' tests say
+-- the higher and the lower end of a corridor are its ends
+one_of : (b : Bool) (x y n : ℕ) → x < n → y < n → cond b x y < n
+one_of true x y n p q = p
+one_of false x y n p q = q
+
+module _ (c : Case) (level : List ℕ) (k n : ℕ) (a-below : end_a c k < n) (b-below : end_b c k < n) where
+  pub from_within : from_of c level k < n
+  unfolding from_of
+  from_within = one_of (higher_a c level k) (end_a c k) (end_b c k) n a-below b-below
+
+  pub to_within : to_of c level k < n
+  unfolding to_of
+  to_within = one_of (higher_a c level k) (end_b c k) (end_a c k) n b-below a-below
+
+-- where each tier is one of those requested, a bus begins on the ladder
+pub first_within : (c : Case) → ((i : ℕ) → i < c.buses → get_or c.tier i 0 < c.requested) → (i : ℕ) → i < c.buses → get_or (first_levels c) i 0 < levels c
+unfolding first_levels
+first_within c low i h = omega (arith, get_tab c.buses (λ (j : ℕ). c.above + get_or c.tier j 0) i 0 h, low i h)
+
 module _ (c : Case) (target : ℕ) (ok : Accepted c target) where
   corridor_parts : (k : ℕ) → k < c.corridors → (ltb (end_a c k) c.buses ≡ true) × (ltb (end_b c k) c.buses ≡ true)
   unfolding corridor_sound
@@ -185,18 +203,12 @@ module _ (c : Case) (target : ℕ) (ok : Accepted c target) where
         to = λ k h. end_b_lem k (omega (arith, ok.columns.a));
       }
 
-  chosen : (b : Bool) (x y : ℕ) → x < c.buses → y < c.buses → cond b x y < c.buses
-  chosen true x y p q = p
-  chosen false x y p q = q
-
   -- the higher and the lower end are buses, at whatever levels
   pub from_below : (level : List ℕ) (k : ℕ) → k < c.corridors → from_of c level k < c.buses
-  unfolding from_of
-  from_below level k h = chosen (higher_a c level k) (end_a c k) (end_b c k) (end_a_lem k h) (end_b_lem k h)
+  from_below level k h = from_within c level k c.buses (end_a_lem k h) (end_b_lem k h)
 
   pub to_below : (level : List ℕ) (k : ℕ) → k < c.corridors → to_of c level k < c.buses
-  unfolding to_of
-  to_below level k h = chosen (higher_a c level k) (end_b c k) (end_a c k) (end_b_lem k h) (end_a_lem k h)
+  to_below level k h = to_within c level k c.buses (end_a_lem k h) (end_b_lem k h)
 
   pub bus_below : (k : ℕ) → k < c.generators → get_or c.bus k 0 < c.buses
   unfolding generator_ok
@@ -240,12 +252,11 @@ module _ (c : Case) (target : ℕ) (ok : Accepted c target) where
 
   -- a bus begins on the ladder
   pub first_below : (i : ℕ) → i < c.buses → get_or (first_levels c) i 0 < levels c
-  unfolding first_levels
-  first_below i h = omega (arith, get_tab c.buses (λ (j : ℕ). c.above + get_or c.tier j 0) i 0 h, tier_below i h)
+  first_below = first_within c tier_below
 
 -- ---- the sheet's rows: index corridor × levels + level, and the five figures of a row are in the sheet
 pub row_inside : (c : Case) (target : ℕ) → Accepted c target → (k l : ℕ) → k < c.corridors → l < levels c → row_place c.corridors k l + row_figures ≤ c.figures
-row_inside c target ok k l h q = omega (arith, ok.columns.sheet, row_fits l (levels c) c.corridors q, mul_comm (levels c) c.corridors)
+row_inside c target ok k l h q = omega (arith, ok.columns.sheet, inside_sheet c.corridors (levels c) k l h q)
 
 pub row_sound_lem : (c : Case) (target : ℕ) → Accepted c target → (k l : ℕ) → k < c.corridors → l < levels c → row_sound (row_at c k l) ≡ true
 unfolding row_ok

@@ -66,6 +66,11 @@ module _ (c : Case) (level : List ℕ) (k : ℕ) where
   to_by true a = refl
   to_by false a = refl
 
+  km_by : (b : Bool) (a : Float) → (banked_by b (line_at c level k) a).length_km ≡ at c.km k
+  unfolding set_transformer_mva with_bank line_at line_of
+  km_by true a = refl
+  km_by false a = refl
+
   rate_by : (b : Bool) (a : Float) → (banked_by b (line_at c level k) a).line_rate ≡ (line_at c level k).line_rate
   unfolding set_transformer_mva with_bank
   rate_by true a = refl
@@ -82,6 +87,10 @@ module _ (c : Case) (level : List ℕ) (k : ℕ) where
   pub drawn_to : (a : Float) → (drawn c level k a).to ≡ to_of c level k
   unfolding drawn
   drawn_to a = to_by (steps_down c level k) a
+
+  pub drawn_km : (a : Float) → (drawn c level k a).length_km ≡ at c.km k
+  unfolding drawn
+  drawn_km a = km_by (steps_down c level k) a
 
   pub drawn_rate : (a : Float) → (drawn c level k a).line_rate ≡ (line_at c level k).line_rate
   unfolding drawn

@@ -2,11 +2,12 @@
 -- By induction on the number of indices left.
 use Prim.Native.Nat.{ℕ, zero, suc, ◌+◌, ◌≤◌, ◌<◌, zero-le, suc-le-suc}
 use mathlib.Core.Bool.{Bool, true, false, cond}
-use mathlib.Core.List.{List, [], ◌∷◌, ◌++◌, map}
+use mathlib.Core.List.{List, [], ◌∷◌, ◌++◌}
 use mathlib.Core.Path.{◌≡◌, refl, sym, ap, ◌∙◌, subst}
 use native.Mathlib.Nat.{not-suc-le-zero, le_of_suc-le-suc}
 use native.Mathlib.Omega.{arith}
 use native.Mathlib.Decide.{ℕ_discrete}
+use Rattle.std.proofs.Common.{add-one}
 use lib.Arith.{lt_of_le-ne}
 use lib.ListN.{length, get_or, set}
 use Rattle.loops.specs.Loops.{iter, tab}
@@ -118,6 +119,19 @@ pass_length p (suc d) i = go (p i) (pass_length p d (suc i))
     go true h = suc-le-suc h
     go false h = omega arith
 
+-- those of d + m indices: of the first d, and of the others
+keep_append : (b : Bool) (i : ℕ) (l r : List ℕ) → keep b i (l ++ r) ≡ keep b i l ++ r
+keep_append true i l r = refl
+keep_append false i l r = refl
+
+pub pass_split : (p : ℕ → Bool) (d m i : ℕ) → pass_from p (d + m) i ≡ pass_from p d i ++ pass_from p m (i + d)
+unfolding pass_from
+pass_split p zero m i = ap (λ (k : ℕ). pass_from p k i) (let z : 0 + m ≡ m = omega arith in z) ∙ ap (λ (k : ℕ). pass_from p m k) (let z : i ≡ i + 0 = omega arith in z)
+pass_split p (suc d) m i =
+    ap (λ (k : ℕ). pass_from p k i) (let z : suc d + m ≡ suc (d + m) = omega arith in z)
+    ∙ ap (keep (p i) i) (pass_split p d m (suc i) ∙ ap (λ (k : ℕ). pass_from p d (suc i) ++ pass_from p m k) (let z : suc i + d ≡ i + suc d = omega arith in z))
+    ∙ keep_append (p i) i (pass_from p d (suc i)) (pass_from p m (i + suc d))
+
 abbrev pub Has : ℕ → List ℕ → Type 0
 Has k l = (j : ℕ) × (j < length l) × (get_or l j 0 ≡ k)
 
@@ -146,10 +160,11 @@ count_next p (suc d) i =
     let e : ◌≡◌ {A = ℕ} (cond (p (suc i + d)) 1 0) (cond (p (i + suc d)) 1 0) = ap (λ (j : ℕ). cond {A = ℕ} (p j) 1 0) (let z : suc i + d ≡ i + suc d = omega arith in z) in
     omega (arith, count_next p d (suc i))
 
-pub counting_next : (p : ℕ → Bool) (n : ℕ) → counting p (suc n) ≡ counting p n + cond (p n) 1 0
-counting_next p n = count_next p n 0 ∙ ap (λ (j : ℕ). count_from p n 0 + cond (p j) 1 0) (let z : 0 + n ≡ n = omega arith in z)
+pub count_more : (p : ℕ → Bool) (n : ℕ) → counting p (n + 1) ≡ counting p n + cond (p n) 1 0
+count_more p n =
+    ap (counting p) (add-one n) ∙ count_next p n 0 ∙ ap (λ (j : ℕ). count_from p n 0 + cond (p j) 1 0) (let z : 0 + n ≡ n = omega arith in z)
 
-one_at_most : (b : Bool) → cond b 1 0 ≤ 1
+pub one_at_most : (b : Bool) → cond b 1 0 ≤ 1
 one_at_most true = suc-le-suc zero-le
 one_at_most false = zero-le
 
@@ -198,9 +213,3 @@ sum_split f g h (suc n) e =
 pub sum_parts : (l : List ℕ) (g : ℕ → ℕ) (n : ℕ) → length l ≡ n → ((k : ℕ) → k < n → g k ≤ get_or l k 0) → (h : ℕ → ℕ)
     → ((k : ℕ) → k < n → get_or l k 0 ≡ g k + h k) → sum l ≡ sum (tab n g) + sum (tab n h)
 sum_parts l g n e b h q = ap sum (sym (tab_of n l 0 e)) ∙ sum_split (λ k. get_or l k 0) g h n q
-
--- ---- an element of a mapped list
-pub get_map : {A B : Type 0} (f : A → B) (l : List A) (j : ℕ) (x : A) (y : B) → j < length l → get_or (map f l) j y ≡ f (get_or l j x)
-get_map f [] j x y h = absurd (not-suc-le-zero h)
-get_map f (a ∷ l) zero x y h = refl
-get_map f (a ∷ l) (suc j) x y h = get_map f l j x y (le_of_suc-le-suc h)

@@ -6,6 +6,7 @@ use mathlib.Core.List.{List}
 use mathlib.Core.Path.{◌≡◌, refl, sym, ap, ◌∙◌}
 use native.Mathlib.Nat.{le_refl}
 use native.Mathlib.Omega.{arith}
+use Rattle.std.proofs.Common.{add-one}
 use borrow.Author.Tests.{ltb-true}
 use lib.Dec.{ltb}
 use lib.ListN.{length, get_or, length-set}
@@ -18,7 +19,7 @@ use Rattle.plan_defs.specs.Solve.{Peak, planning_state}
 use Rattle.plan_defs.specs.Raise.{no_marks, raise_of, mark_bus, mark_both, raised_to, moves, raised_levels, moved_buses, Raised, heavy_marks, passed_to, passed_by, passes, pass_count, raises}
 use Rattle.plan_defs.specs.Plan.{first_raised}
 use Rattle.std.specs.Prelude.{Option, Some, None}
-use Rattle.plan_defs.proofs.Lists.{counting_next, count_none, sum_tab}
+use Rattle.plan_defs.proofs.Lists.{count_more, count_none, sum_tab}
 use Rattle.plan_defs.proofs.Stages.{On, on_onward}
 use Rattle.plan_defs.proofs.Accepted.{Accepted, first_below}
 use Rattle.plan_defs.proofs.Drawn.{Drawn, drawn_first, drawn_again}
@@ -71,7 +72,7 @@ module _ (level marks : List ℕ) where
   unfolding count_from tab sum
   moved_upto zero = le_refl 0
   moved_upto (suc n) =
-      omega (arith, counting_next goes n, sum_tab to n, sum_tab (λ i. get_or level i 0) n, moved_upto n, moved_less (get_or level n 0) (raise_of (get_or marks n 0)))
+      omega (arith, ap (counting goes) (sym (add-one n)) ∙ count_more goes n, sum_tab to n, sum_tab (λ i. get_or level i 0) n, moved_upto n, moved_less (get_or level n 0) (raise_of (get_or marks n 0)))
 
   pub moved_sum : moved_buses level marks + sum (raised_levels level marks) ≤ sum level
   unfolding moved_buses raised_levels

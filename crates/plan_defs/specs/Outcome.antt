@@ -1,6 +1,6 @@
 -- What `plan_corridors` says, and what every place of each slice that it is lent holds then (document 01, refusals of *Planning*):
 -- 1 to 7 touch nothing; after 8 or 9 all result and work places are zero; after an answer, work is zero.
-use Rattle.std.specs.Prelude.{ℕ, ◌+◌, ◌-◌, ◌*◌, Bool, true, false, ◌&&◌, List, map, ◌++◌, eqb, length, replicate, Float, Err, Ok, Result}
+use Rattle.std.specs.Prelude.{◌≡◌, ℕ, ◌+◌, ◌-◌, ◌*◌, Bool, true, false, ◌&&◌, List, map, ◌++◌, eqb, length, replicate, Float, Err, Ok, Result}
 use Rattle.loops.specs.Figures.{nought}
 use Rattle.refusal.specs.Reply.{Reply, reply_of}
 use Rattle.refusal.specs.declared.Refusal.TheVariants.{Length}
@@ -69,6 +69,19 @@ slices_ok c s =
     && (eqb (length s.added) c.above
     && (eqb (length s.figures) (work_places c)
     && eqb (length s.counts) (work_places c))))))))))))
+
+-- the lengths of those that the stages are lent: all but what is kept of filling and the caps
+pub record StageLengths (c : Case) (s : Slices) : Type 0 where
+  pub circuits : length s.circuits ≡ c.corridors
+  pub flow : length s.flow ≡ c.corridors
+  pub rate : length s.rate ≡ c.corridors
+  pub mw : length s.mw ≡ c.generators
+  pub angle : length s.angle ≡ c.buses
+  pub tier : length s.tier ≡ c.buses
+  pub ground : length s.ground ≡ c.buses
+  pub added : length s.added ≡ c.above
+  pub figures : length s.figures ≡ work_places c
+  pub counts : length s.counts ≡ work_places c
 
 -- ---- what they hold
 abbrev pub cleared : Case → Slices

@@ -15,7 +15,7 @@ use lib.Ieee.{Float}
 use lib.ListN.{length, get_or}
 use Rattle.loops.specs.Sorting.{occ}
 use Rattle.loops.specs.Loops.{iter}
-use Rattle.loops.proofs.Bools.{both}
+use Rattle.loops.proofs.Bools.{both, and_no}
 use Rattle.plan_defs.specs.Lists.{each}
 use Rattle.plan_defs.specs.Constants.{max_circuits_per_corridor, most_cap}
 use Rattle.plan_defs.specs.Case.{Case, promote, own_cap, full_at}
@@ -26,10 +26,6 @@ use Rattle.plan_defs.proofs.Accepted.{own_few}
 use Rattle.plan_theorems.specs.Cursor.{Cursor, cursor_at, runs, advance_if, advance, cursor_if, cursor_step, cursor_run}
 use Rattle.plan_theorems.proofs.Filling.{rounds_grown, Ends, reached, unreached, fills, all_full}
 use Rattle.plan_theorems.proofs.Ranking.{order_once}
-
-and_false : (a b : Bool) → b ≡ false → (a && b) ≡ false
-and_false true b e = e
-and_false false b e = refl
 
 -- a window of m numbers before c has one of each remainder
 residue : (m c p : ℕ) → m ≤ c → p < m → (q : ℕ) × (q < c) × (c ≤ q + m) × (q % m ≡ p)
@@ -78,7 +74,7 @@ module _ (full : ℕ → ℕ) (target : ℕ) (order : List ℕ) where
             let l = w.idle_le in
             let r = residue (length order) s.cursor (n % length order) (omega arith) (mod-lt n some) in
             let c = w.shut r.0 r.1 (omega (arith, r.2)) in
-            and_false (ltb s.filled.total target) (below_full full (nth n) s.filled)
+            and_no (ltb s.filled.total target) (below_full full (nth n) s.filled)
             (ap (λ (j : ℕ). below_full full (get_or order j 0) s.filled) (sym r.3) ∙ c)
 
     -- ---- a step: the corridor at the cursor, as a pass would treat it
@@ -115,7 +111,7 @@ module _ (full : ℕ → ℕ) (target : ℕ) (order : List ℕ) where
                 place = λ x. (let y = h.place e in omega arith);
               };
           fills_it =
-              ap (λ (b : Bool). fill_if b (nth s.cursor) s.filled) (sym (and_false (ltb s.filled.total target) (below_full full (nth s.cursor) s.filled) f))
+              ap (λ (b : Bool). fill_if b (nth s.cursor) s.filled) (sym (and_no (ltb s.filled.total target) (below_full full (nth s.cursor) s.filled) f))
               ∙ ap (λ (i : ℕ). fill_at full target (nth i) s.filled) (h.place e);
         }
 
@@ -206,7 +202,7 @@ module _ (full : ℕ → ℕ) (target : ℕ) (order : List ℕ) where
     unfolding cursor_run cursor_step advance
     idles zero s f l =
         record {
-          ended = and_false (ltb s.filled.total target) (ltb s.idle (length order)) (le-ltb s.idle (length order) (omega arith));
+          ended = and_no (ltb s.filled.total target) (ltb s.idle (length order)) (le-ltb s.idle (length order) (omega arith));
           same = refl;
         }
     idles (suc d) s f l = go (runs target (length order) s) refl (λ t h k. idles d t h k)
@@ -281,7 +277,7 @@ module _ (full : ℕ → ℕ) (few : (k : ℕ) → full k ≤ fill_turns) (targe
   unfolding cursor_run fill_rounds fill_once each
   cursor_fills [] named =
       record {
-        ended = and_false (ltb (unfilled counts).total target) false refl;
+        ended = and_no (ltb (unfilled counts).total target) false refl;
         same = refl;
       }
   cursor_fills (k ∷ ks) named = fills_all (k ∷ ks) named (omega arith)

@@ -14,6 +14,7 @@ use lib.ListN.{length, get_or, take, drop, length-take, length-drop}
 use Rattle.loops.specs.Loops.{tab}
 use Rattle.loops.specs.Sorting.{occ}
 use Rattle.loops.proofs.Tab.{get_tab, tab_of}
+use Rattle.loops.proofs.Fronts.{get_map}
 use Rattle.angles_defs.specs.Network.{zeros}
 use Rattle.mode.specs.declared.PlanMode.{PlanMode}
 use Rattle.mode.specs.declared.PlanMode.TheVariants.{Expand, Reinforce, Observe, ExpandServing, ReinforceServing, ObserveServing}
@@ -30,7 +31,7 @@ use Rattle.plan_defs.specs.Fill.{Filled, unfilled, filled_if, fill_rounds, fill_
 use Rattle.plan_defs.specs.Closing.{least_of, tiers_of, added_of}
 use Rattle.plan_defs.specs.Plan.{Plan, Ready, ready_of, plan_of, closing, plan_for, unaccepted, planned, ending_on, ending_by, ending_of}
 use Rattle.plan_defs.specs.Demand.{cap_of, kv_given, Demand3, Tallies}
-use Rattle.plan_defs.proofs.Lists.{sum_parts, get_map}
+use Rattle.plan_defs.proofs.Lists.{sum_parts}
 use Rattle.plan_defs.proofs.Stages.{On, on_onward}
 use Rattle.plan_defs.proofs.Accepted.{Accepted, accepted, cap_few}
 use Rattle.plan_defs.proofs.Solved.{Solved, solved}
@@ -43,16 +44,16 @@ use Rattle.plan_theorems.proofs.Dispatched.{Binary, Dispatched, dispatched}
 use Rattle.plan_theorems.proofs.Ladder.{raised_kv}
 
 -- ---- the tiers count from the first level in use
-least_le : (top : ℕ) (level : List ℕ) → least_of top level ≤ top
+pub least_most : (top : ℕ) (level : List ℕ) → least_of top level ≤ top
 unfolding least_of
-least_le top [] = le_refl top
-least_le top (l ∷ level) = omega (arith, least_le (min top l) level)
+least_most top [] = le_refl top
+least_most top (l ∷ level) = omega (arith, least_most (min top l) level)
 
-least_at : (top : ℕ) (level : List ℕ) (i : ℕ) → i < length level → least_of top level ≤ get_or level i 0
+pub least_each : (top : ℕ) (level : List ℕ) (i : ℕ) → i < length level → least_of top level ≤ get_or level i 0
 unfolding least_of
-least_at top [] i h = absurd (not-suc-le-zero h)
-least_at top (l ∷ level) zero h = omega (arith, least_le (min top l) level)
-least_at top (l ∷ level) (suc i) h = least_at (min top l) level i (le_of_suc-le-suc h)
+least_each top [] i h = absurd (not-suc-le-zero h)
+least_each top (l ∷ level) zero h = omega (arith, least_most (min top l) level)
+least_each top (l ∷ level) (suc i) h = least_each (min top l) level i (le_of_suc-le-suc h)
 
 counted_from : (c : Case) (level : List ℕ) (i : ℕ) → i < length level → length c.ladder ≡ levels c
     → c.above - length (added_of c level) + get_or (tiers_of c level) i 0 ≡ get_or level i 0
@@ -62,7 +63,7 @@ counted_from c level i h q =
     let a : length (drop u (take c.above c.ladder)) ≡ min c.above (length c.ladder) - u =
     length-drop u (take c.above c.ladder) ∙ ap (λ (n : ℕ). n - u) (length-take c.above c.ladder) in
     let b : get_or (map (λ l. l - u) level) i 0 ≡ get_or level i 0 - u = get_map (λ l. l - u) level i 0 0 h in
-    omega (arith, least_le c.above level, least_at c.above level i h)
+    omega (arith, least_most c.above level, least_each c.above level i h)
 
 -- ---- filling
 module _ (c : Case) (target : ℕ) where

@@ -10,16 +10,15 @@ use lib.Dec.{T, lit<}
 use lib.ListN.{length, get_or}
 use lib.Ieee.{Float, le, of_bits, round}
 use lib.Ieee.Positive.{den}
-use Rattle.loops.specs.Figures.{plus, nought, million, billion}
+use Rattle.loops.specs.Figures.{plus, nought, million, billion, inside}
 use Rattle.loops.proofs.Bools.{is, both, and_of}
+use Rattle.loops.proofs.Order.{inside_bounded}
 use Rattle.loops.proofs.Signs.{sound_of}
 use Rattle.loops.proofs.Sums.{unsigned, Term, plus_unsigned, nought_least}
 use Rattle.loops.proofs.Wholes.{whole, Few, few_plus, few_within, of_few}
 use Rattle.dispatch_defs.specs.Operation.{demand_ok}
+use Rattle.plan_defs.specs.Constants.{most_buses}
 use Rattle.plan_defs.specs.Lists.{each, sum_over}
-use Rattle.plan_defs.specs.Case.{Case, load_of}
-use Rattle.plan_defs.proofs.Accepted.{Accepted, load_inside}
-use Rattle.plan_theorems.proofs.Dispatched.{load_bounded}
 
 -- the tables' bounds as whole numbers
 million_is : million ≡ whole 1_000_000
@@ -48,21 +47,24 @@ module _ (f : ℕ → Float) (b : ℕ) where
       subst (λ (n : ℕ). Bounded n (each (λ k t. plus t (f k)) ks (plus s (f k)))) (let z : a + b + length ks * b ≡ a + suc (length ks) * b = omega arith in z)
       (sum_few ks (λ j l. h (suc j) (suc-le-suc l)) (a + b) (plus s (f k)) q (omega arith))
 
-module _ (c : Case) (target : ℕ) (ok : Accepted c target) where
-  load_term : (i : ℕ) → i < c.buses → Term (load_of c i) × Few 1_000_000 (load_of c i)
-  load_term i h =
-      let p = both (le nought (load_of c i)) (le (load_of c i) million) (load_inside c target ok i h) in
-      let s = sound_of (load_of c i) p.0 in
-      ((s, load_bounded c target ok i h), few_within 1_000_000 (load_of c i) s (lit< tt) (is (ap (le (load_of c i)) (sym million_is) ∙ p.1)))
-
-  -- of at most 256 buses
-  pub demand_ok_lem : (ks : List ℕ) → length ks ≤ 256 → ((j : ℕ) → j < length ks → get_or ks j 0 < c.buses) → demand_ok (sum_over (load_of c) ks) ≡ true
+-- ---- one figure of at most a million
+module _ (x : Float) (h : inside nought million x ≡ true) where
+  small_term : Term x
   unfolding of_bits
-  demand_ok_lem ks few below =
+  small_term = (sound_of x (both (le nought x) (le x million) h).0, inside_bounded nought million x tt tt h)
+
+  small_few : Few 1_000_000 x
+  small_few = few_within 1_000_000 x small_term.0 (lit< tt) (is (ap (le x) (sym million_is) ∙ (both (le nought x) (le x million) h).1))
+
+-- ---- of as many figures as there are buses at most
+module _ (f : ℕ → Float) (ks : List ℕ) (few : length ks ≤ most_buses) (small : (j : ℕ) → j < length ks → inside nought million (f (get_or ks j 0)) ≡ true) where
+  pub demand_ok_lem : demand_ok (sum_over f ks) ≡ true
+  unfolding of_bits
+  demand_ok_lem =
       let w : length ks * 1_000_000 ≤ 256 * 1_000_000 = mul-le-mul_right 1_000_000 few in
-      let small : 1_000_000_000 < 2 ^ 53 = lit< tt in
-      let c₁ : 0 + length ks * 1_000_000 < 2 ^ 53 = lt_of_le_of_lt (let z : 0 + length ks * 1_000_000 ≤ 1_000_000_000 = omega arith in z) small in
-      let b = sum_few (load_of c) 1_000_000 ks (λ j l. load_term (get_or ks j 0) (below j l)) 0 nought (record { plain = tt; few = (tt, zero-le) }) c₁ in
-      let s = sum_over (load_of c) ks in
-      let f : Few 1_000_000_000 s = (b.few.0, le_trans b.few.1 (mul-le-mul_right (den s) (let z : 0 + length ks * 1_000_000 ≤ 1_000_000_000 = omega arith in z))) in
-      and_of (nought_least s b.plain) (ap (le s) billion_is ∙ of_few 1_000_000_000 s b.plain small f)
+      let room : 1_000_000_000 < 2 ^ 53 = lit< tt in
+      let c₁ : 0 + length ks * 1_000_000 < 2 ^ 53 = lt_of_le_of_lt (let z : 0 + length ks * 1_000_000 ≤ 1_000_000_000 = omega arith in z) room in
+      let b = sum_few f 1_000_000 ks (λ j l. (small_term (f (get_or ks j 0)) (small j l), small_few (f (get_or ks j 0)) (small j l))) 0 nought (record { plain = tt; few = (tt, zero-le) }) c₁ in
+      let s = sum_over f ks in
+      let t : Few 1_000_000_000 s = (b.few.0, le_trans b.few.1 (mul-le-mul_right (den s) (let z : 0 + length ks * 1_000_000 ≤ 1_000_000_000 = omega arith in z))) in
+      and_of (nought_least s b.plain) (ap (le s) billion_is ∙ of_few 1_000_000_000 s b.plain room t)

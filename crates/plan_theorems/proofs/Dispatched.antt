@@ -18,6 +18,7 @@ use Rattle.loops.proofs.Bools.{and_of}
 use Rattle.loops.proofs.Loops.{iter_carries}
 use Rattle.loops.proofs.Order.{real, bounded, inside_bounded}
 use Rattle.loops.proofs.Signs.{real_add}
+use Rattle.loops.proofs.Fronts.{get_map}
 use Rattle.leaders.specs.Chain.{Led}
 use Rattle.leaders.proofs.Laws.{led}
 use Rattle.dispatch_defs.specs.Units.{Units, count, unit_ok}
@@ -30,7 +31,7 @@ use Rattle.plan_defs.specs.Case.{Case, tops_up, load_of}
 use Rattle.plan_defs.specs.TopUp.{given_by}
 use Rattle.plan_defs.specs.Components.{component, leads, roots, within, members, unit_within, units_in}
 use Rattle.plan_defs.specs.Dispatch.{units_at, demand_of, scatter_at, scatter, served_if, serve, dispatch_of}
-use Rattle.plan_defs.proofs.Lists.{each_below, pass_below, pass_has, Has, get_map}
+use Rattle.plan_defs.proofs.Lists.{each_below, pass_below, pass_has, Has}
 use Rattle.plan_defs.proofs.Stages.{On, on_onward}
 use Rattle.plan_defs.proofs.Accepted.{Accepted, ends, bus_below, unit_ok_lem, load_inside}
 use Rattle.plan_theorems.proofs.ToppedUp.{given_within}

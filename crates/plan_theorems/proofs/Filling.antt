@@ -12,7 +12,7 @@ use lib.Dec.{ltb}
 use lib.ListN.{length, get_or, set, length-set, get_or-eq_default}
 use lib.Seq.{get_or-set_other}
 use Rattle.loops.specs.Sorting.{occ}
-use Rattle.loops.proofs.Bools.{both}
+use Rattle.loops.proofs.Bools.{both, and_no}
 use Rattle.loops.proofs.Sorting.{same_yes, same_no}
 use Rattle.plan_defs.specs.Lists.{each, sum}
 use Rattle.plan_defs.specs.Fill.{Filled, fill_if, fill_at, below_full, room, fill_once, fill_rounds}
@@ -236,13 +236,7 @@ module _ (full : ℕ → ℕ) (target m n : ℕ) (few : (k : ℕ) → full k ≤
   unfolding fill_once each
   shut_once [] t h = refl
   shut_once (k ∷ ks) t h =
-      ap (λ (x : Bool). each (fill_at full target) ks (fill_if (ltb t.total target && x) k t)) (h k)
-      ∙ ap (λ (x : Bool). each (fill_at full target) ks (fill_if x k t)) (none (ltb t.total target))
-      ∙ shut_once ks t h
-    where
-      none : (x : Bool) → (x && false) ≡ false
-      none true = refl
-      none false = refl
+      ap (λ (x : Bool). each (fill_at full target) ks (fill_if x k t)) (and_no (ltb t.total target) (below_full full k t) (h k)) ∙ shut_once ks t h
 
   shut_rounds : (d : ℕ) (ks : List ℕ) (t : Filled) → ((k : ℕ) → below_full full k t ≡ false) → fill_rounds d full target ks t ≡ t
   unfolding fill_rounds

@@ -7,16 +7,17 @@ use mathlib.Core.List.{List, ◌++◌, map}
 use mathlib.Core.Path.{◌≡◌, refl, sym, ap, ◌∙◌, subst}
 use native.Mathlib.Omega.{arith}
 use native.Mathlib.Decide.{ℕ_discrete}
-use borrow.Author.Tests.{ltb-true, ltb-false, eq-eqb, ne_eqb}
+use borrow.Author.Tests.{ltb-true, ltb-false, eq-eqb}
 use lib.Dec.{ltb}
 use lib.ListN.{length, get_or, length-append, length-map, get_or-append}
 use lib.Seq.{get_or-append-add, ext_get_or}
-use Rattle.loops.specs.Loops.{iter, tab}
-use Rattle.loops.proofs.Loops.{iter_carries}
-use Rattle.loops.proofs.Tab.{length_tab, get_tab}
-use Rattle.leaders.specs.Leaders.{follow, rename, join, join_at, join_all, themselves, leaders_of}
+use Rattle.loops.specs.Loops.{iter}
+use Rattle.loops.proofs.Loops.{iter_last, iter_carries}
+use Rattle.loops.proofs.Tab.{length_tab}
+use Rattle.loops.proofs.Fronts.{get_map}
+use Rattle.leaders.specs.Leaders.{follow, join, join_at, join_all, themselves, leaders_of}
 use Rattle.leaders.specs.Operation.{Ends}
-use Rattle.plan_defs.proofs.Lists.{get_map}
+use Rattle.leaders.proofs.Laws.{themselves_at, rename_size, rename_at, follow_no}
 
 -- m more buses, after n
 abbrev pub moved : ℕ → List ℕ → List ℕ
@@ -29,17 +30,6 @@ record Apart (n : ℕ) (x y l : List ℕ) : Type 0 where
   low : (i : ℕ) → i < length x → get_or l i 0 ≡ get_or x i 0
   high : (i : ℕ) → i < length y → get_or l (n + i) 0 ≡ n + get_or y i 0
   below : (i : ℕ) → i < length x → get_or x i 0 < n
-
-rename_at : (old new : ℕ) (l : List ℕ) (i : ℕ) → i < length l → get_or (rename old new l) i 0 ≡ follow old new (get_or l i 0)
-unfolding rename
-rename_at old new l i h = get_tab (length l) (λ (j : ℕ). follow old new (get_or l j 0)) i 0 h
-
-rename_size : (old new : ℕ) (l : List ℕ) → length (rename old new l) ≡ length l
-unfolding rename
-rename_size old new l = length_tab (length l) _
-
-follow_no : (old new x : ℕ) → (x ≡ old → ⊥) → follow old new x ≡ x
-follow_no old new x n = ap (λ (b : Bool). cond b new x) (ne_eqb x old n)
 
 -- moved, a leader is followed as it was
 follow_moved : (n old new x : ℕ) → follow (n + old) (n + new) (n + x) ≡ n + follow old new x
@@ -102,17 +92,12 @@ module _ (n : ℕ) (x y l : List ℕ) (h : Apart n x y l) where
       }
 
 -- ---- corridor by corridor
-iter_next : {S : Type 0} (f : ℕ → S → S) (d i : ℕ) (s : S) → iter f (suc d) i s ≡ f (i + d) (iter f d i s)
-unfolding iter
-iter_next f zero i s = ap (λ (j : ℕ). f j s) (let z : i ≡ i + 0 = omega arith in z)
-iter_next f (suc d) i s = iter_next f d (suc i) (f i s) ∙ ap (λ (j : ℕ). f j (iter f d (suc i) (f i s))) (let z : suc i + d ≡ i + suc d = omega arith in z)
-
 -- the leaders once the first k corridors are joined
 abbrev led_by_lem : ℕ → List ℕ → List ℕ → ℕ → List ℕ
 led_by_lem n a b k = iter (join_at a b) k 0 (themselves n)
 
 led_next : (n : ℕ) (a b : List ℕ) (k : ℕ) → led_by_lem n a b (suc k) ≡ join_at a b k (led_by_lem n a b k)
-led_next n a b k = iter_next (join_at a b) k 0 (themselves n) ∙ ap (λ (j : ℕ). join_at a b j (led_by_lem n a b k)) (let z : 0 + k ≡ k = omega arith in z)
+led_next n a b k = iter_last (join_at a b) k 0 (themselves n) ∙ ap (λ (j : ℕ). join_at a b j (led_by_lem n a b k)) (let z : 0 + k ≡ k = omega arith in z)
 
 led_size : (n : ℕ) (a b : List ℕ) (k : ℕ) → length (led_by_lem n a b k) ≡ n
 unfolding iter themselves join
@@ -142,19 +127,16 @@ module _ (n m : ℕ) (a b a' b' : List ℕ) (E : Ends n a b) (E' : Ends m a' b')
       record {
         size = length_tab (n + m) _ ∙ sym (ap (λ (k : ℕ). k + length (led_by_lem m a' b' (0 - length a))) (led_size n a b (min 0 (length a))) ∙ ap (λ (k : ℕ). n + k) (led_size m a' b' (0 - length a)));
         left = led_size n a b (min 0 (length a));
-        low = λ i h. let p : i < n = omega (arith, led_size n a b (min 0 (length a))) in own (n + m) i (omega arith) ∙ sym (first₁ i p);
-        high = λ i h. let p : i < m = omega (arith, led_size m a' b' (0 - length a)) in own (n + m) (n + i) (omega arith) ∙ ap (λ (k : ℕ). n + k) (sym (first₂ i p));
+        low = λ i h. let p : i < n = omega (arith, led_size n a b (min 0 (length a))) in themselves_at (n + m) i (omega arith) ∙ sym (first₁ i p);
+        high = λ i h. let p : i < m = omega (arith, led_size m a' b' (0 - length a)) in themselves_at (n + m) (n + i) (omega arith) ∙ ap (λ (k : ℕ). n + k) (sym (first₂ i p));
         below = λ i h. let p : i < n = omega (arith, led_size n a b (min 0 (length a))) in subst (λ (k : ℕ). k < n) (sym (first₁ i p)) p;
       }
     where
-      own : (k i : ℕ) → i < k → get_or (tab k (λ (j : ℕ). j)) i 0 ≡ i
-      own k i h = get_tab k (λ (j : ℕ). j) i 0 h
-
       first₁ : (i : ℕ) → i < n → get_or (led_by_lem n a b (min 0 (length a))) i 0 ≡ i
-      first₁ i h = ap (λ (k : ℕ). get_or (led_by_lem n a b k) i 0) (let z : min 0 (length a) ≡ 0 = omega arith in z) ∙ own n i h
+      first₁ i h = ap (λ (k : ℕ). get_or (led_by_lem n a b k) i 0) (let z : min 0 (length a) ≡ 0 = omega arith in z) ∙ themselves_at n i h
 
       first₂ : (i : ℕ) → i < m → get_or (led_by_lem m a' b' (0 - length a)) i 0 ≡ i
-      first₂ i h = ap (λ (k : ℕ). get_or (led_by_lem m a' b' k) i 0) (let z : 0 - length a ≡ 0 = omega arith in z) ∙ own m i h
+      first₂ i h = ap (λ (k : ℕ). get_or (led_by_lem m a' b' k) i 0) (let z : 0 - length a ≡ 0 = omega arith in z) ∙ themselves_at m i h
 
   one_more_lem : (i : ℕ) (l : List ℕ) → i < length A → Upto i l → Upto (suc i) (join_at A B i l)
   one_more_lem i l h u = go (ltb i (length a)) refl

@@ -15,7 +15,7 @@ use lib.Ieee.Exact.{HasValue, round_exact}
 use lib.Ieee.Order.{le_of_values, round_mono}
 use lib.Ieee.Positive.{num, den, positive, den_pos, own_value, le→cross, le_trans_positive, between, positive_of_value, first_pos}
 use Rattle.loops.specs.Figures.{plus, nought, ten_thousand}
-use Rattle.loops.proofs.Bools.{is, both}
+use Rattle.loops.proofs.Bools.{is, both, holds}
 use Rattle.loops.proofs.Order.{le_of_lt}
 use Rattle.loops.proofs.Tab.{get_tab}
 use Rattle.plan_defs.specs.Constants.{kv_tolerance}
@@ -125,10 +125,6 @@ or_false : (a b : Bool) → a ≡ false → (a || b) ≡ true → b ≡ true
 or_false true b e f = cc
 or_false false b e f = f
 
-of_t : (b : Bool) → T b → b ≡ true
-of_t true t = refl
-of_t false t = absurd t
-
 module _ (c : Case) (target : ℕ) (ok : Accepted c target) where
   abbrev range : ℕ → Bool
   range i = lt nought (kv_of c i) && le (kv_of c i) ten_thousand
@@ -176,4 +172,4 @@ module _ (c : Case) (target : ℕ) (ok : Accepted c target) where
       let r : l ≤ c.above + get_or c.tier i 0 = omega arith in
       let d = c.above + get_or c.tier i 0 - l in
       let s : l + d ≡ c.above + get_or c.tier i 0 = omega arith in
-      of_t _ (subst (λ (j : ℕ). T (le (kv_of c j) (kv_of c l))) s (falls d l (omega (arith, tier_below c target ok i h))))
+      holds _ (subst (λ (j : ℕ). T (le (kv_of c j) (kv_of c l))) s (falls d l (omega (arith, tier_below c target ok i h))))

@@ -7,16 +7,16 @@ use mathlib.Core.Path.{◌≡◌, refl, sym, ap, ◌∙◌, subst}
 use native.Mathlib.Nat.{le_of_eq}
 use native.Mathlib.Omega.{arith}
 use lib.Dec.{T, leb}
-use lib.Ieee.{Float, nan, inf, fin, binary64, neg, mul, lt, le, eq, of_bits, of_int, round}
+use lib.Ieee.{Float, binary64, neg, mul, lt, le, eq, of_bits, of_int, round}
 use lib.Ieee.Positive.{positive, between, mul_mono}
-use lib.ListN.{length, get_or}
+use lib.ListN.{get_or}
 use Rattle.loops.specs.Figures.{at, float, times, over, nought, half, one, ten_thousand, million, thousandth, magnitude, finite, inside}
 use Rattle.loops.specs.Loops.{first}
 use Rattle.loops.specs.Sorting.{Sorted}
-use Rattle.loops.proofs.Bools.{is, both, and_of}
+use Rattle.loops.proofs.Bools.{is, both, and_of, holds}
 use Rattle.loops.proofs.Order.{real, bounded_real, finite_bounded, le_of_lt, le_of_not_lt, left_real, right_real, le_through}
 use Rattle.loops.proofs.Scan.{all_pass}
-use Rattle.loops.proofs.Signs.{div_real}
+use Rattle.loops.proofs.Signs.{div_real, neg_real}
 use Rattle.leaders.specs.Operation.{corridor_ok}
 use Rattle.plan_defs.specs.Constants.{transformer_min_mva, most_initial, most_cap, subtransmission_kv}
 use Rattle.plan_defs.specs.Case.{Case, levels, level_of, row_at, kv_high, lower_bound, own_cap, circuit_cap, cap_at, first_levels, end_a, end_b, promote}
@@ -27,16 +27,12 @@ use Rattle.plan_defs.specs.Plan.{Ready, ready_of}
 use Rattle.plan_defs.specs.declared.CircuitDesign.{CircuitDesign}
 use Rattle.plan_defs.proofs.Stages.{On, on_map}
 use Rattle.plan_defs.proofs.Accepted.{Accepted, from_below, initial_few, own_few, cap_few, row_sound_lem}
-use Rattle.plan_defs.proofs.Drawn.{drawn_size, drawn_here, design_kv}
+use Rattle.plan_defs.proofs.Drawn.{drawn_size, drawn_here, design_kv, drawn_km}
 use Rattle.plan_defs.proofs.Rising.{Risen, risen_below}
 use Rattle.plan_defs.proofs.Opened.{Done, done}
 use Rattle.plan_theorems.proofs.Ranking.{Real, ahead_in_order, once, every, order_sorted, order_only}
 
 -- ---- figures between two bounds above zero, and their products
-so : (b : Bool) → T b → b ≡ true
-so true t = refl
-so false t = absurd t
-
 positive_inside : (a b x : Float) → T (positive a) → T (positive b) → inside a b x ≡ true → T (positive x)
 positive_inside a b x p q h = let g = both (le a x) (le x b) h in between a x b p q (is g.0) (is g.1)
 
@@ -47,8 +43,8 @@ inside_times a b x c d y pa pb pc pd h k =
     let l = both (le c y) (le y d) k in
     let px = positive_inside a b x pa pb h in
     let py = positive_inside c d y pc pd k in
-    and_of (so (le (times a c) (times x y)) (mul_mono binary64 a x c y pa px pc py (is g.0) (is l.0)))
-    (so (le (times x y) (times b d)) (mul_mono binary64 x b y d px pb py pd (is g.1) (is l.1)))
+    and_of (holds (le (times a c) (times x y)) (mul_mono binary64 a x c y pa px pc py (is g.0) (is l.0)))
+    (holds (le (times x y) (times b d)) (mul_mono binary64 x b y d px pb py pd (is g.1) (is l.1)))
 
 abbrev low_rate : Float
 low_rate = times thousandth half
@@ -78,13 +74,8 @@ size_real : (x : Float) → finite x ≡ true → T (real (magnitude x))
 unfolding neg
 size_real x h = go (lt x nought) x (bounded_real x (finite_bounded x h))
   where
-    negated : (y : Float) → T (real y) → T (real (neg y))
-    negated nan p = p
-    negated (inf s) p = tt
-    negated (fin s m e) p = tt
-
     go : (b : Bool) (y : Float) → T (real y) → T (real (cond b (neg y) y))
-    go true y p = negated y p
+    go true y p = neg_real y p
     go false y p = p
 
 loading_real : (flow : Float) (n : ℕ) (rate : Float) → finite flow ≡ true → 0 < n → n ≤ 64 → inside low_rate high_rate rate ≡ true
@@ -141,18 +132,9 @@ module _ (c : Case) (target : ℕ) (ok : Accepted c target) (level : List ℕ) (
       let B = bounds_positive in
       inside_times thousandth million (row_at c k (level_of c level k)).rate half one (at c.share k) B.0 B.1 B.2 B.3 sheet_rate spans.1
 
-  km_by : (b : Bool) (a : Float) → (banked_by b (line_at c level k) a).length_km ≡ at c.km k
-  unfolding set_transformer_mva with_bank line_at line_of
-  km_by true a = refl
-  km_by false a = refl
-
   drawn_rate : (a : Float) → (steps_down c level k ≡ true → lt a transformer_min_mva ≡ false) → inside low_rate high_rate (drawn c level k a).rate_a ≡ true
   unfolding drawn
   drawn_rate a e = rate_by (steps_down c level k) a e
-
-  drawn_km : (a : Float) → (drawn c level k a).length_km ≡ at c.km k
-  unfolding drawn
-  drawn_km a = km_by (steps_down c level k) a
 
   kv_real : T (real (kv_high c level k))
   unfolding kv_high level_ok
@@ -199,7 +181,7 @@ module _ (c : Case) (target : ℕ) (ok : Accepted c target) (r : Ready) (d : Don
         loading = loading_real (at d.flows k) (get_or counts k 0) (design ds k).rate_a f (few k h).0 (few k h).1 rate;
         kilovolts = subst (λ (x : Float). T (real x)) (sym (design_kv c level ds D k h)) (kv_real c target ok level risen k h);
         length =
-            subst (λ (x : Float). T (real x)) (sym (ap (λ (d : CircuitDesign). d.length_km) q ∙ drawn_km c target ok level risen k h (at D.banks k)))
+            subst (λ (x : Float). T (real x)) (sym (ap (λ (d : CircuitDesign). d.length_km) q ∙ drawn_km c level k (at D.banks k)))
             (km_real c target ok level risen k h);
       }
 

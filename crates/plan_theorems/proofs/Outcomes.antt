@@ -3,30 +3,27 @@
 use Prim.Native.Nat.{ℕ}
 use mathlib.Core.Bool.{Bool, true, false}
 use mathlib.Core.Path.{◌≡◌, refl, sym, ap}
-use native.Mathlib.Omega.{arith}
 use borrow.Author.Tests.{eqb-true, eq-eqb}
 use lib.Dec.{eqb}
 use lib.ListN.{length, length-replicate}
 use Rattle.loops.specs.Figures.{nought}
 use Rattle.loops.proofs.Bools.{both, and_of}
-use Rattle.refusal.specs.Reply.{answered, refused}
+use Rattle.refusal.specs.Reply.{answered}
+use Rattle.dispatch_defs.proofs.Callers.{never}
 use Rattle.plan_defs.specs.Case.{Case}
 use Rattle.plan_defs.specs.Plan.{Ending, unaccepted, unanswered, planned, ending_of}
-use Rattle.plan_defs.specs.Outcome.{Slices, slices_ok, cleared, summary, outcome_by, outcome_if, plan_corridors, work_places}
+use Rattle.plan_defs.specs.Outcome.{Slices, slices_ok, StageLengths, cleared, summary, outcome_by, outcome_if, plan_corridors, work_places}
 use Rattle.plan_defs.specs.Demand.{AnswerTo}
 use Rattle.plan_defs.specs.declared.CorridorPlan.{CorridorPlan}
 use Rattle.plan_theorems.proofs.Dispatched.{Binary}
 use Rattle.plan_theorems.proofs.Demand.{demand_3, tallies}
 
 -- ---- an answer is a defined plan, with demand 3
-never : {A : Type 0} (x : A) (k i : ℕ) → refused k i ≡ answered x → ⊥
-never x k i e = let z : ◌≡◌ {A = ℕ} 0 1 = cc in omega arith
-
 module _ (c : Case) (target : ℕ) (binary : Binary c) (s : Slices) (x : CorridorPlan) where
   answer_by : (e : Ending) → ending_of c target ≡ e → (outcome_by e c s).reply ≡ answered x → AnswerTo c target (outcome_by e c s) x
   unfolding outcome_by
-  answer_by (unaccepted f) h q = absurd (never x _ _ q)
-  answer_by (unanswered f) h q = absurd (never x _ _ q)
+  answer_by (unaccepted f) h q = absurd (never x _ _ (sym q))
+  answer_by (unanswered f) h q = absurd (never x _ _ (sym q))
   answer_by (planned p) h q =
       record { plan = p; ending = h; said = (let z : summary p ≡ x = cc in sym z); lent = refl; demand = demand_3 c target binary p h; tally = tallies c target binary p h }
 
@@ -36,23 +33,14 @@ module _ (c : Case) (target : ℕ) (binary : Binary c) (s : Slices) (x : Corrido
     where
       go : (b : Bool) → (outcome_if b c target s).reply ≡ answered x → AnswerTo c target (outcome_if b c target s) x
       go true q = answer_by (ending_of c target) refl q
-      go false q = absurd (never x _ _ q)
+      go false q = absurd (never x _ _ (sym q))
 
 -- ---- the lengths of the slices
 pub record Lengths (c : Case) (s : Slices) : Type 0 where
-  pub circuits : length s.circuits ≡ c.corridors
-  pub flow : length s.flow ≡ c.corridors
-  pub rate : length s.rate ≡ c.corridors
+  pub stages : StageLengths c s
   pub before : length s.before ≡ c.corridors
   pub order : length s.order ≡ c.corridors
   pub cap : length s.cap ≡ c.corridors
-  pub mw : length s.mw ≡ c.generators
-  pub angle : length s.angle ≡ c.buses
-  pub tier : length s.tier ≡ c.buses
-  pub ground : length s.ground ≡ c.buses
-  pub added : length s.added ≡ c.above
-  pub figures : length s.figures ≡ work_places c
-  pub counts : length s.counts ≡ work_places c
 
 pub lengths_of : (c : Case) (s : Slices) → slices_ok c s ≡ true → Lengths c s
 unfolding slices_ok
@@ -70,51 +58,58 @@ lengths_of c s h =
     let g₁ = both (eqb (length s.added) c.above) _ g₀.1 in
     let g₂ = both (eqb (length s.figures) (work_places c)) _ g₁.1 in
     record {
-      circuits = eqb-true _ _ h₁.0;
-      flow = eqb-true _ _ h₂.0;
-      rate = eqb-true _ _ h₃.0;
+      stages =
+          record {
+            circuits = eqb-true _ _ h₁.0;
+            flow = eqb-true _ _ h₂.0;
+            rate = eqb-true _ _ h₃.0;
+            mw = eqb-true _ _ h₇.0;
+            angle = eqb-true _ _ h₈.0;
+            tier = eqb-true _ _ h₉.0;
+            ground = eqb-true _ _ g₀.0;
+            added = eqb-true _ _ g₁.0;
+            figures = eqb-true _ _ g₂.0;
+            counts = eqb-true _ _ g₂.1;
+          };
       before = eqb-true _ _ h₄.0;
       order = eqb-true _ _ h₅.0;
       cap = eqb-true _ _ h₆.0;
-      mw = eqb-true _ _ h₇.0;
-      angle = eqb-true _ _ h₈.0;
-      tier = eqb-true _ _ h₉.0;
-      ground = eqb-true _ _ g₀.0;
-      added = eqb-true _ _ g₁.0;
-      figures = eqb-true _ _ g₂.0;
-      counts = eqb-true _ _ g₂.1;
     }
 
 pub lengths_ok_lem : (c : Case) (s : Slices) → Lengths c s → slices_ok c s ≡ true
 unfolding slices_ok
 lengths_ok_lem c s l =
-    and_of (eq-eqb _ _ l.circuits)
-    (and_of (eq-eqb _ _ l.flow)
-    (and_of (eq-eqb _ _ l.rate)
+    let s = l.stages in
+    and_of (eq-eqb _ _ s.circuits)
+    (and_of (eq-eqb _ _ s.flow)
+    (and_of (eq-eqb _ _ s.rate)
     (and_of (eq-eqb _ _ l.before)
     (and_of (eq-eqb _ _ l.order)
     (and_of (eq-eqb _ _ l.cap)
-    (and_of (eq-eqb _ _ l.mw)
-    (and_of (eq-eqb _ _ l.angle)
-    (and_of (eq-eqb _ _ l.tier)
-    (and_of (eq-eqb _ _ l.ground) (and_of (eq-eqb _ _ l.added) (and_of (eq-eqb _ _ l.figures) (eq-eqb _ _ l.counts))))))))))))
+    (and_of (eq-eqb _ _ s.mw)
+    (and_of (eq-eqb _ _ s.angle)
+    (and_of (eq-eqb _ _ s.tier)
+    (and_of (eq-eqb _ _ s.ground) (and_of (eq-eqb _ _ s.added) (and_of (eq-eqb _ _ s.figures) (eq-eqb _ _ s.counts))))))))))))
 
 pub cleared_lengths : (c : Case) → Lengths c (cleared c)
 cleared_lengths c =
     record {
-      circuits = length-replicate c.corridors 0;
-      flow = length-replicate c.corridors nought;
-      rate = length-replicate c.corridors nought;
+      stages =
+          record {
+            circuits = length-replicate c.corridors 0;
+            flow = length-replicate c.corridors nought;
+            rate = length-replicate c.corridors nought;
+            mw = length-replicate c.generators nought;
+            angle = length-replicate c.buses nought;
+            tier = length-replicate c.buses 0;
+            ground = length-replicate c.buses 0;
+            added = length-replicate c.above nought;
+            figures = length-replicate (work_places c) nought;
+            counts = length-replicate (work_places c) 0;
+          };
       before = length-replicate c.corridors 0;
       order = length-replicate c.corridors 0;
       cap = length-replicate c.corridors 0;
-      mw = length-replicate c.generators nought;
-      angle = length-replicate c.buses nought;
-      tier = length-replicate c.buses 0;
-      ground = length-replicate c.buses 0;
-      added = length-replicate c.above nought;
-      figures = length-replicate (work_places c) nought;
-      counts = length-replicate (work_places c) 0;
     }
 
 pub untouched : (c : Case) (target : ℕ) (s : Slices) → slices_ok c s ≡ false → (plan_corridors c target s).lent ≡ s

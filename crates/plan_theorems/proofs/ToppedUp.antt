@@ -4,12 +4,12 @@ use Prim.Native.Nat.{ℕ, zero, suc, ◌+◌, ◌*◌, ◌<◌, zero-le, suc-le-
 use mathlib.Core.Bool.{Bool, true, false, cond, ◌&&◌, ◌||◌}
 use mathlib.Core.List.{List, [], ◌∷◌}
 use mathlib.Core.Path.{◌≡◌, refl, sym, ap, ◌∙◌, subst}
-use native.Mathlib.Nat.{zero-mul, mul-pos}
+use native.Mathlib.Nat.{mul-pos}
 use native.Mathlib.Omega.{arith}
 use native.Mathlib.Decide.{ℕ_discrete}
 use borrow.Author.Tests.{eqb-true, lt-ltb, le-ltb}
 use lib.IntN.{ℤ}
-use lib.Dec.{T, ltb, eqb, eqb→eq}
+use lib.Dec.{T, ltb, eqb}
 use lib.ListN.{length, set, length-set}
 use lib.Seq.{get_or-set_same, get_or-set_other}
 use lib.Ieee.{Float, nan, inf, fin, binary64, up, down, below, level, add, lt, eq, le, fits, of_bits}
@@ -22,6 +22,7 @@ use Rattle.loops.proofs.Order.{real, bounded, bounded_real, le_of_lt, le_self, i
 use Rattle.loops.proofs.Signs.{sound, sound_up, add_sound}
 use Rattle.loops.proofs.Sorting.{Strict, by_index, then_by_lem, rising}
 use Rattle.loops.proofs.Sums.{Term, le_trans, plus_unsigned, plus_mono, plus_grows}
+use Rattle.loops.proofs.Zeros.{nil_product, size_zero}
 use Rattle.dispatch_defs.specs.Units.{Units, count}
 use Rattle.dispatch_defs.specs.Share.{gap_of}
 use Rattle.dispatch_defs.specs.Dispatch.{economic_dispatch}
@@ -47,19 +48,13 @@ zero_low false false zero (suc b) e h = or_left _ _ (lt-ltb 0 (suc b) (omega ari
 zero_low s true zero (suc b) e h = absurd (let z = h refl in omega arith)
 zero_low s t (suc a) b e h = absurd (omega arith)
 
-nil : (m u v : ℕ) → m ≡ 0 → m * u * v ≡ 0
-nil m u v e = ap (λ (z : ℕ). z * u * v) e ∙ ap (λ (z : ℕ). z * v) (zero-mul u) ∙ zero-mul v
-
-nil_of : (m : ℕ) → T (eqb m 0) → m ≡ 0
-nil_of m h = eqb→eq m 0 h
-
-zero_least : (s : Bool) (m : ℕ) (e : ℤ) (y : Float) → m ≡ 0 → T (sound y) → le (fin s m e) y ≡ true
+pub zero_least : (s : Bool) (m : ℕ) (e : ℤ) (y : Float) → m ≡ 0 → T (sound y) → le (fin s m e) y ≡ true
 unfolding lt eq le
 zero_least s m e nan z g = absurd g
 zero_least s m e (inf true) z g = absurd g
 zero_least s m e (inf false) z g = refl
-zero_least s m e (fin false n d) z g = zero_low s false (m * up e * down d) (n * up d * down e) (nil m (up e) (down d) z) (λ h. absurd (never refl h))
-zero_least s m e (fin true n d) z g = zero_low s true (m * up e * down d) (n * up d * down e) (nil m (up e) (down d) z) (λ h. nil n (up d) (down e) (nil_of n g))
+zero_least s m e (fin false n d) z g = zero_low s false (m * up e * down d) (n * up d * down e) (nil_product m (up e) (down d) z) (λ h. absurd (never refl h))
+zero_least s m e (fin true n d) z g = zero_low s true (m * up e * down d) (n * up d * down e) (nil_product m (up e) (down d) z) (λ h. nil_product n (up d) (down e) (size_zero n g))
 
 -- ---- a sum with a term above zero is no less than what its other term is no less than
 below_zero : (m : ℕ) (e : ℤ) (n : ℕ) (d : ℤ) → le (fin false m e) (fin true n d) ≡ true → m ≡ 0
@@ -80,7 +75,7 @@ positive_term (fin false n d) h b = (tt, tt)
 sum_above : (p x g : Float) → T (bounded p) → T (sound p) → T (fits binary64 p) → T (bounded x) → le p x ≡ true → Term g → le p (plus x g) ≡ true
 sum_above nan x g b s f c h t = absurd b
 sum_above (inf s) x g b p f c h t = absurd b
-sum_above (fin true m e) x g b p f c h t = zero_least true m e (plus x g) (nil_of m p) (add_sound binary64 x g (sound_up (fin true m e) x p h) t.0)
+sum_above (fin true m e) x g b p f c h t = zero_least true m e (plus x g) (size_zero m p) (add_sound binary64 x g (sound_up (fin true m e) x p h) t.0)
 sum_above (fin false m e) nan g b p f c h t = absurd c
 sum_above (fin false m e) (inf s) g b p f c h t = absurd c
 sum_above (fin false m e) (fin false n d) g b p f c h t =

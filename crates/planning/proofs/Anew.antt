@@ -15,7 +15,8 @@ use Rattle.plan_defs.specs.declared.CircuitDesign.{CircuitDesign}
 use Rattle.planning.specs.Design.{lines_for, ends_for, ends_of, Lines, Banks}
 use Rattle.planning.specs.Redesign.{units_for, redesign_for, anew_from, fresh_at}
 use Rattle.planning.specs.declared.design.Ends.{Ends}
-use Rattle.planning.proofs.Lists.{sum_most, count_most}
+use Rattle.plan_defs.proofs.Lists.{count_most}
+use Rattle.planning.proofs.Lists.{sum_most}
 use Rattle.planning.proofs.Draws.{ends_fit, to_below, drawn_lifts}
 use Rattle.planning.proofs.Ratings.{fresh_rating, drawn_rated, anew_sound}
 use Rattle.planning.specs.Tables.{GridColumns}

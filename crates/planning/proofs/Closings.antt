@@ -1,11 +1,12 @@
 -- The closing figures as code's loops make them are the defined ones.
 -- A loop over those that pass a test is a loop over all with the test; a table's figure is read off its place.
-use Rattle.std.proofs.Common.{◌≡◌, ℕ, zero, suc, ◌+◌, ◌-◌, ◌<◌, ◌≤◌, min, Bool, true, false, cond, ltb, List, [], ◌∷◌, ◌++◌, map, length, get_or, take, drop, fold, replicate, sym, refl, ap, ◌∙◌, le_of_suc-le-suc, not-suc-le-zero, arith, length-append, length-drop, length-take, get_or-drop, get_or-take, get_or-append-add, ext_get_or, ltb-false, ltb-true, eq-eqb}
+use Rattle.std.proofs.Common.{◌≡◌, ℕ, zero, suc, ◌+◌, ◌-◌, ◌<◌, ◌≤◌, min, Bool, true, false, cond, ltb, List, [], ◌∷◌, map, length, get_or, take, drop, fold, replicate, sym, refl, ap, ◌∙◌, arith, length-append, length-drop, length-take, get_or-drop, get_or-take, get_or-append-add, ext_get_or, ltb-false, ltb-true, eq-eqb}
 use lib.ListN.{length-replicate, get_or-replicate, get_or-append}
 use lib.Ieee.{Float, nan, lt}
 use Rattle.loops.specs.Figures.{at, plus, minus, nought, one, greater}
 use Rattle.loops.specs.Loops.{iter, tab}
 use Rattle.loops.proofs.Tab.{length_tab, get_tab, tab_of, tab_same}
+use Rattle.loops.proofs.Fronts.{map_tab}
 use Rattle.mode.specs.declared.PlanMode.{PlanMode}
 use Rattle.plan_defs.specs.Constants.{loading_tolerance}
 use Rattle.plan_defs.specs.Lists.{keep, pass_from, counting, each}
@@ -18,6 +19,7 @@ use Rattle.plan_defs.specs.Closing.{highest, lowest, spread_in, spread_of, max_l
 use Rattle.plan_defs.specs.Outcome.{up_to}
 use Rattle.plan_defs.specs.declared.CircuitDesign.{CircuitDesign}
 use Rattle.plan_defs.proofs.Drawn.{length_drawn}
+use Rattle.plan_theorems.proofs.Demand.{least_most}
 use Rattle.planning.specs.Design.{lines_for}
 use Rattle.planning.specs.Fill.{designs_for}
 use Rattle.planning.specs.Close.{corridors_of, levels_for, wider_by, loadings_by, cap_full, added_at, closing_of}
@@ -57,22 +59,13 @@ module _ (led : List ℕ) (theta : List Float) where
   spread_is = sym (each_tested (λ root m. greater m (spread_in theta (members led root))) (leads led) (length led) 0 nought)
 
 -- ---- ratings and loadings
-map_append : {A B : Type 0} (f : A → B) (l r : List A) → map f (l ++ r) ≡ map f l ++ map f r
-map_append f [] r = refl
-map_append f (x ∷ l) r = ap (λ (t : List _). f x ∷ t) (map_append f l r)
-
-pub map_tab : {A B : Type 0} (f : A → B) (g : ℕ → A) (n : ℕ) → tab n (λ k. f (g k)) ≡ map f (tab n g)
-unfolding tab
-map_tab f g zero = refl
-map_tab f g (suc n) = ap (λ (l : List _). l ++ (f (g n) ∷ [])) (map_tab f g n) ∙ sym (map_append f (tab n g) (g n ∷ []))
-
 module _ (grid : GridColumns) (level : List ℕ) (banks : List Float) where
   abbrev rate_of : ℕ → Float
   rate_of k = (drawn (lines_for grid) level k (at banks k)).rate_a
 
   rates_are : tab (length grid.a) rate_of ≡ map (λ (d : CircuitDesign). d.rate_a) (designs_for grid level banks)
   unfolding drawn_all
-  rates_are = map_tab (λ (d : CircuitDesign). d.rate_a) (λ (k : ℕ). drawn (lines_for grid) level k (at banks k)) (length grid.a)
+  rates_are = sym (map_tab (λ (d : CircuitDesign). d.rate_a) (length grid.a) (λ (k : ℕ). drawn (lines_for grid) level k (at banks k)))
 
   pub rates_drawn : (rate : List Float) → rate ≡ tab (length grid.a) (λ k. (design (designs_for grid level banks) k).rate_a)
       → rate ≡ map (λ (d : CircuitDesign). d.rate_a) (designs_for grid level banks)
@@ -130,19 +123,8 @@ unfolding least_of
 least_is top [] = refl
 least_is top (x ∷ l) = least_is (min top x) l
 
-pub least_most : (top : ℕ) (l : List ℕ) → least_of top l ≤ top
-unfolding least_of
-least_most top [] = omega arith
-least_most top (x ∷ l) = omega (arith, least_most (min top x) l)
-
-pub least_each : (top : ℕ) (l : List ℕ) (i : ℕ) → i < length l → least_of top l ≤ get_or l i 0
-unfolding least_of
-least_each top [] i h = absurd (not-suc-le-zero h)
-least_each top (x ∷ l) zero h = omega (arith, least_most (min top x) l)
-least_each top (x ∷ l) (suc i) h = least_each (min top x) l i (le_of_suc-le-suc h)
-
 pub tab_map : (f : ℕ → ℕ) (l : List ℕ) → tab (length l) (λ i. f (get_or l i 0)) ≡ map f l
-tab_map f l = map_tab f (λ i. get_or l i 0) (length l) ∙ ap (map f) (tab_of (length l) l 0 refl)
+tab_map f l = sym (map_tab f (length l) (λ i. get_or l i 0)) ∙ ap (map f) (tab_of (length l) l 0 refl)
 
 -- the levels added, with zero past them
 module _ (ladder : List Float) (above u : ℕ) (within-ladder : above ≤ length ladder) (few : u ≤ above) where

@@ -17,11 +17,12 @@ use Rattle.plan_defs.specs.Build.{Build, built, build_of, drawn_all, count_at, c
 use Rattle.plan_defs.specs.Raise.{no_marks, top_of}
 use Rattle.plan_defs.specs.Size.{Sizing, sizing, enough, next_bank, enlarges, enlarge_if, enlarge_to, enlarge_by, enlarge, required_for, raises_for, raise_or_add, needed_circuits, grow_if, grow, size_one, size_all}
 use Rattle.plan_defs.specs.declared.CircuitDesign.{CircuitDesign}
+use Rattle.plan_defs.proofs.Drawn.{bank_drawn, drawn_at, set_bank_lem}
 use Rattle.planning.specs.Design.{lines_for, Banks}
 use Rattle.planning.specs.Size.{size_for, grow_for, sized_of, sizing_of, set_if, Grows}
 use Rattle.planning.specs.declared.size.Tally.{Tally}
 use Rattle.planning.proofs.Draws.{Laid, drawn_lifts}
-use Rattle.planning.proofs.Builds.{kept_next, bank_drawn, drawn_at, set_bank_lem, drawn_all_lifts}
+use Rattle.planning.proofs.Builds.{kept_next, drawn_all_lifts}
 use Rattle.planning.specs.Tables.{GridColumns, grid_of}
 
 -- ---- a larger bank

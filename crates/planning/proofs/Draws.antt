@@ -1,19 +1,20 @@
 -- A circuit drawn from its columns is the definition's: the bank's impedance is never refused, the columns are long enough, and the pieces make the whole.
 -- The definitions read only fields of the case, so each law is by computing, with the equations of the pieces put in.
-use Rattle.std.proofs.Common.{◌≡◌, ℕ, ◌+◌, ◌*◌, ◌<◌, ◌≤◌, Bool, true, false, cond, List, length, get_or, sym, ap, ◌∙◌, subst, mul_comm, arith}
+use Rattle.std.proofs.Common.{◌≡◌, ℕ, ◌+◌, ◌<◌, ◌≤◌, Bool, true, cond, List, length, get_or, sym, ap, ◌∙◌, subst, arith}
 use lib.Ieee.{Float, le}
 use Rattle.loops.specs.Figures.{at}
-use Rattle.loops.proofs.Rows.{row_fits}
 use Rattle.refusal.specs.declared.Refusal.{Refusal}
 use Rattle.refusal.specs.Reply.{reply_of}
 use Rattle.impedance.specs.Impedance.{impedance_of, rating_ok, defined}
 use Rattle.impedance.specs.declared.SeriesImpedance.{SeriesImpedance}
 use Rattle.impedance.proofs.Operation.{answers}
 use Rattle.sheets.specs.Sheet.{row_figures, row_place}
-use Rattle.plan_defs.specs.Case.{Case, Row, levels, level_of, higher_a, from_of, to_of, kv_high, row_at, row_from, rows_of}
+use Rattle.sheets.proofs.Layouts.{row_inside}
+use Rattle.plan_defs.specs.Case.{Case, Row, levels, level_of, from_of, to_of, kv_high, row_at, row_from, rows_of}
 use Rattle.plan_defs.specs.Design.{line_of, line_at, banked_by, differ, steps_down, drawn}
 use Rattle.plan_defs.specs.declared.CircuitDesign.{CircuitDesign}
 use Rattle.plan_defs.proofs.Rows.{row_from_lem}
+use Rattle.plan_defs.proofs.Accepted.{from_within, to_within}
 use Rattle.planning.specs.Design.{lines_for, ends_for, Lines, EndsFit, LineFits, ends_of, line_between}
 use Rattle.planning.specs.declared.design.Ends.{Ends}
 use Rattle.std.specs.Prelude.{Err, Ok, Result}
@@ -33,10 +34,6 @@ module _ (mva : Float) (r : Result SeriesImpedance Refusal) (ok : rating_ok mva 
       cc
 
 -- ---- the ends
-pub one_of : (t : Bool) (x y n : ℕ) → x < n → y < n → cond t x y < n
-one_of true x y n p q = p
-one_of false x y n p q = q
-
 pub ends_are : (grid : GridColumns) (level : List ℕ) (k i j from to : ℕ) (x y : Float) (down : Bool)
     → i ≡ get_or grid.a k 0 → j ≡ get_or grid.b k 0 → x ≡ at grid.ladder (get_or level i 0) → y ≡ at grid.ladder (get_or level j 0)
     → from ≡ cond (le y x) i j → to ≡ cond (le y x) j i → down ≡ differ x y
@@ -46,21 +43,16 @@ ends_are grid level k i j from to x y down pi pj px py pf pt pd = cc
 
 module _ (grid : GridColumns) (level : List ℕ) (k : ℕ) (f : EndsFit grid level k) where
   pub from_below : from_of (ends_for grid) level k < length level
-  unfolding from_of
-  from_below = one_of (higher_a (ends_for grid) level k) (get_or grid.a k 0) (get_or grid.b k 0) (length level) f.a_below f.b_below
+  from_below = from_within (ends_for grid) level k (length level) f.a_below f.b_below
 
   pub to_below : to_of (ends_for grid) level k < length level
-  unfolding to_of
-  to_below = one_of (higher_a (ends_for grid) level k) (get_or grid.b k 0) (get_or grid.a k 0) (length level) f.b_below f.a_below
+  to_below = to_within (ends_for grid) level k (length level) f.a_below f.b_below
 
   pub end_below : (e : Ends) → e ≡ ends_of (ends_for grid) level k → e.to < length level
   unfolding ends_of
   end_below e p = subst (λ (z : Ends). z.to < length level) (sym p) to_below
 
 -- ---- what the columns must be
-place_fits : (k m l L s : ℕ) → k < m → l < L → s ≡ row_figures * (m * L) → row_place m k l + row_figures ≤ s
-place_fits k m l L s p q e = omega (arith, row_fits l L m q, mul_comm L m)
-
 module _ (grid : GridColumns) (level : List ℕ) (k : ℕ) (lines : Lines grid level) (h : k < length grid.a) where
   pub ends_fit : EndsFit grid level k
   ends_fit =
@@ -81,7 +73,7 @@ module _ (grid : GridColumns) (level : List ℕ) (k : ℕ) (lines : Lines grid l
         share_size = omega (arith, h, lines.share_size);
         row_size =
             subst (λ (m : ℕ). row_place m k (get_or level from 0) + row_figures ≤ length grid.sheet) (sym lines.km_size)
-            (place_fits k (length grid.a) (get_or level from 0) (length grid.ladder) (length grid.sheet) h (lines.level_below from u) lines.sheet_size);
+            (omega (arith, row_inside (length grid.a) (length grid.ladder) k (get_or level from 0) h (lines.level_below from u), lines.sheet_size));
       }
 
   pub line_fits : (e : Ends) → e ≡ ends_of (ends_for grid) level k → LineFits grid level k e.from

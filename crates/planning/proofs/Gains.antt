@@ -1,18 +1,19 @@
 -- Which corridors are stiffened: the order that code makes of a list of gains is the defined one, and what it takes of it is the defined batch.
 -- A gain is made of its corridor, so that a list of gains is a list of corridors with the same insertions; a batch goes by what is left of it.
-use Rattle.std.proofs.Common.{◌≡◌, ℕ, zero, suc, ◌+◌, ◌-◌, ◌<◌, ◌≤◌, Bool, true, false, List, [], ◌∷◌, ◌++◌, map, length, get_or, take, drop, sym, refl, ap, ◌∙◌, append-nil, add-one, add-zero, arith, drop_of_length-le, drop-cons, take-suc, All, insert as put_in, not-suc-le-zero}
+use Rattle.std.proofs.Common.{◌≡◌, ℕ, zero, suc, ◌+◌, ◌-◌, ◌<◌, ◌≤◌, Bool, true, false, List, [], ◌∷◌, ◌++◌, map, length, get_or, take, drop, sym, refl, ap, ◌∙◌, append-nil, add-one, arith, drop_of_length-le, drop-cons, take-suc, All, insert as put_in, not-suc-le-zero}
 use lib.Seq.{append_snoc}
-use lib.Ieee.{Float, lt, of_bits}
+use lib.Ieee.{Float, lt}
 use Rattle.loops.specs.Figures.{at, plus, nought}
 use Rattle.loops.specs.Loops.{iter}
 use Rattle.loops.specs.Sorting.{put_before, insert_by}
-use Rattle.loops.proofs.Loops.{gap, none, iter_carries}
+use Rattle.loops.proofs.Loops.{gap, none, iter_last, iter_carries}
 use Rattle.plan_defs.specs.Lists.{keep, pass_from, passing}
 use Rattle.plan_defs.specs.Design.{design}
 use Rattle.plan_defs.specs.Stiffen.{Gain, gain_of, placed, insert, insert_if, insert_gain, gains, batch_if, batch}
 use Rattle.plan_defs.specs.declared.CircuitDesign.{CircuitDesign}
 use Rattle.planning.proofs.Inserting.{place_in, inserted_is, inserted_all, inserted_more}
 use Rattle.planning.specs.Stiffen.{gain_if, gains_more, insert_where, gain_next, gain_order, gain_for}
+use Rattle.planning.proofs.ToppingUp.{no_less}
 
 module _ (gain : List Float) where
   abbrev gainers : List ℕ → List Gain
@@ -37,12 +38,8 @@ module _ (gain : List Float) where
   next_is k x l e = ap (λ (y : Float). insert_gain (record { gain = y; corridor = k }) (gainers l)) (sym e) ∙ next_by_lem (lt nought (at gain k)) k l
 
   -- one without a gain is passed over
-  idle : lt nought nought ≡ false
-  unfolding lt of_bits
-  idle = refl
-
   idle_is : (k : ℕ) (l : List ℕ) → at gain k ≡ nought → l ≡ gain_next gain k l
-  idle_is k l e = ap (λ (b : Bool). insert_where b (gains_more gain) k l) (sym (ap (λ (x : Float). lt nought x) e ∙ idle))
+  idle_is k l e = ap (λ (b : Bool). insert_where b (gains_more gain) k l) (sym (ap (λ (x : Float). lt nought x) e ∙ no_less))
 
   module _ (ds : List CircuitDesign) (theta phi : List Float) (p : ℕ → Bool) where
     abbrev Filled : ℕ → Type 0
@@ -149,15 +146,8 @@ module _ (gain : List Float) where
   unfolding gain_order iter
   order_start = refl
 
-  next_last : (d i : ℕ) (l : List ℕ) → gain_next gain (i + d) (iter (gain_next gain) d i l) ≡ iter (gain_next gain) (suc d) i l
-  unfolding iter
-  next_last zero i l = ap (λ (k : ℕ). gain_next gain k l) (add-zero i)
-  next_last (suc d) i l =
-      let e : i + suc d ≡ suc i + d = omega arith in
-      ap (λ (k : ℕ). gain_next gain k (iter (gain_next gain) d (suc i) (gain_next gain i l))) e ∙ next_last d (suc i) (gain_next gain i l)
-
   pub order_next : (m : ℕ) → gain_next gain m (gain_order gain m) ≡ gain_order gain (m + 1)
   unfolding gain_order
-  order_next m = let e : 0 + m ≡ m = omega arith in ap (λ (k : ℕ). gain_next gain k (iter (gain_next gain) m 0 [])) (sym e) ∙ next_last m 0 [] ∙ ap (λ (n : ℕ). iter (gain_next gain) n 0 []) (sym (add-one m))
+  order_next m = let e : 0 + m ≡ m = omega arith in ap (λ (k : ℕ). gain_next gain k (iter (gain_next gain) m 0 [])) (sym e) ∙ sym (iter_last (gain_next gain) m 0 []) ∙ ap (λ (n : ℕ). iter (gain_next gain) n 0 []) (sym (add-one m))
 
 -- ---- a candidate

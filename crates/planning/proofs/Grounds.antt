@@ -12,7 +12,8 @@ use Rattle.plan_defs.specs.Case.{Case}
 use Rattle.plan_defs.specs.Components.{leads, roots, slack_within, bus_or, ground_of, grounds_of}
 use Rattle.plan_defs.specs.Outcome.{up_to}
 use Rattle.planning.specs.Opening.{slack_case}
-use Rattle.planning.proofs.Passing.{pass_start, pass_yes, pass_no, pass_end, pass_few, pass_below}
+use Rattle.plan_defs.proofs.Lists.{pass_length}
+use Rattle.planning.proofs.Passing.{pass_start, pass_yes, pass_no, pass_end, pass_below}
 
 module _ (leader bus slack : List ℕ) where
   abbrev of : ℕ → ℕ
@@ -76,7 +77,7 @@ module _ (leader bus slack : List ℕ) where
 module _ (c : Case) (led : List ℕ) where
   pub grounds_few : length (grounds_of c led) ≤ length led
   unfolding grounds_of
-  grounds_few = omega (arith, length-map (roots led) (ground_of c led), pass_few (leads led) (length led) 0)
+  grounds_few = omega (arith, length-map (roots led) (ground_of c led), pass_length (leads led) (length led) 0)
 
   bus_or_below : (n root : ℕ) (ks : List ℕ) → root < n → (0 < length ks → get_or c.bus (get_or ks 0 0) 0 < n) → bus_or c root ks < n
   bus_or_below n root [] h k = h

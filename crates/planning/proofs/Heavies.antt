@@ -16,7 +16,7 @@ use Rattle.plan_defs.specs.Build.{drawn_all, banks_anew}
 use Rattle.plan_defs.specs.Solve.{Peak, PlanningCase, edges_for, planning_state}
 use Rattle.plan_defs.specs.Raise.{Raised, no_marks, can_raise, mark_if, too_heavy, heavy_at, heavy_marks, raised_levels, passed_by, pass_marked, passes}
 use Rattle.plan_defs.specs.declared.CircuitDesign.{CircuitDesign}
-use Rattle.plan_defs.proofs.Drawn.{redesign_is}
+use Rattle.plan_defs.proofs.Drawn.{drawn_at, redesign_is}
 use Rattle.planning.specs.Design.{lines_for, Lines}
 use Rattle.planning.specs.Raise.{pairs_for}
 use Rattle.planning.specs.Redesign.{redesign_for}
@@ -25,7 +25,7 @@ use Rattle.planning.specs.Sound.{Sound}
 use Rattle.planning.specs.Rounds.{Redrawn}
 use Rattle.planning.specs.Raises.{heavy_for, pass_for, raised_of, passed_as, HeavyRaised}
 use Rattle.planning.proofs.Draws.{Laid, drawn_lifts}
-use Rattle.planning.proofs.Builds.{drawn_at, drawn_all_lifts}
+use Rattle.planning.proofs.Builds.{drawn_all_lifts}
 use Rattle.planning.proofs.Redesigns.{banks_lift}
 use Rattle.planning.proofs.Marks.{mark_lifts, none_raised, lines_raised}
 use Rattle.std.specs.Prelude.{Err, Ok, Result}

@@ -4,6 +4,7 @@ use Rattle.std.specs.List.{All as Each}
 use Rattle.std.proofs.lemmas.List.Elements.{All-from_get_or}
 use Rattle.loops.specs.Loops.{iter}
 use Rattle.loops.specs.Sorting.{put_before, insert_by}
+use Rattle.loops.proofs.Loops.{iter_last}
 use Rattle.plan_defs.proofs.Lists.{All}
 use Rattle.plan_defs.proofs.Inserted.{insert_all_lem, inserted_below, inserted_length}
 use Rattle.planning.specs.Fill.{order_by}
@@ -32,13 +33,6 @@ module _ (m : ℕ) (comes goes : ℕ → ℕ → Bool) (alike : (k j : ℕ) → 
   order_same = order_from m 0 [] (omega arith) (λ j h. absurd (not-suc-le-zero h))
 
 -- ---- an order of k indices names those below k, and the next one put in its place makes the order of k + 1
-iter_last : {S : Type 0} (f : ℕ → S → S) (d i : ℕ) (s : S) → iter f (suc d) i s ≡ f (i + d) (iter f d i s)
-unfolding iter
-iter_last f zero i s = let z : i ≡ i + 0 = omega arith in ap (λ (n : ℕ). f n s) z
-iter_last f (suc d) i s =
-    let z : suc i + d ≡ i + suc d = omega arith in
-    iter_last f d (suc i) (f i s) ∙ ap (λ (n : ℕ). f n (iter f (suc d) i s)) z
-
 module _ (comes : ℕ → ℕ → Bool) (k : ℕ) where
   order_below : All (λ j. j < k) (order_by comes k)
   unfolding order_by

@@ -17,8 +17,9 @@ use Rattle.plan_defs.specs.Dispatch.{dispatch_of, injections}
 use Rattle.plan_defs.specs.Solve.{Peak, PlanningCase, planning_state}
 use Rattle.plan_defs.specs.Fill.{fill}
 use Rattle.plan_defs.specs.Plan.{Plan, Opened, Ready, peak_of, opened_with, opening, settled, ready_of, plan_of, closing, plan_for}
-use Rattle.plan_defs.specs.Outcome.{Slices, up_to}
+use Rattle.plan_defs.specs.Outcome.{Slices, StageLengths, up_to}
 use Rattle.plan_defs.proofs.Stages.{On, on_onward}
+use Rattle.plan_defs.proofs.Accepted.{first_within}
 use Rattle.plan_defs.proofs.Rising.{risen_first}
 use Rattle.plan_defs.proofs.Opened.{Done, done}
 use Rattle.planning.specs.Edges.{Grounded}
@@ -26,7 +27,7 @@ use Rattle.planning.specs.Size.{Few}
 use Rattle.planning.specs.Solve.{peak_for}
 use Rattle.planning.specs.Close.{Closable, lent_to}
 use Rattle.planning.specs.Rounds.{Columns}
-use Rattle.planning.specs.Sound.{Sound, Lengths}
+use Rattle.planning.specs.Sound.{Sound}
 use Rattle.planning.specs.Plan.{Openable, Opens, OpenedAs, OpeningDone, Plannable, OpenedPlan, PlannedAs, whole_case, WholeAs, PlanDone, Lendable}
 use Rattle.planning.specs.declared.plan.PlanRun.{PlanRun}
 use Rattle.planning.proofs.Grounds.{grounds_few, grounds_below, grounds_lent}
@@ -37,10 +38,6 @@ use Rattle.planning.specs.Tables.{GridColumns, grid_of, SupplyColumns, supply_of
 
 module _ (c : Case) (target : ℕ) (s : Sound c target) where
   -- ---- what the columns are asked
-  first_below : (i : ℕ) → i < c.buses → get_or (first_levels c) i 0 < levels c
-  unfolding first_levels
-  first_below i h = omega (arith, get_tab c.buses (λ (j : ℕ). c.above + get_or c.tier j 0) i 0 h, s.tier_below i h)
-
   level_size : (level : List ℕ) → level ≡ first_levels c → length level ≡ c.buses
   level_size level e = ap length e ∙ (risen_first c).size
 
@@ -48,7 +45,7 @@ module _ (c : Case) (target : ℕ) (s : Sound c target) where
       → Columns (grid_of c.ladder c.a c.b c.km c.share c.cap sheet) level (supply_of c.load c.bus c.slack c.pmin c.pmax c.c1 c.c2)
   columns_by sheet laid figures level e =
       record {
-        lines = lines_of c target s sheet laid figures level (level_size level e) (λ i h. subst (λ (l : List ℕ). get_or l i 0 < levels c) (sym e) (first_below i h));
+        lines = lines_of c target s sheet laid figures level (level_size level e) (λ i h. subst (λ (l : List ℕ). get_or l i 0 < levels c) (sym e) (first_within c s.tier_below i h));
         load_size = s.load_size ∙ sym (level_size level e);
         few = omega (arith, s.few_corridors, s.a_size);
       }
@@ -169,7 +166,7 @@ module _ (c : Case) (target : ℕ) (s : Sound c target) where
 
 -- ---- the work that the stages are lent: parts of two slices, of zeros
 -- there is room for the parts
-module _ {c : Case} {target : ℕ} (s : Sound c target) {l : Slices} (w : Lengths c l) where
+module _ {c : Case} {target : ℕ} (s : Sound c target) {l : Slices} (w : StageLengths c l) where
   pub figures_fit : length c.a + length c.a + length c.tier ≤ length l.figures
   figures_fit = omega (arith, w.figures, s.a_size, s.tier_size)
 

@@ -16,7 +16,6 @@ pub mod Mapped
 pub mod Sizes
 pub mod Corridors
 pub mod Passing
-pub mod Demands
 pub mod Stages
 pub mod Serving
 pub mod Scattering

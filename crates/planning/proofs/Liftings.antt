@@ -6,6 +6,7 @@ use lib.Ieee.{Float, nan}
 use Rattle.loops.specs.Figures.{at, nought}
 use Rattle.loops.specs.Loops.{tab}
 use Rattle.loops.proofs.Tab.{tab_same}
+use Rattle.loops.proofs.Fronts.{get_map}
 use Rattle.plan_defs.specs.Case.{Case, cap_at, full_at}
 use Rattle.plan_defs.specs.Design.{no_design}
 use Rattle.plan_defs.specs.Build.{drawn_all}
@@ -14,14 +15,15 @@ use Rattle.plan_defs.specs.Closing.{spread_of, loadings, max_loading, overloaded
 use Rattle.plan_defs.specs.Plan.{Plan}
 use Rattle.plan_defs.specs.Outcome.{Slices, slices, up_to, work_places, cleared, kept_of, held}
 use Rattle.plan_defs.specs.declared.CircuitDesign.{CircuitDesign}
-use Rattle.plan_defs.proofs.Lists.{get_map}
+use Rattle.plan_theorems.proofs.Outcomes.{Lengths}
 use Rattle.planning.specs.Fill.{designs_for, caps_for}
 use Rattle.planning.specs.Close.{corridors_of, levels_for, loadings_by, closing_of, zeroed}
-use Rattle.planning.specs.Sound.{Sound, Lengths}
+use Rattle.planning.specs.Sound.{Sound}
 use Rattle.planning.specs.declared.close.Closing.{Closing}
 use Rattle.planning.proofs.Draws.{Laid}
 use Rattle.planning.proofs.Builds.{drawn_all_lifts}
-use Rattle.planning.proofs.Closings.{new_size, least_most}
+use Rattle.plan_theorems.proofs.Demand.{least_most}
+use Rattle.planning.proofs.Closings.{new_size}
 use Rattle.planning.specs.Tables.{grid_of}
 
 module _ (c : Case) (target : ℕ) (s : Sound c target) (level : List ℕ) (banks : List Float) where
@@ -82,8 +84,9 @@ unfolding added_of
 added_lifts c level = refl
 
 -- ---- the slices at the end
-pub zeroed_is : (c : Case) (s : Slices) → Lengths c s → length s.before ≡ c.corridors → length s.order ≡ c.corridors → length s.cap ≡ c.corridors → zeroed s ≡ cleared c
-zeroed_is c s e f g h = rw (e.circuits, e.flow, e.rate, f, g, h, e.mw, e.angle, e.tier, e.ground, e.added, e.figures, e.counts)
+pub zeroed_is : (c : Case) (s : Slices) → Lengths c s → zeroed s ≡ cleared c
+zeroed_is c s l =
+    let e = l.stages in rw (e.circuits, e.flow, e.rate, l.before, l.order, l.cap, e.mw, e.angle, e.tier, e.ground, e.added, e.figures, e.counts)
 
 pub held_is : (c : Case) (s : Slices) (p : Plan) → s.before ≡ kept_of c p.before → s.order ≡ kept_of c p.order → s.cap ≡ c.cap
     → s.circuits ≡ p.circuits → s.flow ≡ p.flow → s.rate ≡ map (λ (d : CircuitDesign). d.rate_a) p.designs → s.mw ≡ p.mw → s.angle ≡ p.angle

@@ -1,16 +1,18 @@
 -- Marks, and the raises of one bus after another: the levels and the count of the definition.
 -- A bus that stays is set to its own level, so that every turn writes one more place and counts one more index.
-use Rattle.std.proofs.Common.{◌≡◌, ℕ, ◌+◌, ◌<◌, ◌≤◌, min, Bool, true, false, cond, ltb, List, length, get_or, set, sym, refl, ap, ◌∙◌, subst, arith, ltb-true, le-ltb, lt-ltb}
+use Rattle.std.proofs.Common.{◌≡◌, ℕ, ◌+◌, ◌<◌, ◌≤◌, min, Bool, true, false, cond, List, length, get_or, set, sym, refl, ap, ◌∙◌, subst, arith, le-ltb, lt-ltb}
 use lib.Seq.{set-get_or}
 use Rattle.loops.specs.Loops.{filled}
-use Rattle.loops.proofs.Tab.{length_tab, get_tab, tab_same, tab_of, fill_turn, fill_end, fill_own}
+use Rattle.loops.proofs.Tab.{tab_same, tab_of, fill_turn, fill_end, fill_own}
 use Rattle.plan_defs.specs.Lists.{counting}
 use Rattle.plan_defs.specs.Case.{Case}
 use Rattle.plan_defs.specs.Raise.{raise_of, marked, mark_bus, mark_both, top_of, can_raise, mark_if, raised_to, moves, raised_levels, moved_buses}
 use Rattle.std.specs.Prelude.{Option, Some, None}
 use Rattle.planning.specs.Design.{Lines}
 use Rattle.planning.specs.Raise.{pairs_for}
-use Rattle.planning.proofs.Lists.{count_more, count_most, count_zero}
+use Rattle.plan_defs.proofs.Lists.{count_more, count_most}
+use Rattle.plan_defs.proofs.Rising.{raised_le, length_raised, raised_at}
+use Rattle.planning.proofs.Lists.{count_zero}
 use Rattle.planning.specs.Tables.{GridColumns}
 
 -- ---- marks
@@ -106,23 +108,9 @@ stay_moves l r e = ap (moves l) e
 pub low_moves : (l t : ℕ) (r : Option ℕ) → r ≡ Some t → l ≤ t → moves l r ≡ false
 low_moves l t r e h = ap (moves l) e ∙ le-ltb t l h
 
--- ---- the levels afterwards: as many, and none lower
-pub raised_length : (level marks : List ℕ) → length (raised_levels level marks) ≡ length level
-unfolding raised_levels
-raised_length level marks = length_tab (length level) _
-
-raised_to_most : (l : ℕ) (r : Option ℕ) → raised_to l r ≤ l
-raised_to_most l None = omega arith
-raised_to_most l (Some t) = go (ltb t l) refl
-  where
-    go : (b : Bool) → ltb t l ≡ b → cond b t l ≤ l
-    go true e = let h = ltb-true t l e in omega arith
-    go false e = omega arith
-
-pub raised_most : (level marks : List ℕ) (i : ℕ) → i < length level → get_or (raised_levels level marks) i 0 ≤ get_or level i 0
-unfolding raised_levels
-raised_most level marks i h =
-    subst (λ (n : ℕ). n ≤ get_or level i 0) (sym (get_tab (length level) (goes marks level) i 0 h)) (raised_to_most (get_or level i 0) (raise_of (get_or marks i 0)))
+-- ---- the levels afterwards: none higher
+raised_most : (level marks : List ℕ) (i : ℕ) → i < length level → get_or (raised_levels level marks) i 0 ≤ get_or level i 0
+raised_most level marks i h = subst (λ (n : ℕ). n ≤ get_or level i 0) (sym (raised_at level marks i h)) (raised_le (get_or level i 0) (raise_of (get_or marks i 0)))
 
 -- and the same where none moved
 stays_to : (l : ℕ) (r : Option ℕ) → moves l r ≡ false → raised_to l r ≡ l
@@ -140,7 +128,7 @@ none_raised level marks e =
 pub lines_raised : (grid : GridColumns) (level : List ℕ) (marks : List ℕ) → Lines grid level
     → Lines grid (raised_levels level marks)
 lines_raised grid level marks lines =
-    let n = raised_length level marks in
+    let n = length_raised level marks in
     record {
       b_size = lines.b_size;
       km_size = lines.km_size;

@@ -14,7 +14,7 @@ use Rattle.plan_defs.specs.Plan.{Plan, Ready, ready_of, plan_of, closing, ending
 use Rattle.plan_defs.proofs.Stages.{On, on_onward}
 use Rattle.plan_defs.proofs.Opened.{Done, done}
 use Rattle.plan_theorems.proofs.Cursor.{order_length}
-use Rattle.plan_defs.specs.Outcome.{Slices, slices, slices_ok, work_places, kept_if, kept_of, summary, Outcome, outcome, outcome_by, outcome_if, plan_corridors}
+use Rattle.plan_defs.specs.Outcome.{Slices, slices, slices_ok, StageLengths, work_places, kept_if, kept_of, summary, Outcome, outcome, outcome_by, outcome_if, plan_corridors}
 use Rattle.plan_defs.specs.Demand.{AnswerTo}
 use Rattle.plan_defs.specs.declared.CorridorPlan.{CorridorPlan}
 use Rattle.acceptance.specs.Check.{check_of}
@@ -22,13 +22,14 @@ use Rattle.acceptance.proofs.Callers.{tables_of_lem, passed_by_lem}
 use Rattle.plan_theorems.proofs.Dispatched.{Binary}
 use Rattle.plan_theorems.proofs.Outcomes.{answer_to_lem}
 use Rattle.planning.specs.Close.{lent_to, zeroed}
-use Rattle.planning.specs.Sound.{Sound, Lengths}
+use Rattle.planning.specs.Sound.{Sound}
 use Rattle.planning.specs.Plan.{HoldsAll, WholeAs, PlanDone, Lendable}
 use Rattle.planning.specs.declared.plan.PlanRun.{PlanRun}
 use Rattle.planning.proofs.Draws.{Laid}
 use Rattle.planning.proofs.Liftings.{zeroed_is, held_is}
 use Rattle.planning.proofs.Supplies.{supplied}
-use Rattle.planning.proofs.Sounds.{sound, lengths_of, kept_lengths, refused_outcome}
+use Rattle.plan_theorems.proofs.Outcomes.{Lengths, lengths_of}
+use Rattle.planning.proofs.Sounds.{sound, refused_outcome}
 use Rattle.std.specs.Prelude.{Err, Ok, Result}
 use Rattle.refusal.specs.Reply.{reply_of, no_refusal}
 use Rattle.planning.specs.Tables.{grid_of}
@@ -82,19 +83,20 @@ module _ (c : Case) (target : ℕ) (s : Slices) where
     abbrev lent_of : Slices → Slices
     lent_of t = lent_to t.circuits t.flow t.rate t.mw t.angle t.tier t.ground t.added t.figures t.counts
 
-    lent_sizes : Lengths c (lent_of s)
+    lent_sizes : StageLengths c (lent_of s)
     lent_sizes =
+        let z = sizes.stages in
         record {
-          circuits = sizes.circuits;
-          flow = sizes.flow;
-          rate = sizes.rate;
-          mw = sizes.mw;
-          angle = sizes.angle;
-          tier = sizes.tier;
-          ground = sizes.ground;
-          added = sizes.added;
-          figures = sizes.figures;
-          counts = sizes.counts;
+          circuits = z.circuits;
+          flow = z.flow;
+          rate = z.rate;
+          mw = z.mw;
+          angle = z.angle;
+          tier = z.tier;
+          ground = z.ground;
+          added = z.added;
+          figures = z.figures;
+          counts = z.counts;
         }
 
     -- with the loads that are lent
@@ -105,7 +107,7 @@ module _ (c : Case) (target : ℕ) (s : Slices) where
     pub lendable_by : (sheet : List Float) → Laid c sheet → length sheet ≡ c.figures → (load : List Float) → load ≡ c.load → LendableWith sheet load
     lendable_by sheet laid figures load e =
         let p = sym (relaid_is sheet laid figures) in
-        subst (LendableWith sheet) (sym e) (record { whole = c; sound = subst (λ (x : Case). Sound x target) p is_sound; lengths = subst (λ (x : Case). Lengths x (lent_of s)) p lent_sizes })
+        subst (LendableWith sheet) (sym e) (record { whole = c; sound = subst (λ (x : Case). Sound x target) p is_sound; lengths = subst (λ (x : Case). StageLengths x (lent_of s)) p lent_sizes })
 
     pub supplied_by : (load : List Float) → load ≡ c.load → Supplied (supply_of load c.bus c.slack c.pmin c.pmax c.c1 c.c2)
     supplied_by load e = subst (λ (l : List Float). Supplied (supply_of l c.bus c.slack c.pmin c.pmax c.c1 c.c2)) (sym e) (supplied c target is_sound)
@@ -128,12 +130,11 @@ module _ (c : Case) (target : ℕ) (s : Slices) where
       whole = let p = relaid_is sheet laid figures in subst (WholeOf r) p (done.plan c (subst (λ (x : Case). Sound x target) (sym p) is_sound))
 
       -- 8 and 9: each slice is as long as it was
-      pub stops : Binary c → (f : Refusal) → r ≡ Err f → Lengths c lent → length lent.before ≡ c.corridors → length lent.order ≡ c.corridors → length lent.cap ≡ c.corridors
-          → (out : Slices) → out ≡ zeroed lent → Ends (Err f) out
+      pub stops : Binary c → (f : Refusal) → r ≡ Err f → Lengths c lent → (out : Slices) → out ≡ zeroed lent → Ends (Err f) out
       unfolding outcome_by
-      stops binary f q size u v w out e =
+      stops binary f q size out e =
           ends_by binary (Err f) out
-          (ap (λ (x : Slices). outcome (Err f) x) (e ∙ zeroed_is c lent size u v w)
+          (ap (λ (x : Slices). outcome (Err f) x) (e ∙ zeroed_is c lent size)
           ∙ ap (λ (t : Stage Plan). outcome_by (ending_on t) c s) (sym (subst (λ (y : Result PlanRun Refusal). WholeOf y c) q whole)) ∙ ends)
 
       -- an answer
@@ -163,12 +164,8 @@ module _ (c : Case) (target : ℕ) (s : Slices) where
 
   -- the same by what the check answers, and by what the stages leave, each slice as long as it was, what is cleared, and what is kept
   module _ (x : Result (Unit {0}) Refusal) (k : x ≡ check_of (slices_ok c s) (tables_of_lem c) target) (q : x ≡ no_refusal) where
-    -- the places lent for what is kept are those of the corridors
-    kept_are : (length s.before ≡ c.corridors) × (length s.order ≡ c.corridors) × (length s.cap ≡ c.corridors)
-    kept_are = kept_lengths c s (passed_by_lem (slices_ok c s) c target (sym q ∙ k)).0
-
     pub caps_fit : length s.cap ≡ length c.cap
-    caps_fit = kept_are.2 ∙ sym (is_sound (sym q ∙ k)).cap_size
+    caps_fit = (sizes (sym q ∙ k)).cap ∙ sym (is_sound (sym q ∙ k)).cap_size
 
     pub buses_fit : c.buses ≤ most_buses
     buses_fit = (is_sound (sym q ∙ k)).few_buses
@@ -189,28 +186,35 @@ module _ (c : Case) (target : ℕ) (s : Slices) where
           → length lent.added ≡ length s.added → (out : Slices) → out ≡ zeroed lent → Ends (Err f) out
       ends_refused f u e₁ e₂ e₃ k₁ k₂ k₃ e₄ e₅ e₆ e₇ e₈ out v =
           let ok = sym q ∙ k in
-          let z = sizes ok in
-          let m = kept_are in
+          let m = sizes ok in
+          let z = m.stages in
           stops ok sheet laid figures r lent (subst (DoneWith sheet r lent) p done) binary f u
           (record {
-            circuits = e₁ ∙ z.circuits;
-            flow = e₂ ∙ z.flow;
-            rate = e₃ ∙ z.rate;
-            mw = e₄ ∙ z.mw;
-            angle = e₅ ∙ z.angle;
-            tier = e₆ ∙ z.tier;
-            ground = e₇ ∙ z.ground;
-            added = e₈ ∙ z.added;
-            figures = e₉ ∙ z.figures;
-            counts = e₀ ∙ z.counts;
+            stages =
+                record {
+                  circuits = e₁ ∙ z.circuits;
+                  flow = e₂ ∙ z.flow;
+                  rate = e₃ ∙ z.rate;
+                  mw = e₄ ∙ z.mw;
+                  angle = e₅ ∙ z.angle;
+                  tier = e₆ ∙ z.tier;
+                  ground = e₇ ∙ z.ground;
+                  added = e₈ ∙ z.added;
+                  figures = e₉ ∙ z.figures;
+                  counts = e₀ ∙ z.counts;
+                };
+            before = k₁ ∙ m.before;
+            order = k₂ ∙ m.order;
+            cap = k₃ ∙ m.cap;
           })
-          (k₁ ∙ m.0) (k₂ ∙ m.1) (k₃ ∙ m.2) out v
+          out v
 
       -- what is kept has the places that are lent for it
       pub kept_fits : (y : PlanRun) → r ≡ Ok y → (length y.kept.before.items ≡ length s.before) × (length y.kept.order.items ≡ length s.order)
       kept_fits y u =
           let z = kept_sizes (sym q ∙ k) sheet laid figures r lent (subst (DoneWith sheet r lent) p done) y u in
-          (z.0 ∙ sym kept_are.0, z.1 ∙ sym kept_are.1)
+          let m = sizes (sym q ∙ k) in
+          (z.0 ∙ sym m.before, z.1 ∙ sym m.order)
 
       pub ends_answered : (y : PlanRun) → r ≡ Ok y → (before order cap : List ℕ) (work : List Float) (counts : List ℕ)
           → before ≡ kept_if (promote c.mode) (length s.before) y.kept.before.items
@@ -219,7 +223,7 @@ module _ (c : Case) (target : ℕ) (s : Slices) where
           → Ends (Ok y.plan) (slices lent.circuits lent.flow lent.rate before order cap lent.mw lent.angle lent.tier lent.ground lent.added work counts)
       ends_answered y u before order cap work counts e f g h i =
           let ok = sym q ∙ k in
-          let z = sizes ok in
+          let m = sizes ok in
           leads ok sheet laid figures r lent (subst (DoneWith sheet r lent) p done) binary y u before order cap work counts
-          (e ∙ ap (λ (n : ℕ). kept_if (promote c.mode) n y.kept.before.items) kept_are.0) (f ∙ ap (λ (n : ℕ). kept_if (promote c.mode) n y.kept.order.items) kept_are.1) g
-          (h ∙ ap (λ (n : ℕ). replicate n nought) (e₉ ∙ z.figures)) (i ∙ ap (λ (n : ℕ). replicate n 0) (e₀ ∙ z.counts))
+          (e ∙ ap (λ (n : ℕ). kept_if (promote c.mode) n y.kept.before.items) m.before) (f ∙ ap (λ (n : ℕ). kept_if (promote c.mode) n y.kept.order.items) m.order) g
+          (h ∙ ap (λ (n : ℕ). replicate n nought) (e₉ ∙ m.stages.figures)) (i ∙ ap (λ (n : ℕ). replicate n 0) (e₀ ∙ m.stages.counts))

@@ -6,9 +6,8 @@ use Rattle.loops.specs.Figures.{at}
 use Rattle.loops.specs.Loops.{iter, tab}
 use Rattle.loops.specs.Sorting.{put_before, insert_by}
 use Rattle.loops.proofs.Tab.{get_tab}
-use Rattle.plan_defs.specs.Case.{Case}
-use Rattle.plan_defs.specs.Design.{design, drawn, banked_by, steps_down, line_at, line_of, set_transformer_mva, with_bank}
-use Rattle.plan_defs.proofs.Drawn.{drawn_at}
+use Rattle.plan_defs.specs.Design.{design, drawn}
+use Rattle.plan_defs.proofs.Drawn.{drawn_at, drawn_km}
 use Rattle.planning.specs.Design.{lines_for}
 use Rattle.plan_defs.specs.Fill.{Rank, rank_at, before, placed_rank, insert_rank, rank_next, corridors_in, loading_at, order_of}
 use Rattle.plan_defs.specs.declared.CircuitDesign.{CircuitDesign}
@@ -65,16 +64,6 @@ module _ (ds : List CircuitDesign) (counts : List ℕ) (flows : List Float) wher
 pub drawn_here : (grid : GridColumns) (level : List ℕ) (banks : List Float) (k : ℕ) (d : CircuitDesign) → k < length grid.a
     → d ≡ drawn (lines_for grid) level k (at banks k) → d ≡ design (designs_for grid level banks) k
 drawn_here grid level banks k d h e = e ∙ sym (drawn_at (lines_for grid) level banks k h)
-
--- its length is the corridor's
-km_by : (b : Bool) (d : CircuitDesign) (mva : Float) → (banked_by b d mva).length_km ≡ d.length_km
-unfolding set_transformer_mva with_bank
-km_by true d mva = refl
-km_by false d mva = refl
-
-drawn_km : (c : Case) (level : List ℕ) (k : ℕ) (mva : Float) → (drawn c level k mva).length_km ≡ at c.km k
-unfolding drawn line_at line_of
-drawn_km c level k mva = km_by (steps_down c level k) (line_at c level k) mva
 
 -- ---- the order from columns of the corridors' figures
 module _ (grid : GridColumns) (level : List ℕ) (banks : List Float) (circuits : List ℕ) (flow : List Float) where

@@ -1,9 +1,10 @@
 -- The indices that pass a test, as a loop over all indices meets them: one in front, or none, and the rest from the next index on.
 -- Where the loop stands at i of n, n - i are left.
-use Rattle.std.proofs.Common.{◌≡◌, ℕ, zero, suc, ◌+◌, ◌-◌, ◌<◌, ◌≤◌, Bool, true, false, List, [], ◌∷◌, length, get_or, sym, ap, ◌∙◌, add-one, arith}
+use Rattle.std.proofs.Common.{◌≡◌, ℕ, ◌+◌, ◌-◌, ◌<◌, ◌≤◌, Bool, true, false, List, [], ◌∷◌, length, get_or, sym, ap, ◌∙◌, add-one, arith}
 use native.Mathlib.Nat.{sub-zero}
 use Rattle.loops.proofs.Loops.{gap, none}
 use Rattle.plan_defs.specs.Lists.{keep, pass_from, passing, each}
+use Rattle.plan_defs.proofs.Lists.{pass_all}
 
 module _ (p : ℕ → Bool) where
   pub pass_start : (n : ℕ) → pass_from p (n - 0) 0 ≡ passing p n
@@ -23,26 +24,8 @@ module _ (p : ℕ → Bool) where
   unfolding pass_from
   pass_end {n} {i} h = ap (λ (d : ℕ). pass_from p d i) (none n i h)
 
-  -- ---- each of them is below n and passes, and there are at most n
-  pub pass_few : (d i : ℕ) → length (pass_from p d i) ≤ d
-  unfolding pass_from
-  pass_few zero i = omega arith
-  pass_few (suc d) i = go (p i) (pass_few d (suc i))
-    where
-      go : (b : Bool) → length (pass_from p d (suc i)) ≤ d → length (keep b i (pass_from p d (suc i))) ≤ suc d
-      go true h = omega arith
-      go false h = omega arith
-
   pub pass_below : (d i j : ℕ) → j < length (pass_from p d i) → get_or (pass_from p d i) j 0 < i + d
-  unfolding pass_from
-  pass_below zero i j h = absurd (omega arith)
-  pass_below (suc d) i j h = go (p i) j (pass_below d (suc i)) h
-    where
-      go : (b : Bool) (j : ℕ) → ((j : ℕ) → j < length (pass_from p d (suc i)) → get_or (pass_from p d (suc i)) j 0 < suc i + d)
-          → j < length (keep b i (pass_from p d (suc i))) → get_or (keep b i (pass_from p d (suc i))) j 0 < i + suc d
-      go true zero r h = omega arith
-      go true (suc j) r h = omega (arith, r j (omega arith))
-      go false j r h = omega (arith, r j h)
+  pass_below d i = pass_all (λ k. k < i + d) p (i + d) (λ k h e. h) d i (omega arith)
 
 -- ---- a loop that does something at those that pass
 module _ {S : Type 0} (f : ℕ → S → S) (p : ℕ → Bool) where

@@ -3,14 +3,10 @@ use Rattle.std.proofs.Common.{◌≡◌, ℕ, ◌+◌, ◌<◌, ◌≤◌, Bool,
 use mathlib.Core.Bool.{true≢false}
 use native.Mathlib.Decide.{dec_lt, ℕ_discrete}
 use lib.ListN.{length-replicate, get_or-replicate}
-use Rattle.loops.proofs.Bools.{and_of}
+use Rattle.loops.proofs.Bools.{and_of, and_no}
 use Rattle.plan_defs.specs.Preview.{first_named, place_ok}
 use Rattle.plan_theorems.proofs.Preview.{first_names, names_first}
 use Rattle.planning.specs.Preview.{order_for}
-
-and_no : (a b : Bool) → b ≡ false → (a && b) ≡ false
-and_no true b e = e
-and_no false b e = refl
 
 -- what holds of each index below j and of j
 pub one_more : (ok : ℕ → Bool) (j : ℕ) → ((i : ℕ) → i < j → ok i ≡ true) → ok j ≡ true → (i : ℕ) → i < j + 1 → ok i ≡ true

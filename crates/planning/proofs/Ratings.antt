@@ -7,7 +7,7 @@ use lib.Ieee.Positive.{positive, above, above_of_le, between}
 use Rattle.loops.specs.Figures.{nought, thousandth, million, infinity, times, over, float, lesser, greater, inside}
 use Rattle.loops.proofs.Bools.{is, no, both, and_of}
 use Rattle.loops.proofs.Order.{bounded, upper, bounded_real, bounded_down, le_of_lt, le_of_not_lt, right_real}
-use Rattle.loops.proofs.Real.{positive_of}
+use Rattle.loops.proofs.Real.{positive_of, positive_bounded}
 use Rattle.loops.proofs.Most.{Most, most_bounded, times_most, over_most}
 use Rattle.impedance.specs.Impedance.{rating_ok}
 use Rattle.plan_defs.specs.Constants.{transformer_headroom, transformer_min_mva}
@@ -42,11 +42,6 @@ positive_rating (fin false m e) p =
     let l : 0 < m * up e * 1 = mul-pos (mul-pos (ltb→lt 0 m p) (up_pos e)) (zero-lt-suc 0) in
     let z : 0 * down e ≡ 0 = zero-mul (down e) in
     and_of (lt-ltb (0 * down e) (m * up e * 1) (omega arith)) refl
-
-positive_bounded : (x : Float) → T (positive x) → T (bounded x)
-positive_bounded nan p = p
-positive_bounded (inf s) p = p
-positive_bounded (fin s m e) p = tt
 
 above_upper : (x : Float) → T (above x) → T (upper x)
 above_upper nan p = p

@@ -31,7 +31,7 @@ use Rattle.planning.specs.declared.edges.Edges.{Edges as Own}
 use Rattle.planning.specs.declared.stiffen.Limits.{Limits}
 use Rattle.planning.specs.declared.stiffen.Stiffness.{Stiffness}
 use Rattle.planning.specs.declared.rounds.Progress.{Progress}
-use Rattle.planning.proofs.Lists.{count_most}
+use Rattle.plan_defs.proofs.Lists.{count_most}
 use Rattle.planning.proofs.Builds.{drawn_all_lifts}
 use Rattle.planning.proofs.Redesigns.{banks_lift}
 use Rattle.planning.proofs.States.{state_of}

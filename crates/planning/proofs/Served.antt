@@ -7,6 +7,7 @@ use Rattle.loops.specs.Figures.{at, plus, nought}
 use Rattle.loops.specs.Loops.{iter, tab}
 use Rattle.loops.proofs.Tab.{tab_same, tab_replicate}
 use Rattle.loops.proofs.Places.{tab_set, tab_read}
+use Rattle.loops.proofs.Bools.{and_no, and_true}
 use Rattle.plan_defs.specs.Lists.{pass_from, passing, count_from, counting, each, sum_over}
 use Rattle.plan_defs.specs.Case.{to_of}
 use Rattle.plan_defs.specs.Dispatch.{inject_at}
@@ -15,7 +16,8 @@ use Rattle.planning.specs.Design.{ends_for, ends_of}
 use Rattle.planning.specs.Opening.{bus_case}
 use Rattle.planning.specs.Redesign.{units_for}
 use Rattle.planning.specs.declared.design.Ends.{Ends}
-use Rattle.planning.proofs.Lists.{sum_more, count_more, count_most}
+use Rattle.plan_defs.proofs.Lists.{count_more, count_most, one_at_most}
+use Rattle.planning.proofs.Lists.{sum_more}
 use Rattle.planning.specs.Tables.{GridColumns, SupplyColumns}
 
 -- ---- the units
@@ -80,26 +82,18 @@ module _ (grid : GridColumns) (level : List ℕ) where
   pub shared_start : (shared : List ℕ) → shared ≡ replicate 256 0 → shared ≡ tab 256 (shared_to 0)
   shared_start shared e = e ∙ sym (tab_replicate 256 0) ∙ tab_same 256 (λ i. 0) (shared_to 0) (λ i h. no_steps i)
 
-  and_yes : (x y : Bool) → y ≡ true → ◌≡◌ {A = ℕ} (cond x 1 0) (cond (x && y) 1 0)
-  and_yes true y e = ap (λ (z : Bool). cond {A = ℕ} z 1 0) (sym e)
-  and_yes false y e = refl
-
-  and_no : (x y : Bool) → y ≡ false → ◌≡◌ {A = ℕ} 0 (cond (x && y) 1 0)
-  and_no true y e = ap (λ (z : Bool). cond {A = ℕ} z 1 0) (sym e)
-  and_no false y e = refl
-
   own_steps : (k : ℕ) → shared_to k (to_of (ends_for grid) level k) + cond (steps_down (ends_for grid) level k) 1 0
       ≡ shared_to (k + 1) (to_of (ends_for grid) level k)
   unfolding shared_to
   own_steps k =
       let lo = to_of (ends_for grid) level k in
-      ap (λ (n : ℕ). counting (steps_to lo) k + n) (and_yes (steps_down (ends_for grid) level k) (eqb lo lo) (eq-eqb lo lo refl))
+      ap (λ (b : Bool). counting (steps_to lo) k + cond b 1 0) (sym (and_true (steps_down (ends_for grid) level k) (eq-eqb lo lo refl)))
       ∙ sym (count_more (steps_to lo) k)
 
   other_steps : (k i : ℕ) → (i ≡ to_of (ends_for grid) level k → ⊥) → shared_to k i ≡ shared_to (k + 1) i
   unfolding shared_to
   other_steps k i n =
-      let z = and_no (steps_down (ends_for grid) level k) (eqb (to_of (ends_for grid) level k) i) (ne_eqb (to_of (ends_for grid) level k) i (λ e. n (sym e))) in
+      let z = ap (λ (b : Bool). cond {A = ℕ} b 1 0) (and_no (steps_down (ends_for grid) level k) (eqb (to_of (ends_for grid) level k) i) (ne_eqb (to_of (ends_for grid) level k) i (λ e. n (sym e)))) in
       let r = count_more (steps_to i) k in
       omega arith
 
@@ -130,5 +124,4 @@ byte_is true n e = e
 byte_is false n e = e
 
 pub one_most : (t : Bool) (n : ℕ) → n ≡ cond t 1 0 → n ≤ 1
-one_most true n e = omega arith
-one_most false n e = omega arith
+one_most t n e = omega (arith, e, one_at_most t)

@@ -3,7 +3,7 @@
 use Rattle.std.proofs.Common.{◌≡◌, ℕ, ◌<◌, ◌≤◌, Bool, true, false, ltb, List, [], map, length, get_or, sym, refl, ap, ◌∙◌, subst, arith, ltb-true}
 use lib.ListN.{length-map}
 use lib.Ieee.{Float, nan}
-use Rattle.loops.specs.Figures.{at}
+use Rattle.loops.specs.Figures.{at, nought, million, inside}
 use Rattle.refusal.specs.Number.{index_of}
 use Rattle.refusal.specs.declared.Refusal.{Refusal}
 use Rattle.refusal.specs.declared.Refusal.TheVariants.{Cost}
@@ -15,16 +15,17 @@ use Rattle.dispatch_defs.specs.Limits.{Accepted, SoundUnits}
 use Rattle.plan_defs.specs.Stage.{Stage, stopped, going}
 use Rattle.plan_defs.specs.Lists.{sum_over}
 use Rattle.plan_defs.specs.Case.{Case, tops_up}
-use Rattle.plan_defs.specs.Components.{members, unit_within, units_in}
+use Rattle.plan_defs.specs.Components.{within, members, unit_within, units_in}
 use Rattle.plan_defs.specs.Dispatch.{units_at, demand_of, scatter, served_if, serve}
 use Rattle.planning.specs.Opening.{stage_of, bus_case, dispatch_case, given_if, given_stage, Picked}
-use Rattle.planning.proofs.Passing.{pass_few, pass_below}
+use Rattle.plan_defs.proofs.Lists.{pass_length}
+use Rattle.planning.proofs.Passing.{pass_below}
 use Rattle.loops.proofs.Fronts.{get_map}
-use Rattle.planning.proofs.Demands.{demand_ok_lem}
+use Rattle.plan_theorems.proofs.Demanded.{demand_ok_lem}
 use Rattle.std.specs.Prelude.{Err, Result}
 use Rattle.refusal.specs.Reply.{no_refusal}
 use Rattle.planning.specs.Supplied.{SupplyColumns, Supplied}
-use Rattle.plan_defs.specs.Constants.{most_generators}
+use Rattle.plan_defs.specs.Constants.{most_buses, most_generators}
 
 module _ (led bus : List ℕ) (root : ℕ) where
   abbrev units : List ℕ
@@ -34,7 +35,7 @@ module _ (led bus : List ℕ) (root : ℕ) where
   units_below j h = omega (arith, pass_below (unit_within (bus_case bus) led root) (length bus) 0 j h)
 
   pub units_few : length units ≤ length bus
-  units_few = pass_few (unit_within (bus_case bus) led root) (length bus) 0
+  units_few = pass_length (unit_within (bus_case bus) led root) (length bus) 0
 
   pub picked : (ks : List ℕ) (places : ℕ) → ks ≡ units → length bus ≤ most_generators → places ≡ length bus → Picked ks places
   picked ks places q few r =
@@ -127,6 +128,12 @@ module _ (mode : PlanMode) (led : List ℕ) (supply : SupplyColumns) (root : ℕ
     lent_is : lent ≡ all
     lent_is = rw (pl, pm, pn, pq, pk)
 
+    loads_few : length (members led root) ≤ most_buses
+    loads_few = omega (arith, pass_length (within led root) (length led) 0, size, S.few_buses)
+
+    loads_small : (j : ℕ) → j < length (members led root) → inside nought million (at supply.load (get_or (members led root) j 0)) ≡ true
+    loads_small j l = S.loads _ (omega (arith, pass_below (within led root) (length led) 0 j l, size))
+
     -- it keeps the rules of dispatch
     pub asked : (places : ℕ) → places ≡ length ks → Accepted (length least) lent d places
     asked places n =
@@ -136,7 +143,7 @@ module _ (mode : PlanMode) (led : List ℕ) (supply : SupplyColumns) (root : ℕ
           room = n ∙ ap length pk ∙ sym (length-map ours (at supply.pmin));
           few = omega (arith, length-map ours (at supply.pmin), units_few led supply.bus root, S.few_units);
           units = sound;
-          demand = subst (λ (x : Float). demand_ok x ≡ true) (sym pd) (demand_ok_lem led supply S size root);
+          demand = subst (λ (x : Float). demand_ok x ≡ true) (sym pd) (demand_ok_lem (at supply.load) (members led root) loads_few loads_small);
         })
 
     module _ (a : Result (Unit {0}) Refusal) (out : List Float) (e : stage_of a out ≡ given_stage (tops_up mode) lent d) where

@@ -10,9 +10,9 @@ use Rattle.loops.specs.Figures.{at, float, times, minus, nought, one}
 use Rattle.loops.specs.Loops.{first, tab}
 use Rattle.loops.proofs.Tab.{length_tab, get_tab, tab_same}
 use Rattle.refusal.specs.Number.{number_of, index_of}
-use Rattle.refusal.specs.Reply.{answered, refused}
 use Rattle.refusal.specs.declared.Refusal.{Refusal}
 use Rattle.refusal.specs.declared.Refusal.TheVariants.{NotFinite}
+use Rattle.dispatch_defs.proofs.Callers.{never}
 use Rattle.angles_defs.specs.Network.{Edges, edges_of}
 use Rattle.angles_defs.specs.Solve.{Solved, solve}
 use Rattle.angles_defs.specs.Operation.{Request, request_of, Outcome, outcome, most, finite_at, finish_if, solve_of, dc_angles}
@@ -22,11 +22,12 @@ use Rattle.angles_defs.proofs.Solves.{solve_places}
 use Rattle.plan_defs.specs.Case.{Case, from_of, to_of}
 use Rattle.plan_defs.specs.Constants.{base_mva}
 use Rattle.plan_defs.specs.Stage.{Stage, stopped, going}
-use Rattle.plan_defs.specs.Design.{steps_down, line_of, line_at, with_bank, set_transformer_mva, banked_by, drawn, no_design}
+use Rattle.plan_defs.specs.Design.{drawn, no_design}
 use Rattle.plan_defs.specs.Build.{drawn_all}
 use Rattle.plan_defs.specs.Solve.{susceptance, weight_at, edges_for, flow_mw, flows_of, all_finite}
 use Rattle.plan_defs.specs.Stiffen.{unit_at}
 use Rattle.plan_defs.specs.declared.CircuitDesign.{CircuitDesign}
+use Rattle.plan_defs.proofs.Drawn.{drawn_from, drawn_to}
 use Rattle.planning.specs.Design.{lines_for, Lines}
 use Rattle.planning.specs.Edges.{Between, Grounded}
 use Rattle.planning.specs.Solve.{finite_if, finite_angles, Places}
@@ -36,9 +37,6 @@ use Rattle.std.specs.Prelude.{Err, Ok, Result}
 use Rattle.planning.specs.Tables.{GridColumns}
 
 -- ---- angles
-never : {A : Type 0} (x : A) (k i : ℕ) → answered x ≡ refused k i → ⊥
-never x k i e = let z : ◌≡◌ {A = ℕ} 0 1 = cc in omega arith
-
 -- what angles alone say
 abbrev pub angle_stage : Result Solution Refusal → List Float → Stage (List Float)
 angle_stage (Ok s) y = going y
@@ -110,20 +108,6 @@ module _ (n m : ℕ) (from to : List ℕ) (weight : List Float) (grounds : List 
 
   pub angles_answered : (s : Solution) → r ≡ Ok s → going y ≡ finite_angles (solve n E grounds injection guess).x
   angles_answered s h = ap (λ (a : Result Solution Refusal). angle_stage a y) (sym h) ∙ own_stage
-
--- ---- the ends of a drawn corridor
-drawn_ends : (b : Bool) (d : CircuitDesign) (mva : Float) → ((banked_by b d mva).from ≡ d.from) × ((banked_by b d mva).to ≡ d.to)
-unfolding set_transformer_mva with_bank
-drawn_ends true d mva = (refl, refl)
-drawn_ends false d mva = (refl, refl)
-
-pub drawn_from : (c : Case) (level : List ℕ) (k : ℕ) (mva : Float) → (drawn c level k mva).from ≡ from_of c level k
-unfolding drawn line_at line_of
-drawn_from c level k mva = (drawn_ends (steps_down c level k) (line_at c level k) mva).0
-
-pub drawn_to : (c : Case) (level : List ℕ) (k : ℕ) (mva : Float) → (drawn c level k mva).to ≡ to_of c level k
-unfolding drawn line_at line_of
-drawn_to c level k mva = (drawn_ends (steps_down c level k) (line_at c level k) mva).1
 
 -- ---- the edges
 module _ (c : Case) (level : List ℕ) (banks : List Float) (circuits : List ℕ) where

@@ -18,12 +18,11 @@ use Rattle.plan_defs.specs.Plan.{ending_of}
 use Rattle.plan_defs.specs.Outcome.{Slices, slices_ok, outcome, outcome_if, outcome_by, plan_corridors}
 use Rattle.plan_defs.proofs.Accepted.{Accepted, accepted, end_a_lem, end_b_lem, bus_below, unit_ok_lem, tier_below, load_inside, initial_few, cap_few, row_inside, row_sound_lem}
 use Rattle.plan_defs.proofs.Rows.{row_from_lem}
-use Rattle.plan_theorems.proofs.Outcomes.{lengths_of as all-lengths}
 use Rattle.acceptance.specs.Check.{check_of}
 use Rattle.acceptance.proofs.Callers.{tables_of_lem, refused_by_lem}
 use Rattle.planning.specs.Design.{Lines, rate_at}
 use Rattle.planning.specs.Lent.{places_ok}
-use Rattle.planning.specs.Sound.{Sound, Lengths}
+use Rattle.planning.specs.Sound.{Sound}
 use Rattle.planning.specs.declared.lent.Places.{Places}
 use Rattle.planning.proofs.Draws.{Laid}
 use Rattle.planning.proofs.Ratings.{sheet_rating}
@@ -120,26 +119,7 @@ module _ (c : Case) (target : ℕ) (ok : Accepted c target) where
 pub sound : (c : Case) (target : ℕ) → case_fault c target ≡ none → Sound c target
 sound c target e = sound_of c target (accepted c target e)
 
--- ---- the lent slices: those of the stages, and those for what is kept
-pub lengths_of : (c : Case) (s : Slices) → slices_ok c s ≡ true → Lengths c s
-lengths_of c s h =
-    let l = all-lengths c s h in
-    record {
-      circuits = l.circuits;
-      flow = l.flow;
-      rate = l.rate;
-      mw = l.mw;
-      angle = l.angle;
-      tier = l.tier;
-      ground = l.ground;
-      added = l.added;
-      figures = l.figures;
-      counts = l.counts;
-    }
-
-pub kept_lengths : (c : Case) (s : Slices) → slices_ok c s ≡ true → (length s.before ≡ c.corridors) × (length s.order ≡ c.corridors) × (length s.cap ≡ c.corridors)
-kept_lengths c s h = let l = all-lengths c s h in (l.before, l.order, l.cap)
-
+-- ---- the lent slices
 -- how many places they have, as `places_ok` is told
 abbrev pub places_of : Slices → Places
 places_of s =

@@ -1,6 +1,7 @@
 -- One corridor stiffened: a full bank, else a raise, else a circuit, else nothing, each as the definition has it.
 -- Each law is the definition with its tests decided.
-use Rattle.std.proofs.Common.{◌≡◌, ℕ, zero, suc, ◌+◌, ◌<◌, ◌≤◌, Bool, true, false, cond, ◌&&◌, ltb, List, [], ◌∷◌, ◌++◌, length, get_or, take, set, sym, refl, ap, ◌∙◌, subst, le_of_suc-le-suc, not-suc-le-zero, add-one, arith, length-append, take-suc, ltb-true}
+use Rattle.std.proofs.Common.{◌≡◌, ℕ, ◌+◌, ◌<◌, ◌≤◌, Bool, true, false, ◌&&◌, ltb, List, [], ◌∷◌, ◌++◌, length, get_or, take, set, sym, refl, ap, ◌∙◌, subst, add-one, arith, length-append, take-suc, ltb-true}
+use Rattle.std.proofs.lemmas.List.{get_or_default}
 use lib.Ieee.{Float}
 use Rattle.loops.specs.Figures.{at}
 use Rattle.loops.proofs.Bools.{both}
@@ -13,6 +14,7 @@ use Rattle.plan_defs.specs.Build.{Build, built, build_of, set_bank, set_count, b
 use Rattle.plan_defs.specs.Raise.{mark_ends, mark_if}
 use Rattle.plan_defs.specs.Stiffen.{Stiffening, stiff, arrival, stiffen_by, has_room, stiffen_one}
 use Rattle.plan_defs.specs.declared.CircuitDesign.{CircuitDesign}
+use Rattle.plan_defs.proofs.Drawn.{drawn_at, set_bank_lem}
 use Rattle.plan_defs.proofs.Lists.{each_append}
 use Rattle.plan_defs.proofs.Accepted.{own_few}
 use Rattle.planning.specs.Raise.{pairs_for}
@@ -23,14 +25,9 @@ use Rattle.planning.specs.Design.{lines_for, Banks}
 use Rattle.planning.specs.Whole.{with_lines}
 use Rattle.planning.proofs.Sizes.{few_set}
 use Rattle.planning.proofs.Draws.{drawn_lifts}
-use Rattle.planning.proofs.Builds.{kept_next, drawn_at, set_bank_lem}
+use Rattle.planning.proofs.Builds.{kept_next}
 use Rattle.planning.proofs.Corridors.{banks_set}
 use Rattle.planning.specs.Tables.{GridColumns}
-
--- ---- buses that come to the top
-one_most : (b : Bool) → cond b 1 0 ≤ 1
-one_most true = omega arith
-one_most false = omega arith
 
 -- ---- a raise, or else a circuit
 stiff_same : (build : Build) (marks : List ℕ) (total total' hv hv' stiffening stiffening' : ℕ) (wide stiffened : Bool) → total ≡ total' → hv ≡ hv' → stiffening ≡ stiffening'
@@ -118,15 +115,9 @@ module _ (g : Limits) (own : ℕ) (level a b : List ℕ) (k : ℕ) (circuits mar
       }
 
 -- ---- one corridor
--- what is read at a place that is there does not hang on the default
-default_free : {A : Type 0} (l : List A) (i : ℕ) (d e : A) → i < length l → get_or l i d ≡ get_or l i e
-default_free [] i d e h = absurd (not-suc-le-zero h)
-default_free (x ∷ l) zero d e h = refl
-default_free (x ∷ l) (suc i) d e h = default_free l i d e (le_of_suc-le-suc h)
-
 pub room_lifts : (c : Case) (g : Limits) (k : ℕ) (s : Stiffening) → k < length s.build.circuits → room_for g (own_cap c k) (get_or s.build.circuits k 0) s.total ≡ has_room c (budget_for g) k s
 unfolding full_at
-room_lifts c g k s h = ap (λ (n : ℕ). ltb n (full_at c k) && ltb s.total g.branches) (default_free s.build.circuits k 0 (full_at c k) h)
+room_lifts c g k s h = ap (λ (n : ℕ). ltb n (full_at c k) && ltb s.total g.branches) (get_or_default s.build.circuits k 0 (full_at c k) h)
 
 -- the rest of the step reads the corridors' ends of a case
 strengthen_lifts : (x y : Bool) (o : Case) (grid : GridColumns) (level : List ℕ) (g : Limits) (k : ℕ) (s : Stiffening)

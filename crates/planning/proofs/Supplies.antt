@@ -1,35 +1,19 @@
 -- What acceptance says of the loads and the units of a sound case.
-use Rattle.std.proofs.Common.{◌≡◌, ℕ, ◌+◌, ◌*◌, ◌<◌, Bool, true, false, ◌&&◌, T, eqb, length, get_or, sym, refl, ap, ◌∙◌, zero-mul, arith, le-ltb, eqb-true}
-use lib.Ieee.{Float, nan, inf, fin, up, down, lt, le, of_bits}
+use Rattle.std.proofs.Common.{◌≡◌, ℕ, ◌<◌, true, false, ◌&&◌, length, get_or, sym, refl, ◌∙◌, arith}
+use lib.Ieee.{Float, le, of_bits}
 use Rattle.loops.specs.Figures.{nought, million, inside}
 use Rattle.loops.proofs.Bools.{both, and_of}
-use Rattle.loops.proofs.Order.{left_real, le_of_not_lt}
-use Rattle.loops.proofs.Signs.{sound as unsigned, sound_real, sound_up, sound_of}
+use Rattle.loops.proofs.Signs.{sound_up, sound_of}
 use Rattle.dispatch_defs.specs.Units.{most_c1, unit_ok}
 use Rattle.plan_defs.specs.Case.{Case}
+use Rattle.plan_theorems.proofs.ToppedUp.{zero_least}
 use Rattle.planning.specs.Sound.{Sound}
 use Rattle.planning.specs.Supplied.{SupplyColumns, supply_of, Supplied}
 
 -- ---- a unit's most is not below zero, since its least is not
-truth : (b : Bool) → T b → b ≡ true
-truth true t = refl
-truth false t = absurd t
-
-none_below : (x : Float) → T (unsigned x) → lt x nought ≡ false
-unfolding lt of_bits
-none_below nan h = absurd h
-none_below (inf true) h = absurd h
-none_below (inf false) h = refl
-none_below (fin true m e) h =
-    let z : m ≡ 0 = eqb-true m 0 (truth (eqb m 0) h) in
-    let y : m * up e * 1 ≡ 0 = ap (λ (k : ℕ). k * up e * 1) z ∙ ap (λ (k : ℕ). k * 1) (zero-mul (up e)) in
-    le-ltb 0 (m * up e * 1 + 0 * down e) (omega (arith, y, zero-mul (down e)))
-none_below (fin false m e) h = le-ltb (m * up e * 1) (0 * down e) (omega (arith, zero-mul (down e)))
-
 from_nought : (x y : Float) → le nought x ≡ true → le x y ≡ true → le nought y ≡ true
-from_nought x y p q =
-    let u = sound_up x y (sound_of x p) q in
-    le_of_not_lt y nought (sound_real y u) (left_real nought x p) (none_below y u)
+unfolding of_bits
+from_nought x y p q = zero_least false 0 _ y refl (sound_up x y (sound_of x p) q)
 
 pub unit_inside : (pmin pmax c1 c2 : Float) → unit_ok pmin pmax c1 c2 ≡ true → inside nought million pmax ≡ true
 unit_inside pmin pmax c1 c2 h =

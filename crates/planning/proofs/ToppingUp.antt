@@ -23,7 +23,7 @@ use Rattle.std.specs.Prelude.{Err, Result}
 use Rattle.refusal.specs.Reply.{no_refusal}
 
 -- ---- the order by c1, of the first two keys alike
-no_less : lt nought nought ≡ false
+pub no_less : lt nought nought ≡ false
 unfolding lt of_bits
 no_less = refl
 

@@ -11,13 +11,13 @@ use Rattle.plan_defs.specs.Components.{component, grounds_of}
 use Rattle.plan_defs.specs.Dispatch.{dispatch_of, injections}
 use Rattle.plan_defs.specs.Rounds.{all_rounds}
 use Rattle.plan_defs.specs.Plan.{Plan, opened_with, settled, closing, plan_for}
-use Rattle.plan_defs.specs.Outcome.{Slices, up_to, summary}
+use Rattle.plan_defs.specs.Outcome.{Slices, StageLengths, up_to, summary}
 use Rattle.plan_defs.specs.declared.CorridorPlan.{CorridorPlan}
 use Rattle.planning.specs.Design.{Lines, Banks}
 use Rattle.planning.specs.Size.{Few, Capped}
 use Rattle.planning.specs.Solve.{peak_for}
 use Rattle.planning.specs.Rounds.{rounds_case, draft_of, ran_as, Columns, Places}
-use Rattle.planning.specs.Sound.{Sound, Lengths}
+use Rattle.planning.specs.Sound.{Sound}
 use Rattle.planning.specs.declared.rounds.Progress.{Progress}
 use Rattle.planning.specs.declared.close.Closing.{Closing}
 use Rattle.planning.specs.declared.plan.PlanRun.{PlanRun}
@@ -169,4 +169,4 @@ pub record Lendable (mode : PlanMode) (target above : ℕ) (grid : GridColumns) 
     (lent : Slices) : Type 0 where
   pub whole : Case
   pub sound : Sound (whole_case whole mode above grid tier supply initial) target
-  pub lengths : Lengths (whole_case whole mode above grid tier supply initial) lent
+  pub lengths : StageLengths (whole_case whole mode above grid tier supply initial) lent

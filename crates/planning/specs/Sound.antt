@@ -1,5 +1,5 @@
--- What acceptance gives: of a case that refusals 1 to 7 pass, every length, every bound and every row, as the stages of planning ask for them;
--- and of the lent slices their lengths. proofs/Sounds.antt shows it.
+-- What acceptance gives: of a case that refusals 1 to 7 pass, every length, every bound and every row, as the stages of planning ask for them.
+-- proofs/Sounds.antt shows it.
 use Rattle.std.specs.Prelude.{◌≡◌, ℕ, ◌+◌, ◌*◌, ◌<◌, ◌≤◌, true, ◌&&◌, length, ◌≢◌, slice_index}
 use Rattle.std.specs.Float.Ieee.{lt, le}
 use Rattle.loops.specs.Figures.{at, plus, nought, one, half, ten_thousand, million, inside}
@@ -10,7 +10,6 @@ use Rattle.sheets.specs.Sheet.{row_figures, row_place}
 use Rattle.plan_defs.specs.Constants.{kv_tolerance, most_buses, most_corridors, most_generators, most_levels, most_target, most_initial, most_cap}
 use Rattle.plan_defs.specs.Case.{Case, levels, kv_of, load_of, end_a, end_b, own_cap, row_at}
 use Rattle.plan_defs.specs.Accept.{row_sound}
-use Rattle.plan_defs.specs.Outcome.{Slices, work_places}
 
 pub record Sound (c : Case) (target : ℕ) : Type 0 where
   -- lengths
@@ -60,15 +59,3 @@ pub record Sound (c : Case) (target : ℕ) : Type 0 where
   pub row_inside : (k l : ℕ) → k < c.corridors → l < levels c → row_place c.corridors k l + row_figures ≤ c.figures
   pub row_sound_holds : (k l : ℕ) → k < c.corridors → l < levels c → row_sound (row_at c k l) ≡ true
   pub row_rating : (k l : ℕ) → k < c.corridors → l < levels c → rating_ok (row_at c k l).rate ≡ true
-
-pub record Lengths (c : Case) (s : Slices) : Type 0 where
-  pub circuits : length s.circuits ≡ c.corridors
-  pub flow : length s.flow ≡ c.corridors
-  pub rate : length s.rate ≡ c.corridors
-  pub mw : length s.mw ≡ c.generators
-  pub angle : length s.angle ≡ c.buses
-  pub tier : length s.tier ≡ c.buses
-  pub ground : length s.ground ≡ c.buses
-  pub added : length s.added ≡ c.above
-  pub figures : length s.figures ≡ work_places c
-  pub counts : length s.counts ≡ work_places c

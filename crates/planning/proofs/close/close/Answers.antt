@@ -1,6 +1,7 @@
 -- Each figure is its function's; the ratings are the designs'.
 use Rattle.std.proofs.Common.{arith, rules}
-use Rattle.planning.proofs.Closings.{rates_drawn, closing_is, tiers_are, added_are, least_most, least_each}
+use Rattle.plan_theorems.proofs.Demand.{least_most, least_each}
+use Rattle.planning.proofs.Closings.{rates_drawn, closing_is, tiers_are, added_are}
 use Rattle.planning.proofs.close.close.Goals as goal
 use Rattle.planning.specs.Tables.{grid_in}
 

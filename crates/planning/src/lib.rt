@@ -17,6 +17,8 @@ use policy::promotes;
 use refusal::Refusal;
 use tables::{Grid, Supply};
 
+mod budgets;
+mod candidates;
 mod close;
 mod design;
 mod edges;
@@ -37,6 +39,7 @@ mod size;
 mod solve;
 mod solved;
 mod stiffen;
+mod stiffen_corridor;
 mod tables;
 mod top_up;
 

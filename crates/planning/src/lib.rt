@@ -81,17 +81,17 @@ pub fn plan_corridors(
     kept_cap: &mut [u32],
     mw: &mut [f64],
     angle: &mut [f64],
-    level: &mut [u32],
+    final_tier: &mut [u32],
     ground: &mut [u32],
     added: &mut [f64],
     figures: &mut [f64],
     counts: &mut [u32],
 ) -> Result<CorridorPlan, Refusal>
-    ensures plan { outcome result (slices circuits.new flow.new rate.new before.new order.new kept_cap.new mw.new angle.new level.new ground.new added.new figures.new counts.new)
+    ensures plan { outcome result (slices circuits.new flow.new rate.new before.new order.new kept_cap.new mw.new angle.new final_tier.new ground.new added.new figures.new counts.new)
         ≡ plan_corridors (surveyed mode n m g above requested ladder.now tier.now reading.now weight.now bus.now slack.now pmin.now pmax.now c1.now c2.now a.now b.now initial.now km.now share.now cap.now sheet.now) target
-        (slices circuits.old flow.old rate.old before.old order.old kept_cap.old mw.old angle.old level.old ground.old added.old figures.old counts.old) }
+        (slices circuits.old flow.old rate.old before.old order.old kept_cap.old mw.old angle.old final_tier.old ground.old added.old figures.old counts.old) }
     ensures demand { (x : CorridorPlan) → result ≡ Ok x → AnswerTo (surveyed mode n m g above requested ladder.now tier.now reading.now weight.now bus.now slack.now pmin.now pmax.now c1.now c2.now a.now b.now initial.now km.now share.now cap.now sheet.now) target
-        (outcome result (slices circuits.new flow.new rate.new before.new order.new kept_cap.new mw.new angle.new level.new ground.new added.new figures.new counts.new)) x }
+        (outcome result (slices circuits.new flow.new rate.new before.new order.new kept_cap.new mw.new angle.new final_tier.new ground.new added.new figures.new counts.new)) x }
 {
     let places = Places {
         circuits: circuits.len(),
@@ -102,7 +102,7 @@ pub fn plan_corridors(
         cap: kept_cap.len(),
         mw: mw.len(),
         angle: angle.len(),
-        tier: level.len(),
+        tier: final_tier.len(),
         ground: ground.len(),
         added: added.len(),
         figures: figures.len(),
@@ -133,8 +133,8 @@ pub fn plan_corridors(
         c2,
     };
     match plan::run(
-        mode, target, above, &grid, tier, &supply, initial, circuits, flow, rate, mw, angle, level,
-        ground, added, figures, counts,
+        mode, target, above, &grid, tier, &supply, initial, circuits, flow, rate, mw, angle,
+        final_tier, ground, added, figures, counts,
     ) {
         Ok(ran) => {
             let fills = promotes(mode);
@@ -147,8 +147,8 @@ pub fn plan_corridors(
         }
         Err(f) => {
             close::clear(
-                circuits, flow, rate, before, order, kept_cap, mw, angle, level, ground, added,
-                figures, counts,
+                circuits, flow, rate, before, order, kept_cap, mw, angle, final_tier, ground,
+                added, figures, counts,
             );
             Err(f)
         }

@@ -10,6 +10,7 @@ ghost use Rattle.plan_defs.specs.Stiffen.{gain_of, batch, batch_cap};
 ghost use Rattle.planning.specs.Raise.{pairs_for};
 ghost use Rattle.planning.specs.Stiffen.{Gainful, candidate_at, gain_at, gains_more, gain_next, gain_order, gain_for, Chosen};
 
+use crate::MOST_CORRIDORS;
 use crate::budgets::Stiffness;
 use crate::figures::counting;
 use crate::solve::susceptance;
@@ -93,7 +94,7 @@ fn place_of(gain: &[f64], order: &[u32], k: usize) -> Option<usize>
 
 // Puts corridor k, which comes after those of the order, in its place, where it gains.
 #[tactic(auto, using(crate::proofs::Gains::next_gains))]
-fn insert_gain(gain: &[f64], order: &mut ArrayVec<u32, 256>, k: usize)
+fn insert_gain(gain: &[f64], order: &mut ArrayVec<u32, MOST_CORRIDORS>, k: usize)
     requires { (k < length gain.now) × (length gain.now ≤ most_corridors) × (array_vec_len order.old ≤ k) × All (λ (j : ℕ). j < k) order.old.items }
     ensures { order.new.items ≡ gain_next gain.now k order.old.items }
 {
@@ -105,7 +106,7 @@ fn insert_gain(gain: &[f64], order: &mut ArrayVec<u32, 256>, k: usize)
 
 // The corridors with a gain above 0, the most first.
 #[tactic(auto, using(crate::proofs::Gains::order_start, crate::proofs::Gains::order_next, crate::proofs::Gains::order_named))]
-fn order_gains(gain: &[f64]) -> ArrayVec<u32, 256>
+fn order_gains(gain: &[f64]) -> ArrayVec<u32, MOST_CORRIDORS>
     requires { length gain.now ≤ most_corridors }
     ensures { result.items ≡ gain_order gain.now (length gain.now) }
 {
@@ -158,13 +159,13 @@ pub fn choose_batch(
     circuits: &[u32],
     banks: &[f64],
     t: Stiffness,
-) -> ArrayVec<u32, 256>
+) -> ArrayVec<u32, MOST_CORRIDORS>
     requires gainful { Gainful solved.now phi.now circuits.now banks.now }
     ensures { Chosen root excess solved.now
         phi.now circuits.now banks.now t result.items }
 {
     let m = solved.grid.a.len();
-    let mut room = [0.0; 256];
+    let mut room = [0.0; MOST_CORRIDORS];
     let gain = &mut room[..m];
     gains(solved, phi, circuits, banks, t, root, gain);
     let mut order = order_gains(gain);

@@ -8,6 +8,7 @@ ghost use Rattle.plan_defs.specs.Stiffen.{best_of};
 ghost use Rattle.planning.specs.Stiffen.{Stiffenable, Room, LedStiffened, StiffenFits, Stepped, reinforce_step, narrow_step, component_step, Led, lead_of, lag_of};
 ghost use Rattle.planning.specs.Tables.{grid_in, opened_in, solved_by};
 
+use crate::MOST_BUSES;
 use crate::budgets::{Limits, Stiffness};
 use crate::candidates::choose_batch;
 use crate::edges::Edges;
@@ -162,7 +163,7 @@ fn stiffen_component(
     if round > STIFFENING_ROUNDS {
         return Ok(s);
     }
-    let mut phi = [0.0; 256];
+    let mut phi = [0.0; MOST_BUSES];
     narrow(
         root,
         lead,

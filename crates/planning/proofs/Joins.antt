@@ -157,8 +157,8 @@ module _ (c : Case) (target : ℕ) (s : Sound c target) where
       → WholeAs r circuits flow rate mw angle tier ground added c t
   whole_by (Err f) circuits flow rate mw angle tier ground added t k g h = h
   whole_by (Ok x) circuits flow rate mw angle tier ground added t k g h =
-      let w = subst (On (OpeningOf mw)) h.reached k in
-      record { holds = h; mw_is = w.0; grounds_are = g ∙ ap (up_to c.buses 0) w.1 }
+      let w = subst (On (OpeningOf mw)) h.kept.reached k in
+      record { run = h; mw_is = w.0; grounds_are = g ∙ ap (up_to c.buses 0) w.1 }
 
   unopened : (f : Refusal) → dispatch_of c (component c) ≡ stopped f → plan_for c target ≡ stopped f
   unfolding plan_for ready_of opening

@@ -16,7 +16,7 @@ use Rattle.planning.specs.Opening.{stage_of, stage_if}
 use Rattle.planning.specs.Solve.{peak_for, finite_if, finite_angles}
 use Rattle.planning.specs.Whole.{with_lines}
 use Rattle.planning.specs.Stiffen.{budget_for, stiff_of, round_of, Within, LedStiffened, Stepped, reinforce_step, narrow_step, component_step, lead_of, lag_of}
-use Rattle.planning.specs.declared.stiffen.Stiffness.{Stiffness}
+use Rattle.planning.specs.declared.budgets.Stiffness.{Stiffness}
 use Rattle.std.specs.Prelude.{Err, Ok, Result}
 use Rattle.refusal.specs.Reply.{no_refusal}
 use Rattle.planning.specs.Tables.{SolvedColumns, edges_in}

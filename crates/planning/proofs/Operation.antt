@@ -143,7 +143,7 @@ module _ (c : Case) (target : ℕ) (s : Slices) where
 
       pub kept_sizes : (x : PlanRun) → r ≡ Ok x → (length x.kept.before.items ≡ c.corridors) × (length x.kept.order.items ≡ c.corridors)
       kept_sizes x q =
-          let k = (holds x q).holds in
+          let k = (holds x q).run.kept in
           let z = subst (On (KeptSizes c)) k.reached (plan_keeps c target) in
           (ap length k.before_are ∙ z.0, ap length k.order_is ∙ z.1)
 
@@ -155,9 +155,9 @@ module _ (c : Case) (target : ℕ) (s : Slices) where
       leads binary x q before order cap work counts e f g h i =
           let out = slices lent.circuits lent.flow lent.rate before order cap lent.mw lent.angle lent.tier lent.ground lent.added work counts in
           let w = holds x q in
-          let k = w.holds in
+          let k = w.run.kept in
           ends_by binary (Ok x.plan) out
-          (ap (λ (y : CorridorPlan). outcome (Ok y) out) k.plan_is
+          (ap (λ (y : CorridorPlan). outcome (Ok y) out) w.run.plan_is
           ∙ ap (λ (y : Slices). outcome (Ok (summary k.held)) y)
           (held_is c out k.held (e ∙ ap (kept_of c) k.before_are) (f ∙ ap (kept_of c) k.order_is) g k.circuits_are k.flows_are k.rates_are w.mw_is k.angles_are k.tiers_are w.grounds_are k.added_are h i)
           ∙ ap (λ (t : Stage Plan). outcome_by (ending_on t) c s) (sym k.reached) ∙ ends)

@@ -26,9 +26,9 @@ use Rattle.planning.specs.Redesign.{redesign_for}
 use Rattle.planning.specs.Solve.{peak_for}
 use Rattle.planning.specs.Raises.{raised_of, raised_as, RaisesDone}
 use Rattle.planning.specs.Rounds.{rounds_case, draft_of, ran_as, RoundsRun}
-use Rattle.planning.specs.Settle.{closing_in, Held, SettledAs, Settles}
+use Rattle.planning.specs.Settle.{closing_in, SettlingHeld, SettledAs, Settles}
 use Rattle.planning.specs.Sound.{Sound}
-use Rattle.planning.specs.Plan.{rounds_for, start_of, Runnable, RanAll, plan_by, Holds, Plannable, OpenedPlan}
+use Rattle.planning.specs.Plan.{rounds_for, start_of, Runnable, RanAll, plan_by, RunHeld, Plannable, OpenedPlan}
 use Rattle.planning.specs.declared.rounds.Progress.{Progress}
 use Rattle.planning.specs.declared.fill.Kept.{Kept}
 use Rattle.planning.specs.declared.plan.PlanRun.{PlanRun}
@@ -121,23 +121,16 @@ module _ (c : Case) (target : ℕ) (o : Opened) (level circuits : List ℕ) (ban
           said_then (ready_with c o S v) refl refl (planning_state o.peak S.build.designs (fill c target (ready_with c o S v).order circuits).counts (zeros c.buses))
 
 module _ (p : Progress) (gs : ℕ) (circuits tier : List ℕ) (flow rate angle added : List Float) (above : ℕ) where
-  planned_as : (y : Settling) (i : PlanRun) (t : Stage Plan) → On (λ q. summary q ≡ plan_by p gs q.filler (closing_in q)) t → Held y circuits tier flow rate angle added above t
-      → i.plan ≡ plan_by p gs y.filler y.closing → i.kept ≡ y.kept → Holds i circuits tier flow rate angle added above t
+  planned_as : (y : Settling) (i : PlanRun) (t : Stage Plan) → On (λ q. summary q ≡ plan_by p gs q.filler (closing_in q)) t → SettlingHeld y circuits tier flow rate angle added above t
+      → i.plan ≡ plan_by p gs y.filler y.closing → i.kept ≡ y.kept → RunHeld i circuits tier flow rate angle added above t
   planned_as y i t u h e k =
-      record {
-        held = h.held;
-        reached = h.reached;
-        plan_is = e ∙ ap (λ (n : ℕ). plan_by p gs n y.closing) h.filler_is ∙ ap (plan_by p gs h.held.filler) h.closing_is
-            ∙ sym (subst (λ (x : Stage Plan). On (λ q. summary q ≡ plan_by p gs q.filler (closing_in q)) x) h.reached u);
-        before_are = ap (λ (x : Kept). x.before.items) k ∙ h.before_are;
-        order_is = ap (λ (x : Kept). x.order.items) k ∙ h.order_is;
-        circuits_are = h.circuits_are;
-        tiers_are = h.tiers_are;
-        flows_are = h.flows_are;
-        rates_are = h.rates_are;
-        angles_are = h.angles_are;
-        added_are = h.added_are;
-      }
+      let run : Kept → PlanRun = λ x. record { plan = i.plan; kept = x } in
+      subst (λ (x : Kept). RunHeld (run x) circuits tier flow rate angle added above t) (sym k)
+      (record {
+        kept = h.kept;
+        plan_is = e ∙ ap (λ (n : ℕ). plan_by p gs n y.closing) h.filler_is ∙ ap (plan_by p gs h.kept.held.filler) h.closing_is
+            ∙ sym (subst (λ (x : Stage Plan). On (λ q. summary q ≡ plan_by p gs q.filler (closing_in q)) x) h.kept.reached u);
+      })
 
 -- ---- from the opening on
 abbrev opened_for : Case → List ℕ → List Float → Peak → Raised → Opened
@@ -285,7 +278,7 @@ module _ (mode : PlanMode) (target above : ℕ) (grid : GridColumns) (level : Li
               record {
                 plan = λ o mw s l e g caps.
                     let c = D o mw s l e g caps in
-                    subst (Holds i circuits''' level''' flow''' rate''' angle''' added''' above) (sym (ending_is o mw s l e g caps))
+                    subst (RunHeld i circuits''' level''' flow''' rate''' angle''' added''' above) (sym (ending_is o mw s l e g caps))
                     (planned_as p (length opened.grounds) circuits''' level''' flow''' rate''' angle''' added''' above z i (ending o mw s l e g caps)
                     (said_of c target (O o mw s l e g caps) level'' circuits'' banks'' floors'' upsized'' angle'' p)
                     (subst (λ (n : Result Settling Refusal). SettledAs n circuits''' level''' flow''' rate''' angle''' added''' c (ending o mw s l e g caps)) j (settles o mw s l e g caps)) v w);

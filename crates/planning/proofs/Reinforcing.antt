@@ -20,7 +20,7 @@ use Rattle.planning.specs.Raise.{pairs_for}
 use Rattle.planning.specs.Fill.{designs_for}
 use Rattle.planning.specs.Whole.{with_lines}
 use Rattle.planning.specs.Stiffen.{budget_for, stiff_of, candidate_at, gain_if, gain_at, gain_order, gain_for, BatchStiffened, Chosen, Stepped, reinforce_step}
-use Rattle.planning.specs.declared.stiffen.Stiffness.{Stiffness}
+use Rattle.planning.specs.declared.budgets.Stiffness.{Stiffness}
 use Rattle.planning.proofs.Builds.{drawn_all_lifts}
 use Rattle.planning.proofs.Stiffenings.{room_lifts}
 use Rattle.planning.proofs.Gains.{gains_are, order_named}

@@ -28,8 +28,8 @@ use Rattle.planning.specs.Whole.{with_units}
 use Rattle.planning.specs.Rounds.{rounds_case, draft_of, Redrawn}
 use Rattle.planning.specs.declared.size.Tally.{Tally}
 use Rattle.planning.specs.declared.edges.Edges.{Edges as Own}
-use Rattle.planning.specs.declared.stiffen.Limits.{Limits}
-use Rattle.planning.specs.declared.stiffen.Stiffness.{Stiffness}
+use Rattle.planning.specs.declared.budgets.Limits.{Limits}
+use Rattle.planning.specs.declared.budgets.Stiffness.{Stiffness}
 use Rattle.planning.specs.declared.rounds.Progress.{Progress}
 use Rattle.plan_defs.proofs.Lists.{count_most}
 use Rattle.planning.proofs.Builds.{drawn_all_lifts}

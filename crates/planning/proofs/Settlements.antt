@@ -56,18 +56,21 @@ module _ (circuits tier : List ℕ) (flow rate angle added : List Float) (c : Ca
   settled_as (Ok s) (going q) e =
       let z : record { filler = s.filler; closing = s.closing; before = s.kept.before.items; order = s.kept.order.items; circuits = circuits; tier = tier; flow = flow; rate = rate; angle = angle; added = added } ≡ ended_for c.above q = cc in
       record {
-        held = q;
-        reached = refl;
+        kept =
+            record {
+              held = q;
+              reached = refl;
+              before_are = ap (λ (x : Ended). x.before) z;
+              order_is = ap (λ (x : Ended). x.order) z;
+              circuits_are = ap (λ (x : Ended). x.circuits) z;
+              tiers_are = ap (λ (x : Ended). x.tier) z;
+              flows_are = ap (λ (x : Ended). x.flow) z;
+              rates_are = ap (λ (x : Ended). x.rate) z;
+              angles_are = ap (λ (x : Ended). x.angle) z;
+              added_are = ap (λ (x : Ended). x.added) z;
+            };
         filler_is = ap (λ (x : Ended). x.filler) z;
         closing_is = ap (λ (x : Ended). x.closing) z;
-        before_are = ap (λ (x : Ended). x.before) z;
-        order_is = ap (λ (x : Ended). x.order) z;
-        circuits_are = ap (λ (x : Ended). x.circuits) z;
-        tiers_are = ap (λ (x : Ended). x.tier) z;
-        flows_are = ap (λ (x : Ended). x.flow) z;
-        rates_are = ap (λ (x : Ended). x.rate) z;
-        angles_are = ap (λ (x : Ended). x.angle) z;
-        added_are = ap (λ (x : Ended). x.added) z;
       }
 
 -- ---- the stages of a case, from what they read of it and of the draft

@@ -19,8 +19,8 @@ use Rattle.plan_defs.proofs.Lists.{each_append}
 use Rattle.plan_defs.proofs.Accepted.{own_few}
 use Rattle.planning.specs.Raise.{pairs_for}
 use Rattle.planning.specs.Stiffen.{budget_for, stiff_of, stiff_over, raisable, room_for, reckoned, Strengthened, BatchStiffened}
-use Rattle.planning.specs.declared.stiffen.Limits.{Limits}
-use Rattle.planning.specs.declared.stiffen.Stiffness.{Stiffness}
+use Rattle.planning.specs.declared.budgets.Limits.{Limits}
+use Rattle.planning.specs.declared.budgets.Stiffness.{Stiffness}
 use Rattle.planning.specs.Design.{lines_for, Banks}
 use Rattle.planning.specs.Whole.{with_lines}
 use Rattle.planning.proofs.Sizes.{few_set}

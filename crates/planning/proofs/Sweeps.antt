@@ -23,8 +23,8 @@ use Rattle.planning.specs.Stiffen.{budget_for, LedStiffened}
 use Rattle.planning.specs.Rounds.{rounds_case, draft_of, ran_as, Redrawn, RoundsRun}
 use Rattle.planning.specs.declared.size.Tally.{Tally}
 use Rattle.planning.specs.declared.edges.Edges.{Edges}
-use Rattle.planning.specs.declared.stiffen.Limits.{Limits}
-use Rattle.planning.specs.declared.stiffen.Stiffness.{Stiffness}
+use Rattle.planning.specs.declared.budgets.Limits.{Limits}
+use Rattle.planning.specs.declared.budgets.Stiffness.{Stiffness}
 use Rattle.planning.specs.declared.rounds.Progress.{Progress}
 use Rattle.planning.specs.Tables.{GridColumns, SupplyColumns, OpenedColumns, solved_by, edges_in}
 use Rattle.planning.proofs.Corridors.{left as to-size, left_start, left_turn}

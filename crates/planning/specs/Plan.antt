@@ -1,7 +1,6 @@
 -- What the contracts of module plan cite: the opening, the rounds where there are any, and the stages joined, each as the defined stage of a whole case.
 -- What is asked of columns is that some sound case has them.
-use Rattle.std.specs.Prelude.{◌≡◌, ℕ, ◌*◌, ◌≤◌, cond, not, ◌&&◌, ◌||◌, List, map, length, replicate, ◌==◌, Float, Err, Ok, Result}
-use Rattle.loops.specs.Figures.{nought}
+use Rattle.std.specs.Prelude.{◌≡◌, ℕ, ◌*◌, ◌≤◌, cond, not, ◌&&◌, ◌||◌, List, length, replicate, ◌==◌, Float, Err, Ok, Result}
 use Rattle.mode.specs.declared.PlanMode.{PlanMode}
 use Rattle.angles_defs.specs.Network.{zeros}
 use Rattle.plan_defs.specs.Constants.{most_buses, most_levels, planning_max_rounds}
@@ -17,6 +16,7 @@ use Rattle.planning.specs.Design.{Lines, Banks}
 use Rattle.planning.specs.Size.{Few, Capped}
 use Rattle.planning.specs.Solve.{peak_for}
 use Rattle.planning.specs.Rounds.{rounds_case, draft_of, ran_as, Columns, Places}
+use Rattle.planning.specs.Settle.{PlanHeld}
 use Rattle.planning.specs.Sound.{Sound}
 use Rattle.planning.specs.declared.rounds.Progress.{Progress}
 use Rattle.planning.specs.declared.close.Closing.{Closing}
@@ -108,22 +108,13 @@ plan_by p grounds filler c =
     }
 
 -- the plan that the stages lead to, with the slices that it fills after the opening
-pub record Holds (x : PlanRun) (circuits tier : List ℕ) (flow rate angle added : List Float) (above : ℕ) (t : Stage Plan) : Type 0 where
-  pub held : Plan
-  pub reached : t ≡ going held
-  pub plan_is : x.plan ≡ summary held
-  pub before_are : x.kept.before.items ≡ held.before
-  pub order_is : x.kept.order.items ≡ held.order
-  pub circuits_are : circuits ≡ held.circuits
-  pub tiers_are : tier ≡ held.tier
-  pub flows_are : flow ≡ held.flow
-  pub rates_are : rate ≡ map (λ d. d.rate_a) held.designs
-  pub angles_are : angle ≡ held.angle
-  pub added_are : added ≡ up_to above nought held.added
+pub record RunHeld (x : PlanRun) (circuits tier : List ℕ) (flow rate angle added : List Float) (above : ℕ) (t : Stage Plan) : Type 0 where
+  pub kept : PlanHeld x.kept circuits tier flow rate angle added above t
+  pub plan_is : x.plan ≡ summary kept.held
 
 abbrev pub PlannedAs : Result PlanRun Refusal → List ℕ → List ℕ → List Float → List Float → List Float → List Float → Case → Stage Plan → Type 0
 PlannedAs (Err f) circuits tier flow rate angle added c t = t ≡ stopped f
-PlannedAs (Ok x) circuits tier flow rate angle added c t = Holds x circuits tier flow rate angle added c.above t
+PlannedAs (Ok x) circuits tier flow rate angle added c t = RunHeld x circuits tier flow rate angle added c.above t
 
 -- ---- from the opening on
 pub record Plannable (grid : GridColumns) (level : List ℕ) (supply : SupplyColumns) (opened : OpenedColumns)
@@ -150,9 +141,9 @@ whole_case o mode above grid tier supply initial =
 
 -- the slices of a plan, with those that the opening fills
 pub record HoldsAll (x : PlanRun) (circuits : List ℕ) (flow rate mw angle : List Float) (tier ground : List ℕ) (added : List Float) (c : Case) (t : Stage Plan) : Type 0 where
-  pub holds : Holds x circuits tier flow rate angle added c.above t
-  pub mw_is : mw ≡ holds.held.mw
-  pub grounds_are : ground ≡ up_to c.buses 0 holds.held.grounds
+  pub run : RunHeld x circuits tier flow rate angle added c.above t
+  pub mw_is : mw ≡ run.kept.held.mw
+  pub grounds_are : ground ≡ up_to c.buses 0 run.kept.held.grounds
 
 abbrev pub WholeAs : Result PlanRun Refusal → List ℕ → List Float → List Float → List Float → List Float → List ℕ → List ℕ → List Float → Case → Stage Plan → Type 0
 WholeAs (Err f) circuits flow rate mw angle tier ground added c t = t ≡ stopped f

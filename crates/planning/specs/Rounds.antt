@@ -1,7 +1,7 @@
 -- What the contracts of module rounds cite: the draft that the slices stand for, what the rounds ask of them, and what they leave.
 use Rattle.std.specs.Prelude.{◌≡◌, ℕ, suc, ◌+◌, ◌*◌, ◌≤◌, List, length, Float, Err, Ok, Result}
 use Rattle.mode.specs.declared.PlanMode.{PlanMode}
-use Rattle.plan_defs.specs.Constants.{most_corridors, most_levels, planning_max_rounds}
+use Rattle.plan_defs.specs.Constants.{most_buses, most_corridors, most_levels, subtransmission_max_circuits, planning_max_rounds}
 use Rattle.plan_defs.specs.Case.{Case}
 use Rattle.plan_defs.specs.Stage.{Stage, stopped, going}
 use Rattle.plan_defs.specs.Build.{build_of, banks_anew}
@@ -57,13 +57,14 @@ pub record Places (n m : ℕ) (opened : OpenedColumns) (circuits : List ℕ) (ba
   pub angle_size : length angle ≡ n
   pub flow_size : length flow ≡ m
 
--- how far the tallies may have come
+-- how far the tallies may have come: a bus moves at most as many levels as there are before the rounds, and in a round once after sizing or once after
+-- stiffening; sizing adds to a corridor up to its cap, and stiffening a circuit to each for each component
 pub record Tallies (above budget : ℕ) (p : Progress) : Type 0 where
   pub few_levels : above ≤ most_levels
   pub rounds : p.rounds + budget ≤ planning_max_rounds
-  pub promoted : p.promoted ≤ 1_280 + 512 * p.rounds
-  pub capacity : p.capacity ≤ 1_536 * p.rounds
-  pub stiffening : p.stiffening ≤ 65_536 * p.rounds
+  pub promoted : p.promoted ≤ most_buses * most_levels + 2 * most_buses * p.rounds
+  pub capacity : p.capacity ≤ most_corridors * subtransmission_max_circuits * p.rounds
+  pub stiffening : p.stiffening ≤ most_buses * most_corridors * p.rounds
 
 pub record RoundsFit (above budget : ℕ) (start : Progress) (grid : GridColumns) (level : List ℕ) (supply : SupplyColumns)
     (opened : OpenedColumns) (circuits : List ℕ) (banks floors : List Float) (upsized marks : List ℕ) (angle flow : List Float) : Type 0 where

@@ -20,6 +20,7 @@ use Rattle.planning.specs.Close.{levels_for, Closable, closing_of}
 use Rattle.planning.specs.Sound.{Sound}
 use Rattle.planning.specs.Whole.{with_lines, with_units}
 use Rattle.planning.specs.declared.close.Closing.{Closing}
+use Rattle.planning.specs.declared.fill.Kept.{Kept}
 use Rattle.planning.specs.declared.settle.Settling.{Settling}
 use Rattle.refusal.specs.declared.Refusal.{Refusal}
 use Rattle.planning.specs.Tables.{GridColumns, supply_of, OpenedColumns}
@@ -99,14 +100,12 @@ closing_in q =
       added = length q.added;
     }
 
--- the plan that the stages lead to, with its slices
-pub record Held (s : Settling) (circuits tier : List ℕ) (flow rate angle added : List Float) (above : ℕ) (t : Stage Plan) : Type 0 where
+-- the plan that the stages lead to, with what is kept of filling and its slices
+pub record PlanHeld (k : Kept) (circuits tier : List ℕ) (flow rate angle added : List Float) (above : ℕ) (t : Stage Plan) : Type 0 where
   pub held : Plan
   pub reached : t ≡ going held
-  pub filler_is : s.filler ≡ held.filler
-  pub closing_is : s.closing ≡ closing_in held
-  pub before_are : s.kept.before.items ≡ held.before
-  pub order_is : s.kept.order.items ≡ held.order
+  pub before_are : k.before.items ≡ held.before
+  pub order_is : k.order.items ≡ held.order
   pub circuits_are : circuits ≡ held.circuits
   pub tiers_are : tier ≡ held.tier
   pub flows_are : flow ≡ held.flow
@@ -114,9 +113,15 @@ pub record Held (s : Settling) (circuits tier : List ℕ) (flow rate angle added
   pub angles_are : angle ≡ held.angle
   pub added_are : added ≡ up_to above nought held.added
 
+-- and what a settling says of it
+pub record SettlingHeld (s : Settling) (circuits tier : List ℕ) (flow rate angle added : List Float) (above : ℕ) (t : Stage Plan) : Type 0 where
+  pub kept : PlanHeld s.kept circuits tier flow rate angle added above t
+  pub filler_is : s.filler ≡ kept.held.filler
+  pub closing_is : s.closing ≡ closing_in kept.held
+
 abbrev pub SettledAs : Result Settling Refusal → List ℕ → List ℕ → List Float → List Float → List Float → List Float → Case → Stage Plan → Type 0
 SettledAs (Err f) circuits tier flow rate angle added c t = t ≡ stopped f
-SettledAs (Ok s) circuits tier flow rate angle added c t = Held s circuits tier flow rate angle added c.above t
+SettledAs (Ok s) circuits tier flow rate angle added c t = SettlingHeld s circuits tier flow rate angle added c.above t
 
 -- of any case with these columns, whose draft the slices stand for
 pub record Settles (mode : PlanMode) (target above : ℕ) (grid : GridColumns) (opened : OpenedColumns) (banks : List Float)

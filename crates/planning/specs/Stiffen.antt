@@ -23,8 +23,8 @@ use Rattle.planning.specs.Opening.{stage_if}
 use Rattle.planning.specs.Solve.{peak_for}
 use Rattle.planning.specs.Sound.{Sound}
 use Rattle.planning.specs.Whole.{with_lines}
-use Rattle.planning.specs.declared.stiffen.Limits.{Limits}
-use Rattle.planning.specs.declared.stiffen.Stiffness.{Stiffness}
+use Rattle.planning.specs.declared.budgets.Limits.{Limits}
+use Rattle.planning.specs.declared.budgets.Stiffness.{Stiffness}
 use Rattle.refusal.specs.declared.Refusal.{Refusal}
 use Rattle.planning.specs.declared.edges.Edges.{Edges}
 use Rattle.planning.specs.Tables.{GridColumns, SolvedColumns, edges_in}

@@ -6,7 +6,7 @@ use Rattle.planning.specs.declared.tables.Grid.{Grid}
 use Rattle.planning.specs.declared.tables.Supply.{Supply}
 use Rattle.planning.specs.declared.tables.Opened.{Opened}
 use Rattle.planning.specs.declared.edges.Edges.{Edges}
-use Rattle.planning.specs.declared.stiffen.Limits.{Limits}
+use Rattle.planning.specs.declared.budgets.Limits.{Limits}
 
 pub record GridColumns : Type 0 where
   pub ladder : List Float

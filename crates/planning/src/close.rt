@@ -144,7 +144,7 @@ fn count_upsized(upsized: &[u32]) -> u32
 
 // ---- levels
 // The levels above the request that no bus took. That `above` is at most `most_levels` five functions ask, here and in opening.rt and
-// stiffen.rt: it is one number of the request, in no column and no struct.
+// budgets.rt: it is one number of the request, in no column and no struct.
 fn unused(above: usize, level: &[u32]) -> u32
     requires { above ≤ most_levels }
     ensures { result ≡ least_of above level.now }

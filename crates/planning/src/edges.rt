@@ -2,14 +2,15 @@
 ghost use Rattle.angles_defs.specs.Network.{edges_of};
 ghost use Rattle.planning.specs.Edges.{Between};
 
+use crate::MOST_CORRIDORS;
 use arrayvec::ArrayVec;
 
 // Each joins two of so many buses; edge k is of corridor k.
 #[derive(Drop)]
 pub struct Edges {
     pub buses: usize,
-    pub from: ArrayVec<u32, 256>,
-    pub to: ArrayVec<u32, 256>,
-    pub weight: ArrayVec<f64, 256>,
+    pub from: ArrayVec<u32, MOST_CORRIDORS>,
+    pub to: ArrayVec<u32, MOST_CORRIDORS>,
+    pub weight: ArrayVec<f64, MOST_CORRIDORS>,
     ghost joined: { Between buses (edges_of from.items to.items weight.items) },
 }

@@ -9,6 +9,7 @@ ghost use Rattle.planning.specs.Design.{Lines};
 ghost use Rattle.planning.specs.Fill.{designs_for, Loaded, Fillable, filled_as, gain_of, Tallied, Counted, caps_for};
 ghost use Rattle.planning.specs.Tables.{grid_in};
 
+use crate::MOST_CORRIDORS;
 use crate::design::fill_drawn;
 use crate::keys::Keys;
 use crate::policy::{full_at, promotes};
@@ -34,14 +35,14 @@ pub fn fill_order(
     banks: &[f64],
     circuits: &[u32],
     flow: &[f64],
-) -> ArrayVec<u32, 256>
+) -> ArrayVec<u32, MOST_CORRIDORS>
     requires lines { Lines (grid_in grid.now) level.now }
     requires loaded { Loaded grid.now.a.now banks.now circuits.now flow.now }
     ensures { result.items ≡ order_of (length grid.now.a.now) (designs_for (grid_in grid.now) level.now banks.now) circuits.now flow.now }
 {
     let m = grid.a.len();
-    let mut loadings = [0.0; 256];
-    let mut kvs = [0.0; 256];
+    let mut loadings = [0.0; MOST_CORRIDORS];
+    let mut kvs = [0.0; MOST_CORRIDORS];
     let loadings = &mut loadings[..m];
     let kvs = &mut kvs[..m];
     fill_drawn(grid, level, banks, loadings, |d, k| {
@@ -60,11 +61,11 @@ pub fn fill_order(
 // The circuits before filling, and the order.
 #[derive(Drop)]
 pub struct Kept {
-    pub before: ArrayVec<u32, 256>,
-    pub order: ArrayVec<u32, 256>,
+    pub before: ArrayVec<u32, MOST_CORRIDORS>,
+    pub order: ArrayVec<u32, MOST_CORRIDORS>,
 }
 
-pub fn keep(circuits: &[u32], order: ArrayVec<u32, 256>) -> Kept
+pub fn keep(circuits: &[u32], order: ArrayVec<u32, MOST_CORRIDORS>) -> Kept
     requires { length circuits.now ≤ most_corridors }
     ensures before { result.before.items ≡ circuits.now }
     ensures order { result.order ≡ order }

@@ -3,6 +3,7 @@ ghost use Rattle.std.specs.Prelude.{◌≡◌, ℕ, ◌<◌, ◌≤◌, All, len
 ghost use Rattle.plan_defs.specs.Constants.{most_corridors};
 ghost use Rattle.planning.specs.Fill.{rank_before, order_by};
 
+use crate::MOST_CORRIDORS;
 use arrayvec::ArrayVec;
 
 // The first falling, the second falling, the third rising, then index. Of corridors these are loading, kV and length.
@@ -39,7 +40,7 @@ impl Keys<'_> {
 
     // The indices in order.
     #[tactic(auto, using(crate::proofs::Insertion::order_size))]
-    pub fn order(&self) -> ArrayVec<u32, 256>
+    pub fn order(&self) -> ArrayVec<u32, MOST_CORRIDORS>
         requires { length self.now.third.now ≤ most_corridors }
         ensures { result.items ≡ order_by (rank_before self.now.first.now self.now.second.now self.now.third.now) (length self.now.third.now) }
     {

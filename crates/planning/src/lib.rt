@@ -17,6 +17,8 @@ use policy::promotes;
 use refusal::Refusal;
 use tables::{Grid, Supply};
 
+mod budgets;
+mod candidates;
 mod close;
 mod design;
 mod edges;
@@ -37,8 +39,16 @@ mod size;
 mod solve;
 mod solved;
 mod stiffen;
+mod stiffen_corridor;
 mod tables;
 mod top_up;
+
+// The most buses, corridors and generators of a case.
+const MOST_BUSES: usize = 256;
+
+const MOST_CORRIDORS: usize = 256;
+
+const MOST_GENERATORS: usize = 128;
 
 // The circuits of each corridor, with their flows and ratings, the dispatch, the angles, the tiers, the grounds and the levels added,
 // for a case of n buses, m corridors and g generators. A bus's load is its reading times its weight, rounded once; `cap` has the
@@ -78,17 +88,17 @@ pub fn plan_corridors(
     kept_cap: &mut [u32],
     mw: &mut [f64],
     angle: &mut [f64],
-    level: &mut [u32],
+    final_tier: &mut [u32],
     ground: &mut [u32],
     added: &mut [f64],
     figures: &mut [f64],
     counts: &mut [u32],
 ) -> Result<CorridorPlan, Refusal>
-    ensures plan { outcome result (slices circuits.new flow.new rate.new before.new order.new kept_cap.new mw.new angle.new level.new ground.new added.new figures.new counts.new)
+    ensures plan { outcome result (slices circuits.new flow.new rate.new before.new order.new kept_cap.new mw.new angle.new final_tier.new ground.new added.new figures.new counts.new)
         ≡ plan_corridors (surveyed mode n m g above requested ladder.now tier.now reading.now weight.now bus.now slack.now pmin.now pmax.now c1.now c2.now a.now b.now initial.now km.now share.now cap.now sheet.now) target
-        (slices circuits.old flow.old rate.old before.old order.old kept_cap.old mw.old angle.old level.old ground.old added.old figures.old counts.old) }
+        (slices circuits.old flow.old rate.old before.old order.old kept_cap.old mw.old angle.old final_tier.old ground.old added.old figures.old counts.old) }
     ensures demand { (x : CorridorPlan) → result ≡ Ok x → AnswerTo (surveyed mode n m g above requested ladder.now tier.now reading.now weight.now bus.now slack.now pmin.now pmax.now c1.now c2.now a.now b.now initial.now km.now share.now cap.now sheet.now) target
-        (outcome result (slices circuits.new flow.new rate.new before.new order.new kept_cap.new mw.new angle.new level.new ground.new added.new figures.new counts.new)) x }
+        (outcome result (slices circuits.new flow.new rate.new before.new order.new kept_cap.new mw.new angle.new final_tier.new ground.new added.new figures.new counts.new)) x }
 {
     let places = Places {
         circuits: circuits.len(),
@@ -99,7 +109,7 @@ pub fn plan_corridors(
         cap: kept_cap.len(),
         mw: mw.len(),
         angle: angle.len(),
-        tier: level.len(),
+        tier: final_tier.len(),
         ground: ground.len(),
         added: added.len(),
         figures: figures.len(),
@@ -130,8 +140,8 @@ pub fn plan_corridors(
         c2,
     };
     match plan::run(
-        mode, target, above, &grid, tier, &supply, initial, circuits, flow, rate, mw, angle, level,
-        ground, added, figures, counts,
+        mode, target, above, &grid, tier, &supply, initial, circuits, flow, rate, mw, angle,
+        final_tier, ground, added, figures, counts,
     ) {
         Ok(ran) => {
             let fills = promotes(mode);
@@ -144,8 +154,8 @@ pub fn plan_corridors(
         }
         Err(f) => {
             close::clear(
-                circuits, flow, rate, before, order, kept_cap, mw, angle, level, ground, added,
-                figures, counts,
+                circuits, flow, rate, before, order, kept_cap, mw, angle, final_tier, ground,
+                added, figures, counts,
             );
             Err(f)
         }

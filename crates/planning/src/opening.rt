@@ -12,6 +12,7 @@ ghost use Rattle.plan_defs.specs.Lists.{sum_over};
 ghost use Rattle.plan_defs.specs.Outcome.{up_to};
 ghost use Rattle.planning.specs.Opening.{stage_of, stage_if, bus_case, slack_case, dispatch_case, injection_case, Joined, Picked};
 
+use crate::MOST_GENERATORS;
 use crate::solve::BASE_MVA;
 use crate::tables::Supply;
 use crate::top_up::give;
@@ -71,7 +72,7 @@ pub fn ground_components(leader: &[u32], supply: &Supply, ground: &mut [u32]) ->
 // That there is a figure of `mw` for each unit five functions ask, here and of the injections: no struct holds both, since the dispatch
 // writes `mw`, and `inject` takes a column of the units too.
 // A component's generators, ascending.
-fn units_in(root: u32, leader: &[u32], supply: &Supply) -> ArrayVec<u32, 128>
+fn units_in(root: u32, leader: &[u32], supply: &Supply) -> ArrayVec<u32, MOST_GENERATORS>
     requires { length leader.now ≡ length supply.now.load.now }
     ensures { result.items ≡ units_in (bus_case supply.now.bus.now) leader.now root }
 {
@@ -99,7 +100,7 @@ fn demand_of(root: u32, leader: &[u32], load: &[f64]) -> f64
 }
 
 // A column's figures of the units picked.
-fn figures_of(column: &[f64], units: &[u32]) -> ArrayVec<f64, 128>
+fn figures_of(column: &[f64], units: &[u32]) -> ArrayVec<f64, MOST_GENERATORS>
     requires { Picked units.now (length column.now) }
     ensures { result.items ≡ map (at column.now) units.now }
 {
@@ -140,7 +141,7 @@ fn serve(
     let linear = figures_of(supply.c1, units);
     let quadratic = figures_of(supply.c2, units);
     let demand = demand_of(root, leader, supply.load);
-    let mut room = [0.0; 128];
+    let mut room = [0.0; MOST_GENERATORS];
     let out = &mut room[0..units.len()];
     give(mode, demand, &least, &most, &linear, &quadratic, out).map_err(|f| Refusal::Cost(
         units[f.index()] as usize,

@@ -7,12 +7,11 @@ ghost use Rattle.plan_defs.specs.Preview.{kept_as, count_ok, place_ok, preview_f
 ghost use Rattle.acceptance.specs.Check.{answer_of};
 ghost use Rattle.planning.specs.Preview.{counts_for, order_for, Refillable};
 
+use crate::MOST_CORRIDORS;
 use crate::fill::fill;
 use crate::policy::promotes;
 use mode::PlanMode;
 use refusal::Refusal;
-
-const MOST_CORRIDORS: usize = 256;
 
 const MOST_TARGET: u32 = 65536;
 

@@ -6,12 +6,13 @@ ghost use Rattle.planning.specs.Redesign.{RedesignFits};
 ghost use Rattle.planning.specs.Rounds.{Redrawn, RoundsFit, RoundsRun};
 ghost use Rattle.planning.specs.Tables.{grid_in, supply_in, opened_in};
 
+use crate::budgets::{limits_of, stiffness_from};
 use crate::policy::promotes;
 use crate::raise::raise_buses;
 use crate::redesign::redesign;
 use crate::size::{Tally, size_corridor};
 use crate::solve::{draw_edges, peak_state};
-use crate::stiffen::{limits_of, stiffen_led, stiffness_from};
+use crate::stiffen::stiffen_led;
 use crate::tables::{Grid, Opened, Supply};
 use mode::PlanMode;
 use refusal::Refusal;

@@ -12,6 +12,7 @@ ghost use Rattle.planning.specs.Design.{lines_for};
 ghost use Rattle.planning.specs.Solve.{peak_for, solved_of, finite_angles, finite_answer, Places, Drawing, Lent};
 ghost use Rattle.planning.specs.Tables.{grid_in, opened_in, edges_in};
 
+use crate::MOST_BUSES;
 use crate::design::circuit;
 use crate::edges::Edges;
 use crate::tables::{Grid, Opened};
@@ -55,6 +56,8 @@ pub fn draw_edges(grid: &Grid, level: &[u32], circuits: &[u32], banks: &[f64]) -
 // Places of the solver's work for each bus.
 const SOLVER_ROWS: usize = 8;
 
+const SOLVER_PLACES: usize = SOLVER_ROWS * MOST_BUSES;
+
 impl Edges {
     // The angles from a guess; 9 where one is not finite.
     fn angles(
@@ -70,7 +73,7 @@ impl Edges {
             ≡ finite_angles (solve (length angle.old) (edges_in self.now) grounds.now injection.now guess.now).x }
     {
         let n = angle.len();
-        let mut work = [0.0; 2048];
+        let mut work = [0.0; SOLVER_PLACES];
         angles::dc_angles(
             n,
             self.from.len(),
@@ -103,8 +106,8 @@ impl Edges {
             (unit_at (length phi.old) lead lag) (zeros (length phi.old))).x }
     {
         let n = phi.len();
-        let guess = [0.0; 256];
-        let mut injection = [0.0; 256];
+        let guess = [0.0; MOST_BUSES];
+        let mut injection = [0.0; MOST_BUSES];
         injection[lead] = 1.0;
         injection[lag] = -1.0;
         self.angles(&injection[0..n], grounds, &guess[0..n], phi)
@@ -156,7 +159,7 @@ pub fn peak_state(
     ensures { solved_of result (edges_in e.now) angle.new flow.new
         ≡ planning_on (peak_for (length angle.old) opened.now.grounds.now opened.now.injection.now) (edges_in e.now) angle.old }
 {
-    let mut room = [0.0; 256];
+    let mut room = [0.0; MOST_BUSES];
     let guess = &mut room[0..angle.len()];
     guess.copy_from_slice(angle);
     e.angles(opened.injection, opened.grounds, guess, angle)?;

@@ -2,8 +2,8 @@
 ghost use Rattle.planning.specs.Stiffen.{Solvable};
 ghost use Rattle.planning.specs.Tables.{SolvedColumns, grid_in, opened_in, solved_by};
 
+use crate::budgets::Limits;
 use crate::edges::Edges;
-use crate::stiffen::Limits;
 use crate::tables::{Grid, Opened};
 use std::marker::Model;
 

@@ -10,17 +10,18 @@ ghost use Rattle.planning.specs.Opening.{stage_of, Priced, given_stage};
 
 use crate::keys::Keys;
 use crate::policy::tops_up;
+use crate::{MOST_CORRIDORS, MOST_GENERATORS};
 use arrayvec::ArrayVec;
 use loops::{lesser, sum};
 use mode::PlanMode;
 use refusal::Refusal;
 
 // By c1 rising, then index: in the first two keys the units are alike.
-fn order_costs(c1: &[f64]) -> ArrayVec<u32, 256>
+fn order_costs(c1: &[f64]) -> ArrayVec<u32, MOST_CORRIDORS>
     requires { length c1.now ≤ most_generators }
     ensures { result.items ≡ by_cost c1.now }
 {
-    let alike = [0.0; 256];
+    let alike = [0.0; MOST_GENERATORS];
     let alike = &alike[..c1.len()];
     let keys = Keys {
         first: alike,

@@ -33,7 +33,7 @@ impl Operation for Planning {
         let mut kept_cap = [u32::MARK; 2];
         let mut mw = [f64::MARK; 2];
         let mut angle = [f64::MARK; 3];
-        let mut level = [u32::MARK; 3];
+        let mut final_tier = [u32::MARK; 3];
         let mut ground = [u32::MARK; 3];
         let mut added = [f64::MARK; 2];
         let mut figures = [f64::MARK; WORK];
@@ -71,7 +71,7 @@ impl Operation for Planning {
             lent_mut(&mut kept_cap, 22, wrong),
             lent_mut(&mut mw, 23, wrong),
             lent_mut(&mut angle, 24, wrong),
-            lent_mut(&mut level, 25, wrong),
+            lent_mut(&mut final_tier, 25, wrong),
             lent_mut(&mut ground, 26, wrong),
             lent_mut(&mut added, 27, wrong),
             lent_mut(&mut figures, 28, wrong),
@@ -79,7 +79,7 @@ impl Operation for Planning {
         );
         let plan = kept(&circuits) & kept(&flow) & kept(&rate) & kept(&mw);
         let filling = kept(&before) & kept(&order) & kept(&kept_cap);
-        let buses_kept = kept(&angle) & kept(&level) & kept(&ground);
+        let buses_kept = kept(&angle) & kept(&final_tier) & kept(&ground);
         let work = kept(&figures) & kept(&counts);
         Outcome::new(said, plan & filling & buses_kept & kept(&added) & work)
     }

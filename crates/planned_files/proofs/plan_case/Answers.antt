@@ -14,8 +14,8 @@ returns c =
     let p : Places = tables_in c.args.case.now.tables in
     let r = c.plan_corridors-planned.new in
     let k = c.plan_corridors-planned.auto in
-    let left : Slices = slices r.circuits r.flow r.rate r.before r.order r.kept_cap r.mw r.angle r.level r.ground r.added r.figures r.counts in
+    let left : Slices = slices r.circuits r.flow r.rate r.before r.order r.kept_cap r.mw r.angle r.final_tier r.ground r.added r.figures r.counts in
     let fits : Fits (case_in h p) = record { buses = s.buses; corridors = s.corridors; generators = s.generators; above = omega arith; work = omega arith } in
     planned_in h p c.plan_corridors-planned.result left c.zeros-results.result c.zeros-results.ensures fits
-    k.circuits k.flow k.rate k.before k.order k.kept_cap k.mw k.angle k.level k.ground k.added
+    k.circuits k.flow k.rate k.before k.order k.kept_cap k.mw k.angle k.final_tier k.ground k.added
     (of_parts h p c.plan_corridors-planned.result left _ _ c.fronts-parts.ensures c.plan_corridors-planned.ensures.plan)

@@ -14,7 +14,7 @@ pub returns-in_err-check_case-clause-plan : goal.returns-in_err-check_case-claus
 returns-in_err-check_case-clause-plan c =
     let z = c.args in
     let case = surveyed z.mode z.n z.m z.g z.above z.requested z.ladder.now z.tier.now z.reading.now z.weight.now z.bus.now z.slack.now z.pmin.now z.pmax.now z.c1.now z.c2.now z.a.now z.b.now z.initial.now z.km.now z.share.now z.cap.now z.sheet.now in
-    let lent = slices z.circuits.now z.flow.now z.rate.now z.before.now z.order.now z.kept_cap.now z.mw.now z.angle.now z.level.now z.ground.now z.added.now z.figures.now z.counts.now in
+    let lent = slices z.circuits.now z.flow.now z.rate.now z.before.now z.order.now z.kept_cap.now z.mw.now z.angle.now z.final_tier.now z.ground.now z.added.now z.figures.now z.counts.now in
     let answer : c.check_case.result ≡ check_of (slices_ok case lent) (tables_of_lem case) z.target = checked case z.target lent _ _ c.places_ok-fits.ensures c.check_case.ensures in
     let h : c.from_residual.result ≡ Err c.in_err-check_case.field-0.0 = search rules in
     rw h ((ends_unaccepted case z.target lent (λ e k l. c.type_inv.pmin k) _ (sym c.in_err-check_case.was ∙ answer)).0)
@@ -23,7 +23,7 @@ pub slice_bounds-supply-end : goal.slice_bounds-supply-end
 slice_bounds-supply-end c =
     let z = c.args in
     let case = surveyed z.mode z.n z.m z.g z.above z.requested z.ladder.now z.tier.now z.reading.now z.weight.now z.bus.now z.slack.now z.pmin.now z.pmax.now z.c1.now z.c2.now z.a.now z.b.now z.initial.now z.km.now z.share.now z.cap.now z.sheet.now in
-    let lent = slices z.circuits.now z.flow.now z.rate.now z.before.now z.order.now z.kept_cap.now z.mw.now z.angle.now z.level.now z.ground.now z.added.now z.figures.now z.counts.now in
+    let lent = slices z.circuits.now z.flow.now z.rate.now z.before.now z.order.now z.kept_cap.now z.mw.now z.angle.now z.final_tier.now z.ground.now z.added.now z.figures.now z.counts.now in
     let answer : c.check_case.result ≡ check_of (slices_ok case lent) (tables_of_lem case) z.target = checked case z.target lent _ _ c.places_ok-fits.ensures c.check_case.ensures in
     let q = c.in_ok-check_case.was in
     loads_room z.n case.reading case.weight _ c.weigh-load.ensures (buses_fit case z.target lent c.check_case.result answer q)
@@ -32,7 +32,7 @@ pub invariant_of-supply : goal.invariant_of-supply
 invariant_of-supply c =
     let z = c.args in
     let case = surveyed z.mode z.n z.m z.g z.above z.requested z.ladder.now z.tier.now z.reading.now z.weight.now z.bus.now z.slack.now z.pmin.now z.pmax.now z.c1.now z.c2.now z.a.now z.b.now z.initial.now z.km.now z.share.now z.cap.now z.sheet.now in
-    let lent = slices z.circuits.now z.flow.now z.rate.now z.before.now z.order.now z.kept_cap.now z.mw.now z.angle.now z.level.now z.ground.now z.added.now z.figures.now z.counts.now in
+    let lent = slices z.circuits.now z.flow.now z.rate.now z.before.now z.order.now z.kept_cap.now z.mw.now z.angle.now z.final_tier.now z.ground.now z.added.now z.figures.now z.counts.now in
     let answer : c.check_case.result ≡ check_of (slices_ok case lent) (tables_of_lem case) z.target = checked case z.target lent _ _ c.places_ok-fits.ensures c.check_case.ensures in
     let q = c.in_ok-check_case.was in
     record { supplied = supplied_by case z.target lent (sym q ∙ answer) _ (loads_lent z.n case.reading case.weight _ c.weigh-load.ensures (buses_fit case z.target lent c.check_case.result answer q)) }
@@ -41,7 +41,7 @@ pub run-requires : goal.run-requires
 run-requires c =
     let z = c.args in
     let case = surveyed z.mode z.n z.m z.g z.above z.requested z.ladder.now z.tier.now z.reading.now z.weight.now z.bus.now z.slack.now z.pmin.now z.pmax.now z.c1.now z.c2.now z.a.now z.b.now z.initial.now z.km.now z.share.now z.cap.now z.sheet.now in
-    let lent = slices z.circuits.now z.flow.now z.rate.now z.before.now z.order.now z.kept_cap.now z.mw.now z.angle.now z.level.now z.ground.now z.added.now z.figures.now z.counts.now in
+    let lent = slices z.circuits.now z.flow.now z.rate.now z.before.now z.order.now z.kept_cap.now z.mw.now z.angle.now z.final_tier.now z.ground.now z.added.now z.figures.now z.counts.now in
     let answer : c.check_case.result ≡ check_of (slices_ok case lent) (tables_of_lem case) z.target = checked case z.target lent _ _ c.places_ok-fits.ensures c.check_case.ensures in
     let q = c.in_ok-check_case.was in
     lendable_by case z.target lent (sym q ∙ answer) z.sheet.now refl refl _
@@ -51,7 +51,7 @@ pub keep_if-requires : goal.keep_if-requires
 keep_if-requires c =
     let z = c.args in
     let case = surveyed z.mode z.n z.m z.g z.above z.requested z.ladder.now z.tier.now z.reading.now z.weight.now z.bus.now z.slack.now z.pmin.now z.pmax.now z.c1.now z.c2.now z.a.now z.b.now z.initial.now z.km.now z.share.now z.cap.now z.sheet.now in
-    let lent = slices z.circuits.now z.flow.now z.rate.now z.before.now z.order.now z.kept_cap.now z.mw.now z.angle.now z.level.now z.ground.now z.added.now z.figures.now z.counts.now in
+    let lent = slices z.circuits.now z.flow.now z.rate.now z.before.now z.order.now z.kept_cap.now z.mw.now z.angle.now z.final_tier.now z.ground.now z.added.now z.figures.now z.counts.now in
     let answer : c.check_case.result ≡ check_of (slices_ok case lent) (tables_of_lem case) z.target = checked case z.target lent _ _ c.places_ok-fits.ensures c.check_case.ensures in
     let q = c.in_ok-check_case.was in
     let v = c.run in
@@ -64,7 +64,7 @@ pub keep_if-requires-in-Ok : goal.keep_if-requires-in-Ok
 keep_if-requires-in-Ok c =
     let z = c.args in
     let case = surveyed z.mode z.n z.m z.g z.above z.requested z.ladder.now z.tier.now z.reading.now z.weight.now z.bus.now z.slack.now z.pmin.now z.pmax.now z.c1.now z.c2.now z.a.now z.b.now z.initial.now z.km.now z.share.now z.cap.now z.sheet.now in
-    let lent = slices z.circuits.now z.flow.now z.rate.now z.before.now z.order.now z.kept_cap.now z.mw.now z.angle.now z.level.now z.ground.now z.added.now z.figures.now z.counts.now in
+    let lent = slices z.circuits.now z.flow.now z.rate.now z.before.now z.order.now z.kept_cap.now z.mw.now z.angle.now z.final_tier.now z.ground.now z.added.now z.figures.now z.counts.now in
     let answer : c.check_case.result ≡ check_of (slices_ok case lent) (tables_of_lem case) z.target = checked case z.target lent _ _ c.places_ok-fits.ensures c.check_case.ensures in
     let q = c.in_ok-check_case.was in
     let v = c.run in
@@ -77,7 +77,7 @@ pub copy_from_slice-requires : goal.copy_from_slice-requires
 copy_from_slice-requires c =
     let z = c.args in
     let case = surveyed z.mode z.n z.m z.g z.above z.requested z.ladder.now z.tier.now z.reading.now z.weight.now z.bus.now z.slack.now z.pmin.now z.pmax.now z.c1.now z.c2.now z.a.now z.b.now z.initial.now z.km.now z.share.now z.cap.now z.sheet.now in
-    let lent = slices z.circuits.now z.flow.now z.rate.now z.before.now z.order.now z.kept_cap.now z.mw.now z.angle.now z.level.now z.ground.now z.added.now z.figures.now z.counts.now in
+    let lent = slices z.circuits.now z.flow.now z.rate.now z.before.now z.order.now z.kept_cap.now z.mw.now z.angle.now z.final_tier.now z.ground.now z.added.now z.figures.now z.counts.now in
     let answer : c.check_case.result ≡ check_of (slices_ok case lent) (tables_of_lem case) z.target = checked case z.target lent _ _ c.places_ok-fits.ensures c.check_case.ensures in
     let q = c.in_ok-check_case.was in
     caps_fit case z.target lent c.check_case.result answer q
@@ -86,7 +86,7 @@ pub returns-in-Ok : goal.returns-in-Ok
 returns-in-Ok c =
     let z = c.args in
     let case = surveyed z.mode z.n z.m z.g z.above z.requested z.ladder.now z.tier.now z.reading.now z.weight.now z.bus.now z.slack.now z.pmin.now z.pmax.now z.c1.now z.c2.now z.a.now z.b.now z.initial.now z.km.now z.share.now z.cap.now z.sheet.now in
-    let lent = slices z.circuits.now z.flow.now z.rate.now z.before.now z.order.now z.kept_cap.now z.mw.now z.angle.now z.level.now z.ground.now z.added.now z.figures.now z.counts.now in
+    let lent = slices z.circuits.now z.flow.now z.rate.now z.before.now z.order.now z.kept_cap.now z.mw.now z.angle.now z.final_tier.now z.ground.now z.added.now z.figures.now z.counts.now in
     let answer : c.check_case.result ≡ check_of (slices_ok case lent) (tables_of_lem case) z.target = checked case z.target lent _ _ c.places_ok-fits.ensures c.check_case.ensures in
     let q = c.in_ok-check_case.was in
     let v = c.run in
@@ -104,7 +104,7 @@ pub returns-in-Err : goal.returns-in-Err
 returns-in-Err c =
     let z = c.args in
     let case = surveyed z.mode z.n z.m z.g z.above z.requested z.ladder.now z.tier.now z.reading.now z.weight.now z.bus.now z.slack.now z.pmin.now z.pmax.now z.c1.now z.c2.now z.a.now z.b.now z.initial.now z.km.now z.share.now z.cap.now z.sheet.now in
-    let lent = slices z.circuits.now z.flow.now z.rate.now z.before.now z.order.now z.kept_cap.now z.mw.now z.angle.now z.level.now z.ground.now z.added.now z.figures.now z.counts.now in
+    let lent = slices z.circuits.now z.flow.now z.rate.now z.before.now z.order.now z.kept_cap.now z.mw.now z.angle.now z.final_tier.now z.ground.now z.added.now z.figures.now z.counts.now in
     let answer : c.check_case.result ≡ check_of (slices_ok case lent) (tables_of_lem case) z.target = checked case z.target lent _ _ c.places_ok-fits.ensures c.check_case.ensures in
     let q = c.in_ok-check_case.was in
     let v = c.run in

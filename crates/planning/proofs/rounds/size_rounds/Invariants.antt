@@ -1,5 +1,6 @@
 -- Of the rounds, of a round's corridors and of its components: what is left of them comes to what all the rounds do.
 use Rattle.std.proofs.Common.{◌≡◌, ◌+◌, ◌*◌, ◌<◌, ◌≤◌, true, false, length}
+use Rattle.plan_defs.specs.Constants.{most_corridors, subtransmission_max_circuits}
 use Rattle.plan_defs.specs.Case.{promote}
 use Rattle.plan_defs.specs.Raise.{moved_buses}
 use Rattle.planning.specs.Rounds.{Tallies}
@@ -24,7 +25,7 @@ invariant-loop-k l =
     Kept (grid_in l.grid) l.level l.circuits l.banks
     × (l.k ≤ length l.grid.a.now)
     × (l.p ≡ l.initial.p)
-    × (l.t.capacity ≤ l.initial.p.capacity + 6 * l.k)
+    × (l.t.capacity ≤ l.initial.p.capacity + subtransmission_max_circuits * l.k)
     × Sizes l.mode l.above (grid_in l.grid) (supply_in l.supply) (opened_in l.opened) l.left l.level l.e l.angle l.flow l.p l.k l.circuits l.banks l.floors l.upsized l.marks l.t
     (goes_on l.mode l.above (grid_in l.grid) (supply_in l.supply) (opened_in l.opened) (length l.opened.leader.now) l.fn.budget l.fn.level l.fn.circuits l.fn.banks l.fn.floors l.fn.upsized l.fn.angle l.fn.start)
     × (length l.grid.a.now ≤ l.k → (promote l.mode ≡ true) × (moved_buses l.level l.marks ≡ 0) × (l.t.added ≡ false))
@@ -34,6 +35,6 @@ invariant-loop-i l =
     Kept (grid_in l.grid) l.level l.circuits l.banks
     × (l.i < length l.opened.leader.now)
     × (l.p ≡ l.initial.p)
-    × ((l.s.total ≤ l.initial.s.total + 256 * l.i) × (l.s.hv ≤ l.initial.s.hv + 512 * l.i) × (l.s.stiffening ≤ l.initial.s.stiffening + 256 * l.i))
+    × ((l.s.total ≤ l.initial.s.total + most_corridors * l.i) × (l.s.hv ≤ l.initial.s.hv + 2 * most_corridors * l.i) × (l.s.stiffening ≤ l.initial.s.stiffening + most_corridors * l.i))
     × Stiffens l.mode l.above (grid_in l.grid) (supply_in l.supply) (opened_in l.opened) l.left l.level l.g l.e l.angle l.flow l.p l.t l.i l.circuits l.banks l.floors l.upsized l.marks l.s
     (goes_on l.mode l.above (grid_in l.grid) (supply_in l.supply) (opened_in l.opened) (length l.opened.leader.now) l.fn.budget l.fn.level l.fn.circuits l.fn.banks l.fn.floors l.fn.upsized l.fn.angle l.fn.start)

@@ -8,4 +8,4 @@ use Rattle.planning.proofs.top_up.order_costs.Goals as goal
 pub returns : goal.returns
 returns c =
     let c1 = c.args.c1.now in
-    order_costs _ c1 (λ k h. get_or-take (length c1) (replicate 256 nought) k nan h ∙ get_or-replicate 256 k nought nan (omega (arith, c.requires))) _ c.order.ensures
+    order_costs _ c1 (λ k h. get_or-take (length c1) (replicate 128 nought) k nan h ∙ get_or-replicate 128 k nought nan (omega (arith, c.requires))) _ c.order.ensures

@@ -1,6 +1,6 @@
 use Rattle.std.proofs.Common.{rules, ◌≡◌, ℕ, leb, count_by, ◌∙◌}
 use Rattle.planning.proofs.Chains.{count_elements}
-use Rattle.planning.proofs.stiffen.at_or_above.Goals as goal
+use Rattle.planning.proofs.budgets.at_or_above.Goals as goal
 
 pub returns : goal.returns
 returns c =

@@ -6,7 +6,7 @@ use Rattle.planning.specs.Stiffen.{gain_if}
 use Rattle.planning.specs.Fill.{designs_for}
 use Rattle.planning.specs.Tables.{SolvedColumns}
 use Rattle.planning.proofs.Orders.{drawn_here}
-use Rattle.planning.proofs.stiffen.gain_at.Goals as goal
+use Rattle.planning.proofs.candidates.gain_at.Goals as goal
 
 pub returns-then-not-is_candidate : goal.returns-then-not-is_candidate
 returns-then-not-is_candidate c =

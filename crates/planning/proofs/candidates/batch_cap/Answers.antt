@@ -6,7 +6,7 @@ use Rattle.plan_defs.specs.Components.{within}
 use Rattle.plan_defs.specs.Lists.{counting}
 use Rattle.plan_defs.specs.Constants.{stiffening_batch_share}
 use Rattle.planning.proofs.Casts.{ceil_is}
-use Rattle.planning.proofs.stiffen.batch_cap.Goals as goal
+use Rattle.planning.proofs.candidates.batch_cap.Goals as goal
 
 cap-is : (count n : ℕ) (x y : Float) (cap : ℕ) → n ≡ count → x ≡ float n → y ≡ ceil (times stiffening_batch_share x) → cap ≡ to_unsigned 64 y
     → max cap 1 ≡ max (to_unsigned 64 (ceil (times stiffening_batch_share (float count)))) 1

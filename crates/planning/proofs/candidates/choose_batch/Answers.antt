@@ -4,7 +4,7 @@ use Rattle.planning.specs.Raise.{pairs_for}
 use Rattle.planning.specs.Stiffen.{Chosen}
 use Rattle.planning.specs.Tables.{SolvedColumns}
 use Rattle.planning.proofs.Reinforcing.{batch_chosen}
-use Rattle.planning.proofs.stiffen.choose_batch.Goals as goal
+use Rattle.planning.proofs.candidates.choose_batch.Goals as goal
 
 pub returns : goal.returns
 returns c =

@@ -1,6 +1,6 @@
 use Rattle.std.proofs.Common.{take}
 use Rattle.planning.specs.Stiffen.{BatchStiffened}
-use Rattle.planning.proofs.stiffen.stiffen_batch.Given as goal
+use Rattle.planning.proofs.stiffen_corridor.stiffen_batch.Given as goal
 
 abbrev pub invariant-loop-k : goal.invariant-loop-k
 invariant-loop-k l =

@@ -1,5 +1,5 @@
 use Rattle.planning.proofs.Stiffenings.{one_full, one_rest}
-use Rattle.planning.proofs.stiffen.stiffen_one.Goals as goal
+use Rattle.planning.proofs.stiffen_corridor.stiffen_one.Goals as goal
 
 pub returns-then-bank_below : goal.returns-then-bank_below
 returns-then-bank_below c =

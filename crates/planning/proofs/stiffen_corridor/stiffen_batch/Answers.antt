@@ -1,6 +1,6 @@
 use Rattle.std.proofs.Common.{refl}
 use Rattle.planning.proofs.Stiffenings.{batch_start, batch_turn}
-use Rattle.planning.proofs.stiffen.stiffen_batch.Goals as goal
+use Rattle.planning.proofs.stiffen_corridor.stiffen_batch.Goals as goal
 
 pub loop-k-init : goal.loop-k-init
 loop-k-init c =

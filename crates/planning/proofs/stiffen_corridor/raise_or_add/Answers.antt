@@ -1,6 +1,6 @@
 use Rattle.std.proofs.Common.{slice_index, sym, ◌∙◌, arith}
 use Rattle.planning.proofs.Stiffenings.{strengthened_raised, strengthened_added, strengthened_none}
-use Rattle.planning.proofs.stiffen.raise_or_add.Goals as goal
+use Rattle.planning.proofs.stiffen_corridor.raise_or_add.Goals as goal
 
 pub returns-then-raises : goal.returns-then-raises
 returns-then-raises c =

@@ -21,5 +21,6 @@ pub mod Most
 pub mod Places
 pub mod Collect
 pub mod Fronts
+pub mod Inserted
 pub mod Sorting
 pub mod Finite

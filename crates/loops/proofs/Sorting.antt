@@ -10,8 +10,11 @@ use borrow.Author.Tests.{ltb-true, ltb-false, lt-ltb, eqb-true, eq-eqb}
 use lib.Arith.{lt_of_le-ne}
 use lib.Dec.{T, ltb, eqb}
 use lib.Ieee.{Float, lt, le, eq}
-use Rattle.loops.specs.Sorting.{put_before, insert_by, insert_all, same, occ, Every, InOrder, Sorted}
+use Rattle.std.specs.List.{All}
+use Rattle.std.proofs.lemmas.List.Elements.{All-nil, All-cons, All-head, All-tail, All-weaker}
+use Rattle.loops.specs.Sorting.{put_before, insert_by, insert_all, same, occ, InOrder, Sorted}
 use Rattle.loops.proofs.Bools.{no as clash}
+use Rattle.loops.proofs.Inserted.{inserted_all}
 use Rattle.loops.proofs.Order.{real, le_of_lt, lt_of_not_le, le_through, lt_is, eq_is}
 
 -- ---- how often an index is named
@@ -41,32 +44,16 @@ all_occ comes j [] l = omega arith
 all_occ comes j (k ∷ ks) l = omega (arith, all_occ comes j ks (insert_by comes k l), insert_occ comes j k l)
 
 -- ---- what holds of every element
-every_map : (P Q : ℕ → Type 0) (l : List ℕ) → ((j : ℕ) → P j → Q j) → Every P l → Every Q l
-unfolding Every
-every_map P Q [] h p = tt
-every_map P Q (k ∷ l) h p = (h k p.0, every_map P Q l h p.1)
+all_both : (P Q R : ℕ → Type 0) (l : List ℕ) → ((j : ℕ) → P j → Q j → R j) → All P l → All Q l → All R l
+all_both P Q R l h p q = λ k d w. h _ (p k d w) (q k d w)
 
-every_both : (P Q R : ℕ → Type 0) (l : List ℕ) → ((j : ℕ) → P j → Q j → R j) → Every P l → Every Q l → Every R l
-unfolding Every
-every_both P Q R [] h p q = tt
-every_both P Q R (k ∷ l) h p q = (h k p.0 q.0, every_both P Q R l h p.1 q.1)
-
-insert_every : (P : ℕ → Type 0) (comes : ℕ → ℕ → Bool) (k : ℕ) (l : List ℕ) → P k → Every P l → Every P (insert_by comes k l)
-unfolding Every insert_by
-insert_every P comes k [] h p = (h, tt)
-insert_every P comes k (i ∷ l) h p = go (comes k i) (insert_every P comes k l h p.1)
-  where
-    go : (b : Bool) → Every P (insert_by comes k l) → Every P (put_before b k i l (insert_by comes k l))
-    go true r = (h, p)
-    go false r = (p.0, r)
-
-every_named : (P : ℕ → Type 0) (j : ℕ) (l : List ℕ) → Every P l → 0 < occ j l → P j
-unfolding Every occ
-every_named P j [] p h = absurd (omega arith)
-every_named P j (k ∷ l) p h = go (ℕ_discrete j k) (every_named P j l p.1)
+all_named : (P : ℕ → Type 0) (j : ℕ) (l : List ℕ) → All P l → 0 < occ j l → P j
+unfolding occ
+all_named P j [] p h = absurd (omega arith)
+all_named P j (k ∷ l) p h = go (ℕ_discrete j k) (all_named P j l (All-tail P k l p))
   where
     go : Dec (j ≡ k) → (0 < occ j l → P j) → P j
-    go (yes e) r = rw e p.0
+    go (yes e) r = rw e (All-head P k l p)
     go (no n) r = r (omega (arith, same_no j k n))
 
 -- ---- an order of the indices for which a fact holds
@@ -85,42 +72,47 @@ module _ (Fine : ℕ → Type 0) (ahead comes : ℕ → ℕ → Bool) (S : Stric
   abbrev Earlier : ℕ → ℕ → Type 0
   Earlier k j = Fine j × (j < k)
 
-  insert_order : (k : ℕ) (l : List ℕ) → Fine k → Every (Earlier k) l → InOrder ahead l → InOrder ahead (insert_by comes k l)
-  unfolding Every InOrder insert_by
-  insert_order k [] f e o = (tt, tt)
-  insert_order k (j ∷ l) f e o = go (comes k j) refl (insert_order k l f e.1 o.1)
+  insert_order : (k : ℕ) (l : List ℕ) → Fine k → All (Earlier k) l → InOrder ahead l → InOrder ahead (insert_by comes k l)
+  unfolding InOrder insert_by
+  insert_order k [] f e o = (All-nil (λ i. ahead k i ≡ true), tt)
+  insert_order k (j ∷ l) f e o = go (comes k j) refl (insert_order k l f t o.1)
     where
-      go : (b : Bool) → comes k j ≡ b → InOrder ahead (insert_by comes k l) → InOrder ahead (put_before b k j l (insert_by comes k l))
-      go true q r =
-          let a : ahead k j ≡ true = sym (agree j k e.0.1) ∙ q in (
-            (a, every_both (Earlier k) (λ i. ahead j i ≡ true) (λ i. ahead k i ≡ true) l (λ i g h. S.through k j i f e.0.0 g.0 a h) e.1 o.0),
-            o,
-          )
-      go false q r =
-          let a : ahead j k ≡ true = S.either k j f e.0.0 (λ z. omega (arith, e.0.1)) (sym (agree j k e.0.1) ∙ q) in
-          (insert_every (λ i. ahead j i ≡ true) comes k l a o.0, r)
+      h : Earlier k j
+      h = All-head (Earlier k) j l e
 
-  all_order : (i : ℕ) (ks l : List ℕ) → Ascending Fine i ks → Every (Earlier i) l → InOrder ahead l → InOrder ahead (insert_all comes ks l)
+      t : All (Earlier k) l
+      t = All-tail (Earlier k) j l e
+
+      behind : ahead k j ≡ true → All (λ i. ahead k i ≡ true) l
+      behind a = all_both (Earlier k) (λ i. ahead j i ≡ true) (λ i. ahead k i ≡ true) l (λ i g b. S.through k j i f h.0 g.0 a b) t o.0
+
+      go : (b : Bool) → comes k j ≡ b → InOrder ahead (insert_by comes k l) → InOrder ahead (put_before b k j l (insert_by comes k l))
+      go true q r = let a : ahead k j ≡ true = sym (agree j k h.1) ∙ q in (All-cons (λ i. ahead k i ≡ true) j l a (behind a), o)
+      go false q r =
+          let a : ahead j k ≡ true = S.either k j f h.0 (λ z. omega (arith, h.1)) (sym (agree j k h.1) ∙ q) in
+          (inserted_all comes (λ i. ahead j i ≡ true) k l a o.0, r)
+
+  all_order : (i : ℕ) (ks l : List ℕ) → Ascending Fine i ks → All (Earlier i) l → InOrder ahead l → InOrder ahead (insert_all comes ks l)
   unfolding Ascending insert_all
   all_order i [] l a e o = o
   all_order i (k ∷ ks) l a e o =
-      let f : Every (Earlier k) l = every_map (Earlier i) (Earlier k) l (λ j h. (h.0, omega (arith, h.1, a.0))) e in
+      let f : All (Earlier k) l = All-weaker (Earlier i) (Earlier k) (λ j h. (h.0, omega (arith, h.1, a.0))) l e in
       all_order (suc k) ks (insert_by comes k l) a.2
-      (insert_every (Earlier (suc k)) comes k l (a.1, omega arith) (every_map (Earlier k) (Earlier (suc k)) l (λ j h. (h.0, omega (arith, h.1))) f))
+      (inserted_all comes (Earlier (suc k)) k l (a.1, omega arith) (All-weaker (Earlier k) (Earlier (suc k)) (λ j h. (h.0, omega (arith, h.1))) l f))
       (insert_order k l a.1 f o)
 
   pub sorted : (i : ℕ) (ks : List ℕ) → Ascending Fine i ks → Sorted ahead (λ j. occ j ks) (insert_all comes ks [])
-  unfolding Every InOrder occ
-  sorted i ks a = record { in_order = all_order i ks [] a tt tt; names = λ j. omega (arith, all_occ comes j ks []) }
+  unfolding InOrder occ
+  sorted i ks a = record { in_order = all_order i ks [] a (All-nil (Earlier i)) tt; names = λ j. omega (arith, all_occ comes j ks []) }
 
 -- ---- and there is no other
 module _ (Fine : ℕ → Type 0) (ahead : ℕ → ℕ → Bool) (S : Strict Fine ahead) where
-  only_by : (ks ls : List ℕ) → Every Fine ks → Every Fine ls → InOrder ahead ks → InOrder ahead ls → ((j : ℕ) → occ j ks ≡ occ j ls) → ks ≡ ls
-  unfolding Every InOrder occ
+  only_by : (ks ls : List ℕ) → All Fine ks → All Fine ls → InOrder ahead ks → InOrder ahead ls → ((j : ℕ) → occ j ks ≡ occ j ls) → ks ≡ ls
+  unfolding InOrder occ
   only_by [] [] f g o p e = refl
   only_by [] (l ∷ ls) f g o p e = absurd (omega (arith, e l, same_yes l l refl))
   only_by (k ∷ ks) [] f g o p e = absurd (omega (arith, e k, same_yes k k refl))
-  only_by (k ∷ ks) (l ∷ ls) f g o p e = go (ℕ_discrete k l) (only_by ks ls f.1 g.1 o.1 p.1)
+  only_by (k ∷ ks) (l ∷ ls) f g o p e = go (ℕ_discrete k l) (only_by ks ls (All-tail Fine k ks f) (All-tail Fine l ls g) o.1 p.1)
     where
       tails : k ≡ l → (j : ℕ) → occ j ks ≡ occ j ls
       tails q j = let z : same j k ≡ same j l = ap (λ (i : ℕ). same j i) q in omega (arith, e j)
@@ -129,19 +121,19 @@ module _ (Fine : ℕ → Type 0) (ahead : ℕ → ℕ → Bool) (S : Strict Fine
       go (yes q) r = ap (λ (i : ℕ). i ∷ ks) q ∙ ap (λ (t : List ℕ). l ∷ t) (r (tails q))
       go (no n) r =
           absurd
-          (S.one_way k l f.0 g.0
-          (every_named (λ j. ahead k j ≡ true) l ks o.0 (omega (arith, e l, same_yes l l refl, same_no l k (λ z. n (sym z)))))
-          (every_named (λ j. ahead l j ≡ true) k ls p.0 (omega (arith, e k, same_yes k k refl, same_no k l n))))
+          (S.one_way k l (All-head Fine k ks f) (All-head Fine l ls g)
+          (all_named (λ j. ahead k j ≡ true) l ks o.0 (omega (arith, e l, same_yes l l refl, same_no l k (λ z. n (sym z)))))
+          (all_named (λ j. ahead l j ≡ true) k ls p.0 (omega (arith, e k, same_yes k k refl, same_no k l n))))
 
   -- what holds of each index that is named holds of every element
-  every_of : (P : ℕ → Type 0) (ks : List ℕ) → ((j : ℕ) → 0 < occ j ks → P j) → Every P ks
-  unfolding Every occ
-  every_of P [] h = tt
-  every_of P (k ∷ ks) h = (h k (omega (arith, same_yes k k refl)), every_of P ks (λ j q. h j (omega arith)))
+  all_of : (P : ℕ → Type 0) (ks : List ℕ) → ((j : ℕ) → 0 < occ j ks → P j) → All P ks
+  unfolding occ
+  all_of P [] h = All-nil P
+  all_of P (k ∷ ks) h = All-cons P k ks (h k (omega (arith, same_yes k k refl))) (all_of P ks (λ j q. h j (omega arith)))
 
   pub only : (often : ℕ → ℕ) (ks ls : List ℕ) → ((j : ℕ) → 0 < often j → Fine j) → Sorted ahead often ks → Sorted ahead often ls → ks ≡ ls
   only often ks ls f a b =
-      only_by ks ls (every_of Fine ks (λ j q. f j (omega (arith, a.names j)))) (every_of Fine ls (λ j q. f j (omega (arith, b.names j)))) a.in_order b.in_order
+      only_by ks ls (all_of Fine ks (λ j q. f j (omega (arith, a.names j)))) (all_of Fine ls (λ j q. f j (omega (arith, b.names j)))) a.in_order b.in_order
       (λ j. a.names j ∙ sym (b.names j))
 
 -- ---- orders by one key after another

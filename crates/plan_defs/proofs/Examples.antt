@@ -8,6 +8,7 @@ use mathlib.Core.Path.{◌≡◌, refl}
 use lib.ListN.{length, replicate}
 use lib.Ieee.{Float, binary64, of_bits}
 use Rattle.loops.specs.Figures.{nought, half, one, hundred, decimal}
+use Rattle.loops.specs.Sorting.{insert_by}
 use Rattle.mode.specs.declared.PlanMode.{PlanMode}
 use Rattle.mode.specs.declared.PlanMode.TheVariants.{Expand, Reinforce, Observe, ExpandServing, ReinforceServing, ObserveServing}
 use Rattle.refusal.specs.Reply.{Reply, answered, refused}
@@ -19,7 +20,7 @@ use Rattle.plan_defs.specs.Design.{line_of, set_transformer_mva, kept_bank}
 use Rattle.plan_defs.specs.Raise.{no_marks, mark_ends, raised_levels, moved_buses}
 use Rattle.plan_defs.specs.Build.{built}
 use Rattle.plan_defs.specs.Fill.{fill}
-use Rattle.plan_defs.specs.Stiffen.{Budget, hv_budget, stiffen_one, stiffen_from, Gain, insert, batch}
+use Rattle.plan_defs.specs.Stiffen.{Budget, hv_budget, stiffen_one, stiffen_from, Gain, larger, batch}
 use Rattle.plan_defs.specs.Plan.{Plan, planned}
 use Rattle.plan_defs.specs.Outcome.{Slices, Outcome, slices, plan_corridors}
 use Rattle.plan_defs.specs.Preview.{kept_as, lengths_ok, kept_fault, preview_fault, refilled, preview, Outcome as Previewed}
@@ -83,7 +84,7 @@ abbrev gain : ℕ → ℕ → Gain
 gain tenths k = record { gain = decimal tenths 10; corridor = k }
 
 abbrev picked : ℕ → ℕ → List ℕ
-picked most tenths = batch most nought (decimal tenths 10) (insert (gain 1 3) (insert (gain 5 2) (insert (gain 5 1) (insert (gain 3 0) []))))
+picked most tenths = batch most nought (decimal tenths 10) (insert_by larger (gain 1 3) (insert_by larger (gain 5 2) (insert_by larger (gain 5 1) (insert_by larger (gain 3 0) []))))
 
 pub batches : picked 4 9 ∷ picked 4 11 ∷ picked 2 99 ∷ picked 4 99 ∷ [] ≡ (1 ∷ 2 ∷ []) ∷ (1 ∷ 2 ∷ 0 ∷ []) ∷ (1 ∷ 2 ∷ []) ∷ (1 ∷ 2 ∷ 0 ∷ 3 ∷ []) ∷ []
 unfolding whole_plan

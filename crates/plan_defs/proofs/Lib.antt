@@ -1,6 +1,5 @@
 -- Laws of the defined plan, and worked examples.
 pub mod Lists
-pub mod Inserted
 pub mod Stages
 pub mod Accepted
 pub mod Drawn

@@ -130,7 +130,7 @@ unfolding size.enlarge size.grow size.size_one size.size_all
 sizing = tt
 
 unfoldable pub stiffening : Unit {0}
-unfolding stiffen.budget_of stiffen.stiffen_from stiffen.stiffen_one stiffen.insert stiffen.gains stiffen.batch stiffen.chosen stiffen.stiffen_component stiffen.stiffen_all
+unfolding stiffen.budget_of stiffen.stiffen_from stiffen.stiffen_one stiffen.gains stiffen.batch stiffen.chosen stiffen.stiffen_component stiffen.stiffen_all
 stiffening = tt
 
 unfoldable pub all_rounds : Unit {0}
@@ -138,7 +138,7 @@ unfolding rounds.one_round rounds.rounds rounds.all_rounds
 all_rounds = tt
 
 unfoldable pub filling : Unit {0}
-unfolding fill.insert_rank fill.corridors_in fill.order_of fill.fill_once fill.fill_rounds fill.fill
+unfolding fill.corridors_in fill.order_of fill.fill_once fill.fill_rounds fill.fill
 filling = tt
 
 unfoldable pub closing_figures : Unit {0}

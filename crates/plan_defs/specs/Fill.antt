@@ -4,6 +4,7 @@ use Rattle.std.specs.Prelude.{ℕ, zero, suc, ◌+◌, Bool, true, false, ◌&&�
 use Rattle.std.specs.Float.Ieee.{lt, eq}
 use Rattle.loops.specs.Figures.{at, float, times, over, magnitude}
 use Rattle.loops.specs.Loops.{iter}
+use Rattle.loops.specs.Sorting.{insert_by}
 use Rattle.plan_defs.specs.Constants.{most_cap}
 use Rattle.plan_defs.specs.Lists.{each, sum}
 use Rattle.plan_defs.specs.Case.{Case, promote, full_at}
@@ -33,16 +34,8 @@ before i j =
     lt j.loading i.loading
     || (eq j.loading i.loading && (lt j.kv i.kv || (eq j.kv i.kv && lt i.km j.km)))
 
-abbrev pub placed_rank : Bool → Rank → Rank → List Rank → List Rank → List Rank
-placed_rank true i j l rest = i ∷ j ∷ l
-placed_rank false i j l rest = j ∷ rest
-
-unfoldable pub insert_rank : Rank → List Rank → List Rank
-insert_rank i [] = i ∷ []
-insert_rank i (j ∷ l) = placed_rank (before i j) i j l (insert_rank i l)
-
 abbrev pub rank_next : List CircuitDesign → List ℕ → List Float → ℕ → List Rank → List Rank
-rank_next ds counts flows k l = insert_rank (rank_at ds counts flows k) l
+rank_next ds counts flows k l = insert_by before (rank_at ds counts flows k) l
 
 unfoldable pub corridors_in : List Rank → List ℕ
 corridors_in [] = []

@@ -2,6 +2,7 @@
 use Rattle.std.specs.Prelude.{ℕ, zero, suc, ◌+◌, max, Bool, true, false, cond, ◌&&◌, ◌||◌, List, [], ◌∷◌, ltb, leb, length, get_or, set, Float, Option, Some, None}
 use Rattle.std.specs.Float.Ieee.{lt, le, neg, to_unsigned}
 use Rattle.loops.specs.Figures.{at, float, plus, minus, times, nought, one}
+use Rattle.loops.specs.Sorting.{insert_by}
 use Rattle.root.specs.Ceiling.{ceil}
 use Rattle.refusal.specs.declared.Refusal.TheVariants.{NotFinite}
 use Rattle.angles_defs.specs.Network.{zeros}
@@ -110,16 +111,11 @@ abbrev pub gain_of : List Float → List Float → CircuitDesign → Float
 gain_of theta phi d = times (times (susceptance d) (across theta d)) (across phi d)
 
 -- put in its place: gain falling, then index, since corridors come by index
-abbrev pub placed : Bool → Gain → Gain → List Gain → List Gain → List Gain
-placed true g h l rest = g ∷ h ∷ l
-placed false g h l rest = h ∷ rest
-
-unfoldable pub insert : Gain → List Gain → List Gain
-insert g [] = g ∷ []
-insert g (h ∷ l) = placed (lt h.gain g.gain) g h l (insert g l)
+abbrev pub larger : Gain → Gain → Bool
+larger g h = lt h.gain g.gain
 
 abbrev pub insert_if : Bool → Gain → List Gain → List Gain
-insert_if true g l = insert g l
+insert_if true g l = insert_by larger g l
 insert_if false g l = l
 
 abbrev pub insert_gain : Gain → List Gain → List Gain

@@ -16,16 +16,17 @@ use lib.ListN.{length, get_or}
 use Rattle.loops.specs.Sorting.{occ}
 use Rattle.loops.specs.Loops.{iter}
 use Rattle.loops.proofs.Bools.{both, and_no}
+use Rattle.loops.proofs.Inserted.{all_inserted_length}
 use Rattle.plan_defs.specs.Lists.{each}
 use Rattle.plan_defs.specs.Constants.{max_circuits_per_corridor, most_cap}
 use Rattle.plan_defs.specs.Case.{Case, promote, own_cap, full_at}
-use Rattle.plan_defs.specs.Fill.{Filled, unfilled, fill_if, fill_at, below_full, room, fill_once, fill_rounds, fill_turns, filled_if, fill, Rank, rank_at, rank_next, before, placed_rank, insert_rank, corridors_in, order_of}
+use Rattle.plan_defs.specs.Fill.{Filled, unfilled, fill_if, fill_at, below_full, room, fill_once, fill_rounds, fill_turns, filled_if, fill, order_of}
 use Rattle.plan_defs.specs.declared.CircuitDesign.{CircuitDesign}
 use Rattle.plan_defs.proofs.Lists.{each_places}
 use Rattle.plan_defs.proofs.Accepted.{own_few}
 use Rattle.plan_theorems.specs.Cursor.{Cursor, cursor_at, runs, advance_if, advance, cursor_if, cursor_step, cursor_run}
 use Rattle.plan_theorems.proofs.Filling.{rounds_grown, Ends, reached, unreached, fills, all_full}
-use Rattle.plan_theorems.proofs.Ranking.{order_once}
+use Rattle.plan_theorems.proofs.Ranking.{order_once, order_inserted, comes_in_order}
 
 -- a window of m numbers before c has one of each remainder
 residue : (m c p : ℕ) → m ≤ c → p < m → (q : ℕ) × (q < c) × (c ≤ q + m) × (q % m ≡ p)
@@ -283,30 +284,9 @@ module _ (full : ℕ → ℕ) (few : (k : ℕ) → full k ≤ fill_turns) (targe
   cursor_fills (k ∷ ks) named = fills_all (k ∷ ks) named (omega arith)
 
 -- ---- of the defined filling: the order has a place for each corridor, and the Rust's loop over it fills what the definition fills
-length_in : (l : List Rank) → length (corridors_in l) ≡ length l
-unfolding corridors_in
-length_in [] = refl
-length_in (r ∷ l) = ap suc (length_in l)
-
-length_insert : (r : Rank) (l : List Rank) → length (insert_rank r l) ≡ suc (length l)
-unfolding insert_rank
-length_insert r [] = refl
-length_insert r (q ∷ l) = go (before r q) (length_insert r l)
-  where
-    go : (b : Bool) → length (insert_rank r l) ≡ suc (length l) → length (placed_rank b r q l (insert_rank r l)) ≡ suc (suc (length l))
-    go true e = refl
-    go false e = ap suc e
-
 module _ (ds : List CircuitDesign) (counts : List ℕ) (flows : List Float) where
-  length_ranked : (d k : ℕ) (l : List Rank) → length (iter (rank_next ds counts flows) d k l) ≡ d + length l
-  unfolding iter
-  length_ranked zero k l = omega arith
-  length_ranked (suc d) k l =
-      omega (arith, length_ranked d (suc k) (insert_rank (rank_at ds counts flows k) l), length_insert (rank_at ds counts flows k) l)
-
   pub order_length : (m : ℕ) → length (order_of m ds counts flows) ≡ m
-  unfolding order_of
-  order_length m = length_in (iter (rank_next ds counts flows) m 0 []) ∙ length_ranked m 0 [] ∙ (let z : m + 0 ≡ m = omega arith in z)
+  order_length m = ap length (order_inserted ds counts flows m) ∙ all_inserted_length (comes_in_order ds counts flows) m
 
 pub record FilledByCursor (c : Case) (target : ℕ) (order counts : List ℕ) : Type 0 where
   pub ended : runs target c.corridors (cursor_run (cursor_turns * c.corridors) (full_at c) target order (cursor_at (unfilled counts) 0 0)) ≡ false

@@ -13,14 +13,15 @@ use lib.Dec.{T, ltb}
 use lib.Ieee.{Float, lt, eq}
 use Rattle.loops.specs.Figures.{nought}
 use Rattle.loops.specs.Loops.{iter}
-use Rattle.loops.specs.Sorting.{put_before, insert_by, insert_all, occ, Sorted}
+use Rattle.loops.specs.Sorting.{insert_by, insert_all, occ, Sorted}
 use Rattle.loops.proofs.Bools.{both}
+use Rattle.loops.proofs.Inserted.{inserted_map, all_inserted_map}
 use Rattle.loops.proofs.Order.{real, le_of_lt, right_real}
 use Rattle.loops.proofs.Sorting.{same_yes, same_no, all_occ, Strict, Ascending, sorted, only, by_index, then_by_lem, falling, rising}
 use Rattle.plan_defs.specs.Lists.{keep, pass_from, passing}
 use Rattle.plan_defs.specs.Design.{design}
-use Rattle.plan_defs.specs.Fill.{Rank, loading_at, rank_at, before, placed_rank, insert_rank, rank_next, corridors_in, order_of}
-use Rattle.plan_defs.specs.Stiffen.{Gain, gain_of, placed, insert, insert_if, gains}
+use Rattle.plan_defs.specs.Fill.{loading_at, rank_at, before, corridors_in, order_of}
+use Rattle.plan_defs.specs.Stiffen.{Gain, gain_of, larger, insert_if, gains}
 use Rattle.plan_defs.specs.declared.CircuitDesign.{CircuitDesign}
 
 -- ---- the indices below m that pass a test, each once
@@ -110,6 +111,12 @@ last_out false false g h = refl
 abbrev pub every : ℕ → Bool
 every k = true
 
+-- indices put in one after another are all put in
+pub put_in : (comes : ℕ → ℕ → Bool) (d i : ℕ) (l : List ℕ) → iter (insert_by comes) d i l ≡ insert_all comes (pass_from every d i) l
+unfolding iter pass_from insert_all
+put_in comes zero i l = refl
+put_in comes (suc d) i l = put_in comes d (suc i) (insert_by comes i l)
+
 module _ (ds : List CircuitDesign) (counts : List ℕ) (flows : List Float) where
   abbrev load : ℕ → Float
   load k = loading_at ds counts flows k
@@ -141,7 +148,7 @@ module _ (ds : List CircuitDesign) (counts : List ℕ) (flows : List Float) wher
       (falling Real kv (λ i r. r.kilovolts))
       (then_by_lem Real (λ i j. lt (km i) (km j)) (λ i j. eq (km i) (km j)) (λ i j. ltb i j) (rising Real km (λ i r. r.length)) (by_index Real)))
 
-  abbrev comes_in_order : ℕ → ℕ → Bool
+  abbrev pub comes_in_order : ℕ → ℕ → Bool
   comes_in_order k j = before (rank_at ds counts flows k) (rank_at ds counts flows j)
 
   order_agrees : (j k : ℕ) → j < k → comes_in_order k j ≡ ahead_in_order k j
@@ -149,33 +156,18 @@ module _ (ds : List CircuitDesign) (counts : List ℕ) (flows : List Float) wher
       ap (λ (x : Bool). lt (load j) (load k) || (eq (load j) (load k) && (lt (kv j) (kv k) || (eq (kv j) (kv k) && x))))
       (last_out (lt (km k) (km j)) (eq (km k) (km j)) (ltb k j) (le-ltb k j (omega arith)))
 
-  -- by index: the ranks are those of the indices put in
-  insert_ranks : (k : ℕ) (l : List ℕ) → insert_rank (rank_at ds counts flows k) (map (rank_at ds counts flows) l) ≡ map (rank_at ds counts flows) (insert_by comes_in_order k l)
-  unfolding insert_rank insert_by
-  insert_ranks k [] = refl
-  insert_ranks k (j ∷ l) = go (comes_in_order k j) (insert_ranks k l)
-    where
-      go : (b : Bool) → insert_rank (rank_at ds counts flows k) (map (rank_at ds counts flows) l) ≡ map (rank_at ds counts flows) (insert_by comes_in_order k l)
-          → placed_rank b (rank_at ds counts flows k) (rank_at ds counts flows j) (map (rank_at ds counts flows) l) (insert_rank (rank_at ds counts flows k) (map (rank_at ds counts flows) l))
-          ≡ map (rank_at ds counts flows) (put_before b k j l (insert_by comes_in_order k l))
-      go true e = refl
-      go false e = ap (λ (x : List Rank). rank_at ds counts flows j ∷ x) e
-
-  iter_ranks : (d i : ℕ) (l : List ℕ)
-      → iter (rank_next ds counts flows) d i (map (rank_at ds counts flows) l) ≡ map (rank_at ds counts flows) (insert_all comes_in_order (pass_from every d i) l)
-  unfolding iter pass_from insert_all
-  iter_ranks zero i l = refl
-  iter_ranks (suc d) i l =
-      ap (λ (x : List Rank). iter (rank_next ds counts flows) d (suc i) x) (insert_ranks i l) ∙ iter_ranks d (suc i) (insert_by comes_in_order i l)
-
   corridors_back : (l : List ℕ) → corridors_in (map (rank_at ds counts flows) l) ≡ l
   unfolding corridors_in
   corridors_back [] = refl
   corridors_back (k ∷ l) = ap (λ (x : List ℕ). k ∷ x) (corridors_back l)
 
-  order_is : (m : ℕ) → order_of m ds counts flows ≡ insert_all comes_in_order (passing every m) []
+  -- by index: the ranks are those of the indices put in
+  pub order_inserted : (m : ℕ) → order_of m ds counts flows ≡ iter (insert_by comes_in_order) m 0 []
   unfolding order_of
-  order_is m = ap corridors_in (iter_ranks m 0 []) ∙ corridors_back (insert_all comes_in_order (passing every m) [])
+  order_inserted m = ap corridors_in (all_inserted_map (rank_at ds counts flows) before m 0 []) ∙ corridors_back (iter (insert_by comes_in_order) m 0 [])
+
+  order_is : (m : ℕ) → order_of m ds counts flows ≡ insert_all comes_in_order (passing every m) []
+  order_is m = order_inserted m ∙ put_in comes_in_order m 0 []
 
   -- each corridor once, whatever the figures are
   pub order_once : (m j : ℕ) → j < m → occ j (order_of m ds counts flows) ≡ 1
@@ -226,16 +218,6 @@ module _ (ds : List CircuitDesign) (theta phi : List Float) where
   gains_agree : (j k : ℕ) → j < k → comes_in_gain k j ≡ ahead_in_gain k j
   gains_agree j k h = last_out (lt (gain_at j) (gain_at k)) (eq (gain_at j) (gain_at k)) (ltb k j) (le-ltb k j (omega arith))
 
-  insert_gains : (k : ℕ) (l : List ℕ) → insert (gain_for k) (map gain_for l) ≡ map gain_for (insert_by comes_in_gain k l)
-  unfolding insert insert_by
-  insert_gains k [] = refl
-  insert_gains k (j ∷ l) = go (comes_in_gain k j) (insert_gains k l)
-    where
-      go : (b : Bool) → insert (gain_for k) (map gain_for l) ≡ map gain_for (insert_by comes_in_gain k l)
-          → placed b (gain_for k) (gain_for j) (map gain_for l) (insert (gain_for k) (map gain_for l)) ≡ map gain_for (put_before b k j l (insert_by comes_in_gain k l))
-      go true e = refl
-      go false e = ap (λ (x : List Gain). gain_for j ∷ x) e
-
   -- those of the candidates whose gain is above 0
   abbrev gaining : (ℕ → Bool) → ℕ → Bool
   gaining p k = p k && lt nought (gain_at k)
@@ -252,7 +234,7 @@ module _ (ds : List CircuitDesign) (theta phi : List Float) where
       go false c e r = r l
       go true true e r =
           ap (λ (t : Bool). gains ds theta phi (pass_from p d (suc i)) (insert_if t (gain_for i) (map gain_for l))) e
-          ∙ ap (λ (x : List Gain). gains ds theta phi (pass_from p d (suc i)) x) (insert_gains i l)
+          ∙ ap (λ (x : List Gain). gains ds theta phi (pass_from p d (suc i)) x) (inserted_map gain_for larger i l)
           ∙ r (insert_by comes_in_gain i l)
       go true false e r = ap (λ (t : Bool). gains ds theta phi (pass_from p d (suc i)) (insert_if t (gain_for i) (map gain_for l))) e ∙ r l
 

@@ -14,10 +14,12 @@ use lib.ListN.{length, set, length-set}
 use lib.Seq.{get_or-set_same, get_or-set_other}
 use lib.Ieee.{Float, nan, inf, fin, binary64, up, down, below, level, add, lt, eq, le, fits, of_bits}
 use lib.Ieee.Fits.{up_pos, down_pos}
+use Rattle.std.specs.List.{All}
+use Rattle.std.proofs.lemmas.List.Elements.{All-head, All-tail}
 use Rattle.loops.specs.Figures.{at, plus, nought}
-use Rattle.loops.specs.Loops.{iter}
-use Rattle.loops.specs.Sorting.{insert_by, insert_all, Sorted}
+use Rattle.loops.specs.Sorting.{insert_all, Sorted}
 use Rattle.loops.proofs.Bools.{no as never, both, and_of, or_left}
+use Rattle.loops.proofs.Inserted.{all_inserted_below}
 use Rattle.loops.proofs.Order.{real, bounded, bounded_real, le_of_lt, le_self, inside_bounded}
 use Rattle.loops.proofs.Signs.{sound, sound_up, add_sound}
 use Rattle.loops.proofs.Sorting.{Strict, by_index, then_by_lem, rising}
@@ -28,11 +30,9 @@ use Rattle.dispatch_defs.specs.Share.{gap_of}
 use Rattle.dispatch_defs.specs.Dispatch.{economic_dispatch}
 use Rattle.dispatch_defs.specs.Limits.{Within, SoundUnits}
 use Rattle.dispatch_defs.proofs.Prices.{fit_at}
-use Rattle.plan_defs.specs.Lists.{pass_from, passing}
+use Rattle.plan_defs.specs.Lists.{passing}
 use Rattle.plan_defs.specs.TopUp.{cheaper, by_cost, topped_to, unless_below, topped_if, top_up, given_by}
-use Rattle.plan_defs.proofs.Lists.{All}
-use Rattle.plan_defs.proofs.Inserted.{inserted_below}
-use Rattle.plan_theorems.proofs.Ranking.{once, every, ranked, ranked_only, last_out}
+use Rattle.plan_theorems.proofs.Ranking.{once, every, put_in, ranked, ranked_only, last_out}
 
 -- ---- a zero is at most whatever is not below zero
 zero_low : (s t : Bool) (a b : ℕ) → a ≡ 0 → (t ≡ true → b ≡ 0) → (below s a t b || level s a t b) ≡ true
@@ -123,18 +123,13 @@ module _ (c1 : List Float) where
   cost_agrees : (j k : ℕ) → j < k → cheaper c1 k j ≡ ahead_in_cost k j
   cost_agrees j k h = last_out (lt (at c1 k) (at c1 j)) (eq (at c1 k) (at c1 j)) (ltb k j) (le-ltb k j (omega arith))
 
-  put_in : (d i : ℕ) (l : List ℕ) → iter (insert_by (cheaper c1)) d i l ≡ insert_all (cheaper c1) (pass_from every d i) l
-  unfolding iter pass_from insert_all
-  put_in zero i l = refl
-  put_in (suc d) i l = put_in d (suc i) (insert_by (cheaper c1) i l)
-
   by_cost_is : by_cost c1 ≡ insert_all (cheaper c1) (passing every (length c1)) []
   unfolding by_cost
-  by_cost_is = put_in (length c1) 0 []
+  by_cost_is = put_in (cheaper c1) (length c1) 0 []
 
-  order_below : All (λ k. k < length c1) (by_cost c1)
+  pub order_below : All (λ k. k < length c1) (by_cost c1)
   unfolding by_cost
-  order_below = inserted_below (cheaper c1) (length c1)
+  order_below = all_inserted_below (cheaper c1) (length c1)
 
 module _ (u : Units) (s : SoundUnits u) where
   real_cost : (k : ℕ) → k < length u.c1 → T (real (at u.c1 k))
@@ -184,7 +179,7 @@ module _ (u : Units) (d : Float) (s : SoundUnits u) (held : (i : ℕ) → i < co
   pub topped_within : (ks : List ℕ) → All (λ k. k < count u) ks → (out : List Float) → Within u out → Within u (top_up u.pmax d ks out)
   unfolding top_up
   topped_within [] a out w = w
-  topped_within (k ∷ ks) a out w = go (lt nought (gap_of d out)) refl (topped_within ks (λ j h. a (suc j) (suc-le-suc h)))
+  topped_within (k ∷ ks) a out w = go (lt nought (gap_of d out)) refl (topped_within ks (All-tail (λ i. i < count u) k ks a))
     where
       new : Float
       new = topped_to (at u.pmax k) (at out k) (gap_of d out)
@@ -196,7 +191,7 @@ module _ (u : Units) (d : Float) (s : SoundUnits u) (held : (i : ℕ) → i < co
 
       go : (b : Bool) → lt nought (gap_of d out) ≡ b → ((t : List Float) → Within u t → Within u (top_up u.pmax d ks t))
           → Within u (topped_if b (at u.pmax k) k (gap_of d out) out (top_up u.pmax d ks))
-      go true e next = ends (lt new (at u.pmax k)) (one_within k (a 0 (suc-le-suc zero-le)) out w e) next
+      go true e next = ends (lt new (at u.pmax k)) (one_within k (All-head (λ i. i < count u) k ks a) out w e) next
       go false e next = w
 
 -- what a component's units give, with the pass and without it. The pass asks that binary64 holds each pmin

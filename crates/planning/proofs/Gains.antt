@@ -1,17 +1,17 @@
 -- Which corridors are stiffened: the order that code makes of a list of gains is the defined one, and what it takes of it is the defined batch.
 -- A gain is made of its corridor, so that a list of gains is a list of corridors with the same insertions; a batch goes by what is left of it.
-use Rattle.std.proofs.Common.{◌≡◌, ℕ, zero, suc, ◌+◌, ◌-◌, ◌<◌, ◌≤◌, Bool, true, false, List, [], ◌∷◌, ◌++◌, map, length, get_or, take, drop, sym, refl, ap, ◌∙◌, append-nil, add-one, arith, drop_of_length-le, drop-cons, take-suc, All, insert as put_in, not-suc-le-zero}
+use Rattle.std.proofs.Common.{◌≡◌, ℕ, zero, suc, ◌+◌, ◌-◌, ◌<◌, ◌≤◌, Bool, true, false, List, [], ◌∷◌, ◌++◌, map, length, get_or, take, drop, sym, refl, ap, ◌∙◌, append-nil, add-one, arith, drop_of_length-le, drop-cons, take-suc, All, insert, not-suc-le-zero}
 use lib.Seq.{append_snoc}
 use lib.Ieee.{Float, lt}
 use Rattle.loops.specs.Figures.{at, plus, nought}
 use Rattle.loops.specs.Loops.{iter}
-use Rattle.loops.specs.Sorting.{put_before, insert_by}
+use Rattle.loops.proofs.Inserted.{inserted_all, inserted_more, inserted_map}
 use Rattle.loops.proofs.Loops.{gap, none, iter_last, iter_carries}
 use Rattle.plan_defs.specs.Lists.{keep, pass_from, passing}
 use Rattle.plan_defs.specs.Design.{design}
-use Rattle.plan_defs.specs.Stiffen.{Gain, gain_of, placed, insert, insert_if, insert_gain, gains, batch_if, batch}
+use Rattle.plan_defs.specs.Stiffen.{Gain, gain_of, larger, insert_if, insert_gain, gains, batch_if, batch}
 use Rattle.plan_defs.specs.declared.CircuitDesign.{CircuitDesign}
-use Rattle.planning.proofs.Inserting.{place_in, inserted_is, inserted_all, inserted_more}
+use Rattle.planning.proofs.Inserting.{place_in, inserted_is}
 use Rattle.planning.specs.Stiffen.{gain_if, gains_more, insert_where, gain_next, gain_order, gain_for}
 use Rattle.planning.proofs.ToppingUp.{no_less}
 
@@ -20,18 +20,8 @@ module _ (gain : List Float) where
   gainers l = map (gain_for gain) l
 
   -- ---- the order
-  insert_gains : (k : ℕ) (l : List ℕ) → insert (gain_for gain k) (gainers l) ≡ gainers (insert_by (gains_more gain) k l)
-  unfolding insert insert_by
-  insert_gains k [] = refl
-  insert_gains k (j ∷ l) = go (gains_more gain k j) (insert_gains k l)
-    where
-      go : (b : Bool) → insert (gain_for gain k) (gainers l) ≡ gainers (insert_by (gains_more gain) k l)
-          → placed b (gain_for gain k) (gain_for gain j) (gainers l) (insert (gain_for gain k) (gainers l)) ≡ gainers (put_before b k j l (insert_by (gains_more gain) k l))
-      go true e = refl
-      go false e = ap (λ (r : List Gain). gain_for gain j ∷ r) e
-
   next_by_lem : (b : Bool) (k : ℕ) (l : List ℕ) → insert_if b (gain_for gain k) (gainers l) ≡ gainers (insert_where b (gains_more gain) k l)
-  next_by_lem true k l = insert_gains k l
+  next_by_lem true k l = inserted_map (gain_for gain) larger k l
   next_by_lem false k l = refl
 
   next_is : (k : ℕ) (x : Float) (l : List ℕ) → at gain k ≡ x → insert_gain (record { gain = x; corridor = k }) (gainers l) ≡ gainers (gain_next gain k l)
@@ -121,7 +111,7 @@ module _ (gain : List Float) where
         ∙ append-nil (take j order)
 
   -- ---- code puts k at its place
-  pub next_gains : (k : ℕ) (l : List ℕ) → lt nought (at gain k) ≡ true → put_in l (place_in (gains_more gain k) l) k ≡ gain_next gain k l
+  pub next_gains : (k : ℕ) (l : List ℕ) → lt nought (at gain k) ≡ true → insert l (place_in (gains_more gain k) l) k ≡ gain_next gain k l
   next_gains k l e = inserted_is (gains_more gain) k l ∙ ap (λ (b : Bool). insert_where b (gains_more gain) k l) (sym e)
 
   -- ---- an order names corridors below m, each once at most
@@ -135,7 +125,7 @@ module _ (gain : List Float) where
       later = λ j d h. let w = a.1 j d h in omega arith
 
       go : (b : Bool) → Named (suc k) (insert_where b (gains_more gain) k l)
-      go true = (omega (arith, a.0, inserted_more (gains_more gain) k l), inserted_all (gains_more gain) k (λ (j : ℕ). j < suc k) l (omega arith) later)
+      go true = (omega (arith, a.0, inserted_more (gains_more gain) k l), inserted_all (gains_more gain) (λ (j : ℕ). j < suc k) k l (omega arith) later)
       go false = (omega (arith, a.0), later)
 
   pub order_named : (m : ℕ) → Named m (gain_order gain m)

@@ -1,7 +1,5 @@
 -- Insertion into a vector: k, put at the first place that it comes before, or behind all, is in its place by the definition.
-use Rattle.std.proofs.Common.{◌≡◌, ℕ, suc, ◌+◌, ◌≤◌, Bool, true, false, cond, not, nat_lt, List, [], ◌∷◌, length, take, drop, insert, position, All, refl, sym, ap, ◌∙◌, subst, arith, ltb-false}
-use Rattle.std.proofs.lemmas.List.Elements.{All-append, All-cons, All-take, All-drop}
-use Rattle.std.proofs.lemmas.List.Edits.{length-insert}
+use Rattle.std.proofs.Common.{◌≡◌, ℕ, suc, ◌+◌, ◌≤◌, Bool, true, false, cond, not, nat_lt, List, [], ◌∷◌, length, insert, position, refl, ap, ◌∙◌, arith, ltb-false}
 use Rattle.std.specs.Prelude.{Some, None, unwrap_or}
 use Rattle.std.specs.List.{position_or_len}
 use Rattle.loops.specs.Sorting.{put_before, insert_by}
@@ -38,12 +36,3 @@ module _ (comes : ℕ → ℕ → Bool) (k : ℕ) where
 
   pub inserted_is : (l : List ℕ) → insert l (place_in (comes k) l) k ≡ insert_by comes k l
   inserted_is l = ap (λ (i : ℕ). insert l i k) (place_is (comes k) l) ∙ put_is l
-
-  -- what holds of k and of each element holds of each then, and there is one more
-  pub inserted_all : (P : ℕ → Type 0) (l : List ℕ) → P k → All P l → All P (insert_by comes k l)
-  inserted_all P l h a =
-      let i = position_or_len (comes k) l in
-      subst (All P) (put_is l) (All-append P (take i l) (k ∷ drop i l) (All-take P i l a) (All-cons P k (drop i l) h (All-drop P i l a)))
-
-  pub inserted_more : (l : List ℕ) → length (insert_by comes k l) ≡ length l + 1
-  inserted_more l = ap length (sym (put_is l)) ∙ length-insert l (position_or_len (comes k) l) k (place_most (comes k) l)

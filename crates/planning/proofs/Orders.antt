@@ -1,51 +1,27 @@
 -- The filling order from the columns that code keeps is the defined one.
--- A rank is made of its corridor, so that a list of ranks is a list of corridors with the same insertions.
-use Rattle.std.proofs.Common.{◌≡◌, ℕ, zero, suc, ◌<◌, Bool, true, false, List, [], ◌∷◌, map, length, All, sym, refl, ap, ◌∙◌, arith}
+use Rattle.std.proofs.Common.{◌≡◌, ℕ, ◌<◌, Bool, List, length, All, sym, refl, ap, ◌∙◌, arith}
 use lib.Ieee.{Float, nan}
 use Rattle.loops.specs.Figures.{at}
-use Rattle.loops.specs.Loops.{iter, tab}
-use Rattle.loops.specs.Sorting.{put_before, insert_by}
+use Rattle.loops.specs.Loops.{tab}
 use Rattle.loops.proofs.Tab.{get_tab}
 use Rattle.plan_defs.specs.Design.{design, drawn}
 use Rattle.plan_defs.proofs.Drawn.{drawn_at, drawn_km}
 use Rattle.planning.specs.Design.{lines_for}
-use Rattle.plan_defs.specs.Fill.{Rank, rank_at, before, placed_rank, insert_rank, rank_next, corridors_in, loading_at, order_of}
+use Rattle.plan_defs.specs.Fill.{loading_at, order_of}
 use Rattle.plan_defs.specs.declared.CircuitDesign.{CircuitDesign}
+use Rattle.plan_theorems.proofs.Ranking.{comes_in_order, order_inserted}
 use Rattle.planning.specs.Fill.{designs_for, rank_before, order_by}
 use Rattle.planning.proofs.Insertion.{order_same, order_names}
 use Rattle.planning.specs.Tables.{GridColumns}
 
 module _ (ds : List CircuitDesign) (counts : List ℕ) (flows : List Float) where
-  abbrev rank : ℕ → Rank
-  rank = rank_at ds counts flows
-
   -- the defined order's own rule
   abbrev comes : ℕ → ℕ → Bool
-  comes k j = before (rank k) (rank j)
-
-  insert_ranks : (k : ℕ) (l : List ℕ) → insert_rank (rank k) (map rank l) ≡ map rank (insert_by comes k l)
-  unfolding insert_rank insert_by
-  insert_ranks k [] = refl
-  insert_ranks k (j ∷ l) = go (comes k j) (insert_ranks k l)
-    where
-      go : (b : Bool) → insert_rank (rank k) (map rank l) ≡ map rank (insert_by comes k l)
-          → placed_rank b (rank k) (rank j) (map rank l) (insert_rank (rank k) (map rank l)) ≡ map rank (put_before b k j l (insert_by comes k l))
-      go true e = refl
-      go false e = ap (λ (r : List Rank). rank j ∷ r) e
-
-  ranks_from : (d i : ℕ) (l : List ℕ) → iter (rank_next ds counts flows) d i (map rank l) ≡ map rank (iter (insert_by comes) d i l)
-  unfolding iter
-  ranks_from zero i l = refl
-  ranks_from (suc d) i l = ap (iter (rank_next ds counts flows) d (suc i)) (insert_ranks i l) ∙ ranks_from d (suc i) (insert_by comes i l)
-
-  corridors_of_lem : (l : List ℕ) → corridors_in (map rank l) ≡ l
-  unfolding corridors_in
-  corridors_of_lem [] = refl
-  corridors_of_lem (k ∷ l) = ap (λ (r : List ℕ). k ∷ r) (corridors_of_lem l)
+  comes = comes_in_order ds counts flows
 
   order_is : (m : ℕ) → order_of m ds counts flows ≡ order_by comes m
-  unfolding order_of order_by
-  order_is m = ap corridors_in (ranks_from m 0 []) ∙ corridors_of_lem (iter (insert_by comes) m 0 [])
+  unfolding order_by
+  order_is m = order_inserted ds counts flows m
 
   -- ---- from columns that hold each corridor's loading, kV and length
   pub order_columns : (loading kv km : List Float) (m : ℕ)

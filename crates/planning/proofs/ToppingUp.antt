@@ -1,6 +1,7 @@
 -- What a component's units give as the code goes: the order by c1, the pass from a unit of the order on, and the dispatch with the pass after it.
 -- Keys that are alike leave the order to c1. What is left of the pass is nothing, one unit, or one unit and the rest, by its two tests.
-use Rattle.std.proofs.Common.{◌≡◌, ℕ, suc, ◌+◌, ◌<◌, ◌≤◌, Bool, true, false, List, length, get_or, drop, set, sym, refl, ap, ◌∙◌, subst, arith, drop-cons, drop_of_length-le, le-ltb, lt-ltb}
+use Rattle.std.proofs.Common.{◌≡◌, ℕ, suc, ◌+◌, ◌<◌, ◌≤◌, Bool, true, false, List, length, get_or, drop, set, All, sym, refl, ap, ◌∙◌, subst, arith, drop-cons, drop_of_length-le, le-ltb, lt-ltb}
+use Rattle.std.proofs.lemmas.List.Elements.{All-get_or}
 use lib.Ieee.{Float, lt, eq, of_bits}
 use Rattle.loops.specs.Figures.{at, nought}
 use Rattle.refusal.specs.Number.{index_of}
@@ -16,8 +17,7 @@ use Rattle.plan_defs.specs.Stage.{stopped, going}
 use Rattle.plan_defs.specs.TopUp.{cheaper, by_cost, topped_to, unless_below, topped_if, top_up, given_by}
 use Rattle.planning.specs.Fill.{rank_before, order_by}
 use Rattle.planning.specs.Opening.{given_if, given_stage}
-use Rattle.plan_defs.proofs.Lists.{All}
-use Rattle.plan_defs.proofs.Inserted.{inserted_below}
+use Rattle.plan_theorems.proofs.ToppedUp.{order_below}
 use Rattle.planning.proofs.Insertion.{order_same}
 use Rattle.std.specs.Prelude.{Err, Result}
 use Rattle.refusal.specs.Reply.{no_refusal}
@@ -41,12 +41,9 @@ module _ (keys c1 : List Float) (alike : (k : ℕ) → k < length c1 → at keys
 
 -- the order names the units
 module _ (c1 : List Float) where
-  costs_below : All (λ k. k < length c1) (by_cost c1)
-  unfolding by_cost
-  costs_below = inserted_below (cheaper c1) (length c1)
-
   pub unit_named : (units : List ℕ) → units ≡ by_cost c1 → (m : ℕ) → length c1 ≡ m → (j : ℕ) → j < length units → get_or units j 0 < m
-  unit_named units e m h = subst (λ (l : List ℕ). All (λ k. k < m) l) (sym e) (subst (λ (n : ℕ). All (λ k. k < n) (by_cost c1)) h costs_below)
+  unit_named units e m h j w =
+      All-get_or (λ k. k < m) units j 0 w (subst (All (λ k. k < m)) (sym e) (subst (λ (n : ℕ). All (λ k. k < n) (by_cost c1)) h (order_below c1)))
 
 -- ---- the pass, from place j of the order on, where unit k stands
 pub pass_end : (pmax : List Float) (demand : Float) (ks units : List ℕ) → units ≡ ks → (j : ℕ) (mw : List Float) → length units ≤ j → mw ≡ top_up pmax demand (drop j ks) mw

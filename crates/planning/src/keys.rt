@@ -30,6 +30,7 @@ impl Keys<'_> {
     }
 
     // The place of k in an order, where it comes before another.
+    // It shares std's `position` with `place_of` of stiffen, and no more: the test is another.
     fn place(&self, order: &[u32], k: usize) -> Option<usize>
         requires k_in_bounds { k < length self.now.third.now }
         requires named { All (λ (j : ℕ). j < length self.now.third.now) order.now }

@@ -8,12 +8,13 @@ use borrow.Author.Tests.{ltb-true, lt-ltb}
 use lib.Dec.{T}
 use lib.Ieee.{Float, nan, inf, fin, binary64, fits, up, down, lt, le, mul, div, of_bits}
 use lib.Ieee.Positive.{positive, above, above_of_le, between, first_pos, le_trans_positive, le→cross}
+use lib.Ieee.Scale.{finite as bounded}
 use Rattle.loops.specs.Figures.{nought}
 use Rattle.std.specs.Prelude.{Option, Some, None}
 use Rattle.std.specs.Bool.{then_some}
 use Rattle.std.specs.Option.{MatchOption, ForSome}
 use Rattle.loops.proofs.Bools.{unequal, is, no}
-use Rattle.loops.proofs.Order.{bounded, bounded_real, le_of_lt, lt_of_not_le}
+use Rattle.loops.proofs.Order.{bounded_real, le_of_lt, lt_of_not_le}
 use Rattle.loops.proofs.Real.{positive_of}
 use Rattle.loops.proofs.Signs.{mul_bounded}
 use Rattle.root.specs.Root.{root}

@@ -37,7 +37,8 @@ use Rattle.join_defs.proofs.Levels.{levels_same}
 use Rattle.join_theorems.specs.Apart.{AnswersApart}
 use Rattle.join_theorems.specs.Calls.{fronts, case_in, Joined}
 use Rattle.join_theorems.proofs.Within.{second_at}
-use Rattle.join_theorems.proofs.Accepted.{Joinable, joinable, all_accepted}
+use Rattle.join_defs.proofs.Faults.{Joinable, joinable}
+use Rattle.join_theorems.proofs.Accepted.{all_accepted}
 use Rattle.join_theorems.proofs.Apart.{answers_apart}
 use Rattle.std.specs.Prelude.{Err, Ok}
 

@@ -35,7 +35,8 @@ use Rattle.join_defs.proofs.Levels.{levels_same}
 use Rattle.join_defs.proofs.Tables.{within, sheet_are}
 use Rattle.join_theorems.specs.Calls.{fronts, case_in}
 use Rattle.join_theorems.proofs.Within.{second_at}
-use Rattle.join_theorems.proofs.Accepted.{Joinable, all_accepted}
+use Rattle.join_defs.proofs.Faults.{Joinable}
+use Rattle.join_theorems.proofs.Accepted.{all_accepted}
 use Rattle.join_theorems.proofs.Calls.{laid}
 use Rattle.std.specs.Prelude.{Ok}
 

@@ -20,7 +20,7 @@ use Rattle.acceptance.specs.Check.{answer_of}
 use Rattle.acceptance.specs.Check as one_case
 use Rattle.acceptance.proofs.Callers.{fault_is, none_is, tables_of_lem, refused_by_lem, passed_by_lem}
 use Rattle.join_defs.specs.Districts.{same_ladder, sums_ok, alike, or_else, join_fault}
-use Rattle.join_defs.specs.Joining.{case_as}
+use Rattle.case_defs.specs.Cases.{case_as}
 use Rattle.join_defs.proofs.Faults.{joinable as parted}
 use Rattle.join_defs.proofs.Levels.{levels_same}
 use Rattle.join.specs.Joins.{Raises, Rowed, Summed, heads_alike, check_of}

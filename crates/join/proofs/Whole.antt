@@ -16,7 +16,8 @@ use Rattle.casefile_defs.proofs.Whole.{Sizes, sizes}
 use Rattle.plan_defs.specs.Case.{Case, levels}
 use Rattle.join_defs.specs.Columns.{figures, counts, joined_sheet}
 use Rattle.join_defs.specs.Districts.{joined_case, join_fault}
-use Rattle.join_defs.specs.Joining.{case_as, header_of, laid_out, Outcome, outcome, joined_by, join_cases}
+use Rattle.case_defs.specs.Cases.{case_as}
+use Rattle.join_defs.specs.Joining.{header_of, laid_out, Outcome, outcome, joined_by, join_cases}
 use Rattle.join_defs.proofs.Tables.{sheet_are, filled_tables}
 use Rattle.join.specs.Joins.{headers_of, check_of}
 use Rattle.join.proofs.Refusals.{Joinable, refused_is}

@@ -14,7 +14,8 @@ use Rattle.casefile_defs.specs.declared.Header.{Header}
 use Rattle.plan_defs.specs.Case.{Case, rows_of}
 use Rattle.join_defs.specs.Columns.{counts}
 use Rattle.join_defs.specs.Districts.{joined_row, joined_case, sums_ok}
-use Rattle.join_defs.specs.Joining.{case_as, sheet_of, join_cases}
+use Rattle.case_defs.specs.Cases.{case_as}
+use Rattle.join_defs.specs.Joining.{sheet_of, join_cases}
 
 -- 138 and 230 kV
 abbrev low : Float

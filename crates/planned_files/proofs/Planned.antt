@@ -11,11 +11,11 @@ use Rattle.loops.proofs.Fronts.{front_replicate}
 use Rattle.casefile_defs.specs.Tables.{Places}
 use Rattle.casefile_defs.specs.declared.Header.{Header}
 use Rattle.casefile_defs.specs.Bounds.{most_buses, most_corridors, most_generators, most_levels}
-use Rattle.cases.specs.Cases.{fronts}
-use Rattle.plan_defs.specs.Case.{Case, surveyed}
+use Rattle.case_defs.specs.Cases.{case_in}
+use Rattle.plan_defs.specs.Case.{Case}
 use Rattle.plan_defs.specs.Outcome.{Slices, slices, work_places, cleared, outcome, outcome_if, plan_corridors}
 use Rattle.plan_theorems.proofs.Outcomes.{lengths_ok_lem, cleared_lengths}
-use Rattle.planned_files.specs.Files.{case_in, results, results_of, plan_of, filed, zeros}
+use Rattle.planned_files.specs.Files.{results, results_of, plan_of, filed, zeros}
 use Rattle.planned_files.specs.declared.file.Results.{Results}
 use Rattle.std.specs.Prelude.{Result}
 use Rattle.plan_defs.specs.declared.CorridorPlan.{CorridorPlan}
@@ -70,16 +70,6 @@ as_planned c target l r f e =
     (e
     ∙ ap (plan_corridors c target) (lent_cleared c f)
     ∙ ap (λ (b : Bool). outcome_if b c target (cleared c)) (lengths_ok_lem c (cleared c) (cleared_lengths c)))
-
--- ---- the case of tables, by the parts of them that hold its records
-abbrev case_as : Header → Places → Case
-case_as h p =
-    surveyed h.mode h.buses h.corridors h.generators h.above h.requested p.ladder p.tier p.reading p.weight p.bus p.slack p.pmin p.pmax p.c1 p.c2 p.a p.b
-    p.circuits p.length_km p.share p.cap p.sheet
-
-pub of_parts : (h : Header) (p : Places) (r : Result CorridorPlan Refusal) (l : Slices) (q : Places) (z : Slices) → q ≡ fronts h p
-    → outcome r l ≡ plan_corridors (case_as h q) h.target z → outcome r l ≡ plan_corridors (case_in h p) h.target z
-of_parts h p r l q z e d = d ∙ ap (λ (x : Places). plan_corridors (case_as h x) h.target z) e
 
 -- ---- a file whose results were zeros before planning, by what came back in the first places of each array
 same_results : {a₀ a : List ℕ} {b₀ b c₀ c : List Float} {d₀ d e₀ e f₀ f : List ℕ} {g₀ g h₀ h : List Float} {i₀ i j₀ j : List ℕ} {k₀ k : List Float} (r : Result CorridorPlan Refusal)

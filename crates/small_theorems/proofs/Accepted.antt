@@ -16,7 +16,8 @@ use Rattle.plan_defs.specs.Accept.{case_fault}
 use Rattle.small.specs.Networks.{bits, numbered, all_places, buses_at, number_at, network_at}
 use Rattle.small.specs.Tables.{chosen, header_of, columns_of, header_at}
 use Rattle.small_theorems.specs.Inverse.{binary, first_place, place_for}
-use Rattle.small_theorems.specs.Held.{case_with, joins, network_with}
+use Rattle.case_defs.specs.Cases.{case_as}
+use Rattle.small_theorems.specs.Held.{joins, network_with}
 
 abbrev passed : Option Refusal → Bool
 passed none = true
@@ -36,14 +37,14 @@ unfoldable sound : ℕ → Bool
 sound i =
     let h = header_at i in
     let p = columns_of (network_at i) in
-    passed (case_fault (case_with h p) h.target) && (counts_ok h && (low p.a && (low p.b && eqb (place_for (network_with h p)) i)))
+    passed (case_fault (case_as h p) h.target) && (counts_ok h && (low p.a && (low p.b && eqb (place_for (network_with h p)) i)))
 
 all_sound : first sound all_places 0 ≡ all_places
 unfolding sound first tab buses_at number_at network_at numbered bits chosen header_of columns_of binary first_place place_for joins network_with Rattle.plan_defs.specs.Case.rows_of Rattle.plan_defs.specs.Case.row_at Rattle.plan_defs.specs.Accept.lengths_ok Rattle.plan_defs.specs.Accept.counts_ok Rattle.plan_defs.specs.Accept.level_ok Rattle.plan_defs.specs.Accept.bus_ok Rattle.plan_defs.specs.Accept.generator_ok Rattle.plan_defs.specs.Accept.corridor_sound Rattle.plan_defs.specs.Accept.row_ok Rattle.plan_defs.specs.Accept.tables_fault Rattle.plan_defs.specs.Accept.case_fault lib.Ieee.add lib.Ieee.mul lib.Ieee.lt lib.Ieee.le lib.Ieee.eq lib.Ieee.neg lib.Ieee.of_bits lib.Ieee.round
 all_sound = refl
 
 pub record Sound (i : ℕ) : Type 0 where
-  pub accepted : case_fault (case_with (header_at i) (columns_of (network_at i))) (header_at i).target ≡ none
+  pub accepted : case_fault (case_as (header_at i) (columns_of (network_at i))) (header_at i).target ≡ none
   pub counts : counts_ok (header_at i) ≡ true
   pub a : low (columns_of (network_at i)).a ≡ true
   pub b : low (columns_of (network_at i)).b ≡ true

@@ -1,5 +1,5 @@
 -- What planning says and leaves in slices that were zero is what the case's ending holds.
-use Prim.Native.Nat.{ℕ, ◌-◌, ◌≤◌}
+use Prim.Native.Nat.{ℕ, ◌+◌, ◌-◌, ◌*◌, ◌≤◌}
 use mathlib.Core.Bool.{Bool}
 use mathlib.Core.List.{List, ◌++◌}
 use mathlib.Core.Path.{◌≡◌, sym, ap, subst, ◌∙◌}
@@ -13,6 +13,7 @@ use Rattle.casefile_defs.specs.declared.Header.{Header}
 use Rattle.casefile_defs.specs.Bounds.{most_buses, most_corridors, most_generators, most_levels}
 use Rattle.case_defs.specs.Cases.{case_in}
 use Rattle.plan_defs.specs.Case.{Case}
+use Rattle.plan_defs.specs.Constants.{work_rows}
 use Rattle.plan_defs.specs.Outcome.{Slices, slices, work_places, cleared, outcome, outcome_if, plan_corridors}
 use Rattle.plan_theorems.proofs.Outcomes.{lengths_ok_lem, cleared_lengths}
 use Rattle.planned_files.specs.Files.{results, results_of, plan_of, filed, zeros}
@@ -33,7 +34,7 @@ back n k v ys h e = take_at ys (drop (n - 0) (replicate k v)) n (e ∙ ap length
 -- ---- the slices, as they are lent
 -- room for the work of a case
 abbrev pub most_work : ℕ
-most_work = 7680
+most_work = work_rows * (most_buses + most_corridors + most_generators)
 
 pub record Fits (c : Case) : Type 0 where
   pub buses : c.buses ≤ most_buses
@@ -79,13 +80,26 @@ same_results r p1 p2 p3 p4 p5 p6 p7 p8 p9 p10 p11 = cc
 
 module _ (h : Header) (p : Places) (said : Result CorridorPlan Refusal) (l : Slices) where
   abbrev lent_of : Results → Slices
-  lent_of r = slices (take (h.corridors - 0) r.circuits) (take (h.corridors - 0) r.flow) (take (h.corridors - 0) r.rate) (take (h.corridors - 0) r.before) (take (h.corridors - 0) r.order) (take (h.corridors - 0) r.cap) (take (h.generators - 0) r.mw) (take (h.buses - 0) r.angle) (take (h.buses - 0) r.tier) (take (h.buses - 0) r.ground) (take (h.above - 0) r.added) (part (work_places (case_in h p)) most_work nought) (part (work_places (case_in h p)) most_work 0)
+  lent_of r =
+      slices (take (h.corridors - 0) r.circuits) (take (h.corridors - 0) r.flow) (take (h.corridors - 0) r.rate) (take (h.corridors - 0) r.before)
+      (take (h.corridors - 0) r.order) (take (h.corridors - 0) r.cap) (take (h.generators - 0) r.mw) (take (h.buses - 0) r.angle) (take (h.buses - 0) r.tier)
+      (take (h.buses - 0) r.ground) (take (h.above - 0) r.added) (part (work_places (case_in h p)) most_work nought) (part (work_places (case_in h p)) most_work 0)
 
   abbrev Planned : Results → Type 0
   Planned r =
-      length l.circuits ≡ length (take (h.corridors - 0) r.circuits) → length l.flow ≡ length (take (h.corridors - 0) r.flow) → length l.rate ≡ length (take (h.corridors - 0) r.rate) → length l.before ≡ length (take (h.corridors - 0) r.before) → length l.order ≡ length (take (h.corridors - 0) r.order) → length l.cap ≡ length (take (h.corridors - 0) r.cap) → length l.mw ≡ length (take (h.generators - 0) r.mw) → length l.angle ≡ length (take (h.buses - 0) r.angle) → length l.tier ≡ length (take (h.buses - 0) r.tier) → length l.ground ≡ length (take (h.buses - 0) r.ground) → length l.added ≡ length (take (h.above - 0) r.added)
+      length l.circuits ≡ length (take (h.corridors - 0) r.circuits) → length l.flow ≡ length (take (h.corridors - 0) r.flow)
+      → length l.rate ≡ length (take (h.corridors - 0) r.rate) → length l.before ≡ length (take (h.corridors - 0) r.before)
+      → length l.order ≡ length (take (h.corridors - 0) r.order) → length l.cap ≡ length (take (h.corridors - 0) r.cap)
+      → length l.mw ≡ length (take (h.generators - 0) r.mw) → length l.angle ≡ length (take (h.buses - 0) r.angle)
+      → length l.tier ≡ length (take (h.buses - 0) r.tier) → length l.ground ≡ length (take (h.buses - 0) r.ground)
+      → length l.added ≡ length (take (h.above - 0) r.added)
       → outcome said l ≡ plan_corridors (case_in h p) h.target (lent_of r)
-      → filed h (outcome said (results (take h.corridors (l.circuits ++ drop (h.corridors - 0) r.circuits)) (take h.corridors (l.flow ++ drop (h.corridors - 0) r.flow)) (take h.corridors (l.rate ++ drop (h.corridors - 0) r.rate)) (take h.corridors (l.before ++ drop (h.corridors - 0) r.before)) (take h.corridors (l.order ++ drop (h.corridors - 0) r.order)) (take h.corridors (l.cap ++ drop (h.corridors - 0) r.cap)) (take h.generators (l.mw ++ drop (h.generators - 0) r.mw)) (take h.buses (l.angle ++ drop (h.buses - 0) r.angle)) (take h.buses (l.tier ++ drop (h.buses - 0) r.tier)) (take h.buses (l.ground ++ drop (h.buses - 0) r.ground)) (take h.above (l.added ++ drop (h.above - 0) r.added))))
+      → filed h (outcome said (results (take h.corridors (l.circuits ++ drop (h.corridors - 0) r.circuits))
+      (take h.corridors (l.flow ++ drop (h.corridors - 0) r.flow)) (take h.corridors (l.rate ++ drop (h.corridors - 0) r.rate))
+      (take h.corridors (l.before ++ drop (h.corridors - 0) r.before)) (take h.corridors (l.order ++ drop (h.corridors - 0) r.order))
+      (take h.corridors (l.cap ++ drop (h.corridors - 0) r.cap)) (take h.generators (l.mw ++ drop (h.generators - 0) r.mw))
+      (take h.buses (l.angle ++ drop (h.buses - 0) r.angle)) (take h.buses (l.tier ++ drop (h.buses - 0) r.tier))
+      (take h.buses (l.ground ++ drop (h.buses - 0) r.ground)) (take h.above (l.added ++ drop (h.above - 0) r.added))))
       ≡ filed h (plan_of (case_in h p) h.target)
 
   in_zeros : Fits (case_in h p) → Planned zeros

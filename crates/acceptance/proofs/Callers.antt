@@ -1,6 +1,6 @@
 -- What a caller may use: the mode is read by no test, and what a refusal and an answer say of the case.
 use Prim.Native.Nat.{ℕ}
-use mathlib.Core.Bool.{Bool, true, false, cond}
+use mathlib.Core.Bool.{Bool, true, cond}
 use mathlib.Core.Option.{Option, none, some}
 use mathlib.Core.Path.{◌≡◌, refl, sym, ap, ◌∙◌}
 use Rattle.loops.proofs.Chains.{only, err_not_ok, some_not_none}

@@ -1,7 +1,7 @@
 -- What a caller may take from `dc_angles`: which requests pass, what an answer holds, and that it depends on nothing but the request.
 -- `check_of` is taken apart test by test; the angles' laws are the solve's.
 use Prim.Native.Nat.{ℕ, ◌*◌, ◌+◌, ◌<◌, ◌≤◌}
-use mathlib.Core.Bool.{Bool, true, false, cond, ◌&&◌}
+use mathlib.Core.Bool.{Bool, true, false, ◌&&◌}
 use mathlib.Core.Path.{◌≡◌, refl}
 use mathlib.Core.List.{List}
 use Rattle.std.specs.Prelude.{Err, Ok, Result}
@@ -19,7 +19,6 @@ use Rattle.loops.proofs.Scan.{all_pass, pass_all}
 use Rattle.loops.proofs.Zeros.{void_zero}
 use Rattle.refusal.specs.Reply.{Reply, answered, no_refusal, refused}
 use Rattle.refusal.specs.declared.Refusal.{Refusal}
-use Rattle.refusal.specs.declared.Refusal.TheVariants.{Length, Count, Edge, Ground}
 use Rattle.angles_defs.specs.Network.{zeros}
 use Rattle.angles_defs.specs.Operation.{Request, lengths_ok, counts_ok, edge_ok, ground_ok, first_edge, first_ground, check_of, finite_at, finish_if, finish, answer_to, solve_of, solution_of, dc_angles, work_places, most, Outcome}
 use Rattle.angles_defs.specs.declared.Solution.{Solution}

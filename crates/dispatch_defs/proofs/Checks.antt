@@ -1,7 +1,7 @@
 -- The ways out of `check`, and what a request that passes it has.
 -- Each test is rewritten to the side on which it fell; the four tests together are taken apart once, in `passes`.
 use Prim.Native.Nat.{ℕ, ◌≤◌}
-use mathlib.Core.Bool.{Bool, true, false, cond, ◌&&◌}
+use mathlib.Core.Bool.{Bool, true, false, ◌&&◌}
 use mathlib.Core.Path.{◌≡◌, refl, sym, ◌∙◌}
 use native.Mathlib.Nat.{le_of_eq}
 use borrow.Author.Tests.{eqb-true, eq-eqb, ltb-false, leb-true, le-ltb, le-leb}
@@ -11,8 +11,7 @@ use lib.Ieee.{Float}
 use Rattle.loops.proofs.Bools.{both, and_of}
 use Rattle.loops.proofs.Chains.{only, after, err_not_ok}
 use Rattle.loops.proofs.Scan.{all_pass, pass_all}
-use Rattle.refusal.specs.declared.Refusal.{Refusal}
-use Rattle.refusal.specs.declared.Refusal.TheVariants.{Length, Count, Generator, Demand}
+use Rattle.refusal.specs.declared.Refusal.TheVariants.{Length}
 use Rattle.dispatch_defs.specs.Units.{Units, Even, count, unit_ok_at}
 use Rattle.dispatch_defs.specs.Operation.{lengths_ok, most_units, demand_ok, faulty_unit, check_of}
 use Rattle.dispatch_defs.specs.Limits.{Accepted}

@@ -1,6 +1,6 @@
 -- What it says of two cases that joining them has no fault.
 use Prim.Native.Nat.{ℕ}
-use mathlib.Core.Bool.{Bool, true, false, cond}
+use mathlib.Core.Bool.{true}
 use mathlib.Core.Option.{Option, none, some}
 use mathlib.Core.Path.{◌≡◌, refl}
 use Rattle.loops.proofs.Chains.{only, some_not_none}

@@ -10,10 +10,10 @@ use borrow.Author.Tests.{ltb-true, ltb-false, lt-ltb, le-ltb, le-leb, eq-eqb}
 use lib.Dec.{ltb, leb, eqb}
 use lib.ListN.{length, get_or, length-append, length-map}
 use Rattle.loops.specs.Loops.{first}
-use Rattle.loops.proofs.Bools.{both, and_of, unequal}
+use Rattle.loops.proofs.Bools.{both, and_of}
 use Rattle.loops.proofs.Scan.{pass_all}
 use Rattle.refusal.specs.declared.Refusal.{Refusal}
-use Rattle.refusal.specs.declared.Refusal.TheVariants.{Length, Count, Level, Bus, Generator, Corridor, Row as SheetRow, Districts}
+use Rattle.refusal.specs.declared.Refusal.TheVariants.{Length, Count, Level, Bus, Generator, Corridor, Row as SheetRow}
 use Rattle.sheets.specs.Sheet.{row_figures, line_corridor, line_level}
 use Rattle.sheets.proofs.Layouts.{line_corridor_lem, line_level_lem}
 use Rattle.leaders.specs.Operation.{corridor_ok}
@@ -21,7 +21,7 @@ use Rattle.plan_defs.specs.Constants.{most_buses, most_corridors, most_generator
 use Rattle.plan_defs.specs.Case.{Case, levels, end_a, end_b, row_at}
 use Rattle.plan_defs.specs.Accept.{lengths_ok, counts_ok, level_ok, bus_ok, generator_ok, corridor_sound, row_sound, row_ok, first_fault, tables_fault, case_fault}
 use Rattle.plan_defs.proofs.Accepted.{Accepted, accepted, row_sound_lem, bus_below, end_a_lem, end_b_lem}
-use Rattle.join_defs.specs.Districts.{moved, joined_case, sums_ok, alike, join_fault}
+use Rattle.join_defs.specs.Districts.{moved, joined_case, sums_ok, join_fault}
 use Rattle.join_defs.proofs.Faults.{Joinable, joinable}
 use Rattle.join_defs.proofs.Levels.{levels_same}
 use Rattle.join_theorems.proofs.Lists.{eqb_moved}

@@ -1,7 +1,7 @@
 -- What the calls say and leave is what the definition says of the two files; and the joined tables can be written.
 use Prim.Native.Nat.{ℕ, ◌+◌}
 use mathlib.Core.List.{List}
-use mathlib.Core.Path.{◌≡◌, refl, sym, ap, ◌∙◌, subst}
+use mathlib.Core.Path.{◌≡◌, sym, ap, ◌∙◌, subst}
 use lib.ListN.{take}
 use Rattle.refusal.specs.Reply.{answered, refused_by}
 use Rattle.refusal.specs.declared.Refusal.{Refusal}

@@ -1,9 +1,9 @@
 -- The refusals in order, and what a request that passes has.
 -- Each law is the definition with its tests decided.
 use Prim.Native.Nat.{ℕ, ◌<◌, ◌≤◌}
-use mathlib.Core.Bool.{Bool, true, false, cond, ◌&&◌}
+use mathlib.Core.Bool.{Bool, true, ◌&&◌}
 use mathlib.Core.List.{List}
-use mathlib.Core.Path.{◌≡◌, refl, sym, ap, ◌∙◌, subst}
+use mathlib.Core.Path.{◌≡◌, sym, ap, ◌∙◌, subst}
 use borrow.Author.Tests.{eqb-true, ltb-true, ltb-false, leb-true, le-ltb}
 use lib.Dec.{ltb, leb, eqb}
 use lib.ListN.{length, get_or}
@@ -11,7 +11,6 @@ use Rattle.loops.proofs.Bools.{both}
 use Rattle.loops.proofs.Chains.{only, after, err_not_ok}
 use Rattle.loops.proofs.Scan.{all_pass}
 use Rattle.refusal.specs.declared.Refusal.{Refusal}
-use Rattle.refusal.specs.declared.Refusal.TheVariants.{Length, Count, Corridor}
 use Rattle.leaders.specs.Leaders.{leaders_of}
 use Rattle.leaders.specs.Operation.{lengths_ok, counts_ok, corridor_ok_at, faulty_corridor, check_of, Ends, outcome, led_by, led_outcome}
 use Rattle.std.specs.Prelude.{Err}

@@ -1,5 +1,5 @@
 -- The tests of module check: a product that is asked without being made, a level by its place, and what passes. Assumes nothing.
-use Rattle.std.proofs.Common.{◌≡◌, ℕ, ◌*◌, ◌<◌, ◌≤◌, Bool, true, false, cond, ◌&&◌, T, eqb, ltb, List, length, refl, arith, ltb-false, eqb-true}
+use Rattle.std.proofs.Common.{◌≡◌, ℕ, ◌*◌, ◌<◌, ◌≤◌, Bool, true, ◌&&◌, T, eqb, ltb, List, length, refl, arith, ltb-false, eqb-true}
 use lib.Ieee.{Float, le, of_bits}
 use lib.Ieee.Positive.{num, den, positive, le→cross, between}
 use Rattle.loops.specs.Figures.{inside}
@@ -7,11 +7,11 @@ use Rattle.loops.proofs.Bools.{both, is}
 use Rattle.loops.proofs.Chains.{only, after, err_not_ok}
 use Rattle.loops.proofs.Scan.{all_pass}
 use Rattle.refusal.specs.declared.Refusal.{Refusal}
-use Rattle.refusal.specs.declared.Refusal.TheVariants.{Length, Count, Level, Corridor, Spread as Width}
+use Rattle.refusal.specs.declared.Refusal.TheVariants.{Level, Corridor, Spread as Width}
 use Rattle.line_defs.specs.Bounds.{Spread}
 use Rattle.line_defs.specs.Rows.{counts_ok, sheet_figures}
 use Rattle.line_defs.specs.Request.{lengths_ok, level_ok, length_ok, spread_ok, quarter, four, faulty, fault_in, check_of, Sound}
-use Rattle.std.specs.Prelude.{Err, Result}
+use Rattle.std.specs.Prelude.{Result}
 use Rattle.refusal.specs.Reply.{no_refusal}
 
 -- ---- a spread that passes lies from 0.25 to 4

@@ -16,7 +16,7 @@ use lib.Ieee.{Float, lt, le}
 use Rattle.loops.specs.Figures.{at, plus, nought, infinity}
 use Rattle.loops.proofs.Sums.{unsigned, plus_unsigned, nought_least, infinity_above, le_refl, lt_alike}
 use Rattle.placement_defs.specs.Request.{Net}
-use Rattle.placement_defs.specs.Distance.{Network, Labels, labels, rest, candidate, settled, reached, seeded, searched, distances, distances_from, blank}
+use Rattle.placement_defs.specs.Distance.{Network, Labels, labels, rest, settled, reached, seeded, searched, distances, distances_from, blank}
 use Rattle.placement_defs.specs.Support.{support_km, farther, farthest_to, if_far, next_by, next_of}
 use Rattle.placement_defs.specs.Chain.{Chain, here, along, Source}
 use Rattle.placement.proofs.Chains.{chain_as, nought_unsigned, infinity_unsigned, limit_unsigned, length_at}

@@ -1,7 +1,7 @@
 -- What a request that passes the checks has.
 -- The tests are taken apart in their order; where no row of a table is the first faulty one, each row passes.
-use mathlib.Core.Path.{◌≡◌, refl, sym, ◌∙◌}
-use mathlib.Core.Bool.{Bool, true, false, cond, ◌&&◌}
+use mathlib.Core.Path.{◌≡◌, sym, ◌∙◌}
+use mathlib.Core.Bool.{Bool, true, ◌&&◌}
 use Prim.Native.Nat.{ℕ, ◌<◌, ◌≤◌}
 use borrow.Author.Tests.{eqb-true, leb-true, ltb-true, ltb-false, lt-ltb, le-ltb}
 use native.Mathlib.Omega.{arith}
@@ -11,7 +11,7 @@ use Rattle.loops.proofs.Bools.{both}
 use Rattle.loops.proofs.Chains.{only, after, err_not_ok}
 use Rattle.loops.proofs.Scan.{all_pass, fault_some, fault_passed}
 use Rattle.loops.specs.Loops.{first, fault}
-use Rattle.refusal.specs.declared.Refusal.TheVariants.{Length, Count, Bus, Generator, Corridor}
+use Rattle.refusal.specs.declared.Refusal.TheVariants.{Bus, Generator, Corridor}
 use Rattle.placement_defs.specs.Request.{Request, Net, Units, lengths_ok, counts_ok, load_at, bus_ok, corridor_at, first_load, first_generator, first_corridor, faulty_row, check_of}
 use Rattle.std.specs.Prelude.{Err, Result, Some, None}
 use Rattle.refusal.specs.declared.Refusal.{Refusal}

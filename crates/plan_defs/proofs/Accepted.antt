@@ -3,7 +3,7 @@
 use Prim.Native.Nat.{ℕ, zero, suc, ◌+◌, ◌*◌, ◌≤◌, ◌<◌}
 use mathlib.Core.Bool.{Bool, true, false, cond, ◌&&◌}
 use mathlib.Core.List.{List}
-use mathlib.Core.Option.{Option, none, some}
+use mathlib.Core.Option.{Option, none}
 use mathlib.Core.Path.{◌≡◌, refl, sym, ◌∙◌, subst}
 use native.Mathlib.Nat.{mul_comm}
 use native.Mathlib.Omega.{arith}
@@ -19,7 +19,7 @@ use Rattle.loops.proofs.Rows.{row_fits}
 use Rattle.loops.proofs.Scan.{all_pass}
 use Rattle.loops.proofs.Tab.{get_tab}
 use Rattle.refusal.specs.declared.Refusal.{Refusal}
-use Rattle.refusal.specs.declared.Refusal.TheVariants.{Length, Count, Level, Bus, Generator, Corridor, Row}
+use Rattle.refusal.specs.declared.Refusal.TheVariants.{Level, Bus, Generator, Corridor, Row}
 use Rattle.sheets.specs.Sheet.{row_figures, row_place, line_index, line_corridor}
 use Rattle.sheets.proofs.Layouts.{parts}
 use Rattle.leaders.specs.Operation.{Ends, corridor_ok}

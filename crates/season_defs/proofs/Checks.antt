@@ -1,12 +1,12 @@
 -- The last two refusals of a plan that is fed, in order: each law is the definition with its tests decided. What a plan that passes has, and the season that it leaves.
 use Prim.Native.Nat.{ℕ, ◌≤◌, ◌<◌}
-use mathlib.Core.Bool.{Bool, true, false, cond}
-use mathlib.Core.Path.{◌≡◌, refl, ap}
+use mathlib.Core.Bool.{true, false}
+use mathlib.Core.Path.{◌≡◌, ap}
 use borrow.Author.Tests.{eqb-true, eq-eqb, leb-true, le-leb, ltb-true, lt-ltb, le-ltb}
 use lib.Dec.{eqb, leb, ltb}
 use Rattle.loops.proofs.Chains.{only, err_not_ok}
 use Rattle.refusal.specs.declared.Refusal.{Refusal}
-use Rattle.refusal.specs.declared.Refusal.TheVariants.{Length, Count, Uneven, SeasonFull}
+use Rattle.refusal.specs.declared.Refusal.TheVariants.{Uneven, SeasonFull}
 use Rattle.season_defs.specs.Plans.{Draft}
 use Rattle.season_defs.specs.Feeding.{most_plans, most_corridors, even_with, check_of, with_plan, outcome, fed_by, feed, said}
 use Rattle.season_defs.specs.declared.Season.{Season}

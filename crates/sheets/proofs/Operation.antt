@@ -1,8 +1,7 @@
 -- What the check passes, and the operation with its check decided. Assumes nothing.
 use Prim.Native.Nat.{ℕ, ◌*◌, ◌/◌, ◌<◌}
-use mathlib.Core.Bool.{Bool, true, false, cond}
 use mathlib.Core.List.{List}
-use mathlib.Core.Path.{◌≡◌, refl}
+use mathlib.Core.Path.{◌≡◌}
 use native.Mathlib.Omega.{arith}
 use borrow.Author.Tests.{eqb-true}
 use lib.Dec.{eqb}
@@ -11,8 +10,7 @@ use lib.Ieee.{Float}
 use Rattle.loops.proofs.Bools.{both}
 use Rattle.loops.proofs.Chains.{only, err_not_ok}
 use Rattle.refusal.specs.declared.Refusal.{Refusal}
-use Rattle.refusal.specs.declared.Refusal.TheVariants.{Length, Count}
-use Rattle.sheets.specs.Request.{lengths_ok, counts_ok, check_of, Sized, outcome, laid_by, lay_out}
+use Rattle.sheets.specs.Request.{lengths_ok, check_of, Sized, outcome, laid_by, lay_out}
 use Rattle.sheets.specs.Sheet.{row_figures, line_of, by_level}
 use Rattle.sheets.proofs.Layouts.{some_row, line_inside}
 use Rattle.std.specs.Prelude.{Err}

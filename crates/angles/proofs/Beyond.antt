@@ -7,7 +7,7 @@ use native.Mathlib.Omega.{arith}
 use borrow.Author.Tests.{ltb-true, lt-ltb}
 use lib.Dec.{T}
 use lib.Ieee.{Float, nan, inf, fin, binary64, fits, up, down, lt, le, mul, div, of_bits}
-use lib.Ieee.Positive.{positive, above, above_of_le, between, first_pos, le_trans_positive, le→cross}
+use lib.Ieee.Positive.{positive, above, above_of_le, between, first_pos, le_trans_positive, le→cross, positive-finite}
 use Rattle.loops.specs.Figures.{nought}
 use Rattle.std.specs.Prelude.{Option, Some, None}
 use Rattle.std.specs.Bool.{then_some}
@@ -102,11 +102,11 @@ root_beyond c s bound f g b h k l = go s g l (above_of_le (mul binary64 c c) s p
     pb = bound_positive bound c b h
 
     pc : T (positive c)
-    pc = positive_of c (above_of_le bound c pb (is (le_of_lt bound c h))) (mul_bounded binary64 c c (positive_bounded (mul binary64 c c) pm)).0
+    pc = positive_of c (above_of_le bound c pb (is (le_of_lt bound c h))) (mul_bounded binary64 c c (positive-finite (mul binary64 c c) pm)).0
 
     finite : (s : Float) → T (positive (root s)) → T (le c (root s)) → (d : Bool) → le (root s) bound ≡ d → lt bound (root s) ≡ true
     finite s p a true e = absurd (clash bound c (root s) pb (is h) (is (le_of_lt bound c h)) a (is e))
-    finite s p a false e = lt_of_not_le (root s) bound (bounded_real (root s) (positive_bounded (root s) p)) (bounded_real bound (positive_bounded bound pb)) e
+    finite s p a false e = lt_of_not_le (root s) bound (bounded_real (root s) (positive-finite (root s) p)) (bounded_real bound (positive-finite bound pb)) e
 
     go : (s : Float) → T (fits binary64 s) → lt (mul binary64 c c) s ≡ true → T (above s) → lt bound (root s) ≡ true
     go nan g l a = absurd a

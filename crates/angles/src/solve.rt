@@ -79,7 +79,11 @@ fn step(
     })
 }
 
-// At most 50 iterations for each bus and 100 more.
+// The most iterations: so many for each bus, and so many more.
+const STEPS_PER_BUS: usize = 50;
+
+const MORE_STEPS: usize = 100;
+
 fn iterate(grid: &Grid, w: &mut [f64], bound: Bound, first: Carried) -> Solution
     requires { (length w.old ≡ 8 * grid.now.n) × (grid.now.n ≤ 256) × (first.steps ≡ 0) }
     ensures { solved_in (rows 8 grid.now.n w.new) result
@@ -87,7 +91,7 @@ fn iterate(grid: &Grid, w: &mut [f64], bound: Bound, first: Carried) -> Solution
         (go (state_in (rows 8 grid.now.n w.old) first)) }
 {
     let mut carried = first;
-    for _turn in 0..50 * grid.n + 100 {
+    for _turn in 0..STEPS_PER_BUS * grid.n + MORE_STEPS {
         match step(grid, w, bound, carried) {
             ControlFlow::Break(solution) => return solution,
             ControlFlow::Continue(next) => carried = next,

@@ -1,7 +1,7 @@
 -- What a caller may take from `dc_angles`: which requests pass, what an answer holds, and that it depends on nothing but the request.
 -- `check_of` is taken apart test by test; the angles' laws are the solve's.
 use Prim.Native.Nat.{ℕ, ◌*◌, ◌+◌, ◌<◌, ◌≤◌}
-use mathlib.Core.Bool.{Bool, true, false, cond, ◌&&◌}
+use mathlib.Core.Bool.{Bool, true, false, ◌&&◌}
 use mathlib.Core.Path.{◌≡◌, refl}
 use mathlib.Core.List.{List}
 use Rattle.std.specs.Prelude.{Err, Ok, Result}
@@ -13,12 +13,12 @@ use lib.ListN.{length, get_or}
 use Rattle.loops.specs.Figures.{at, nought, finite}
 use Rattle.loops.specs.Loops.{first}
 use Rattle.loops.proofs.Bools.{both, and_of, unequal}
+use Rattle.loops.proofs.Chains.{only, after, err_not_ok}
 use Rattle.loops.proofs.Order.{finite_bounded}
 use Rattle.loops.proofs.Scan.{all_pass, pass_all}
 use Rattle.loops.proofs.Zeros.{void_zero}
 use Rattle.refusal.specs.Reply.{Reply, answered, no_refusal, refused}
 use Rattle.refusal.specs.declared.Refusal.{Refusal}
-use Rattle.refusal.specs.declared.Refusal.TheVariants.{Length, Count, Edge, Ground}
 use Rattle.angles_defs.specs.Network.{zeros}
 use Rattle.angles_defs.specs.Operation.{Request, lengths_ok, counts_ok, edge_ok, ground_ok, first_edge, first_ground, check_of, finite_at, finish_if, finish, answer_to, solve_of, solution_of, dc_angles, work_places, most, Outcome}
 use Rattle.angles_defs.specs.declared.Solution.{Solution}
@@ -90,33 +90,24 @@ module _ (q : Request) (result work : ℕ) where
   pub sound_of : check_of q result work ≡ no_refusal → Sound q result work
   unfolding check_of
   sound_of h =
-      go (lengths_ok q result work) (counts_ok q.n q.m q.k) (ltb (first_edge q) q.m) (ltb (first_ground q) q.k) refl refl refl refl h
-    where
-      refused : {f : Refusal} → ◌≡◌ {A = Result (Unit {0}) Refusal} (Err f) no_refusal → ⊥
-      refused e = unequal cc
-
-      go : (a b c d : Bool) → lengths_ok q result work ≡ a → counts_ok q.n q.m q.k ≡ b → ltb (first_edge q) q.m ≡ c → ltb (first_ground q) q.k ≡ d
-          → cond a (cond b (cond c (Err (Edge (first_edge q))) (cond d (Err (Ground (first_ground q))) no_refusal)) (Err Count)) (Err Length) ≡ no_refusal
-          → Sound q result work
-      go false b c d ea eb ec ed e = absurd (refused e)
-      go true false c d ea eb ec ed e = absurd (refused e)
-      go true true true d ea eb ec ed e = absurd (refused e)
-      go true true false true ea eb ec ed e = absurd (refused e)
-      go true true false false ea eb ec ed e =
-          let E : (e : ℕ) → e < q.m → edge_ok q.n q.edges.from q.edges.to e ≡ true =
-          all_pass (edge_ok q.n q.edges.from q.edges.to) q.m (ltb-false (first_edge q) q.m ec) in
-          let G : (g : ℕ) → g < q.k → ground_ok q.n q.grounds g ≡ true =
-          all_pass (ground_ok q.n q.grounds) q.k (ltb-false (first_ground q) q.k ed) in
-          let C = counts_of eb in
-          record {
-            lengths = lengths_of ea;
-            buses = C.0;
-            edges = C.1;
-            grounds = C.2;
-            from_below = λ e l. ltb-true _ _ (both (ltb (get_or q.edges.from e 0) q.n) _ (E e l)).0;
-            to_below = λ e l. ltb-true _ _ (both (ltb (get_or q.edges.from e 0) q.n) _ (E e l)).1;
-            ground_below = λ g l. ltb-true _ _ (G g l);
-          }
+      let a = only (lengths_ok q result work) h err_not_ok in
+      let b = only (counts_ok q.n q.m q.k) a.1 err_not_ok in
+      let c = after (ltb (first_edge q) q.m) b.1 err_not_ok in
+      let d = after (ltb (first_ground q) q.k) c.1 err_not_ok in
+      let E : (e : ℕ) → e < q.m → edge_ok q.n q.edges.from q.edges.to e ≡ true =
+      all_pass (edge_ok q.n q.edges.from q.edges.to) q.m (ltb-false (first_edge q) q.m c.0) in
+      let G : (g : ℕ) → g < q.k → ground_ok q.n q.grounds g ≡ true =
+      all_pass (ground_ok q.n q.grounds) q.k (ltb-false (first_ground q) q.k d.0) in
+      let C = counts_of b.0 in
+      record {
+        lengths = lengths_of a.0;
+        buses = C.0;
+        edges = C.1;
+        grounds = C.2;
+        from_below = λ e l. ltb-true _ _ (both (ltb (get_or q.edges.from e 0) q.n) _ (E e l)).0;
+        to_below = λ e l. ltb-true _ _ (both (ltb (get_or q.edges.from e 0) q.n) _ (E e l)).1;
+        ground_below = λ g l. ltb-true _ _ (G g l);
+      }
 
   pub of_sound : Sound q result work → check_of q result work ≡ no_refusal
   unfolding check_of

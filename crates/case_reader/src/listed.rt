@@ -94,6 +94,9 @@ fn print_rows<W: Write>(to: &mut W, case: &Case, k: usize) -> io::Result<()>
     Ok(())
 }
 
+// The place of a row's basis.
+const BASIS: usize = ROW_FIGURES - 1;
+
 // A row's figures, the basis as the file's number of it.
 fn print_line<W: Write>(to: &mut W, row: &[f64]) -> io::Result<()>
     requires { length row.now ≡ row_figures }
@@ -102,6 +105,6 @@ fn print_line<W: Write>(to: &mut W, row: &[f64]) -> io::Result<()>
     let x = Figure(row[1]);
     let b = Figure(row[2]);
     let rate = Figure(row[3]);
-    let basis = u32::from(row[4] != 0.0);
+    let basis = u32::from(row[BASIS] != 0.0);
     writeln!(to, "LN {r} {x} {b} {rate} {basis}")
 }

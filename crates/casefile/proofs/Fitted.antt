@@ -5,10 +5,10 @@ use mathlib.Core.List.{List, [], ◌∷◌, ◌++◌, append_assoc}
 use mathlib.Core.Path.{◌≡◌, refl, sym, ap, ◌∙◌}
 use native.Mathlib.Nat.{mul-le-mul}
 use native.Mathlib.Omega.{arith}
-use lib.ListN.{length, take, drop, replicate, length-append, length-drop}
+use lib.ListN.{length, take, drop, replicate, length-append, length-drop, length-replicate}
 use lib.Seq.{take-append-add, length-take-le}
 use Rattle.loops.specs.Parts.{part, put}
-use Rattle.loops.proofs.Parts.{length_put}
+use Rattle.loops.proofs.Parts.{length_put, take_replicate}
 use Rattle.casefile_defs.specs.Bounds.{most_bytes}
 use Rattle.casefile_defs.specs.Layout.{spot}
 use Rattle.casefile_defs.specs.Moving.{weight_of, buses_as, file_as, fitted}
@@ -20,15 +20,6 @@ use Rattle.casefile.proofs.Copies.{put_more, weight_length, length_buses}
 
 abbrev pub zeros : ℕ → List ℕ
 zeros n = replicate n 0
-
-pub length_zeros : (n : ℕ) → length (zeros n) ≡ n
-length_zeros zero = refl
-length_zeros (suc n) = ap suc (length_zeros n)
-
-take_zeros : (q m : ℕ) → q ≤ m → take q (zeros m) ≡ zeros q
-take_zeros zero m h = refl
-take_zeros (suc q) zero h = absurd (omega arith)
-take_zeros (suc q) (suc m) h = ap (λ (l : List ℕ). 0 ∷ l) (take_zeros q m (omega arith))
 
 drop_zeros : (q m : ℕ) → drop q (zeros m) ≡ zeros (m - q)
 drop_zeros zero m = ap (λ (n : ℕ). zeros n) (let z : m ≡ m - zero = omega arith in z)
@@ -44,7 +35,7 @@ front_zeros zero m d h = let z : min (length d) zero ≡ zero = omega arith in r
 front_zeros (suc q) m [] h =
     let z : min zero (suc q) ≡ zero = omega arith in
     let y : suc q ≡ suc q - zero = omega arith in
-    take_zeros (suc q) m h ∙ ap (λ (n : ℕ). zeros n) y ∙ (rw z refl)
+    take_replicate (suc q) m 0 h ∙ ap (λ (n : ℕ). zeros n) y ∙ (rw z refl)
 front_zeros (suc q) m (x ∷ d) h =
     ap (λ (l : List ℕ). x ∷ l) (front_zeros q m d (omega arith))
     ∙ (let z : min (suc (length d)) (suc q) ≡ suc (min (length d) q) = omega arith in
@@ -68,7 +59,7 @@ module _ (l : Kind) (s : List ℕ) (at n : ℕ) where
       let d : List ℕ = drop rest s in
       let lx : length x ≡ at = length-take-le at s a in
       let ld : length d ≡ length s - rest = length-drop rest s in
-      let lz : length w₀ ≡ most_bytes = ap length z ∙ length_zeros most_bytes in
+      let lz : length w₀ ≡ most_bytes = ap length z ∙ length-replicate {A = ℕ} most_bytes 0 in
       let f₁ : w₂ ≡ put w₀ 0 (x ++ y) =
       e₂ ∙ ap (λ (v : List ℕ). put v at y) e₁ ∙ put_more w₀ 0 at x y (omega arith) (omega arith) in
       let lu : length (x ++ y) ≡ there = length-append x y ∙ (omega arith) in

@@ -10,6 +10,7 @@ use borrow.Author.Tests.{ltb-false}
 use lib.Dec.{ltb}
 use lib.ListN.{length}
 use Rattle.loops.specs.Loops.{iter}
+use Rattle.loops.proofs.Chains.{err_not_ok}
 use Rattle.loops.proofs.Loops.{iter_still}
 use Rattle.refusal.specs.declared.Refusal.{Refusal}
 use Rattle.casefile_defs.specs.Bounds.{most_bytes}
@@ -22,7 +23,7 @@ use Rattle.casefile_defs.specs.declared.Header.{Header}
 use Rattle.casefile_defs.specs.declared.Wanted.{Wanted}
 use Rattle.casefile_defs.specs.declared.Wanted.TheVariants.{Either}
 use Rattle.casefile_defs.specs.declared.CaseRead.{CaseRead}
-use Rattle.casefile_defs.proofs.Records.{Passed, passed, fault_not_at, admitted_at}
+use Rattle.casefile_defs.proofs.Records.{Passed, passed, admitted_at}
 use Rattle.casefile_defs.proofs.Spots.{spot_next}
 use Rattle.std.specs.Prelude.{Err, Ok, Result}
 
@@ -41,7 +42,7 @@ module _ (k : Kind) (weighed : Bool) (s : List ℕ) where
 
   no_fault : (d r : ℕ) (f : Refusal) (next : ℕ) → iter (stepped k weighed s) d r (Err f) ≡ Ok next → ⊥
   unfolding stepped
-  no_fault d r f next e = fault_not_at (sym (iter_still (stepped k weighed s) (Err f) (λ i. refl) d r) ∙ e)
+  no_fault d r f next e = err_not_ok (sym (iter_still (stepped k weighed s) (Err f) (λ i. refl) d r) ∙ e)
 
   put_first : (at d : ℕ) → Stood k weighed s at → All (end_of k s at) d → All at (suc d)
   unfolding spot

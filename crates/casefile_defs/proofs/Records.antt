@@ -2,12 +2,13 @@
 -- Each is one way through `record_at`.
 use Prim.Native.Nat.{ℕ, ◌+◌, ◌<◌, ◌≤◌}
 use mathlib.Core.Path.{◌≡◌, refl, sym, ap, ◌∙◌}
-use mathlib.Core.Bool.{Bool, true, false, ◌&&◌, cond}
+use mathlib.Core.Bool.{Bool, true, false, ◌&&◌, and-true, and-false}
 use mathlib.Core.List.{List}
 use native.Mathlib.Omega.{arith}
 use borrow.Author.Tests.{lt-ltb, le-ltb, ltb-false}
 use lib.Dec.{leb, ltb, eqb}
 use lib.ListN.{length, get_or, get_or-eq_default}
+use Rattle.loops.proofs.Chains.{only, after, err_not_ok}
 use Rattle.refusal.specs.declared.Refusal.{Refusal}
 use Rattle.refusal.specs.declared.Refusal.TheVariants.{Cut, Mark, Code}
 use Rattle.casefile_defs.specs.Layout.{layout_of, size_of, codes_ok, word, marked, suits}
@@ -16,24 +17,16 @@ use Rattle.casefile_defs.specs.declared.Kind.{Kind}
 use Rattle.casefile_defs.specs.declared.Kind.TheVariants.{Head, Level, Bus, Generator, Corridor, Line, CappedCorridor, WeighedBus}
 use Rattle.std.specs.Prelude.{Err, Ok, Result}
 
-and_true : (b : Bool) → b ≡ (b && true)
-and_true true = refl
-and_true false = refl
-
 -- a kind whose only bounded field has the bound m and stands at distance o
 pub bounded : (j : Kind) (o m : ℕ) {k : Kind} {v : ℕ} (at : ℕ) (s : List ℕ)
     → ((at : ℕ) (s : List ℕ) → codes_ok j s at ≡ (leb (word 1 (at + o) s) m && true))
     → k ≡ j → v ≡ word 1 (at + o) s → leb v m ≡ codes_ok k s at
 bounded j o m {k} {v} at s f p q =
-    ap (λ (x : ℕ). leb x m) q ∙ and_true _ ∙ sym (f at s) ∙ ap (λ (i : Kind). codes_ok i s at) (sym p)
+    ap (λ (x : ℕ). leb x m) q ∙ sym (and-true _) ∙ sym (f at s) ∙ ap (λ (i : Kind). codes_ok i s at) (sym p)
 
 -- a mark that is cut is none
-no_and : (b : Bool) → (b && false) ≡ false
-no_and true = refl
-no_and false = refl
-
 unmarked_by : (b : Bool) (x y : ℕ) → x ≡ 0 → eqb 0 y ≡ false → (b && eqb x y) ≡ false
-unmarked_by b x y e n = ap (λ (z : ℕ). b && eqb z y) e ∙ ap (λ (z : Bool). b && z) n ∙ no_and b
+unmarked_by b x y e n = ap (λ (z : ℕ). b && eqb z y) e ∙ ap (λ (z : Bool). b && z) n ∙ and-false b
 
 second_letter : (k : Kind) → eqb 0 (layout_of k).second ≡ false
 second_letter Head = refl
@@ -74,27 +67,19 @@ pub record Passed (k : Kind) (s : List ℕ) (at next : ℕ) : Type 0 where
   pub bounds : codes_ok k s at ≡ true
   pub past : next ≡ at + size_of k
 
-pub fault_not_at : {f : Refusal} {n : ℕ} → Err f ≡ Ok n → ⊥
-fault_not_at e = let v : ◌≡◌ {A = ℕ} 0 1 = cc in omega arith
-
-passed_by_lem : (k : Kind) (s : List ℕ) (r at next : ℕ) (x y z : Bool)
-    → ltb (length s) (at + size_of k) ≡ x → marked k s at ≡ y → codes_ok k s at ≡ z
-    → cond x (Err (Cut r)) (cond y (cond z (Ok (at + size_of k)) (Err (Code r))) (Err (Mark r))) ≡ Ok next → Passed k s at next
-passed_by_lem k s r at next true y z p q o e = absurd (fault_not_at e)
-passed_by_lem k s r at next false true true p q o e = record { room = ltb-false _ _ p; mark = q; bounds = o; past = cc }
-passed_by_lem k s r at next false true false p q o e = absurd (fault_not_at e)
-passed_by_lem k s r at next false false z p q o e = absurd (fault_not_at e)
+place_is : (n m : ℕ) → ◌≡◌ {A = Result ℕ Refusal} (Ok n) (Ok m) → m ≡ n
+place_is n m e = cc
 
 pub passed : (k : Kind) (s : List ℕ) (r at next : ℕ) → record_at k s r at ≡ Ok next → Passed k s at next
 unfolding record_at
-passed k s r at next e = passed_by_lem k s r at next _ _ _ refl refl refl e
+passed k s r at next e =
+    let x = after (ltb (length s) (at + size_of k)) e err_not_ok in
+    let y = only (marked k s at) x.1 err_not_ok in
+    let z = only (codes_ok k s at) y.1 err_not_ok in
+    record { room = ltb-false _ _ x.0; mark = y.0; bounds = z.0; past = place_is _ next z.1 }
 
 -- a record that is admitted is of the file's form
 pub admitted_at : (weighed : Bool) (k : Kind) (r next : ℕ) (w : Result ℕ Refusal) → admitted weighed k r w ≡ Ok next → (w ≡ Ok next) × (suits weighed k ≡ true)
 unfolding admitted
-admitted_at weighed k r next (Err f) e = absurd (fault_not_at e)
-admitted_at weighed k r next (Ok m) e = go (suits weighed k) _ refl e
-  where
-    go : (b : Bool) (f : Refusal) → suits weighed k ≡ b → cond b (Ok m) (Err f) ≡ Ok next → ◌≡◌ {A = Result ℕ Refusal} (Ok m) (Ok next) × (suits weighed k ≡ true)
-    go true f q e = (e, q)
-    go false f q e = absurd (fault_not_at e)
+admitted_at weighed k r next (Err f) e = absurd (err_not_ok e)
+admitted_at weighed k r next (Ok m) e = let h = only (suits weighed k) e err_not_ok in (h.1, h.0)

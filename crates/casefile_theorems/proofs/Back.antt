@@ -38,9 +38,6 @@ pub record Whole (f : Form) (h : Header) (v : Kind → ℕ → ℕ → ℕ) : Ty
   pub rows : (k : Kind) (i : ℕ) → i < count_of k h → Fine (layout_of (kinds_of f k i)).fields (v k i)
 
 -- ---- zeros to the end
-pub length_zeros : (n : ℕ) → length (replicate {A = ℕ} n 0) ≡ n
-length_zeros n = length-replicate n 0
-
 pub no_trailing : (s : List ℕ) (at : ℕ) → ((m : ℕ) → at ≤ m → get_or s m 0 ≡ 0) → length s ≤ trailing s at
 unfolding trailing
 no_trailing s at g =
@@ -223,7 +220,7 @@ module _ (f : Form) (h : Header) (v : Kind → ℕ → ℕ → ℕ) (n : ℕ) (g
 
   looks_back : looks padded (end_at padded h) ≡ looks_for n n
   looks_back =
-      let l : length padded ≡ end_at padded h + n = length-append (file_with f h v) (replicate {A = ℕ} n 0) ∙ ap (λ (m : ℕ). m + length (replicate {A = ℕ} n 0)) length_file ∙ ap (λ (m : ℕ). end_at padded h + m) (length_zeros n) in
+      let l : length padded ≡ end_at padded h + n = length-append (file_with f h v) (replicate {A = ℕ} n 0) ∙ ap (λ (m : ℕ). m + length (replicate {A = ℕ} n 0)) length_file ∙ ap (λ (m : ℕ). end_at padded h + m) (length-replicate {A = ℕ} n 0) in
       let a : length padded - end_at padded h ≡ n = omega arith in
       let b : zeros_passed padded (end_at padded h) ≡ n = omega (arith, nothing, zeros_among padded (end_at padded h)) in
       ap (λ (m : ℕ). looks_for m (zeros_passed padded (end_at padded h))) a ∙ ap (λ (m : ℕ). looks_for n m) b

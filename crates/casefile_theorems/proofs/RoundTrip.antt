@@ -3,16 +3,17 @@
 -- A file is that of its form and its numbers (written, moved_file), so moving it twice gives the form and the numbers that it had.
 use Prim.Native.Nat.{ℕ, zero, suc, ◌+◌, ◌-◌, ◌^◌, ◌<◌, ◌≤◌}
 use mathlib.Core.Bool.{Bool, true, false, not, cond}
-use mathlib.Core.List.{List, ◌∷◌, ◌++◌, append_assoc}
+use mathlib.Core.List.{List, ◌++◌, append_assoc}
 use mathlib.Core.Path.{◌≡◌, refl, sym, ap, ◌∙◌, subst}
 use native.Mathlib.Omega.{arith}
 use borrow.Author.Tests.{eq-eqb, eqb-true, le-ltb, ltb-false}
 use lib.Dec.{T, lit<, eqb, ltb}
 use lib.Ieee.{Float, binary64, of_bits, to_bits, is_nan}
 use lib.Ieee.Bits.{to_bits-of_bits}
-use lib.ListN.{length, take, replicate, length-append, replicate-append-replicate}
+use lib.ListN.{length, take, replicate, length-append, length-replicate, replicate-append-replicate}
 use lib.Seq.{take-append-add}
 use Rattle.loops.specs.Figures.{nought, one}
+use Rattle.loops.proofs.Parts.{take_replicate}
 use Rattle.loops.proofs.Scan.{pass_all, all_pass}
 use Rattle.loops.proofs.Tab.{tab_same}
 use Rattle.refusal.specs.declared.Refusal.{Refusal}
@@ -31,7 +32,7 @@ use Rattle.casefile_defs.specs.declared.Wanted.TheVariants.{Plain, Weighed}
 use Rattle.casefile_defs.proofs.Accepted.{Accepted, accepted_as}
 use Rattle.casefile_defs.proofs.Spots.{by_test}
 use Rattle.casefile_theorems.specs.Writer.{record_bytes, table_bytes, head_row, count_of, Form, form_in, kinds_of, file_with}
-use Rattle.casefile_theorems.proofs.Back.{Whole, length_zeros, padded, bus_found, Fits, read_back, reading_back}
+use Rattle.casefile_theorems.proofs.Back.{Whole, padded, bus_found, Fits, read_back, reading_back}
 use Rattle.casefile_theorems.proofs.Bytes.{Bytes}
 use Rattle.casefile_theorems.proofs.CaseBack.{whole_short}
 use Rattle.casefile_theorems.proofs.CaseForth.{files_alike}
@@ -45,11 +46,6 @@ abbrev zeros : ℕ → List ℕ
 zeros n = replicate n 0
 
 -- ---- 65,536 bytes of a file and some zeros
-front : (q m : ℕ) → q ≤ m → take q (zeros m) ≡ zeros q
-front zero m h = refl
-front (suc q) zero h = absurd (omega arith)
-front (suc q) (suc m) h = ap (λ (l : List ℕ). 0 ∷ l) (front q m (omega arith))
-
 fitted_file : (x : List ℕ) (r : ℕ) → length x ≤ most_bytes → fitted (x ++ zeros r) ≡ x ++ zeros (most_bytes - length x)
 unfolding fitted
 fitted_file x r h =
@@ -57,7 +53,7 @@ fitted_file x r h =
     ∙ ap (λ (n : ℕ). take n (x ++ (zeros r ++ zeros most_bytes))) (let z : most_bytes ≡ length x + (most_bytes - length x) = omega arith in z)
     ∙ take-append-add x (zeros r ++ zeros most_bytes) (most_bytes - length x)
     ∙ ap (λ (l : List ℕ). x ++ take (most_bytes - length x) l) (replicate-append-replicate r most_bytes 0)
-    ∙ ap (λ (l : List ℕ). x ++ l) (front (most_bytes - length x) (r + most_bytes) (omega arith))
+    ∙ ap (λ (l : List ℕ). x ++ l) (take_replicate (most_bytes - length x) (r + most_bytes) 0 (omega arith))
 
 -- ---- the form of the buses does not matter where there is none
 same_buses : (n : ℕ) (w b : Bool) (v : ℕ → ℕ → ℕ) → (0 < n → b ≡ w) → table_bytes (λ i. bus_of w) n v ≡ table_bytes (λ i. bus_of b) n v
@@ -96,7 +92,7 @@ module _ (w : Bool) (s : List ℕ) (h : Header) (b : Bytes s) (g : Ones w s h) w
   padded_full =
       let x : List ℕ = file_with (form_in s h) h (words_in s h) in
       let r : ℕ = rest_of s h in
-      let n : length s ≡ length x + r = ap length as_written ∙ length-append x (zeros r) ∙ ap (λ (m : ℕ). length x + m) (length_zeros r) in
+      let n : length s ≡ length x + r = ap length as_written ∙ length-append x (zeros r) ∙ ap (λ (m : ℕ). length x + m) (length-replicate {A = ℕ} r 0) in
       let m : most_bytes - length x ≡ r + (most_bytes - length s) = omega (arith, g.file.short) in
       ap (λ (q : ℕ). x ++ zeros q) m
       ∙ ap (λ (l : List ℕ). x ++ l) (sym (replicate-append-replicate r (most_bytes - length s) 0))
@@ -133,7 +129,7 @@ module _ (w : Bool) (s : List ℕ) (h : Header) (b : Bytes s) (g : Ones w s h) w
     other_bytes = subst (λ (x : List ℕ). Bytes x) moved (moved_bytes u s (buses_at s h) h.buses b)
 
     short : length other ≤ most_bytes
-    short = omega (arith, low, length-append (file_with f h v) (zeros m), length_zeros m)
+    short = omega (arith, low, length-append (file_with f h v) (zeros m), length-replicate {A = ℕ} m 0)
 
     pub other_read : (wanted : Wanted) → Fits f h v m whole_other wanted → (read_as wanted other).reading ≡ Ok h
     other_read wanted q = ap (λ (r : CaseRead). r.reading) (read_back f h v m whole_other wanted q short)

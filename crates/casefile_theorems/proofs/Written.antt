@@ -1,7 +1,7 @@
 -- Records and tables as they are written: each record is read back in its place, and a walk over them passes.
 -- A table is the records before one, that one, and the rest (split).
 use Prim.Native.Nat.{ℕ, zero, suc, ◌+◌, ◌-◌, ◌<◌, ◌≤◌}
-use mathlib.Core.Bool.{Bool, true, false, ◌&&◌, cond}
+use mathlib.Core.Bool.{Bool, true, false, ◌&&◌, cond, and-false}
 use mathlib.Core.Path.{◌≡◌, refl, sym, ap, ◌∙◌, subst}
 use mathlib.Core.List.{List, [], ◌++◌, append_assoc, append-nil}
 use mathlib.Core.Logic.{⊎_elim}
@@ -95,11 +95,7 @@ suits_line s at e = refl
 other_mark : (a x y : ℕ) (p q : Bool) → (p && eqb a x) ≡ true → eqb x y ≡ false → (q && eqb a y) ≡ false
 other_mark a x y p q e n =
     let g : a ≡ x = eqb-true a x (both p (eqb a x) e).1 in
-    ap (λ (z : ℕ). q && eqb z y) g ∙ ap (λ (z : Bool). q && z) n ∙ no_and q
-  where
-    no_and : (b : Bool) → (b && false) ≡ false
-    no_and true = refl
-    no_and false = refl
+    ap (λ (z : ℕ). q && eqb z y) g ∙ ap (λ (z : Bool). q && z) n ∙ and-false q
 
 pub suits_bus : (b : Bool) → Suits Bus (cond b WeighedBus Bus)
 suits_bus true s at e = ap (λ (x : Bool). cond x WeighedBus Bus) e

@@ -1,9 +1,9 @@
 -- The cases that a file can hold: the counts in their bounds, each number in its field's range, any figure, and zeros past the counts.
-use Rattle.std.specs.Prelude.{ℕ, ◌^◌, ◌<◌, ◌≤◌, true, false, List, ◌≡◌, T, Float, length, get_or, replicate}
+use Rattle.std.specs.Prelude.{ℕ, ◌*◌, ◌^◌, ◌<◌, ◌≤◌, true, false, List, ◌≡◌, T, Float, length, get_or, take, replicate}
 use Rattle.std.specs.Float.{binary64}
 use Rattle.std.specs.Float.Ieee.{fits}
 use Rattle.loops.specs.Figures.{nought, one}
-use Rattle.casefile_defs.specs.Bounds.{most_levels, most_buses, most_generators, most_corridors, most_sheet}
+use Rattle.casefile_defs.specs.Bounds.{most_levels, most_buses, most_generators, most_corridors, most_sheet, row_figures}
 use Rattle.casefile_defs.specs.Layout.{Field, up_to, u8, u16, width_of, allowed}
 use Rattle.casefile_defs.specs.Reading.{levels, lines, counts_ok}
 use Rattle.casefile_defs.specs.Tables.{Places, places_of, basis_of, basis_field}
@@ -58,6 +58,16 @@ pub record Legal (f : Form) (h : Header) (p : Places) : Type 0 where
 -- 1,280 sheet rows of 35
 abbrev pub longest : ℕ
 longest = 60609
+
+-- of each table the places of the header's records
+abbrev pub fronts : Header → Places → Places
+fronts h p =
+    let n = h.buses in
+    let g = h.generators in
+    let m = h.corridors in
+    places_of (take (levels h) p.ladder) (take n p.tier) (take n p.reading) (take n p.weight) (take g p.bus) (take g p.slack) (take g p.pmin) (take g p.pmax)
+    (take g p.c1) (take g p.c2) (take m p.a) (take m p.b) (take m p.circuits) (take m p.length_km) (take m p.share) (take m p.cap)
+    (take (lines h * row_figures) p.sheet)
 
 -- tables of zeros
 unfoldable pub blank : Places

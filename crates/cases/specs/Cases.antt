@@ -1,9 +1,7 @@
 -- A case as the definitions of reading, planning and joining have it.
-use Rattle.std.specs.Prelude.{◌*◌, ◌≡◌, take, Result, Ok, Err}
+use Rattle.std.specs.Prelude.{◌≡◌, Result, Ok, Err}
 use Rattle.refusal.specs.Reply.{Reply, answered, refused_by}
 use Rattle.refusal.specs.declared.Refusal.{Refusal}
-use Rattle.casefile_defs.specs.Bounds.{row_figures}
-use Rattle.casefile_defs.specs.Reading.{levels, lines}
 use Rattle.casefile_defs.specs.Tables.{Places, places_of, Outcome}
 use Rattle.casefile_defs.specs.declared.Header.{Header}
 use Rattle.case_tables.specs.Tables.{tables_in}
@@ -19,16 +17,6 @@ IsCase (Err f) r p = r ≡ refused_by f
 -- what a reading gives where its definition gives o
 abbrev pub IsReading : Reading → Outcome → Type 0
 IsReading r o = IsCase r.case o.reply o.places × (r.looks ≡ o.looks)
-
--- of each table the places of the header's records, as join_theorems' Calls.fronts has them (joins!Joined.fronts_are)
-abbrev pub fronts : Header → Places → Places
-fronts h p =
-    let n = h.buses in
-    let g = h.generators in
-    let m = h.corridors in
-    places_of (take (levels h) p.ladder) (take n p.tier) (take n p.reading) (take n p.weight) (take g p.bus) (take g p.slack) (take g p.pmin) (take g p.pmax)
-    (take g p.c1) (take g p.c2) (take m p.a) (take m p.b) (take m p.circuits) (take m p.length_km) (take m p.share) (take m p.cap)
-    (take (lines h * row_figures) p.sheet)
 
 -- the tables that parts are
 abbrev pub lent : Fronts → Places

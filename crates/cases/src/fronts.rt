@@ -1,7 +1,8 @@
 // Of each table of a case the places of the header's records, as planning and joining are lent them.
 ghost use Rattle.std.specs.Prelude.{◌≡◌};
 ghost use Rattle.case_tables.specs.Tables.{tables_in};
-ghost use Rattle.cases.specs.Cases.{lent, fronts};
+ghost use Rattle.casefile_theorems.specs.Cases.{fronts};
+ghost use Rattle.cases.specs.Cases.{lent};
 
 use crate::Case;
 use casefile_defs::ROW_FIGURES;

@@ -1,17 +1,17 @@
 -- The ways out of `check`, and what a request that passes it has.
 -- Each test is rewritten to the side on which it fell; the four tests together are taken apart once, in `passes`.
 use Prim.Native.Nat.{ℕ, ◌≤◌}
-use mathlib.Core.Bool.{Bool, true, false, cond, ◌&&◌}
+use mathlib.Core.Bool.{Bool, true, false, ◌&&◌}
 use mathlib.Core.Path.{◌≡◌, refl, sym, ◌∙◌}
 use native.Mathlib.Nat.{le_of_eq}
 use borrow.Author.Tests.{eqb-true, eq-eqb, ltb-false, leb-true, le-ltb, le-leb}
 use lib.Dec.{eqb, leb, ltb}
 use lib.ListN.{length}
 use lib.Ieee.{Float}
-use Rattle.loops.proofs.Bools.{both, and_of, unequal}
+use Rattle.loops.proofs.Bools.{both, and_of}
+use Rattle.loops.proofs.Chains.{only, after, err_not_ok}
 use Rattle.loops.proofs.Scan.{all_pass, pass_all}
-use Rattle.refusal.specs.declared.Refusal.{Refusal}
-use Rattle.refusal.specs.declared.Refusal.TheVariants.{Length, Count, Generator, Demand}
+use Rattle.refusal.specs.declared.Refusal.TheVariants.{Length}
 use Rattle.dispatch_defs.specs.Units.{Units, Even, count, unit_ok_at}
 use Rattle.dispatch_defs.specs.Operation.{lengths_ok, most_units, demand_ok, faulty_unit, check_of}
 use Rattle.dispatch_defs.specs.Limits.{Accepted}
@@ -56,9 +56,6 @@ module _ (n : ℕ) (u : Units) (m : ℕ) where
       let l = lengths h in
       record { pmax = l.pmax ∙ sym l.pmin; c1 = l.c1 ∙ sym l.pmin; c2 = l.c2 ∙ sym l.pmin }
 
-never : (f : Refusal) → Err f ≡ no_refusal → ⊥
-never f e = unequal cc
-
 module _ (n : ℕ) (u : Units) (d : Float) (m : ℕ) where
   -- ---- the ways out
   pub check_length : fits n u m ≡ false → Err Length ≡ check_of n u d m
@@ -73,22 +70,18 @@ module _ (n : ℕ) (u : Units) (d : Float) (m : ℕ) where
   -- ---- a request that passes, and one that is to pass
   pub passes : check_of n u d m ≡ no_refusal → Accepted n u d m
   unfolding check_of faulty_unit
-  passes h = at (fits n u m) (leb n most_units) (ltb (faulty_unit u) (count u)) (demand_ok d) refl refl refl refl h
-    where
-      at : (a b c e : Bool) → fits n u m ≡ a → leb n most_units ≡ b → ltb (faulty_unit u) (count u) ≡ c → demand_ok d ≡ e
-          → cond a (cond b (cond c (Err (Generator (faulty_unit u))) (cond e no_refusal (Err Demand))) (Err Count)) (Err Length) ≡ no_refusal → Accepted n u d m
-      at true true false true ea eb ec ee h =
-          record {
-            size = (lengths n u m ea).pmin;
-            room = (lengths n u m ea).mw;
-            few = leb-true n most_units eb;
-            units = record { even = even n u m ea; each = λ i l. all_pass (unit_ok_at u) (count u) (ltb-false (faulty_unit u) (count u) ec) i l };
-            demand = ee;
-          }
-      at true true false false ea eb ec ee h = absurd (never _ h)
-      at true true true e ea eb ec ee h = absurd (never _ h)
-      at true false c e ea eb ec ee h = absurd (never _ h)
-      at false b c e ea eb ec ee h = absurd (never _ h)
+  passes h =
+      let a = only (fits n u m) h err_not_ok in
+      let b = only (leb n most_units) a.1 err_not_ok in
+      let c = after (ltb (faulty_unit u) (count u)) b.1 err_not_ok in
+      let e = only (demand_ok d) c.1 err_not_ok in
+      record {
+        size = (lengths n u m a.0).pmin;
+        room = (lengths n u m a.0).mw;
+        few = leb-true n most_units b.0;
+        units = record { even = even n u m a.0; each = λ i l. all_pass (unit_ok_at u) (count u) (ltb-false (faulty_unit u) (count u) c.0) i l };
+        demand = e.0;
+      }
 
   pub accepts : Accepted n u d m → check_of n u d m ≡ no_refusal
   unfolding faulty_unit

@@ -11,12 +11,13 @@ use lib.Dec.{T, ltb}
 use lib.ListN.{length, set, length-set}
 use lib.Seq.{get_or-set_same, get_or-set_other}
 use lib.Ieee.{Float, nan, binary64, lt, le}
+use lib.Ieee.Scale.{finite as bounded}
 use Rattle.loops.specs.Figures.{at, plus, nought, clamped, inside}
 use Rattle.loops.specs.Loops.{sum_to}
 use Rattle.loops.proofs.Bools.{both, unequal}
 use Rattle.loops.proofs.Scan.{all_pass}
 use Rattle.loops.proofs.Tab.{length_tab, get_tab}
-use Rattle.loops.proofs.Order.{lt_of_not_le, real, bounded, bounded_real, right_real, le_self, clamped_inside, inside_bounded}
+use Rattle.loops.proofs.Order.{lt_of_not_le, real, bounded_real, right_real, le_self, clamped_inside, inside_bounded}
 use Rattle.loops.proofs.Signs.{add_real, sub_real}
 use Rattle.loops.proofs.Real.{sum_real, between_bounded}
 use Rattle.refusal.specs.Reply.{answered}

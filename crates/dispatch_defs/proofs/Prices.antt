@@ -6,10 +6,11 @@ use mathlib.Core.Path.{◌≡◌, refl, sym, subst}
 use lib.Dec.{T}
 use lib.Ieee.{Float, binary64, of_bits, mul, lt, le}
 use lib.Ieee.Positive.{positive, above_of_le, mul_mono}
+use lib.Ieee.Scale.{finite as bounded}
 use Rattle.loops.specs.Figures.{at, plus, minus, times, over, nought, two, million, infinity, greater, finite, inside}
 use Rattle.loops.specs.Loops.{greatest_to}
 use Rattle.loops.proofs.Bools.{is, both}
-use Rattle.loops.proofs.Order.{real, bounded, upper, bounded_real, bounded_upper, upper_up, bounded_down, le_self, le_of_lt, clamped_inside, finite_bounded, below_infinity}
+use Rattle.loops.proofs.Order.{real, upper, bounded_real, bounded_upper, upper_up, bounded_down, le_self, le_of_lt, clamped_inside, finite_bounded, below_infinity}
 use Rattle.loops.proofs.Signs.{sound, sound_real, sound_of, sound_up, add_sound, mul_sound, half_sound, add_bounded, mul_bounded, real_sub, div_real}
 use Rattle.loops.proofs.Real.{positive_of, chosen_sound, least_sound, greatest_sound}
 use Rattle.dispatch_defs.specs.Units.{Units, count, most_mw, most_c1, least_c2, unit_ok, unit_ok_at, cost_of, low_cost, high_cost, cost_ok_at, output_of, output_at}

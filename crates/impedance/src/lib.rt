@@ -18,14 +18,32 @@ pub struct SeriesImpedance {
 // System base, MVA.
 const BASE_MVA: f64 = 100.0;
 
-// What a transformer of this rating has, of its class: the first with rating at most 100, at most 400, any.
+// The classes of ratings, MVA: up to the first, up to the second, and above.
+const SMALL_MVA: f64 = 100.0;
+
+const MEDIUM_MVA: f64 = 400.0;
+
+// Of each class the impedance on the transformer's own base, per unit, and X/R.
+const SMALL_Z: f64 = 0.12;
+
+const MEDIUM_Z: f64 = 0.125;
+
+const LARGE_Z: f64 = 0.13;
+
+const SMALL_X_OVER_R: f64 = 25.0;
+
+const MEDIUM_X_OVER_R: f64 = 35.0;
+
+const LARGE_X_OVER_R: f64 = 45.0;
+
+// What a transformer of this rating has, of its class.
 #[tactic(auto, unfolding(crate::specs::Impedance::by_class))]
 fn by_class(mva: f64, small: f64, medium: f64, large: f64) -> f64
     ensures { result ≡ by_class mva small medium large }
 {
-    if mva <= 100.0 {
+    if mva <= SMALL_MVA {
         small
-    } else if mva <= 400.0 {
+    } else if mva <= MEDIUM_MVA {
         medium
     } else {
         large
@@ -49,8 +67,8 @@ fn reactance(z: f64, x_over_r: f64, mva: f64) -> f64
 fn impedance_of(mva: f64) -> SeriesImpedance
     ensures { result ≡ impedance_of mva }
 {
-    let z_pu_own_base = by_class(mva, 0.12, 0.125, 0.13);
-    let x_over_r = by_class(mva, 25.0, 35.0, 45.0);
+    let z_pu_own_base = by_class(mva, SMALL_Z, MEDIUM_Z, LARGE_Z);
+    let x_over_r = by_class(mva, SMALL_X_OVER_R, MEDIUM_X_OVER_R, LARGE_X_OVER_R);
     let x = reactance(z_pu_own_base, x_over_r, mva);
     SeriesImpedance { r: x / x_over_r, x }
 }

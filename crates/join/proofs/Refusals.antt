@@ -18,9 +18,10 @@ use Rattle.plan_defs.specs.Accept.{case_fault}
 use Rattle.plan_defs.proofs.Accepted.{Accepted, accepted, bus_below, end_a_lem, end_b_lem}
 use Rattle.acceptance.specs.Check.{answer_of}
 use Rattle.acceptance.specs.Check as one_case
-use Rattle.acceptance.proofs.Callers.{tables_of_lem, refused_by_lem, passed_by_lem}
+use Rattle.acceptance.proofs.Callers.{fault_is, none_is, tables_of_lem, refused_by_lem, passed_by_lem}
 use Rattle.join_defs.specs.Districts.{same_ladder, sums_ok, alike, or_else, join_fault}
-use Rattle.join_defs.specs.Joining.{case_as}
+use Rattle.case_defs.specs.Cases.{case_as}
+use Rattle.join_defs.proofs.Faults.{joinable as parted}
 use Rattle.join_defs.proofs.Levels.{levels_same}
 use Rattle.join.specs.Joins.{Raises, Rowed, Summed, heads_alike, check_of}
 use Rattle.std.specs.Prelude.{Err, Ok, Result}
@@ -30,15 +31,6 @@ use Rattle.refusal.specs.Reply.{no_refusal}
 pub answered : (fits : Bool) (c : Case) (t : ℕ) (a : Result (Unit {0}) Refusal) → a ≡ one_case.check_of fits (tables_of_lem c) t → a ≡ answer_of (cond fits (case_fault c t) (some Length))
 answered fits c t (Err f) e = ap answer_of (sym (refused_by_lem fits c t f e))
 answered fits c t (Ok u) e = let p = passed_by_lem fits c t e in rw (p.0, p.1) refl
-
-pub fault_is : (o : Option Refusal) (f : Refusal) → Err f ≡ answer_of o → o ≡ some f
-fault_is none f e = absurd (unequal cc)
-fault_is (some g) f e = cc
-
-pub none_is : (b : Bool) (o : Option Refusal) → no_refusal ≡ answer_of (cond b o (some Length)) → (b ≡ true) × (o ≡ none)
-none_is false o e = absurd (unequal cc)
-none_is true (some g) e = absurd (unequal cc)
-none_is true none e = (refl, refl)
 
 module _ (fits : Bool) (c : Case) (t : ℕ) (d : Case) (u : ℕ) where
   -- what is left after 1 to 7 of both, and of the first
@@ -87,11 +79,7 @@ module _ (fits : Bool) (c : Case) (t : ℕ) (d : Case) (u : ℕ) where
   -- ---- what is known by the answer
   pub refused_is : (f : Refusal) → Err f ≡ check_of fits c t d u → cond fits (join_fault c t d u) (some Length) ≡ some f
   unfolding check_of
-  refused_is f e = go (cond fits (join_fault c t d u) (some Length)) e
-    where
-      go : (o : Option Refusal) → Err f ≡ answer_of o → o ≡ some f
-      go none q = absurd (unequal cc)
-      go (some g) q = cc
+  refused_is f e = fault_is (cond fits (join_fault c t d u) (some Length)) f e
 
   pub record Joinable : Type 0 where
     pub sized : fits ≡ true
@@ -102,20 +90,11 @@ module _ (fits : Bool) (c : Case) (t : ℕ) (d : Case) (u : ℕ) where
     pub same : alike c d ≡ true
 
   pub joinable : no_refusal ≡ check_of fits c t d u → Joinable
-  unfolding check_of join_fault
-  joinable e = go fits (case_fault c t) (case_fault d u) (sums_ok c t d u) refl refl refl refl e
-    where
-      go : (b : Bool) (o p : Option Refusal) (s : Bool) → fits ≡ b → case_fault c t ≡ o → case_fault d u ≡ p → sums_ok c t d u ≡ s
-          → no_refusal ≡ answer_of (cond b (or_else o (or_else p (cond s (cond (alike c d) none (some Districts)) (some Count)))) (some Length)) → Joinable
-      go false o p s x y z w q = absurd (unequal cc)
-      go true (some f) p s x y z w q = absurd (unequal cc)
-      go true none (some f) s x y z w q = absurd (unequal cc)
-      go true none none false x y z w q = absurd (unequal cc)
-      go true none none true x y z w q = by_same (alike c d) refl q
-        where
-          by_same : (l : Bool) → alike c d ≡ l → no_refusal ≡ answer_of (cond l none (some Districts)) → Joinable
-          by_same false v r = absurd (unequal cc)
-          by_same true v r = record { sized = x; free = rw (y, z, w, v); first = y; second = z; sums = w; same = v }
+  unfolding check_of
+  joinable e =
+      let p = none_is fits (join_fault c t d u) e in
+      let j = parted c d t u p.1 in
+      record { sized = p.0; free = p.1; first = j.first; second = j.second; sums = j.sums; same = j.same }
 
 -- ---- of two headers and their tables
 pub record Raised (by : ℕ) (x y z : List ℕ) : Type 0 where

@@ -16,13 +16,16 @@ use Rattle.casefile_defs.proofs.Whole.{Sizes, sizes}
 use Rattle.plan_defs.specs.Case.{Case, levels}
 use Rattle.join_defs.specs.Columns.{figures, counts, joined_sheet}
 use Rattle.join_defs.specs.Districts.{joined_case, join_fault}
-use Rattle.join_defs.specs.Joining.{case_as, header_of, laid_out, Outcome, outcome, joined_by, join_cases}
+use Rattle.case_defs.specs.Cases.{case_as}
+use Rattle.join_defs.specs.Joining.{header_of, laid_out, Outcome, outcome, joined_by, join_cases}
 use Rattle.join_defs.proofs.Tables.{sheet_are, filled_tables}
 use Rattle.join.specs.Joins.{headers_of, check_of}
 use Rattle.join.proofs.Refusals.{Joinable, refused_is}
 use Rattle.std.specs.Prelude.{Err, Ok, Result}
 
-pub places_same : {ladder ladder' : List Float} {tier tier' : List ℕ} {reading reading' : List Float} {weight weight' : List Float} {bus bus' : List ℕ} {slack slack' : List ℕ} {pmin pmin' : List Float} {pmax pmax' : List Float} {c1 c1' : List Float} {c2 c2' : List Float} {a a' : List ℕ} {b b' : List ℕ} {circuits circuits' : List ℕ} {length_km lengthKm' : List Float} {share share' : List Float} {cap cap' : List ℕ} {sheet sheet' : List Float}
+pub places_same : {ladder ladder' : List Float} {tier tier' : List ℕ} {reading reading' : List Float} {weight weight' : List Float} {bus bus' : List ℕ}
+    {slack slack' : List ℕ} {pmin pmin' : List Float} {pmax pmax' : List Float} {c1 c1' : List Float} {c2 c2' : List Float} {a a' : List ℕ} {b b' : List ℕ}
+    {circuits circuits' : List ℕ} {length_km lengthKm' : List Float} {share share' : List Float} {cap cap' : List ℕ} {sheet sheet' : List Float}
     → ladder ≡ ladder' → tier ≡ tier' → reading ≡ reading' → weight ≡ weight' → bus ≡ bus' → slack ≡ slack' → pmin ≡ pmin' → pmax ≡ pmax' → c1 ≡ c1' → c2 ≡ c2' → a ≡ a' → b ≡ b' → circuits ≡ circuits' → length_km ≡ lengthKm' → share ≡ share' → cap ≡ cap' → sheet ≡ sheet'
     → places_of ladder tier reading weight bus slack pmin pmax c1 c2 a b circuits length_km share cap sheet ≡ places_of ladder' tier' reading' weight' bus' slack' pmin' pmax' c1' c2' a' b' circuits' lengthKm' share' cap' sheet'
 places_same e0 e1 e2 e3 e4 e5 e6 e7 e8 e9 e10 e11 e12 e13 e14 e15 e16 = cc

@@ -10,7 +10,7 @@ use Rattle.casefile_defs.specs.declared.Header.{Header}
 use Rattle.plan_defs.specs.Case.{Case}
 use Rattle.acceptance.specs.Check.{answer_of}
 use Rattle.join_defs.specs.Districts.{join_fault}
-use Rattle.join_defs.specs.Joining.{case_as}
+use Rattle.case_defs.specs.Cases.{case_as}
 use Rattle.join.specs.declared.district.District.{District}
 use Rattle.refusal.specs.declared.Refusal.{Refusal}
 

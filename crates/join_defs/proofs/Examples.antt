@@ -3,18 +3,23 @@ use Prim.Native.Nat.{ℕ, ◌+◌, ◌*◌}
 use mathlib.Core.Bool.{true, false}
 use mathlib.Core.List.{List, [], ◌∷◌, ◌++◌}
 use mathlib.Core.Path.{◌≡◌, refl}
-use lib.Ieee.{Float, binary64, of_bits}
+use lib.Ieee.{Float, binary64, of_bits, add, mul, lt, le, eq, neg, round}
 use lib.ListN.{replicate}
+use Rattle.loops.specs.Loops.{first as least_index, tab}
 use Rattle.loops.specs.Figures.{nought, half, one, two, fifty, hundred, float}
+use Rattle.refusal.specs.Number.{number_of, index_of}
 use Rattle.refusal.specs.Reply.{Reply, answered, refused}
+use Rattle.mode.specs.Number.{mode_number}
 use Rattle.mode.specs.declared.PlanMode.{PlanMode}
 use Rattle.mode.specs.declared.PlanMode.TheVariants.{Expand, ExpandServing}
-use Rattle.casefile_defs.specs.Tables.{Places, places_of}
+use Rattle.casefile_defs.specs.Tables.{Places, places_of, sizes_ok}
 use Rattle.casefile_defs.specs.declared.Header.{Header}
-use Rattle.plan_defs.specs.Case.{Case, rows_of}
+use Rattle.plan_defs.specs.Case.{Case, rows_of, row_at}
+use Rattle.plan_defs.specs.Accept.{lengths_ok, counts_ok, level_ok, bus_ok, generator_ok, corridor_sound, row_ok, tables_fault, case_fault}
 use Rattle.join_defs.specs.Columns.{counts}
-use Rattle.join_defs.specs.Districts.{joined_row, joined_case, sums_ok}
-use Rattle.join_defs.specs.Joining.{case_as, sheet_of, join_cases}
+use Rattle.join_defs.specs.Districts.{joined_row, joined_case, sums_ok, alike, same_ladder, join_fault}
+use Rattle.case_defs.specs.Cases.{case_as}
+use Rattle.join_defs.specs.Joining.{sheet_of, joined_by, join_cases}
 
 -- 138 and 230 kV
 abbrev low : Float
@@ -58,13 +63,22 @@ lent sheet =
     (replicate 128 one) (replicate 128 one) (replicate 256 1) (replicate 256 1) (replicate 256 1) (replicate 256 one) (replicate 256 one) (replicate 256 1)
     (replicate sheet one)
 
+-- what asking for a reply opens: a case's checks, and the tests of joining
+unfoldable checks : ℕ
+unfolding rows_of row_at lengths_ok counts_ok level_ok bus_ok generator_ok corridor_sound row_ok tables_fault case_fault add mul lt le eq neg of_bits round
+checks = 0
+
+unfoldable tests : ℕ
+unfolding checks join_cases joined_by join_fault joined_case joined_row sums_ok alike same_ladder sizes_ok number_of index_of mode_number least_index tab
+tests = 0
+
 abbrev said : Header → Places → Header → Places → Reply Header
 said h p k q = (join_cases h p k q (lent 6400)).reply
 
 -- ---- counts and targets are added
 pub joined : said (header Expand 3 2 1 0 1) first (header Expand 5 3 2 0 1) second
     ≡ answered (record { mode = Expand; target = 8; buses = 5; corridors = 3; generators = 2; above = 0; requested = 1 })
-unfolding join_cases Rattle.join_defs.specs.Joining.joined_by Rattle.join_defs.specs.Districts.join_fault joined_case sums_ok Rattle.join_defs.specs.Districts.alike Rattle.join_defs.specs.Districts.same_ladder Rattle.casefile_defs.specs.Tables.sizes_ok Rattle.refusal.specs.Number.number_of Rattle.refusal.specs.Number.index_of Rattle.mode.specs.Number.mode_number Rattle.loops.specs.Loops.first Rattle.loops.specs.Loops.tab Rattle.plan_defs.specs.Case.rows_of Rattle.join_defs.specs.Districts.joined_row Rattle.plan_defs.specs.Case.row_at Rattle.plan_defs.specs.Accept.lengths_ok Rattle.plan_defs.specs.Accept.counts_ok Rattle.plan_defs.specs.Accept.level_ok Rattle.plan_defs.specs.Accept.bus_ok Rattle.plan_defs.specs.Accept.generator_ok Rattle.plan_defs.specs.Accept.corridor_sound Rattle.plan_defs.specs.Accept.row_ok Rattle.plan_defs.specs.Accept.tables_fault Rattle.plan_defs.specs.Accept.case_fault lib.Ieee.add lib.Ieee.mul lib.Ieee.lt lib.Ieee.le lib.Ieee.eq lib.Ieee.neg of_bits lib.Ieee.round
+unfolding tests
 joined = refl
 
 -- ---- the second's ends and its generator's bus are moved, its circuits are not
@@ -77,7 +91,7 @@ ends = refl
 
 -- a column, and zero past it
 pub column : counts 5 2 (0 ∷ []) (0 ∷ 2 ∷ []) ≡ 0 ∷ 2 ∷ 4 ∷ 0 ∷ 0 ∷ []
-unfolding Rattle.loops.specs.Loops.tab
+unfolding tab
 column = refl
 
 -- ---- the sheet by level: one corridor and two at two levels, the rows told apart; zero past them
@@ -86,7 +100,7 @@ row t = float (10 * t) ∷ float (10 * t + 1) ∷ float (10 * t + 2) ∷ float (
 
 pub laid : sheet_of 32 3 2 (joined_row 1 (rows_of 1 2 (row 1 ++ row 2)) (rows_of 2 2 (row 3 ++ row 4 ++ row 5 ++ row 6)))
     ≡ row 1 ++ row 3 ++ row 4 ++ row 2 ++ row 5 ++ row 6 ++ nought ∷ nought ∷ []
-unfolding sheet_of joined_row rows_of Rattle.loops.specs.Loops.tab
+unfolding sheet_of joined_row rows_of tab
 laid = refl
 
 -- ---- refusals: the joined tables' 1; the first's own, whatever the second is; the second's own, with its own index; 2 of the sums; then 24
@@ -97,7 +111,7 @@ pub refusals :
     ∷ said (header Expand 65_532 2 1 0 1) first (header ExpandServing 5 3 2 0 1) second
     ∷ []
     ≡ refused 1 0 ∷ refused 6 0 ∷ refused 5 0 ∷ refused 2 0 ∷ []
-unfolding join_cases Rattle.join_defs.specs.Joining.joined_by Rattle.join_defs.specs.Districts.join_fault joined_case sums_ok Rattle.join_defs.specs.Districts.alike Rattle.join_defs.specs.Districts.same_ladder Rattle.casefile_defs.specs.Tables.sizes_ok Rattle.refusal.specs.Number.number_of Rattle.refusal.specs.Number.index_of Rattle.mode.specs.Number.mode_number Rattle.loops.specs.Loops.first Rattle.loops.specs.Loops.tab Rattle.plan_defs.specs.Case.rows_of Rattle.join_defs.specs.Districts.joined_row Rattle.plan_defs.specs.Case.row_at Rattle.plan_defs.specs.Accept.lengths_ok Rattle.plan_defs.specs.Accept.counts_ok Rattle.plan_defs.specs.Accept.level_ok Rattle.plan_defs.specs.Accept.bus_ok Rattle.plan_defs.specs.Accept.generator_ok Rattle.plan_defs.specs.Accept.corridor_sound Rattle.plan_defs.specs.Accept.row_ok Rattle.plan_defs.specs.Accept.tables_fault Rattle.plan_defs.specs.Accept.case_fault lib.Ieee.add lib.Ieee.mul lib.Ieee.lt lib.Ieee.le lib.Ieee.eq lib.Ieee.neg of_bits lib.Ieee.round
+unfolding tests
 refusals = refl
 
 -- 2 of the sums, at each bound and past it
@@ -124,5 +138,5 @@ pub unlike :
     ∷ said (header Expand 3 2 1 1 1) (west (high ∷ low ∷ []) twice (1 ∷ []) fifty) (header Expand 3 2 1 0 2) (west (high ∷ low ∷ []) twice (1 ∷ []) fifty)
     ∷ []
     ≡ refused 24 0 ∷ refused 24 0 ∷ refused 24 0 ∷ refused 24 0 ∷ []
-unfolding join_cases Rattle.join_defs.specs.Joining.joined_by Rattle.join_defs.specs.Districts.join_fault joined_case sums_ok Rattle.join_defs.specs.Districts.alike Rattle.join_defs.specs.Districts.same_ladder Rattle.casefile_defs.specs.Tables.sizes_ok Rattle.refusal.specs.Number.number_of Rattle.refusal.specs.Number.index_of Rattle.mode.specs.Number.mode_number Rattle.loops.specs.Loops.first Rattle.loops.specs.Loops.tab Rattle.plan_defs.specs.Case.rows_of Rattle.join_defs.specs.Districts.joined_row Rattle.plan_defs.specs.Case.row_at Rattle.plan_defs.specs.Accept.lengths_ok Rattle.plan_defs.specs.Accept.counts_ok Rattle.plan_defs.specs.Accept.level_ok Rattle.plan_defs.specs.Accept.bus_ok Rattle.plan_defs.specs.Accept.generator_ok Rattle.plan_defs.specs.Accept.corridor_sound Rattle.plan_defs.specs.Accept.row_ok Rattle.plan_defs.specs.Accept.tables_fault Rattle.plan_defs.specs.Accept.case_fault lib.Ieee.add lib.Ieee.mul lib.Ieee.lt lib.Ieee.le lib.Ieee.eq lib.Ieee.neg of_bits lib.Ieee.round
+unfolding tests
 unlike = refl

@@ -11,14 +11,9 @@ use Rattle.sheets.specs.Sheet.{row_figures, row_corridor, row_level}
 use Rattle.casefile_defs.specs.Bounds.{most_levels, most_buses, most_generators, most_corridors, most_sheet}
 use Rattle.casefile_defs.specs.Tables.{Places, places_of, sizes_ok, reply_of}
 use Rattle.casefile_defs.specs.declared.Header.{Header}
-use Rattle.plan_defs.specs.Case.{Case, Row, surveyed, levels}
+use Rattle.plan_defs.specs.Case.{Case, Row, levels}
+use Rattle.case_defs.specs.Cases.{case_as}
 use Rattle.join_defs.specs.Districts.{joined_case, join_fault}
-
--- the case of a header and of tables of its counts
-abbrev pub case_as : Header → Places → Case
-case_as h p =
-    surveyed h.mode h.buses h.corridors h.generators h.above h.requested p.ladder p.tier p.reading p.weight p.bus p.slack p.pmin p.pmax
-    p.c1 p.c2 p.a p.b p.circuits p.length_km p.share p.cap p.sheet
 
 -- a header of a case and a target
 abbrev pub header_of : Case → ℕ → Header

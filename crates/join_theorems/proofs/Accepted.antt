@@ -9,10 +9,11 @@ use native.Mathlib.Omega.{arith}
 use borrow.Author.Tests.{ltb-true, ltb-false, lt-ltb, le-ltb, le-leb, eq-eqb}
 use lib.Dec.{ltb, leb, eqb}
 use lib.ListN.{length, get_or, length-append, length-map}
-use Rattle.loops.proofs.Bools.{both, and_of, unequal}
+use Rattle.loops.specs.Loops.{first}
+use Rattle.loops.proofs.Bools.{both, and_of}
 use Rattle.loops.proofs.Scan.{pass_all}
 use Rattle.refusal.specs.declared.Refusal.{Refusal}
-use Rattle.refusal.specs.declared.Refusal.TheVariants.{Length, Count, Level, Bus, Generator, Corridor, Row as SheetRow, Districts}
+use Rattle.refusal.specs.declared.Refusal.TheVariants.{Length, Count, Level, Bus, Generator, Corridor, Row as SheetRow}
 use Rattle.sheets.specs.Sheet.{row_figures, line_corridor, line_level}
 use Rattle.sheets.proofs.Layouts.{line_corridor_lem, line_level_lem}
 use Rattle.leaders.specs.Operation.{corridor_ok}
@@ -20,29 +21,11 @@ use Rattle.plan_defs.specs.Constants.{most_buses, most_corridors, most_generator
 use Rattle.plan_defs.specs.Case.{Case, levels, end_a, end_b, row_at}
 use Rattle.plan_defs.specs.Accept.{lengths_ok, counts_ok, level_ok, bus_ok, generator_ok, corridor_sound, row_sound, row_ok, first_fault, tables_fault, case_fault}
 use Rattle.plan_defs.proofs.Accepted.{Accepted, accepted, row_sound_lem, bus_below, end_a_lem, end_b_lem}
-use Rattle.join_defs.specs.Districts.{moved, joined_case, sums_ok, alike, or_else, join_fault}
+use Rattle.join_defs.specs.Districts.{moved, joined_case, sums_ok, join_fault}
+use Rattle.join_defs.proofs.Faults.{Joinable, joinable}
 use Rattle.join_defs.proofs.Levels.{levels_same}
 use Rattle.join_theorems.proofs.Lists.{eqb_moved}
 use Rattle.join_theorems.proofs.Within.{Within, first_within, second_within}
-
--- ---- two cases that can be joined
-pub record Joinable (c d : Case) (t u : ℕ) : Type 0 where
-  pub first : case_fault c t ≡ none
-  pub second : case_fault d u ≡ none
-  pub sums : sums_ok c t d u ≡ true
-  pub same : alike c d ≡ true
-
-pub joinable : (c d : Case) (t u : ℕ) → join_fault c t d u ≡ none → Joinable c d t u
-unfolding join_fault
-joinable c d t u h = go (case_fault c t) refl (case_fault d u) refl (sums_ok c t d u) refl (alike c d) refl h
-  where
-    go : (x : Option Refusal) → case_fault c t ≡ x → (y : Option Refusal) → case_fault d u ≡ y → (a : Bool) → sums_ok c t d u ≡ a → (b : Bool) → alike c d ≡ b
-        → or_else x (or_else y (cond a (cond b none (some Districts)) (some Count))) ≡ none → Joinable c d t u
-    go (some f) p y q a r b s e = absurd (unequal (cc))
-    go none p (some f) q a r b s e = absurd (unequal (cc))
-    go none p none q false r b s e = absurd (unequal (cc))
-    go none p none q true r false s e = absurd (unequal (cc))
-    go none p none q true r true s e = record { first = p; second = q; sums = r; same = s }
 
 -- ---- a row within, as it was
 module _ (c j : Case) (b o m : ℕ) (w : Within c j b o m) where

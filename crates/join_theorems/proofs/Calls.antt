@@ -32,12 +32,15 @@ use Rattle.plan_defs.specs.Demand.{AnswerTo}
 use Rattle.plan_defs.specs.declared.CorridorPlan.{CorridorPlan}
 use Rattle.plan_defs.proofs.Accepted.{Accepted, accepted}
 use Rattle.join_defs.specs.Districts.{joined_row, joined_case, join_fault}
-use Rattle.join_defs.specs.Joining.{case_as, header_of, padded, figure_in, sheet_of, laid_out, Outcome as Made, outcome, joined_by, join_cases}
+use Rattle.case_defs.specs.Cases.{case_as, case_in}
+use Rattle.join_defs.specs.Joining.{header_of, padded, figure_in, sheet_of, laid_out, Outcome as Made, outcome, joined_by, join_cases}
 use Rattle.join_defs.proofs.Levels.{levels_same}
 use Rattle.join_theorems.specs.Apart.{AnswersApart}
-use Rattle.join_theorems.specs.Calls.{fronts, case_in, Joined}
+use Rattle.casefile_theorems.specs.Cases.{fronts}
+use Rattle.join_theorems.specs.Calls.{Joined}
 use Rattle.join_theorems.proofs.Within.{second_at}
-use Rattle.join_theorems.proofs.Accepted.{Joinable, joinable, all_accepted}
+use Rattle.join_defs.proofs.Faults.{Joinable, joinable}
+use Rattle.join_theorems.proofs.Accepted.{all_accepted}
 use Rattle.join_theorems.proofs.Apart.{answers_apart}
 use Rattle.std.specs.Prelude.{Err, Ok}
 

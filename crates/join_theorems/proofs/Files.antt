@@ -33,9 +33,11 @@ use Rattle.join_defs.specs.Districts.{joined_case}
 use Rattle.join_defs.specs.Joining.{header_of, padded, figure_in, sheet_of, laid_out, outcome, join_cases}
 use Rattle.join_defs.proofs.Levels.{levels_same}
 use Rattle.join_defs.proofs.Tables.{sheet_are}
-use Rattle.join_theorems.specs.Calls.{fronts, case_in}
+use Rattle.case_defs.specs.Cases.{case_in}
+use Rattle.casefile_theorems.specs.Cases.{fronts}
 use Rattle.join_theorems.proofs.Within.{second_at}
-use Rattle.join_theorems.proofs.Accepted.{Joinable, all_accepted}
+use Rattle.join_defs.proofs.Faults.{Joinable}
+use Rattle.join_theorems.proofs.Accepted.{all_accepted}
 use Rattle.join_theorems.proofs.Calls.{laid}
 use Rattle.std.specs.Prelude.{Ok}
 use Rattle.std.proofs.lemmas.List.{get_or_default}

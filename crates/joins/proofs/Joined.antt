@@ -1,26 +1,26 @@
 -- What the calls say and leave is what the definition says of the two files; and the joined tables can be written.
 use Prim.Native.Nat.{ℕ, ◌+◌}
 use mathlib.Core.List.{List}
-use mathlib.Core.Path.{◌≡◌, refl, sym, ap, ◌∙◌, subst}
+use mathlib.Core.Path.{◌≡◌, sym, ap, ◌∙◌, subst}
 use lib.ListN.{take}
 use Rattle.refusal.specs.Reply.{answered, refused_by}
 use Rattle.refusal.specs.declared.Refusal.{Refusal}
 use Rattle.casefile_defs.specs.Reading.{Small}
 use Rattle.casefile_defs.specs.Tables.{Places, read_case}
 use Rattle.casefile_defs.specs.declared.Header.{Header}
-use Rattle.casefile_theorems.specs.Cases.{blank}
+use Rattle.casefile_theorems.specs.Cases.{fronts, blank}
 use Rattle.casefile_writer.specs.Files.{file_in}
 use Rattle.casefile_writer.specs.Put.{Put}
 use Rattle.case_tables.specs.Tables.{tables_in}
 use Rattle.plan_defs.proofs.Accepted.{accepted}
 use Rattle.join_defs.specs.Districts.{joined_case}
-use Rattle.join_defs.specs.Joining.{case_as, outcome, join_cases}
-use Rattle.join_theorems.specs.Calls.{fronts}
+use Rattle.case_defs.specs.Cases.{case_as}
+use Rattle.join_defs.specs.Joining.{outcome, join_cases}
 use Rattle.join_theorems.proofs.Accepted.{all_accepted}
 use Rattle.join_theorems.proofs.Calls.{laid}
 use Rattle.std.specs.Prelude.{Ok, Err}
 use Rattle.cases.specs.declared.case.Case.{Case}
-use Rattle.cases.specs.Cases.{IsCase, fronts as lent_fronts}
+use Rattle.cases.specs.Cases.{IsCase}
 use Rattle.cases.proofs.Followed.{cased, uncased}
 use Rattle.joins.specs.Files.{file_by, join_tables, second_by, join_second, first_by, join_files}
 
@@ -32,10 +32,6 @@ joined_small h k j p q out r e =
     let z = (accepted (joined_case (case_as h p) (case_as k q)) t (all_accepted (case_as h p) (case_as k q) h.target k.target l.joins)).counts in
     subst Small (sym l.header)
     (record { buses = z.few_buses; corridors = z.few_corridors; generators = z.few_generators; levels = z.few_levels; target = z.low_target })
-
--- ---- the parts that a case lends are those that the definition joins
-pub fronts_are : (h : Header) (p : Places) → lent_fronts h p ≡ fronts h p
-fronts_are h p = refl
 
 -- ---- what follows on a call goes by what it gives
 module _ (s t : List ℕ) where

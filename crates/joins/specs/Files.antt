@@ -8,7 +8,7 @@ use Rattle.casefile_defs.specs.declared.Header.{Header}
 use Rattle.casefile_theorems.specs.Cases.{longest, blank}
 use Rattle.casefile_writer.specs.Files.{file_in}
 use Rattle.join_defs.specs.Joining.{Outcome, join_cases}
-use Rattle.join_theorems.specs.Calls.{fronts}
+use Rattle.casefile_theorems.specs.Cases.{fronts}
 
 -- ---- the two cases
 -- the file of what joining leaves

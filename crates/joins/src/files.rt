@@ -1,9 +1,8 @@
 // Two case files, read, joined and written as one.
 ghost use Rattle.std.specs.Prelude.{◌≡◌, ◌≤◌, length};
 ghost use Rattle.case_tables.specs.Tables.{tables_in};
-ghost use Rattle.casefile_theorems.specs.Cases.{longest, blank};
+ghost use Rattle.casefile_theorems.specs.Cases.{longest, fronts, blank};
 ghost use Rattle.join_defs.specs.Joining.{join_cases};
-ghost use Rattle.join_theorems.specs.Calls.{fronts};
 ghost use Rattle.cases.specs.Cases.{IsCase};
 ghost use Rattle.joins.specs.Files.{written, Kept, join_files};
 

@@ -1,16 +1,16 @@
 -- The refusals in order, and what a request that passes has.
 -- Each law is the definition with its tests decided.
 use Prim.Native.Nat.{ℕ, ◌<◌, ◌≤◌}
-use mathlib.Core.Bool.{Bool, true, false, cond, ◌&&◌}
+use mathlib.Core.Bool.{Bool, true, ◌&&◌}
 use mathlib.Core.List.{List}
-use mathlib.Core.Path.{◌≡◌, refl, sym, ap, ◌∙◌, subst}
+use mathlib.Core.Path.{◌≡◌, sym, ap, ◌∙◌, subst}
 use borrow.Author.Tests.{eqb-true, ltb-true, ltb-false, leb-true, le-ltb}
 use lib.Dec.{ltb, leb, eqb}
 use lib.ListN.{length, get_or}
-use Rattle.loops.proofs.Bools.{both, unequal}
+use Rattle.loops.proofs.Bools.{both}
+use Rattle.loops.proofs.Chains.{only, after, err_not_ok}
 use Rattle.loops.proofs.Scan.{all_pass}
 use Rattle.refusal.specs.declared.Refusal.{Refusal}
-use Rattle.refusal.specs.declared.Refusal.TheVariants.{Length, Count, Corridor}
 use Rattle.leaders.specs.Leaders.{leaders_of}
 use Rattle.leaders.specs.Operation.{lengths_ok, counts_ok, corridor_ok_at, faulty_corridor, check_of, Ends, outcome, led_by, led_outcome}
 use Rattle.std.specs.Prelude.{Err}
@@ -57,15 +57,11 @@ module _ (buses corridors : ℕ) (a b : List ℕ) (places : ℕ) where
 
   pub passes : no_refusal ≡ check_of buses corridors a b places → Sound buses a b places
   unfolding check_of
-  passes e = go (lengths buses corridors a b places) (counts buses corridors a b places) (ltb (faulty_corridor buses a b) (length a)) refl refl refl e
-    where
-      go : (p q r : Bool) → lengths buses corridors a b places ≡ p → counts buses corridors a b places ≡ q → ltb (faulty_corridor buses a b) (length a) ≡ r
-          → no_refusal ≡ cond p (cond q (cond r (Err (Corridor (faulty_corridor buses a b))) no_refusal) (Err Count)) (Err Length)
-          → Sound buses a b places
-      go false q r s t u h = absurd (unequal cc)
-      go true false r s t u h = absurd (unequal cc)
-      go true true true s t u h = absurd (unequal cc)
-      go true true false s t u h = sound s t (ltb-false _ _ u)
+  passes e =
+      let p = only (lengths buses corridors a b places) (sym e) err_not_ok in
+      let q = only (counts buses corridors a b places) p.1 err_not_ok in
+      let r = after (ltb (faulty_corridor buses a b) (length a)) q.1 err_not_ok in
+      sound p.0 q.0 (ltb-false _ _ r.0)
 
 -- ends of as many buses, and of more
 pub ends_of_lem : (m n : ℕ) (a b : List ℕ) → m ≡ n → Ends n a b → Ends m a b

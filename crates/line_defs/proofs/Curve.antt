@@ -85,7 +85,7 @@ knots_of : (near far high low : ℕ) → 80 ≤ near → far ≤ 965 → 4 * nea
 knots_of near far high low a b c d e f g h =
     record { near_least = a; far_most = b; apart = c; close = d; falls = e; little = f; low_least = g; high_most = h }
 
-abbrev chosen : Bool → Bool → Bool → Bool → ℕ → ℕ → ℕ → ℕ → ℕ → ℕ
+abbrev pub chosen : Bool → Bool → Bool → Bool → ℕ → ℕ → ℕ → ℕ → ℕ → ℕ
 chosen p q r s a b c d e = cond p a (cond q b (cond r c (cond s d e)))
 
 lies : (km : Float) (p q r s : Bool) → T (positive km) → T (real km) → le km km80 ≡ false → le km km160 ≡ p → le km km320 ≡ q → le km km480 ≡ r → le km km640 ≡ s → le km km965 ≡ true

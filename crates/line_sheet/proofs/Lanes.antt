@@ -13,7 +13,7 @@ use Rattle.line_defs.specs.Grid.{on_grid}
 use Rattle.line_defs.specs.declared.Segment.{Segment}
 use Rattle.line_defs.specs.Loadability.{km80, km160, km320, km480, km640, km965, unit, by_segment, segment_of, digits, middle, between}
 use Rattle.line_defs.proofs.Between.{started}
-use Rattle.line_defs.proofs.Curve.{on_segment}
+use Rattle.line_defs.proofs.Curve.{on_segment, chosen}
 use Rattle.line_sheet.specs.declared.loadability.Lane.{Lane}
 use Rattle.line_sheet.specs.Lanes.{in_knots, start_of, lane_of, Fit, Turning, turned, count_of}
 use Rattle.line_sheet.proofs.Quotients.{over_by}
@@ -24,9 +24,6 @@ pub in_knots_lem : (km : Float) → in_knots km ≡ true → (le km km80 ≡ fal
 in_knots_lem km e = let b = both (not (le km km80)) (le km km965) e in (not-true (le km km80) b.0, b.1)
 
 -- ---- what each of the five segments has
-abbrev chosen : Bool → Bool → Bool → Bool → ℕ → ℕ → ℕ → ℕ → ℕ → ℕ
-chosen p q r s a b c d e = cond p a (cond q b (cond r c (cond s d e)))
-
 five : (P : ℕ → ℕ → ℕ → ℕ → Type 0)
     → P 80 160 0x8000_0000 0x8000_0000_0000_0000 → P 160 320 0x8000_0000 0x8000_0000_0000_0000 → P 320 480 0x6000_0000 0xaaaa_aaaa_aaaa_aaab → P 480 640 0x5555_5556 0xc000_0000_0000_0000 → P 640 965 0x6080_0000 0xa9c8_4a47_a07f_5638
     → (p q r s : Bool) → P (chosen p q r s 80 160 320 480 640) (chosen p q r s 160 320 480 640 965) (chosen p q r s 0x8000_0000 0x8000_0000 0x6000_0000 0x5555_5556 0x6080_0000)

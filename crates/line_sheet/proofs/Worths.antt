@@ -1,5 +1,6 @@
 -- Whole numbers as limbs: one limb more, a limb set, a column of a product with its carry, and the order by the highest limb that differs. Assumes nothing.
-use Rattle.std.proofs.Common.{◌≡◌, ℕ, zero, suc, ◌+◌, ◌*◌, ◌/◌, ◌%◌, ◌^◌, ◌<◌, ◌≤◌, Bool, ltb, leb, List, [], ◌∷◌, length, get_or, set, replicate, sym, refl, ap, ◌∙◌, le_trans, le_of_eq, lt_of_lt_of_le, lt_of_le_of_lt, add-zero, mul-le-mul_right, mul_assoc, suc-mul, mul_comm, add-mul, mul-le-mul, mul-le-mul_left, pow-suc, div-add-mod', zero-add, zero-mul, mul-one, mul-add, div-le_self, mul_left_comm, add-one, arith, lit<, length-set, get_or-set_other, get_or-set_same, le-ltb, lt-ltb, le-leb}
+use Rattle.std.proofs.Common.{◌≡◌, ℕ, zero, suc, ◌+◌, ◌*◌, ◌/◌, ◌%◌, ◌^◌, ◌<◌, ◌≤◌, Bool, ltb, leb, List, [], ◌∷◌, length, get_or, set, replicate, sym, refl, ap, ◌∙◌, le_trans, le_of_eq, lt_of_lt_of_le, lt_of_le_of_lt}
+use Rattle.std.proofs.Common.{add-zero, mul-le-mul_right, mul_assoc, suc-mul, mul_comm, add-mul, mul-le-mul, mul-le-mul_left, pow-suc, div-add-mod', zero-add, zero-mul, mul-one, mul-add, div-le_self, mul_left_comm, add-one, arith, lit<, length-set, get_or-set_other, get_or-set_same, le-ltb, lt-ltb, le-leb}
 use native.Mathlib.Nat.{pow-le-pow_right, pow-zero}
 use native.Mathlib.Decide.{ℕ_discrete, dec_lt, dec_le}
 use borrow.Author.Tests.{lt-leb}

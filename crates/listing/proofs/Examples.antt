@@ -3,10 +3,15 @@ use Prim.Native.Nat.{ℕ}
 use mathlib.Core.Bool.{true}
 use mathlib.Core.List.{[], ◌∷◌}
 use mathlib.Core.Path.{◌≡◌, refl}
-use lib.Ieee.{Float, binary64, of_bits}
+use lib.Ieee.{Float, binary64, of_bits, to_bits, eq, mul, round}
+use Rattle.mode.specs.Number.{mode_number}
 use Rattle.mode.specs.declared.PlanMode.TheVariants.{Expand, Observe}
 use Rattle.plan_defs.specs.declared.CorridorPlan.{CorridorPlan}
+use Rattle.plan_defs.specs.Design.{line_of}
+use Rattle.plan_defs.specs.Outcome.{summary as plan_summary}
 use Rattle.plan_defs.proofs.Examples.{sample}
+use Rattle.listing.specs.Text.{decimal, hexadecimal, number, figure}
+use Rattle.listing.specs.Lines.{plan_line, added_line, ground_line, bus_line, generator_line, corridor_line, most_line, lines}
 use Rattle.listing.specs.Listing.{listed, plan_text}
 
 abbrev pub bits : ℕ → Float
@@ -29,6 +34,11 @@ summary = record {
   added = 0;
 }
 
+-- what a listing's lines open
+unfoldable lines_opened : ℕ
+unfolding mode_number decimal hexadecimal number figure plan_line added_line ground_line bus_line generator_line corridor_line most_line lines of_bits to_bits eq
+lines_opened = 0
+
 pub case_l :
     listed Observe summary [] (0 ∷ []) (0 ∷ 0 ∷ []) (bits 0x8000000000000000 ∷ bits 0xbfd0000000000000 ∷ []) (bits 0x4049000000000000 ∷ []) (1 ∷ []) (bits 0x4049000000000000 ∷ []) (bits 0x4059000000000000 ∷ [])
     ≡ 80 ∷ 76 ∷ 32 ∷ 50 ∷ 32 ∷ 48 ∷ 32 ∷ 49 ∷ 32 ∷ 48 ∷ 32 ∷ 48 ∷ 32 ∷ 48 ∷ 32 ∷ 48 ∷ 32 ∷ 48 ∷ 32 ∷ 48 ∷ 32 ∷ 48 ∷ 10
@@ -38,7 +48,7 @@ pub case_l :
     ∷ 71 ∷ 69 ∷ 32 ∷ 48 ∷ 32 ∷ 52 ∷ 48 ∷ 52 ∷ 57 ∷ 48 ∷ 48 ∷ 48 ∷ 48 ∷ 48 ∷ 48 ∷ 48 ∷ 48 ∷ 48 ∷ 48 ∷ 48 ∷ 48 ∷ 10
     ∷ 67 ∷ 79 ∷ 32 ∷ 48 ∷ 32 ∷ 49 ∷ 32 ∷ 52 ∷ 48 ∷ 52 ∷ 57 ∷ 48 ∷ 48 ∷ 48 ∷ 48 ∷ 48 ∷ 48 ∷ 48 ∷ 48 ∷ 48 ∷ 48 ∷ 48 ∷ 48 ∷ 32 ∷ 52 ∷ 48 ∷ 53 ∷ 57 ∷ 48 ∷ 48 ∷ 48 ∷ 48 ∷ 48 ∷ 48 ∷ 48 ∷ 48 ∷ 48 ∷ 48 ∷ 48 ∷ 48 ∷ 10
     ∷ 77 ∷ 88 ∷ 32 ∷ 51 ∷ 70 ∷ 69 ∷ 48 ∷ 48 ∷ 48 ∷ 48 ∷ 48 ∷ 48 ∷ 48 ∷ 48 ∷ 48 ∷ 48 ∷ 48 ∷ 48 ∷ 48 ∷ 32 ∷ 51 ∷ 70 ∷ 68 ∷ 48 ∷ 48 ∷ 48 ∷ 48 ∷ 48 ∷ 48 ∷ 48 ∷ 48 ∷ 48 ∷ 48 ∷ 48 ∷ 48 ∷ 48 ∷ 10 ∷ []
-unfolding Rattle.mode.specs.Number.mode_number Rattle.listing.specs.Text.decimal Rattle.listing.specs.Text.hexadecimal Rattle.listing.specs.Text.number Rattle.listing.specs.Text.figure Rattle.listing.specs.Lines.plan_line Rattle.listing.specs.Lines.added_line Rattle.listing.specs.Lines.ground_line Rattle.listing.specs.Lines.bus_line Rattle.listing.specs.Lines.generator_line Rattle.listing.specs.Lines.corridor_line Rattle.listing.specs.Lines.most_line Rattle.listing.specs.Lines.lines lib.Ieee.of_bits lib.Ieee.to_bits lib.Ieee.eq
+unfolding lines_opened
 case_l = refl
 
 -- A plan whose tallies all differ, with a level added: each stands in its own place of the text, and the figures that are evaluated give the same text.
@@ -52,5 +62,5 @@ pub sample_text :
     ∷ 71 ∷ 69 ∷ 32 ∷ 48 ∷ 32 ∷ 52 ∷ 48 ∷ 55 ∷ 50 ∷ 67 ∷ 48 ∷ 48 ∷ 48 ∷ 48 ∷ 48 ∷ 48 ∷ 48 ∷ 48 ∷ 48 ∷ 48 ∷ 48 ∷ 10
     ∷ 67 ∷ 79 ∷ 32 ∷ 48 ∷ 32 ∷ 52 ∷ 32 ∷ 52 ∷ 48 ∷ 54 ∷ 57 ∷ 48 ∷ 48 ∷ 48 ∷ 48 ∷ 48 ∷ 48 ∷ 48 ∷ 48 ∷ 48 ∷ 48 ∷ 48 ∷ 48 ∷ 32 ∷ 52 ∷ 48 ∷ 55 ∷ 50 ∷ 67 ∷ 48 ∷ 48 ∷ 48 ∷ 48 ∷ 48 ∷ 48 ∷ 48 ∷ 48 ∷ 48 ∷ 48 ∷ 48 ∷ 10
     ∷ 77 ∷ 88 ∷ 32 ∷ 51 ∷ 70 ∷ 69 ∷ 48 ∷ 48 ∷ 48 ∷ 48 ∷ 48 ∷ 48 ∷ 48 ∷ 48 ∷ 48 ∷ 48 ∷ 48 ∷ 48 ∷ 48 ∷ 32 ∷ 51 ∷ 70 ∷ 68 ∷ 48 ∷ 48 ∷ 48 ∷ 48 ∷ 48 ∷ 48 ∷ 48 ∷ 48 ∷ 48 ∷ 48 ∷ 48 ∷ 48 ∷ 48 ∷ 10 ∷ []
-unfolding Rattle.mode.specs.Number.mode_number Rattle.listing.specs.Text.decimal Rattle.listing.specs.Text.hexadecimal Rattle.listing.specs.Text.number Rattle.listing.specs.Text.figure Rattle.listing.specs.Lines.plan_line Rattle.listing.specs.Lines.added_line Rattle.listing.specs.Lines.ground_line Rattle.listing.specs.Lines.bus_line Rattle.listing.specs.Lines.generator_line Rattle.listing.specs.Lines.corridor_line Rattle.listing.specs.Lines.most_line Rattle.listing.specs.Lines.lines lib.Ieee.of_bits lib.Ieee.to_bits lib.Ieee.eq lib.Ieee.mul lib.Ieee.round Rattle.plan_defs.specs.Design.line_of Rattle.plan_defs.specs.Outcome.summary Rattle.listing.specs.Listing.plan_text
+unfolding lines_opened mul round line_of plan_summary plan_text
 sample_text = refl

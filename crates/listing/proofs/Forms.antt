@@ -7,7 +7,8 @@ use Rattle.casefile_defs.specs.Moving.{moved_as, move_forward, move_back}
 use Rattle.casefile_defs.specs.Tables.{Places, held}
 use Rattle.casefile_theorems.proofs.Bytes.{Bytes}
 use Rattle.casefile_theorems.proofs.RoundTrip.{Alike, forward_alike, back_alike}
-use Rattle.planned_files.specs.Files.{filed, case_in, plan_of, plan_read, plan_file}
+use Rattle.case_defs.specs.Cases.{case_in}
+use Rattle.planned_files.specs.Files.{filed, plan_of, plan_read, plan_file}
 use Rattle.listing.specs.Listing.{case_text, read_text, file_text}
 use Rattle.std.specs.Prelude.{Result}
 use Rattle.casefile_defs.specs.declared.Header.{Header}

@@ -86,9 +86,13 @@ plan_room = 213
 abbrev pub line_room : ℕ
 line_room = 79
 
--- and of the listing with so many lines besides PL: the largest case has five levels, 256 grounds, buses and corridors, 128 generators, and MX
+-- and of the listing with so many lines besides PL
 abbrev pub room_for : ℕ → ℕ
 room_for n = plan_room + line_room * n
 
+-- the largest case has five levels, 256 grounds, buses and corridors, 128 generators, and MX
+abbrev pub most_lines : ℕ
+most_lines = 902
+
 abbrev pub most_text : ℕ
-most_text = room_for 902
+most_text = room_for most_lines

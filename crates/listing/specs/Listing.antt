@@ -7,7 +7,7 @@ use Rattle.plan_defs.specs.declared.CorridorPlan.{CorridorPlan}
 use Rattle.casefile_defs.specs.Reading.{reading_of}
 use Rattle.casefile_defs.specs.Tables.{Places, tables_of}
 use Rattle.casefile_defs.specs.declared.Header.{Header}
-use Rattle.planned_files.specs.Files.{case_in}
+use Rattle.case_defs.specs.Cases.{case_in}
 use Rattle.planned_files.specs.declared.file.PlannedFile.{PlannedFile}
 use Rattle.listing.specs.Lines.{refusal_line, plan_line, added_lines, ground_lines, bus_lines, generator_lines, corridor_lines, most_line}
 use Rattle.refusal.specs.declared.Refusal.{Refusal}

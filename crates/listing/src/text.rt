@@ -8,8 +8,14 @@ use itoa::Buffer;
 use plan_defs::listed_bits;
 use std::marker::Model;
 
-// PL and 902 other lines at their longest.
-const MOST_TEXT: usize = 213 + 79 * 902;
+// The most bytes of PL and of any other line, and the most of the other lines.
+const PLAN_ROOM: usize = 213;
+
+const LINE_ROOM: usize = 79;
+
+const MOST_LINES: usize = 902;
+
+const MOST_TEXT: usize = PLAN_ROOM + LINE_ROOM * MOST_LINES;
 
 // The hexadecimal digits of a figure.
 const FIGURE_DIGITS: usize = 16;

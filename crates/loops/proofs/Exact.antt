@@ -14,10 +14,10 @@ use lib.Ieee.Nearest.{div_same}
 use lib.Ieee.Exact.{HasValue, round_exact}
 use Rattle.loops.specs.Figures.{times, one}
 
-not_below : {a b : ℕ} → (b < a → ⊥) → a ≤ b
+pub not_below : {a b : ℕ} → (b < a → ⊥) → a ≤ b
 not_below h = omega arith
 
-pow_le_back : (i p : ℕ) → 2 ^ i ≤ 2 ^ p → i ≤ p
+pub pow_le_back : (i p : ℕ) → 2 ^ i ≤ 2 ^ p → i ≤ p
 pow_le_back i p h = not_below (λ (g : p < i). lt_irrefl (2 ^ p) (lt_of_lt_of_le (pow-lt g) h))
 
 pub exact : (s : Bool) (m : ℕ) (e : ℤ) → T (fits binary64 (fin s m e)) → HasValue (round binary64 s (m * up e) (down e)) s (m * up e) (down e)

@@ -1,5 +1,6 @@
 -- The laws that every crate shares, by subject.
 pub mod Bools
+pub mod Chains
 pub mod Products
 pub mod Loops
 pub mod Scan

@@ -13,10 +13,10 @@ use lib.Ieee.Fits.{down_pos}
 use lib.Ieee.Exact.{HasValue}
 use lib.Ieee.Order.{round_mono}
 use lib.Ieee.Back.{round_whole}
+use lib.Ieee.Scale.{finite as bounded}
 use Rattle.loops.specs.Figures.{plus, times, over, float, nought, million, inside}
 use Rattle.loops.proofs.Bools.{holds, both}
 use Rattle.loops.proofs.Rounded.{alike, sum_is}
-use Rattle.loops.proofs.Order.{bounded}
 use Rattle.loops.proofs.Zeros.{size_zero}
 use Rattle.loops.proofs.Signs.{sound, sound_of}
 use Rattle.loops.proofs.Sums.{cross}

@@ -12,19 +12,15 @@ use lib.Ieee.{Float, nan, inf, fin, is_nan, of_bits, up, down, below, level, lt,
 use lib.Ieee.Compare.{nan_differs}
 use lib.Ieee.Fits.{down_pos}
 use lib.Ieee.Positive.{through}
+use lib.Ieee.Scale.{finite as bounded}
 use Rattle.loops.specs.Figures.{clamped, finite, inside, infinity}
 use Rattle.loops.proofs.Bools.{no, both, and_of, or_left, or_right, either}
 
--- no NaN; no NaN and no infinity; no NaN and not minus infinity
+-- no NaN; no NaN and not minus infinity (`bounded`, neither a NaN nor an infinity, is the kit's)
 abbrev pub real : Float → Bool
 real nan = false
 real (inf s) = true
 real (fin s m e) = true
-
-abbrev pub bounded : Float → Bool
-bounded nan = false
-bounded (inf s) = false
-bounded (fin s m e) = true
 
 abbrev pub upper : Float → Bool
 upper nan = false

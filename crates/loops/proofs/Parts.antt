@@ -1,14 +1,14 @@
 -- Laws of `part`, `put` and `tab`, over any element type: what a loop that reads one part of a slice and writes another asks for.
 -- Assumes nothing.
-use mathlib.Core.Path.{◌≡◌, sym, ap, ◌∙◌}
+use mathlib.Core.Path.{◌≡◌, refl, sym, ap, ◌∙◌}
 use mathlib.Core.List.{List, [], ◌∷◌, ◌++◌, append_assoc, append-nil}
-use Prim.Native.Nat.{ℕ, suc, ◌+◌, ◌-◌, ◌<◌, ◌≤◌}
+use Prim.Native.Nat.{ℕ, zero, suc, ◌+◌, ◌-◌, ◌<◌, ◌≤◌}
 use native.Mathlib.Nat.{add-zero, zero-add, suc-add, add-sub_of_le}
 use native.Mathlib.Decide.{dec_lt}
 use mathlib.Core.Logic.{⊎_elim, ◌⊎◌, inl, inr}
 use native.Mathlib.Numerals.{add-one}
 use native.Mathlib.Omega.{arith}
-use lib.ListN.{length, get_or, set, take, drop, length-append, length-take, length-drop, length-set, get_or-append, take-append-drop}
+use lib.ListN.{length, get_or, set, take, drop, replicate, length-append, length-take, length-drop, length-set, get_or-append, take-append-drop}
 use lib.Seq.{get_or-take, get_or-drop, get_or-append-add, set-append_left, length-take-le, drop-cons, set_at, take_at, drop_at, drop-drop, append_snoc, ext_get_or}
 use Rattle.loops.specs.Loops.{tab}
 use Rattle.loops.specs.Parts.{part, put, Apart}
@@ -26,6 +26,12 @@ module _ {ℓ} {A : Type ℓ} where
   pub length_part : (o n : ℕ) (w : List A) → o + n ≤ length w → length (part o n w) ≡ n
   unfolding part
   length_part o n w h = simp (length-take, length-drop) (omega arith)
+
+  -- the front of one value again and again
+  pub take_replicate : (q n : ℕ) (a : A) → q ≤ n → take q (replicate n a) ≡ replicate q a
+  take_replicate zero n a h = refl
+  take_replicate (suc q) zero a h = absurd (omega arith)
+  take_replicate (suc q) (suc n) a h = ap (λ (l : List A). a ∷ l) (take_replicate q n a (omega arith))
 
   -- ---- a store past a prefix
   set_append_right : (xs ys : List A) (i : ℕ) (a : A) → set (xs ++ ys) (length xs + i) a ≡ xs ++ set ys i a

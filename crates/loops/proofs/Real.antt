@@ -7,10 +7,11 @@ use native.Mathlib.Omega.{arith}
 use lib.Dec.{T}
 use lib.Ieee.{Float, nan, inf, fin, binary64, of_bits, neg, lt, eq, le}
 use lib.Ieee.Positive.{positive, above}
+use lib.Ieee.Scale.{finite as bounded}
 use Rattle.loops.specs.Figures.{infinity, minus_infinity}
 use Rattle.loops.specs.Loops.{sum_to, least_to, greatest_to}
 use Rattle.loops.proofs.Bools.{no}
-use Rattle.loops.proofs.Order.{real, bounded}
+use Rattle.loops.proofs.Order.{real}
 use Rattle.loops.proofs.Signs.{sound, real_add}
 
 -- ---- one figure

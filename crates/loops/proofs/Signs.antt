@@ -10,10 +10,11 @@ use lib.Dec.{T, ltb, eqb, eqb-suc-zero}
 use lib.Ieee.{Float, nan, inf, fin, Format, binary64, up, down, unlike, round, sum, neg, add, sub, mul, div, le, lt, eq, below, level, of_bits}
 use lib.Ieee.Fits.{up_pos, down_pos}
 use lib.Ieee.Positive.{positive}
+use lib.Ieee.Scale.{finite as bounded}
 use Rattle.loops.specs.Figures.{times, half, nought}
 use Rattle.loops.proofs.Bools.{is, no, both, either}
 use Rattle.loops.proofs.Rounded.{round_is, sum_is}
-use Rattle.loops.proofs.Order.{real, bounded}
+use Rattle.loops.proofs.Order.{real}
 use Rattle.loops.proofs.Zeros.{void, size_zero, no_factor, nil_product, product_nil, round_void}
 
 -- ---- no NaN

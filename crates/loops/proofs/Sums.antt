@@ -14,10 +14,11 @@ use lib.Ieee.{Float, nan, inf, fin, binary64, up, down, round, add, sum, lt, eq,
 use lib.Ieee.Fits.{down_pos}
 use lib.Ieee.Order.{le_of_values, round_mono}
 use lib.Ieee.Positive.{num, den, den_pos, through}
+use lib.Ieee.Scale.{finite as bounded}
 use Rattle.loops.specs.Figures.{plus, nought, infinity}
 use Rattle.loops.proofs.Bools.{holds, no, both, either}
 use Rattle.loops.proofs.Rounded.{round_is}
-use Rattle.loops.proofs.Order.{real, bounded, le_self, le_of_not_lt}
+use Rattle.loops.proofs.Order.{real, le_self, le_of_not_lt}
 use Rattle.loops.proofs.Zeros.{size_zero, nil_product}
 use Rattle.loops.proofs.Signs.{sound}
 use Rattle.loops.proofs.Exact.{exact}

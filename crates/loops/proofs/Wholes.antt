@@ -13,9 +13,9 @@ use lib.Ieee.Fits.{down_pos}
 use lib.Ieee.Exact.{HasValue, round_exact}
 use lib.Ieee.Order.{le_of_values, round_mono}
 use lib.Ieee.Positive.{num, den}
+use lib.Ieee.Scale.{finite as bounded}
 use Rattle.loops.specs.Figures.{plus}
 use Rattle.loops.proofs.Bools.{holds}
-use Rattle.loops.proofs.Order.{bounded}
 use Rattle.loops.proofs.Signs.{sound}
 use Rattle.loops.proofs.Zeros.{size_zero, nil_product}
 use Rattle.loops.proofs.Sums.{unsigned, Term, cross, over, plus_unsigned}

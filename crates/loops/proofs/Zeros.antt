@@ -12,10 +12,10 @@ use lib.Pow.{pow_pos}
 use lib.Ieee.{Float, nan, inf, fin, Format, prec, emax, low, up, down, unlike, round, add, mul, eq, of_bits}
 use lib.Ieee.Exact.{HasValue, round_exact}
 use lib.Ieee.Fits.{up_pos, down_pos}
+use lib.Ieee.Scale.{finite as bounded}
 use Rattle.loops.specs.Figures.{nought}
 use Rattle.loops.proofs.Bools.{is, holds, and_of, or_right}
 use Rattle.loops.proofs.Rounded.{sum_is}
-use Rattle.loops.proofs.Order.{bounded}
 
 abbrev pub void : Float → Bool
 void nan = true

@@ -16,14 +16,14 @@ use lib.Ieee.{Float, lt, le}
 use Rattle.loops.specs.Figures.{at, plus, nought, infinity}
 use Rattle.loops.proofs.Sums.{unsigned, plus_unsigned, nought_least, infinity_above, le_refl, lt_alike}
 use Rattle.placement_defs.specs.Request.{Net}
-use Rattle.placement_defs.specs.Distance.{Network, Labels, labels, rest, candidate, settled, reached, seeded, searched, distances, distances_from, blank}
+use Rattle.placement_defs.specs.Distance.{Network, Labels, labels, rest, settled, reached, seeded, searched, distances, distances_from, blank}
 use Rattle.placement_defs.specs.Support.{support_km, farther, farthest_to, if_far, next_by, next_of}
 use Rattle.placement_defs.specs.Chain.{Chain, here, along, Source}
 use Rattle.placement.proofs.Chains.{chain_as, nought_unsigned, infinity_unsigned, limit_unsigned, length_at}
 use Rattle.placement.proofs.Choice.{farthest_within}
 use Rattle.placement.proofs.Turns.{blank_start}
 use Rattle.placement.proofs.Count.{left_most}
-use Rattle.placement.proofs.Settled.{M, D, F, Changed, reached_changes, Kept, Stand, sign_at}
+use Rattle.placement.proofs.Settled.{M, D, F, not_both, Changed, reached_changes, Kept, Stand, sign_at}
 use Rattle.placement.proofs.Settling.{Ready, all_turns}
 use Rattle.placement.proofs.Nearest.{ends, nearest}
 
@@ -72,12 +72,9 @@ module _ (w : Network) (net : Net w.n w.m w.a w.b w.km) (sources : List ℕ) (lo
   none_done : (j : ℕ) → j < w.n → M (reached i nought i start) j ≡ settled → ⊥
   none_done j h d =
       elim (ℕ_discrete j i) [
-        | yes e ↦ two≢one d (ap (λ (t : ℕ). M (reached i nought i start) t) e ∙ change.mark_here)
+        | yes e ↦ not_both (ap (λ (t : ℕ). M (reached i nought i start) t) e ∙ change.mark_here) d
         | no e ↦ differ (resting j h e) d
       ]
-    where
-      two≢one : {x : ℕ} → x ≡ settled → x ≡ candidate → ⊥
-      two≢one p q = omega arith
 
   start_kept : Kept w more (reached i nought i start)
   start_kept =

@@ -7,8 +7,9 @@ use native.Mathlib.Decide.{ℕ_discrete}
 use native.Mathlib.Omega.{arith}
 use borrow.Author.Tests.{eqb-true, eqb-false}
 use lib.Dec.{eqb}
+use Rattle.loops.proofs.Bools.{no as clash}
 
-split : {j i : ℕ} → j < suc i → (j ≡ i → ⊥) → j < i
+pub split : {j i : ℕ} → j < suc i → (j ≡ i → ⊥) → j < i
 split h n = omega arith
 
 -- of the indices below i, best is one that p takes and that is R to each that p takes; n where p takes none
@@ -21,9 +22,6 @@ module _ (n : ℕ) (p : ℕ → Bool) (R : ℕ → ℕ → Type 0) (better : ℕ
     (own : (i : ℕ) → i < n → p i ≡ true → R i i)
     (wins : (i b j : ℕ) → i < n → b < n → j < n → p i ≡ true → p b ≡ true → p j ≡ true → better i b ≡ true → R b j → R i j)
     (loses : (i b : ℕ) → i < n → b < n → p i ≡ true → p b ≡ true → better i b ≡ false → R b i) where
-  clash : {b : Bool} → b ≡ false → b ≡ true → ⊥
-  clash f t = let z : ◌≡◌ {A = ℕ} 0 1 = cc in omega arith
-
   at_own : (i j : ℕ) → j ≡ i → i < n → p i ≡ true → R i j
   at_own i j u h c = subst (λ (t : ℕ). R i t) (sym u) (own i h c)
 

@@ -8,9 +8,10 @@ use Prim.Native.Nat.{ℕ, ◌<◌}
 use lib.Dec.{T}
 use lib.Ieee.{Float, binary64, fits, of_bits, le}
 use lib.Ieee.Fits.{add-fits}
+use lib.Ieee.Scale.{finite as bounded}
 use Rattle.loops.specs.Figures.{at, nought, ten_thousand, infinity}
 use Rattle.loops.proofs.Bools.{and_of}
-use Rattle.loops.proofs.Order.{bounded, inside_bounded}
+use Rattle.loops.proofs.Order.{inside_bounded}
 use Rattle.loops.proofs.Signs.{sound_of}
 use Rattle.placement_defs.specs.Request.{Net}
 use Rattle.placement_defs.specs.Distance.{Network}

@@ -1,16 +1,17 @@
 -- What a request that passes the checks has.
 -- The tests are taken apart in their order; where no row of a table is the first faulty one, each row passes.
-use mathlib.Core.Path.{◌≡◌, refl, sym, ◌∙◌}
-use mathlib.Core.Bool.{Bool, true, false, cond, ◌&&◌}
+use mathlib.Core.Path.{◌≡◌, sym, ◌∙◌}
+use mathlib.Core.Bool.{Bool, true, ◌&&◌}
 use Prim.Native.Nat.{ℕ, ◌<◌, ◌≤◌}
 use borrow.Author.Tests.{eqb-true, leb-true, ltb-true, ltb-false, lt-ltb, le-ltb}
 use native.Mathlib.Omega.{arith}
 use lib.Dec.{eqb, ltb, leb}
 use lib.ListN.{length, get_or}
 use Rattle.loops.proofs.Bools.{both}
+use Rattle.loops.proofs.Chains.{only, after, err_not_ok}
 use Rattle.loops.proofs.Scan.{all_pass, fault_some, fault_passed}
 use Rattle.loops.specs.Loops.{first, fault}
-use Rattle.refusal.specs.declared.Refusal.TheVariants.{Length, Count, Bus, Generator, Corridor}
+use Rattle.refusal.specs.declared.Refusal.TheVariants.{Bus, Generator, Corridor}
 use Rattle.placement_defs.specs.Request.{Request, Net, Units, lengths_ok, counts_ok, load_at, bus_ok, corridor_at, first_load, first_generator, first_corridor, faulty_row, check_of}
 use Rattle.std.specs.Prelude.{Err, Result, Some, None}
 use Rattle.refusal.specs.declared.Refusal.{Refusal}
@@ -75,14 +76,6 @@ module _ (k : Request) (buses mvars : ℕ) (l : lengths_ok k buses mvars ≡ tru
   corridor_refused i e =
       rw (l, c) (row_faulty Corridor (corridor_at k.n k.a k.b k.km) k.m i _ e ∙ row_sound Generator (λ i. bus_ok k.n (get_or k.generators i 0)) k.g _ stand ∙ row_sound Bus (load_at k.reading k.weight) k.n _ sound)
 
-only : (b : Bool) (x y : Result (Unit {0}) Refusal) → cond b x y ≡ no_refusal → (y ≡ no_refusal → ⊥) → (b ≡ true) × (x ≡ no_refusal)
-only true x y e n = (refl, e)
-only false x y e n = absurd (n e)
-
-after : (b : Bool) (x y : Result (Unit {0}) Refusal) → cond b x y ≡ no_refusal → (x ≡ no_refusal → ⊥) → (b ≡ false) × (y ≡ no_refusal)
-after true x y e n = absurd (n e)
-after false x y e n = (refl, e)
-
 -- where no row of a table is faulty, each passes
 ends : (k : Request) → k.m ≤ first_corridor k.a k.b k.km k.n k.m → (c : ℕ) → c < k.m → corridor_at k.n k.a k.b k.km c ≡ true
 unfolding first_corridor
@@ -101,15 +94,11 @@ passed k buses mvars e =
     let load = first_load k.reading k.weight n in
     let gen = first_generator k.generators n g in
     let cor = first_corridor k.a k.b k.km n m in
-    let c5 = faulty_row Corridor cor m no_refusal in
-    let c4 = faulty_row Generator gen g c5 in
-    let c3 = faulty_row Bus load n c4 in
-    let c2 = cond (counts_ok n m g) c3 (Err Count) in
-    let h1 = only (lengths_ok k buses mvars) c2 (Err Length) (sym e) (λ q. let z : ◌≡◌ {A = ℕ} 0 1 = cc in omega arith) in
-    let h2 = only (counts_ok n m g) c3 (Err Count) h1.1 (λ q. let z : ◌≡◌ {A = ℕ} 0 1 = cc in omega arith) in
-    let h3 = after (ltb load n) (Err (Bus load)) c4 h2.1 (λ q. let z : ◌≡◌ {A = ℕ} 0 1 = cc in omega arith) in
-    let h4 = after (ltb gen g) (Err (Generator gen)) c5 h3.1 (λ q. let z : ◌≡◌ {A = ℕ} 0 1 = cc in omega arith) in
-    let h5 = after (ltb cor m) (Err (Corridor cor)) no_refusal h4.1 (λ q. let z : ◌≡◌ {A = ℕ} 0 1 = cc in omega arith) in
+    let h1 = only (lengths_ok k buses mvars) (sym e) err_not_ok in
+    let h2 = only (counts_ok n m g) h1.1 err_not_ok in
+    let h3 = after (ltb load n) h2.1 err_not_ok in
+    let h4 = after (ltb gen g) h3.1 err_not_ok in
+    let h5 = after (ltb cor m) h4.1 err_not_ok in
     let l = lengths_of k buses mvars h1.0 in
     let counts = both (leb n 256) (leb m 256) (both (leb n 256 && leb m 256) (leb g 128) h2.0).0 in
     record {

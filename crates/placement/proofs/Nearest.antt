@@ -20,22 +20,17 @@ use Rattle.placement_defs.specs.Distance.{Network, Labels, rest, candidate, sett
 use Rattle.placement_defs.specs.Chain.{Chain, here, along, Source, Nearest}
 use Rattle.loops.proofs.Sums.{plus_unsigned, plus_mono, plus_infinity, infinity_most, infinity_above, le_refl, le_trans}
 use Rattle.loops.proofs.Bools as bools
+use Rattle.placement.proofs.Best.{split}
 use Rattle.placement.proofs.Chains.{chain_as, chain_unsigned, nought_unsigned, length_at, far_bus}
 use Rattle.placement.proofs.Count.{left_most}
-use Rattle.placement.proofs.Settled.{M, D, F, Changed, reached_changes, Kept, Relaxed, Stand, sign_at}
+use Rattle.placement.proofs.Settled.{M, D, F, not_both, Changed, reached_changes, Kept, Relaxed, Stand, sign_at}
 use Rattle.placement.proofs.Settling.{Ready, all_turns}
-
-split : {j i : ℕ} → j < suc i → (j ≡ i → ⊥) → j < i
-split h n = omega arith
 
 apart : {j i : ℕ} → suc i ≤ j → j ≡ i → ⊥
 apart h e = omega arith
 
 two≢zero : {x : ℕ} → x ≡ settled → x ≡ rest → ⊥
 two≢zero p q = omega arith
-
-two≢one : {x : ℕ} → x ≡ settled → x ≡ candidate → ⊥
-two≢one p q = omega arith
 
 module _ (w : Network) (net : Net w.n w.m w.a w.b w.km) (sources : List ℕ) where
   -- ---- the sources below i are placed
@@ -106,7 +101,7 @@ module _ (w : Network) (net : Net w.n w.m w.a w.b w.km) (sources : List ℕ) whe
   begun s b = record { kept = kept; relaxed = λ k j c hk hj hc n jo. relaxed k j c hk hj hc n }
     where
       none_done : (i : ℕ) → i < w.n → M s i ≡ settled → ⊥
-      none_done i h d = elim (ℕ_discrete (get_or sources i 0) 0) [ yes q ↦ two≢zero d (b.others i h q).0 | no q ↦ two≢one d (b.placed i h h q).0 ]
+      none_done i h d = elim (ℕ_discrete (get_or sources i 0) 0) [ yes q ↦ two≢zero d (b.others i h q).0 | no q ↦ not_both (b.placed i h h q).0 d ]
 
       kept : Kept w sources s
       kept =

@@ -19,6 +19,7 @@ use Rattle.loops.proofs.Sums.{unsigned, plus_unsigned, plus_grows, plus_infinity
 use Rattle.placement_defs.specs.Request.{Net}
 use Rattle.placement_defs.specs.Distance.{Network, Labels, candidate, settled, reached}
 use Rattle.placement_defs.specs.Chain.{Chain, along, Joins, Source}
+use Rattle.placement.proofs.Best.{split}
 use Rattle.placement.proofs.Chains.{chain_as, chain_unsigned, nought_unsigned, infinity_unsigned, length_at}
 
 abbrev pub M : Labels → ℕ → ℕ
@@ -30,11 +31,8 @@ D s j = at s.dist j
 abbrev pub F : Labels → ℕ → ℕ
 F s j = get_or s.from j 0
 
-not_both : {x : ℕ} → x ≡ candidate → x ≡ settled → ⊥
+pub not_both : {x : ℕ} → x ≡ candidate → x ≡ settled → ⊥
 not_both p q = omega arith
-
-below_next : {e c : ℕ} → e < suc c → (e ≡ c → ⊥) → e < c
-below_next l q = omega arith
 
 -- ---- labels in which one bus is reached
 pub record Changed (s t : Labels) (j₀ : ℕ) (nd : Float) (src : ℕ) : Type 0 where
@@ -104,7 +102,7 @@ module _ (w : Network) (net : Net w.n w.m w.a w.b w.km) (sources : List ℕ) whe
             elim (ℕ_discrete k i) [
               | yes p ↦ elim (ℕ_discrete e c) [
                 | yes q ↦ subst (λ (t : ℕ). Relaxed w s t e j) (sym p) (subst (λ (t : ℕ). Relaxed w s i t j) (sym q) (x j hj (subst (λ (t : ℕ). Joins w t i j) q (subst (λ (t : ℕ). Joins w e t j) p jo))))
-                | no q ↦ b.relaxed k j e hk hj he n jo (λ z. below_next (below z) q)
+                | no q ↦ b.relaxed k j e hk hj he n jo (λ z. split (below z) q)
               ]
               | no p ↦ b.relaxed k j e hk hj he n jo (λ z. absurd (p z))
             ];
@@ -210,7 +208,7 @@ module _ (w : Network) (net : Net w.n w.m w.a w.b w.km) (sources : List ℕ) whe
                 | yes p ↦ elim (ℕ_discrete e c) [
                   | yes q ↦ subst (λ (x : ℕ). Relaxed w t x e j) (sym p) (subst (λ (x : ℕ). Relaxed w t i x j) (sym q)
                       (new j (only j (subst (λ (x : ℕ). Joins w x i j) q (subst (λ (x : ℕ). Joins w e x j) p jn)))))
-                  | no q ↦ old (λ z. below_next (below z) q)
+                  | no q ↦ old (λ z. split (below z) q)
                 ]
                 | no p ↦ old (λ z. absurd (p z))
               ];

@@ -26,10 +26,7 @@ use Rattle.loops.proofs.Sums.{unsigned, plus_unsigned, plus_grows, le_refl, le_t
 use Rattle.placement.proofs.Chains.{length_at, far_bus}
 use Rattle.placement.proofs.Best.{Best, first_best, next_best}
 use Rattle.placement.proofs.Count.{left, left_reached, left_settled, all_settled}
-use Rattle.placement.proofs.Settled.{M, D, F, reached_changes, Kept, Relaxed, Stand, Within, sign_at, advance, reach_step}
-
-differ : {x : ℕ} → x ≡ candidate → x ≡ settled → ⊥
-differ p q = omega arith
+use Rattle.placement.proofs.Settled.{M, D, F, not_both, reached_changes, Kept, Relaxed, Stand, Within, sign_at, advance, reach_step}
 
 -- ---- the tests of step 1
 touches : (a b i : ℕ) → (eqb a i || eqb b i) ≡ true → ((a ≡ i) × (b ≡ far_end a b i)) ⊎ ((a ≡ far_end a b i) × (b ≡ i))
@@ -180,7 +177,7 @@ module _ (w : Network) (net : Net w.n w.m w.a w.b w.km) (sources : List ℕ) whe
     mark_at j e = ap (λ (t : ℕ). get_or (set s.mark i settled) t 0) e ∙ mark_i
 
     open_was : (j : ℕ) → get_or (set s.mark i settled) j 0 ≡ candidate → M s j ≡ candidate
-    open_was j m = elim (ℕ_discrete j i) [ yes e ↦ absurd (differ m (mark_at j e)) | no e ↦ sym (mark_else j e) ∙ m ]
+    open_was j m = elim (ℕ_discrete j i) [ yes e ↦ absurd (not_both m (mark_at j e)) | no e ↦ sym (mark_else j e) ∙ m ]
 
     settled_kept : Kept w sources (settle i s)
     unfolding settle
@@ -218,7 +215,7 @@ module _ (w : Network) (net : Net w.n w.m w.a w.b w.km) (sources : List ℕ) whe
 
     settled_left : left settled (settle i s).mark w.n + 1 ≡ left settled s.mark w.n
     unfolding settle
-    settled_left = left_settled settled s.mark w.n i hi bound (λ z. differ mi z)
+    settled_left = left_settled settled s.mark w.n i hi bound (λ z. not_both mi z)
 
     pub spread_step : Stand w sources (spread w i s) × (left settled (spread w i s).mark w.n + 1 ≡ left settled s.mark w.n)
     unfolding spread
@@ -254,7 +251,7 @@ module _ (w : Network) (net : Net w.n w.m w.a w.b w.km) (sources : List ℕ) whe
   pub all_turns : (d k : ℕ) (s : Labels) → Stand w sources s → left settled s.mark w.n ≤ d
       → Ready w sources (iter (turn w) d k s)
   unfolding iter
-  all_turns zero k s st h = (st, λ j hj m. differ m (all_settled settled s.mark w.n (least (left settled s.mark w.n) h) j hj))
+  all_turns zero k s st h = (st, λ j hj m. not_both m (all_settled settled s.mark w.n (least (left settled s.mark w.n) h) j hj))
     where
       least : (x : ℕ) → x ≤ 0 → x ≡ 0
       least x p = omega arith

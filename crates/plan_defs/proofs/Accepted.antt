@@ -3,7 +3,7 @@
 use Prim.Native.Nat.{ℕ, zero, suc, ◌+◌, ◌*◌, ◌≤◌, ◌<◌}
 use mathlib.Core.Bool.{Bool, true, false, cond, ◌&&◌}
 use mathlib.Core.List.{List}
-use mathlib.Core.Option.{Option, none, some}
+use mathlib.Core.Option.{Option, none}
 use mathlib.Core.Path.{◌≡◌, refl, sym, ◌∙◌, subst}
 use native.Mathlib.Omega.{arith}
 use borrow.Author.Tests.{ltb-true, ltb-false, leb-true, eqb-true}
@@ -13,11 +13,12 @@ use lib.Ieee.{lt, le}
 use Rattle.loops.specs.Figures.{at, nought, one, half, thousand, ten_thousand, million, inside}
 use Rattle.loops.specs.Loops.{first}
 use Rattle.loops.proofs.Bools.{both}
+use Rattle.loops.proofs.Chains.{only, after, some_not_none}
 use Rattle.loops.proofs.Rows.{row_fits}
 use Rattle.loops.proofs.Scan.{all_pass}
 use Rattle.loops.proofs.Tab.{get_tab}
 use Rattle.refusal.specs.declared.Refusal.{Refusal}
-use Rattle.refusal.specs.declared.Refusal.TheVariants.{Length, Count, Level, Bus, Generator, Corridor, Row}
+use Rattle.refusal.specs.declared.Refusal.TheVariants.{Level, Bus, Generator, Corridor, Row}
 use Rattle.sheets.specs.Sheet.{row_figures, row_place, line_index, line_corridor}
 use Rattle.sheets.proofs.Layouts.{parts, row_inside as inside_sheet}
 use Rattle.leaders.specs.Operation.{Ends, corridor_ok}
@@ -69,16 +70,9 @@ pub record Accepted (c : Case) (target : ℕ) : Type 0 where
   pub row_ok_holds : (i : ℕ) → i < c.corridors * levels c → row_ok c i ≡ true
 
 -- ---- one table after another
-refused : {f : Refusal} → some f ≡ none → ⊥
-refused e = let z : ◌≡◌ {A = ℕ} 0 1 = cc in omega arith
-
 pub passes : (ok : ℕ → Bool) (fault : ℕ → Refusal) (n : ℕ) (next : Option Refusal) → first_fault ok fault n next ≡ none
     → ((i : ℕ) → i < n → ok i ≡ true) × (next ≡ none)
-passes ok fault n next h = go (ltb (first ok n 0) n) refl h
-  where
-    go : (b : Bool) → ltb (first ok n 0) n ≡ b → cond b (some (fault (first ok n 0))) next ≡ none → ((i : ℕ) → i < n → ok i ≡ true) × (next ≡ none)
-    go true e q = absurd (refused q)
-    go false e q = (all_pass ok n (ltb-false _ _ e), q)
+passes ok fault n next h = let p = after (ltb (first ok n 0) n) h some_not_none in (all_pass ok n (ltb-false _ _ p.0), p.1)
 
 module _ (c : Case) where
   pub columns_of_lem : lengths_ok c ≡ true → Columns c
@@ -141,26 +135,23 @@ module _ (c : Case) where
 
   pub accepted : (target : ℕ) → case_fault c target ≡ none → Accepted c target
   unfolding case_fault tables_fault
-  accepted target h = go (lengths_ok c) (counts_ok c target) refl refl h
-    where
-      go : (x y : Bool) → lengths_ok c ≡ x → counts_ok c target ≡ y → cond x (cond y (tables_fault c) (some Count)) (some Length) ≡ none → Accepted c target
-      go false y p q e = absurd (refused e)
-      go true false p q e = absurd (refused e)
-      go true true p q e =
-          let l = passes (level_ok c) Level (levels c) _ e in
-          let u = passes (bus_ok c) Bus c.buses _ l.1 in
-          let g = passes (generator_ok c) Generator c.generators _ u.1 in
-          let k = passes (corridor_sound c) Corridor c.corridors _ g.1 in
-          let w = passes (row_ok c) Row (c.corridors * levels c) _ k.1 in
-          record {
-            columns = columns_of_lem p;
-            counts = counts_of target q;
-            level_ok_holds = l.0;
-            bus_ok_holds = u.0;
-            generator_ok_holds = g.0;
-            corridor_ok_holds = k.0;
-            row_ok_holds = w.0;
-          }
+  accepted target h =
+      let x = only (lengths_ok c) h some_not_none in
+      let y = only (counts_ok c target) x.1 some_not_none in
+      let l = passes (level_ok c) Level (levels c) _ y.1 in
+      let u = passes (bus_ok c) Bus c.buses _ l.1 in
+      let g = passes (generator_ok c) Generator c.generators _ u.1 in
+      let k = passes (corridor_sound c) Corridor c.corridors _ g.1 in
+      let w = passes (row_ok c) Row (c.corridors * levels c) _ k.1 in
+      record {
+        columns = columns_of_lem x.0;
+        counts = counts_of target y.0;
+        level_ok_holds = l.0;
+        bus_ok_holds = u.0;
+        generator_ok_holds = g.0;
+        corridor_ok_holds = k.0;
+        row_ok_holds = w.0;
+      }
 
 -- ---- what the tables' tests say
 -- the higher and the lower end of a corridor are its ends

@@ -28,10 +28,10 @@ use Rattle.plan_defs.specs.Listing.{bits_of, lines, listing_of}
 use Rattle.plan_defs.specs.declared.CircuitDesign.{CircuitDesign}
 use Rattle.plan_defs.proofs.Unfolded.{whole_plan}
 
-abbrev whole : ℕ → Float
+abbrev pub whole : ℕ → Float
 whole n = decimal n 1
 
-abbrev ones : ℕ → List Float
+abbrev pub ones : ℕ → List Float
 ones n = replicate n one
 
 -- three buses in a row, at these tiers of four
@@ -69,7 +69,7 @@ shares = refl
 abbrev line : CircuitDesign
 line = line_of 0 1 (whole 138) (row_of nought one nought (whole 300) nought) (whole 10) one
 
-abbrev bank_of : CircuitDesign → ℕ
+abbrev pub bank_of : CircuitDesign → ℕ
 bank_of d = bits_of d.transformer_mva
 
 pub floors_kept :
@@ -294,7 +294,7 @@ cheapest_first = refl
 
 -- The first unit left below pmax ends the pass, also where rounding leaves a difference above zero: two units of three eighths of the last place of 50 are at
 -- pmax, the first gets what they leave of 50, rounded, and the sum by index loses them. The last unit, as cheap as the first, stays at nought.
-abbrev lost : Float
+abbrev pub lost : Float
 lost = of_bits binary64 0x3CE8_0000_0000_0000
 
 pub ends_below : given ExpandServing (units (hundred ∷ lost ∷ lost ∷ hundred ∷ []) (whole 20 ∷ whole 10 ∷ whole 10 ∷ whole 20 ∷ [])) 50

@@ -28,7 +28,7 @@ said l = get_or l 0 [] ∷ get_or l 6 [] ∷ []
 
 -- One corridor that needs three circuits. (The unit gives its pmax, so that nothing is halved to find a price.)
 -- HD mode target 2 1 1 0 1; LV 138; BU 0 0, 0 200; GE 0 1 0 200 20 0.25; CP 0 1 initial 10 1 cap; LN 0 0.0625 0 100 0
-abbrev valley : PlanMode → ℕ → ℕ → Case
+abbrev pub valley : PlanMode → ℕ → ℕ → Case
 valley mode initial cap =
     surveyed mode 2 1 1 0 1 (whole 138 ∷ []) (0 ∷ 0 ∷ []) (nought ∷ whole 200 ∷ []) (replicate 2 one) (0 ∷ []) (1 ∷ []) (nought ∷ []) (whole 200 ∷ []) (whole 20 ∷ []) (decimal 1 4 ∷ [])
     (0 ∷ []) (1 ∷ []) (initial ∷ []) (whole 10 ∷ []) (one ∷ []) (cap ∷ []) (nought ∷ decimal 1 16 ∷ nought ∷ hundred ∷ nought ∷ [])
@@ -46,7 +46,7 @@ unfolding whole_plan
 caps_taken = refl
 
 -- The plan record keeps the caps in every mode, also where it keeps zeros of filling; a refusal of the case leaves what was lent.
-abbrev lent : Slices
+abbrev pub lent : Slices
 lent =
     slices (9 ∷ []) (one ∷ []) (one ∷ []) (9 ∷ []) (9 ∷ []) (9 ∷ []) (one ∷ []) (replicate 2 one) (replicate 2 9) (replicate 2 9) [] (replicate 48 one) (replicate 48 9)
 

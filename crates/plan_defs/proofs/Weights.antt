@@ -18,7 +18,7 @@ whole n = decimal n 1
 
 -- One corridor to a bus with this reading and these weights of both buses.
 -- HD mode target 2 1 1 0 1; LV 138; BV 0 0 1, 0 reading weight; GE 0 1 0 300 20 0.25; CO 0 1 1 10 1; LN 0 0.0625 0 100 0
-abbrev read : PlanMode → Float → List Float → Case
+abbrev pub read : PlanMode → Float → List Float → Case
 read mode reading weight =
     surveyed mode 2 1 1 0 1 (whole 138 ∷ []) (0 ∷ 0 ∷ []) (nought ∷ reading ∷ []) weight (0 ∷ []) (1 ∷ []) (nought ∷ []) (whole 300 ∷ []) (whole 20 ∷ []) (decimal 1 4 ∷ [])
     (0 ∷ []) (1 ∷ []) (1 ∷ []) (whole 10 ∷ []) (one ∷ []) (0 ∷ []) (nought ∷ decimal 1 16 ∷ nought ∷ hundred ∷ nought ∷ [])

@@ -1,31 +1,22 @@
--- proofs/Weights again, each asking one definition where Weights lists whole plans, so that an edit of a definition is refused sooner (work that came after the base; both stand).
--- Worked examples of readings with their weights (document 02, K6): what is served, banked and injected is the product, rounded once; and 4, where the
--- reading, the weight or the product is out of range. By evaluation; crates/plan_cases has whole cases.
+-- Worked examples beside those of proofs/Weights, each asking one definition, so that an edit of that definition is refused soon: what is served, banked and
+-- injected is the product of a reading and its weight (document 02, K6), rounded once; and 4, where one of the three is out of range. By evaluation;
+-- crates/plan_cases has whole cases.
 use Prim.Native.Nat.{ℕ}
 use mathlib.Core.List.{List, [], ◌∷◌, map}
 use mathlib.Core.Path.{◌≡◌, refl}
 use lib.ListN.{replicate}
 use lib.Ieee.{Float, binary64, of_bits, nan}
 use Rattle.loops.specs.Figures.{nought, half, one, hundred, thousand, decimal}
-use Rattle.mode.specs.declared.PlanMode.{PlanMode}
 use Rattle.mode.specs.declared.PlanMode.TheVariants.{Observe}
-use Rattle.plan_defs.specs.Case.{Case, surveyed}
+use Rattle.plan_defs.specs.Case.{Case}
 use Rattle.plan_defs.specs.Accept.{case_fault}
 use Rattle.plan_defs.specs.Dispatch.{demand_of, injection_mw}
 use Rattle.plan_defs.specs.Design.{bank_for}
-use Rattle.plan_defs.specs.Listing.{bits_of}
+use Rattle.plan_defs.specs.Listing.{bits_of, listing_of}
+use Rattle.plan_defs.proofs.Examples.{whole}
 use Rattle.plan_defs.proofs.ExamplesApart.{refusal_of}
+use Rattle.plan_defs.proofs.Weights.{read}
 use Rattle.plan_defs.proofs.Unfolded.{whole_plan}
-
-abbrev whole : ℕ → Float
-whole n = decimal n 1
-
--- One corridor to a bus with this reading and these weights of both buses.
--- HD mode target 2 1 1 0 1; LV 138; BV 0 0 1, 0 reading weight; GE 0 1 0 300 20 0.25; CO 0 1 1 10 1; LN 0 0.0625 0 100 0
-abbrev read : PlanMode → Float → List Float → Case
-read mode reading weight =
-    surveyed mode 2 1 1 0 1 (whole 138 ∷ []) (0 ∷ 0 ∷ []) (nought ∷ reading ∷ []) weight (0 ∷ []) (1 ∷ []) (nought ∷ []) (whole 300 ∷ []) (whole 20 ∷ []) (decimal 1 4 ∷ [])
-    (0 ∷ []) (1 ∷ []) (1 ∷ []) (whole 10 ∷ []) (one ∷ []) (0 ∷ []) (nought ∷ decimal 1 16 ∷ nought ∷ hundred ∷ nought ∷ [])
 
 -- The demand of both buses, a bank for the second and its injection: of 3 at a weight of 0.5; of 0.1 at 3, whose product is rounded up.
 abbrev drawn : Float → Float → List ℕ

@@ -11,12 +11,13 @@ use native.Mathlib.Decide.{ℕ_discrete}
 use borrow.Author.Tests.{ltb-true, ltb-false, eq-eqb}
 use lib.Dec.{T, ltb}
 use lib.Ieee.{Float, nan, binary64, fits, of_bits}
+use lib.Ieee.Scale.{finite as bounded}
 use lib.ListN.{length, get_or, set, length-set, length-map, replicate, length-replicate}
 use lib.Seq.{get_or-set_same, get_or-set_other, set_out}
 use Rattle.loops.specs.Figures.{at, plus, nought, million, inside}
 use Rattle.loops.proofs.Bools.{and_of}
 use Rattle.loops.proofs.Loops.{iter_carries}
-use Rattle.loops.proofs.Order.{real, bounded, inside_bounded}
+use Rattle.loops.proofs.Order.{real, inside_bounded}
 use Rattle.loops.proofs.Signs.{real_add}
 use Rattle.loops.proofs.Fronts.{get_map}
 use Rattle.leaders.specs.Chain.{Led}

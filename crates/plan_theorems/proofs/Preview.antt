@@ -13,6 +13,7 @@ use lib.ListN.{length, get_or}
 use Rattle.loops.specs.Loops.{first}
 use Rattle.loops.specs.Sorting.{occ}
 use Rattle.loops.proofs.Bools.{both, and_of}
+use Rattle.loops.proofs.Chains.{only, some_not_none}
 use Rattle.loops.proofs.Scan.{all_pass, pass_all}
 use Rattle.refusal.specs.declared.Refusal.{Refusal}
 use Rattle.refusal.specs.declared.Refusal.TheVariants.{Length, Count, Corridor, Mode, Order}
@@ -69,21 +70,17 @@ names_first order j e i h =
 
 -- ---- from the test to the record
 module _ (p : Kept) (target places : ℕ) where
-  refused : {f : Refusal} → some f ≡ none → ⊥
-  refused e = let z : ◌≡◌ {A = ℕ} 0 1 = cc in omega arith
-
-  kept_of_lem : (a b : Bool) → lengths_ok p places ≡ a → counts_ok p target ≡ b → (d : Bool) → promote p.mode ≡ d
-      → cond a (cond b (cond d (kept_fault p) (some Mode)) (some Count)) (some Length) ≡ none → Sound p target places
-  unfolding lengths_ok kept_fault
-  kept_of_lem false b x y d z e = absurd (refused e)
-  kept_of_lem true false x y d z e = absurd (refused e)
-  kept_of_lem true true x y false z e = absurd (refused e)
-  kept_of_lem true true x y true z e =
-      let l = both (eqb (length p.before) p.corridors) _ x in
+  pub sound_of : preview_fault p target places ≡ none → Sound p target places
+  unfolding preview_fault lengths_ok kept_fault
+  sound_of e =
+      let x = only (lengths_ok p places) e some_not_none in
+      let y = only (counts_ok p target) x.1 some_not_none in
+      let z = only (promote p.mode) y.1 some_not_none in
+      let l = both (eqb (length p.before) p.corridors) _ x.0 in
       let m = both (eqb (length p.order) p.corridors) _ l.1 in
       let q = both (eqb (length p.cap) p.corridors) _ m.1 in
-      let n = both (leb p.corridors most_corridors) _ y in
-      let k = passes (count_ok p) Corridor p.corridors _ e in
+      let n = both (leb p.corridors most_corridors) _ y.0 in
+      let k = passes (count_ok p) Corridor p.corridors _ z.1 in
       let o = passes (place_ok p) Order p.corridors _ k.1 in
       let w : length p.order ≡ p.corridors = eqb-true _ _ m.0 in
       record {
@@ -93,7 +90,7 @@ module _ (p : Kept) (target places : ℕ) where
         places_are = eqb-true _ _ q.1;
         few_corridors = leb-true p.corridors most_corridors n.0;
         low_target = leb-true target most_target n.1;
-        fills = z;
+        fills = z.0;
         counts = λ j h.
             (let u = both (leb 1 (get_or p.before j 0)) _ (k.0 j h) in
             let v = both (leb (get_or p.before j 0) most_initial) _ u.1 in
@@ -101,10 +98,6 @@ module _ (p : Kept) (target places : ℕ) where
         named = λ j h. ltb-true _ _ (both (ltb (get_or p.order j 0) p.corridors) _ (o.0 j (omega arith))).0;
         apart = λ i j h q. names_first p.order j (both (ltb (get_or p.order j 0) p.corridors) _ (o.0 j (omega arith))).1 i h;
       }
-
-  pub sound_of : preview_fault p target places ≡ none → Sound p target places
-  unfolding preview_fault
-  sound_of e = kept_of_lem (lengths_ok p places) (counts_ok p target) refl refl (promote p.mode) refl e
 
   -- ---- and back
   none_faulty : (ok : ℕ → Bool) (fault : ℕ → Refusal) (n : ℕ) (next : Option Refusal) → ((i : ℕ) → i < n → ok i ≡ true) → first_fault ok fault n next ≡ next

@@ -14,13 +14,14 @@ use lib.ListN.{length, set, length-set}
 use lib.Seq.{get_or-set_same, get_or-set_other}
 use lib.Ieee.{Float, nan, inf, fin, binary64, up, down, below, level, add, lt, eq, le, fits, of_bits}
 use lib.Ieee.Fits.{up_pos, down_pos}
+use lib.Ieee.Scale.{finite as bounded}
 use Rattle.std.specs.List.{All}
 use Rattle.std.proofs.lemmas.List.Elements.{All-head, All-tail}
 use Rattle.loops.specs.Figures.{at, plus, nought}
 use Rattle.loops.specs.Sorting.{insert_all, Sorted}
 use Rattle.loops.proofs.Bools.{no as never, both, and_of, or_left}
 use Rattle.loops.proofs.Inserted.{all_inserted_below}
-use Rattle.loops.proofs.Order.{real, bounded, bounded_real, le_of_lt, le_self, inside_bounded}
+use Rattle.loops.proofs.Order.{real, bounded_real, le_of_lt, le_self, inside_bounded}
 use Rattle.loops.proofs.Signs.{sound, sound_up, add_sound}
 use Rattle.loops.proofs.Sorting.{Strict, by_index, then_by_lem, rising}
 use Rattle.loops.proofs.Sums.{Term, le_trans, plus_unsigned, plus_mono, plus_grows}

@@ -20,7 +20,8 @@ use Rattle.case_tables.proofs.Sized.{zeros_sized}
 use Rattle.cases.specs.Cases.{IsCase}
 use Rattle.cases.specs.declared.case.Case.{Case}
 use Rattle.cases.proofs.Followed.{cased, uncased}
-use Rattle.planned_files.specs.Files.{case_in, results, plan_of, Filed, filed, plan_read, plan_file}
+use Rattle.case_defs.specs.Cases.{case_in}
+use Rattle.planned_files.specs.Files.{results, plan_of, Filed, filed, plan_read, plan_file}
 use Rattle.std.specs.Prelude.{Err, Ok, Result}
 
 -- ---- the file

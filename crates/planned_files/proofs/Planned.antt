@@ -1,5 +1,5 @@
 -- What planning says and leaves in slices that were zero is what the case's ending holds.
-use Prim.Native.Nat.{ℕ, ◌-◌, ◌≤◌}
+use Prim.Native.Nat.{ℕ, ◌+◌, ◌-◌, ◌*◌, ◌≤◌}
 use mathlib.Core.Bool.{Bool}
 use mathlib.Core.List.{List, ◌++◌}
 use mathlib.Core.Path.{◌≡◌, sym, ap, subst, ◌∙◌}
@@ -11,11 +11,12 @@ use Rattle.loops.proofs.Fronts.{front_replicate}
 use Rattle.casefile_defs.specs.Tables.{Places}
 use Rattle.casefile_defs.specs.declared.Header.{Header}
 use Rattle.casefile_defs.specs.Bounds.{most_buses, most_corridors, most_generators, most_levels}
-use Rattle.cases.specs.Cases.{fronts}
-use Rattle.plan_defs.specs.Case.{Case, surveyed}
+use Rattle.case_defs.specs.Cases.{case_in}
+use Rattle.plan_defs.specs.Case.{Case}
+use Rattle.plan_defs.specs.Constants.{work_rows}
 use Rattle.plan_defs.specs.Outcome.{Slices, slices, work_places, cleared, outcome, outcome_if, plan_corridors}
 use Rattle.plan_theorems.proofs.Outcomes.{lengths_ok_lem, cleared_lengths}
-use Rattle.planned_files.specs.Files.{case_in, results, results_of, plan_of, filed, zeros}
+use Rattle.planned_files.specs.Files.{results, results_of, plan_of, filed, zeros}
 use Rattle.planned_files.specs.declared.file.Results.{Results}
 use Rattle.std.specs.Prelude.{Result}
 use Rattle.plan_defs.specs.declared.CorridorPlan.{CorridorPlan}
@@ -33,7 +34,7 @@ back n k v ys h e = take_at ys (drop (n - 0) (replicate k v)) n (e ∙ ap length
 -- ---- the slices, as they are lent
 -- room for the work of a case
 abbrev pub most_work : ℕ
-most_work = 7680
+most_work = work_rows * (most_buses + most_corridors + most_generators)
 
 pub record Fits (c : Case) : Type 0 where
   pub buses : c.buses ≤ most_buses
@@ -71,16 +72,6 @@ as_planned c target l r f e =
     ∙ ap (plan_corridors c target) (lent_cleared c f)
     ∙ ap (λ (b : Bool). outcome_if b c target (cleared c)) (lengths_ok_lem c (cleared c) (cleared_lengths c)))
 
--- ---- the case of tables, by the parts of them that hold its records
-abbrev case_as : Header → Places → Case
-case_as h p =
-    surveyed h.mode h.buses h.corridors h.generators h.above h.requested p.ladder p.tier p.reading p.weight p.bus p.slack p.pmin p.pmax p.c1 p.c2 p.a p.b
-    p.circuits p.length_km p.share p.cap p.sheet
-
-pub of_parts : (h : Header) (p : Places) (r : Result CorridorPlan Refusal) (l : Slices) (q : Places) (z : Slices) → q ≡ fronts h p
-    → outcome r l ≡ plan_corridors (case_as h q) h.target z → outcome r l ≡ plan_corridors (case_in h p) h.target z
-of_parts h p r l q z e d = d ∙ ap (λ (x : Places). plan_corridors (case_as h x) h.target z) e
-
 -- ---- a file whose results were zeros before planning, by what came back in the first places of each array
 same_results : {a₀ a : List ℕ} {b₀ b c₀ c : List Float} {d₀ d e₀ e f₀ f : List ℕ} {g₀ g h₀ h : List Float} {i₀ i j₀ j : List ℕ} {k₀ k : List Float} (r : Result CorridorPlan Refusal)
     → a₀ ≡ a → b₀ ≡ b → c₀ ≡ c → d₀ ≡ d → e₀ ≡ e → f₀ ≡ f → g₀ ≡ g → h₀ ≡ h → i₀ ≡ i → j₀ ≡ j → k₀ ≡ k
@@ -89,13 +80,26 @@ same_results r p1 p2 p3 p4 p5 p6 p7 p8 p9 p10 p11 = cc
 
 module _ (h : Header) (p : Places) (said : Result CorridorPlan Refusal) (l : Slices) where
   abbrev lent_of : Results → Slices
-  lent_of r = slices (take (h.corridors - 0) r.circuits) (take (h.corridors - 0) r.flow) (take (h.corridors - 0) r.rate) (take (h.corridors - 0) r.before) (take (h.corridors - 0) r.order) (take (h.corridors - 0) r.cap) (take (h.generators - 0) r.mw) (take (h.buses - 0) r.angle) (take (h.buses - 0) r.tier) (take (h.buses - 0) r.ground) (take (h.above - 0) r.added) (part (work_places (case_in h p)) most_work nought) (part (work_places (case_in h p)) most_work 0)
+  lent_of r =
+      slices (take (h.corridors - 0) r.circuits) (take (h.corridors - 0) r.flow) (take (h.corridors - 0) r.rate) (take (h.corridors - 0) r.before)
+      (take (h.corridors - 0) r.order) (take (h.corridors - 0) r.cap) (take (h.generators - 0) r.mw) (take (h.buses - 0) r.angle) (take (h.buses - 0) r.tier)
+      (take (h.buses - 0) r.ground) (take (h.above - 0) r.added) (part (work_places (case_in h p)) most_work nought) (part (work_places (case_in h p)) most_work 0)
 
   abbrev Planned : Results → Type 0
   Planned r =
-      length l.circuits ≡ length (take (h.corridors - 0) r.circuits) → length l.flow ≡ length (take (h.corridors - 0) r.flow) → length l.rate ≡ length (take (h.corridors - 0) r.rate) → length l.before ≡ length (take (h.corridors - 0) r.before) → length l.order ≡ length (take (h.corridors - 0) r.order) → length l.cap ≡ length (take (h.corridors - 0) r.cap) → length l.mw ≡ length (take (h.generators - 0) r.mw) → length l.angle ≡ length (take (h.buses - 0) r.angle) → length l.tier ≡ length (take (h.buses - 0) r.tier) → length l.ground ≡ length (take (h.buses - 0) r.ground) → length l.added ≡ length (take (h.above - 0) r.added)
+      length l.circuits ≡ length (take (h.corridors - 0) r.circuits) → length l.flow ≡ length (take (h.corridors - 0) r.flow)
+      → length l.rate ≡ length (take (h.corridors - 0) r.rate) → length l.before ≡ length (take (h.corridors - 0) r.before)
+      → length l.order ≡ length (take (h.corridors - 0) r.order) → length l.cap ≡ length (take (h.corridors - 0) r.cap)
+      → length l.mw ≡ length (take (h.generators - 0) r.mw) → length l.angle ≡ length (take (h.buses - 0) r.angle)
+      → length l.tier ≡ length (take (h.buses - 0) r.tier) → length l.ground ≡ length (take (h.buses - 0) r.ground)
+      → length l.added ≡ length (take (h.above - 0) r.added)
       → outcome said l ≡ plan_corridors (case_in h p) h.target (lent_of r)
-      → filed h (outcome said (results (take h.corridors (l.circuits ++ drop (h.corridors - 0) r.circuits)) (take h.corridors (l.flow ++ drop (h.corridors - 0) r.flow)) (take h.corridors (l.rate ++ drop (h.corridors - 0) r.rate)) (take h.corridors (l.before ++ drop (h.corridors - 0) r.before)) (take h.corridors (l.order ++ drop (h.corridors - 0) r.order)) (take h.corridors (l.cap ++ drop (h.corridors - 0) r.cap)) (take h.generators (l.mw ++ drop (h.generators - 0) r.mw)) (take h.buses (l.angle ++ drop (h.buses - 0) r.angle)) (take h.buses (l.tier ++ drop (h.buses - 0) r.tier)) (take h.buses (l.ground ++ drop (h.buses - 0) r.ground)) (take h.above (l.added ++ drop (h.above - 0) r.added))))
+      → filed h (outcome said (results (take h.corridors (l.circuits ++ drop (h.corridors - 0) r.circuits))
+      (take h.corridors (l.flow ++ drop (h.corridors - 0) r.flow)) (take h.corridors (l.rate ++ drop (h.corridors - 0) r.rate))
+      (take h.corridors (l.before ++ drop (h.corridors - 0) r.before)) (take h.corridors (l.order ++ drop (h.corridors - 0) r.order))
+      (take h.corridors (l.cap ++ drop (h.corridors - 0) r.cap)) (take h.generators (l.mw ++ drop (h.generators - 0) r.mw))
+      (take h.buses (l.angle ++ drop (h.buses - 0) r.angle)) (take h.buses (l.tier ++ drop (h.buses - 0) r.tier))
+      (take h.buses (l.ground ++ drop (h.buses - 0) r.ground)) (take h.above (l.added ++ drop (h.above - 0) r.added))))
       ≡ filed h (plan_of (case_in h p) h.target)
 
   in_zeros : Fits (case_in h p) → Planned zeros

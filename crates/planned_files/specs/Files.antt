@@ -1,29 +1,19 @@
 -- A case file that is read and planned: its header, what planning says of its case and what it leaves in each result slice. A file that reading refuses has no
 -- records, and that refusal is what is said of it.
-use Rattle.std.specs.Prelude.{ℕ, ◌*◌, List, [], take, replicate, Float, Err, Ok, Result}
-use Rattle.casefile_defs.specs.Bounds.{most_levels, most_buses, most_generators, most_corridors, row_figures}
-use Rattle.casefile_defs.specs.Reading.{levels, lines, reading_of}
-use Rattle.casefile_defs.specs.Tables.{Places, tables_of}
+use Rattle.std.specs.Prelude.{ℕ, List, [], take, replicate, Float, Err, Ok, Result}
+use Rattle.casefile_defs.specs.Bounds.{most_levels, most_buses, most_generators, most_corridors}
+use Rattle.casefile_defs.specs.Reading.{reading_of}
+use Rattle.casefile_defs.specs.Tables.{tables_of}
 use Rattle.casefile_defs.specs.Tables.{held as headerOf}
 use Rattle.casefile_defs.specs.declared.Header.{Header}
-use Rattle.plan_defs.specs.Case.{Case, surveyed}
+use Rattle.plan_defs.specs.Case.{Case}
+use Rattle.case_defs.specs.Cases.{case_in}
 use Rattle.plan_defs.specs.Plan.{ending_of}
 use Rattle.plan_defs.specs.Outcome.{Slices, slices, cleared, Outcome, outcome, outcome_by}
 use Rattle.planned_files.specs.declared.file.PlannedFile.{PlannedFile}
 use Rattle.planned_files.specs.declared.file.Results.{Results}
 use Rattle.refusal.specs.declared.Refusal.{Refusal}
 use Rattle.loops.specs.Figures.{nought}
-
--- ---- the case that tables hold
--- of each table the places of the header's records
-abbrev pub case_in : Header → Places → Case
-case_in h p =
-    let n = h.buses in
-    let g = h.generators in
-    let m = h.corridors in
-    surveyed h.mode n m g h.above h.requested (take (levels h) p.ladder) (take n p.tier) (take n p.reading) (take n p.weight) (take g p.bus) (take g p.slack)
-    (take g p.pmin) (take g p.pmax) (take g p.c1) (take g p.c2) (take m p.a) (take m p.b) (take m p.circuits) (take m p.length_km) (take m p.share)
-    (take m p.cap) (take (lines h * row_figures) p.sheet)
 
 -- ---- what is said, and the results; work is none
 abbrev pub results : (circuits : List ℕ) (flow rate : List Float) (before order cap : List ℕ) (mw angle : List Float) (tier ground : List ℕ) (added : List Float) → Slices

@@ -5,7 +5,8 @@
 ghost use Rattle.std.specs.Prelude.{◌≡◌, [], Err};
 ghost use Rattle.case_tables.specs.Tables.{tables_in};
 ghost use Rattle.casefile_defs.specs.Tables.{held as headerOf};
-ghost use Rattle.planned_files.specs.Files.{case_in, plan_of, filed, plan_read, plan_file, filed_of, zeros};
+ghost use Rattle.case_defs.specs.Cases.{case_in};
+ghost use Rattle.planned_files.specs.Files.{plan_of, filed, plan_read, plan_file, filed_of, zeros};
 
 mod file;
 

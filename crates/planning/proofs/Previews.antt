@@ -13,6 +13,7 @@ use Rattle.plan_defs.specs.Fill.{unfilled, filled_if, fill}
 use Rattle.plan_defs.specs.Preview.{Kept, kept_as, lengths_ok, counts_ok, count_ok, place_ok, kept_fault, preview_fault, refilled, outcome, preview_by, preview}
 use Rattle.plan_theorems.proofs.Preview.{sound_of}
 use Rattle.acceptance.specs.Check.{answer_of}
+use Rattle.acceptance.proofs.Callers.{fault_is, no_fault}
 use Rattle.planning.specs.Fill.{caps_for}
 use Rattle.planning.specs.Preview.{counts_for, order_for, Refillable}
 use Rattle.std.specs.Prelude.{Err, Result, Option as Found, Some, None}
@@ -74,21 +75,13 @@ module _ (mode : PlanMode) (m places : ℕ) (before order cap : List ℕ) (x : l
 
 -- ---- what is said of the check
 module _ (p : Kept) (target : ℕ) (lent : List ℕ) where
-  fault_of : (f : Refusal) (o : Option Refusal) → Err f ≡ answer_of o → o ≡ some f
-  fault_of f (some g) e = let z : f ≡ g = cc in ap some (sym z)
-  fault_of f none e = let z : ◌≡◌ {A = ℕ} 0 1 = cc in absurd (omega arith)
-
-  none_of : (o : Option Refusal) → no_refusal ≡ answer_of o → o ≡ none
-  none_of (some g) e = let z : ◌≡◌ {A = ℕ} 0 1 = cc in absurd (omega arith)
-  none_of none e = refl
-
   pub preview_refused : (x : Result (Unit {0}) Refusal) → x ≡ answer_of (preview_fault p target (length lent)) → (f : Refusal) → x ≡ Err f → outcome (Err f) lent ≡ preview p target lent
   unfolding preview
-  preview_refused x e f q = sym (ap (λ (o : Option Refusal). preview_by o p target lent) (fault_of f (preview_fault p target (length lent)) (sym q ∙ e)))
+  preview_refused x e f q = sym (ap (λ (o : Option Refusal). preview_by o p target lent) (fault_is (preview_fault p target (length lent)) f (sym q ∙ e)))
 
   module _ (x : Result (Unit {0}) Refusal) (e : x ≡ answer_of (preview_fault p target (length lent))) (q : x ≡ no_refusal) where
     passes : preview_fault p target (length lent) ≡ none
-    passes = none_of (preview_fault p target (length lent)) (sym q ∙ e)
+    passes = no_fault (preview_fault p target (length lent)) (sym q ∙ e)
 
     pub refillable : (promote p.mode ≡ true) × Refillable p.before p.order p.cap lent
     refillable =

@@ -4,9 +4,10 @@ use Rattle.std.proofs.Common.{◌≡◌, ℕ, zero, suc, ◌+◌, ◌*◌, ◌^�
 use lib.Ieee.Fits.{up_pos}
 use lib.Ieee.{Float, nan, inf, fin, up, down, lt, le, of_bits}
 use lib.Ieee.Positive.{positive, above, above_of_le, between}
+use lib.Ieee.Scale.{finite as bounded}
 use Rattle.loops.specs.Figures.{nought, thousandth, million, infinity, times, over, float, lesser, greater, inside}
 use Rattle.loops.proofs.Bools.{is, no, both, and_of}
-use Rattle.loops.proofs.Order.{bounded, upper, bounded_real, bounded_down, le_of_lt, le_of_not_lt, right_real}
+use Rattle.loops.proofs.Order.{upper, bounded_real, bounded_down, le_of_lt, le_of_not_lt, right_real}
 use Rattle.loops.proofs.Real.{positive_of, positive_bounded}
 use Rattle.loops.proofs.Most.{Most, most_bounded, times_most, over_most}
 use Rattle.impedance.specs.Impedance.{rating_ok}

@@ -10,7 +10,7 @@ use Rattle.plan_defs.specs.Preview.{Kept, kept_as, Outcome}
 use Rattle.casefile_defs.specs.Reading.{reading_of}
 use Rattle.casefile_defs.specs.Tables.{tables_of}
 use Rattle.casefile_defs.specs.declared.Header.{Header}
-use Rattle.planned_files.specs.Files.{case_in}
+use Rattle.case_defs.specs.Cases.{case_in}
 use Rattle.previews.specs.declared.draft.Draft.{Draft}
 
 -- ---- what a draft holds: of each array the places of its corridors

@@ -12,6 +12,7 @@ use lib.Ieee.{Float, nan, inf, fin, binary64, up, down, size, nearest, odd, unit
 use lib.Ieee.Fits.{odd-fits, nearest-le, kept-lt, nan-fits, inf-fits, up_pos, down_pos, and_i, and_l, eq→eqb}
 use lib.Ieee.Order.{le_of_values}
 use lib.Ieee.Bits.{of_bits-to_bits, nan_bits_is}
+use Rattle.loops.proofs.Bools.{is}
 use Rattle.loops.proofs.Rounded.{units_is}
 use Rattle.root.specs.Root.{isqrt, round_root, root, root_bits}
 
@@ -72,9 +73,6 @@ pub zero_is : of_bits binary64 0 ≡ Zero
 unfolding of_bits
 zero_is = refl
 
-pub yes_is : {b : Bool} → b ≡ true → T b
-yes_is h = subst T (sym h) tt
-
 clash : (b : Bool) → T b → b ≡ false → ⊥
 clash true t e = true≢false e
 clash false t e = t
@@ -127,7 +125,7 @@ no_root (fin true (suc m) e) h = refl
 -- ---- a function of an f64, `if x >= 0.0 { f64::from_bits(square_root(f64::to_bits(x))) } else { 0.0 / 0.0 }`: its four needs
 
 pub at_least_zero : (x : Float) → le (of_bits binary64 0) x ≡ true → T (le Zero x)
-at_least_zero x h = subst (λ (z : Float). T (le z x)) zero_is (yes_is h)
+at_least_zero x h = subst (λ (z : Float). T (le z x)) zero_is (is h)
 
 -- what `to_bits` asks of x
 pub to_bits_asks : (x : Float) → le (of_bits binary64 0) x ≡ true → T (not (is_nan x))

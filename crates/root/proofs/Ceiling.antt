@@ -16,7 +16,7 @@ use lib.Ieee.Back.{round_whole, whole_unique}
 use lib.Ieee.Order.{le_of_values}
 use Rattle.root.specs.Ceiling.{ceil, integer, Correct}
 use Rattle.root.proofs.Order.{le_plus, le_minus, minus_le, minus_le_plus}
-use Rattle.root.proofs.Units.{le_of_not_lt}
+use Rattle.loops.proofs.Exact.{not_below}
 
 -- ---- the size of the result
 
@@ -87,7 +87,7 @@ large_itself s (suc m) (pos k) f h = sym (ceil_fin s (suc m) (pos k) ∙ ap (λ 
 -- ---- the result has that size
 
 ceil_value : (s : Bool) (m : ℕ) (e : ℤ) → T (fits binary64 (fin s m e)) → HasValue (ceil (fin s m e)) s (count s (m * up e) (down e)) 1
-ceil_value s m e f = elim (dec_lt (m * up e) (2 ^ 53 * down e)) [ yes h ↦ small h | no g ↦ large s m e f (le_of_not_lt g) ]
+ceil_value s m e f = elim (dec_lt (m * up e) (2 ^ 53 * down e)) [ yes h ↦ small h | no g ↦ large s m e f (not_below g) ]
   where
     small : m * up e < 2 ^ 53 * down e → HasValue (ceil (fin s m e)) s (count s (m * up e) (down e)) 1
     small h =

@@ -16,7 +16,8 @@ use lib.Ieee.Scale.{finite}
 use Rattle.root.specs.Root.{root, minus_sign, signed, total, over, BelowTwice, AboveTwice, Nearer, NearestRoot, Correct}
 use Rattle.root.proofs.Isqrt.{sq_mono}
 use Rattle.root.proofs.Bits.{root_fits}
-use Rattle.root.proofs.Units.{unsigned_finite, positive_unsigned, value_unsigned, in_units, le_of_not_lt, less_units, lt_cross, cross_lt, same_value}
+use Rattle.loops.proofs.Exact.{not_below as le_of_not_lt}
+use Rattle.root.proofs.Units.{unsigned_finite, positive_unsigned, value_unsigned, in_units, less_units, lt_cross, cross_lt, same_value}
 use Rattle.root.proofs.Middle.{NearerUnits, rooted}
 
 -- ---- from units to fractions

@@ -16,7 +16,8 @@ use Rattle.root.specs.Root.{isqrt, closest_root, round_root, root}
 use Rattle.root.proofs.Isqrt.{IsRoot, Left, sq_mono, sq_lt, sq_next, whole_root, closest_up, closest_down, half_up, half_down}
 use Rattle.root.proofs.Round.{round_root_lem, closest_range, as_square, in_range}
 use Rattle.root.proofs.Patterns.{root_of}
-use Rattle.root.proofs.Units.{positive_unsigned, in_units, pow_lt_back, le_of_not_lt}
+use Rattle.loops.proofs.Exact.{not_below}
+use Rattle.root.proofs.Units.{positive_unsigned, in_units, pow_lt_back}
 
 -- ---- between q * 2 ^ h and (q + 1) * 2 ^ h, for a q of 53 digits, binary64 holds nothing
 
@@ -110,7 +111,7 @@ nearer_units N h b j lo B =
     elim (dec_le r q) [
       | yes d ↦
           subst (λ (z : ℕ). NearerUnits (N * (2 ^ h * 2 ^ h)) (z * 2 ^ h) (b * 2 ^ j)) (sym (closest_down N q r l d))
-          (low_smaller N q r (2 ^ h) (pow_pos h) l (b * 2 ^ j), λ g. low_larger N q r (2 ^ h) (pow_pos h) l (b * 2 ^ j) d (le_of_not_lt (λ a. not-le_of_lt g (gap b j q h B Q a))))
+          (low_smaller N q r (2 ^ h) (pow_pos h) l (b * 2 ^ j), λ g. low_larger N q r (2 ^ h) (pow_pos h) l (b * 2 ^ j) d (not_below (λ a. not-le_of_lt g (gap b j q h B Q a))))
       | no d ↦
           subst (λ (z : ℕ). NearerUnits (N * (2 ^ h * 2 ^ h)) (z * 2 ^ h) (b * 2 ^ j)) (sym (closest_up N q r l (lt_of_not-le d)))
           (λ g. high_smaller N q r (2 ^ h) (pow_pos h) l (b * 2 ^ j) (lt_of_not-le d) (gap b j q h B Q g), high_larger N q r (2 ^ h) (pow_pos h) l (b * 2 ^ j))

@@ -14,7 +14,8 @@ use lib.Ieee.Scale.{finite}
 use Rattle.root.specs.Root.{root, total, over}
 use Rattle.root.proofs.Order.{or_left, le_minus}
 use Rattle.root.proofs.Bits.{Zero, zero_not_le}
-use Rattle.root.proofs.Units.{positive_unsigned, cross_lt, le_of_not_lt}
+use Rattle.loops.proofs.Exact.{not_below}
+use Rattle.root.proofs.Units.{positive_unsigned, cross_lt}
 use Rattle.root.proofs.Correct.{root_positive, root_nearest, both_sides, same_middle}
 
 -- ---- sizes
@@ -45,7 +46,7 @@ positive_mono x y f g p q h =
     let a = root_nearest x f p in
     let b = root_nearest y g q in
     cross→le r s pr ps
-    (le_of_not_lt
+    (not_below
     (λ l.
     let t = cross_lt s r (positive_unsigned s ps) (positive_unsigned r pr) l in
     both_sides x y (total s r) (over s r) (le→cross x y p q h)

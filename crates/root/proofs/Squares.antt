@@ -15,7 +15,8 @@ use lib.Ieee.Positive.{num, den, den_pos, positive, positive-finite, own_value, 
 use Rattle.root.specs.Root.{root, total, over, AboveTwice}
 use Rattle.root.proofs.Isqrt.{sq_twice}
 use Rattle.root.proofs.Ceiling.{digits_lt}
-use Rattle.root.proofs.Units.{positive_unsigned, value_unsigned, in_units, same_value, lt_cross, cross_lt, le_of_not_lt}
+use Rattle.loops.proofs.Exact.{not_below}
+use Rattle.root.proofs.Units.{positive_unsigned, value_unsigned, in_units, same_value, lt_cross, cross_lt}
 use Rattle.root.proofs.Correct.{root_positive, root_nearest}
 
 -- ---- a value that binary64 holds is what it rounds to
@@ -89,7 +90,7 @@ root_of_above c s f g p q h =
     let r = root s in
     let pr = root_positive s g q in
     cross→le c r p pr
-    (le_of_not_lt
+    (not_below
     (λ l.
     let t = cross_lt r c (positive_unsigned r pr) (positive_unsigned c p) l in
     let k = middle_above s r c pr p (((root_nearest s g q).nearer c f (positive-finite c p)).than_larger t) in

@@ -5,13 +5,14 @@ use Prim.Native.Nat.{ℕ, zero, suc, ◌+◌, ◌-◌, ◌*◌, ◌/◌, ◌%◌
 use native.Mathlib.Nat.{le_trans, le_of_eq, lt_of_lt_of_le, lt_of_le_of_lt, lt_of_not-le, lt_irrefl, zero-lt-suc, zero-mul, mul-one, one-mul, mul_comm, mul_assoc, mul_right_comm, eq_of_mul-eq-mul_right, mul-le-mul_right, mul-lt-mul_of_pos_right, lt_of_mul-lt-mul_right, mul-pos}
 use native.Mathlib.Omega.{arith}
 use lib.Dec.{T, ltb, leb, eqb, ltb→lt, lt→ltb, leb→le, lit<}
-use lib.Pow.{pow-add, pow_pos, pow_mono, pow-lt}
+use lib.Pow.{pow-add, pow_pos, pow_mono}
 use lib.IntN.{pos, negsuc}
 use lib.Ieee.{Float, nan, inf, fin, binary64, up, down, size, fits, lt, of_bits, to_bits}
 use lib.Ieee.Bits.{of_bits-to_bits}
 use lib.Ieee.Fits.{and_l, and_r}
 use lib.Ieee.Exact.{HasValue}
 use lib.Ieee.Positive.{num, den, positive, den_pos, value→cross}
+use Rattle.loops.proofs.Exact.{pow_le_back}
 use Rattle.root.proofs.Round.{value_bits}
 
 -- finite, with no minus sign
@@ -37,12 +38,6 @@ value_unsigned (fin false m e) a c v = tt
 
 pub pow_lt_back : (i p : ℕ) → 2 ^ i < 2 ^ p → i < p
 pow_lt_back i p h = lt_of_not-le (λ (g : p ≤ i). lt_irrefl (2 ^ i) (lt_of_lt_of_le h (pow_mono g)))
-
-pub le_of_not_lt : {a b : ℕ} → (b < a → ⊥) → a ≤ b
-le_of_not_lt h = omega arith
-
-pow_le_back : (i p : ℕ) → 2 ^ i ≤ 2 ^ p → i ≤ p
-pow_le_back i p h = le_of_not_lt (λ (g : p < i). lt_irrefl (2 ^ p) (lt_of_lt_of_le (pow-lt g) h))
 
 -- y is a * 2 ^ j units, with an a of at most 53 digits
 abbrev pub InUnits : Float → Type 0

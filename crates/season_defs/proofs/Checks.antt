@@ -1,12 +1,12 @@
 -- The last two refusals of a plan that is fed, in order: each law is the definition with its tests decided. What a plan that passes has, and the season that it leaves.
 use Prim.Native.Nat.{ℕ, ◌≤◌, ◌<◌}
-use mathlib.Core.Bool.{Bool, true, false, cond}
-use mathlib.Core.Path.{◌≡◌, refl, ap}
+use mathlib.Core.Bool.{true, false}
+use mathlib.Core.Path.{◌≡◌, ap}
 use borrow.Author.Tests.{eqb-true, eq-eqb, leb-true, le-leb, ltb-true, lt-ltb, le-ltb}
 use lib.Dec.{eqb, leb, ltb}
-use Rattle.loops.proofs.Bools.{unequal}
+use Rattle.loops.proofs.Chains.{only, err_not_ok}
 use Rattle.refusal.specs.declared.Refusal.{Refusal}
-use Rattle.refusal.specs.declared.Refusal.TheVariants.{Length, Count, Uneven, SeasonFull}
+use Rattle.refusal.specs.declared.Refusal.TheVariants.{Uneven, SeasonFull}
 use Rattle.season_defs.specs.Plans.{Draft}
 use Rattle.season_defs.specs.Feeding.{most_plans, most_corridors, even_with, check_of, with_plan, outcome, fed_by, feed, said}
 use Rattle.season_defs.specs.declared.Season.{Season}
@@ -31,16 +31,12 @@ pub record Passed (s : Season) (corridors places : ℕ) : Type 0 where
 -- a plan of which no_refusal is said
 pub passed : (s : Season) (corridors places : ℕ) → check_of s corridors places ≡ no_refusal → Passed s corridors places
 unfolding check_of
-passed s corridors places e = go (eqb places corridors) (leb corridors most_corridors) (even_with s corridors) (ltb s.taken most_plans) refl refl refl refl e
-  where
-    go : (a b c d : Bool) → eqb places corridors ≡ a → leb corridors most_corridors ≡ b → even_with s corridors ≡ c → ltb s.taken most_plans ≡ d
-        → cond a (cond b (cond c (cond d no_refusal (Err SeasonFull)) (Err Uneven)) (Err Count)) (Err Length) ≡ no_refusal
-        → Passed s corridors places
-    go false b c d p q r t h = absurd (unequal cc)
-    go true false c d p q r t h = absurd (unequal cc)
-    go true true false d p q r t h = absurd (unequal cc)
-    go true true true false p q r t h = absurd (unequal cc)
-    go true true true true p q r t h = record { size = eqb-true _ _ p; few = leb-true _ _ q; even = r; room = ltb-true _ _ t }
+passed s corridors places e =
+    let a = only (eqb places corridors) e err_not_ok in
+    let b = only (leb corridors most_corridors) a.1 err_not_ok in
+    let c = only (even_with s corridors) b.1 err_not_ok in
+    let d = only (ltb s.taken most_plans) c.1 err_not_ok in
+    record { size = eqb-true _ _ a.0; few = leb-true _ _ b.0; even = c.0; room = ltb-true _ _ d.0 }
 
 pub passes : (s : Season) (corridors places : ℕ) → Passed s corridors places → check_of s corridors places ≡ no_refusal
 unfolding check_of

@@ -16,9 +16,9 @@ pub struct Season {
     pub rounds: u64,
     pub converged: u64,
     // The least, the greatest and the sum of the circuits: an array for each, since callers read these fields by their names.
-    pub least: [u32; 256],
-    pub greatest: [u32; 256],
-    pub total: [u64; 256],
+    pub least: [u32; MOST_CORRIDORS],
+    pub greatest: [u32; MOST_CORRIDORS],
+    pub total: [u64; MOST_CORRIDORS],
 }
 
 // A fraction of two whole numbers.

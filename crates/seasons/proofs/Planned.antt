@@ -16,7 +16,8 @@ use Rattle.casefile_defs.specs.Reading.{reading_of}
 use Rattle.casefile_defs.specs.Tables.{tables_of}
 use Rattle.casefile_defs.specs.Tables.{held as headerOf}
 use Rattle.casefile_defs.specs.declared.Header.{Header}
-use Rattle.planned_files.specs.Files.{case_in, Filed, filed, plan_read, plan_file, filed_of}
+use Rattle.case_defs.specs.Cases.{case_in}
+use Rattle.planned_files.specs.Files.{Filed, filed, plan_read, plan_file, filed_of}
 use Rattle.planned_files.specs.declared.file.PlannedFile.{PlannedFile}
 use Rattle.season_defs.specs.Feeding.{Outcome, outcome, draft_of, feed}
 use Rattle.season_defs.specs.declared.Season.{Season}

@@ -6,7 +6,7 @@ use Rattle.plan_defs.specs.Outcome.{summary}
 use Rattle.casefile_defs.specs.Reading.{reading_of}
 use Rattle.casefile_defs.specs.Tables.{tables_of}
 use Rattle.casefile_defs.specs.declared.Header.{Header}
-use Rattle.planned_files.specs.Files.{case_in}
+use Rattle.case_defs.specs.Cases.{case_in}
 use Rattle.season_defs.specs.Feeding.{Outcome, outcome, draft_of, feed}
 use Rattle.season_defs.specs.declared.Season.{Season}
 

@@ -1,17 +1,16 @@
 -- What the check passes, and the operation with its check decided. Assumes nothing.
 use Prim.Native.Nat.{ℕ, ◌*◌, ◌/◌, ◌<◌}
-use mathlib.Core.Bool.{Bool, true, false, cond}
 use mathlib.Core.List.{List}
-use mathlib.Core.Path.{◌≡◌, refl}
+use mathlib.Core.Path.{◌≡◌}
 use native.Mathlib.Omega.{arith}
 use borrow.Author.Tests.{eqb-true}
 use lib.Dec.{eqb}
 use lib.ListN.{length}
 use lib.Ieee.{Float}
-use Rattle.loops.proofs.Bools.{both, unequal}
+use Rattle.loops.proofs.Bools.{both}
+use Rattle.loops.proofs.Chains.{only, err_not_ok}
 use Rattle.refusal.specs.declared.Refusal.{Refusal}
-use Rattle.refusal.specs.declared.Refusal.TheVariants.{Length, Count}
-use Rattle.sheets.specs.Request.{lengths_ok, counts_ok, check_of, Sized, outcome, laid_by, lay_out}
+use Rattle.sheets.specs.Request.{lengths_ok, check_of, Sized, outcome, laid_by, lay_out}
 use Rattle.sheets.specs.Sheet.{row_figures, line_of, by_level}
 use Rattle.sheets.proofs.Layouts.{some_row, line_inside}
 use Rattle.std.specs.Prelude.{Err}
@@ -21,14 +20,9 @@ use Rattle.refusal.specs.Reply.{no_refusal}
 module _ (m n size to : ℕ) where
   pub passed : check_of m n size to ≡ no_refusal → Sized m n size to
   unfolding check_of
-  passed e = go (lengths_ok m n size to) (counts_ok m n) refl refl e
-    where
-      go : (a b : Bool) → lengths_ok m n size to ≡ a → counts_ok m n ≡ b → cond a (cond b no_refusal (Err Count)) (Err Length) ≡ no_refusal → Sized m n size to
-      go false b p q r = absurd (unequal cc)
-      go true false p q r = absurd (unequal cc)
-      go true true p q r =
-          let s = both (eqb size (row_figures * (m * n))) (eqb to (row_figures * (m * n))) p in
-          record { from_size = eqb-true size _ s.0; to_size = eqb-true to _ s.1 }
+  passed e =
+      let s = both (eqb size (row_figures * (m * n))) (eqb to (row_figures * (m * n))) (only (lengths_ok m n size to) e err_not_ok).0 in
+      record { from_size = eqb-true size _ s.0; to_size = eqb-true to _ s.1 }
 
 -- ---- the figure that is read for place p
 module _ (m n size p : ℕ) (h : p < size) (e : size ≡ row_figures * (m * n)) where

@@ -91,13 +91,18 @@ pub fn ends(corridors: usize, i: usize) -> (u32, u32)
     PAIRS[pair_of(corridors, i)]
 }
 
+// Places of a row's figures.
+const REACTANCE: usize = 1;
+
+const RATE: usize = 3;
+
 // Of a row the reactance is 0.5, the rate 100, and the rest zero.
 pub fn row_figure(j: usize) -> f64
     ensures { result ≡ row_figure j }
 {
     match j {
-        1 => 0.5,
-        3 => 100.0,
+        REACTANCE => 0.5,
+        RATE => 100.0,
         _ => 0.0,
     }
 }

@@ -7,16 +7,19 @@ use mathlib.Core.Path.{◌≡◌, refl}
 use native.Mathlib.Omega.{arith}
 use borrow.Author.Tests.{eqb-true}
 use lib.Dec.{eqb, leb}
+use lib.Ieee.{of_bits, add, mul, lt, le, eq, neg, round}
 use Rattle.loops.specs.Loops.{first, tab}
 use Rattle.loops.proofs.Bools.{both}
 use Rattle.loops.proofs.Scan.{all_pass}
 use Rattle.refusal.specs.declared.Refusal.{Refusal}
 use Rattle.casefile_defs.specs.Reading.{counts_ok}
-use Rattle.plan_defs.specs.Accept.{case_fault}
+use Rattle.plan_defs.specs.Case.{rows_of, row_at}
+use Rattle.plan_defs.specs.Accept.{lengths_ok, counts_ok as case_counts_ok, level_ok, bus_ok, generator_ok, corridor_sound, row_ok, tables_fault, case_fault}
 use Rattle.small.specs.Networks.{bits, numbered, all_places, buses_at, number_at, network_at}
 use Rattle.small.specs.Tables.{chosen, header_of, columns_of, header_at}
 use Rattle.small_theorems.specs.Inverse.{binary, first_place, place_for}
-use Rattle.small_theorems.specs.Held.{case_with, joins, network_with}
+use Rattle.case_defs.specs.Cases.{case_as}
+use Rattle.small_theorems.specs.Held.{joins, network_with}
 
 abbrev passed : Option Refusal → Bool
 passed none = true
@@ -36,14 +39,23 @@ unfoldable sound : ℕ → Bool
 sound i =
     let h = header_at i in
     let p = columns_of (network_at i) in
-    passed (case_fault (case_with h p) h.target) && (counts_ok h && (low p.a && (low p.b && eqb (place_for (network_with h p)) i)))
+    passed (case_fault (case_as h p) h.target) && (counts_ok h && (low p.a && (low p.b && eqb (place_for (network_with h p)) i)))
+
+-- what the test opens: the case's checks, and what gives a place its network
+unfoldable checks : ℕ
+unfolding rows_of row_at lengths_ok case_counts_ok level_ok bus_ok generator_ok corridor_sound row_ok tables_fault case_fault add mul lt le eq neg of_bits round
+checks = 0
+
+unfoldable tests : ℕ
+unfolding checks sound first tab buses_at number_at network_at numbered bits chosen header_of columns_of binary first_place place_for joins network_with
+tests = 0
 
 all_sound : first sound all_places 0 ≡ all_places
-unfolding sound first tab buses_at number_at network_at numbered bits chosen header_of columns_of binary first_place place_for joins network_with Rattle.plan_defs.specs.Case.rows_of Rattle.plan_defs.specs.Case.row_at Rattle.plan_defs.specs.Accept.lengths_ok Rattle.plan_defs.specs.Accept.counts_ok Rattle.plan_defs.specs.Accept.level_ok Rattle.plan_defs.specs.Accept.bus_ok Rattle.plan_defs.specs.Accept.generator_ok Rattle.plan_defs.specs.Accept.corridor_sound Rattle.plan_defs.specs.Accept.row_ok Rattle.plan_defs.specs.Accept.tables_fault Rattle.plan_defs.specs.Accept.case_fault lib.Ieee.add lib.Ieee.mul lib.Ieee.lt lib.Ieee.le lib.Ieee.eq lib.Ieee.neg lib.Ieee.of_bits lib.Ieee.round
+unfolding tests
 all_sound = refl
 
 pub record Sound (i : ℕ) : Type 0 where
-  pub accepted : case_fault (case_with (header_at i) (columns_of (network_at i))) (header_at i).target ≡ none
+  pub accepted : case_fault (case_as (header_at i) (columns_of (network_at i))) (header_at i).target ≡ none
   pub counts : counts_ok (header_at i) ≡ true
   pub a : low (columns_of (network_at i)).a ≡ true
   pub b : low (columns_of (network_at i)).b ≡ true

@@ -23,7 +23,9 @@ use Rattle.small.specs.Networks.{all_places, network_at}
 use Rattle.small.specs.Tables.{header_of, columns_of, laid_out, header_at, tables_at}
 use Rattle.small.proofs.Whole.{places_same}
 use Rattle.small_theorems.specs.Inverse.{place_for}
-use Rattle.small_theorems.specs.Held.{fronts, case_with, case_in, network_with, network_in, file_at}
+use Rattle.case_defs.specs.Cases.{case_as, case_in}
+use Rattle.casefile_theorems.specs.Cases.{fronts}
+use Rattle.small_theorems.specs.Held.{network_with, network_in, file_at}
 use Rattle.small_theorems.proofs.Accepted.{sound_at}
 use Rattle.small_theorems.proofs.Tables.{padded_get, padded_front, low_get, low_same, numbers_held, one_fits, same_fit, loads_fit, figures_held, sheet_held}
 
@@ -35,8 +37,8 @@ module _ (i : ℕ) (below : i < all_places) where
   abbrev columns : Places
   columns = columns_of (network_at i)
 
-  taken : Accepted (case_with (header_at i) columns) (header_at i).target
-  taken = accepted (case_with (header_at i) columns) (header_at i).target (sound_at i below).accepted
+  taken : Accepted (case_as (header_at i) columns) (header_at i).target
+  taken = accepted (case_as (header_at i) columns) (header_at i).target (sound_at i below).accepted
 
   -- ---- the tables hold the columns
   held : fronts (header_at i) (tables_at i) ≡ columns
@@ -68,7 +70,7 @@ module _ (i : ℕ) (below : i < all_places) where
 
   -- each is an accepted case
   pub accepted_case : case_fault (case_in (header_at i) (tables_at i)) (header_at i).target ≡ none
-  accepted_case = ap (λ (p : Places). case_fault (case_with (header_at i) p) (header_at i).target) held ∙ (sound_at i below).accepted
+  accepted_case = ap (λ (p : Places). case_fault (case_as (header_at i) p) (header_at i).target) held ∙ (sound_at i below).accepted
 
   -- the place of a case is worked out: it is that of the network that the tables hold
   pub worked_out : place_for (network_in (header_at i) (tables_at i)) ≡ i

@@ -3,7 +3,7 @@ use Prim.Native.Nat.{ℕ, ◌+◌, ◌-◌, ◌≤◌, min}
 use mathlib.Core.List.{List}
 use mathlib.Core.Path.{◌≡◌, ap, ◌∙◌}
 use native.Mathlib.Omega.{arith}
-use lib.ListN.{length, replicate, take, drop, length-take}
+use lib.ListN.{length, replicate, take, drop, length-take, length-replicate}
 use Rattle.std.proofs.lemmas.List.{take_rest}
 use Rattle.loops.specs.Parts.{put}
 use Rattle.casefile_defs.specs.Bounds.{most_bytes}
@@ -13,7 +13,7 @@ use Rattle.casefile_defs.specs.declared.Kind.{Kind}
 use Rattle.casefile_defs.specs.declared.Kind.TheVariants.{Bus}
 use Rattle.casefile.specs.Movable.{Movable}
 use Rattle.casefile.specs.Records.{Records, start_of}
-use Rattle.casefile.proofs.Fitted.{file_fitted, buses_small, length_zeros}
+use Rattle.casefile.proofs.Fitted.{file_fitted, buses_small}
 use Rattle.casefile.proofs.Stored.{bus_start}
 use Rattle.casefile.proofs.moving.put_file.Goals as goal
 
@@ -22,7 +22,7 @@ last t x m e = bus_start t t.count x m.buses e
 
 -- the output has its length, and the buses their room
 size : (w : List ℕ) → w ≡ replicate most_bytes 0 → length w ≡ most_bytes
-size w e = ap length e ∙ length_zeros most_bytes
+size w e = ap length e ∙ length-replicate {A = ℕ} most_bytes 0
 
 small : (k : Kind) (t : Records) → Movable t → t.at + length (buses_as k t.file t.at t.count) ≤ most_bytes
 small k t m = buses_small k t.file t.at t.count m.early m.few m.kept

@@ -4,7 +4,8 @@ use mathlib.Core.Path.{sym, ◌∙◌}
 use borrow.Author.Rules.{rules}
 use Rattle.join_defs.specs.Districts.{sums_ok}
 use Rattle.join.specs.Joins.{tables_of}
-use Rattle.join.proofs.Refusals.{fault_is, none_is, first_refused, second_refused, sums_refused, unlike_refused, both_passed, alike_is}
+use Rattle.acceptance.proofs.Callers.{fault_is, none_is}
+use Rattle.join.proofs.Refusals.{first_refused, second_refused, sums_refused, unlike_refused, both_passed, alike_is}
 use Rattle.join.proofs.check.check_both.Goals as goal
 
 pub returns-in_err-check_district : goal.returns-in_err-check_district

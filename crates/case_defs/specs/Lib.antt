@@ -1,0 +1,2 @@
+-- A header and its tables as a case of planning.
+pub mod Cases

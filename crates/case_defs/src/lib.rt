@@ -1,0 +1,3 @@
+// The case that planning takes, of a header and its tables. There is no code here.
+
+#![tactic(auto)]

@@ -14,7 +14,7 @@ use Rattle.std.specs.Bool.{then_some}
 use Rattle.std.specs.Option.{MatchOption, ForSome}
 use Rattle.loops.proofs.Bools.{unequal, is, no}
 use Rattle.loops.proofs.Order.{bounded_real, le_of_lt, lt_of_not_le}
-use Rattle.loops.proofs.Real.{positive_of, positive_bounded}
+use Rattle.loops.proofs.Real.{positive_of}
 use Rattle.loops.proofs.Signs.{mul_bounded}
 use Rattle.root.specs.Root.{root}
 use Rattle.root.proofs.Bits.{at_least_zero, nan_gives}

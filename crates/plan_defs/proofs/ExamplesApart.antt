@@ -17,7 +17,7 @@ use Rattle.plan_defs.specs.Accept.{case_fault}
 use Rattle.plan_defs.specs.Design.{redesign}
 use Rattle.plan_defs.specs.Fill.{fill}
 use Rattle.plan_defs.specs.Plan.{planned}
-use Rattle.plan_defs.specs.Listing.{bits_of, lines, listing_of}
+use Rattle.plan_defs.specs.Listing.{bits_of, lines}
 use Rattle.plan_defs.proofs.Examples.{whole, ones, bank_of, sample, lost}
 use Rattle.plan_defs.proofs.Unfolded.{whole_plan}
 

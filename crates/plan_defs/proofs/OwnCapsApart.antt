@@ -14,7 +14,7 @@ use Rattle.plan_defs.specs.Size.{Sizing, size_all}
 use Rattle.plan_defs.specs.Fill.{fill}
 use Rattle.plan_defs.specs.Closing.{capped_of}
 use Rattle.plan_defs.specs.Outcome.{held, plan_corridors}
-use Rattle.plan_defs.specs.Listing.{flag, listing_of}
+use Rattle.plan_defs.specs.Listing.{flag}
 use Rattle.plan_defs.proofs.Examples.{whole, sample}
 use Rattle.plan_defs.proofs.ExamplesApart.{refusal_of}
 use Rattle.plan_defs.proofs.OwnCaps.{valley, lent}

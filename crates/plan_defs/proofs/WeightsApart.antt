@@ -12,7 +12,7 @@ use Rattle.plan_defs.specs.Case.{Case}
 use Rattle.plan_defs.specs.Accept.{case_fault}
 use Rattle.plan_defs.specs.Dispatch.{demand_of, injection_mw}
 use Rattle.plan_defs.specs.Design.{bank_for}
-use Rattle.plan_defs.specs.Listing.{bits_of, listing_of}
+use Rattle.plan_defs.specs.Listing.{bits_of}
 use Rattle.plan_defs.proofs.Examples.{whole}
 use Rattle.plan_defs.proofs.ExamplesApart.{refusal_of}
 use Rattle.plan_defs.proofs.Weights.{read}

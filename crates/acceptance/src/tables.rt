@@ -10,23 +10,12 @@ ghost use Rattle.acceptance.specs.Check.{Tables, tables_of, tabled, Columns, ans
 use dispatch_defs::unit_ok;
 use leaders::corridor_ok;
 use loads::load_ok;
+use loops::{
+    MOST_BUSES, MOST_CAP, MOST_CORRIDORS, MOST_GENERATORS, MOST_INITIAL, MOST_LEVELS, MOST_TARGET,
+};
 use refusal::Refusal;
 use sheets::{ROW_FIGURES, line_place};
 use std::marker::Model;
-
-const MOST_BUSES: usize = 256;
-
-const MOST_CORRIDORS: usize = 256;
-
-const MOST_GENERATORS: usize = 128;
-
-const MOST_LEVELS: usize = 5;
-
-const MOST_TARGET: u32 = 65536;
-
-const MOST_INITIAL: u32 = 64;
-
-const MOST_CAP: u32 = 6;
 
 const MOST_KV: f64 = 10000.0;
 

@@ -4,11 +4,9 @@ ghost use Rattle.loops.specs.Loops.{fault};
 ghost use Rattle.angles_defs.specs.Operation as asked;
 ghost use Rattle.angles_defs.specs.Operation.{request_of, lengths_ok, counts_ok, edge_ok, ground_ok, check_of};
 
+use loops::{MOST_BUSES, MOST_CORRIDORS};
 use refusal::Refusal;
 use std::marker::Model;
-
-// Buses, edges and grounds at most.
-const MOST: usize = 256;
 
 // The places of the work slice for each bus.
 const ROWS: usize = 8;
@@ -54,7 +52,7 @@ impl<'a> Request<'a> {
     fn counts_ok(&self) -> bool
         ensures { result ≡ counts_ok self.now.n self.now.m self.now.k }
     {
-        (self.n <= MOST) & (self.m <= MOST) & (self.k <= MOST)
+        (self.n <= MOST_BUSES) & (self.m <= MOST_CORRIDORS) & (self.k <= MOST_BUSES)
     }
 
     // The first edge with an end that is no bus.

@@ -10,6 +10,7 @@ use borrow.Author.Tests.{eqb-true, eq-eqb, leb-true, le-leb, ltb-true, lt-ltb, l
 use lib.Dec.{eqb, leb, ltb}
 use lib.Ieee.{Float, eq}
 use lib.ListN.{length, get_or}
+use Rattle.loops.specs.Bounds.{most_buses, most_corridors}
 use Rattle.loops.specs.Figures.{at, nought, finite}
 use Rattle.loops.specs.Loops.{first}
 use Rattle.loops.proofs.Bools.{both, and_of, unequal}
@@ -20,7 +21,7 @@ use Rattle.loops.proofs.Zeros.{void_zero}
 use Rattle.refusal.specs.Reply.{Reply, answered, no_refusal, refused}
 use Rattle.refusal.specs.declared.Refusal.{Refusal}
 use Rattle.angles_defs.specs.Network.{zeros}
-use Rattle.angles_defs.specs.Operation.{Request, lengths_ok, counts_ok, edge_ok, ground_ok, first_edge, first_ground, check_of, finite_at, finish_if, finish, answer_to, solve_of, solution_of, dc_angles, work_places, most, Outcome}
+use Rattle.angles_defs.specs.Operation.{Request, lengths_ok, counts_ok, edge_ok, ground_ok, first_edge, first_ground, check_of, finite_at, finish_if, finish, answer_to, solve_of, solution_of, dc_angles, work_places, Outcome}
 use Rattle.angles_defs.specs.declared.Solution.{Solution}
 use Rattle.angles_defs.proofs.Solves.{solve_steps, solve_places, solve_ground}
 
@@ -79,12 +80,12 @@ module _ (q : Request) (result work : ℕ) where
 
   counts_of : counts_ok q.n q.m q.k ≡ true → (q.n ≤ 256) × (q.m ≤ 256) × (q.k ≤ 256)
   counts_of h =
-      let p = both (leb q.n most && leb q.m most) (leb q.k most) h in
-      let r = both (leb q.n most) (leb q.m most) p.0 in
-      (leb-true q.n most r.0, leb-true q.m most r.1, leb-true q.k most p.1)
+      let p = both (leb q.n most_buses && leb q.m most_corridors) (leb q.k most_buses) h in
+      let r = both (leb q.n most_buses) (leb q.m most_corridors) p.0 in
+      (leb-true q.n most_buses r.0, leb-true q.m most_corridors r.1, leb-true q.k most_buses p.1)
 
   of_counts : q.n ≤ 256 → q.m ≤ 256 → q.k ≤ 256 → counts_ok q.n q.m q.k ≡ true
-  of_counts n m k = and_of (and_of (le-leb q.n most n) (le-leb q.m most m)) (le-leb q.k most k)
+  of_counts n m k = and_of (and_of (le-leb q.n most_buses n) (le-leb q.m most_corridors m)) (le-leb q.k most_buses k)
 
   -- a request passes exactly where it is sound
   pub sound_of : check_of q result work ≡ no_refusal → Sound q result work

@@ -1,5 +1,6 @@
 -- Angles (document 01, "Refusals of each operation, in order", and modules, 5): what `dc_angles` answers, and what it leaves in the slices that it is lent.
 use Rattle.std.specs.Prelude.{ℕ, ◌*◌, Bool, true, false, cond, ◌&&◌, List, eqb, leb, ltb, length, get_or, Float, Err, Ok, Result}
+use Rattle.loops.specs.Bounds.{most_buses, most_corridors}
 use Rattle.loops.specs.Figures.{at, finite}
 use Rattle.loops.specs.Loops.{first}
 use Rattle.refusal.specs.Reply.{Reply, reply_of, no_refusal}
@@ -27,10 +28,6 @@ request_of n m k from to weight injection grounds guess =
 abbrev pub work_places : ℕ → ℕ
 work_places n = 8 * n
 
--- buses, edges and grounds at most
-abbrev pub most : ℕ
-most = 256
-
 -- ---- refusals 1, 2 and 10, with the lengths of the result and of the work
 abbrev pub lengths_ok : Request → ℕ → ℕ → Bool
 lengths_ok q result work =
@@ -38,7 +35,7 @@ lengths_ok q result work =
     && eqb (length q.grounds) q.k && eqb (length q.guess) q.n && eqb result q.n && eqb work (work_places q.n)
 
 abbrev pub counts_ok : ℕ → ℕ → ℕ → Bool
-counts_ok n m k = leb n most && leb m most && leb k most
+counts_ok n m k = leb n most_buses && leb m most_corridors && leb k most_buses
 
 -- both ends of edge e are buses; ground g is a bus
 abbrev pub edge_ok : ℕ → List ℕ → List ℕ → ℕ → Bool

@@ -9,11 +9,9 @@ use crate::bytes::{eight, word};
 use crate::record;
 use crate::record::{bears, record_at, standing, weighs};
 use casefile_defs::{CaseRead, Header, Kind, Looked, Wanted};
-use loops::first_fault;
+use loops::{MOST_TARGET, first_fault};
 use mode::PlanMode;
 use refusal::Refusal;
-
-const MOST_TARGET: u32 = 65536;
 
 // The bytes of a word.
 const WORD: usize = 8;

@@ -1,21 +1,7 @@
--- The largest counts, from document 01's "Tables and their bounds", and the largest file, from its refusal 13.
+-- The largest file, from document 01's refusal 13, and the largest sheet.
 use Rattle.std.specs.Prelude.{ℕ, ◌*◌}
+pub use Rattle.loops.specs.Bounds.{most_levels, most_buses, most_generators, most_corridors, most_target}
 pub use Rattle.sheets.specs.Sheet.{row_figures}
-
-abbrev pub most_levels : ℕ
-most_levels = 5
-
-abbrev pub most_buses : ℕ
-most_buses = 256
-
-abbrev pub most_generators : ℕ
-most_generators = 128
-
-abbrev pub most_corridors : ℕ
-most_corridors = 256
-
-abbrev pub most_target : ℕ
-most_target = 65536
 
 abbrev pub most_bytes : ℕ
 most_bytes = 65536

@@ -5,21 +5,15 @@
 ghost use Rattle.std.specs.Prelude.{◌≡◌};
 ghost use Rattle.casefile_defs.specs.Tables.{places_of, sizes_ok};
 
+pub use loops::{MOST_BUSES, MOST_CORRIDORS, MOST_GENERATORS, MOST_LEVELS};
+
 use mode::PlanMode;
 use refusal::Refusal;
 
 // The largest file.
 pub const MOST_BYTES: usize = 65536;
 
-// The largest counts; a row of the sheet has five figures, and there is one for each corridor and level.
-pub const MOST_LEVELS: usize = 5;
-
-pub const MOST_BUSES: usize = 256;
-
-pub const MOST_GENERATORS: usize = 128;
-
-pub const MOST_CORRIDORS: usize = 256;
-
+// A row of the sheet has five figures, and there is one for each corridor and level.
 pub const ROW_FIGURES: usize = sheets::ROW_FIGURES;
 
 pub const MOST_SHEET: usize = MOST_CORRIDORS * MOST_LEVELS * ROW_FIGURES;

@@ -3,9 +3,8 @@ ghost use Rattle.std.specs.Prelude.{◌≡◌, ℕ, true, length};
 ghost use Rattle.dispatch_defs.specs.Operation.{lengths_ok, demand_ok, check_of};
 
 use crate::table::UnitTable;
+use loops::MOST_GENERATORS;
 use refusal::Refusal;
-
-const MOST_UNITS: usize = 128;
 
 const MOST_DEMAND: f64 = 1e9;
 
@@ -27,7 +26,7 @@ fn demand_ok(demand: f64) -> bool
 pub fn check(units: usize, table: &UnitTable, demand: f64) -> Result<(), Refusal>
     ensures { (places : ℕ) → lengths_ok units (length table.now.pmin) (length table.now.pmax) (length table.now.c1) (length table.now.c2) places ≡ true → result ≡ check_of units table.now demand places }
 {
-    if units > MOST_UNITS {
+    if units > MOST_GENERATORS {
         return Err(Refusal::Count);
     }
     if let Some(i) = table.faulty_unit() {

@@ -8,12 +8,13 @@ use borrow.Author.Tests.{eqb-true, eq-eqb, ltb-false, leb-true, le-ltb, le-leb}
 use lib.Dec.{eqb, leb, ltb}
 use lib.ListN.{length}
 use lib.Ieee.{Float}
+use Rattle.loops.specs.Bounds.{most_generators}
 use Rattle.loops.proofs.Bools.{both, and_of}
 use Rattle.loops.proofs.Chains.{only, after, err_not_ok}
 use Rattle.loops.proofs.Scan.{all_pass, pass_all}
 use Rattle.refusal.specs.declared.Refusal.TheVariants.{Length}
 use Rattle.dispatch_defs.specs.Units.{Units, Even, count, unit_ok_at}
-use Rattle.dispatch_defs.specs.Operation.{lengths_ok, most_units, demand_ok, faulty_unit, check_of}
+use Rattle.dispatch_defs.specs.Operation.{lengths_ok, demand_ok, faulty_unit, check_of}
 use Rattle.dispatch_defs.specs.Limits.{Accepted}
 use Rattle.std.specs.Prelude.{Err}
 use Rattle.refusal.specs.Reply.{no_refusal}
@@ -62,23 +63,23 @@ module _ (n : ℕ) (u : Units) (d : Float) (m : ℕ) where
   unfolding check_of
   check_length a = rw a
 
-  module _ (a : fits n u m ≡ true) (b : n ≤ most_units) (i : ℕ) (e : i ≡ faulty_unit u) (h : count u ≤ i) where
+  module _ (a : fits n u m ≡ true) (b : n ≤ most_generators) (i : ℕ) (e : i ≡ faulty_unit u) (h : count u ≤ i) where
     pub check_passed : demand_ok d ≡ true → no_refusal ≡ check_of n u d m
     unfolding check_of
-    check_passed q = rw (a, le-leb n most_units b, ← e, le-ltb i (count u) h, q)
+    check_passed q = rw (a, le-leb n most_generators b, ← e, le-ltb i (count u) h, q)
 
   -- ---- a request that passes, and one that is to pass
   pub passes : check_of n u d m ≡ no_refusal → Accepted n u d m
   unfolding check_of faulty_unit
   passes h =
       let a = only (fits n u m) h err_not_ok in
-      let b = only (leb n most_units) a.1 err_not_ok in
+      let b = only (leb n most_generators) a.1 err_not_ok in
       let c = after (ltb (faulty_unit u) (count u)) b.1 err_not_ok in
       let e = only (demand_ok d) c.1 err_not_ok in
       record {
         size = (lengths n u m a.0).pmin;
         room = (lengths n u m a.0).mw;
-        few = leb-true n most_units b.0;
+        few = leb-true n most_generators b.0;
         units = record { even = even n u m a.0; each = λ i l. all_pass (unit_ok_at u) (count u) (ltb-false (faulty_unit u) (count u) c.0) i l };
         demand = e.0;
       }

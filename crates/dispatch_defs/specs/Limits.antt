@@ -3,7 +3,8 @@ use Rattle.std.specs.Prelude.{ℕ, ◌<◌, ◌≤◌, true, List, ◌≡◌, le
 use Rattle.std.specs.Float.Ieee.{le}
 use Rattle.loops.specs.Figures.{at}
 use Rattle.dispatch_defs.specs.Units.{Units, Even, count, unit_ok_at}
-use Rattle.dispatch_defs.specs.Operation.{most_units, demand_ok}
+use Rattle.loops.specs.Bounds.{most_generators}
+use Rattle.dispatch_defs.specs.Operation.{demand_ok}
 
 -- a place for each unit, each between the unit's limits
 pub record Within (u : Units) (mw : List Float) : Type 0 where
@@ -20,6 +21,6 @@ pub record SoundUnits (u : Units) : Type 0 where
 pub record Accepted (n : ℕ) (u : Units) (d : Float) (places : ℕ) : Type 0 where
   pub size : count u ≡ n
   pub room : places ≡ n
-  pub few : n ≤ most_units
+  pub few : n ≤ most_generators
   pub units : SoundUnits u
   pub demand : demand_ok d ≡ true

@@ -1,6 +1,7 @@
 -- Document 01, refusals of *Dispatch*: 1; 2; 5 limits or costs of a unit, and after all units a demand outside 0 to 1e9 (index 0);
 -- 8 demand strictly between the sums and some unit's c1 + 2 · c2 · p not finite at either limit. Slices keep their contents.
 use Rattle.std.specs.Prelude.{ℕ, Bool, true, false, cond, ◌&&◌, List, ltb, leb, eqb, length, Float, Err, Ok, Result}
+use Rattle.loops.specs.Bounds.{most_generators}
 use Rattle.loops.specs.Figures.{nought, billion, inside}
 use Rattle.loops.specs.Loops.{first}
 use Rattle.refusal.specs.Reply.{Reply, reply_of, no_refusal}
@@ -12,9 +13,6 @@ use Rattle.refusal.specs.declared.Refusal.{Refusal}
 -- ---- 1, 2 and 5. The lengths are those of pmin, pmax, c1, c2 and the result
 abbrev pub lengths_ok : ℕ → ℕ → ℕ → ℕ → ℕ → ℕ → Bool
 lengths_ok units pmin pmax c1 c2 mw = (((eqb pmin units && eqb pmax units) && eqb c1 units) && eqb c2 units) && eqb mw units
-
-abbrev pub most_units : ℕ
-most_units = 128
 
 abbrev pub most_demand : Float
 most_demand = billion
@@ -29,7 +27,7 @@ faulty_unit u = first (unit_ok_at u) (count u) 0
 unfoldable pub check_of : ℕ → Units → Float → ℕ → Result (Unit {0}) Refusal
 check_of units u demand places =
     cond (lengths_ok units (length u.pmin) (length u.pmax) (length u.c1) (length u.c2) places)
-    (cond (leb units most_units)
+    (cond (leb units most_generators)
     (cond (ltb (faulty_unit u) (count u)) (Err (Generator (faulty_unit u)))
     (cond (demand_ok demand) no_refusal (Err Demand)))
     (Err Count))

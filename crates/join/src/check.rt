@@ -5,10 +5,8 @@ ghost use Rattle.join.specs.Joins.{case_of, sums_fit, heads_alike, check_of};
 
 use crate::district::{District, check_district};
 use casefile_defs::{Header, MOST_BUSES, MOST_CORRIDORS, MOST_GENERATORS};
-use loops::first_fault;
+use loops::{MOST_TARGET, first_fault};
 use refusal::Refusal;
-
-const MOST_TARGET: usize = 65536;
 
 // The counts are as given, so that their sum may not fit: this asks without it.
 fn sum_within(most: usize, x: usize, y: usize) -> bool
@@ -23,7 +21,7 @@ fn sums_ok(first: Header, second: Header) -> bool
     let buses = sum_within(MOST_BUSES, first.buses, second.buses);
     let corridors = sum_within(MOST_CORRIDORS, first.corridors, second.corridors);
     let generators = sum_within(MOST_GENERATORS, first.generators, second.generators);
-    let targets = sum_within(MOST_TARGET, first.target as usize, second.target as usize);
+    let targets = sum_within(MOST_TARGET as usize, first.target as usize, second.target as usize);
     buses & (corridors & (generators & targets))
 }
 

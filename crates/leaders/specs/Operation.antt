@@ -1,5 +1,6 @@
 -- Document 01, refusals of *Leaders*: 1 slice length; 2 count; 6 an end not below the buses, or equal ends. Slices keep their contents.
 use Rattle.std.specs.Prelude.{ℕ, ◌<◌, Bool, not, cond, ◌&&◌, List, ◌≡◌, ltb, leb, eqb, length, get_or, Err, Ok, Result}
+use Rattle.loops.specs.Bounds.{most_buses, most_corridors}
 use Rattle.loops.specs.Loops.{first}
 use Rattle.refusal.specs.Reply.{Reply, reply_of, no_refusal}
 use Rattle.refusal.specs.declared.Refusal.TheVariants.{Length, Count, Corridor}
@@ -11,7 +12,7 @@ abbrev pub lengths_ok : ℕ → ℕ → ℕ → ℕ → ℕ → Bool
 lengths_ok buses corridors a b leader = (eqb a corridors && eqb b corridors) && eqb leader buses
 
 abbrev pub counts_ok : ℕ → ℕ → Bool
-counts_ok buses corridors = leb buses 256 && leb corridors 256
+counts_ok buses corridors = leb buses most_buses && leb corridors most_corridors
 
 -- two different buses
 abbrev pub corridor_ok : ℕ → ℕ → ℕ → Bool

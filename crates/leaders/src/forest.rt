@@ -4,8 +4,7 @@ ghost use Rattle.leaders.specs.Leaders.{themselves};
 ghost use Rattle.leaders.specs.Operation.{Ends};
 ghost use Rattle.leaders.specs.Forest.{Down, Root, Found, Joined, AllJoined, HandedOut};
 
-// A bus fits a byte.
-const MOST_BUSES: usize = 256;
+use loops::MOST_BUSES;
 
 // Each bus's parent, and the name of the set of each that is its own parent.
 #[derive(Drop)]

@@ -5,7 +5,7 @@ ghost use Rattle.std.specs.Prelude.{◌≡◌};
 ghost use Rattle.loops.specs.Figures.{at};
 ghost use Rattle.loads.specs.Load.{load_by, loads_of, load_ok};
 
-const MOST_BUSES: usize = 256;
+use loops::MOST_BUSES;
 
 const MOST_MW: f64 = 1e6;
 

@@ -1,4 +1,5 @@
 -- The definitions that every crate shares.
+pub mod Bounds
 pub mod Figures
 pub mod Loops
 pub mod Parts

@@ -1,11 +1,15 @@
 // Definitions and laws of loops, of parts of a slice and of figures, shared by the other crates; and the few functions that all of them call.
 #![tactic(auto)]
 
+mod bounds;
 mod figures;
 
 ghost use Rattle.std.specs.Prelude.{◌≡◌, ◌<◌, ℕ, Bool, cond, ltb, length};
 ghost use Rattle.loops.specs.Loops.{fault, tab};
 
+pub use bounds::{
+    MOST_BUSES, MOST_CAP, MOST_CORRIDORS, MOST_GENERATORS, MOST_INITIAL, MOST_LEVELS, MOST_TARGET,
+};
 pub use figures::{clamp, greater, infinity, is_finite, lesser, magnitude, sum};
 
 // The first index below `count` at which a test fails.

@@ -15,7 +15,8 @@ ghost use Rattle.placement.specs.Views.{labels_in};
 ghost use Rattle.placement.specs.Blocks.{block_size, most_blocks, Chosen, closer, nearest_with, Front};
 
 use crate::labels::{Labels, Mark};
-use crate::{BLOCKS, MOST_BUSES};
+use crate::BLOCKS;
+use loops::MOST_BUSES;
 
 // Buses of a block.
 const BLOCK: usize = 16;

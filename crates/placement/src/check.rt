@@ -4,13 +4,9 @@ ghost use Rattle.loops.specs.Loops.{fault};
 ghost use Rattle.placement_defs.specs.Request as asked;
 ghost use Rattle.placement_defs.specs.Request.{request_of, lengths_ok, counts_ok, load_at, bus_ok, corridor_ok, corridor_at, check_of};
 
-use crate::MOST_BUSES;
+use loops::{MOST_BUSES, MOST_CORRIDORS, MOST_GENERATORS};
 use refusal::Refusal;
 use std::marker::Model;
-
-const MOST_CORRIDORS: usize = 256;
-
-const MOST_GENERATORS: usize = 128;
 
 const LONGEST_KM: f64 = 10000.0;
 

@@ -8,7 +8,7 @@ ghost use Rattle.placement.specs.Marks.{origin_of, origins_in};
 ghost use Rattle.placement.specs.Stages.{Joined, Placing};
 ghost use Rattle.placement.specs.Views.{network_in, loads_in, flags_in};
 
-use crate::MOST_BUSES;
+use loops::MOST_BUSES;
 use crate::distance::{distance_to_sources, distance_with_source};
 use crate::labels::{Labels, Mark};
 use crate::network::Network;

@@ -5,7 +5,7 @@ ghost use Rattle.placement_defs.specs.Distance.{labels, blank};
 ghost use Rattle.placement.specs.Blocks.{Numbers};
 ghost use Rattle.placement.specs.Marks.{marks_in, origins_in};
 
-use crate::MOST_BUSES;
+use loops::MOST_BUSES;
 
 // The three sets of the method: the rest, those from which the next is chosen, and those whose least distance is known.
 #[derive(Clone, Copy)]

@@ -17,10 +17,6 @@ mod distance;
 mod labels;
 mod network;
 
-const MOST_BUSES: usize = 256;
-
-const MOST_CORRIDORS: usize = 256;
-
 // Blocks of sixteen buses.
 const BLOCKS: usize = 16;
 

@@ -10,7 +10,7 @@ ghost use Rattle.placement.specs.Corridors.{Listed};
 ghost use Rattle.placement.specs.Stages.{Called};
 
 use crate::check::Request;
-use crate::{MOST_BUSES, MOST_CORRIDORS};
+use loops::{MOST_BUSES, MOST_CORRIDORS};
 
 #[derive(Drop)]
 pub struct Network<'a> {

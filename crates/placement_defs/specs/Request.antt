@@ -1,21 +1,12 @@
 -- What placement is asked, and its refusals 1, 2, 4, 5 and 6 in their order (document 01, "Placement").
 use Rattle.std.specs.Prelude.{◌≡◌, List, Bool, true, not, cond, ◌&&◌, ℕ, ◌≤◌, ◌<◌, eqb, leb, ltb, length, get_or, Float, Err, Result}
+pub use Rattle.loops.specs.Bounds.{most_buses, most_corridors, most_generators}
 use Rattle.loops.specs.Figures.{at, inside, nought, ten_thousand}
 use Rattle.loops.specs.Loops.{first}
 use Rattle.loads.specs.Load.{weighed, loads_of, load_ok}
 use Rattle.refusal.specs.declared.Refusal.{Refusal}
 use Rattle.refusal.specs.declared.Refusal.TheVariants.{Length, Count, Bus, Generator, Corridor}
 use Rattle.refusal.specs.Reply.{no_refusal}
-
--- document 01's bounds of the counts
-abbrev pub most_buses : ℕ
-most_buses = 256
-
-abbrev pub most_corridors : ℕ
-most_corridors = 256
-
-abbrev pub most_generators : ℕ
-most_generators = 128
 
 -- n buses with their readings, the readings' weights and their loads in MW, m corridors of km between a and b, g generators by their buses
 pub record Request : Type 0 where

@@ -2,6 +2,7 @@
 use Rattle.std.specs.Prelude.{ℕ, [], ◌∷◌, ◌≡◌, refl, Float}
 use Rattle.std.specs.Float.{binary64}
 use Rattle.std.specs.Float.Ieee.{of_bits, round}
+pub use Rattle.loops.specs.Bounds.{most_buses, most_corridors, most_generators, most_levels, most_target, most_initial, most_cap}
 use Rattle.loops.specs.Figures.{fifty, hundred, millionth, billionth, decimal}
 
 -- ---- figures
@@ -73,29 +74,6 @@ planning_max_rounds = 64
 -- three quarters of them
 abbrev pub stiffening_rounds : ℕ
 stiffening_rounds = 48
-
--- ---- bounds of the tables (document 01, "Tables and their bounds")
-abbrev pub most_buses : ℕ
-most_buses = 256
-
-abbrev pub most_corridors : ℕ
-most_corridors = 256
-
-abbrev pub most_generators : ℕ
-most_generators = 128
-
-abbrev pub most_levels : ℕ
-most_levels = 5
-
-abbrev pub most_target : ℕ
-most_target = 65_536
-
-abbrev pub most_initial : ℕ
-most_initial = 64
-
--- a corridor's own cap (document 02, K5)
-abbrev pub most_cap : ℕ
-most_cap = 6
 
 -- places of each work slice for each bus, corridor and generator
 abbrev pub work_rows : ℕ

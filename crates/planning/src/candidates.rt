@@ -10,12 +10,12 @@ ghost use Rattle.plan_defs.specs.Stiffen.{gain_of, batch, batch_cap};
 ghost use Rattle.planning.specs.Raise.{pairs_for};
 ghost use Rattle.planning.specs.Stiffen.{Gainful, candidate_at, gain_at, gains_more, gain_next, gain_order, gain_for, Chosen};
 
-use crate::MOST_CORRIDORS;
 use crate::budgets::Stiffness;
 use crate::figures::counting;
 use crate::solve::susceptance;
 use crate::solved::Solved;
 use arrayvec::ArrayVec;
+use loops::MOST_CORRIDORS;
 use plan_defs::CircuitDesign;
 use std::num::saturating_f64_to_usize;
 

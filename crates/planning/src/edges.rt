@@ -2,8 +2,8 @@
 ghost use Rattle.angles_defs.specs.Network.{edges_of};
 ghost use Rattle.planning.specs.Edges.{Between};
 
-use crate::MOST_CORRIDORS;
 use arrayvec::ArrayVec;
+use loops::MOST_CORRIDORS;
 
 // Each joins two of so many buses; edge k is of corridor k.
 #[derive(Drop)]

@@ -9,13 +9,12 @@ ghost use Rattle.planning.specs.Design.{Lines};
 ghost use Rattle.planning.specs.Fill.{designs_for, Loaded, Fillable, filled_as, gain_of, Tallied, Counted, caps_for};
 ghost use Rattle.planning.specs.Tables.{grid_in};
 
-use crate::MOST_CORRIDORS;
 use crate::design::fill_drawn;
 use crate::keys::Keys;
 use crate::policy::{full_at, promotes};
 use crate::tables::Grid;
 use arrayvec::ArrayVec;
-use loops::magnitude;
+use loops::{MOST_CORRIDORS, magnitude};
 use mode::PlanMode;
 
 // As many turns as a cap may be fill every corridor, or reach the target.

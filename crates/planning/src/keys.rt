@@ -3,8 +3,8 @@ ghost use Rattle.std.specs.Prelude.{◌≡◌, ℕ, ◌<◌, ◌≤◌, All, len
 ghost use Rattle.plan_defs.specs.Constants.{most_corridors};
 ghost use Rattle.planning.specs.Fill.{rank_before, order_by};
 
-use crate::MOST_CORRIDORS;
 use arrayvec::ArrayVec;
+use loops::MOST_CORRIDORS;
 
 // The first falling, the second falling, the third rising, then index. Of corridors these are loading, kV and length.
 #[derive(Clone, Copy)]

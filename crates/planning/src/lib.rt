@@ -43,13 +43,6 @@ mod stiffen_corridor;
 mod tables;
 mod top_up;
 
-// The most buses, corridors and generators of a case.
-const MOST_BUSES: usize = 256;
-
-const MOST_CORRIDORS: usize = 256;
-
-const MOST_GENERATORS: usize = 128;
-
 // The circuits of each corridor, with their flows and ratings, the dispatch, the angles, the tiers, the grounds and the levels added,
 // for a case of n buses, m corridors and g generators. A bus's load is its reading times its weight, rounded once; `cap` has the
 // corridors' own caps, 0 for none. `before` and `order` are what a plan keeps of filling, also where nothing is filled: the circuits

@@ -12,11 +12,11 @@ ghost use Rattle.plan_defs.specs.Lists.{sum_over};
 ghost use Rattle.plan_defs.specs.Outcome.{up_to};
 ghost use Rattle.planning.specs.Opening.{stage_of, stage_if, bus_case, slack_case, dispatch_case, injection_case, Joined, Picked};
 
-use crate::MOST_GENERATORS;
 use crate::solve::BASE_MVA;
 use crate::tables::Supply;
 use crate::top_up::give;
 use arrayvec::ArrayVec;
+use loops::MOST_GENERATORS;
 use mode::PlanMode;
 use refusal::Refusal;
 

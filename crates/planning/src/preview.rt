@@ -7,17 +7,11 @@ ghost use Rattle.plan_defs.specs.Preview.{kept_as, count_ok, place_ok, preview_f
 ghost use Rattle.acceptance.specs.Check.{answer_of};
 ghost use Rattle.planning.specs.Preview.{counts_for, order_for, Refillable};
 
-use crate::MOST_CORRIDORS;
 use crate::fill::fill;
 use crate::policy::promotes;
+use loops::{MOST_CAP, MOST_CORRIDORS, MOST_INITIAL, MOST_TARGET};
 use mode::PlanMode;
 use refusal::Refusal;
-
-const MOST_TARGET: u32 = 65536;
-
-const MOST_INITIAL: u32 = 64;
-
-const MOST_CAP: u32 = 6;
 
 // ---- 6: the first corridor whose kept count is outside 1 to 64, or whose cap is above 6
 fn count_ok(count: u32, cap: u32) -> bool

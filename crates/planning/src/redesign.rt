@@ -10,11 +10,10 @@ ghost use Rattle.planning.specs.Design.{lines_for, ends_for, Banks, Rated};
 ghost use Rattle.planning.specs.Redesign.{redesign_for, Corridors, AnewFits, RedesignFits, anew_from, fresh_at};
 ghost use Rattle.planning.specs.Tables.{grid_in, supply_in};
 
-use crate::MOST_BUSES;
 use crate::design::{circuit, ends_of, set_transformer_mva};
 use crate::opening::inject;
 use crate::tables::{Grid, Supply};
-use loops::{greater, lesser};
+use loops::{MOST_BUSES, greater, lesser};
 use plan_defs::CircuitDesign;
 
 // The room that a bank is given, and the least bank, MVA.

@@ -12,11 +12,11 @@ ghost use Rattle.planning.specs.Design.{lines_for};
 ghost use Rattle.planning.specs.Solve.{peak_for, solved_of, finite_angles, finite_answer, Places, Drawing, Lent};
 ghost use Rattle.planning.specs.Tables.{grid_in, opened_in, edges_in};
 
-use crate::MOST_BUSES;
 use crate::design::circuit;
 use crate::edges::Edges;
 use crate::tables::{Grid, Opened};
 use arrayvec::ArrayVec;
+use loops::MOST_BUSES;
 use plan_defs::CircuitDesign;
 use refusal::Refusal;
 

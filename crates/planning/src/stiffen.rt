@@ -8,13 +8,13 @@ ghost use Rattle.plan_defs.specs.Stiffen.{best_of};
 ghost use Rattle.planning.specs.Stiffen.{Stiffenable, Room, LedStiffened, StiffenFits, Stepped, reinforce_step, narrow_step, component_step, Led, lead_of, lag_of};
 ghost use Rattle.planning.specs.Tables.{grid_in, opened_in, solved_by};
 
-use crate::MOST_BUSES;
 use crate::budgets::{Limits, Stiffness};
 use crate::candidates::choose_batch;
 use crate::edges::Edges;
 use crate::solved::Solved;
 use crate::stiffen_corridor::stiffen_batch;
 use crate::tables::{Grid, Opened};
+use loops::MOST_BUSES;
 use refusal::Refusal;
 
 // Three quarters of the rounds.

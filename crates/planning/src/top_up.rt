@@ -10,9 +10,8 @@ ghost use Rattle.planning.specs.Opening.{stage_of, Priced, given_stage};
 
 use crate::keys::Keys;
 use crate::policy::tops_up;
-use crate::{MOST_CORRIDORS, MOST_GENERATORS};
 use arrayvec::ArrayVec;
-use loops::{lesser, sum};
+use loops::{MOST_CORRIDORS, MOST_GENERATORS, lesser, sum};
 use mode::PlanMode;
 use refusal::Refusal;
 

@@ -1,6 +1,7 @@
 -- The operations on a season (document 02, K3), of every season and plan that may be handed in. A sum is taken as 64 bits hold it; that none
 -- wraps for a season that was fed is part of the theorem on its figures.
 use Rattle.std.specs.Prelude.{ℕ, ◌+◌, ◌%◌, ◌^◌, ◌≤◌, min, max, Bool, cond, ◌&&◌, ◌||◌, List, [], ◌∷◌, ◌≡◌, eqb, leb, ltb, length, get_or, replicate, Err, Ok, Result}
+pub use Rattle.loops.specs.Bounds.{most_corridors}
 use Rattle.loops.specs.Loops.{filled}
 use Rattle.refusal.specs.Reply.{Reply, reply_of, no_refusal}
 use Rattle.refusal.specs.declared.Refusal.TheVariants.{Length, Count, Uneven, SeasonFull}
@@ -14,9 +15,6 @@ use Rattle.refusal.specs.declared.Refusal.{Refusal}
 
 abbrev pub most_plans : ℕ
 most_plans = 4096
-
-abbrev pub most_corridors : ℕ
-most_corridors = 256
 
 -- the largest count of 32 bits: where the least begins
 abbrev pub largest : ℕ

@@ -1,10 +1,10 @@
 // The types of a season of plans (document 02, K3). There is no code here: specs/ has its definitions, proofs/ its theorems.
 #![tactic(auto)]
 
-// The most plans that a season takes, and the most corridors of a plan.
-pub const MOST_PLANS: u32 = 4_096;
+pub use loops::MOST_CORRIDORS;
 
-pub const MOST_CORRIDORS: usize = 256;
+// The most plans that a season takes.
+pub const MOST_PLANS: u32 = 4_096;
 
 // What is kept of the plans taken; place k of an array is of corridor k.
 #[derive(Clone, Copy, PartialEq)]

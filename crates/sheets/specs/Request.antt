@@ -2,6 +2,7 @@
 use Rattle.std.specs.Prelude.{ℕ, ◌*◌, Bool, cond, ◌&&◌, List, ◌≡◌, eqb, leb, length, Float, Err, Ok, Result}
 use Rattle.refusal.specs.Reply.{Reply, reply_of, no_refusal}
 use Rattle.refusal.specs.declared.Refusal.TheVariants.{Length, Count}
+use Rattle.loops.specs.Bounds.{most_corridors, most_levels}
 use Rattle.sheets.specs.Sheet.{row_figures, by_level}
 use Rattle.refusal.specs.declared.Refusal.{Refusal}
 
@@ -10,12 +11,6 @@ abbrev pub lengths_ok : ℕ → ℕ → ℕ → ℕ → Bool
 lengths_ok m n from to = eqb from (row_figures * (m * n)) && eqb to (row_figures * (m * n))
 
 -- ---- 2
-abbrev pub most_corridors : ℕ
-most_corridors = 256
-
-abbrev pub most_levels : ℕ
-most_levels = 5
-
 abbrev pub counts_ok : ℕ → ℕ → Bool
 counts_ok m n = leb 1 n && leb n most_levels && leb m most_corridors
 

@@ -6,14 +6,11 @@ ghost use Rattle.loops.specs.Figures.{at};
 ghost use Rattle.sheets.specs.Request.{counts_ok, check_of, Sized, outcome, lay_out};
 ghost use Rattle.sheets.specs.Sheet.{row_figures, row_place, row_corridor, row_level, line_of, line_place, figure_of, by_level};
 
+use loops::{MOST_CORRIDORS, MOST_LEVELS};
 use refusal::Refusal;
 
 // Figures of a row: r, x, b, rate, basis.
 pub const ROW_FIGURES: usize = 5;
-
-const MOST_CORRIDORS: usize = 256;
-
-const MOST_LEVELS: usize = 5;
 
 // The first figure of the row of a corridor and a level, in a sheet by level.
 pub fn row_place(corridors: usize, k: usize, level: usize) -> usize

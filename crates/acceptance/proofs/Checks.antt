@@ -4,13 +4,12 @@ use mathlib.Core.Bool.{Bool, true, false, cond, ◌&&◌, and_assoc, and-true}
 use mathlib.Core.List.{List, [], ◌∷◌}
 use mathlib.Core.Option.{some}
 use mathlib.Core.Path.{◌≡◌, refl, sym, ap, ◌∙◌}
-use native.Mathlib.Omega.{arith}
 use borrow.Author.Tests.{eqb-true, eq-eqb}
 use lib.Dec.{eqb}
 use lib.ListN.{length}
 use lib.Ieee.{Float, nan}
 use Rattle.loops.specs.Figures.{at}
-use Rattle.loops.proofs.Bools.{both}
+use Rattle.loops.proofs.Bools.{both, unequal}
 use Rattle.loops.proofs.Tab.{length_tab, get_tab}
 use Rattle.loads.specs.Load.{load_by, weighed, loads_of}
 use Rattle.sheets.proofs.Layouts.{some_row, line_corridor_lem, line_level_lem}
@@ -69,7 +68,7 @@ module _ (t : Tables) where
         go : (u v : Bool) → (u && v) ≡ false → u ≡ lengths_ok given → Err Length ≡ answer v (lengths_ok given) (counts_ok given target)
         go u false q f = refl
         go false true q f = ap (λ (b : Bool). answer true b (counts_ok given target)) f
-        go true true q f = let w : ◌≡◌ {A = ℕ} 0 1 = cc in absurd (omega arith)
+        go true true q f = absurd (unequal cc)
 
     module _ (passed : (x && fits) ≡ true) where
       lengths : lengths_ok given ≡ true

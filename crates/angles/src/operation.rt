@@ -1,6 +1,7 @@
 // The operation on a request that is not refused: the rows are set up, solved and handed out. That the work has eight places for each bus is asked here and in
 // solve.rt as it is in steps.rt, which says why no struct has it.
 ghost use Rattle.std.specs.Prelude.{◌≡◌, ◌*◌, ◌≤◌, length};
+ghost use Rattle.loops.specs.Bounds.{most_buses};
 ghost use Rattle.loops.specs.Parts.{rows};
 ghost use Rattle.angles_defs.specs.Solve as Solve;
 ghost use Rattle.angles_defs.specs.Operation.{outcome, finish};
@@ -52,7 +53,7 @@ pub fn answer(
     res: &mut [f64],
     work: &mut [f64],
 ) -> Result<Solution, Refusal>
-    requires { (length work.old ≡ 8 * grid.now.n) × (length res.old ≡ grid.now.n) × (length injection.now ≡ grid.now.n) × (length guess.now ≡ grid.now.n) × (grid.now.n ≤ 256) }
+    requires { (length work.old ≡ 8 * grid.now.n) × (length res.old ≡ grid.now.n) × (length injection.now ≡ grid.now.n) × (length guess.now ≡ grid.now.n) × (grid.now.n ≤ most_buses) }
     ensures { outcome result res.new work.new
         ≡ finish grid.now.n (Solve.solve grid.now.n (edges_in grid.now) grid.now.grounds.now injection.now guess.now) }
 {

@@ -1,5 +1,6 @@
 // The solve, over the rows of the work slice w: `dc_angles_cg` from its right side, its network and its grounded guess on.
 ghost use Rattle.std.specs.Prelude.{◌≡◌, ◌*◌, ◌^◌, ◌<◌, ◌≤◌, length};
+ghost use Rattle.loops.specs.Bounds.{most_buses};
 ghost use Rattle.loops.specs.Parts.{rows};
 ghost use Rattle.root.specs.Root.{root};
 ghost use Rattle.angles_defs.specs.Solve.{go, run, max_iterations, solve_from};
@@ -85,7 +86,7 @@ const STEPS_PER_BUS: usize = 50;
 const MORE_STEPS: usize = 100;
 
 fn iterate(grid: &Grid, w: &mut [f64], bound: Bound, first: Carried) -> Solution
-    requires { (length w.old ≡ 8 * grid.now.n) × (grid.now.n ≤ 256) × (first.steps ≡ 0) }
+    requires { (length w.old ≡ 8 * grid.now.n) × (grid.now.n ≤ most_buses) × (first.steps ≡ 0) }
     ensures { solved_in (rows 8 grid.now.n w.new) result
         ≡ run (network_in grid.now.n (edges_in grid.now) (rows 8 grid.now.n w.old)) bound.bound (max_iterations grid.now.n)
         (go (state_in (rows 8 grid.now.n w.old) first)) }
@@ -124,7 +125,7 @@ fn begin(grid: &Grid, w: &mut [f64], bound: Bound) -> ControlFlow<Solution, Carr
 
 // The solve: zeros where the norm of the right side comes to zero, whatever the guess.
 pub fn solve(grid: &Grid, w: &mut [f64]) -> Solution
-    requires { (length w.old ≡ 8 * grid.now.n) × (grid.now.n ≤ 256) }
+    requires { (length w.old ≡ 8 * grid.now.n) × (grid.now.n ≤ most_buses) }
     ensures { solved_in (rows 8 grid.now.n w.new) result
         ≡ solve_from (network_in grid.now.n (edges_in grid.now) (rows 8 grid.now.n w.old))
         (row (rows 8 grid.now.n w.old) 0) (row (rows 8 grid.now.n w.old) 3) }

@@ -38,9 +38,9 @@ pub record Lengths (q : Request) (places rows : ℕ) : Type 0 where
 
 pub record Sound (q : Request) (result work : ℕ) : Type 0 where
   pub lengths : Lengths q result work
-  pub buses : q.n ≤ 256
-  pub edges : q.m ≤ 256
-  pub grounds : q.k ≤ 256
+  pub buses : q.n ≤ most_buses
+  pub edges : q.m ≤ most_corridors
+  pub grounds : q.k ≤ most_buses
   pub from_below : (e : ℕ) → e < q.m → get_or q.edges.from e 0 < q.n
   pub to_below : (e : ℕ) → e < q.m → get_or q.edges.to e 0 < q.n
   pub ground_below : (g : ℕ) → g < q.k → get_or q.grounds g 0 < q.n
@@ -78,13 +78,13 @@ module _ (q : Request) (result work : ℕ) where
   of_lengths L =
       rw (eq-eqb _ _ L.injection, eq-eqb _ _ L.from, eq-eqb _ _ L.to, eq-eqb _ _ L.weight, eq-eqb _ _ L.grounds, eq-eqb _ _ L.guess, eq-eqb _ _ L.result, eq-eqb _ _ L.work)
 
-  counts_of : counts_ok q.n q.m q.k ≡ true → (q.n ≤ 256) × (q.m ≤ 256) × (q.k ≤ 256)
+  counts_of : counts_ok q.n q.m q.k ≡ true → (q.n ≤ most_buses) × (q.m ≤ most_corridors) × (q.k ≤ most_buses)
   counts_of h =
       let p = both (leb q.n most_buses && leb q.m most_corridors) (leb q.k most_buses) h in
       let r = both (leb q.n most_buses) (leb q.m most_corridors) p.0 in
       (leb-true q.n most_buses r.0, leb-true q.m most_corridors r.1, leb-true q.k most_buses p.1)
 
-  of_counts : q.n ≤ 256 → q.m ≤ 256 → q.k ≤ 256 → counts_ok q.n q.m q.k ≡ true
+  of_counts : q.n ≤ most_buses → q.m ≤ most_corridors → q.k ≤ most_buses → counts_ok q.n q.m q.k ≡ true
   of_counts n m k = and_of (and_of (le-leb q.n most_buses n) (le-leb q.m most_corridors m)) (le-leb q.k most_buses k)
 
   -- a request passes exactly where it is sound

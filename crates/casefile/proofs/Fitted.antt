@@ -7,6 +7,7 @@ use native.Mathlib.Nat.{mul-le-mul}
 use native.Mathlib.Omega.{arith}
 use lib.ListN.{length, take, drop, replicate, length-append, length-drop, length-replicate}
 use lib.Seq.{take-append-add, length-take-le}
+use Rattle.loops.specs.Bounds.{most_buses}
 use Rattle.loops.specs.Parts.{part, put}
 use Rattle.loops.proofs.Parts.{length_put, take_replicate}
 use Rattle.casefile_defs.specs.Bounds.{most_bytes}
@@ -94,7 +95,7 @@ unfolding spot
 spot_inside k s at zero h r = h
 spot_inside k s at (suc n) h r = r n (omega arith)
 
-pub buses_small : (l : Kind) (s : List ℕ) (at n : ℕ) → at ≤ 65 → n ≤ 256 → Kept s at n → at + length (buses_as l s at n) ≤ most_bytes
+pub buses_small : (l : Kind) (s : List ℕ) (at n : ℕ) → at ≤ 65 → n ≤ most_buses → Kept s at n → at + length (buses_as l s at n) ≤ most_bytes
 buses_small l s at n h b r =
-    let m : n * (11 + length (weight_of l)) ≤ 256 * 19 = mul-le-mul b (let w = weight_length l in let z : 11 + length (weight_of l) ≤ 19 = omega arith in z) in
+    let m : n * (11 + length (weight_of l)) ≤ most_buses * 19 = mul-le-mul b (let w = weight_length l in let z : 11 + length (weight_of l) ≤ 19 = omega arith in z) in
     omega (arith, length_buses l s at n r)

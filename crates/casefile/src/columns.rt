@@ -1,5 +1,6 @@
 // The records of a table, and its columns: a place for each record, and zeros past them. A column is named by its field's place in the record, a number's by its width too.
 ghost use Rattle.std.specs.Prelude.{◌≡◌, ◌+◌, ◌<◌, ◌≤◌, length};
+ghost use Rattle.loops.specs.Bounds.{most_corridors};
 ghost use Rattle.loops.specs.Loops.{tab};
 ghost use Rattle.casefile_defs.specs.Layout.{size_of, end_of, word};
 ghost use Rattle.casefile_defs.specs.Tables.{number_at, figure_at, weight_at, number_in, figure_in, numbers_of, weights, cap_field};
@@ -41,7 +42,7 @@ impl<'a> Table<'a> {
     #[tactic(auto, using(crate::proofs::Stored::none_stored, crate::proofs::Stored::first_start))]
     pub fn new(file: &'a [u8], kind: Kind, at: usize, count: usize) -> Self
         requires room { Room kind file.now at count }
-        requires few { count ≤ 256 }
+        requires few { count ≤ most_corridors }
         ensures { result ≡ records_of kind file.now at count }
     {
         let mut starts = [0; MOST_RECORDS];

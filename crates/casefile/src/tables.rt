@@ -1,5 +1,6 @@
 // Filling the lent tables, kind by kind, and the line sheet.
 ghost use Rattle.std.specs.Prelude.{◌≡◌, ◌+◌, ◌*◌, ◌^◌, ◌≤◌, ◌<◌, length};
+ghost use Rattle.loops.specs.Bounds.{most_corridors};
 ghost use Rattle.loops.specs.Loops.{tab};
 ghost use Rattle.loops.specs.Parts.{put};
 ghost use Rattle.sheets.specs.Sheet.{row_figures};
@@ -86,7 +87,7 @@ fn fill_level(
 // Fills the ladder. Answers where its records end, as the next three do.
 pub fn read_levels(file: &[u8], at: usize, count: usize, ladder: &mut [f64]) -> usize
     requires room { Room Kind.Level file.now at count }
-    requires few { count ≤ 256 }
+    requires few { count ≤ most_corridors }
     ensures ladder { ladder.new ≡ figures Kind.Level 0 file.now at count (length ladder.old) }
     ensures end { result ≡ spot Kind.Level file.now at count }
 {
@@ -105,7 +106,7 @@ pub fn read_buses(
     weight: &mut [f64],
 ) -> usize
     requires room { Room Kind.Bus file.now at count }
-    requires few { count ≤ 256 }
+    requires few { count ≤ most_corridors }
     ensures tier { tier.new ≡ numbers Kind.Bus 0 file.now at count (length tier.old) }
     ensures reading { reading.new ≡ figures Kind.Bus 1 file.now at count (length reading.old) }
     ensures weight { weight.new ≡ weights file.now at count (length weight.old) }
@@ -131,7 +132,7 @@ pub fn read_generators(
     c2: &mut [f64],
 ) -> usize
     requires room { Room Kind.Generator file.now at count }
-    requires few { count ≤ 256 }
+    requires few { count ≤ most_corridors }
     ensures generator_bus { generator_bus.new ≡ numbers Kind.Generator 0 file.now at count (length generator_bus.old) }
     ensures slack { slack.new ≡ numbers Kind.Generator 1 file.now at count (length slack.old) }
     ensures pmin { pmin.new ≡ figures Kind.Generator 2 file.now at count (length pmin.old) }
@@ -163,7 +164,7 @@ pub fn read_corridors(
     cap: &mut [u32],
 ) -> usize
     requires room { Room Kind.Corridor file.now at count }
-    requires few { count ≤ 256 }
+    requires few { count ≤ most_corridors }
     ensures a { a.new ≡ numbers Kind.Corridor 0 file.now at count (length a.old) }
     ensures b { b.new ≡ numbers Kind.Corridor 1 file.now at count (length b.old) }
     ensures circuits { circuits.new ≡ numbers Kind.Corridor 2 file.now at count (length circuits.old) }

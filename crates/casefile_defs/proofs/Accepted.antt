@@ -9,6 +9,7 @@ use native.Mathlib.Omega.{arith}
 use borrow.Author.Tests.{ltb-false}
 use lib.Dec.{ltb}
 use lib.ListN.{length}
+use Rattle.loops.proofs.Bools.{unequal}
 use Rattle.loops.specs.Loops.{iter}
 use Rattle.loops.proofs.Chains.{err_not_ok}
 use Rattle.loops.proofs.Loops.{iter_still}
@@ -169,7 +170,7 @@ tables_of_lem wanted s h next e =
 
 -- ---- the tests on the way to an answer
 refused_not_read : {f : Refusal} {h : Header} → Err f ≡ Ok h → ⊥
-refused_not_read e = let v : ◌≡◌ {A = ℕ} 0 1 = cc in omega arith
+refused_not_read e = unequal cc
 
 -- the end of an answered reading, from its test and its walk
 end_by : (s : List ℕ) (h h₀ : Header) (next : ℕ) (z : Bool) (i : ℕ) (f : Refusal) → ltb i (length s) ≡ z → cond z (Err f) (Ok h₀) ≡ Ok h

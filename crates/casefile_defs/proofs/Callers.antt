@@ -4,7 +4,7 @@ use Prim.Native.Nat.{ℕ}
 use mathlib.Core.Bool.{Bool, true, false, cond}
 use mathlib.Core.List.{List}
 use mathlib.Core.Path.{◌≡◌, sym, ap, ◌∙◌}
-use native.Mathlib.Omega.{arith}
+use Rattle.loops.proofs.Bools.{unequal}
 use Rattle.refusal.specs.declared.Refusal.TheVariants.{Length}
 use Rattle.casefile_defs.specs.Reading.{Small, read_of, reading_of, unread}
 use Rattle.casefile_defs.specs.Tables.{Places, Outcome, reply_of, outcome, tables_of, held, sizes_ok, read_case}
@@ -18,7 +18,7 @@ use Rattle.refusal.specs.declared.Refusal.{Refusal}
 -- a reply that answers is a reading that did
 read_of_lem : (r : Result Header Refusal) (h : Header) → reply_of (Ok h) ≡ reply_of r → r ≡ Ok h
 read_of_lem (Ok g) h e = cc
-read_of_lem (Err f) h e = absurd (let v : ◌≡◌ {A = ℕ} 0 1 = cc in omega arith)
+read_of_lem (Err f) h e = absurd (unequal cc)
 
 pub record Answered (s : List ℕ) (h : Header) (p : Places) : Type 0 where
   pub reading : reading_of s ≡ Ok h
@@ -30,8 +30,7 @@ unfolding held
 answered_by s q p h r false g e =
     absurd
     (let v = read_of_lem (Err Length) h (ap (λ (x : Result Header Refusal). reply_of x) (sym g) ∙ ap (λ (o : Outcome). o.reply) e) in
-    let z : ◌≡◌ {A = ℕ} 0 1 = cc in
-    omega arith)
+    unequal cc)
 answered_by s q p h r true g e =
     let d : reading_of s ≡ Ok h = read_of_lem (reading_of s) h (ap (λ (x : Result Header Refusal). reply_of x) (sym g) ∙ ap (λ (o : Outcome). o.reply) e) in
     record { reading = d; places = ap (λ (o : Outcome). o.places) e ∙ ap (λ (x : Result Header Refusal). tables_of s (held x)) d }

@@ -9,6 +9,7 @@ use borrow.Author.Tests.{eq-eqb}
 use lib.Dec.{lit<}
 use lib.ListN.{length, get_or, take, drop, replicate, length-append, length-replicate}
 use lib.Seq.{take_at, drop_at}
+use Rattle.loops.proofs.Bools.{unequal}
 use Rattle.loops.proofs.Scan.{passed}
 use Rattle.mode.specs.Number.{mode_number}
 use Rattle.mode.specs.declared.PlanMode.{PlanMode}
@@ -68,7 +69,7 @@ same_kind k l n true false e = absurd (n e)
 same_kind k l n false true e = absurd (n (sym e))
 
 pub bus_kinds : ◌≡◌ {A = Kind} WeighedBus Bus → ⊥
-bus_kinds e = let z : ◌≡◌ {A = ℕ} 0 1 = cc in omega arith
+bus_kinds e = unequal cc
 
 -- what stands in a file suits its form
 bus_suits : (b : Bool) → suits b (cond b WeighedBus Bus) ≡ true
@@ -170,7 +171,7 @@ module _ (f : Form) (h : Header) (v : Kind → ℕ → ℕ → ℕ) (n : ℕ) (g
   -- the marks show the form
   pub capped_back : (i : ℕ) → i < h.corridors → (form_in padded h).capped i ≡ f.capped i
   capped_back i b =
-      same_kind CappedCorridor Corridor (λ e. let z : ◌≡◌ {A = ℕ} 0 1 = cc in omega arith) ((form_in padded h).capped i) (f.capped i) (corridor_found i b).kind
+      same_kind CappedCorridor Corridor (λ e. unequal cc) ((form_in padded h).capped i) (f.capped i) (corridor_found i b).kind
 
   pub weighed_back : 0 < h.buses → (form_in padded h).weighed ≡ f.weighed
   unfolding spot

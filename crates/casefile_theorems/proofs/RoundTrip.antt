@@ -12,6 +12,7 @@ use lib.Ieee.{Float, binary64, of_bits, to_bits, is_nan}
 use lib.Ieee.Bits.{to_bits-of_bits}
 use lib.ListN.{length, take, replicate, length-append, length-replicate, replicate-append-replicate}
 use lib.Seq.{take-append-add}
+use Rattle.loops.proofs.Bools.{unequal}
 use Rattle.loops.specs.Figures.{nought, one}
 use Rattle.loops.proofs.Parts.{take_replicate}
 use Rattle.loops.proofs.Scan.{pass_all, all_pass}
@@ -223,7 +224,7 @@ pub record Backward (s t : List ℕ) : Type 0 where
   pub out : t ≡ fitted (file_as Bus s (buses_at s header) header.buses)
 
 refused_not_answered : (f : Refusal) (x y : List ℕ) → moved_as (Err f) x ≡ moved_as no_refusal y → ⊥
-refused_not_answered f x y e = let g = ap (λ (m : Moved). m.reply) e in let z : ◌≡◌ {A = ℕ} 0 1 = cc in omega arith
+refused_not_answered f x y e = let g = ap (λ (m : Moved). m.reply) e in unequal cc
 
 out_same : {x y : List ℕ} → moved_as no_refusal x ≡ moved_as no_refusal y → y ≡ x
 out_same e = sym (ap (λ (m : Moved). m.out) e)

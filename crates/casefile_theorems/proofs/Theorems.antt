@@ -10,6 +10,7 @@ use native.Mathlib.Omega.{arith}
 use borrow.Author.Tests.{ltb-false}
 use lib.Ieee.{binary64, nan_bits}
 use lib.ListN.{length, get_or, replicate}
+use Rattle.loops.proofs.Bools.{unequal}
 use Rattle.loops.specs.Figures.{nought, one}
 use Rattle.refusal.specs.declared.Refusal.{Refusal}
 use Rattle.casefile_defs.specs.Bounds.{most_bytes}
@@ -151,7 +152,7 @@ cases_apart f f' h h' p p' n n' g g' c c' l e =
 
 -- ---- a refusal of a file, with every table at its size, leaves zeros
 zero_by : (s : List ℕ) (p : Places) (f : Refusal) (r : Result Header Refusal) → reply_of (Err f) ≡ reply_of r → p ≡ tables_of s (held r) → p ≡ blank
-zero_by s p f (Ok h) g e = absurd (let z : ◌≡◌ {A = ℕ} 0 1 = cc in omega arith)
+zero_by s p f (Ok h) g e = absurd (unequal cc)
 zero_by s p f (Err g) q e = e ∙ sym (refused_blank s g)
 
 pub refused_zero : (s : List ℕ) (n : ℕ) (p q : Places) (f : Refusal) → sizes_ok q ≡ true → outcome (case_read (Err f) n) p ≡ read_case s q → p ≡ blank

@@ -7,6 +7,7 @@ use mathlib.Core.Path.{◌≡◌, refl, sym, ap, ◌∙◌}
 use native.Mathlib.Omega.{arith}
 use borrow.Author.Tests.{eq-eqb, le-leb}
 use lib.ListN.{length}
+use Rattle.loops.specs.Bounds.{most_buses, most_corridors}
 use Rattle.loops.proofs.Bools.{and_of}
 use Rattle.loops.proofs.Scan.{pass_all}
 use Rattle.leaders.specs.Leaders.{leaders_of}
@@ -18,8 +19,8 @@ use Rattle.refusal.specs.Reply.{no_refusal}
 
 module _ (buses corridors : ℕ) (a b leader : List ℕ) where
   pub record Accepted : Type 0 where
-    pub few_buses : buses ≤ 256
-    pub few_corridors : corridors ≤ 256
+    pub few_buses : buses ≤ most_buses
+    pub few_corridors : corridors ≤ most_corridors
     pub a_length : length a ≡ corridors
     pub b_length : length b ≡ corridors
     pub places : length leader ≡ buses
@@ -30,7 +31,7 @@ module _ (buses corridors : ℕ) (a b leader : List ℕ) where
   accepted s =
       passed buses corridors a b (length leader) (faulty_corridor buses a b) refl
       (and_of (and_of (eq-eqb _ _ s.a_length) (eq-eqb _ _ s.b_length)) (eq-eqb _ _ s.places))
-      (and_of (le-leb buses 256 s.few_buses) (le-leb corridors 256 s.few_corridors))
+      (and_of (le-leb buses most_buses s.few_buses) (le-leb corridors most_corridors s.few_corridors))
       (let e : faulty_corridor buses a b ≡ length a = pass_all (corridor_ok_at buses a b) (length a) (λ k h. s.ends k (omega (arith, s.a_length))) in
       omega arith)
 

@@ -7,6 +7,7 @@ use mathlib.Core.Path.{◌≡◌, sym, ap, ◌∙◌, subst}
 use borrow.Author.Tests.{eqb-true, ltb-true, ltb-false, leb-true, le-ltb}
 use lib.Dec.{ltb, leb, eqb}
 use lib.ListN.{length, get_or}
+use Rattle.loops.specs.Bounds.{most_buses, most_corridors}
 use Rattle.loops.proofs.Bools.{both}
 use Rattle.loops.proofs.Chains.{only, after, err_not_ok}
 use Rattle.loops.proofs.Scan.{all_pass}
@@ -37,7 +38,7 @@ module _ (buses corridors : ℕ) (a b : List ℕ) (places : ℕ) where
 -- what a request that passes has
 pub record Sound (buses : ℕ) (a b : List ℕ) (places : ℕ) : Type 0 where
   pub size : places ≡ buses
-  pub few : buses ≤ 256
+  pub few : buses ≤ most_buses
   pub ends : Ends buses a b
 
 module _ (buses corridors : ℕ) (a b : List ℕ) (places : ℕ) where
@@ -51,7 +52,7 @@ module _ (buses corridors : ℕ) (a b : List ℕ) (places : ℕ) where
   sound e f h =
       record {
         size = eqb-true places buses (both (eqb (length a) corridors && eqb (length b) corridors) (eqb places buses) e).1;
-        few = leb-true buses 256 (both (leb buses 256) (leb corridors 256) f).0;
+        few = leb-true buses most_buses (both (leb buses most_buses) (leb corridors most_corridors) f).0;
         ends = record { even = lengths_even buses corridors a b places e; from = λ k l. (two_buses h k l).0; to = λ k l. (two_buses h k l).1 };
       }
 

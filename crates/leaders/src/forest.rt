@@ -1,4 +1,5 @@
 // The buses' sets as a forest, after `UnionFind` of geom/delaunay.rs.
+ghost use Rattle.loops.specs.Bounds.{most_buses};
 ghost use Rattle.std.specs.Prelude.{◌≡◌, ◌<◌, ◌≤◌, length};
 ghost use Rattle.leaders.specs.Leaders.{themselves};
 ghost use Rattle.leaders.specs.Operation.{Ends};
@@ -18,7 +19,7 @@ pub struct UnionFind {
 // Each bus by its own number.
 #[tactic(auto, unfolding(crate::specs::Leaders::themselves))]
 fn themselves() -> [u8; MOST_BUSES]
-    ensures { result ≡ themselves 256 }
+    ensures { result ≡ themselves most_buses }
 {
     std::array::from_fn(|i| i as u8)
 }
@@ -27,8 +28,8 @@ impl UnionFind {
     // At first each bus leads itself.
     #[tactic(auto, using(crate::proofs::Forests::down_first))]
     pub fn new() -> Self
-        ensures parent { result.parent ≡ themselves 256 }
-        ensures name { result.name ≡ themselves 256 }
+        ensures parent { result.parent ≡ themselves most_buses }
+        ensures name { result.name ≡ themselves most_buses }
     {
         let parent = themselves();
         UnionFind {
@@ -39,7 +40,7 @@ impl UnionFind {
 
     // The root of x's set. Each bus that is passed takes its parent's parent.
     fn find(&mut self, x: usize) -> usize
-        requires { x < 256 }
+        requires { x < most_buses }
         ensures found { Found x self.old.parent self.new.parent result }
         ensures named { self.new.name ≡ self.old.name }
     {
@@ -57,7 +58,7 @@ impl UnionFind {
 
     // Joins the set of the root `from` to that of the root `to`, whose leader it takes.
     fn link(&mut self, from: usize, to: usize)
-        requires bound { (from < 256) × (to < 256) }
+        requires bound { (from < most_buses) × (to < most_buses) }
         requires root { Root self.old.parent from × Root self.old.parent to }
         ensures { Joined from to self.old.parent self.old.name self.new.parent self.new.name }
     {
@@ -71,7 +72,7 @@ impl UnionFind {
 
     // Joins a's set to b's.
     fn join(&mut self, a: usize, b: usize)
-        requires { (a < 256) × (b < 256) }
+        requires { (a < most_buses) × (b < most_buses) }
         ensures { Joined a b self.old.parent self.old.name self.new.parent self.new.name }
     {
         let from = self.find(a);
@@ -81,7 +82,7 @@ impl UnionFind {
 
     // Joins the ends of each corridor, in order.
     pub fn join_all(&mut self, a: &[u32], b: &[u32])
-        requires { Ends 256 a.now b.now }
+        requires { Ends most_buses a.now b.now }
         ensures { AllJoined a.now b.now (length a.now) self.old.parent self.old.name self.new.parent self.new.name }
     {
         for (a, b) in a.iter().zip(b) {
@@ -91,7 +92,7 @@ impl UnionFind {
 
     // Each bus's leader: a root's name, else its parent's leader, which stands there already.
     pub fn hand_out(&self, leader: &mut [u32])
-        requires { length leader.old ≤ 256 }
+        requires { length leader.old ≤ most_buses }
         ensures { HandedOut (length leader.old) self.now.parent self.now.name (length leader.old) leader.new }
     {
         for bus in 0..leader.len() {

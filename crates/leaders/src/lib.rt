@@ -5,6 +5,7 @@
 #![tactic(auto)]
 
 ghost use Rattle.std.specs.Prelude.{◌≡◌, ◌≤◌, length};
+ghost use Rattle.loops.specs.Bounds.{most_buses};
 ghost use Rattle.loops.specs.Loops.{fault};
 ghost use Rattle.leaders.specs.Leaders.{leaders_of};
 ghost use Rattle.leaders.specs.Operation.{lengths_ok, counts_ok, corridor_ok, corridor_ok_at, Ends, faulty_corridor, check_of, outcome, led_outcome};
@@ -12,11 +13,12 @@ ghost use Rattle.leaders.specs.Operation.{lengths_ok, counts_ok, corridor_ok, co
 mod forest;
 
 use forest::UnionFind;
+use loops::{MOST_BUSES, MOST_CORRIDORS};
 use refusal::Refusal;
 
 // Each bus's leader, from sound corridors.
 fn lead(a: &[u32], b: &[u32], leader: &mut [u32])
-    requires { (length leader.old ≤ 256) × Ends (length leader.old) a.now b.now }
+    requires { (length leader.old ≤ most_buses) × Ends (length leader.old) a.now b.now }
     ensures { leader.new ≡ leaders_of (length leader.old) a.now b.now }
 {
     let mut sets = UnionFind::new();
@@ -33,7 +35,7 @@ fn lengths_ok(buses: usize, corridors: usize, a: usize, b: usize, leader: usize)
 fn counts_ok(buses: usize, corridors: usize) -> bool
     ensures { result ≡ counts_ok buses corridors }
 {
-    buses <= 256 && corridors <= 256
+    buses <= MOST_BUSES && corridors <= MOST_CORRIDORS
 }
 
 // A corridor's ends are two different buses.

@@ -6,6 +6,7 @@ use native.Mathlib.Omega.{arith}
 use lib.Dec.{T}
 use lib.ListN.{length, take}
 use lib.Ieee.{Float, nan, binary64, fits}
+use Rattle.loops.specs.Bounds.{most_buses}
 use Rattle.loops.specs.Figures.{at, times, one}
 use Rattle.loops.proofs.Exact.{times_one}
 use Rattle.loops.proofs.Tab.{length_tab, get_tab, tab_same, tab_of}
@@ -27,9 +28,9 @@ loads_front m n reading weight h =
     ∙ tab_same n _ _ (λ i l. get_tab m (weighed reading weight) i nan (omega arith))
 
 -- as a caller of `loads::weigh` lends them: the first n of its array
-module _ (n : ℕ) (reading weight load : List Float) (e : load ≡ loads_of 256 reading weight) (h : n ≤ 256) where
+module _ (n : ℕ) (reading weight load : List Float) (e : load ≡ loads_of most_buses reading weight) (h : n ≤ most_buses) where
   pub loads_lent : take (n - 0) load ≡ loads_of n reading weight
-  loads_lent = front_lent n load (loads_of n reading weight) (ap (take n) e ∙ loads_front 256 n reading weight h)
+  loads_lent = front_lent n load (loads_of n reading weight) (ap (take n) e ∙ loads_front most_buses n reading weight h)
 
   pub loads_room : n ≤ length load
-  loads_room = omega (arith, ap length e ∙ length_tab 256 (weighed reading weight))
+  loads_room = omega (arith, ap length e ∙ length_tab most_buses (weighed reading weight))

@@ -2,6 +2,7 @@
 #![tactic(auto)]
 
 ghost use Rattle.std.specs.Prelude.{◌≡◌};
+ghost use Rattle.loops.specs.Bounds.{most_buses};
 ghost use Rattle.loops.specs.Figures.{at};
 ghost use Rattle.loads.specs.Load.{load_by, loads_of, load_ok};
 
@@ -37,7 +38,7 @@ fn figure_at(table: &[f64], i: usize) -> f64
 
 // The buses' loads. The tables may be of any length: past either of them a load is a NaN.
 pub fn weigh(reading: &[f64], weight: &[f64]) -> [f64; MOST_BUSES]
-    ensures { result ≡ loads_of 256 reading.now weight.now }
+    ensures { result ≡ loads_of most_buses reading.now weight.now }
 {
     let mut load = [0.0; MOST_BUSES];
     loops::fill(&mut load, |i| {

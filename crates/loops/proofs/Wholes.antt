@@ -15,7 +15,7 @@ use lib.Ieee.Order.{le_of_values, round_mono}
 use lib.Ieee.Positive.{num, den}
 use lib.Ieee.Scale.{finite as bounded}
 use Rattle.loops.specs.Figures.{plus}
-use Rattle.loops.proofs.Bools.{holds}
+use Rattle.loops.proofs.Bools.{holds, unequal}
 use Rattle.loops.proofs.Signs.{sound}
 use Rattle.loops.proofs.Zeros.{size_zero, nil_product}
 use Rattle.loops.proofs.Sums.{unsigned, Term, cross, over, plus_unsigned}
@@ -41,11 +41,11 @@ few_by n (inf true) y g v t = absurd g
 few_by n (fin true m e) y g v t = absurd g
 few_by n (inf false) nan g v t = absurd v
 few_by n (inf false) (inf s) g v t = absurd v
-few_by n (inf false) (fin true k d) g v t = let z : ◌≡◌ {A = ℕ} 0 1 = (let w : true ≡ false = v.0 in cc) in absurd (omega arith)
+few_by n (inf false) (fin true k d) g v t = absurd (unequal (let w : true ≡ false = v.0 in cc))
 few_by n (inf false) (fin false k d) g v t = absurd (over k d (holds (le (inf false) (fin false k d)) t))
 few_by n (fin false m e) nan g v t = absurd v
 few_by n (fin false m e) (inf s) g v t = absurd v
-few_by n (fin false m e) (fin true k d) g v t = let z : ◌≡◌ {A = ℕ} 0 1 = (let w : true ≡ false = v.0 in cc) in absurd (omega arith)
+few_by n (fin false m e) (fin true k d) g v t = absurd (unequal (let w : true ≡ false = v.0 in cc))
 few_by n (fin false m e) (fin false k d) g v t =
     let a = cross m e k d (holds (le (fin false m e) (fin false k d)) t) in
     let b : k * up d ≡ n * down d = sym (mul-one (k * up d)) ∙ v.1 in

@@ -3,9 +3,9 @@
 use mathlib.Core.Path.{◌≡◌, refl, sym}
 use mathlib.Core.List.{List}
 use Prim.Native.Nat.{ℕ}
-use native.Mathlib.Omega.{arith}
 use lib.ListN.{length}
 use lib.Ieee.{Float}
+use Rattle.loops.proofs.Bools.{unequal}
 use Rattle.refusal.specs.Reply.{answered}
 use Rattle.placement_defs.specs.Request.{Request, check_of}
 use Rattle.placement_defs.specs.Support.{answer_to, placement}
@@ -19,4 +19,4 @@ accepted k buses mvars count e = go (check_of k (length buses) (length mvars)) r
   where
     go : (v : Result (Unit {0}) Refusal) → check_of k (length buses) (length mvars) ≡ v → (answer_to v k buses mvars).reply ≡ answered count → Passed k (length buses) (length mvars)
     go (Ok tt) p q = passed k (length buses) (length mvars) (sym p)
-    go (Err f) p q = let z : ◌≡◌ {A = ℕ} 0 1 = cc in absurd (omega arith)
+    go (Err f) p q = absurd (unequal cc)

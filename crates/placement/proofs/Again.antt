@@ -13,6 +13,7 @@ use lib.Dec.{T, eqb, ltb}
 use lib.ListN.{length, get_or, set, replicate, length-replicate, get_or-replicate, length-set}
 use lib.Seq.{get_or-set_same, get_or-set_other}
 use lib.Ieee.{Float, lt, le}
+use Rattle.loops.specs.Bounds.{most_buses}
 use Rattle.loops.specs.Figures.{at, plus, nought, infinity}
 use Rattle.loops.proofs.Sums.{unsigned, plus_unsigned, nought_least, infinity_above, le_refl, lt_alike}
 use Rattle.placement_defs.specs.Request.{Net}
@@ -34,7 +35,7 @@ one : {x : ℕ} → x ≡ 1 → x ≡ 0 → ⊥
 one p q = omega arith
 
 -- ---- the search goes on
-module _ (w : Network) (net : Net w.n w.m w.a w.b w.km) (sources : List ℕ) (long : length sources ≡ 256) (i : ℕ) (hi : i < w.n)
+module _ (w : Network) (net : Net w.n w.m w.a w.b w.km) (sources : List ℕ) (long : length sources ≡ most_buses) (i : ℕ) (hi : i < w.n)
     (s : Labels) (r : Ready w sources s) where
   abbrev more : List ℕ
   more = set sources i 1
@@ -52,7 +53,7 @@ module _ (w : Network) (net : Net w.n w.m w.a w.b w.km) (sources : List ℕ) (lo
   chain_still (along src i j c d k h q) = along src i j c d (chain_still k) h q
 
   abbrev start : Labels
-  start = labels (replicate 256 rest) s.dist s.from
+  start = labels (replicate most_buses rest) s.dist s.from
 
   change : Changed start (reached i nought i start) i nought i
   change =
@@ -60,11 +61,11 @@ module _ (w : Network) (net : Net w.n w.m w.a w.b w.km) (sources : List ℕ) (lo
       let k = r.0.kept in
       let l1 = k.dists in
       let l2 = k.froms in
-      let l3 : length (replicate 256 rest) ≡ 256 = length-replicate 256 rest in
+      let l3 : length (replicate most_buses rest) ≡ most_buses = length-replicate most_buses rest in
       reached_changes start i nought i (omega arith) (omega arith) (omega arith)
 
   resting : (j : ℕ) → j < w.n → (j ≡ i → ⊥) → M (reached i nought i start) j ≡ rest
-  resting j h n = let f = net.few in change.mark_else j n ∙ get_or-replicate 256 j rest 0 (omega arith)
+  resting j h n = let f = net.few in change.mark_else j n ∙ get_or-replicate most_buses j rest 0 (omega arith)
 
   dist_i : (j : ℕ) → j ≡ i → D (reached i nought i start) j ≡ nought
   dist_i j e = ap (λ (t : ℕ). D (reached i nought i start) t) e ∙ change.dist_here
@@ -79,7 +80,7 @@ module _ (w : Network) (net : Net w.n w.m w.a w.b w.km) (sources : List ℕ) (lo
   start_kept : Kept w more (reached i nought i start)
   start_kept =
       record {
-        marks = change.marks ∙ length-replicate 256 rest;
+        marks = change.marks ∙ length-replicate most_buses rest;
         dists = change.dists ∙ r.0.kept.dists;
         froms = change.froms ∙ r.0.kept.froms;
         known = λ j h.
@@ -187,17 +188,17 @@ next_ready w net loads sources s r =
 
 -- ---- what the code knows of its distances: they are those at the end of some search from the sources
 pub record Known (w : Network) (sources : List ℕ) (dist : List Float) (from : List ℕ) : Type 0 where
-  pub long : length sources ≡ 256
+  pub long : length sources ≡ most_buses
   pub mark : List ℕ
   pub ready : Ready w sources (labels mark dist from)
 
 module _ (w : Network) (net : Net w.n w.m w.a w.b w.km) (sources : List ℕ) (mark : List ℕ) (dist : List Float) (from : List ℕ) where
-  pub known_first : (s₀ : Labels) → length sources ≡ 256 → s₀ ≡ blank → labels mark dist from ≡ distances_from w sources s₀ → Known w sources dist from
+  pub known_first : (s₀ : Labels) → length sources ≡ most_buses → s₀ ≡ blank → labels mark dist from ≡ distances_from w sources s₀ → Known w sources dist from
   known_first s₀ long e q =
       record { long = long; mark = mark; ready = subst (λ (s : Labels). Ready w sources s) (sym (blank_start w sources s₀ (labels mark dist from) e q)) (ends w net sources) }
 
   pub known_next : (i : ℕ) (dist₀ : List Float) (from₀ : List ℕ) → i < w.n → Known w sources dist₀ from₀
-      → labels mark dist from ≡ searched w (seeded i 1 (labels (replicate 256 rest) dist₀ from₀)) → Known w (set sources i 1) dist from
+      → labels mark dist from ≡ searched w (seeded i 1 (labels (replicate most_buses rest) dist₀ from₀)) → Known w (set sources i 1) dist from
   known_next i dist₀ from₀ h k e =
       record {
         long = length-set sources i 1 ∙ k.long;

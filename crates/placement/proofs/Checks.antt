@@ -7,6 +7,7 @@ use borrow.Author.Tests.{eqb-true, leb-true, ltb-true, ltb-false, lt-ltb, le-ltb
 use native.Mathlib.Omega.{arith}
 use lib.Dec.{eqb, ltb, leb}
 use lib.ListN.{length, get_or}
+use Rattle.loops.specs.Bounds.{most_buses, most_corridors, most_generators}
 use Rattle.loops.proofs.Bools.{both}
 use Rattle.loops.proofs.Chains.{only, after, err_not_ok}
 use Rattle.loops.proofs.Scan.{all_pass, fault_some, fault_passed}
@@ -100,9 +101,9 @@ passed k buses mvars e =
     let h4 = after (ltb gen g) h3.1 err_not_ok in
     let h5 = after (ltb cor m) h4.1 err_not_ok in
     let l = lengths_of k buses mvars h1.0 in
-    let counts = both (leb n 256) (leb m 256) (both (leb n 256 && leb m 256) (leb g 128) h2.0).0 in
+    let counts = both (leb n most_buses) (leb m most_corridors) (both (leb n most_buses && leb m most_corridors) (leb g most_generators) h2.0).0 in
     record {
       lengths = l;
-      net = record { few = leb-true n 256 counts.0; short = leb-true m 256 counts.1; a_length = l.a; b_length = l.b; km_length = l.km; ends = ends k (ltb-false cor m h5.0) };
+      net = record { few = leb-true n most_buses counts.0; short = leb-true m most_corridors counts.1; a_length = l.a; b_length = l.b; km_length = l.km; ends = ends k (ltb-false cor m h5.0) };
       units = record { stand = stand k l.generators (ltb-false gen g h4.0) };
     }

@@ -12,6 +12,7 @@ use borrow.Author.Tests.{eqb-true, eqb-false}
 use lib.Dec.{eqb}
 use lib.ListN.{length, get_or, replicate, length-replicate, get_or-replicate}
 use lib.Ieee.{Float, nan, lt, le}
+use Rattle.loops.specs.Bounds.{most_buses}
 use Rattle.loops.specs.Loops.{iter}
 use Rattle.loops.proofs.Loops.{iter_carries}
 use Rattle.loops.specs.Figures.{at, plus, nought, infinity}
@@ -35,9 +36,9 @@ two≢zero p q = omega arith
 module _ (w : Network) (net : Net w.n w.m w.a w.b w.km) (sources : List ℕ) where
   -- ---- the sources below i are placed
   pub record Seeds (i : ℕ) (s : Labels) : Type 0 where
-    pub marks : length s.mark ≡ 256
-    pub dists : length s.dist ≡ 256
-    pub froms : length s.from ≡ 256
+    pub marks : length s.mark ≡ most_buses
+    pub dists : length s.dist ≡ most_buses
+    pub froms : length s.from ≡ most_buses
     pub placed : (j : ℕ) → j < w.n → j < i → Source sources j → (M s j ≡ candidate) × (D s j ≡ nought) × (F s j ≡ j)
     pub later : (j : ℕ) → j < w.n → i ≤ j → (M s j ≡ rest) × (D s j ≡ infinity)
     pub others : (j : ℕ) → j < w.n → get_or sources j 0 ≡ 0 → (M s j ≡ rest) × (D s j ≡ infinity)
@@ -45,16 +46,16 @@ module _ (w : Network) (net : Net w.n w.m w.a w.b w.km) (sources : List ℕ) whe
   blank_seeds : Seeds 0 blank
   blank_seeds =
       record {
-        marks = length-replicate 256 rest;
-        dists = length-replicate 256 infinity;
-        froms = length-replicate 256 nobody;
+        marks = length-replicate most_buses rest;
+        dists = length-replicate most_buses infinity;
+        froms = length-replicate most_buses nobody;
         placed = λ j h l q. absurd (omega arith);
         later = λ j h l. is_blank j h;
         others = λ j h q. is_blank j h;
       }
     where
-      is_blank : (j : ℕ) → j < w.n → (get_or (replicate 256 rest) j 0 ≡ rest) × (at (replicate 256 infinity) j ≡ infinity)
-      is_blank j h = let f = net.few in let l : j < 256 = omega arith in (get_or-replicate 256 j rest 0 l, get_or-replicate 256 j infinity nan l)
+      is_blank : (j : ℕ) → j < w.n → (get_or (replicate most_buses rest) j 0 ≡ rest) × (at (replicate most_buses infinity) j ≡ infinity)
+      is_blank j h = let f = net.few in let l : j < most_buses = omega arith in (get_or-replicate most_buses j rest 0 l, get_or-replicate most_buses j infinity nan l)
 
   seed_step : (i : ℕ) (s : Labels) → i < w.n → Seeds i s → Seeds (suc i) (seed sources i s)
   unfolding seeded

@@ -15,6 +15,7 @@ use lib.Dec.{eqb, ltb}
 use lib.ListN.{length, get_or, set, length-set, length-replicate, get_or-replicate}
 use lib.Seq.{get_or-set_same, get_or-set_other}
 use lib.Ieee.{Float, nan, of_bits, lt, le}
+use Rattle.loops.specs.Bounds.{most_buses}
 use Rattle.loops.specs.Figures.{at, infinity}
 use Rattle.loops.proofs.Order.{le_of_not_lt, le_of_lt, le_self, left_real, right_real, le_through, lt_not_le}
 use Rattle.placement_defs.specs.Distance.{Labels, blank, rest, candidate, settled, nearer, nearest_to}
@@ -350,10 +351,10 @@ module _ (n : ℕ) (mark mark' : List ℕ) (dist dist' : List Float) (nearest : 
       other i e a b z = e (omega arith)
 
 -- of all places, and so of the first n
-pub numbers_fewer : (n : ℕ) (mark : List ℕ) (dist : List Float) → n ≤ 256 → Numbers 256 mark dist → Numbers n mark dist
+pub numbers_fewer : (n : ℕ) (mark : List ℕ) (dist : List Float) → n ≤ most_buses → Numbers most_buses mark dist → Numbers n mark dist
 numbers_fewer n mark dist few r = record { marks = r.marks; dists = r.dists; real = λ j h. r.real j (omega arith) }
 
-module _ (n : ℕ) (mark : List ℕ) (dist : List Float) (few : n ≤ 256) where
+module _ (n : ℕ) (mark : List ℕ) (dist : List Float) (few : n ≤ most_buses) where
   pub numbers_marked : (i v : ℕ) → Numbers n mark dist → Numbers n (set mark i v) dist
   numbers_marked i v r = record { marks = length-set mark i v ∙ r.marks; dists = r.dists; real = r.real }
 
@@ -399,13 +400,13 @@ module _ (n : ℕ) (mark : List ℕ) (dist : List Float) (few : n ≤ 256) where
         }
 
 -- to start with, all distances are infinite
-pub numbers_blank : (n : ℕ) (s : Labels) → n ≤ 256 → s ≡ blank → Numbers n s.mark s.dist
+pub numbers_blank : (n : ℕ) (s : Labels) → n ≤ most_buses → s ≡ blank → Numbers n s.mark s.dist
 numbers_blank n s few e =
     subst (λ (u : Labels). Numbers n u.mark u.dist) (sym e)
     (record {
-      marks = length-replicate 256 rest;
-      dists = length-replicate 256 infinity;
-      real = λ j h. subst (λ (x : Float). le x x ≡ true) (sym (get_or-replicate 256 j infinity nan (omega arith))) infinity_self;
+      marks = length-replicate most_buses rest;
+      dists = length-replicate most_buses infinity;
+      real = λ j h. subst (λ (x : Float). le x x ≡ true) (sym (get_or-replicate most_buses j infinity nan (omega arith))) infinity_self;
     })
 
 -- ---- step 2: the blocks in turn

@@ -12,6 +12,7 @@ use lib.Dec.{T}
 use lib.ListN.{length, get_or, length-set}
 use lib.Seq.{get_or-set_same, get_or-set_other}
 use lib.Ieee.{Float, nan, binary64, fits, lt, le}
+use Rattle.loops.specs.Bounds.{most_buses}
 use Rattle.loops.specs.Figures.{at, plus, nought, infinity}
 use Rattle.loops.proofs.Bools as bools
 use Rattle.loops.proofs.Order.{le_of_lt}
@@ -67,9 +68,9 @@ Relaxed w s k c j = le (D s j) (plus (D s k) (at w.km c)) ≡ true
 module _ (w : Network) (sources : List ℕ) where
   -- ---- what holds throughout
   pub record Kept (s : Labels) : Type 0 where
-    pub marks : length s.mark ≡ 256
-    pub dists : length s.dist ≡ 256
-    pub froms : length s.from ≡ 256
+    pub marks : length s.mark ≡ most_buses
+    pub dists : length s.dist ≡ most_buses
+    pub froms : length s.from ≡ most_buses
     pub known : (j : ℕ) → j < w.n → (D s j ≡ infinity) ⊎ Chain w sources (F s j) j (D s j)
     pub seeds : (j : ℕ) → j < w.n → Source sources j → le (D s j) nought ≡ true
     pub order : (i j : ℕ) → i < w.n → j < w.n → M s i ≡ settled → M s j ≡ candidate → le (D s i) (D s j) ≡ true

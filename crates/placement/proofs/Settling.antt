@@ -20,7 +20,7 @@ use Rattle.placement_defs.specs.Request.{Net}
 use Rattle.placement_defs.specs.Distance.{Network, Labels, candidate, settled, shortens, reached, offered, far_end, considered, corridor, nearer, nearest_to, settle, spread, turn}
 use Rattle.placement.proofs.Tests.{net_ends}
 use Rattle.placement_defs.specs.Chain.{Joins}
-use Rattle.loops.proofs.Bools.{both}
+use Rattle.loops.proofs.Bools.{both, unequal}
 use Rattle.loops.proofs.Order.{le_of_lt}
 use Rattle.loops.proofs.Sums.{unsigned, plus_unsigned, plus_grows, le_refl, le_trans, le_of_not_less}
 use Rattle.placement.proofs.Chains.{length_at, far_bus}
@@ -35,7 +35,7 @@ touches a b i h = go (eqb a i) (eqb b i) refl refl h
     go : (x y : Bool) → eqb a i ≡ x → eqb b i ≡ y → (x || y) ≡ true → ((a ≡ i) × (b ≡ far_end a b i)) ⊎ ((a ≡ far_end a b i) × (b ≡ i))
     go true y p q r = inl (eqb-true a i p, sym (ap (λ (t : Bool). cond t b a) p))
     go false true p q r = inr (sym (ap (λ (t : Bool). cond t b a) p), eqb-true b i q)
-    go false false p q r = let z : ◌≡◌ {A = ℕ} 0 1 = cc in absurd (omega arith)
+    go false false p q r = absurd (unequal cc)
 
 only_end : (a b i j : ℕ) → (a ≡ b → ⊥) → ((a ≡ i) × (b ≡ j)) ⊎ ((a ≡ j) × (b ≡ i)) → j ≡ far_end a b i
 only_end a b i j n h =
@@ -46,8 +46,8 @@ misses : (a b i j : ℕ) → (eqb a i || eqb b i) ≡ false → ((a ≡ i) × (b
 misses a b i j h k = go (eqb a i) (eqb b i) refl refl h
   where
     go : (x y : Bool) → eqb a i ≡ x → eqb b i ≡ y → (x || y) ≡ false → ⊥
-    go true y p q r = let z : ◌≡◌ {A = ℕ} 0 1 = cc in omega arith
-    go false true p q r = let z : ◌≡◌ {A = ℕ} 0 1 = cc in omega arith
+    go true y p q r = unequal cc
+    go false true p q r = unequal cc
     go false false p q r = ⊎_elim (λ u. eqb-false a i p u.0) (λ u. eqb-false b i q u.1) k
 
 shorter : (m : ℕ) (nd d : Float) → shortens m nd d ≡ true → (m ≡ settled → ⊥) × (lt nd d ≡ true)

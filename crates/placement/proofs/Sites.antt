@@ -9,6 +9,7 @@ use borrow.Author.Tests.{lt-ltb, le-ltb}
 use lib.ListN.{length, get_or, set, replicate, length-set}
 use lib.Seq.{get_or-set_same, get_or-set_other}
 use lib.Ieee.{Float}
+use Rattle.loops.specs.Bounds.{most_buses}
 use Rattle.loops.specs.Loops.{iter}
 use Rattle.loops.proofs.Loops.{iter_keeps}
 use Rattle.loops.specs.Figures.{nought}
@@ -60,20 +61,20 @@ sized_is w loads sources buses s₀ s count mvars₀ mvars e q f =
 -- ---- the whole
 pub placed_is : (w : Network) (loads : List Float) (generators : List ℕ) (buses₀ buses₁ buses₂ sources₁ sources₂ : List ℕ) (mvars₀ mvars₁ mvars₂ : List Float) (count : ℕ)
     → length buses₀ ≡ w.n → length mvars₀ ≡ w.n → buses₁ ≡ replicate (length buses₀) 0 → mvars₁ ≡ replicate (length mvars₀) nought
-    → sources₁ ≡ flagged generators (replicate 256 0) → Joined w loads sources₁ buses₁ sources₂ buses₂ count
+    → sources₁ ≡ flagged generators (replicate most_buses 0) → Joined w loads sources₁ buses₁ sources₂ buses₂ count
     → mvars₂ ≡ sized w loads sources₂ buses₂ count mvars₁ → Placing w loads generators count buses₂ mvars₂
 unfolding placed sites_by
 placed_is w loads generators buses₀ buses₁ buses₂ sources₁ sources₂ mvars₀ mvars₁ mvars₂ count p q e f g j z =
     let e' : buses₁ ≡ replicate w.n 0 = e ∙ ap (λ (t : ℕ). replicate t 0) p in
     let f' : mvars₁ ≡ replicate w.n nought = f ∙ ap (λ (t : ℕ). replicate t nought) q in
-    let s : sites sources₂ buses₂ count ≡ joined w loads (sites (flagged generators (replicate 256 0)) (replicate w.n 0) 0) =
-    j.all ∙ ap (λ (t : List ℕ). joined w loads (sites t buses₁ 0)) g ∙ ap (λ (t : List ℕ). joined w loads (sites (flagged generators (replicate 256 0)) t 0)) e' in
+    let s : sites sources₂ buses₂ count ≡ joined w loads (sites (flagged generators (replicate most_buses 0)) (replicate w.n 0) 0) =
+    j.all ∙ ap (λ (t : List ℕ). joined w loads (sites t buses₁ 0)) g ∙ ap (λ (t : List ℕ). joined w loads (sites (flagged generators (replicate most_buses 0)) t 0)) e' in
     ap (λ (t : List Float). outcome (Ok count) buses₂ t) (z ∙ ap (λ (t : List Float). sized w loads sources₂ buses₂ count t) f')
     ∙ ap (λ (t : Sites). outcome (Ok t.count) t.buses (sized w loads t.sources t.buses t.count (replicate w.n nought))) s
 
-pub flagged_length : (generators l : List ℕ) → length l ≡ 256 → length (flagged generators l) ≡ 256
+pub flagged_length : (generators l : List ℕ) → length l ≡ most_buses → length (flagged generators l) ≡ most_buses
 unfolding flagged
-flagged_length generators l h = iter_keeps (flag generators) (λ t. length t ≡ 256) (λ i t p. length-set t (get_or generators i 0) 1 ∙ p) (length generators) 0 l h
+flagged_length generators l h = iter_keeps (flag generators) (λ t. length t ≡ most_buses) (λ i t p. length-set t (get_or generators i 0) 1 ∙ p) (length generators) 0 l h
 
 -- ---- the answer, from the verdict
 module _ (k : Request) (buses : List ℕ) (mvars : List Float) (v : Result (Unit {0}) Refusal) (e : v ≡ check_of k (length buses) (length mvars)) where

@@ -12,6 +12,7 @@ use borrow.Author.Tests.{eq-eqb, ne_eqb, eqb-true, ltb-false}
 use lib.Dec.{eqb, ltb}
 use lib.ListN.{length, get_or, set, length-set}
 use lib.Seq.{get_or-set_same, get_or-set_other}
+use Rattle.loops.specs.Bounds.{most_buses, most_corridors}
 use Rattle.loops.specs.Loops.{iter}
 use Rattle.loops.proofs.Bools.{or_left, or_right}
 use Rattle.loops.proofs.Loops.{iter_all, iter_more, iter_end}
@@ -108,7 +109,7 @@ next_kept w i c x next h e q = ap (number w.m) e ∙ go (ltb x w.m) refl
     go false t = let k = next_is w i c h in let u = k.within in let l = ltb-false x w.m t in omega arith
 
 -- ---- the list is made, from the last corridor to the first
-pub listed_none : (w : Network) (head afterA afterB : List ℕ) → length head ≡ 256 → length afterA ≡ 256 → length afterB ≡ 256
+pub listed_none : (w : Network) (head afterA afterB : List ℕ) → length head ≡ most_buses → length afterA ≡ most_corridors → length afterB ≡ most_corridors
     → ((i : ℕ) → i < w.n → get_or head i 0 ≡ w.m) → Listed w w.m head afterA afterB
 listed_none w head afterA afterB p q r none =
     record {
@@ -140,7 +141,7 @@ module _ (w : Network) (net : Net w.n w.m w.a w.b w.km) (c : ℕ) (hc : c < w.m)
       let l1 = r.heads in
       let l2 = r.next_as in
       let l3 = r.next_bs in
-      let l4 : length (set head a c) ≡ 256 = length-set head a c ∙ l1 in
+      let l4 : length (set head a c) ≡ most_buses = length-set head a c ∙ l1 in
       record {
         heads = length-set (set head a c) b c ∙ l4;
         next_as = length-set afterA c (get_or head a 0) ∙ l2;

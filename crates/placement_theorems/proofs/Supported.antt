@@ -11,6 +11,7 @@ use borrow.Author.Tests.{ltb-true, ltb-false, lt-ltb, le-ltb}
 use lib.Dec.{T, ltb}
 use lib.ListN.{length, get_or, set, replicate, length-set, length-replicate}
 use lib.Ieee.{Float, lt, le}
+use Rattle.loops.specs.Bounds.{most_buses}
 use Rattle.loops.specs.Loops.{iter}
 use Rattle.loops.proofs.Bools as bools
 use Rattle.loops.proofs.Bools.{and_of, unequal}
@@ -129,8 +130,8 @@ module _ (w : Network) (net : Net w.n w.m w.a w.b w.km) (loads : List Float) whe
     unfolding join_next join
     stays h = ap (λ (b : Bool). cond b (sites (set s.sources (next_of w loads s.sources) 1) (set s.buses s.count (next_of w loads s.sources)) (s.count + 1)) s) (le-ltb (next_of w loads s.sources) w.n h)
 
-    fewer : (d : ℕ) → length s.sources ≡ 256 → left 1 s.sources w.n ≤ suc d → (next_of w loads s.sources < w.n) × (get_or s.sources (next_of w loads s.sources) 0 ≡ 0)
-        → (length (join_next w loads k s).sources ≡ 256) × (left 1 (join_next w loads k s).sources w.n ≤ d)
+    fewer : (d : ℕ) → length s.sources ≡ most_buses → left 1 s.sources w.n ≤ suc d → (next_of w loads s.sources < w.n) × (get_or s.sources (next_of w loads s.sources) 0 ≡ 0)
+        → (length (join_next w loads k s).sources ≡ most_buses) × (left 1 (join_next w loads k s).sources w.n ≤ d)
     fewer d l h p =
         let i = next_of w loads s.sources in
         let f = net.few in
@@ -143,7 +144,7 @@ module _ (w : Network) (net : Net w.n w.m w.a w.b w.km) (loads : List Float) whe
         differ : {x : ℕ} → x ≡ 0 → x ≡ 1 → ⊥
         differ p q = omega arith
 
-  pub all_joined : (d k : ℕ) (s : Sites) → length s.sources ≡ 256 → left 1 s.sources w.n ≤ d → NoneFar w loads (iter (join_next w loads) d k s).sources
+  pub all_joined : (d k : ℕ) (s : Sites) → length s.sources ≡ most_buses → left 1 s.sources w.n ≤ d → NoneFar w loads (iter (join_next w loads) d k s).sources
   unfolding iter
   all_joined zero k s l h = (λ j hj a b. source_near s.sources j hj (λ z. clash (all_settled 1 s.sources w.n (none (left 1 s.sources w.n) h) j hj) z))
     where
@@ -160,7 +161,7 @@ module _ (w : Network) (net : Net w.n w.m w.a w.b w.km) (loads : List Float) whe
       stopped : NoneFar w loads s.sources → iter (join_next w loads) d (suc k) (join_next w loads k s) ≡ s → NoneFar w loads (iter (join_next w loads) d (suc k) (join_next w loads k s)).sources
       stopped p q = subst (λ (t : Sites). NoneFar w loads t.sources) (sym q) p
 
-  pub joined_near : (s : Sites) → length s.sources ≡ 256 → NoneFar w loads (joined w loads s).sources
+  pub joined_near : (s : Sites) → length s.sources ≡ most_buses → NoneFar w loads (joined w loads s).sources
   unfolding joined
   joined_near s l = all_joined w.n 0 s l (left_most 1 s.sources w.n)
 
@@ -190,9 +191,9 @@ pub placing : (k : Request) (buses : List ℕ) (mvars : List Float) (count : ℕ
 unfolding sites_by
 placing k buses mvars count e =
     let p = accepted k buses mvars count e in
-    let s₀ = sites (flagged k.generators (replicate 256 0)) (replicate k.n 0) 0 in
+    let s₀ = sites (flagged k.generators (replicate most_buses 0)) (replicate k.n 0) 0 in
     record {
       distances_nearest = nearest_distances (network_of k) p.net (joined (network_of k) k.loads s₀).sources;
       loads_supported = none_far_supported (network_of k) p.net k.loads (joined (network_of k) k.loads s₀).sources
-          (joined_near (network_of k) p.net k.loads s₀ (flagged_length k.generators (replicate 256 0) (length-replicate {A = ℕ} 256 0)));
+          (joined_near (network_of k) p.net k.loads s₀ (flagged_length k.generators (replicate most_buses 0) (length-replicate {A = ℕ} most_buses 0)));
     }

@@ -14,7 +14,7 @@ use lib.Ieee.{Float, lt, le}
 use lib.ListN.{length, get_or, set, length-set, length-replicate}
 use lib.Seq.{get_or-set_same, get_or-set_other}
 use Rattle.loops.specs.Figures.{at, minus, nought}
-use Rattle.loops.proofs.Bools.{both}
+use Rattle.loops.proofs.Bools.{both, unequal}
 use Rattle.loops.proofs.Tab.{length_tab, get_tab}
 use Rattle.angles_defs.specs.Network.{zeros}
 use Rattle.angles_defs.specs.Solve.{solve}
@@ -53,7 +53,7 @@ set_here l k j v h e = ap (λ (i : ℕ). get_or (set l k v) i 0) e ∙ get_or-se
 -- there is no bank past the end
 bank_in : (ds : List CircuitDesign) (k : ℕ) → bank_below (design ds k) ≡ true → k < length ds
 unfolding no_design line_of
-bank_in [] k e = let z : ◌≡◌ {A = ℕ} 0 1 = cc in absurd (omega arith)
+bank_in [] k e = absurd (unequal cc)
 bank_in (d ∷ ds) zero e = suc-le-suc zero-le
 bank_in (d ∷ ds) (suc k) e = suc-le-suc (bank_in ds k e)
 

@@ -10,6 +10,7 @@ use native.Mathlib.Decide.{ℕ_discrete}
 use Rattle.std.proofs.Common.{add-one}
 use lib.Arith.{lt_of_le-ne}
 use lib.ListN.{length, get_or, set}
+use Rattle.loops.proofs.Bools.{unequal}
 use Rattle.loops.specs.Loops.{iter, tab}
 use Rattle.loops.proofs.Tab.{tab_of}
 use Rattle.plan_defs.specs.Lists.{keep, pass_from, count_from, counting, each, sum}
@@ -75,7 +76,7 @@ iter_to P f n h s p = iter_below P f n h n 0 (omega arith) s p
 
 -- ---- the indices that pass: each passes and is below the bound, and each that passes is there
 keep_first : (b : Bool) (i : ℕ) (l : List ℕ) → keep b i l ≡ [] → (b ≡ false) × (l ≡ [])
-keep_first true i l e = let z : ◌≡◌ {A = ℕ} 0 1 = cc in absurd (omega arith)
+keep_first true i l e = absurd (unequal cc)
 keep_first false i l e = (refl, e)
 
 pub none_pass : (p : ℕ → Bool) (d i : ℕ) → pass_from p d i ≡ [] → (j : ℕ) → i ≤ j → j < i + d → p j ≡ false
@@ -141,7 +142,7 @@ keep_has false i k l x = x
 
 kept : (b : Bool) (i : ℕ) (l : List ℕ) → b ≡ true → Has i (keep b i l)
 kept true i l e = (0, suc-le-suc zero-le, refl)
-kept false i l e = let z : ◌≡◌ {A = ℕ} 0 1 = cc in absurd (omega arith)
+kept false i l e = absurd (unequal cc)
 
 pub pass_has : (p : ℕ → Bool) (k d i : ℕ) → p k ≡ true → i ≤ k → k < i + d → Has k (pass_from p d i)
 unfolding pass_from

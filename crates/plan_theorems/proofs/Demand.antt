@@ -11,6 +11,7 @@ use borrow.Author.Tests.{ltb-true, ltb-false}
 use lib.Dec.{ltb}
 use lib.Ieee.{le}
 use lib.ListN.{length, get_or, take, drop, length-take, length-drop}
+use Rattle.loops.proofs.Bools.{unequal}
 use Rattle.loops.specs.Loops.{tab}
 use Rattle.loops.specs.Sorting.{occ}
 use Rattle.loops.proofs.Tab.{get_tab, tab_of}
@@ -222,14 +223,14 @@ module _ (c : Case) (target : ℕ) (ok : Accepted c target) (binary : Binary c) 
 
 -- ---- the theorem: of every plan with which planning a case ends
 never : (p : Plan) (f : Refusal) → unaccepted f ≡ planned p → ⊥
-never p f e = let z : ◌≡◌ {A = ℕ} 0 1 = cc in omega arith
+never p f e = unequal cc
 
 ending_both : (c : Case) (target : ℕ) → Binary c → (p : Plan) → ending_of c target ≡ planned p → Demand3 c target p × Tallies c p
 unfolding ending_of
 ending_both c target binary p h = go (case_fault c target) refl h
   where
     on : (ok : Accepted c target) (o : Stage Plan) → On (Both c target ok binary) o → ending_on o ≡ planned p → Demand3 c target p × Tallies c p
-    on ok (stopped f) q e = let z : ◌≡◌ {A = ℕ} 0 1 = cc in absurd (omega arith)
+    on ok (stopped f) q e = absurd (unequal cc)
     on ok (going t) q e = subst (λ (x : Plan). Demand3 c target x × Tallies c x) (let z : t ≡ p = cc in z) q
 
     go : (o : Option Refusal) → case_fault c target ≡ o → ending_by o c target ≡ planned p → Demand3 c target p × Tallies c p

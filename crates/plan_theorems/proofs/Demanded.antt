@@ -61,7 +61,7 @@ module _ (f : ℕ → Float) (ks : List ℕ) (few : length ks ≤ most_buses) (s
   pub demand_ok_lem : demand_ok (sum_over f ks) ≡ true
   unfolding of_bits
   demand_ok_lem =
-      let w : length ks * 1_000_000 ≤ 256 * 1_000_000 = mul-le-mul_right 1_000_000 few in
+      let w : length ks * 1_000_000 ≤ most_buses * 1_000_000 = mul-le-mul_right 1_000_000 few in
       let room : 1_000_000_000 < 2 ^ 53 = lit< tt in
       let c₁ : 0 + length ks * 1_000_000 < 2 ^ 53 = lt_of_le_of_lt (let z : 0 + length ks * 1_000_000 ≤ 1_000_000_000 = omega arith in z) room in
       let b = sum_few f 1_000_000 ks (λ j l. (small_term (f (get_or ks j 0)) (small j l), small_few (f (get_or ks j 0)) (small j l))) 0 nought (record { plain = tt; few = (tt, zero-le) }) c₁ in

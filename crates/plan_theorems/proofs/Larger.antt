@@ -11,7 +11,7 @@ use native.Mathlib.Omega.{arith}
 use borrow.Author.Tests.{ltb-true, ltb-false, lt-ltb}
 use lib.Dec.{ltb}
 use lib.ListN.{length, get_or}
-use Rattle.loops.proofs.Bools.{both}
+use Rattle.loops.proofs.Bools.{both, unequal}
 use Rattle.angles_defs.specs.Network.{zeros}
 use Rattle.refusal.specs.declared.Refusal.{Refusal}
 use Rattle.plan_defs.specs.Lists.{each, sum}
@@ -38,7 +38,7 @@ pub record Origin (c : Case) (target : ℕ) (p : Plan) (r : Ready) : Type 0 wher
 
 module _ (c : Case) (target : ℕ) (p : Plan) where
   stopped_not : (f : Refusal) → ◌≡◌ {A = Stage Plan} (stopped f) (going p) → ⊥
-  stopped_not f e = let z : ◌≡◌ {A = ℕ} 0 1 = cc in omega arith
+  stopped_not f e = unequal cc
 
   closed : (r : Ready) → ready_of c ≡ going r → closing c target r ≡ going p → Origin c target p r
   unfolding closing
@@ -63,7 +63,7 @@ module _ (c : Case) (target : ℕ) (p : Plan) where
   ready_origin (going r) h e = (r, closed r h e)
 
   planned_going : (o : Stage Plan) → ending_on o ≡ planned p → o ≡ going p
-  planned_going (stopped f) e = let z : ◌≡◌ {A = ℕ} 0 1 = cc in absurd (omega arith)
+  planned_going (stopped f) e = absurd (unequal cc)
   planned_going (going q) e = cc
 
   pub answer_of_lem : ending_of c target ≡ planned p → (case_fault c target ≡ none) × (plan_for c target ≡ going p)
@@ -71,7 +71,7 @@ module _ (c : Case) (target : ℕ) (p : Plan) where
   answer_of_lem h = go (case_fault c target) refl h
     where
       go : (o : Option Refusal) → case_fault c target ≡ o → ending_by o c target ≡ planned p → (case_fault c target ≡ none) × (plan_for c target ≡ going p)
-      go (some f) e q = let z : ◌≡◌ {A = ℕ} 0 1 = cc in absurd (omega arith)
+      go (some f) e q = absurd (unequal cc)
       go none e q = (e, planned_going (plan_for c target) q)
 
   pub origin : ending_of c target ≡ planned p → (r : Ready) × Origin c target p r

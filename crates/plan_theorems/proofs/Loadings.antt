@@ -65,7 +65,7 @@ count_checked : first (λ n. inside one most_float (float (suc n))) 64 0 ≡ 64
 unfolding first of_bits of_int round le lt eq
 count_checked = refl
 
-count_inside : (n : ℕ) → 0 < n → n ≤ 64 → inside one most_float (float n) ≡ true
+count_inside : (n : ℕ) → 0 < n → n ≤ most_initial → inside one most_float (float n) ≡ true
 count_inside zero p q = absurd (omega arith)
 count_inside (suc n) p q = all_pass (λ m. inside one most_float (float (suc m))) 64 (le_of_eq (sym count_checked)) n (omega arith)
 
@@ -78,7 +78,7 @@ size_real x h = go (lt x nought) x (bounded_real x (finite_bounded x h))
     go true y p = neg_real y p
     go false y p = p
 
-loading_real : (flow : Float) (n : ℕ) (rate : Float) → finite flow ≡ true → 0 < n → n ≤ 64 → inside low_rate high_rate rate ≡ true
+loading_real : (flow : Float) (n : ℕ) (rate : Float) → finite flow ≡ true → 0 < n → n ≤ most_initial → inside low_rate high_rate rate ≡ true
     → T (real (over (magnitude flow) (times (float n) rate)))
 loading_real flow n rate f p q r =
     let B = bounds_positive in
@@ -162,7 +162,7 @@ module _ (c : Case) (target : ℕ) (ok : Accepted c target) (r : Ready) (d : Don
   abbrev counts : List ℕ
   counts = r.draft.build.circuits
 
-  few : (k : ℕ) → k < c.corridors → (0 < get_or counts k 0) × (get_or counts k 0 ≤ 64)
+  few : (k : ℕ) → k < c.corridors → (0 < get_or counts k 0) × (get_or counts k 0 ≤ most_initial)
   unfolding lower_bound
   few k h =
       let b = d.ran.sound.built in

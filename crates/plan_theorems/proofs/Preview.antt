@@ -12,7 +12,7 @@ use lib.Dec.{ltb, leb, eqb}
 use lib.ListN.{length, get_or}
 use Rattle.loops.specs.Loops.{first}
 use Rattle.loops.specs.Sorting.{occ}
-use Rattle.loops.proofs.Bools.{both, and_of}
+use Rattle.loops.proofs.Bools.{both, and_of, unequal}
 use Rattle.loops.proofs.Chains.{only, some_not_none}
 use Rattle.loops.proofs.Scan.{all_pass, pass_all}
 use Rattle.refusal.specs.declared.Refusal.{Refusal}
@@ -57,8 +57,7 @@ same_not : (order : List ℕ) (j i : ℕ) → differs_at order j i ≡ true → 
 same_not order j i d e =
     let z : not (eqb (get_or order i 0) (get_or order j 0)) ≡ false = ap not (eq-eqb (get_or order i 0) (get_or order j 0) e) in
     let y : true ≡ false = sym d ∙ z in
-    let x : ◌≡◌ {A = ℕ} 0 1 = cc in
-    omega arith
+    unequal cc
 
 pub first_names : (order : List ℕ) (j : ℕ) → ((i : ℕ) → i < j → get_or order i 0 ≡ get_or order j 0 → ⊥) → first_named order j ≡ true
 first_names order j n = eq-eqb _ j (pass_all (differs_at order j) j (λ i h. differ order j i (n i h)))

@@ -2,6 +2,7 @@
 -- A design is its line and its bank, so that the bank alone says which design it was.
 use Rattle.std.proofs.Common.{◌≡◌, ℕ, ◌*◌, ◌^◌, ◌<◌, ◌≤◌, true, eqb, List, length, get_or, sym, refl, ap, ◌∙◌, subst, le_trans, mul-le-mul_right, arith, lit≤}
 use lib.Ieee.{Float, nan}
+use Rattle.loops.specs.Bounds.{most_buses, most_corridors, most_generators}
 use Rattle.loops.specs.Figures.{at}
 use Rattle.loops.specs.Loops.{tab}
 use Rattle.loops.proofs.Most.{Most, most_more, million_most}
@@ -45,8 +46,8 @@ module _ (grid : GridColumns) (level : List ℕ) (load gens : List Float) (share
 
 -- ---- where the two lists hold what each bus's units give and how many corridors step down to it
 module _ (grid : GridColumns) (level : List ℕ) (supply : SupplyColumns) (floors gens : List Float) (shared : List ℕ)
-    (k : ℕ) (lines : Lines grid level) (supplied : Supplied supply) (size : length supply.load ≡ length level) (few : length grid.a ≤ 256) (h : k < length grid.a)
-    (gens-are : gens ≡ tab 256 (gen_at_bus (units_for supply))) (shared-are : shared ≡ tab 256 (transformer_corridors (ends_for grid) level)) where
+    (k : ℕ) (lines : Lines grid level) (supplied : Supplied supply) (size : length supply.load ≡ length level) (few : length grid.a ≤ most_corridors) (h : k < length grid.a)
+    (gens-are : gens ≡ tab most_buses (gen_at_bus (units_for supply))) (shared-are : shared ≡ tab most_buses (transformer_corridors (ends_for grid) level)) where
   abbrev C : Case
   C = redesign_for grid supply
 
@@ -56,14 +57,14 @@ module _ (grid : GridColumns) (level : List ℕ) (supply : SupplyColumns) (floor
   lo_below : lo < length level
   lo_below = to_below grid level k (ends_fit grid level k lines h)
 
-  lo_few : lo < 256
+  lo_few : lo < most_buses
   lo_few = omega (arith, lo_below, size, supplied.few_buses)
 
   gen_is : at gens lo ≡ gen_at_bus (units_for supply) lo
-  gen_is = tab_read nan 256 (gen_at_bus (units_for supply)) gens lo gens-are lo_few
+  gen_is = tab_read nan most_buses (gen_at_bus (units_for supply)) gens lo gens-are lo_few
 
   shared_is : get_or shared lo 0 ≡ transformer_corridors (ends_for grid) level lo
-  shared_is = tab_read 0 256 (transformer_corridors (ends_for grid) level) shared lo shared-are lo_few
+  shared_is = tab_read 0 most_buses (transformer_corridors (ends_for grid) level) shared lo shared-are lo_few
 
   -- ---- a fresh bank is above 0 and finite: 128 units give at most 128e6 MW
   abbrev top : ℕ
@@ -76,7 +77,7 @@ module _ (grid : GridColumns) (level : List ℕ) (supply : SupplyColumns) (floor
   unfolding gen_at_bus
   gen_most =
       let n = length supply.bus in
-      let u : n * 1_000_000 ≤ 128 * 1_000_000 = mul-le-mul_right 1_000_000 supplied.few_units in
+      let u : n * 1_000_000 ≤ most_generators * 1_000_000 = mul-le-mul_right 1_000_000 supplied.few_units in
       most_more (n * 1_000_000) top (gen_at_bus (units_for supply) lo) (omega arith)
       (sum_most (at supply.pmax) (λ j. eqb (get_or supply.bus j 0) lo) 1_000_000 n (λ j w. million_most (at supply.pmax j) (unit_inside _ _ _ _ (supplied.units j w))) (omega arith))
 
@@ -118,7 +119,7 @@ module _ (grid : GridColumns) (level : List ℕ) (supply : SupplyColumns) (floor
 
 -- every bank anew is above 0 and finite
 pub banks_anew_sound : (grid : GridColumns) (level : List ℕ) (supply : SupplyColumns) (floors : List Float)
-    → Lines grid level → Supplied supply → length supply.load ≡ length level → length grid.a ≤ 256
+    → Lines grid level → Supplied supply → length supply.load ≡ length level → length grid.a ≤ most_corridors
     → Banks (banks_anew (redesign_for grid supply) level floors)
 unfolding banks_anew
 banks_anew_sound grid level supply floors lines supplied size few k w =

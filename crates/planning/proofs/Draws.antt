@@ -2,6 +2,7 @@
 -- The definitions read only fields of the case, so each law is by computing, with the equations of the pieces put in.
 use Rattle.std.proofs.Common.{◌≡◌, ℕ, ◌+◌, ◌<◌, ◌≤◌, Bool, true, cond, List, length, get_or, sym, ap, ◌∙◌, subst, arith}
 use lib.Ieee.{Float, le}
+use Rattle.loops.proofs.Bools.{unequal}
 use Rattle.loops.specs.Figures.{at}
 use Rattle.refusal.specs.declared.Refusal.{Refusal}
 use Rattle.refusal.specs.Reply.{reply_of}
@@ -25,8 +26,7 @@ module _ (mva : Float) (r : Result SeriesImpedance Refusal) (ok : rating_ok mva 
   pub never_refused : (f : Refusal) → r ≡ Err f → ⊥
   never_refused f e =
       let p : reply_of (Err f) ≡ reply_of (Ok (impedance_of mva)) = ap reply_of (sym e) ∙ answers mva r ok is in
-      let z : ◌≡◌ {A = ℕ} 0 1 = cc in
-      omega arith
+      unequal cc
 
   pub answered_by : (z : SeriesImpedance) → r ≡ Ok z → z ≡ impedance_of mva
   answered_by z e =

@@ -4,6 +4,7 @@ use Rattle.std.proofs.Common.{◌≡◌, ℕ, ◌+◌, ◌-◌, ◌<◌, ◌≤�
 use Rattle.std.proofs.lemmas.List.{drop-replicate, take-replicate}
 use lib.ListN.{length-replicate, get_or-eq_default}
 use lib.Ieee.{Float}
+use Rattle.loops.specs.Bounds.{most_initial}
 use Rattle.loops.specs.Figures.{nought}
 use Rattle.loops.specs.Loops.{tab}
 use Rattle.loops.proofs.Tab.{length_tab, get_tab}
@@ -50,11 +51,11 @@ module _ (c : Case) (target : ℕ) (s : Sound c target) where
         few = omega (arith, s.few_corridors, s.a_size);
       }
 
-  bound_few : (k : ℕ) → get_or (lower_bounds c) k 0 ≤ 64
+  bound_few : (k : ℕ) → get_or (lower_bounds c) k 0 ≤ most_initial
   unfolding lower_bounds lower_bound
   bound_few k = go (ltb k c.corridors) refl
     where
-      go : (b : Bool) → ltb k c.corridors ≡ b → get_or (tab c.corridors (λ i. max (get_or c.circuits i 0) 1)) k 0 ≤ 64
+      go : (b : Bool) → ltb k c.corridors ≡ b → get_or (tab c.corridors (λ i. max (get_or c.circuits i 0) 1)) k 0 ≤ most_initial
       go true e =
           let h = ltb-true k c.corridors e in
           omega (arith, get_tab c.corridors (λ (i : ℕ). max (get_or c.circuits i 0) 1) k 0 h, s.initial_few k h)
@@ -64,7 +65,7 @@ module _ (c : Case) (target : ℕ) (s : Sound c target) where
           omega (arith, get_or-eq_default (tab c.corridors (λ (i : ℕ). max (get_or c.circuits i 0) 1)) 0 {n = k} (omega (arith, h, n)))
 
   few_by : (circuits : List ℕ) → circuits ≡ lower_bounds c → Few circuits
-  few_by circuits e k = subst (λ (l : List ℕ). get_or l k 0 ≤ 64) (sym e) (bound_few k)
+  few_by circuits e k = subst (λ (l : List ℕ). get_or l k 0 ≤ most_initial) (sym e) (bound_few k)
 
   -- ---- after the opening
   module _ (leader : List ℕ) (injection : List Float) (count : ℕ) (ground : List ℕ) (mw : List Float) (level circuits : List ℕ)

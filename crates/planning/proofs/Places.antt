@@ -3,6 +3,7 @@ use Rattle.std.proofs.Common.{◌≡◌, ℕ, ◌+◌, ◌<◌, ◌≤◌, Bool,
 use mathlib.Core.Bool.{true≢false}
 use native.Mathlib.Decide.{dec_lt, ℕ_discrete}
 use lib.ListN.{length-replicate, get_or-replicate}
+use Rattle.loops.specs.Bounds.{most_corridors}
 use Rattle.loops.proofs.Bools.{and_of, and_no}
 use Rattle.plan_defs.specs.Preview.{first_named, place_ok}
 use Rattle.plan_theorems.proofs.Preview.{first_names, names_first}
@@ -17,19 +18,19 @@ one_more ok j h e i l = elim (dec_lt i j) [
 
 -- of the first j places
 pub record Named (order : List ℕ) (named : List Bool) (j : ℕ) : Type 0 where
-  pub size : length named ≡ 256
-  pub never : (v : ℕ) → v < 256 → get_or named v false ≡ false → (i : ℕ) → i < j → get_or order i 0 ≡ v → ⊥
-  pub once : (v : ℕ) → v < 256 → get_or named v false ≡ true → ((i : ℕ) → i < j → get_or order i 0 ≡ v → ⊥) → ⊥
+  pub size : length named ≡ most_corridors
+  pub never : (v : ℕ) → v < most_corridors → get_or named v false ≡ false → (i : ℕ) → i < j → get_or order i 0 ≡ v → ⊥
+  pub once : (v : ℕ) → v < most_corridors → get_or named v false ≡ true → ((i : ℕ) → i < j → get_or order i 0 ≡ v → ⊥) → ⊥
 
-pub none_named : (order : List ℕ) → Named order (replicate 256 false) 0
+pub none_named : (order : List ℕ) → Named order (replicate most_corridors false) 0
 none_named order = record {
-  size = length-replicate {A = Bool} 256 false;
+  size = length-replicate {A = Bool} most_corridors false;
   never = λ v l e i h. absurd (omega arith);
-  once = λ v l h n. true≢false (sym h ∙ get_or-replicate {A = Bool} 256 v false false l);
+  once = λ v l h n. true≢false (sym h ∙ get_or-replicate {A = Bool} most_corridors v false false l);
 }
 
 module _ (order : List ℕ) (named : List Bool) (j : ℕ) (s : Named order named j) where
-  pub next_named : (k : ℕ) → k ≡ get_or order j 0 → k < 256 → Named order (set named k true) (j + 1)
+  pub next_named : (k : ℕ) → k ≡ get_or order j 0 → k < most_corridors → Named order (set named k true) (j + 1)
   next_named k e l = record {
     size = simp length-set s.size;
     never = λ v b z i h q. never_at v b z i h q (ℕ_discrete v k);
@@ -39,7 +40,7 @@ module _ (order : List ℕ) (named : List Bool) (j : ℕ) (s : Named order named
       here : get_or (set named k true) k false ≡ true
       here = get_or-set_same named k true false (rw s.size l)
 
-      never_at : (v : ℕ) → v < 256 → get_or (set named k true) v false ≡ false → (i : ℕ) → i < j + 1 → get_or order i 0 ≡ v → Dec (v ≡ k) → ⊥
+      never_at : (v : ℕ) → v < most_corridors → get_or (set named k true) v false ≡ false → (i : ℕ) → i < j + 1 → get_or order i 0 ≡ v → Dec (v ≡ k) → ⊥
       never_at v b z i h q (yes p) = true≢false (sym here ∙ ap (λ (u : ℕ). get_or (set named k true) u false) (sym p) ∙ z)
       never_at v b z i h q (no p) =
           elim (dec_lt i j) [
@@ -47,7 +48,7 @@ module _ (order : List ℕ) (named : List Bool) (j : ℕ) (s : Named order named
             | no a ↦ let t : i ≡ j = omega arith in p (sym q ∙ ap (λ (u : ℕ). get_or order u 0) t ∙ sym e)
           ]
 
-      once_at : (v : ℕ) → v < 256 → get_or (set named k true) v false ≡ true → ((i : ℕ) → i < j + 1 → get_or order i 0 ≡ v → ⊥) → Dec (v ≡ k) → ⊥
+      once_at : (v : ℕ) → v < most_corridors → get_or (set named k true) v false ≡ true → ((i : ℕ) → i < j + 1 → get_or order i 0 ≡ v → ⊥) → Dec (v ≡ k) → ⊥
       once_at v b z n (yes p) = n j (omega arith) (sym e ∙ sym p)
       once_at v b z n (no p) = s.once v b (sym (get_or-set_other named k v true false p) ∙ z) (λ i h q. n i (omega arith) q)
 
@@ -57,7 +58,7 @@ module _ (order : List ℕ) (named : List Bool) (j : ℕ) (s : Named order named
     past_faulty h = ap (λ (b : Bool). b && first_named order j) (le-ltb (get_or order j 0) (length order) (omega arith))
 
     -- one that names a corridor again
-    pub again_faulty : k < 256 → get_or named k false ≡ true → place_ok (order_for order) j ≡ false
+    pub again_faulty : k < most_corridors → get_or named k false ≡ true → place_ok (order_for order) j ≡ false
     again_faulty l n = and_no (ltb (get_or order j 0) (length order)) (first_named order j) (not_first (first_named order j) refl)
       where
         not_first : (b : Bool) → first_named order j ≡ b → first_named order j ≡ false
@@ -65,5 +66,5 @@ module _ (order : List ℕ) (named : List Bool) (j : ℕ) (s : Named order named
         not_first true q = absurd (s.once k l n (λ i h p. names_first order j q i h (p ∙ e)))
 
     -- and one that names another
-    pub first_sound : k < length order → k < 256 → get_or named k false ≡ false → place_ok (order_for order) j ≡ true
+    pub first_sound : k < length order → k < most_corridors → get_or named k false ≡ false → place_ok (order_for order) j ≡ true
     first_sound h l z = and_of (lt-ltb (get_or order j 0) (length order) (omega arith)) (first_names order j (λ i b q. s.never k l z i b (q ∙ sym e)))

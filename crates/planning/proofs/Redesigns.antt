@@ -3,6 +3,7 @@ use Rattle.std.proofs.Common.{◌≡◌, ℕ, ◌*◌, ◌<◌, ◌≤◌, Bool,
 use lib.ListN.{get_or-replicate}
 use lib.Ieee.{Float, nan, inf, fin, up, down, lt, of_bits}
 use lib.Ieee.Positive.{positive}
+use Rattle.loops.specs.Bounds.{most_corridors}
 use Rattle.loops.specs.Figures.{at, nought}
 use Rattle.loops.specs.Loops.{tab}
 use Rattle.loops.proofs.Tab.{tab_same}
@@ -72,7 +73,7 @@ module _ (c : Case) (sheet : List Float) (laid : Laid c sheet) (level : List ℕ
       tab_same (length c.a) (bank_anew R level floors) (bank_anew c level floors) (λ k h. anew_lifts floors k) ∙ ap (λ (n : ℕ). tab n (bank_anew c level floors)) m
 
   -- ---- the first design is a redesign with floors of zero
-  module _ (lines : Lines (grid_of c.ladder c.a c.b c.km c.share c.cap sheet) level) (supplied : Supplied (supply_of c.load c.bus c.slack c.pmin c.pmax c.c1 c.c2)) (size : length c.load ≡ length level) (few : length c.a ≤ 256) where
+  module _ (lines : Lines (grid_of c.ladder c.a c.b c.km c.share c.cap sheet) level) (supplied : Supplied (supply_of c.load c.bus c.slack c.pmin c.pmax c.c1 c.c2)) (size : length c.load ≡ length level) (few : length c.a ≤ most_corridors) where
     fresh_sound : (k : ℕ) → k < length c.a → rating_ok (bank_for c level (to_of c level k)) ≡ true
     unfolding to_of
     fresh_sound k h =

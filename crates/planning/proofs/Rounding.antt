@@ -2,6 +2,7 @@
 -- of every case with the columns that the rounds read.
 use Rattle.std.proofs.Common.{◌≡◌, ℕ, zero, suc, ◌+◌, ◌-◌, ◌*◌, ◌<◌, ◌≤◌, Bool, true, false, not, ◌&&◌, ◌||◌, ltb, leb, List, [], ◌∷◌, length, get_or, sym, refl, ap, ◌∙◌, subst, add-zero, add-one, arith, lt-ltb}
 use lib.Ieee.{Float}
+use Rattle.loops.specs.Bounds.{most_initial}
 use Rattle.loops.proofs.Bools.{no, or_left}
 use Rattle.refusal.specs.declared.Refusal.{Refusal}
 use Rattle.mode.specs.declared.PlanMode.{PlanMode}
@@ -52,7 +53,7 @@ nothing_done zero added h = (refl, h)
 nothing_done (suc m) added h = absurd (no h (or_left (ltb 0 (suc m)) added (lt-ltb 0 (suc m) (omega arith))))
 
 -- ---- the tallies with which stiffening begins
-pub few_sum : (l : List ℕ) → Few l → sum l ≤ 64 * length l
+pub few_sum : (l : List ℕ) → Few l → sum l ≤ most_initial * length l
 unfolding sum
 few_sum [] f = omega arith
 few_sum (x ∷ l) f = omega (arith, f 0, few_sum l (λ k. f (suc k)))

@@ -3,6 +3,7 @@
 use Rattle.std.proofs.Common.{◌≡◌, ℕ, ◌<◌, ◌≤◌, Bool, true, false, ltb, List, [], map, length, get_or, sym, refl, ap, ◌∙◌, subst, arith, ltb-true}
 use lib.ListN.{length-map}
 use lib.Ieee.{Float, nan}
+use Rattle.loops.proofs.Bools.{unequal}
 use Rattle.loops.specs.Figures.{at, nought, million, inside}
 use Rattle.refusal.specs.Number.{index_of}
 use Rattle.refusal.specs.declared.Refusal.{Refusal}
@@ -62,7 +63,7 @@ refused_below tops u d f e = go (ltb (faulty_cost u d) (count u)) refl e
   where
     go : (b : Bool) → ltb (faulty_cost u d) (count u) ≡ b → stopped f ≡ given_if b tops u d → index_of f < count u
     go true q h = let z : f ≡ Cost (faulty_cost u d) = cc in subst (λ (g : Refusal). index_of g < count u) (sym z) (ltb-true (faulty_cost u d) (count u) q)
-    go false q h = let z : ◌≡◌ {A = ℕ} 0 1 = cc in absurd (omega arith)
+    go false q h = absurd (unequal cc)
 
 module _ (mode : PlanMode) (led : List ℕ) (supply : SupplyColumns) (root : ℕ) where
   abbrev case : Case

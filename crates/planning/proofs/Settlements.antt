@@ -1,6 +1,7 @@
 -- Planning after the rounds, by columns, is that of the whole case: the same solves, and the definitions of filling and closing read only these columns.
 use Rattle.std.proofs.Common.{◌≡◌, ℕ, ◌≤◌, List, map, length, sym, refl, ap, ◌∙◌, arith}
 use lib.Ieee.{Float}
+use Rattle.loops.proofs.Bools.{unequal}
 use Rattle.loops.specs.Figures.{nought}
 use Rattle.mode.specs.declared.PlanMode.{PlanMode}
 use Rattle.refusal.specs.declared.Refusal.{Refusal}
@@ -46,7 +47,7 @@ abbrev ended_on : ℕ → Stage Plan → Stage Ended
 ended_on above t = onward t (λ q. going (ended_for above q))
 
 never : {S : Type 0} (f : Refusal) (s : S) → stopped f ≡ going s → ⊥
-never f s e = let z : ◌≡◌ {A = ℕ} 0 1 = cc in omega arith
+never f s e = unequal cc
 
 module _ (circuits tier : List ℕ) (flow rate angle added : List Float) (c : Case) where
   settled_as : (r : Result Settling Refusal) (t : Stage Plan) → ended_of r circuits tier flow rate angle added ≡ ended_on c.above t → SettledAs r circuits tier flow rate angle added c t

@@ -5,6 +5,7 @@ use Rattle.std.specs.Bool.{then_some}
 use Rattle.std.proofs.lemmas.Option.{none-some, same_Some}
 use native.Mathlib.Decide.{ℕ_discrete}
 use lib.Ieee.{Float, lt}
+use Rattle.loops.specs.Bounds.{most_initial}
 use Rattle.loops.proofs.Bools.{both}
 use Rattle.impedance.specs.Impedance.{rating_ok}
 use Rattle.mode.specs.declared.PlanMode.{PlanMode}
@@ -48,7 +49,7 @@ larger_none false next e = refl
 pub few_set : (circuits : List ℕ) (k n : ℕ) → k < length circuits → n ≤ 6 → Few circuits → Few (set circuits k n)
 few_set circuits k n h l f j = go (ℕ_discrete j k)
   where
-    go : Dec (j ≡ k) → get_or (set circuits k n) j 0 ≤ 64
+    go : Dec (j ≡ k) → get_or (set circuits k n) j 0 ≤ most_initial
     go (yes e) = let q : get_or (set circuits k n) j 0 ≡ n = ap (λ (i : ℕ). get_or (set circuits k n) i 0) e ∙ get_or-set_same circuits k n 0 h in omega arith
     go (no e) = let q = get_or-set_other circuits k j n 0 e in let g = f j in omega arith
 

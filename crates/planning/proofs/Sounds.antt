@@ -5,7 +5,7 @@ use mathlib.Core.Option.{Option, none, some}
 use borrow.Author.Tests.{eqb-false, lt-leb}
 use lib.Ieee.{Float, lt, le}
 use Rattle.loops.specs.Figures.{at, plus, nought, one, half, ten_thousand, million, thousandth, finite, inside}
-use Rattle.loops.proofs.Bools.{both}
+use Rattle.loops.proofs.Bools.{both, unequal}
 use Rattle.refusal.specs.declared.Refusal.{Refusal}
 use Rattle.refusal.specs.declared.Refusal.TheVariants.{Length}
 use Rattle.impedance.specs.Impedance.{rating_ok}
@@ -156,7 +156,7 @@ module _ (c : Case) (target : ℕ) (s : Slices) where
           → outcome (Err f) s ≡ outcome_if (slices_ok c s) c target s
       go false o p q h = let z : f ≡ Length = cc in rw (p, z)
       go true (some g) p q h = let z : f ≡ g = cc in rw (p, q, z)
-      go true none p q h = let z : ◌≡◌ {A = ℕ} 0 1 = cc in absurd (omega arith)
+      go true none p q h = absurd (unequal cc)
 
 -- ---- the columns that a design reads, at levels on the ladder
 pub lines_of : (c : Case) (target : ℕ) → Sound c target → (sheet : List Float) → Laid c sheet → length sheet ≡ c.figures → (level : List ℕ) → length level ≡ c.buses

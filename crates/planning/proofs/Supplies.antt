@@ -1,6 +1,7 @@
 -- What acceptance says of the loads and the units of a sound case.
 use Rattle.std.proofs.Common.{◌≡◌, ℕ, ◌<◌, true, false, ◌&&◌, length, get_or, sym, refl, ◌∙◌, arith}
 use lib.Ieee.{Float, le, of_bits}
+use Rattle.loops.specs.Bounds.{most_buses}
 use Rattle.loops.specs.Figures.{nought, million, inside}
 use Rattle.loops.proofs.Bools.{both, and_of}
 use Rattle.loops.proofs.Signs.{sound_up, sound_of}
@@ -39,5 +40,5 @@ supplied c target s =
       units = λ k h. s.unit_ok_holds k (omega (arith, h, s.bus_size));
     }
 
-pub bus_few : (supply : SupplyColumns) → Supplied supply → (k : ℕ) → k < length supply.bus → get_or supply.bus k 0 < 256
+pub bus_few : (supply : SupplyColumns) → Supplied supply → (k : ℕ) → k < length supply.bus → get_or supply.bus k 0 < most_buses
 bus_few supply s k h = omega (arith, s.few_buses, s.bus_below k h)

@@ -11,7 +11,7 @@ use lib.Dec.{eqb, ltb}
 use lib.ListN.{length, get_or, replicate, get_or-eq_default}
 use Rattle.loops.specs.Figures.{nought}
 use Rattle.loops.specs.Loops.{tab, first}
-use Rattle.loops.proofs.Bools.{both}
+use Rattle.loops.proofs.Bools.{both, unequal}
 use Rattle.loops.proofs.Scan.{all_pass}
 use Rattle.loops.proofs.Tab.{tab_same, get_tab, length_tab, tab_replicate}
 use Rattle.casefile_defs.specs.Bounds.{row_figures}
@@ -92,8 +92,8 @@ alike (x ∷ xs) (y ∷ ys) = eqb x y && alike xs ys
 
 alike_same : (xs ys : List ℕ) → alike xs ys ≡ true → xs ≡ ys
 alike_same [] [] e = refl
-alike_same [] (y ∷ ys) e = absurd (let v : ◌≡◌ {A = ℕ} 0 1 = cc in omega arith)
-alike_same (x ∷ xs) [] e = absurd (let v : ◌≡◌ {A = ℕ} 0 1 = cc in omega arith)
+alike_same [] (y ∷ ys) e = absurd (unequal cc)
+alike_same (x ∷ xs) [] e = absurd (unequal cc)
 alike_same (x ∷ xs) (y ∷ ys) e =
     let t = both _ _ e in
     ap (λ (n : ℕ). n ∷ xs) (eqb-true x y t.0) ∙ ap (λ (l : List ℕ). y ∷ l) (alike_same xs ys t.1)

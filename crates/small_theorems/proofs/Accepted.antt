@@ -9,7 +9,7 @@ use borrow.Author.Tests.{eqb-true}
 use lib.Dec.{eqb, leb}
 use lib.Ieee.{of_bits, add, mul, lt, le, eq, neg, round}
 use Rattle.loops.specs.Loops.{first, tab}
-use Rattle.loops.proofs.Bools.{both}
+use Rattle.loops.proofs.Bools.{both, unequal}
 use Rattle.loops.proofs.Scan.{all_pass}
 use Rattle.refusal.specs.declared.Refusal.{Refusal}
 use Rattle.casefile_defs.specs.Reading.{counts_ok}
@@ -27,7 +27,7 @@ passed (some f) = false
 
 passed_none : (o : Option Refusal) → passed o ≡ true → o ≡ none
 passed_none none e = refl
-passed_none (some f) e = absurd (let v : ◌≡◌ {A = ℕ} 0 1 = cc in omega arith)
+passed_none (some f) e = absurd (unequal cc)
 
 -- every number of a column is at most 2
 abbrev pub low : List ℕ → Bool

@@ -5,6 +5,7 @@ use crate::operation::{Calls, Operation, Past};
 use crate::report::Outcome;
 use crate::tables::Tables;
 use casefile_defs::Header;
+use loops::MOST_TARGET;
 use mode::PlanMode;
 
 const L: Header = Header {
@@ -21,7 +22,7 @@ const MANY: Header = Header { buses: 257, ..L };
 
 const PAST_TARGET: Header = Header { target: 65537, ..L };
 
-const FULL_TARGET: Header = Header { target: 65536, ..L };
+const FULL_TARGET: Header = Header { target: MOST_TARGET, ..L };
 
 const ONE: Header = Header { target: 1, ..L };
 

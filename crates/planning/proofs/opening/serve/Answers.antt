@@ -1,5 +1,6 @@
 use Rattle.std.proofs.Common.{◌≡◌, ◌<◌, ◌^◌, Err, get_or, rules, length, ap, ◌∙◌, arith}
 use lib.ListN.{length-replicate}
+use Rattle.loops.specs.Bounds.{most_generators}
 use Rattle.loops.specs.Figures.{nought}
 use Rattle.loops.proofs.Fronts.{front_replicate}
 use Rattle.refusal.specs.declared.Refusal.TheVariants.{Cost}
@@ -29,7 +30,7 @@ give-requires c =
     asked s.mode s.leader.now (supply_in s.supply.now) s.root S c.requires.0 _ k _ _ _ _
     (c.deref.ensures.0 ∙ c.figures_of-least.ensures) (c.deref-2.ensures.0 ∙ c.figures_of-most.ensures) (c.deref-3.ensures.0 ∙ c.figures_of-linear.ensures) (c.deref-4.ensures.0 ∙ c.figures_of-quadratic.ensures)
     _ c.demand_of-demand.ensures _
-    (ap length (front_replicate 128 _ nought (room s.mode s.leader.now (supply_in s.supply.now) s.root S c.requires.0 _ k)) ∙ length-replicate _ nought)
+    (ap length (front_replicate most_generators _ nought (room s.mode s.leader.now (supply_in s.supply.now) s.root S c.requires.0 _ k)) ∙ length-replicate _ nought)
 
 pub map_err-requires : goal.map_err-requires
 map_err-requires c =
@@ -41,7 +42,7 @@ map_err-requires c =
     let h : index_of e < length c.as_slice-units.result.now = refused_index s.mode s.leader.now (supply_in s.supply.now) s.root S c.requires.0 _ k _ _ _ _
     (c.deref.ensures.0 ∙ c.figures_of-least.ensures) (c.deref-2.ensures.0 ∙ c.figures_of-most.ensures) (c.deref-3.ensures.0 ∙ c.figures_of-linear.ensures) (c.deref-4.ensures.0 ∙ c.figures_of-quadratic.ensures)
     _ c.demand_of-demand.ensures c.give.result _ c.give.ensures e q in
-    let few : index_of e < 128 = omega (arith, h, p.few) in
+    let few : index_of e < most_generators = omega (arith, h, p.few) in
     let b : get_or c.as_slice-units.result.now (index_of e) 0 < 2 ^ 64 = omega (arith, S.few_units, S.pmin_size, p.below (index_of e) h) in
     search rules
 
@@ -62,7 +63,7 @@ hand_out-requires c =
     let S = s.supply.now.supplied in
     let k = c.as_slice-units.ensures.value ∙ c.units_in-picked.ensures in (
       picked s.leader.now s.supply.now.bus.now s.root _ _ k S.few_units c.requires.1,
-      c.give.auto.mw ∙ ap length (front_replicate 128 _ nought (room s.mode s.leader.now (supply_in s.supply.now) s.root S c.requires.0 _ k)) ∙ length-replicate _ nought,
+      c.give.auto.mw ∙ ap length (front_replicate most_generators _ nought (room s.mode s.leader.now (supply_in s.supply.now) s.root S c.requires.0 _ k)) ∙ length-replicate _ nought,
     )
 
 pub returns : goal.returns

@@ -1,3 +1,4 @@
+use Rattle.loops.specs.Bounds.{most_buses}
 use Rattle.std.proofs.Common.{rules, ◌≡◌, Err}
 use Rattle.planning.proofs.Marks.{moved_within}
 use Rattle.planning.proofs.Heavies.{lines_again, pass_refused, pass_going}
@@ -32,5 +33,5 @@ returns c =
           c.in_ok-planning_state.was z.floors.now s.requires.unset _ _ c.raise_heavy-moved.result _ r;
       lines = lines_again (grid_in z.grid.now) z.level.now _ _ r.levels s.requires.drawing.lines;
       banked = r.banked;
-      bound = moved_within z.level.now _ _ 256 r.count s.requires.drawing.few_buses;
+      bound = moved_within z.level.now _ _ most_buses r.count s.requires.drawing.few_buses;
     }

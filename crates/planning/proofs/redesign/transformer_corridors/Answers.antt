@@ -1,3 +1,4 @@
+use Rattle.loops.specs.Bounds.{most_buses}
 use Rattle.std.proofs.Common.{◌<◌, le_antisymm, arith, rules}
 use Rattle.planning.proofs.Draws.{end_below}
 use Rattle.planning.proofs.Served.{byte_is, shared_start, shared_turn, shared_few, shared_end, one_most}
@@ -18,7 +19,7 @@ overflow_add-shared c =
     let s = c in
     let z = s.args in
     let l = c.loop-k in
-    let h : c.ends_of-e.result.to < 256 = omega (arith, end_below (grid_in z.grid.now) z.level.now c.loop-k.k (s.requires.corridors.ends c.loop-k.k c.loop-k-test.true) _ c.ends_of-e.ensures, s.requires.corridors.few_buses) in
+    let h : c.ends_of-e.result.to < most_buses = omega (arith, end_below (grid_in z.grid.now) z.level.now c.loop-k.k (s.requires.corridors.ends c.loop-k.k c.loop-k-test.true) _ c.ends_of-e.ensures, s.requires.corridors.few_buses) in
     omega (arith, shared_few (grid_in z.grid.now) z.level.now l.shared l.k _ l.invariant.1 h, one_most c.ends_of-e.result.steps_down _ (byte_is _ _ c.from.ensures), c.loop-k-test.true, s.requires.corridors.few)
 
 pub offset_bounds-shared-lo-in-loop-k : goal.offset_bounds-shared-lo-in-loop-k
@@ -32,7 +33,7 @@ loop-k-preserved c =
     let s = c in
     let z = s.args in
     let l = c.loop-k in
-    let h : c.ends_of-e.result.to < 256 = omega (arith, end_below (grid_in z.grid.now) z.level.now c.loop-k.k (s.requires.corridors.ends c.loop-k.k c.loop-k-test.true) _ c.ends_of-e.ensures, s.requires.corridors.few_buses) in
+    let h : c.ends_of-e.result.to < most_buses = omega (arith, end_below (grid_in z.grid.now) z.level.now c.loop-k.k (s.requires.corridors.ends c.loop-k.k c.loop-k-test.true) _ c.ends_of-e.ensures, s.requires.corridors.few_buses) in
     (omega arith, shared_turn (grid_in z.grid.now) z.level.now l.shared l.k _ _ c.ends_of-e.ensures (byte_is _ _ c.from.ensures) h l.invariant.1)
 
 pub returns : goal.returns

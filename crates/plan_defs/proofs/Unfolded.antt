@@ -35,125 +35,125 @@ use Rattle.plan_defs.specs.Outcome as outcome
 use Rattle.plan_defs.specs.Demand as demand
 
 -- ---- the kit's figures, and the crates below
-unfoldable pub figures : Unit {0}
+figures : Unit {0}
 unfolding ieee.add ieee.sub ieee.mul ieee.div ieee.lt ieee.le ieee.eq ieee.ne ieee.neg ieee.of_bits ieee.to_bits ieee.of_int ieee.to_unsigned ieee.round
 figures = tt
 
-unfoldable pub roots : Unit {0}
+roots : Unit {0}
 unfolding root.isqrt root.closest_root root.round_root root.root root.root_bits ceiling.ceil
 roots = tt
 
-unfoldable pub passes : Unit {0}
+passes : Unit {0}
 unfolding loops.iter loops.first loops.tab loops.sum_to loops.least_to loops.greatest_to sorting.insert_by
 passes = tt
 
-unfoldable pub words : Unit {0}
+words : Unit {0}
 unfolding refusal.number_of refusal.index_of mode.mode_number
 words = tt
 
-unfoldable pub graph : Unit {0}
+graph : Unit {0}
 unfolding leaders.rename leaders.join leaders.join_all leaders.themselves leaders.leaders_of
 graph = tt
 
-unfoldable pub banks : Unit {0}
+banks : Unit {0}
 unfolding impedance.by_class impedance.reactance impedance.impedance_of impedance.defined
 banks = tt
 
-unfoldable pub shares : Unit {0}
+shares : Unit {0}
 unfolding units.output_at share.opening share.total_at share.halved share.bisected share.price_of share.outputs share.first_free share.closed share.shared
 shares = tt
 
-unfoldable pub dispatches : Unit {0}
+dispatches : Unit {0}
 unfolding dispatch_defs.standing dispatch_defs.dispatch_at dispatch_defs.economic_dispatch dispatch_defs.infinite_cost dispatch_defs.faulty_cost_at dispatch_defs.faulty_cost
 dispatches = tt
 
-unfoldable pub networks : Unit {0}
+networks : Unit {0}
 unfolding network.grounded_of network.diag_of network.scatter network.kept network.shares network.along network.back network.less
 networks = tt
 
-unfoldable pub solves : Unit {0}
+solves : Unit {0}
 unfolding angles.step angles.run angles.begin angles.solve_from angles.solve
 solves = tt
 
-unfoldable pub crates_below : Unit {0}
+crates_below : Unit {0}
 unfolding figures roots passes words graph banks shares dispatches networks solves
 crates_below = tt
 
 -- ---- the plan: the case, acceptance and opening
-unfoldable pub lists_and_stages : Unit {0}
+lists_and_stages : Unit {0}
 unfolding lists.pass_from lists.count_from lists.each lists.sum stage.each_stage
 lists_and_stages = tt
 
-unfoldable pub levels_and_caps : Unit {0}
+levels_and_caps : Unit {0}
 unfolding cases.first_levels cases.lower_bound cases.lower_bounds cases.circuit_cap cases.cap_at cases.full_at
 levels_and_caps = tt
 
-unfoldable pub ends_and_rows : Unit {0}
+ends_and_rows : Unit {0}
 unfolding cases.from_of cases.to_of cases.kv_high cases.rows_of cases.row_at
 ends_and_rows = tt
 
-unfoldable pub acceptance : Unit {0}
+acceptance : Unit {0}
 unfolding accept.lengths_ok accept.counts_ok accept.level_ok accept.bus_ok accept.generator_ok accept.corridor_sound accept.row_ok accept.tables_fault accept.case_fault
 acceptance = tt
 
-unfoldable pub component_dispatch : Unit {0}
+component_dispatch : Unit {0}
 unfolding components.grounds_of top_up.by_cost top_up.top_up dispatch.scatter dispatch.served_if dispatch.serve dispatch.dispatch_of dispatch.injection_mw dispatch.injections
 component_dispatch = tt
 
-unfoldable pub line_design : Unit {0}
+line_design : Unit {0}
 unfolding design.line_of design.with_bank design.set_transformer_mva design.line_at design.no_design
 line_design = tt
 
-unfoldable pub bank_design : Unit {0}
+bank_design : Unit {0}
 unfolding design.gen_at_bus design.transformer_corridors design.bank_for design.drawn design.design_at design.design_circuits design.redesign
 bank_design = tt
 
-unfoldable pub flows : Unit {0}
+flows : Unit {0}
 unfolding solve.edges_for solve.flows_of solve.all_finite solve.planning_state
 flows = tt
 
-unfoldable pub raising : Unit {0}
+raising : Unit {0}
 unfolding raise.mark_both raise.raised_levels raise.moved_buses raise.heavy_marks raise.passes raise.raises
 raising = tt
 
-unfoldable pub opened_case : Unit {0}
+opened_case : Unit {0}
 unfolding lists_and_stages levels_and_caps ends_and_rows acceptance component_dispatch line_design bank_design flows raising
 opened_case = tt
 
 -- ---- the rounds, filling and closing, and the outcome
-unfoldable pub building : Unit {0}
+building : Unit {0}
 unfolding build.set_bank build.set_count build.rebuilt build.drawn_all
 building = tt
 
-unfoldable pub sizing : Unit {0}
+sizing : Unit {0}
 unfolding size.enlarge size.grow size.size_one size.size_all
 sizing = tt
 
-unfoldable pub stiffening : Unit {0}
+stiffening : Unit {0}
 unfolding stiffen.budget_of stiffen.stiffen_from stiffen.stiffen_one stiffen.gains stiffen.batch stiffen.chosen stiffen.stiffen_component stiffen.stiffen_all
 stiffening = tt
 
-unfoldable pub all_rounds : Unit {0}
+all_rounds : Unit {0}
 unfolding rounds.one_round rounds.rounds rounds.all_rounds
 all_rounds = tt
 
-unfoldable pub filling : Unit {0}
+filling : Unit {0}
 unfolding fill.corridors_in fill.order_of fill.fill_once fill.fill_rounds fill.fill
 filling = tt
 
-unfoldable pub closing_figures : Unit {0}
+closing_figures : Unit {0}
 unfolding closing.spread_of closing.loadings closing.max_loading closing.overloaded_of closing.capped_of closing.upsized_of closing.least_of closing.tiers_of closing.added_of
 closing_figures = tt
 
-unfoldable pub stages : Unit {0}
+stages : Unit {0}
 unfolding plan.opening plan.settled plan.ready_of plan.closing plan.plan_for plan.ending_of
 stages = tt
 
-unfoldable pub outcomes : Unit {0}
+outcomes : Unit {0}
 unfolding outcome.slices_ok outcome.held outcome.summary outcome.outcome_by outcome.plan_corridors demand.cap_of
 outcomes = tt
 
-unfoldable pub rounds_to_outcome : Unit {0}
+rounds_to_outcome : Unit {0}
 unfolding building sizing stiffening all_rounds filling closing_figures stages outcomes
 rounds_to_outcome = tt
 

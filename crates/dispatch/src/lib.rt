@@ -3,7 +3,7 @@
 
 ghost use Rattle.std.specs.Prelude.{◌≡◌, length};
 ghost use Rattle.dispatch_defs.specs.Units.{units_of, count};
-ghost use Rattle.dispatch_defs.specs.Operation.{outcome, settled, dispatched};
+ghost use Rattle.dispatch_defs.specs.Operation.{outcome, shared_out, dispatched};
 
 use check::{check, lengths_ok};
 use loops::sum;
@@ -18,10 +18,10 @@ mod table;
 mod unit;
 
 // The dispatch of sound units, or refusal 8.
-#[tactic(auto, using(loops::proofs::Scan::fault_some, loops::proofs::Scan::fault_passed, dispatch_defs::proofs::Settling::settle_answered, dispatch_defs::proofs::Settling::settle_refused, dispatch_defs::proofs::Settling::stands_most, dispatch_defs::proofs::Settling::stands_least, dispatch_defs::proofs::Settling::stands_between), unfolding(dispatch_defs::specs::Dispatch::infinite_cost, dispatch_defs::specs::Dispatch::faulty_cost_at, dispatch_defs::specs::Dispatch::dispatch_at))]
-fn settle(units: &UnitTable, demand: f64, mw: &mut [f64]) -> Result<(), Refusal>
+#[tactic(auto, using(loops::proofs::Scan::fault_some, loops::proofs::Scan::fault_passed, dispatch_defs::proofs::SharingOut::share_out_answered, dispatch_defs::proofs::SharingOut::share_out_refused, dispatch_defs::proofs::SharingOut::stands_most, dispatch_defs::proofs::SharingOut::stands_least, dispatch_defs::proofs::SharingOut::stands_between), unfolding(dispatch_defs::specs::Dispatch::infinite_cost, dispatch_defs::specs::Dispatch::faulty_cost_at, dispatch_defs::specs::Dispatch::dispatch_at))]
+fn share_out(units: &UnitTable, demand: f64, mw: &mut [f64]) -> Result<(), Refusal>
     requires { length mw.old ≡ count units.now }
-    ensures { outcome result mw.new ≡ settled units.now demand mw.old }
+    ensures { outcome result mw.new ≡ shared_out units.now demand mw.old }
 {
     if demand >= sum(units.pmax) {
         mw.copy_from_slice(units.pmax);
@@ -39,7 +39,7 @@ fn settle(units: &UnitTable, demand: f64, mw: &mut [f64]) -> Result<(), Refusal>
 }
 
 // Leaves in `mw` what each unit gives of the demand; where the request is refused, `mw` keeps its contents.
-#[tactic(auto, using(dispatch_defs::proofs::Checks::passes, dispatch_defs::proofs::Checks::even, dispatch_defs::proofs::Checks::check_length, dispatch_defs::proofs::Settling::dispatch_refused, dispatch_defs::proofs::Settling::dispatch_settled))]
+#[tactic(auto, using(dispatch_defs::proofs::Checks::passes, dispatch_defs::proofs::Checks::even, dispatch_defs::proofs::Checks::check_length, dispatch_defs::proofs::SharingOut::dispatch_refused, dispatch_defs::proofs::SharingOut::dispatch_shared_out))]
 pub fn economic_dispatch(
     units: usize,
     pmin: &[f64],
@@ -57,5 +57,5 @@ pub fn economic_dispatch(
     }
     let table = UnitTable { pmin, pmax, c1, c2 };
     check(units, &table, demand)?;
-    settle(&table, demand, mw)
+    share_out(&table, demand, mw)
 }

@@ -6,7 +6,7 @@ ghost use Rattle.dispatch_defs.specs.Units.{unit_ok, cost_of, output_of};
 use dispatch_defs::unit_ok;
 use loops::{clamp, greater};
 
-// What c2 is raised to: without a quadratic cost a price would settle no output.
+// What c2 is raised to: without a quadratic cost a price would fix no output.
 const LEAST_C2: f64 = 1e-12;
 
 #[derive(Clone, Copy)]

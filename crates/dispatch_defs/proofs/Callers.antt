@@ -15,10 +15,10 @@ use Rattle.refusal.specs.declared.Refusal.{Refusal}
 use Rattle.refusal.specs.declared.Refusal.TheVariants.{Cost}
 use Rattle.dispatch_defs.specs.Units.{Units, count}
 use Rattle.dispatch_defs.specs.Dispatch.{economic_dispatch, faulty_cost}
-use Rattle.dispatch_defs.specs.Operation.{check_of, Outcome, outcome, settled_if, settled, dispatched_by, dispatched}
+use Rattle.dispatch_defs.specs.Operation.{check_of, Outcome, outcome, shared_out_if, shared_out, dispatched_by, dispatched}
 use Rattle.dispatch_defs.specs.Limits.{Accepted}
 use Rattle.dispatch_defs.proofs.Checks.{accepts}
-use Rattle.dispatch_defs.proofs.Settling.{settled_refused, settled_answered}
+use Rattle.dispatch_defs.proofs.SharingOut.{shared_out_refused, shared_out_answered}
 use Rattle.std.specs.Prelude.{Err, Ok, Result}
 
 pub never : {A : Type 0} (x : A) (k i : ℕ) → answered x ≡ refused k i → ⊥
@@ -27,11 +27,11 @@ never x k i e = unequal cc
 module _ (n : ℕ) (u : Units) (d : Float) (mw : List Float) where
   -- ---- an answer is the economic dispatch of the units, whatever the result held
   answer_any : (old : List Float) (k : Result (Unit {0}) Refusal) → (dispatched_by k u d mw).reply ≡ answered tt → dispatched_by k u d old ≡ outcome no_refusal (economic_dispatch u d)
-  unfolding dispatched_by settled settled_if
+  unfolding dispatched_by shared_out shared_out_if
   answer_any old (Err f) h = absurd (never tt (number_of f) (index_of f) (sym h))
   answer_any old (Ok tt) h = go (ltb (faulty_cost u d) (count u)) h
     where
-      go : (b : Bool) → (settled_if b u d mw).reply ≡ answered tt → settled_if b u d old ≡ outcome no_refusal (economic_dispatch u d)
+      go : (b : Bool) → (shared_out_if b u d mw).reply ≡ answered tt → shared_out_if b u d old ≡ outcome no_refusal (economic_dispatch u d)
       go true a = absurd (never tt (number_of (Cost (faulty_cost u d))) (index_of (Cost (faulty_cost u d))) (sym a))
       go false a = refl
 
@@ -48,15 +48,15 @@ module _ (n : ℕ) (u : Units) (d : Float) (mw : List Float) where
 
   -- ---- a request that keeps the rules is answered, or refused by 8
   module _ (p : Accepted n u d (length mw)) where
-    pub accepted : dispatched n u d mw ≡ settled u d mw
+    pub accepted : dispatched n u d mw ≡ shared_out u d mw
     unfolding dispatched dispatched_by
     accepted = rw (accepts n u d (length mw) p)
 
     pub answers : count u ≤ faulty_cost u d → dispatched n u d mw ≡ outcome no_refusal (economic_dispatch u d)
-    answers h = accepted ∙ settled_answered u d mw h
+    answers h = accepted ∙ shared_out_answered u d mw h
 
     pub refuses : faulty_cost u d < count u → dispatched n u d mw ≡ outcome (Err (Cost (faulty_cost u d))) mw
-    refuses h = accepted ∙ settled_refused u d mw h
+    refuses h = accepted ∙ shared_out_refused u d mw h
 
     -- what the two answers of a call say, as the promise of `economic_dispatch` has it
     module _ (a : Result (Unit {0}) Refusal) (out : List Float) (e : outcome a out ≡ dispatched n u d mw) where

@@ -1,6 +1,6 @@
 -- `Limits` and `Callers` are for callers; the others serve them and the proofs of dispatch's functions.
 pub mod Checks
-pub mod Settling
+pub mod SharingOut
 pub mod Prices
 pub mod Limits
 pub mod Callers

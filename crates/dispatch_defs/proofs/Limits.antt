@@ -24,7 +24,7 @@ use Rattle.refusal.specs.Reply.{answered}
 use Rattle.dispatch_defs.specs.Units.{Units, count, total, unit_ok_at, cost_ok_at, output_at}
 use Rattle.dispatch_defs.specs.Share.{price_of, outputs, first_free, gap_of, closed_at, closed, shared}
 use Rattle.dispatch_defs.specs.Dispatch.{Standing, most, least, between, standing, dispatch_at, economic_dispatch, infinite_cost, faulty_cost_at, faulty_cost}
-use Rattle.dispatch_defs.specs.Operation.{most_demand, check_of, settled_if, settled, dispatched_by, dispatched}
+use Rattle.dispatch_defs.specs.Operation.{most_demand, check_of, shared_out_if, shared_out, dispatched_by, dispatched}
 use Rattle.dispatch_defs.specs.Limits.{Within, SoundUnits, Accepted}
 use Rattle.dispatch_defs.proofs.Checks.{passes}
 use Rattle.dispatch_defs.proofs.Prices.{Fit, fit_at, price_real, output_at_inside}
@@ -99,10 +99,10 @@ unfolding shared
 shared_length u d = closed_length u.pmin u.pmax d (outputs u (price_of u d)) ∙ outputs_length u (price_of u d)
 
 -- ---- a demand strictly between the sums
--- neither test settled it
-unsettled : (u : Units) (d : Float) → standing u d ≡ between → (le (total u.pmax) d ≡ false) × (le d (total u.pmin) ≡ false)
+-- neither test decided it
+undecided : (u : Units) (d : Float) → standing u d ≡ between → (le (total u.pmax) d ≡ false) × (le d (total u.pmin) ≡ false)
 unfolding standing
-unsettled u d e = go (le (total u.pmax) d) (le d (total u.pmin)) e
+undecided u d e = go (le (total u.pmax) d) (le d (total u.pmin)) e
   where
     go : (a b : Bool) → cond a most (cond b least between) ≡ between → (a ≡ false) × (b ≡ false)
     go true b h = absurd (unequal cc)
@@ -127,12 +127,12 @@ module _ (u : Units) (d : Float) (s : SoundUnits u) (r : T (real d)) where
   -- the tests say what document 01 does
   pub strictly_between : standing u d ≡ between → (lt (total u.pmin) d ≡ true) × (lt d (total u.pmax) ≡ true)
   strictly_between e =
-      let h = unsettled u d e in
+      let h = undecided u d e in
       (lt_of_not_le d (total u.pmin) r low_real h.1, lt_of_not_le (total u.pmax) d high_real r h.0)
 
   demand_bounded : standing u d ≡ between → T (bounded d)
   demand_bounded e =
-      let h = unsettled u d e in
+      let h = undecided u d e in
       between_bounded (total u.pmin) (total u.pmax) d low_real high_real r h.0 h.1
 
   shared_inside : standing u d ≡ between → count u ≤ infinite_cost u → Inside u (shared u d)
@@ -174,14 +174,14 @@ module _ (u : Units) (d : Float) (s : SoundUnits u) (r : T (real d)) where
 
 -- ---- the same of a request: where it is answered, and of what a call leaves, as the promise of `economic_dispatch` has it
 pub within : (n : ℕ) (u : Units) (d : Float) (mw : List Float) → (dispatched n u d mw).reply ≡ answered tt → Within u (dispatched n u d mw).mw
-unfolding dispatched dispatched_by settled settled_if
+unfolding dispatched dispatched_by shared_out shared_out_if
 within n u d mw h = go (check_of n u d (length mw)) refl h
   where
-    settles : Accepted n u d (length mw) → (b : Bool) → ltb (faulty_cost u d) (count u) ≡ b → (settled_if b u d mw).reply ≡ answered tt → Within u (settled_if b u d mw).mw
-    settles p true e a = absurd (unequal cc)
-    settles p false e a =
+    shares_out : Accepted n u d (length mw) → (b : Bool) → ltb (faulty_cost u d) (count u) ≡ b → (shared_out_if b u d mw).reply ≡ answered tt → Within u (shared_out_if b u d mw).mw
+    shares_out p true e a = absurd (unequal cc)
+    shares_out p false e a =
         dispatch_within u d p.units (right_real nought d (both (le nought d) (le d most_demand) p.demand).0) (ltb-false (faulty_cost u d) (count u) e)
 
     go : (k : Result (Unit {0}) Refusal) → check_of n u d (length mw) ≡ k → (dispatched_by k u d mw).reply ≡ answered tt → Within u (dispatched_by k u d mw).mw
     go (Err f) e a = absurd (unequal cc)
-    go (Ok tt) e a = settles (passes n u d (length mw) e) (ltb (faulty_cost u d) (count u)) refl a
+    go (Ok tt) e a = shares_out (passes n u d (length mw) e) (ltb (faulty_cost u d) (count u)) refl a

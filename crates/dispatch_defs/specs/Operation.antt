@@ -42,16 +42,16 @@ abbrev pub outcome : Result (Unit {0}) Refusal → List Float → Outcome
 outcome r mw = record { reply = reply_of r; mw = mw }
 
 -- of a request that 1, 2 and 5 let pass
-unfoldable pub settled_if : Bool → Units → Float → List Float → Outcome
-settled_if true u demand mw = outcome (Err (Cost (faulty_cost u demand))) mw
-settled_if false u demand mw = outcome no_refusal (economic_dispatch u demand)
+unfoldable pub shared_out_if : Bool → Units → Float → List Float → Outcome
+shared_out_if true u demand mw = outcome (Err (Cost (faulty_cost u demand))) mw
+shared_out_if false u demand mw = outcome no_refusal (economic_dispatch u demand)
 
-unfoldable pub settled : Units → Float → List Float → Outcome
-settled u demand mw = settled_if (ltb (faulty_cost u demand) (count u)) u demand mw
+unfoldable pub shared_out : Units → Float → List Float → Outcome
+shared_out u demand mw = shared_out_if (ltb (faulty_cost u demand) (count u)) u demand mw
 
 unfoldable pub dispatched_by : Result (Unit {0}) Refusal → Units → Float → List Float → Outcome
 dispatched_by (Err f) u demand mw = outcome (Err f) mw
-dispatched_by (Ok tt) u demand mw = settled u demand mw
+dispatched_by (Ok tt) u demand mw = shared_out u demand mw
 
 unfoldable pub dispatched : ℕ → Units → Float → List Float → Outcome
 dispatched units u demand mw = dispatched_by (check_of units u demand (length mw)) u demand mw

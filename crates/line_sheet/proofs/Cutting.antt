@@ -158,9 +158,9 @@ more_in_units r f h =
     let d : f / 0x4_0000_0000 * 0x4_0000_0000 * 2 ^ 94 ≤ f * 2 ^ 94 = mul-le-mul_right (2 ^ 94) (div-mul-le_self f 0x4_0000_0000) in
     le_trans (le_of_eq (sym (mul_assoc (f / 0x4_0000_0000) 0x4_0000_0000 (2 ^ 94)))) (le_trans d (le_trans (le_of_eq (sym (mul_assoc f (2 ^ 72) 0x40_0000))) b))
 
-pub settles : (a r p c q f g : ℕ) → a < 2 ^ 57 → r < 0x3_0000_0000 → p ≡ a * 0x80 * (a * 0x80) / W → c ≡ p * (a * 0x80) / W → q ≡ r * K * (r * K) / W → f ≡ q * q / W → g ≡ f * (r * K) / W
+pub root_surely : (a r p c q f g : ℕ) → a < 2 ^ 57 → r < 0x3_0000_0000 → p ≡ a * 0x80 * (a * 0x80) / W → c ≡ p * (a * 0x80) / W → q ≡ r * K * (r * K) / W → f ≡ q * q / W → g ≡ f * (r * K) / W
     → g + 4 ≤ c / 2 → c / 2 + 2 ≤ g + 5 * (f / 0x4_0000_0000) → (4 * r ^ 5 ≤ a ^ 3) × (a ^ 3 < 4 * (r + 1) ^ 5)
-settles a r p c q f g ha hr ep ec eq ef eg low high =
+root_surely a r p c q f g ha hr ep ec eq ef eg low high =
     let F = fourth_cut W (lit< tt) (r * K) q f (omega arith) eq ef in
     let C : (c * D ≤ a * 0x80 * (a * 0x80) * (a * 0x80)) × (a * 0x80 * (a * 0x80) * (a * 0x80) < (c + 2) * D) = cube_cut W (lit< tt) (a * 0x80) p c (omega arith) ep ec in
     let s : a * 0x80 * (a * 0x80) * (a * 0x80) ≡ a * a * a * 0x20_0000 = scaled_cube a 0x80 in

@@ -72,7 +72,7 @@ fn next(lo: u64, hi: u64, guess: u64) -> u64
 
 // Whether r is surely the root: by the upper halves of products, each of which loses less than 1. It says no where the fifth power of r or
 // of the next place is so near to the cube that this counts. The bound on a is asked here and of the two below: a number of one call, made in `kept_spread`.
-fn settled(a: u64, r: u64) -> bool
+fn surely_root(a: u64, r: u64) -> bool
     requires { a < 2 ^ 57 }
     ensures { result ≡ true → (r < 2 ^ 34) × (4 * r ^ 5 ≤ a ^ 3) × (a ^ 3 < 4 * (r + 1) ^ 5) }
 {
@@ -116,7 +116,7 @@ fn fifth_root(a: u64, guess: u64) -> u64
     if a == ONE_SPREAD {
         return ONE_ROOT;
     }
-    if settled(a, guess) {
+    if surely_root(a, guess) {
         return guess;
     }
     searched(a, guess)

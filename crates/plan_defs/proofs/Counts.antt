@@ -28,7 +28,7 @@ use Rattle.plan_defs.specs.Solve.{Peak, PlanningCase, all_finite}
 use Rattle.plan_defs.specs.Raise.{no_marks, top_of, can_raise}
 use Rattle.plan_defs.specs.Build.{Build, count_at, circuit_at, set_bank, set_count, rebuilt, bank_below}
 use Rattle.plan_defs.specs.Size.{Sizing, sizing, required_for, enough, next_bank, enlarges, enlarge_if, enlarge, add_if, raises_for, raise_or_add, grow_to, grow_if, needed_circuits, grow, size_one, size_all}
-use Rattle.plan_defs.specs.Stiffen.{Budget, Stiffening, stiffen_from, stiffen_by, has_room, stiffen_one, chosen, leader, laggard, best_of, unit_at, widened, narrow_if, unless_late, unless_narrow, stiffen_component, stiffen_all}
+use Rattle.plan_defs.specs.Stiffen.{Budget, Stiffening, stiffen_from, stiffen_by, has_room, stiffen_one, chosen, ahead, laggard, best_of, unit_at, widened, narrow_if, unless_late, unless_narrow, stiffen_component, stiffen_all}
 use Rattle.plan_defs.specs.declared.CircuitDesign.{CircuitDesign}
 use Rattle.plan_defs.proofs.Lists.{iter_to, each_keeps, sum_set}
 use Rattle.plan_defs.proofs.Stages.{On, stages_keep}
@@ -282,7 +282,7 @@ module _ (c : Case) where
       pub component_stiff : (root : ℕ) (s : Stiffening) → Stiff level cp s → On (Stiff level cp) (stiffen_component c P led level round G v root s)
       unfolding stiffen_component
       component_stiff root s h =
-          let lead = best_of (leader v.theta) (members led root) in
+          let lead = best_of (ahead v.theta) (members led root) in
           let lag = best_of (laggard v.theta) (members led root) in
           let excess = minus (minus (at v.theta lead) (at v.theta lag)) max_angle_spread_rad in
           unless_stiff (le excess nought) root lead lag excess s h

@@ -17,7 +17,7 @@ use Rattle.plan_defs.specs.Solve.{Peak, planning_state}
 use Rattle.plan_defs.specs.Raise.{Raised, raises}
 use Rattle.plan_defs.specs.Rounds.{Draft, rounds, round_budget, all_rounds}
 use Rattle.plan_defs.specs.Fill.{order_of}
-use Rattle.plan_defs.specs.Plan.{peak_of, first_raised, first_draft, Opened, opened_with, opening, Ready, settled_to, settled, ready_of}
+use Rattle.plan_defs.specs.Plan.{peak_of, first_raised, first_draft, Opened, opened_with, opening, Ready, finished_to, finished, ready_of}
 use Rattle.plan_defs.proofs.Stages.{On, on_all, on_both, on_onward}
 use Rattle.plan_defs.proofs.Solved.{Solved, solved as state-solved}
 use Rattle.plan_defs.proofs.Rising.{Lifted, raises_lifted}
@@ -80,11 +80,11 @@ module _ (c : Case) where
     pub finite_flows : (k : ℕ) → k < length flows → finite (at flows k) ≡ true
     pub order : r.order ≡ order_of c.corridors r.draft.build.designs r.draft.build.circuits flows
 
-  settled_done : (o : Opened) → Begun o → On Done (settled c o)
-  unfolding settled
-  settled_done o h =
+  finished_done : (o : Opened) → Begun o → On Done (finished c o)
+  unfolding finished
+  finished_done o h =
       let n : o.peak.n ≡ c.buses = ap (λ (p : Peak). p.n) h.peak in
-      on_onward (λ s. Ran c planning_max_rounds s × Observed s) Done (all_rounds c o.peak o.led o.draft) (settled_to c o)
+      on_onward (λ s. Ran c planning_max_rounds s × Observed s) Done (all_rounds c o.peak o.led o.draft) (finished_to c o)
       (on_both (Ran c planning_max_rounds) Observed (all_rounds c o.peak o.led o.draft)
       (all_ran c o.peak n o.led o.draft h.sound h.no_round) (observed o.peak o.led o.draft h.counts))
       (λ s r.
@@ -94,4 +94,4 @@ module _ (c : Case) where
 
   pub done : On Done (ready_of c)
   unfolding ready_of
-  done = on_onward Begun Done (opening c) (settled c) begun settled_done
+  done = on_onward Begun Done (opening c) (finished c) begun finished_done

@@ -16,7 +16,7 @@ use Rattle.plan_defs.specs.Raise.{raised_levels, moved_buses}
 use Rattle.plan_defs.specs.Build.{Build, rebuilt}
 use Rattle.plan_defs.specs.Size.{Sizing, size_all}
 use Rattle.plan_defs.specs.Stiffen.{Stiffening, budget_of, stiffen_from, stiffen_all}
-use Rattle.plan_defs.specs.Rounds.{Draft, RoundEnd, Again, Settled, Turn, stiffened_by, stiffened_to, stiffen_if, added_if, sized_by, solved_to, one_round, continue, rounds, round_budget, all_rounds}
+use Rattle.plan_defs.specs.Rounds.{Draft, RoundEnd, Again, Done, Turn, stiffened_by, stiffened_to, stiffen_if, added_if, sized_by, solved_to, one_round, continue, rounds, round_budget, all_rounds}
 use Rattle.plan_defs.proofs.Stages.{On, on_onward, on_both}
 use Rattle.plan_defs.proofs.Turns.{Told, round_told}
 use Rattle.plan_defs.proofs.Solved.{Solved, solved as state-solved}
@@ -115,7 +115,7 @@ module _ (c : Case) where
     continue_ran : (d n : ℕ) (e : RoundEnd) (s t : Draft) → s.rounds + suc d ≤ n → Sound t → t.rounds ≡ suc s.rounds
         → ((u : Draft) → Sound u → u.rounds + d ≤ n → On (Ran n) (rounds c P led d u)) → On (Ran n) (continue c P led e t (rounds c P led d))
     continue_ran d n Again s t q h o next = next t h (omega arith)
-    continue_ran d n Settled s t q h o next = record { sound = h; rounds = omega arith }
+    continue_ran d n Done s t q h o next = record { sound = h; rounds = omega arith }
 
     pub rounds_ran : (d n : ℕ) (s : Draft) → Sound s → s.rounds + d ≤ n → On (Ran n) (rounds c P led d s)
     unfolding rounds

@@ -11,12 +11,12 @@ use Rattle.plan_defs.specs.Solve.{Peak, PlanningCase, planning_state}
 use Rattle.plan_defs.specs.Raise.{moved_buses}
 use Rattle.plan_defs.specs.Size.{Sizing, size_all}
 use Rattle.plan_defs.specs.Stiffen.{Stiffening, budget_of, stiffen_from, stiffen_all}
-use Rattle.plan_defs.specs.Rounds.{Draft, RoundEnd, Again, Settled, Turn, settles, stiffened_by, stiffened_to, stiffen_if, added_if, sized_by, solved_to, one_round, continue, rounds}
+use Rattle.plan_defs.specs.Rounds.{Draft, RoundEnd, Again, Done, Turn, rests, stiffened_by, stiffened_to, stiffen_if, added_if, sized_by, solved_to, one_round, continue, rounds}
 use Rattle.plan_defs.proofs.Stages.{On, on_all, on_onward}
 
 pub record Told (s : Draft) (t : Turn) : Type 0 where
   pub one_more_holds : t.draft.rounds ≡ suc s.rounds
-  pub told : t.draft.settled ≡ settles t.end
+  pub told : t.draft.rested ≡ rests t.end
 
 module _ (c : Case) (P : Peak) (led : List ℕ) where
   -- ---- one round
@@ -55,20 +55,20 @@ module _ (c : Case) (P : Peak) (led : List ℕ) where
   resume_if false d s = rounds c P led d s
 
   abbrev pub resumed : ℕ → Draft → Stage Draft
-  resumed d s = resume_if s.settled d s
+  resumed d s = resume_if s.rested d s
 
-  rounds_more : (d e : ℕ) (s : Draft) → s.settled ≡ false → onward (rounds c P led d s) (resumed e) ≡ rounds c P led (d + e) s
+  rounds_more : (d e : ℕ) (s : Draft) → s.rested ≡ false → onward (rounds c P led d s) (resumed e) ≡ rounds c P led (d + e) s
   unfolding rounds
   rounds_more zero e s h = rw zero-add (ap (λ (b : Bool). resume_if b e s) h)
   rounds_more (suc d) e s h = rw suc-add (go (one_round c P led s) (round_told s) (λ u k. rounds_more d e u k))
     where
       Rest : Type 0
-      Rest = (u : Draft) → u.settled ≡ false → onward (rounds c P led d u) (resumed e) ≡ rounds c P led (d + e) u
+      Rest = (u : Draft) → u.rested ≡ false → onward (rounds c P led d u) (resumed e) ≡ rounds c P led (d + e) u
 
-      by : (x : RoundEnd) (u : Draft) → u.settled ≡ settles x → Rest
+      by : (x : RoundEnd) (u : Draft) → u.rested ≡ rests x → Rest
           → onward (continue c P led x u (rounds c P led d)) (resumed e) ≡ continue c P led x u (rounds c P led (d + e))
       by Again u k rest = rest u k
-      by Settled u k rest = ap (λ (b : Bool). resume_if b e u) k
+      by Done u k rest = ap (λ (b : Bool). resume_if b e u) k
 
       go : (S : Stage Turn) → On (Told s) S → Rest
           → onward (onward S (λ t. continue c P led t.end t.draft (rounds c P led d))) (resumed e)
@@ -78,8 +78,8 @@ module _ (c : Case) (P : Peak) (led : List ℕ) where
 
   -- d rounds and then e are d + e
   pub rounds_compose : (d e : ℕ) (s : Draft) → onward (resumed d s) (resumed e) ≡ resumed (d + e) s
-  rounds_compose d e s = go s.settled refl
+  rounds_compose d e s = go s.rested refl
     where
-      go : (b : Bool) → s.settled ≡ b → onward (resume_if b d s) (resumed e) ≡ resume_if b (d + e) s
+      go : (b : Bool) → s.rested ≡ b → onward (resume_if b d s) (resumed e) ≡ resume_if b (d + e) s
       go true h = ap (λ (b : Bool). resume_if b e s) h
       go false h = rounds_more d e s h

@@ -146,7 +146,7 @@ unfolding closing.spread_of closing.loadings closing.max_loading closing.overloa
 closing_figures = tt
 
 stages : Unit {0}
-unfolding plan.opening plan.settled plan.ready_of plan.closing plan.plan_for plan.ending_of
+unfolding plan.opening plan.finished plan.ready_of plan.closing plan.plan_for plan.ending_of
 stages = tt
 
 outcomes : Unit {0}

@@ -97,15 +97,15 @@ ready_with c o s v =
       order = order_of c.corridors s.build.designs s.build.circuits v.flows;
     }
 
-abbrev pub settled_to : Case → Opened → Draft → Stage Ready
-settled_to c o s =
+abbrev pub finished_to : Case → Opened → Draft → Stage Ready
+finished_to c o s =
     onward (planning_state o.peak s.build.designs s.build.circuits (zeros c.buses)) (λ v. going (ready_with c o s v))
 
-unfoldable pub settled : Case → Opened → Stage Ready
-settled c o = onward (all_rounds c o.peak o.led o.draft) (settled_to c o)
+unfoldable pub finished : Case → Opened → Stage Ready
+finished c o = onward (all_rounds c o.peak o.led o.draft) (finished_to c o)
 
 unfoldable pub ready_of : Case → Stage Ready
-ready_of c = onward (opening c) (settled c)
+ready_of c = onward (opening c) (finished c)
 
 -- ---- seam: closing. Filling, the solve after it, and the closing figures
 abbrev pub plan_of : Case → Ready → Filled → PlanningCase → Plan

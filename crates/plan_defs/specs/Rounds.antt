@@ -21,10 +21,10 @@ pub record Draft : Type 0 where
   pub stiffening : ℕ
   pub converged : Bool
   -- whether the last round led to no other, or none was to run
-  pub settled : Bool
+  pub rested : Bool
 
 abbrev pub draft : List ℕ → Build → List Float → ℕ → ℕ → ℕ → ℕ → Bool → Bool → Draft
-draft level build warm rounds promoted capacity stiffening converged settled =
+draft level build warm rounds promoted capacity stiffening converged rested =
     record {
       level = level;
       build = build;
@@ -34,37 +34,37 @@ draft level build warm rounds promoted capacity stiffening converged settled =
       capacity = capacity;
       stiffening = stiffening;
       converged = converged;
-      settled = settled;
+      rested = rested;
     }
 
 -- what a round leads to
 pub data RoundEnd : Type 0 where
   Again : RoundEnd
-  Settled : RoundEnd
+  Done : RoundEnd
 
 -- what a round leaves, and what it leads to
 pub record Turn : Type 0 where
   pub draft : Draft
   pub end : RoundEnd
 
-abbrev pub settles : RoundEnd → Bool
-settles Again = false
-settles Settled = true
+abbrev pub rests : RoundEnd → Bool
+rests Again = false
+rests Done = true
 
 -- the draft keeps what the round leads to
 abbrev pub turn : RoundEnd → (Bool → Draft) → Turn
-turn end s = record { draft = s (settles end); end = end }
+turn end s = record { draft = s (rests end); end = end }
 
 -- after a round that began with s and was solved with v
 abbrev pub after : Draft → PlanningCase → List ℕ → Build → ℕ → ℕ → ℕ → Bool → Bool → Draft
-after s v level b promoted capacity stiffening converged settled =
-    draft level b v.theta (suc s.rounds) promoted capacity stiffening converged settled
+after s v level b promoted capacity stiffening converged rested =
+    draft level b v.theta (suc s.rounds) promoted capacity stiffening converged rested
 
 module _ (c : Case) (P : Peak) (led : List ℕ) where
   -- ---- after the components of a stiffening: a raise, then anything else that was done, leads to another round
   abbrev pub end_of : Bool → RoundEnd
   end_of true = Again
-  end_of false = Settled
+  end_of false = Done
 
   abbrev pub stiffened_by : ℕ → Draft → PlanningCase → Sizing → Stiffening → Turn
   stiffened_by zero s v z t =
@@ -86,7 +86,7 @@ module _ (c : Case) (P : Peak) (led : List ℕ) where
   abbrev pub stiffen_if : Bool → Draft → PlanningCase → Sizing → Stage Turn
   stiffen_if true s v z = stiffen_with s v z (budget_of c s.level)
   stiffen_if false s v z =
-      going (turn Settled (after s v s.level z.build s.promoted z.capacity s.stiffening (not z.capped)))
+      going (turn Done (after s v s.level z.build s.promoted z.capacity s.stiffening (not z.capped)))
 
   -- ---- after the sizing: a raise, then an addition, leads to another round
   abbrev pub added_if : Bool → Draft → PlanningCase → Sizing → Stage Turn
@@ -114,7 +114,7 @@ module _ (c : Case) (P : Peak) (led : List ℕ) where
   -- ---- so many rounds at most
   abbrev pub continue : RoundEnd → Draft → (Draft → Stage Draft) → Stage Draft
   continue Again s next = next s
-  continue Settled s next = going s
+  continue Done s next = going s
 
   unfoldable pub rounds : ℕ → Draft → Stage Draft
   rounds zero s = going s

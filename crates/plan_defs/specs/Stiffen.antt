@@ -148,8 +148,8 @@ chosen c led level G root s theta excess phi =
     (gains s.build.designs theta phi (passing (candidate c led level G root s) c.corridors) [])
 
 -- ---- one component: the bus that leads and the bus that lags, the lowest on a tie
-abbrev pub leader : List Float → ℕ → ℕ → ℕ
-leader theta i best = cond (lt (at theta best) (at theta i)) i best
+abbrev pub ahead : List Float → ℕ → ℕ → ℕ
+ahead theta i best = cond (lt (at theta best) (at theta i)) i best
 
 abbrev pub laggard : List Float → ℕ → ℕ → ℕ
 laggard theta i best = cond (lt (at theta i) (at theta best)) i best
@@ -194,7 +194,7 @@ module _ (c : Case) (P : Peak) (led level : List ℕ) (round : ℕ) (G : Budget)
 
   unfoldable pub stiffen_component : ℕ → Stiffening → Stage Stiffening
   stiffen_component root s =
-      between_buses root (best_of (leader v.theta) (members led root)) (best_of (laggard v.theta) (members led root)) s
+      between_buses root (best_of (ahead v.theta) (members led root)) (best_of (laggard v.theta) (members led root)) s
 
   -- all of them
   unfoldable pub stiffen_all : List ℕ → Stiffening → Stage Stiffening

@@ -18,12 +18,12 @@ use Rattle.plan_defs.specs.Raise.{Raised, no_marks, can_raise, mark_if, too_heav
 use Rattle.plan_defs.specs.declared.CircuitDesign.{CircuitDesign}
 use Rattle.plan_defs.proofs.Drawn.{drawn_at, redesign_is}
 use Rattle.planning.specs.Design.{lines_for, Lines}
-use Rattle.planning.specs.Raise.{pairs_for}
+use Rattle.planning.specs.RaiseMarks.{pairs_for}
 use Rattle.planning.specs.Redesign.{redesign_for}
 use Rattle.planning.specs.Solve.{peak_for, solved_of}
 use Rattle.planning.specs.Sound.{Sound}
 use Rattle.planning.specs.Rounds.{Redrawn}
-use Rattle.planning.specs.Raises.{heavy_for, pass_for, raised_of, passed_as, HeavyRaised}
+use Rattle.planning.specs.RaisePasses.{heavy_for, pass_for, raised_of, passed_as, HeavyRaised}
 use Rattle.planning.proofs.Draws.{Laid, drawn_lifts}
 use Rattle.planning.proofs.Builds.{drawn_all_lifts}
 use Rattle.planning.proofs.Redesigns.{banks_lift}

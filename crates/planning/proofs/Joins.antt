@@ -17,7 +17,7 @@ use Rattle.plan_defs.specs.Components.{component, grounds_of}
 use Rattle.plan_defs.specs.Dispatch.{dispatch_of, injections}
 use Rattle.plan_defs.specs.Solve.{Peak, PlanningCase, planning_state}
 use Rattle.plan_defs.specs.Fill.{fill}
-use Rattle.plan_defs.specs.Plan.{Plan, Opened, Ready, peak_of, opened_with, opening, settled, ready_of, plan_of, closing, plan_for}
+use Rattle.plan_defs.specs.Plan.{Plan, Opened, Ready, peak_of, opened_with, opening, finished, ready_of, plan_of, closing, plan_for}
 use Rattle.plan_defs.specs.Outcome.{Slices, StageLengths, up_to}
 use Rattle.plan_defs.proofs.Stages.{On, on_onward}
 use Rattle.plan_defs.proofs.Accepted.{first_within}
@@ -132,9 +132,9 @@ module _ (c : Case) (target : ℕ) (s : Sound c target) where
         ∙ ap (λ (g : List ℕ). opened_with c leader mw (peak_for c.buses g (injections c mw))) (sym lent)
         ∙ ap (λ (i : List Float). opened_with c leader mw (peak_for c.buses (take (count - 0) ground) i)) (sym h.injected)
 
-    planned_from : plan_for c target ≡ onward (onward (opened_with c leader mw (peak_for c.buses (take (count - 0) ground) injection)) (settled c)) (closing c target)
+    planned_from : plan_for c target ≡ onward (onward (opened_with c leader mw (peak_for c.buses (take (count - 0) ground) injection)) (finished c)) (closing c target)
     unfolding plan_for ready_of
-    planned_from = ap (λ (x : Stage Opened). onward (onward x (settled c)) (closing c target)) opened_from
+    planned_from = ap (λ (x : Stage Opened). onward (onward x (finished c)) (closing c target)) opened_from
 
   -- a plan's dispatch and grounds
   abbrev OpeningOf : List Float → Plan → Type 0
@@ -163,7 +163,7 @@ module _ (c : Case) (target : ℕ) (s : Sound c target) where
 
   unopened : (f : Refusal) → dispatch_of c (component c) ≡ stopped f → plan_for c target ≡ stopped f
   unfolding plan_for ready_of opening
-  unopened f e = ap (λ (x : Stage (List Float)). onward (onward (onward x (λ mw. opened_with c (component c) mw (peak_of c (component c) mw))) (settled c)) (closing c target)) e
+  unopened f e = ap (λ (x : Stage (List Float)). onward (onward (onward x (λ mw. opened_with c (component c) mw (peak_of c (component c) mw))) (finished c)) (closing c target)) e
 
 -- ---- the work that the stages are lent: parts of two slices, of zeros
 -- there is room for the parts

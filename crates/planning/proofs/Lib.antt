@@ -6,7 +6,7 @@ pub mod Chains
 pub mod Draws
 pub mod Ratings
 pub mod Searches
-pub mod Served
+pub mod BusFigures
 pub mod Supplies
 pub mod Anew
 pub mod Builds
@@ -17,13 +17,13 @@ pub mod Sizes
 pub mod Corridors
 pub mod Passing
 pub mod Stages
-pub mod Serving
+pub mod ComponentUnits
 pub mod Scattering
 pub mod Grounds
 pub mod Injecting
 pub mod Solving
 pub mod States
-pub mod Lifting
+pub mod OpeningWhole
 pub mod Openings
 pub mod Lending
 pub mod Insertion
@@ -33,13 +33,13 @@ pub mod Orders
 pub mod Fillings
 pub mod Closings
 pub mod Sounds
-pub mod Liftings
+pub mod ClosingWhole
 pub mod Redrawing
 pub mod Rounding
 pub mod Heavies
 pub mod Promoting
-pub mod Settling
-pub mod Settlements
+pub mod AfterRounds
+pub mod AfterRoundsWhole
 pub mod Stiffenings
 mod Sweeps
 pub mod Gains

@@ -9,7 +9,7 @@ use Rattle.plan_defs.specs.Case.{Case}
 use Rattle.plan_defs.specs.Raise.{raise_of, marked, mark_bus, mark_both, top_of, can_raise, mark_if, raised_to, moves, raised_levels, moved_buses}
 use Rattle.std.specs.Prelude.{Option, Some, None}
 use Rattle.planning.specs.Design.{Lines}
-use Rattle.planning.specs.Raise.{pairs_for}
+use Rattle.planning.specs.RaiseMarks.{pairs_for}
 use Rattle.plan_defs.proofs.Lists.{count_more, count_most}
 use Rattle.plan_defs.proofs.Rising.{raised_le, length_raised, raised_at}
 use Rattle.planning.proofs.Lists.{count_zero}

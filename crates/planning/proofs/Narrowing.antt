@@ -15,15 +15,15 @@ use Rattle.planning.specs.Design.{Banks}
 use Rattle.planning.specs.Opening.{stage_of, stage_if}
 use Rattle.planning.specs.Solve.{peak_for, finite_if, finite_angles}
 use Rattle.planning.specs.Whole.{with_lines}
-use Rattle.planning.specs.Stiffen.{budget_for, stiff_of, round_of, Within, LedStiffened, Stepped, reinforce_step, narrow_step, component_step, lead_of, lag_of}
-use Rattle.planning.specs.declared.budgets.Stiffness.{Stiffness}
+use Rattle.planning.specs.Stiffen.{budget_for, stiff_of, round_of, StiffeningWithin, LedStiffened, StepTaken, reinforce_step, narrow_step, component_step, lead_of, lag_of}
+use Rattle.planning.specs.declared.budgets.StiffeningTally.{StiffeningTally}
 use Rattle.std.specs.Prelude.{Err, Ok, Result}
 use Rattle.refusal.specs.Reply.{no_refusal}
 use Rattle.planning.specs.Tables.{SolvedColumns, edges_in}
 
 -- ---- the component, by what the solve answers
 module _ (root lead lag : ℕ) (excess : Float) (solved : SolvedColumns)
-    (circuits : List ℕ) (banks floors : List Float) (upsized marks : List ℕ) (t : Stiffness) (n : ℕ) (phi : List Float) (r : Result (Unit {0}) Refusal) (pn : n ≡ length solved.level)
+    (circuits : List ℕ) (banks floors : List Float) (upsized marks : List ℕ) (t : StiffeningTally) (n : ℕ) (phi : List Float) (r : Result (Unit {0}) Refusal) (pn : n ≡ length solved.level)
     (pa : stage_of r phi
     ≡ finite_angles (solve n (edges_in solved.e) solved.opened.grounds (unit_at n lead lag) (zeros n)).x) where
   abbrev step : Case → List Float → List Float → Stiffening → Stage Stiffening
@@ -45,7 +45,7 @@ module _ (root lead lag : ℕ) (excess : Float) (solved : SolvedColumns)
         ap (λ (y : Stage (List Float)). onward y next) (pa ∙ ap (λ (i : ℕ). finite_angles (X i)) e) ∙ by_angles (all_finite (X c.buses)) (X c.buses)
 
   pub narrowed_refused : (f : Refusal) → r ≡ Err f → Banks banks
-      → Stepped step solved.grid solved.level circuits banks floors upsized marks t circuits banks floors upsized marks (Err f)
+      → StepTaken step solved.grid solved.level circuits banks floors upsized marks t circuits banks floors upsized marks (Err f)
   narrowed_refused f h banked =
       record {
         stiffened = λ o injection flows w e.
@@ -57,9 +57,9 @@ module _ (root lead lag : ℕ) (excess : Float) (solved : SolvedColumns)
         bound = tt;
       }
 
-  pub narrowed_answered : (circuits' : List ℕ) (banks' floors' : List Float) (upsized' marks' : List ℕ) (t' : Stiffness) → r ≡ no_refusal
-      → Stepped (reinforce_step root excess solved phi) solved.grid solved.level circuits banks floors upsized marks t circuits' banks' floors' upsized' marks' (Ok t')
-      → Stepped step solved.grid solved.level circuits banks floors upsized marks t circuits' banks' floors' upsized' marks' (Ok t')
+  pub narrowed_answered : (circuits' : List ℕ) (banks' floors' : List Float) (upsized' marks' : List ℕ) (t' : StiffeningTally) → r ≡ no_refusal
+      → StepTaken (reinforce_step root excess solved phi) solved.grid solved.level circuits banks floors upsized marks t circuits' banks' floors' upsized' marks' (Ok t')
+      → StepTaken step solved.grid solved.level circuits banks floors upsized marks t circuits' banks' floors' upsized' marks' (Ok t')
   narrowed_answered circuits' banks' floors' upsized' marks' t' h q =
       record {
         stiffened = λ o injection flows w e.
@@ -74,11 +74,11 @@ module _ (root lead lag : ℕ) (excess : Float) (solved : SolvedColumns)
       }
 
 -- ---- the tests before the solve
-abbrev widened_to : Stiffness → Stiffness
+abbrev widened_to : StiffeningTally → StiffeningTally
 widened_to t = record { total = t.total; hv = t.hv; stiffening = t.stiffening; wide = true; stiffened = t.stiffened }
 
 module _ (root round : ℕ) (solved : SolvedColumns)
-    (circuits : List ℕ) (banks floors : List Float) (upsized marks : List ℕ) (t : Stiffness) where
+    (circuits : List ℕ) (banks floors : List Float) (upsized marks : List ℕ) (t : StiffeningTally) where
   abbrev whole : Case → List Float → List Float → Stiffening → Stage Stiffening
   whole = component_step root round solved
 
@@ -97,7 +97,7 @@ module _ (root round : ℕ) (solved : SolvedColumns)
         ∙ ap (λ (i : ℕ). between_buses c P solved.opened.leader solved.level round (budget_for solved.g) v root (lead_of solved.opened.leader solved.angle root) i s) pg
 
     pub component_narrow : le excess nought ≡ true → Banks banks
-        → Stepped whole solved.grid solved.level circuits banks floors upsized marks t circuits banks floors upsized marks (Ok t)
+        → StepTaken whole solved.grid solved.level circuits banks floors upsized marks t circuits banks floors upsized marks (Ok t)
     component_narrow h banked =
         record {
           stiffened = λ o injection flows w e.
@@ -111,7 +111,7 @@ module _ (root round : ℕ) (solved : SolvedColumns)
           bound = (omega arith, omega arith, omega arith);
         }
 
-    module _ (u : Stiffness) (pu : u ≡ widened_to t) (h : le excess nought ≡ false) where
+    module _ (u : StiffeningTally) (pu : u ≡ widened_to t) (h : le excess nought ≡ false) where
       late_is : (y : Bool) → ltb stiffening_rounds round ≡ y → (c : Case) (injection flows : List Float)
           → unless_late c (peak_for c.buses solved.opened.grounds injection) solved.opened.leader solved.level round (budget_for solved.g) (round_of solved.e solved.angle flows) y root lead lag excess (stiff_of c solved.level circuits banks floors upsized marks t)
           ≡ whole c injection flows (stiff_of c solved.level circuits banks floors upsized marks t)
@@ -124,42 +124,42 @@ module _ (root round : ℕ) (solved : SolvedColumns)
           ∙ component_is c injection flows s
 
       pub component_late : stiffening_rounds < round → Banks banks
-          → Stepped whole solved.grid solved.level circuits banks floors upsized marks t circuits banks floors upsized marks (Ok u)
+          → StepTaken whole solved.grid solved.level circuits banks floors upsized marks t circuits banks floors upsized marks (Ok u)
       component_late q banked =
-          let d = ap (λ (x : Stiffness). x.total) pu in
-          let e = ap (λ (x : Stiffness). x.hv) pu in
-          let f = ap (λ (x : Stiffness). x.stiffening) pu in
+          let d = ap (λ (x : StiffeningTally). x.total) pu in
+          let e = ap (λ (x : StiffeningTally). x.hv) pu in
+          let f = ap (λ (x : StiffeningTally). x.stiffening) pu in
           record {
             stiffened = λ o injection flows w n.
                 let c = with_lines o solved.grid in
-                ap (λ (x : Stiffness). going (stiff_of c solved.level circuits banks floors upsized marks x)) pu ∙ late_is true (lt-ltb stiffening_rounds round q) c injection flows;
+                ap (λ (x : StiffeningTally). going (stiff_of c solved.level circuits banks floors upsized marks x)) pu ∙ late_is true (lt-ltb stiffening_rounds round q) c injection flows;
             banked = banked;
             few = λ f. f;
             bound = (omega arith, omega arith, omega arith);
           }
 
-      within_as : (m : ℕ) (r : Result Stiffness Refusal) → Within m (widened_to t) r → Within m t r
+      within_as : (m : ℕ) (r : Result StiffeningTally Refusal) → StiffeningWithin m (widened_to t) r → StiffeningWithin m t r
       within_as m (Err f) w = tt
       within_as m (Ok x) w = w
 
-      pub component_narrowed : round ≤ stiffening_rounds → (circuits' : List ℕ) (banks' floors' : List Float) (upsized' marks' : List ℕ) (r : Result Stiffness Refusal)
-          → Stepped (narrow_step root lead lag excess solved) solved.grid solved.level circuits banks floors upsized marks u circuits' banks' floors' upsized' marks' r
-          → Stepped whole solved.grid solved.level circuits banks floors upsized marks t circuits' banks' floors' upsized' marks' r
+      pub component_narrowed : round ≤ stiffening_rounds → (circuits' : List ℕ) (banks' floors' : List Float) (upsized' marks' : List ℕ) (r : Result StiffeningTally Refusal)
+          → StepTaken (narrow_step root lead lag excess solved) solved.grid solved.level circuits banks floors upsized marks u circuits' banks' floors' upsized' marks' r
+          → StepTaken whole solved.grid solved.level circuits banks floors upsized marks t circuits' banks' floors' upsized' marks' r
       component_narrowed q circuits' banks' floors' upsized' marks' r z =
           record {
             stiffened = λ o injection flows w n.
                 let c = with_lines o solved.grid in
                 z.stiffened o injection flows w n
-                ∙ ap (λ (x : Stiffness). narrow_step root lead lag excess solved c injection flows (stiff_of c solved.level circuits banks floors upsized marks x)) pu
+                ∙ ap (λ (x : StiffeningTally). narrow_step root lead lag excess solved c injection flows (stiff_of c solved.level circuits banks floors upsized marks x)) pu
                 ∙ late_is false (le-ltb stiffening_rounds round q) c injection flows;
             banked = z.banked;
             few = z.few;
-            bound = within_as (length solved.grid.a) r (subst (λ (x : Stiffness). Within (length solved.grid.a) x r) pu z.bound);
+            bound = within_as (length solved.grid.a) r (subst (λ (x : StiffeningTally). StiffeningWithin (length solved.grid.a) x r) pu z.bound);
           }
 
   -- ---- the component that a bus leads, where it leads one
-  pub led_leads : (circuits' : List ℕ) (banks' floors' : List Float) (upsized' marks' : List ℕ) (r : Result Stiffness Refusal) → get_or solved.opened.leader root 0 ≡ root
-      → Stepped whole solved.grid solved.level circuits banks floors upsized marks t circuits' banks' floors' upsized' marks' r
+  pub led_leads : (circuits' : List ℕ) (banks' floors' : List Float) (upsized' marks' : List ℕ) (r : Result StiffeningTally Refusal) → get_or solved.opened.leader root 0 ≡ root
+      → StepTaken whole solved.grid solved.level circuits banks floors upsized marks t circuits' banks' floors' upsized' marks' r
       → LedStiffened root round solved circuits banks floors upsized marks t circuits' banks' floors' upsized' marks' r
   led_leads circuits' banks' floors' upsized' marks' r h z =
       record {

@@ -13,7 +13,7 @@ use Rattle.plan_defs.specs.Outcome.{up_to}
 use Rattle.planning.specs.Opening.{stage_of, slack_case, dispatch_case, injection_case}
 use Rattle.planning.specs.Sound.{Sound}
 use Rattle.planning.specs.Plan.{Opens}
-use Rattle.planning.proofs.Lifting.{grounds_lift, dispatch_lift, injections_lift}
+use Rattle.planning.proofs.OpeningWhole.{grounds_lift, dispatch_lift, injections_lift}
 use Rattle.std.specs.Prelude.{Err, Result}
 use Rattle.refusal.specs.Reply.{no_refusal}
 

@@ -26,7 +26,7 @@ use Rattle.planning.specs.Sound.{Sound}
 use Rattle.planning.specs.Plan.{HoldsAll, WholeAs, PlanDone, Lendable}
 use Rattle.planning.specs.declared.plan.PlanRun.{PlanRun}
 use Rattle.planning.proofs.Draws.{Laid}
-use Rattle.planning.proofs.Liftings.{zeroed_is, held_is}
+use Rattle.planning.proofs.ClosingWhole.{zeroed_is, held_is}
 use Rattle.planning.proofs.Supplies.{supplied}
 use Rattle.plan_theorems.proofs.Outcomes.{Lengths, lengths_of}
 use Rattle.planning.proofs.Sounds.{sound, refused_outcome}

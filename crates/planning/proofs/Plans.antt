@@ -15,7 +15,7 @@ use Rattle.plan_defs.specs.Solve.{Peak, PlanningCase, planning_state}
 use Rattle.plan_defs.specs.Raise.{Raised, raises}
 use Rattle.plan_defs.specs.Rounds.{Draft, rounds, round_budget, all_rounds}
 use Rattle.plan_defs.specs.Fill.{fill}
-use Rattle.plan_defs.specs.Plan.{Plan, Opened, Ready, first_raised, first_draft, opened_with, ready_with, settled_to, settled, plan_of, closing}
+use Rattle.plan_defs.specs.Plan.{Plan, Opened, Ready, first_raised, first_draft, opened_with, ready_with, finished_to, finished, plan_of, closing}
 use Rattle.plan_defs.specs.Outcome.{summary}
 use Rattle.plan_defs.specs.declared.CircuitDesign.{CircuitDesign}
 use Rattle.plan_defs.proofs.Stages.{On}
@@ -24,15 +24,15 @@ use Rattle.plan_defs.proofs.Rising.{risen_first}
 use Rattle.planning.specs.Design.{Lines}
 use Rattle.planning.specs.Redesign.{redesign_for}
 use Rattle.planning.specs.Solve.{peak_for}
-use Rattle.planning.specs.Raises.{raised_of, raised_as, RaisesDone}
+use Rattle.planning.specs.RaisePasses.{raised_of, raised_as, RaisesDone}
 use Rattle.planning.specs.Rounds.{rounds_case, draft_of, ran_as, RoundsRun}
-use Rattle.planning.specs.Settle.{closing_in, SettlingHeld, SettledAs, Settles}
+use Rattle.planning.specs.Finish.{closing_in, SettlingHeld, FinishedAs, Finishes}
 use Rattle.planning.specs.Sound.{Sound}
 use Rattle.planning.specs.Plan.{rounds_for, start_of, Runnable, RanAll, plan_by, RunHeld, Plannable, OpenedPlan}
 use Rattle.planning.specs.declared.rounds.Progress.{Progress}
 use Rattle.planning.specs.declared.fill.Kept.{Kept}
 use Rattle.planning.specs.declared.plan.PlanRun.{PlanRun}
-use Rattle.planning.specs.declared.settle.Settling.{Settling}
+use Rattle.planning.specs.declared.finish.Finishing.{Finishing}
 use Rattle.planning.proofs.Supplies.{supplied}
 use Rattle.planning.proofs.Redesigns.{banks_lift, first_design}
 use Rattle.std.specs.Prelude.{Err, Ok, Result}
@@ -97,7 +97,7 @@ module _ (mode : PlanMode) (above promoted : ℕ) (grid : GridColumns) (level : 
   ran_some level' circuits' banks' floors' upsized' angle' r w =
       record { ran = λ o target s n caps. w.ran o target s n caps ∙ all_of o target s n; lines = w.lines; banked = w.banked; few = w.few }
 
--- ---- what is said of a settled plan: its tallies are the draft's, and so are its grounds
+-- ---- what is said of a finished plan: its tallies are the draft's, and so are its grounds
 module _ (c : Case) (target : ℕ) (o : Opened) (level circuits : List ℕ) (banks floors : List Float) (upsized : List ℕ) (angle : List Float) (p : Progress) where
   abbrev S : Draft
   S = draft_of c level circuits banks floors upsized angle p
@@ -111,7 +111,7 @@ module _ (c : Case) (target : ℕ) (o : Opened) (level circuits : List ℕ) (ban
   said_then r e f (stopped x) = tt
   said_then r e f (going v) = rw (e, f)
 
-  said_of : On Said (onward (settled_to c o S) (closing c target))
+  said_of : On Said (onward (finished_to c o S) (closing c target))
   unfolding closing
   said_of = go (planning_state o.peak S.build.designs S.build.circuits (zeros c.buses))
     where
@@ -121,7 +121,7 @@ module _ (c : Case) (target : ℕ) (o : Opened) (level circuits : List ℕ) (ban
           said_then (ready_with c o S v) refl refl (planning_state o.peak S.build.designs (fill c target (ready_with c o S v).order circuits).counts (zeros c.buses))
 
 module _ (p : Progress) (gs : ℕ) (circuits tier : List ℕ) (flow rate angle added : List Float) (above : ℕ) where
-  planned_as : (y : Settling) (i : PlanRun) (t : Stage Plan) → On (λ q. summary q ≡ plan_by p gs q.filler (closing_in q)) t → SettlingHeld y circuits tier flow rate angle added above t
+  planned_as : (y : Finishing) (i : PlanRun) (t : Stage Plan) → On (λ q. summary q ≡ plan_by p gs q.filler (closing_in q)) t → SettlingHeld y circuits tier flow rate angle added above t
       → i.plan ≡ plan_by p gs y.filler y.closing → i.kept ≡ y.kept → RunHeld i circuits tier flow rate angle added above t
   planned_as y i t u h e k =
       let run : Kept → PlanRun = λ x. record { plan = i.plan; kept = x } in
@@ -186,10 +186,10 @@ module _ (mode : PlanMode) (target above : ℕ) (grid : GridColumns) (level : Li
         raises_are =
             sym (w.raised E target s buses_are ∙ ap (raises E Q circuits) firsts_are ∙ ap (λ (t : List ℕ). raises E Q t (first_raised E)) e)
 
-        opened_is : onward (opened_with E opened.leader mw Q) (settled E) ≡ onward (raised_as r E level' banks') (λ t. settled E (opened_for E opened.leader mw Q t))
-        opened_is = ap (λ (x : Stage Raised). onward (onward x (λ t. going (opened_for E opened.leader mw Q t))) (settled E)) raises_are ∙ go (raised_as r E level' banks')
+        opened_is : onward (opened_with E opened.leader mw Q) (finished E) ≡ onward (raised_as r E level' banks') (λ t. finished E (opened_for E opened.leader mw Q t))
+        opened_is = ap (λ (x : Stage Raised). onward (onward x (λ t. going (opened_for E opened.leader mw Q t))) (finished E)) raises_are ∙ go (raised_as r E level' banks')
           where
-            go : (x : Stage Raised) → onward (onward x (λ t. going (opened_for E opened.leader mw Q t))) (settled E) ≡ onward x (λ t. settled E (opened_for E opened.leader mw Q t))
+            go : (x : Stage Raised) → onward (onward x (λ t. going (opened_for E opened.leader mw Q t))) (finished E) ≡ onward x (λ t. finished E (opened_for E opened.leader mw Q t))
             go (stopped f) = refl
             go (going t) = refl
 
@@ -201,7 +201,7 @@ module _ (mode : PlanMode) (target above : ℕ) (grid : GridColumns) (level : Li
                 let c = E o mw s l e in
                 ap (λ (t : Stage Ready). onward t (closing c target))
                 (opened_is o mw s l e
-                ∙ ap (λ (x : Result ℕ Refusal). onward (raised_as x c level' banks') (λ t. settled c (opened_for c opened.leader mw (Q o mw s l e) t))) q);
+                ∙ ap (λ (x : Result ℕ Refusal). onward (raised_as x c level' banks') (λ t. finished c (opened_for c opened.leader mw (Q o mw s l e) t))) q);
           }
 
       -- after the rounds
@@ -223,12 +223,12 @@ module _ (mode : PlanMode) (target above : ℕ) (grid : GridColumns) (level : Li
               let z : draft_of D level' circuits banks' floors upsized (zeros o.buses) (start_of mode o.corridors promoted) ≡ O.draft = rw (e, f, g) in
               v.ran o target s (size ∙ buses_are o mw s l e) caps ∙ ap (all_rounds D O.peak opened.leader) z
 
-          settled_is : onward (opened_with D opened.leader mw (Q o mw s l e)) (settled D) ≡ onward (ran_as x D level'' circuits'' banks'' floors'' upsized'' angle'') (settled_to D O)
-          unfolding settled
-          settled_is =
+          finished_is : onward (opened_with D opened.leader mw (Q o mw s l e)) (finished D) ≡ onward (ran_as x D level'' circuits'' banks'' floors'' upsized'' angle'') (finished_to D O)
+          unfolding finished
+          finished_is =
               opened_is o mw s l e
-              ∙ ap (λ (y : Result ℕ Refusal). onward (raised_as y D level' banks') (λ t. settled D (opened_for D opened.leader mw (Q o mw s l e) t))) q
-              ∙ ap (λ (t : Stage Draft). onward t (settled_to D O)) (sym ran_is)
+              ∙ ap (λ (y : Result ℕ Refusal). onward (raised_as y D level' banks') (λ t. finished D (opened_for D opened.leader mw (Q o mw s l e) t))) q
+              ∙ ap (λ (t : Stage Draft). onward t (finished_to D O)) (sym ran_is)
 
         pub opened_unrun : (f : Refusal) → x ≡ Err f → (circuits''' level''' : List ℕ) (flow''' rate''' angle''' added''' : List Float)
             → OpenedPlan mode target above grid level supply opened circuits upsized circuits''' level''' flow''' rate''' angle''' added''' (Err f)
@@ -237,13 +237,13 @@ module _ (mode : PlanMode) (target above : ℕ) (grid : GridColumns) (level : Li
               plan = λ o mw s l e g caps.
                   let c = D o mw s l e g caps in
                   ap (λ (t : Stage Ready). onward t (closing c target))
-                  (settled_is o mw s l e g caps
-                  ∙ ap (λ (y : Result Progress Refusal). onward (ran_as y c level'' circuits'' banks'' floors'' upsized'' angle'') (settled_to c (O o mw s l e g caps))) u);
+                  (finished_is o mw s l e g caps
+                  ∙ ap (λ (y : Result Progress Refusal). onward (ran_as y c level'' circuits'' banks'' floors'' upsized'' angle'') (finished_to c (O o mw s l e g caps))) u);
             }
 
-        -- after the settling
-        module _ (p : Progress) (u : x ≡ Ok p) (circuits''' level''' : List ℕ) (flow''' rate''' angle''' added''' : List Float) (y : Result Settling Refusal)
-            (d : Settles mode target above grid opened banks'' upsized'' circuits'' level'' circuits''' level''' flow''' rate''' angle''' added''' y)
+        -- after the finishing
+        module _ (p : Progress) (u : x ≡ Ok p) (circuits''' level''' : List ℕ) (flow''' rate''' angle''' added''' : List Float) (y : Result Finishing Refusal)
+            (d : Finishes mode target above grid opened banks'' upsized'' circuits'' level'' circuits''' level''' flow''' rate''' angle''' added''' y)
             (k : length level'' ≡ length level') where
           module _ (o : Case) (mw : List Float) (s : Sound (rounds_case o mode above grid supply) target)
               (l : level ≡ first_levels (rounds_case o mode above grid supply))
@@ -252,27 +252,27 @@ module _ (mode : PlanMode) (target above : ℕ) (grid : GridColumns) (level : Li
             S' = draft_of (D o mw s l e g caps) level'' circuits'' banks'' floors'' upsized'' angle'' p
 
             abbrev ending : Stage Plan
-            ending = onward (settled_to (D o mw s l e g caps) (O o mw s l e g caps) S') (closing (D o mw s l e g caps) target)
+            ending = onward (finished_to (D o mw s l e g caps) (O o mw s l e g caps) S') (closing (D o mw s l e g caps) target)
 
-            ending_is : onward (onward (opened_with (D o mw s l e g caps) opened.leader mw (Q o mw s l e)) (settled (D o mw s l e g caps))) (closing (D o mw s l e g caps) target) ≡ ending
+            ending_is : onward (onward (opened_with (D o mw s l e g caps) opened.leader mw (Q o mw s l e)) (finished (D o mw s l e g caps))) (closing (D o mw s l e g caps) target) ≡ ending
             ending_is =
                 ap (λ (t : Stage Ready). onward t (closing (D o mw s l e g caps) target))
-                (settled_is o mw s l e g caps
-                ∙ ap (λ (t : Result Progress Refusal). onward (ran_as t (D o mw s l e g caps) level'' circuits'' banks'' floors'' upsized'' angle'') (settled_to (D o mw s l e g caps) (O o mw s l e g caps))) u)
+                (finished_is o mw s l e g caps
+                ∙ ap (λ (t : Result Progress Refusal). onward (ran_as t (D o mw s l e g caps) level'' circuits'' banks'' floors'' upsized'' angle'') (finished_to (D o mw s l e g caps) (O o mw s l e g caps))) u)
 
-            settles : SettledAs y circuits''' level''' flow''' rate''' angle''' added''' (D o mw s l e g caps) ending
-            settles = d.plan (D o mw s l e g caps) (O o mw s l e g caps) S' floors'' s (k ∙ size ∙ buses_are o mw s l e) caps refl refl refl refl
+            finishes : FinishedAs y circuits''' level''' flow''' rate''' angle''' added''' (D o mw s l e g caps) ending
+            finishes = d.plan (D o mw s l e g caps) (O o mw s l e g caps) S' floors'' s (k ∙ size ∙ buses_are o mw s l e) caps refl refl refl refl
 
-          pub opened_unsettled : (f : Refusal) → y ≡ Err f
+          pub opened_unfinished : (f : Refusal) → y ≡ Err f
               → OpenedPlan mode target above grid level supply opened circuits upsized circuits''' level''' flow''' rate''' angle''' added''' (Err f)
-          opened_unsettled f j =
+          opened_unfinished f j =
               record {
                 plan = λ o mw s l e g caps.
                     ending_is o mw s l e g caps
-                    ∙ subst (λ (z : Result Settling Refusal). SettledAs z circuits''' level''' flow''' rate''' angle''' added''' (D o mw s l e g caps) (ending o mw s l e g caps)) j (settles o mw s l e g caps);
+                    ∙ subst (λ (z : Result Finishing Refusal). FinishedAs z circuits''' level''' flow''' rate''' angle''' added''' (D o mw s l e g caps) (ending o mw s l e g caps)) j (finishes o mw s l e g caps);
               }
 
-          pub opened_plan : (z : Settling) → y ≡ Ok z → (i : PlanRun) → i.plan ≡ plan_by p (length opened.grounds) z.filler z.closing → i.kept ≡ z.kept
+          pub opened_plan : (z : Finishing) → y ≡ Ok z → (i : PlanRun) → i.plan ≡ plan_by p (length opened.grounds) z.filler z.closing → i.kept ≡ z.kept
               → OpenedPlan mode target above grid level supply opened circuits upsized circuits''' level''' flow''' rate''' angle''' added''' (Ok i)
           opened_plan z j i v w =
               record {
@@ -281,5 +281,5 @@ module _ (mode : PlanMode) (target above : ℕ) (grid : GridColumns) (level : Li
                     subst (RunHeld i circuits''' level''' flow''' rate''' angle''' added''' above) (sym (ending_is o mw s l e g caps))
                     (planned_as p (length opened.grounds) circuits''' level''' flow''' rate''' angle''' added''' above z i (ending o mw s l e g caps)
                     (said_of c target (O o mw s l e g caps) level'' circuits'' banks'' floors'' upsized'' angle'' p)
-                    (subst (λ (n : Result Settling Refusal). SettledAs n circuits''' level''' flow''' rate''' angle''' added''' c (ending o mw s l e g caps)) j (settles o mw s l e g caps)) v w);
+                    (subst (λ (n : Result Finishing Refusal). FinishedAs n circuits''' level''' flow''' rate''' angle''' added''' c (ending o mw s l e g caps)) j (finishes o mw s l e g caps)) v w);
               }

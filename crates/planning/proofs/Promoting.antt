@@ -13,7 +13,7 @@ use Rattle.plan_defs.specs.Raise.{passes, pass_count, raises}
 use Rattle.planning.specs.Design.{Lines, Banks}
 use Rattle.planning.specs.Solve.{peak_for}
 use Rattle.planning.specs.Sound.{Sound}
-use Rattle.planning.specs.Raises.{pass_for, raised_of, passed_as, Within, Raisable, Passed, RaisesDone}
+use Rattle.planning.specs.RaisePasses.{pass_for, raised_of, passed_as, RaisesWithin, Raisable, Passed, RaisesDone}
 use Rattle.std.specs.Prelude.{Err, Ok, Result}
 use Rattle.planning.specs.Tables.{GridColumns, SupplyColumns, OpenedColumns}
 
@@ -114,7 +114,7 @@ module _ (grid : GridColumns) (supply : SupplyColumns) (opened : OpenedColumns)
 
       module _ (m : ℕ) (e : r ≡ Ok m) where
         pub moved_few : m ≤ most_buses
-        moved_few = subst (λ (x : Result ℕ Refusal). Within most_buses x) e w.bound
+        moved_few = subst (λ (x : Result ℕ Refusal). RaisesWithin most_buses x) e w.bound
 
         pub done_still : (mode : PlanMode) → promote mode ≡ true → m ≡ 0 → Done mode level' banks' (Ok promoted)
         done_still mode t z =

@@ -17,7 +17,7 @@ use Rattle.plan_defs.specs.Design.{line_of, line_at, with_bank, set_transformer_
 use Rattle.plan_defs.specs.Build.{bank_of}
 use Rattle.plan_defs.specs.declared.CircuitDesign.{CircuitDesign}
 use Rattle.plan_defs.proofs.Rows.{row_from_lem}
-use Rattle.planning.specs.Design.{lines_for, Lines, Rated}
+use Rattle.planning.specs.Design.{lines_for, Lines, RatedDesign}
 use Rattle.planning.proofs.Draws.{ends_fit, from_below}
 use Rattle.planning.specs.Tables.{GridColumns}
 
@@ -123,23 +123,23 @@ module _ (grid : GridColumns) (level : List ℕ) (k : ℕ) (lines : Lines grid l
       subst (λ (w : Row). rating_ok w.rate ≡ true) (sym (row_from_lem (length grid.a) (0 + length grid.ladder) grid.sheet k L h (let z : L < 0 + length grid.ladder = omega (arith, q) in z)))
       (lines.rates k L h q)
 
-  rated_by : (t : Bool) (mva : Float) → rating_ok mva ≡ true → Rated (banked_by t (line_at (lines_for grid) level k) mva)
+  rated_by : (t : Bool) (mva : Float) → rating_ok mva ≡ true → RatedDesign (banked_by t (line_at (lines_for grid) level k) mva)
   unfolding set_transformer_mva with_bank line_at line_of
   rated_by true mva e = record { bank = λ t. e; line = rate_ok }
   rated_by false mva e = record { bank = λ t. absurd (no refl t); line = rate_ok }
 
-  pub drawn_rated : (mva : Float) → rating_ok mva ≡ true → Rated (drawn (lines_for grid) level k mva)
+  pub drawn_rated : (mva : Float) → rating_ok mva ≡ true → RatedDesign (drawn (lines_for grid) level k mva)
   unfolding drawn
   drawn_rated mva e = rated_by (steps_down (lines_for grid) level k) mva e
 
 -- ---- a bank kept to its floor
-pub kept_sound : (d : CircuitDesign) (floor : Float) → Rated d → (d.is_transformer && lt d.transformer_mva (lesser floor d.line_rate)) ≡ true
+pub kept_sound : (d : CircuitDesign) (floor : Float) → RatedDesign d → (d.is_transformer && lt d.transformer_mva (lesser floor d.line_rate)) ≡ true
     → rating_ok (lesser floor d.line_rate) ≡ true
 kept_sound d floor r e =
     let p = both d.is_transformer (lt d.transformer_mva (lesser floor d.line_rate)) e in
     kept_rating d.transformer_mva floor d.line_rate (r.bank p.0) r.line p.1
 
-pub anew_sound : (d : CircuitDesign) (floor : Float) → Rated d → rating_ok (bank_of (kept_bank d floor)) ≡ true
+pub anew_sound : (d : CircuitDesign) (floor : Float) → RatedDesign d → rating_ok (bank_of (kept_bank d floor)) ≡ true
 unfolding set_transformer_mva with_bank
 anew_sound d floor r = go (d.is_transformer && lt d.transformer_mva (lesser floor d.line_rate)) refl
   where

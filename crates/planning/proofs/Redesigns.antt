@@ -14,7 +14,7 @@ use Rattle.plan_defs.specs.Case.{Case, levels, to_of}
 use Rattle.plan_defs.specs.Design.{steps_down, drawn, kept_by, kept_to, kept_bank, fresh_bank, bank_for, gen_at_bus, transformer_corridors, design_at, design_circuits, redesign}
 use Rattle.plan_defs.specs.Build.{bank_of, bank_anew, banks_anew}
 use Rattle.plan_defs.specs.declared.CircuitDesign.{CircuitDesign}
-use Rattle.planning.specs.Design.{Lines, Rated}
+use Rattle.planning.specs.Design.{Lines, RatedDesign}
 use Rattle.planning.specs.Redesign.{redesign_for}
 use Rattle.planning.proofs.Draws.{Laid, drawn_lifts}
 use Rattle.planning.proofs.Ratings.{rating_positive, drawn_rated}
@@ -30,7 +30,7 @@ not_below (inf s) p = absurd p
 not_below (fin true n e) p = absurd p
 not_below (fin false n e) p = let z : 0 * down e ≡ 0 = zero-mul (down e) in le-ltb (n * up e * 1) (0 * down e) (omega arith)
 
-unkept : (d : CircuitDesign) → Rated d → kept_bank d nought ≡ d
+unkept : (d : CircuitDesign) → RatedDesign d → kept_bank d nought ≡ d
 unkept d r = ap (λ (t : Bool). kept_to d (cond t d.line_rate nought)) (not_below d.line_rate (rating_positive d.line_rate r.line)) ∙ go d.is_transformer refl
   where
     go : (t : Bool) → d.is_transformer ≡ t → kept_to d nought ≡ d
@@ -81,10 +81,10 @@ module _ (c : Case) (sheet : List Float) (laid : Laid c sheet) (level : List ℕ
         let q = fresh_defined (grid_of c.ladder c.a c.b c.km c.share c.cap sheet) level (supply_of c.load c.bus c.slack c.pmin c.pmax c.c1 c.c2) c.pmax _ _ k lines supplied size few h refl refl in
         subst (λ (x : Float). rating_ok x ≡ true) (q ∙ bank_lifts (to_of c level k)) p
 
-    design_rated : (k : ℕ) → k < length c.a → Rated (design_at c level k)
+    design_rated : (k : ℕ) → k < length c.a → RatedDesign (design_at c level k)
     unfolding design_at
     design_rated k h =
-        subst Rated (drawn_lifts c sheet laid m l level k (bank_for c level (to_of c level k)))
+        subst RatedDesign (drawn_lifts c sheet laid m l level k (bank_for c level (to_of c level k)))
         (drawn_rated (grid_of c.ladder c.a c.b c.km c.share c.cap sheet) level k lines h (bank_for c level (to_of c level k)) (fresh_sound k h))
 
     pub first_design : redesign c level (zeros c.corridors) ≡ design_circuits c level

@@ -16,11 +16,11 @@ use Rattle.plan_defs.specs.Raise.{can_raise}
 use Rattle.plan_defs.specs.Stage.{going}
 use Rattle.plan_defs.specs.Stiffen.{Stiffening, Gain, stiffen_one, gain_of, gains, candidate, batch, batch_cap, chosen}
 use Rattle.plan_defs.specs.declared.CircuitDesign.{CircuitDesign}
-use Rattle.planning.specs.Raise.{pairs_for}
+use Rattle.planning.specs.RaiseMarks.{pairs_for}
 use Rattle.planning.specs.Fill.{designs_for}
 use Rattle.planning.specs.Whole.{with_lines}
-use Rattle.planning.specs.Stiffen.{budget_for, stiff_of, candidate_at, gain_if, gain_at, gain_order, gain_for, BatchStiffened, Chosen, Stepped, reinforce_step}
-use Rattle.planning.specs.declared.budgets.Stiffness.{Stiffness}
+use Rattle.planning.specs.Stiffen.{budget_for, stiff_of, candidate_at, gain_if, gain_at, gain_order, gain_for, BatchStiffened, Chosen, StepTaken, reinforce_step}
+use Rattle.planning.specs.declared.budgets.StiffeningTally.{StiffeningTally}
 use Rattle.planning.proofs.Builds.{drawn_all_lifts}
 use Rattle.planning.proofs.Stiffenings.{room_lifts}
 use Rattle.planning.proofs.Gains.{gains_are, order_named}
@@ -28,7 +28,7 @@ use Rattle.std.specs.Prelude.{Ok}
 use Rattle.planning.specs.Tables.{SolvedColumns}
 
 module _ (root : ℕ) (excess : Float) (solved : SolvedColumns) (phi : List Float)
-    (circuits : List ℕ) (banks : List Float) (t : Stiffness) (pc : length circuits ≡ length solved.grid.a) (gain : List Float) (order : List ℕ) (most taken : ℕ)
+    (circuits : List ℕ) (banks : List Float) (t : StiffeningTally) (pc : length circuits ≡ length solved.grid.a) (gain : List Float) (order : List ℕ) (most taken : ℕ)
     (pg : gain ≡ tab (length solved.grid.a) (gain_at solved phi circuits banks t root))
     (po : order ≡ gain_order gain (length gain)) (pm : most ≡ batch_cap (pairs_for solved.grid.a []) solved.opened.leader root)
     (pt : take taken order ≡ batch most nought excess (map (gain_for gain) order)) where
@@ -79,11 +79,11 @@ module _ (root : ℕ) (excess : Float) (solved : SolvedColumns) (phi : List Floa
       }
 
 pub reinforced : (root : ℕ) (excess : Float) (solved : SolvedColumns) (phi : List Float)
-    (circuits : List ℕ) (banks floors : List Float) (upsized marks : List ℕ) (t : Stiffness) (order : List ℕ)
-    (circuits' : List ℕ) (banks' floors' : List Float) (upsized' marks' : List ℕ) (t' : Stiffness)
+    (circuits : List ℕ) (banks floors : List Float) (upsized marks : List ℕ) (t : StiffeningTally) (order : List ℕ)
+    (circuits' : List ℕ) (banks' floors' : List Float) (upsized' marks' : List ℕ) (t' : StiffeningTally)
     → Chosen root excess solved phi circuits banks t order
     → BatchStiffened order solved.g solved.grid solved.level circuits banks floors upsized marks t circuits' banks' floors' upsized' marks' t'
-    → Stepped (reinforce_step root excess solved phi) solved.grid solved.level circuits banks floors upsized marks t circuits' banks' floors' upsized' marks' (Ok t')
+    → StepTaken (reinforce_step root excess solved phi) solved.grid solved.level circuits banks floors upsized marks t circuits' banks' floors' upsized' marks' (Ok t')
 reinforced root excess solved phi circuits banks floors upsized marks t order circuits' banks' floors' upsized' marks' t' k r =
     let d = r.bound in
     record {

@@ -30,7 +30,7 @@ use Rattle.planning.specs.Rounds.{rounds_case, draft_of, Redrawn}
 use Rattle.planning.specs.declared.size.Tally.{Tally}
 use Rattle.planning.specs.declared.edges.Edges.{Edges as Own}
 use Rattle.planning.specs.declared.budgets.Limits.{Limits}
-use Rattle.planning.specs.declared.budgets.Stiffness.{Stiffness}
+use Rattle.planning.specs.declared.budgets.StiffeningTally.{StiffeningTally}
 use Rattle.planning.specs.declared.rounds.Progress.{Progress}
 use Rattle.plan_defs.proofs.Lists.{count_most}
 use Rattle.planning.proofs.Builds.{drawn_all_lifts}
@@ -105,7 +105,7 @@ module _ (mode : PlanMode) (above : ℕ) (grid : GridColumns) (supply : SupplyCo
       stiffen_component (C o) (P o) opened.leader level round (budget_for g) (round_of E theta flow)
 
   -- the components from bus i on, and what follows them
-  unfoldable pub stiffens_on : ℕ → List ℕ → Limits → Own → List Float → List Float → Progress → Tally → ℕ → List ℕ → List Float → List Float → List ℕ → List ℕ → Stiffness
+  unfoldable pub stiffens_on : ℕ → List ℕ → Limits → Own → List Float → List Float → Progress → Tally → ℕ → List ℕ → List Float → List Float → List ℕ → List ℕ → StiffeningTally
       → Case → Stage Draft
   stiffens_on d level g E theta flow p t i circuits banks floors upsized marks s o =
       then d o
@@ -138,7 +138,7 @@ module _ (mode : PlanMode) (above : ℕ) (grid : GridColumns) (supply : SupplyCo
 
     -- the tallies while the round runs
     abbrev pub running : Progress
-    running = record { rounds = p.rounds + 1; promoted = p.promoted; capacity = p.capacity; stiffening = p.stiffening; converged = false; settled = false }
+    running = record { rounds = p.rounds + 1; promoted = p.promoted; capacity = p.capacity; stiffening = p.stiffening; converged = false; rested = false }
 
     abbrev S : Case → Draft
     S o = draft_of (C o) level circuits banks floors upsized angle p
@@ -191,16 +191,16 @@ module _ (mode : PlanMode) (above : ℕ) (grid : GridColumns) (supply : SupplyCo
 
       module _ (p' : Progress) (runs : p' ≡ running) (level'' : List ℕ) (banks'' : List Float) (moved : ℕ) (redrawn : Redrawn grid level supply marks' floors' banks' level'' banks'' moved) where
         abbrev grown : Progress
-        grown = record { rounds = p.rounds + 1; promoted = p.promoted + moved; capacity = t.capacity; stiffening = p.stiffening; converged = false; settled = false }
+        grown = record { rounds = p.rounds + 1; promoted = p.promoted + moved; capacity = t.capacity; stiffening = p.stiffening; converged = false; rested = false }
 
         -- a raise, then an addition, leads to another round
         pub sized_again : (ltb 0 moved || t.added) ≡ true
             → Alike (goes_on d level'' circuits' banks'' floors' upsized' theta
-            (record { rounds = p'.rounds; promoted = p'.promoted + moved; capacity = t.capacity; stiffening = p'.stiffening; converged = p'.converged; settled = p'.settled })) W
+            (record { rounds = p'.rounds; promoted = p'.promoted + moved; capacity = t.capacity; stiffening = p'.stiffening; converged = p'.converged; rested = p'.rested })) W
         sized_again h o target s e =
             ap (λ (x : Progress).
             goes_on d level'' circuits' banks'' floors' upsized' theta
-            (record { rounds = x.rounds; promoted = x.promoted + moved; capacity = t.capacity; stiffening = x.stiffening; converged = x.converged; settled = x.settled }) o) runs
+            (record { rounds = x.rounds; promoted = x.promoted + moved; capacity = t.capacity; stiffening = x.stiffening; converged = x.converged; rested = x.rested }) o) runs
             ∙ go moved refl h
             ∙ sized_on o target s e
           where
@@ -221,23 +221,23 @@ module _ (mode : PlanMode) (above : ℕ) (grid : GridColumns) (supply : SupplyCo
           still = sym redrawn.count ∙ (nothing_done moved t.added h).0
 
           -- a mode that does not promote is done
-          pub sized_settled : promote mode ≡ false
+          pub sized_rested : promote mode ≡ false
               → Alike (λ o.
               going (draft_of (C o) level'' circuits' banks'' floors' upsized' theta
-              (record { rounds = p'.rounds; promoted = p'.promoted; capacity = t.capacity; stiffening = p'.stiffening; converged = not t.capped; settled = true }))) W
-          sized_settled m o target s e =
+              (record { rounds = p'.rounds; promoted = p'.promoted; capacity = t.capacity; stiffening = p'.stiffening; converged = not t.capped; rested = true }))) W
+          sized_rested m o target s e =
               let x : level'' ≡ level = (redrawn.still (nothing_done moved t.added h).0).0 in
               let y = still_build level marks' circuits' banks' floors' upsized' level'' banks'' moved redrawn o (nothing_done moved t.added h).0 in
-              let z : going (draft_of (C o) level'' circuits' banks'' floors' upsized' theta (record { rounds = p.rounds + 1; promoted = p.promoted; capacity = t.capacity; stiffening = p.stiffening; converged = not t.capped; settled = true }))
+              let z : going (draft_of (C o) level'' circuits' banks'' floors' upsized' theta (record { rounds = p.rounds + 1; promoted = p.promoted; capacity = t.capacity; stiffening = p.stiffening; converged = not t.capped; rested = true }))
               ≡ then d o (sized_to (C o) (P o) opened.leader (S o) (Solved o) (Z o)) = rw (y, x, add-one p.rounds, still, (nothing_done moved t.added h).1, m) in
               ap (λ (x : Progress).
               going (draft_of (C o) level'' circuits' banks'' floors' upsized' theta
-              (record { rounds = x.rounds; promoted = x.promoted; capacity = t.capacity; stiffening = x.stiffening; converged = not t.capped; settled = true }))) runs
+              (record { rounds = x.rounds; promoted = x.promoted; capacity = t.capacity; stiffening = x.stiffening; converged = not t.capped; rested = true }))) runs
               ∙ z
               ∙ sized_on o target s e
 
       -- ---- one that does begins to stiffen
-      module _ (same : moved_buses level marks' ≡ 0) (none : t.added ≡ false) (m : promote mode ≡ true) (p' : Progress) (runs : p' ≡ running) (g : Limits) (marks'' : List ℕ) (u : Stiffness)
+      module _ (same : moved_buses level marks' ≡ 0) (none : t.added ≡ false) (m : promote mode ≡ true) (p' : Progress) (runs : p' ≡ running) (g : Limits) (marks'' : List ℕ) (u : StiffeningTally)
           (limits : budget_for g ≡ record { hv = hv_budget (length level); branches = share_of stiffening_branch_budget (length level); top = stiffen_top above (hv_budget (length level)) level })
           (clear : marks'' ≡ no_marks (length level))
           (begin : u ≡ record { total = sum circuits'; hv = at_or_above level g.top; stiffening = p'.stiffening; wide = false; stiffened = false }) where
@@ -299,9 +299,9 @@ module _ (mode : PlanMode) (above : ℕ) (grid : GridColumns) (supply : SupplyCo
 
   -- ---- the components, one bus after another
   module _ (W : Case → Stage Draft) (d : ℕ) (level : List ℕ) (g : Limits) (E : Own) (theta flow : List Float) (p : Progress) (t : Tally) (size : length level ≡ n)
-      (i : ℕ) (circuits : List ℕ) (banks floors : List Float) (upsized marks : List ℕ) (s : Stiffness)
+      (i : ℕ) (circuits : List ℕ) (banks floors : List Float) (upsized marks : List ℕ) (s : StiffeningTally)
       (whole : Alike (stiffens_on d level g E theta flow p t i circuits banks floors upsized marks s) W) where
-    module _ (more : i < length opened.leader) (circuits' : List ℕ) (banks' floors' : List Float) (upsized' marks' : List ℕ) (r : Result Stiffness Refusal)
+    module _ (more : i < length opened.leader) (circuits' : List ℕ) (banks' floors' : List Float) (upsized' marks' : List ℕ) (r : Result StiffeningTally Refusal)
         (led : LedStiffened i p.rounds (solved_by g grid level opened E theta) circuits banks floors upsized marks s circuits' banks' floors' upsized' marks' r) where
       stepped : (o : Case) (target : ℕ) → Sound (C o) target → Fits o
           → then d o (onward (onward (stiffened_as r (C o) level circuits' banks' floors' upsized' marks') (each_stage (component level p.rounds g E theta flow o) (pass_from (leads opened.leader) (length opened.leader - (i + 1)) (i + 1)))) (closes level theta p t o))
@@ -315,17 +315,17 @@ module _ (mode : PlanMode) (above : ℕ) (grid : GridColumns) (supply : SupplyCo
 
       pub stiffen_refused : (f : Refusal) → r ≡ Err f → Alike (λ o. stopped f) W
       stiffen_refused f q o target sound e =
-          ap (λ (x : Result Stiffness Refusal). then d o (onward (onward (stiffened_as x (C o) level circuits' banks' floors' upsized' marks') (each_stage (component level p.rounds g E theta flow o) (pass_from (leads opened.leader) (length opened.leader - (i + 1)) (i + 1)))) (closes level theta p t o)))
+          ap (λ (x : Result StiffeningTally Refusal). then d o (onward (onward (stiffened_as x (C o) level circuits' banks' floors' upsized' marks') (each_stage (component level p.rounds g E theta flow o) (pass_from (leads opened.leader) (length opened.leader - (i + 1)) (i + 1)))) (closes level theta p t o)))
           (sym q) ∙ stepped o target sound e
 
-      pub stiffen_next : (s' : Stiffness) → r ≡ Ok s' → Alike (stiffens_on d level g E theta flow p t (i + 1) circuits' banks' floors' upsized' marks' s') W
+      pub stiffen_next : (s' : StiffeningTally) → r ≡ Ok s' → Alike (stiffens_on d level g E theta flow p t (i + 1) circuits' banks' floors' upsized' marks' s') W
       unfolding stiffens_on
       stiffen_next s' q o target sound e =
-          ap (λ (x : Result Stiffness Refusal). then d o (onward (onward (stiffened_as x (C o) level circuits' banks' floors' upsized' marks') (each_stage (component level p.rounds g E theta flow o) (pass_from (leads opened.leader) (length opened.leader - (i + 1)) (i + 1)))) (closes level theta p t o)))
+          ap (λ (x : Result StiffeningTally Refusal). then d o (onward (onward (stiffened_as x (C o) level circuits' banks' floors' upsized' marks') (each_stage (component level p.rounds g E theta flow o) (pass_from (leads opened.leader) (length opened.leader - (i + 1)) (i + 1)))) (closes level theta p t o)))
           (sym q) ∙ stepped o target sound e
 
     -- ---- after the last of them: a raise, then anything else that was done, leads to another round
-    module _ (all : length opened.leader ≤ i) (some : 1 ≤ p.rounds) (unsettled : p.converged ≡ false) (Going-on : p.settled ≡ false) (level'' : List ℕ) (banks'' : List Float) (moved : ℕ)
+    module _ (all : length opened.leader ≤ i) (some : 1 ≤ p.rounds) (unrested : p.converged ≡ false) (Going-on : p.rested ≡ false) (level'' : List ℕ) (banks'' : List Float) (moved : ℕ)
         (redrawn : Redrawn grid level supply marks floors banks level'' banks'' moved) where
       forth : suc (p.rounds - 1) ≡ p.rounds
       forth = omega arith
@@ -338,29 +338,29 @@ module _ (mode : PlanMode) (above : ℕ) (grid : GridColumns) (supply : SupplyCo
           ∙ whole o target sound e
 
       pub stiffened_again : (ltb 0 moved || s.stiffened) ≡ true
-          → Alike (goes_on d level'' circuits banks'' floors upsized theta (record { rounds = p.rounds; promoted = p.promoted + moved; capacity = t.capacity; stiffening = s.stiffening; converged = p.converged; settled = p.settled })) W
+          → Alike (goes_on d level'' circuits banks'' floors upsized theta (record { rounds = p.rounds; promoted = p.promoted + moved; capacity = t.capacity; stiffening = s.stiffening; converged = p.converged; rested = p.rested })) W
       stiffened_again h o target sound e = go moved refl h ∙ closed o target sound e
         where
           go : (m : ℕ) → moved ≡ m → (ltb 0 m || s.stiffened) ≡ true
-              → goes_on d level'' circuits banks'' floors upsized theta (record { rounds = p.rounds; promoted = p.promoted + moved; capacity = t.capacity; stiffening = s.stiffening; converged = p.converged; settled = p.settled }) o
+              → goes_on d level'' circuits banks'' floors upsized theta (record { rounds = p.rounds; promoted = p.promoted + moved; capacity = t.capacity; stiffening = s.stiffening; converged = p.converged; rested = p.rested }) o
               ≡ then d o (closes level theta p t o (stiff_of (C o) level circuits banks floors upsized marks s))
           go zero u v =
               let w : moved_buses level marks ≡ 0 = sym redrawn.count ∙ u in
               let x : level'' ≡ level = (redrawn.still u).0 in
               let y = still_build level marks circuits banks floors upsized level'' banks'' moved redrawn o u in
-              rw (y, x, u, add-zero p.promoted, w, v, forth, unsettled, Going-on)
+              rw (y, x, u, add-zero p.promoted, w, v, forth, unrested, Going-on)
           go (suc m) u v =
               let w : moved_buses level marks ≡ suc m = sym redrawn.count ∙ u in
               let x : level'' ≡ raised_levels level marks = (redrawn.anew m u).0 in
               let y = anew_build level marks circuits banks floors upsized level'' banks'' moved redrawn o target m sound u in
-              rw (y, x, u, w, forth, unsettled, Going-on)
+              rw (y, x, u, w, forth, unrested, Going-on)
 
-      pub stiffened_settled : (ltb 0 moved || s.stiffened) ≡ false
-          → Alike (λ o. going (draft_of (C o) level'' circuits banks'' floors upsized theta (record { rounds = p.rounds; promoted = p.promoted + moved; capacity = t.capacity; stiffening = s.stiffening; converged = not s.wide && not t.capped; settled = true }))) W
-      stiffened_settled h o target sound e = go moved refl h ∙ closed o target sound e
+      pub stiffened_rested : (ltb 0 moved || s.stiffened) ≡ false
+          → Alike (λ o. going (draft_of (C o) level'' circuits banks'' floors upsized theta (record { rounds = p.rounds; promoted = p.promoted + moved; capacity = t.capacity; stiffening = s.stiffening; converged = not s.wide && not t.capped; rested = true }))) W
+      stiffened_rested h o target sound e = go moved refl h ∙ closed o target sound e
         where
           go : (m : ℕ) → moved ≡ m → (ltb 0 m || s.stiffened) ≡ false
-              → going (draft_of (C o) level'' circuits banks'' floors upsized theta (record { rounds = p.rounds; promoted = p.promoted + moved; capacity = t.capacity; stiffening = s.stiffening; converged = not s.wide && not t.capped; settled = true }))
+              → going (draft_of (C o) level'' circuits banks'' floors upsized theta (record { rounds = p.rounds; promoted = p.promoted + moved; capacity = t.capacity; stiffening = s.stiffening; converged = not s.wide && not t.capped; rested = true }))
               ≡ then d o (closes level theta p t o (stiff_of (C o) level circuits banks floors upsized marks s))
           go zero u v =
               let w : moved_buses level marks ≡ 0 = sym redrawn.count ∙ u in

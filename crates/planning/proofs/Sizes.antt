@@ -15,15 +15,15 @@ use Rattle.plan_defs.specs.Build.{bank_below, set_count}
 use Rattle.plan_defs.specs.Raise.{top_of, mark_if}
 use Rattle.plan_defs.specs.Size.{enough, next_bank, enlarges, add_if, add_to, raises_for, raise_or_add, grow_to, needed_circuits, grow_if, grow}
 use Rattle.plan_defs.specs.declared.CircuitDesign.{CircuitDesign}
-use Rattle.planning.specs.Design.{Rated}
-use Rattle.planning.specs.Raise.{pairs_for}
+use Rattle.planning.specs.Design.{RatedDesign}
+use Rattle.planning.specs.RaiseMarks.{pairs_for}
 use Rattle.planning.specs.Size.{grow_for, sized_of, Few, Adds, Grows}
 use Rattle.planning.specs.declared.size.Tally.{Tally}
 use Rattle.planning.proofs.Ratings.{kept_rating}
 use Rattle.planning.specs.Tables.{GridColumns}
 
 -- ---- a larger bank is above 0 and finite
-larger_rating : (required : Float) (count : ℕ) (d : CircuitDesign) → Rated d → enlarges required count d (next_bank required count d) ≡ true
+larger_rating : (required : Float) (count : ℕ) (d : CircuitDesign) → RatedDesign d → enlarges required count d (next_bank required count d) ≡ true
     → rating_ok (next_bank required count d) ≡ true
 larger_rating required count d r e =
     let p = both (not (enough required count d)) _ e in
@@ -31,7 +31,7 @@ larger_rating required count d r e =
     let b = both d.is_transformer (lt d.transformer_mva d.line_rate) q.0 in
     kept_rating d.transformer_mva _ d.line_rate (r.bank b.0) r.line q.1
 
-pub larger_ok : (required : Float) (count : ℕ) (d : CircuitDesign) (next : Float) (larger : Bool) → Rated d → next ≡ next_bank required count d
+pub larger_ok : (required : Float) (count : ℕ) (d : CircuitDesign) (next : Float) (larger : Bool) → RatedDesign d → next ≡ next_bank required count d
     → larger ≡ enlarges required count d next → larger ≡ true → rating_ok next ≡ true
 larger_ok required count d next larger r pn pl e =
     subst (λ (x : Float). rating_ok x ≡ true) (sym pn) (larger_rating required count d r (ap (λ (x : Float). enlarges required count d x) (sym pn) ∙ sym pl ∙ e))

@@ -30,7 +30,7 @@ use Rattle.plan_defs.specs.declared.CircuitDesign.{CircuitDesign}
 use Rattle.plan_defs.proofs.Drawn.{drawn_from, drawn_to}
 use Rattle.planning.specs.Design.{lines_for, Lines}
 use Rattle.planning.specs.Edges.{Between, Grounded}
-use Rattle.planning.specs.Solve.{finite_if, finite_angles, Places}
+use Rattle.planning.specs.Solve.{finite_if, finite_angles, SolvePlaces}
 use Rattle.planning.proofs.Draws.{ends_fit, from_below, to_below}
 use Rattle.loops.proofs.Fronts.{map_tab, front_replicate}
 use Rattle.std.specs.Prelude.{Err, Ok, Result}
@@ -72,7 +72,7 @@ work_room n h = omega arith
 
 -- ---- what a call of `dc_angles` on these edges says
 module _ (n m : ℕ) (from to : List ℕ) (weight : List Float) (grounds : List ℕ) (injection guess angle : List Float) (E : Edges) (same : edges_of from to weight ≡ E) (size : m ≡ length E.from)
-    (b : ℕ) (buses : b ≡ n) (joined : Between b E) (G : Grounded n grounds) (P : Places n injection guess angle) (r : Result Solution Refusal) (y w : List Float)
+    (b : ℕ) (buses : b ≡ n) (joined : Between b E) (G : Grounded n grounds) (P : SolvePlaces n injection guess angle) (r : Result Solution Refusal) (y w : List Float)
     (e : outcome r y w ≡ dc_angles (request_of n m (length grounds) from to weight injection grounds guess) angle (take (8 * n - 0) (replicate 2_048 nought))) where
   own_sound : Sound (request_of n m (length grounds) from to weight injection grounds guess) (length angle) (length (take (8 * n - 0) (replicate 2_048 nought)))
   own_sound =

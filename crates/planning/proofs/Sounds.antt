@@ -23,7 +23,7 @@ use Rattle.acceptance.proofs.Callers.{tables_of_lem, refused_by_lem}
 use Rattle.planning.specs.Design.{Lines, rate_at}
 use Rattle.planning.specs.Lent.{places_ok}
 use Rattle.planning.specs.Sound.{Sound}
-use Rattle.planning.specs.declared.lent.Places.{Places}
+use Rattle.planning.specs.declared.lent.LentPlaces.{LentPlaces}
 use Rattle.planning.proofs.Draws.{Laid}
 use Rattle.planning.proofs.Ratings.{sheet_rating}
 use Rattle.std.specs.Prelude.{Err, Result}
@@ -121,7 +121,7 @@ sound c target e = sound_of c target (accepted c target e)
 
 -- ---- the lent slices
 -- how many places they have, as `places_ok` is told
-abbrev pub places_of : Slices → Places
+abbrev pub places_of : Slices → LentPlaces
 places_of s =
     record {
       circuits = length s.circuits;

@@ -17,10 +17,10 @@ use Rattle.plan_defs.specs.declared.CircuitDesign.{CircuitDesign}
 use Rattle.plan_defs.proofs.Drawn.{drawn_at, set_bank_lem}
 use Rattle.plan_defs.proofs.Lists.{each_append}
 use Rattle.plan_defs.proofs.Accepted.{own_few}
-use Rattle.planning.specs.Raise.{pairs_for}
-use Rattle.planning.specs.Stiffen.{budget_for, stiff_of, stiff_over, raisable, room_for, reckoned, Strengthened, BatchStiffened}
+use Rattle.planning.specs.RaiseMarks.{pairs_for}
+use Rattle.planning.specs.Stiffen.{budget_for, stiff_of, stiff_over, raisable, room_for, tallied_more, CorridorStiffened, BatchStiffened}
 use Rattle.planning.specs.declared.budgets.Limits.{Limits}
-use Rattle.planning.specs.declared.budgets.Stiffness.{Stiffness}
+use Rattle.planning.specs.declared.budgets.StiffeningTally.{StiffeningTally}
 use Rattle.planning.specs.Design.{lines_for, Banks}
 use Rattle.planning.specs.Whole.{with_lines}
 use Rattle.planning.proofs.Sizes.{few_set}
@@ -44,7 +44,7 @@ room_below g own count total r h p e =
     let w : count < full = ltb-true count full (both (ltb count full) (ltb total g.branches) (sym p ∙ e)).0 in
     omega (arith, own_few own max_circuits_per_corridor h (omega arith))
 
-module _ (g : Limits) (own : ℕ) (level a b : List ℕ) (k : ℕ) (circuits marks : List ℕ) (t : Stiffness) (raised : Bool) (marks' : List ℕ)
+module _ (g : Limits) (own : ℕ) (level a b : List ℕ) (k : ℕ) (circuits marks : List ℕ) (t : StiffeningTally) (raised : Bool) (marks' : List ℕ)
     (pr : raised ≡ raisable g t.hv level a b k) (pm : marks' ≡ mark_if (raisable g t.hv level a b k) (pairs_for a b) level k marks) where
   abbrev P : Case
   P = pairs_for a b
@@ -60,20 +60,20 @@ module _ (g : Limits) (own : ℕ) (level a b : List ℕ) (k : ℕ) (circuits mar
       ap (λ (z : Bool). stiffen_by false z y P level (budget_for g) k s) (sym e ∙ pr)
       ∙ ap (λ (z : Bool). stiffen_by false (raisable g t.hv level a b k) z P level (budget_for g) k s) (sym f)
 
-  pub strengthened_raised : (arrived : ℕ) (t' : Stiffness) → raised ≡ true
-      → arrived ≡ arrival g.top level marks' (get_or a k 0) + arrival g.top level marks' (get_or b k 0) → arrived ≤ 2 → t' ≡ reckoned 0 arrived t
-      → Strengthened g own level a b k circuits marks t circuits marks' t'
+  pub strengthened_raised : (arrived : ℕ) (t' : StiffeningTally) → raised ≡ true
+      → arrived ≡ arrival g.top level marks' (get_or a k 0) + arrival g.top level marks' (get_or b k 0) → arrived ≤ 2 → t' ≡ tallied_more 0 arrived t
+      → CorridorStiffened g own level a b k circuits marks t circuits marks' t'
   strengthened_raised arrived t' e pa h pt =
       let z : t.total + 0 ≡ t.total = omega arith in
       let w : t.stiffening + 0 ≡ t.stiffening = omega arith in
       let m : marks' ≡ mark_ends P level k marks = marks_are true e in
-      let u = ap (λ (x : Stiffness). x.total) pt in
-      let v = ap (λ (x : Stiffness). x.hv) pt in
-      let x = ap (λ (x : Stiffness). x.stiffening) pt in
+      let u = ap (λ (x : StiffeningTally). x.total) pt in
+      let v = ap (λ (x : StiffeningTally). x.hv) pt in
+      let x = ap (λ (x : StiffeningTally). x.stiffening) pt in
       record {
         stiffened = λ designs floors upsized.
             let B = built circuits designs floors upsized in
-            ap (λ (x : Stiffness). stiff_over designs floors upsized circuits marks' x) pt
+            ap (λ (x : StiffeningTally). stiff_over designs floors upsized circuits marks' x) pt
             ∙ stiff_same B marks' (t.total + 0) t.total (t.hv + arrived)
             (t.hv + (arrival g.top level marks' (get_or a k 0) + arrival g.top level marks' (get_or b k 0)))
             (t.stiffening + 0) t.stiffening t.wide true z (ap (λ (n : ℕ). t.hv + n) pa) w
@@ -83,20 +83,20 @@ module _ (g : Limits) (own : ℕ) (level a b : List ℕ) (k : ℕ) (circuits mar
         bound = (omega arith, omega arith, omega arith);
       }
 
-  pub strengthened_added : (t' : Stiffness) → own ≤ most_cap → raised ≡ false → room_for g own (get_or circuits k 0) t.total ≡ true → k < length circuits → t' ≡ reckoned 1 0 t
-      → Strengthened g own level a b k circuits marks t (set circuits k (get_or circuits k 0 + 1)) marks' t'
+  pub strengthened_added : (t' : StiffeningTally) → own ≤ most_cap → raised ≡ false → room_for g own (get_or circuits k 0) t.total ≡ true → k < length circuits → t' ≡ tallied_more 1 0 t
+      → CorridorStiffened g own level a b k circuits marks t (set circuits k (get_or circuits k 0 + 1)) marks' t'
   unfolding set_count
   strengthened_added t' w e f h pt =
       let n = get_or circuits k 0 in
       let c = room_below g own n t.total true w (sym f) refl in
       let z : t.hv + 0 ≡ t.hv = omega arith in
-      let u = ap (λ (x : Stiffness). x.total) pt in
-      let v = ap (λ (x : Stiffness). x.hv) pt in
-      let x = ap (λ (x : Stiffness). x.stiffening) pt in
+      let u = ap (λ (x : StiffeningTally). x.total) pt in
+      let v = ap (λ (x : StiffeningTally). x.hv) pt in
+      let x = ap (λ (x : StiffeningTally). x.stiffening) pt in
       record {
         stiffened = λ designs floors upsized.
             let B = built (set circuits k (n + 1)) designs floors upsized in
-            ap (λ (x : Stiffness). stiff_over designs floors upsized (set circuits k (n + 1)) marks' x) pt
+            ap (λ (x : StiffeningTally). stiff_over designs floors upsized (set circuits k (n + 1)) marks' x) pt
             ∙ stiff_same B marks' (t.total + 1) (t.total + 1) (t.hv + 0) t.hv (t.stiffening + 1) (t.stiffening + 1) t.wide true refl z refl
             ∙ ap (λ (l : List ℕ). stiff B l (t.total + 1) t.hv (t.stiffening + 1) t.wide true) (marks_are false e)
             ∙ decided false true (stiff_over designs floors upsized circuits marks t) e f;
@@ -104,7 +104,7 @@ module _ (g : Limits) (own : ℕ) (level a b : List ℕ) (k : ℕ) (circuits mar
         bound = (omega arith, omega arith, omega arith);
       }
 
-  pub strengthened_none : raised ≡ false → room_for g own (get_or circuits k 0) t.total ≡ false → Strengthened g own level a b k circuits marks t circuits marks' t
+  pub strengthened_none : raised ≡ false → room_for g own (get_or circuits k 0) t.total ≡ false → CorridorStiffened g own level a b k circuits marks t circuits marks' t
   strengthened_none e f =
       record {
         stiffened = λ designs floors upsized.
@@ -126,7 +126,7 @@ strengthen_lifts true y o grid level g k s = refl
 strengthen_lifts false true o grid level g k s = refl
 strengthen_lifts false false o grid level g k s = refl
 
-module _ (g : Limits) (grid : GridColumns) (level : List ℕ) (k : ℕ) (circuits : List ℕ) (banks floors : List Float) (upsized marks : List ℕ) (t : Stiffness)
+module _ (g : Limits) (grid : GridColumns) (level : List ℕ) (k : ℕ) (circuits : List ℕ) (banks floors : List Float) (upsized marks : List ℕ) (t : StiffeningTally)
     (h : k < length grid.a) (pc : length circuits ≡ length grid.a) (pb : length banks ≡ length grid.a) (d : CircuitDesign) (pd : d ≡ drawn (lines_for grid) level k (at banks k))
     (below : Bool) (pw : below ≡ bank_below d) where
   module _ (o : Case) (p : length grid.a ≡ o.corridors) (q : length grid.ladder ≡ levels o) where
@@ -146,7 +146,7 @@ module _ (g : Limits) (grid : GridColumns) (level : List ℕ) (k : ℕ) (circuit
         ap (λ (z : Bool). stiffen_by z (raisable g t.hv level grid.a grid.b k) (has_room C (budget_for g) k S) C level (budget_for g) k S)
         (sym e ∙ pw ∙ ap (λ (z : CircuitDesign). bank_below z) design_is)
 
-    full_is : below ≡ true → (t' : Stiffness) → t' ≡ reckoned 0 0 t
+    full_is : below ≡ true → (t' : StiffeningTally) → t' ≡ tallied_more 0 0 t
         → stiff_of C level circuits (set banks k d.line_rate) (set floors k d.line_rate) (set upsized k 1) marks t' ≡ each (stiffen_one C level (budget_for g)) (k ∷ []) S
     full_is e t' pt =
         let B = build_of C level circuits banks floors upsized in
@@ -155,13 +155,13 @@ module _ (g : Limits) (grid : GridColumns) (level : List ℕ) (k : ℕ) (circuit
         let u : t.hv + 0 ≡ t.hv = omega arith in
         let w : t.stiffening + 0 ≡ t.stiffening = omega arith in
         let v : bank_below (drawn C level k (at banks k)) ≡ true = ap (λ (z : CircuitDesign). bank_below z) (sym (pd ∙ drawn_lifts C grid.sheet refl p q level k (at banks k))) ∙ sym pw ∙ e in
-        ap (λ (x : Stiffness). stiff_of C level circuits (set banks k mva) (set floors k mva) (set upsized k 1) marks x) pt
+        ap (λ (x : StiffeningTally). stiff_of C level circuits (set banks k mva) (set floors k mva) (set upsized k 1) marks x) pt
         ∙ stiff_same (build_of C level circuits (set banks k mva) (set floors k mva) (set upsized k 1)) marks (t.total + 0) t.total (t.hv + 0) t.hv (t.stiffening + 0) t.stiffening t.wide true z u w
         ∙ ap (λ (x : Build). stiff x marks t.total t.hv t.stiffening t.wide true) (sym (set_bank_lem C level circuits banks floors upsized k mva (omega arith) (pb ∙ p) v))
         ∙ ap (λ (x : CircuitDesign). stiff (set_bank k x.line_rate B) marks t.total t.hv t.stiffening t.wide true) design_is
         ∙ one_by true e
 
-    rest_is : o.cap ≡ grid.cap → below ≡ false → (circuits' marks' : List ℕ) (t' : Stiffness) → Strengthened g (get_or grid.cap k 0) level grid.a grid.b k circuits marks t circuits' marks' t'
+    rest_is : o.cap ≡ grid.cap → below ≡ false → (circuits' marks' : List ℕ) (t' : StiffeningTally) → CorridorStiffened g (get_or grid.cap k 0) level grid.a grid.b k circuits marks t circuits' marks' t'
         → stiff_of C level circuits' banks floors upsized marks' t' ≡ each (stiffen_one C level (budget_for g)) (k ∷ []) S
     rest_is caps e circuits' marks' t' r =
         r.stiffened (drawn_all C level banks) floors upsized
@@ -170,17 +170,17 @@ module _ (g : Limits) (grid : GridColumns) (level : List ℕ) (k : ℕ) (circuit
         ∙ ap (λ (x : Bool). stiffen_by false (raisable g t.hv level grid.a grid.b k) x C level (budget_for g) k S) (room_lifts C g k S (omega arith))
         ∙ one_by false e
 
-  pub one_full : below ≡ true → rating_ok d.line_rate ≡ true → Banks banks → (full : CircuitDesign) (banks' floors' : List Float) (upsized' : List ℕ) (t' : Stiffness)
-      → full ≡ set_transformer_mva d d.line_rate → banks' ≡ set banks k full.transformer_mva → floors' ≡ set floors k full.transformer_mva → upsized' ≡ set upsized k 1 → t' ≡ reckoned 0 0 t
+  pub one_full : below ≡ true → rating_ok d.line_rate ≡ true → Banks banks → (full : CircuitDesign) (banks' floors' : List Float) (upsized' : List ℕ) (t' : StiffeningTally)
+      → full ≡ set_transformer_mva d d.line_rate → banks' ≡ set banks k full.transformer_mva → floors' ≡ set floors k full.transformer_mva → upsized' ≡ set upsized k 1 → t' ≡ tallied_more 0 0 t
       → BatchStiffened (k ∷ []) g grid level circuits banks floors upsized marks t circuits banks' floors' upsized' marks t'
   one_full e ok banked full banks' floors' upsized' t' pf rb rf qu pt =
       let mva = d.line_rate in
       let qb = rb ∙ kept_next true d full mva banks k pf in
       let qf = rf ∙ kept_next true d full mva floors k pf in
       let w : k < length banks = omega arith in
-      let u = ap (λ (x : Stiffness). x.total) pt in
-      let v = ap (λ (x : Stiffness). x.hv) pt in
-      let x = ap (λ (x : Stiffness). x.stiffening) pt in
+      let u = ap (λ (x : StiffeningTally). x.total) pt in
+      let v = ap (λ (x : StiffeningTally). x.hv) pt in
+      let x = ap (λ (x : StiffeningTally). x.stiffening) pt in
       record {
         stiffened = λ o f.
             let c = with_lines o grid in
@@ -193,7 +193,7 @@ module _ (g : Limits) (grid : GridColumns) (level : List ℕ) (k : ℕ) (circuit
         bound = (omega arith, omega arith, omega arith);
       }
 
-  pub one_rest : below ≡ false → Banks banks → (circuits' marks' : List ℕ) (t' : Stiffness) → Strengthened g (get_or grid.cap k 0) level grid.a grid.b k circuits marks t circuits' marks' t'
+  pub one_rest : below ≡ false → Banks banks → (circuits' marks' : List ℕ) (t' : StiffeningTally) → CorridorStiffened g (get_or grid.cap k 0) level grid.a grid.b k circuits marks t circuits' marks' t'
       → BatchStiffened (k ∷ []) g grid level circuits banks floors upsized marks t circuits' banks floors upsized marks' t'
   one_rest e banked circuits' marks' t' r =
       record {
@@ -204,8 +204,8 @@ module _ (g : Limits) (grid : GridColumns) (level : List ℕ) (k : ℕ) (circuit
       }
 
 -- ---- one after another
-module _ (g : Limits) (grid : GridColumns) (level : List ℕ) (circuits : List ℕ) (banks floors : List Float) (upsized marks : List ℕ) (t : Stiffness) where
-  abbrev Onto : List ℕ → List ℕ → List Float → List Float → List ℕ → List ℕ → Stiffness → Type 0
+module _ (g : Limits) (grid : GridColumns) (level : List ℕ) (circuits : List ℕ) (banks floors : List Float) (upsized marks : List ℕ) (t : StiffeningTally) where
+  abbrev Onto : List ℕ → List ℕ → List Float → List Float → List ℕ → List ℕ → StiffeningTally → Type 0
   Onto ks circuits' banks' floors' upsized' marks' t' = BatchStiffened ks g grid level circuits banks floors upsized marks t circuits' banks' floors' upsized' marks' t'
 
   pub batch_start : Banks banks → Onto [] circuits banks floors upsized marks t
@@ -218,7 +218,7 @@ module _ (g : Limits) (grid : GridColumns) (level : List ℕ) (circuits : List �
         bound = (omega arith, omega arith, omega arith);
       }
 
-  module _ (circuits₁ : List ℕ) (banks₁ floors₁ : List Float) (upsized₁ marks₁ : List ℕ) (t₁ : Stiffness) (circuits₂ : List ℕ) (banks₂ floors₂ : List Float) (upsized₂ marks₂ : List ℕ) (t₂ : Stiffness) where
+  module _ (circuits₁ : List ℕ) (banks₁ floors₁ : List Float) (upsized₁ marks₁ : List ℕ) (t₁ : StiffeningTally) (circuits₂ : List ℕ) (banks₂ floors₂ : List Float) (upsized₂ marks₂ : List ℕ) (t₂ : StiffeningTally) where
     batch_more : (ks : List ℕ) (k : ℕ) → Onto ks circuits₁ banks₁ floors₁ upsized₁ marks₁ t₁
         → BatchStiffened (k ∷ []) g grid level circuits₁ banks₁ floors₁ upsized₁ marks₁ t₁ circuits₂ banks₂ floors₂ upsized₂ marks₂ t₂
         → Onto (ks ++ (k ∷ [])) circuits₂ banks₂ floors₂ upsized₂ marks₂ t₂

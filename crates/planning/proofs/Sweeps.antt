@@ -24,11 +24,11 @@ use Rattle.planning.specs.Rounds.{rounds_case, draft_of, ran_as, Redrawn, Rounds
 use Rattle.planning.specs.declared.size.Tally.{Tally}
 use Rattle.planning.specs.declared.edges.Edges.{Edges}
 use Rattle.planning.specs.declared.budgets.Limits.{Limits}
-use Rattle.planning.specs.declared.budgets.Stiffness.{Stiffness}
+use Rattle.planning.specs.declared.budgets.StiffeningTally.{StiffeningTally}
 use Rattle.planning.specs.declared.rounds.Progress.{Progress}
 use Rattle.planning.specs.Tables.{GridColumns, SupplyColumns, OpenedColumns, solved_by, edges_in}
 use Rattle.planning.proofs.Corridors.{left as to-size, left_start, left_turn}
-use Rattle.planning.proofs.Rounding.{Alike, goes_on, stiffens_on, ended, round_refused, sized_again, sized_settled, stiffens, stiffen_refused, stiffen_next, stiffened_again, stiffened_settled}
+use Rattle.planning.proofs.Rounding.{Alike, goes_on, stiffens_on, ended, round_refused, sized_again, sized_rested, stiffens, stiffen_refused, stiffen_next, stiffened_again, stiffened_rested}
 
 -- what every point keeps of the levels, the circuits and the banks
 pub record Kept (grid : GridColumns) (level circuits : List ℕ) (banks : List Float) : Type 0 where
@@ -38,7 +38,7 @@ pub record Kept (grid : GridColumns) (level circuits : List ℕ) (banks : List F
 
 -- the tallies while a round runs that began with these
 abbrev pub running : Progress → Progress
-running p = record { rounds = p.rounds + 1; promoted = p.promoted; capacity = p.capacity; stiffening = p.stiffening; converged = false; settled = false }
+running p = record { rounds = p.rounds + 1; promoted = p.promoted; capacity = p.capacity; stiffening = p.stiffening; converged = false; rested = false }
 
 module _ (mode : PlanMode) (above : ℕ) (grid : GridColumns) (supply : SupplyColumns) (opened : OpenedColumns) where
   -- ---- so many rounds are left; W is what all of them lead to
@@ -74,11 +74,11 @@ module _ (mode : PlanMode) (above : ℕ) (grid : GridColumns) (supply : SupplyCo
 
   -- ---- the components from bus i on are left to stiffen
   pub record Stiffens (d : ℕ) (level : List ℕ) (g : Limits) (e : Edges) (angle flow : List Float) (p : Progress) (t : Tally) (i : ℕ) (circuits : List ℕ) (banks floors : List Float)
-      (upsized marks : List ℕ) (s : Stiffness) (W : Case → Stage Draft) : Type 0 where
+      (upsized marks : List ℕ) (s : StiffeningTally) (W : Case → Stage Draft) : Type 0 where
     pub size : length level ≡ length opened.leader
     pub some : 1 ≤ p.rounds
     pub unconverged : p.converged ≡ false
-    pub unsettled : p.settled ≡ false
+    pub unrested : p.rested ≡ false
     pub whole : Alike mode above grid supply opened (length opened.leader) (stiffens_on mode above grid supply opened (length opened.leader) d level g e angle flow p t i circuits banks floors upsized marks s) W
 
 module _ {mode : PlanMode} {above : ℕ} {grid : GridColumns} {supply : SupplyColumns} {opened : OpenedColumns} {W : Case → Stage Draft} where
@@ -142,7 +142,7 @@ module _ {mode : PlanMode} {above : ℕ} {grid : GridColumns} {supply : SupplyCo
     module _ (all : length grid.a ≤ k) where
       pub sizes_again : {level' : List ℕ} {banks' : List Float} {moved : ℕ} → Redrawn grid level supply marks floors banks level' banks' moved → (ltb 0 moved || t.added) ≡ true
           → Rounds mode above grid supply opened d level' circuits banks' floors upsized angle
-          (record { rounds = p.rounds; promoted = p.promoted + moved; capacity = t.capacity; stiffening = p.stiffening; converged = p.converged; settled = p.settled }) W
+          (record { rounds = p.rounds; promoted = p.promoted + moved; capacity = t.capacity; stiffening = p.stiffening; converged = p.converged; rested = p.rested }) W
       sizes_again {level'} {banks'} {moved} redrawn h =
           let v = z.solved in
           record {
@@ -152,18 +152,18 @@ module _ {mode : PlanMode} {above : ℕ} {grid : GridColumns} {supply : SupplyCo
           }
 
       -- a mode that does not promote is done
-      pub sizes_settled : {level' : List ℕ} {banks' : List Float} {moved : ℕ} → Redrawn grid level supply marks floors banks level' banks' moved → (ltb 0 moved || t.added) ≡ false → promote mode ≡ false
+      pub sizes_rested : {level' : List ℕ} {banks' : List Float} {moved : ℕ} → Redrawn grid level supply marks floors banks level' banks' moved → (ltb 0 moved || t.added) ≡ false → promote mode ≡ false
           → Alike mode above grid supply opened (length opened.leader) (λ o.
           going (draft_of (rounds_case o mode above grid supply) level' circuits banks' floors upsized angle
-          (record { rounds = p.rounds; promoted = p.promoted; capacity = t.capacity; stiffening = p.stiffening; converged = not t.capped; settled = true }))) W
-      sizes_settled {level'} {banks'} {moved} redrawn h m =
+          (record { rounds = p.rounds; promoted = p.promoted; capacity = t.capacity; stiffening = p.stiffening; converged = not t.capped; rested = true }))) W
+      sizes_rested {level'} {banks'} {moved} redrawn h m =
           let v = z.solved in
-          sized_settled mode above grid supply opened (length opened.leader) level z.circuits₀ z.banks₀ z.floors₀ z.upsized₀ v.before z.p₀ W v.left d v.some v.size v.rounds.whole
+          sized_rested mode above grid supply opened (length opened.leader) level z.circuits₀ z.banks₀ z.floors₀ z.upsized₀ v.before z.p₀ W v.left d v.some v.size v.rounds.whole
           angle flow no_refusal e v.edges v.buses v.bus_size v.peak refl circuits banks floors upsized marks t k all z.sized p z.runs
           level' banks' moved redrawn h m
 
       -- one that does begins to stiffen
-      pub stiffens_start : {g : Limits} {marks' : List ℕ} {u : Stiffness} → (promote mode ≡ true) × (moved_buses level marks ≡ 0) × (t.added ≡ false)
+      pub stiffens_start : {g : Limits} {marks' : List ℕ} {u : StiffeningTally} → (promote mode ≡ true) × (moved_buses level marks ≡ 0) × (t.added ≡ false)
           → budget_for g ≡ record { hv = hv_budget (length level); branches = share_of stiffening_branch_budget (length level); top = stiffen_top above (hv_budget (length level)) level }
           → marks' ≡ no_marks (length level)
           → u ≡ record { total = sum circuits; hv = at_or_above level g.top; stiffening = p.stiffening; wide = false; stiffened = false }
@@ -174,27 +174,27 @@ module _ {mode : PlanMode} {above : ℕ} {grid : GridColumns} {supply : SupplyCo
             size = v.size;
             some = omega (arith, ap (λ (q : Progress). q.rounds) z.runs);
             unconverged = ap (λ (q : Progress). q.converged) z.runs;
-            unsettled = ap (λ (q : Progress). q.settled) z.runs;
+            unrested = ap (λ (q : Progress). q.rested) z.runs;
             whole = stiffens mode above grid supply opened (length opened.leader) level z.circuits₀ z.banks₀ z.floors₀ z.upsized₀ v.before z.p₀ W v.left d v.some v.size v.rounds.whole
                 angle flow no_refusal e v.edges v.buses v.bus_size v.peak refl circuits banks floors upsized marks t k all z.sized
                 none.1 none.2 none.0 p z.runs g marks' u limits clear begin;
           }
 
   module _ {d : ℕ} {level : List ℕ} {g : Limits} {e : Edges} {angle flow : List Float} {p : Progress} {t : Tally} {i : ℕ} {circuits : List ℕ} {banks floors : List Float} {upsized marks : List ℕ}
-      {s : Stiffness} (z : Stiffens mode above grid supply opened d level g e angle flow p t i circuits banks floors upsized marks s W) where
-    module _ {circuits' : List ℕ} {banks' floors' : List Float} {upsized' marks' : List ℕ} {r : Result Stiffness Refusal} (more : i < length opened.leader)
+      {s : StiffeningTally} (z : Stiffens mode above grid supply opened d level g e angle flow p t i circuits banks floors upsized marks s W) where
+    module _ {circuits' : List ℕ} {banks' floors' : List Float} {upsized' marks' : List ℕ} {r : Result StiffeningTally Refusal} (more : i < length opened.leader)
         (led : LedStiffened i p.rounds (solved_by g grid level opened e angle) circuits banks floors upsized marks s circuits' banks' floors' upsized' marks' r) where
       pub stiffens_refused : {f : Refusal} → r ≡ Err f → Alike mode above grid supply opened (length opened.leader) (λ o. stopped f) W
       stiffens_refused {f} q =
           stiffen_refused mode above grid supply opened (length opened.leader) W d level g e angle flow p t z.size i circuits banks floors upsized marks s z.whole more circuits' banks' floors' upsized' marks' r led f q
 
-      pub stiffens_turn : {s' : Stiffness} → r ≡ Ok s' → Stiffens mode above grid supply opened d level g e angle flow p t (i + 1) circuits' banks' floors' upsized' marks' s' W
+      pub stiffens_turn : {s' : StiffeningTally} → r ≡ Ok s' → Stiffens mode above grid supply opened d level g e angle flow p t (i + 1) circuits' banks' floors' upsized' marks' s' W
       stiffens_turn {s'} q =
           record {
             size = z.size;
             some = z.some;
             unconverged = z.unconverged;
-            unsettled = z.unsettled;
+            unrested = z.unrested;
             whole = stiffen_next mode above grid supply opened (length opened.leader) W d level g e angle flow p t z.size i circuits banks floors upsized marks s z.whole more circuits' banks' floors' upsized' marks' r led s' q;
           }
 
@@ -202,18 +202,18 @@ module _ {mode : PlanMode} {above : ℕ} {grid : GridColumns} {supply : SupplyCo
     module _ {level' : List ℕ} {banks' : List Float} {moved : ℕ} (all : length opened.leader ≤ i) (redrawn : Redrawn grid level supply marks floors banks level' banks' moved) where
       pub stiffens_again : (ltb 0 moved || s.stiffened) ≡ true
           → Rounds mode above grid supply opened d level' circuits banks' floors upsized angle
-          (record { rounds = p.rounds; promoted = p.promoted + moved; capacity = t.capacity; stiffening = s.stiffening; converged = p.converged; settled = p.settled }) W
+          (record { rounds = p.rounds; promoted = p.promoted + moved; capacity = t.capacity; stiffening = s.stiffening; converged = p.converged; rested = p.rested }) W
       stiffens_again h =
           record {
-            whole = stiffened_again mode above grid supply opened (length opened.leader) W d level g e angle flow p t z.size i circuits banks floors upsized marks s z.whole all z.some z.unconverged z.unsettled level' banks' moved redrawn h;
+            whole = stiffened_again mode above grid supply opened (length opened.leader) W d level g e angle flow p t z.size i circuits banks floors upsized marks s z.whole all z.some z.unconverged z.unrested level' banks' moved redrawn h;
           }
 
-      pub stiffens_settled : (ltb 0 moved || s.stiffened) ≡ false
+      pub stiffens_rested : (ltb 0 moved || s.stiffened) ≡ false
           → Alike mode above grid supply opened (length opened.leader) (λ o.
           going (draft_of (rounds_case o mode above grid supply) level' circuits banks' floors upsized angle
-          (record { rounds = p.rounds; promoted = p.promoted + moved; capacity = t.capacity; stiffening = s.stiffening; converged = not s.wide && not t.capped; settled = true }))) W
-      stiffens_settled h =
-          stiffened_settled mode above grid supply opened (length opened.leader) W d level g e angle flow p t z.size i circuits banks floors upsized marks s z.whole all z.some z.unconverged z.unsettled level' banks' moved redrawn h
+          (record { rounds = p.rounds; promoted = p.promoted + moved; capacity = t.capacity; stiffening = s.stiffening; converged = not s.wide && not t.capped; rested = true }))) W
+      stiffens_rested h =
+          stiffened_rested mode above grid supply opened (length opened.leader) W d level g e angle flow p t z.size i circuits banks floors upsized marks s z.whole all z.some z.unconverged z.unrested level' banks' moved redrawn h
 
 -- ---- what the rounds leave
 pub run_of : {mode : PlanMode} {above budget : ℕ} {start : Progress} {grid : GridColumns} {level : List ℕ} {supply : SupplyColumns} {opened : OpenedColumns}

@@ -54,7 +54,7 @@ pub record LineFits (grid : GridColumns) (level : List ℕ) (k from : ℕ) : Typ
 abbrev pub Banks : List Float → Type 0
 Banks banks = (k : ℕ) → k < length banks → rating_ok (at banks k) ≡ true
 
-pub record Rated (d : CircuitDesign) : Type 0 where
+pub record RatedDesign (d : CircuitDesign) : Type 0 where
   pub bank : d.is_transformer ≡ true → rating_ok d.transformer_mva ≡ true
   pub line : rating_ok d.line_rate ≡ true
 

@@ -4,7 +4,7 @@ pub mod Edges
 pub mod Tables
 pub mod Design
 pub mod Redesign
-pub mod Raise
+pub mod RaiseMarks
 pub mod Size
 pub mod Opening
 pub mod Solve
@@ -15,7 +15,7 @@ pub mod Sound
 pub mod Whole
 pub mod Stiffen
 pub mod Rounds
-pub mod Raises
-pub mod Settle
+pub mod RaisePasses
+pub mod Finish
 pub mod Plan
 pub mod Preview

@@ -9,14 +9,14 @@ use Rattle.plan_defs.specs.Case.{Case, case_of, case_with, expand, first_levels,
 use Rattle.plan_defs.specs.Components.{component, grounds_of}
 use Rattle.plan_defs.specs.Dispatch.{dispatch_of, injections}
 use Rattle.plan_defs.specs.Rounds.{all_rounds}
-use Rattle.plan_defs.specs.Plan.{Plan, opened_with, settled, closing, plan_for}
+use Rattle.plan_defs.specs.Plan.{Plan, opened_with, finished, closing, plan_for}
 use Rattle.plan_defs.specs.Outcome.{Slices, StageLengths, up_to, summary}
 use Rattle.plan_defs.specs.declared.CorridorPlan.{CorridorPlan}
 use Rattle.planning.specs.Design.{Lines, Banks}
 use Rattle.planning.specs.Size.{Few, Capped}
 use Rattle.planning.specs.Solve.{peak_for}
-use Rattle.planning.specs.Rounds.{rounds_case, draft_of, ran_as, Columns, Places}
-use Rattle.planning.specs.Settle.{PlanHeld}
+use Rattle.planning.specs.Rounds.{rounds_case, draft_of, ran_as, Columns, RoundPlaces}
+use Rattle.planning.specs.Finish.{PlanHeld}
 use Rattle.planning.specs.Sound.{Sound}
 use Rattle.planning.specs.declared.rounds.Progress.{Progress}
 use Rattle.planning.specs.declared.close.Closing.{Closing}
@@ -65,12 +65,12 @@ abbrev pub rounds_for : PlanMode → ℕ → ℕ
 rounds_for mode m = cond (expand mode && not (m == 0)) planning_max_rounds 0
 
 abbrev pub start_of : PlanMode → ℕ → ℕ → Progress
-start_of mode m promoted = record { rounds = 0; promoted = promoted; capacity = 0; stiffening = 0; converged = not (expand mode) || (m == 0); settled = not (expand mode) || (m == 0) }
+start_of mode m promoted = record { rounds = 0; promoted = promoted; capacity = 0; stiffening = 0; converged = not (expand mode) || (m == 0); rested = not (expand mode) || (m == 0) }
 
 pub record Runnable (above promoted : ℕ) (grid : GridColumns) (level : List ℕ) (supply : SupplyColumns) (opened : OpenedColumns)
     (circuits : List ℕ) (banks floors : List Float) (upsized marks : List ℕ) (angle flow : List Float) : Type 0 where
   pub columns : Columns grid level supply
-  pub places : Places (length level) (length grid.a) opened circuits banks floors upsized marks angle flow
+  pub places : RoundPlaces (length level) (length grid.a) opened circuits banks floors upsized marks angle flow
   pub few_levels : above ≤ most_levels
   pub few_moves : promoted ≤ most_buses * most_levels
   pub capped : Capped (length grid.a) grid.cap
@@ -120,7 +120,7 @@ PlannedAs (Ok x) circuits tier flow rate angle added c t = RunHeld x circuits ti
 pub record Plannable (grid : GridColumns) (level : List ℕ) (supply : SupplyColumns) (opened : OpenedColumns)
     (circuits : List ℕ) (banks floors : List Float) (upsized marks : List ℕ) (angle flow : List Float) : Type 0 where
   pub columns : Columns grid level supply
-  pub places : Places (length level) (length grid.a) opened circuits banks floors upsized marks angle flow
+  pub places : RoundPlaces (length level) (length grid.a) opened circuits banks floors upsized marks angle flow
   pub few_levels : length grid.ladder ≤ most_levels
   pub unset : floors ≡ zeros (length grid.a)
   pub capped : Capped (length grid.a) grid.cap
@@ -132,7 +132,7 @@ pub record OpenedPlan (mode : PlanMode) (target above : ℕ) (grid : GridColumns
       → (let c = rounds_case o mode above grid supply in
       Sound c target → level ≡ first_levels c → circuits ≡ lower_bounds c → upsized ≡ replicate o.corridors 0 → o.cap ≡ grid.cap
       → PlannedAs r circuits' level' flow' rate' angle' added' c
-      (onward (onward (opened_with c opened.leader mw (peak_for o.buses opened.grounds opened.injection)) (settled c)) (closing c target)))
+      (onward (onward (opened_with c opened.leader mw (peak_for o.buses opened.grounds opened.injection)) (finished c)) (closing c target)))
 
 -- ---- all stages, of a case that has all these columns
 abbrev pub whole_case : Case → PlanMode → ℕ → GridColumns → List ℕ → SupplyColumns → List ℕ → Case

@@ -24,7 +24,7 @@ rounds_case o mode above grid supply = with_lines (with_units o mode above suppl
 -- ---- the draft that the slices stand for
 abbrev pub draft_of : Case → List ℕ → List ℕ → List Float → List Float → List ℕ → List Float → Progress → Draft
 draft_of c level circuits banks floors upsized angle p =
-    draft level (build_of c level circuits banks floors upsized) angle p.rounds p.promoted p.capacity p.stiffening p.converged p.settled
+    draft level (build_of c level circuits banks floors upsized) angle p.rounds p.promoted p.capacity p.stiffening p.converged p.rested
 
 abbrev pub ran_as : Result Progress Refusal → Case → List ℕ → List ℕ → List Float → List Float → List ℕ → List Float → Stage Draft
 ran_as (Err f) c level circuits banks floors upsized angle = stopped f
@@ -47,7 +47,7 @@ pub record Columns (grid : GridColumns) (level : List ℕ) (supply : SupplyColum
   pub load_size : length supply.load ≡ length level
   pub few : length grid.a ≤ most_corridors
 
-pub record Places (n m : ℕ) (opened : OpenedColumns) (circuits : List ℕ) (banks floors : List Float) (upsized marks : List ℕ) (angle flow : List Float) : Type 0 where
+pub record RoundPlaces (n m : ℕ) (opened : OpenedColumns) (circuits : List ℕ) (banks floors : List Float) (upsized marks : List ℕ) (angle flow : List Float) : Type 0 where
   pub leader_size : length opened.leader ≡ n
   pub count_size : length circuits ≡ m
   pub bank_size : length banks ≡ m
@@ -59,7 +59,7 @@ pub record Places (n m : ℕ) (opened : OpenedColumns) (circuits : List ℕ) (ba
 
 -- how far the tallies may have come: a bus moves at most as many levels as there are before the rounds, and in a round once after sizing or once after
 -- stiffening; sizing adds to a corridor up to its cap, and stiffening a circuit to each for each component
-pub record Tallies (above budget : ℕ) (p : Progress) : Type 0 where
+pub record RoundTallies (above budget : ℕ) (p : Progress) : Type 0 where
   pub few_levels : above ≤ most_levels
   pub rounds : p.rounds + budget ≤ planning_max_rounds
   pub promoted : p.promoted ≤ most_buses * most_levels + 2 * most_buses * p.rounds
@@ -69,8 +69,8 @@ pub record Tallies (above budget : ℕ) (p : Progress) : Type 0 where
 pub record RoundsFit (above budget : ℕ) (start : Progress) (grid : GridColumns) (level : List ℕ) (supply : SupplyColumns)
     (opened : OpenedColumns) (circuits : List ℕ) (banks floors : List Float) (upsized marks : List ℕ) (angle flow : List Float) : Type 0 where
   pub columns : Columns grid level supply
-  pub places : Places (length level) (length grid.a) opened circuits banks floors upsized marks angle flow
-  pub tallies : Tallies above budget start
+  pub places : RoundPlaces (length level) (length grid.a) opened circuits banks floors upsized marks angle flow
+  pub tallies : RoundTallies above budget start
   pub capped : Capped (length grid.a) grid.cap
   pub some : 1 ≤ length grid.a
   pub banked : Banks banks

@@ -9,7 +9,7 @@ use Rattle.plan_defs.specs.Build.{built, drawn_all}
 use Rattle.plan_defs.specs.Size.{Sizing, sizing, next_bank, enlarges, add_to, grow, size_one}
 use Rattle.plan_defs.specs.declared.CircuitDesign.{CircuitDesign}
 use Rattle.planning.specs.Design.{Lines, Banks}
-use Rattle.planning.specs.Raise.{largest_count}
+use Rattle.planning.specs.RaiseMarks.{largest_count}
 use Rattle.planning.specs.declared.size.Tally.{Tally}
 use Rattle.planning.specs.Tables.{GridColumns, grid_of}
 
@@ -61,7 +61,7 @@ pub record Grows (c : Case) (level : List ℕ) (required : Float) (k : ℕ) (d :
   pub few : Few circuits → Few circuits'
 
 -- ---- what the lent slices must be: a place for each corridor, or for each bus
-pub record Held (corridors buses : ℕ) (flow : List Float) (circuits : List ℕ) (banks floors : List Float) (upsized marks : List ℕ) : Type 0 where
+pub record SizingHeld (corridors buses : ℕ) (flow : List Float) (circuits : List ℕ) (banks floors : List Float) (upsized marks : List ℕ) : Type 0 where
   pub flow_size : length flow ≡ corridors
   pub count_size : length circuits ≡ corridors
   pub bank_size : length banks ≡ corridors
@@ -71,7 +71,7 @@ pub record Held (corridors buses : ℕ) (flow : List Float) (circuits : List ℕ
 
 pub record CorridorFits (grid : GridColumns) (level : List ℕ) (flow : List Float) (k : ℕ) (circuits : List ℕ) (banks floors : List Float) (upsized marks : List ℕ) (t : Tally) : Type 0 where
   pub lines : Lines grid level
-  pub held : Held (length grid.a) (length level) flow circuits banks floors upsized marks
+  pub held : SizingHeld (length grid.a) (length level) flow circuits banks floors upsized marks
   pub banked : Banks banks
   pub capped : Capped (length grid.a) grid.cap
   pub corridor : k < length grid.a

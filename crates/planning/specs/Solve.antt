@@ -27,7 +27,7 @@ abbrev pub finite_angles : List Float → Stage (List Float)
 finite_angles x = finite_if (all_finite x) x
 
 -- a place for each bus: injections and guess; angles that are lent
-pub record Places (n : ℕ) (injection guess angle : List Float) : Type 0 where
+pub record SolvePlaces (n : ℕ) (injection guess angle : List Float) : Type 0 where
   pub injection_size : length injection ≡ n
   pub guess_size : length guess ≡ n
   pub angle_size : length angle ≡ n

@@ -13,10 +13,10 @@ use Rattle.plan_defs.specs.Components.{leads, within, members}
 use Rattle.plan_defs.specs.Solve.{PlanningCase}
 use Rattle.plan_defs.specs.Design.{design}
 use Rattle.plan_defs.specs.Build.{built, build_of}
-use Rattle.plan_defs.specs.Stiffen.{Budget, Stiffening, Gain, stiff, stiffen_by, stiffen_one, gain_of, chosen, leader as ahead, laggard, best_of, narrow, stiffen_component}
+use Rattle.plan_defs.specs.Stiffen.{Budget, Stiffening, Gain, stiff, stiffen_by, stiffen_one, gain_of, chosen, ahead, laggard, best_of, narrow, stiffen_component}
 use Rattle.plan_defs.specs.declared.CircuitDesign.{CircuitDesign}
 use Rattle.planning.specs.Design.{Lines, Banks}
-use Rattle.planning.specs.Raise.{largest_count, pairs_for}
+use Rattle.planning.specs.RaiseMarks.{largest_count, pairs_for}
 use Rattle.planning.specs.Size.{Few, Capped}
 use Rattle.planning.specs.Fill.{designs_for}
 use Rattle.planning.specs.Opening.{stage_if}
@@ -24,7 +24,7 @@ use Rattle.planning.specs.Solve.{peak_for}
 use Rattle.planning.specs.Sound.{Sound}
 use Rattle.planning.specs.Whole.{with_lines}
 use Rattle.planning.specs.declared.budgets.Limits.{Limits}
-use Rattle.planning.specs.declared.budgets.Stiffness.{Stiffness}
+use Rattle.planning.specs.declared.budgets.StiffeningTally.{StiffeningTally}
 use Rattle.refusal.specs.declared.Refusal.{Refusal}
 use Rattle.planning.specs.declared.edges.Edges.{Edges}
 use Rattle.planning.specs.Tables.{GridColumns, SolvedColumns, edges_in}
@@ -33,11 +33,11 @@ use Rattle.planning.specs.Tables.{GridColumns, SolvedColumns, edges_in}
 abbrev pub budget_for : Limits → Budget
 budget_for g = record { hv = g.hv; branches = g.branches; top = g.top }
 
-abbrev pub stiff_of : Case → List ℕ → List ℕ → List Float → List Float → List ℕ → List ℕ → Stiffness → Stiffening
+abbrev pub stiff_of : Case → List ℕ → List ℕ → List Float → List Float → List ℕ → List ℕ → StiffeningTally → Stiffening
 stiff_of c level circuits banks floors upsized marks t =
     stiff (build_of c level circuits banks floors upsized) marks t.total t.hv t.stiffening t.wide t.stiffened
 
-abbrev pub stiffened_as : Result Stiffness Refusal → Case → List ℕ → List ℕ → List Float → List Float → List ℕ → List ℕ → Stage Stiffening
+abbrev pub stiffened_as : Result StiffeningTally Refusal → Case → List ℕ → List ℕ → List Float → List Float → List ℕ → List ℕ → Stage Stiffening
 stiffened_as (Err f) c level circuits banks floors upsized marks = stopped f
 stiffened_as (Ok t) c level circuits banks floors upsized marks = going (stiff_of c level circuits banks floors upsized marks t)
 
@@ -71,20 +71,20 @@ pub record Stiffenable (solved : SolvedColumns)
   pub fits : StiffenFits solved.grid solved.level circuits banks floors upsized marks
 
 -- room for what m corridors may add
--- asked by 7 functions: m differs from call to call, and the room falls with each corridor, so that no invariant of Stiffness states it
-pub record Room (m : ℕ) (t : Stiffness) : Type 0 where
+-- asked by 7 functions: m differs from call to call, and the room falls with each corridor, so that no invariant of StiffeningTally states it
+pub record Room (m : ℕ) (t : StiffeningTally) : Type 0 where
   pub total : t.total + m ≤ largest_count
   pub hv : t.hv + 2 * m ≤ largest_count
   pub stiffening : t.stiffening + m ≤ largest_count
 
 -- ---- what the component that bus i leads, where it leads one, does to the slices
-abbrev pub Within : ℕ → Stiffness → Result Stiffness Refusal → Type 0
-Within m t (Err f) = Unit
-Within m t (Ok u) = (u.total ≤ t.total + m) × (u.hv ≤ t.hv + 2 * m) × (u.stiffening ≤ t.stiffening + m)
+abbrev pub StiffeningWithin : ℕ → StiffeningTally → Result StiffeningTally Refusal → Type 0
+StiffeningWithin m t (Err f) = Unit
+StiffeningWithin m t (Ok u) = (u.total ≤ t.total + m) × (u.hv ≤ t.hv + 2 * m) × (u.stiffening ≤ t.stiffening + m)
 
 pub record LedStiffened (i round : ℕ) (solved : SolvedColumns)
-    (circuits : List ℕ) (banks floors : List Float) (upsized marks : List ℕ) (t : Stiffness)
-    (circuits' : List ℕ) (banks' floors' : List Float) (upsized' marks' : List ℕ) (r : Result Stiffness Refusal) : Type 0 where
+    (circuits : List ℕ) (banks floors : List Float) (upsized marks : List ℕ) (t : StiffeningTally)
+    (circuits' : List ℕ) (banks' floors' : List Float) (upsized' marks' : List ℕ) (r : Result StiffeningTally Refusal) : Type 0 where
   pub stiffened : (o : Case) (target : ℕ) (injection flows : List Float) → Sound (with_lines o solved.grid) target → length solved.level ≡ o.buses → o.cap ≡ solved.grid.cap
       → stiffened_as r (with_lines o solved.grid) solved.level circuits' banks' floors' upsized' marks'
       ≡ stage_if (leads solved.opened.leader i)
@@ -93,11 +93,11 @@ pub record LedStiffened (i round : ℕ) (solved : SolvedColumns)
       (stiff_of (with_lines o solved.grid) solved.level circuits banks floors upsized marks t)
   pub banked : Banks banks'
   pub few : Few circuits → Few circuits'
-  pub bound : Within (length solved.grid.a) t r
+  pub bound : StiffeningWithin (length solved.grid.a) t r
 
 -- ---- one corridor
 -- the state over any designs
-abbrev pub stiff_over : List CircuitDesign → List Float → List ℕ → List ℕ → List ℕ → Stiffness → Stiffening
+abbrev pub stiff_over : List CircuitDesign → List Float → List ℕ → List ℕ → List ℕ → StiffeningTally → Stiffening
 stiff_over designs floors upsized circuits marks t =
     stiff (built circuits designs floors upsized) marks t.total t.hv t.stiffening t.wide t.stiffened
 
@@ -109,17 +109,17 @@ abbrev pub room_for : Limits → ℕ → ℕ → ℕ → Bool
 room_for g own count total = nat_lt count (full_by own) && nat_lt total g.branches
 
 -- so many circuits added, and so many buses that came to the top
-abbrev pub reckoned : ℕ → ℕ → Stiffness → Stiffness
-reckoned added arrived t = record { total = t.total + added; hv = t.hv + arrived; stiffening = t.stiffening + added; wide = t.wide; stiffened = true }
+abbrev pub tallied_more : ℕ → ℕ → StiffeningTally → StiffeningTally
+tallied_more added arrived t = record { total = t.total + added; hv = t.hv + arrived; stiffening = t.stiffening + added; wide = t.wide; stiffened = true }
 
 -- what a raise, or else a circuit, does to corridor k, whatever its designs are
-pub record Strengthened (g : Limits) (own : ℕ) (level a b : List ℕ) (k : ℕ) (circuits marks : List ℕ) (t : Stiffness) (circuits' marks' : List ℕ) (t' : Stiffness) : Type 0 where
+pub record CorridorStiffened (g : Limits) (own : ℕ) (level a b : List ℕ) (k : ℕ) (circuits marks : List ℕ) (t : StiffeningTally) (circuits' marks' : List ℕ) (t' : StiffeningTally) : Type 0 where
   pub stiffened : (designs : List CircuitDesign) (floors : List Float) (upsized : List ℕ)
       → stiff_over designs floors upsized circuits' marks' t'
       ≡ stiffen_by false (raisable g t.hv level a b k) (room_for g own (slice_index circuits k) t.total) (pairs_for a b) level (budget_for g) k
       (stiff_over designs floors upsized circuits marks t)
   pub few : Few circuits → Few circuits'
-  pub bound : Within 1 t (Ok t')
+  pub bound : StiffeningWithin 1 t (Ok t')
 
 -- a case of these columns has as many corridors and levels as they, and these caps
 abbrev pub Fitting : Case → GridColumns → Type 0
@@ -127,15 +127,15 @@ Fitting o grid = (length grid.a ≡ o.corridors) × (length grid.ladder ≡ leve
 
 -- what stiffening the corridors of a list does to them
 pub record BatchStiffened (ks : List ℕ) (g : Limits) (grid : GridColumns) (level : List ℕ)
-    (circuits : List ℕ) (banks floors : List Float) (upsized marks : List ℕ) (t : Stiffness)
-    (circuits' : List ℕ) (banks' floors' : List Float) (upsized' marks' : List ℕ) (t' : Stiffness) : Type 0 where
+    (circuits : List ℕ) (banks floors : List Float) (upsized marks : List ℕ) (t : StiffeningTally)
+    (circuits' : List ℕ) (banks' floors' : List Float) (upsized' marks' : List ℕ) (t' : StiffeningTally) : Type 0 where
   pub stiffened : (o : Case) → Fitting o grid
       → stiff_of (with_lines o grid) level circuits' banks' floors' upsized' marks' t'
       ≡ each (stiffen_one (with_lines o grid) level (budget_for g)) ks
       (stiff_of (with_lines o grid) level circuits banks floors upsized marks t)
   pub banked : Banks banks'
   pub few : Few circuits → Few circuits'
-  pub bound : Within (length ks) t (Ok t')
+  pub bound : StiffeningWithin (length ks) t (Ok t')
 
 -- ---- gains: of a candidate what one more circuit gives, of any other 0
 -- asked by 3 functions: what Solved cannot hold, as reinforce writes the circuits and the banks after it
@@ -145,7 +145,7 @@ pub record Gainful (solved : SolvedColumns) (phi : List Float) (circuits : List 
   pub bank_size : length banks ≡ length solved.grid.a
   pub banked : Banks banks
 
-abbrev pub candidate_at : Limits → List ℕ → List ℕ → List ℕ → List ℕ → List ℕ → List ℕ → Stiffness → ℕ → ℕ → Bool
+abbrev pub candidate_at : Limits → List ℕ → List ℕ → List ℕ → List ℕ → List ℕ → List ℕ → StiffeningTally → ℕ → ℕ → Bool
 candidate_at g leader level a b cap circuits t root k =
     within leader root (slice_index a k)
     && (room_for g (slice_index cap k) (slice_index circuits k) t.total || (can_raise (pairs_for a b) level g.top k && nat_lt t.hv g.hv))
@@ -154,7 +154,7 @@ abbrev pub gain_if : Bool → Float → Float
 gain_if true gain = gain
 gain_if false gain = nought
 
-abbrev pub gain_at : SolvedColumns → List Float → List ℕ → List Float → Stiffness → ℕ → ℕ → Float
+abbrev pub gain_at : SolvedColumns → List Float → List ℕ → List Float → StiffeningTally → ℕ → ℕ → Float
 gain_at solved phi circuits banks t root k =
     gain_if (candidate_at solved.g solved.opened.leader solved.level solved.grid.a solved.grid.b solved.grid.cap circuits t root k) (gain_of solved.angle phi (design (designs_for solved.grid solved.level banks) k))
 
@@ -177,7 +177,7 @@ gain_for gain k = record { gain = at gain k; corridor = k }
 
 -- an order is the chosen corridors
 pub record Chosen (root : ℕ) (excess : Float) (solved : SolvedColumns) (phi : List Float)
-    (circuits : List ℕ) (banks : List Float) (t : Stiffness) (order : List ℕ) : Type 0 where
+    (circuits : List ℕ) (banks : List Float) (t : StiffeningTally) (order : List ℕ) : Type 0 where
   pub few : length order ≤ length solved.grid.a
   pub below : All (λ (k : ℕ). k < length solved.grid.a) order
   pub chosen : (o : Case) (floors : List Float) (upsized marks : List ℕ) → Fitting o solved.grid
@@ -185,15 +185,15 @@ pub record Chosen (root : ℕ) (excess : Float) (solved : SolvedColumns) (phi : 
       ≡ chosen (with_lines o solved.grid) solved.opened.leader solved.level (budget_for solved.g) root (stiff_of (with_lines o solved.grid) solved.level circuits banks floors upsized marks t) solved.angle excess phi
 
 -- ---- what a step of a stiffening does to the slices, of any case with these columns, whatever the injections and the flows are
-pub record Stepped (step : Case → List Float → List Float → Stiffening → Stage Stiffening) (grid : GridColumns) (level : List ℕ)
-    (circuits : List ℕ) (banks floors : List Float) (upsized marks : List ℕ) (t : Stiffness)
-    (circuits' : List ℕ) (banks' floors' : List Float) (upsized' marks' : List ℕ) (r : Result Stiffness Refusal) : Type 0 where
+pub record StepTaken (step : Case → List Float → List Float → Stiffening → Stage Stiffening) (grid : GridColumns) (level : List ℕ)
+    (circuits : List ℕ) (banks floors : List Float) (upsized marks : List ℕ) (t : StiffeningTally)
+    (circuits' : List ℕ) (banks' floors' : List Float) (upsized' marks' : List ℕ) (r : Result StiffeningTally Refusal) : Type 0 where
   pub stiffened : (o : Case) (injection flows : List Float) → Fitting o grid → length level ≡ o.buses
       → stiffened_as r (with_lines o grid) level circuits' banks' floors' upsized' marks'
       ≡ step (with_lines o grid) injection flows (stiff_of (with_lines o grid) level circuits banks floors upsized marks t)
   pub banked : Banks banks'
   pub few : Few circuits → Few circuits'
-  pub bound : Within (length grid.a) t r
+  pub bound : StiffeningWithin (length grid.a) t r
 
 abbrev pub reinforce_step : ℕ → Float → SolvedColumns → List Float → Case → List Float → List Float → Stiffening → Stage Stiffening
 reinforce_step root excess solved phi c injection flows s =

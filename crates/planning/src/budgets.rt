@@ -26,7 +26,7 @@ pub struct Limits {
 
 // What stiffening adds up.
 #[derive(Clone, Copy)]
-pub struct Stiffness {
+pub struct StiffeningTally {
     // Circuits in all; buses at or above the top, an end again for each corridor that marks it; circuits that stiffening added so far.
     pub total: u32,
     pub hv: u32,
@@ -36,7 +36,7 @@ pub struct Stiffness {
     pub stiffened: bool,
 }
 
-// That `level` has at most `most_buses` places five functions ask, one of them in raise.rt: no struct holds it there, since the raises of
+// That `level` has at most `most_buses` places five functions ask, one of them in raise_marks.rt: no struct holds it there, since the raises of
 // a round write it.
 fn at_or_above(level: &[u32], top: u32) -> u32
     requires { length level.now ≤ most_buses }
@@ -75,13 +75,13 @@ pub fn limits_of(above: usize, level: &[u32]) -> Limits
     Limits { hv, branches, top }
 }
 
-pub fn stiffness_from(
+pub fn first_tally(
     g: Limits,
     level: &[u32],
     circuits: &[u32],
     stiffening: u32,
     marks: &mut [u32],
-) -> Stiffness
+) -> StiffeningTally
     requires { (length level.now ≤ most_buses) × (length marks.old ≡ length level.now) × Counted circuits.now }
     ensures marks { marks.new ≡ no_marks (length level.now) }
     ensures start { result ≡ record { total = sum circuits.now; hv = at_or_above level.now g.top; stiffening = stiffening; wide = false; stiffened = false } }
@@ -89,7 +89,7 @@ pub fn stiffness_from(
     marks.fill(0);
     let circuits_now = total(circuits);
     let hv = at_or_above(level, g.top);
-    Stiffness {
+    StiffeningTally {
         total: circuits_now,
         hv,
         stiffening,

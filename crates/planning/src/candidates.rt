@@ -7,10 +7,10 @@ ghost use Rattle.plan_defs.specs.Constants.{most_corridors};
 ghost use Rattle.plan_defs.specs.Components.{within};
 ghost use Rattle.plan_defs.specs.Lists.{counting};
 ghost use Rattle.plan_defs.specs.Stiffen.{gain_of, batch, batch_cap};
-ghost use Rattle.planning.specs.Raise.{pairs_for};
+ghost use Rattle.planning.specs.RaiseMarks.{pairs_for};
 ghost use Rattle.planning.specs.Stiffen.{Gainful, candidate_at, gain_at, gains_more, gain_next, gain_order, gain_for, Chosen};
 
-use crate::budgets::Stiffness;
+use crate::budgets::StiffeningTally;
 use crate::figures::counting;
 use crate::solve::susceptance;
 use crate::solved::Solved;
@@ -23,7 +23,13 @@ use std::num::saturating_f64_to_usize;
 const STIFFENING_BATCH_SHARE: f64 = 0.05;
 
 // Of the component, with room for a circuit, or below the top with room for a raise.
-fn is_candidate(solved: &Solved, circuits: &[u32], t: Stiffness, root: usize, k: usize) -> bool
+fn is_candidate(
+    solved: &Solved,
+    circuits: &[u32],
+    t: StiffeningTally,
+    root: usize,
+    k: usize,
+) -> bool
     requires { (k < length solved.now.grid.a) × (length circuits.now ≡ length solved.now.grid.a) }
     ensures { result ≡ candidate_at solved.now.g solved.now.opened.leader solved.now.level solved.now.grid.a solved.now.grid.b solved.now.grid.cap circuits.now t root k }
 {
@@ -51,7 +57,7 @@ fn gain_at(
     phi: &[f64],
     circuits: &[u32],
     banks: &[f64],
-    t: Stiffness,
+    t: StiffeningTally,
     root: usize,
     k: usize,
 ) -> f64
@@ -72,7 +78,7 @@ fn gains(
     phi: &[f64],
     circuits: &[u32],
     banks: &[f64],
-    t: Stiffness,
+    t: StiffeningTally,
     root: usize,
     gain: &mut [f64],
 )
@@ -158,7 +164,7 @@ pub fn choose_batch(
     phi: &[f64],
     circuits: &[u32],
     banks: &[f64],
-    t: Stiffness,
+    t: StiffeningTally,
 ) -> ArrayVec<u32, MOST_CORRIDORS>
     requires gainful { Gainful solved.now phi.now circuits.now banks.now }
     ensures { Chosen root excess solved.now

@@ -7,7 +7,7 @@ const WORK_ROWS: usize = 12;
 
 // How many places the lent slices have.
 #[derive(Clone, Copy)]
-pub struct Places {
+pub struct LentPlaces {
     pub circuits: usize,
     pub flow: usize,
     pub rate: usize,
@@ -40,7 +40,7 @@ fn work_ok(places: usize, n: usize, m: usize, g: usize) -> bool
     rest - m == g
 }
 
-pub fn places_ok(n: usize, m: usize, g: usize, above: usize, p: Places) -> bool
+pub fn places_ok(n: usize, m: usize, g: usize, above: usize, p: LentPlaces) -> bool
     ensures { result ≡ places_ok n m g above p }
 {
     let corridors = (p.circuits == m) & (p.flow == m) & (p.rate == m);

@@ -9,7 +9,7 @@ ghost use Rattle.plan_defs.specs.Preview.{kept_as, outcome as outcome_of, previe
 ghost use Rattle.plan_defs.specs.declared.CorridorPlan.{CorridorPlan};
 
 use acceptance::check_case;
-use lent::Places;
+use lent::LentPlaces;
 use loads::weigh;
 use mode::PlanMode;
 use plan_defs::CorridorPlan;
@@ -30,11 +30,11 @@ mod opening;
 mod plan;
 mod policy;
 mod preview;
-mod raise;
-mod raises;
+mod raise_marks;
+mod raise_passes;
 mod redesign;
 mod rounds;
-mod settle;
+mod finish;
 mod size;
 mod solve;
 mod solved;
@@ -93,7 +93,7 @@ pub fn plan_corridors(
     ensures demand { (x : CorridorPlan) → result ≡ Ok x → AnswerTo (surveyed mode n m g above requested ladder.now tier.now reading.now weight.now bus.now slack.now pmin.now pmax.now c1.now c2.now a.now b.now initial.now km.now share.now cap.now sheet.now) target
         (outcome result (slices circuits.new flow.new rate.new before.new order.new kept_cap.new mw.new angle.new final_tier.new ground.new added.new figures.new counts.new)) x }
 {
-    let places = Places {
+    let places = LentPlaces {
         circuits: circuits.len(),
         flow: flow.len(),
         rate: rate.len(),

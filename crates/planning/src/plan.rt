@@ -10,10 +10,10 @@ use crate::opening::{
     lower_bounds,
 };
 use crate::policy::expands;
-use crate::raises::raises;
+use crate::raise_passes::raise_in_passes;
 use crate::redesign::redesign;
 use crate::rounds::{Progress, size_rounds};
-use crate::settle::{Settling, settle};
+use crate::finish::{Finishing, finish};
 use crate::tables::{Grid, Opened, Supply};
 use mode::PlanMode;
 use plan_defs::CorridorPlan;
@@ -72,7 +72,7 @@ fn first_progress(mode: PlanMode, m: usize, promoted: u32) -> Progress
         capacity: 0,
         stiffening: 0,
         converged: none,
-        settled: none,
+        rested: none,
     }
 }
 
@@ -120,7 +120,7 @@ pub struct PlanRun {
 }
 
 // The answer, of the rounds and of what came after them.
-fn planned(progress: Progress, grounds: u32, s: Settling) -> PlanRun
+fn planned(progress: Progress, grounds: u32, s: Finishing) -> PlanRun
     ensures plan { result.plan ≡ plan_by progress grounds s.filler s.closing }
     ensures kept { result.kept ≡ s.kept }
 {
@@ -169,18 +169,18 @@ fn plan_opened(
         circuits.new level.new flow.new rate.new angle.new added.new result }
 {
     redesign(grid, level, supply, floors, banks);
-    let promoted = raises(
+    let promoted = raise_in_passes(
         mode, grid, supply, opened, circuits, floors, banks, level, marks, angle, flow,
     )?;
     let progress = run_rounds(
         mode, above, promoted, grid, supply, opened, circuits, banks, floors, upsized, level,
         marks, angle, flow,
     )?;
-    let settling = settle(
+    let finishing = finish(
         mode, target, above, grid, opened, banks, upsized, circuits, level, flow, rate, angle,
         added,
     )?;
-    Ok(planned(progress, opened.grounds.len() as u32, settling))
+    Ok(planned(progress, opened.grounds.len() as u32, finishing))
 }
 
 // All stages: the opening, and what comes after it. Of the work that is lent the banks, the floors and the injections are parts of

@@ -6,7 +6,7 @@ ghost use Rattle.loops.specs.Loops.{tab};
 ghost use Rattle.plan_defs.specs.Constants.{most_buses};
 ghost use Rattle.plan_defs.specs.Design.{transformer_corridors, fresh_bank, kept_bank};
 ghost use Rattle.plan_defs.specs.Build.{bank_of, banks_anew};
-ghost use Rattle.planning.specs.Design.{lines_for, ends_for, Banks, Rated};
+ghost use Rattle.planning.specs.Design.{lines_for, ends_for, Banks, RatedDesign};
 ghost use Rattle.planning.specs.Redesign.{redesign_for, Corridors, AnewFits, RedesignFits, anew_from, fresh_at};
 ghost use Rattle.planning.specs.Tables.{grid_in, supply_in};
 
@@ -44,7 +44,7 @@ fn fresh_bank(load: f64, generation: f64, shared: u32) -> f64
 
 // The design with a bank at least as large as the plan made it, up to its line.
 fn kept_bank(d: CircuitDesign, floor: f64) -> CircuitDesign
-    requires { Rated d }
+    requires { RatedDesign d }
     ensures { result ≡ kept_bank d floor }
 {
     let keep = lesser(floor, d.line_rate);

@@ -6,9 +6,9 @@ ghost use Rattle.planning.specs.Redesign.{RedesignFits};
 ghost use Rattle.planning.specs.Rounds.{Redrawn, RoundsFit, RoundsRun};
 ghost use Rattle.planning.specs.Tables.{grid_in, supply_in, opened_in};
 
-use crate::budgets::{limits_of, stiffness_from};
+use crate::budgets::{first_tally, limits_of};
 use crate::policy::promotes;
-use crate::raise::raise_buses;
+use crate::raise_marks::raise_buses;
 use crate::redesign::redesign;
 use crate::size::{Tally, size_corridor};
 use crate::solve::{draw_edges, peak_state};
@@ -29,7 +29,7 @@ pub struct Progress {
     pub stiffening: u32,
     pub converged: bool,
     // Whether the last round led to no other, or none was to run.
-    pub settled: bool,
+    pub rested: bool,
 }
 
 // Raises the marked buses, and designs every corridor anew where one moved; how many did.
@@ -88,7 +88,7 @@ pub fn size_rounds(
         left -= 1;
         p.rounds += 1;
         p.converged = false;
-        p.settled = false;
+        p.rested = false;
         let e = draw_edges(grid, level, circuits, banks);
         // No `?` here and below: the loop is left with its answer by name, as document 01 asks.
         if let Err(f) = peak_state(&e, opened, angle, flow) {
@@ -115,13 +115,13 @@ pub fn size_rounds(
                 if !promotes(mode) {
                     p.capacity = t.capacity;
                     p.converged = !t.capped;
-                    p.settled = true;
+                    p.rested = true;
                     break 'rounds Ok(p);
                 }
             }
         }
         let g = limits_of(above, level);
-        let mut s = stiffness_from(g, level, circuits, p.stiffening, marks);
+        let mut s = first_tally(g, level, circuits, p.stiffening, marks);
         for i in 0..opened.leader.len() {
             match stiffen_led(
                 i, p.rounds, g, grid, level, opened, &e, angle, circuits, banks, floors, upsized,
@@ -140,7 +140,7 @@ pub fn size_rounds(
                     continue 'rounds;
                 }
                 p.converged = !s.wide & !t.capped;
-                p.settled = true;
+                p.rested = true;
                 break 'rounds Ok(p);
             }
         }

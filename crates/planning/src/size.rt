@@ -4,13 +4,13 @@ ghost use Rattle.plan_defs.specs.Constants.{most_cap, subtransmission_max_circui
 ghost use Rattle.plan_defs.specs.Build.{bank_below};
 ghost use Rattle.plan_defs.specs.Raise.{top_of, mark_if};
 ghost use Rattle.plan_defs.specs.Size.{required_for, enough, next_bank, enlarges, raises_for};
-ghost use Rattle.planning.specs.Raise.{largest_count, pairs_for, PairFits};
+ghost use Rattle.planning.specs.RaiseMarks.{largest_count, pairs_for, PairFits};
 ghost use Rattle.planning.specs.Size.{size_for, grow_for, larger_bank, Adds, Grows, CorridorFits, CorridorSized};
 ghost use Rattle.planning.specs.Tables.{grid_in};
 
 use crate::design::{circuit, set_transformer_mva};
 use crate::policy::{cap_at, promotes};
-use crate::raise::mark_raise_to;
+use crate::raise_marks::mark_raise_to;
 use crate::tables::Grid;
 use loops::{lesser, magnitude};
 use mode::PlanMode;

@@ -9,7 +9,7 @@ ghost use Rattle.plan_defs.specs.Stiffen.{unit_at};
 ghost use Rattle.planning.specs.Edges.{Grounded};
 ghost use Rattle.planning.specs.Opening.{stage_of};
 ghost use Rattle.planning.specs.Design.{lines_for};
-ghost use Rattle.planning.specs.Solve.{peak_for, solved_of, finite_angles, finite_answer, Places, Drawing, Lent};
+ghost use Rattle.planning.specs.Solve.{peak_for, solved_of, finite_angles, finite_answer, SolvePlaces, Drawing, Lent};
 ghost use Rattle.planning.specs.Tables.{grid_in, opened_in, edges_in};
 
 use crate::design::circuit;
@@ -68,7 +68,7 @@ impl Edges {
         angle: &mut [f64],
     ) -> Result<(), Refusal>
         requires grounded { (self.now.buses ≡ length angle.old) × Grounded (length angle.old) grounds.now }
-        requires places { Places (length angle.old) injection.now guess.now angle.old }
+        requires places { SolvePlaces (length angle.old) injection.now guess.now angle.old }
         ensures { stage_of result angle.new
             ≡ finite_angles (solve (length angle.old) (edges_in self.now) grounds.now injection.now guess.now).x }
     {

@@ -5,10 +5,10 @@ ghost use Rattle.loops.specs.Loops.{first};
 ghost use Rattle.plan_defs.specs.Constants.{max_angle_spread_rad};
 ghost use Rattle.plan_defs.specs.Components.{within, members};
 ghost use Rattle.plan_defs.specs.Stiffen.{best_of};
-ghost use Rattle.planning.specs.Stiffen.{Stiffenable, Room, LedStiffened, StiffenFits, Stepped, reinforce_step, narrow_step, component_step, Led, lead_of, lag_of};
+ghost use Rattle.planning.specs.Stiffen.{Stiffenable, Room, LedStiffened, StiffenFits, StepTaken, reinforce_step, narrow_step, component_step, Led, lead_of, lag_of};
 ghost use Rattle.planning.specs.Tables.{grid_in, opened_in, solved_by};
 
-use crate::budgets::{Limits, Stiffness};
+use crate::budgets::{Limits, StiffeningTally};
 use crate::candidates::choose_batch;
 use crate::edges::Edges;
 use crate::solved::Solved;
@@ -86,11 +86,11 @@ fn reinforce(
     floors: &mut [f64],
     upsized: &mut [u32],
     marks: &mut [u32],
-    t: Stiffness,
-) -> Stiffness
+    t: StiffeningTally,
+) -> StiffeningTally
     requires stiffen_fits { StiffenFits solved.now.grid solved.now.level circuits.old banks.old floors.old upsized.old marks.old }
     requires phi_len { (length phi.now ≡ length solved.now.level) × Room (length solved.now.grid.a) t }
-    ensures { Stepped (reinforce_step root excess solved.now phi.now)
+    ensures { StepTaken (reinforce_step root excess solved.now phi.now)
         solved.now.grid solved.now.level
         circuits.old banks.old floors.old upsized.old marks.old t
         circuits.new banks.new floors.new upsized.new marks.new (Ok result) }
@@ -113,11 +113,11 @@ fn narrow(
     floors: &mut [f64],
     upsized: &mut [u32],
     marks: &mut [u32],
-    t: Stiffness,
-) -> Result<Stiffness, Refusal>
+    t: StiffeningTally,
+) -> Result<StiffeningTally, Refusal>
     requires stiffen_fits { StiffenFits solved.now.grid solved.now.level circuits.old banks.old floors.old upsized.old marks.old }
     requires phi_len { (length phi.old ≡ length solved.now.level) × (lead < length solved.now.level) × (lag < length solved.now.level) × Room (length solved.now.grid.a) t }
-    ensures { Stepped (narrow_step root lead lag excess solved.now)
+    ensures { StepTaken (narrow_step root lead lag excess solved.now)
         solved.now.grid solved.now.level
         circuits.old banks.old floors.old upsized.old marks.old t
         circuits.new banks.new floors.new upsized.new marks.new result }
@@ -128,10 +128,10 @@ fn narrow(
     ))
 }
 
-fn widened(t: Stiffness) -> Stiffness
+fn widened(t: StiffeningTally) -> StiffeningTally
     ensures { result ≡ record { total = t.total; hv = t.hv; stiffening = t.stiffening; wide = true; stiffened = t.stiffened } }
 {
-    Stiffness { wide: true, ..t }
+    StiffeningTally { wide: true, ..t }
 }
 
 // The component that a bus leads. The last quarter of the rounds belongs to capacity.
@@ -144,11 +144,11 @@ fn stiffen_component(
     floors: &mut [f64],
     upsized: &mut [u32],
     marks: &mut [u32],
-    t: Stiffness,
-) -> Result<Stiffness, Refusal>
+    t: StiffeningTally,
+) -> Result<StiffeningTally, Refusal>
     requires stiffen_fits { StiffenFits solved.now.grid solved.now.level circuits.old banks.old floors.old upsized.old marks.old }
     requires led { Led root solved.now.opened.leader solved.now.angle × Room (length solved.now.grid.a) t }
-    ensures { Stepped (component_step root round solved.now)
+    ensures { StepTaken (component_step root round solved.now)
         solved.now.grid solved.now.level
         circuits.old banks.old floors.old upsized.old marks.old t
         circuits.new banks.new floors.new upsized.new marks.new result }
@@ -196,8 +196,8 @@ pub fn stiffen_led(
     floors: &mut [f64],
     upsized: &mut [u32],
     marks: &mut [u32],
-    t: Stiffness,
-) -> Result<Stiffness, Refusal>
+    t: StiffeningTally,
+) -> Result<StiffeningTally, Refusal>
     requires stiffenable { Stiffenable (solved_by g (grid_in grid.now) level.now (opened_in opened.now) e.now angle.now) circuits.old banks.old floors.old upsized.old marks.old }
     requires i_in_bounds { (i < length opened.now.leader.now) × Room (length grid.now.a.now) t }
     ensures { LedStiffened i round (solved_by g (grid_in grid.now) level.now (opened_in opened.now) e.now angle.now)

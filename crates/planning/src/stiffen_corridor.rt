@@ -6,13 +6,13 @@ ghost use Rattle.plan_defs.specs.Design.{drawn};
 ghost use Rattle.planning.specs.Design.{lines_for};
 ghost use Rattle.plan_defs.specs.Raise.{mark_if};
 ghost use Rattle.plan_defs.specs.Stiffen.{arrival};
-ghost use Rattle.planning.specs.Raise.{largest_count, pairs_for};
-ghost use Rattle.planning.specs.Stiffen.{Room, raisable, room_for, reckoned, Strengthened, StiffenFits, BatchStiffened};
+ghost use Rattle.planning.specs.RaiseMarks.{largest_count, pairs_for};
+ghost use Rattle.planning.specs.Stiffen.{Room, raisable, room_for, tallied_more, CorridorStiffened, StiffenFits, BatchStiffened};
 
-use crate::budgets::Stiffness;
+use crate::budgets::StiffeningTally;
 use crate::design::{circuit, set_transformer_mva};
 use crate::policy::full_at;
-use crate::raise::{mark_raise_to, raise_of};
+use crate::raise_marks::{mark_raise_to, raise_of};
 use crate::size::{bank_below, keep_bank};
 use crate::solved::Solved;
 use plan_defs::CircuitDesign;
@@ -40,7 +40,7 @@ fn arrivals(solved: &Solved, k: usize, marks: &[u32]) -> u32
 }
 
 // Marks both ends of corridor k for a raise that is within the budget, and answers whether it is.
-fn raises(solved: &Solved, hv: u32, k: usize, marks: &mut [u32]) -> bool
+fn mark_in_budget(solved: &Solved, hv: u32, k: usize, marks: &mut [u32]) -> bool
     requires { (k < length solved.now.grid.a) × (length marks.old ≡ length solved.now.level) }
     ensures marks { marks.new ≡ mark_if (raisable solved.now.g hv solved.now.level solved.now.grid.a solved.now.grid.b k) (pairs_for solved.now.grid.a solved.now.grid.b) solved.now.level k marks.old }
     ensures answer { result ≡ raisable solved.now.g hv solved.now.level solved.now.grid.a solved.now.grid.b k }
@@ -73,11 +73,11 @@ impl Solved<'_> {
     }
 }
 
-fn reckoned(added: u32, arrived: u32, t: Stiffness) -> Stiffness
+fn tallied_more(added: u32, arrived: u32, t: StiffeningTally) -> StiffeningTally
     requires { (t.total + added ≤ largest_count) × (t.hv + arrived ≤ largest_count) × (t.stiffening + added ≤ largest_count) }
-    ensures { result ≡ reckoned added arrived t }
+    ensures { result ≡ tallied_more added arrived t }
 {
-    Stiffness {
+    StiffeningTally {
         total: t.total + added,
         hv: t.hv + arrived,
         stiffening: t.stiffening + added,
@@ -92,20 +92,20 @@ fn raise_or_add(
     k: usize,
     circuits: &mut [u32],
     marks: &mut [u32],
-    t: Stiffness,
-) -> Stiffness
+    t: StiffeningTally,
+) -> StiffeningTally
     requires { (k < length solved.now.grid.a) × (length circuits.old ≡ length solved.now.grid.a) × (length marks.old ≡ length solved.now.level) × Room 1 t }
-    ensures { Strengthened solved.now.g (slice_index solved.now.grid.cap k) solved.now.level solved.now.grid.a solved.now.grid.b k
+    ensures { CorridorStiffened solved.now.g (slice_index solved.now.grid.cap k) solved.now.level solved.now.grid.a solved.now.grid.b k
         circuits.old marks.old t circuits.new marks.new result }
 {
-    if raises(solved, t.hv, k, marks) {
+    if mark_in_budget(solved, t.hv, k, marks) {
         let arrived = arrivals(solved, k, marks);
-        return reckoned(0, arrived, t);
+        return tallied_more(0, arrived, t);
     }
     let count = circuits[k];
     if solved.has_room(k, count, t.total) {
         circuits[k] = count + 1;
-        return reckoned(1, 0, t);
+        return tallied_more(1, 0, t);
     }
     t
 }
@@ -119,8 +119,8 @@ fn stiffen_one(
     floors: &mut [f64],
     upsized: &mut [u32],
     marks: &mut [u32],
-    t: Stiffness,
-) -> Stiffness
+    t: StiffeningTally,
+) -> StiffeningTally
     requires stiffen_fits { StiffenFits solved.now.grid solved.now.level circuits.old banks.old floors.old upsized.old marks.old }
     requires k_in_bounds { (k < length solved.now.grid.a) × Room 1 t }
     ensures { BatchStiffened (k ∷ []) solved.now.g solved.now.grid solved.now.level
@@ -131,7 +131,7 @@ fn stiffen_one(
     if bank_below(d) {
         let full = set_transformer_mva(d, d.line_rate);
         keep_bank(k, full, banks, floors, upsized);
-        return reckoned(0, 0, t);
+        return tallied_more(0, 0, t);
     }
     raise_or_add(solved, k, circuits, marks, t)
 }
@@ -145,8 +145,8 @@ pub fn stiffen_batch(
     floors: &mut [f64],
     upsized: &mut [u32],
     marks: &mut [u32],
-    start: Stiffness,
-) -> Stiffness
+    start: StiffeningTally,
+) -> StiffeningTally
     requires stiffen_fits { StiffenFits solved.now.grid solved.now.level circuits.old banks.old floors.old upsized.old marks.old }
     requires named { All (λ (k : ℕ). k < length solved.now.grid.a) order.now × Room (length order.now) start }
     ensures { BatchStiffened order.now solved.now.g solved.now.grid solved.now.level

@@ -1,6 +1,6 @@
 use Rattle.std.proofs.Common.{rules, ◌≡◌, [], sym, subst}
 use Rattle.plan_defs.specs.Stiffen.{batch_cap}
-use Rattle.planning.specs.Raise.{pairs_for}
+use Rattle.planning.specs.RaiseMarks.{pairs_for}
 use Rattle.planning.specs.Stiffen.{Chosen}
 use Rattle.planning.specs.Tables.{SolvedColumns}
 use Rattle.planning.proofs.Reinforcing.{batch_chosen}

@@ -1,7 +1,7 @@
 use Rattle.std.proofs.Common.{◌≡◌, Bool, cond, refl, ap, ◌∙◌, arith}
 use Rattle.plan_defs.specs.Lists.{count_from}
 use Rattle.plan_defs.proofs.Lists.{count_more}
-use Rattle.planning.proofs.Served.{byte_is, one_most}
+use Rattle.planning.proofs.BusFigures.{byte_is, one_most}
 use Rattle.planning.proofs.figures.counting.Goals as goal
 
 pub loop-i-init : goal.loop-i-init

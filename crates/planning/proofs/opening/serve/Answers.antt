@@ -7,7 +7,7 @@ use Rattle.refusal.specs.declared.Refusal.TheVariants.{Cost}
 use Rattle.refusal.specs.Number.{index_of}
 use Rattle.planning.specs.Tables.{supply_in}
 use Rattle.planning.proofs.Mapped.{mapped_answer, mapped_refusal}
-use Rattle.planning.proofs.Serving.{picked, room, asked, refused_index, refused_stage, answered_stage}
+use Rattle.planning.proofs.ComponentUnits.{picked, room, asked, refused_index, refused_stage, answered_stage}
 use Rattle.planning.proofs.opening.serve.Goals as goal
 
 pub figures_of-least-requires : goal.figures_of-least-requires

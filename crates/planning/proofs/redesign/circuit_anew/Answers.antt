@@ -2,7 +2,7 @@
 use Rattle.std.proofs.Common.{◌≡◌, true, sym, refl, subst, arith}
 use lib.Ieee.{Float}
 use Rattle.impedance.specs.Impedance.{rating_ok}
-use Rattle.planning.specs.Design.{Rated}
+use Rattle.planning.specs.Design.{RatedDesign}
 use Rattle.planning.proofs.Draws.{ends_fit, end_below}
 use Rattle.planning.proofs.Ratings.{drawn_rated}
 use Rattle.planning.proofs.Anew.{fresh_is, anew_is}
@@ -47,7 +47,7 @@ kept_bank-requires c =
     let s = c in
     let z = s.args in
     let m = subst (λ (x : Float). rating_ok x ≡ true) (sym (fresh_is (grid_in z.grid.now) z.level.now z.supply.now.load.now z.gen_at.now z.shared.now z.k _ _ _ _ c.ends_of-e.ensures refl refl c.fresh_bank-mva.ensures)) s.requires.fresh in
-    subst Rated (sym c.circuit-fresh.ensures) (drawn_rated (grid_in z.grid.now) z.level.now z.k s.requires.lines s.requires.corridor _ m)
+    subst RatedDesign (sym c.circuit-fresh.ensures) (drawn_rated (grid_in z.grid.now) z.level.now z.k s.requires.lines s.requires.corridor _ m)
 
 pub returns : goal.returns
 returns c =

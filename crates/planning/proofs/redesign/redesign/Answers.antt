@@ -3,7 +3,7 @@ use Rattle.loops.proofs.Tab.{fill_start, fill_turn, fill_end}
 use Rattle.planning.specs.Design.{Banks}
 use Rattle.plan_defs.specs.Build.{bank_anew, banks_anew}
 use Rattle.planning.specs.Redesign.{redesign_for}
-use Rattle.planning.proofs.Served.{gen_is}
+use Rattle.planning.proofs.BusFigures.{gen_is}
 use Rattle.planning.proofs.Supplies.{bus_few}
 use Rattle.planning.proofs.Anew.{fresh_ok, bank_defined, banks_anew_sound}
 use Rattle.planning.proofs.redesign.redesign.Goals as goal

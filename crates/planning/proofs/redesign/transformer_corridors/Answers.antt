@@ -1,7 +1,7 @@
 use Rattle.loops.specs.Bounds.{most_buses}
 use Rattle.std.proofs.Common.{◌<◌, le_antisymm, arith, rules}
 use Rattle.planning.proofs.Draws.{end_below}
-use Rattle.planning.proofs.Served.{byte_is, shared_start, shared_turn, shared_few, shared_end, one_most}
+use Rattle.planning.proofs.BusFigures.{byte_is, shared_start, shared_turn, shared_few, shared_end, one_most}
 use Rattle.planning.proofs.redesign.transformer_corridors.Goals as goal
 use Rattle.planning.specs.Tables.{grid_in}
 

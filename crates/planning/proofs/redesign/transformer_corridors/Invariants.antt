@@ -2,7 +2,7 @@
 use Rattle.std.proofs.Common.{◌≡◌, ◌≤◌, length}
 use Rattle.loops.specs.Bounds.{most_buses}
 use Rattle.loops.specs.Loops.{tab}
-use Rattle.planning.proofs.Served.{shared_to}
+use Rattle.planning.proofs.BusFigures.{shared_to}
 use Rattle.planning.proofs.redesign.transformer_corridors.Given as goal
 use Rattle.planning.specs.Tables.{grid_in}
 

@@ -3,7 +3,7 @@ use Rattle.std.proofs.Common.{◌≡◌, ◌+◌, ◌≤◌, true, false, length
 use Rattle.plan_defs.specs.Case.{promote}
 use Rattle.plan_defs.specs.Raise.{moved_buses}
 use Rattle.planning.proofs.Rounding.{few_sum, few_high, nothing_done}
-use Rattle.planning.proofs.Sweeps.{rounds_end, solved_of_round, solve_refused, sizes_start, sizes_turn, sizes_again, sizes_settled, stiffens_start, stiffens_refused, stiffens_turn, stiffens_again, stiffens_settled, run_of}
+use Rattle.planning.proofs.Sweeps.{rounds_end, solved_of_round, solve_refused, sizes_start, sizes_turn, sizes_again, sizes_rested, stiffens_start, stiffens_refused, stiffens_turn, stiffens_again, stiffens_rested, run_of}
 use Rattle.planning.proofs.rounds.size_rounds.Goals as goal
 use Rattle.planning.proofs.rounds.size_rounds.Goals.{then-k-grid+else-moved-t+else-not-promotes, else-k-grid}
 
@@ -40,7 +40,7 @@ loop-k-preserved c =
 pub loop-i-init : goal.loop-i-init
 loop-i-init c =
     let l = c.loop-k in
-    let s = c.stiffness_from-s.ensures in
+    let s = c.first_tally-s.ensures in
     let all : length c.args.grid.now.a.now ≤ l.k = omega (arith, c.loop-k-test.false) in (
       l.invariant.0,
       omega (arith, c.requires.columns.lines.a_below 0 c.requires.some, c.requires.places.leader_size),
@@ -74,7 +74,7 @@ returns-in-Err c =
 pub returns-then-not-promotes : goal.returns-then-not-promotes
 returns-then-not-promotes c =
     let sized = sizes_turn c.loop-k.invariant.4 c.loop-k-test.true c.size_corridor-t.ensures.sized in
-    run_of c.requires.places.leader_size (search rules) (sizes_settled sized (omega (arith, c.if-k-grid.true)) c.raise_marked-moved.ensures c.if-moved-t.false (sym c.promotes.ensures ∙ c.if-not-promotes.true))
+    run_of c.requires.places.leader_size (search rules) (sizes_rested sized (omega (arith, c.if-k-grid.true)) c.raise_marked-moved.ensures c.if-moved-t.false (sym c.promotes.ensures ∙ c.if-not-promotes.true))
 
 pub returns-in-Err-stiffen_led : goal.returns-in-Err-stiffen_led
 returns-in-Err-stiffen_led c = run_of c.requires.places.leader_size (search rules) (stiffens_refused c.loop-i.invariant.4 c.loop-i-test.true c.stiffen_led.ensures c.in-Err-stiffen_led.is)
@@ -82,4 +82,4 @@ returns-in-Err-stiffen_led c = run_of c.requires.places.leader_size (search rule
 pub returns-else-moved-s : goal.returns-else-moved-s
 returns-else-moved-s c =
     let stiffened = stiffens_turn c.loop-i.invariant.4 c.loop-i-test.true c.stiffen_led.ensures c.in-Ok.is in
-    run_of c.requires.places.leader_size (search rules) (stiffens_settled stiffened (omega (arith, c.if-i-opened.true)) c.raise_marked-moved-then-i-opened.ensures c.if-moved-s.false)
+    run_of c.requires.places.leader_size (search rules) (stiffens_rested stiffened (omega (arith, c.if-i-opened.true)) c.raise_marked-moved-then-i-opened.ensures c.if-moved-s.false)

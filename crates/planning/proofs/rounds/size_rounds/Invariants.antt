@@ -3,7 +3,7 @@ use Rattle.std.proofs.Common.{◌≡◌, ◌+◌, ◌*◌, ◌<◌, ◌≤◌, t
 use Rattle.plan_defs.specs.Constants.{most_corridors, subtransmission_max_circuits}
 use Rattle.plan_defs.specs.Case.{promote}
 use Rattle.plan_defs.specs.Raise.{moved_buses}
-use Rattle.planning.specs.Rounds.{Tallies}
+use Rattle.planning.specs.Rounds.{RoundTallies}
 use Rattle.planning.specs.Tables.{grid_in, supply_in, opened_in}
 use Rattle.planning.proofs.Rounding.{goes_on}
 use Rattle.planning.proofs.Sweeps.{Kept, Rounds, Sizes, Stiffens}
@@ -12,7 +12,7 @@ use Rattle.planning.proofs.rounds.size_rounds.Given as goal
 abbrev pub invariant-rounds : goal.invariant-rounds
 invariant-rounds l =
     Kept (grid_in l.grid) l.level l.circuits l.banks
-    × Tallies l.above l.left l.p
+    × RoundTallies l.above l.left l.p
     × Rounds l.mode l.above (grid_in l.grid) (supply_in l.supply) (opened_in l.opened) l.left l.level l.circuits l.banks l.floors l.upsized l.angle l.p
     (goes_on l.mode l.above (grid_in l.grid) (supply_in l.supply) (opened_in l.opened) (length l.opened.leader.now) l.fn.budget l.fn.level l.fn.circuits l.fn.banks l.fn.floors l.fn.upsized l.fn.angle l.fn.start)
 

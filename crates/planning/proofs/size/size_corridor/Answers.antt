@@ -7,7 +7,7 @@ use Rattle.impedance.specs.Impedance.{rating_ok}
 use Rattle.plan_defs.specs.Design.{banked_by, set_transformer_mva}
 use Rattle.plan_defs.specs.Size.{next_bank, enlarges}
 use Rattle.plan_defs.specs.declared.CircuitDesign.{CircuitDesign}
-use Rattle.planning.specs.Design.{Banks, Rated}
+use Rattle.planning.specs.Design.{Banks, RatedDesign}
 use Rattle.planning.specs.Size.{set_if}
 use Rattle.planning.specs.declared.size.Tally.{Tally}
 use Rattle.planning.proofs.Ratings.{drawn_rated}
@@ -22,7 +22,7 @@ pub set_transformer_mva-d-requires : goal.set_transformer_mva-d-requires
 set_transformer_mva-d-requires c =
     let z = c.args in
     let banked = c.requires.banked z.k (omega (arith, c.requires.corridor, c.requires.held.bank_size)) in
-    let rated = subst Rated (sym c.circuit-d.ensures) (drawn_rated (grid_in z.grid.now) z.level.now z.k c.requires.lines c.requires.corridor (at z.banks.now z.k) banked) in
+    let rated = subst RatedDesign (sym c.circuit-d.ensures) (drawn_rated (grid_in z.grid.now) z.level.now z.k c.requires.lines c.requires.corridor (at z.banks.now z.k) banked) in
     let found = larger_some _ _ _ (sym c.in-Some.is ∙ c.larger_bank.ensures) in
     subst (λ (x : Float). rating_ok x ≡ true) (sym found.1) (larger_ok _ _ c.circuit-d.result _ _ rated refl refl found.0)
 
@@ -35,7 +35,7 @@ returns c =
     let first = c.circuit-d.result in
     let next = next_bank c.required_for-required.result (get_or z.circuits.now z.k 0) first in
     let larger = enlarges c.required_for-required.result (get_or z.circuits.now z.k 0) first next in
-    let rated = subst Rated (sym c.circuit-d.ensures) (drawn_rated (grid_in z.grid.now) z.level.now z.k c.requires.lines c.requires.corridor (at z.banks.now z.k) (c.requires.banked z.k h)) in
+    let rated = subst RatedDesign (sym c.circuit-d.ensures) (drawn_rated (grid_in z.grid.now) z.level.now z.k c.requires.lines c.requires.corridor (at z.banks.now z.k) (c.requires.banked z.k h)) in
     let P = λ (b : Bool).
     (m.d ≡ banked_by b first next)
     × (m.banks ≡ set_if b z.banks.now z.k m.d.transformer_mva)

@@ -9,7 +9,7 @@ returns-then-bank_below c =
     let k = c.keep_bank.ensures in
     one_full v.g v.grid v.level z.k z.circuits.now z.banks.now z.floors.now z.upsized.now z.marks.now z.t
     c.requires.k_in_bounds.0 f.count_size f.bank_size _ c.circuit-d.ensures.design _ c.bank_below.ensures c.if-bank_below.true c.circuit-d.ensures.rated f.banked
-    _ _ _ _ _ c.set_transformer_mva-full.ensures k.banks k.floors k.upsized c.reckoned.ensures
+    _ _ _ _ _ c.set_transformer_mva-full.ensures k.banks k.floors k.upsized c.tallied_more.ensures
 
 pub returns : goal.returns
 returns c =

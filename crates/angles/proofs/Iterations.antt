@@ -11,7 +11,8 @@ use Rattle.loops.proofs.Bools.{unequal}
 use Rattle.loops.specs.Figures.{times, over, nought}
 use Rattle.root.specs.Root.{root}
 use Rattle.angles_defs.specs.Network.{Edges, Network, apply, precondition, shares, dot, along, back, less, zeros}
-use Rattle.angles_defs.specs.Solve.{Solved, solved, State, Next, halt, go, step, run, begin, begin_if, judged, descended, solve_from, settled_share, max_iterations}
+use Rattle.angles_defs.specs.Solve.{Solved, solved, State, Next, halt, go, step, run, begin, solve_from, settled_share, max_iterations}
+use Rattle.angles_defs.proofs.Solves.{whichever}
 use Rattle.angles_defs.specs.declared.Ended.TheVariants.{Settled, NoDescent, StepsSpent}
 use Rattle.angles_defs.specs.declared.Solution.{Solution}
 use Rattle.angles.specs.Rows.{row, network_in, state_in, carried_by, solved_in, Iteration, next_in, within, Stepped, Begun, Preconditioned, Residual, next_r, next_z, ResidualStep, AngleStep, DirectionStep}
@@ -145,6 +146,16 @@ module _ (n : ℕ) (E : Edges) (bound : Float) (b g c x r z d q : List Float) wh
           same = ap (λ (S : List (List Float)). network_in n E S) e₄;
         }
 
+-- ---- how often x was moved in a state that is handed on
+abbrev Moved : State → ℕ → Next → Type 0
+Moved s k next = go s ≡ next → s.steps ≡ k
+
+halted : (s : State) (k : ℕ) (o : Solved) → Moved s k (halt o)
+halted s k o h = cc
+
+handed : (s t : State) → Moved s t.steps (go t)
+handed s t h = cc
+
 -- ---- the loop
 module _ (N : Network) (bound : Float) where
   pub run_halt : (k : ℕ) (o : Solved) → run N bound k (halt o) ≡ o
@@ -167,15 +178,9 @@ module _ (N : Network) (bound : Float) where
   -- an iteration that goes on has moved x once
   step_moves : (s s' : State) → go s' ≡ step N bound s → s'.steps ≡ s.steps + 1
   unfolding step
-  step_moves s s' e = at (le (dot N.n s.d (apply N s.d)) nought) e
-    where
-      judge : (p : Bool) (x r : List Float) (norm : Float) → go s' ≡ judged N bound p s x r norm → s'.steps ≡ s.steps + 1
-      judge true x r norm h = cc
-      judge false x r norm h = cc
-
-      at : (p : Bool) → go s' ≡ descended N bound p s (apply N s.d) (dot N.n s.d (apply N s.d)) → s'.steps ≡ s.steps + 1
-      at true h = cc
-      at false h = judge (le _ bound) _ _ _ h
+  step_moves s s' e =
+      let k = s.steps + 1 in
+      whichever (Moved s' k) (le _ nought) _ _ (halted s' k _) (whichever (Moved s' k) (le _ bound) _ _ (halted s' k _) (handed s' _)) e
 
 -- with some of m iterations taken: one that ends is the answer, one that goes on leaves one fewer, and after the last the norm is told
 module _ (n : ℕ) (E : Edges) (bound : Float) (R₀ R : List (List Float)) (k : Carried) (m : ℕ) (total : Solved)
@@ -223,11 +228,7 @@ module _ (n : ℕ) (E : Edges) (R : List (List Float)) (norm0 : Float) (e : norm
   -- the beginning hands on a state in which x was not moved yet
   begin_moves : (s : State) → go s ≡ begin (network_in n E R) bound₀ (row R 0) (row R 3) → s.steps ≡ 0
   unfolding begin
-  begin_moves s p = at (le _ bound₀) _ _ p
-    where
-      at : (p : Bool) (r : List Float) (norm : Float) → go s ≡ begin_if (network_in n E R) bound₀ p (row R 3) r norm → s.steps ≡ 0
-      at true r norm h = cc
-      at false r norm h = cc
+  begin_moves s p = whichever (Moved s 0) (le _ bound₀) _ _ (halted s 0 _) (handed s _) p
 
   module _ (h : eq norm0 nought ≡ false) (R' : List (List Float)) (i : Iteration) (B : Begun n E bound₀ R R' i) where
     pub solve_stop : (s : Solution) → i ≡ Break s → solved_in R' s ≡ defined

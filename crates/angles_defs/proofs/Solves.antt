@@ -2,7 +2,7 @@
 -- and a grounded bus is at zero, or at no number.
 -- An iteration hands on what it was handed: x and the direction are zero (or no number) at a grounded bus, and so is their sum.
 use Prim.Native.Nat.{ℕ, zero, suc, ◌+◌, ◌*◌, ◌<◌, ◌≤◌}
-use mathlib.Core.Bool.{Bool, true, false}
+use mathlib.Core.Bool.{Bool, true, false, cond}
 use mathlib.Core.Path.{◌≡◌, sym, subst}
 use mathlib.Core.List.{List}
 use native.Mathlib.Omega.{arith}
@@ -10,10 +10,11 @@ use lib.Dec.{T}
 use lib.Ieee.{Float, nan, binary64, le, eq, of_bits}
 use lib.ListN.{length, get_or, get_or-replicate}
 use Rattle.loops.specs.Figures.{at, times, over, nought, one}
+use Rattle.root.specs.Root.{root}
 use Rattle.loops.proofs.Tab.{get_tab}
 use Rattle.loops.proofs.Zeros.{void, mul_void, add_void}
 use Rattle.angles_defs.specs.Network.{Edges, Network, network_of, grounded_of, zeros, kept, apply, precondition, dot, along}
-use Rattle.angles_defs.specs.Solve.{Solved, State, Next, halt, go, step, run, begin, solve_from, solve, max_iterations, settled_share, judged, descended, begin_if, solve_if}
+use Rattle.angles_defs.specs.Solve.{Solved, State, Next, halt, go, step, run, begin, solve_from, solve, max_iterations, settled_share}
 use Rattle.angles_defs.proofs.Vectors.{length_zeros, length_kept, length_along, kept_ground, precondition_ground, grounded_one}
 
 nought_void : T (void nought)
@@ -25,22 +26,20 @@ abbrev Holds : (State → Type 0) → (Solved → Type 0) → Next → Type 0
 Holds P Q (halt o) = Q o
 Holds P Q (go s) = P s
 
+-- of two, whichever a test takes
+pub whichever : {A : Type 0} (P : A → Type 0) (b : Bool) (x y : A) → P x → P y → P (cond b x y)
+whichever P true x y p q = p
+whichever P false x y p q = q
+
 -- ---- the number of moves
 module _ (N : Network) (bound : Float) where
   abbrev Counts : ℕ → Next → Type 0
   Counts k n = Holds (λ s. s.steps ≤ k) (λ o. o.steps ≤ k) n
 
-  judged_counts : (b : Bool) (s : State) (x r : List Float) (norm : Float) (k : ℕ) → s.steps ≤ k → Counts (k + 1) (judged N bound b s x r norm)
-  judged_counts true s x r norm k h = omega arith
-  judged_counts false s x r norm k h = omega arith
-
-  descended_counts : (b : Bool) (s : State) (q : List Float) (dq : Float) (k : ℕ) → s.steps ≤ k → Counts (k + 1) (descended N bound b s q dq)
-  descended_counts true s q dq k h = omega arith
-  descended_counts false s q dq k h = judged_counts (le _ bound) s _ _ _ k h
-
   step_counts : (s : State) (k : ℕ) → s.steps ≤ k → Counts (k + 1) (step N bound s)
   unfolding step
-  step_counts s k h = descended_counts (le (dot N.n s.d (apply N s.d)) nought) s _ _ k h
+  step_counts s k h =
+      whichever (Counts (k + 1)) (le _ nought) _ _ (omega arith) (whichever (Counts (k + 1)) (le _ bound) _ _ (omega arith) (omega arith))
 
   run_counts : (d k : ℕ) (n : Next) → Counts k n → (run N bound d n).steps ≤ k + d
   unfolding run
@@ -49,13 +48,9 @@ module _ (N : Network) (bound : Float) where
   run_counts zero k (go s) h = omega arith
   run_counts (suc d) k (go s) h = let i = run_counts d (k + 1) (step N bound s) (step_counts s k h) in omega arith
 
-  begin_if_counts : (b : Bool) (x r : List Float) (norm : Float) → Counts 0 (begin_if N bound b x r norm)
-  begin_if_counts true x r norm = omega arith
-  begin_if_counts false x r norm = omega arith
-
   begin_counts : (b x : List Float) → Counts 0 (begin N bound b x)
   unfolding begin
-  begin_counts b x = begin_if_counts (le _ bound) x _ _
+  begin_counts b x = whichever (Counts 0) (le _ bound) _ _ (omega arith) (omega arith)
 
   -- ---- what holds of x and of the direction from the start, and is kept by a move and by a turn of the direction, holds of the answer
   module _ (X D : List Float → Type 0) (first : (r : List Float) → D (precondition N r))
@@ -64,17 +59,11 @@ module _ (N : Network) (bound : Float) where
     abbrev Keeps : Next → Type 0
     Keeps n = Holds (λ s. X s.x × D s.d) (λ o. X o.x) n
 
-    judged_keeps : (b : Bool) (s : State) (x r : List Float) (norm : Float) → X x → D s.d → Keeps (judged N bound b s x r norm)
-    judged_keeps true s x r norm p q = p
-    judged_keeps false s x r norm p q = (p, turn r _ s.d q)
-
-    descended_keeps : (b : Bool) (s : State) (q : List Float) (dq : Float) → X s.x → D s.d → Keeps (descended N bound b s q dq)
-    descended_keeps true s q dq p t = p
-    descended_keeps false s q dq p t = judged_keeps (le _ bound) s _ _ _ (move s.x (over s.rz dq) s.d p t) t
-
     step_keeps : (s : State) → X s.x → D s.d → Keeps (step N bound s)
     unfolding step
-    step_keeps s p q = descended_keeps (le (dot N.n s.d (apply N s.d)) nought) s _ _ p q
+    step_keeps s p q =
+        let p' = move s.x (over s.rz (dot N.n s.d (apply N s.d))) s.d p q in
+        whichever Keeps (le _ nought) _ _ p (whichever Keeps (le _ bound) _ _ p' (p', turn _ _ s.d q))
 
     run_keeps : (k : ℕ) (n : Next) → Keeps n → X (run N bound k n).x
     unfolding run
@@ -83,22 +72,20 @@ module _ (N : Network) (bound : Float) where
     run_keeps zero (go s) h = h.0
     run_keeps (suc k) (go s) h = run_keeps k (step N bound s) (step_keeps s h.0 h.1)
 
-    begin_if_keeps : (b : Bool) (x r : List Float) (norm : Float) → X x → Keeps (begin_if N bound b x r norm)
-    begin_if_keeps true x r norm h = h
-    begin_if_keeps false x r norm h = (h, first r)
-
     begin_keeps : (b x : List Float) → X x → Keeps (begin N bound b x)
     unfolding begin
-    begin_keeps b x h = begin_if_keeps (le _ bound) x _ _ h
+    begin_keeps b x h = whichever Keeps (le _ bound) _ _ h (h, first _)
 
 -- ---- the solve
 module _ (N : Network) (b x : List Float) where
-  solve_if_counts : (z : Bool) (norm0 : Float) → (solve_if z N b x norm0).steps ≤ 50 * N.n + 100
-  solve_if_counts true norm0 = omega arith
-  solve_if_counts false norm0 =
-      let bound = times settled_share norm0 in
-      let h = run_counts N bound (max_iterations N.n) 0 (begin N bound b x) (begin_counts N bound b x) in
-      omega arith
+  abbrev bound₀ : Float
+  bound₀ = times settled_share (root (dot N.n b b))
+
+  from_counts : (solve_from N b x).steps ≤ 50 * N.n + 100
+  unfolding solve_from
+  from_counts =
+      let h = run_counts N bound₀ (max_iterations N.n) 0 (begin N bound₀ b x) (begin_counts N bound₀ b x) in
+      whichever (λ (o : Solved). o.steps ≤ 50 * N.n + 100) (eq _ nought) _ _ (omega arith) (omega arith)
 
   abbrev Whole : List Float → Type 0
   Whole y = length y ≡ N.n
@@ -106,11 +93,12 @@ module _ (N : Network) (b x : List Float) where
   abbrev Any : List Float → Type 0
   Any y = Unit
 
-  solve_if_placed : length x ≡ N.n → (z : Bool) (norm0 : Float) → length (solve_if z N b x norm0).x ≡ N.n
-  solve_if_placed h true norm0 = length_zeros N.n
-  solve_if_placed h false norm0 =
-      run_keeps N _ Whole Any (λ r. tt) (λ x alpha d p q. length_along N.n x alpha d) (λ r beta d q. tt) (max_iterations N.n) (begin N _ b x)
-      (begin_keeps N _ Whole Any (λ r. tt) (λ x alpha d p q. length_along N.n x alpha d) (λ r beta d q. tt) b x h)
+  from_placed : length x ≡ N.n → length (solve_from N b x).x ≡ N.n
+  unfolding solve_from
+  from_placed h =
+      whichever (λ (o : Solved). length o.x ≡ N.n) (eq _ nought) _ _ (length_zeros N.n)
+      (run_keeps N bound₀ Whole Any (λ r. tt) (λ x alpha d p q. length_along N.n x alpha d) (λ r beta d q. tt) (max_iterations N.n) (begin N bound₀ b x)
+      (begin_keeps N bound₀ Whole Any (λ r. tt) (λ x alpha d p q. length_along N.n x alpha d) (λ r beta d q. tt) b x h))
 
   -- a grounded bus g
   module _ (g : ℕ) (l : g < N.n) (m : at N.grounded g ≡ one) where
@@ -129,11 +117,12 @@ module _ (N : Network) (b x : List Float) where
     z_still : (r : List Float) → Still (precondition N r)
     z_still r = zero_still (precondition N r) (precondition_ground N g l m r)
 
-    solve_if_still : Still x → (z : Bool) (norm0 : Float) → Still (solve_if z N b x norm0).x
-    solve_if_still h true norm0 = zero_still (zeros N.n) (get_or-replicate N.n g nought nan l)
-    solve_if_still h false norm0 =
-        run_keeps N _ Still Still z_still along_still (λ r beta d. along_still (precondition N r) beta d (z_still r)) (max_iterations N.n) (begin N _ b x)
-        (begin_keeps N _ Still Still z_still along_still (λ r beta d. along_still (precondition N r) beta d (z_still r)) b x h)
+    from_still : Still x → Still (solve_from N b x).x
+    unfolding solve_from
+    from_still h =
+        whichever (λ (o : Solved). Still o.x) (eq _ nought) _ _ (zero_still (zeros N.n) (get_or-replicate N.n g nought nan l))
+        (run_keeps N bound₀ Still Still z_still along_still (λ r beta d. along_still (precondition N r) beta d (z_still r)) (max_iterations N.n) (begin N bound₀ b x)
+        (begin_keeps N bound₀ Still Still z_still along_still (λ r beta d. along_still (precondition N r) beta d (z_still r)) b x h))
 
 module _ (n : ℕ) (E : Edges) (grounds : List ℕ) (injection guess : List Float) where
   abbrev N : Network
@@ -146,19 +135,18 @@ module _ (n : ℕ) (E : Edges) (grounds : List ℕ) (injection guess : List Floa
   x = kept n (grounded_of n grounds) guess
 
   pub solve_steps : (solve n E grounds injection guess).steps ≤ 50 * n + 100
-  unfolding solve solve_from
-  solve_steps = solve_if_counts N b x (eq _ nought) _
+  unfolding solve
+  solve_steps = from_counts N b x
 
   pub solve_places : length (solve n E grounds injection guess).x ≡ n
-  unfolding solve solve_from
-  solve_places = solve_if_placed N b x (length_kept n (grounded_of n grounds) guess) (eq _ nought) _
+  unfolding solve
+  solve_places = from_placed N b x (length_kept n (grounded_of n grounds) guess)
 
   -- where every ground is a bus
   pub solve_ground : ((k : ℕ) → k < length grounds → get_or grounds k 0 < n)
       → (k : ℕ) → k < length grounds → T (void (at (solve n E grounds injection guess).x (get_or grounds k 0)))
-  unfolding solve solve_from
+  unfolding solve
   solve_ground below k h =
       let m : at (grounded_of n grounds) (get_or grounds k 0) ≡ one = grounded_one n grounds below k h in
-      solve_if_still N b x (get_or grounds k 0) (below k h) m
+      from_still N b x (get_or grounds k 0) (below k h) m
       (zero_still N b x (get_or grounds k 0) (below k h) m x (kept_ground n (grounded_of n grounds) (get_or grounds k 0) (below k h) m guess))
-      (eq _ nought) _

@@ -1,8 +1,8 @@
-use lib.ListN.{replicate}
+use mathlib.Core.Path.{refl}
 use native.Mathlib.Omega.{arith}
-use Rattle.placement_defs.specs.Distance.{rest, labels, blank}
+use Rattle.placement_defs.specs.Distance.{blank}
 use Rattle.placement.proofs.Ranges.{numbers_blank}
 use Rattle.placement.proofs.labels.Labels.blank.Goals as goal
 
 pub invariant_of-result : goal.invariant_of-result
-invariant_of-result c = record { numbers = numbers_blank 256 (labels (replicate 256 rest) (replicate 256 c.infinity.result) blank.from) (omega arith) (rw c.infinity.ensures) }
+invariant_of-result c = record { numbers = numbers_blank 256 blank (omega arith) refl }

@@ -8,7 +8,8 @@ use Rattle.loops.proofs.Scan.{all_pass}
 use Rattle.refusal.specs.declared.Refusal.{Refusal}
 use Rattle.refusal.specs.declared.Refusal.TheVariants.{Length, Count, Level, Corridor, Spread as Width}
 use Rattle.line_defs.specs.Bounds.{Spread}
-use Rattle.line_defs.specs.Rows.{counts_ok, sheet_figures}
+use Rattle.sheets.specs.Request.{counts_ok}
+use Rattle.line_defs.specs.Rows.{sheet_figures}
 use Rattle.line_defs.specs.Request.{lengths_ok, level_ok, length_ok, spread_ok, quarter, four, faulty, fault_in, check_of, Sound}
 use Rattle.std.specs.Prelude.{Err, Result}
 use Rattle.refusal.specs.Reply.{no_refusal}
@@ -58,9 +59,9 @@ pub record Passed (levels corridors : ℕ) (ladder km spread : List Float) (shee
 
 pub passed : (levels corridors : ℕ) (ladder km spread : List Float) (sheet : ℕ) → check_of levels corridors ladder km spread sheet ≡ no_refusal → Passed levels corridors ladder km spread sheet
 unfolding check_of
-passed levels corridors ladder km spread sheet e = lengths (lengths_ok levels corridors (length ladder) (length km) (length spread) sheet) (counts_ok levels corridors) refl refl e
+passed levels corridors ladder km spread sheet e = lengths (lengths_ok levels corridors (length ladder) (length km) (length spread) sheet) (counts_ok corridors levels) refl refl e
   where
-    lengths : (a b : Bool) → lengths_ok levels corridors (length ladder) (length km) (length spread) sheet ≡ a → counts_ok levels corridors ≡ b
+    lengths : (a b : Bool) → lengths_ok levels corridors (length ladder) (length km) (length spread) sheet ≡ a → counts_ok corridors levels ≡ b
         → cond a (cond b (fault_in level_ok Level ladder (fault_in length_ok Corridor km (fault_in spread_ok Width spread no_refusal))) (Err Count)) (Err Length) ≡ no_refusal
         → Passed levels corridors ladder km spread sheet
     lengths false b p q r = absurd (unequal cc)

@@ -4,13 +4,13 @@ use lib.Ieee.{Float}
 use Rattle.loops.specs.Figures.{at}
 use Rattle.loops.proofs.Tab.{get_tab}
 use Rattle.line_defs.specs.declared.Row.{Row}
-use Rattle.line_defs.specs.Rows.{counts_ok}
+use Rattle.sheets.specs.Request.{counts_ok}
 use Rattle.line_defs.specs.Row.{class_row, line_row}
 use Rattle.line_sheet.specs.declared.row.Level.{Level}
 use Rattle.line_sheet.specs.Classes.{level_in, level_row, no_level, levels_in}
 use Rattle.line_sheet.proofs.Sheets.{counts_of}
 
-pub level_most : (levels corridors : ℕ) {l : ℕ} → counts_ok levels corridors ≡ true → l < levels → l < 5
+pub level_most : (levels corridors : ℕ) {l : ℕ} → counts_ok corridors levels ≡ true → l < levels → l < 5
 level_most levels corridors e h = let c = counts_of levels corridors e in omega (arith, c.levels_most)
 
 row_is : (kv km spread kept load : Float) → level_row (level_in kv) km spread kept load ≡ line_row kv km spread kept load

@@ -6,7 +6,8 @@ use Rattle.loops.specs.Figures.{at, plus, nought, ten_thousand, millionth, insid
 use Rattle.loops.specs.Loops.{first}
 use Rattle.refusal.specs.declared.Refusal.{Refusal}
 use Rattle.refusal.specs.declared.Refusal.TheVariants.{Length, Count, Level, Corridor, Spread}
-use Rattle.line_defs.specs.Rows.{counts_ok, sheet_figures}
+use Rattle.sheets.specs.Request.{counts_ok}
+use Rattle.line_defs.specs.Rows.{sheet_figures}
 use Rattle.refusal.specs.Reply.{no_refusal}
 
 -- ---- 1: ladder, lengths, spreads and the sheet, by their numbers of places
@@ -48,14 +49,14 @@ fault_in ok fault l next = cond (ltb (faulty ok l) (length l)) (Err (fault (faul
 unfoldable pub check_of : ℕ → ℕ → List Float → List Float → List Float → ℕ → Result (Unit {0}) Refusal
 check_of levels corridors ladder km spread sheet =
     cond (lengths_ok levels corridors (length ladder) (length km) (length spread) sheet)
-    (cond (counts_ok levels corridors)
+    (cond (counts_ok corridors levels)
     (fault_in level_ok Level ladder (fault_in length_ok Corridor km (fault_in spread_ok Spread spread no_refusal)))
     (Err Count))
     (Err Length)
 
 -- what tables that pass have, as far as the work needs it
 pub record Sound (levels corridors : ℕ) (ladder km spread : List Float) : Type 0 where
-  pub counts : counts_ok levels corridors ≡ true
+  pub counts : counts_ok corridors levels ≡ true
   pub ladder_length : length ladder ≡ levels
   pub km_length : length km ≡ corridors
   pub spread_length : length spread ≡ corridors

@@ -4,7 +4,8 @@ use Rattle.loops.specs.Figures.{at}
 use Rattle.loops.specs.Loops.{tab}
 use Rattle.refusal.specs.Reply.{Reply, reply_of, no_refusal}
 use Rattle.line_defs.specs.declared.Row.{Row}
-use Rattle.line_defs.specs.Rows.{row_figures, sheet_figures}
+use Rattle.sheets.specs.Sheet.{row_figures, line_corridor, line_level}
+use Rattle.line_defs.specs.Rows.{sheet_figures}
 use Rattle.line_defs.specs.Row.{line_row}
 use Rattle.line_defs.specs.Spread.{kept_spread, PowerWithin}
 use Rattle.line_defs.specs.Loadability.{loadability_of, Loadable}
@@ -21,7 +22,7 @@ figures_of w = w.r ∷ w.x ∷ w.b ∷ w.rate ∷ w.basis ∷ []
 -- figure i of the sheet
 unfoldable pub figure_at : ℕ → List Float → List Float → List Float → ℕ → Float
 figure_at levels ladder km spread i =
-    let t = i / row_figures in at (figures_of (row_at ladder km spread (t / levels) (t % levels))) (i % row_figures)
+    let t = i / row_figures in at (figures_of (row_at ladder km spread (line_corridor levels t) (line_level levels t))) (i % row_figures)
 
 abbrev pub sheet_of : ℕ → ℕ → List Float → List Float → List Float → List Float
 sheet_of levels corridors ladder km spread = tab (sheet_figures levels corridors) (figure_at levels ladder km spread)

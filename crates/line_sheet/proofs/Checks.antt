@@ -9,7 +9,8 @@ use Rattle.loops.proofs.Scan.{all_pass}
 use Rattle.refusal.specs.declared.Refusal.{Refusal}
 use Rattle.refusal.specs.declared.Refusal.TheVariants.{Level, Corridor, Spread as Width}
 use Rattle.line_defs.specs.Bounds.{Spread}
-use Rattle.line_defs.specs.Rows.{counts_ok, sheet_figures}
+use Rattle.sheets.specs.Request.{counts_ok}
+use Rattle.line_defs.specs.Rows.{sheet_figures}
 use Rattle.line_defs.specs.Request.{lengths_ok, level_ok, length_ok, spread_ok, quarter, four, faulty, fault_in, check_of, Sound}
 use Rattle.std.specs.Prelude.{Result}
 use Rattle.refusal.specs.Reply.{no_refusal}
@@ -54,7 +55,7 @@ pub passed : (levels corridors : â„•) (ladder km spread : List Float) (sheet : â
 unfolding check_of
 passed levels corridors ladder km spread sheet e =
     let a = only (lengths_ok levels corridors (length ladder) (length km) (length spread) sheet) e err_not_ok in
-    let b = only (counts_ok levels corridors) a.1 err_not_ok in
+    let b = only (counts_ok corridors levels) a.1 err_not_ok in
     let x = both (eqb (length ladder) levels && eqb (length km) corridors && eqb (length spread) corridors) (eqb sheet (sheet_figures levels corridors)) a.0 in
     let y = both (eqb (length ladder) levels && eqb (length km) corridors) (eqb (length spread) corridors) x.0 in
     let z = both (eqb (length ladder) levels) (eqb (length km) corridors) y.0 in

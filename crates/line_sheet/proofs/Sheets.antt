@@ -2,21 +2,23 @@
 use Rattle.std.proofs.Common.{◌≡◌, ℕ, ◌+◌, ◌-◌, ◌*◌, ◌<◌, ◌≤◌, true, false, ◌&&◌, eqb, leb, List, [], length, take, drop, sym, ap, ◌∙◌, le_trans, le_of_eq, mul-le-mul, mul_left_comm, arith, le-ltb, lt-ltb, eqb-true, leb-true}
 use lib.Ieee.{Float}
 use borrow.Author.Tests.{lt-leb}
+use Rattle.loops.specs.Bounds.{most_levels, most_corridors}
 use Rattle.loops.specs.Parts.{part}
 use Rattle.loops.proofs.Bools.{both}
 use Rattle.loops.proofs.Rows.{row_fits}
-use Rattle.line_defs.specs.Rows.{counts_ok, sheets_ok, corridor_figures, sheet_figures, corridor_rows}
+use Rattle.sheets.specs.Request.{counts_ok}
+use Rattle.line_defs.specs.Rows.{sheets_ok, corridor_figures, sheet_figures, corridor_rows}
 
 pub record Counts (levels corridors : ℕ) : Type 0 where
   pub levels_least : 1 ≤ levels
-  pub levels_most : levels ≤ 5
-  pub corridors_most : corridors ≤ 256
+  pub levels_most : levels ≤ most_levels
+  pub corridors_most : corridors ≤ most_corridors
 
-pub counts_of : (levels corridors : ℕ) → counts_ok levels corridors ≡ true → Counts levels corridors
+pub counts_of : (levels corridors : ℕ) → counts_ok corridors levels ≡ true → Counts levels corridors
 counts_of levels corridors e =
-    let a = both (leb 1 levels && leb levels 5) (leb corridors 256) e in
-    let b = both (leb 1 levels) (leb levels 5) a.0 in
-    record { levels_least = leb-true 1 levels b.0; levels_most = leb-true levels 5 b.1; corridors_most = leb-true corridors 256 a.1 }
+    let a = both (leb 1 levels && leb levels most_levels) (leb corridors most_corridors) e in
+    let b = both (leb 1 levels) (leb levels most_levels) a.0 in
+    record { levels_least = leb-true 1 levels b.0; levels_most = leb-true levels most_levels b.1; corridors_most = leb-true corridors most_corridors a.1 }
 
 pub record Sheets (levels corridors surveyed n m : ℕ) : Type 0 where
   pub counts : Counts levels corridors
@@ -27,8 +29,8 @@ pub record Sheets (levels corridors surveyed n m : ℕ) : Type 0 where
 pub sheets_of : (levels corridors surveyed n m : ℕ) → sheets_ok levels corridors surveyed n m ≡ true → Sheets levels corridors surveyed n m
 unfolding sheets_ok
 sheets_of levels corridors surveyed n m e =
-    let a = both (counts_ok levels corridors && leb surveyed corridors) (eqb n (sheet_figures levels surveyed) && eqb m (sheet_figures levels corridors)) e in
-    let b = both (counts_ok levels corridors) (leb surveyed corridors) a.0 in
+    let a = both (counts_ok corridors levels && leb surveyed corridors) (eqb n (sheet_figures levels surveyed) && eqb m (sheet_figures levels corridors)) e in
+    let b = both (counts_ok corridors levels) (leb surveyed corridors) a.0 in
     let c = both (eqb n (sheet_figures levels surveyed)) (eqb m (sheet_figures levels corridors)) a.1 in
     record {
       counts = counts_of levels corridors b.0;
@@ -48,15 +50,15 @@ pub rows_end : (levels corridors k n : ℕ) → n ≡ sheet_figures levels corri
 rows_end levels corridors k n e h = le_trans (row_fits k corridors (5 * levels) h) (le_of_eq (mul_left_comm corridors 5 levels ∙ sym e))
 
 -- ---- the test, decided
-pub bad_counts : (levels corridors surveyed n m : ℕ) → counts_ok levels corridors ≡ false → false ≡ sheets_ok levels corridors surveyed n m
+pub bad_counts : (levels corridors surveyed n m : ℕ) → counts_ok corridors levels ≡ false → false ≡ sheets_ok levels corridors surveyed n m
 unfolding sheets_ok
 bad_counts levels corridors surveyed n m e = rw e
 
-pub bad_surveyed : (levels corridors surveyed n m : ℕ) → counts_ok levels corridors ≡ true → corridors < surveyed → false ≡ sheets_ok levels corridors surveyed n m
+pub bad_surveyed : (levels corridors surveyed n m : ℕ) → counts_ok corridors levels ≡ true → corridors < surveyed → false ≡ sheets_ok levels corridors surveyed n m
 unfolding sheets_ok
 bad_surveyed levels corridors surveyed n m e h = rw (e, lt-leb surveyed corridors h)
 
-pub good_counts : (levels corridors surveyed n m : ℕ) → counts_ok levels corridors ≡ true → leb surveyed corridors ≡ true
+pub good_counts : (levels corridors surveyed n m : ℕ) → counts_ok corridors levels ≡ true → leb surveyed corridors ≡ true
     → (eqb n (sheet_figures levels surveyed) && eqb m (sheet_figures levels corridors)) ≡ sheets_ok levels corridors surveyed n m
 unfolding sheets_ok
 good_counts levels corridors surveyed n m e f = rw (e, f)

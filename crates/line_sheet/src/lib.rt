@@ -6,7 +6,7 @@ ghost use Rattle.line_defs.specs.Rows.{corridor_rows};
 ghost use Rattle.line_defs.specs.Sheet.{outcome, line_sheet, WhereAnswered};
 
 use crate::rows::sheets_ok;
-use crate::tables::Tables;
+use crate::tables::{Tables, levels_of};
 use refusal::Refusal;
 use sheets::ROW_FIGURES;
 
@@ -41,6 +41,7 @@ pub fn line_sheet(
         levels,
         corridors,
         ladder,
+        each: levels_of(ladder),
         km,
         spread,
     };

@@ -65,13 +65,20 @@ fn in_knots(km: f64) -> bool
     !(km <= 80.0) & (km <= 965.0)
 }
 
-// A length in units of near; 1 where it lies between no knots.
-fn start(km: f64, near: u64) -> u64
-    requires { near ≡ (segment_of km).near }
+// A length in units of near; 1 where it lies between no knots. The product with 2^64 / near, the next whole number, spares a division.
+fn start(km: f64) -> u64
     ensures { result ≡ start_of km }
 {
     if in_knots(km) {
-        steps_of_length(km) / (0x1_0000 * near)
+        let share = by_segment(
+            km,
+            0x333_3333_3333_3334,
+            0x199_9999_9999_999a,
+            0xcc_cccc_cccc_cccd,
+            0x88_8888_8888_8889,
+            0x66_6666_6666_6667,
+        );
+        high(steps_of_length(km) / 0x1_0000, share)
     } else {
         UNIT
     }
@@ -80,9 +87,8 @@ fn start(km: f64, near: u64) -> u64
 fn lane_of(km: f64) -> Lane
     ensures { result ≡ lane_of km }
 {
-    let near = by_segment(km, 80, 160, 320, 480, 640);
     Lane {
-        near,
+        near: by_segment(km, 80, 160, 320, 480, 640),
         far: by_segment(km, 160, 320, 480, 640, 965),
         reach: by_segment(
             km,
@@ -100,7 +106,7 @@ fn lane_of(km: f64) -> Lane
             0xc000_0000_0000_0000,
             0xa9c8_4a47_a07f_5638,
         ),
-        left: start(km, near),
+        left: start(km),
         count: 1,
     }
 }

@@ -1,8 +1,7 @@
 // A row of the sheet (`line_parameters` of branches.rs, LINE_CLASSES and `line_class_for` of params.rs).
 ghost use Rattle.std.specs.Prelude.{◌≡◌};
 ghost use Rattle.line_defs.specs.Class.{class_of_square};
-ghost use Rattle.line_defs.specs.Row.{line_row};
-ghost use Rattle.line_sheet.specs.Classes.{line_class, width_in, row_in};
+ghost use Rattle.line_sheet.specs.Classes.{line_class, width_in, row_in, level_in, level_row};
 
 use line_defs::Row;
 
@@ -142,11 +141,31 @@ impl LineClass {
     }
 }
 
-// The row of a line of `km` at a level of `kv`: `kept` is the spread to the power 0.6, and `load` the loadability.
-pub fn line_row(kv: f64, km: f64, spread: f64, kept: f64, load: f64) -> Row
-    ensures { result ≡ line_row kv km spread kept load }
+// What the rows of a level have of its kV.
+#[derive(Clone, Copy)]
+pub struct Level {
+    pub class: LineClass,
+    pub z: f64,
+    pub ratio: f64,
+}
+
+pub fn level_of(kv: f64) -> Level
+    ensures { result ≡ level_in kv }
 {
     let class = class_of(kv * kv);
-    let width = class.width(spread, kept);
-    class.row(kv * kv / BASE_MVA, kv / class.kv, km, width, load)
+    Level {
+        class,
+        z: kv * kv / BASE_MVA,
+        ratio: kv / class.kv,
+    }
+}
+
+impl Level {
+    // The row of a line of `km`: `kept` is the spread to the power 0.6, and `load` the loadability.
+    pub fn row(self, km: f64, spread: f64, kept: f64, load: f64) -> Row
+        ensures { result ≡ level_row self km spread kept load }
+    {
+        let width = self.class.width(spread, kept);
+        self.class.row(self.z, self.ratio, km, width, load)
+    }
 }

@@ -6,6 +6,7 @@ ghost use Rattle.line_defs.specs.Bounds.{Spread};
 use crate::grid::{on_grid, steps_of_spread};
 use crate::limbs::{at_most, power};
 use crate::wide::high;
+use std::simd::prelude::*;
 
 // More than any root here: 4 steps of 2^-32 each.
 const MOST: u64 = 0x4_0000_0000;
@@ -28,19 +29,27 @@ const LITTLE: f64 = 3.552713678800501e-15;
 const BEFORE_CUT: f64 = 1048575.9999999999;
 
 // A figure nearer to s^-0.4 than z: four terms of the series of z * (1 - e)^-0.2 with e = 1 - s^2 * z^5, of an s by its square.
-fn nearer(square: f64, z: f64) -> f64 {
+fn nearer<const N: usize>(square: Simd<f64, N>, z: Simd<f64, N>) -> Simd<f64, N> {
+    let one = Simd::splat(1.0);
     let fourth = z * z * (z * z);
-    let e = 1.0 - square * (fourth * z);
-    z * (1.0 + e * (0.2 + e * (0.12 + e * 0.088)))
+    let e = one - square * (fourth * z);
+    z * (one + e * (Simd::splat(0.2) + e * (Simd::splat(0.12) + e * Simd::splat(0.088))))
 }
 
-// Where the root of a spread is looked for first. The promise says nothing, since the search answers the same from any place; from this
-// one it ends at once. A polynomial is within a thirtieth of s^-0.4, two steps make that 1e-15, and s * s^-0.4 is cut to steps of
-// 2^-32, which is the spacing of binary64 from 2^20 on. A little is added first, so that an exact root is not missed from below.
-pub fn guess(s: f64) -> u64 {
-    let first = 2.136 + s * (-2.087 + s * (1.2335 + s * (-0.3309 + s * 0.0322)));
+// N spreads to the power 0.6, side by side, since each is a long chain: a polynomial is within a thirtieth of s^-0.4, two steps make that
+// 1e-15, and s times that is the power.
+fn powers<const N: usize>(s: Simd<f64, N>) -> Simd<f64, N> {
+    let first = Simd::splat(2.136)
+        + s * (Simd::splat(-2.087)
+            + s * (Simd::splat(1.2335) + s * (Simd::splat(-0.3309) + s * Simd::splat(0.0322))));
     let square = s * s;
-    let power = s * nearer(square, nearer(square, first));
+    s * nearer(square, nearer(square, first))
+}
+
+// Where the root of a spread is looked for first, by its power. The promise says nothing, since the search answers the same from any place;
+// from this one it ends at once. The power is cut to steps of 2^-32, which is the spacing of binary64 from 2^20 on. A little is added
+// first, so that an exact root is not missed from below.
+fn cut(power: f64) -> u64 {
     let place = power + LITTLE + BEFORE_CUT;
     if 0.0 <= place {
         return f64::to_bits(place) & ROOT_BITS;
@@ -48,12 +57,16 @@ pub fn guess(s: f64) -> u64 {
     0
 }
 
-// The guesses of eight spreads, side by side, since each is a long chain.
+pub fn guess(s: f64) -> u64 {
+    cut(powers(f64x1::splat(s)).to_array()[0])
+}
+
+// The guesses of eight spreads. Of spreads of 1 none is looked at, so none is made.
 pub fn guesses(spread: &[f64; 8]) -> [u64; 8] {
-    // `spread.map(guess)` was tried: 106 instructions more for the eight, 1.6 % of a sheet of 256 corridors.
-    let mut r = [0u64; 8];
-    loops::fill(&mut r, |j| guess(spread[j]));
-    r
+    if spread.iter().all(|s| *s == 1.0) {
+        return [0; 8];
+    }
+    powers(f64x8::from_array(*spread)).to_array().map(cut)
 }
 
 // Where to look next between two ends: at the guess, one past it where it has become the lower end, else in the middle.

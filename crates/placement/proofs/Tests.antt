@@ -57,30 +57,16 @@ pub origin_set : (l : List (Option ℕ)) (i : ℕ) (o : Option ℕ) → origins_
 origin_set l i o = map-set origin_of l i o
 
 -- ---- a corridor considered
-neither : (p q : Bool) → (not p && not q) ≡ true → (p || q) ≡ false
-neither true q e = sym e
-neither false true e = sym e
-neither false false e = refl
-
-either : (p q : Bool) → (not p && not q) ≡ false → (p || q) ≡ true
-either true q e = refl
-either false true e = refl
-either false false e = sym e
-
 module _ (i a b : ℕ) (km : Float) (s : Labels) where
-  pub consider_off : (not (eqb a i) && not (eqb b i)) ≡ true → s ≡ considered i a b km s
-  unfolding considered
-  consider_off t = rw (neither (eqb a i) (eqb b i) t)
-
-  module _ (j : ℕ) (r : Bool) (t : (not (eqb a i) && not (eqb b i)) ≡ false) (e : j ≡ far_end a b i)
+  module _ (j : ℕ) (r : Bool) (t : (eqb a i || eqb b i) ≡ true) (e : j ≡ far_end a b i)
       (q : r ≡ shortens (get_or s.mark j 0) (plus (at s.dist i) km) (at s.dist j)) where
     pub consider_rejected : r ≡ false → s ≡ considered i a b km s
     unfolding considered offered
-    consider_rejected u = rw (either (eqb a i) (eqb b i) t, ← e, ← q, u)
+    consider_rejected u = rw (t, ← e, ← q, u)
 
     pub consider_taken : r ≡ true → reached j (plus (at s.dist i) km) (get_or s.from i 0) s ≡ considered i a b km s
     unfolding considered offered
-    consider_taken u = rw (either (eqb a i) (eqb b i) t, ← e, ← q, u)
+    consider_taken u = rw (t, ← e, ← q, u)
 
 -- ---- a corridor that passes
 pub record Ends (n a b : ℕ) (km : Float) : Type 0 where

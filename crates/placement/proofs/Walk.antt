@@ -8,9 +8,9 @@ use Prim.Native.Nat.{ℕ, zero, suc, ◌+◌, ◌-◌, ◌<◌, ◌≤◌}
 use native.Mathlib.Decide.{ℕ_discrete}
 use native.Mathlib.Omega.{arith}
 use native.Mathlib.Numerals.{add-one}
-use borrow.Author.Tests.{eq-eqb, ne_eqb, eqb-true, ltb-false}
+use borrow.Author.Tests.{eq-eqb, ne_eqb, eqb-true, lt-ltb, le-ltb}
 use lib.Dec.{eqb, ltb}
-use lib.ListN.{length, get_or, set, length-set}
+use lib.ListN.{length, get_or, set, length-set, length-replicate, get_or-replicate}
 use lib.Seq.{get_or-set_same, get_or-set_other}
 use Rattle.loops.specs.Bounds.{most_buses, most_corridors}
 use Rattle.loops.specs.Loops.{iter}
@@ -19,7 +19,8 @@ use Rattle.loops.proofs.Loops.{iter_all, iter_more, iter_end}
 use Rattle.loops.proofs.Scan.{first_pass, first_stop, first_end}
 use Rattle.placement_defs.specs.Request.{Net}
 use Rattle.placement_defs.specs.Distance.{Network, Labels, considered, corridor, settle, spread}
-use Rattle.placement.specs.Corridors.{ends_at, next_at, Listed}
+use Rattle.placement.specs.Corridors.{ends_at, next_at, kept_at, no_corridor, blank_lists, Listed}
+use Rattle.placement.specs.declared.lists.Lists.{Lists}
 use Rattle.std.specs.Prelude.{Option, Some, None}
 use Rattle.std.specs.Option.{ForSome}
 use Rattle.placement.specs.Choices.{number}
@@ -92,25 +93,25 @@ module _ (w : Network) (i : ℕ) where
 
 -- ---- the list is walked: after corridor c comes the next at bus i
 module _ (w : Network) (head afterA afterB : List ℕ) (r : Listed w 0 head afterA afterB) (i c : ℕ) (h : c < w.m) where
-  pub next_by_a : get_or w.a c 0 ≡ i → get_or afterA c 0 ≡ next_at w i (c + 1)
+  pub next_by_a : get_or w.a c 0 ≡ i → kept_at w (get_or afterA c 0) ≡ next_at w i (c + 1)
   next_by_a e = r.next_a c (omega arith) h ∙ ap (λ (v : ℕ). next_at w v (c + 1)) e
 
-  pub next_by_b : ends_at w i c ≡ true → (get_or w.a c 0 ≡ i → ⊥) → get_or afterB c 0 ≡ next_at w i (c + 1)
+  pub next_by_b : ends_at w i c ≡ true → (get_or w.a c 0 ≡ i → ⊥) → kept_at w (get_or afterB c 0) ≡ next_at w i (c + 1)
   next_by_b at_i d =
       let e = ap (λ (x : Bool). x || eqb (get_or w.b c 0) i) (sym (ne_eqb (get_or w.a c 0) i d)) ∙ at_i in
       r.next_b c (omega arith) h ∙ ap (λ (v : ℕ). next_at w v (c + 1)) (eqb-true (get_or w.b c 0) i e)
 
 -- as an answer
-pub next_kept : (w : Network) (i c x : ℕ) (next : Option ℕ) → c ≤ w.m → next ≡ cond (ltb x w.m) (Some x) None → x ≡ next_at w i c → number w.m next ≡ next_at w i c
-next_kept w i c x next h e q = ap (number w.m) e ∙ go (ltb x w.m) refl
+pub next_kept : (w : Network) (i c x : ℕ) (next : Option ℕ) → next ≡ cond (ltb x w.m) (Some x) None → kept_at w x ≡ next_at w i c → number w.m next ≡ next_at w i c
+next_kept w i c x next e q = ap (number w.m) e ∙ go (ltb x w.m) ∙ q
   where
-    go : (b : Bool) → ltb x w.m ≡ b → number w.m (cond b (Some x) None) ≡ next_at w i c
-    go true t = q
-    go false t = let k = next_is w i c h in let u = k.within in let l = ltb-false x w.m t in omega arith
+    go : (b : Bool) → number w.m (cond b (Some x) None) ≡ cond b x w.m
+    go true = refl
+    go false = refl
 
 -- ---- the list is made, from the last corridor to the first
-pub listed_none : (w : Network) (head afterA afterB : List ℕ) → length head ≡ most_buses → length afterA ≡ most_corridors → length afterB ≡ most_corridors
-    → ((i : ℕ) → i < w.n → get_or head i 0 ≡ w.m) → Listed w w.m head afterA afterB
+listed_none : (w : Network) (head afterA afterB : List ℕ) → length head ≡ most_buses → length afterA ≡ most_corridors → length afterB ≡ most_corridors
+    → ((i : ℕ) → i < w.n → kept_at w (get_or head i 0) ≡ w.m) → Listed w w.m head afterA afterB
 listed_none w head afterA afterB p q r none =
     record {
       heads = p;
@@ -121,6 +122,16 @@ listed_none w head afterA afterB p q r none =
       next_b = λ e l h. absurd (omega arith);
     }
 
+pub listed_blank : (w : Network) → Net w.n w.m w.a w.b w.km → (l : Lists) → l ≡ blank_lists → Listed w w.m l.head l.after_a l.after_b
+listed_blank w net l e =
+    rw e
+    (listed_none w blank_lists.head blank_lists.after_a blank_lists.after_b (length-replicate {A = ℕ} most_buses no_corridor) (length-replicate {A = ℕ} most_corridors no_corridor)
+    (length-replicate {A = ℕ} most_corridors no_corridor)
+    (λ i h. ap (kept_at w) (get_or-replicate {A = ℕ} most_buses i no_corridor 0 (omega (arith, net.few))) ∙ beyond))
+  where
+    beyond : kept_at w no_corridor ≡ w.m
+    beyond = rw (le-ltb no_corridor w.m (omega (arith, net.short)))
+
 module _ (w : Network) (net : Net w.n w.m w.a w.b w.km) (c : ℕ) (hc : c < w.m) (head afterA afterB : List ℕ) (r : Listed w (c + 1) head afterA afterB) where
   abbrev a : ℕ
   a = get_or w.a c 0
@@ -130,6 +141,9 @@ module _ (w : Network) (net : Net w.n w.m w.a w.b w.km) (c : ℕ) (hc : c < w.m)
 
   off : (i : ℕ) → (i ≡ a → ⊥) → (i ≡ b → ⊥) → ends_at w i c ≡ false
   off i p q = ap (λ (x : Bool). x || eqb b i) (ne_eqb a i (λ e. p (sym e))) ∙ ne_eqb b i (λ e. q (sym e))
+
+  own : kept_at w c ≡ c
+  own = rw (lt-ltb c w.m hc)
 
   pub listed_next : Listed w c (set (set head a c) b c) (set afterA c (get_or head a 0)) (set afterB c (get_or (set head a c) b 0))
   listed_next =
@@ -148,26 +162,28 @@ module _ (w : Network) (net : Net w.n w.m w.a w.b w.km) (c : ℕ) (hc : c < w.m)
         next_bs = length-set afterB c (get_or (set head a c) b 0) ∙ l3;
         first = λ i h.
             elim (ℕ_discrete i b) [
-              | yes p ↦ ap (λ (t : ℕ). get_or (set (set head a c) b c) t 0) p ∙ get_or-set_same (set head a c) b c 0 (omega arith)
+              | yes p ↦ ap (kept_at w) (ap (λ (t : ℕ). get_or (set (set head a c) b c) t 0) p ∙ get_or-set_same (set head a c) b c 0 (omega arith))
+                  ∙ own
                   ∙ sym (next_here w i c hc (or_right (eqb a i) (eqb b i) (eq-eqb b i (sym p))))
-              | no p ↦ get_or-set_other (set head a c) b i c 0 p
+              | no p ↦ ap (kept_at w) (get_or-set_other (set head a c) b i c 0 p)
                   ∙ elim (ℕ_discrete i a) [
-                    | yes q ↦ ap (λ (t : ℕ). get_or (set head a c) t 0) q ∙ get_or-set_same head a c 0 (omega arith)
+                    | yes q ↦ ap (kept_at w) (ap (λ (t : ℕ). get_or (set head a c) t 0) q ∙ get_or-set_same head a c 0 (omega arith))
+                        ∙ own
                         ∙ sym (next_here w i c hc (or_left (eqb a i) (eqb b i) (eq-eqb a i (sym q))))
-                    | no q ↦ get_or-set_other head a i c 0 q ∙ r.first i h ∙ sym (next_later w i c hc (off i q p))
+                    | no q ↦ ap (kept_at w) (get_or-set_other head a i c 0 q) ∙ r.first i h ∙ sym (next_later w i c hc (off i q p))
                   ]
             ];
         next_a = λ t l h.
             elim (ℕ_discrete t c) [
-              | yes p ↦ subst (λ (u : ℕ). get_or (set afterA c (get_or head a 0)) u 0 ≡ next_at w (get_or w.a u 0) (u + 1)) (sym p)
-                  (get_or-set_same afterA c (get_or head a 0) 0 (omega arith) ∙ r.first a ha)
-              | no p ↦ get_or-set_other afterA c t (get_or head a 0) 0 p ∙ r.next_a t (omega arith) h
+              | yes p ↦ subst (λ (u : ℕ). kept_at w (get_or (set afterA c (get_or head a 0)) u 0) ≡ next_at w (get_or w.a u 0) (u + 1)) (sym p)
+                  (ap (kept_at w) (get_or-set_same afterA c (get_or head a 0) 0 (omega arith)) ∙ r.first a ha)
+              | no p ↦ ap (kept_at w) (get_or-set_other afterA c t (get_or head a 0) 0 p) ∙ r.next_a t (omega arith) h
             ];
         next_b = λ t l h.
             elim (ℕ_discrete t c) [
-              | yes p ↦ subst (λ (u : ℕ). get_or (set afterB c (get_or (set head a c) b 0)) u 0 ≡ next_at w (get_or w.b u 0) (u + 1)) (sym p)
-                  (get_or-set_same afterB c (get_or (set head a c) b 0) 0 (omega arith) ∙ get_or-set_other head a b c 0 (λ z. e.two (sym z)) ∙ r.first b hb)
-              | no p ↦ get_or-set_other afterB c t (get_or (set head a c) b 0) 0 p ∙ r.next_b t (omega arith) h
+              | yes p ↦ subst (λ (u : ℕ). kept_at w (get_or (set afterB c (get_or (set head a c) b 0)) u 0) ≡ next_at w (get_or w.b u 0) (u + 1)) (sym p)
+                  (ap (kept_at w) (get_or-set_same afterB c (get_or (set head a c) b 0) 0 (omega arith) ∙ get_or-set_other head a b c 0 (λ z. e.two (sym z))) ∙ r.first b hb)
+              | no p ↦ ap (kept_at w) (get_or-set_other afterB c t (get_or (set head a c) b 0) 0 p) ∙ r.next_b t (omega arith) h
             ];
       }
 

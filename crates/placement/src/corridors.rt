@@ -22,7 +22,7 @@ impl<'a> Network<'a> {
         ensures corridor { ForSome result (λ c. c < length self.now.a.now) }
         ensures value { number (length self.now.a.now) result ≡ next_at (network_in self.now) i 0 }
     {
-        self.kept(self.head[i])
+        self.kept(self.lists.head[i])
     }
 
     // The one at bus i after corridor c, which ends there: of those that come next at its ends.
@@ -32,9 +32,9 @@ impl<'a> Network<'a> {
         ensures value { number (length self.now.a.now) result ≡ next_at (network_in self.now) i (c + 1) }
     {
         if self.a[c] as usize == i {
-            self.kept(self.after_a[c])
+            self.kept(self.lists.after_a[c])
         } else {
-            self.kept(self.after_b[c])
+            self.kept(self.lists.after_b[c])
         }
     }
 }

@@ -1,5 +1,5 @@
 // Corridor-km from every bus to its nearest source by Dijkstra's method. A bus's mark says which of the three sets it is in.
-ghost use Rattle.std.specs.Prelude.{◌≡◌, ◌≤◌, ◌<◌};
+ghost use Rattle.std.specs.Prelude.{◌≡◌, ◌≤◌, ◌<◌, ◌||◌, eqb, true};
 ghost use Rattle.loops.specs.Loops.{iter};
 ghost use Rattle.placement_defs.specs.Request.{most_buses};
 ghost use Rattle.placement_defs.specs.Distance.{seeded, seed, shortens, far_end, considered, spread, searched, distances_from};
@@ -51,7 +51,7 @@ fn far_end(n: usize, a: usize, b: usize, i: usize) -> usize
     if a == i { b } else { a }
 }
 
-// Step 1 for one corridor: where it ends at i, its other end is reached over it if that is shorter.
+// Step 1 for one corridor that ends at i: its other end is reached over it if that is shorter.
 fn consider(
     n: usize,
     i: usize,
@@ -62,13 +62,11 @@ fn consider(
     nearest: &mut [Option<usize>; BLOCKS],
 )
     requires n_le_most_buses { (n ≤ most_buses) × (i < n) × (a < n) × (b < n) }
+    requires ends { (eqb a i || eqb b i) ≡ true }
     requires front { Front n (marks_in labels.old.mark) labels.old.dist nearest.old }
     ensures from_after { labels_in labels.new ≡ considered i a b km (labels_in labels.old) }
     ensures front_2 { Front n (marks_in labels.new.mark) labels.new.dist nearest.new }
 {
-    if (a != i) & (b != i) {
-        return;
-    }
     let j = far_end(n, a, b, i);
     let nd = labels.dist[i] + km;
     if !shortens_way(labels.mark[j], nd, labels.dist[j]) {

@@ -24,14 +24,19 @@ pub struct Labels {
     ghost numbers: { Numbers most_buses (marks_in mark) dist },
 }
 
+// The distances while no bus is reached. A static, read by its address, is copied once; an array written out here is made zero, filled and
+// then moved.
+static FAR: [f64; MOST_BUSES] = [f64::INFINITY; MOST_BUSES];
+
 impl Labels {
     // To start with, no bus is reached.
     pub fn blank() -> Labels
         ensures { labels (marks_in result.mark) result.dist (origins_in result.from) ≡ blank }
     {
+        let far = &FAR;
         Labels {
             mark: [Mark::Rest; MOST_BUSES],
-            dist: [loops::infinity(); MOST_BUSES],
+            dist: *far,
             from: [None; MOST_BUSES],
         }
     }

@@ -6,6 +6,7 @@ ghost use Rattle.placement_defs.specs.Request.{request_of};
 ghost use Rattle.placement_defs.specs.Support.{outcome, placement};
 
 use crate::check::Request;
+use crate::lists::Lists;
 use crate::network::Network;
 use refusal::Refusal;
 
@@ -15,6 +16,7 @@ mod condenser;
 mod corridors;
 mod distance;
 mod labels;
+mod lists;
 mod network;
 
 // Blocks of sixteen buses.
@@ -53,6 +55,8 @@ pub fn place_voltage_support(
         generators,
     };
     request.check(buses.len(), mvars.len())?;
-    let network = Network::new(&request);
+    let mut lists = Lists::blank();
+    lists.list(&request);
+    let network = Network::new(&request, &lists);
     Ok(condenser::place(&network, generators, buses, mvars))
 }

@@ -79,7 +79,7 @@ same_results : {a₀ a : List ℕ} {b₀ b c₀ c : List Float} {d₀ d e₀ e f
 same_results r p1 p2 p3 p4 p5 p6 p7 p8 p9 p10 p11 = cc
 
 module _ (h : Header) (p : Places) (said : Result CorridorPlan Refusal) (l : Slices) where
-  abbrev lent_of : Results → Slices
+  abbrev pub lent_of : Results → Slices
   lent_of r =
       slices (take (h.corridors - 0) r.circuits) (take (h.corridors - 0) r.flow) (take (h.corridors - 0) r.rate) (take (h.corridors - 0) r.before)
       (take (h.corridors - 0) r.order) (take (h.corridors - 0) r.cap) (take (h.generators - 0) r.mw) (take (h.buses - 0) r.angle) (take (h.buses - 0) r.tier)

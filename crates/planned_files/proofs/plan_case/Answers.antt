@@ -5,7 +5,7 @@ use Rattle.casefile_defs.specs.Tables.{Places}
 use Rattle.case_tables.specs.Tables.{tables_in}
 use Rattle.plan_defs.specs.Outcome.{Slices, slices, plan_corridors}
 use Rattle.case_defs.specs.Cases.{case_as, case_in}
-use Rattle.planned_files.proofs.Planned.{Fits, planned_in}
+use Rattle.planned_files.proofs.Planned.{Fits, lent_of, planned_in}
 use Rattle.planned_files.proofs.plan_case.Goals as goal
 
 pub returns : goal.returns
@@ -19,4 +19,4 @@ returns c =
     let fits : Fits (case_in h p) = record { buses = s.buses; corridors = s.corridors; generators = s.generators; above = omega arith; work = omega arith } in
     planned_in h p c.plan_corridors-planned.result left c.zeros-results.result c.zeros-results.ensures fits
     k.circuits k.flow k.rate k.before k.order k.kept_cap k.mw k.angle k.final_tier k.ground k.added
-    (c.plan_corridors-planned.ensures.plan ∙ ap (λ (x : Places). plan_corridors (case_as h x) h.target _) c.fronts-parts.ensures)
+    (c.plan_corridors-planned.ensures.plan ∙ ap (λ (x : Places). plan_corridors (case_as h x) h.target (lent_of h p c.plan_corridors-planned.result left c.zeros-results.result)) c.fronts-parts.ensures)

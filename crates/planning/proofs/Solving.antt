@@ -6,6 +6,7 @@ use borrow.Author.Tests.{lt-leb}
 use lib.ListN.{length-replicate}
 use lib.Seq.{take-set-lt}
 use lib.Ieee.{Float, neg}
+use Rattle.loops.specs.Bounds.{most_buses}
 use Rattle.loops.specs.Figures.{at, float, times, minus, nought, one}
 use Rattle.loops.specs.Loops.{first, tab}
 use Rattle.loops.proofs.Tab.{length_tab, get_tab, tab_same}
@@ -15,7 +16,7 @@ use Rattle.refusal.specs.declared.Refusal.TheVariants.{NotFinite}
 use Rattle.dispatch_defs.proofs.Callers.{never}
 use Rattle.angles_defs.specs.Network.{Edges, edges_of}
 use Rattle.angles_defs.specs.Solve.{Solved, solve}
-use Rattle.angles_defs.specs.Operation.{Request, request_of, Outcome, outcome, most, finite_at, finish_if, solve_of, dc_angles}
+use Rattle.angles_defs.specs.Operation.{Request, request_of, Outcome, outcome, finite_at, finish_if, solve_of, dc_angles}
 use Rattle.angles_defs.specs.declared.Solution.{Solution}
 use Rattle.angles_defs.proofs.Answers.{Sound, of_request}
 use Rattle.angles_defs.proofs.Solves.{solve_places}
@@ -67,7 +68,7 @@ angles_stage q result work S r y w e =
     ∙ ap (λ (n : ℕ). finite_if (leb n (first (finite_at o.x) n 0)) o.x) (sym (solve_places q.n q.edges q.grounds q.injection q.guess))
 
 -- where the solver's work is a part of an array of zeros
-pub work_room : (n : ℕ) → n ≤ most → 8 * n ≤ 2_048
+pub work_room : (n : ℕ) → n ≤ most_buses → 8 * n ≤ 2_048
 work_room n h = omega arith
 
 -- ---- what a call of `dc_angles` on these edges says

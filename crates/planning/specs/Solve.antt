@@ -2,7 +2,7 @@
 use Rattle.std.specs.Prelude.{◌≡◌, ℕ, ◌≤◌, Bool, true, false, List, length, Float, Err, Ok, Result}
 use Rattle.refusal.specs.declared.Refusal.TheVariants.{NotFinite}
 use Rattle.angles_defs.specs.Network.{Edges}
-use Rattle.angles_defs.specs.Operation.{most}
+use Rattle.loops.specs.Bounds.{most_buses, most_corridors}
 use Rattle.plan_defs.specs.Stage.{Stage, stopped, going}
 use Rattle.plan_defs.specs.Solve.{Peak, PlanningCase, all_finite}
 use Rattle.planning.specs.Design.{Lines, Banks}
@@ -36,8 +36,8 @@ pub record SolvePlaces (n : ℕ) (injection guess angle : List Float) : Type 0 w
 -- the struct would hold `level`, `circuits` and `banks`, which are written between two solves and go in slices of their own (src/tables.rt)
 pub record Drawing (grid : GridColumns) (level : List ℕ) (circuits : List ℕ) (banks : List Float) : Type 0 where
   pub lines : Lines grid level
-  pub few_buses : length level ≤ most
-  pub few_corridors : length grid.a ≤ most
+  pub few_buses : length level ≤ most_buses
+  pub few_corridors : length grid.a ≤ most_corridors
   pub count_size : length circuits ≡ length grid.a
   pub bank_size : length banks ≡ length grid.a
   pub banks_ok : Banks banks

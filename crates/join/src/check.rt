@@ -21,7 +21,11 @@ fn sums_ok(first: Header, second: Header) -> bool
     let buses = sum_within(MOST_BUSES, first.buses, second.buses);
     let corridors = sum_within(MOST_CORRIDORS, first.corridors, second.corridors);
     let generators = sum_within(MOST_GENERATORS, first.generators, second.generators);
-    let targets = sum_within(MOST_TARGET as usize, first.target as usize, second.target as usize);
+    let targets = sum_within(
+        MOST_TARGET as usize,
+        first.target as usize,
+        second.target as usize,
+    );
     buses & (corridors & (generators & targets))
 }
 

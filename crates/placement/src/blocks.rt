@@ -14,8 +14,8 @@ ghost use Rattle.placement.specs.Marks.{marks_in, origin_of};
 ghost use Rattle.placement.specs.Views.{labels_in};
 ghost use Rattle.placement.specs.Blocks.{block_size, most_blocks, Chosen, closer, nearest_with, Front};
 
-use crate::labels::{Labels, Mark};
 use crate::BLOCKS;
+use crate::labels::{Labels, Mark};
 use loops::MOST_BUSES;
 
 // Buses of a block.

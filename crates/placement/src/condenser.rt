@@ -8,10 +8,10 @@ ghost use Rattle.placement.specs.Marks.{origin_of, origins_in};
 ghost use Rattle.placement.specs.Stages.{Joined, Placing};
 ghost use Rattle.placement.specs.Views.{network_in, loads_in, flags_in};
 
-use loops::MOST_BUSES;
 use crate::distance::{distance_to_sources, distance_with_source};
 use crate::labels::{Labels, Mark};
 use crate::network::Network;
+use loops::MOST_BUSES;
 
 // A load farther than this from every source gets a condenser: reactive power does not travel far, and voltage control areas span tens to a
 // little over a hundred kilometres (Kundur, Power System Stability and Control, 1994, section 11.2).

@@ -7,10 +7,10 @@ ghost use Rattle.placement.specs.Blocks.{Front};
 ghost use Rattle.placement.specs.Marks.{mark_of, marks_in};
 ghost use Rattle.placement.specs.Views.{labels_in, network_in, flag_of, flags_in};
 
+use crate::BLOCKS;
 use crate::blocks::{look_at_blocks, nearest_candidate, reach_bus, settle_bus};
 use crate::labels::{Labels, Mark};
 use crate::network::Network;
-use crate::BLOCKS;
 use loops::MOST_BUSES;
 
 // A source is a candidate at no distance from itself.

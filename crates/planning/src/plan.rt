@@ -5,6 +5,7 @@ ghost use Rattle.planning.specs.Plan.{Openable, OpeningDone, rounds_for, start_o
 ghost use Rattle.planning.specs.Tables.{grid_in, supply_in, opened_in};
 
 use crate::fill::Kept;
+use crate::finish::{Finishing, finish};
 use crate::opening::{
     component_leaders, dispatch_components, first_levels, ground_components, injections,
     lower_bounds,
@@ -13,7 +14,6 @@ use crate::policy::expands;
 use crate::raise_passes::raise_in_passes;
 use crate::redesign::redesign;
 use crate::rounds::{Progress, size_rounds};
-use crate::finish::{Finishing, finish};
 use crate::tables::{Grid, Opened, Supply};
 use mode::PlanMode;
 use plan_defs::CorridorPlan;

@@ -22,7 +22,10 @@ const MANY: Header = Header { buses: 257, ..L };
 
 const PAST_TARGET: Header = Header { target: 65537, ..L };
 
-const FULL_TARGET: Header = Header { target: MOST_TARGET, ..L };
+const FULL_TARGET: Header = Header {
+    target: MOST_TARGET,
+    ..L
+};
 
 const ONE: Header = Header { target: 1, ..L };
 
